@@ -1,0 +1,28 @@
+-- Lookups in a map, beside those in the members that it stands for.
+use Rattle.std.proofs.Common.{◌≡◌, List, [], ◌∷◌, Bool, true, false, cond, refl, ap, String, string_bytes, Global, BTreeMap, is_eq, nat_cmp, rules}
+use Rattle.std.specs.Prelude.{Option, Some, None, option_map, map}
+use Rattle.std.specs.Borrow.{Bor}
+use Rattle.std.specs.Map.{lookup}
+use Rattle.std.specs.BTreeMap.{is_at}
+use Rattle.std.specs.Cmp.Lexicographic.{slice_cmp}
+use Rattle.ssa_model.specs.Json.{Text, Members, object, member_of}
+use Rattle.ssa_json.specs.View.{view, members_of}
+use Rattle.ssa_json.specs.declared.value.Json.{Json, Object, the_lemmas}
+
+abbrev pub members_view : List (String Global × Json) → Members
+members_view ms = members_of (map (λ m. (m.0, view m.1)) ms)
+
+one_more : (b : Bool) (v : Json) (rest : Option Json) (r : Option Rattle.ssa_model.specs.Json.Json) → option_map view rest ≡ r → option_map view (cond b (Some v) rest) ≡ cond b (Some (view v)) r
+one_more true v rest r e = refl
+one_more false v rest r e = e
+
+pub view-lookup : (name : Text) (es : List (String Global × Json)) → option_map view (lookup (is_at (λ k. slice_cmp nat_cmp name (string_bytes k))) es) ≡ member_of name (members_view es)
+view-lookup name [] = refl
+view-lookup name (e ∷ es) = one_more (is_eq (slice_cmp nat_cmp name (string_bytes e.0))) e.1 _ _ (view-lookup name es)
+
+pub view_of_ref : (r : Option (Bor Json)) → option_map (λ x. view x.now) r ≡ option_map view (option_map (λ x. x.now) r)
+view_of_ref None = refl
+view_of_ref (Some x) = refl
+
+pub view-Object : (m : BTreeMap (String Global) Json) → view (Object m) ≡ object (members_view m.entries)
+view-Object m = search (rules, the_lemmas)

@@ -1,0 +1,8 @@
+//! JSON values without nulls and floats, moments, and the devices that bytes come from and go to.
+#![tactic(auto)]
+
+pub mod piece;
+pub mod reader;
+pub mod sink;
+pub mod source;
+pub mod value;

@@ -1,0 +1,87 @@
+// Where bytes go.
+ghost use Rattle.std.specs.Prelude.{◌≡◌, ℕ, ◌<◌, ◌≤◌, List, length, Bool, true, Option, IfOk, IsTrue, IsErr, false};
+ghost use Rattle.std.specs.Io.KnownBytes.{Keeps, WriteAppends};
+ghost use Rattle.ssa_json.specs.Devices.{is_fault};
+
+use crate::source::DeviceFault;
+use std::io::Write;
+
+/// A writer.
+pub trait Sink {
+    // The bytes that were written, where the sink tells them.
+    ghost contents: { Self → Option (List ℕ) };
+
+    // Whether the device has failed.
+    ghost has_failed: { Self → Bool };
+
+    /// Writes the first bytes, at least one where there is one, and says how many.
+    fn write(&mut self, bytes: &[u8]) -> Result<usize, DeviceFault>
+        ensures bound { IfOk result (λ n. n ≤ length bytes.now) }
+        ensures some { IfOk result (λ n. 0 < length bytes.now → 0 < n) }
+        ensures bytes { WriteAppends (contents self.old) (contents self.new) result bytes.now }
+        ensures failed { has_failed self.new ≡ is_fault result }
+        ensures stays_failed { IsTrue (has_failed self.old) → IsErr result };
+
+    /// Hands on what was written.
+    fn flush(&mut self) -> Result<(), DeviceFault>
+        ensures bytes { Keeps (contents self.old) (contents self.new) }
+        ensures failed { has_failed self.new ≡ is_fault result }
+        ensures stays_failed { IsTrue (has_failed self.old) → IsErr result };
+}
+
+/// A `std` writer as a sink. It has failed once the writer fails or takes no byte of some, and fails from then on.
+#[derive(Drop)]
+pub struct OfWriter<W> {
+    writer: W,
+    has_failed: bool,
+}
+
+impl<W: Write> OfWriter<W> {
+    pub fn new(writer: W) -> OfWriter<W>
+        ensures { result ≡ record { writer = writer; has_failed = false } }
+    {
+        OfWriter {
+            writer,
+            has_failed: false,
+        }
+    }
+
+    /// The writer.
+    pub fn into_inner(self) -> W
+        ensures { result ≡ self.writer }
+    {
+        self.writer
+    }
+}
+
+impl<W: Write> Sink for OfWriter<W> {
+    ghost contents = { λ s. W.contents s.writer };
+
+    ghost has_failed = { λ s. s.has_failed };
+
+    fn write(&mut self, bytes: &[u8]) -> Result<usize, DeviceFault> {
+        if self.has_failed {
+            return Err(DeviceFault);
+        }
+        match self.writer.write(bytes) {
+            Ok(n) if n > 0 || bytes.is_empty() => Ok(n),
+            _ => {
+                self.has_failed = true;
+                Err(DeviceFault)
+            }
+        }
+    }
+
+    fn flush(&mut self) -> Result<(), DeviceFault> {
+        if self.has_failed {
+            return Err(DeviceFault);
+        }
+        match self.writer.flush() {
+            Ok(()) => Ok(()),
+            Err(_) => {
+                self.has_failed = true;
+                Err(DeviceFault)
+            }
+        }
+    }
+}
