@@ -1,0 +1,140 @@
+-- The answer to a command, and a run of commands.
+use Rattle.std.specs.Prelude.{ℕ, ◌+◌, ◌-◌, List, [], ◌∷◌, Bool, not, ◌&&◌, ◌==◌, length, Result, Ok, Err, if◌then◌else◌, nat_lt, nat_le, codes, map, filter, take, drop}
+use Rattle.ssa_model.specs.Json.{Text, Json, scalar, list, object, member_of}
+use Rattle.ssa_model.specs.Path.{Path}
+use Rattle.ssa_model.specs.PathMap.{PathSet, has, size}
+use Rattle.ssa_model.specs.Kind.{BodyFault, wrong_type, faults}
+use Rattle.ssa_model.specs.Body.{Body, flat, added, modified, removed}
+use Rattle.ssa_model.specs.Table.{applies, updates, ManagerKey, Table}
+use Rattle.ssa_model.specs.Operations as operations
+use Rattle.ssa_model.specs.Operations.{State, Refusal, too_many_paths, apply_without, dropped}
+use Rattle.ssa_model.specs.Objects.{value_at, identity_of, is_missing, is_some_object, is_identity, same_identity, body_value}
+use Rattle.ssa_model.specs.Entries.{object_of_state}
+use Rattle.ssa_model.specs.History.{Label, applied, updated, stripped, Bench, present, past_len, future_len, appended, moved_to, with_timeline, is_manager_name}
+
+pub data Fault : Type 0 where
+  body_fault : BodyFault → Path → Fault
+  identity_fault : Fault
+  managed_fields_given : Fault
+  manager_name : Fault
+  history_full : Fault
+  nothing_to_undo : Fault
+  nothing_to_redo : Fault
+  refused : Refusal → Fault
+
+-- ---- objects of commands
+
+-- the identity of a command's object is the bench's
+abbrev pub has_identity : Bench → Json → Bool
+has_identity bench v =
+    is_some_object (value_at (codes "metadata" ∷ []) v) && (is_identity (identity_of v) && same_identity (identity_of v) bench.identity)
+
+abbrev pub gives_managed_fields : Json → Bool
+gives_managed_fields v = not (is_missing (value_at (codes "metadata" ∷ codes "managedFields" ∷ []) v))
+
+-- the body of a value that has no faults
+abbrev pub body_or_fault : Bench → Json → Result Body Fault
+body_or_fault bench value =
+    elim (faults bench.kind value []) [
+      | [] ↦ if nat_lt 20001 (size (flat bench.kind value)) then Err (refused too_many_paths) else Ok (flat bench.kind value)
+      | f ∷ fs ↦ Err (body_fault f.0 f.1)
+    ]
+
+-- the body of a command's object, or its first fault
+abbrev pub command_body : Bench → Json → Result Body Fault
+command_body bench (object ms) =
+    if not (has_identity bench (object ms)) then Err identity_fault
+    else (if gives_managed_fields (object ms) then Err managed_fields_given
+    else body_or_fault bench (body_value ms))
+command_body bench (list vs) = Err (body_fault wrong_type [])
+command_body bench (scalar s) = Err (body_fault wrong_type [])
+
+-- ---- commands on a bench
+
+-- A command whose moment is one, and whose path is read.
+pub data Command : Type 0 where
+  apply : Text → Bool → Text → Json → Command
+  update : Text → Text → Json → Command
+  strip : Command
+  undo : Command
+  redo : Command
+  -- with the managers' entries
+  show : Bool → Command
+  owners : Path → Command
+  log : Command
+
+pub record Changed : Type 0 where
+  pub added : PathSet
+  pub modified : PathSet
+  pub removed : PathSet
+  pub managers : ℕ
+
+pub data Reply : Type 0 where
+  -- the command's word, and what it changed
+  changed : Text → Changed → Reply
+  -- the command's word, and the counts of past and future after the move
+  moved : Text → ℕ → ℕ → Reply
+  shown : Json → Reply
+  owned_by : List ManagerKey → Reply
+  -- past, oldest first, and future, next to be redone first
+  logged : List Label → List Label → Reply
+  fault : Fault → Reply
+
+-- the reply, and the next bench
+abbrev pub Answer : Type 0
+Answer = Reply × Bench
+
+abbrev pub comparison : State → State → Changed
+comparison v w = record { added = added v.body w.body; modified = modified v.body w.body; removed = removed v.body w.body; managers = length w.table }
+
+abbrev pub accept : Bench → Text → Label → State → Answer
+accept bench word label s = (changed word (comparison (present bench.timeline) s), with_timeline bench (appended bench.timeline label s))
+
+abbrev pub accept_or_refuse : Bench → Text → Label → Result State Refusal → Answer
+accept_or_refuse bench word label (Ok s) = accept bench word label s
+accept_or_refuse bench word label (Err r) = (fault (refused r), bench)
+
+-- with the body of the object, or refused before it
+abbrev pub with_body : Bench → Text → Json → (Body → Answer) → Answer
+with_body bench who v go =
+    if nat_le 1000 (past_len bench.timeline) then (fault history_full, bench)
+    else (if not (is_manager_name who) then (fault manager_name, bench)
+    else (elim (command_body bench v) [ Ok body ↦ go body | Err f ↦ (fault f, bench) ]))
+
+abbrev pub owners_of : Table → Path → List ManagerKey
+owners_of table p = map (λ e. e.manager) (filter (λ e. has e.owned p) table)
+
+abbrev pub labels_of : Bench → List Label
+labels_of bench = map (λ s. s.label) bench.timeline.later
+
+-- which paths an Apply of a configuration by a manager gives up
+abbrev pub GivingUp : Type 0
+GivingUp = State → ManagerKey → Body → PathSet
+
+module _ (given_up : GivingUp) where
+  abbrev pub apply_answer : Bench → Text → Bool → Text → Body → Answer
+  apply_answer bench who force at config =
+      let now = present bench.timeline in
+      let a : ManagerKey = record { name = who; operation = applies } in
+      accept_or_refuse bench (codes "apply") (applied who force at) (apply_without (given_up now a config) now a config force at)
+
+  abbrev pub answer : Bench → Command → Answer
+  answer bench (apply who force at v) = with_body bench who v (apply_answer bench who force at)
+  answer bench (update who at v) =
+      with_body bench who v (λ body. accept_or_refuse bench (codes "update") (updated who at) (operations.update (present bench.timeline) (record { name = who; operation = updates }) body at))
+  answer bench strip =
+      if nat_le 1000 (past_len bench.timeline) then (fault history_full, bench)
+      else accept bench (codes "strip") stripped (operations.strip (present bench.timeline))
+  answer bench undo =
+      if past_len bench.timeline == 0 then (fault nothing_to_undo, bench)
+      else (moved (codes "undo") (past_len bench.timeline - 1) (future_len bench.timeline + 1), with_timeline bench (moved_to bench.timeline (bench.timeline.place - 1)))
+  answer bench redo =
+      if future_len bench.timeline == 0 then (fault nothing_to_redo, bench)
+      else (moved (codes "redo") (past_len bench.timeline + 1) (future_len bench.timeline - 1), with_timeline bench (moved_to bench.timeline (bench.timeline.place + 1)))
+  answer bench (show managed) = (shown (object_of_state bench.identity bench.kind managed (present bench.timeline)), bench)
+  answer bench (owners p) = (owned_by (owners_of (present bench.timeline).table p), bench)
+  answer bench log = (logged (take bench.timeline.place (labels_of bench)) (drop bench.timeline.place (labels_of bench)), bench)
+
+  abbrev pub run : Bench → List Command → List Reply × Bench
+  run bench [] = ([], bench)
+  run bench (c ∷ cs) = let first = answer bench c in let rest = run first.1 cs in (first.0 ∷ rest.0, rest.1)

@@ -1,0 +1,101 @@
+-- Replies as JSON values.
+use Rattle.std.specs.Prelude.{ℕ, List, [], ◌∷◌, Bool, codes, pos, map}
+use Rattle.ssa_model.specs.Json.{Text, text, whole, truth, Json, scalar, list, object, Items, no_items, item, Members, no_members, member, compact}
+use Rattle.ssa_model.specs.Path.{Path, element_text}
+use Rattle.ssa_model.specs.PathMap.{PathSet, paths}
+use Rattle.ssa_model.specs.Kind.{BodyFault, unknown_field, wrong_type, missing_key, duplicate_item}
+use Rattle.ssa_model.specs.Table.{ManagerKey}
+use Rattle.ssa_model.specs.Operations.{Refusal, conflict, too_many_paths, too_many_managers}
+use Rattle.ssa_model.specs.Entries.{operation_text, text_json}
+use Rattle.ssa_model.specs.History.{Label, applied, updated, stripped}
+use Rattle.ssa_model.specs.Answers.{Fault, body_fault, identity_fault, managed_fields_given, manager_name, history_full, nothing_to_undo, nothing_to_redo, refused, Reply, changed, moved, shown, owned_by, logged, fault, Changed}
+
+abbrev pub number_json : ℕ → Json
+number_json n = scalar (whole (pos n))
+
+abbrev pub items_json : {X : Type 0} → (X → Json) → List X → Items
+items_json f [] = no_items
+items_json f (x ∷ xs) = item (f x) (items_json f xs)
+
+abbrev pub list_json : {X : Type 0} → (X → Json) → List X → Json
+list_json f xs = list (items_json f xs)
+
+-- a path is the list of its elements' texts
+abbrev pub path_json : Path → Json
+path_json p = list_json (λ e. text_json (element_text e)) p
+
+abbrev pub paths_json : PathSet → Json
+paths_json s = list_json path_json (paths s)
+
+abbrev pub key_json : ManagerKey → Json
+key_json k = object (member (codes "manager") (text_json k.name) (member (codes "operation") (text_json (operation_text k.operation)) no_members))
+
+-- ---- faults
+
+abbrev pub with_fault : ℕ → Text → Members → Members
+with_fault number name rest = member (codes "fault") (number_json number) (member (codes "name") (text_json name) rest)
+
+abbrev pub fault_json : ℕ → Text → Json
+fault_json number name = object (with_fault number name no_members)
+
+abbrev pub fault_at : ℕ → Text → Path → Json
+fault_at number name p = object (with_fault number name (member (codes "path") (path_json p) no_members))
+
+abbrev pub body_fault_json : BodyFault → Path → Json
+body_fault_json unknown_field p = fault_at 20 (codes "UnknownField") p
+body_fault_json wrong_type p = fault_at 21 (codes "WrongType") p
+body_fault_json missing_key p = fault_at 22 (codes "MissingKey") p
+body_fault_json duplicate_item p = fault_at 23 (codes "DuplicateItem") p
+
+abbrev pub clash_json : ManagerKey × PathSet → Json
+clash_json c =
+    object (member (codes "fields") (paths_json c.1)
+    (member (codes "manager") (text_json c.0.name) (member (codes "operation") (text_json (operation_text c.0.operation)) no_members)))
+
+abbrev pub refusal_json : Refusal → Json
+refusal_json (conflict cs) = object (member (codes "conflicts") (list_json clash_json cs) (with_fault 50 (codes "Conflict") no_members))
+refusal_json too_many_paths = fault_json 24 (codes "TooManyPaths")
+refusal_json too_many_managers = fault_json 43 (codes "TooManyManagers")
+
+abbrev pub fault_reply : Fault → Json
+fault_reply (body_fault f p) = body_fault_json f p
+fault_reply identity_fault = fault_json 60 (codes "Identity")
+fault_reply managed_fields_given = fault_json 61 (codes "ManagedFieldsGiven")
+fault_reply manager_name = fault_json 62 (codes "ManagerName")
+fault_reply history_full = fault_json 63 (codes "HistoryFull")
+fault_reply nothing_to_undo = fault_json 64 (codes "NothingToUndo")
+fault_reply nothing_to_redo = fault_json 65 (codes "NothingToRedo")
+fault_reply (refused r) = refusal_json r
+
+-- ---- replies
+
+abbrev pub changed_json : Text → Changed → Json
+changed_json word c =
+    object (member (codes "added") (paths_json c.added)
+    (member (codes "done") (text_json word)
+    (member (codes "managers") (number_json c.managers)
+    (member (codes "modified") (paths_json c.modified)
+    (member (codes "removed") (paths_json c.removed) no_members)))))
+
+abbrev pub moved_json : Text → ℕ → ℕ → Json
+moved_json word past future =
+    object (member (codes "done") (text_json word) (member (codes "future") (number_json future) (member (codes "past") (number_json past) no_members)))
+
+abbrev pub label_json : Label → Json
+label_json (applied who force at) =
+    object (member (codes "at") (text_json at) (member (codes "do") (text_json (codes "apply")) (member (codes "force") (scalar (truth force)) (member (codes "manager") (text_json who) no_members))))
+label_json (updated who at) =
+    object (member (codes "at") (text_json at) (member (codes "do") (text_json (codes "update")) (member (codes "manager") (text_json who) no_members)))
+label_json stripped = object (member (codes "do") (text_json (codes "strip")) no_members)
+
+abbrev pub reply_json : Reply → Json
+reply_json (changed word c) = changed_json word c
+reply_json (moved word past future) = moved_json word past future
+reply_json (shown v) = object (member (codes "done") (text_json (codes "show")) (member (codes "object") v no_members))
+reply_json (owned_by ks) = object (member (codes "done") (text_json (codes "owners")) (member (codes "owners") (list_json key_json ks) no_members))
+reply_json (logged past future) =
+    object (member (codes "done") (text_json (codes "log")) (member (codes "future") (list_json label_json future) (member (codes "past") (list_json label_json past) no_members)))
+reply_json (fault f) = fault_reply f
+
+abbrev pub reply_text : Reply → Text
+reply_text r = compact (reply_json r)
