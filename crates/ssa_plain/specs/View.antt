@@ -1,0 +1,8 @@
+-- What the plain engine's values are.
+use Rattle.std.specs.Prelude.{List, map, String, string_bytes}
+use Rattle.std.specs.declared.alloc.Global.{Global}
+use Rattle.ssa_model.specs.Path as model
+
+-- the place that names of fields lead to
+abbrev pub names_view : List (String Global) → model.Path
+names_view = map (λ n. model.field (string_bytes n))
