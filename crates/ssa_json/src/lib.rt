@@ -1,7 +1,9 @@
 //! JSON values without nulls and floats, moments, and the devices that bytes come from and go to.
 #![tactic(auto)]
 
+pub mod fault;
 pub mod piece;
+pub mod read;
 pub mod reader;
 pub mod sink;
 pub mod source;
