@@ -1,4 +1,5 @@
 pub mod View
 pub mod Reading
+pub mod Written
 pub mod Devices
 pub mod Piece

@@ -8,3 +8,4 @@ pub mod reader;
 pub mod sink;
 pub mod source;
 pub mod value;
+pub mod write;
