@@ -2,6 +2,7 @@
 #![tactic(auto)]
 
 pub mod fault;
+pub mod moment;
 pub mod piece;
 pub mod read;
 pub mod reader;
