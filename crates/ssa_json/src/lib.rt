@@ -6,6 +6,7 @@ pub mod moment;
 pub mod piece;
 pub mod read;
 pub mod reader;
+pub mod same;
 pub mod sink;
 pub mod source;
 pub mod value;
