@@ -18,6 +18,7 @@ use Rattle.ssa_model.specs.Json as model
 use Rattle.ssa_json.specs.View.{view, items_of, items_view, members_view, members_of}
 use Rattle.ssa_json.specs.Reading.{ReadFault, not_json, null_value, number_outside, ◌>>=◌, value_of, items_value, members_value, data_value, json_reading, Refuses, Converts, Answers}
 use Rattle.ssa_json.specs.declared.value.Json.{Json}
+use Rattle.ssa_json.proofs.Ordered.{names}
 use Rattle.ssa_json.specs.declared.fault.JsonFault.{JsonFault}
 use Rattle.ssa_json.specs.declared.fault.JsonFault.TheVariants.{TooLong, NotJson, NullValue, NumberOutside, OutOfMemory}
 
@@ -93,44 +94,13 @@ pub members-fault : (fault : JsonFault) (front : List (List ℕ × model.Json)) 
 members-fault fault front k d ms whole split h =
     Refuses-at fault (value_of d) whole (λ e is. split ∙ ap (λ r. with_members front (r >>= λ x. members_value ms >>= λ vs. Ok (member k x vs))) is) h
 
--- ---- keys in order
+-- ---- members that were found
 
 abbrev pub Found : Type 0
 Found = String Global × Json
 
 abbrev pub named : Found → List ℕ × model.Json
 named e = (string_bytes e.0, view e.1)
-
-abbrev pub names : List Entry → List (List ℕ)
-names es = map (λ e. string_bytes e.0) es
-
-abbrev pub found_names : List Found → List (List ℕ)
-found_names es = map (λ e. string_bytes e.0) es
-
-abbrev IsAbove : List ℕ → List (List ℕ) → Type 0
-IsAbove k ns = AllByRecursion (λ n. slice_cmp nat_cmp k n ≡ Greater) ns
-
--- a key above all others goes last
-insert_entry-last : (es : List Found) (k : String Global) (v : Json) → IsAbove (string_bytes k) (found_names es) → insert_entry string_cmp es k v ≡ es ++ (k, v) ∷ []
-insert_entry-last [] k v h = refl
-insert_entry-last (e ∷ es) k v h = rw h.0 (ap (λ t. e ∷ t) (insert_entry-last es k v h.1))
-
-below_middle : (first : Entry) (es : List Entry) (e : Entry) (more : List Entry) → AllByRecursion (λ y. string_cmp first.0 y ≡ Less) (keys_of (es ++ e ∷ more)) → string_cmp first.0 e.0 ≡ Less
-below_middle first [] e more h = h.0
-below_middle first (x ∷ es) e more h = below_middle first es e more h.1
-
-above_before : (done : List Entry) (e : Entry) (more : List Entry) → IsStrictlySortedBy string_cmp (keys_of (done ++ e ∷ more)) → IsAbove (string_bytes e.0) (names done)
-unfolding IsStrictlySortedBy
-above_before [] e more h = tt
-above_before (first ∷ done) e more h =
-    (nat_list_cmp_total.antisymm (string_bytes e.0) (string_bytes first.0) ∙ ap ordering_reverse (below_middle first done e more h.0), above_before done e more h.1)
-
--- the next member goes last, since the members come in order
-pub inserted-last : (done : List Entry) (e : Entry) (more : List Entry) (found : List Found) (k : String Global) (v : Json)
-    → IsStrictlySortedBy string_cmp (keys_of (done ++ e ∷ more)) → found_names found ≡ names done → string_bytes k ≡ string_bytes e.0
-    → insert_entry string_cmp found k v ≡ found ++ (k, v) ∷ []
-inserted-last done e more found k v sorted same key =
-    insert_entry-last found k v (rw (same, key) (above_before done e more sorted))
 
 pub members_after-none : (found : List Found) → members_after (map named found) no_members ≡ members_view found
 unfolding members_after
@@ -159,3 +129,10 @@ Answers-converted (Err NotJson) bytes most d fits text is h = absurd h
 Answers-converted (Err NullValue) bytes most d fits text is h = (fits, json_reading-data bytes d text is ∙ h)
 Answers-converted (Err NumberOutside) bytes most d fits text is h = (fits, json_reading-data bytes d text is ∙ h)
 Answers-converted (Err OutOfMemory) bytes most d fits text is h = fits
+
+first_parts : (found : List Found) → map (λ (n : List ℕ × model.Json). n.0) (map named found) ≡ names found
+first_parts [] = refl
+first_parts (x ∷ xs) = ap (λ t. string_bytes x.0 ∷ t) (first_parts xs)
+
+pub same_names : (found done : List Found) → map named found ≡ map named done → names found ≡ names done
+same_names found done same = sym (first_parts found) ∙ ap (map (λ (n : List ℕ × model.Json). n.0)) same ∙ first_parts done

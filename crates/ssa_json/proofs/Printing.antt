@@ -20,6 +20,7 @@ use Rattle.ssa_json.specs.View.{view, items_view, members_view}
 use Rattle.ssa_json.specs.Written.{scalar_data, data_of, items_data, members_data, is_narrow_whole, is_narrow_scalar, is_narrow, items_narrow, members_narrow}
 use Rattle.ssa_json.specs.declared.value.Json.{Json}
 use Rattle.ssa_json.proofs.Converting.{Found}
+use Rattle.ssa_json.proofs.Ordered.{above_first}
 
 -- ---- texts
 
@@ -123,16 +124,10 @@ members_narrow-push (w ∷ ms) m before here =
     let parts = and_parts (is_narrow (view w.1)) (members_narrow (members_view ms)) before in
     and_from (is_narrow (view w.1)) _ parts.0 (members_narrow-push ms m parts.1 here)
 
-below_middle : (first : Found) (es : List Found) (e : Found) (more : List Found) → AllByRecursion (λ y. string_cmp first.0 y ≡ Less) (keys_of (es ++ e ∷ more)) → string_cmp first.0 e.0 ≡ Less
-below_middle first [] e more h = h.0
-below_middle first (x ∷ es) e more h = below_middle first es e more h.1
-
 -- a name above those before it goes last
 pub put-last : (done : List Found) (e : Found) (more : List Found) → IsStrictlySortedBy string_cmp (keys_of (done ++ e ∷ more))
     → json.put (string_bytes e.0) (data_of (view e.1)) (members_data (members_view done)) ≡ members_data (members_view (done ++ e ∷ []))
 unfolding IsStrictlySortedBy
 put-last [] e more h = refl
 put-last (first ∷ done) e more h =
-    let above : slice_cmp nat_cmp (string_bytes e.0) (string_bytes first.0) ≡ Greater =
-    nat_list_cmp_total.antisymm (string_bytes e.0) (string_bytes first.0) ∙ ap ordering_reverse (below_middle first done e more h.0) in
-    rw above (ap (json.member (string_bytes first.0) (data_of (view first.1))) (put-last done e more h.1))
+    rw (above_first first done e more h.0) (ap (json.member (string_bytes first.0) (data_of (view first.1))) (put-last done e more h.1))

@@ -1,6 +1,7 @@
 //! JSON values without nulls and floats, moments, and the devices that bytes come from and go to.
 #![tactic(auto)]
 
+pub mod copy;
 pub mod fault;
 pub mod moment;
 pub mod piece;

@@ -6,7 +6,8 @@ use Rattle.serde_json.specs.View.{view as data_view, items_view as data_items, m
 use Rattle.serde_json.proofs.Views.{Entry}
 use Rattle.ssa_json.specs.Reading.{items_value, members_value}
 use Rattle.ssa_json.specs.View.{view}
-use Rattle.ssa_json.proofs.Converting.{Found, with_items, with_members, with_items-none, with_members-none, items-step, members-step, items_after-none, members_after-none, inserted-last, named, names, found_names}
+use Rattle.ssa_json.proofs.Converting.{Found, with_items, with_members, with_items-none, with_members-none, items-step, members-step, items_after-none, members_after-none, named}
+use Rattle.ssa_json.proofs.Ordered.{names, inserted-last}
 use Rattle.ssa_json.proofs.read.+convert.Goals as goal
 
 pub converted_items-loop-item-init : goal.converted_items-loop-item-init
@@ -35,7 +36,7 @@ converted_members-loop-key-init t c =
     let same : c.args.members.now.entries ≡ c.into_iter-key-iterator.result = search rules in (
       [],
       same,
-      ap found_names c.new-found.ensures.empty,
+      ap names c.new-found.ensures.empty,
       rw c.new-found.ensures.empty (with_members-none (members_value (data_members c.args.members.now.entries)) ∙ ap (λ es. with_members [] (members_value (data_members es))) same),
     )
 
@@ -53,7 +54,7 @@ converted_members-loop-key-preserved t c =
     let last = c.in_ok-insert.ensures.entries ∙ inserted-last done e left l.found.entries name j (subst (λ es. IsStrictlySortedBy string_cmp (keys_of es)) all c.iter-key-items.ensures.ordered) l.invariant.2 key in (
       done ++ e ∷ [],
       all ∙ sym (append_assoc done (e ∷ []) left),
-      ap found_names last ∙ map-append (λ (f : Found). string_bytes f.0) l.found.entries ((name, j) ∷ []) ∙ rw (l.invariant.2, key) (sym (map-append (λ (m : Entry). string_bytes m.0) done (e ∷ []))),
+      ap names last ∙ map-append (λ (f : Found). string_bytes f.0) l.found.entries ((name, j) ∷ []) ∙ rw (l.invariant.2, key) (sym (map-append (λ (m : Entry). string_bytes m.0) done (e ∷ []))),
       l.invariant.3 ∙ ap (λ es. with_members (map named l.found.entries) (members_value (data_members es))) step
           ∙ members-step (map named l.found.entries) (view j) (string_bytes e.0) (data_view e.1) (data_members left) c.in_ok-converted.ensures
           ∙ ap (λ front. with_members front (members_value (data_members left))) (sym (ap (map named) last ∙ map-append named l.found.entries ((name, j) ∷ []) ∙ ap (λ k. map named l.found.entries ++ (k, view j) ∷ []) key)),
