@@ -6,11 +6,8 @@ use Rattle.std.specs.Map.{lookup}
 use Rattle.std.specs.BTreeMap.{is_at}
 use Rattle.std.specs.Cmp.Lexicographic.{slice_cmp}
 use Rattle.ssa_model.specs.Json.{Text, Members, object, member_of}
-use Rattle.ssa_json.specs.View.{view, members_of}
+use Rattle.ssa_json.specs.View.{view, members_view}
 use Rattle.ssa_json.specs.declared.value.Json.{Json, Object, the_lemmas}
-
-abbrev pub members_view : List (String Global × Json) → Members
-members_view ms = members_of (map (λ m. (m.0, view m.1)) ms)
 
 one_more : (b : Bool) (v : Json) (rest : Option Json) (r : Option Rattle.ssa_model.specs.Json.Json) → option_map view rest ≡ r → option_map view (cond b (Some v) rest) ≡ cond b (Some (view v)) r
 one_more true v rest r e = refl

@@ -1,3 +1,6 @@
 pub mod View
+pub mod Reading
+pub mod Written
+pub mod Moment
 pub mod Devices
 pub mod Piece

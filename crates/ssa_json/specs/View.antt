@@ -1,5 +1,5 @@
 -- What a value of the program is.
-use Rattle.std.specs.Prelude.{ℕ, List, [], ◌∷◌, String, string_bytes}
+use Rattle.std.specs.Prelude.{List, [], ◌∷◌, map, String, string_bytes}
 use Rattle.std.specs.declared.alloc.Global.{Global}
 use Rattle.ssa_model.specs.Json as model
 use Rattle.ssa_json.specs.declared.value.Scalar.{Scalar}
@@ -28,3 +28,9 @@ view_step (Json-F.Object m) = model.object (members_of m.entries)
 
 abbrev pub view : Json → model.Json
 view = fold-Json model.Json view_step
+
+abbrev pub items_view : List Json → model.Items
+items_view vs = items_of (map view vs)
+
+abbrev pub members_view : List (String Global × Json) → model.Members
+members_view ms = members_of (map (λ m. (m.0, view m.1)) ms)

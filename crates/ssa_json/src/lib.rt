@@ -1,8 +1,14 @@
 //! JSON values without nulls and floats, moments, and the devices that bytes come from and go to.
 #![tactic(auto)]
 
+pub mod copy;
+pub mod fault;
+pub mod moment;
 pub mod piece;
+pub mod read;
 pub mod reader;
+pub mod same;
 pub mod sink;
 pub mod source;
 pub mod value;
+pub mod write;

@@ -1,0 +1,45 @@
+-- Members that come in the order of their names.
+use Rattle.std.proofs.Common.{◌≡◌, ℕ, List, [], ◌∷◌, ◌++◌, map, String, Global, Less, Greater, string_bytes, string_cmp, nat_cmp, refl, ap, ◌∙◌}
+use Rattle.std.proofs.lemmas.Cmp.{nat_list_cmp_total}
+use Rattle.std.specs.Cmp.Lexicographic.{slice_cmp}
+use Rattle.std.specs.List.{AllByRecursion}
+use Rattle.std.specs.List.Sorted.{IsStrictlySortedBy}
+use Rattle.std.specs.Map.{keys_of}
+use Rattle.std.specs.Ordering.{ordering_reverse}
+use Rattle.std.specs.BTreeMap.{insert_entry}
+
+abbrev pub Named : Type 0 → Type 0
+Named V = String Global × V
+
+abbrev pub names : {V : Type 0} → List (Named V) → List (List ℕ)
+names es = map (λ e. string_bytes e.0) es
+
+abbrev IsAbove : List ℕ → List (List ℕ) → Type 0
+IsAbove k ns = AllByRecursion (λ n. slice_cmp nat_cmp k n ≡ Greater) ns
+
+module _ {V : Type 0} where
+  below_middle : (first : Named V) (es : List (Named V)) (e : Named V) (more : List (Named V)) → AllByRecursion (λ y. string_cmp first.0 y ≡ Less) (keys_of (es ++ e ∷ more)) → string_cmp first.0 e.0 ≡ Less
+  below_middle first [] e more h = h.0
+  below_middle first (x ∷ es) e more h = below_middle first es e more h.1
+
+  -- the name of a member is above that of each before it
+  pub above_first : (first : Named V) (es : List (Named V)) (e : Named V) (more : List (Named V)) → AllByRecursion (λ y. string_cmp first.0 y ≡ Less) (keys_of (es ++ e ∷ more)) → slice_cmp nat_cmp (string_bytes e.0) (string_bytes first.0) ≡ Greater
+  above_first first es e more h =
+      nat_list_cmp_total.antisymm (string_bytes e.0) (string_bytes first.0) ∙ ap ordering_reverse (below_middle first es e more h)
+
+  above_before : (done : List (Named V)) (e : Named V) (more : List (Named V)) → IsStrictlySortedBy string_cmp (keys_of (done ++ e ∷ more)) → IsAbove (string_bytes e.0) (names done)
+  unfolding IsStrictlySortedBy
+  above_before [] e more h = tt
+  above_before (first ∷ done) e more h = (above_first first done e more h.0, above_before done e more h.1)
+
+  -- a name above all others goes last
+  insert_entry-last : (es : List (Named V)) (k : String Global) (v : V) → IsAbove (string_bytes k) (names es) → insert_entry string_cmp es k v ≡ es ++ (k, v) ∷ []
+  insert_entry-last [] k v h = refl
+  insert_entry-last (e ∷ es) k v h = rw h.0 (ap (λ t. e ∷ t) (insert_entry-last es k v h.1))
+
+-- the next member goes last, in a map with the names of those before it
+pub inserted-last : {V W : Type 0} (done : List (Named V)) (e : Named V) (more : List (Named V)) (found : List (Named W)) (k : String Global) (w : W)
+    → IsStrictlySortedBy string_cmp (keys_of (done ++ e ∷ more)) → names found ≡ names done → string_bytes k ≡ string_bytes e.0
+    → insert_entry string_cmp found k w ≡ found ++ (k, w) ∷ []
+inserted-last done e more found k w sorted same key =
+    insert_entry-last found k w (rw (same, key) (above_before done e more sorted))

@@ -1,0 +1,10 @@
+use Rattle.std.proofs.Common.{◌≡◌, rules}
+use Rattle.ssa_model.specs.Json.{same_scalar}
+use Rattle.ssa_json.specs.View.{scalar_view}
+use Rattle.ssa_json.proofs.Equality.{same_scalar-decides}
+use Rattle.ssa_json.proofs.value.Scalar.same.Goals as goal
+
+pub returns-in-Text-Text-clause-value : goal.returns-in-Text-Text-clause-value
+returns-in-Text-Text-clause-value c =
+    let test : c.same_text.result ≡ same_scalar (scalar_view c.args.self.now) (scalar_view c.args.other.now) = search rules in
+    rw test (same_scalar-decides (scalar_view c.args.self.now) (scalar_view c.args.other.now))

@@ -1,0 +1,66 @@
+//! Copies of JSON values.
+ghost use Rattle.std.specs.Prelude.{◌≡◌, IfOk};
+ghost use Rattle.ssa_json.specs.View.{view, items_view, members_view, scalar_view};
+
+use crate::value::{Json, Scalar};
+use std::alloc::{AllocError, Global};
+use std::collections::BTreeMap;
+
+impl Scalar {
+    /// The same scalar, in memory of its own.
+    pub fn copy(&self, alloc: Global) -> Result<Scalar, AllocError>
+        ensures { IfOk result (λ s. scalar_view s ≡ scalar_view self.now) }
+    {
+        match self {
+            Scalar::Text(text) => Ok(Scalar::Text(String::from_str(alloc, text.as_str())?)),
+            Scalar::Int(n) => Ok(Scalar::Int(*n)),
+            Scalar::Bool(b) => Ok(Scalar::Bool(*b)),
+        }
+    }
+}
+
+impl Json {
+    /// The same value, in memory of its own.
+    pub fn copy(&self, alloc: Global) -> Result<Json, AllocError>
+        ensures { IfOk result (λ v. view v ≡ view self.now) }
+    {
+        copied(alloc, self)
+    }
+}
+
+#[cycle(copy)]
+fn copied(alloc: Global, value: &Json) -> Result<Json, AllocError>
+    ensures { IfOk result (λ v. view v ≡ view value.now) }
+{
+    match value {
+        Json::Scalar(scalar) => Ok(Json::Scalar(scalar.copy(alloc)?)),
+        Json::List(items) => Ok(Json::List(copied_items(alloc, items)?)),
+        Json::Object(members) => Ok(Json::Object(copied_members(alloc, members)?)),
+    }
+}
+
+#[cycle(copy)]
+fn copied_items(alloc: Global, items: &Vec<Json>) -> Result<Vec<Json>, AllocError>
+    ensures { IfOk result (λ v. items_view v.items ≡ items_view items.now.items) }
+{
+    let mut found = Vec::new(alloc);
+    for item in items {
+        found.push(copied(alloc, item)?)?;
+    }
+    Ok(found)
+}
+
+#[cycle(copy)]
+fn copied_members(
+    alloc: Global,
+    members: &BTreeMap<String, Json>,
+) -> Result<BTreeMap<String, Json>, AllocError>
+    ensures { IfOk result (λ m. members_view m.entries ≡ members_view members.now.entries) }
+{
+    let mut found = BTreeMap::new(alloc);
+    for (name, member) in members.iter() {
+        let key = String::from_str(alloc, name.as_str())?;
+        drop(found.insert(key, copied(alloc, member)?)?);
+    }
+    Ok(found)
+}

@@ -1,0 +1,73 @@
+//! Reads JSON text.
+ghost use Rattle.std.specs.Prelude.{◌≡◌, ◌<◌, length};
+ghost use Rattle.serde_json.specs.View.{view as data_view, items_view as data_items, members_view as data_members};
+ghost use Rattle.ssa_json.specs.View.{view, items_view, members_view};
+ghost use Rattle.ssa_json.specs.Reading.{Answers, Converts, value_of, items_value, members_value};
+
+use crate::fault::JsonFault;
+use crate::value::{Json, Scalar};
+use serde_json::{Map, Value};
+use std::alloc::Global;
+use std::collections::BTreeMap;
+
+impl Json {
+    /// Reads a text of at most `most` bytes. Which bytes are JSON is `serde_json`'s reading of
+    /// RFC 8259: the last of two members with one name stays. Of the parts that are left out here,
+    /// the first is told, with members in the order of their names' bytes.
+    pub fn read(alloc: Global, bytes: &[u8], most: usize) -> Result<Json, JsonFault>
+        ensures answers { Answers result bytes.now most }
+        ensures too_long { most < length bytes.now → result ≡ Err JsonFault.TooLong }
+    {
+        if bytes.len() > most {
+            return Err(JsonFault::TooLong);
+        }
+        match Value::from_slice(alloc, bytes) {
+            Ok(value) => converted(alloc, &value),
+            Err(e) if e.is_memory() => Err(JsonFault::OutOfMemory),
+            Err(_) => Err(JsonFault::NotJson),
+        }
+    }
+}
+
+#[cycle(convert)]
+fn converted(alloc: Global, value: &Value) -> Result<Json, JsonFault>
+    ensures { Converts view result (value_of (data_view value.now)) }
+{
+    match value {
+        Value::Null => Err(JsonFault::NullValue),
+        Value::Bool(b) => Ok(Json::Scalar(Scalar::Bool(*b))),
+        Value::Number(number) => match number.as_i64() {
+            Some(n) => Ok(Json::Scalar(Scalar::Int(n))),
+            None => Err(JsonFault::NumberOutside),
+        },
+        Value::String(text) => Ok(Json::Scalar(Scalar::Text(text.clone()?))),
+        Value::Array(items) => Ok(Json::List(converted_items(alloc, items)?)),
+        Value::Object(members) => Ok(Json::Object(converted_members(alloc, members)?)),
+    }
+}
+
+#[cycle(convert)]
+fn converted_items(alloc: Global, items: &Vec<Value>) -> Result<Vec<Json>, JsonFault>
+    ensures { Converts (λ v. items_view v.items) result (items_value (data_items items.now.items)) }
+{
+    let mut found = Vec::new(alloc);
+    for item in items {
+        found.push(converted(alloc, item)?)?;
+    }
+    Ok(found)
+}
+
+#[cycle(convert)]
+fn converted_members(
+    alloc: Global,
+    members: &Map<String, Value>,
+) -> Result<BTreeMap<String, Json>, JsonFault>
+    ensures { Converts (λ m. members_view m.entries) result (members_value (data_members members.now.entries)) }
+{
+    let mut found = BTreeMap::new(alloc);
+    for (key, member) in members.iter() {
+        let name = key.clone()?;
+        drop(found.insert(name, converted(alloc, member)?)?);
+    }
+    Ok(found)
+}
