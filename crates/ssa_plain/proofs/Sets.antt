@@ -7,7 +7,7 @@ use Rattle.std.specs.List.{insert}
 use Rattle.std.proofs.lemmas.List.{drop_more, take_more}
 use Rattle.ssa_model.specs.Path.{Path, path_cmp, same_path}
 use Rattle.ssa_model.specs.PathMap as model
-use Rattle.ssa_model.specs.PathMap.{marked, listed, is_empty, paths, set_of, union}
+use Rattle.ssa_model.specs.PathMap.{marked, listed, is_empty, paths, set_of, union, from_entries}
 use Rattle.std.specs.Prelude.{filter, ◌||◌}
 use Rattle.std.proofs.lemmas.List.{take_all}
 use Rattle.std.proofs.lemmas.List.Folds.{list_any-append}
@@ -39,20 +39,30 @@ module _ (p x : Path) (rest : List Path) where
   pub with_path-greater : path_cmp p x ≡ Greater → with_path p (x ∷ rest) ≡ x ∷ with_path p rest
   with_path-greater h = ap in_order h
 
--- one step of the next lemma, after the order of the two paths
-put_one : (p : Path) (e : Path × Unit {0}) (es : List (Path × Unit {0})) (o : Ordering) → map (λ e. e.0) (put path_cmp p tt es) ≡ with_path p (map (λ e. e.0) es)
-    → map (λ e. e.0) (by_order o ((p, tt) ∷ e ∷ es) ((e.0, tt) ∷ es) (e ∷ put path_cmp p tt es)) ≡ in_order p e.0 (map (λ e. e.0) es) o
-put_one p e es Less h = ap (λ qs. p ∷ e.0 ∷ qs) (sym (unmarked (map (λ e. e.0) es)))
-put_one p e es Equal h = ap (λ qs. e.0 ∷ qs) (sym (unmarked (map (λ e. e.0) es)))
-put_one p e es Greater h = ap (λ qs. e.0 ∷ qs) h
+module _ {X : Type 0} where
+  abbrev keys_of : List (Path × X) → List Path
+  keys_of es = map (λ e. e.0) es
 
-put_paths : (p : Path) (es : List (Path × Unit {0})) → map (λ e. e.0) (put path_cmp p tt es) ≡ with_path p (map (λ e. e.0) es)
-put_paths p [] = refl
-put_paths p (e ∷ es) = put_one p e es (path_cmp p e.0) (put_paths p es)
+  -- one step of the next lemma, after the order of the two paths
+  put_one : (p : Path) (x : X) (e : Path × X) (es : List (Path × X)) (o : Ordering) → keys_of (put path_cmp p x es) ≡ with_path p (keys_of es)
+      → keys_of (by_order o ((p, x) ∷ e ∷ es) ((e.0, x) ∷ es) (e ∷ put path_cmp p x es)) ≡ in_order p e.0 (keys_of es) o
+  put_one p x e es Less h = ap (λ qs. p ∷ e.0 ∷ qs) (sym (unmarked (keys_of es)))
+  put_one p x e es Equal h = ap (λ qs. e.0 ∷ qs) (sym (unmarked (keys_of es)))
+  put_one p x e es Greater h = ap (λ qs. e.0 ∷ qs) h
+
+  put_paths : (p : Path) (x : X) (es : List (Path × X)) → keys_of (put path_cmp p x es) ≡ with_path p (keys_of es)
+  put_paths p x [] = refl
+  put_paths p x (e ∷ es) = put_one p x e es (path_cmp p e.0) (put_paths p x es)
+
+-- the paths of a map are those of the set of its entries' paths
+pub paths-from_entries : {X : Type 0} (es : List (Path × X)) → paths (from_entries es) ≡ paths (listed (keys_of es))
+paths-from_entries [] = refl
+paths-from_entries (e ∷ es) =
+    put_paths e.0 e.1 (from_entries es).entries ∙ ap (with_path e.0) (paths-from_entries es) ∙ sym (put_paths e.0 tt (listed (keys_of es)).entries)
 
 -- the paths of a set, one more at the end of its list
 pub paths-push : (ps : List Path) (p : Path) → paths (listed (ps ++ p ∷ [])) ≡ with_path p (paths (listed ps))
-paths-push ps p = ap paths (listed-push ps p) ∙ put_paths p (listed ps).entries
+paths-push ps p = ap paths (listed-push ps p) ∙ put_paths p tt (listed ps).entries
 
 -- ---- the empty set
 

@@ -1,5 +1,6 @@
 //! The engine over plain lists of whole paths, as the definitions say it: short, and slow on large objects.
 #![tactic(auto)]
 
+pub mod body;
 pub mod path;
 pub mod path_set;

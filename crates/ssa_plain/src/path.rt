@@ -1,7 +1,7 @@
 //! Paths of fields.
 ghost use Rattle.std.specs.Prelude.{◌≡◌, ◌++◌, ◌∷◌, [], IfOk, OnOk, length};
-ghost use Rattle.ssa_model.specs.Path.{field, same_path, path_cmp, under, is_root};
-ghost use Rattle.ssa_plain.specs.View.{names_view};
+ghost use Rattle.ssa_model.specs.Path.{field, same_path, path_cmp, under, is_root, is_item};
+ghost use Rattle.ssa_plain.specs.Names.{names_view};
 
 use std::alloc::{AllocError, Global};
 use std::cmp::Ordering;
@@ -21,7 +21,7 @@ impl Model for Path {
 
     ghost coded = { coded_path };
 
-    ghost use Rattle.ssa_plain.specs.View.{names_view};
+    ghost use Rattle.ssa_plain.specs.Names.{names_view};
 
     ghost view = { λ p. names_view p.names.items };
 }
@@ -65,6 +65,14 @@ impl Path {
         ensures { result ≡ is_root self.now }
     {
         self.names.is_empty()
+    }
+
+    /// Whether the place is an item of a list: no path of fields alone is.
+    pub fn is_item(&self) -> bool
+        ensures { result ≡ is_item self.now }
+    {
+        let _names = &self.names;
+        false
     }
 
     /// Whether both are one path.

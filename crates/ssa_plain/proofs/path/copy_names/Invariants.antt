@@ -1,5 +1,5 @@
 use Rattle.std.proofs.Common.{◌≡◌, take}
-use Rattle.ssa_plain.specs.View.{names_view}
+use Rattle.ssa_plain.specs.Names.{names_view}
 use Rattle.ssa_plain.proofs.path.copy_names.Given as goal
 
 abbrev pub invariant-loop-name : goal.invariant-loop-name
