@@ -1,3 +1,4 @@
 pub mod Names
 pub mod View
 pub mod Sets
+pub mod Managers

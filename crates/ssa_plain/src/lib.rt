@@ -4,3 +4,4 @@
 pub mod body;
 pub mod path;
 pub mod path_set;
+pub mod table;
