@@ -1,0 +1,12 @@
+//! The program: sessions over a bench, one command a line in, one reply a line out.
+#![tactic(auto)]
+
+mod engine;
+mod line;
+mod machine;
+mod read_line;
+#[cfg(test)]
+mod tests;
+mod write_line;
+
+fn main() {}
