@@ -137,6 +137,7 @@ fn copies_and_compares(rt: HostRuntime) -> Result<(), Fail> {
 fn looks_into_values(rt: HostRuntime) -> Result<(), Fail> {
     let value = Json::read(rt.alloc(), b"{\"a\":\"x\",\"b\":{}}", 100)?;
     assert!(rt; value.is_object());
+    assert!(rt; value.as_object().is_some_and(|ms| ms.len() == 2));
     assert_eq!(rt; value.member("a").and_then(Json::as_text), Some("x"));
     assert!(rt; value.member("b").is_some_and(|b| b.is_object()));
     assert!(rt; value.member("c").is_none());
