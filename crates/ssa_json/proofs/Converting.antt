@@ -1,26 +1,24 @@
 -- Laws of converting JSON data to values, item by item and member by member.
-use Rattle.std.proofs.Common.{◌≡◌, ℕ, ◌≤◌, length, Bool, true, false, cond, Option, None, Some, IsUtf8, List, [], ◌∷◌, ◌++◌, map, String, Global, Ordering, Less, Greater, string_bytes, string_cmp, nat_cmp, Result, Ok, Err, refl, sym, ap, ◌∙◌, subst}
-use Rattle.std.proofs.lemmas.Cmp.{nat_list_cmp_total}
-use Rattle.std.specs.Cmp.Lexicographic.{slice_cmp}
-use Rattle.std.specs.List.{AllByRecursion}
-use Rattle.std.specs.List.Sorted.{IsStrictlySortedBy}
-use Rattle.std.specs.Map.{keys_of}
-use Rattle.std.specs.Ordering.{match_ordering, ordering_reverse}
-use Rattle.std.specs.BTreeMap.{insert_entry}
+use Rattle.std.proofs.Common.{◌≡◌, ℕ, ◌≤◌, length, true, false, cond, None, Some, IsUtf8, List, [], ◌∷◌, ◌++◌, map, String, Global, string_bytes, Result, Ok, Err, refl, sym, ap, ◌∙◌}
+use Rattle.std.proofs.lemmas.List.{map-append}
 use Rattle.std.specs.Str.{is_utf8}
 use Rattle.std.proofs.lemmas.Str.{IsUtf8-from_is_utf8, is_utf8-from_IsUtf8}
 use Rattle.serde_json.specs.Data as json
 use Rattle.serde_json.specs.Read.{read}
-use Rattle.serde_json.specs.View as json_view
-use Rattle.serde_json.proofs.Views.{Entry}
 use Rattle.ssa_model.specs.Json.{Items, no_items, item, Members, no_members, member}
 use Rattle.ssa_model.specs.Json as model
-use Rattle.ssa_json.specs.View.{view, items_of, items_view, members_view, members_of}
+use Rattle.ssa_json.specs.View.{view, items_of, members_view}
 use Rattle.ssa_json.specs.Reading.{ReadFault, not_json, null_value, number_outside, ◌>>=◌, value_of, items_value, members_value, data_value, json_reading, Refuses, Converts, Answers}
 use Rattle.ssa_json.specs.declared.value.Json.{Json}
 use Rattle.ssa_json.proofs.Ordered.{names}
 use Rattle.ssa_json.specs.declared.fault.JsonFault.{JsonFault}
 use Rattle.ssa_json.specs.declared.fault.JsonFault.TheVariants.{TooLong, NotJson, NullValue, NumberOutside, OutOfMemory}
+
+abbrev pub Found : Type 0
+Found = String Global × Json
+
+abbrev pub named : Found → List ℕ × model.Json
+named e = (string_bytes e.0, view e.1)
 
 -- these items, and then the others
 pub items_after : List model.Json → Items → Items
@@ -78,6 +76,12 @@ items-step front v d ds is = ap (λ r. with_items front (r >>= λ x. items_value
 pub members-step : (front : List (List ℕ × model.Json)) (v : model.Json) (k : List ℕ) (d : json.Data) (ms : json.Members) → value_of d ≡ Ok v → with_members front (members_value (json.member k d ms)) ≡ with_members (front ++ (k, v) ∷ []) (members_value ms)
 members-step front v k d ms is = ap (λ r. with_members front (r >>= λ x. members_value ms >>= λ vs. Ok (member k x vs))) is ∙ with_members-more front k v (members_value ms)
 
+pub views_push : (found : List Json) (j : Json) (now : List Json) → now ≡ found ++ j ∷ [] → map view found ++ view j ∷ [] ≡ map view now
+views_push found j now is = sym (map-append view found (j ∷ [])) ∙ ap (map view) (sym is)
+
+pub named_push : (found : List Found) (k : String Global) (j : Json) (now : List Found) → now ≡ found ++ (k, j) ∷ [] → map named found ++ (string_bytes k, view j) ∷ [] ≡ map named now
+named_push found k j now is = sym (map-append named found ((k, j) ∷ [])) ∙ ap (map named) (sym is)
+
 -- a fault of one is a fault of the whole
 Refuses-at : {A B : Type 0} (fault : JsonFault) (part : Result A ReadFault) (whole : Result B ReadFault) → ((e : ReadFault) → part ≡ Err e → whole ≡ Err e) → Refuses fault part → Refuses fault whole
 Refuses-at TooLong part whole passes h = absurd h
@@ -95,12 +99,6 @@ members-fault fault front k d ms whole split h =
     Refuses-at fault (value_of d) whole (λ e is. split ∙ ap (λ r. with_members front (r >>= λ x. members_value ms >>= λ vs. Ok (member k x vs))) is) h
 
 -- ---- members that were found
-
-abbrev pub Found : Type 0
-Found = String Global × Json
-
-abbrev pub named : Found → List ℕ × model.Json
-named e = (string_bytes e.0, view e.1)
 
 pub members_after-none : (found : List Found) → members_after (map named found) no_members ≡ members_view found
 unfolding members_after

@@ -1,15 +1,10 @@
 -- The compact text of a value is what `serde_json` prints for it.
-use Rattle.std.proofs.Common.{◌≡◌, ℕ, suc, ◌<◌, ◌+◌, ◌^◌, nat_eq, nat_lt, ℤ, pos, negsuc, List, [], ◌∷◌, ◌++◌, map, String, Global, Bool, true, false, ◌&&◌, Ordering, Less, Greater, string_bytes, string_cmp, nat_cmp, refl, sym, ap, ap₂, ◌∙◌, subst, arith, rules, ltb-true, append-nil}
+use Rattle.std.proofs.Common.{◌≡◌, ℕ, suc, ◌<◌, ◌^◌, nat_eq, ℤ, pos, negsuc, List, [], ◌∷◌, ◌++◌, map, Bool, true, false, string_bytes, string_cmp, refl, sym, ap, ap₂, ◌∙◌, subst, arith, rules, ltb-true, append-nil}
 use Rattle.std.proofs.lemmas.Bool.{eqb-true, and_parts, and_from}
-use Rattle.std.proofs.lemmas.Bool.Decides.{nat_tests}
-use Rattle.std.proofs.lemmas.Cmp.{nat_list_cmp_total}
 use Rattle.std.proofs.lemmas.Fmt.{PrependsLastDigit, decimal_from_prepends, length-decimal-le_succ}
-use Rattle.std.specs.Cmp.Lexicographic.{slice_cmp}
 use Rattle.std.specs.Fmt as fmt
-use Rattle.std.specs.List.{AllByRecursion}
 use Rattle.std.specs.List.Sorted.{IsStrictlySortedBy}
 use Rattle.std.specs.Map.{keys_of}
-use Rattle.std.specs.Ordering.{ordering_reverse}
 use Rattle.json.specs.Print as print
 use Rattle.serde_json.specs.Data as json
 use Rattle.serde_json.specs.View as json_view

@@ -1,6 +1,6 @@
 -- Lookups in a map, beside those in the members that it stands for.
-use Rattle.std.proofs.Common.{◌≡◌, List, [], ◌∷◌, Bool, true, false, cond, refl, ap, String, string_bytes, Global, BTreeMap, is_eq, nat_cmp, rules}
-use Rattle.std.specs.Prelude.{Option, Some, None, option_map, map}
+use Rattle.std.proofs.Common.{◌≡◌, List, [], ◌∷◌, Bool, true, false, cond, refl, String, string_bytes, Global, BTreeMap, is_eq, nat_cmp, rules}
+use Rattle.std.specs.Prelude.{Option, Some, None, option_map}
 use Rattle.std.specs.Borrow.{Bor}
 use Rattle.std.specs.Map.{lookup}
 use Rattle.std.specs.BTreeMap.{is_at}

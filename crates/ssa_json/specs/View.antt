@@ -1,5 +1,5 @@
 -- What a value of the program is.
-use Rattle.std.specs.Prelude.{List, [], ◌∷◌, map, String, string_bytes}
+use Rattle.std.specs.Prelude.{List, [], ◌∷◌, map, Option, Some, None, String, string_bytes}
 use Rattle.std.specs.declared.alloc.Global.{Global}
 use Rattle.ssa_model.specs.Json as model
 use Rattle.ssa_json.specs.declared.value.Scalar.{Scalar}
@@ -34,3 +34,8 @@ items_view vs = items_of (map view vs)
 
 abbrev pub members_view : List (String Global × Json) → model.Members
 members_view ms = members_of (map (λ m. (m.0, view m.1)) ms)
+
+-- the members of an object
+abbrev pub as_object : model.Json → Option model.Members
+as_object (model.object ms) = Some ms
+as_object _ = None

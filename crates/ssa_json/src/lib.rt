@@ -10,5 +10,7 @@ pub mod reader;
 pub mod same;
 pub mod sink;
 pub mod source;
+#[cfg(test)]
+mod tests;
 pub mod value;
 pub mod write;

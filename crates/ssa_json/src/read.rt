@@ -22,7 +22,7 @@ impl Json {
             return Err(JsonFault::TooLong);
         }
         match Value::from_slice(alloc, bytes) {
-            Ok(value) => converted(alloc, &value),
+            Ok(value) => converted(alloc, value),
             Err(e) if e.is_memory() => Err(JsonFault::OutOfMemory),
             Err(_) => Err(JsonFault::NotJson),
         }
@@ -30,25 +30,25 @@ impl Json {
 }
 
 #[cycle(convert)]
-fn converted(alloc: Global, value: &Value) -> Result<Json, JsonFault>
-    ensures { Converts view result (value_of (data_view value.now)) }
+fn converted(alloc: Global, value: Value) -> Result<Json, JsonFault>
+    ensures { Converts view result (value_of (data_view value)) }
 {
     match value {
         Value::Null => Err(JsonFault::NullValue),
-        Value::Bool(b) => Ok(Json::Scalar(Scalar::Bool(*b))),
+        Value::Bool(b) => Ok(Json::Scalar(Scalar::Bool(b))),
         Value::Number(number) => match number.as_i64() {
             Some(n) => Ok(Json::Scalar(Scalar::Int(n))),
             None => Err(JsonFault::NumberOutside),
         },
-        Value::String(text) => Ok(Json::Scalar(Scalar::Text(text.clone()?))),
+        Value::String(text) => Ok(Json::Scalar(Scalar::Text(text))),
         Value::Array(items) => Ok(Json::List(converted_items(alloc, items)?)),
         Value::Object(members) => Ok(Json::Object(converted_members(alloc, members)?)),
     }
 }
 
 #[cycle(convert)]
-fn converted_items(alloc: Global, items: &Vec<Value>) -> Result<Vec<Json>, JsonFault>
-    ensures { Converts (λ v. items_view v.items) result (items_value (data_items items.now.items)) }
+fn converted_items(alloc: Global, items: Vec<Value>) -> Result<Vec<Json>, JsonFault>
+    ensures { Converts (λ v. items_view v.items) result (items_value (data_items items.items)) }
 {
     let mut found = Vec::new(alloc);
     for item in items {
@@ -60,13 +60,12 @@ fn converted_items(alloc: Global, items: &Vec<Value>) -> Result<Vec<Json>, JsonF
 #[cycle(convert)]
 fn converted_members(
     alloc: Global,
-    members: &Map<String, Value>,
+    members: Map<String, Value>,
 ) -> Result<BTreeMap<String, Json>, JsonFault>
-    ensures { Converts (λ m. members_view m.entries) result (members_value (data_members members.now.entries)) }
+    ensures { Converts (λ m. members_view m.entries) result (members_value (data_members members.entries)) }
 {
     let mut found = BTreeMap::new(alloc);
-    for (key, member) in members.iter() {
-        let name = key.clone()?;
+    for (name, member) in members {
         drop(found.insert(name, converted(alloc, member)?)?);
     }
     Ok(found)

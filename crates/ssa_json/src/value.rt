@@ -1,6 +1,6 @@
 //! JSON values: what RFC 8259 has, but for nulls and for numbers that are not whole numbers of 64 bits.
 ghost use Rattle.std.specs.Prelude.{◌≡◌, Some, None, option_map};
-ghost use Rattle.ssa_json.specs.View.{view};
+ghost use Rattle.ssa_json.specs.View.{view, members_view, as_object};
 ghost use Rattle.ssa_model.specs.Json.{is_object, as_text, member_at};
 
 use std::collections::BTreeMap;
@@ -27,6 +27,16 @@ impl Json {
         ensures { result ≡ is_object (view self.now) }
     {
         matches!(self, Json::Object(_))
+    }
+
+    /// The members, where the value is an object.
+    pub fn as_object(&self) -> Option<&BTreeMap<String, Json>>
+        ensures { option_map (λ ms. members_view ms.now.entries) result ≡ as_object (view self.now) }
+    {
+        match self {
+            Json::Object(members) => Some(members),
+            _ => None,
+        }
     }
 
     /// The text, where the value is one.

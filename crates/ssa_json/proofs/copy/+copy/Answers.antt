@@ -1,9 +1,8 @@
-use Rattle.std.proofs.Common.{◌≡◌, List, [], ◌∷◌, ◌++◌, map, string_bytes, string_cmp, sym, ap, ap₂, ◌∙◌, subst, append_assoc, append-nil}
+use Rattle.std.proofs.Common.{◌≡◌, [], ◌∷◌, ◌++◌, map, string_bytes, string_cmp, sym, ap, ap₂, ◌∙◌, subst, append_assoc, append-nil}
 use Rattle.std.proofs.lemmas.List.{map-append}
 use Rattle.std.specs.List.Sorted.{IsStrictlySortedBy}
 use Rattle.std.specs.Map.{keys_of}
 use Rattle.ssa_model.specs.Json.{no_members}
-use Rattle.ssa_json.specs.View.{view}
 use Rattle.ssa_json.proofs.Converting.{Found, named, members_after, members_after-none, same_names}
 use Rattle.ssa_json.proofs.Ordered.{inserted-last}
 use Rattle.ssa_json.proofs.copy.+copy.Goals as goal

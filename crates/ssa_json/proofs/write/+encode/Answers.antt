@@ -1,4 +1,4 @@
-use Rattle.std.proofs.Common.{◌≡◌, List, [], ◌∷◌, ◌++◌, ◌+◌, take, map, ap₂, string_bytes, string_cmp, sym, ap, ◌∙◌, subst, arith, rules, append_assoc, take_all, true}
+use Rattle.std.proofs.Common.{◌≡◌, [], ◌∷◌, ◌++◌, ◌+◌, take, map, ap₂, string_bytes, string_cmp, sym, ap, ◌∙◌, subst, arith, append_assoc, take_all}
 use Rattle.std.proofs.lemmas.List.{take_more, map-append}
 use Rattle.std.specs.List.Sorted.{IsStrictlySortedBy}
 use Rattle.std.specs.Map.{keys_of}
@@ -6,8 +6,8 @@ use Rattle.serde_json.specs.Data.{Data}
 use Rattle.ssa_json.specs.declared.value.Json.{Json}
 use Rattle.serde_json.specs.View.{view as data_view, items_of as data_items_of, members_view as data_members}
 use Rattle.serde_json.proofs.Views.{members_view-insert_entry}
-use Rattle.ssa_json.specs.Written.{data_of, items_narrow, members_narrow}
-use Rattle.ssa_json.specs.View.{view, items_view, members_view}
+use Rattle.ssa_json.specs.Written.{data_of}
+use Rattle.ssa_json.specs.View.{view}
 use Rattle.ssa_json.proofs.Converting.{Found}
 use Rattle.ssa_json.proofs.Printing.{items_of-data, put-last, items_narrow-push, members_narrow-push}
 use Rattle.ssa_json.proofs.write.+encode.Goals as goal
