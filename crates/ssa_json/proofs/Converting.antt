@@ -8,7 +8,8 @@ use Rattle.serde_json.specs.Read.{read}
 use Rattle.ssa_model.specs.Json.{Items, no_items, item, Members, no_members, member}
 use Rattle.ssa_model.specs.Json as model
 use Rattle.ssa_json.specs.View.{view, items_of, members_view}
-use Rattle.ssa_json.specs.Reading.{ReadFault, not_json, null_value, number_outside, ◌>>=◌, value_of, items_value, members_value, data_value, json_reading, Refuses, Converts, Answers}
+use Rattle.ssa_model.specs.Readings.{ReadFault, not_json, null_value, number_outside}
+use Rattle.ssa_json.specs.Reading.{◌>>=◌, value_of, items_value, members_value, data_value, json_reading, Refuses, Converts, Answers}
 use Rattle.ssa_json.specs.declared.value.Json.{Json}
 use Rattle.ssa_json.proofs.Ordered.{names}
 use Rattle.ssa_json.specs.declared.fault.JsonFault.{JsonFault}

@@ -5,15 +5,11 @@ use Rattle.serde_json.specs.Data as json
 use Rattle.serde_json.specs.Find.{as_i64}
 use Rattle.serde_json.specs.Read.{read}
 use Rattle.ssa_model.specs.Json as model
+use Rattle.ssa_model.specs.Readings.{ReadFault, not_json, null_value, number_outside}
 use Rattle.ssa_json.specs.View.{view}
 use Rattle.ssa_json.specs.declared.value.Json.{Json}
 use Rattle.ssa_json.specs.declared.fault.JsonFault.{JsonFault}
 use Rattle.ssa_json.specs.declared.fault.JsonFault.TheVariants.{TooLong, NotJson, NullValue, NumberOutside, OutOfMemory}
-
-pub data ReadFault : Type 0 where
-  not_json : ReadFault
-  null_value : ReadFault
-  number_outside : ReadFault
 
 infixl 10 ◌>>=◌
 abbrev pub ◌>>=◌ : {A B : Type 0} → Result A ReadFault → (A → Result B ReadFault) → Result B ReadFault

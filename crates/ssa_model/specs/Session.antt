@@ -2,23 +2,13 @@
 use Rattle.std.specs.Prelude.{ℕ, List, [], ◌∷◌, Bool, true, false, Option, Some, None, option_and_then, option_map, Result, Ok, Err, if◌then◌else◌, ◌==◌, codes}
 use Rattle.ssa_model.specs.Json.{Text, Scalar, Json, scalar, list, object, Members, no_members, member, same_text, compact}
 use Rattle.ssa_model.specs.Path.{Element, field, key, value, Path, element_text}
+use Rattle.ssa_model.specs.Readings.{ReadFault, not_json, null_value, number_outside, Readings}
 use Rattle.ssa_model.specs.History.{Bench}
 use Rattle.ssa_model.specs.Commands as given
 use Rattle.ssa_model.specs.Commands.{CommandRule, command_of, moment_of}
 use Rattle.ssa_model.specs.Answers as answers
 use Rattle.ssa_model.specs.Answers.{Command, GivingUp, answer}
 use Rattle.ssa_model.specs.Replies.{fault_json, reply_text}
-
--- why bytes are no value
-pub data ReadFault : Type 0 where
-  not_json : ReadFault
-  null_value : ReadFault
-  number_outside : ReadFault
-
--- Which bytes are which value, and which texts are moments.
-pub record Readings : Type 0 where
-  pub value : Text → Result Json ReadFault
-  pub moment : Text → Bool
 
 -- ---- reading an element's text
 

@@ -2,3 +2,5 @@ pub mod Names
 pub mod View
 pub mod Sets
 pub mod Managers
+pub mod Kinds
+pub mod Replies

@@ -2,6 +2,9 @@
 #![tactic(auto)]
 
 pub mod body;
+pub mod command;
+pub mod kind;
 pub mod path;
 pub mod path_set;
+pub mod reply;
 pub mod table;

@@ -1,0 +1,28 @@
+-- What kinds are.
+use Rattle.std.specs.Prelude.{List, [], ◌∷◌, map, String, string_bytes}
+use Rattle.std.specs.declared.alloc.Global.{Global}
+use Rattle.ssa_model.specs.Kind as model
+use Rattle.ssa_plain.specs.declared.kind.ScalarKind.{ScalarKind}
+use Rattle.ssa_plain.specs.declared.kind.ScalarKind.TheVariants.{Text, Whole, Truth}
+use Rattle.ssa_plain.specs.declared.kind.Kind.{Kind, fold-Kind}
+use Rattle.ssa_plain.specs.declared.kind.Kind.TheOpen.{Kind-F}
+
+abbrev pub scalar_kind_view : ScalarKind → model.ScalarKind
+scalar_kind_view Text = model.texts
+scalar_kind_view Whole = model.wholes
+scalar_kind_view Truth = model.truths
+
+abbrev pub fields_of : List (String Global × model.Kind) → model.Fields
+fields_of [] = model.no_fields
+fields_of (f ∷ fs) = model.kind_field (string_bytes f.0) f.1 (fields_of fs)
+
+-- one level, with each kind inside already seen
+abbrev pub kind_step : Kind-F model.Kind → model.Kind
+kind_step (Kind-F.Scalar k) = model.scalar_kind (scalar_kind_view k)
+kind_step (Kind-F.Record fs) = model.record_of (fields_of fs.items)
+
+abbrev pub kind_view : Kind → model.Kind
+kind_view = fold-Kind model.Kind kind_step
+
+abbrev pub fields_view : List (String Global × Kind) → model.Fields
+fields_view fs = fields_of (map (λ f. (f.0, kind_view f.1)) fs)
