@@ -4,3 +4,5 @@ pub mod Sets
 pub mod Managers
 pub mod Kinds
 pub mod Replies
+pub mod Owning
+pub mod States

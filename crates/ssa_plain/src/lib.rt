@@ -1,6 +1,7 @@
 //! The engine over plain lists of whole paths, as the definitions say it: short, and slow on large objects.
 #![tactic(auto)]
 
+pub mod apply;
 pub mod body;
 pub mod command;
 pub mod kind;

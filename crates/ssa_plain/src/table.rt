@@ -1,5 +1,6 @@
 //! The table of managers: who owns which paths, and since when.
-ghost use Rattle.std.specs.Prelude.{◌≡◌, IfOk, map};
+ghost use Rattle.std.specs.Prelude.{◌≡◌, IfOk, map, filter};
+ghost use Rattle.ssa_plain.specs.Owning.{owns};
 ghost use Rattle.std.specs.List.{list_any};
 ghost use Rattle.ssa_model.specs.PathMap.{PathSet, has, paths, set_of, empty, union};
 ghost use Rattle.ssa_model.specs.Table.{same_operation, same_manager, is_in_table, owned_by_others, reseated, seat};
@@ -174,4 +175,57 @@ fn reseated(
         owned: kept,
         moment,
     })
+}
+
+// The entries after a command that own something, of the managers that the table has.
+fn reseated_entries(
+    alloc: Global,
+    table: &[Entry],
+    manager: &ManagerKey,
+    owned: &PathSet,
+    lost: &PathSet,
+    changed: bool,
+    at: Moment,
+) -> Result<Vec<Entry>, AllocError>
+    ensures { IfOk result (λ made. table_view made.items ≡ filter owns (map (reseated (key_view manager.now) owned.now lost.now changed at) (table_view table.now))) }
+{
+    let mut made = Vec::new(alloc);
+    for entry in table {
+        let next = reseated(alloc, entry, manager, owned, lost, changed, at)?;
+        if !next.owned.is_empty() {
+            made.push(next)?;
+        }
+    }
+    Ok(made)
+}
+
+/// The table after a command: the manager owns `owned`, the others lose `lost`, and who owns nothing leaves.
+/// A new manager stands last. Its moment is `at`, as is an old one's whose set changed or where something was modified.
+pub fn seat(
+    alloc: Global,
+    table: &[Entry],
+    manager: &ManagerKey,
+    owned: &PathSet,
+    lost: &PathSet,
+    modified: &PathSet,
+    at: Moment,
+) -> Result<Vec<Entry>, AllocError>
+    ensures { IfOk result (λ made. table_view made.items ≡ seat (table_view table.now) (key_view manager.now) owned.now lost.now modified.now at) }
+{
+    let changed = !modified.is_empty();
+    let mut made = reseated_entries(alloc, table, manager, owned, lost, changed, at)?;
+    if is_in_table(table, manager) {
+        return Ok(made);
+    }
+    if owned.is_empty() {
+        return Ok(made);
+    }
+    let name = manager.copy(alloc)?;
+    let paths = owned.copy(alloc)?;
+    made.push(Entry {
+        manager: name,
+        owned: paths,
+        moment: at,
+    })?;
+    Ok(made)
 }
