@@ -6,3 +6,4 @@ pub mod Kinds
 pub mod Replies
 pub mod Owning
 pub mod States
+pub mod Histories

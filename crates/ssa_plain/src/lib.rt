@@ -9,3 +9,4 @@ pub mod path;
 pub mod path_set;
 pub mod reply;
 pub mod table;
+pub mod timeline;
