@@ -7,3 +7,5 @@ pub mod Replies
 pub mod Owning
 pub mod States
 pub mod Histories
+pub mod Faults
+pub mod Identities

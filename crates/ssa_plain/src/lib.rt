@@ -4,9 +4,13 @@
 pub mod apply;
 pub mod body;
 pub mod command;
+pub mod faults;
+pub mod flat;
+pub mod identity;
 pub mod kind;
 pub mod path;
 pub mod path_set;
 pub mod reply;
+pub mod show;
 pub mod table;
 pub mod timeline;
