@@ -22,11 +22,11 @@ abbrev pub named : Found → List ℕ × model.Json
 named e = (string_bytes e.0, view e.1)
 
 -- these items, and then the others
-pub items_after : List model.Json → Items → Items
+unfoldable pub items_after : List model.Json → Items → Items
 items_after [] vs = vs
 items_after (x ∷ xs) vs = item x (items_after xs vs)
 
-pub members_after : List (List ℕ × model.Json) → Members → Members
+unfoldable pub members_after : List (List ℕ × model.Json) → Members → Members
 members_after [] ms = ms
 members_after (x ∷ xs) ms = member x.0 x.1 (members_after xs ms)
 

@@ -63,7 +63,7 @@ without_name v = v
 
 abbrev pub without_names_in_metadata : Members → Members
 without_names_in_metadata no_members = no_members
-without_names_in_metadata (member n v ms) = if same_text n (codes "metadata") then member n (without_name v) ms else member n v (without_names_in_metadata ms)
+without_names_in_metadata (member n v ms) = member n (if same_text n (codes "metadata") then without_name v else v) (without_names_in_metadata ms)
 
 -- the object without its identity
 abbrev pub body_value : Members → Json

@@ -1,7 +1,7 @@
 -- What identities are.
 use Rattle.std.specs.Prelude.{List, [], ◌∷◌, Option, Some, None, option_map, if◌then◌else◌, codes, ◌&&◌}
-use Rattle.ssa_model.specs.Json.{Json, scalar, list, object}
-use Rattle.ssa_model.specs.Objects.{value_at, identity_of, is_identity, is_some_object, body_value}
+use Rattle.ssa_model.specs.Json.{Text, Json, scalar, list, object, same_text}
+use Rattle.ssa_model.specs.Objects.{value_at, identity_of, is_identity, is_some_object, body_value, without_name}
 use Rattle.ssa_json.specs.View.{view}
 use Rattle.ssa_plain.specs.declared.identity.Identity.TheInside.{Inside}
 
@@ -17,3 +17,7 @@ abbrev pub body_value_of : Json → Json
 body_value_of (object ms) = body_value ms
 body_value_of (list vs) = list vs
 body_value_of (scalar s) = scalar s
+
+-- a member's value, of the metadata without the name and the namespace
+abbrev pub nameless : Text → Json → Json
+nameless n v = if same_text n (codes "metadata") then without_name v else v

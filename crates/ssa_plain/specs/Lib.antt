@@ -9,3 +9,5 @@ pub mod States
 pub mod Histories
 pub mod Faults
 pub mod Identities
+pub mod BenchView
+pub mod Benches

@@ -2,7 +2,9 @@
 #![tactic(auto)]
 
 pub mod apply;
+pub mod bench;
 pub mod body;
+pub mod body_value;
 pub mod command;
 pub mod faults;
 pub mod flat;
@@ -13,4 +15,5 @@ pub mod path_set;
 pub mod reply;
 pub mod show;
 pub mod table;
+pub mod text;
 pub mod timeline;

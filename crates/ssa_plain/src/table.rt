@@ -8,6 +8,7 @@ ghost use Rattle.ssa_model.specs.Operations.{clashes};
 ghost use Rattle.ssa_plain.specs.Managers.{operation_view, key_view, entry_view, table_view, clash_view};
 
 use crate::path_set::PathSet;
+use crate::text::is_same_text;
 use ssa_json::moment::Moment;
 use std::alloc::{AllocError, Global};
 
@@ -57,7 +58,7 @@ impl ManagerKey {
     pub fn is_same(&self, other: &ManagerKey) -> bool
         ensures { result ≡ same_manager (key_view self.now) (key_view other.now) }
     {
-        let same_name = self.name.as_bytes().cmp(other.name.as_bytes()).is_eq();
+        let same_name = is_same_text(&self.name, &other.name);
         same_name && is_same_operation(self.operation, other.operation)
     }
 
