@@ -1,12 +1,16 @@
 -- What preparing a command answers, and how a bench goes on.
-use Rattle.std.specs.Prelude.{◌≡◌, ℕ, ◌+◌, ◌-◌, ◌<◌, Result, Ok, Err}
+use Rattle.std.specs.Prelude.{◌≡◌, ℕ, ◌+◌, ◌-◌, ◌<◌, map, Result, Ok, Err}
 use Rattle.ssa_model.specs.PathMap.{empty}
 use Rattle.ssa_model.specs.Body as bodies
+use Rattle.ssa_model.specs.Operations as operations
 use Rattle.ssa_model.specs.History as model
 use Rattle.ssa_model.specs.History.{past_len, future_len, appended, moved_to, with_timeline}
 use Rattle.ssa_model.specs.Answers as answers
 use Rattle.ssa_model.specs.Answers.{GivingUp, Answer}
+use Rattle.ssa_plain.specs.Managers.{clash_view}
 use Rattle.ssa_plain.specs.States.{state_view}
+use Rattle.ssa_plain.specs.declared.apply.Refusal.{Refusal}
+use Rattle.ssa_plain.specs.declared.apply.Refusal.TheVariants.{Conflict, TooManyPaths, TooManyManagers, OutOfMemory}
 use Rattle.ssa_plain.specs.Histories.{label_view}
 use Rattle.ssa_plain.specs.Replies.{fault_view, reply_view}
 use Rattle.ssa_plain.specs.declared.bench.Taken.{Taken}
@@ -41,3 +45,13 @@ pub record IsPrepared (bench : model.Bench) (prepared : Prepared) (given : Answe
   pub reply : reply_view prepared.reply ≡ given.0
   pub next : after_next bench prepared.next ≡ given.1
   pub follows : CanFollow bench prepared.next
+
+-- the reply tells the refusal, and the bench stays
+abbrev pub Tells : Prepared → operations.Refusal → Type 0
+Tells p r = (reply_view p.reply ≡ answers.fault (answers.refused r)) × (p.next ≡ Same)
+
+abbrev pub IsRefusal : Refusal → Prepared → Type 0
+IsRefusal (Conflict clashes) p = Tells p (operations.conflict (map clash_view clashes.items))
+IsRefusal TooManyPaths p = Tells p operations.too_many_paths
+IsRefusal TooManyManagers p = Tells p operations.too_many_managers
+IsRefusal OutOfMemory p = ⊥

@@ -1,11 +1,13 @@
 //! The bench: an object, its managers, and the history of commands on it.
-ghost use Rattle.std.specs.Prelude.{◌≡◌, ◌<◌, ◌≤◌, IfOk, OnOk, OnErr, ◌&&◌, ◌||◌, nat_le, codes, string_bytes};
+ghost use Rattle.std.specs.Prelude.{◌≡◌, ◌<◌, ◌≤◌, IfOk, OnOk, OnErr, ◌&&◌, ◌||◌, nat_le, codes, string_bytes, false};
 ghost use Rattle.std.specs.List.{list_all};
-ghost use Rattle.ssa_model.specs.History.{is_name_byte, is_manager_name, past_len, future_len};
-ghost use Rattle.ssa_model.specs.Answers.{answer, body_or_fault, command_body};
+ghost use Rattle.ssa_model.specs.History.{is_name_byte, is_manager_name, past_len, future_len, present};
+ghost use Rattle.ssa_model.specs.Answers.{answer, apply_answer, apply, undo, redo, comparison, body_or_fault, command_body};
 ghost use Rattle.ssa_json.specs.View.{view};
-ghost use Rattle.ssa_plain.specs.Benches.{nothing_given_up, taken_view, after_next, CanFollow, IsPrepared};
-ghost use Rattle.ssa_plain.specs.Replies.{command_view, reply_view};
+ghost use Rattle.ssa_plain.specs.Benches.{nothing_given_up, taken_view, after_next, CanFollow, IsPrepared, IsRefusal};
+ghost use Rattle.ssa_model.specs.Entries.{object_of_state};
+ghost use Rattle.ssa_plain.specs.States.{state_view};
+ghost use Rattle.ssa_plain.specs.Replies.{command_view, reply_view, changed_view};
 
 use crate::apply::{MOST_PLACES, Refusal, State, apply};
 use crate::body::Body;
@@ -123,6 +125,186 @@ impl Bench {
             return Ok(Taken::Refused(Fault::ManagedFieldsGiven));
         }
         let value = body_value(alloc, object)?;
-        self.body_or_fault(alloc, &value)
+        let taken = self.body_or_fault(alloc, &value)?;
+        Ok(taken)
     }
+
+    // An Apply: the reply, and the step that it adds to the history.
+    fn prepare_apply(
+        &self,
+        alloc: Global,
+        who: String,
+        force: bool,
+        at: Moment,
+        object: &Json,
+    ) -> Result<Prepared, AllocError>
+        ensures { IfOk result (λ p. IsPrepared self.now p (answer nothing_given_up self.now (apply (string_bytes who) force at (view object.now)))) }
+    {
+        if self.timeline.past_len() >= MOST_PAST {
+            return Ok(refused(Fault::HistoryFull));
+        }
+        if !is_manager_name(who.as_str()) {
+            return Ok(refused(Fault::ManagerName));
+        }
+        match self.command_body(alloc, object)? {
+            Taken::Refused(fault) => Ok(refused(fault)),
+            Taken::Body(config) => {
+                let prepared = self.prepare_configuration(alloc, who, force, at, &config)?;
+                Ok(prepared)
+            }
+        }
+    }
+
+    // An Apply of a configuration.
+    fn prepare_configuration(
+        &self,
+        alloc: Global,
+        who: String,
+        force: bool,
+        at: Moment,
+        config: &Body,
+    ) -> Result<Prepared, AllocError>
+        ensures { IfOk result (λ p. IsPrepared self.now p (apply_answer nothing_given_up self.now (string_bytes who) force at config.now)) }
+    {
+        let manager = ManagerKey {
+            name: String::from_str(alloc, who.as_str())?,
+            operation: Operation::Apply,
+        };
+        let nothing = PathSet::new(alloc);
+        let now = self.timeline.present();
+        match apply(alloc, now, &nothing, &manager, config, force, at) {
+            Ok(state) => {
+                let changed = compared(alloc, now, &state)?;
+                let label = Label { who, force, at };
+                Ok(Prepared {
+                    reply: Reply::Applied(changed),
+                    next: Next::Append(Step { label, state }),
+                })
+            }
+            Err(refusal) => {
+                let prepared = refused_apply(refusal)?;
+                Ok(prepared)
+            }
+        }
+    }
+
+    // Undo: the counts after it, or nothing to undo.
+    fn prepare_undo(&self) -> Prepared
+        ensures { IsPrepared self.now result (answer nothing_given_up self.now undo) }
+    {
+        if self.timeline.past_len() == 0 {
+            return refused(Fault::NothingToUndo);
+        }
+        Prepared {
+            reply: Reply::Undone {
+                past: self.timeline.past_len() - 1,
+                future: self.timeline.future_len() + 1,
+            },
+            next: Next::Undo,
+        }
+    }
+
+    // Redo: the counts after it, or nothing to redo.
+    fn prepare_redo(&self) -> Prepared
+        ensures { IsPrepared self.now result (answer nothing_given_up self.now redo) }
+    {
+        if self.timeline.future_len() == 0 {
+            return refused(Fault::NothingToRedo);
+        }
+        Prepared {
+            reply: Reply::Redone {
+                past: self.timeline.past_len() + 1,
+                future: self.timeline.future_len() - 1,
+            },
+            next: Next::Redo,
+        }
+    }
+
+    /// The object of the present state.
+    pub fn show(&self, alloc: Global) -> Result<Json, AllocError>
+        ensures { IfOk result (λ v. view v ≡ object_of_state self.now.identity self.now.kind false (present self.now.timeline)) }
+    {
+        let now = self.timeline.present();
+        let object = object_of_body(alloc, &self.identity, &self.kind, &now.body)?;
+        Ok(object)
+    }
+
+    /// The reply to a command, and how the bench goes on after it. The bench is as before.
+    pub fn prepare(&self, alloc: Global, command: Command) -> Result<Prepared, AllocError>
+        ensures { IfOk result (λ p. IsPrepared self.now p (answer nothing_given_up self.now (command_view command))) }
+    {
+        match command {
+            Command::Apply {
+                who,
+                force,
+                at,
+                object,
+            } => {
+                let prepared = self.prepare_apply(alloc, who, force, at, &object)?;
+                Ok(prepared)
+            }
+            Command::Undo => Ok(self.prepare_undo()),
+            Command::Redo => Ok(self.prepare_redo()),
+            Command::Show => {
+                let object = self.show(alloc)?;
+                Ok(Prepared {
+                    reply: Reply::Shown(object),
+                    next: Next::Same,
+                })
+            }
+        }
+    }
+
+    /// Goes on as a prepared command says. Want of memory leaves the bench as it was.
+    pub fn commit(&mut self, next: Next) -> Result<(), AllocError>
+        requires { CanFollow self.old next }
+        ensures ok { OnOk result (self.new ≡ after_next self.old next) }
+        ensures err { OnErr result (self.new ≡ self.old) }
+    {
+        match next {
+            Next::Same => {}
+            Next::Append(step) => self.timeline.append(step)?,
+            Next::Undo => self.timeline.undo(),
+            Next::Redo => self.timeline.redo(),
+        }
+        Ok(())
+    }
+}
+
+// The refusal of a command, after which the bench stays.
+fn refused(fault: Fault) -> Prepared
+    ensures reply { result.reply ≡ Reply.Refused fault }
+    ensures next { result.next ≡ Next.Same }
+{
+    Prepared {
+        reply: Reply::Refused(fault),
+        next: Next::Same,
+    }
+}
+
+// The refusal of an Apply.
+fn refused_apply(refusal: Refusal) -> Result<Prepared, AllocError>
+    ensures { IfOk result (IsRefusal refusal) }
+{
+    match refusal {
+        Refusal::Conflict(clashes) => Ok(refused(Fault::Conflict(clashes))),
+        Refusal::TooManyPaths => Ok(refused(Fault::TooManyPaths)),
+        Refusal::TooManyManagers => Ok(refused(Fault::TooManyManagers)),
+        Refusal::OutOfMemory => Err(AllocError),
+    }
+}
+
+// What differs between two states.
+fn compared(alloc: Global, before: &State, after: &State) -> Result<Changed, AllocError>
+    ensures { IfOk result (λ c. changed_view c ≡ comparison (state_view before.now) (state_view after.now)) }
+{
+    let added = before.body.added(alloc, &after.body)?;
+    let modified = before.body.modified(alloc, &after.body)?;
+    let removed = before.body.removed(alloc, &after.body)?;
+    Ok(Changed {
+        added,
+        modified,
+        removed,
+        managers: after.table.as_slice().len(),
+    })
 }

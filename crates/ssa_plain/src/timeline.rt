@@ -1,5 +1,5 @@
 //! The history of a bench: all its states in a row, and a place among them.
-ghost use Rattle.std.specs.Prelude.{◌≡◌, [], OnOk, OnErr, ◌≤◌, ◌+◌, ◌-◌, ◌<◌, length, take, ◌++◌, ◌∷◌};
+ghost use Rattle.std.specs.Prelude.{◌≡◌, [], OnOk, OnErr, ◌≤◌, ◌+◌, ◌-◌, ◌<◌, ◌^◌, length, take, ◌++◌, ◌∷◌};
 ghost use Rattle.ssa_model.specs.History as model;
 ghost use Rattle.ssa_model.specs.History.{present, past_len, future_len, appended, moved_to};
 ghost use Rattle.ssa_plain.specs.Histories.{label_view};
@@ -88,14 +88,16 @@ impl Timeline {
 
     /// How many states stand before the place.
     pub fn past_len(&self) -> usize
-        ensures { result ≡ past_len self.now }
+        ensures count { result ≡ past_len self.now }
+        ensures small { result < 2 ^ 63 }
     {
         self.place
     }
 
     /// How many states stand after the place.
     pub fn future_len(&self) -> usize
-        ensures { result ≡ future_len self.now }
+        ensures count { result ≡ future_len self.now }
+        ensures small { result < 2 ^ 63 }
     {
         self.later.len() - self.place
     }
