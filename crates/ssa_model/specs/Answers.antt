@@ -1,16 +1,16 @@
 -- The answer to a command, and a run of commands.
-use Rattle.std.specs.Prelude.{ℕ, ◌+◌, ◌-◌, List, [], ◌∷◌, Bool, not, ◌&&◌, ◌==◌, length, Result, Ok, Err, if◌then◌else◌, nat_lt, nat_le, codes, map, filter, take, drop}
+use Rattle.std.specs.Prelude.{ℕ, ◌+◌, ◌-◌, List, [], ◌∷◌, Bool, not, ◌&&◌, ◌==◌, length, Option, Result, Ok, Err, if◌then◌else◌, nat_lt, nat_le, codes, map, filter, take, drop}
 use Rattle.ssa_model.specs.Json.{Text, Json, scalar, list, object, member_of}
 use Rattle.ssa_model.specs.Path.{Path}
 use Rattle.ssa_model.specs.PathMap.{PathSet, has, size}
-use Rattle.ssa_model.specs.Kind.{BodyFault, wrong_type, faults}
+use Rattle.ssa_model.specs.Kind.{Kind, BodyFault, wrong_type, faults}
 use Rattle.ssa_model.specs.Body.{Body, flat, added, modified, removed}
 use Rattle.ssa_model.specs.Table.{applies, updates, ManagerKey, Table}
 use Rattle.ssa_model.specs.Operations as operations
 use Rattle.ssa_model.specs.Operations.{State, Refusal, too_many_paths, apply_without, dropped}
 use Rattle.ssa_model.specs.Objects.{value_at, identity_of, is_missing, is_some_object, is_identity, same_identity, body_value}
 use Rattle.ssa_model.specs.Entries.{object_of_state}
-use Rattle.ssa_model.specs.History.{Label, applied, updated, stripped, Bench, present, past_len, future_len, appended, moved_to, with_timeline, is_manager_name}
+use Rattle.ssa_model.specs.History.{Label, applied, updated, stripped, Timeline, Bench, present, past_len, future_len, appended, moved_to, with_timeline, is_manager_name}
 
 pub data Fault : Type 0 where
   body_fault : BodyFault → Path → Fault
@@ -33,10 +33,10 @@ abbrev pub gives_managed_fields : Json → Bool
 gives_managed_fields v = not (is_missing (value_at (codes "metadata" ∷ codes "managedFields" ∷ []) v))
 
 -- the body of a value that has no faults
-abbrev pub body_or_fault : Bench → Json → Result Body Fault
-body_or_fault bench value =
-    elim (faults bench.kind value []) [
-      | [] ↦ if nat_lt 20001 (size (flat bench.kind value)) then Err (refused too_many_paths) else Ok (flat bench.kind value)
+abbrev pub body_or_fault : Kind → Json → Result Body Fault
+body_or_fault kind value =
+    elim (faults kind value []) [
+      | [] ↦ if nat_lt 20001 (size (flat kind value)) then Err (refused too_many_paths) else Ok (flat kind value)
       | f ∷ fs ↦ Err (body_fault f.0 f.1)
     ]
 
@@ -45,9 +45,31 @@ abbrev pub command_body : Bench → Json → Result Body Fault
 command_body bench (object ms) =
     if not (has_identity bench (object ms)) then Err identity_fault
     else (if gives_managed_fields (object ms) then Err managed_fields_given
-    else body_or_fault bench (body_value ms))
+    else body_or_fault bench.kind (body_value ms))
 command_body bench (list vs) = Err (body_fault wrong_type [])
 command_body bench (scalar s) = Err (body_fault wrong_type [])
+
+-- ---- a new bench
+
+abbrev pub lone_state : Body → Timeline
+lone_state body = record { first = record { body = body; table = [] }; later = []; place = 0 }
+
+abbrev pub with_lone_state : Kind → List (Option Json) → Result Body Fault → Result Bench Fault
+with_lone_state kind identity (Ok body) = Ok (record { kind = kind; identity = identity; timeline = lone_state body })
+with_lone_state kind identity (Err f) = Err f
+
+-- an object file says what the object is called
+abbrev pub names_itself : Json → Bool
+names_itself v = is_some_object (value_at (codes "metadata" ∷ []) v) && is_identity (identity_of v)
+
+-- The bench of an object file without managers' entries, or its first fault. The file is tested like a command's object, but for the comparison of the identity.
+abbrev pub bench_of : Kind → Json → Result Bench Fault
+bench_of kind (object ms) =
+    if not (names_itself (object ms)) then Err identity_fault
+    else (if gives_managed_fields (object ms) then Err managed_fields_given
+    else with_lone_state kind (identity_of (object ms)) (body_or_fault kind (body_value ms)))
+bench_of kind (list vs) = Err (body_fault wrong_type [])
+bench_of kind (scalar s) = Err (body_fault wrong_type [])
 
 -- ---- commands on a bench
 

@@ -13,6 +13,8 @@ use Rattle.ssa_plain.specs.declared.apply.Refusal.{Refusal}
 use Rattle.ssa_plain.specs.declared.apply.Refusal.TheVariants.{Conflict, TooManyPaths, TooManyManagers, OutOfMemory}
 use Rattle.ssa_plain.specs.Histories.{label_view}
 use Rattle.ssa_plain.specs.Replies.{fault_view, reply_view}
+use Rattle.ssa_plain.specs.declared.bench.Made.{Made}
+use Rattle.ssa_plain.specs.declared.bench.Made.TheVariants as made
 use Rattle.ssa_plain.specs.declared.bench.Taken.{Taken}
 use Rattle.ssa_plain.specs.declared.bench.Taken.TheVariants.{Body, Refused}
 use Rattle.ssa_plain.specs.declared.bench.Next.{Next}
@@ -26,6 +28,10 @@ nothing_given_up state a config = empty
 abbrev pub taken_view : Taken → Result bodies.Body answers.Fault
 taken_view (Body b) = Ok b
 taken_view (Refused f) = Err (fault_view f)
+
+abbrev pub made_view : Made → Result model.Bench answers.Fault
+made_view (made.Bench b) = Ok b
+made_view (made.Refused f) = Err (fault_view f)
 
 abbrev pub after_next : model.Bench → Next → model.Bench
 after_next bench Same = bench

@@ -2,11 +2,12 @@
 ghost use Rattle.std.specs.Prelude.{◌≡◌, ◌<◌, ◌≤◌, IfOk, OnOk, OnErr, ◌&&◌, ◌||◌, nat_le, codes, string_bytes, false};
 ghost use Rattle.std.specs.List.{list_all};
 ghost use Rattle.ssa_model.specs.History.{is_name_byte, is_manager_name, past_len, future_len, present};
-ghost use Rattle.ssa_model.specs.Answers.{answer, apply_answer, apply, undo, redo, comparison, body_or_fault, command_body};
+ghost use Rattle.ssa_model.specs.Answers.{answer, apply_answer, apply, undo, redo, comparison, body_or_fault, command_body, bench_of, with_lone_state};
 ghost use Rattle.ssa_json.specs.View.{view};
-ghost use Rattle.ssa_plain.specs.Benches.{nothing_given_up, taken_view, after_next, CanFollow, IsPrepared, IsRefusal};
+ghost use Rattle.ssa_plain.specs.Benches.{nothing_given_up, taken_view, made_view, after_next, CanFollow, IsPrepared, IsRefusal};
 ghost use Rattle.ssa_model.specs.Entries.{object_of_state};
 ghost use Rattle.ssa_plain.specs.States.{state_view};
+ghost use Rattle.ssa_plain.specs.Kinds.{kind_view};
 ghost use Rattle.ssa_plain.specs.Replies.{command_view, reply_view, changed_view};
 
 use crate::apply::{MOST_PLACES, Refusal, State, apply};
@@ -95,20 +96,66 @@ pub fn is_manager_name(name: &str) -> bool
     1 <= len && (len <= 128 && are_name_bytes(name.as_bytes()))
 }
 
+// The body of the object's value, or its first fault.
+fn body_or_fault(alloc: Global, kind: &Kind, value: &Json) -> Result<Taken, AllocError>
+    ensures { IfOk result (λ t. taken_view t ≡ body_or_fault (kind_view kind.now) (view value.now)) }
+{
+    if let Some(found) = first_fault(alloc, kind, value)? {
+        return Ok(Taken::Refused(Fault::Body(found.fault, found.path)));
+    }
+    let body = body_of(alloc, kind, value)?;
+    let places = body.size(alloc)?;
+    if places > MOST_PLACES {
+        return Ok(Taken::Refused(Fault::TooManyPaths));
+    }
+    Ok(Taken::Body(body))
+}
+
+/// A new bench, or why its object is refused.
+#[derive(Drop)]
+pub enum Made {
+    Bench(Bench),
+    Refused(Fault),
+}
+
 impl Bench {
-    // The body of the object's value, or its first fault.
-    fn body_or_fault(&self, alloc: Global, value: &Json) -> Result<Taken, AllocError>
-        ensures { IfOk result (λ t. taken_view t ≡ body_or_fault self.now (view value.now)) }
+    /// The bench of an object file, with no managers and no history. The object is tested like a command's,
+    /// but for the comparison of the identity.
+    pub fn new(alloc: Global, kind: Kind, object: &Json) -> Result<Made, AllocError>
+        ensures { IfOk result (λ m. made_view m ≡ bench_of (kind_view kind) (view object.now)) }
     {
-        if let Some(found) = first_fault(alloc, &self.kind, value)? {
-            return Ok(Taken::Refused(Fault::Body(found.fault, found.path)));
+        if !object.is_object() {
+            return Ok(Made::Refused(Fault::Body(BodyFault::WrongType, Path::root(alloc))));
         }
-        let body = body_of(alloc, &self.kind, value)?;
-        let places = body.size(alloc)?;
-        if places > MOST_PLACES {
-            return Ok(Taken::Refused(Fault::TooManyPaths));
+        let Some(identity) = Identity::of_object(alloc, object)? else {
+            return Ok(Made::Refused(Fault::Identity));
+        };
+        if gives_managed_fields(object) {
+            return Ok(Made::Refused(Fault::ManagedFieldsGiven));
         }
-        Ok(Taken::Body(body))
+        let value = body_value(alloc, object)?;
+        let taken = body_or_fault(alloc, &kind, &value)?;
+        Ok(Bench::with_lone_state(alloc, kind, identity, taken))
+    }
+
+    // The bench of one state, of a body that was taken.
+    fn with_lone_state(alloc: Global, kind: Kind, identity: Identity, taken: Taken) -> Made
+        ensures { made_view result ≡ with_lone_state (kind_view kind) identity (taken_view taken) }
+    {
+        match taken {
+            Taken::Refused(fault) => Made::Refused(fault),
+            Taken::Body(body) => {
+                let first = State {
+                    body,
+                    table: Vec::new(alloc),
+                };
+                Made::Bench(Bench {
+                    kind,
+                    identity,
+                    timeline: Timeline::new(alloc, first),
+                })
+            }
+        }
     }
 
     // The body of a command's object: it is tested for its identity, `managedFields`, the body's faults, and the count of paths.
@@ -125,7 +172,7 @@ impl Bench {
             return Ok(Taken::Refused(Fault::ManagedFieldsGiven));
         }
         let value = body_value(alloc, object)?;
-        let taken = self.body_or_fault(alloc, &value)?;
+        let taken = body_or_fault(alloc, &self.kind, &value)?;
         Ok(taken)
     }
 
