@@ -3,10 +3,13 @@
 
 mod command_shape;
 mod engine;
+mod fault_text;
+mod json_text;
 mod line;
 mod machine;
 mod read_command;
 mod read_line;
+mod reply_text;
 #[cfg(test)]
 mod tests;
 mod write_line;
