@@ -12,6 +12,8 @@ mod read_line;
 mod reply_text;
 #[cfg(test)]
 mod tests;
+#[cfg(test)]
+mod text_tests;
 mod write_line;
 
 fn main() {}
