@@ -47,7 +47,7 @@ quoted-is t = ap (λ u. 34 ∷ (u ++ 34 ∷ [])) (escape-is t)
 digits_before-prepends : PrependsLastDigit digits_before
 digits_before-prepends = search rules
 
-decimal-is : (n : ℕ) → n < 2 ^ 64 → fmt.decimal n ≡ decimal n
+pub decimal-is : (n : ℕ) → n < 2 ^ 64 → fmt.decimal n ≡ decimal n
 decimal-is n narrow = sym (append-nil (fmt.decimal n)) ∙ sym (decimal_from_prepends digits_before digits_before-prepends (suc n) n [] narrow (let short = length-decimal-le_succ n narrow in omega arith))
 
 whole-is : (z : ℤ) → is_narrow_whole z ≡ true → fmt.signed_decimal z ≡ whole_text z

@@ -1,0 +1,115 @@
+// Which JSON objects are commands, by their members.
+ghost use Rattle.std.specs.Prelude.{◌≡◌, Some, None, MatchOption, option_map, option_and_then};
+ghost use Rattle.std.specs.List.{list_all};
+ghost use Rattle.ssa_json.specs.View.{view, members_view};
+ghost use Rattle.ssa_model.specs.Json.{same_text, as_text, member_of};
+ghost use Rattle.ssa_model.specs.Schema.{has_member, is_text};
+ghost use Rattle.ssa_model.specs.Commands.{rule_of, word_of, first_rules, is_known_member, are_known_members, follows_rule};
+ghost use Rattle.ssabench.specs.Commands.{word_text, member_rules, rule_at};
+
+use ssa_json::value::Json;
+use std::collections::BTreeMap;
+
+/// What a command does, as its member `do` says.
+#[derive(Clone, Copy, Debug, PartialEq, Eq)]
+pub enum Word {
+    Apply,
+    Undo,
+    Redo,
+    Show,
+}
+
+fn is_same(text: &str, other: &str) -> bool
+    ensures { result ≡ same_text text.now other.now }
+{
+    text == other
+}
+
+fn word_of_text(text: &str) -> Option<Word>
+    ensures { MatchOption result (rule_of first_rules text.now ≡ None) (λ word. text.now ≡ word_text word) }
+{
+    if is_same(text, "apply") {
+        Some(Word::Apply)
+    } else if is_same(text, "undo") {
+        Some(Word::Undo)
+    } else if is_same(text, "redo") {
+        Some(Word::Redo)
+    } else if is_same(text, "show") {
+        Some(Word::Show)
+    } else {
+        None
+    }
+}
+
+/// The text of the member of a name, where it is one.
+pub fn text_of<'a>(members: &'a BTreeMap<String, Json>, name: &str) -> Option<&'a str>
+    ensures { option_map (λ text. text.now) result ≡ option_and_then as_text (member_of name.now (members_view members.now.entries)) }
+{
+    members.get(name)?.as_text()
+}
+
+/// The word of a command, where it is one.
+pub fn word_of(members: &BTreeMap<String, Json>) -> Option<Word>
+    ensures { MatchOption result (option_and_then (rule_of first_rules) (word_of (members_view members.now.entries)) ≡ None)
+        (λ word. word_of (members_view members.now.entries) ≡ Some (word_text word)) }
+{
+    word_of_text(text_of(members, "do")?)
+}
+
+fn has_member(members: &BTreeMap<String, Json>, name: &str) -> bool
+    ensures { result ≡ has_member name.now (members_view members.now.entries) }
+{
+    members.contains_key(name)
+}
+
+fn is_text(value: &Json) -> bool
+    ensures { result ≡ is_text (view value.now) }
+{
+    value.as_text().is_some()
+}
+
+// Whether an apply command may have the member.
+fn is_apply_member(name: &str, value: &Json) -> bool
+    ensures { result ≡ is_known_member (member_rules Word.Apply) name.now (view value.now) }
+{
+    is_same(name, "do")
+        || (is_same(name, "at") && is_text(value))
+        || (is_same(name, "manager") && is_text(value))
+        || is_same(name, "object")
+}
+
+// Whether a command of the word may have the member.
+fn is_known_member(word: Word, name: &str, value: &Json) -> bool
+    ensures { result ≡ is_known_member (member_rules word) name.now (view value.now) }
+{
+    match word {
+        Word::Apply => is_apply_member(name, value),
+        Word::Undo | Word::Redo | Word::Show => is_same(name, "do"),
+    }
+}
+
+fn are_known_members(word: Word, members: &BTreeMap<String, Json>) -> bool
+    ensures { result ≡ are_known_members (member_rules word) (members_view members.now.entries) }
+{
+    for (name, value) in members.iter() {
+        if !is_known_member(word, name.as_str(), value) {
+            return false;
+        }
+    }
+    true
+}
+
+/// Whether the members are those of a command of the word: each that it needs, of its type, and no other.
+pub fn follows_rule(word: Word, members: &BTreeMap<String, Json>) -> bool
+    ensures { result ≡ follows_rule (members_view members.now.entries) (rule_at word) }
+{
+    are_known_members(word, members)
+        && match word {
+            Word::Apply => {
+                has_member(members, "at")
+                    && has_member(members, "manager")
+                    && has_member(members, "object")
+            }
+            Word::Undo | Word::Redo | Word::Show => true,
+        }
+}

@@ -1,0 +1,140 @@
+//! Reads a line as a command.
+ghost use Rattle.std.specs.Prelude.{◌≡◌, ◌≤◌, IsTrue, length, Some, option_map, option_and_then, string_bytes};
+ghost use Rattle.ssa_json.specs.View.{view, members_view};
+ghost use Rattle.ssa_model.specs.Json.{object, as_text, member_of};
+ghost use Rattle.ssa_model.specs.Session.{read_command, read_line};
+ghost use Rattle.ssa_model.specs.Commands.{first_rules, word_of, follows_rule};
+ghost use Rattle.ssabench.specs.Commands.{readings, nothing_given_up, word_text, rule_at, ReadsCommand};
+ghost use Rattle.ssabench.specs.declared.read_command.LineFault.TheVariants.{OutOfMemory};
+
+use crate::command_shape::{Word, follows_rule, text_of, word_of};
+use crate::line::LINE_LIMIT;
+use ssa_json::fault::JsonFault;
+use ssa_json::moment::Moment;
+use ssa_json::value::{Json, Scalar};
+use ssa_plain::command::Command;
+use std::alloc::{AllocError, AllocFailed, Global};
+use std::collections::BTreeMap;
+use thiserror::Error;
+
+/// Why a line is no command.
+#[derive(Debug, Drop, Error)]
+pub enum LineFault {
+    /// The bytes are no JSON text.
+    #[error("not JSON")]
+    NotJson,
+    /// The first part that is left out here is a null.
+    #[error("a null value")]
+    NullValue,
+    /// The first part that is left out here is a number that is not a whole number of 64 bits.
+    #[error("a number that is not a whole number of 64 bits")]
+    NumberOutside,
+    /// The shape is a command's, and the text of `at` is no moment.
+    #[error("not a moment")]
+    BadMoment,
+    /// The value is no object, `do` is no word, a member is missing or has another type, or there is
+    /// another member.
+    #[error("not a command")]
+    CommandShape,
+    /// A growth was refused.
+    #[error("out of memory")]
+    OutOfMemory,
+}
+
+impl From<AllocError> for LineFault {
+    ghost from_gives = { λ _ e. e ≡ OutOfMemory };
+
+    fn from(_refused: AllocError) -> LineFault {
+        LineFault::OutOfMemory
+    }
+}
+
+impl<T: Drop> From<AllocFailed<T>> for LineFault {
+    ghost from_gives = { λ _ e. e ≡ OutOfMemory };
+
+    fn from(_refused: AllocFailed<T>) -> LineFault {
+        LineFault::OutOfMemory
+    }
+}
+
+/// Reads the line as one JSON text, and its value as a command.
+pub fn read_command(alloc: Global, line: &[u8]) -> Result<Command, LineFault>
+    requires { length line.now ≤ LINE_LIMIT }
+    ensures { ReadsCommand result (read_line readings first_rules nothing_given_up line.now) }
+{
+    match Json::read(alloc, line, LINE_LIMIT) {
+        Ok(value) => command_of(value),
+        Err(JsonFault::NotJson) => Err(LineFault::NotJson),
+        Err(JsonFault::NullValue) => Err(LineFault::NullValue),
+        Err(JsonFault::NumberOutside) => Err(LineFault::NumberOutside),
+        Err(JsonFault::TooLong) => unreachable!("the caller keeps the limit"),
+        Err(JsonFault::OutOfMemory) => Err(LineFault::OutOfMemory),
+    }
+}
+
+// The command that a value is.
+fn command_of(value: Json) -> Result<Command, LineFault>
+    ensures { ReadsCommand result (read_command readings first_rules nothing_given_up (view value)) }
+{
+    let Json::Object(members) = value else {
+        return Err(LineFault::CommandShape);
+    };
+    let Some(word) = word_of(&members) else {
+        return Err(LineFault::CommandShape);
+    };
+    if !follows_rule(word, &members) {
+        return Err(LineFault::CommandShape);
+    }
+    match word {
+        Word::Apply => apply_command(members),
+        Word::Undo => Ok(Command::Undo),
+        Word::Redo => Ok(Command::Redo),
+        Word::Show => Ok(Command::Show),
+    }
+}
+
+// The apply command of members that follow its rule.
+fn apply_command(mut members: BTreeMap<String, Json>) -> Result<Command, LineFault>
+    requires word { word_of (members_view members.entries) ≡ Some (word_text Word.Apply) }
+    requires shape { IsTrue (follows_rule (members_view members.entries) (rule_at Word.Apply)) }
+    ensures { ReadsCommand result (read_command readings first_rules nothing_given_up (object (members_view members.entries))) }
+{
+    let Some(text) = text_of(&members, "at") else {
+        unreachable!("the shape has a text");
+    };
+    let Ok(at) = Moment::read(text) else {
+        return Err(LineFault::BadMoment);
+    };
+    let Some(object) = members.remove("object") else {
+        unreachable!("the shape has the member");
+    };
+    let Some(who) = take_text(&mut members, "manager") else {
+        unreachable!("the shape has a text");
+    };
+    Ok(Command::Apply {
+        who,
+        force: false,
+        at,
+        object,
+    })
+}
+
+// Takes out the text of the member of a name, where it is one.
+fn take_text(members: &mut BTreeMap<String, Json>, name: &str) -> Option<String>
+    ensures { option_map (λ text. string_bytes text) result ≡ option_and_then as_text (member_of name.now (members_view members.old.entries)) }
+{
+    into_text(members.remove(name)?)
+}
+
+// The text, where the value is one.
+fn into_text(value: Json) -> Option<String>
+    ensures { option_map (λ text. string_bytes text) result ≡ as_text (view value) }
+{
+    match value {
+        Json::Scalar(scalar) => match scalar {
+            Scalar::Text(text) => Some(text),
+            Scalar::Int(_) | Scalar::Bool(_) => None,
+        },
+        Json::List(_) | Json::Object(_) => None,
+    }
+}
