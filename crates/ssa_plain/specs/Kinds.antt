@@ -1,6 +1,9 @@
 -- What kinds are.
-use Rattle.std.specs.Prelude.{List, [], ◌∷◌, map, String, string_bytes}
+use Rattle.std.specs.Prelude.{List, [], ◌∷◌, ◌++◌, map, Option, Some, None, String, string_bytes}
 use Rattle.std.specs.declared.alloc.Global.{Global}
+use Rattle.ssa_model.specs.Json as values
+use Rattle.ssa_model.specs.Path.{Path, field}
+use Rattle.ssa_model.specs.Body.{Content, places, without_empty_metadata}
 use Rattle.ssa_model.specs.Kind as model
 use Rattle.ssa_plain.specs.declared.kind.ScalarKind.{ScalarKind}
 use Rattle.ssa_plain.specs.declared.kind.ScalarKind.TheVariants.{Text, Whole, Truth}
@@ -26,3 +29,12 @@ kind_view = fold-Kind model.Kind kind_step
 
 abbrev pub fields_view : List (String Global × Kind) → model.Fields
 fields_view fs = fields_of (map (λ f. (f.0, kind_view f.1)) fs)
+
+-- the places of one member of an object at p
+abbrev pub member_places : model.Fields → values.Text → values.Json → Path → List (Path × Content)
+member_places fs n v p = elim (model.kind_of n fs) [ None ↦ [] | Some k ↦ places k v (p ++ field n ∷ []) ]
+
+-- the root's value, but for an empty `metadata`
+abbrev pub without_bare_metadata : values.Json → values.Json
+without_bare_metadata (values.object ms) = values.object (without_empty_metadata ms)
+without_bare_metadata v = v
