@@ -20,7 +20,8 @@ use Rattle.ssa_json.proofs.Equality.{same_text-true}
 use Rattle.ssa_json.proofs.Views.{view-lookup}
 use Rattle.ssabench.specs.declared.command_shape.Word.{Word}
 use Rattle.ssabench.specs.declared.command_shape.Word.TheVariants.{Apply, Undo, Redo, Show}
-use Rattle.ssabench.specs.Commands.{readings, nothing_given_up, word_text, member_rules, rule_at}
+use Rattle.ssa_plain.specs.Benches.{nothing_given_up}
+use Rattle.ssabench.specs.Commands.{readings, word_text, member_rules, rule_at}
 
 -- what a value is read as
 abbrev pub meaning : Json → Result answers.Command LineFault

@@ -1,10 +1,8 @@
 -- Which lines are which commands, and why the others are none.
 use Rattle.std.specs.Prelude.{◌≡◌, List, [], ◌∷◌, Result, Ok, Err, codes}
 use Rattle.ssa_model.specs.Json.{Text}
-use Rattle.ssa_model.specs.PathMap.{empty}
 use Rattle.ssa_model.specs.Readings.{Readings, not_json, null_value, number_outside}
 use Rattle.ssa_model.specs.Commands.{MemberRule, text_member, any_member, needs, CommandRule}
-use Rattle.ssa_model.specs.Answers.{GivingUp}
 use Rattle.ssa_model.specs.Answers as answers
 use Rattle.ssa_model.specs.Session as session
 use Rattle.ssa_model.specs.Session.{unread, bad_moment, command_shape}
@@ -20,10 +18,6 @@ use Rattle.ssabench.specs.declared.read_command.LineFault.TheVariants.{NotJson, 
 -- JSON text, and moments of the calendar
 abbrev pub readings : Readings
 readings = record { value = json_reading; moment = is_moment }
-
--- an Apply gives up no path
-abbrev pub nothing_given_up : GivingUp
-nothing_given_up = λ state a config. empty
 
 abbrev pub word_text : Word → Text
 word_text Apply = codes "apply"

@@ -1,6 +1,7 @@
 //! The program: sessions over a bench, one command a line in, one reply a line out.
 #![tactic(auto)]
 
+mod bench_machine;
 mod command_shape;
 mod engine;
 mod fault_text;

@@ -1,14 +1,14 @@
 //! Reads a line as a command.
-ghost use Rattle.std.specs.Prelude.{◌≡◌, ◌≤◌, IsTrue, length, Some, option_map, option_and_then, string_bytes};
+ghost use Rattle.std.specs.Prelude.{◌≡◌, IsTrue, Some, option_map, option_and_then, string_bytes};
 ghost use Rattle.ssa_json.specs.View.{view, members_view};
 ghost use Rattle.ssa_model.specs.Json.{object, as_text, member_of};
 ghost use Rattle.ssa_model.specs.Session.{read_command, read_line};
 ghost use Rattle.ssa_model.specs.Commands.{first_rules, word_of, follows_rule};
-ghost use Rattle.ssabench.specs.Commands.{readings, nothing_given_up, word_text, rule_at, ReadsCommand};
+ghost use Rattle.ssa_plain.specs.Benches.{nothing_given_up};
+ghost use Rattle.ssabench.specs.Commands.{readings, word_text, rule_at, ReadsCommand};
 ghost use Rattle.ssabench.specs.declared.read_command.LineFault.TheVariants.{OutOfMemory};
 
 use crate::command_shape::{Word, follows_rule, text_of, word_of};
-use crate::line::LINE_LIMIT;
 use ssa_json::fault::JsonFault;
 use ssa_json::moment::Moment;
 use ssa_json::value::{Json, Scalar};
@@ -59,15 +59,14 @@ impl<T: Drop> From<AllocFailed<T>> for LineFault {
 
 /// Reads the line as one JSON text, and its value as a command.
 pub fn read_command(alloc: Global, line: &[u8]) -> Result<Command, LineFault>
-    requires { length line.now ≤ LINE_LIMIT }
     ensures { ReadsCommand result (read_line readings first_rules nothing_given_up line.now) }
 {
-    match Json::read(alloc, line, LINE_LIMIT) {
+    match Json::read(alloc, line, line.len()) {
         Ok(value) => command_of(value),
         Err(JsonFault::NotJson) => Err(LineFault::NotJson),
         Err(JsonFault::NullValue) => Err(LineFault::NullValue),
         Err(JsonFault::NumberOutside) => Err(LineFault::NumberOutside),
-        Err(JsonFault::TooLong) => unreachable!("the caller keeps the limit"),
+        Err(JsonFault::TooLong) => unreachable!("the limit is the line's own length"),
         Err(JsonFault::OutOfMemory) => Err(LineFault::OutOfMemory),
     }
 }

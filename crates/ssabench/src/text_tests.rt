@@ -1,7 +1,6 @@
 // Lines that are read, and replies that are written, by their texts.
 
 use super::fault_text::line_fault_text;
-use super::line::LINE_LIMIT;
 use super::read_command::read_command;
 use super::reply_text::reply_text;
 use ssa_json::value::Json;
@@ -73,7 +72,6 @@ fn refuses_other_lines(rt: HostRuntime) -> Result<(), Fail> {
             bad_moment,
         ),
     ] {
-        assert!(rt; line.len() <= LINE_LIMIT);
         match read_command(rt.alloc(), line.as_bytes()) {
             Ok(_) => panic!(&rt; "a command: {line}"),
             Err(fault) => {
