@@ -1,0 +1,5 @@
+//! Elements of paths, paths of fields, and sets of them.
+#![tactic(auto)]
+
+pub mod element;
+pub mod keys;
