@@ -1,8 +1,10 @@
 // The key fields that name an item of a list.
-ghost use Rattle.std.specs.Prelude.{◌≡◌, true};
+ghost use Rattle.std.specs.Prelude.{◌≡◌, true, IfOk};
+ghost use Rattle.ssa_json.specs.View.{scalar_view};
 ghost use Rattle.ssa_path.specs.Keys.{are_keys, keys_of, members_view, names_rise_after};
 
 use ssa_json::value::Scalar;
+use std::alloc::{AllocError, Global};
 use std::marker::Model;
 
 /// The key fields of an item of a list, at least one, in the order of their names' bytes.
@@ -51,6 +53,33 @@ fn are_keys(members: &[(String, Scalar)]) -> bool
     }
 }
 
+// The same scalar, with new memory.
+pub(crate) fn copy_scalar(alloc: Global, scalar: &Scalar) -> Result<Scalar, AllocError>
+    ensures { IfOk result (λ s. scalar_view s ≡ scalar_view scalar.now) }
+{
+    match scalar {
+        Scalar::Text(text) => Ok(Scalar::Text(String::from_str(alloc, text.as_str())?)),
+        Scalar::Int(number) => Ok(Scalar::Int(*number)),
+        Scalar::Bool(truth) => Ok(Scalar::Bool(*truth)),
+    }
+}
+
+// The same members, with new memory.
+fn copy_members(
+    alloc: Global,
+    members: &[(String, Scalar)],
+) -> Result<Vec<(String, Scalar)>, AllocError>
+    ensures { IfOk result (λ ms. members_view ms.items ≡ members_view members.now) }
+{
+    let mut copies = Vec::new(alloc);
+    for member in members {
+        let name = String::from_str(alloc, member.0.as_str())?;
+        let scalar = copy_scalar(alloc, &member.1)?;
+        copies.push((name, scalar))?;
+    }
+    Ok(copies)
+}
+
 impl Keys {
     /// The key fields with these names and values, where there is one and the names rise by bytes.
     pub fn new(members: Vec<(String, Scalar)>) -> Option<Keys>
@@ -69,5 +98,13 @@ impl Keys {
         ensures rise { are_keys self.now ≡ true }
     {
         &self.members
+    }
+
+    /// The same key fields, with new memory.
+    pub fn copy(&self, alloc: Global) -> Result<Keys, AllocError>
+        ensures { IfOk result (λ k. k ≡ self.now) }
+    {
+        let members = copy_members(alloc, &self.members)?;
+        Ok(Keys { members })
     }
 }

@@ -3,3 +3,4 @@
 
 pub mod element;
 pub mod keys;
+mod order;

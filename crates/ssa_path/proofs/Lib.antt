@@ -1,0 +1,4 @@
+pub mod Escapes
+pub mod Members
+pub mod Numbers
+pub mod Parts
