@@ -1,3 +1,5 @@
+pub mod Children
 pub mod Keys
 pub mod Order
+pub mod Trie
 pub mod View
