@@ -4,6 +4,9 @@ use Rattle.std.proofs.lemmas.List.{drop_more, take-append-drop}
 use Rattle.std.proofs.lemmas.List.Folds.{list_any-append}
 use Rattle.std.specs.Ordering.{is_eq, is_lt, ordering_then}
 use Rattle.std.specs.List.{list_any}
+use Rattle.std.specs.Prelude.{◌==◌, not}
+use Rattle.std.proofs.Common.{arith}
+use Rattle.std.proofs.lemmas.Bool.Decides.{nat_tests}
 use Rattle.ssa_model.specs.Path.{Element, Path, element_cmp, path_cmp, same_element, same_path, under}
 use Rattle.ssa_path.specs.declared.element.Elem.{Elem}
 use Rattle.ssa_path.specs.declared.trie.Trie.{Trie}
@@ -12,7 +15,7 @@ use Rattle.ssa_path.specs.declared.trie.Trie.TheViews.{out-Trie, roll-Trie}
 use Rattle.ssa_path.specs.declared.trie.Trie.TheFolds.{fold_out-Trie, fold-roll-Trie}
 use Rattle.ssa_path.specs.Children.{elements, child_at, is_below, rises}
 use Rattle.ssa_path.specs.View.{element_view, path_view}
-use Rattle.ssa_path.specs.Trie.{Shape, is_one_of, here_path, paths_after, paths_below, paths, shape, shape_step, is_trie, is_filled, has_some, are_filled_tries}
+use Rattle.ssa_path.specs.Trie.{Shape, is_one_of, here_path, paths_after, paths_below, paths, shape, shape_step, is_trie, is_filled, has_some, are_filled_tries, IsPlace}
 use Rattle.ssa_path.proofs.Orders.{both_first, both_second, both, or_false, and_false}
 use Rattle.ssa_path.proofs.Searching.{absent-below}
 
@@ -211,3 +214,14 @@ some-one (q ∷ ps) p h = refl
 pub some-none : (ps : List Path) → has_some ps ≡ false → ps ≡ []
 some-none [] h = refl
 some-none (p ∷ ps) h = absurd (true≢false h)
+
+pub way-end : (start : Trie) (path : Path) (t : Trie) (left : Path) → left ≡ [] → IsOnWay start path t left → IsPlace start path t
+way-end start path t left is h = record {
+  trie = h.trie;
+  same = h.same ∙ ap (is_one_of (paths t)) is;
+  alike = h.alike ∙ ap (λ l. list_any (under l) (paths t)) is ∙ any-root (paths t);
+}
+
+pub some-long : (cs : List (Elem × Trie)) → has_some {A = Elem × Trie} cs ≡ not (length cs == 0)
+some-long [] = refl
+some-long (c ∷ cs) = let long : (length (c ∷ cs) == 0) ≡ false = grind (arith, nat_tests) in ap not (sym long)

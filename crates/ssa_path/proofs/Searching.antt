@@ -112,3 +112,16 @@ module _ {A : Type 0} where
       let before = below-middle (element_view c.0) e cs i (both_first _ _ h) in
       same_here e (element_view c.0) (apart-before e (element_view c.0) e (same_element-itself e) before) c.1 (child_at e cs)
       ∙ child-absent e cs i (both_second _ _ h)
+
+  something : (x : Option A) (y : A) → x ≡ Some y → x ≡ None → ⊥
+  something x y e h = let none : Some y ≡ None = sym e ∙ h in cc
+
+  at-place : (cs : List (Elem × A)) (i : ℕ) → i < length cs → Elem × A
+  at-place [] i lt = absurd (omega arith)
+  at-place (c ∷ cs) i lt = c
+
+  -- a child that is found is there
+  pub some-child : (e : Element) (cs : List (Elem × A)) (i : ℕ) → rises (elements cs) ≡ true → IsChildAt e cs i → child_at e cs ≡ None → ⊥
+  some-child e cs i h found none =
+      let c = at-place cs i found.within in
+      something (child_at e cs) (get_or cs i c).1 (child-found e cs i c h found.within (found.same c)) none

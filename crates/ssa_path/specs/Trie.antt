@@ -1,7 +1,7 @@
 -- The paths that a trie holds.
 use Rattle.std.specs.Prelude.{◌≡◌, List, [], ◌∷◌, ◌++◌, map, Bool, true, false, ◌&&◌, ◌||◌}
 use Rattle.std.specs.List.{list_any}
-use Rattle.ssa_model.specs.Path.{Element, Path, same_path}
+use Rattle.ssa_model.specs.Path.{Element, Path, same_path, under}
 use Rattle.ssa_model.specs.PathMap.{PathSet, from_entries}
 use Rattle.ssa_path.specs.Children.{elements, rises}
 use Rattle.ssa_path.specs.View.{element_view}
@@ -92,3 +92,9 @@ pub record IsGathered (cs : List (Elem × Trie)) (e : Element) (t : Trie) (ds : 
   pub paths_are : (p : Path) → is_one_of (paths_below ds) p ≡ (is_one_of (paths_after e (paths t)) p || is_one_of (paths_below cs) p)
   pub risen : rises (elements ds) ≡ true
   pub tries : are_filled_tries ds ≡ true
+
+-- the place of a path: the paths that begin with it are those of the place
+pub record IsPlace (start : Trie) (path : Path) (t : Trie) : Type 0 where
+  pub trie : is_trie t ≡ true
+  pub same : is_one_of (paths start) path ≡ is_one_of (paths t) []
+  pub alike : list_any (under path) (paths start) ≡ is_filled t

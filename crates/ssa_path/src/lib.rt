@@ -2,7 +2,9 @@
 #![tactic(auto)]
 
 pub mod children;
+pub mod combine;
 pub mod element;
+pub mod field_set;
 pub mod keys;
 mod order;
 pub mod path;
