@@ -2,6 +2,7 @@ pub mod Combining
 pub mod Escapes
 pub mod Inserting
 pub mod Levels
+pub mod InOrder
 pub mod Lists
 pub mod Members
 pub mod Numbers

@@ -1,10 +1,12 @@
 // Sets of paths.
-ghost use Rattle.std.specs.Prelude.{◌≡◌, true, IfOk, OnOk, OnErr};
-ghost use Rattle.ssa_model.specs.PathMap.{empty, has, has_at_or_below, insert, is_empty, minus, union};
+ghost use Rattle.std.specs.Prelude.{◌≡◌, ◌-◌, ◌^◌, true, min, IfOk, OnOk, OnErr};
+ghost use Rattle.ssa_model.specs.PathMap.{empty, has, has_at_or_below, insert, is_empty, minus, size, union};
+ghost use Rattle.ssa_model.specs.PathMap as set;
 ghost use Rattle.ssa_path.specs.Meet.{meet, combined};
 ghost use Rattle.ssa_path.specs.Trie.{is_trie, listed, paths};
 
 use crate::combine::{Combination, combine};
+use crate::listing::{count_paths, list_paths};
 use crate::path::Path;
 use crate::trie::Trie;
 use std::alloc::{AllocError, Global};
@@ -130,5 +132,21 @@ impl FieldSet {
         ensures { IfOk result (λ s. s ≡ meet self.now other.now) }
     {
         self.combined(alloc, other, Combination::Meet)
+    }
+
+    /// The paths of the set, in path order.
+    pub fn paths(&self, alloc: Global) -> Result<Vec<Path>, AllocError>
+        ensures { IfOk result (λ ps. ps.items ≡ set.paths self.now) }
+    {
+        let mut listed = Vec::new(alloc);
+        list_paths(alloc, &self.root, &[], &mut listed)?;
+        Ok(listed)
+    }
+
+    /// How many paths the set has, or `usize::MAX` where there are more.
+    pub fn len(&self) -> usize
+        ensures { result ≡ min (size self.now) (2 ^ 64 - 1) }
+    {
+        count_paths(&self.root)
     }
 }

@@ -6,6 +6,7 @@ pub mod combine;
 pub mod element;
 pub mod field_set;
 pub mod keys;
+pub mod listing;
 mod order;
 pub mod path;
 pub mod trie;
