@@ -9,4 +9,6 @@ pub mod keys;
 pub mod listing;
 mod order;
 pub mod path;
+#[cfg(test)]
+mod tests;
 pub mod trie;
