@@ -1,6 +1,5 @@
 -- Two lists of children that rise, put together from their ends on.
-use Rattle.std.proofs.Common.{◌≡◌, ℕ, ◌+◌, ◌<◌, ◌≤◌, List, [], ◌∷◌, ◌++◌, length, get_or, drop, Bool, true, false, ◌&&◌, ◌||◌, not, Option, Some, None, Ordering, Less, Equal, Greater, refl, sym, ap, subst, ◌∙◌, true≢false, append_assoc, append-nil, arith, length-drop}
-use Rattle.std.proofs.lemmas.List.{drop_more}
+use Rattle.std.proofs.Common.{◌≡◌, ℕ, ◌+◌, ◌<◌, List, [], ◌∷◌, ◌++◌, length, get_or, drop, Bool, true, false, ◌&&◌, ◌||◌, Some, None, Ordering, Less, Equal, Greater, refl, sym, ap, subst, ◌∙◌, true≢false, append_assoc, append-nil, arith, length-drop}
 use Rattle.std.specs.Bool.{MatchBool}
 use Rattle.std.specs.Ordering.{is_lt, is_eq, ordering_reverse}
 use Rattle.ssa_model.specs.Path.{Element, Path, element_cmp, same_element, same_path}
@@ -13,9 +12,9 @@ use Rattle.ssa_path.specs.declared.trie.Trie.TheViews.{out-Trie, roll-Trie}
 use Rattle.ssa_path.specs.Children.{elements, is_below, rises, heads_order}
 use Rattle.ssa_path.specs.Combine.{keeps, IsCombination, IsCombined, IsKept, IsGrown}
 use Rattle.ssa_path.specs.View.{element_view}
-use Rattle.ssa_path.specs.Trie.{Shape, is_one_of, paths, paths_below, shape, is_trie, is_filled, has_some, are_filled_tries, IsCopy}
+use Rattle.ssa_path.specs.Trie.{Shape, is_one_of, paths, paths_below, is_trie, is_filled, has_some, are_filled_tries, IsCopy}
 use Rattle.ssa_path.proofs.Orders.{element_cmp_total, same_element-true, lower, not_tied, both, both_first, both_second, or_false}
-use Rattle.ssa_path.proofs.Levels.{same_path-reading, any-child, any-made, any-level, one-made-root, one-level-root, is_trie-made, trie-parts, some-none}
+use Rattle.ssa_path.proofs.Levels.{same_path-reading, any-child, any-made, any-level, one-made-root, one-level-root, is_trie-made, some-none}
 use Rattle.ssa_path.proofs.Lists.{left-at}
 
 -- ---- how the heads of two lists compare

@@ -5,8 +5,7 @@ use Rattle.std.specs.Option.{option_copied}
 use Rattle.std.proofs.lemmas.Bool.Decides.{nat_tests}
 use Rattle.std.proofs.lemmas.List.{drop_more, drop_all}
 use Rattle.std.specs.Prelude.{◌==◌, nat_lt, if◌then◌else◌}
-use Rattle.std.specs.Ordering.{nat_cmp, ordering_then}
-use Rattle.std.specs.Cmp.Lexicographic.{slice_cmp}
+use Rattle.std.specs.Ordering.{ordering_then}
 use Rattle.std.specs.FinMap.{slice_cmp-IsAntisymmetric, nat_cmp-IsAntisymmetric}
 use Rattle.ssa_model.specs.Json.{hex_digit, escaped_byte, escaped, quoted}
 use Rattle.std.specs.Cmp.{tied_itself}
@@ -15,7 +14,7 @@ use Rattle.ssa_model.specs.Json.{text}
 use Rattle.ssa_model.specs.Path.{Element, value}
 use Rattle.ssa_model.proofs.Texts.{element_text-injective}
 use Rattle.ssa_path.specs.Order.{first, mark}
-use Rattle.ssa_path.proofs.Parts.{text_cmp, then_assoc, AreWords, cmp-words, tails}
+use Rattle.ssa_path.proofs.Parts.{text_cmp, AreWords, cmp-words, tails}
 
 choice : (P : List ℕ → Type 0) (b : Bool) (u v : List ℕ) → P u → (b ≡ false → P v) → P (if b then u else v)
 choice P true u v p q = p

@@ -1,5 +1,5 @@
 -- The paths of a trie are in path order, and a set of paths in order lists just these.
-use Rattle.std.proofs.Common.{◌≡◌, ℕ, ◌+◌, ◌-◌, ◌^◌, ◌<◌, ◌≤◌, List, [], ◌∷◌, ◌++◌, length, get_or, take, map, Bool, true, false, ◌&&◌, Ordering, Less, Equal, Greater, refl, sym, ap, subst, ◌∙◌, append_assoc, append-nil, true≢false, arith, min, length-append}
+use Rattle.std.proofs.Common.{◌≡◌, ℕ, ◌+◌, ◌-◌, ◌^◌, ◌<◌, ◌≤◌, List, [], ◌∷◌, ◌++◌, length, get_or, take, map, Bool, true, false, ◌&&◌, Less, refl, sym, ap, subst, ◌∙◌, append_assoc, append-nil, arith, min, length-append}
 use Rattle.std.proofs.lemmas.List.{take_more, take_all}
 use Rattle.std.specs.Cmp.{tied_itself}
 use Rattle.std.specs.Ordering.{is_lt, ordering_then}

@@ -1,20 +1,20 @@
 -- A path put into a trie.
-use Rattle.std.proofs.Common.{◌≡◌, ℕ, ◌+◌, ◌-◌, ◌<◌, ◌≤◌, List, [], ◌∷◌, ◌++◌, length, get_or, take, drop, map, Bool, true, false, ◌&&◌, ◌||◌, Ordering, Less, Equal, Greater, refl, sym, ap, ◌∙◌, true≢false, arith, length-drop}
+use Rattle.std.proofs.Common.{◌≡◌, ℕ, ◌-◌, ◌<◌, List, [], ◌∷◌, ◌++◌, length, get_or, take, drop, Bool, true, false, ◌&&◌, ◌||◌, refl, sym, ap, ◌∙◌, arith, length-drop}
 use Rattle.std.proofs.lemmas.List.{take_all, take-append-drop}
 use Rattle.std.proofs.lemmas.List.Folds.{list_any-append}
 use Rattle.std.specs.Cmp.{tied_itself}
 use Rattle.std.specs.Ordering.{is_eq}
-use Rattle.ssa_model.specs.Path.{Element, Path, path_cmp, path_cmp_total, same_element, same_path}
+use Rattle.ssa_model.specs.Path.{Element, Path, path_cmp_total, same_element, same_path}
 use Rattle.ssa_path.specs.declared.element.Elem.{Elem}
 use Rattle.ssa_path.specs.declared.trie.Trie.{Trie}
 use Rattle.ssa_path.specs.declared.trie.Trie.TheOpen.{Trie-F}
 use Rattle.ssa_path.specs.declared.trie.Trie.TheViews.{out-Trie, roll-Trie}
-use Rattle.ssa_path.specs.Children.{elements, rises, IsGapFor}
+use Rattle.ssa_path.specs.Children.{elements, rises}
 use Rattle.ssa_path.specs.View.{element_view, path_view}
-use Rattle.ssa_path.specs.Trie.{is_one_of, paths_after, paths_below, paths, shape, is_trie, is_filled, has_some, are_filled_tries, IsOnly, IsInserted, IsGathered}
+use Rattle.ssa_path.specs.Trie.{is_one_of, paths_after, paths_below, paths, shape, is_trie, is_filled, are_filled_tries, IsOnly, IsInserted, IsGathered}
 use Rattle.ssa_path.proofs.Orders.{both, same_element-true, or_false}
 use Rattle.ssa_path.proofs.Levels.{same_path-reading, any-after, any-made, any-level, one-made-root, one-level-root, is_trie-made, trie-parts, some-one, some-none}
-use Rattle.ssa_path.proofs.Lists.{elements-append, one-between, filled-between, filled-without, parted, parted-set, same-shape, shapes, shapes-append}
+use Rattle.ssa_path.proofs.Lists.{elements-append, one-between, filled-between, filled-without, same-shape, shapes, shapes-append}
 
 -- ---- a path's first element and the rest, as `[first, rest @ ..]` has them
 

@@ -1,8 +1,8 @@
 -- A trie, level by level. A reading of paths goes on below the child of its first element: `same_path` and `under` are two.
-use Rattle.std.proofs.Common.{◌≡◌, ℕ, ◌+◌, ◌<◌, ◌≤◌, List, [], ◌∷◌, ◌++◌, length, get_or, take, drop, map, Bool, true, false, ◌&&◌, ◌||◌, cond, Option, Some, None, Ordering, Less, Equal, Greater, refl, sym, ap, ◌∙◌, subst, true≢false}
-use Rattle.std.proofs.lemmas.List.{drop_more, take-append-drop}
+use Rattle.std.proofs.Common.{◌≡◌, ℕ, ◌+◌, ◌<◌, List, [], ◌∷◌, ◌++◌, length, get_or, drop, map, Bool, true, false, ◌&&◌, ◌||◌, cond, Option, Some, None, Ordering, Less, Equal, Greater, refl, sym, ap, ◌∙◌, true≢false}
+use Rattle.std.proofs.lemmas.List.{drop_more}
 use Rattle.std.proofs.lemmas.List.Folds.{list_any-append}
-use Rattle.std.specs.Ordering.{is_eq, is_lt, ordering_then}
+use Rattle.std.specs.Ordering.{is_eq, ordering_then}
 use Rattle.std.specs.List.{list_any}
 use Rattle.std.specs.Prelude.{◌==◌, not}
 use Rattle.std.proofs.Common.{arith}
@@ -13,7 +13,7 @@ use Rattle.ssa_path.specs.declared.trie.Trie.{Trie}
 use Rattle.ssa_path.specs.declared.trie.Trie.TheOpen.{Trie-F}
 use Rattle.ssa_path.specs.declared.trie.Trie.TheViews.{out-Trie, roll-Trie}
 use Rattle.ssa_path.specs.declared.trie.Trie.TheFolds.{fold_out-Trie, fold-roll-Trie}
-use Rattle.ssa_path.specs.Children.{elements, child_at, is_below, rises}
+use Rattle.ssa_path.specs.Children.{elements, child_at, rises}
 use Rattle.ssa_path.specs.View.{element_view, path_view}
 use Rattle.ssa_path.specs.Trie.{Shape, is_one_of, here_path, paths_after, paths_below, paths, shape, shape_step, is_trie, is_filled, has_some, are_filled_tries, IsPlace}
 use Rattle.ssa_path.proofs.Orders.{both_first, both_second, both, or_false, and_false}

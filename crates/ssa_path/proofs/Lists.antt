@@ -1,8 +1,7 @@
 -- Lists of children: one after another, parted at a place, and copied.
-use Rattle.std.proofs.Common.{◌≡◌, ℕ, ◌+◌, ◌-◌, ◌<◌, ◌≤◌, List, [], ◌∷◌, ◌++◌, length, get_or, take, drop, map, Bool, true, false, ◌&&◌, ◌||◌, refl, sym, ap, ◌∙◌, append_assoc, arith, set, length-set, get_or-set_same, length-drop}
-use Rattle.std.proofs.lemmas.List.{drop_more, take_more, take_all, take-append-drop, take-set, drop-set-lt}
+use Rattle.std.proofs.Common.{◌≡◌, ℕ, ◌+◌, ◌<◌, List, [], ◌∷◌, ◌++◌, length, get_or, take, drop, map, Bool, true, false, ◌&&◌, ◌||◌, refl, sym, ap, ◌∙◌, append_assoc, arith, set, length-set, get_or-set_same}
+use Rattle.std.proofs.lemmas.List.{drop_more, take-append-drop, take-set, drop-set-lt}
 use Rattle.std.proofs.lemmas.List.Folds.{list_any-append}
-use Rattle.std.specs.List.{list_any}
 use Rattle.ssa_model.specs.Path.{Element, Path, same_path}
 use Rattle.ssa_path.specs.declared.element.Elem.{Elem}
 use Rattle.ssa_path.specs.declared.trie.Trie.{Trie}
@@ -10,7 +9,7 @@ use Rattle.ssa_path.specs.declared.trie.Trie.TheOpen.{Trie-F}
 use Rattle.ssa_path.specs.declared.trie.Trie.TheViews.{out-Trie, roll-Trie}
 use Rattle.ssa_path.specs.Children.{elements, rises}
 use Rattle.ssa_path.specs.View.{element_view}
-use Rattle.ssa_path.specs.Trie.{Shape, here_path, is_one_of, paths_after, paths_below, paths, shape, is_trie, is_filled, has_some, are_filled_tries, IsCopy}
+use Rattle.ssa_path.specs.Trie.{Shape, here_path, is_one_of, paths_after, paths_below, paths, shape, is_trie, is_filled, has_some, are_filled_tries}
 use Rattle.ssa_path.proofs.Orders.{both, both_first, both_second, and_assoc}
 use Rattle.ssa_path.proofs.Levels.{shape-made, shape-level}
 

@@ -1,5 +1,5 @@
 -- The order of key fields, member by member.
-use Rattle.std.proofs.Common.{◌≡◌, ◌⊎◌, inl, inr, ℕ, ◌+◌, ◌<◌, ◌≤◌, List, [], ◌∷◌, ◌++◌, ◌-◌, ⊎_elim, length, drop, get_or, map, string_bytes, Bool, true, false, Ordering, Less, Equal, Greater, String, Global, ap, sym, ◌∙◌, refl, arith, append_assoc, true≢false}
+use Rattle.std.proofs.Common.{◌≡◌, ◌⊎◌, inl, inr, ℕ, ◌+◌, ◌<◌, ◌≤◌, List, [], ◌∷◌, ◌++◌, ◌-◌, ⊎_elim, length, drop, get_or, string_bytes, Bool, true, false, Ordering, Less, Equal, Greater, String, Global, ap, sym, ◌∙◌, refl, arith, append_assoc, true≢false}
 use Rattle.std.proofs.lemmas.List.{drop_all, drop_more, drop-map, length-map, length-drop, drop-drop}
 use Rattle.std.specs.Prelude.{nat_lt}
 use Rattle.std.specs.Ordering.{nat_cmp, ordering_then, is_ne}

@@ -1,12 +1,12 @@
 -- The texts of numbers and truth values beside each other.
-use Rattle.std.proofs.Common.{◌≡◌, ℕ, zero, suc, ◌+◌, ◌/◌, ◌%◌, ◌<◌, ◌≤◌, ◌^◌, List, [], ◌∷◌, ◌++◌, Bool, true, false, ◌&&◌, ◌||◌, not, Ordering, Less, Equal, Greater, refl, sym, ap, ◌∙◌, append_assoc, append-nil, true≢false, arith, ltb-true, pos, negsuc, ℤ, FitsSigned, w64, to_z, of_z, codes}
+use Rattle.std.proofs.Common.{◌≡◌, ℕ, zero, suc, ◌+◌, ◌/◌, ◌%◌, ◌<◌, ◌≤◌, ◌^◌, List, [], ◌∷◌, ◌++◌, Bool, true, false, ◌&&◌, ◌||◌, not, Less, Greater, refl, sym, ap, ◌∙◌, append_assoc, append-nil, true≢false, arith, ltb-true, pos, negsuc, ℤ, FitsSigned, w64, to_z, of_z, codes}
 use Rattle.std.proofs.lemmas.Int.{to_z-of_z}
 use Rattle.std.specs.Prelude.{◌==◌, nat_lt, if◌then◌else◌}
 use Rattle.std.proofs.lemmas.Bool.Decides.{nat_tests}
 use Rattle.std.proofs.lemmas.Fmt.{decimal_digit, decimal_step}
 use Rattle.std.specs.Fmt.{signed_decimal, decimal as decimal_digits}
 use Rattle.ssa_model.specs.Json.{Scalar, text, whole, truth, digits_before, decimal, whole_text, scalar_text, escaped, quoted}
-use Rattle.ssa_path.proofs.Parts.{text_cmp, AreWords, cmp-words, tails}
+use Rattle.ssa_path.proofs.Parts.{text_cmp, AreWords, cmp-words}
 use Rattle.std.specs.Ordering.{ordering_then}
 use Rattle.ssa_path.proofs.Escapes.{quoted-words, words-append}
 

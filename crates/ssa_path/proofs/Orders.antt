@@ -1,5 +1,5 @@
 -- The order of elements tells them apart, and small laws of tests.
-use Rattle.std.proofs.Common.{◌≡◌, Bool, true, false, ◌&&◌, ◌||◌, Ordering, Less, Equal, Greater, refl, sym, ap, ◌∙◌, true≢false}
+use Rattle.std.proofs.Common.{◌≡◌, Bool, true, false, ◌&&◌, ◌||◌, Ordering, Less, Equal, Greater, refl, sym, ap, true≢false}
 use Rattle.std.specs.Cmp.{Equal-is, tied_itself, on_total, IsTotalOrder}
 use Rattle.std.specs.Cmp.Lexicographic.{nat_list_cmp_total}
 use Rattle.std.specs.Ordering.{is_eq, is_lt}

@@ -1,13 +1,13 @@
 -- A binary search among children that rise.
-use Rattle.std.proofs.Common.{◌≡◌, ℕ, zero, suc, ◌+◌, ◌<◌, ◌≤◌, List, [], ◌∷◌, ◌++◌, length, get_or, take, drop, Bool, true, false, ◌&&◌, cond, Option, Some, None, Result, Ok, Err, Ordering, Less, Equal, Greater, refl, sym, ap, ◌∙◌, true≢false, arith, zero-add}
+use Rattle.std.proofs.Common.{◌≡◌, ℕ, zero, suc, ◌<◌, ◌≤◌, List, [], ◌∷◌, ◌++◌, length, get_or, take, drop, true, false, cond, Option, Some, None, Result, Ok, Err, Ordering, Less, Equal, Greater, refl, sym, ap, ◌∙◌, arith}
 use Rattle.std.specs.Ordering.{is_lt, is_eq, ordering_index, ordering_reverse}
 use Rattle.std.specs.Result.{MatchResult}
-use Rattle.std.specs.List.Sorted.{IsBinarySearchResult, IsNonDecreasingBy}
+use Rattle.std.specs.List.Sorted.{IsBinarySearchResult}
 use Rattle.ssa_model.specs.Path.{Element, element_cmp, same_element}
 use Rattle.ssa_model.proofs.Texts.{same_element_same}
 use Rattle.ssa_path.specs.declared.element.Elem.{Elem}
 use Rattle.ssa_path.specs.View.{element_view}
-use Rattle.ssa_path.specs.Children.{elements, child_at, is_below, rises, IsChildAt, IsGapFor, IsSearchResult}
+use Rattle.ssa_path.specs.Children.{elements, child_at, is_below, rises, IsChildAt, IsSearchResult}
 use Rattle.ssa_path.proofs.Orders.{element_cmp_total, same_element-true, same_element-itself, lower, not_tied, both, both_first, both_second}
 
 -- what stands behind e or at it is followed by what stands behind e

@@ -1,15 +1,14 @@
 -- The set of a list of paths, by what it answers.
-use Rattle.std.proofs.Common.{◌≡◌, List, [], ◌∷◌, ◌++◌, map, Bool, true, false, ◌&&◌, ◌||◌, not, cond, Option, Some, Ordering, Less, Equal, Greater, refl, sym, ap, ◌∙◌}
+use Rattle.std.proofs.Common.{◌≡◌, List, [], ◌∷◌, map, Bool, true, false, ◌&&◌, ◌||◌, not, cond, Option, Some, Less, Equal, Greater, refl, sym, ap, ◌∙◌}
 use Rattle.std.specs.Prelude.{is_some}
 use Rattle.std.specs.List.{list_any}
-use Rattle.std.specs.Ordering.{is_eq}
 use Rattle.std.specs.FinMap.Entries.{find, put, by_order}
 use Rattle.ssa_model.specs.Path.{Path, path_cmp, same_path, under}
-use Rattle.ssa_model.specs.PathMap.{PathSet, from_entries, has, has_at_or_below, insert, is_empty, minus, paths as set_paths, union}
+use Rattle.ssa_model.specs.PathMap.{PathSet, has, has_at_or_below, insert, is_empty, paths as set_paths}
 use Rattle.ssa_model.proofs.PathMaps.{get-from_entries, has-insert, has-minus, has-paths, has-set_of, has-union, same_sets}
 use Rattle.ssa_model.proofs.Texts.{same_path_same}
 use Rattle.ssa_path.specs.Combine.{keeps, IsCombination}
-use Rattle.ssa_path.specs.Meet.{combined, meet}
+use Rattle.ssa_path.specs.Meet.{combined}
 use Rattle.ssa_path.specs.Trie.{has_some, is_one_of, listed, marked, paths}
 use Rattle.ssa_path.specs.declared.combine.Combination.{Combination}
 use Rattle.ssa_path.specs.declared.combine.Combination.TheVariants.{Union, Minus, Meet}

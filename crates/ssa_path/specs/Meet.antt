@@ -1,6 +1,4 @@
 -- The paths of both sets, beside the definitions' union and minus.
-use Rattle.std.specs.Prelude.{Bool}
-use Rattle.ssa_model.specs.Path.{Path}
 use Rattle.ssa_model.specs.PathMap.{PathSet, has, paths, set_of, minus, union}
 use Rattle.ssa_path.specs.declared.combine.Combination.{Combination}
 use Rattle.ssa_path.specs.declared.combine.Combination.TheVariants.{Union, Minus, Meet}

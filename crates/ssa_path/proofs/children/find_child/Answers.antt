@@ -1,6 +1,5 @@
-use Rattle.std.proofs.Common.{◌≡◌, ap, sym, ◌∙◌, Some}
+use Rattle.std.proofs.Common.{sym}
 use Rattle.ssa_path.specs.View.{element_view}
-use Rattle.ssa_path.specs.Children.{IsChildAt, IsGapFor}
 use Rattle.ssa_path.proofs.Searching.{child-found, child-absent}
 use Rattle.ssa_path.proofs.children.find_child.Goals as goal
 

@@ -1,4 +1,4 @@
-use Rattle.std.proofs.Common.{refl, rules, tests}
+use Rattle.std.proofs.Common.{rules, tests}
 use Rattle.std.proofs.lemmas.Fn.{always_returns_same}
 use Rattle.ssa_path.specs.View.{element_view}
 use Rattle.ssa_path.proofs.Searching.{compared, search-result}

@@ -1,9 +1,8 @@
-use Rattle.std.proofs.Common.{◌≡◌, ◌<◌, ap, sym, ◌∙◌, drop, length, Some, None, Less, Equal, Greater, refl, rules}
+use Rattle.std.proofs.Common.{◌≡◌, ap, sym, ◌∙◌, drop, Some, Less, Equal, Greater, rules}
 use Rattle.ssa_path.specs.Children.{heads_order}
-use Rattle.ssa_path.specs.declared.trie.Trie.{Trie, the_lemmas}
+use Rattle.ssa_path.specs.declared.trie.Trie.{the_lemmas}
 use Rattle.ssa_path.proofs.Levels.{trie-parts}
-use Rattle.ssa_path.proofs.Combining.{combining-none, combining-all, combined-place, heads-none, own-at, other-at, both-at, both-within}
-use Rattle.ssa_path.specs.Combine.{IsCombined, IsKept, IsGrown}
+use Rattle.ssa_path.proofs.Combining.{combining-all, combined-place, heads-none, own-at, other-at, both-at}
 use Rattle.ssa_path.proofs.combine.+combine.Goals as goal
 
 pub combine-combine_children-requires : goal.combine-combine_children-requires

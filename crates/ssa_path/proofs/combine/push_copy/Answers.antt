@@ -1,4 +1,4 @@
-use Rattle.std.proofs.Common.{◌≡◌, true, subst, sym}
+use Rattle.std.proofs.Common.{true, subst, sym}
 use Rattle.ssa_path.specs.Combine.{IsKept}
 use Rattle.ssa_path.proofs.combine.push_copy.Goals as goal
 

@@ -1,5 +1,5 @@
-use Rattle.std.proofs.Common.{◌≡◌, ap, sym, ◌∙◌, refl, arith, rules}
-use Rattle.ssa_path.specs.declared.trie.Trie.{Trie, the_lemmas}
+use Rattle.std.proofs.Common.{arith, rules}
+use Rattle.ssa_path.specs.declared.trie.Trie.{the_lemmas}
 use Rattle.ssa_path.specs.declared.trie.Trie.TheViews.{out-Trie}
 use Rattle.ssa_path.proofs.Levels.{trie-parts}
 use Rattle.ssa_path.proofs.Lists.{child-trie}

@@ -1,7 +1,6 @@
-use Rattle.std.proofs.Common.{◌≡◌, ap, sym, ◌∙◌, refl, arith, rules}
-use Rattle.ssa_path.specs.View.{element_view, path_view}
-use Rattle.ssa_path.specs.Trie.{are_filled_tries}
-use Rattle.ssa_path.specs.declared.trie.Trie.{Trie, the_lemmas}
+use Rattle.std.proofs.Common.{ap, ◌∙◌, arith, rules}
+use Rattle.ssa_path.specs.View.{path_view}
+use Rattle.ssa_path.specs.declared.trie.Trie.{the_lemmas}
 use Rattle.ssa_path.specs.declared.trie.Trie.TheViews.{out-Trie}
 use Rattle.ssa_path.proofs.Levels.{trie-parts}
 use Rattle.ssa_path.proofs.Lists.{child-trie}

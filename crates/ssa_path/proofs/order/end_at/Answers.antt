@@ -1,7 +1,4 @@
-use Rattle.std.proofs.Common.{◌≡◌, ◌+◌, ◌<◌, ◌≤◌, List, [], ◌∷◌, length, drop, map, ap, sym, ◌∙◌, refl, arith, suc}
-use Rattle.std.proofs.lemmas.List.{drop_all, length-map}
-use Rattle.ssa_path.specs.Keys.{Members, members_view}
-use Rattle.ssa_path.specs.Order.{key_end}
+use Rattle.std.proofs.Common.{◌+◌, sym}
 use Rattle.ssa_path.proofs.Members.{key_end-more, key_end-none}
 use Rattle.ssa_path.proofs.order.end_at.Goals as goal
 

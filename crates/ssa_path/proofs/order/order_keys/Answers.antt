@@ -1,8 +1,8 @@
-use Rattle.std.proofs.Common.{◌≡◌, ◌≤◌, ◌<◌, ◌⊎◌, inl, inr, ◌∙◌, ap, sym, length, arith}
+use Rattle.std.proofs.Common.{◌≤◌, ◌<◌, ◌⊎◌, inl, inr, ◌∙◌, ap, sym, length, arith}
 use Rattle.std.proofs.lemmas.List.{length-map}
 use Rattle.std.specs.Ordering.{is_ne, nat_cmp}
 use Rattle.ssa_path.specs.Keys.{members_view}
-use Rattle.ssa_path.proofs.Members.{IsDecidedBehind, decided-none, decided-more, decided-here, decided-all, length-members}
+use Rattle.ssa_path.proofs.Members.{decided-none, decided-more, decided-here, decided-all, length-members}
 use Rattle.ssa_path.proofs.order.order_keys.Goals as goal
 use Rattle.ssa_path.proofs.order.order_keys.Goals.{then-loop-i-test+else-i-others, else-loop-i-test}
 

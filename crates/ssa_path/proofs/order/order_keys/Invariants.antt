@@ -1,7 +1,5 @@
-use Rattle.std.proofs.Common.{◌≡◌, ◌-◌, ◌≤◌, length, drop, false}
-use Rattle.std.specs.Prelude.{nat_lt}
+use Rattle.std.proofs.Common.{◌-◌, length}
 use Rattle.ssa_path.specs.Keys.{members_view}
-use Rattle.ssa_path.proofs.Parts.{text_cmp}
 use Rattle.ssa_path.proofs.Members.{IsDecidedBehind}
 use Rattle.ssa_path.proofs.order.order_keys.Given as goal
 

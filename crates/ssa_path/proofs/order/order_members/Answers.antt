@@ -1,4 +1,4 @@
-use Rattle.std.proofs.Common.{◌≡◌, ◌+◌, ◌++◌, ◌∙◌, ap, sym, drop, string_bytes}
+use Rattle.std.proofs.Common.{◌+◌, ◌++◌, ◌∙◌, ap, sym, drop}
 use Rattle.std.specs.Ordering.{ordering_then}
 use Rattle.ssa_model.specs.Json.{quoted, scalar_text}
 use Rattle.ssa_json.specs.View.{scalar_view}

@@ -1,4 +1,4 @@
-use Rattle.std.proofs.Common.{◌≡◌, ◌≤◌, ◌⊎◌, inl, inr, length, drop, sym, ◌∙◌, arith, ap}
+use Rattle.std.proofs.Common.{◌≤◌, ◌⊎◌, inl, inr, length, sym, ◌∙◌, arith}
 use Rattle.ssa_path.proofs.Parts.{text_cmp}
 use Rattle.ssa_path.proofs.Escapes.{differ-at, looked, marks-at}
 use Rattle.ssa_path.specs.Order.{mark}

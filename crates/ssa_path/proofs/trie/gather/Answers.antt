@@ -1,9 +1,6 @@
-use Rattle.std.proofs.Common.{◌≡◌, Some, None, Option, get_or, sym, ◌∙◌}
-use Rattle.ssa_path.specs.declared.element.Elem.{Elem}
-use Rattle.ssa_path.specs.declared.trie.Trie.{Trie}
 use Rattle.ssa_path.specs.View.{element_view}
 use Rattle.ssa_path.specs.Children.{IsChildAt}
-use Rattle.ssa_path.proofs.Searching.{child-found, some-child}
+use Rattle.ssa_path.proofs.Searching.{some-child}
 use Rattle.ssa_path.proofs.trie.gather.Goals as goal
 
 pub unreachable-requires : goal.unreachable-requires

@@ -1,4 +1,4 @@
-use Rattle.std.proofs.Common.{◌≡◌, ◌∙◌, ap, sym}
+use Rattle.std.proofs.Common.{◌∙◌, ap, sym}
 use Rattle.std.specs.List.{list_any}
 use Rattle.ssa_model.specs.Path.{under}
 use Rattle.ssa_model.specs.PathMap.{has_at_or_below}

@@ -1,4 +1,4 @@
-use Rattle.std.proofs.Common.{◌≡◌, ◌∙◌, ◌-◌, ◌^◌, min, ap, sym}
+use Rattle.std.proofs.Common.{◌∙◌, ◌-◌, ◌^◌, min, ap, sym}
 use Rattle.ssa_model.specs.PathMap.{size}
 use Rattle.ssa_path.specs.Trie.{paths}
 use Rattle.ssa_path.proofs.InOrder.{size-listed}

@@ -1,4 +1,4 @@
-use Rattle.std.proofs.Common.{◌≡◌, ◌∙◌, ◌++◌, [], ap, sym}
+use Rattle.std.proofs.Common.{◌∙◌, ◌++◌, [], ap, sym}
 use Rattle.ssa_model.specs.PathMap as set
 use Rattle.ssa_path.specs.Listing.{behind}
 use Rattle.ssa_path.specs.Trie.{paths}

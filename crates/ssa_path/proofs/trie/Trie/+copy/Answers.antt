@@ -1,4 +1,4 @@
-use Rattle.std.proofs.Common.{refl, ap, ◌∙◌, arith}
+use Rattle.std.proofs.Common.{refl, ap, ◌∙◌}
 use Rattle.std.proofs.lemmas.List.{take_all}
 use Rattle.ssa_path.proofs.Lists.{shapes, same-shape}
 use Rattle.ssa_path.proofs.trie.Trie.+copy.Goals as goal

@@ -1,8 +1,8 @@
-use Rattle.std.proofs.Common.{◌≡◌, ◌<◌, ◌+◌, ◌-◌, ◌∷◌, [], refl, ap, sym, ◌∙◌, take, drop, length, arith, rules, List}
+use Rattle.std.proofs.Common.{◌+◌, ◌-◌, refl, ap, ◌∙◌, take, drop, length, arith, rules}
 use Rattle.std.proofs.lemmas.Result.{on_ok_weaker, on_err_weaker}
 use Rattle.ssa_model.specs.Path.{same_element}
 use Rattle.ssa_path.specs.declared.element.Elem.{Elem}
-use Rattle.ssa_path.specs.declared.trie.Trie.{Trie, the_lemmas}
+use Rattle.ssa_path.specs.declared.trie.Trie.{Trie}
 use Rattle.ssa_path.specs.declared.trie.Trie.TheViews.{out-Trie}
 use Rattle.ssa_path.specs.View.{element_view, path_view}
 use Rattle.ssa_path.specs.Children.{IsChildAt}

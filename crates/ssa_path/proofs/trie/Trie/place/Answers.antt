@@ -1,4 +1,4 @@
-use Rattle.std.proofs.Common.{◌∷◌, [], ap, sym, ◌∙◌, ◌+◌, drop, arith}
+use Rattle.std.proofs.Common.{ap, sym, ◌∙◌, ◌+◌, drop, arith}
 use Rattle.std.proofs.lemmas.List.{drop_all}
 use Rattle.std.specs.Option.{option_copied}
 use Rattle.ssa_path.specs.Children.{child_at}
