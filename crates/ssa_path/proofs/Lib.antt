@@ -1,0 +1,12 @@
+pub mod Combining
+pub mod Escapes
+pub mod Inserting
+pub mod Levels
+pub mod InOrder
+pub mod Lists
+pub mod Members
+pub mod Numbers
+pub mod Orders
+pub mod Parts
+pub mod Searching
+pub mod Sets

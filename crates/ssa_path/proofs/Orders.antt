@@ -1,0 +1,53 @@
+-- The order of elements tells them apart, and small laws of tests.
+use Rattle.std.proofs.Common.{◌≡◌, Bool, true, false, ◌&&◌, ◌||◌, Ordering, Less, Equal, Greater, refl, sym, ap, true≢false}
+use Rattle.std.specs.Cmp.{Equal-is, tied_itself, on_total, IsTotalOrder}
+use Rattle.std.specs.Cmp.Lexicographic.{nat_list_cmp_total}
+use Rattle.std.specs.Ordering.{is_eq, is_lt}
+use Rattle.ssa_model.specs.Path.{Element, element_text, element_cmp, same_element}
+use Rattle.ssa_model.proofs.Texts.{same_element_same}
+
+pub element_cmp_total : IsTotalOrder element_cmp
+element_cmp_total = on_total element_text nat_list_cmp_total
+
+pub same_element-true : (d e : Element) → same_element d e ≡ true → d ≡ e
+same_element-true d e is = same_element_same d e ((Equal-is (element_cmp d e)).0 is)
+
+pub same_element-itself : (e : Element) → same_element e e ≡ true
+same_element-itself e = ap is_eq (tied_itself element_cmp_total e)
+
+pub lower : (o : Ordering) → is_lt o ≡ true → o ≡ Less
+lower Less e = refl
+lower Equal e = absurd (true≢false (sym e))
+lower Greater e = absurd (true≢false (sym e))
+
+pub not_tied : (o : Ordering) → is_lt o ≡ true → is_eq o ≡ false
+not_tied Less e = refl
+not_tied Equal e = absurd (true≢false (sym e))
+not_tied Greater e = refl
+
+pub both_first : (a b : Bool) → (a && b) ≡ true → a ≡ true
+both_first true b e = refl
+both_first false b e = e
+
+pub both_second : (a b : Bool) → (a && b) ≡ true → b ≡ true
+both_second true b e = e
+both_second false b e = absurd (true≢false (sym e))
+
+pub both : (a b : Bool) → a ≡ true → b ≡ true → (a && b) ≡ true
+both a b e f = λ i. e i && f i
+
+pub or_false : (a : Bool) → (a || false) ≡ a
+or_false true = refl
+or_false false = refl
+
+pub and_false : (a : Bool) → (a && false) ≡ false
+and_false true = refl
+and_false false = refl
+
+pub or_assoc : (a b c : Bool) → (a || (b || c)) ≡ ((a || b) || c)
+or_assoc true b c = refl
+or_assoc false b c = refl
+
+pub and_assoc : (a b c : Bool) → (a && (b && c)) ≡ ((a && b) && c)
+and_assoc true b c = refl
+and_assoc false b c = refl

@@ -1,0 +1,43 @@
+-- The order of texts by their bytes, part by part.
+use Rattle.std.proofs.Common.{◌≡◌, ℕ, List, [], ◌∷◌, ◌++◌, Ordering, Less, Equal, Greater, refl, sym}
+use Rattle.std.specs.Ordering.{nat_cmp, ordering_then}
+use Rattle.std.specs.Cmp.Lexicographic.{slice_cmp}
+use Rattle.std.specs.FinMap.{nat_cmp-IsAntisymmetric}
+
+abbrev pub text_cmp : List ℕ → List ℕ → Ordering
+text_cmp = slice_cmp nat_cmp
+
+pub then_assoc : (o q r : Ordering) → ordering_then (ordering_then o q) r ≡ ordering_then o (ordering_then q r)
+then_assoc Less q r = refl
+then_assoc Equal q r = refl
+then_assoc Greater q r = refl
+
+pub then_none : (o : Ordering) → ordering_then o Equal ≡ o
+then_none Less = refl
+then_none Equal = refl
+then_none Greater = refl
+
+-- whatever follows them, the texts agree only where these beginnings are one
+abbrev pub AreWords : List ℕ → List ℕ → Type 0
+AreWords a b = (r s : List ℕ) → a ++ r ≡ b ++ s → a ≡ b
+
+pub tails : (x y : ℕ) (u v : List ℕ) → x ∷ u ≡ y ∷ v → u ≡ v
+tails x y u v e = cc
+
+none_first : (y : ℕ) (b : List ℕ) → [] ≡ y ∷ b → ⊥
+none_first y b e = cc
+
+either : (o q p r : Ordering) → (o ≡ Equal → q ≡ ordering_then p r) → ordering_then o q ≡ ordering_then (ordering_then o p) r
+either Less q p r h = refl
+either Equal q p r h = h refl
+either Greater q p r h = refl
+
+-- words decide, and what follows them after
+pub cmp-words : (a b r s : List ℕ) → AreWords a b → text_cmp (a ++ r) (b ++ s) ≡ ordering_then (text_cmp a b) (text_cmp r s)
+cmp-words [] [] r s h = refl
+cmp-words [] (y ∷ b) r s h = absurd (none_first y b (h ((y ∷ b) ++ s) s refl))
+cmp-words (x ∷ a) [] r s h = absurd (none_first x a (sym (h r ((x ∷ a) ++ r) refl)))
+cmp-words (x ∷ a) (y ∷ b) r s h =
+    either (nat_cmp x y) (text_cmp (a ++ r) (b ++ s)) (text_cmp a b) (text_cmp r s) (λ e.
+    let same : x ≡ y = nat_cmp-IsAntisymmetric x y e in
+    cmp-words a b r s (λ u v q. tails x y a b (h u v (λ i. same i ∷ q i))))

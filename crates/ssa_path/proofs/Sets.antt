@@ -1,0 +1,92 @@
+-- The set of a list of paths, by what it answers.
+use Rattle.std.proofs.Common.{◌≡◌, List, [], ◌∷◌, map, Bool, true, false, ◌&&◌, ◌||◌, not, cond, Option, Some, Less, Equal, Greater, refl, sym, ap, ◌∙◌}
+use Rattle.std.specs.Prelude.{is_some}
+use Rattle.std.specs.List.{list_any}
+use Rattle.std.specs.FinMap.Entries.{find, put, by_order}
+use Rattle.ssa_model.specs.Path.{Path, path_cmp, same_path, under}
+use Rattle.ssa_model.specs.PathMap.{PathSet, has, has_at_or_below, insert, is_empty, paths as set_paths}
+use Rattle.ssa_model.proofs.PathMaps.{get-from_entries, has-insert, has-minus, has-paths, has-set_of, has-union, same_sets}
+use Rattle.ssa_model.proofs.Texts.{same_path_same}
+use Rattle.ssa_path.specs.Combine.{keeps, IsCombination}
+use Rattle.ssa_path.specs.Meet.{combined}
+use Rattle.ssa_path.specs.Trie.{has_some, is_one_of, listed, marked, paths}
+use Rattle.ssa_path.specs.declared.combine.Combination.{Combination}
+use Rattle.ssa_path.specs.declared.combine.Combination.TheVariants.{Union, Minus, Meet}
+use Rattle.ssa_path.specs.declared.trie.Trie.{Trie}
+
+some_or : (b : Bool) (o : Option (Unit {0})) → is_some (cond b (Some tt) o) ≡ (b || is_some o)
+some_or true o = refl
+some_or false o = refl
+
+find-marked : (ps : List Path) (q : Path) → is_some (find path_cmp q (marked ps)) ≡ is_one_of ps q
+find-marked [] q = refl
+find-marked (p ∷ ps) q = some_or (same_path q p) (find path_cmp q (marked ps)) ∙ ap (λ b. same_path q p || b) (find-marked ps q)
+
+-- the set has the paths of the list
+pub has-listed : (ps : List Path) (q : Path) → has (listed ps) q ≡ is_one_of ps q
+has-listed ps q = ap is_some (get-from_entries (marked ps) q) ∙ find-marked ps q
+
+-- ---- any test of paths
+
+abbrev Entries : Type 0
+Entries = List (Path × Unit {0})
+
+abbrev keys : Entries → List Path
+keys = map (λ e. e.0)
+
+or_twice : (a b : Bool) → (a || b) ≡ (a || (a || b))
+or_twice true b = refl
+or_twice false b = refl
+
+or_swap : (a b c : Bool) → (b || (a || c)) ≡ (a || (b || c))
+or_swap true true c = refl
+or_swap true false c = refl
+or_swap false true c = refl
+or_swap false false c = refl
+
+any-put : (test : Path → Bool) (p : Path) (es : Entries) → list_any test (keys (put path_cmp p tt es)) ≡ (test p || list_any test (keys es))
+any-put test p [] = refl
+any-put test p (e ∷ es) =
+    elim (path_cmp p e.0) as (λ o. path_cmp p e.0 ≡ o → list_any test (keys (by_order o ((p, tt) ∷ e ∷ es) ((e.0, tt) ∷ es) (e ∷ put path_cmp p tt es))) ≡ (test p || (test e.0 || list_any test (keys es)))) [
+      | Less ↦ λ t. refl
+      | Equal ↦ λ t. or_twice (test e.0) (list_any test (keys es)) ∙ ap (λ x. test x || (test e.0 || list_any test (keys es))) (sym (same_path_same p e.0 t))
+      | Greater ↦ λ t. ap (λ b. test e.0 || b) (any-put test p es) ∙ or_swap (test p) (test e.0) (list_any test (keys es))
+    ] refl
+
+pub any-listed : (test : Path → Bool) (ps : List Path) → list_any test (set_paths (listed ps)) ≡ list_any test ps
+any-listed test [] = refl
+any-listed test (p ∷ ps) = any-put test p (listed ps).entries ∙ ap (λ b. test p || b) (any-listed test ps)
+
+pub below-listed : (ps : List Path) (q : Path) → has_at_or_below (listed ps) q ≡ list_any (under q) ps
+below-listed ps q = any-listed (under q) ps
+
+empty-any : (s : PathSet) → is_empty s ≡ not (list_any (λ p. true) (set_paths s))
+empty-any s = by s.entries
+  where
+    by : (es : Entries) → elim es [ [] ↦ true | e ∷ es ↦ false ] ≡ not (list_any (λ p. true) (keys es))
+    by [] = refl
+    by (e ∷ es) = refl
+
+any-some : (ps : List Path) → list_any (λ p. true) ps ≡ has_some ps
+any-some [] = refl
+any-some (p ∷ ps) = refl
+
+pub empty-listed : (ps : List Path) → is_empty (listed ps) ≡ not (has_some ps)
+empty-listed ps = empty-any (listed ps) ∙ ap not (any-listed (λ p. true) ps ∙ any-some ps)
+
+-- ---- what is put into a set, and two sets put together
+
+pub listed-insert : (n m : Trie) (p : Path) → ((q : Path) → is_one_of (paths m) q ≡ (same_path q p || is_one_of (paths n) q)) → listed (paths m) ≡ insert p tt (listed (paths n))
+listed-insert n m p e =
+    same_sets _ _ (λ q. has-listed (paths m) q ∙ e q ∙ ap (λ b. same_path q p || b) (sym (has-listed (paths n) q)) ∙ sym (has-insert p (listed (paths n)) q))
+
+has-combined : (how : Combination) (s t : PathSet) (q : Path) → has (combined how s t) q ≡ keeps how (has s q) (has t q)
+has-combined Union s t q = has-union s t q
+has-combined Minus s t q = has-minus s t q
+has-combined Meet s t q = has-set_of (set_paths s) (has t) q ∙ ap (λ b. b && has t q) (sym (has-paths s q))
+
+pub listed-combined : (how : Combination) (m n t : Trie) → IsCombination how m n t → listed (paths t) ≡ combined how (listed (paths m)) (listed (paths n))
+listed-combined how m n t h =
+    same_sets _ _ (λ q.
+    has-listed (paths t) q ∙ h.paths_are q ∙ (λ i. keeps how (sym (has-listed (paths m) q) i) (sym (has-listed (paths n) q) i))
+    ∙ sym (has-combined how (listed (paths m)) (listed (paths n)) q))

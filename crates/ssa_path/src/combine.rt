@@ -1,0 +1,140 @@
+// Two sets of paths put together, by one walk over both tries.
+ghost use Rattle.std.specs.Prelude.{◌≡◌, true, drop, IfOk, OnOk, OnErr};
+ghost use Rattle.ssa_path.specs.Children.{elements, rises, heads_order};
+ghost use Rattle.ssa_path.specs.View.{element_view};
+ghost use Rattle.ssa_path.specs.Trie.{is_trie, are_filled_tries};
+ghost use Rattle.ssa_path.specs.Combine.{keeps, IsCombination, IsCombined, IsKept, IsGrown};
+
+use crate::element::Elem;
+use crate::trie::{Trie, copy_child};
+use std::alloc::{AllocError, Global};
+use std::cmp::Ordering;
+
+/// How two sets are put together.
+#[derive(Clone, Copy, Drop)]
+pub enum Combination {
+    Union,
+    Minus,
+    Meet,
+}
+
+impl Combination {
+    // Whether the combination has what is in the sets as told.
+    fn keeps(self, own: bool, other: bool) -> bool
+        ensures { result ≡ keeps self own other }
+    {
+        match self {
+            Combination::Union => own || other,
+            Combination::Minus => own && !other,
+            Combination::Meet => own && other,
+        }
+    }
+}
+
+// How the next children compare: where one list has no more, the other's is first.
+fn order_at(own: &[(Elem, Trie)], i: usize, others: &[(Elem, Trie)], j: usize) -> Option<Ordering>
+    ensures { result ≡ heads_order (drop i own.now) (drop j others.now) }
+{
+    if i < own.len() {
+        if j < others.len() {
+            Some(own[i].0.order(&others[j].0))
+        } else {
+            Some(Ordering::Less)
+        }
+    } else if j < others.len() {
+        Some(Ordering::Greater)
+    } else {
+        None
+    }
+}
+
+// Adds a copy of the child, where it is kept.
+fn push_copy(
+    alloc: Global,
+    children: &mut Vec<(Elem, Trie)>,
+    child: &(Elem, Trie),
+    kept: bool,
+) -> Result<(), AllocError>
+    ensures { OnOk result (IsKept kept child.now children.old.items children.new.items) }
+{
+    if kept {
+        children.push(copy_child(alloc, child)?)?;
+    }
+    Ok(())
+}
+
+// Adds a child, where it has some path.
+fn push_filled(
+    alloc: Global,
+    children: &mut Vec<(Elem, Trie)>,
+    element: &Elem,
+    child: Trie,
+) -> Result<(), AllocError>
+    requires { is_trie child ≡ true }
+    ensures { OnOk result (IsGrown (element_view element.now) child children.old.items children.new.items) }
+{
+    if child.has_paths() {
+        let own = element.copy(alloc)?;
+        children.push((own, child))?;
+    }
+    Ok(())
+}
+
+// The combination of what is below two places.
+#[cycle(combine)]
+fn combine_children(
+    alloc: Global,
+    own: &[(Elem, Trie)],
+    others: &[(Elem, Trie)],
+    how: Combination,
+) -> Result<Vec<(Elem, Trie)>, AllocError>
+    requires own_rise { rises (elements own.now) ≡ true }
+    requires own_tries { are_filled_tries own.now ≡ true }
+    requires others_rise { rises (elements others.now) ≡ true }
+    requires others_tries { are_filled_tries others.now ≡ true }
+    ensures { IfOk result (λ v. IsCombined how own.now others.now v.items) }
+{
+    let mut combined = Vec::new(alloc);
+    let mut i = 0;
+    let mut j = 0;
+    while let Some(order) = order_at(own, i, others, j) {
+        match order {
+            Ordering::Less => {
+                push_copy(alloc, &mut combined, &own[i], how.keeps(true, false))?;
+                i += 1;
+            }
+            Ordering::Greater => {
+                push_copy(alloc, &mut combined, &others[j], how.keeps(false, true))?;
+                j += 1;
+            }
+            Ordering::Equal => {
+                let mine = &own[i];
+                let theirs = &others[j];
+                let child = combine(alloc, &mine.1, &theirs.1, how)?;
+                push_filled(alloc, &mut combined, &mine.0, child)?;
+                i += 1;
+                j += 1;
+            }
+        }
+    }
+    Ok(combined)
+}
+
+/// The paths that the combination keeps of those of two tries.
+#[cycle(combine)]
+pub fn combine(
+    alloc: Global,
+    own: &Trie,
+    other: &Trie,
+    how: Combination,
+) -> Result<Trie, AllocError>
+    requires own { is_trie own.now ≡ true }
+    requires other { is_trie other.now ≡ true }
+    ensures { IfOk result (λ t. IsCombination how own.now other.now t) }
+{
+    let below = combine_children(alloc, &own.below, &other.below, how)?;
+    Ok(Trie {
+        here: how.keeps(own.here, other.here),
+        below,
+    })
+}

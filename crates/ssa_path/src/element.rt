@@ -1,0 +1,79 @@
+// One step of a path.
+ghost use Rattle.std.specs.Prelude.{◌≡◌, IfOk};
+ghost use Rattle.ssa_model.specs.Path.{element_cmp, is_item_element, same_element};
+ghost use Rattle.ssa_path.specs.View.{element_view};
+
+use crate::keys::{Keys, copy_scalar};
+use crate::order::{order_keys, order_scalars};
+use ssa_json::value::Scalar;
+use std::alloc::{AllocError, Global};
+use std::cmp::Ordering;
+
+/// A field of a record or an entry of a Dict, or an item of a list by its key fields or its value.
+#[derive(Drop)]
+pub enum Elem {
+    Field(String),
+    Key(Keys),
+    Value(Scalar),
+}
+
+impl Elem {
+    /// Whether the element names an item of a list.
+    pub fn is_item(&self) -> bool
+        ensures { result ≡ is_item_element (element_view self.now) }
+    {
+        match self {
+            Elem::Field(_) => false,
+            Elem::Key(_) => true,
+            Elem::Value(_) => true,
+        }
+    }
+
+    /// The order of the elements' texts, byte by byte.
+    ///
+    /// Fields stand before keys and keys before values. Numbers go by their digits, so `v:10`
+    /// stands before `v:9`.
+    pub fn order(&self, other: &Elem) -> Ordering
+        ensures { result ≡ element_cmp (element_view self.now) (element_view other.now) }
+    {
+        match (self, other) {
+            (Elem::Field(name), Elem::Field(other_name)) => {
+                name.as_str().as_bytes().cmp(other_name.as_str().as_bytes())
+            }
+            (Elem::Key(keys), Elem::Key(others)) => order_keys(keys.members(), others.members()),
+            (Elem::Value(scalar), Elem::Value(other_scalar)) => {
+                order_scalars(scalar, b"", other_scalar, b"")
+            }
+            (Elem::Field(_), Elem::Key(_)) => Ordering::Less,
+            (Elem::Field(_), Elem::Value(_)) => Ordering::Less,
+            (Elem::Key(_), Elem::Value(_)) => Ordering::Less,
+            (Elem::Key(_), Elem::Field(_)) => Ordering::Greater,
+            (Elem::Value(_), Elem::Field(_)) => Ordering::Greater,
+            (Elem::Value(_), Elem::Key(_)) => Ordering::Greater,
+        }
+    }
+
+    /// Whether both are one element.
+    pub fn is_same(&self, other: &Elem) -> bool
+        ensures { result ≡ same_element (element_view self.now) (element_view other.now) }
+    {
+        self.order(other).is_eq()
+    }
+
+    /// The same element, with new memory.
+    pub fn copy(&self, alloc: Global) -> Result<Elem, AllocError>
+        ensures { IfOk result (λ e. element_view e ≡ element_view self.now) }
+    {
+        match self {
+            Elem::Field(name) => Ok(Elem::Field(String::from_str(alloc, name.as_str())?)),
+            Elem::Key(keys) => {
+                let copied = keys.copy(alloc)?;
+                Ok(Elem::Key(copied))
+            }
+            Elem::Value(scalar) => {
+                let copied = copy_scalar(alloc, scalar)?;
+                Ok(Elem::Value(copied))
+            }
+        }
+    }
+}

@@ -1,0 +1,152 @@
+// Sets of paths.
+ghost use Rattle.std.specs.Prelude.{◌≡◌, ◌-◌, ◌^◌, true, min, IfOk, OnOk, OnErr};
+ghost use Rattle.ssa_model.specs.PathMap.{empty, has, has_at_or_below, insert, is_empty, minus, size, union};
+ghost use Rattle.ssa_model.specs.PathMap as set;
+ghost use Rattle.ssa_path.specs.Meet.{meet, combined};
+ghost use Rattle.ssa_path.specs.Trie.{is_trie, listed, paths};
+
+use crate::combine::{Combination, combine};
+use crate::listing::{count_paths, list_paths};
+use crate::path::Path;
+use crate::trie::Trie;
+use std::alloc::{AllocError, Global};
+use std::marker::Model;
+
+/// A set of paths.
+///
+/// Two sets with the same paths are equal in every contract, whatever was done to make them.
+#[derive(Drop)]
+pub struct FieldSet {
+    root: Trie,
+}
+
+impl Model for FieldSet {
+    ghost use Rattle.std.specs.Prelude.{◌≡◌, true};
+    ghost use Rattle.ssa_model.specs.PathMap.{PathSet};
+    ghost use Rattle.ssa_model.specs.Codes.{coded_set};
+
+    ghost Value = { PathSet };
+
+    ghost coded = { coded_set };
+
+    ghost use Rattle.ssa_path.specs.Trie.{is_trie, listed, paths};
+
+    ghost view = { λ s. listed (paths s.root) };
+
+    ghost invariant = { λ s. is_trie s.root ≡ true };
+}
+
+impl FieldSet {
+    /// The set with no path. Takes no memory.
+    pub fn new(alloc: Global) -> FieldSet
+        ensures { result ≡ empty }
+    {
+        FieldSet {
+            root: Trie {
+                here: false,
+                below: Vec::new(alloc),
+            },
+        }
+    }
+
+    /// The set of a trie's paths.
+    pub fn from_root(root: Trie) -> FieldSet
+        requires { is_trie root ≡ true }
+        ensures { result ≡ listed (paths root) }
+    {
+        FieldSet { root }
+    }
+
+    /// The trie of the set's paths.
+    pub fn root(&self) -> &Trie
+        ensures same { listed (paths result.now) ≡ self.now }
+        ensures trie { is_trie result.now ≡ true }
+    {
+        &self.root
+    }
+
+    /// Whether the path is in the set. The beginnings of its paths are not, unless they were put in.
+    pub fn has(&self, path: &Path) -> bool
+        ensures { result ≡ has self.now path.now }
+    {
+        match self.root.place(path.elements()) {
+            Some(place) => place.here,
+            None => false,
+        }
+    }
+
+    /// Whether the path, or one that goes on from it, is in the set.
+    pub fn has_at_or_below(&self, path: &Path) -> bool
+        ensures { result ≡ has_at_or_below self.now path.now }
+    {
+        match self.root.place(path.elements()) {
+            Some(place) => place.has_paths(),
+            None => false,
+        }
+    }
+
+    /// Whether the set has no path.
+    pub fn is_empty(&self) -> bool
+        ensures { result ≡ is_empty self.now }
+    {
+        !self.root.has_paths()
+    }
+
+    /// Adds a path. On `Err` the set is as it was.
+    pub fn insert(&mut self, alloc: Global, path: &Path) -> Result<(), AllocError>
+        ensures ok { OnOk result (self.new ≡ insert path.now tt self.old) }
+        ensures err { OnErr result (self.new ≡ self.old) }
+    {
+        self.root.insert(alloc, path.elements())
+    }
+
+    // The paths that the combination keeps of those of two sets.
+    fn combined(
+        &self,
+        alloc: Global,
+        other: &FieldSet,
+        how: Combination,
+    ) -> Result<FieldSet, AllocError>
+        ensures { IfOk result (λ s. s ≡ combined how self.now other.now) }
+    {
+        let root = combine(alloc, &self.root, &other.root, how)?;
+        Ok(FieldSet { root })
+    }
+
+    /// The paths of either set.
+    pub fn union(&self, alloc: Global, other: &FieldSet) -> Result<FieldSet, AllocError>
+        ensures { IfOk result (λ s. s ≡ union self.now other.now) }
+    {
+        self.combined(alloc, other, Combination::Union)
+    }
+
+    /// The paths of this set that the other lacks.
+    pub fn minus(&self, alloc: Global, other: &FieldSet) -> Result<FieldSet, AllocError>
+        ensures { IfOk result (λ s. s ≡ minus self.now other.now) }
+    {
+        self.combined(alloc, other, Combination::Minus)
+    }
+
+    /// The paths of both sets.
+    pub fn meet(&self, alloc: Global, other: &FieldSet) -> Result<FieldSet, AllocError>
+        ensures { IfOk result (λ s. s ≡ meet self.now other.now) }
+    {
+        self.combined(alloc, other, Combination::Meet)
+    }
+
+    /// The paths of the set, in path order.
+    pub fn paths(&self, alloc: Global) -> Result<Vec<Path>, AllocError>
+        ensures { IfOk result (λ ps. ps.items ≡ set.paths self.now) }
+    {
+        let mut listed = Vec::new(alloc);
+        list_paths(alloc, &self.root, &[], &mut listed)?;
+        Ok(listed)
+    }
+
+    /// How many paths the set has, or `usize::MAX` where there are more.
+    pub fn len(&self) -> usize
+        ensures { result ≡ min (size self.now) (2 ^ 64 - 1) }
+    {
+        count_paths(&self.root)
+    }
+}

@@ -1,0 +1,110 @@
+// The key fields that name an item of a list.
+ghost use Rattle.std.specs.Prelude.{◌≡◌, true, IfOk};
+ghost use Rattle.ssa_json.specs.View.{scalar_view};
+ghost use Rattle.ssa_path.specs.Keys.{are_keys, keys_of, members_view, names_rise_after};
+
+use ssa_json::value::Scalar;
+use std::alloc::{AllocError, Global};
+use std::marker::Model;
+
+/// The key fields of an item of a list, at least one, in the order of their names' bytes.
+///
+/// FieldsV1 writes an item of a map list by them, as `k:{"name":"web"}`.
+#[derive(Drop)]
+pub struct Keys {
+    members: Vec<(String, Scalar)>,
+}
+
+impl Model for Keys {
+    ghost use Rattle.std.specs.Prelude.{◌≡◌, true};
+    ghost use Rattle.ssa_path.specs.Keys.{Members, coded_members, are_keys, members_view};
+
+    ghost Value = { Members };
+
+    ghost coded = { coded_members };
+
+    ghost view = { λ k. members_view k.members.items };
+
+    ghost invariant = { λ k. are_keys (members_view k.members.items) ≡ true };
+}
+
+// Whether each name stands behind the one before it.
+fn do_names_rise(first: &str, members: &[(String, Scalar)]) -> bool
+    ensures { result ≡ names_rise_after first.now (members_view members.now) }
+{
+    let mut last = first.as_bytes();
+    for member in members {
+        let name = member.0.as_str().as_bytes();
+        if last.cmp(name).is_ge() {
+            return false;
+        }
+        last = name;
+    }
+    true
+}
+
+// Whether there is a member, and the names rise.
+fn are_keys(members: &[(String, Scalar)]) -> bool
+    ensures { result ≡ are_keys (members_view members.now) }
+{
+    match members {
+        [] => false,
+        [first, rest @ ..] => do_names_rise(&first.0, rest),
+    }
+}
+
+// The same scalar, with new memory.
+pub(crate) fn copy_scalar(alloc: Global, scalar: &Scalar) -> Result<Scalar, AllocError>
+    ensures { IfOk result (λ s. scalar_view s ≡ scalar_view scalar.now) }
+{
+    match scalar {
+        Scalar::Text(text) => Ok(Scalar::Text(String::from_str(alloc, text.as_str())?)),
+        Scalar::Int(number) => Ok(Scalar::Int(*number)),
+        Scalar::Bool(truth) => Ok(Scalar::Bool(*truth)),
+    }
+}
+
+// The same members, with new memory.
+fn copy_members(
+    alloc: Global,
+    members: &[(String, Scalar)],
+) -> Result<Vec<(String, Scalar)>, AllocError>
+    ensures { IfOk result (λ ms. members_view ms.items ≡ members_view members.now) }
+{
+    let mut copies = Vec::new(alloc);
+    for member in members {
+        let name = String::from_str(alloc, member.0.as_str())?;
+        let scalar = copy_scalar(alloc, &member.1)?;
+        copies.push((name, scalar))?;
+    }
+    Ok(copies)
+}
+
+impl Keys {
+    /// The key fields with these names and values, where there is one and the names rise by bytes.
+    pub fn new(members: Vec<(String, Scalar)>) -> Option<Keys>
+        ensures { result ≡ keys_of (members_view members.items) }
+    {
+        if are_keys(&members) {
+            Some(Keys { members })
+        } else {
+            None
+        }
+    }
+
+    /// The names and values, in the order of the names.
+    pub fn members(&self) -> &[(String, Scalar)]
+        ensures same { members_view result.now ≡ self.now }
+        ensures rise { are_keys self.now ≡ true }
+    {
+        &self.members
+    }
+
+    /// The same key fields, with new memory.
+    pub fn copy(&self, alloc: Global) -> Result<Keys, AllocError>
+        ensures { IfOk result (λ k. k ≡ self.now) }
+    {
+        let members = copy_members(alloc, &self.members)?;
+        Ok(Keys { members })
+    }
+}

@@ -1,0 +1,14 @@
+//! Elements of paths, paths of fields, and sets of them.
+#![tactic(auto)]
+
+pub mod children;
+pub mod combine;
+pub mod element;
+pub mod field_set;
+pub mod keys;
+pub mod listing;
+mod order;
+pub mod path;
+#[cfg(test)]
+mod tests;
+pub mod trie;

@@ -1,0 +1,147 @@
+// The order of elements' texts by their bytes. The texts themselves are never made.
+ghost use Rattle.std.specs.Prelude.{◌≡◌, ◌≤◌, ◌<◌, ◌+◌, ◌++◌, false, length, take, drop};
+ghost use Rattle.std.specs.Ordering.{nat_cmp};
+ghost use Rattle.std.specs.Cmp.Lexicographic.{slice_cmp};
+ghost use Rattle.ssa_model.specs.Json.{compact_members, hex_digit, quoted, scalar_text, whole_text};
+ghost use Rattle.ssa_model.specs.Path.{key_members};
+ghost use Rattle.ssa_json.specs.View.{scalar_view};
+ghost use Rattle.ssa_path.specs.Keys.{members_view};
+ghost use Rattle.ssa_path.specs.Order.{mark, member_text, key_end};
+
+use itoa::Buffer;
+use ssa_json::value::Scalar;
+use std::cmp::Ordering;
+
+// A digit of a hexadecimal number.
+fn hex_digit(digit: u8) -> u8
+    requires { digit < 16 }
+    ensures { result ≡ hex_digit digit }
+{
+    if digit < 10 {
+        b'0' + digit
+    } else {
+        b'a' + (digit - 10)
+    }
+}
+
+// A byte of a text as JSON has it in quotes, or the closing quote; and how many bytes that takes.
+fn mark(byte: Option<u8>) -> ([u8; 6], usize)
+    ensures within { result.1 ≤ 6 }
+    ensures bytes { take result.1 result.0 ≡ mark byte }
+{
+    match byte {
+        None => ([b'"', 0, 0, 0, 0, 0], 1),
+        Some(b'"') => ([b'\\', b'"', 0, 0, 0, 0], 2),
+        Some(b'\\') => ([b'\\', b'\\', 0, 0, 0, 0], 2),
+        Some(0x08) => ([b'\\', b'b', 0, 0, 0, 0], 2),
+        Some(b'\t') => ([b'\\', b't', 0, 0, 0, 0], 2),
+        Some(b'\n') => ([b'\\', b'n', 0, 0, 0, 0], 2),
+        Some(0x0C) => ([b'\\', b'f', 0, 0, 0, 0], 2),
+        Some(b'\r') => ([b'\\', b'r', 0, 0, 0, 0], 2),
+        Some(byte) => {
+            if byte < 0x20 {
+                let (high, low) = (hex_digit(byte / 16), hex_digit(byte % 16));
+                ([b'\\', b'u', b'0', b'0', high, low], 6)
+            } else {
+                ([byte, 0, 0, 0, 0, 0], 1)
+            }
+        }
+    }
+}
+
+fn order_marks(byte: Option<u8>, other: Option<u8>) -> Ordering
+    ensures { result ≡ slice_cmp nat_cmp (mark byte) (mark other) }
+{
+    let (bytes, len) = mark(byte);
+    let (other_bytes, other_len) = mark(other);
+    bytes[..len].cmp(&other_bytes[..other_len])
+}
+
+// The order of two texts in quotes.
+pub fn order_quoted(text: &[u8], other: &[u8]) -> Ordering
+    ensures { result ≡ slice_cmp nat_cmp (quoted text.now) (quoted other.now) }
+{
+    let mut i = 0;
+    while i < text.len() && i < other.len() {
+        if text[i] != other[i] {
+            return order_marks(Some(text[i]), Some(other[i]));
+        }
+        i += 1;
+    }
+    order_marks(text.get(i).copied(), other.get(i).copied())
+}
+
+// The order of the numbers' digits, each with an end behind it.
+fn order_numbers(number: i64, end: &[u8], other: i64, other_end: &[u8]) -> Ordering
+    ensures { result ≡ slice_cmp nat_cmp (whole_text number ++ end.now) (whole_text other ++ other_end.now) }
+{
+    let mut digits = Buffer::new();
+    let mut other_digits = Buffer::new();
+    let text = digits.format(number).as_bytes();
+    let other_text = other_digits.format(other).as_bytes();
+    text.iter()
+        .chain(end)
+        .cmp(other_text.iter().chain(other_end))
+}
+
+// The order of the scalars' texts, each with an end behind it.
+pub fn order_scalars(scalar: &Scalar, end: &[u8], other: &Scalar, other_end: &[u8]) -> Ordering
+    ensures { result ≡ slice_cmp nat_cmp (scalar_text (scalar_view scalar.now) ++ end.now) (scalar_text (scalar_view other.now) ++ other_end.now) }
+{
+    match (scalar, other) {
+        (Scalar::Text(text), Scalar::Text(other_text)) => {
+            order_quoted(text.as_bytes(), other_text.as_bytes()).then(end.cmp(other_end))
+        }
+        (Scalar::Text(_), Scalar::Int(_)) => Ordering::Less,
+        (Scalar::Text(_), Scalar::Bool(_)) => Ordering::Less,
+        (Scalar::Int(_), Scalar::Text(_)) => Ordering::Greater,
+        (Scalar::Bool(_), Scalar::Text(_)) => Ordering::Greater,
+        (Scalar::Int(number), Scalar::Int(other_number)) => {
+            order_numbers(*number, end, *other_number, other_end)
+        }
+        (Scalar::Int(_), Scalar::Bool(_)) => Ordering::Less,
+        (Scalar::Bool(_), Scalar::Int(_)) => Ordering::Greater,
+        (Scalar::Bool(truth), Scalar::Bool(other_truth)) => {
+            truth.cmp(other_truth).then(end.cmp(other_end))
+        }
+    }
+}
+
+// What stands behind the member at a place of an object.
+fn end_at(keys: &[(String, Scalar)], i: usize) -> &'static [u8]
+    requires { i < length keys.now }
+    ensures { result.now ≡ key_end (drop (i + 1) (members_view keys.now)) }
+{
+    if i + 1 < keys.len() { b"," } else { b"}" }
+}
+
+// The order of the members at a place of two objects, with what stands behind them.
+fn order_members(keys: &[(String, Scalar)], others: &[(String, Scalar)], i: usize) -> Ordering
+    requires own { i < length keys.now }
+    requires others { i < length others.now }
+    ensures { result ≡ slice_cmp nat_cmp (member_text (drop i (members_view keys.now)))
+        (member_text (drop i (members_view others.now))) }
+{
+    let own = &keys[i];
+    let other = &others[i];
+    match order_quoted(own.0.as_bytes(), other.0.as_bytes()) {
+        Ordering::Equal => { order_scalars(&own.1, end_at(keys, i), &other.1, end_at(others, i)) }
+        found => found,
+    }
+}
+
+// The order of the key fields as the members of an object.
+pub fn order_keys(keys: &[(String, Scalar)], others: &[(String, Scalar)]) -> Ordering
+    ensures { result ≡ slice_cmp nat_cmp (compact_members false (key_members (members_view keys.now)))
+        (compact_members false (key_members (members_view others.now))) }
+{
+    let mut i = 0;
+    while i < keys.len() && i < others.len() {
+        let order = order_members(keys, others, i);
+        if order.is_ne() {
+            return order;
+        }
+        i += 1;
+    }
+    others.len().cmp(&keys.len())
+}

@@ -1,0 +1,86 @@
+// Paths, ordered element by element.
+ghost use Rattle.std.specs.Prelude.{◌≡◌, IfOk};
+ghost use Rattle.ssa_model.specs.Path.{path_cmp};
+ghost use Rattle.ssa_path.specs.View.{path_view};
+
+use crate::element::Elem;
+use std::alloc::{AllocError, Global};
+use std::cmp::Ordering;
+use std::marker::Model;
+
+/// The way from the root of a value to a place in it.
+#[derive(Drop)]
+pub struct Path {
+    elements: Vec<Elem>,
+}
+
+impl Model for Path {
+    ghost use Rattle.ssa_model.specs.Path as model;
+    ghost use Rattle.ssa_model.specs.Codes.{coded_path};
+
+    ghost Value = { model.Path };
+
+    ghost coded = { coded_path };
+
+    ghost use Rattle.ssa_path.specs.View.{path_view};
+
+    ghost view = { λ p. path_view p.elements.items };
+}
+
+// The order of the lists of elements.
+fn order_elements(elements: &[Elem], others: &[Elem]) -> Ordering
+    ensures { result ≡ path_cmp (path_view elements.now) (path_view others.now) }
+{
+    match (elements, others) {
+        ([], []) => Ordering::Equal,
+        ([], [_other, ..]) => Ordering::Less,
+        ([_first, ..], []) => Ordering::Greater,
+        ([first, rest @ ..], [other_first, other_rest @ ..]) => match first.order(other_first) {
+            Ordering::Equal => order_elements(rest, other_rest),
+            found => found,
+        },
+    }
+}
+
+/// The same elements, with new memory.
+pub fn copy_elements(alloc: Global, elements: &[Elem]) -> Result<Vec<Elem>, AllocError>
+    ensures { IfOk result (λ es. path_view es.items ≡ path_view elements.now) }
+{
+    let mut copies = Vec::new(alloc);
+    for element in elements {
+        let copied = element.copy(alloc)?;
+        copies.push(copied)?;
+    }
+    Ok(copies)
+}
+
+impl Path {
+    /// The path of these elements, the first of which stands at the root.
+    pub fn new(elements: Vec<Elem>) -> Path
+        ensures { result ≡ path_view elements.items }
+    {
+        Path { elements }
+    }
+
+    /// The elements from the root on.
+    pub fn elements(&self) -> &[Elem]
+        ensures { path_view result.now ≡ self.now }
+    {
+        &self.elements
+    }
+
+    /// The order of the lists of elements, each by its text.
+    pub fn order(&self, other: &Path) -> Ordering
+        ensures { result ≡ path_cmp self.now other.now }
+    {
+        order_elements(&self.elements, &other.elements)
+    }
+
+    /// The same path, with new memory.
+    pub fn copy(&self, alloc: Global) -> Result<Path, AllocError>
+        ensures { IfOk result (λ p. p ≡ self.now) }
+    {
+        let elements = copy_elements(alloc, &self.elements)?;
+        Ok(Path { elements })
+    }
+}

@@ -1,0 +1,160 @@
+// A set of paths as a tree: each place says whether the path to it is in the set.
+ghost use Rattle.std.specs.Prelude.{◌≡◌, true, false, None, IfOk, OnOk, OnErr, IfNone, IfSome};
+ghost use Rattle.std.specs.List.{list_any};
+ghost use Rattle.ssa_model.specs.Path.{under};
+ghost use Rattle.ssa_path.specs.Children.{child_at, elements, rises, IsGapFor};
+ghost use Rattle.ssa_path.specs.View.{element_view, path_view};
+ghost use Rattle.ssa_path.specs.Trie.{is_one_of, paths, shape, is_trie, is_filled, are_filled_tries, IsCopy, IsGathered, IsInserted, IsOnly, IsPlace};
+
+use crate::children::{find_child, search};
+use crate::element::Elem;
+use std::alloc::{AllocError, Global};
+
+/// A place of a set of paths, with the places below it.
+///
+/// Where it is a trie, the children stand in the order of their elements, and each has some path.
+#[derive(Drop)]
+pub struct Trie {
+    pub here: bool,
+    pub below: Vec<(Elem, Trie)>,
+}
+
+// A child with new memory.
+pub(crate) fn copy_child(alloc: Global, child: &(Elem, Trie)) -> Result<(Elem, Trie), AllocError>
+    ensures { IfOk result (λ c. IsCopy child.now c) }
+{
+    let element = child.0.copy(alloc)?;
+    let trie = child.1.copy(alloc)?;
+    Ok((element, trie))
+}
+
+// Puts a child at its place among the others.
+fn put_child(
+    alloc: Global,
+    below: &mut Vec<(Elem, Trie)>,
+    place: usize,
+    element: &Elem,
+    child: Trie,
+) -> Result<(), AllocError>
+    requires tries { are_filled_tries below.old.items ≡ true }
+    requires gap { IsGapFor (element_view element.now) below.old.items place }
+    requires trie { is_trie child ≡ true }
+    requires filled { is_filled child ≡ true }
+    ensures ok { OnOk result (IsGathered below.old.items (element_view element.now) child below.new.items) }
+    ensures err { OnErr result (below.new.items ≡ below.old.items) }
+{
+    let own = element.copy(alloc)?;
+    below.insert(place, (own, child))?;
+    Ok(())
+}
+
+/// Adds the paths of a trie below an element, unless there are none.
+///
+/// On `Err` the children are as they were.
+pub fn gather(
+    alloc: Global,
+    below: &mut Vec<(Elem, Trie)>,
+    element: &Elem,
+    child: Trie,
+) -> Result<(), AllocError>
+    requires rise { rises (elements below.old.items) ≡ true }
+    requires tries { are_filled_tries below.old.items ≡ true }
+    requires absent { child_at (element_view element.now) below.old.items ≡ None }
+    requires trie { is_trie child ≡ true }
+    ensures ok { OnOk result (IsGathered below.old.items (element_view element.now) child below.new.items) }
+    ensures err { OnErr result (below.new.items ≡ below.old.items) }
+{
+    if !child.has_paths() {
+        return Ok(());
+    }
+    match search(below, element) {
+        Err(place) => put_child(alloc, below, place, element, child),
+        Ok(_) => unreachable!(),
+    }
+}
+
+impl Trie {
+    /// The trie of one path.
+    pub fn of_path(alloc: Global, elements: &[Elem]) -> Result<Trie, AllocError>
+        ensures { IfOk result (λ t. IsOnly (path_view elements.now) t) }
+    {
+        match elements {
+            [] => Ok(Trie {
+                here: true,
+                below: Vec::new(alloc),
+            }),
+            [first, rest @ ..] => {
+                let child = Trie::of_path(alloc, rest)?;
+                let own = first.copy(alloc)?;
+                let mut below = Vec::new(alloc);
+                below.push((own, child))?;
+                Ok(Trie { here: false, below })
+            }
+        }
+    }
+
+    /// Whether there is some path.
+    pub fn has_paths(&self) -> bool
+        requires { is_trie self.now ≡ true }
+        ensures { result ≡ is_filled self.now }
+    {
+        self.here || !self.below.is_empty()
+    }
+
+    /// The same trie, with new memory.
+    pub fn copy(&self, alloc: Global) -> Result<Trie, AllocError>
+        ensures { IfOk result (λ t. shape t ≡ shape self.now) }
+    {
+        let mut below = Vec::new(alloc);
+        for child in &self.below {
+            let element = child.0.copy(alloc)?;
+            let trie = child.1.copy(alloc)?;
+            below.push((element, trie))?;
+        }
+        Ok(Trie {
+            here: self.here,
+            below,
+        })
+    }
+
+    /// Adds a path. On `Err` the paths are as they were.
+    pub fn insert(&mut self, alloc: Global, elements: &[Elem]) -> Result<(), AllocError>
+        requires { is_trie self.old ≡ true }
+        ensures ok { OnOk result (IsInserted self.old (path_view elements.now) self.new) }
+        ensures err { OnErr result (shape self.new ≡ shape self.old) }
+    {
+        match elements {
+            [] => {
+                self.here = true;
+                Ok(())
+            }
+            [first, rest @ ..] => match search(&self.below, first) {
+                Ok(i) => {
+                    let child = &mut self.below[i].1;
+                    child.insert(alloc, rest)
+                }
+                Err(place) => {
+                    let child = Trie::of_path(alloc, rest)?;
+                    put_child(alloc, &mut self.below, place, first, child)
+                }
+            },
+        }
+    }
+
+    /// The place of the path of these elements, where a path is under it.
+    pub fn place(&self, elements: &[Elem]) -> Option<&Trie>
+        requires { is_trie self.now ≡ true }
+        ensures none { IfNone result ((is_one_of (paths self.now) (path_view elements.now) ≡ false)
+            × (list_any (under (path_view elements.now)) (paths self.now) ≡ false)) }
+        ensures some { IfSome result (λ t. IsPlace self.now (path_view elements.now) t.now) }
+    {
+        let mut place = self;
+        for element in elements {
+            match find_child(&place.below, element) {
+                Some(child) => place = child,
+                None => return None,
+            }
+        }
+        Some(place)
+    }
+}
