@@ -2,6 +2,7 @@
 #![tactic(auto)]
 
 mod bench_machine;
+mod bench_session;
 mod command_shape;
 mod engine;
 mod fault_text;
