@@ -19,22 +19,26 @@ flat-filled k (values.object ms) = refl
 flat-filled k (values.list vs) = refl
 flat-filled k (values.scalar s) = refl
 
+module _ (k : Kind) (fs : Vec (String Global × Kind) Global) (gs : List (String Global × Kind)) (is : k ≡ Record fs) (same : gs ≡ fs.items) where
+  pub record_seen : model.record_of (fields_view gs) ≡ kind_view k
+  record_seen = ap (λ xs. model.record_of (fields_view xs)) same ∙ sym (kind_view-Record fs) ∙ ap kind_view (sym is)
+
+module _ (v : Json) (ms : BTreeMap (String Global) Json) (is : v ≡ Object ms) where
+  pub object_seen : values.object (members_view ms.entries) ≡ view v
+  object_seen = sym (view-Object ms) ∙ ap view (sym is)
+
 module _ (k : Kind) (v : Json) (fs : Vec (String Global × Kind) Global) (gs : List (String Global × Kind)) (ms : BTreeMap (String Global) Json) (p : Path) where
   module _ (before now total : List (Path × Content)) (is_record : k ≡ Record fs) (is_object : v ≡ Object ms) (same : gs ≡ fs.items) (branch : now ≡ before ++ (p, record_branch) ∷ []) where
-    record_seen : model.record_of (fields_view gs) ≡ kind_view k
-    record_seen = ap (λ xs. model.record_of (fields_view xs)) same ∙ sym (kind_view-Record fs) ∙ ap kind_view (sym is_record)
-
-    object_seen : values.object (members_view ms.entries) ≡ view v
-    object_seen = sym (view-Object ms) ∙ ap view (sym is_object)
-
     joined : (rest : List (Path × Content)) → now ++ rest ≡ before ++ (p, record_branch) ∷ rest
     joined rest = ap (λ rs. rs ++ rest) branch ∙ append_assoc before ((p, record_branch) ∷ []) rest
 
     -- the places of an object, after its own
     pub record-places : total ≡ now ++ field_places (fields_view gs) (members_view ms.entries) p → total ≡ before ++ places (kind_view k) (view v) p
-    record-places all = all ∙ joined (field_places (fields_view gs) (members_view ms.entries) p) ∙ (λ i. before ++ places (record_seen i) (object_seen i) p)
+    record-places all =
+        all ∙ joined (field_places (fields_view gs) (members_view ms.entries) p)
+        ∙ (λ i. before ++ places (record_seen k fs gs is_record same i) (object_seen v ms is_object i) p)
 
     pub root-places : total ≡ now ++ field_places (fields_view gs) (without_empty_metadata (members_view ms.entries)) p → total ≡ before ++ places (kind_view k) (without_bare_metadata (view v)) p
     root-places all =
         all ∙ joined (field_places (fields_view gs) (without_empty_metadata (members_view ms.entries)) p)
-        ∙ (λ i. before ++ places (record_seen i) (without_bare_metadata (object_seen i)) p)
+        ∙ (λ i. before ++ places (record_seen k fs gs is_record same i) (without_bare_metadata (object_seen v ms is_object i)) p)
