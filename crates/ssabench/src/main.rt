@@ -9,13 +9,22 @@ mod fault_text;
 mod json_text;
 mod line;
 mod machine;
+mod program;
 mod read_command;
 mod read_line;
 mod reply_text;
+#[cfg(test)]
+mod row_tests;
 #[cfg(test)]
 mod tests;
 #[cfg(test)]
 mod text_tests;
 mod write_line;
 
-fn main() {}
+use program::{Ending, run};
+use std::process::ExitCode;
+
+fn main(rt: HostRuntime) -> ExitCode {
+    let ending = run(&rt).unwrap_or(Ending::Broken);
+    ExitCode::from(ending.status())
+}
