@@ -1,5 +1,8 @@
 -- What kinds are.
-use Rattle.std.specs.Prelude.{List, [], ◌∷◌, ◌++◌, map, Option, Some, None, String, string_bytes}
+use Rattle.std.specs.Prelude.{List, [], ◌∷◌, ◌++◌, map, Bool, true, false, ◌&&◌, Some, None, String, string_bytes}
+use Rattle.std.specs.declared.cmp.Ordering.TheVariants.{Less, Equal, Greater}
+use Rattle.std.specs.Ordering.{nat_cmp}
+use Rattle.std.specs.Cmp.Lexicographic.{slice_cmp}
 use Rattle.std.specs.declared.alloc.Global.{Global}
 use Rattle.ssa_model.specs.Json as values
 use Rattle.ssa_model.specs.Path.{Path, field}
@@ -38,3 +41,23 @@ member_places fs n v p = elim (model.kind_of n fs) [ None ↦ [] | Some k ↦ pl
 abbrev pub without_bare_metadata : values.Json → values.Json
 without_bare_metadata (values.object ms) = values.object (without_empty_metadata ms)
 without_bare_metadata v = v
+
+-- ---- names that rise
+
+abbrev pub is_before : values.Text → values.Text → Bool
+is_before n m = elim (slice_cmp nat_cmp n m) [ Less ↦ true | Equal ↦ false | Greater ↦ false ]
+
+-- the name is before all of the fields' names
+abbrev pub is_before_all : values.Text → model.Fields → Bool
+is_before_all n model.no_fields = true
+is_before_all n (model.kind_field m k fs) = is_before n m && is_before_all n fs
+
+-- the names of the fields rise, at each level
+abbrev mutual
+  pub is_ordered : model.Kind → Bool
+  is_ordered (model.record_of fs) = are_ordered fs
+  is_ordered _ = true
+
+  pub are_ordered : model.Fields → Bool
+  are_ordered model.no_fields = true
+  are_ordered (model.kind_field n k fs) = is_before_all n fs && (is_ordered k && are_ordered fs)

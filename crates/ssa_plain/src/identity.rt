@@ -139,6 +139,18 @@ fn copy_optional(alloc: Global, value: Option<&Json>) -> Result<Option<Json>, Al
 }
 
 impl Identity {
+    /// The version, kind, name and namespace.
+    pub fn parts(&self) -> (&Json, &Json, &Json, Option<&Json>)
+        ensures { self.now ≡ Some (view result.0.now) ∷ Some (view result.1.now) ∷ Some (view result.2.now) ∷ option_map (λ v. view v.now) result.3 ∷ [] }
+    {
+        (
+            &self.version,
+            &self.kind,
+            &self.name,
+            self.namespace.as_ref(),
+        )
+    }
+
     /// Whether the object's identity is this one, absence of the namespace included.
     pub fn is_same_as(&self, object: &Json) -> bool
         ensures { result ≡ same_identity (identity_of (view object.now)) self.now }

@@ -39,14 +39,10 @@ impl ScalarKind {
 pub fn find_kind<'a>(fields: &'a [(String, Kind)], name: &str) -> Option<&'a Kind>
     ensures { option_map (λ k. kind_view k.now) result ≡ kind_of name.now (fields_view fields.now) }
 {
-    match fields {
-        [] => None,
-        [(field, kind), rest @ ..] => {
-            if name.as_bytes().cmp(field.as_bytes()).is_eq() {
-                Some(kind)
-            } else {
-                find_kind(rest, name)
-            }
+    for (field, kind) in fields {
+        if name.as_bytes().cmp(field.as_bytes()).is_eq() {
+            return Some(kind);
         }
     }
+    None
 }

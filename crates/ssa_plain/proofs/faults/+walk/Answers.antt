@@ -1,7 +1,6 @@
-use Rattle.std.proofs.Common.{◌≡◌, ◌++◌, ◌∷◌, Some, None, option_map, string_bytes, ap, sym, ◌∙◌}
+use Rattle.std.proofs.Common.{◌≡◌, None, option_map, ap, sym, ◌∙◌}
 use Rattle.std.proofs.lemmas.Result.{IfOk-weaker}
 use Rattle.ssa_model.specs.Kind.{Fault, faults, field_faults}
-use Rattle.ssa_model.specs.Path.{field}
 use Rattle.ssa_json.specs.View.{view, members_view}
 use Rattle.ssa_plain.specs.Kinds.{kind_view, fields_view}
 use Rattle.ssa_plain.specs.Faults.{found_view, first_of}

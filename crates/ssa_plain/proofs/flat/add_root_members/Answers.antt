@@ -1,4 +1,4 @@
-use Rattle.std.proofs.Common.{◌≡◌, ◌++◌, ◌∷◌, false, true, ◌&&◌, codes, string_bytes, string_cmp, ap, ◌∙◌, sym, subst, rules}
+use Rattle.std.proofs.Common.{◌≡◌, ◌++◌, false, true, ◌&&◌, codes, string_bytes, string_cmp, ap, ◌∙◌, sym, subst, rules}
 use Rattle.std.specs.List.Sorted.{IsStrictlySortedBy}
 use Rattle.std.specs.Map.{keys_of}
 use Rattle.ssa_model.specs.Json.{same_text}

@@ -1,4 +1,4 @@
-use Rattle.std.proofs.Common.{ap, ◌∙◌, [], ◌++◌}
+use Rattle.std.proofs.Common.{ap, ◌∙◌, ◌++◌}
 use Rattle.ssa_model.specs.Body.{places}
 use Rattle.ssa_model.specs.PathMap.{from_entries}
 use Rattle.ssa_json.specs.View.{view}
