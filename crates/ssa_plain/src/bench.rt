@@ -1,5 +1,5 @@
 //! The bench: an object, its managers, and the history of commands on it.
-ghost use Rattle.std.specs.Prelude.{◌≡◌, ◌<◌, ◌≤◌, IfOk, OnOk, OnErr, ◌&&◌, ◌||◌, nat_le, codes, string_bytes, false};
+ghost use Rattle.std.specs.Prelude.{◌≡◌, ◌<◌, ◌≤◌, IfOk, OnOk, OnErr, ◌&&◌, ◌||◌, nat_le, codes, string_bytes, false, true};
 ghost use Rattle.std.specs.List.{list_all};
 ghost use Rattle.ssa_model.specs.History.{is_name_byte, is_manager_name, past_len, future_len, present};
 ghost use Rattle.ssa_model.specs.Answers.{answer, apply_answer, apply, undo, redo, comparison, body_or_fault, command_body, bench_of, with_lone_state};
@@ -7,7 +7,7 @@ ghost use Rattle.ssa_json.specs.View.{view};
 ghost use Rattle.ssa_plain.specs.Benches.{nothing_given_up, taken_view, made_view, after_next, CanFollow, IsPrepared, IsRefusal};
 ghost use Rattle.ssa_model.specs.Entries.{object_of_state};
 ghost use Rattle.ssa_plain.specs.States.{state_view};
-ghost use Rattle.ssa_plain.specs.Kinds.{kind_view};
+ghost use Rattle.ssa_plain.specs.Kinds.{kind_view, is_ordered};
 ghost use Rattle.ssa_plain.specs.Replies.{command_view, reply_view, changed_view};
 
 use crate::apply::{MOST_PLACES, Refusal, State, apply};
@@ -51,6 +51,11 @@ impl Model for Bench {
     ghost use Rattle.ssa_plain.specs.BenchView.{bench_view};
 
     ghost view = { bench_view };
+
+    ghost use Rattle.ssa_plain.specs.BenchView.{HasOrderedKind};
+
+    // The fields of the kind stand in the order of their names.
+    ghost invariant = { HasOrderedKind };
 }
 
 /// The body of a command's object, or why the object is refused.
@@ -122,6 +127,7 @@ impl Bench {
     /// The bench of an object file, with no managers and no history. The object is tested like a command's,
     /// but for the comparison of the identity.
     pub fn new(alloc: Global, kind: Kind, object: &Json) -> Result<Made, AllocError>
+        requires { is_ordered (kind_view kind) ≡ true }
         ensures { IfOk result (λ m. made_view m ≡ bench_of (kind_view kind) (view object.now)) }
     {
         if !object.is_object() {
@@ -140,6 +146,7 @@ impl Bench {
 
     // The bench of one state, of a body that was taken.
     fn with_lone_state(alloc: Global, kind: Kind, identity: Identity, taken: Taken) -> Made
+        requires { is_ordered (kind_view kind) ≡ true }
         ensures { made_view result ≡ with_lone_state (kind_view kind) identity (taken_view taken) }
     {
         match taken {

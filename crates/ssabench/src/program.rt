@@ -1,5 +1,8 @@
 //! The program's words, files and statuses.
 
+ghost use Rattle.std.specs.Prelude.{◌≡◌, IfOk, true};
+ghost use Rattle.ssa_plain.specs.Kinds.{kind_view, is_ordered};
+
 use crate::bench_session::session;
 use crate::engine::OUT_OF_MEMORY;
 use crate::reply_text::reply_text;
@@ -105,9 +108,11 @@ fn read_file<R: Files + AllocGlobal>(rt: &R, name: &str) -> io::Result<Vec<u8>> 
 }
 
 // The kind of a schema file, or its fault line.
-fn kind_of(alloc: Global, bytes: &[u8]) -> Result<Kind, &'static [u8]> {
+fn kind_of(alloc: Global, bytes: &[u8]) -> Result<Kind, &'static [u8]>
+    ensures { IfOk result (λ kind. is_ordered (kind_view kind) ≡ true) }
+{
     match Json::read(alloc, bytes, FILE_LIMIT) {
-        Ok(value) => match read_schema(alloc, &value) {
+        Ok(schema) => match read_schema(alloc, &schema) {
             Ok(kind) => Ok(kind),
             Err(fault) => Err(schema_fault_line(&fault)),
         },
