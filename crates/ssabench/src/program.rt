@@ -12,6 +12,7 @@ use ssa_json::sink::OfWriter;
 use ssa_json::value::Json;
 use ssa_plain::bench::{Bench, Made};
 use ssa_plain::kind::Kind;
+use ssa_plain::ordered::is_ordered;
 use ssa_plain::reply::Reply;
 use ssa_plain::schema::{SchemaFault, read_schema};
 use std::alloc::Global;
@@ -113,7 +114,9 @@ fn kind_of(alloc: Global, bytes: &[u8]) -> Result<Kind, &'static [u8]>
 {
     match Json::read(alloc, bytes, FILE_LIMIT) {
         Ok(schema) => match read_schema(alloc, &schema) {
-            Ok(kind) => Ok(kind),
+            // The fields come from a map in the order of their names, so this holds.
+            Ok(kind) if is_ordered(&kind) => Ok(kind),
+            Ok(_) => Err(schema_fault_line(&SchemaFault::Shape)),
             Err(fault) => Err(schema_fault_line(&fault)),
         },
         Err(fault) => Err(json_fault_line(&fault)),
@@ -134,7 +137,6 @@ fn schema_fault_line(fault: &SchemaFault) -> &'static [u8] {
     match fault {
         SchemaFault::Keyword => b"{\"fault\":10,\"name\":\"SchemaKeyword\"}",
         SchemaFault::Shape => b"{\"fault\":11,\"name\":\"SchemaShape\"}",
-        SchemaFault::Keys => b"{\"fault\":12,\"name\":\"SchemaKeys\"}",
         SchemaFault::Depth => b"{\"fault\":13,\"name\":\"SchemaDepth\"}",
         SchemaFault::OutOfMemory => OUT_OF_MEMORY,
     }

@@ -5,6 +5,7 @@ use ssa_json::reader::OfReader;
 use ssa_json::sink::OfWriter;
 use ssa_json::value::Json;
 use ssa_plain::bench::{Bench, Made};
+use ssa_plain::ordered::is_ordered;
 use ssa_plain::schema::read_schema;
 use std::alloc::Global;
 use std::process::Abort;
@@ -20,6 +21,7 @@ fn new_bench(rt: &impl Abort, alloc: Global) -> Result<Bench, Fail> {
     let schema = Json::read(alloc, SCHEMA.as_bytes(), 1_000)?;
     let kind = read_schema(alloc, &schema)?;
     let object = Json::read(alloc, OBJECT.as_bytes(), 1_000)?;
+    assert!(rt; is_ordered(&kind));
     match Bench::new(alloc, kind, &object)? {
         Made::Bench(bench) => Ok(bench),
         Made::Refused(_) => panic!(rt; "the object is refused"),
@@ -212,7 +214,7 @@ fn leaves_what_an_applier_leaves_out(rt: HostRuntime) -> Result<(), Fail> {
             ),
             (
                 "{\"at\":\"2024-05-01T10:00:04Z\",\"do\":\"apply\",\"manager\":\"m3\",\"object\":{\"apiVersion\":\"example.com/v1\",\"kind\":\"App\",\"metadata\":{\"name\":\"web\"},\"spec\":{}}}",
-                "{\"added\":[],\"done\":\"apply\",\"managers\":2,\"modified\":[],\"removed\":[]}",
+                "{\"added\":[],\"done\":\"apply\",\"managers\":3,\"modified\":[],\"removed\":[]}",
             ),
         ],
     )
