@@ -20,8 +20,8 @@ use std::collections::BTreeMap;
 impl Elem {
     /// The element that has this very text, as `Elem::text` writes it.
     ///
-    /// FieldsV1 names elements by such texts. It also names items of lists by their places, as
-    /// `i:0`; those are refused.
+    /// FieldsV1 of the Kubernetes API names fields and items of lists by such texts. It also names
+    /// items by their places, as `i:0`; those are refused.
     pub fn read(alloc: Global, text: &str) -> Result<Elem, ElemFault>
         ensures { ReadsElement result text.now }
     {

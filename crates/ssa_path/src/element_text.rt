@@ -11,8 +11,8 @@ use ssa_json::value::{Json, Scalar};
 use std::alloc::{AllocError, Global};
 
 impl Elem {
-    /// The text that names the element in FieldsV1: `f:` and the name, `k:` and the key fields as a
-    /// compact JSON object, or `v:` and the value as compact JSON.
+    /// The text that names the element in FieldsV1 of the Kubernetes API: `f:` and the name, `k:` and
+    /// the key fields as a compact JSON object, or `v:` and the value as compact JSON.
     pub fn text(&self, alloc: Global) -> Result<Vec<u8>, AllocError>
         ensures { IfOk result (λ text. text.items ≡ element_text (element_view self.now)) }
     {
