@@ -8,5 +8,7 @@ pub mod Members
 pub mod Numbers
 pub mod Orders
 pub mod Parts
+pub mod Readings
 pub mod Searching
 pub mod Sets
+pub mod Texts

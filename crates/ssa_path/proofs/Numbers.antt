@@ -1,31 +1,14 @@
 -- The texts of numbers and truth values beside each other.
-use Rattle.std.proofs.Common.{◌≡◌, ℕ, zero, suc, ◌+◌, ◌/◌, ◌%◌, ◌<◌, ◌≤◌, ◌^◌, List, [], ◌∷◌, ◌++◌, Bool, true, false, ◌&&◌, ◌||◌, not, Less, Greater, refl, sym, ap, ◌∙◌, append_assoc, append-nil, true≢false, arith, ltb-true, pos, negsuc, ℤ, FitsSigned, w64, to_z, of_z, codes}
+use Rattle.std.proofs.Common.{◌≡◌, ℕ, zero, suc, ◌+◌, ◌/◌, ◌%◌, ◌<◌, List, [], ◌∷◌, ◌++◌, Bool, true, false, ◌&&◌, ◌||◌, not, Less, Greater, refl, sym, ap, ◌∙◌, true≢false, arith, ltb-true, pos, negsuc, ℤ, FitsSigned, w64, to_z, of_z, codes}
 use Rattle.std.proofs.lemmas.Int.{to_z-of_z}
 use Rattle.std.specs.Prelude.{◌==◌, nat_lt, if◌then◌else◌}
 use Rattle.std.proofs.lemmas.Bool.Decides.{nat_tests}
-use Rattle.std.proofs.lemmas.Fmt.{decimal_digit, decimal_step}
-use Rattle.std.specs.Fmt.{signed_decimal, decimal as decimal_digits}
+use Rattle.std.specs.Fmt.{signed_decimal}
 use Rattle.ssa_model.specs.Json.{Scalar, text, whole, truth, digits_before, decimal, whole_text, scalar_text, escaped, quoted}
+use Rattle.ssa_json.proofs.Printing.{decimal-is}
 use Rattle.ssa_path.proofs.Parts.{text_cmp, AreWords, cmp-words}
 use Rattle.std.specs.Ordering.{ordering_then}
 use Rattle.ssa_path.proofs.Escapes.{quoted-words, words-append}
-
--- ---- std's digits are the definition's
-
-digits-decimal : (most n : ℕ) (r : List ℕ) → n < most → n < 2 ^ 64 → digits_before most n r ≡ decimal_digits n ++ r
-digits-decimal zero n r h small = absurd (omega arith)
-digits-decimal (suc most) n r h small =
-    elim (nat_lt n 10) as (λ t. nat_lt n 10 ≡ t → elim t [ true ↦ (48 + n) ∷ r | false ↦ digits_before most (n / 10) ((48 + n % 10) ∷ r) ] ≡ decimal_digits n ++ r) [
-      | true ↦ λ t. ap (λ ds. ds ++ r) (sym (decimal_digit n (ltb-true n 10 t)))
-      | false ↦ λ t.
-          let big : 10 ≤ n = grind (arith, nat_tests) in
-          digits-decimal most (n / 10) ((48 + n % 10) ∷ r) (omega arith) (omega arith)
-          ∙ sym (append_assoc (decimal_digits (n / 10)) ((48 + n % 10) ∷ []) r)
-          ∙ ap (λ ds. ds ++ r) (sym (decimal_step n big small))
-    ] refl
-
-pub decimal-is : (n : ℕ) → n < 2 ^ 64 → decimal_digits n ≡ decimal n
-decimal-is n small = sym (digits-decimal (suc n) n [] (omega arith) small ∙ append-nil (decimal_digits n))
 
 -- ---- the first byte of a number
 

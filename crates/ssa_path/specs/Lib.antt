@@ -1,5 +1,6 @@
 pub mod Children
 pub mod Combine
+pub mod ElementReading
 pub mod Keys
 pub mod Listing
 pub mod Meet

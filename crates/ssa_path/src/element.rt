@@ -3,7 +3,7 @@ ghost use Rattle.std.specs.Prelude.{◌≡◌, IfOk};
 ghost use Rattle.ssa_model.specs.Path.{element_cmp, is_item_element, same_element};
 ghost use Rattle.ssa_path.specs.View.{element_view};
 
-use crate::keys::{Keys, copy_scalar};
+use crate::keys::Keys;
 use crate::order::{order_keys, order_scalars};
 use ssa_json::value::Scalar;
 use std::alloc::{AllocError, Global};
@@ -71,7 +71,7 @@ impl Elem {
                 Ok(Elem::Key(copied))
             }
             Elem::Value(scalar) => {
-                let copied = copy_scalar(alloc, scalar)?;
+                let copied = scalar.copy(alloc)?;
                 Ok(Elem::Value(copied))
             }
         }

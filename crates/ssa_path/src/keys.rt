@@ -1,6 +1,5 @@
 // The key fields that name an item of a list.
 ghost use Rattle.std.specs.Prelude.{◌≡◌, true, IfOk};
-ghost use Rattle.ssa_json.specs.View.{scalar_view};
 ghost use Rattle.ssa_path.specs.Keys.{are_keys, keys_of, members_view, names_rise_after};
 
 use ssa_json::value::Scalar;
@@ -53,17 +52,6 @@ fn are_keys(members: &[(String, Scalar)]) -> bool
     }
 }
 
-// The same scalar, with new memory.
-pub(crate) fn copy_scalar(alloc: Global, scalar: &Scalar) -> Result<Scalar, AllocError>
-    ensures { IfOk result (λ s. scalar_view s ≡ scalar_view scalar.now) }
-{
-    match scalar {
-        Scalar::Text(text) => Ok(Scalar::Text(String::from_str(alloc, text.as_str())?)),
-        Scalar::Int(number) => Ok(Scalar::Int(*number)),
-        Scalar::Bool(truth) => Ok(Scalar::Bool(*truth)),
-    }
-}
-
 // The same members, with new memory.
 fn copy_members(
     alloc: Global,
@@ -74,7 +62,7 @@ fn copy_members(
     let mut copies = Vec::new(alloc);
     for member in members {
         let name = String::from_str(alloc, member.0.as_str())?;
-        let scalar = copy_scalar(alloc, &member.1)?;
+        let scalar = member.1.copy(alloc)?;
         copies.push((name, scalar))?;
     }
     Ok(copies)

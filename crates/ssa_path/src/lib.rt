@@ -4,6 +4,9 @@
 pub mod children;
 pub mod combine;
 pub mod element;
+pub mod element_fault;
+mod element_read;
+mod element_text;
 pub mod field_set;
 pub mod keys;
 pub mod listing;
@@ -11,4 +14,6 @@ mod order;
 pub mod path;
 #[cfg(test)]
 mod tests;
+#[cfg(test)]
+mod text_tests;
 pub mod trie;

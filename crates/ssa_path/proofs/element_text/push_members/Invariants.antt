@@ -1,0 +1,7 @@
+use Rattle.std.proofs.Common.{◌≡◌, ◌++◌, false}
+use Rattle.ssa_path.proofs.Texts.{text_from}
+use Rattle.ssa_path.proofs.element_text.push_members.Given as goal
+
+-- with what is left, the text is whole
+abbrev pub invariant-loop-member : goal.invariant-loop-member
+invariant-loop-member l = l.text.items ++ text_from l.is_later l.members l.member-index ≡ l.fn.text.items ++ text_from false l.members 0

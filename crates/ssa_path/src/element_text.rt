@@ -1,0 +1,88 @@
+//! The text of an element.
+ghost use Rattle.std.specs.Prelude.{◌≡◌, ◌∷◌, ◌++◌, IfOk, OnOk, false};
+ghost use Rattle.ssa_model.specs.Json.{comma_if, compact_members, quoted, scalar_text};
+ghost use Rattle.ssa_model.specs.Path.{element_text, key_members};
+ghost use Rattle.ssa_json.specs.View.{scalar_view};
+ghost use Rattle.ssa_path.specs.Keys.{members_view};
+ghost use Rattle.ssa_path.specs.View.{element_view};
+
+use crate::element::Elem;
+use ssa_json::value::{Json, Scalar};
+use std::alloc::{AllocError, Global};
+
+impl Elem {
+    /// The text that names the element in FieldsV1 of the Kubernetes API: `f:` and the name, `k:` and
+    /// the key fields as a compact JSON object, or `v:` and the value as compact JSON.
+    pub fn text(&self, alloc: Global) -> Result<Vec<u8>, AllocError>
+        ensures { IfOk result (λ text. text.items ≡ element_text (element_view self.now)) }
+    {
+        let mut text = Vec::new(alloc);
+        match self {
+            Elem::Field(name) => {
+                text.extend_from_slice(b"f:")?;
+                text.extend_from_slice(name.as_bytes())?;
+            }
+            Elem::Key(keys) => {
+                text.extend_from_slice(b"k:{")?;
+                push_members(alloc, &mut text, keys.members())?;
+            }
+            Elem::Value(scalar) => {
+                text.extend_from_slice(b"v:")?;
+                push_scalar(alloc, &mut text, scalar)?;
+            }
+        }
+        Ok(text)
+    }
+}
+
+// Appends a scalar's text.
+fn push_scalar(alloc: Global, text: &mut Vec<u8>, scalar: &Scalar) -> Result<(), AllocError>
+    ensures { OnOk result (text.new.items ≡ text.old.items ++ scalar_text (scalar_view scalar.now)) }
+{
+    let value = Json::Scalar(scalar.copy(alloc)?);
+    let bytes = value.to_text(alloc)?;
+    text.extend_from_slice(&bytes)
+}
+
+// Appends a name in quotes, with the escapes that it needs.
+fn push_name(alloc: Global, text: &mut Vec<u8>, name: &str) -> Result<(), AllocError>
+    ensures { OnOk result (text.new.items ≡ text.old.items ++ quoted name.now) }
+{
+    let name = Scalar::Text(String::from_str(alloc, name)?);
+    push_scalar(alloc, text, &name)
+}
+
+// Appends a member, behind a comma where it is not the first.
+fn push_member(
+    alloc: Global,
+    text: &mut Vec<u8>,
+    is_later: bool,
+    name: &str,
+    scalar: &Scalar,
+) -> Result<(), AllocError>
+    ensures { OnOk result (text.new.items ≡ text.old.items ++ (comma_if is_later ++ (quoted name.now ++ 58 ∷ scalar_text (scalar_view scalar.now)))) }
+{
+    if is_later {
+        text.push(b',')?;
+    }
+    push_name(alloc, text, name)?;
+    text.push(b':')?;
+    push_scalar(alloc, text, scalar)
+}
+
+// Appends the members of an object and its closing bracket.
+fn push_members(
+    alloc: Global,
+    text: &mut Vec<u8>,
+    members: &[(String, Scalar)],
+) -> Result<(), AllocError>
+    ensures { OnOk result (text.new.items ≡ text.old.items ++ compact_members false (key_members (members_view members.now))) }
+{
+    let mut is_later = false;
+    for member in members {
+        push_member(alloc, text, is_later, member.0.as_str(), &member.1)?;
+        is_later = true;
+    }
+    text.push(b'}')?;
+    Ok(())
+}
