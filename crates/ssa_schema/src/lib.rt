@@ -1,0 +1,6 @@
+//! Structural schemas: their reading, their kinds, and the faults of values under them.
+#![tactic(auto)]
+
+pub mod fault;
+pub mod kind;
+pub mod text;
