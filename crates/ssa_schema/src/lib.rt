@@ -4,4 +4,6 @@
 pub mod fault;
 pub mod kind;
 pub mod members;
+mod rules;
+mod standing;
 pub mod text;
