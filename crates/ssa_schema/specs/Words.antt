@@ -1,7 +1,7 @@
 -- Words about the members of a schema.
 use Rattle.std.specs.Prelude.{List, [], ◌∷◌, Bool, true, false, not, ◌&&◌, ◌||◌, Option, None, Some, is_some, codes}
 use Rattle.ssa_model.specs.Json.{Text, Json, scalar, list, object, Items, no_items, item, Members, no_members, member_of, same_text, as_text}
-use Rattle.ssa_model.specs.Schema.{is_text_among, are_distinct_texts, if_given, texts_of, whole_profile}
+use Rattle.ssa_model.specs.Schema.{is_text_among, is_key_list, is_scalar_type, are_distinct_texts, if_given, texts_of, whole_profile}
 
 -- the value is the text
 abbrev pub value_is : Text → Json → Bool
@@ -37,3 +37,17 @@ are_distinct_in (Some ts) = are_distinct_texts ts
 -- each item is a text
 abbrev pub are_text_items : Items → Bool
 are_text_items vs = is_some (texts_of vs)
+
+-- each item is a text that passes the test
+abbrev pub each_text : (Text → Bool) → Items → Bool
+each_text test no_items = true
+each_text test (item v vs) = elim (as_text v) [ None ↦ false | Some t ↦ test t ] && each_text test vs
+
+-- the keys of a map list are missing or none
+abbrev pub lacks_key_list : Members → Bool
+lacks_key_list ms = elim (member_of (codes "x-kubernetes-list-map-keys") ms) [ None ↦ true | Some v ↦ not (is_key_list v) ]
+
+-- the value is the schema of a scalar
+abbrev pub is_scalar_schema : Json → Bool
+is_scalar_schema (object ms) = is_scalar_type ms
+is_scalar_schema _ = false

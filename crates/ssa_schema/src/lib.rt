@@ -2,8 +2,10 @@
 #![tactic(auto)]
 
 pub mod fault;
+mod keys;
 pub mod kind;
 pub mod members;
+mod refusal;
 mod rules;
 mod standing;
 pub mod text;

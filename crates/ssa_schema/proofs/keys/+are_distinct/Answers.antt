@@ -1,0 +1,16 @@
+use Rattle.std.proofs.Common.{◌≡◌, Bool, not, ◌&&◌, sym, ap, ap₂, ◌∙◌, length, take, drop, ◌-◌, Some, arith}
+use Rattle.ssa_model.specs.Json.{as_text}
+use Rattle.ssa_json.specs.View.{view}
+use Rattle.ssa_schema.proofs.Distinct.{distinct-first}
+use Rattle.ssa_schema.proofs.keys.+are_distinct.Goals as goal
+
+pub returns-then-not-any_item_is : goal.returns-then-not-any_item_is
+returns-then-not-any_item_is t c =
+    sym (distinct-first c.args.items.now c.first-item.result c.in-Some.text.now (omega arith) c.first-item.is (sym c.in-Some.ensures)
+    ∙ ap₂ (λ a b. not a && b) (sym c.any_item_is.ensures ∙ c.if-not-any_item_is.true) (sym c.are_distinct.ensures))
+
+pub returns-else-not-any_item_is : goal.returns-else-not-any_item_is
+returns-else-not-any_item_is t c =
+    ap not c.if-not-any_item_is.false
+    ∙ sym (distinct-first c.args.items.now c.first-item.result c.in-Some.text.now (omega arith) c.first-item.is (sym c.in-Some.ensures)
+    ∙ ap (λ a. not a && _) (sym c.any_item_is.ensures ∙ c.if-not-any_item_is.false))
