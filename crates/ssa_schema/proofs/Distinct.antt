@@ -3,10 +3,11 @@ use Rattle.std.proofs.Common.{◌≡◌, ℕ, ◌-◌, ◌≤◌, List, [], ◌�
 use Rattle.std.specs.Prelude.{◌==◌}
 use Rattle.std.specs.Vec.{vec_len}
 use Rattle.std.proofs.lemmas.Bool.Decides.{nat_tests}
-use Rattle.ssa_json.specs.View.{view, items_view}
+use Rattle.ssa_json.specs.View.{view, items_view, scalar_view}
 use Rattle.ssa_json.specs.declared.value.Json as value
+use Rattle.ssa_json.specs.declared.value.Scalar as value_scalar
 use Rattle.std.specs.Prelude.{Option, None, Some, option_map, option_and_then}
-use Rattle.ssa_model.specs.Json.{Text, Json, list, Items, no_items, item, same_text, as_text}
+use Rattle.ssa_model.specs.Json.{Text, Json, scalar, list, Items, no_items, item, same_text, as_text}
 use Rattle.ssa_model.specs.Schema.{is_one_of_texts, are_distinct_texts, are_keys, texts_of, is_key_list}
 use Rattle.ssa_schema.specs.Words.{value_is, any_item_is, are_distinct_in, each_text}
 use Rattle.std.specs.List.{list_all}
@@ -70,7 +71,10 @@ each_text-all test vs ts e = subst (Tests test vs) e (tests test vs)
 
 -- ---- of values of the program
 
-view-List : (v : Vec value.Json Global) → view (value.List v) ≡ list (items_view v.items)
+pub view-Scalar : (s : value_scalar.Scalar) → view (value.Scalar s) ≡ scalar (scalar_view s)
+view-Scalar s = search (rules, value.the_lemmas)
+
+pub view-List : (v : Vec value.Json Global) → view (value.List v) ≡ list (items_view v.items)
 view-List v = search (rules, value.the_lemmas)
 
 pub distinct-first : (xs : List value.Json) (first : value.Json) (t : Text) → 1 ≤ length xs → first ≡ get_or xs 0 first → as_text (view first) ≡ Some t

@@ -31,3 +31,7 @@ own_faults s ms =
 -- the faults where so many levels are left
 unfoldable pub faults_at : ℕ → model.Standing → Json → List model.SchemaFault
 faults_at = model.schema_faults model.whole_profile
+
+-- the faults of a schema that is an object, where so many levels are left below it
+abbrev pub object_faults : ℕ → model.Standing → Members → List model.SchemaFault
+object_faults levels s ms = own_faults s ms ++ (model.child_faults (faults_at levels (model.standing_inside s ms)) ms ++ model.item_faults ms)

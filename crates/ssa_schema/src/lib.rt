@@ -9,3 +9,4 @@ mod refusal;
 mod rules;
 mod standing;
 pub mod text;
+mod walk;
