@@ -4,8 +4,8 @@ ghost use Rattle.ssa_model.specs.Kind.{kind_of, shape_of, is_of};
 ghost use Rattle.ssa_json.specs.View.{scalar_view};
 ghost use Rattle.ssa_schema.specs.Kinds.{scalar_kind_view, shape_view, shape_fields_view, kind_view, fields_view};
 
-use crate::text::is_same_text;
 use ssa_json::value::Scalar;
+use std::collections::BTreeMap;
 
 /// A kind of scalars.
 #[derive(Clone, Copy, Debug, PartialEq, Eq)]
@@ -20,13 +20,12 @@ pub enum ScalarKind {
 #[derive(Drop)]
 pub enum Shape {
     Scalar(ScalarKind),
-    Record(Vec<(String, Shape)>),
+    Record(BTreeMap<String, Shape>),
     Dict(Box<Shape>),
     List(Box<Shape>),
 }
 
-/// What may stand at a place. Fields stand in the order of their names' bytes, and so do the names
-/// of the keys of a map list.
+/// What may stand at a place. The keys of a map list stand in the order of their names' bytes.
 #[derive(Drop)]
 pub enum Kind {
     /// A scalar.
@@ -34,7 +33,7 @@ pub enum Kind {
     /// A value that is replaced and owned whole.
     AtomicOf(Shape),
     /// An object with named fields.
-    Record(Vec<(String, Kind)>),
+    Record(BTreeMap<String, Kind>),
     /// An object with any names and one kind of values.
     Dict(Box<Kind>),
     /// A list of scalars that differ.
@@ -42,7 +41,7 @@ pub enum Kind {
     /// A list of objects that differ in the fields that `keys` names.
     ItemsOf {
         keys: Vec<String>,
-        fields: Vec<(String, Kind)>,
+        fields: BTreeMap<String, Kind>,
     },
 }
 
@@ -61,33 +60,15 @@ impl ScalarKind {
 }
 
 /// The kind of the field of a name, where there is one.
-pub fn find_field<'a>(fields: &'a [(String, Kind)], name: &str) -> Option<&'a Kind>
-    ensures { option_map (λ k. kind_view k.now) result ≡ kind_of name.now (fields_view fields.now) }
+pub fn find_field<'a>(fields: &'a BTreeMap<String, Kind>, name: &str) -> Option<&'a Kind>
+    ensures { option_map (λ k. kind_view k.now) result ≡ kind_of name.now (fields_view fields.now.entries) }
 {
-    match fields {
-        [] => None,
-        [(field, kind), rest @ ..] => {
-            if is_same_text(name, field.as_str()) {
-                Some(kind)
-            } else {
-                find_field(rest, name)
-            }
-        }
-    }
+    fields.get(name)
 }
 
 /// The shape of the field of a name, where there is one.
-pub fn find_shape<'a>(fields: &'a [(String, Shape)], name: &str) -> Option<&'a Shape>
-    ensures { option_map (λ s. shape_view s.now) result ≡ shape_of name.now (shape_fields_view fields.now) }
+pub fn find_shape<'a>(fields: &'a BTreeMap<String, Shape>, name: &str) -> Option<&'a Shape>
+    ensures { option_map (λ s. shape_view s.now) result ≡ shape_of name.now (shape_fields_view fields.now.entries) }
 {
-    match fields {
-        [] => None,
-        [(field, shape), rest @ ..] => {
-            if is_same_text(name, field.as_str()) {
-                Some(shape)
-            } else {
-                find_shape(rest, name)
-            }
-        }
-    }
+    fields.get(name)
 }

@@ -1,0 +1,28 @@
+-- Fields in a map, beside those that it stands for.
+use Rattle.std.proofs.Common.{◌≡◌, ℕ, List, [], ◌∷◌, ◌++◌, map, Bool, true, false, cond, refl, sym, ap, ◌∙◌, String, Global, BTreeMap, string_bytes, string_cmp, nat_cmp, is_eq, rules}
+use Rattle.std.specs.Prelude.{Option, Some, None, option_map}
+use Rattle.std.specs.Borrow.{Bor}
+use Rattle.std.specs.Map.{lookup}
+use Rattle.std.specs.BTreeMap.{is_at}
+use Rattle.std.specs.Cmp.Lexicographic.{slice_cmp}
+use Rattle.ssa_model.specs.Json.{Text}
+use Rattle.ssa_model.specs.Kind as model
+use Rattle.ssa_schema.specs.Kinds.{kind_view, fields_view, shape_view, shape_fields_view}
+use Rattle.ssa_schema.specs.declared.kind.Kind.{Kind}
+use Rattle.ssa_schema.specs.declared.kind.Shape.{Shape}
+
+one_more : {X Y : Type 0} (f : X → Y) (b : Bool) (v : X) (rest : Option X) (r : Option Y) → option_map f rest ≡ r → option_map f (cond b (Some v) rest) ≡ cond b (Some (f v)) r
+one_more f true v rest r e = refl
+one_more f false v rest r e = e
+
+pub view_of_ref : {X Y : Type 0} (f : X → Y) (r : Option (Bor X)) → option_map (λ x. f x.now) r ≡ option_map f (option_map (λ x. x.now) r)
+view_of_ref f None = refl
+view_of_ref f (Some x) = refl
+
+pub fields-lookup : (name : Text) (es : List (String Global × Kind)) → option_map kind_view (lookup (is_at (λ k. slice_cmp nat_cmp name (string_bytes k))) es) ≡ model.kind_of name (fields_view es)
+fields-lookup name [] = refl
+fields-lookup name (e ∷ es) = one_more kind_view (is_eq (slice_cmp nat_cmp name (string_bytes e.0))) e.1 _ _ (fields-lookup name es)
+
+pub shape_fields-lookup : (name : Text) (es : List (String Global × Shape)) → option_map shape_view (lookup (is_at (λ k. slice_cmp nat_cmp name (string_bytes k))) es) ≡ model.shape_of name (shape_fields_view es)
+shape_fields-lookup name [] = refl
+shape_fields-lookup name (e ∷ es) = one_more shape_view (is_eq (slice_cmp nat_cmp name (string_bytes e.0))) e.1 _ _ (shape_fields-lookup name es)
