@@ -1,3 +1,4 @@
 pub mod Distinct
 pub mod Fields
 pub mod Firsts
+pub mod Shaping

@@ -1,3 +1,4 @@
+pub mod Builds
 pub mod Kinds
 pub mod Refusals
 pub mod Standings

@@ -7,6 +7,7 @@ pub mod kind;
 pub mod members;
 mod refusal;
 mod rules;
+mod shapes;
 mod standing;
 pub mod text;
 mod walk;
