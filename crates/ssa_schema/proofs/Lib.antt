@@ -1,4 +1,6 @@
 pub mod Distinct
 pub mod Fields
 pub mod Firsts
+pub mod Kinding
 pub mod Shaping
+pub mod Sorting

@@ -1,5 +1,6 @@
 -- The shapes and kinds of schemas, level by level.
-use Rattle.std.specs.Prelude.{ℕ, List, [], ◌∷◌, Option, None, Some, codes, if◌then◌else◌}
+use Rattle.std.specs.Prelude.{ℕ, List, [], ◌∷◌, map, String, string_bytes, Option, None, Some, codes, if◌then◌else◌}
+use Rattle.std.specs.declared.alloc.Global.{Global}
 use Rattle.ssa_model.specs.Json.{Text, Json, Items, no_items, item, Members, member_of, as_text}
 use Rattle.ssa_model.specs.Kind.{Shape, scalar_shape, record_shape, dict_shape, list_shape, no_shape_fields, Kind, scalar_kind, atomic_of, record_of, dict_of, set_of, items_of}
 use Rattle.ssa_model.specs.Schema.{is_array_type, is_object_type, list_type_is, scalar_kind_of, shape_fields, kind_fields, property_members, item_members, key_names, sorted_texts, with_text, shape_of_schema, kind_of_schema}
@@ -47,3 +48,7 @@ merged_kind levels ms = if is_array_type ms then list_kind_at levels ms else (if
 abbrev pub sorted_items : Items → List Text
 sorted_items no_items = []
 sorted_items (item v vs) = elim (as_text v) [ None ↦ sorted_items vs | Some t ↦ with_text t (sorted_items vs) ]
+
+-- the names of a map's entries
+abbrev pub names_of : {X : Type 0} → List (String Global × X) → List Text
+names_of es = map (λ e. string_bytes e.0) es

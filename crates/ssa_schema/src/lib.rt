@@ -1,10 +1,13 @@
 //! Structural schemas: their reading, their kinds, and the faults of values under them.
 #![tactic(auto)]
 
+mod build;
 pub mod fault;
+mod key_names;
 mod keys;
 pub mod kind;
 pub mod members;
+mod metadata;
 mod refusal;
 mod rules;
 mod shapes;
