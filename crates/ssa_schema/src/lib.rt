@@ -10,6 +10,7 @@ pub mod members;
 mod metadata;
 mod refusal;
 mod rules;
+pub mod schema;
 mod shapes;
 mod standing;
 pub mod text;
