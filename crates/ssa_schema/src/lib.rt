@@ -13,5 +13,7 @@ mod rules;
 pub mod schema;
 mod shapes;
 mod standing;
+#[cfg(test)]
+mod tests;
 pub mod text;
 mod walk;
