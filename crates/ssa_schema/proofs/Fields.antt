@@ -1,5 +1,5 @@
 -- Fields in a map, beside those that it stands for.
-use Rattle.std.proofs.Common.{◌≡◌, ℕ, List, [], ◌∷◌, ◌++◌, map, Bool, true, false, cond, refl, sym, ap, ◌∙◌, String, Global, BTreeMap, string_bytes, string_cmp, nat_cmp, is_eq, Less, Equal, Greater}
+use Rattle.std.proofs.Common.{◌≡◌, List, [], ◌∷◌, Bool, true, false, cond, refl, sym, ap, String, Global, string_bytes, string_cmp, nat_cmp, is_eq, Less, Equal, Greater}
 use Rattle.std.specs.Prelude.{Option, Some, None, option_map}
 use Rattle.std.specs.Borrow.{Bor}
 use Rattle.std.specs.declared.cmp.Ordering.{Ordering}

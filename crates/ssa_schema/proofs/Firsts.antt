@@ -3,7 +3,7 @@ use Rattle.std.proofs.Common.{◌≡◌, ℕ, zero, suc, List, [], ◌∷◌, �
 use Rattle.std.specs.Prelude.{Option, None, Some}
 use Rattle.ssa_model.specs.Json.{Json, scalar, Scalar, list, Items, object, Members}
 use Rattle.ssa_model.specs.Schema as model
-use Rattle.ssa_schema.specs.Refusals.{first_of, or_next, own_faults, object_faults, faults_at}
+use Rattle.ssa_schema.specs.Refusals.{first_of, or_next, object_faults, faults_at}
 
 pub first_of_append : {X : Type 0} (xs ys : List X) → first_of (xs ++ ys) ≡ or_next (first_of xs) (first_of ys)
 first_of_append [] ys = refl

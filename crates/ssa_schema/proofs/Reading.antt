@@ -1,12 +1,12 @@
 -- A schema's kind, or its first fault.
-use Rattle.std.proofs.Common.{◌≡◌, List, [], ◌∷◌, Result, Ok, Err, refl, sym, ap, ◌∙◌, true, false, true≢false}
-use Rattle.std.specs.Prelude.{Option, None, Some, Bool, is_some}
+use Rattle.std.proofs.Common.{◌≡◌, List, [], ◌∷◌, Result, Ok, Err, refl, sym, ap, ◌∙◌, true≢false}
+use Rattle.std.specs.Prelude.{Option, None, Some, is_some}
 use Rattle.ssa_model.specs.Json.{Json}
 use Rattle.ssa_model.specs.Kind as kinds
 use Rattle.ssa_model.specs.Schema as model
 use Rattle.ssa_schema.specs.Refusals.{refusal_view, first_of, faults_at}
 use Rattle.ssa_schema.specs.Builds.{kind_at}
-use Rattle.ssa_schema.specs.Schemas.{schema_reading, Faults, fault_of, ReadsKind}
+use Rattle.ssa_schema.specs.Schemas.{schema_reading, Faults, fault_of}
 use Rattle.ssa_schema.specs.declared.refusal.Refusal.{Refusal}
 use Rattle.ssa_schema.specs.declared.refusal.Refusal.TheVariants.{Keyword, Shape, Keys, Depth}
 

@@ -6,7 +6,7 @@ pub mod fault;
 mod key_names;
 mod keys;
 pub mod kind;
-pub mod members;
+mod members;
 mod metadata;
 mod refusal;
 mod rules;
@@ -15,5 +15,5 @@ mod shapes;
 mod standing;
 #[cfg(test)]
 mod tests;
-pub mod text;
+mod text;
 mod walk;

@@ -1,9 +1,9 @@
-use Rattle.std.proofs.Common.{◌≡◌, ◌∷◌, ◌+◌, ◌-◌, drop, string_bytes, sym, ap, ◌∙◌, arith}
+use Rattle.std.proofs.Common.{◌≡◌, ◌∷◌, ◌+◌, ◌-◌, drop, sym, ap, ◌∙◌, arith}
 use Rattle.std.proofs.lemmas.List.{drop_more}
 use Rattle.std.specs.Prelude.{Option, None, Some}
 use Rattle.ssa_model.specs.Json.{Text}
 use Rattle.ssa_model.specs.Schema.{with_text}
-use Rattle.ssa_json.specs.View.{view, items_view}
+use Rattle.ssa_json.specs.View.{items_view}
 use Rattle.ssa_schema.specs.Builds.{sorted_items, names_of}
 use Rattle.ssa_schema.proofs.Sorting.{names-insert}
 use Rattle.ssa_schema.proofs.key_names.sorted_items.Goals as goal

@@ -1,5 +1,4 @@
-use Rattle.std.proofs.Common.{◌≡◌, Bool, not, ◌&&◌, sym, ap, ap₂, ◌∙◌, length, take, drop, ◌-◌, Some, arith}
-use Rattle.ssa_model.specs.Json.{as_text}
+use Rattle.std.proofs.Common.{not, ◌&&◌, sym, ap, ap₂, ◌∙◌, length, take, drop, ◌-◌, arith}
 use Rattle.ssa_json.specs.View.{items_view}
 use Rattle.ssa_model.specs.Schema.{texts_of}
 use Rattle.ssa_schema.specs.Words.{are_distinct_in}

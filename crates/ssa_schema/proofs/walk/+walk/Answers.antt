@@ -1,11 +1,11 @@
-use Rattle.std.proofs.Common.{◌≡◌, ℕ, suc, ◌-◌, ◌++◌, sym, ap, ◌∙◌, arith}
+use Rattle.std.proofs.Common.{◌≡◌, suc, ◌-◌, ◌++◌, sym, ap, ◌∙◌, arith}
 use Rattle.ssa_json.specs.View.{view, members_view, items_view, scalar_view}
 use Rattle.ssa_json.proofs.Views.{view-Object}
 use Rattle.ssa_model.specs.Schema.{child_faults, item_faults, property_faults, property_members, optional_faults, standing_inside}
 use Rattle.ssa_model.specs.Json.{member_of}
 use Rattle.std.specs.Prelude.{codes}
 use Rattle.ssa_schema.specs.Standings.{standing_view}
-use Rattle.ssa_schema.specs.Refusals.{refusal_view, first_of, own_faults, faults_at}
+use Rattle.ssa_schema.specs.Refusals.{first_of, own_faults, faults_at}
 use Rattle.ssa_schema.proofs.Distinct.{view-List, view-Scalar}
 use Rattle.ssa_schema.proofs.Firsts.{first_here, first_later, faults_at_none, faults_at_list, faults_at_scalar, faults_at_object}
 use Rattle.ssa_schema.proofs.walk.+walk.Goals as goal
