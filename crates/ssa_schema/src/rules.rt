@@ -1,10 +1,10 @@
 //! The tests of one schema, without memory. They follow the rules of structural schemas that the
 //! Kubernetes documentation gives for custom resources.
-ghost use Rattle.std.specs.Prelude.{◌≡◌, option_map, map, not, List, Some, None};
+ghost use Rattle.std.specs.Prelude.{◌≡◌, option_map, map};
 ghost use Rattle.std.specs.List.{list_all, list_any};
-ghost use Rattle.ssa_model.specs.Schema.{has_unknown_keyword, has_wrong_type, is_wrong_scalar, is_wrong_object, is_wrong_array, is_wrong_root, has_wrong_shape, has_wrong_keys, is_granular_record, is_scalar_property, is_key_list, is_one_of_texts, names, property_members, item_members, key_names, texts_of, whole_profile, is_text, is_text_among, reserved_names};
+ghost use Rattle.ssa_model.specs.Schema.{has_unknown_keyword, has_wrong_type, is_wrong_scalar, is_wrong_object, is_wrong_array, is_wrong_root, has_wrong_shape, is_one_of_texts, names, property_members, item_members, whole_profile, is_text, is_text_among, reserved_names};
 ghost use Rattle.ssa_model.specs.Json.{is_object};
-ghost use Rattle.ssa_json.specs.View.{view, members_view, items_view};
+ghost use Rattle.ssa_json.specs.View.{members_view};
 ghost use Rattle.ssa_schema.specs.Words.{members_found, members_under, lacks_type, if_member};
 ghost use Rattle.ssa_schema.specs.Standings.{standing_view};
 

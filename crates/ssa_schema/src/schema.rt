@@ -1,5 +1,5 @@
 //! Structural schemas, read from JSON.
-ghost use Rattle.std.specs.Prelude.{◌≡◌, Ok};
+ghost use Rattle.std.specs.Prelude.{◌≡◌};
 ghost use Rattle.ssa_model.specs.Schema.{read_schema, whole_profile};
 ghost use Rattle.ssa_json.specs.View.{view};
 ghost use Rattle.ssa_schema.specs.Kinds.{kind_view};
