@@ -1,0 +1,85 @@
+-- Laws of building kinds.
+use Rattle.std.proofs.Common.{◌≡◌, ℕ, zero, suc, List, [], ◌∷◌, map, String, Global, BTreeMap, string_bytes, refl, sym, ap, true, false, ◌∙◌, rules}
+use Rattle.std.specs.Prelude.{if◌then◌else◌}
+use Rattle.ssa_model.specs.Json.{Text, Json, scalar, list, object, Scalar, Items, Members}
+use Rattle.ssa_model.specs.Kind as model
+use Rattle.ssa_model.specs.Schema.{kind_fields, is_atomic, shape_of_schema}
+use Rattle.ssa_json.specs.View.{view, members_view}
+use Rattle.ssa_json.proofs.Converting.{Found}
+use Rattle.ssa_json.proofs.Ordered.{names}
+use Rattle.ssa_schema.specs.Kinds.{shape_view, kind_view, fields_view}
+use Rattle.ssa_schema.specs.Builds.{shape_at, kind_at, merged_kind}
+use Rattle.ssa_schema.specs.declared.kind.Kind as kind
+use Rattle.ssa_schema.specs.declared.kind.Shape.{Shape}
+
+-- ---- one level
+
+pub kind_at_none : (v : Json) → kind_at zero v ≡ model.record_of model.no_fields
+unfolding kind_at
+kind_at_none v = refl
+
+pub kind_at_list : (n : ℕ) (vs : Items) → kind_at (suc n) (list vs) ≡ model.record_of model.no_fields
+unfolding kind_at
+kind_at_list n vs = refl
+
+pub kind_at_scalar : (n : ℕ) (s : Scalar) → kind_at (suc n) (scalar s) ≡ model.record_of model.no_fields
+unfolding kind_at
+kind_at_scalar n s = refl
+
+pub kind_at_atomic : (n : ℕ) (ms : Members) → is_atomic ms ≡ true → kind_at (suc n) (object ms) ≡ model.atomic_of (shape_at (suc n) (object ms))
+unfolding kind_at shape_at
+kind_at_atomic n ms e = ap (λ b. if b then model.atomic_of (shape_of_schema (suc n) (object ms)) else merged_kind n ms) e
+
+pub kind_at_object : (n : ℕ) (ms : Members) → is_atomic ms ≡ false → kind_at (suc n) (object ms) ≡ merged_kind n ms
+unfolding kind_at shape_at
+kind_at_object n ms e = ap (λ b. if b then model.atomic_of (shape_of_schema (suc n) (object ms)) else merged_kind n ms) e
+
+-- ---- views
+
+pub kind_view-Record : (m : BTreeMap (String Global) kind.Kind) → kind_view (kind.Record m) ≡ model.record_of (fields_view m.entries)
+kind_view-Record m = search (rules, kind.the_lemmas)
+
+pub kind_view-none : (m : BTreeMap (String Global) kind.Kind) → m.entries ≡ [] → kind_view (kind.Record m) ≡ model.record_of model.no_fields
+kind_view-none m none = kind_view-Record m ∙ ap (λ es. model.record_of (fields_view es)) none
+
+pub kind_view-AtomicOf : (s : Shape) → kind_view (kind.AtomicOf s) ≡ model.atomic_of (shape_view s)
+kind_view-AtomicOf s = search (rules, kind.the_lemmas)
+
+-- ---- fields by name
+
+abbrev pub Made : Type 0
+Made = String Global × kind.Kind
+
+abbrev pub named : Made → Text × model.Kind
+named m = (string_bytes m.0, kind_view m.1)
+
+abbrev pub asked : ℕ → Found → Text × model.Kind
+asked n e = (string_bytes e.0, kind_at n (view e.1))
+
+fields_of : List (Text × model.Kind) → model.Fields
+fields_of [] = model.no_fields
+fields_of (x ∷ xs) = model.kind_field x.0 x.1 (fields_of xs)
+
+made_fields : (ms : List Made) → fields_view ms ≡ fields_of (map named ms)
+unfolding fields_of
+made_fields [] = refl
+made_fields (m ∷ ms) = ap (model.kind_field (string_bytes m.0) (kind_view m.1)) (made_fields ms)
+
+asked_fields : (n : ℕ) (es : List Found) → fields_of (map (asked n) es) ≡ kind_fields (kind_at n) (members_view es)
+unfolding fields_of
+asked_fields n [] = refl
+asked_fields n (e ∷ es) = ap (model.kind_field (string_bytes e.0) (kind_at n (view e.1))) (asked_fields n es)
+
+pub fields-made : (n : ℕ) (ms : List Made) (es : List Found) → map named ms ≡ map (asked n) es → fields_view ms ≡ kind_fields (kind_at n) (members_view es)
+fields-made n ms es same = made_fields ms ∙ ap fields_of same ∙ asked_fields n es
+
+made_names : (ms : List Made) → map (λ (x : Text × model.Kind). x.0) (map named ms) ≡ names ms
+made_names [] = refl
+made_names (m ∷ ms) = ap (λ t. string_bytes m.0 ∷ t) (made_names ms)
+
+asked_names : (n : ℕ) (es : List Found) → map (λ (x : Text × model.Kind). x.0) (map (asked n) es) ≡ names es
+asked_names n [] = refl
+asked_names n (e ∷ es) = ap (λ t. string_bytes e.0 ∷ t) (asked_names n es)
+
+pub names-made : (n : ℕ) (ms : List Made) (es : List Found) → map named ms ≡ map (asked n) es → names ms ≡ names es
+names-made n ms es same = sym (made_names ms) ∙ ap (map (λ (x : Text × model.Kind). x.0)) same ∙ asked_names n es

@@ -1,0 +1,7 @@
+pub mod Distinct
+pub mod Fields
+pub mod Firsts
+pub mod Kinding
+pub mod Reading
+pub mod Shaping
+pub mod Sorting

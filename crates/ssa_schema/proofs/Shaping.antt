@@ -1,0 +1,82 @@
+-- Laws of building shapes.
+use Rattle.std.proofs.Common.{◌≡◌, ℕ, zero, suc, List, [], ◌∷◌, map, String, Global, Box, BTreeMap, string_bytes, refl, sym, ap, ◌∙◌, rules}
+use Rattle.ssa_model.specs.Json.{Text, Json, scalar, list, object, Scalar, Items, Members}
+use Rattle.ssa_model.specs.Kind as model
+use Rattle.ssa_model.specs.Schema.{shape_fields}
+use Rattle.ssa_json.specs.View.{view, members_view}
+use Rattle.ssa_json.proofs.Converting.{Found}
+use Rattle.ssa_json.proofs.Ordered.{names}
+use Rattle.ssa_schema.specs.Kinds.{shape_view, shape_fields_view}
+use Rattle.ssa_schema.specs.Builds.{shape_at, object_shape}
+use Rattle.ssa_schema.specs.declared.kind.Shape as shape
+
+-- ---- one level
+
+pub shape_at_none : (v : Json) → shape_at zero v ≡ model.record_shape model.no_shape_fields
+unfolding shape_at
+shape_at_none v = refl
+
+pub shape_at_list : (n : ℕ) (vs : Items) → shape_at (suc n) (list vs) ≡ model.record_shape model.no_shape_fields
+unfolding shape_at
+shape_at_list n vs = refl
+
+pub shape_at_scalar : (n : ℕ) (s : Scalar) → shape_at (suc n) (scalar s) ≡ model.record_shape model.no_shape_fields
+unfolding shape_at
+shape_at_scalar n s = refl
+
+pub shape_at_object : (n : ℕ) (ms : Members) → shape_at (suc n) (object ms) ≡ object_shape n ms
+unfolding shape_at
+shape_at_object n ms = refl
+
+-- ---- views
+
+pub shape_view-Record : (m : BTreeMap (String Global) shape.Shape) → shape_view (shape.Record m) ≡ model.record_shape (shape_fields_view m.entries)
+shape_view-Record m = search (rules, shape.the_lemmas)
+
+pub shape_view-none : (m : BTreeMap (String Global) shape.Shape) → m.entries ≡ [] → shape_view (shape.Record m) ≡ model.record_shape model.no_shape_fields
+shape_view-none m none = shape_view-Record m ∙ ap (λ es. model.record_shape (shape_fields_view es)) none
+
+pub shape_view-Dict : (b : Box shape.Shape Global) → shape_view (shape.Dict b) ≡ model.dict_shape (shape_view b.value)
+shape_view-Dict b = search (rules, shape.the_lemmas)
+
+pub shape_view-List : (b : Box shape.Shape Global) → shape_view (shape.List b) ≡ model.list_shape (shape_view b.value)
+shape_view-List b = search (rules, shape.the_lemmas)
+
+-- ---- fields by name
+
+abbrev pub Made : Type 0
+Made = String Global × shape.Shape
+
+abbrev pub named : Made → Text × model.Shape
+named m = (string_bytes m.0, shape_view m.1)
+
+abbrev pub asked : ℕ → Found → Text × model.Shape
+asked n e = (string_bytes e.0, shape_at n (view e.1))
+
+fields_of : List (Text × model.Shape) → model.ShapeFields
+fields_of [] = model.no_shape_fields
+fields_of (x ∷ xs) = model.shape_field x.0 x.1 (fields_of xs)
+
+made_fields : (ms : List Made) → shape_fields_view ms ≡ fields_of (map named ms)
+unfolding fields_of
+made_fields [] = refl
+made_fields (m ∷ ms) = ap (model.shape_field (string_bytes m.0) (shape_view m.1)) (made_fields ms)
+
+asked_fields : (n : ℕ) (es : List Found) → fields_of (map (asked n) es) ≡ shape_fields (shape_at n) (members_view es)
+unfolding fields_of
+asked_fields n [] = refl
+asked_fields n (e ∷ es) = ap (model.shape_field (string_bytes e.0) (shape_at n (view e.1))) (asked_fields n es)
+
+pub fields-made : (n : ℕ) (ms : List Made) (es : List Found) → map named ms ≡ map (asked n) es → shape_fields_view ms ≡ shape_fields (shape_at n) (members_view es)
+fields-made n ms es same = made_fields ms ∙ ap fields_of same ∙ asked_fields n es
+
+made_names : (ms : List Made) → map (λ (x : Text × model.Shape). x.0) (map named ms) ≡ names ms
+made_names [] = refl
+made_names (m ∷ ms) = ap (λ t. string_bytes m.0 ∷ t) (made_names ms)
+
+asked_names : (n : ℕ) (es : List Found) → map (λ (x : Text × model.Shape). x.0) (map (asked n) es) ≡ names es
+asked_names n [] = refl
+asked_names n (e ∷ es) = ap (λ t. string_bytes e.0 ∷ t) (asked_names n es)
+
+pub names-made : (n : ℕ) (ms : List Made) (es : List Found) → map named ms ≡ map (asked n) es → names ms ≡ names es
+names-made n ms es same = sym (made_names ms) ∙ ap (map (λ (x : Text × model.Shape). x.0)) same ∙ asked_names n es

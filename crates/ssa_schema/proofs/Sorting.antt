@@ -1,0 +1,44 @@
+-- Names in order.
+use Rattle.std.proofs.Common.{◌≡◌, List, [], ◌∷◌, String, Global, string_bytes, string_cmp, nat_cmp, Less, Equal, Greater, refl, ap, ◌∙◌, subst}
+use Rattle.std.specs.Prelude.{Option, None, Some, option_map, option_and_then}
+use Rattle.std.specs.declared.cmp.Ordering.{Ordering}
+use Rattle.std.specs.BTreeMap.{insert_entry}
+use Rattle.std.specs.Ordering.{match_ordering}
+use Rattle.std.specs.Cmp.Lexicographic.{slice_cmp}
+use Rattle.ssa_model.specs.Json.{Text, Json, Items, no_items, item, as_text}
+use Rattle.ssa_model.specs.Schema.{texts_of, with_text, sorted_texts}
+use Rattle.ssa_schema.specs.Builds.{sorted_items, names_of}
+
+-- ---- a name put into a map
+
+-- one step, after the order of the two names
+one_name : {X : Type 0} (k : String Global) (x : X) (e : String Global × X) (es rest : List (String Global × X)) (o : Ordering) → names_of rest ≡ with_text (string_bytes k) (names_of es)
+    → names_of (match_ordering o ((k, x) ∷ e ∷ es) ((e.0, x) ∷ es) (e ∷ rest))
+    ≡ (elim o [ Less ↦ string_bytes k ∷ string_bytes e.0 ∷ names_of es | Equal ↦ string_bytes e.0 ∷ names_of es | Greater ↦ string_bytes e.0 ∷ with_text (string_bytes k) (names_of es) ])
+one_name k x e es rest Less h = refl
+one_name k x e es rest Equal h = refl
+one_name k x e es rest Greater h = ap (λ ns. string_bytes e.0 ∷ ns) h
+
+pub names-insert : {X : Type 0} (k : String Global) (x : X) (es : List (String Global × X)) → names_of (insert_entry string_cmp es k x) ≡ with_text (string_bytes k) (names_of es)
+names-insert k x [] = refl
+names-insert k x (e ∷ es) = one_name k x e es (insert_entry string_cmp es k x) (slice_cmp nat_cmp (string_bytes k) (string_bytes e.0)) (names-insert k x es)
+
+-- ---- items that are texts
+
+abbrev Sorts : Items → Option (List Text) → Type 0
+Sorts vs None = Unit {0}
+Sorts vs (Some ts) = sorted_items vs ≡ sorted_texts ts
+
+sorts_more : (v : Json) (vs : Items) (u : Option Text) (r : Option (List Text)) → as_text v ≡ u → Sorts vs r
+    → Sorts (item v vs) (option_and_then (λ x. option_map (λ ts. x ∷ ts) r) u)
+sorts_more v vs None r e h = tt
+sorts_more v vs (Some x) None e h = tt
+sorts_more v vs (Some x) (Some ts) e h =
+    ap (λ (o : Option Text). elim o [ None ↦ sorted_items vs | Some t ↦ with_text t (sorted_items vs) ]) e ∙ ap (with_text x) h
+
+sorts : (vs : Items) → Sorts vs (texts_of vs)
+sorts no_items = refl
+sorts (item v vs) = sorts_more v vs (as_text v) (texts_of vs) refl (sorts vs)
+
+pub sorted_items-texts : (vs : Items) (ts : List Text) → texts_of vs ≡ Some ts → sorted_items vs ≡ sorted_texts ts
+sorted_items-texts vs ts e = subst (Sorts vs) e (sorts vs)

@@ -1,0 +1,11 @@
+use Rattle.std.proofs.Common.{refl, sym, ◌∙◌, subst}
+use Rattle.ssa_json.specs.View.{view}
+use Rattle.ssa_schema.specs.Schemas.{Faults}
+use Rattle.ssa_schema.proofs.Reading.{reading_is}
+use Rattle.ssa_schema.proofs.schema.Schema.read.Goals as goal
+
+pub returns-in-Ok : goal.returns-in-Ok
+returns-in-Ok c = (refl, reading_is (view c.args.schema) ∙ c.in-Ok.ensures)
+
+pub returns-in-Err : goal.returns-in-Err
+returns-in-Err c = subst (λ r. Faults c.in-Err.fault r) (sym (reading_is (view c.args.schema))) c.in-Err.ensures

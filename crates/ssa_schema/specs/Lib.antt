@@ -1,0 +1,6 @@
+pub mod Builds
+pub mod Kinds
+pub mod Refusals
+pub mod Schemas
+pub mod Standings
+pub mod Words

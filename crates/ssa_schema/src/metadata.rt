@@ -1,0 +1,59 @@
+//! The fields that each object has beside those of its schema.
+ghost use Rattle.std.specs.Prelude.{◌≡◌, IfOk};
+ghost use Rattle.ssa_model.specs.Kind as model;
+ghost use Rattle.ssa_model.specs.Schema.{with_field, with_metadata, whole_profile};
+ghost use Rattle.ssa_schema.specs.Kinds.{kind_view, fields_view};
+
+use crate::kind::{Kind, ScalarKind};
+use std::alloc::{AllocError, Global};
+use std::collections::BTreeMap;
+
+// Any names with texts.
+fn text_dict(alloc: Global) -> Result<Kind, AllocError>
+    ensures { IfOk result (λ k. kind_view k ≡ model.dict_of (model.scalar_kind model.texts)) }
+{
+    Ok(Kind::Dict(Box::new(alloc, Kind::Scalar(ScalarKind::Text))?))
+}
+
+// The fields with one more, in the place of one of the same name.
+fn with_field(
+    alloc: Global,
+    fields: BTreeMap<String, Kind>,
+    name: &str,
+    kind: Kind,
+) -> Result<BTreeMap<String, Kind>, AllocError>
+    ensures { IfOk result (λ m. fields_view m.entries ≡ with_field name.now (kind_view kind) (fields_view fields.entries)) }
+{
+    let mut made = fields;
+    let key = String::from_str(alloc, name)?;
+    drop(made.insert(key, kind)?);
+    Ok(made)
+}
+
+// What `metadata` may hold beside the identity.
+fn metadata_fields(alloc: Global) -> Result<BTreeMap<String, Kind>, AllocError>
+    ensures { IfOk result (λ m. fields_view m.entries ≡ whole_profile.metadata) }
+{
+    let none = BTreeMap::new(alloc);
+    let labelled = with_field(alloc, none, "labels", text_dict(alloc)?)?;
+    let finalizers = Kind::SetOf(ScalarKind::Text);
+    let finalized = with_field(alloc, labelled, "finalizers", finalizers)?;
+    with_field(alloc, finalized, "annotations", text_dict(alloc)?)
+}
+
+/// The kind of the root, with the field `metadata` where it is an object with fields.
+pub fn with_metadata(alloc: Global, kind: Kind) -> Result<Kind, AllocError>
+    ensures { IfOk result (λ k. kind_view k ≡ with_metadata whole_profile.metadata (kind_view kind)) }
+{
+    match kind {
+        Kind::Record(fields) => {
+            let metadata = Kind::Record(metadata_fields(alloc)?);
+            Ok(Kind::Record(with_field(alloc, fields, "metadata", metadata)?))
+        }
+        Kind::Scalar(scalar) => Ok(Kind::Scalar(scalar)),
+        Kind::AtomicOf(shape) => Ok(Kind::AtomicOf(shape)),
+        Kind::Dict(inside) => Ok(Kind::Dict(inside)),
+        Kind::SetOf(scalar) => Ok(Kind::SetOf(scalar)),
+        Kind::ItemsOf { keys, fields } => Ok(Kind::ItemsOf { keys, fields }),
+    }
+}

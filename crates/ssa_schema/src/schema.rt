@@ -1,0 +1,98 @@
+//! Structural schemas, read from JSON.
+ghost use Rattle.std.specs.Prelude.{◌≡◌};
+ghost use Rattle.ssa_model.specs.Schema.{read_schema, whole_profile};
+ghost use Rattle.ssa_json.specs.View.{view};
+ghost use Rattle.ssa_schema.specs.Kinds.{kind_view};
+ghost use Rattle.ssa_schema.specs.Schemas.{schema_reading, fault_of, ReadsKind, ReadsSchema};
+
+use crate::build::kind_of;
+use crate::fault::SchemaFault;
+use crate::kind::Kind;
+use crate::metadata::with_metadata;
+use crate::refusal::Refusal;
+use crate::standing::Standing;
+use crate::walk::first_refusal;
+use ssa_json::value::Json;
+use std::alloc::Global;
+use std::marker::Model;
+
+/// How deep schemas may nest.
+const LEVELS: usize = 32;
+
+/// A structural schema of objects, with the kind that it asks for.
+#[derive(Drop)]
+pub struct Schema {
+    json: Json,
+    kind: Kind,
+}
+
+impl Model for Schema {
+    ghost use Rattle.ssa_model.specs.Json as json_model;
+    ghost use Rattle.ssa_model.specs.Kind as kind_model;
+    ghost use Rattle.std.specs.Coded.{coded×};
+    ghost use Rattle.ssa_model.specs.Codes.{coded_json};
+    ghost use Rattle.ssa_model.specs.BenchCodes.{coded_kind};
+
+    ghost Value = { json_model.Json × kind_model.Kind };
+
+    ghost coded = { coded× coded_json coded_kind };
+
+    ghost use Rattle.ssa_json.specs.View as json_view;
+    ghost use Rattle.ssa_schema.specs.Kinds as kinds;
+
+    ghost view = { λ s. (json_view.view s.json, kinds.kind_view s.kind) };
+}
+
+// The fault that a refusal is.
+fn fault_of(refusal: Refusal) -> SchemaFault
+    ensures { result ≡ fault_of refusal }
+{
+    match refusal {
+        Refusal::Keyword => SchemaFault::SchemaKeyword,
+        Refusal::Shape => SchemaFault::SchemaShape,
+        Refusal::Keys => SchemaFault::SchemaKeys,
+        Refusal::Depth => SchemaFault::SchemaDepth,
+    }
+}
+
+// The kind of the root, or why there is none.
+fn read_kind(alloc: Global, schema: &Json) -> Result<Kind, SchemaFault>
+    ensures { ReadsKind result (schema_reading (view schema.now)) }
+{
+    if let Some(refusal) = first_refusal(schema, LEVELS, Standing::Root) {
+        return Err(fault_of(refusal));
+    }
+    let kind = kind_of(alloc, schema, LEVELS)?;
+    Ok(with_metadata(alloc, kind)?)
+}
+
+impl Schema {
+    /// Reads a schema: those of the Kubernetes documentation's structural schemas with the types
+    /// `string`, `integer`, `boolean`, `object` and `array`, and the keywords that say how values
+    /// are merged. Of several faults the first is told: a schema's own before those of the schemas
+    /// inside, and fields by the bytes of their names. The root is an object with fields; its
+    /// `apiVersion`, `kind` and `metadata` are not the schema's to give, and `metadata` may hold
+    /// `annotations`, `finalizers` and `labels`.
+    pub fn read(alloc: Global, schema: Json) -> Result<Schema, SchemaFault>
+        ensures { ReadsSchema result (view schema) (read_schema whole_profile (view schema)) }
+    {
+        match read_kind(alloc, &schema) {
+            Ok(kind) => Ok(Schema { json: schema, kind }),
+            Err(fault) => Err(fault),
+        }
+    }
+
+    /// What was read.
+    pub fn json(&self) -> &Json
+        ensures { view result.now ≡ self.now.0 }
+    {
+        &self.json
+    }
+
+    /// The kind of the root: what may stand at each place of an object without its identity.
+    pub fn kind(&self) -> &Kind
+        ensures { kind_view result.now ≡ self.now.1 }
+    {
+        &self.kind
+    }
+}
