@@ -1,16 +1,13 @@
 -- Answers keep a history of commands carried out, and the present state is what they make.
 use Rattle.std.proofs.Common.{◌≡◌, ℕ, suc, zero, ◌+◌, ◌-◌, ◌≤◌, ◌==◌, List, [], ◌∷◌, ◌++◌, length, take, Bool, true, false, not, refl, sym, ap, subst, ◌∙◌, arith, length-append, length-take, nat_le}
 use Rattle.std.proofs.lemmas.Bool.Decides.{nat_tests}
-use Rattle.std.specs.Prelude.{Result, Ok, Err, if◌then◌else◌, codes, min}
+use Rattle.std.specs.Prelude.{Result, Ok, Err, if◌then◌else◌, codes}
 use Rattle.ssa_model.specs.Json.{Text, Json}
 use Rattle.ssa_model.specs.Body.{Body}
-use Rattle.ssa_model.specs.Table.{applies, updates}
-use Rattle.ssa_model.specs.Operations as operations
-use Rattle.ssa_model.specs.Operations.{State, Refusal, apply_without}
-use Rattle.ssa_model.specs.History.{Label, applied, updated, stripped, Step, Timeline, Bench, present, past_len, future_len, last_state, appended, moved_to, with_timeline, is_manager_name}
-use Rattle.ssa_model.specs.Answers as answers
-use Rattle.ssa_model.specs.Answers.{GivingUp, Answer, Fault, fault, Command, apply, update, strip, undo, redo, show, owners, log, answer, accept, accept_or_refuse, with_body, apply_answer, command_body, history_full, manager_name, nothing_to_redo, nothing_to_undo}
-use Rattle.ssa_model.specs.Effect.{Deed, applying, updating, stripping, label_of, carried_out, and_then, all_carried_out, AreSteps, IsHistory, KeepsHistory, AnswersKeepHistory, PresentIsCarriedOut, HistoriesAreCarriedOut}
+use Rattle.ssa_model.specs.Operations.{State, Refusal}
+use Rattle.ssa_model.specs.History.{Step, Bench, present, past_len, future_len, last_state, moved_to, is_manager_name}
+use Rattle.ssa_model.specs.Answers.{GivingUp, Answer, Fault, fault, Command, apply, update, strip, undo, redo, show, owners, log, answer, accept, accept_or_refuse, with_body, apply_answer, command_body}
+use Rattle.ssa_model.specs.Effect.{Deed, applying, updating, stripping, label_of, carried_out, and_then, all_carried_out, AreSteps, IsHistory, KeepsHistory, PresentIsCarriedOut, HistoriesAreCarriedOut}
 
 module _ (given_up : GivingUp) where
   steps-take : (n : ℕ) (s : State) (ds : List Deed) (ts : List Step) → AreSteps given_up s ds ts → AreSteps given_up s (take n ds) (take n ts)

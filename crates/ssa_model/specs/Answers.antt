@@ -1,6 +1,6 @@
 -- The answer to a command, and a run of commands.
 use Rattle.std.specs.Prelude.{ℕ, ◌+◌, ◌-◌, List, [], ◌∷◌, Bool, not, ◌&&◌, ◌==◌, length, Option, Result, Ok, Err, if◌then◌else◌, nat_lt, nat_le, codes, map, filter, take, drop}
-use Rattle.ssa_model.specs.Json.{Text, Json, scalar, list, object, member_of}
+use Rattle.ssa_model.specs.Json.{Text, Json, scalar, list, object}
 use Rattle.ssa_model.specs.Path.{Path}
 use Rattle.ssa_model.specs.PathMap.{PathSet, has, size}
 use Rattle.ssa_model.specs.Kind.{Kind, BodyFault, wrong_type, faults}

@@ -1,7 +1,7 @@
 -- The entries of `managedFields`: sets of paths as FieldsV1, and the object of a whole state.
-use Rattle.std.specs.Prelude.{ℕ, zero, suc, List, [], ◌∷◌, ◌++◌, Bool, true, false, not, ◌&&◌, Option, Some, None, if◌then◌else◌, codes, length, max}
+use Rattle.std.specs.Prelude.{ℕ, zero, suc, List, [], ◌∷◌, Bool, true, false, Option, Some, None, if◌then◌else◌, codes, length, max}
 use Rattle.std.specs.List.{list_any}
-use Rattle.ssa_model.specs.Json.{Text, text, Json, scalar, list, object, Items, no_items, item, Members, no_members, member, member_of}
+use Rattle.ssa_model.specs.Json.{Text, text, Json, scalar, list, object, Items, no_items, item, Members, no_members, member}
 use Rattle.ssa_model.specs.Path.{Element, Path, element_text, same_element, is_root}
 use Rattle.ssa_model.specs.PathMap.{PathSet, paths}
 use Rattle.ssa_model.specs.Kind.{Kind}

@@ -1,12 +1,12 @@
 -- More worked examples: sets, maps and atomic values, repeats, strip, and one name under two operations.
 use Rattle.std.specs.Prelude.{◌≡◌, List, [], ◌∷◌, ◌++◌, codes, false}
 use Rattle.ssa_model.specs.Json.{Text, Json, list, object, Items, no_items, item, Members, no_members, member}
-use Rattle.ssa_model.specs.Path.{field, value, element_text}
+use Rattle.ssa_model.specs.Path.{field}
 use Rattle.ssa_model.specs.PathMap.{get}
 use Rattle.ssa_model.specs.Operations.{dropped}
 use Rattle.ssa_model.specs.History.{present}
 use Rattle.ssa_model.specs.Entries.{fields_json}
-use Rattle.ssa_model.specs.PathMap.{PathSet, listed}
+use Rattle.ssa_model.specs.PathMap.{listed}
 use Rattle.ssa_model.specs.Answers as answers
 use Rattle.ssa_model.specs.Answers.{Command, apply, update, strip, undo, redo}
 use Rattle.ssa_model.specs.Sample.{string_json, number_json, replicas_path}

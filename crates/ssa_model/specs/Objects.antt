@@ -1,12 +1,11 @@
 -- Objects: the identity, the body's value without it, and the object of a body.
-use Rattle.std.specs.Prelude.{List, [], ◌∷◌, ◌++◌, Bool, true, false, not, ◌&&◌, ◌||◌, filter_map, Option, Some, None, if◌then◌else◌, codes, option_and_then}
-use Rattle.std.specs.declared.cmp.Ordering.{Ordering}
+use Rattle.std.specs.Prelude.{List, [], ◌∷◌, ◌++◌, Bool, true, false, ◌&&◌, ◌||◌, filter_map, Option, Some, None, if◌then◌else◌, codes, option_and_then}
 use Rattle.std.specs.declared.cmp.Ordering.TheVariants.{Less, Equal, Greater}
 use Rattle.std.specs.Ordering.{nat_cmp}
 use Rattle.std.specs.List.{list_any}
 use Rattle.std.specs.Cmp.Lexicographic.{slice_cmp}
 use Rattle.ssa_model.specs.Json.{Text, text, Json, scalar, list, object, Items, no_items, item, Members, no_members, member, member_of, same_text, same_json}
-use Rattle.ssa_model.specs.Path.{Element, field, value, Path, is_root, parent, same_path}
+use Rattle.ssa_model.specs.Path.{Element, field, Path, parent, same_path}
 use Rattle.ssa_model.specs.PathMap.{get, has, paths}
 use Rattle.ssa_model.specs.Kind as kinds
 use Rattle.ssa_model.specs.Kind.{Kind, Fields, scalar_kind, atomic_of, record_of, dict_of, items_of, no_fields, kind_field}

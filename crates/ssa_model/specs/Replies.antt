@@ -1,6 +1,6 @@
 -- Replies as JSON values.
-use Rattle.std.specs.Prelude.{ℕ, List, [], ◌∷◌, Bool, codes, pos, map}
-use Rattle.ssa_model.specs.Json.{Text, text, whole, truth, Json, scalar, list, object, Items, no_items, item, Members, no_members, member, compact}
+use Rattle.std.specs.Prelude.{ℕ, List, [], ◌∷◌, codes, pos}
+use Rattle.ssa_model.specs.Json.{Text, whole, truth, Json, scalar, list, object, Items, no_items, item, Members, no_members, member, compact}
 use Rattle.ssa_model.specs.Path.{Path, element_text}
 use Rattle.ssa_model.specs.PathMap.{PathSet, paths}
 use Rattle.ssa_model.specs.Kind.{BodyFault, unknown_field, wrong_type, missing_key, duplicate_item}

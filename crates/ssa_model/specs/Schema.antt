@@ -1,11 +1,10 @@
 -- Reading a schema: its kind, or its first fault.
-use Rattle.std.specs.Prelude.{ℕ, zero, suc, List, [], ◌∷◌, ◌++◌, Bool, true, false, not, ◌&&◌, ◌||◌, Option, Some, None, option_and_then, option_map, is_some, Result, Ok, Err, if◌then◌else◌, codes, map, filter}
-use Rattle.std.specs.declared.cmp.Ordering.{Ordering}
+use Rattle.std.specs.Prelude.{ℕ, zero, suc, List, [], ◌∷◌, ◌++◌, Bool, true, false, not, ◌&&◌, ◌||◌, Option, Some, None, option_and_then, option_map, is_some, Result, Ok, Err, if◌then◌else◌, codes}
 use Rattle.std.specs.declared.cmp.Ordering.TheVariants.{Less, Equal, Greater}
 use Rattle.std.specs.Ordering.{nat_cmp}
 use Rattle.std.specs.List.{list_any, list_all}
 use Rattle.std.specs.Cmp.Lexicographic.{slice_cmp}
-use Rattle.ssa_model.specs.Json.{Text, text, Json, scalar, list, object, Items, no_items, item, Members, no_members, member, member_of, same_text, as_text, is_object}
+use Rattle.ssa_model.specs.Json.{Text, Json, scalar, list, object, Items, no_items, item, Members, no_members, member, member_of, same_text, as_text, is_object}
 use Rattle.ssa_model.specs.Kind.{ScalarKind, texts, wholes, truths, Shape, scalar_shape, record_shape, dict_shape, list_shape, ShapeFields, no_shape_fields, shape_field, Kind, scalar_kind, atomic_of, record_of, dict_of, set_of, items_of, Fields, no_fields, kind_field}
 
 pub data SchemaFault : Type 0 where

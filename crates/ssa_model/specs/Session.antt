@@ -1,5 +1,5 @@
 -- The answer to a line of a session: its reply's text, and the bench after it.
-use Rattle.std.specs.Prelude.{ℕ, List, [], ◌∷◌, Bool, true, false, Option, Some, None, option_and_then, option_map, Result, Ok, Err, if◌then◌else◌, ◌==◌, codes}
+use Rattle.std.specs.Prelude.{List, [], ◌∷◌, Bool, true, false, Option, Some, None, option_map, Result, Ok, Err, if◌then◌else◌, ◌==◌, codes}
 use Rattle.ssa_model.specs.Json.{Text, Scalar, Json, scalar, list, object, Members, no_members, member, same_text, compact}
 use Rattle.ssa_model.specs.Path.{Element, field, key, value, Path, element_text}
 use Rattle.ssa_model.specs.Readings.{ReadFault, not_json, null_value, number_outside, Readings}
