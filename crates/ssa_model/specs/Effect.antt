@@ -1,12 +1,12 @@
 -- The commands in effect: each state after the first is its command carried out on the state before it.
-use Rattle.std.specs.Prelude.{◌≡◌, ◌≤◌, List, [], ◌∷◌, Bool, length, take, Result, Ok, Err}
+use Rattle.std.specs.Prelude.{◌≡◌, ◌≤◌, List, [], ◌∷◌, Bool, length, take, Result, Ok, Err, ◌++◌, ◌⊎◌, Option, Some, None, option_map}
 use Rattle.ssa_model.specs.Json.{Text}
 use Rattle.ssa_model.specs.Body.{Body}
 use Rattle.ssa_model.specs.Table.{applies, updates, ManagerKey}
 use Rattle.ssa_model.specs.Operations as operations
 use Rattle.ssa_model.specs.Operations.{State, Refusal, apply_without}
 use Rattle.ssa_model.specs.History.{Label, applied, updated, stripped, Step, Timeline, Bench, present}
-use Rattle.ssa_model.specs.Answers.{GivingUp, Command, answer}
+use Rattle.ssa_model.specs.Answers.{GivingUp, Command, apply, update, strip, undo, redo, show, owners, log, Fault, command_body, answer}
 
 -- an accepted command, with the body of its object
 pub data Deed : Type 0 where
@@ -18,6 +18,21 @@ abbrev pub label_of : Deed → Label
 label_of (applying who force at config) = applied who force at
 label_of (updating who at object) = updated who at
 label_of stripping = stripped
+
+abbrev pub body_in : Result Body Fault → Option Body
+body_in (Ok body) = Some body
+body_in (Err f) = None
+
+-- what a command does where it is accepted: with the body of its object
+abbrev pub deed_of : Bench → Command → Option Deed
+deed_of bench (apply who force at v) = option_map (applying who force at) (body_in (command_body bench v))
+deed_of bench (update who at v) = option_map (updating who at) (body_in (command_body bench v))
+deed_of bench strip = Some stripping
+deed_of bench undo = None
+deed_of bench redo = None
+deed_of bench (show managed) = None
+deed_of bench (owners p) = None
+deed_of bench log = None
 
 module _ (given_up : GivingUp) where
   -- the state that a command makes of a state
@@ -49,13 +64,14 @@ module _ (given_up : GivingUp) where
     pub steps : AreSteps t.first deeds t.later
     pub place : t.place ≤ length t.later
 
-  -- an answer leaves such a history, from the same first state
-  pub record KeepsHistory (old new : Timeline) : Type 0 where
-    pub first : new.first ≡ old.first
+  -- An answer leaves such a history, from the same first state: of the same deeds, or of those up to the place and the command's own.
+  pub record KeepsHistory (bench : Bench) (c : Command) (old : IsHistory bench.timeline) (new : Timeline) : Type 0 where
+    pub first : new.first ≡ bench.timeline.first
     pub history : IsHistory new
+    pub deeds : (history.deeds ≡ old.deeds) ⊎ ((d : Deed) × (deed_of bench c ≡ Some d) × (history.deeds ≡ take bench.timeline.place old.deeds ++ d ∷ []))
 
   abbrev pub AnswersKeepHistory : Type 0
-  AnswersKeepHistory = (bench : Bench) (c : Command) → IsHistory bench.timeline → KeepsHistory bench.timeline (answer given_up bench c).1.timeline
+  AnswersKeepHistory = (bench : Bench) (c : Command) (old : IsHistory bench.timeline) → KeepsHistory bench c old (answer given_up bench c).1.timeline
 
   -- the state at the place is the commands in effect, carried out on the first state
   abbrev pub PresentIsCarriedOut : Type 0
