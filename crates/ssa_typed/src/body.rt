@@ -1,0 +1,66 @@
+//! Bodies, seen as finite maps from whole paths to contents.
+ghost use Rattle.std.specs.Prelude.{◌≡◌, true};
+ghost use Rattle.ssa_typed.specs.Rows.{body_of, is_tree};
+
+use crate::node::Node;
+use std::alloc::Global;
+use std::marker::Model;
+use std::mem;
+
+/// An object without its identity.
+///
+/// Two bodies are equal in every contract where they have the same contents at the same paths, with
+/// the same orders of their lists.
+#[derive(Drop)]
+pub struct Body {
+    root: Node,
+}
+
+impl Model for Body {
+    ghost use Rattle.std.specs.Prelude.{◌≡◌, true};
+    ghost use Rattle.ssa_model.specs.Body as model;
+    ghost use Rattle.ssa_model.specs.Codes.{coded_body};
+    ghost use Rattle.ssa_typed.specs.Rows.{body_of, is_tree};
+
+    ghost Value = { model.Body };
+
+    ghost coded = { coded_body };
+
+    ghost view = { λ b. body_of b.root };
+
+    ghost invariant = { λ b. is_tree b.root ≡ true };
+}
+
+impl Body {
+    /// The body of this tree.
+    pub fn new(root: Node) -> Body
+        requires { is_tree root ≡ true }
+        ensures { result ≡ body_of root }
+    {
+        Body { root }
+    }
+
+    /// The body's tree.
+    pub fn root(&self) -> &Node
+        ensures seen { body_of result.now ≡ self.now }
+        ensures tree { is_tree result.now ≡ true }
+    {
+        &self.root
+    }
+
+    /// The body's tree, in whose place an empty record is left.
+    pub fn take_root(&mut self, alloc: Global) -> Node
+        ensures seen { body_of result ≡ self.old }
+        ensures tree { is_tree result ≡ true }
+    {
+        mem::replace(&mut self.root, Node::Branch(Vec::new(alloc)))
+    }
+
+    /// Puts a tree in place of the body's.
+    pub fn set_root(&mut self, root: Node)
+        requires { is_tree root ≡ true }
+        ensures { self.new ≡ body_of root }
+    {
+        self.root = root;
+    }
+}
