@@ -1,2 +1,3 @@
+pub mod Flats
 pub mod Look
 pub mod Rows

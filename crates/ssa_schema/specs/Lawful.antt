@@ -1,0 +1,36 @@
+-- What holds of the kind of each schema that is accepted.
+use Rattle.std.specs.Prelude.{List, [], ◌∷◌, Bool, true, false, ◌&&◌}
+use Rattle.std.specs.Ordering.{is_lt, nat_cmp}
+use Rattle.std.specs.Cmp.Lexicographic.{slice_cmp}
+use Rattle.ssa_model.specs.Json.{Text}
+use Rattle.ssa_model.specs.Kind.{Kind, Fields, scalar_kind, atomic_of, record_of, dict_of, set_of, items_of, no_fields, kind_field}
+
+-- each name stands behind the one before it, the first behind this one
+abbrev pub names_rise_after : Text → List Text → Bool
+names_rise_after n [] = true
+names_rise_after n (m ∷ ms) = is_lt (slice_cmp nat_cmp n m) && names_rise_after m ms
+
+-- the names of the key fields of a map list: one at least, and they rise
+abbrev pub are_key_names : List Text → Bool
+are_key_names [] = false
+are_key_names (n ∷ ns) = names_rise_after n ns
+
+-- each map list has key fields
+abbrev mutual
+  pub is_keyed : Kind → Bool
+  is_keyed (record_of fs) = are_keyed fs
+  is_keyed (dict_of k) = is_keyed k
+  is_keyed (items_of names fs) = are_key_names names && are_keyed fs
+  is_keyed _ = true
+
+  pub are_keyed : Fields → Bool
+  are_keyed no_fields = true
+  are_keyed (kind_field n k fs) = is_keyed k && are_keyed fs
+
+abbrev pub is_record : Kind → Bool
+is_record (record_of fs) = true
+is_record _ = false
+
+-- the kind of an object with fields, in which each map list has key fields
+abbrev pub is_root_kind : Kind → Bool
+is_root_kind k = is_record k && is_keyed k
