@@ -1,8 +1,10 @@
 //! Bodies, seen as finite maps from whole paths to contents.
-ghost use Rattle.std.specs.Prelude.{◌≡◌, true};
+ghost use Rattle.std.specs.Prelude.{◌≡◌, true, option_map};
+ghost use Rattle.ssa_typed.specs.Look.{look_of, look_at};
 ghost use Rattle.ssa_typed.specs.Rows.{body_of, is_tree};
 
-use crate::node::Node;
+use crate::node::{Look, Node};
+use ssa_path::path::Path;
 use std::alloc::Global;
 use std::marker::Model;
 use std::mem;
@@ -46,6 +48,16 @@ impl Body {
         ensures tree { is_tree result.now ≡ true }
     {
         &self.root
+    }
+
+    /// What stands at a path, if anything does. Takes no memory.
+    pub fn get(&self, path: &Path) -> Option<Look<'_>>
+        ensures { option_map look_of result ≡ look_at self.now path.now }
+    {
+        match self.root.node_at(path.elements()) {
+            Some(node) => Some(node.look()),
+            None => None,
+        }
     }
 
     /// The body's tree, in whose place an empty record is left.
