@@ -1,9 +1,9 @@
 -- Trees of fitting values.
-use Rattle.std.specs.Prelude.{◌≡◌, List, [], ◌∷◌, ◌++◌, map, Bool, true, false, ◌&&◌}
-use Rattle.ssa_model.specs.Json.{Text, Json, Items, Members}
-use Rattle.ssa_model.specs.Path.{Path}
-use Rattle.ssa_model.specs.Kind.{ScalarKind, Kind, Fields, faults, field_faults, entry_faults, value_faults, item_faults, key_faults, item_key}
-use Rattle.ssa_model.specs.Body.{record_branch, places, field_places, entry_places, value_places, item_places, value_order, key_order}
+use Rattle.std.specs.Prelude.{◌≡◌, List, [], ◌∷◌, ◌++◌, map, true, Option, Some, None}
+use Rattle.ssa_model.specs.Json.{Text, Scalar, Json, scalar, list, object, Items, Members}
+use Rattle.ssa_model.specs.Path.{Element, value, Path}
+use Rattle.ssa_model.specs.Kind.{ScalarKind, Kind, Fields, faults, field_faults, entry_faults, value_faults, item_faults, key_faults, item_key, kind_of}
+use Rattle.ssa_model.specs.Body.{leaf, record_branch, places, field_places}
 use Rattle.ssa_path.specs.Children.{elements, rises}
 use Rattle.ssa_path.specs.View.{element_view}
 use Rattle.ssa_path.specs.declared.element.Elem.{Elem}
@@ -34,36 +34,67 @@ ItemsFit names fs vs = (p : Path) × (item_faults names fs [] vs p ≡ [])
 abbrev pub KeysFit : List Text → Fields → Members → Type 0
 KeysFit names fs ms = (p : Path) × (key_faults names fs ms p ≡ [])
 
+-- the member has a field, and fits it
+abbrev pub MemberFits : Fields → Text → Json → Type 0
+MemberFits fs n v = (k : Kind) × ((kind_of n fs ≡ Some k) × Fits k v)
+
+-- the item of a map list is an object that has the key fields, and fits them
+abbrev pub ItemFits : List Text → Fields → Json → Type 0
+ItemFits names fs v = (ms : Members) × ((v ≡ object ms) × (KeysFit names fs ms × FieldsFit fs ms))
+
+-- the value is a scalar
+abbrev pub IsScalar : Json → Type 0
+IsScalar v = (s : Scalar) × (v ≡ scalar s)
+
+abbrev pub IsObject : Json → Type 0
+IsObject v = (ms : Members) × (v ≡ object ms)
+
+abbrev pub IsList : Json → Type 0
+IsList v = (vs : Items) × (v ≡ list vs)
+
 -- ---- what is made of them
+
+abbrev pub scalar_in : Option Json → Option Scalar
+scalar_in (Some (scalar s)) = Some s
+scalar_in _ = None
+
+-- the places of a member at its own path
+abbrev pub member_places : Fields → Text → Json → Path → List Row
+member_places fs n v p = elim (kind_of n fs) [ None ↦ [] | Some k ↦ places k v p ]
 
 -- the tree of a value of the kind
 pub record IsTreeOf (k : Kind) (v : Json) (n : Node) : Type 0 where
   pub placed : (p : Path) → rows_at p (rows n) ≡ places k v p
   pub tree : is_tree n ≡ true
 
--- children that are fields or entries, with these places
-pub record AreNamed (placed : Path → List Row) (cs : List (Elem × Node)) : Type 0 where
-  pub placed : (p : Path) → rows_at p (rows_below cs) ≡ placed p
+-- a child under an element, with these rows from its path on
+pub record IsChild (e : Element) (rows_from : Path → List Row) (c : Elem × Node) : Type 0 where
+  pub element : element_view c.0 ≡ e
+  pub placed : (p : Path) → rows_at p (rows c.1) ≡ rows_from p
+  pub tree : is_tree c.1 ≡ true
+
+-- an item of a set
+pub record IsValue (v : Json) (c : Elem × Node) : Type 0 where
+  pub own : Scalar
+  pub is_own : v ≡ scalar own
+  pub child : IsChild (value own) (λ p. (p, leaf own) ∷ []) c
+
+-- an item of a map list
+pub record IsItem (names : List Text) (fs : Fields) (v : Json) (c : Elem × Node) : Type 0 where
+  pub own : Members
+  pub is_own : v ≡ object own
+  pub child : IsChild (item_key names own) (λ p. (p, record_branch) ∷ field_places fs own p) c
+
+-- children under names that rise, with these rows from the path above them on
+pub record AreNamed (rows_from : Path → List Row) (cs : List (Elem × Node)) : Type 0 where
+  pub placed : (p : Path) → rows_at p (rows_below cs) ≡ rows_from p
   pub risen : rises (elements cs) ≡ true
   pub fields : are_fields (elements cs) ≡ true
   pub trees : are_trees cs ≡ true
 
--- the items of a set
-pub record AreValues (vs : Items) (cs : List (Elem × Node)) : Type 0 where
-  pub placed : (p : Path) → rows_at p (rows_below cs) ≡ value_places vs p
-  pub order : elements cs ≡ value_order vs
+-- items in this order, with these rows from the path above them on
+pub record AreListed (order : List Element) (rows_from : Path → List Row) (cs : List (Elem × Node)) : Type 0 where
+  pub placed : (p : Path) → rows_at p (rows_below cs) ≡ rows_from p
+  pub order_is : elements cs ≡ order
   pub items : are_items (elements cs) ≡ true
   pub trees : are_trees cs ≡ true
-
--- the items of a map list
-pub record AreItems (names : List Text) (fs : Fields) (vs : Items) (cs : List (Elem × Node)) : Type 0 where
-  pub placed : (p : Path) → rows_at p (rows_below cs) ≡ item_places names fs vs p
-  pub order : elements cs ≡ key_order names vs
-  pub items : are_items (elements cs) ≡ true
-  pub trees : are_trees cs ≡ true
-
--- an item of a map list under its key fields
-pub record IsItem (names : List Text) (fs : Fields) (ms : Members) (c : Elem × Node) : Type 0 where
-  pub key : element_view c.0 ≡ item_key names ms
-  pub placed : (p : Path) → rows_at p (rows c.1) ≡ (p, record_branch) ∷ field_places fs ms p
-  pub tree : is_tree c.1 ≡ true

@@ -1,68 +1,44 @@
 //! The tree of a fitting value.
-ghost use Rattle.std.specs.Prelude.{◌≡◌, true, IfOk};
-ghost use Rattle.ssa_model.specs.Kind.{key_scalars};
-ghost use Rattle.ssa_model.specs.Body.{field_places, entry_places};
-ghost use Rattle.ssa_path.specs.Keys as keys;
+ghost use Rattle.std.specs.Prelude.{◌≡◌, true, IfOk, string_bytes};
+ghost use Rattle.ssa_model.specs.Path.{field};
+ghost use Rattle.ssa_model.specs.Body.{field_places, entry_places, value_places, item_places, value_order, key_order};
 ghost use Rattle.ssa_json.specs.View.{view, items_view, members_view};
-ghost use Rattle.ssa_schema.specs.Kinds.{kind_view, fields_view, names_view};
+ghost use Rattle.ssa_schema.specs.Kinds.{kind_view, fields_view, names_view, scalar_kind_view};
 ghost use Rattle.ssa_schema.specs.Lawful.{are_key_names, are_keyed, is_keyed};
-ghost use Rattle.ssa_typed.specs.Flats.{AreItems, AreNamed, AreValues, EntriesFit, FieldsFit, Fits, IsItem, IsTreeOf, ItemsFit, KeysFit, ValuesFit};
+ghost use Rattle.ssa_typed.specs.Flats.{member_places, AreListed, AreNamed, EntriesFit, FieldsFit, Fits, IsChild, IsItem, IsScalar, IsTreeOf, IsValue, ItemFits, ItemsFit, MemberFits, ValuesFit};
 
+use crate::item_keys::keys_of;
 use crate::node::{Leaf, Node};
-use ssa_json::value::{Json, Scalar};
+use crate::parts::{into_items, into_members, into_scalar};
+use ssa_json::value::Json;
 use ssa_path::element::Elem;
-use ssa_path::keys::Keys;
-use ssa_schema::kind::{Kind, find_field};
+use ssa_schema::kind::{Kind, ScalarKind};
 use std::alloc::{AllocError, Global};
 use std::collections::BTreeMap;
 
-// The scalars under the names of a map list's keys.
-fn key_members(
-    alloc: Global,
-    names: &[String],
-    members: &BTreeMap<String, Json>,
-) -> Result<Vec<(String, Scalar)>, AllocError>
-    ensures { IfOk result (λ ks. keys.members_view ks.items ≡ key_scalars (names_view names.now) (members_view members.now.entries)) }
+// An item of a set, under its value.
+fn value_child(alloc: Global, item: Json) -> Result<(Elem, Node), AllocError>
+    requires { IsScalar (view item) }
+    ensures { IfOk result (λ c. IsValue (view item) c) }
 {
-    let mut found = Vec::new(alloc);
-    for name in names {
-        if let Some(Json::Scalar(scalar)) = members.get(name.as_str()) {
-            let own = String::from_str(alloc, name.as_str())?;
-            let scalar = scalar.copy(alloc)?;
-            found.push((own, scalar))?;
-        }
-    }
-    Ok(found)
-}
-
-// The key fields of an item that has them.
-fn keys_of(
-    alloc: Global,
-    names: &[String],
-    fields: &BTreeMap<String, Kind>,
-    members: &BTreeMap<String, Json>,
-) -> Result<Keys, AllocError>
-    requires names { are_key_names (names_view names.now) ≡ true }
-    requires fits { KeysFit (names_view names.now) (fields_view fields.now.entries) (members_view members.now.entries) }
-    ensures { IfOk result (λ k. k ≡ key_scalars (names_view names.now) (members_view members.now.entries)) }
-{
-    let _fields = fields;
-    match Keys::new(key_members(alloc, names, members)?) {
-        Some(keys) => Ok(keys),
-        None => unreachable!(),
-    }
+    let scalar = into_scalar(item);
+    let element = Elem::Value(scalar.copy(alloc)?);
+    Ok((element, Node::Leaf(Leaf::Scalar(scalar))))
 }
 
 // The items of a set, in their order.
-fn value_children(alloc: Global, items: Vec<Json>) -> Result<Vec<(Elem, Node)>, AllocError>
-    ensures { IfOk result (λ cs. AreValues (items_view items.items) cs.items) }
+fn value_children(
+    alloc: Global,
+    kind: &ScalarKind,
+    items: Vec<Json>,
+) -> Result<Vec<(Elem, Node)>, AllocError>
+    requires { ValuesFit (scalar_kind_view kind.now) (items_view items.items) }
+    ensures { IfOk result (λ cs. AreListed (value_order (items_view items.items)) (value_places (items_view items.items)) cs.items) }
 {
+    let _kind = kind;
     let mut children = Vec::new(alloc);
     for item in items {
-        if let Json::Scalar(scalar) = item {
-            let element = Elem::Value(scalar.copy(alloc)?);
-            children.push((element, Node::Leaf(Leaf::Scalar(scalar))))?;
-        }
+        children.push(value_child(alloc, item)?)?;
     }
     Ok(children)
 }
@@ -74,20 +50,46 @@ pub fn tree_of(alloc: Global, kind: &Kind, value: Json) -> Result<Node, AllocErr
     requires fits { Fits (kind_view kind.now) (view value) }
     ensures { IfOk result (λ n. IsTreeOf (kind_view kind.now) (view value) n) }
 {
-    match (kind, value) {
-        (Kind::Scalar(_), Json::Scalar(scalar)) => Ok(Node::Leaf(Leaf::Scalar(scalar))),
-        (Kind::AtomicOf(_), value) => Ok(Node::Leaf(Leaf::Atomic(value))),
-        (Kind::Record(fields), Json::Object(members)) => {
-            Ok(Node::Branch(field_children(alloc, fields, members)?))
+    match kind {
+        Kind::Scalar(_) => Ok(Node::Leaf(Leaf::Scalar(into_scalar(value)))),
+        Kind::AtomicOf(_) => Ok(Node::Leaf(Leaf::Atomic(value))),
+        Kind::Record(fields) => {
+            let children = field_children(alloc, fields, into_members(value))?;
+            Ok(Node::Branch(children))
         }
-        (Kind::Dict(inside), Json::Object(members)) => {
-            Ok(Node::Dict(entry_children(alloc, inside, members)?))
+        Kind::Dict(inside) => {
+            let children = entry_children(alloc, inside, into_members(value))?;
+            Ok(Node::Dict(children))
         }
-        (Kind::SetOf(_), Json::List(items)) => Ok(Node::List(value_children(alloc, items)?)),
-        (Kind::ItemsOf { keys, fields }, Json::List(items)) => {
-            Ok(Node::List(item_children(alloc, keys, fields, items)?))
+        Kind::SetOf(inside) => {
+            let children = value_children(alloc, inside, into_items(value))?;
+            Ok(Node::List(children))
         }
-        _ => unreachable!(),
+        Kind::ItemsOf { keys, fields } => {
+            let children = item_children(alloc, fields, keys, into_items(value))?;
+            Ok(Node::List(children))
+        }
+    }
+}
+
+// A field of a record.
+#[cycle(build)]
+fn field_child(
+    alloc: Global,
+    fields: &BTreeMap<String, Kind>,
+    name: String,
+    member: Json,
+) -> Result<(Elem, Node), AllocError>
+    requires keyed { are_keyed (fields_view fields.now.entries) ≡ true }
+    requires fits { MemberFits (fields_view fields.now.entries) (string_bytes name) (view member) }
+    ensures { IfOk result (λ c. IsChild (field (string_bytes name)) (member_places (fields_view fields.now.entries) (string_bytes name) (view member)) c) }
+{
+    match fields.get(name.as_str()) {
+        Some(kind) => {
+            let child = tree_of(alloc, kind, member)?;
+            Ok((Elem::Field(name), child))
+        }
+        None => unreachable!(),
     }
 }
 
@@ -104,10 +106,7 @@ pub fn field_children(
 {
     let mut children = Vec::new(alloc);
     for (name, member) in members {
-        if let Some(kind) = find_field(fields, name.as_str()) {
-            let child = tree_of(alloc, kind, member)?;
-            children.push((Elem::Field(name), child))?;
-        }
+        children.push(field_child(alloc, fields, name, member)?)?;
     }
     Ok(children)
 }
@@ -131,20 +130,20 @@ fn entry_children(
     Ok(children)
 }
 
-// An item of a map list under its key fields.
+// An item of a map list, under its key fields.
 #[cycle(build)]
 fn item_child(
     alloc: Global,
-    keys: &[String],
     fields: &BTreeMap<String, Kind>,
-    members: BTreeMap<String, Json>,
+    keys: &[String],
+    item: Json,
 ) -> Result<(Elem, Node), AllocError>
     requires names { are_key_names (names_view keys.now) ≡ true }
     requires keyed { are_keyed (fields_view fields.now.entries) ≡ true }
-    requires keys_fit { KeysFit (names_view keys.now) (fields_view fields.now.entries) (members_view members.entries) }
-    requires fits { FieldsFit (fields_view fields.now.entries) (members_view members.entries) }
-    ensures { IfOk result (λ c. IsItem (names_view keys.now) (fields_view fields.now.entries) (members_view members.entries) c) }
+    requires fits { ItemFits (names_view keys.now) (fields_view fields.now.entries) (view item) }
+    ensures { IfOk result (λ c. IsItem (names_view keys.now) (fields_view fields.now.entries) (view item) c) }
 {
+    let members = into_members(item);
     let key = keys_of(alloc, keys, fields, &members)?;
     let children = field_children(alloc, fields, members)?;
     Ok((Elem::Key(key), Node::Branch(children)))
@@ -154,21 +153,18 @@ fn item_child(
 #[cycle(build)]
 fn item_children(
     alloc: Global,
-    keys: &[String],
     fields: &BTreeMap<String, Kind>,
+    keys: &[String],
     items: Vec<Json>,
 ) -> Result<Vec<(Elem, Node)>, AllocError>
     requires names { are_key_names (names_view keys.now) ≡ true }
     requires keyed { are_keyed (fields_view fields.now.entries) ≡ true }
     requires fits { ItemsFit (names_view keys.now) (fields_view fields.now.entries) (items_view items.items) }
-    ensures { IfOk result (λ cs. AreItems (names_view keys.now) (fields_view fields.now.entries) (items_view items.items) cs.items) }
+    ensures { IfOk result (λ cs. AreListed (key_order (names_view keys.now) (items_view items.items)) (item_places (names_view keys.now) (fields_view fields.now.entries) (items_view items.items)) cs.items) }
 {
     let mut children = Vec::new(alloc);
     for item in items {
-        if let Json::Object(members) = item {
-            let child = item_child(alloc, keys, fields, members)?;
-            children.push(child)?;
-        }
+        children.push(item_child(alloc, fields, keys, item)?)?;
     }
     Ok(children)
 }

@@ -1,0 +1,93 @@
+-- The key fields of items that have them.
+use Rattle.std.proofs.Common.{◌≡◌, List, [], ◌∷◌, ◌++◌, map, Bool, true, false, ◌&&◌, refl, sym, ap, ◌∙◌, true≢false}
+use Rattle.std.specs.Prelude.{Option, None, Some, if◌then◌else◌}
+use Rattle.ssa_model.specs.Json.{Text, Scalar, Json, scalar, list, object, Members, member_of}
+use Rattle.ssa_model.specs.Kind as kinds
+use Rattle.ssa_model.specs.Kind.{Kind, Fields, Fault, kind_of, key_scalars, cons_scalar, key_faults, key_field_fault}
+use Rattle.ssa_model.specs.Path.{Path}
+use Rattle.ssa_path.specs.Keys as keys
+use Rattle.ssa_schema.specs.Lawful.{are_key_names, names_rise_after}
+
+-- ---- lists of faults
+
+is_nil : {X : Type 0} → List X → Bool
+is_nil [] = true
+is_nil (x ∷ xs) = false
+
+pub cons≢nil : {X : Type 0} {x : X} {xs : List X} → x ∷ xs ≡ [] → ⊥
+unfolding is_nil
+cons≢nil e = true≢false (sym (ap is_nil e))
+
+pub nil_first : {X : Type 0} (xs ys : List X) → xs ++ ys ≡ [] → xs ≡ []
+nil_first [] ys e = refl
+nil_first (x ∷ xs) ys e = absurd (cons≢nil e)
+
+pub nil_second : {X : Type 0} (xs ys : List X) → xs ++ ys ≡ [] → ys ≡ []
+nil_second [] ys e = e
+nil_second (x ∷ xs) ys e = absurd (cons≢nil e)
+
+-- ---- a key field without a fault
+
+fault-list : (k : Option Kind) (vs : Rattle.ssa_model.specs.Json.Items) (p : Path) → key_field_fault k (Some (list vs)) p ≡ [] → ⊥
+fault-list None vs p e = cons≢nil e
+fault-list (Some (kinds.scalar_kind k)) vs p e = cons≢nil e
+fault-list (Some (kinds.atomic_of s)) vs p e = cons≢nil e
+fault-list (Some (kinds.record_of fs)) vs p e = cons≢nil e
+fault-list (Some (kinds.dict_of k)) vs p e = cons≢nil e
+fault-list (Some (kinds.set_of k)) vs p e = cons≢nil e
+fault-list (Some (kinds.items_of ns fs)) vs p e = cons≢nil e
+
+fault-object : (k : Option Kind) (ms : Members) (p : Path) → key_field_fault k (Some (object ms)) p ≡ [] → ⊥
+fault-object None ms p e = cons≢nil e
+fault-object (Some (kinds.scalar_kind k)) ms p e = cons≢nil e
+fault-object (Some (kinds.atomic_of s)) ms p e = cons≢nil e
+fault-object (Some (kinds.record_of fs)) ms p e = cons≢nil e
+fault-object (Some (kinds.dict_of k)) ms p e = cons≢nil e
+fault-object (Some (kinds.set_of k)) ms p e = cons≢nil e
+fault-object (Some (kinds.items_of ns fs)) ms p e = cons≢nil e
+
+fault-none : (k : Option Kind) (p : Path) → key_field_fault k None p ≡ [] → ⊥
+fault-none None p e = cons≢nil e
+fault-none (Some (kinds.scalar_kind k)) p e = cons≢nil e
+fault-none (Some (kinds.atomic_of s)) p e = cons≢nil e
+fault-none (Some (kinds.record_of fs)) p e = cons≢nil e
+fault-none (Some (kinds.dict_of k)) p e = cons≢nil e
+fault-none (Some (kinds.set_of k)) p e = cons≢nil e
+fault-none (Some (kinds.items_of ns fs)) p e = cons≢nil e
+
+abbrev first_names : keys.Members → List Text
+first_names = map (λ k. k.0)
+
+-- it is there, and a scalar
+named-there : (n : Text) (k : Option Kind) (o : Option Json) (p : Path) (ks : keys.Members) → key_field_fault k o p ≡ [] → first_names (cons_scalar n o ks) ≡ n ∷ first_names ks
+named-there n k None p ks e = absurd (fault-none k p e)
+named-there n k (Some (scalar s)) p ks e = refl
+named-there n k (Some (list vs)) p ks e = absurd (fault-list k vs p e)
+named-there n k (Some (object ms)) p ks e = absurd (fault-object k ms p e)
+
+names-there : (ns : List Text) (fs : Fields) (ms : Members) (p : Path) → key_faults ns fs ms p ≡ [] → first_names (key_scalars ns ms) ≡ ns
+names-there [] fs ms p e = refl
+names-there (n ∷ ns) fs ms p e =
+    named-there n (kind_of n fs) (member_of n ms) p (key_scalars ns ms) (nil_first _ _ e)
+    ∙ ap (λ ts. n ∷ ts) (names-there ns fs ms p (nil_second (key_field_fault (kind_of n fs) (member_of n ms) p) _ e))
+
+rise-names : (n : Text) (ks : keys.Members) → keys.names_rise_after n ks ≡ names_rise_after n (first_names ks)
+rise-names n [] = refl
+rise-names n (k ∷ ks) = ap (λ b. Rattle.std.specs.Ordering.is_lt (Rattle.std.specs.Cmp.Lexicographic.slice_cmp Rattle.std.specs.Ordering.nat_cmp n k.0) && b) (rise-names k.0 ks)
+
+are_keys-names : (ks : keys.Members) → keys.are_keys ks ≡ are_key_names (first_names ks)
+are_keys-names [] = refl
+are_keys-names (k ∷ ks) = rise-names k.0 ks
+
+-- the key fields of an item are keys
+pub keys-there : (ns : List Text) (fs : Fields) (ms : Members) (p : Path) → are_key_names ns ≡ true → key_faults ns fs ms p ≡ [] → keys.are_keys (key_scalars ns ms) ≡ true
+keys-there ns fs ms p names e = are_keys-names (key_scalars ns ms) ∙ ap are_key_names (names-there ns fs ms p e) ∙ names
+
+is_there : {A : Type 0} → Option A → Bool
+is_there None = false
+is_there (Some x) = true
+
+pub keys-some : (ns : List Text) (fs : Fields) (ms : Members) (p : Path) → are_key_names ns ≡ true → key_faults ns fs ms p ≡ [] → None ≡ keys.keys_of (key_scalars ns ms) → ⊥
+unfolding is_there
+keys-some ns fs ms p names e none =
+    true≢false (sym (ap is_there (none ∙ ap (λ b. if b then Some (key_scalars ns ms) else None) (keys-there ns fs ms p names e))))

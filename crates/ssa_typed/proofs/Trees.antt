@@ -1,0 +1,128 @@
+-- Trees of values of each kind.
+use Rattle.std.proofs.Common.{◌≡◌, List, [], ◌∷◌, ◌++◌, Bool, true, false, ◌&&◌, Vec, Box, BTreeMap, String, Global, string_bytes, nat_cmp, refl, sym, ap, ◌∙◌, subst₂, append-nil, true≢false, rules}
+use Rattle.std.specs.Prelude.{Option, None, Some, if◌then◌else◌, option_map}
+use Rattle.std.specs.Borrow.{Bor}
+use Rattle.std.specs.Map.{lookup}
+use Rattle.std.specs.BTreeMap.{is_at}
+use Rattle.std.specs.Cmp.Lexicographic.{slice_cmp}
+use Rattle.ssa_schema.proofs.Fields.{view_of_ref, fields-lookup}
+use Rattle.ssa_model.specs.Json.{Text, Json, object, list, Items, Members, same_text}
+use Rattle.ssa_model.specs.Path.{field, Path}
+use Rattle.ssa_model.specs.Kind as model
+use Rattle.ssa_model.specs.Body.{Content, record_branch, dict_branch, list_branch, places, field_places, entry_places, value_places, item_places, value_order, key_order}
+use Rattle.ssa_schema.specs.Kinds.{kind_view, fields_view, names_view, scalar_kind_view}
+use Rattle.ssa_schema.specs.Lawful.{is_keyed, are_keyed}
+use Rattle.ssa_schema.specs.declared.kind.Kind as kind
+use Rattle.ssa_schema.specs.declared.kind.ScalarKind.{ScalarKind}
+use Rattle.ssa_path.specs.Children.{elements}
+use Rattle.ssa_path.proofs.Orders.{both, both_first, both_second}
+use Rattle.ssa_typed.specs.Rows.{Row, rows, rows_below, is_tree, are_apart}
+use Rattle.ssa_typed.specs.Flats.{rows_at, member_places, AreListed, AreNamed, IsTreeOf, Fits, ValuesFit, ItemsFit, EntriesFit, FieldsFit}
+use Rattle.ssa_typed.specs.declared.node.Node.{Node, Branch, Dict, List as ListOf}
+use Rattle.ssa_typed.proofs.Building.{Child}
+use Rattle.ssa_typed.proofs.Fitting.{values-apart, items-apart}
+use Rattle.ssa_typed.proofs.Levels.{Children, own-Branch, own-Dict, own-List, tree-Branch, tree-Dict, tree-List, level-Branch, level-Dict, level-List}
+
+-- ---- kinds
+
+pub kind_view-Dict : (b : Box kind.Kind Global) → kind_view (kind.Dict b) ≡ model.dict_of (kind_view b.value)
+kind_view-Dict b = search (rules, kind.the_lemmas)
+
+pub kind_view-SetOf : (k : ScalarKind) → kind_view (kind.SetOf k) ≡ model.set_of (scalar_kind_view k)
+kind_view-SetOf k = search (rules, kind.the_lemmas)
+
+pub kind_view-ItemsOf : (keys : Vec (String Global) Global) (fields : BTreeMap (String Global) kind.Kind) → kind_view (kind.ItemsOf keys fields) ≡ model.items_of (names_view keys.items) (fields_view fields.entries)
+kind_view-ItemsOf keys fields = search (rules, kind.the_lemmas)
+
+is_there : {A : Type 0} → Option A → Bool
+is_there None = false
+is_there (Some x) = true
+
+keyed-if : (b : Bool) (j k : model.Kind) (o : Option model.Kind) → is_keyed j ≡ true → (o ≡ Some k → is_keyed k ≡ true) → (if b then Some j else o) ≡ Some k → is_keyed k ≡ true
+keyed-if true j k o keyed later e = ap (λ x. elim x [ None ↦ true | Some i ↦ is_keyed i ]) (sym e) ∙ keyed
+keyed-if false j k o keyed later e = later e
+
+pub keyed-at : (n : Text) (fs : model.Fields) (k : model.Kind) → are_keyed fs ≡ true → model.kind_of n fs ≡ Some k → is_keyed k ≡ true
+unfolding is_there
+keyed-at n model.no_fields k h e = absurd (true≢false (sym (ap is_there e)))
+keyed-at n (model.kind_field m j fs) k h e = keyed-if (same_text n m) j k (model.kind_of n fs) (both_first _ _ h) (λ later. keyed-at n fs k (both_second (is_keyed j) _ h) later) e
+
+-- what a look into the fields finds
+pub field-found : (r : Option (Bor kind.Kind)) (n : Text) (es : List (String Global × kind.Kind)) → option_map (λ k. k.now) r ≡ lookup (is_at (λ k. slice_cmp nat_cmp n (string_bytes k))) es
+    → option_map (λ k. kind_view k.now) r ≡ model.kind_of n (fields_view es)
+field-found r n es e = view_of_ref kind_view r ∙ ap (option_map kind_view) e ∙ fields-lookup n es
+
+-- the kind that a name has is one
+known : Option model.Kind → model.Kind → model.Kind
+known None j = j
+known (Some k) j = k
+
+pub known-is : (n : Text) (fs : model.Fields) (j k : model.Kind) → model.kind_of n fs ≡ Some j → model.kind_of n fs ≡ Some k → j ≡ k
+unfolding known
+known-is n fs j k e f = ap (λ o. known o j) (sym e ∙ f)
+
+pub known-there : (n : Text) (fs : model.Fields) (k : model.Kind) → model.kind_of n fs ≡ Some k → model.kind_of n fs ≡ None → ⊥
+unfolding is_there
+known-there n fs k e f = true≢false (ap is_there (sym e ∙ f))
+
+-- ---- the places of a member
+
+pub known-places : (n : Text) (fs : model.Fields) (v : Json) (k : model.Kind) (p : Path) → model.kind_of n fs ≡ Some k → member_places fs n v p ≡ places k v p
+known-places n fs v k p e = ap (λ o. elim o [ None ↦ [] | Some j ↦ places j v p ]) e
+
+pub member-places : (fs : model.Fields) (n : Text) (v : Json) (p : Path) (o : Option model.Kind)
+    → ◌≡◌ {A = List Row} (elim o [ None ↦ [] | Some k ↦ places k v (p ++ field n ∷ []) ]) (elim o [ None ↦ [] | Some k ↦ places k v (p ++ field n ∷ []) ])
+member-places fs n v p o = refl
+
+-- ---- branches
+
+pub placed-branch : (n : Node) (cs : List Child) (content : Content) (p : Path) (rest : List Row) → rows n ≡ ([], content) ∷ rows_below cs → rows_at p (rows_below cs) ≡ rest → rows_at p (rows n) ≡ (p, content) ∷ rest
+placed-branch n cs content p rest level below = ap (rows_at p) level ∙ (λ i. (append-nil p i, content) ∷ below i)
+
+module _ (cs : Children) where
+  rows-Branch : rows (Branch cs) ≡ ([], record_branch) ∷ rows_below cs.items
+  rows-Branch = (level-Branch cs).rows_are ∙ ap (λ c. ([], c) ∷ rows_below cs.items) (own-Branch cs)
+
+  rows-Dict : rows (Dict cs) ≡ ([], dict_branch) ∷ rows_below cs.items
+  rows-Dict = (level-Dict cs).rows_are ∙ ap (λ c. ([], c) ∷ rows_below cs.items) (own-Dict cs)
+
+  rows-List : rows (ListOf cs) ≡ ([], list_branch (elements cs.items)) ∷ rows_below cs.items
+  rows-List = (level-List cs).rows_are ∙ ap (λ c. ([], c) ∷ rows_below cs.items) (own-List cs)
+
+  pub record-placed : (rows_from : Path → List Row) → AreNamed rows_from cs.items → (p : Path) → rows_at p (rows (Branch cs)) ≡ (p, record_branch) ∷ rows_from p
+  record-placed rows_from h p = placed-branch (Branch cs) cs.items record_branch p (rows_from p) rows-Branch (h.placed p)
+
+  pub record-tree : (rows_from : Path → List Row) → AreNamed rows_from cs.items → is_tree (Branch cs) ≡ true
+  record-tree rows_from h = tree-Branch cs ∙ both _ _ (both _ _ h.risen h.fields) h.trees
+
+  dict-tree : (rows_from : Path → List Row) → AreNamed rows_from cs.items → is_tree (Dict cs) ≡ true
+  dict-tree rows_from h = tree-Dict cs ∙ both _ _ (both _ _ h.risen h.fields) h.trees
+
+  list-tree : (order : List Rattle.ssa_model.specs.Path.Element) (rows_from : Path → List Row) → are_apart order ≡ true → AreListed order rows_from cs.items → is_tree (ListOf cs) ≡ true
+  list-tree order rows_from apart h = tree-List cs ∙ both _ _ (both _ _ (ap are_apart h.order_is ∙ apart) h.items) h.trees
+
+  pub record-made : (k : model.Kind) (v : Json) (fs : model.Fields) (ms : Members) → model.record_of fs ≡ k → object ms ≡ v → AreNamed (field_places fs ms) cs.items → IsTreeOf k v (Branch cs)
+  record-made k v fs ms is_kind is_value h =
+      subst₂ (λ j w. IsTreeOf j w (Branch cs)) is_kind is_value (record { placed = record-placed (field_places fs ms) h; tree = record-tree (field_places fs ms) h })
+
+  pub dict-made : (k : model.Kind) (v : Json) (j : model.Kind) (ms : Members) → model.dict_of j ≡ k → object ms ≡ v → AreNamed (entry_places j ms) cs.items → IsTreeOf k v (Dict cs)
+  dict-made k v j ms is_kind is_value h =
+      subst₂ (λ i w. IsTreeOf i w (Dict cs)) is_kind is_value (record {
+        placed = λ p. placed-branch (Dict cs) cs.items dict_branch p (entry_places j ms p) rows-Dict (h.placed p);
+        tree = dict-tree (entry_places j ms) h;
+      })
+
+  pub set-made : (k : model.Kind) (v : Json) (j : model.ScalarKind) (vs : Items) → model.set_of j ≡ k → list vs ≡ v → ValuesFit j vs → AreListed (value_order vs) (value_places vs) cs.items → IsTreeOf k v (ListOf cs)
+  set-made k v j vs is_kind is_value fits h =
+      subst₂ (λ i w. IsTreeOf i w (ListOf cs)) is_kind is_value (record {
+        placed = λ p. placed-branch (ListOf cs) cs.items (list_branch (value_order vs)) p (value_places vs p) (rows-List ∙ ap (λ es. ([], list_branch es) ∷ rows_below cs.items) h.order_is) (h.placed p);
+        tree = list-tree (value_order vs) (value_places vs) (values-apart j vs fits) h;
+      })
+
+  pub items-made : (k : model.Kind) (v : Json) (ns : List Text) (fs : model.Fields) (vs : Items) → model.items_of ns fs ≡ k → list vs ≡ v → ItemsFit ns fs vs
+      → AreListed (key_order ns vs) (item_places ns fs vs) cs.items → IsTreeOf k v (ListOf cs)
+  items-made k v ns fs vs is_kind is_value fits h =
+      subst₂ (λ i w. IsTreeOf i w (ListOf cs)) is_kind is_value (record {
+        placed = λ p. placed-branch (ListOf cs) cs.items (list_branch (key_order ns vs)) p (item_places ns fs vs p) (rows-List ∙ ap (λ es. ([], list_branch es) ∷ rows_below cs.items) h.order_is) (h.placed p);
+        tree = list-tree (key_order ns vs) (item_places ns fs vs) (items-apart ns fs vs fits) h;
+      })
