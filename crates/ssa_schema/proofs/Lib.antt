@@ -1,5 +1,6 @@
 pub mod Distinct
 pub mod Fields
+pub mod Finding
 pub mod Firsts
 pub mod Kinding
 pub mod Reading

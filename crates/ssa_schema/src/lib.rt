@@ -1,8 +1,11 @@
 //! Structural schemas: their reading, their kinds, and the faults of values under them.
 #![tactic(auto)]
 
+pub mod body_fault;
 mod build;
+mod element_text;
 pub mod fault;
+mod found;
 mod key_names;
 mod keys;
 pub mod kind;
@@ -11,6 +14,7 @@ mod metadata;
 mod refusal;
 mod rules;
 pub mod schema;
+mod shape_misfit;
 mod shapes;
 mod standing;
 #[cfg(test)]

@@ -1,0 +1,49 @@
+//! What the walk of a value finds.
+ghost use Rattle.std.specs.Prelude.{◌≡◌, ◌∷◌, ◌++◌, [], OnOk, IfOk, string_bytes};
+ghost use Rattle.ssa_schema.specs.Finds.{Finds, misfit_view, found_at, told_view};
+
+use crate::body_fault::BodyFault;
+use std::alloc::{AllocError, Global};
+
+/// What a value breaks.
+#[derive(Clone, Copy, Debug, PartialEq, Eq)]
+pub enum Misfit {
+    UnknownField,
+    WrongType,
+    MissingKey,
+    DuplicateItem,
+}
+
+/// A fault, and its way from the place where the walk stands: the texts of the elements, the
+/// innermost first.
+#[derive(Drop)]
+pub struct Found {
+    pub misfit: Misfit,
+    pub path: Vec<String>,
+}
+
+impl Found {
+    /// A fault at the place itself.
+    pub fn here(alloc: Global, misfit: Misfit) -> Found
+        ensures misfit { result.misfit ≡ misfit }
+        ensures path { result.path.items ≡ [] }
+    {
+        Found {
+            misfit,
+            path: Vec::new(alloc),
+        }
+    }
+
+    /// The fault, seen from the place above by the element that leads down.
+    pub fn below(self, element: String) -> Result<Found, AllocError>
+        ensures misfit { IfOk result (λ f. f.misfit ≡ self.misfit) }
+        ensures path { IfOk result (λ f. f.path.items ≡ self.path.items ++ element ∷ []) }
+    {
+        let mut path = self.path;
+        path.push(element)?;
+        Ok(Found {
+            misfit: self.misfit,
+            path,
+        })
+    }
+}
