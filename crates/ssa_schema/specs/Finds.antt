@@ -1,6 +1,6 @@
 -- The first fault of a value, with its path as the texts of the elements.
-use Rattle.std.specs.Prelude.{◌≡◌, List, ◌++◌, map, reverse, Option, option_map}
-use Rattle.ssa_model.specs.Json.{Text}
+use Rattle.std.specs.Prelude.{◌≡◌, Bool, List, [], ◌∷◌, ◌++◌, map, reverse, Option, Some, None, option_map, if◌then◌else◌}
+use Rattle.ssa_model.specs.Json.{Text, Json, scalar, Scalar, Members}
 use Rattle.ssa_model.specs.Path.{Path, element_text}
 use Rattle.ssa_model.specs.Kind as model
 use Rattle.ssa_schema.specs.Kinds.{names_view}
@@ -43,3 +43,15 @@ Finds found faults = (p : Path) → option_map (found_at p) found ≡ option_map
 -- the same where each fault is at the place itself
 abbrev pub Breaks : Option Misfit → (Path → List model.Fault) → Type 0
 Breaks misfit faults = (p : Path) → option_map (λ m. (misfit_view m, p)) misfit ≡ first_of (faults p)
+
+-- ---- items
+
+-- the scalar, where the value is one of the kind
+abbrev pub scalar_of : model.ScalarKind → Json → Option Scalar
+scalar_of k (scalar s) = if model.is_of k s then Some s else None
+scalar_of k _ = None
+
+-- the faults of an item whose keys are right: an earlier one has them, or its fields have faults
+abbrev pub keyed_faults : Bool → List Text → model.Fields → Members → Path → List model.Fault
+keyed_faults is_new names fs ms p =
+    if is_new then model.field_faults fs ms (p ++ model.item_key names ms ∷ []) else (model.duplicate_item, p ++ model.item_key names ms ∷ []) ∷ []

@@ -1,6 +1,8 @@
 //! What the walk of a value finds.
-ghost use Rattle.std.specs.Prelude.{◌≡◌, ◌∷◌, ◌++◌, [], OnOk, IfOk, string_bytes};
-ghost use Rattle.ssa_schema.specs.Finds.{Finds, misfit_view, found_at, told_view};
+ghost use Rattle.std.specs.Prelude.{◌≡◌, List, [], ◌∷◌, ◌++◌, IfOk};
+ghost use Rattle.ssa_model.specs.Path.{Path};
+ghost use Rattle.ssa_model.specs.Kind.{Fault};
+ghost use Rattle.ssa_schema.specs.Finds.{Finds, Breaks};
 
 use crate::body_fault::BodyFault;
 use std::alloc::{AllocError, Global};
@@ -31,6 +33,16 @@ impl Found {
         Found {
             misfit,
             path: Vec::new(alloc),
+        }
+    }
+
+    /// What is wrong at the place itself, where something is.
+    pub fn at_place(alloc: Global, misfit: Option<Misfit>) -> Option<Found>
+        ensures { (faults : Path → List Fault) → Breaks misfit faults → Finds result faults }
+    {
+        match misfit {
+            Some(misfit) => Some(Found::here(alloc, misfit)),
+            None => None,
         }
     }
 
