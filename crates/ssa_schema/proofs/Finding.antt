@@ -58,6 +58,13 @@ pub finds_child : (here below : Found) (m : Misfit) (e : Element) (t : String Gl
 finds_child here below m e t misfit path is same more =
     finds_below here below e t (λ p. (misfit_view m, p) ∷ []) is same more (breaks_here here m (λ p. (misfit_view m, p) ∷ []) misfit path (λ p. refl))
 
+-- the path the other way round
+pub names_reversed : (path : List (String Global)) → names_view (reverse path) ≡ reverse (names_view path)
+names_reversed [] = refl
+names_reversed (t ∷ path) =
+    ap names_view (reverse-append (t ∷ []) path) ∙ map-append string_bytes (reverse path) (t ∷ [])
+    ∙ ap (λ xs. xs ++ string_bytes t ∷ []) (names_reversed path) ∙ sym (reverse-append (string_bytes t ∷ []) (names_view path))
+
 -- where the first of some faults is that of others, what is found there is found here
 pub finds_from : (o : Option Found) (whole part : Path → List Fault) → ((p : Path) → first_of (whole p) ≡ first_of (part p)) → Finds o part → Finds o whole
 finds_from o whole part same h p = h p ∙ ap (option_map told) (sym (same p))

@@ -16,7 +16,7 @@ use std::collections::{BTreeMap, BTreeSet};
 
 /// The first fault of a value, in the order of the walk; none where it fits.
 #[cycle(walk)]
-pub fn fault_of(alloc: Global, value: &Json, kind: &Kind) -> Result<Option<Found>, AllocError>
+pub fn value_fault(alloc: Global, value: &Json, kind: &Kind) -> Result<Option<Found>, AllocError>
     ensures { IfOk result (λ f. Finds f (faults (kind_view kind.now) (view value.now))) }
 {
     match (kind, value) {
@@ -48,7 +48,7 @@ fn fields_fault(
             let unknown = Found::here(alloc, Misfit::UnknownField);
             return Ok(Some(unknown.below(field_text(alloc, name.as_str())?)?));
         };
-        if let Some(found) = fault_of(alloc, member, kind)? {
+        if let Some(found) = value_fault(alloc, member, kind)? {
             return Ok(Some(found.below(field_text(alloc, name.as_str())?)?));
         }
     }
@@ -65,7 +65,7 @@ fn entries_fault(
     ensures { IfOk result (λ f. Finds f (entry_faults (kind_view inside.now) (members_view members.now.entries))) }
 {
     for (name, member) in members.iter() {
-        if let Some(found) = fault_of(alloc, member, inside)? {
+        if let Some(found) = value_fault(alloc, member, inside)? {
             return Ok(Some(found.below(field_text(alloc, name.as_str())?)?));
         }
     }

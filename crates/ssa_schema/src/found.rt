@@ -2,7 +2,7 @@
 ghost use Rattle.std.specs.Prelude.{◌≡◌, List, [], ◌∷◌, ◌++◌, IfOk};
 ghost use Rattle.ssa_model.specs.Path.{Path};
 ghost use Rattle.ssa_model.specs.Kind.{Fault};
-ghost use Rattle.ssa_schema.specs.Finds.{Finds, Breaks};
+ghost use Rattle.ssa_schema.specs.Finds.{Finds, Breaks, found_at, told_view};
 
 use crate::body_fault::BodyFault;
 use std::alloc::{AllocError, Global};
@@ -57,5 +57,18 @@ impl Found {
             misfit: self.misfit,
             path,
         })
+    }
+    /// The fault as it is told where the walk began: its path from the outermost element on.
+    pub fn into_fault(self) -> BodyFault
+        ensures { told_view result ≡ found_at [] self }
+    {
+        let mut path = self.path;
+        path.reverse();
+        match self.misfit {
+            Misfit::UnknownField => BodyFault::UnknownField(path),
+            Misfit::WrongType => BodyFault::WrongType(path),
+            Misfit::MissingKey => BodyFault::MissingKey(path),
+            Misfit::DuplicateItem => BodyFault::DuplicateItem(path),
+        }
     }
 }

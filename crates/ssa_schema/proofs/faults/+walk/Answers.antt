@@ -37,13 +37,13 @@ entries_fault-loop-name-preserved t c =
 pub entries_fault-returns : goal.entries_fault-returns
 entries_fault-returns t c p = grind (arith, common_steps, c.loop-name.invariant p)
 
-pub fault_of-returns-in-ItemsOf-List : goal.fault_of-returns-in-ItemsOf-List
-fault_of-returns-in-ItemsOf-List t c =
+pub value_fault-returns-in-ItemsOf-List : goal.value_fault-returns-in-ItemsOf-List
+value_fault-returns-in-ItemsOf-List t c =
     let w = c.in-ItemsOf-List in
     let kind : kind_view c.args.kind.now ≡ items_of (names_view c.deref-in-ItemsOf-List-2.result.now) (fields_view w.fields.entries) =
-        ap kind_view w.is-0 ∙ kind_view-ItemsOf w.keys w.fields ∙ ap (λ ks. items_of (names_view ks) (fields_view w.fields.entries)) (sym c.deref-in-ItemsOf-List-2.ensures.value) in
+    ap kind_view w.is-0 ∙ kind_view-ItemsOf w.keys w.fields ∙ ap (λ ks. items_of (names_view ks) (fields_view w.fields.entries)) (sym c.deref-in-ItemsOf-List-2.ensures.value) in
     let value : view c.args.value.now ≡ list (items_view c.deref-in-ItemsOf-List.result.now) =
-        ap view w.is-1 ∙ view-List w.items ∙ ap (λ xs. list (items_view xs)) (sym c.deref-in-ItemsOf-List.ensures.value) in
+    ap view w.is-1 ∙ view-List w.items ∙ ap (λ xs. list (items_view xs)) (sym c.deref-in-ItemsOf-List.ensures.value) in
     IfOk-weaker c.items_fault.result _ _ (λ f is p. is p ∙ (λ i. option_map told (first_of (faults (sym kind i) (sym value i) p)))) c.items_fault.ensures
 
 pub fields_fault-returns-in_default : goal.fields_fault-returns-in_default
@@ -93,9 +93,9 @@ items_fault-returns-in_default t c =
     let x = c.item-item.result in
     let xs = c.args.items.now in
     c.at_place.ensures (item_faults names fs [] (items_view xs)) (λ p. sym (
-      l.invariant.left p
-      ∙ ap (λ es. first_of (item_faults names fs l.invariant.before (items_view es) p)) (item_split xs l.item-index x c.loop-item-test.true c.item-item.is)
-      ∙ item_wrong names fs l.invariant.before (view x) (items_view (drop (l.item-index + 1) xs)) p (no_object x c.in_default.not-Object)))
+    l.invariant.left p
+    ∙ ap (λ es. first_of (item_faults names fs l.invariant.before (items_view es) p)) (item_split xs l.item-index x c.loop-item-test.true c.item-item.is)
+    ∙ item_wrong names fs l.invariant.before (view x) (items_view (drop (l.item-index + 1) xs)) p (no_object x c.in_default.not-Object)))
 
 pub items_fault-returns-in-Some : goal.items_fault-returns-in-Some
 items_fault-returns-in-Some t c =

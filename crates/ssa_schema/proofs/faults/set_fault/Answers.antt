@@ -23,9 +23,9 @@ returns-then-not-is_new c p =
     let is_new = element_test l.earlier.keys l.invariant.before text (value s) c.in_ok-is_new.is_new c.in_ok-value_text.ensures l.invariant.known c.in_ok-is_new.ensures.added in
     finds_child c.here-twice.result c.in_ok-below.field-0 DuplicateItem (value s) c.in_ok-value_text-2.field-0 c.here-twice.ensures.misfit c.here-twice.ensures.path c.in_ok-value_text-2.ensures c.in_ok-below.ensures.misfit c.in_ok-below.ensures.path p
     ∙ ap (option_map told) (sym (
-      l.invariant.left p
-      ∙ ap (λ es. first_of (value_faults k l.invariant.before (items_view es) p)) (item_split xs l.item-index x c.loop-item-test.true c.item-item.is)
-      ∙ value_twice k l.invariant.before (view x) s (items_view (drop (l.item-index + 1) xs)) p (sym c.in-Some.ensures) (sym c.if-not-is_new.true ∙ is_new)))
+    l.invariant.left p
+    ∙ ap (λ es. first_of (value_faults k l.invariant.before (items_view es) p)) (item_split xs l.item-index x c.loop-item-test.true c.item-item.is)
+    ∙ value_twice k l.invariant.before (view x) s (items_view (drop (l.item-index + 1) xs)) p (sym c.in-Some.ensures) (sym c.if-not-is_new.true ∙ is_new)))
 
 pub loop-item-preserved : goal.loop-item-preserved
 loop-item-preserved c =
