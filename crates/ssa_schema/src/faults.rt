@@ -64,8 +64,8 @@ fn entries_fault(
 ) -> Result<Option<Found>, AllocError>
     ensures { IfOk result (λ f. Finds f (entry_faults (kind_view inside.now) (members_view members.now.entries))) }
 {
-    for (name, member) in members.iter() {
-        if let Some(found) = value_fault(alloc, member, inside)? {
+    for (name, entry) in members.iter() {
+        if let Some(found) = value_fault(alloc, entry, inside)? {
             return Ok(Some(found.below(field_text(alloc, name.as_str())?)?));
         }
     }

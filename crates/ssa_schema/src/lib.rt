@@ -5,6 +5,8 @@ pub mod body_fault;
 mod build;
 mod element_text;
 pub mod fault;
+#[cfg(test)]
+mod fault_tests;
 mod faults;
 mod found;
 mod item_keys;

@@ -64,7 +64,7 @@ fn fault_of(refusal: Refusal) -> SchemaFault
 fn read_kind(alloc: Global, schema: &Json) -> Result<Kind, SchemaFault>
     ensures { ReadsKind result (schema_reading (view schema.now)) }
 {
-    if let Some(refusal) = first_refusal(schema, LEVELS, Standing::Root) {
+    if let Some(refusal) = first_refusal(alloc, schema, LEVELS, Standing::Root)? {
         return Err(fault_of(refusal));
     }
     let kind = kind_of(alloc, schema, LEVELS)?;

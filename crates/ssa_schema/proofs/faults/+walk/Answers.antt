@@ -1,16 +1,15 @@
-use Rattle.std.proofs.Common.{◌≡◌, ◌+◌, ◌++◌, [], ◌∷◌, true, not, map, drop, string_bytes, refl, sym, ap, subst, ◌∙◌, arith}
+use Rattle.std.proofs.Common.{◌≡◌, ◌+◌, ◌++◌, [], ◌∷◌, map, drop, string_bytes, sym, ap, subst, ◌∙◌, arith}
 use Rattle.std.proofs.lemmas.Grind.{common_steps}
 use Rattle.std.proofs.lemmas.Result.{IfOk-weaker}
-use Rattle.std.specs.Prelude.{Option, None, Some, option_map}
-use Rattle.ssa_model.specs.Json.{list, item}
-use Rattle.ssa_model.specs.Path.{Path, field, element_text}
-use Rattle.ssa_model.specs.Kind.{faults, field_faults, entry_faults, item_faults, unknown_field, items_of, item_key, is_among}
+use Rattle.std.specs.Prelude.{Some, option_map}
+use Rattle.ssa_model.specs.Json.{list}
+use Rattle.ssa_model.specs.Path.{field, element_text}
+use Rattle.ssa_model.specs.Kind.{faults, field_faults, entry_faults, item_faults, unknown_field, items_of, item_key}
 use Rattle.ssa_json.specs.View.{view, items_view, members_view}
 use Rattle.ssa_schema.specs.Kinds.{kind_view, fields_view, names_view}
 use Rattle.ssa_schema.specs.Refusals.{first_of}
 use Rattle.ssa_schema.specs.Finds.{Finds, told, keyed_faults}
 use Rattle.ssa_schema.specs.declared.found.Misfit.TheVariants.{UnknownField}
-use Rattle.ssa_json.proofs.Views.{view-Object}
 use Rattle.ssa_schema.proofs.Distinct.{view-List}
 use Rattle.ssa_schema.proofs.Kinding.{kind_view-ItemsOf}
 use Rattle.ssa_schema.proofs.Earlier.{holds_more, element_test}
@@ -22,7 +21,7 @@ pub entries_fault-returns-in-Some-2 : goal.entries_fault-returns-in-Some-2
 entries_fault-returns-in-Some-2 t c =
     let k = kind_view c.args.inside.now in
     member_found c.in_ok-found.field-0 c.in-Some-2.found c.in_ok-below.field-0 (string_bytes c.in-Some.name.now) c.as_str.result.now c.in_ok-field_text.field-0
-    (entry_faults k (members_view c.args.members.now.entries)) (faults k (view c.in-Some.member.now)) (entry_faults k (members_view c.next.new.self))
+    (entry_faults k (members_view c.args.members.now.entries)) (faults k (view c.in-Some.entry.now)) (entry_faults k (members_view c.next.new.self))
     (λ p. c.loop-name.invariant p ∙ ap (λ es. first_of (entry_faults k (members_view es) p)) c.in-Some.ensures.steps)
     c.in-Some-2.is c.in_ok-found.ensures c.as_str.ensures.value c.in_ok-field_text.ensures c.in_ok-below.ensures.misfit c.in_ok-below.ensures.path
 
@@ -30,7 +29,7 @@ pub entries_fault-loop-name-preserved : goal.entries_fault-loop-name-preserved
 entries_fault-loop-name-preserved t c =
     let k = kind_view c.args.inside.now in
     member_fits c.in_ok-found.field-0 (string_bytes c.in-Some.name.now)
-    (entry_faults k (members_view c.args.members.now.entries)) (faults k (view c.in-Some.member.now)) (entry_faults k (members_view c.next.new.self))
+    (entry_faults k (members_view c.args.members.now.entries)) (faults k (view c.in-Some.entry.now)) (entry_faults k (members_view c.next.new.self))
     (λ p. c.loop-name.invariant p ∙ ap (λ es. first_of (entry_faults k (members_view es) p)) c.in-Some.ensures.steps)
     c.in_default.is c.in_ok-found.ensures
 

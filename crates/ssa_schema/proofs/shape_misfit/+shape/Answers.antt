@@ -1,4 +1,4 @@
-use Rattle.std.proofs.Common.{refl, ◌≡◌, ◌+◌, ◌∷◌, sym, ap, ◌∙◌, drop, arith, string_bytes}
+use Rattle.std.proofs.Common.{refl, ◌+◌, sym, ap, ◌∙◌, drop, arith, string_bytes}
 use Rattle.std.proofs.lemmas.Grind.{common_steps}
 use Rattle.ssa_model.specs.Kind.{shape_faults, shape_field_faults, shape_entry_faults, shape_item_faults}
 use Rattle.ssa_json.specs.View.{view, items_view, members_view}
