@@ -1,5 +1,5 @@
 //! Prints JSON values.
-ghost use Rattle.std.specs.Prelude.{◌≡◌, IfOk, OnOk, true};
+ghost use Rattle.std.specs.Prelude.{◌≡◌, IfOk, OnOk, true, string_bytes};
 ghost use Rattle.serde_json.specs.View.{view as data_view, items_view as data_items, members_view as data_members};
 ghost use Rattle.ssa_model.specs.Json.{compact};
 ghost use Rattle.ssa_json.specs.View.{view, items_view, members_view};
@@ -18,6 +18,14 @@ impl Json {
     {
         let value = to_value(alloc, self)?;
         value.to_vec(alloc)
+    }
+
+    /// The compact spelling, as a text.
+    pub fn to_string(&self, alloc: Global) -> Result<String, AllocError>
+        ensures { IfOk result (λ text. string_bytes text ≡ compact (view self.now)) }
+    {
+        let value = to_value(alloc, self)?;
+        value.to_string(alloc)
     }
 }
 

@@ -1,45 +1,85 @@
 -- Keys that differ.
-use Rattle.std.proofs.Common.{◌≡◌, ℕ, ◌-◌, ◌≤◌, List, [], ◌∷◌, Bool, true, false, not, ◌&&◌, ◌||◌, refl, sym, ap, ap₂, ◌∙◌, length, get_or, take, drop, take_all, Vec, Global, rules, arith, true≢false, subst}
+use Rattle.std.proofs.Common.{◌≡◌, ℕ, List, [], ◌∷◌, Bool, true, false, not, ◌&&◌, ◌||◌, refl, sym, ap, ap₂, ◌∙◌, length, Vec, Global, rules, true≢false, subst}
 use Rattle.std.specs.Prelude.{◌==◌}
 use Rattle.std.specs.Vec.{vec_len}
-use Rattle.std.proofs.lemmas.Bool.Decides.{nat_tests}
 use Rattle.ssa_json.specs.View.{view, items_view, scalar_view}
 use Rattle.ssa_json.specs.declared.value.Json as value
 use Rattle.ssa_json.specs.declared.value.Scalar as value_scalar
 use Rattle.std.specs.Prelude.{Option, None, Some, option_map, option_and_then}
 use Rattle.ssa_model.specs.Json.{Text, Json, scalar, list, Items, no_items, item, same_text, as_text}
 use Rattle.ssa_model.specs.Schema.{is_one_of_texts, are_distinct_texts, are_keys, texts_of, is_key_list}
-use Rattle.ssa_schema.specs.Words.{any_item_is, are_distinct_in, each_text}
+use Rattle.ssa_json.proofs.Equality.{same_text-true, same_text-itself}
+use Rattle.ssa_schema.specs.Words.{are_distinct_in, each_text}
 use Rattle.std.specs.List.{list_all}
 
--- where the items are texts, they have the text exactly where these have it
-abbrev Finds : Text → Items → Option (List Text) → Type 0
-Finds t vs None = Unit {0}
-Finds t vs (Some ts) = any_item_is t vs ≡ is_one_of_texts t ts
+-- none of these is among those before, and they differ
+abbrev pub apart : List Text → List Text → Bool
+apart before [] = true
+apart before (t ∷ ts) = not (is_one_of_texts t before) && apart (t ∷ before) ts
 
-finds_more : (t : Text) (v : Json) (vs : Items) (u : Option Text) (r : Option (List Text)) → as_text v ≡ u → Finds t vs r
-    → Finds t (item v vs) (option_and_then (λ x. option_map (λ ts. x ∷ ts) r) u)
-finds_more t v vs None r e h = tt
-finds_more t v vs (Some x) None e h = tt
-finds_more t v vs (Some x) (Some ts) e h =
-    ap₂ (λ a b. a || b) (ap (λ (o : Option Text). elim o [ None ↦ false | Some u ↦ same_text t u ]) e) h
+abbrev clear : List Text → List Text → Bool
+clear before ts = list_all (λ t. not (is_one_of_texts t before)) ts
 
-finds : (t : Text) (vs : Items) → Finds t vs (texts_of vs)
-finds t no_items = refl
-finds t (item v vs) = finds_more t v vs (as_text v) (texts_of vs) refl (finds t vs)
+same_text-turned : (t u : Text) → same_text t u ≡ same_text u t
+same_text-turned t u = turned (same_text t u) (same_text u t) (λ e. subst (λ x. same_text u x ≡ true) (sym (same_text-true t u e)) (same_text-itself u)) (λ e. subst (λ x. same_text t x ≡ true) (sym (same_text-true u t e)) (same_text-itself t))
+  where
+    turned : (a b : Bool) → (a ≡ true → b ≡ true) → (b ≡ true → a ≡ true) → a ≡ b
+    turned true b there back = sym (there refl)
+    turned false true there back = back refl
+    turned false false there back = refl
+
+swapped : (s b c e : Bool) → (not (s || b) && (not c && e)) ≡ (not (s || c) && (not b && e))
+swapped true b c e = refl
+swapped false true true e = refl
+swapped false true false e = refl
+swapped false false true e = refl
+swapped false false false e = refl
+
+clear_more : (t : Text) (before ts : List Text) → clear (t ∷ before) ts ≡ (not (is_one_of_texts t ts) && clear before ts)
+clear_more t before [] = refl
+clear_more t before (u ∷ us) =
+    ap₂ (λ s r. not (s || is_one_of_texts u before) && r) (same_text-turned u t) (clear_more t before us)
+    ∙ swapped (same_text t u) (is_one_of_texts u before) (is_one_of_texts t us) (clear before us)
+
+regrouped : (a n c d : Bool) → (a && ((n && c) && d)) ≡ ((a && c) && (n && d))
+regrouped true true c d = refl
+regrouped true false true d = refl
+regrouped true false false d = refl
+regrouped false n c d = refl
+
+apart_clear : (before ts : List Text) → apart before ts ≡ (clear before ts && are_distinct_texts ts)
+apart_clear before [] = refl
+apart_clear before (t ∷ ts) =
+    ap (λ r. not (is_one_of_texts t before) && r) (apart_clear (t ∷ before) ts ∙ ap (λ r. r && are_distinct_texts ts) (clear_more t before ts))
+    ∙ regrouped (not (is_one_of_texts t before)) (not (is_one_of_texts t ts)) (clear before ts) (are_distinct_texts ts)
+
+all_clear : (ts : List Text) → clear [] ts ≡ true
+all_clear [] = refl
+all_clear (t ∷ ts) = all_clear ts
+
+-- the same of items that are texts
+abbrev pub apart_in : List Text → Option (List Text) → Bool
+apart_in before None = false
+apart_in before (Some ts) = apart before ts
+
+pub apart-start : (r : Option (List Text)) → are_distinct_in r ≡ apart_in [] r
+apart-start None = refl
+apart-start (Some ts) = sym (apart_clear [] ts ∙ ap (λ b. b && are_distinct_texts ts) (all_clear ts))
+
+pub apart-no_text : (before : List Text) (v : Json) (vs : Items) → None ≡ as_text v → apart_in before (texts_of (item v vs)) ≡ false
+apart-no_text before v vs e = ap (λ u. apart_in before (option_and_then (λ x. option_map (λ ts. x ∷ ts) (texts_of vs)) u)) (sym e)
 
 and_false : (b : Bool) → false ≡ (b && false)
 and_false true = refl
 and_false false = refl
 
-one_more : (t : Text) (vs : Items) (r : Option (List Text)) → Finds t vs r → are_distinct_in (option_map (λ ts. t ∷ ts) r) ≡ (not (any_item_is t vs) && are_distinct_in r)
-one_more t vs None h = and_false (not (any_item_is t vs))
-one_more t vs (Some ts) h = ap (λ b. not b && are_distinct_texts ts) (sym h)
+one_more : (before : List Text) (t : Text) (r : Option (List Text)) → apart_in before (option_map (λ ts. t ∷ ts) r) ≡ (not (is_one_of_texts t before) && apart_in (t ∷ before) r)
+one_more before t None = and_false (not (is_one_of_texts t before))
+one_more before t (Some ts) = refl
 
--- a text is none of those after it, and these differ
-pub are_distinct-more : (t : Text) (v : Json) (vs : Items) → as_text v ≡ Some t → are_distinct_in (texts_of (item v vs)) ≡ (not (any_item_is t vs) && are_distinct_in (texts_of vs))
-are_distinct-more t v vs e =
-    ap (λ u. are_distinct_in (option_and_then (λ x. option_map (λ ts. x ∷ ts) (texts_of vs)) u)) e ∙ one_more t vs (texts_of vs) (finds t vs)
+pub apart-text : (before : List Text) (t : Text) (v : Json) (vs : Items) → Some t ≡ as_text v → apart_in before (texts_of (item v vs)) ≡ (not (is_one_of_texts t before) && apart_in (t ∷ before) (texts_of vs))
+apart-text before t v vs e =
+    ap (λ u. apart_in before (option_and_then (λ x. option_map (λ ts. x ∷ ts) (texts_of vs)) u)) (sym e) ∙ one_more before t (texts_of vs)
 
 some_keys : (v : Json) (vs : Items) (u : Option Text) (r : Option (List Text)) → are_distinct_in (option_and_then (λ x. option_map (λ ts. x ∷ ts) r) u) ≡ (elim (option_and_then (λ x. option_map (λ ts. x ∷ ts) r) u) [ None ↦ false | Some ts ↦ are_keys ts ])
 some_keys v vs None r = refl
@@ -77,24 +117,9 @@ view-Scalar s = search (rules, value.the_lemmas)
 pub view-List : (v : Vec value.Json Global) → view (value.List v) ≡ list (items_view v.items)
 view-List v = search (rules, value.the_lemmas)
 
-pub distinct-first : (xs : List value.Json) (first : value.Json) (t : Text) → 1 ≤ length xs → first ≡ get_or xs 0 first → as_text (view first) ≡ Some t
-    → are_distinct_in (texts_of (items_view xs)) ≡ (not (any_item_is t (items_view (take (length xs - 1) (drop 1 xs)))) && are_distinct_in (texts_of (items_view (take (length xs - 1) (drop 1 xs)))))
-distinct-first [] first t some is e = absurd (omega arith)
-distinct-first (y ∷ ys) first t some is e =
-    let rest : take (length (y ∷ ys) - 1) (drop 1 (y ∷ ys)) ≡ ys = take_all _ ys (omega arith) in
-    are_distinct-more t (view y) (items_view ys) (ap (λ v. as_text (view v)) (sym is) ∙ e)
-    ∙ ap (λ zs. not (any_item_is t (items_view zs)) && are_distinct_in (texts_of (items_view zs))) (sym rest)
-
 pub key_list-some : (v : Vec value.Json Global) → vec_len v ≡ length v.items → false ≡ (vec_len v == 0) → are_distinct_in (texts_of (items_view v.items)) ≡ is_key_list (view (value.List v))
 key_list-some v len some = all v.items (vec_len v) len some ∙ ap is_key_list (sym (view-List v))
   where
     all : (xs : List value.Json) (n : ℕ) → n ≡ length xs → false ≡ (n == 0) → are_distinct_in (texts_of (items_view xs)) ≡ is_key_list (list (items_view xs))
     all [] n len some = absurd (true≢false (sym (ap (λ m. m == 0) len) ∙ sym some))
     all (x ∷ xs) n len some = are_distinct-keys (view x) (items_view xs)
-
-pub key_list-none : (v : Vec value.Json Global) → vec_len v ≡ length v.items → true ≡ (vec_len v == 0) → false ≡ is_key_list (view (value.List v))
-key_list-none v len none = all v.items (vec_len v) len none ∙ ap is_key_list (sym (view-List v))
-  where
-    all : (xs : List value.Json) (n : ℕ) → n ≡ length xs → true ≡ (n == 0) → false ≡ is_key_list (list (items_view xs))
-    all [] n len none = refl
-    all (x ∷ xs) n len none = absurd (grind (arith, nat_tests))

@@ -1,5 +1,5 @@
 -- Laws of building kinds.
-use Rattle.std.proofs.Common.{◌≡◌, ℕ, zero, suc, List, [], ◌∷◌, map, String, Global, BTreeMap, string_bytes, refl, sym, ap, true, false, ◌∙◌, rules}
+use Rattle.std.proofs.Common.{◌≡◌, ℕ, zero, suc, List, [], ◌∷◌, map, String, Global, Vec, BTreeMap, string_bytes, refl, sym, ap, true, false, ◌∙◌, rules}
 use Rattle.std.specs.Prelude.{if◌then◌else◌}
 use Rattle.ssa_model.specs.Json.{Text, Json, scalar, list, object, Scalar, Items, Members}
 use Rattle.ssa_model.specs.Kind as model
@@ -7,7 +7,7 @@ use Rattle.ssa_model.specs.Schema.{kind_fields, is_atomic, shape_of_schema}
 use Rattle.ssa_json.specs.View.{view, members_view}
 use Rattle.ssa_json.proofs.Converting.{Found}
 use Rattle.ssa_json.proofs.Ordered.{names}
-use Rattle.ssa_schema.specs.Kinds.{shape_view, kind_view, fields_view}
+use Rattle.ssa_schema.specs.Kinds.{shape_view, kind_view, fields_view, names_view}
 use Rattle.ssa_schema.specs.Builds.{shape_at, kind_at, merged_kind}
 use Rattle.ssa_schema.specs.declared.kind.Kind as kind
 use Rattle.ssa_schema.specs.declared.kind.Shape.{Shape}
@@ -44,6 +44,9 @@ kind_view-none m none = kind_view-Record m ∙ ap (λ es. model.record_of (field
 
 pub kind_view-AtomicOf : (s : Shape) → kind_view (kind.AtomicOf s) ≡ model.atomic_of (shape_view s)
 kind_view-AtomicOf s = search (rules, kind.the_lemmas)
+
+pub kind_view-ItemsOf : (keys : Vec (String Global) Global) (m : BTreeMap (String Global) kind.Kind) → kind_view (kind.ItemsOf keys m) ≡ model.items_of (names_view keys.items) (fields_view m.entries)
+kind_view-ItemsOf keys m = search (rules, kind.the_lemmas)
 
 -- ---- fields by name
 

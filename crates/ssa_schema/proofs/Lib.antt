@@ -1,6 +1,9 @@
 pub mod Distinct
+pub mod Earlier
 pub mod Fields
+pub mod Finding
 pub mod Firsts
+pub mod ItemWalk
 pub mod Kinding
 pub mod Reading
 pub mod Shaping

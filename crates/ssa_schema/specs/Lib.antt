@@ -1,4 +1,5 @@
 pub mod Builds
+pub mod Finds
 pub mod Kinds
 pub mod Lawful
 pub mod Refusals

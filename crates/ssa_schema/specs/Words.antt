@@ -1,5 +1,5 @@
 -- Words about the members of a schema.
-use Rattle.std.specs.Prelude.{List, Bool, true, false, not, ◌&&◌, ◌||◌, Option, None, Some, is_some, codes}
+use Rattle.std.specs.Prelude.{List, Bool, true, false, not, ◌&&◌, Option, None, Some, is_some, codes}
 use Rattle.ssa_model.specs.Json.{Text, Json, scalar, list, object, Items, no_items, item, Members, no_members, member_of, same_text, as_text}
 use Rattle.ssa_model.specs.Schema.{is_text_among, is_key_list, is_scalar_type, are_distinct_texts, if_given, texts_of, whole_profile}
 
@@ -23,11 +23,6 @@ members_found (Some ms) = ms
 -- the members of a member, none where it is absent or no object
 abbrev pub members_under : Text → Members → Members
 members_under n ms = elim (member_of n ms) [ None ↦ no_members | Some v ↦ (elim v [ object ps ↦ ps | list vs ↦ no_members | scalar s ↦ no_members ]) ]
-
--- one of the items is the text
-abbrev pub any_item_is : Text → Items → Bool
-any_item_is t no_items = false
-any_item_is t (item v vs) = value_is t v || any_item_is t vs
 
 -- there are texts, and they differ
 abbrev pub are_distinct_in : Option (List Text) → Bool

@@ -1,9 +1,9 @@
 //! The keys of a map list, and what is asked of a list's items.
-ghost use Rattle.std.specs.Prelude.{◌≡◌, option_map, Some};
+ghost use Rattle.std.specs.Prelude.{◌≡◌, option_map, Some, IfOk};
 ghost use Rattle.std.specs.List.{list_all};
 ghost use Rattle.ssa_model.specs.Schema.{has_wrong_keys, is_granular_record, is_scalar_property, is_scalar_type, is_key_list, key_names, texts_of, item_members, item_faults};
 ghost use Rattle.ssa_json.specs.View.{view, members_view, items_view};
-ghost use Rattle.ssa_schema.specs.Words.{any_item_is, are_distinct_in, are_text_items, each_text, lacks_key_list, is_scalar_schema};
+ghost use Rattle.ssa_schema.specs.Words.{are_distinct_in, are_text_items, each_text, lacks_key_list, is_scalar_schema};
 ghost use Rattle.ssa_schema.specs.Refusals.{refusal_view, first_of};
 
 use crate::members::{
@@ -12,19 +12,8 @@ use crate::members::{
 use crate::refusal::Refusal;
 use crate::rules::{item_members, property_members};
 use ssa_json::value::Json;
-use std::collections::BTreeMap;
-
-// Whether one of the items is the text.
-fn any_item_is(text: &str, items: &[Json]) -> bool
-    ensures { result ≡ any_item_is text.now (items_view items.now) }
-{
-    for item in items {
-        if crate::members::value_is(item, text) {
-            return true;
-        }
-    }
-    false
-}
+use std::alloc::{AllocError, Global};
+use std::collections::{BTreeMap, BTreeSet};
 
 // Whether each item is a text.
 fn are_text_items(items: &[Json]) -> bool
@@ -39,45 +28,59 @@ fn are_text_items(items: &[Json]) -> bool
 }
 
 // Whether the items are texts that differ.
-fn are_distinct(items: &[Json]) -> bool
-    ensures { result ≡ are_distinct_in (texts_of (items_view items.now)) }
+fn are_distinct(alloc: Global, items: &[Json]) -> Result<bool, AllocError>
+    ensures { IfOk result (λ b. b ≡ are_distinct_in (texts_of (items_view items.now))) }
 {
-    match items {
-        [] => true,
-        [first, rest @ ..] => match first.as_text() {
-            Some(text) => !any_item_is(text, rest) && are_distinct(rest),
-            None => false,
-        },
+    let mut earlier = BTreeSet::new(alloc);
+    for item in items {
+        let Some(text) = item.as_text() else {
+            return Ok(false);
+        };
+        let is_new = earlier.insert(String::from_str(alloc, text)?)?;
+        if !is_new {
+            return Ok(false);
+        }
     }
+    Ok(true)
 }
 
 // Whether the value is a list of one text or more that differ.
-fn is_key_list(value: &Json) -> bool
-    ensures { result ≡ is_key_list (view value.now) }
+fn is_key_list(alloc: Global, value: &Json) -> Result<bool, AllocError>
+    ensures { IfOk result (λ b. b ≡ is_key_list (view value.now)) }
 {
     match value {
-        Json::List(items) => !items.is_empty() && are_distinct(items.as_slice()),
-        _ => false,
+        Json::List(items) => {
+            if items.is_empty() {
+                Ok(false)
+            } else {
+                are_distinct(alloc, items.as_slice())
+            }
+        }
+        _ => Ok(false),
     }
 }
 
 // Whether the keys of a map list are missing or none.
-fn lacks_key_list(members: &BTreeMap<String, Json>) -> bool
-    ensures { result ≡ lacks_key_list (members_view members.now.entries) }
+fn lacks_key_list(alloc: Global, members: &BTreeMap<String, Json>) -> Result<bool, AllocError>
+    ensures { IfOk result (λ b. b ≡ lacks_key_list (members_view members.now.entries)) }
 {
     match find_member(members, "x-kubernetes-list-map-keys") {
-        Some(value) => !is_key_list(value),
-        None => true,
+        Some(value) => Ok(!is_key_list(alloc, value)?),
+        None => Ok(true),
     }
 }
 
 /// Whether a list has keys without being a map list, or is one without a list of keys that differ.
-pub fn has_wrong_keys(members: &BTreeMap<String, Json>) -> bool
-    ensures { result ≡ has_wrong_keys (members_view members.now.entries) }
+pub fn has_wrong_keys(alloc: Global, members: &BTreeMap<String, Json>) -> Result<bool, AllocError>
+    ensures { IfOk result (λ b. b ≡ has_wrong_keys (members_view members.now.entries)) }
 {
-    is_array_type(members)
-        && ((has_member(members, "x-kubernetes-list-map-keys") && !list_type_is(members, "map"))
-            || (list_type_is(members, "map") && lacks_key_list(members)))
+    if !is_array_type(members) {
+        return Ok(false);
+    }
+    if list_type_is(members, "map") {
+        return lacks_key_list(alloc, members);
+    }
+    Ok(has_member(members, "x-kubernetes-list-map-keys"))
 }
 
 /// The keys of a map list: texts, or none where the member is no list of texts.

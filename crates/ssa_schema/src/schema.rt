@@ -1,19 +1,24 @@
 //! Structural schemas, read from JSON.
-ghost use Rattle.std.specs.Prelude.{◌≡◌};
+ghost use Rattle.std.specs.Prelude.{◌≡◌, [], IfOk, option_map};
+ghost use Rattle.ssa_model.specs.Kind.{faults};
 ghost use Rattle.ssa_model.specs.Schema.{read_schema, whole_profile};
 ghost use Rattle.ssa_json.specs.View.{view};
 ghost use Rattle.ssa_schema.specs.Kinds.{kind_view};
+ghost use Rattle.ssa_schema.specs.Refusals.{first_of};
+ghost use Rattle.ssa_schema.specs.Finds.{told, told_view};
 ghost use Rattle.ssa_schema.specs.Schemas.{schema_reading, fault_of, ReadsKind, ReadsSchema};
 
+use crate::body_fault::BodyFault;
 use crate::build::kind_of;
 use crate::fault::SchemaFault;
+use crate::faults::value_fault;
 use crate::kind::Kind;
 use crate::metadata::with_metadata;
 use crate::refusal::Refusal;
 use crate::standing::Standing;
 use crate::walk::first_refusal;
 use ssa_json::value::Json;
-use std::alloc::Global;
+use std::alloc::{AllocError, Global};
 use std::marker::Model;
 
 /// How deep schemas may nest.
@@ -59,7 +64,7 @@ fn fault_of(refusal: Refusal) -> SchemaFault
 fn read_kind(alloc: Global, schema: &Json) -> Result<Kind, SchemaFault>
     ensures { ReadsKind result (schema_reading (view schema.now)) }
 {
-    if let Some(refusal) = first_refusal(schema, LEVELS, Standing::Root) {
+    if let Some(refusal) = first_refusal(alloc, schema, LEVELS, Standing::Root)? {
         return Err(fault_of(refusal));
     }
     let kind = kind_of(alloc, schema, LEVELS)?;
@@ -94,5 +99,19 @@ impl Schema {
         ensures { kind_view result.now ≡ self.now.1 }
     {
         &self.kind
+    }
+    /// The first fault of a value under the schema, none where it fits.
+    ///
+    /// The members of an object are looked at in the order of their names' bytes and the items of a
+    /// list in their order, each with all below it before the next. Items of a set are one where
+    /// their values are, and items of a map list where their key fields are. A list of `n` items
+    /// costs about `n log n` comparisons of texts.
+    pub fn first_fault(&self, alloc: Global, body: &Json) -> Result<Option<BodyFault>, AllocError>
+        ensures { IfOk result (λ f. option_map told_view f ≡ option_map told (first_of (faults self.now.1 (view body.now) []))) }
+    {
+        match value_fault(alloc, body, &self.kind)? {
+            Some(found) => Ok(Some(found.into_fault())),
+            None => Ok(None),
+        }
     }
 }

@@ -1,6 +1,8 @@
 use Rattle.std.proofs.Common.{sym, ap, ◌∙◌, subst, Ok}
+use Rattle.std.specs.Prelude.{option_map}
 use Rattle.ssa_model.specs.Schema.{with_metadata, whole_profile}
 use Rattle.ssa_json.specs.View.{view}
+use Rattle.ssa_schema.specs.Refusals.{refusal_view}
 use Rattle.ssa_schema.specs.Schemas.{schema_reading, Faults}
 use Rattle.ssa_schema.proofs.Reading.{reading-none, Faults-refusal}
 use Rattle.ssa_schema.proofs.schema.read_kind.Goals as goal
@@ -8,10 +10,10 @@ use Rattle.ssa_schema.proofs.schema.read_kind.Goals as goal
 pub returns-in-Some : goal.returns-in-Some
 returns-in-Some c =
     let v = view c.args.schema.now in
-    subst (λ f. Faults f (schema_reading v)) (sym c.fault_of.ensures) (Faults-refusal c.in-Some.refusal v c.in-Some.ensures)
+    subst (λ f. Faults f (schema_reading v)) (sym c.fault_of.ensures) (Faults-refusal c.in-Some.refusal v (ap (option_map refusal_view) (sym c.in-Some.is) ∙ c.in_ok-refusal.ensures))
 
 pub returns : goal.returns
 returns c =
-    reading-none (view c.args.schema.now) c.in_default.ensures
+    reading-none (view c.args.schema.now) (ap (option_map refusal_view) (sym c.in_default.is) ∙ c.in_ok-refusal.ensures)
     ∙ ap (λ k. Ok (with_metadata whole_profile.metadata k)) (sym c.in_ok-kind.ensures)
     ∙ ap Ok (sym c.in_ok-with_metadata.ensures)
