@@ -1,3 +1,4 @@
 pub mod Levels
 pub mod Lookups
 pub mod Looks
+pub mod Sizes

@@ -1,5 +1,6 @@
 //! Bodies, seen as finite maps from whole paths to contents.
-ghost use Rattle.std.specs.Prelude.{◌≡◌, true, option_map};
+ghost use Rattle.std.specs.Prelude.{◌≡◌, ◌-◌, ◌^◌, true, min, option_map};
+ghost use Rattle.ssa_model.specs.PathMap.{size};
 ghost use Rattle.ssa_typed.specs.Look.{look_of, look_at};
 ghost use Rattle.ssa_typed.specs.Rows.{body_of, is_tree};
 
@@ -58,6 +59,13 @@ impl Body {
             Some(node) => Some(node.look()),
             None => None,
         }
+    }
+
+    /// How many places the body has, the root among them, or `usize::MAX` where there are more.
+    pub fn size(&self) -> usize
+        ensures { result ≡ min (size self.now) (2 ^ 64 - 1) }
+    {
+        self.root.size()
     }
 
     /// The body's tree, in whose place an empty record is left.
