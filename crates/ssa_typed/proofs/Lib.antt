@@ -3,3 +3,6 @@ pub mod Lookups
 pub mod Looks
 pub mod Sizes
 pub mod Sorting
+pub mod Stands
+pub mod Making
+pub mod Collecting

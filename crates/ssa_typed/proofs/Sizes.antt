@@ -13,9 +13,10 @@ use Rattle.ssa_path.specs.declared.element.Elem.{Elem}
 use Rattle.ssa_path.specs.View.{element_view}
 use Rattle.ssa_path.proofs.Orders.{both, both_first, both_second, same_element-itself}
 use Rattle.ssa_typed.specs.Rows.{Row, rows, rows_below, under_element, below, content_at, body_of, are_apart, is_tree, are_trees}
+use Rattle.ssa_typed.specs.Points.{content_in}
 use Rattle.ssa_typed.specs.declared.node.Node.{Node}
 use Rattle.ssa_typed.proofs.Levels.{level-below}
-use Rattle.ssa_typed.proofs.Lookups.{or_else, content_at-append, content_at-under, content-below, content_in, child_at-none}
+use Rattle.ssa_typed.proofs.Lookups.{or_else, content_at-append, content_at-under, content-below, child_at-none}
 
 -- ---- counting the rows
 
@@ -50,9 +51,6 @@ count-more cs i c count more sum lt is e s h =
     let longer : length (rows_below (take (i + 1) cs)) ≡ length (rows_below (take i cs)) + length (rows c.1) =
     ap (λ l. length (rows_below l)) (take_more cs i c lt ∙ ap (λ x. take i cs ++ x ∷ []) (sym is)) ∙ length-push (take i cs) c in
     sum-capped count (length (rows_below (take i cs))) more (length (rows c.1)) sum h e s ∙ ap (λ n. min (suc n) (2 ^ 64 - 1)) (sym longer)
-
-pub count-all : (n : Node) (cs : List (Elem × Node)) (i : ℕ) (count : ℕ) → cs ≡ below n → length cs ≤ i → IsCount (take i cs) count → count ≡ min (length (rows n)) (2 ^ 64 - 1)
-count-all n cs i count is le h = h ∙ ap (λ l. min (suc (length (rows_below l))) (2 ^ 64 - 1)) (take_all i cs le ∙ is) ∙ ap (λ m. min m (2 ^ 64 - 1)) (sym (length-level n))
 
 -- ---- each path once
 

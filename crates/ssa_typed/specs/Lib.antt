@@ -1,3 +1,4 @@
 pub mod InOrder
 pub mod Look
+pub mod Points
 pub mod Rows

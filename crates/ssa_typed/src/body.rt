@@ -1,12 +1,14 @@
 //! Bodies, seen as finite maps from whole paths to contents.
-ghost use Rattle.std.specs.Prelude.{◌≡◌, ◌-◌, ◌^◌, true, min, option_map};
+ghost use Rattle.std.specs.Prelude.{◌≡◌, ◌-◌, ◌^◌, true, min, option_map, IfOk};
+ghost use Rattle.ssa_model.specs.Body.{points};
 ghost use Rattle.ssa_model.specs.PathMap.{size};
 ghost use Rattle.ssa_typed.specs.Look.{look_of, look_at};
 ghost use Rattle.ssa_typed.specs.Rows.{body_of, is_tree};
 
 use crate::node::{Look, Node};
+use ssa_path::field_set::FieldSet;
 use ssa_path::path::Path;
-use std::alloc::Global;
+use std::alloc::{AllocError, Global};
 use std::marker::Model;
 use std::mem;
 
@@ -66,6 +68,14 @@ impl Body {
         ensures { result ≡ min (size self.now) (2 ^ 64 - 1) }
     {
         self.root.size()
+    }
+
+    /// The leaves, items of lists, entries of Dicts and empty branches.
+    pub fn points(&self, alloc: Global) -> Result<FieldSet, AllocError>
+        ensures { IfOk result (λ s. s ≡ points self.now) }
+    {
+        let root = self.root.points(alloc)?;
+        Ok(FieldSet::from_root(root))
     }
 
     /// The body's tree, in whose place an empty record is left.

@@ -1,5 +1,5 @@
 use Rattle.std.proofs.Common.{arith}
-use Rattle.ssa_typed.proofs.Sizes.{count-more, count-all}
+use Rattle.ssa_typed.proofs.Sizes.{count-more}
 use Rattle.ssa_typed.proofs.node.Node.+size.Goals as goal
 
 pub loop-child-preserved : goal.loop-child-preserved
