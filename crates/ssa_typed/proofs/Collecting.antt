@@ -13,9 +13,7 @@ use Rattle.ssa_path.specs.declared.trie.Trie.TheViews.{roll-Trie}
 use Rattle.ssa_path.specs.Trie.{is_one_of, listed, paths, paths_below, is_trie}
 use Rattle.ssa_path.specs.View.{element_view}
 use Rattle.ssa_path.proofs.Levels.{any-made, is_trie-made, one-made-root, same_path-reading}
-use Rattle.ssa_path.proofs.Lists.{left-at}
 use Rattle.ssa_path.proofs.Orders.{both_second, same_element-itself}
-use Rattle.ssa_path.proofs.Searching.{child-found}
 use Rattle.ssa_path.proofs.Sets.{has-listed}
 use Rattle.ssa_typed.specs.InOrder.{referred, IsInOrder}
 use Rattle.ssa_typed.specs.Points.{stands_below, stands_in, content_in, is_point_by, is_point_of, point_in, collects, collects_of, is_in_dict, IsCollected, IsChildTrie, IsPointTrie}
@@ -26,7 +24,7 @@ use Rattle.ssa_typed.specs.declared.points.Collected.TheVariants.{Points, All}
 use Rattle.ssa_typed.proofs.Levels.{level-below}
 use Rattle.ssa_typed.proofs.Lookups.{content-level, content-root, tree-child}
 use Rattle.ssa_typed.proofs.Making.{Test, TellsNothing, IsMade, IsMaking, making-none, making-more, making-all, front-own}
-use Rattle.ssa_typed.proofs.Sizes.{length-first, length-level}
+use Rattle.ssa_typed.proofs.References.{Reference, left-referred}
 use Rattle.ssa_typed.proofs.Stands.{stands-level, points-body}
 
 -- ---- what is collected at and below a node, level by level
@@ -46,58 +44,6 @@ pub collects-nothing : (what : Collected) (d : Bool) (e : Element) (p : Path) �
 collects-nothing Points d e [] = refl
 collects-nothing Points d e (f ∷ p) = refl
 collects-nothing All d e p = refl
-
--- ---- children in order, by an index
-
-abbrev Reference : Type 0
-Reference = Bor (Elem × Node)
-
-pub drop-referred : (i : ℕ) (rs : List Reference) → drop i (referred rs) ≡ referred (drop i rs)
-drop-referred zero rs = refl
-drop-referred (suc i) [] = refl
-drop-referred (suc i) (r ∷ rs) = drop-referred i rs
-
--- what is left begins with the reference at the index
-pub left-referred : (rs : List Reference) (i : ℕ) (r : Reference) → i < length rs → r ≡ get_or rs i r → drop i (referred rs) ≡ r.now ∷ drop (i + 1) (referred rs)
-left-referred rs i r lt is = drop-referred i rs ∙ ap referred (left-at rs i r lt is) ∙ ap (λ l. r.now ∷ l) (sym (drop-referred (i + 1) rs))
-
-length-referred : (rs : List Reference) → length (referred rs) ≡ length rs
-length-referred [] = refl
-length-referred (r ∷ rs) = ap suc (length-referred rs)
-
-get-referred : (rs : List Reference) (i : ℕ) (r : Reference) → i < length rs → r ≡ get_or rs i r → get_or (referred rs) i r.now ≡ r.now
-get-referred [] i r lt is = absurd (omega arith)
-get-referred (x ∷ rs) zero r lt is = ap (λ (y : Reference). y.now) (sym is)
-get-referred (x ∷ rs) (suc i) r lt is = get-referred rs i r (omega arith) is
-
--- the children of a node, put in order and lent
-pub order-below : (n : Node) (cs : List (Elem × Node)) (sorted rs : List Reference) → cs ≡ below n → rs ≡ sorted → IsInOrder cs (referred sorted) → IsInOrder (below n) (referred rs)
-order-below n cs sorted rs own lent h = subst (λ l. IsInOrder l (referred rs)) own (subst (λ l. IsInOrder cs (referred l)) (sym lent) h)
-
--- each of the children in order is the child of its element
-pub child-of : (cs : List (Elem × Node)) (rs : List Reference) (i : ℕ) (r : Reference) → i < length rs → r ≡ get_or rs i r → IsInOrder cs (referred rs) → child_at (element_view r.now.0) cs ≡ Some r.now.1
-child-of cs rs i r lt is h =
-    let e = element_view r.now.0 in
-    let there = get-referred rs i r lt is in
-    let same = ap (λ (x : Elem × Node). same_element e (element_view x.0)) there ∙ same_element-itself e in
-    sym (h.same e) ∙ child-found e (referred rs) i r.now h.rise (simp length-referred lt) same ∙ ap (λ (x : Elem × Node). Some x.1) there
-
--- ---- a tree is larger than what is below it
-
-larger-children : (e : Element) (cs : List (Elem × Node)) (c : Node) → child_at e cs ≡ Some c → length (rows c) ≤ length (rows_below cs)
-larger-children e [] c h = cc
-larger-children e (x ∷ cs) c h =
-    let long = length-first x cs in
-    elim (same_element e (element_view x.0)) as (λ b. cond b (Some x.1) (child_at e cs) ≡ Some c → length (rows c) ≤ length (rows_below (x ∷ cs))) [
-      | true ↦ λ k. let same : x.1 ≡ c = cc in let sizes : length (rows x.1) ≡ length (rows c) = ap (λ m. length (rows m)) same in omega arith
-      | false ↦ λ k. let rest = larger-children e cs c k in omega arith
-    ] h
-
-pub smaller : (n : Node) (e : Element) (c : Node) → child_at e (below n) ≡ Some c → length (rows c) < length (rows n)
-smaller n e c h =
-    let long = length-level n in
-    let part = larger-children e (below n) c h in
-    omega arith
 
 -- ---- a place over what was collected below it
 

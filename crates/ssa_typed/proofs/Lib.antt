@@ -6,3 +6,5 @@ pub mod Sorting
 pub mod Stands
 pub mod Making
 pub mod Collecting
+pub mod References
+pub mod Differing

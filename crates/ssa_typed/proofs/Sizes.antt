@@ -120,3 +120,20 @@ size-apart (r ∷ rs) h =
 -- THE BRIDGE: as many paths as rows
 pub size-body : (n : Node) → is_tree n ≡ true → size (body_of n) ≡ length (rows n)
 size-body n tree = size-apart (rows n) (apart-tree n tree)
+
+-- ---- a tree is larger than what is below it
+
+larger-children : (e : Element) (cs : List (Elem × Node)) (c : Node) → child_at e cs ≡ Some c → length (rows c) ≤ length (rows_below cs)
+larger-children e [] c h = cc
+larger-children e (x ∷ cs) c h =
+    let long = length-first x cs in
+    elim (same_element e (element_view x.0)) as (λ b. cond b (Some x.1) (child_at e cs) ≡ Some c → length (rows c) ≤ length (rows_below (x ∷ cs))) [
+      | true ↦ λ k. let same : x.1 ≡ c = cc in let sizes : length (rows x.1) ≡ length (rows c) = ap (λ m. length (rows m)) same in omega arith
+      | false ↦ λ k. let rest = larger-children e cs c k in omega arith
+    ] h
+
+pub smaller : (n : Node) (e : Element) (c : Node) → child_at e (below n) ≡ Some c → length (rows c) < length (rows n)
+smaller n e c h =
+    let long = length-level n in
+    let part = larger-children e (below n) c h in
+    omega arith

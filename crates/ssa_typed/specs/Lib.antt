@@ -1,3 +1,4 @@
+pub mod Differences
 pub mod InOrder
 pub mod Look
 pub mod Points

@@ -3,8 +3,10 @@ use Rattle.std.proofs.lemmas.List.{drop_all}
 use Rattle.ssa_path.specs.View.{element_view}
 use Rattle.ssa_typed.specs.InOrder.{referred, IsInOrder}
 use Rattle.ssa_typed.specs.Rows.{below, rows, is_tree}
-use Rattle.ssa_typed.proofs.Collecting.{order-below, child-of, smaller, child-trie, collecting-none, collecting-more, collecting-all, drop-referred}
+use Rattle.ssa_typed.proofs.Collecting.{child-trie, collecting-none, collecting-more, collecting-all}
 use Rattle.ssa_typed.proofs.Lookups.{tree-child}
+use Rattle.ssa_typed.proofs.References.{order-below, child-of, drop-referred}
+use Rattle.ssa_typed.proofs.Sizes.{smaller}
 use Rattle.ssa_typed.proofs.points.+collect_below.Goals as goal
 
 pub collect_below-requires : goal.collect_below-requires
