@@ -35,27 +35,27 @@ apart o q g h e = let same : o ≡ q = cc in absurd (true≢false (sym g ∙ ap 
 some_none : (o : Ordering) {X : Type 0} → None ≡ Some o → X
 some_none o e = cc
 
-heads-Less : (cs ds : List (Elem × Trie)) → heads_order cs ds ≡ Some Less → 0 < length cs
+heads-Less : {A B : Type 0} (cs : List (Elem × A)) (ds : List (Elem × B)) → heads_order cs ds ≡ Some Less → 0 < length cs
 heads-Less [] [] e = some_none Less e
 heads-Less [] (d ∷ ds) e = apart Less Greater refl refl (sym e)
 heads-Less (c ∷ cs) ds e = omega arith
 
-heads-Greater : (cs ds : List (Elem × Trie)) → heads_order cs ds ≡ Some Greater → 0 < length ds
+heads-Greater : {A B : Type 0} (cs : List (Elem × A)) (ds : List (Elem × B)) → heads_order cs ds ≡ Some Greater → 0 < length ds
 heads-Greater [] [] e = some_none Greater e
 heads-Greater (c ∷ cs) [] e = apart Less Greater refl refl e
 heads-Greater cs (d ∷ ds) e = omega arith
 
-heads-Equal-own : (cs ds : List (Elem × Trie)) → heads_order cs ds ≡ Some Equal → 0 < length cs
+heads-Equal-own : {A B : Type 0} (cs : List (Elem × A)) (ds : List (Elem × B)) → heads_order cs ds ≡ Some Equal → 0 < length cs
 heads-Equal-own [] [] e = some_none Equal e
 heads-Equal-own [] (d ∷ ds) e = let wrong : Greater ≡ Equal = cc in cc
 heads-Equal-own (c ∷ cs) ds e = omega arith
 
-heads-Equal-other : (cs ds : List (Elem × Trie)) → heads_order cs ds ≡ Some Equal → 0 < length ds
+heads-Equal-other : {A B : Type 0} (cs : List (Elem × A)) (ds : List (Elem × B)) → heads_order cs ds ≡ Some Equal → 0 < length ds
 heads-Equal-other [] [] e = some_none Equal e
 heads-Equal-other (c ∷ cs) [] e = apart Less Equal refl refl e
 heads-Equal-other cs (d ∷ ds) e = omega arith
 
-pub heads-none : (cs ds : List (Elem × Trie)) → heads_order cs ds ≡ None → (cs ≡ []) × (ds ≡ [])
+pub heads-none : {A B : Type 0} (cs : List (Elem × A)) (ds : List (Elem × B)) → heads_order cs ds ≡ None → (cs ≡ []) × (ds ≡ [])
 heads-none [] [] e = (refl, refl)
 heads-none (c ∷ cs) [] e = cc
 heads-none [] (d ∷ ds) e = cc
@@ -64,13 +64,13 @@ heads-none (c ∷ cs) (d ∷ ds) e = cc
 within : {A : Type 0} (cs : List A) (i : ℕ) → 0 < length (drop i cs) → i < length cs
 within cs i h = let n = length-drop i cs in omega arith
 
-pub own-within : (cs ds : List (Elem × Trie)) (i : ℕ) → heads_order (drop i cs) ds ≡ Some Less → i < length cs
+pub own-within : {A B : Type 0} (cs : List (Elem × A)) (ds : List (Elem × B)) (i : ℕ) → heads_order (drop i cs) ds ≡ Some Less → i < length cs
 own-within cs ds i e = within cs i (heads-Less (drop i cs) ds e)
 
-pub other-within : (cs ds : List (Elem × Trie)) (j : ℕ) → heads_order cs (drop j ds) ≡ Some Greater → j < length ds
+pub other-within : {A B : Type 0} (cs : List (Elem × A)) (ds : List (Elem × B)) (j : ℕ) → heads_order cs (drop j ds) ≡ Some Greater → j < length ds
 other-within cs ds j e = within ds j (heads-Greater cs (drop j ds) e)
 
-pub both-within : (cs ds : List (Elem × Trie)) (i j : ℕ) → heads_order (drop i cs) (drop j ds) ≡ Some Equal → (i < length cs) × (j < length ds)
+pub both-within : {A B : Type 0} (cs : List (Elem × A)) (ds : List (Elem × B)) (i j : ℕ) → heads_order (drop i cs) (drop j ds) ≡ Some Equal → (i < length cs) × (j < length ds)
 both-within cs ds i j e = (within cs i (heads-Equal-own (drop i cs) (drop j ds) e), within ds j (heads-Equal-other (drop i cs) (drop j ds) e))
 
 -- ---- what is below an element
@@ -79,13 +79,13 @@ below-trans : (e f : Element) (gs : List Element) → element_cmp e f ≡ Less �
 below-trans e f [] h b = refl
 below-trans e f (g ∷ gs) h b = both _ _ (ap is_lt (element_cmp_total.trans e f g h (lower _ (both_first _ _ b)))) (below-trans e f gs h (both_second _ _ b))
 
-own-first : (c : Elem × Trie) (cs ds : List (Elem × Trie)) → heads_order (c ∷ cs) ds ≡ Some Less → rises (elements ds) ≡ true → is_below (element_view c.0) (elements ds) ≡ true
+pub own-first : {A B : Type 0} (c : Elem × A) (cs : List (Elem × A)) (ds : List (Elem × B)) → heads_order (c ∷ cs) ds ≡ Some Less → rises (elements ds) ≡ true → is_below (element_view c.0) (elements ds) ≡ true
 own-first c cs [] e h = refl
 own-first c cs (d ∷ ds) e h =
     let less : element_cmp (element_view c.0) (element_view d.0) ≡ Less = cc in
     both _ _ (ap is_lt less) (below-trans (element_view c.0) (element_view d.0) (elements ds) less (both_first _ _ h))
 
-other-first : (cs : List (Elem × Trie)) (d : Elem × Trie) (ds : List (Elem × Trie)) → heads_order cs (d ∷ ds) ≡ Some Greater → rises (elements cs) ≡ true → is_below (element_view d.0) (elements cs) ≡ true
+pub other-first : {A B : Type 0} (cs : List (Elem × A)) (d : Elem × B) (ds : List (Elem × B)) → heads_order cs (d ∷ ds) ≡ Some Greater → rises (elements cs) ≡ true → is_below (element_view d.0) (elements cs) ≡ true
 other-first [] d ds e h = refl
 other-first (c ∷ cs) d ds e h =
     let greater : element_cmp (element_view c.0) (element_view d.0) ≡ Greater = cc in
@@ -174,7 +174,7 @@ module _ (how : Combination) (f : Element) (cs ds us : Children) (own : is_below
   tries-more : (u : Elem × Trie) → is_trie u.1 ≡ true → is_filled u.1 ≡ true → are_filled_tries (u ∷ us) ≡ true
   tries-more u a b = both _ _ (both _ _ a b) h.tries
 
-holds-first : (u : Elem × Trie) (us : Children) (f : Element) (e : Element) (p : Path) → element_view u.0 ≡ f → holds (u ∷ us) e p ≡ ((same_element e f && is_one_of (paths u.1) p) || holds us e p)
+pub holds-first : (u : Elem × Trie) (us : Children) (f : Element) (e : Element) (p : Path) → element_view u.0 ≡ f → holds (u ∷ us) e p ≡ ((same_element e f && is_one_of (paths u.1) p) || holds us e p)
 holds-first u us f e p is = any-child same_path same_path-reading e u us p ∙ ap (λ g. (same_element e g && is_one_of (paths u.1) p) || holds us e p) is
 
 abbrev nothing : Path → Bool
@@ -250,7 +250,7 @@ other-dropped how cs d ds us order own_rise other_rise kept h =
       lower = λ e a b. h.lower e a (both_second _ _ b);
     }
 
-tied-heads : (c d : Elem × Trie) (cs ds : Children) → heads_order (c ∷ cs) (d ∷ ds) ≡ Some Equal → element_view c.0 ≡ element_view d.0
+pub tied-heads : {A B : Type 0} (c : Elem × A) (d : Elem × B) (cs : List (Elem × A)) (ds : List (Elem × B)) → heads_order (c ∷ cs) (d ∷ ds) ≡ Some Equal → element_view c.0 ≡ element_view d.0
 tied-heads c d cs ds e =
     let tie : element_cmp (element_view c.0) (element_view d.0) ≡ Equal = cc in
     same_element-true (element_view c.0) (element_view d.0) (ap is_eq tie)

@@ -63,8 +63,8 @@ fn push_copy(
     Ok(())
 }
 
-// Adds a child, where it has some path.
-fn push_filled(
+/// Adds a child behind the others, unless it has no path.
+pub fn push_filled(
     alloc: Global,
     children: &mut Vec<(Elem, Trie)>,
     element: &Elem,

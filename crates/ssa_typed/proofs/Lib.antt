@@ -5,3 +5,10 @@ pub mod Trees
 pub mod Levels
 pub mod Lookups
 pub mod Looks
+pub mod Sizes
+pub mod Sorting
+pub mod Stands
+pub mod Making
+pub mod Collecting
+pub mod References
+pub mod Differing

@@ -10,6 +10,7 @@ use Rattle.ssa_path.specs.View.{element_view, path_view}
 use Rattle.ssa_path.proofs.Orders.{same_element-true, both_first, both_second}
 use Rattle.ssa_path.proofs.Levels.{path_view-drop}
 use Rattle.ssa_typed.specs.Rows.{Row, rows, rows_below, own_content, under_element, below, content_at, are_apart, is_tree, are_trees}
+use Rattle.ssa_typed.specs.Points.{content_in}
 use Rattle.ssa_typed.specs.declared.node.Node.{Node}
 use Rattle.ssa_typed.proofs.Levels.{level-below}
 
@@ -74,11 +75,6 @@ nothing false x e = refl
 pub content_at-under : (t s : Element) (rs : List Row) (p : Path) → content_at (under_element s rs) (t ∷ p) ≡ cond (same_element t s) (content_at rs p) None
 content_at-under t s [] p = sym (nothing (same_element t s) None refl)
 content_at-under t s (r ∷ rs) p = ap (cond (is_eq (ordering_then (element_cmp t s) (path_cmp p r.0))) (Some r.1)) (content_at-under t s rs p) ∙ first_then (element_cmp t s) (path_cmp p r.0) r.1 _
-
--- what a path finds in a child, if there is one
-abbrev pub content_in : Option Node → Path → Option Content
-content_in None p = None
-content_in (Some c) p = content_at (rows c) p
 
 or_none : (x : Option Content) → or_else x None ≡ x
 or_none None = refl

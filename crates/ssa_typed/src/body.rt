@@ -1,11 +1,16 @@
 //! Bodies, seen as finite maps from whole paths to contents.
-ghost use Rattle.std.specs.Prelude.{◌≡◌, true, option_map};
+ghost use Rattle.std.specs.Prelude.{◌≡◌, ◌-◌, ◌^◌, true, min, option_map, IfOk};
+ghost use Rattle.ssa_model.specs.Body.{points};
+ghost use Rattle.ssa_model.specs.PathMap.{size};
+ghost use Rattle.ssa_typed.specs.Differences.{IsComparison};
 ghost use Rattle.ssa_typed.specs.Look.{look_of, look_at};
 ghost use Rattle.ssa_typed.specs.Rows.{body_of, is_tree};
 
+use crate::compare::{Comparison, Difference, differing};
 use crate::node::{Look, Node};
+use ssa_path::field_set::FieldSet;
 use ssa_path::path::Path;
-use std::alloc::Global;
+use std::alloc::{AllocError, Global};
 use std::marker::Model;
 use std::mem;
 
@@ -58,6 +63,35 @@ impl Body {
             Some(node) => Some(node.look()),
             None => None,
         }
+    }
+
+    /// How many places the body has, the root among them, or `usize::MAX` where there are more.
+    pub fn size(&self) -> usize
+        ensures { result ≡ min (size self.now) (2 ^ 64 - 1) }
+    {
+        self.root.size()
+    }
+
+    /// The leaves, items of lists, entries of Dicts and empty branches.
+    pub fn points(&self, alloc: Global) -> Result<FieldSet, AllocError>
+        ensures { IfOk result (λ s. s ≡ points self.now) }
+    {
+        let root = self.root.points(alloc)?;
+        Ok(FieldSet::from_root(root))
+    }
+
+    /// How the body `after`, which comes after this one, differs from it.
+    pub fn compare(&self, alloc: Global, after: &Body) -> Result<Comparison, AllocError>
+        ensures { IfOk result (λ c. IsComparison self.now after.now c) }
+    {
+        let added = differing(alloc, &self.root, &after.root, Difference::Added)?;
+        let modified = differing(alloc, &self.root, &after.root, Difference::Modified)?;
+        let removed = differing(alloc, &self.root, &after.root, Difference::Removed)?;
+        Ok(Comparison {
+            added: FieldSet::from_root(added),
+            modified: FieldSet::from_root(modified),
+            removed: FieldSet::from_root(removed),
+        })
     }
 
     /// The body's tree, in whose place an empty record is left.

@@ -1,5 +1,5 @@
 //! The tree of a body.
-ghost use Rattle.std.specs.Prelude.{◌≡◌, [], ◌∷◌, ◌++◌, true, length, None, Some, IfNone, IfSome};
+ghost use Rattle.std.specs.Prelude.{◌≡◌, [], ◌∷◌, ◌++◌, ◌-◌, ◌^◌, true, length, min, None, Some, IfNone, IfSome};
 ghost use Rattle.std.specs.Option.{option_copied};
 ghost use Rattle.ssa_model.specs.Body.{is_dict};
 ghost use Rattle.ssa_model.specs.Path as model;
@@ -105,6 +105,17 @@ impl Node {
             Node::Dict(children) => find_child(children, element),
             Node::List(children) => scan(children, element),
         }
+    }
+
+    /// How many places there are, this one among them, or `usize::MAX` where there are more.
+    pub fn size(&self) -> usize
+        ensures { result ≡ min (length (rows self.now)) (2 ^ 64 - 1) }
+    {
+        let mut size: usize = 1;
+        for child in self.children() {
+            size = size.saturating_add(child.1.size());
+        }
+        size
     }
 
     /// The place of a path below this node, if there is one.

@@ -1,0 +1,205 @@
+-- The walk over two trees that tells how they differ.
+use Rattle.std.proofs.Common.{◌≡◌, ℕ, ◌+◌, ◌<◌, List, [], ◌∷◌, length, get_or, drop, Bool, true, false, not, ◌&&◌, Option, Some, None, Ordering, Less, Equal, Greater, refl, sym, ap, subst, ◌∙◌}
+use Rattle.std.specs.Prelude.{is_some}
+use Rattle.ssa_model.specs.Path.{Element, Path, same_path}
+use Rattle.ssa_model.specs.PathMap.{PathSet, get, has, paths as set_paths}
+use Rattle.ssa_model.specs.Body.{Body, Content, leaf, atom, record_branch, dict_branch, list_branch, is_other_leaf, points, added, modified, removed}
+use Rattle.ssa_model.proofs.PathMaps.{has-paths, has-set_of, same_sets}
+use Rattle.ssa_path.specs.Children.{child_at, elements, rises, heads_order}
+use Rattle.ssa_path.specs.Combine.{IsGrown}
+use Rattle.ssa_path.specs.declared.element.Elem.{Elem}
+use Rattle.ssa_path.specs.declared.trie.Trie.{Trie}
+use Rattle.ssa_path.specs.declared.trie.Trie.TheOpen.{Trie-F}
+use Rattle.ssa_path.specs.declared.trie.Trie.TheViews.{roll-Trie}
+use Rattle.ssa_path.specs.Trie.{is_one_of, listed, paths, is_trie}
+use Rattle.ssa_path.specs.View.{element_view}
+use Rattle.ssa_path.proofs.Combining.{own-within, other-within, both-within, tied-heads}
+use Rattle.ssa_path.proofs.Levels.{any-made, is_trie-made, one-made-root, same_path-reading}
+use Rattle.ssa_path.proofs.Orders.{and_false, both_second}
+use Rattle.ssa_path.proofs.Sets.{has-listed}
+use Rattle.ssa_typed.specs.Differences.{differs, differs_here, differs_below, differs_at, told_of_lost, told_of_new, IsDiffering, IsDifference}
+use Rattle.ssa_typed.specs.InOrder.{referred, IsInOrder}
+use Rattle.ssa_typed.specs.Points.{content_in, point_in, collects_of, is_in_dict, IsChildTrie, is_point_of}
+use Rattle.ssa_typed.specs.Rows.{rows, below, content_at, own_content, body_of, is_tree}
+use Rattle.ssa_typed.specs.declared.compare.Difference.{Difference}
+use Rattle.ssa_typed.specs.declared.compare.Difference.TheVariants.{Added, Modified, Removed}
+use Rattle.ssa_typed.specs.declared.node.Node.{Node}
+use Rattle.ssa_typed.proofs.Collecting.{point-level}
+use Rattle.ssa_typed.proofs.Lookups.{content-level, content-root}
+use Rattle.ssa_typed.proofs.Looks.{get-body}
+use Rattle.ssa_typed.proofs.Making.{Test, TellsNothing, IsMade, IsMaking, making-all, making-more, front-own, front-other, front-both}
+use Rattle.ssa_typed.proofs.References.{Reference, child-of, left-referred, length-referred}
+use Rattle.ssa_typed.proofs.Stands.{points-body}
+
+-- ---- what differs, told of children that only one tree has
+
+and_true : (a : Bool) → (a && true) ≡ a
+and_true true = refl
+and_true false = refl
+
+other-none : (o : Option Content) → is_other_leaf o None ≡ false
+other-none None = refl
+other-none (Some (leaf s)) = refl
+other-none (Some (atom v)) = refl
+other-none (Some record_branch) = refl
+other-none (Some dict_branch) = refl
+other-none (Some (list_branch es)) = refl
+
+pub tells-nothing : (what : Difference) (d : Bool) → TellsNothing (differs what d)
+tells-nothing Added d e [] = refl
+tells-nothing Added d e (f ∷ p) = refl
+tells-nothing Modified d e p = refl
+tells-nothing Removed d e p = refl
+
+lost-differs : (what : Difference) (d : Bool) (e : Element) (c : Node) (p : Path) → collects_of (told_of_lost what) d e (Some c) p ≡ differs what d e (Some c) None p
+lost-differs Added d e c [] = refl
+lost-differs Added d e c (f ∷ p) = refl
+lost-differs Modified d e c p = sym (other-none (content_at (rows c) p))
+lost-differs Removed d e c p = sym (and_true _)
+
+new-differs : (what : Difference) (d : Bool) (e : Element) (c : Node) (p : Path) → collects_of (told_of_new what) d e (Some c) p ≡ differs what d e None (Some c) p
+new-differs Added d e c p = sym (and_true _)
+new-differs Modified d e c p = refl
+new-differs Removed d e c p = refl
+
+-- ---- what differs at and below two nodes
+
+module _ (n m : Node) (before : is_tree n ≡ true) (after : is_tree m ≡ true) where
+  pub differs-level : (what : Difference) (d : Bool) (e f : Element) (p : Path) → differs what d e (Some n) (Some m) (f ∷ p) ≡ differs_below what n m f p
+  differs-level Added d e f p = (λ i. point-level m after d e f p i && not (is_some (content-level n f p before i)))
+  differs-level Modified d e f p = (λ i. is_other_leaf (content-level n f p before i) (content-level m f p after i))
+  differs-level Removed d e f p = (λ i. is_some (content-level n f p before i) && not (is_some (content-level m f p after i)))
+
+differs-root : (n m : Node) (what : Difference) (d : Bool) (e : Element) → differs what d e (Some n) (Some m) [] ≡ differs_here what n m
+differs-root n m Added d e = ap (λ o. point_in d e (Some m) [] && not (is_some o)) (content-root n) ∙ and_false _
+differs-root n m Modified d e = (λ i. is_other_leaf (content-root n i) (content-root m i))
+differs-root n m Removed d e = (λ i. is_some (content-root n i) && not (is_some (content-root m i)))
+
+-- a place over what differs below it
+pub difference-made : (what : Difference) (n m : Node) (x : Trie-F Trie) → x.here ≡ differs_here what n m → IsDiffering what n m x.below.items → IsDifference what n m (roll-Trie x)
+difference-made what n m x here h = record { paths_are = held; trie = is_trie-made x h.risen h.tries }
+  where
+    held : (p : Path) → is_one_of (paths (roll-Trie x)) p ≡ differs_at what n m p
+    held [] = one-made-root x ∙ here
+    held (f ∷ p) = any-made same_path same_path-reading x f p ∙ h.paths_are f p
+
+differs-whole : (what : Difference) (d : Bool) (e : Element) (n m : Node) → is_tree n ≡ true → is_tree m ≡ true → (p : Path) → differs_at what n m p ≡ differs what d e (Some n) (Some m) p
+differs-whole what d e n m before after [] = sym (differs-root n m what d e)
+differs-whole what d e n m before after (f ∷ p) = sym (differs-level n m before after what d e f p)
+
+-- ---- the walk over the children of both
+
+-- how the next children compare, told of lists that were lent
+pub heads-are : (rs ss own others : List Reference) (i j : ℕ) (o q : Option Ordering) → own ≡ rs → others ≡ ss → o ≡ heads_order (drop i (referred own)) (drop j (referred others)) → o ≡ q
+    → heads_order (drop i (referred rs)) (drop j (referred ss)) ≡ q
+heads-are rs ss own others i j o q lent other_lent is found = sym (is ∙ (λ k. heads_order (drop i (referred (lent k))) (drop j (referred (other_lent k))))) ∙ found
+
+-- the next children are children of the nodes
+module _ (n m : Node) (rs ss : List Reference) (i j : ℕ) (own : IsInOrder (below n) (referred rs)) (other : IsInOrder (below m) (referred ss)) where
+  within : (ts : List Reference) (k : ℕ) → k < length (referred ts) → k < length ts
+  within ts k lt = subst (λ l. k < l) (length-referred ts) lt
+
+  pub lost-child : (r : Reference) → heads_order (drop i (referred rs)) (drop j (referred ss)) ≡ Some Less → r ≡ get_or rs i r → child_at (element_view r.now.0) (below n) ≡ Some r.now.1
+  lost-child r order is = child-of (below n) rs i r (within rs i (own-within (referred rs) (drop j (referred ss)) i order)) is own
+
+  pub new-child : (s : Reference) → heads_order (drop i (referred rs)) (drop j (referred ss)) ≡ Some Greater → s ≡ get_or ss j s → child_at (element_view s.now.0) (below m) ≡ Some s.now.1
+  new-child s order is = child-of (below m) ss j s (within ss j (other-within (drop i (referred rs)) (referred ss) j order)) is other
+
+  pub own-child : (r : Reference) → heads_order (drop i (referred rs)) (drop j (referred ss)) ≡ Some Equal → r ≡ get_or rs i r → child_at (element_view r.now.0) (below n) ≡ Some r.now.1
+  own-child r order is = child-of (below n) rs i r (within rs i (both-within (referred rs) (referred ss) i j order).0) is own
+
+  pub other-child : (s : Reference) → heads_order (drop i (referred rs)) (drop j (referred ss)) ≡ Some Equal → s ≡ get_or ss j s → child_at (element_view s.now.0) (below m) ≡ Some s.now.1
+  other-child s order is = child-of (below m) ss j s (within ss j (both-within (referred rs) (referred ss) i j order).1) is other
+
+module _ (what : Difference) (d : Bool) (rs ss : List Reference) where
+  abbrev pub IsComparing : List (Elem × Node) → List (Elem × Node) → List (Elem × Trie) → Type 0
+  IsComparing cs ds out = IsMaking (differs what d) (referred rs) (referred ss) cs ds out
+
+  pub comparing-lost : (i j : ℕ) (r : Reference) (out new : List (Elem × Trie)) (t : Trie) → heads_order (drop i (referred rs)) (drop j (referred ss)) ≡ Some Less → r ≡ get_or rs i r
+      → IsChildTrie (told_of_lost what) d (element_view r.now.0) r.now.1 t → IsGrown (element_view r.now.0) t out new
+      → IsComparing (drop i (referred rs)) (drop j (referred ss)) out → IsComparing (drop (i + 1) (referred rs)) (drop j (referred ss)) new
+  comparing-lost i j r out new t order is made grown h =
+      let c = r.now in
+      let e = element_view c.0 in
+      let cs = drop (i + 1) (referred rs) in
+      let ds = drop j (referred ss) in
+      let lt : i < length rs = subst (λ k. i < k) (length-referred rs) (own-within (referred rs) ds i order) in
+      let left = left-referred rs i r lt is in
+      let now = subst (λ l. IsComparing l ds out) left h in
+      let heads = subst (λ l. heads_order l ds ≡ Some Less) left order in
+      making-more (differs what d) e (Some c.1) None (referred rs) (referred ss) (c ∷ cs) ds cs ds out new t (tells-nothing what d)
+      (front-own c cs ds heads now.own_rise now.others_rise) (both_second _ _ now.own_rise) now.others_rise (λ p. made.paths_are p ∙ lost-differs what d e c.1 p) made.trie grown now
+
+  pub comparing-new : (i j : ℕ) (s : Reference) (out new : List (Elem × Trie)) (t : Trie) → heads_order (drop i (referred rs)) (drop j (referred ss)) ≡ Some Greater → s ≡ get_or ss j s
+      → IsChildTrie (told_of_new what) d (element_view s.now.0) s.now.1 t → IsGrown (element_view s.now.0) t out new
+      → IsComparing (drop i (referred rs)) (drop j (referred ss)) out → IsComparing (drop i (referred rs)) (drop (j + 1) (referred ss)) new
+  comparing-new i j s out new t order is made grown h =
+      let c = s.now in
+      let e = element_view c.0 in
+      let cs = drop i (referred rs) in
+      let ds = drop (j + 1) (referred ss) in
+      let lt : j < length ss = subst (λ k. j < k) (length-referred ss) (other-within cs (referred ss) j order) in
+      let left = left-referred ss j s lt is in
+      let now = subst (λ l. IsComparing cs l out) left h in
+      let heads = subst (λ l. heads_order cs l ≡ Some Greater) left order in
+      making-more (differs what d) e None (Some c.1) (referred rs) (referred ss) cs (c ∷ ds) cs ds out new t (tells-nothing what d)
+      (front-other cs c ds heads now.own_rise now.others_rise) now.own_rise (both_second _ _ now.others_rise) (λ p. made.paths_are p ∙ new-differs what d e c.1 p) made.trie grown now
+
+  pub comparing-both : (i j : ℕ) (r s : Reference) (out new : List (Elem × Trie)) (t : Trie) → heads_order (drop i (referred rs)) (drop j (referred ss)) ≡ Some Equal → r ≡ get_or rs i r → s ≡ get_or ss j s
+      → is_tree r.now.1 ≡ true → is_tree s.now.1 ≡ true → IsDifference what r.now.1 s.now.1 t → IsGrown (element_view r.now.0) t out new
+      → IsComparing (drop i (referred rs)) (drop j (referred ss)) out → IsComparing (drop (i + 1) (referred rs)) (drop (j + 1) (referred ss)) new
+  comparing-both i j r s out new t order is_r is_s before after made grown h =
+      let c = r.now in
+      let b = s.now in
+      let e = element_view c.0 in
+      let cs = drop (i + 1) (referred rs) in
+      let ds = drop (j + 1) (referred ss) in
+      let in_both = both-within (referred rs) (referred ss) i j order in
+      let own = left-referred rs i r (subst (λ k. i < k) (length-referred rs) in_both.0) is_r in
+      let other = left-referred ss j s (subst (λ k. j < k) (length-referred ss) in_both.1) is_s in
+      let now = subst (λ l. IsComparing (c ∷ cs) l out) other (subst (λ l. IsComparing l (drop j (referred ss)) out) own h) in
+      let heads = subst (λ l. heads_order (c ∷ cs) l ≡ Some Equal) other (subst (λ l. heads_order l (drop j (referred ss)) ≡ Some Equal) own order) in
+      making-more (differs what d) e (Some c.1) (Some b.1) (referred rs) (referred ss) (c ∷ cs) (b ∷ ds) cs ds out new t (tells-nothing what d)
+      (front-both c b cs ds heads now.own_rise now.others_rise) (both_second _ _ now.own_rise) (both_second _ _ now.others_rise)
+      (λ p. made.paths_are p ∙ differs-whole what d e c.1 b.1 before after p) made.trie grown now
+
+  pub comparing-all : (n m : Node) (cs ds : List (Elem × Node)) (out : List (Elem × Trie)) → d ≡ is_in_dict m → IsInOrder (below n) (referred rs) → IsInOrder (below m) (referred ss) → cs ≡ [] → ds ≡ [] → IsComparing cs ds out → IsDiffering what n m out
+  comparing-all n m cs ds out is own other none_own none_other h =
+      let made = making-all (differs what d) (referred rs) (referred ss) cs ds out (tells-nothing what d) none_own none_other h in
+      record { paths_are = λ e p. made.paths_are e p ∙ (λ i. differs what (is i) e (own.same e i) (other.same e i) p); risen = made.risen; tries = made.tries }
+
+-- ---- THE BRIDGE: the comparison of the bodies that the trees stand for
+
+abbrev pub difference_of : Difference → Body → Body → PathSet
+difference_of Added before after = added before after
+difference_of Modified before after = modified before after
+difference_of Removed before after = removed before after
+
+leaf_there : (x y : Option Content) → (is_some x && is_other_leaf x y) ≡ is_other_leaf x y
+leaf_there None y = refl
+leaf_there (Some c) y = refl
+
+has-difference : (what : Difference) (n m : Node) (q : Path) → has (difference_of what (body_of n) (body_of m)) q
+    ≡ elim what [ Added ↦ is_point_of (rows m) q && not (is_some (content_at (rows n) q)) | Modified ↦ is_other_leaf (content_at (rows n) q) (content_at (rows m) q) | Removed ↦ is_some (content_at (rows n) q) && not (is_some (content_at (rows m) q)) ]
+has-difference Added n m q =
+    has-set_of (set_paths (points (body_of m))) (λ p. not (has (body_of n) p)) q
+    ∙ (λ i. (sym (has-paths (points (body_of m)) q) ∙ points-body m q) i && not (is_some (get-body n q i)))
+has-difference Modified n m q =
+    has-set_of (set_paths (body_of n)) (λ p. is_other_leaf (get (body_of n) p) (get (body_of m) p)) q
+    ∙ ap (λ b. b && is_other_leaf (get (body_of n) q) (get (body_of m) q)) (sym (has-paths (body_of n) q))
+    ∙ leaf_there (get (body_of n) q) (get (body_of m) q) ∙ (λ i. is_other_leaf (get-body n q i) (get-body m q i))
+has-difference Removed n m q =
+    has-set_of (set_paths (body_of n)) (λ p. not (has (body_of m) p)) q
+    ∙ ap (λ b. b && not (has (body_of m) q)) (sym (has-paths (body_of n) q)) ∙ (λ i. is_some (get-body n q i) && not (is_some (get-body m q i)))
+
+has-differing : (what : Difference) (n m : Node) → is_tree n ≡ true → is_tree m ≡ true → (q : Path) → has (difference_of what (body_of n) (body_of m)) q ≡ differs_at what n m q
+has-differing Added n m before after [] = has-difference Added n m []
+has-differing Modified n m before after [] = has-difference Modified n m [] ∙ (λ i. is_other_leaf (content-root n i) (content-root m i))
+has-differing Removed n m before after [] = has-difference Removed n m [] ∙ (λ i. is_some (content-root n i) && not (is_some (content-root m i)))
+has-differing Added n m before after (f ∷ p) = has-difference Added n m (f ∷ p) ∙ differs-level n m before after Added false f f p
+has-differing Modified n m before after (f ∷ p) = has-difference Modified n m (f ∷ p) ∙ differs-level n m before after Modified false f f p
+has-differing Removed n m before after (f ∷ p) = has-difference Removed n m (f ∷ p) ∙ differs-level n m before after Removed false f f p
+
+-- the listed paths of the trie are the difference of the bodies
+pub difference-listed : (what : Difference) (n m : Node) (t : Trie) → is_tree n ≡ true → is_tree m ≡ true → IsDifference what n m t → listed (paths t) ≡ difference_of what (body_of n) (body_of m)
+difference-listed what n m t before after h = same_sets _ _ (λ q. has-listed (paths t) q ∙ h.paths_are q ∙ sym (has-differing what n m before after q))

@@ -1,0 +1,177 @@
+-- References to children, sorted by their elements.
+use Rattle.std.proofs.Common.{◌≡◌, ℕ, zero, suc, ◌+◌, ◌<◌, ◌≤◌, List, [], ◌∷◌, length, get_or, map, Bool, true, false, not, ◌&&◌, ◌||◌, cond, Option, Some, None, Ordering, Less, Equal, Greater, refl, sym, ap, ◌∙◌, subst, arith, true≢false, Bor}
+use Rattle.std.specs.Prelude.{filter, option_map}
+use Rattle.std.specs.List.{list_any}
+use Rattle.std.specs.List.Sorted.{IsSortedBy, IsStableBy, ties}
+use Rattle.std.specs.Ordering.{is_lt, is_eq, ordering_reverse}
+use Rattle.std.specs.Cmp.{IsStrictWeakOrder}
+use Rattle.std.proofs.lemmas.List.Sorted.{ranks_by, sorted_far}
+use Rattle.ssa_model.specs.Path.{Element, element_cmp, same_element}
+use Rattle.ssa_path.specs.Children.{child_at, elements, is_below, rises}
+use Rattle.ssa_path.specs.declared.element.Elem.{Elem}
+use Rattle.ssa_path.specs.View.{element_view}
+use Rattle.ssa_path.proofs.Orders.{element_cmp_total, same_element-true, same_element-itself, both, both_first, both_second}
+use Rattle.ssa_typed.specs.InOrder.{referred, IsInOrder}
+use Rattle.ssa_typed.specs.Rows.{are_apart}
+use Rattle.ssa_typed.specs.declared.node.Node.{Node}
+
+-- ---- a filter of a list
+
+none_some : {X : Type 0} (x : X) (xs : List X) → [] ≡ x ∷ xs → ⊥
+none_some x xs e = cc
+
+module _ {X : Type 0} where
+  filter_passes : (f : X → Bool) (xs : List X) (x : X) (rest : List X) → filter f xs ≡ x ∷ rest → f x ≡ true
+  filter_passes f [] x rest e = absurd (none_some x rest e)
+  filter_passes f (y ∷ xs) x rest e =
+      elim (f y) as (λ b. f y ≡ b → cond b (y ∷ filter f xs) (filter f xs) ≡ x ∷ rest → f x ≡ true) [
+        | true ↦ λ h k. let same : y ≡ x = cc in ap f (sym same) ∙ h
+        | false ↦ λ h k. filter_passes f xs x rest k
+      ] refl e
+
+  -- the first element, if there is one
+  abbrev first : List X → Option X
+  first [] = None
+  first (x ∷ xs) = Some x
+
+-- ---- elements of a list of keyed values
+
+module _ {X : Type 0} (key : X → Element) where
+  abbrev pub before : X → X → Bool
+  before x y = is_lt (element_cmp (key x) (key y))
+
+  abbrev of_element : Element → X → Bool
+  of_element e x = same_element e (key x)
+
+  abbrev keys : List X → List Element
+  keys xs = map key xs
+
+  tied : (o : Ordering) → (not (is_lt o) && not (is_lt (ordering_reverse o))) ≡ is_eq o
+  tied Less = refl
+  tied Equal = refl
+  tied Greater = refl
+
+  ties_are : (x y : X) → ties before x y ≡ of_element (key x) y
+  ties_are x y = ap (λ o. not (is_lt (element_cmp (key x) (key y))) && not (is_lt o)) (element_cmp_total.antisymm (key y) (key x)) ∙ tied (element_cmp (key x) (key y))
+
+  module _ (xs ys : List X) (stable : IsStableBy before xs ys) where
+    like : (x : X) → filter (of_element (key x)) ys ≡ filter (of_element (key x)) xs
+    like x = (λ i. filter (λ y. sym (ties_are x y) i) ys) ∙ stable x ∙ (λ i. filter (λ y. ties_are x y i) xs)
+
+    like_first : (e : Element) (x : X) → of_element e x ≡ true → filter (of_element e) ys ≡ filter (of_element e) xs
+    like_first e x h = subst (λ f. filter (of_element f) ys ≡ filter (of_element f) xs) (sym (same_element-true e (key x) h)) (like x)
+
+    -- as many values of each element, in the same order
+    alike : (e : Element) → filter (of_element e) ys ≡ filter (of_element e) xs
+    alike e =
+        elim (filter (of_element e) ys) as (λ us. filter (of_element e) ys ≡ us → us ≡ filter (of_element e) xs) [
+          | [] ↦ λ h. elim (filter (of_element e) xs) as (λ vs. filter (of_element e) xs ≡ vs → [] ≡ vs) [
+            | [] ↦ λ k. refl
+            | v ∷ vs ↦ λ k. sym h ∙ like_first e v (filter_passes (of_element e) xs v vs k) ∙ k
+          ] refl
+          | u ∷ us ↦ λ h. sym h ∙ like_first e u (filter_passes (of_element e) ys u us h)
+        ] refl
+
+  -- ---- values whose elements differ
+
+  none-of : (e : Element) (xs : List X) → list_any (same_element e) (keys xs) ≡ false → filter (of_element e) xs ≡ []
+  none-of e [] h = refl
+  none-of e (x ∷ xs) h =
+      ap (λ b. cond b (x ∷ filter (of_element e) xs) (filter (of_element e) xs)) (first_false (of_element e x) _ h) ∙ none-of e xs (second_false (of_element e x) _ h)
+    where
+      first_false : (a b : Bool) → (a || b) ≡ false → a ≡ false
+      first_false true b e = e
+      first_false false b e = refl
+
+      second_false : (a b : Bool) → (a || b) ≡ false → b ≡ false
+      second_false true b e = absurd (true≢false e)
+      second_false false b e = e
+
+  not_true : (a : Bool) → not a ≡ true → a ≡ false
+  not_true true e = absurd (true≢false (sym e))
+  not_true false e = refl
+
+  once : (e : Element) (xs : List X) → are_apart (keys xs) ≡ true → length (filter (of_element e) xs) ≤ 1
+  once e [] h = omega arith
+  once e (x ∷ xs) h =
+      elim (of_element e x) as (λ b. of_element e x ≡ b → length (cond b (x ∷ filter (of_element e) xs) (filter (of_element e) xs)) ≤ 1) [
+        | true ↦ λ s.
+            let others : list_any (same_element e) (keys xs) ≡ false =
+            ap (λ f. list_any (same_element f) (keys xs)) (same_element-true e (key x) s) ∙ not_true _ (both_first _ (are_apart (keys xs)) h) in
+            let none = none-of e xs others in
+            rw none (omega arith)
+        | false ↦ λ s. once e xs (both_second (not (list_any (same_element (key x)) (keys xs))) _ h)
+      ] refl
+
+  -- ---- values in order, each element once
+
+  only-first : (x : X) (xs : List X) → length (filter (of_element (key x)) (x ∷ xs)) ≤ 1 → same_element (key x) (key x) ≡ true → length (filter (of_element (key x)) xs) ≤ 0
+  only-first x xs h same =
+      let more : length (filter (of_element (key x)) (x ∷ xs)) ≡ suc (length (filter (of_element (key x)) xs)) = ap (λ b. length (cond b (x ∷ filter (of_element (key x)) xs) (filter (of_element (key x)) xs))) same in
+      omega arith
+
+  longer : (e : Element) (x : X) (xs : List X) → length (filter (of_element e) (x ∷ xs)) ≤ 1 → length (filter (of_element e) xs) ≤ 1
+  longer e x xs h =
+      elim (of_element e x) as (λ b. length (cond b (x ∷ filter (of_element e) xs) (filter (of_element e) xs)) ≤ 1 → length (filter (of_element e) xs) ≤ 1) [ true ↦ λ k. omega arith | false ↦ λ k. k ] h
+
+  above : (o : Ordering) → is_lt (ordering_reverse o) ≡ false → is_eq o ≡ false → is_lt o ≡ true
+  above Less a b = refl
+  above Equal a b = absurd (true≢false b)
+  above Greater a b = absurd (true≢false a)
+
+  below-first : (x : X) (xs : List X) → ((k : ℕ) → k < length xs → before (get_or xs k x) x ≡ false) → length (filter (of_element (key x)) xs) ≤ 0 → is_below (key x) (keys xs) ≡ true
+  below-first x xs up none = go xs up none
+    where
+      go : (zs : List X) → ((k : ℕ) → k < length zs → before (get_or zs k x) x ≡ false) → length (filter (of_element (key x)) zs) ≤ 0 → is_below (key x) (keys zs) ≡ true
+      go [] up none = refl
+      go (z ∷ zs) up none =
+          let o = element_cmp (key x) (key z) in
+          let first : is_lt (ordering_reverse o) ≡ false = ap is_lt (sym (element_cmp_total.antisymm (key z) (key x))) ∙ up 0 (omega arith) in
+          elim (of_element (key x) z) as (λ b. of_element (key x) z ≡ b → length (cond b (z ∷ filter (of_element (key x)) zs) (filter (of_element (key x)) zs)) ≤ 0 → is_below (key x) (keys (z ∷ zs)) ≡ true) [
+            | true ↦ λ s k. absurd (omega arith)
+            | false ↦ λ s k. both _ _ (above o first s) (go zs (λ j lt. up (suc j) (omega arith)) k)
+          ] refl none
+
+  weak : IsStrictWeakOrder before
+  weak = ranks_by element_cmp_total key
+
+  pub in_order_rises : (xs : List X) → ((e : Element) → same_element e e ≡ true) → IsSortedBy before xs → ((e : Element) → length (filter (of_element e) xs) ≤ 1) → rises (keys xs) ≡ true
+  in_order_rises [] itself up one = refl
+  in_order_rises (x ∷ xs) itself up one =
+      both _ _ (below-first x xs (λ k lt. sorted_far before weak (x ∷ xs) up 0 (suc k) x (omega arith) (omega arith)) (only-first x xs (one (key x)) (itself (key x))))
+      (in_order_rises xs itself (λ k d le lt. ap (λ j. before (get_or (x ∷ xs) j d) (get_or xs k d)) (next k) ∙ up (suc k) d (omega arith) (omega arith)) (λ e. longer e x xs (one e)))
+    where
+      next : (k : ℕ) → suc (k + 1) ≡ suc k + 1
+      next k = omega arith
+
+-- ---- references to children
+
+abbrev Reference : Type 0
+Reference = Bor (Elem × Node)
+
+abbrev pub element_of : Reference → Element
+element_of r = element_view r.now.0
+
+elements-referred : (rs : List Reference) → elements (referred rs) ≡ map element_of rs
+elements-referred [] = refl
+elements-referred (r ∷ rs) = ap (λ es. element_of r ∷ es) (elements-referred rs)
+
+child-first : (e : Element) (rs : List Reference) → child_at e (referred rs) ≡ option_map (λ r. r.now.1) (first (filter (of_element element_of e) rs))
+child-first e [] = refl
+child-first e (r ∷ rs) =
+    elim (of_element element_of e r) as (λ b. cond b (Some r.now.1) (child_at e (referred rs)) ≡ option_map (λ s. s.now.1) (first (cond b (r ∷ filter (of_element element_of e) rs) (filter (of_element element_of e) rs)))) [
+      | true ↦ refl
+      | false ↦ child-first e rs
+    ]
+
+-- what a stable sort of references to the children leaves
+pub sorted-children : (cs : List (Elem × Node)) (rs ss : List Reference) → referred rs ≡ cs → are_apart (elements cs) ≡ true
+    → IsStableBy (before element_of) rs ss → IsSortedBy (before element_of) ss → IsInOrder cs (referred ss)
+sorted-children cs rs ss is apart stable up =
+    let differ : are_apart (map element_of rs) ≡ true = ap are_apart (sym (elements-referred rs)) ∙ ap (λ l. are_apart (elements l)) is ∙ apart in
+    record {
+      rise =
+          ap rises (elements-referred ss)
+          ∙ in_order_rises element_of ss same_element-itself up (λ e. subst (λ l. length l ≤ 1) (sym (alike element_of rs ss stable e)) (once element_of e rs differ));
+      same = λ e. child-first e ss ∙ ap (λ l. option_map (λ r. r.now.1) (first l)) (alike element_of rs ss stable e) ∙ sym (child-first e rs) ∙ ap (child_at e) is;
+    }

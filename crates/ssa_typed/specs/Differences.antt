@@ -1,0 +1,65 @@
+-- What one body has otherwise than another that comes before it, told by their trees.
+use Rattle.std.specs.Prelude.{◌≡◌, List, [], ◌∷◌, Bool, true, false, ◌&&◌, not, is_some, Option, Some, None}
+use Rattle.ssa_model.specs.Path.{Element, Path}
+use Rattle.ssa_model.specs.PathMap.{PathSet}
+use Rattle.ssa_model.specs.Body.{Body, is_other_leaf, added, modified, removed}
+use Rattle.ssa_path.specs.Children.{child_at, elements, rises}
+use Rattle.ssa_path.specs.Trie.{paths, paths_below, is_one_of, is_trie, are_filled_tries}
+use Rattle.ssa_path.specs.declared.element.Elem.{Elem}
+use Rattle.ssa_path.specs.declared.trie.Trie.{Trie}
+use Rattle.ssa_typed.specs.Points.{content_in, point_in, is_in_dict}
+use Rattle.ssa_typed.specs.Rows.{own_content, below}
+use Rattle.ssa_typed.specs.declared.compare.Comparison.{Comparison}
+use Rattle.ssa_typed.specs.declared.compare.Difference.{Difference}
+use Rattle.ssa_typed.specs.declared.compare.Difference.TheVariants.{Added, Modified, Removed}
+use Rattle.ssa_typed.specs.declared.node.Node.{Node}
+use Rattle.ssa_typed.specs.declared.points.Collected.{Collected}
+use Rattle.ssa_typed.specs.declared.points.Collected.TheVariants.{Points, All}
+
+-- the path is told at or below the children of the element, which the bodies before and after may lack
+abbrev pub differs : Difference → Bool → Element → Option Node → Option Node → Path → Bool
+differs Added in_dict e before after p = point_in in_dict e after p && not (is_some (content_in before p))
+differs Modified in_dict e before after p = is_other_leaf (content_in before p) (content_in after p)
+differs Removed in_dict e before after p = is_some (content_in before p) && not (is_some (content_in after p))
+
+-- a place that both trees have is told itself
+abbrev pub differs_here : Difference → Node → Node → Bool
+differs_here Added before after = false
+differs_here Modified before after = is_other_leaf (Some (own_content before)) (Some (own_content after))
+differs_here Removed before after = false
+
+abbrev pub differs_below : Difference → Node → Node → Element → Path → Bool
+differs_below what before after e p = differs what (is_in_dict after) e (child_at e (below before)) (child_at e (below after)) p
+
+abbrev pub differs_at : Difference → Node → Node → Path → Bool
+differs_at what before after [] = differs_here what before after
+differs_at what before after (e ∷ p) = differs_below what before after e p
+
+-- what is told of a child that only the tree before has, and of one that only the tree after has
+abbrev pub told_of_lost : Difference → Option Collected
+told_of_lost Added = None
+told_of_lost Modified = None
+told_of_lost Removed = Some All
+
+abbrev pub told_of_new : Difference → Option Collected
+told_of_new Added = Some Points
+told_of_new Modified = None
+told_of_new Removed = None
+
+-- tries that hold what differs below two nodes
+pub record IsDiffering (what : Difference) (before after : Node) (ts : List (Elem × Trie)) : Type 0 where
+  pub paths_are : (e : Element) (p : Path) → is_one_of (paths_below ts) (e ∷ p) ≡ differs_below what before after e p
+  pub risen : rises (elements ts) ≡ true
+  pub tries : are_filled_tries ts ≡ true
+
+-- the trie of what differs between two trees
+pub record IsDifference (what : Difference) (before after : Node) (t : Trie) : Type 0 where
+  pub paths_are : (p : Path) → is_one_of (paths t) p ≡ differs_at what before after p
+  pub trie : is_trie t ≡ true
+
+-- ---- of bodies
+
+pub record IsComparison (before after : Body) (c : Comparison) : Type 0 where
+  pub added_are : c.added ≡ added before after
+  pub modified_are : c.modified ≡ modified before after
+  pub removed_are : c.removed ≡ removed before after

@@ -1,0 +1,101 @@
+//! The points of a tree: its leaves, items of lists, entries of Dicts and empty branches.
+ghost use Rattle.std.specs.Prelude.{◌≡◌, [], true, Some, IfOk};
+ghost use Rattle.ssa_path.specs.View.{element_view};
+ghost use Rattle.ssa_typed.specs.Points.{collects, ends_here, IsChildTrie, IsCollected, IsPointTrie};
+ghost use Rattle.ssa_typed.specs.Rows.{is_tree};
+
+use crate::in_order::in_order;
+use crate::node::Node;
+use ssa_path::combine::push_filled;
+use ssa_path::element::Elem;
+use ssa_path::trie::Trie;
+use std::alloc::{AllocError, Global};
+
+/// Which places of a tree are collected.
+#[derive(Clone, Copy, Drop)]
+pub enum Collected {
+    Points,
+    All,
+}
+
+impl Collected {
+    // Whether a child's own place is collected.
+    fn has_place(self, child: &(Elem, Node), in_dict: bool) -> bool
+        ensures { result ≡ collects self in_dict (element_view child.now.0) (Some child.now.1) [] }
+    {
+        match self {
+            Collected::Points => {
+                let ends = child.1.ends_here();
+                let item = child.0.is_item();
+                ends || (item || in_dict)
+            }
+            Collected::All => true,
+        }
+    }
+}
+
+// What is collected below a node, each child's behind the child's element.
+fn collect_below(
+    alloc: Global,
+    node: &Node,
+    what: Collected,
+) -> Result<Vec<(Elem, Trie)>, AllocError>
+    requires { is_tree node.now ≡ true }
+    ensures { IfOk result (λ v. IsCollected what node.now v.items) }
+{
+    let children = in_order(alloc, node.children())?;
+    let in_dict = node.is_dict();
+    let mut collected = Vec::new(alloc);
+    for child in &children {
+        let below = collect_below(alloc, &child.1, what)?;
+        let here = what.has_place(child, in_dict);
+        push_filled(alloc, &mut collected, &child.0, Trie { here, below })?;
+    }
+    Ok(collected)
+}
+
+/// What is collected at and below a child: nothing, where nothing is asked for.
+pub fn collect_child(
+    alloc: Global,
+    child: &(Elem, Node),
+    in_dict: bool,
+    what: Option<Collected>,
+) -> Result<Trie, AllocError>
+    requires { is_tree child.now.1 ≡ true }
+    ensures { IfOk result (λ t. IsChildTrie what in_dict (element_view child.now.0) child.now.1 t) }
+{
+    match what {
+        None => Ok(Trie {
+            here: false,
+            below: Vec::new(alloc),
+        }),
+        Some(what) => {
+            let below = collect_below(alloc, &child.1, what)?;
+            let here = what.has_place(child, in_dict);
+            Ok(Trie { here, below })
+        }
+    }
+}
+
+impl Node {
+    /// Whether nothing is below.
+    pub fn ends_here(&self) -> bool
+        ensures { result ≡ ends_here self.now }
+    {
+        match self {
+            Node::Leaf(_) => true,
+            Node::Branch(children) => children.is_empty(),
+            Node::Dict(children) => children.is_empty(),
+            Node::List(children) => children.is_empty(),
+        }
+    }
+
+    /// The points of the tree.
+    pub fn points(&self, alloc: Global) -> Result<Trie, AllocError>
+        requires { is_tree self.now ≡ true }
+        ensures { IfOk result (λ t. IsPointTrie self.now t) }
+    {
+        let below = collect_below(alloc, self, Collected::Points)?;
+        Ok(Trie { here: false, below })
+    }
+}
