@@ -1,9 +1,10 @@
 //! Structural schemas, read from JSON.
-ghost use Rattle.std.specs.Prelude.{◌≡◌, [], IfOk, option_map};
+ghost use Rattle.std.specs.Prelude.{true, ◌≡◌, [], IfOk, option_map};
 ghost use Rattle.ssa_model.specs.Kind.{faults};
 ghost use Rattle.ssa_model.specs.Schema.{read_schema, whole_profile};
 ghost use Rattle.ssa_json.specs.View.{view};
 ghost use Rattle.ssa_schema.specs.Kinds.{kind_view};
+ghost use Rattle.ssa_schema.specs.Lawful.{is_root_kind};
 ghost use Rattle.ssa_schema.specs.Refusals.{first_of};
 ghost use Rattle.ssa_schema.specs.Finds.{told, told_view};
 ghost use Rattle.ssa_schema.specs.Schemas.{schema_reading, fault_of, ReadsKind, ReadsSchema};
@@ -46,6 +47,11 @@ impl Model for Schema {
     ghost use Rattle.ssa_schema.specs.Kinds as kinds;
 
     ghost view = { λ s. (json_view.view s.json, kinds.kind_view s.kind) };
+
+    ghost use Rattle.std.specs.Prelude.{◌≡◌, true};
+    ghost use Rattle.ssa_schema.specs.Lawful.{is_root_kind};
+
+    ghost invariant = { λ s. is_root_kind (kinds.kind_view s.kind) ≡ true };
 }
 
 // The fault that a refusal is.
@@ -94,9 +100,11 @@ impl Schema {
         &self.json
     }
 
-    /// The kind of the root: what may stand at each place of an object without its identity.
+    /// The kind of the root: what may stand at each place of an object without its identity. It is
+    /// an object with fields, and each map list in it has key fields.
     pub fn kind(&self) -> &Kind
-        ensures { kind_view result.now ≡ self.now.1 }
+        ensures same { kind_view result.now ≡ self.now.1 }
+        ensures root { is_root_kind self.now.1 ≡ true }
     {
         &self.kind
     }

@@ -1,6 +1,8 @@
 use Rattle.std.proofs.Common.{refl, sym, ◌∙◌, subst}
 use Rattle.ssa_json.specs.View.{view}
 use Rattle.ssa_schema.specs.Schemas.{Faults}
+use Rattle.ssa_schema.specs.Kinds.{kind_view}
+use Rattle.ssa_schema.proofs.Lawful.{read-root}
 use Rattle.ssa_schema.proofs.Reading.{reading_is}
 use Rattle.ssa_schema.proofs.schema.Schema.read.Goals as goal
 
@@ -9,3 +11,6 @@ returns-in-Ok c = (refl, reading_is (view c.args.schema) ∙ c.in-Ok.ensures)
 
 pub returns-in-Err : goal.returns-in-Err
 returns-in-Err c = subst (λ r. Faults c.in-Err.fault r) (sym (reading_is (view c.args.schema))) c.in-Err.ensures
+
+pub invariant_of-result : goal.invariant_of-result
+invariant_of-result c = read-root (view c.args.schema) (kind_view c.in-Ok.kind) (reading_is (view c.args.schema) ∙ c.in-Ok.ensures)
