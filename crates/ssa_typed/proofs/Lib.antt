@@ -1,10 +1,11 @@
+pub mod Collecting
+pub mod Differing
+pub mod Laws
 pub mod Levels
-pub mod Lookups
 pub mod Looks
+pub mod Lookups
+pub mod Making
+pub mod References
 pub mod Sizes
 pub mod Sorting
 pub mod Stands
-pub mod Making
-pub mod Collecting
-pub mod References
-pub mod Differing

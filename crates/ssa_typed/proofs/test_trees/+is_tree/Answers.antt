@@ -1,4 +1,4 @@
-use Rattle.std.proofs.Common.{◌≡◌, Bool, true, false, ◌&&◌, refl, sym, ap, ◌∙◌}
+use Rattle.std.proofs.Common.{◌≡◌, Bool, true, false, ◌&&◌, sym, ap, ◌∙◌}
 use Rattle.ssa_typed.specs.Rows.{is_tree}
 use Rattle.ssa_typed.proofs.Levels.{tree-Branch, tree-Dict, tree-List}
 use Rattle.ssa_typed.proofs.test_trees.+is_tree.Goals as goal

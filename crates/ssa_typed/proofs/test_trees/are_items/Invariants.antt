@@ -1,7 +1,6 @@
 use Rattle.std.proofs.Common.{◌≡◌, drop}
 use Rattle.ssa_path.specs.Children.{elements}
 use Rattle.ssa_typed.specs.Rows.{are_items}
-use Rattle.ssa_path.specs.View.{element_view}
 use Rattle.ssa_typed.proofs.test_trees.are_items.Given as goal
 
 abbrev pub invariant-loop-child : goal.invariant-loop-child

@@ -1,7 +1,6 @@
 use Rattle.std.proofs.Common.{◌≡◌, drop}
 use Rattle.ssa_path.specs.Children.{elements}
 use Rattle.ssa_typed.specs.Rows.{are_apart}
-use Rattle.ssa_path.specs.View.{element_view}
 use Rattle.ssa_typed.proofs.test_trees.differ.Given as goal
 
 abbrev pub invariant-loop-i : goal.invariant-loop-i

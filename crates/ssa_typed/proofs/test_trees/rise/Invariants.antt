@@ -1,6 +1,5 @@
 use Rattle.std.proofs.Common.{◌≡◌, drop}
 use Rattle.ssa_path.specs.Children.{elements, rises}
-use Rattle.ssa_path.specs.View.{element_view}
 use Rattle.ssa_typed.proofs.test_trees.rise.Given as goal
 
 abbrev pub invariant-loop-i : goal.invariant-loop-i
