@@ -1,29 +1,28 @@
 -- The walk that collects points, or all places, of a tree.
-use Rattle.std.proofs.Common.{◌≡◌, ℕ, zero, suc, ◌+◌, ◌<◌, ◌≤◌, List, [], ◌∷◌, ◌++◌, length, get_or, drop, Bool, true, false, not, ◌&&◌, ◌||◌, cond, Option, Some, None, Less, refl, sym, ap, subst, ◌∙◌, arith, Bor}
+use Rattle.std.proofs.Common.{◌≡◌, ℕ, ◌+◌, ◌<◌, List, [], ◌∷◌, length, get_or, drop, Bool, true, false, Some, None, refl, sym, ap, subst, ◌∙◌}
 use Rattle.std.specs.Prelude.{is_some}
-use Rattle.ssa_model.specs.Path.{Element, Path, same_element, same_path, is_item, is_item_element, parent}
-use Rattle.ssa_model.specs.Body.{is_leaf, is_dict, points}
+use Rattle.ssa_model.specs.Path.{Element, Path, same_path, is_item, is_item_element, parent}
+use Rattle.ssa_model.specs.Body.{is_dict, points}
 use Rattle.ssa_model.proofs.PathMaps.{same_sets}
-use Rattle.ssa_path.specs.Children.{child_at, elements, rises, heads_order}
+use Rattle.ssa_path.specs.Children.{child_at}
 use Rattle.ssa_path.specs.Combine.{IsGrown}
 use Rattle.ssa_path.specs.declared.element.Elem.{Elem}
 use Rattle.ssa_path.specs.declared.trie.Trie.{Trie}
 use Rattle.ssa_path.specs.declared.trie.Trie.TheOpen.{Trie-F}
 use Rattle.ssa_path.specs.declared.trie.Trie.TheViews.{roll-Trie}
-use Rattle.ssa_path.specs.Trie.{is_one_of, listed, paths, paths_below, is_trie}
+use Rattle.ssa_path.specs.Trie.{is_one_of, listed, paths}
 use Rattle.ssa_path.specs.View.{element_view}
 use Rattle.ssa_path.proofs.Levels.{any-made, is_trie-made, one-made-root, same_path-reading}
-use Rattle.ssa_path.proofs.Orders.{both_second, same_element-itself}
+use Rattle.ssa_path.proofs.Orders.{both_second}
 use Rattle.ssa_path.proofs.Sets.{has-listed}
 use Rattle.ssa_typed.specs.InOrder.{referred, IsInOrder}
-use Rattle.ssa_typed.specs.Points.{stands_below, stands_in, content_in, is_point_by, is_point_of, point_in, collects, collects_of, is_in_dict, IsCollected, IsChildTrie, IsPointTrie}
-use Rattle.ssa_typed.specs.Rows.{rows, rows_below, below, content_at, own_content, body_of, is_tree}
+use Rattle.ssa_typed.specs.Points.{is_point_by, is_point_of, point_in, collects, is_in_dict, IsCollected, IsChildTrie, IsPointTrie}
+use Rattle.ssa_typed.specs.Rows.{rows, below, body_of, is_tree}
 use Rattle.ssa_typed.specs.declared.node.Node.{Node}
 use Rattle.ssa_typed.specs.declared.points.Collected.{Collected}
 use Rattle.ssa_typed.specs.declared.points.Collected.TheVariants.{Points, All}
-use Rattle.ssa_typed.proofs.Levels.{level-below}
-use Rattle.ssa_typed.proofs.Lookups.{content-level, content-root, tree-child}
-use Rattle.ssa_typed.proofs.Making.{Test, TellsNothing, IsMade, IsMaking, making-none, making-more, making-all, front-own}
+use Rattle.ssa_typed.proofs.Lookups.{content-level, content-root}
+use Rattle.ssa_typed.proofs.Making.{Test, IsMaking, making-more, making-all, front-own}
 use Rattle.ssa_typed.proofs.References.{Reference, left-referred}
 use Rattle.ssa_typed.proofs.Stands.{stands-level, points-body}
 
@@ -68,9 +67,6 @@ collecting what d e c other p = collects what d e c p
 
 abbrev pub IsCollecting : Collected → Bool → List (Elem × Node) → List (Elem × Node) → List (Elem × Trie) → Type 0
 IsCollecting what d ds left out = IsMaking (collecting what d) ds [] left [] out
-
-pub collecting-none : (what : Collected) (d : Bool) (ds : List (Elem × Node)) → rises (elements ds) ≡ true → IsCollecting what d ds ds []
-collecting-none what d ds rise = making-none (collecting what d) ds [] rise refl
 
 pub collecting-more : (what : Collected) (d : Bool) (rs : List Reference) (i : ℕ) (r : Reference) (out new : List (Elem × Trie)) (t : Trie) → i < length rs → r ≡ get_or rs i r
     → IsChildTrie (Some what) d (element_view r.now.0) r.now.1 t → IsGrown (element_view r.now.0) t out new

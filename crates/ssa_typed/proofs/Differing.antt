@@ -5,37 +5,34 @@ use Rattle.ssa_model.specs.Path.{Element, Path, same_path}
 use Rattle.ssa_model.specs.PathMap.{PathSet, get, has, paths as set_paths}
 use Rattle.ssa_model.specs.Body.{Body, Content, leaf, atom, record_branch, dict_branch, list_branch, is_other_leaf, points, added, modified, removed}
 use Rattle.ssa_model.proofs.PathMaps.{has-paths, has-set_of, same_sets}
-use Rattle.ssa_path.specs.Children.{child_at, elements, rises, heads_order}
+use Rattle.ssa_path.specs.Children.{child_at, heads_order}
 use Rattle.ssa_path.specs.Combine.{IsGrown}
 use Rattle.ssa_path.specs.declared.element.Elem.{Elem}
 use Rattle.ssa_path.specs.declared.trie.Trie.{Trie}
 use Rattle.ssa_path.specs.declared.trie.Trie.TheOpen.{Trie-F}
 use Rattle.ssa_path.specs.declared.trie.Trie.TheViews.{roll-Trie}
-use Rattle.ssa_path.specs.Trie.{is_one_of, listed, paths, is_trie}
+use Rattle.ssa_path.specs.Trie.{is_one_of, listed, paths}
 use Rattle.ssa_path.specs.View.{element_view}
-use Rattle.ssa_path.proofs.Combining.{own-within, other-within, both-within, tied-heads}
+use Rattle.ssa_path.proofs.Combining.{own-within, other-within, both-within}
 use Rattle.ssa_path.proofs.Levels.{any-made, is_trie-made, one-made-root, same_path-reading}
 use Rattle.ssa_path.proofs.Orders.{and_false, both_second}
 use Rattle.ssa_path.proofs.Sets.{has-listed}
 use Rattle.ssa_typed.specs.Differences.{differs, differs_here, differs_below, differs_at, told_of_lost, told_of_new, IsDiffering, IsDifference}
 use Rattle.ssa_typed.specs.InOrder.{referred, IsInOrder}
-use Rattle.ssa_typed.specs.Points.{content_in, point_in, collects_of, is_in_dict, IsChildTrie, is_point_of}
-use Rattle.ssa_typed.specs.Rows.{rows, below, content_at, own_content, body_of, is_tree}
+use Rattle.ssa_typed.specs.Points.{point_in, collects_of, is_in_dict, IsChildTrie, is_point_of}
+use Rattle.ssa_typed.specs.Rows.{rows, below, content_at, body_of, is_tree}
 use Rattle.ssa_typed.specs.declared.compare.Difference.{Difference}
 use Rattle.ssa_typed.specs.declared.compare.Difference.TheVariants.{Added, Modified, Removed}
 use Rattle.ssa_typed.specs.declared.node.Node.{Node}
 use Rattle.ssa_typed.proofs.Collecting.{point-level}
+use Rattle.ssa_typed.proofs.Laws.{and_true}
 use Rattle.ssa_typed.proofs.Lookups.{content-level, content-root}
 use Rattle.ssa_typed.proofs.Looks.{get-body}
-use Rattle.ssa_typed.proofs.Making.{Test, TellsNothing, IsMade, IsMaking, making-all, making-more, front-own, front-other, front-both}
+use Rattle.ssa_typed.proofs.Making.{TellsNothing, IsMaking, making-all, making-more, front-own, front-other, front-both}
 use Rattle.ssa_typed.proofs.References.{Reference, child-of, left-referred, length-referred}
 use Rattle.ssa_typed.proofs.Stands.{points-body}
 
 -- ---- what differs, told of children that only one tree has
-
-and_true : (a : Bool) → (a && true) ≡ a
-and_true true = refl
-and_true false = refl
 
 other-none : (o : Option Content) → is_other_leaf o None ≡ false
 other-none None = refl

@@ -6,7 +6,6 @@ use Rattle.ssa_model.specs.Path.{Element, element_cmp, same_element}
 use Rattle.ssa_model.specs.Body.{Content, record_branch, dict_branch, list_branch}
 use Rattle.ssa_path.specs.Children.{elements, is_below, rises}
 use Rattle.ssa_path.specs.declared.element.Elem.{Elem}
-use Rattle.ssa_path.specs.View.{element_view}
 use Rattle.ssa_path.proofs.Orders.{both, both_first, both_second, not_tied}
 use Rattle.ssa_path.proofs.Levels.{elements-map}
 use Rattle.ssa_typed.specs.Rows.{rows, rows_below, below, below_of, own_content, is_tree, are_trees, are_apart, are_fields, are_items}
@@ -44,15 +43,6 @@ own-Dict v = search (rules, the_lemmas)
 
 pub own-List : (v : Children) → own_content (ListOf v) ≡ list_branch (elements v.items)
 own-List v = search (rules, the_lemmas)
-
-pub below-Branch : (v : Children) → below (Branch v) ≡ v.items
-below-Branch v = search (rules, the_lemmas)
-
-pub below-Dict : (v : Children) → below (Dict v) ≡ v.items
-below-Dict v = search (rules, the_lemmas)
-
-pub below-List : (v : Children) → below (ListOf v) ≡ v.items
-below-List v = search (rules, the_lemmas)
 
 abbrev marks : Children → List (Elem × Bool)
 marks v = map (λ c. (c.0, is_tree c.1)) v.items

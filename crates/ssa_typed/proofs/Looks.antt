@@ -1,5 +1,5 @@
 -- What a look at a place of a tree shows, and what the body has there.
-use Rattle.std.proofs.Common.{◌≡◌, ℕ, suc, ◌+◌, List, [], ◌∷◌, ◌++◌, length, map, Bool, true, false, not, ◌&&◌, ◌||◌, cond, Option, Some, None, option_map, Ordering, Less, Equal, Greater, refl, sym, ap, ◌∙◌, append-nil, true≢false, arith}
+use Rattle.std.proofs.Common.{◌≡◌, ℕ, suc, ◌+◌, List, [], ◌∷◌, ◌++◌, length, map, Bool, true, false, ◌&&◌, ◌||◌, cond, Option, Some, None, option_map, Ordering, Less, Equal, Greater, refl, sym, ap, ◌∙◌, append-nil, true≢false, arith}
 use Rattle.std.specs.Prelude.{is_some}
 use Rattle.std.specs.List.{list_any}
 use Rattle.std.specs.Ordering.{is_eq, ordering_then}
@@ -17,6 +17,7 @@ use Rattle.ssa_typed.specs.Rows.{rows, rows_below, under_element, below, content
 use Rattle.ssa_typed.specs.Look.{Shown, shown, look_at, children, is_child}
 use Rattle.ssa_typed.specs.declared.node.Node.{Node}
 use Rattle.ssa_typed.proofs.Levels.{level-below, length-elements}
+use Rattle.ssa_typed.proofs.Laws.{and_true, not_true}
 use Rattle.ssa_typed.proofs.Lookups.{or_else, content_at-append, content_at-under, content-root}
 
 -- THE BRIDGE: the body has at a path what is found in the rows
@@ -91,15 +92,11 @@ find-other p q (e ∷ es) h = some_unit (same_path q (p ++ e ∷ [])) (find path
 has-singles : (p q : Path) (es : List Element) → has (from_entries (singles p es)) q ≡ is_some (find path_cmp q (singles p es))
 has-singles p q es = ap is_some (get-from_entries (singles p es) q)
 
-not_true : (a b : Bool) → (not a && b) ≡ true → a ≡ false
-not_true true b e = absurd (true≢false (sym e))
-not_true false b e = refl
-
 size-singles : (p : Path) (es : List Element) → are_apart es ≡ true → size (from_entries (singles p es)) ≡ length es
 size-singles p [] h = refl
 size-singles p (e ∷ es) h =
     let rest = from_entries (singles p es) in
-    let absent : has rest (p ++ e ∷ []) ≡ false = has-singles p (p ++ e ∷ []) es ∙ find-single p e es ∙ not_true _ _ h in
+    let absent : has rest (p ++ e ∷ []) ≡ false = has-singles p (p ++ e ∷ []) es ∙ find-single p e es ∙ not_true _ (both_first _ (are_apart es) h) in
     length-put path_cmp path_cmp_total (p ++ e ∷ []) tt rest.entries rest.in_order
     ∙ ap (λ b. cond b (size rest) (size rest + 1)) absent
     ∙ ap (λ n. n + 1) (size-singles p es (both_second _ _ h))
@@ -113,10 +110,6 @@ size-singles p (e ∷ es) h =
 module _ (n m : Node) (p : Path) (same : (q : Path) → content_at (rows n) (p ++ q) ≡ content_at (rows m) q) where
   has-child : (e : Element) → has (body_of n) (p ++ e ∷ []) ≡ list_any (same_element e) (elements (below m))
   has-child e = ap is_some (get-body n (p ++ e ∷ []) ∙ same (e ∷ [])) ∙ some-child m e
-
-  and_true : (a : Bool) → (a && true) ≡ a
-  and_true true = refl
-  and_true false = refl
 
   at_child : (q : Path) → IsAfter p q → has (body_of n) q ≡ has (from_entries (singles p (elements (below m)))) q
   at_child q a =

@@ -1,5 +1,5 @@
 -- What a path finds in the rows of a tree: below its first element, what the rest finds in the child of that element.
-use Rattle.std.proofs.Common.{◌≡◌, ℕ, ◌+◌, ◌<◌, List, [], ◌∷◌, ◌++◌, length, get_or, drop, Bool, true, false, not, ◌&&◌, ◌||◌, cond, Option, Some, None, Ordering, Less, Equal, Greater, refl, sym, ap, ◌∙◌, true≢false}
+use Rattle.std.proofs.Common.{◌≡◌, ℕ, ◌+◌, ◌<◌, List, [], ◌∷◌, ◌++◌, length, get_or, drop, Bool, true, false, not, cond, Option, Some, None, Ordering, Less, Equal, Greater, refl, sym, ap, ◌∙◌}
 use Rattle.std.specs.Ordering.{eq_by_cmp, is_eq, ordering_then}
 use Rattle.std.specs.List.{list_any}
 use Rattle.ssa_model.specs.Body.{Content}
@@ -12,6 +12,7 @@ use Rattle.ssa_path.proofs.Levels.{path_view-drop}
 use Rattle.ssa_typed.specs.Rows.{Row, rows, rows_below, own_content, under_element, below, content_at, are_apart, is_tree, are_trees}
 use Rattle.ssa_typed.specs.Points.{content_in}
 use Rattle.ssa_typed.specs.declared.node.Node.{Node}
+use Rattle.ssa_typed.proofs.Laws.{not_true, neither_first, neither_second}
 use Rattle.ssa_typed.proofs.Levels.{level-below}
 
 -- ---- the child of an element
@@ -19,19 +20,7 @@ use Rattle.ssa_typed.proofs.Levels.{level-below}
 pub child_at-none : {A : Type 0} (e : Element) (cs : List (Elem × A)) → list_any (same_element e) (elements cs) ≡ false → child_at e cs ≡ None
 child_at-none e [] h = refl
 child_at-none e (c ∷ cs) h =
-    ap (λ b. cond b (Some c.1) (child_at e cs)) (first_false (same_element e (element_view c.0)) _ h) ∙ child_at-none e cs (second_false (same_element e (element_view c.0)) _ h)
-  where
-    first_false : (a b : Bool) → (a || b) ≡ false → a ≡ false
-    first_false true b e = e
-    first_false false b e = refl
-
-    second_false : (a b : Bool) → (a || b) ≡ false → b ≡ false
-    second_false true b e = absurd (true≢false e)
-    second_false false b e = e
-
-not_true : (a : Bool) → not a ≡ true → a ≡ false
-not_true true e = absurd (true≢false (sym e))
-not_true false e = refl
+    ap (λ b. cond b (Some c.1) (child_at e cs)) (neither_first (same_element e (element_view c.0)) _ h) ∙ child_at-none e cs (neither_second (same_element e (element_view c.0)) _ h)
 
 -- no other child has the element of the first
 pub child_at-rest : {A : Type 0} (e : Element) (c : Elem × A) (cs : List (Elem × A)) → same_element e (element_view c.0) ≡ true → are_apart (elements (c ∷ cs)) ≡ true → child_at e cs ≡ None

@@ -1,5 +1,5 @@
 -- References to the children of a node, in the order of their elements.
-use Rattle.std.proofs.Common.{◌≡◌, ℕ, zero, suc, ◌+◌, ◌<◌, List, [], ◌∷◌, length, get_or, drop, true, Option, Some, refl, sym, ap, subst, ◌∙◌, arith, Bor}
+use Rattle.std.proofs.Common.{◌≡◌, ℕ, zero, suc, ◌+◌, ◌<◌, List, [], ◌∷◌, length, get_or, drop, Some, refl, sym, ap, subst, ◌∙◌, arith, Bor}
 use Rattle.ssa_model.specs.Path.{same_element}
 use Rattle.ssa_path.specs.Children.{child_at}
 use Rattle.ssa_path.specs.declared.element.Elem.{Elem}

@@ -1,6 +1,6 @@
 -- How many places a tree has: as many as its body has paths, since its rows have each path once.
-use Rattle.std.proofs.Common.{◌≡◌, ℕ, zero, suc, ◌+◌, ◌-◌, ◌^◌, ◌<◌, ◌≤◌, List, [], ◌∷◌, ◌++◌, length, get_or, take, Bool, true, false, not, ◌&&◌, cond, Option, Some, None, refl, sym, ap, subst, ◌∙◌, min, arith, true≢false, length-append}
-use Rattle.std.proofs.lemmas.List.{take_more, take_all}
+use Rattle.std.proofs.Common.{◌≡◌, ℕ, zero, suc, ◌+◌, ◌-◌, ◌^◌, ◌<◌, ◌≤◌, List, [], ◌∷◌, ◌++◌, length, get_or, take, Bool, true, false, not, ◌&&◌, cond, Option, Some, None, refl, sym, ap, ◌∙◌, min, arith, length-append}
+use Rattle.std.proofs.lemmas.List.{take_more}
 use Rattle.std.specs.Prelude.{is_some}
 use Rattle.std.specs.List.{list_any}
 use Rattle.std.specs.FinMap.Entries.{length-put}
@@ -15,6 +15,7 @@ use Rattle.ssa_path.proofs.Orders.{both, both_first, both_second, same_element-i
 use Rattle.ssa_typed.specs.Rows.{Row, rows, rows_below, under_element, below, content_at, body_of, are_apart, is_tree, are_trees}
 use Rattle.ssa_typed.specs.Points.{content_in}
 use Rattle.ssa_typed.specs.declared.node.Node.{Node}
+use Rattle.ssa_typed.proofs.Laws.{not_true}
 use Rattle.ssa_typed.proofs.Levels.{level-below}
 use Rattle.ssa_typed.proofs.Lookups.{or_else, content_at-append, content_at-under, content-below, child_at-none}
 
@@ -76,10 +77,6 @@ root-under s (r ∷ rs) = root-under s rs
 root-below : (cs : List (Elem × Node)) → content_at (rows_below cs) [] ≡ None
 root-below [] = refl
 root-below (c ∷ cs) = content_at-append (under_element (element_view c.0) (rows c.1)) (rows_below cs) [] ∙ (λ i. or_else (root-under (element_view c.0) (rows c.1) i) (root-below cs i))
-
-not_true : (a : Bool) → not a ≡ true → a ≡ false
-not_true true e = absurd (true≢false (sym e))
-not_true false e = refl
 
 -- trees with less rows than the bound
 apart-below : (k : ℕ) (cs : List (Elem × Node)) → length (rows_below cs) < k → are_apart (elements cs) ≡ true → are_trees cs ≡ true → are_rows_apart (rows_below cs) ≡ true

@@ -1,5 +1,5 @@
 -- References to children, sorted by their elements.
-use Rattle.std.proofs.Common.{◌≡◌, ℕ, zero, suc, ◌+◌, ◌<◌, ◌≤◌, List, [], ◌∷◌, length, get_or, map, Bool, true, false, not, ◌&&◌, ◌||◌, cond, Option, Some, None, Ordering, Less, Equal, Greater, refl, sym, ap, ◌∙◌, subst, arith, true≢false, Bor}
+use Rattle.std.proofs.Common.{◌≡◌, ℕ, suc, ◌+◌, ◌<◌, ◌≤◌, List, [], ◌∷◌, length, get_or, map, Bool, true, false, not, ◌&&◌, cond, Option, Some, None, Ordering, Less, Equal, Greater, refl, sym, ap, ◌∙◌, subst, arith, true≢false, Bor}
 use Rattle.std.specs.Prelude.{filter, option_map}
 use Rattle.std.specs.List.{list_any}
 use Rattle.std.specs.List.Sorted.{IsSortedBy, IsStableBy, ties}
@@ -14,6 +14,7 @@ use Rattle.ssa_path.proofs.Orders.{element_cmp_total, same_element-true, same_el
 use Rattle.ssa_typed.specs.InOrder.{referred, IsInOrder}
 use Rattle.ssa_typed.specs.Rows.{are_apart}
 use Rattle.ssa_typed.specs.declared.node.Node.{Node}
+use Rattle.ssa_typed.proofs.Laws.{not_true, neither_first, neither_second}
 
 -- ---- a filter of a list
 
@@ -77,19 +78,7 @@ module _ {X : Type 0} (key : X → Element) where
   none-of : (e : Element) (xs : List X) → list_any (same_element e) (keys xs) ≡ false → filter (of_element e) xs ≡ []
   none-of e [] h = refl
   none-of e (x ∷ xs) h =
-      ap (λ b. cond b (x ∷ filter (of_element e) xs) (filter (of_element e) xs)) (first_false (of_element e x) _ h) ∙ none-of e xs (second_false (of_element e x) _ h)
-    where
-      first_false : (a b : Bool) → (a || b) ≡ false → a ≡ false
-      first_false true b e = e
-      first_false false b e = refl
-
-      second_false : (a b : Bool) → (a || b) ≡ false → b ≡ false
-      second_false true b e = absurd (true≢false e)
-      second_false false b e = e
-
-  not_true : (a : Bool) → not a ≡ true → a ≡ false
-  not_true true e = absurd (true≢false (sym e))
-  not_true false e = refl
+      ap (λ b. cond b (x ∷ filter (of_element e) xs) (filter (of_element e) xs)) (neither_first (of_element e x) _ h) ∙ none-of e xs (neither_second (of_element e x) _ h)
 
   once : (e : Element) (xs : List X) → are_apart (keys xs) ≡ true → length (filter (of_element e) xs) ≤ 1
   once e [] h = omega arith

@@ -1,9 +1,7 @@
-<<<<<<< HEAD
-pub mod Flats
-=======
 pub mod Differences
+pub mod Flats
 pub mod InOrder
->>>>>>> typed
 pub mod Look
 pub mod Points
+pub mod Reads
 pub mod Rows

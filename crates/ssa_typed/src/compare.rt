@@ -28,9 +28,9 @@ pub struct Comparison {
     pub removed: FieldSet,
 }
 
-/// What is told of two bodies.
+// What is told of two bodies.
 #[derive(Clone, Copy, Drop)]
-pub enum Difference {
+pub(crate) enum Difference {
     Added,
     Modified,
     Removed,
@@ -164,8 +164,8 @@ fn differing_below(
     Ok(differing)
 }
 
-/// What differs between two trees, found by one walk over both.
-pub fn differing(
+// What differs between two trees, found by one walk over both.
+pub(crate) fn differing(
     alloc: Global,
     before: &Node,
     after: &Node,

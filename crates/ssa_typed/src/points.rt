@@ -11,9 +11,9 @@ use ssa_path::element::Elem;
 use ssa_path::trie::Trie;
 use std::alloc::{AllocError, Global};
 
-/// Which places of a tree are collected.
+// Which places of a tree are collected.
 #[derive(Clone, Copy, Drop)]
-pub enum Collected {
+pub(crate) enum Collected {
     Points,
     All,
 }
@@ -54,8 +54,8 @@ fn collect_below(
     Ok(collected)
 }
 
-/// What is collected at and below a child: nothing, where nothing is asked for.
-pub fn collect_child(
+// What is collected at and below a child: nothing, where nothing is asked for.
+pub(crate) fn collect_child(
     alloc: Global,
     child: &(Elem, Node),
     in_dict: bool,

@@ -1,9 +1,7 @@
-use Rattle.std.proofs.Common.{◌≡◌, ◌<◌, true, refl, sym, ap, ◌∙◌, drop, length, Some, Less, Equal, Greater, rules}
-use Rattle.ssa_path.specs.Children.{heads_order}
+use Rattle.std.proofs.Common.{◌<◌, refl, ap, ◌∙◌, length, Some, rules}
 use Rattle.ssa_path.specs.View.{element_view}
 use Rattle.ssa_path.proofs.Combining.{heads-none}
-use Rattle.ssa_typed.specs.InOrder.{referred}
-use Rattle.ssa_typed.specs.Rows.{below, rows, is_tree}
+use Rattle.ssa_typed.specs.Rows.{rows}
 use Rattle.ssa_typed.proofs.Differing.{heads-are, lost-child, new-child, own-child, other-child, difference-made, comparing-lost, comparing-new, comparing-both, comparing-all}
 use Rattle.ssa_typed.proofs.Lookups.{tree-child}
 use Rattle.ssa_typed.proofs.References.{order-below}

@@ -1,4 +1,4 @@
-use Rattle.std.proofs.Common.{◌≡◌, ap, sym, ◌∙◌, drop, Some, arith, length-drop}
+use Rattle.std.proofs.Common.{ap, sym, ◌∙◌, drop, Some, arith, length-drop}
 use Rattle.std.proofs.lemmas.List.{drop_all}
 use Rattle.ssa_model.specs.Path.{element_cmp}
 use Rattle.ssa_path.specs.Children.{heads_order}

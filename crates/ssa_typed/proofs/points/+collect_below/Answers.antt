@@ -1,9 +1,9 @@
-use Rattle.std.proofs.Common.{◌≡◌, ◌+◌, ◌<◌, true, refl, subst, sym, ap, ◌∙◌, drop, length, arith, rules}
+use Rattle.std.proofs.Common.{◌<◌, ap, ◌∙◌, length, arith, rules}
 use Rattle.std.proofs.lemmas.List.{drop_all}
 use Rattle.ssa_path.specs.View.{element_view}
-use Rattle.ssa_typed.specs.InOrder.{referred, IsInOrder}
-use Rattle.ssa_typed.specs.Rows.{below, rows, is_tree}
-use Rattle.ssa_typed.proofs.Collecting.{child-trie, collecting-none, collecting-more, collecting-all}
+use Rattle.ssa_typed.specs.InOrder.{referred}
+use Rattle.ssa_typed.specs.Rows.{below, rows}
+use Rattle.ssa_typed.proofs.Collecting.{child-trie, collecting-more, collecting-all}
 use Rattle.ssa_typed.proofs.Lookups.{tree-child}
 use Rattle.ssa_typed.proofs.References.{order-below, child-of, drop-referred}
 use Rattle.ssa_typed.proofs.Sizes.{smaller}
@@ -37,9 +37,10 @@ loop-child-preserved t c =
     let order = order-below n c.children.result.now c.in_ok-children.children.items rs c.children.ensures.own c.deref-child-items.ensures.value c.in_ok-children.ensures in
     let child = child-of (below n) rs c.loop-child.child-index r (omega arith) c.child-item.is order in
     let tree = tree-child n (element_view r.now.0) r.now.1 c.requires child in
+    let within : c.loop-child.child-index < length rs = omega arith in
     let made = child-trie c.args.what c.is_dict-in_dict.result (element_view r.now.0) r.now.1 _ tree c.has_place-here.ensures c.in_ok-below.ensures in
     collecting-more c.args.what c.is_dict-in_dict.result rs c.loop-child.child-index r c.loop-child.collected.items c.push_filled.new.children.items _
-    (omega arith) c.child-item.is made c.in_ok-push_filled.ensures c.loop-child.invariant
+    within c.child-item.is made c.in_ok-push_filled.ensures c.loop-child.invariant
 
 pub returns : goal.returns
 returns t c =

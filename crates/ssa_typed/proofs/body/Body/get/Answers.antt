@@ -1,5 +1,4 @@
 use Rattle.std.proofs.Common.{Some, ap, ◌∙◌}
-use Rattle.std.proofs.Common.{◌≡◌}
 use Rattle.ssa_typed.specs.Look.{look_at}
 use Rattle.ssa_typed.proofs.Looks.{looked, looked-nowhere}
 use Rattle.ssa_typed.proofs.body.Body.get.Goals as goal

@@ -1,5 +1,5 @@
-use Rattle.std.proofs.Common.{◌≡◌, true, ap, sym, ◌∙◌}
-use Rattle.ssa_path.specs.Children.{elements, rises}
+use Rattle.std.proofs.Common.{ap, sym, ◌∙◌}
+use Rattle.ssa_path.specs.Children.{elements}
 use Rattle.ssa_path.proofs.Orders.{both_first}
 use Rattle.ssa_typed.specs.Rows.{is_tree, are_fields, are_trees}
 use Rattle.ssa_typed.proofs.Levels.{tree-Branch, tree-Dict}
