@@ -5,6 +5,7 @@ pub mod Finding
 pub mod Firsts
 pub mod ItemWalk
 pub mod Kinding
+pub mod Made
 pub mod Reading
 pub mod Shaping
 pub mod Sorting
