@@ -6,9 +6,9 @@ use Rattle.ssa_model.specs.Kind as model
 use Rattle.ssa_model.specs.Schema.{kind_fields, is_atomic, shape_of_schema}
 use Rattle.ssa_json.specs.View.{view, members_view}
 use Rattle.ssa_json.proofs.Converting.{Found}
-use Rattle.ssa_json.proofs.Ordered.{names}
 use Rattle.ssa_schema.specs.Kinds.{shape_view, kind_view, fields_view, names_view}
 use Rattle.ssa_schema.specs.Builds.{shape_at, kind_at, merged_kind}
+use Rattle.ssa_schema.proofs.Made.{named, asked}
 use Rattle.ssa_schema.specs.declared.kind.Kind as kind
 use Rattle.ssa_schema.specs.declared.kind.Shape.{Shape}
 
@@ -50,39 +50,19 @@ kind_view-ItemsOf keys m = search (rules, kind.the_lemmas)
 
 -- ---- fields by name
 
-abbrev pub Made : Type 0
-Made = String Global × kind.Kind
-
-abbrev pub named : Made → Text × model.Kind
-named m = (string_bytes m.0, kind_view m.1)
-
-abbrev pub asked : ℕ → Found → Text × model.Kind
-asked n e = (string_bytes e.0, kind_at n (view e.1))
-
 fields_of : List (Text × model.Kind) → model.Fields
 fields_of [] = model.no_fields
 fields_of (x ∷ xs) = model.kind_field x.0 x.1 (fields_of xs)
 
-made_fields : (ms : List Made) → fields_view ms ≡ fields_of (map named ms)
+made_fields : (ms : List (String Global × kind.Kind)) → fields_view ms ≡ fields_of (map (named kind_view) ms)
 unfolding fields_of
 made_fields [] = refl
 made_fields (m ∷ ms) = ap (model.kind_field (string_bytes m.0) (kind_view m.1)) (made_fields ms)
 
-asked_fields : (n : ℕ) (es : List Found) → fields_of (map (asked n) es) ≡ kind_fields (kind_at n) (members_view es)
+asked_fields : (n : ℕ) (es : List Found) → fields_of (map (asked (kind_at n)) es) ≡ kind_fields (kind_at n) (members_view es)
 unfolding fields_of
 asked_fields n [] = refl
 asked_fields n (e ∷ es) = ap (model.kind_field (string_bytes e.0) (kind_at n (view e.1))) (asked_fields n es)
 
-pub fields-made : (n : ℕ) (ms : List Made) (es : List Found) → map named ms ≡ map (asked n) es → fields_view ms ≡ kind_fields (kind_at n) (members_view es)
+pub fields-made : (n : ℕ) (ms : List (String Global × kind.Kind)) (es : List Found) → map (named kind_view) ms ≡ map (asked (kind_at n)) es → fields_view ms ≡ kind_fields (kind_at n) (members_view es)
 fields-made n ms es same = made_fields ms ∙ ap fields_of same ∙ asked_fields n es
-
-made_names : (ms : List Made) → map (λ (x : Text × model.Kind). x.0) (map named ms) ≡ names ms
-made_names [] = refl
-made_names (m ∷ ms) = ap (λ t. string_bytes m.0 ∷ t) (made_names ms)
-
-asked_names : (n : ℕ) (es : List Found) → map (λ (x : Text × model.Kind). x.0) (map (asked n) es) ≡ names es
-asked_names n [] = refl
-asked_names n (e ∷ es) = ap (λ t. string_bytes e.0 ∷ t) (asked_names n es)
-
-pub names-made : (n : ℕ) (ms : List Made) (es : List Found) → map named ms ≡ map (asked n) es → names ms ≡ names es
-names-made n ms es same = sym (made_names ms) ∙ ap (map (λ (x : Text × model.Kind). x.0)) same ∙ asked_names n es

@@ -6,6 +6,7 @@ pub mod Firsts
 pub mod ItemWalk
 pub mod Kinding
 pub mod Lawful
+pub mod Made
 pub mod Reading
 pub mod Shaping
 pub mod Sorting

@@ -5,9 +5,9 @@ use Rattle.ssa_model.specs.Kind as model
 use Rattle.ssa_model.specs.Schema.{shape_fields}
 use Rattle.ssa_json.specs.View.{view, members_view}
 use Rattle.ssa_json.proofs.Converting.{Found}
-use Rattle.ssa_json.proofs.Ordered.{names}
 use Rattle.ssa_schema.specs.Kinds.{shape_view, shape_fields_view}
 use Rattle.ssa_schema.specs.Builds.{shape_at, object_shape}
+use Rattle.ssa_schema.proofs.Made.{named, asked}
 use Rattle.ssa_schema.specs.declared.kind.Shape as shape
 
 -- ---- one level
@@ -44,39 +44,19 @@ shape_view-List b = search (rules, shape.the_lemmas)
 
 -- ---- fields by name
 
-abbrev pub Made : Type 0
-Made = String Global × shape.Shape
-
-abbrev pub named : Made → Text × model.Shape
-named m = (string_bytes m.0, shape_view m.1)
-
-abbrev pub asked : ℕ → Found → Text × model.Shape
-asked n e = (string_bytes e.0, shape_at n (view e.1))
-
 fields_of : List (Text × model.Shape) → model.ShapeFields
 fields_of [] = model.no_shape_fields
 fields_of (x ∷ xs) = model.shape_field x.0 x.1 (fields_of xs)
 
-made_fields : (ms : List Made) → shape_fields_view ms ≡ fields_of (map named ms)
+made_fields : (ms : List (String Global × shape.Shape)) → shape_fields_view ms ≡ fields_of (map (named shape_view) ms)
 unfolding fields_of
 made_fields [] = refl
 made_fields (m ∷ ms) = ap (model.shape_field (string_bytes m.0) (shape_view m.1)) (made_fields ms)
 
-asked_fields : (n : ℕ) (es : List Found) → fields_of (map (asked n) es) ≡ shape_fields (shape_at n) (members_view es)
+asked_fields : (n : ℕ) (es : List Found) → fields_of (map (asked (shape_at n)) es) ≡ shape_fields (shape_at n) (members_view es)
 unfolding fields_of
 asked_fields n [] = refl
 asked_fields n (e ∷ es) = ap (model.shape_field (string_bytes e.0) (shape_at n (view e.1))) (asked_fields n es)
 
-pub fields-made : (n : ℕ) (ms : List Made) (es : List Found) → map named ms ≡ map (asked n) es → shape_fields_view ms ≡ shape_fields (shape_at n) (members_view es)
+pub fields-made : (n : ℕ) (ms : List (String Global × shape.Shape)) (es : List Found) → map (named shape_view) ms ≡ map (asked (shape_at n)) es → shape_fields_view ms ≡ shape_fields (shape_at n) (members_view es)
 fields-made n ms es same = made_fields ms ∙ ap fields_of same ∙ asked_fields n es
-
-made_names : (ms : List Made) → map (λ (x : Text × model.Shape). x.0) (map named ms) ≡ names ms
-made_names [] = refl
-made_names (m ∷ ms) = ap (λ t. string_bytes m.0 ∷ t) (made_names ms)
-
-asked_names : (n : ℕ) (es : List Found) → map (λ (x : Text × model.Shape). x.0) (map (asked n) es) ≡ names es
-asked_names n [] = refl
-asked_names n (e ∷ es) = ap (λ t. string_bytes e.0 ∷ t) (asked_names n es)
-
-pub names-made : (n : ℕ) (ms : List Made) (es : List Found) → map named ms ≡ map (asked n) es → names ms ≡ names es
-names-made n ms es same = sym (made_names ms) ∙ ap (map (λ (x : Text × model.Shape). x.0)) same ∙ asked_names n es

@@ -2,26 +2,27 @@
 use Rattle.std.proofs.Common.{◌≡◌, List, [], ◌∷◌, String, Global, string_bytes, string_cmp, nat_cmp, Less, Equal, Greater, refl, ap, ◌∙◌, subst}
 use Rattle.std.specs.Prelude.{Option, None, Some, option_map, option_and_then}
 use Rattle.std.specs.declared.cmp.Ordering.{Ordering}
-use Rattle.std.specs.BTreeMap.{insert_entry}
+use Rattle.std.specs.BTreeSet.{insert_key}
 use Rattle.std.specs.Ordering.{match_ordering}
 use Rattle.std.specs.Cmp.Lexicographic.{slice_cmp}
 use Rattle.ssa_model.specs.Json.{Text, Json, Items, no_items, item, as_text}
 use Rattle.ssa_model.specs.Schema.{texts_of, with_text, sorted_texts}
-use Rattle.ssa_schema.specs.Builds.{sorted_items, names_of}
+use Rattle.ssa_schema.specs.Kinds.{names_view}
+use Rattle.ssa_schema.specs.Builds.{sorted_items}
 
--- ---- a name put into a map
+-- ---- a name put into a set
 
 -- one step, after the order of the two names
-one_name : {X : Type 0} (k : String Global) (x : X) (e : String Global × X) (es rest : List (String Global × X)) (o : Ordering) → names_of rest ≡ with_text (string_bytes k) (names_of es)
-    → names_of (match_ordering o ((k, x) ∷ e ∷ es) ((e.0, x) ∷ es) (e ∷ rest))
-    ≡ (elim o [ Less ↦ string_bytes k ∷ string_bytes e.0 ∷ names_of es | Equal ↦ string_bytes e.0 ∷ names_of es | Greater ↦ string_bytes e.0 ∷ with_text (string_bytes k) (names_of es) ])
-one_name k x e es rest Less h = refl
-one_name k x e es rest Equal h = refl
-one_name k x e es rest Greater h = ap (λ ns. string_bytes e.0 ∷ ns) h
+one_name : (k x : String Global) (xs rest : List (String Global)) (o : Ordering) → names_view rest ≡ with_text (string_bytes k) (names_view xs)
+    → names_view (match_ordering o (k ∷ x ∷ xs) (x ∷ xs) (x ∷ rest))
+    ≡ (elim o [ Less ↦ string_bytes k ∷ string_bytes x ∷ names_view xs | Equal ↦ string_bytes x ∷ names_view xs | Greater ↦ string_bytes x ∷ with_text (string_bytes k) (names_view xs) ])
+one_name k x xs rest Less h = refl
+one_name k x xs rest Equal h = refl
+one_name k x xs rest Greater h = ap (λ ns. string_bytes x ∷ ns) h
 
-pub names-insert : {X : Type 0} (k : String Global) (x : X) (es : List (String Global × X)) → names_of (insert_entry string_cmp es k x) ≡ with_text (string_bytes k) (names_of es)
-names-insert k x [] = refl
-names-insert k x (e ∷ es) = one_name k x e es (insert_entry string_cmp es k x) (slice_cmp nat_cmp (string_bytes k) (string_bytes e.0)) (names-insert k x es)
+pub names-insert : (k : String Global) (xs : List (String Global)) → names_view (insert_key string_cmp xs k) ≡ with_text (string_bytes k) (names_view xs)
+names-insert k [] = refl
+names-insert k (x ∷ xs) = one_name k x xs (insert_key string_cmp xs k) (slice_cmp nat_cmp (string_bytes k) (string_bytes x)) (names-insert k xs)
 
 -- ---- items that are texts
 

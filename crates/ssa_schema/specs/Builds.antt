@@ -48,7 +48,3 @@ merged_kind levels ms = if is_array_type ms then list_kind_at levels ms else (if
 abbrev pub sorted_items : Items → List Text
 sorted_items no_items = []
 sorted_items (item v vs) = elim (as_text v) [ None ↦ sorted_items vs | Some t ↦ with_text t (sorted_items vs) ]
-
--- the names of a map's entries
-abbrev pub names_of : {X : Type 0} → List (String Global × X) → List Text
-names_of es = map (λ e. string_bytes e.0) es

@@ -3,35 +3,35 @@ ghost use Rattle.std.specs.Prelude.{◌≡◌, IfOk};
 ghost use Rattle.ssa_json.specs.View.{members_view, items_view};
 ghost use Rattle.ssa_model.specs.Schema.{key_names, sorted_texts};
 ghost use Rattle.ssa_schema.specs.Kinds.{names_view};
-ghost use Rattle.ssa_schema.specs.Builds.{sorted_items, names_of};
+ghost use Rattle.ssa_schema.specs.Builds.{sorted_items};
 
 use crate::keys::key_items;
 use ssa_json::value::Json;
 use std::alloc::{AllocError, Global};
-use std::collections::BTreeMap;
+use std::collections::{BTreeMap, BTreeSet};
 
 // The texts among the items, in the order of their bytes, each once.
-fn sorted_items(alloc: Global, items: &[Json]) -> Result<BTreeMap<String, ()>, AllocError>
-    ensures { IfOk result (λ m. names_of m.entries ≡ sorted_items (items_view items.now)) }
+fn sorted_items(alloc: Global, items: &[Json]) -> Result<BTreeSet<String>, AllocError>
+    ensures { IfOk result (λ s. names_view s.keys ≡ sorted_items (items_view items.now)) }
 {
-    let mut found = BTreeMap::new(alloc);
+    let mut found = BTreeSet::new(alloc);
     let mut left = items.len();
     while left > 0 {
         left -= 1;
         if let Some(text) = items[left].as_text() {
             let name = String::from_str(alloc, text)?;
-            found.insert(name, ())?;
+            found.insert(name)?;
         }
     }
     Ok(found)
 }
 
-// The names of a map, in their order.
-fn list_of_names(alloc: Global, names: BTreeMap<String, ()>) -> Result<Vec<String>, AllocError>
-    ensures { IfOk result (λ v. names_view v.items ≡ names_of names.entries) }
+// The names, in their order.
+fn list_of_names(alloc: Global, names: BTreeSet<String>) -> Result<Vec<String>, AllocError>
+    ensures { IfOk result (λ v. names_view v.items ≡ names_view names.keys) }
 {
     let mut found = Vec::new(alloc);
-    for (name, _) in names {
+    for name in names {
         found.push(name)?;
     }
     Ok(found)

@@ -1,4 +1,4 @@
-//! Why a value is no body.
+//! Why a value has no body.
 use ssa_schema::body_fault::BodyFault;
 use std::alloc::{AllocError, AllocFailed};
 use thiserror::Error;
@@ -17,3 +17,10 @@ pub enum TypedFault {
     OutOfMemory,
 }
 
+impl From<AllocError> for TypedFault {
+    ghost from_gives = { λ _ e. e ≡ OutOfMemory };
+
+    fn from(_refused: AllocError) -> TypedFault {
+        TypedFault::OutOfMemory
+    }
+}

@@ -1,10 +1,10 @@
 use Rattle.std.proofs.Common.{◌≡◌, suc, ◌-◌, arith, [], ◌∷◌, ◌++◌, map, string_bytes, string_cmp, sym, ap, ap₂, ◌∙◌, subst, append_assoc, append-nil}
-use Rattle.std.proofs.lemmas.List.{map-append}
 use Rattle.std.specs.List.Sorted.{IsStrictlySortedBy}
 use Rattle.std.specs.Map.{keys_of}
 use Rattle.ssa_json.proofs.Converting.{Found}
-use Rattle.ssa_json.proofs.Ordered.{inserted-last}
-use Rattle.ssa_schema.proofs.Kinding.{named, asked, names-made, fields-made, kind_view-none, kind_view-AtomicOf, kind_at_atomic, kind_at_none, kind_at_object, kind_at_list, kind_at_scalar}
+use Rattle.ssa_schema.specs.Kinds.{kind_view}
+use Rattle.ssa_schema.proofs.Made.{named, asked, made-more}
+use Rattle.ssa_schema.proofs.Kinding.{fields-made, kind_view-none, kind_view-AtomicOf, kind_at_atomic, kind_at_none, kind_at_object, kind_at_list, kind_at_scalar}
 use Rattle.std.proofs.lemmas.Result.{IfOk-weaker}
 use Rattle.ssa_json.specs.View.{view, members_view, items_view, scalar_view}
 use Rattle.ssa_json.proofs.Views.{view-Object}
@@ -23,15 +23,10 @@ kinds_of-loop-name-preserved t c =
     let left = c.next.new.self in
     let all : c.args.schemas.now.entries ≡ done ++ e ∷ left = l.invariant.split ∙ ap (λ es. done ++ es) c.in-Some.ensures.steps in
     let key : string_bytes c.in_ok-key.key ≡ string_bytes e.0 = c.in_ok-key.ensures.ok ∙ c.as_str.ensures.value in
-    let made = c.in_ok-kind_of.field-0 in
-    let last = c.in_ok-insert.ensures.entries ∙ inserted-last done e left l.found.entries c.in_ok-key.key made (subst (λ es. IsStrictlySortedBy string_cmp (keys_of es)) all c.iter-name-items.ensures.ordered) (names-made n l.found.entries done l.invariant.same) key in
     record {
       done = done ++ e ∷ [];
       split = all ∙ sym (append_assoc done (e ∷ []) left);
-      same =
-          ap (map named) last ∙ map-append named l.found.entries ((c.in_ok-key.key, made) ∷ [])
-          ∙ ap₂ (λ a b. a ++ b ∷ []) l.invariant.same (λ i. (key i, c.in_ok-kind_of.ensures i))
-          ∙ sym (map-append (asked n) done (e ∷ []));
+      same = made-more kind_view (kind_at n) done e left l.found.entries c.insert.new.self.entries c.in_ok-key.key c.in_ok-kind_of.field-0 (subst (λ es. IsStrictlySortedBy string_cmp (keys_of es)) all c.iter-name-items.ensures.ordered) l.invariant.same c.in_ok-insert.ensures.entries key c.in_ok-kind_of.ensures;
     }
 
 pub kinds_of-returns : goal.kinds_of-returns
@@ -39,7 +34,7 @@ kinds_of-returns t c =
     let l = c.loop-name in
     let n = c.args.levels in
     let all : l.invariant.done ≡ c.args.schemas.now.entries = sym (append-nil l.invariant.done) ∙ ap (λ es. l.invariant.done ++ es) (sym c.in-None.ensures.steps.0) ∙ sym l.invariant.split in
-    fields-made n l.found.entries c.args.schemas.now.entries (l.invariant.same ∙ ap (map (asked n)) all)
+    fields-made n l.found.entries c.args.schemas.now.entries (l.invariant.same ∙ ap (map (asked (kind_at n))) all)
 
 pub kind_of-returns-then-levels-eq0 : goal.kind_of-returns-then-levels-eq0
 kind_of-returns-then-levels-eq0 t c =

@@ -1,6 +1,8 @@
 use Rattle.std.proofs.Common.{◌≡◌, List, ◌++◌, ◌+◌, ◌*◌, map}
 use Rattle.ssa_json.proofs.Converting.{Found}
-use Rattle.ssa_schema.proofs.Kinding.{named, asked}
+use Rattle.ssa_schema.specs.Kinds.{kind_view}
+use Rattle.ssa_schema.specs.Builds.{kind_at}
+use Rattle.ssa_schema.proofs.Made.{named, asked}
 use Rattle.ssa_schema.proofs.build.+kinds.Given as goal
 
 abbrev pub decreases-kind_of : goal.decreases-kind_of
@@ -29,5 +31,5 @@ abbrev pub invariant-kinds_of-loop-name : goal.invariant-kinds_of-loop-name
 invariant-kinds_of-loop-name l = record {
   done : List Found;
   split : l.schemas.entries ≡ done ++ l.name-iterator;
-  same : map named l.found.entries ≡ map (asked l.levels) done;
+  same : map (named kind_view) l.found.entries ≡ map (asked (kind_at l.levels)) done;
 }

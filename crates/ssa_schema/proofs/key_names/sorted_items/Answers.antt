@@ -4,7 +4,8 @@ use Rattle.std.specs.Prelude.{Option, None, Some}
 use Rattle.ssa_model.specs.Json.{Text}
 use Rattle.ssa_model.specs.Schema.{with_text}
 use Rattle.ssa_json.specs.View.{items_view}
-use Rattle.ssa_schema.specs.Builds.{sorted_items, names_of}
+use Rattle.ssa_schema.specs.Kinds.{names_view}
+use Rattle.ssa_schema.specs.Builds.{sorted_items}
 use Rattle.ssa_schema.proofs.Sorting.{names-insert}
 use Rattle.ssa_schema.proofs.key_names.sorted_items.Goals as goal
 
@@ -19,8 +20,8 @@ loop-left-preserved-in_ok-insert c =
     record {
       within = omega arith;
       sorted =
-          ap names_of c.in_ok-insert.ensures.entries ∙ names-insert c.in_ok-name.name tt l.found.entries
-          ∙ ap (λ n. with_text n (names_of l.found.entries)) c.in_ok-name.ensures.ok
+          ap names_view c.in_ok-insert.ensures.keys ∙ names-insert c.in_ok-name.name l.found.keys
+          ∙ ap (λ n. with_text n (names_view l.found.keys)) c.in_ok-name.ensures.ok
           ∙ ap (with_text c.in-Some.text.now) l.invariant.sorted
           ∙ ap (λ (o : Option Text). elim o [ None ↦ sorted_items later | Some t ↦ with_text t (sorted_items later) ]) c.in-Some.ensures
           ∙ ap (λ ys. sorted_items (items_view ys)) (sym split);

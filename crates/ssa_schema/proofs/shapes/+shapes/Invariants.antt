@@ -1,6 +1,8 @@
 use Rattle.std.proofs.Common.{◌≡◌, List, ◌++◌, ◌+◌, ◌*◌, map}
 use Rattle.ssa_json.proofs.Converting.{Found}
-use Rattle.ssa_schema.proofs.Shaping.{named, asked}
+use Rattle.ssa_schema.specs.Kinds.{shape_view}
+use Rattle.ssa_schema.specs.Builds.{shape_at}
+use Rattle.ssa_schema.proofs.Made.{named, asked}
 use Rattle.ssa_schema.proofs.shapes.+shapes.Given as goal
 
 abbrev pub decreases-shape_of : goal.decreases-shape_of
@@ -26,5 +28,5 @@ abbrev pub invariant-shapes_of-loop-name : goal.invariant-shapes_of-loop-name
 invariant-shapes_of-loop-name l = record {
   done : List Found;
   split : l.schemas.entries ≡ done ++ l.name-iterator;
-  same : map named l.found.entries ≡ map (asked l.levels) done;
+  same : map (named shape_view) l.found.entries ≡ map (asked (shape_at l.levels)) done;
 }

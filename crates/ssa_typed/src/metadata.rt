@@ -1,0 +1,44 @@
+//! An empty `metadata`, which no body has.
+ghost use Rattle.std.specs.Prelude.{◌≡◌, true, string_cmp};
+ghost use Rattle.std.specs.BTreeMap.{IsOrdered};
+ghost use Rattle.ssa_model.specs.Body.{is_empty_object, without_empty_metadata};
+ghost use Rattle.ssa_json.specs.View.{view, members_view};
+ghost use Rattle.ssa_typed.specs.Reads.{has_empty_metadata};
+
+use ssa_json::value::Json;
+use std::collections::BTreeMap;
+
+// Whether the value is an object with nothing in it.
+fn is_empty_object(value: &Json) -> bool
+    ensures { result ≡ is_empty_object (view value.now) }
+{
+    match value {
+        Json::Object(members) => members.is_empty(),
+        _ => false,
+    }
+}
+
+// Whether there is a `metadata` with nothing in it.
+fn has_empty_metadata(members: &BTreeMap<String, Json>) -> bool
+    ensures told { result ≡ has_empty_metadata (members_view members.now.entries) }
+    ensures ordered { IsOrdered string_cmp members.now }
+{
+    if members.len() == 0 {
+        return false;
+    }
+    match members.get("metadata") {
+        Some(value) => is_empty_object(value),
+        None => false,
+    }
+}
+
+/// The members of an object but for a `metadata` with nothing in it.
+pub fn without_empty_metadata(members: BTreeMap<String, Json>) -> BTreeMap<String, Json>
+    ensures { members_view result.entries ≡ without_empty_metadata (members_view members.entries) }
+{
+    let mut members = members;
+    if has_empty_metadata(&members) {
+        drop(members.remove("metadata"));
+    }
+    members
+}

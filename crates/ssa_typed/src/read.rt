@@ -1,0 +1,58 @@
+//! Bodies of values.
+ghost use Rattle.std.specs.Prelude.{◌≡◌, true, IfOk};
+ghost use Rattle.ssa_model.specs.Body.{flat};
+ghost use Rattle.ssa_json.specs.View.{view};
+ghost use Rattle.ssa_schema.specs.Kinds.{kind_view};
+ghost use Rattle.ssa_schema.specs.Lawful.{is_root_kind};
+ghost use Rattle.ssa_typed.specs.Flats.{Fits};
+ghost use Rattle.ssa_typed.specs.Reads.{ReadsBody};
+
+use crate::body::Body;
+use crate::build::field_children;
+use crate::fault::TypedFault;
+use crate::metadata::without_empty_metadata;
+use crate::node::Node;
+use crate::parts::into_members;
+use ssa_json::value::Json;
+use ssa_schema::kind::Kind;
+use ssa_schema::schema::Schema;
+use std::alloc::{AllocError, Global};
+
+/// How many places a body may have, the root among them.
+const MOST_PLACES: usize = 20_001;
+
+// The body of a value that fits a root's kind.
+fn body_of(alloc: Global, kind: &Kind, value: Json) -> Result<Body, AllocError>
+    requires root { is_root_kind (kind_view kind.now) ≡ true }
+    requires fits { Fits (kind_view kind.now) (view value) }
+    ensures { IfOk result (λ b. b ≡ flat (kind_view kind.now) (view value)) }
+{
+    match kind {
+        Kind::Record(fields) => {
+            let members = without_empty_metadata(into_members(value));
+            let children = field_children(alloc, fields, members)?;
+            Ok(Body::new(Node::Branch(children)))
+        }
+        _ => unreachable!(),
+    }
+}
+
+impl Body {
+    /// The body of an object without its identity, as Server-Side Apply compares objects: one path
+    /// for each place outside atomic values. The value's texts and atomic values are moved into it.
+    ///
+    /// Refused are a value that does not fit the schema, with its first fault, and then one with
+    /// more than 20,000 places beside the root.
+    pub fn from_json(alloc: Global, schema: &Schema, value: Json) -> Result<Body, TypedFault>
+        ensures { ReadsBody result schema.now.1 (view value) }
+    {
+        if let Some(fault) = schema.first_fault(alloc, &value)? {
+            return Err(TypedFault::Body(fault));
+        }
+        let body = body_of(alloc, schema.kind(), value)?;
+        if body.size() > MOST_PLACES {
+            return Err(TypedFault::TooManyPaths);
+        }
+        Ok(body)
+    }
+}
