@@ -1,6 +1,8 @@
 -- Values without faults, part by part.
 use Rattle.std.proofs.Common.{◌≡◌, List, [], ◌∷◌, ◌++◌, Bool, true, false, not, ◌&&◌, ◌||◌, refl, sym, ap, ◌∙◌, true≢false}
-use Rattle.std.specs.Prelude.{Option, None, Some, if◌then◌else◌}
+use Rattle.std.specs.Prelude.{Option, None, Some, if◌then◌else◌, option_map}
+use Rattle.ssa_schema.specs.Finds.{told}
+use Rattle.ssa_schema.specs.Refusals.{first_of}
 use Rattle.std.specs.List.{list_any}
 use Rattle.ssa_model.specs.Json.{Text, Scalar, Json, scalar, list, object, Items, no_items, item, Members, member}
 use Rattle.ssa_model.specs.Path.{Element, field, value, Path, same_element}
@@ -36,6 +38,18 @@ member-first fs n v ms h = member-known fs n v h.0 (kind_of n fs) refl (nil_firs
 
 pub member-rest : (fs : Fields) (n : Text) (v : Json) (ms : Members) → FieldsFit fs (member n v ms) → FieldsFit fs ms
 member-rest fs n v ms h = (h.0, nil_second (member_test n v h.0 (kind_of n fs)) (field_faults fs ms h.0) (member-now fs n v ms h.0 h.1))
+
+nil-both : {X : Type 0} (xs ys : List X) → xs ≡ [] → ys ≡ [] → xs ++ ys ≡ []
+nil-both xs ys e f = λ i. e i ++ f i
+
+-- the other members fit, and this one before any that do
+pub member-join : (fs : Fields) (n : Text) (v : Json) (ms : Members) (p : Path) → field_faults fs (member n v ms) p ≡ []
+    → (field_faults fs ms p ≡ []) × ((ns : Members) → field_faults fs ns p ≡ [] → field_faults fs (member n v ns) p ≡ [])
+member-join fs n v ms p e =
+    let now = member-now fs n v ms p e in (
+      nil_second (member_test n v p (kind_of n fs)) _ now,
+      λ ns f. ap (λ xs. xs ++ field_faults fs ns p) (member_test-is n v p (kind_of n fs)) ∙ nil-both (member_test n v p (kind_of n fs)) _ (nil_first (member_test n v p (kind_of n fs)) _ now) f,
+    )
 
 pub entry-first : (k : Kind) (n : Text) (v : Json) (ms : Members) → EntriesFit k (member n v ms) → Fits k v
 entry-first k n v ms h = (h.0 ++ field n ∷ [], nil_first _ (entry_faults k ms h.0) h.1)
@@ -168,3 +182,14 @@ values-apart k vs h = new-apart [] (value_order vs) (values-new k [] vs h.0 h.1)
 
 pub items-apart : (ns : List Text) (fs : Fields) (vs : Items) → ItemsFit ns fs vs → are_apart (key_order ns vs) ≡ true
 items-apart ns fs vs h = new-apart [] (key_order ns vs) (items-new ns fs [] vs h.0 h.1)
+
+-- ---- no first fault
+
+is_there : {A : Type 0} → Option A → Bool
+is_there None = false
+is_there (Some x) = true
+
+pub no-first : (fs : List Fault) → None ≡ option_map told (first_of fs) → fs ≡ []
+unfolding is_there
+no-first [] e = refl
+no-first (f ∷ fs) e = absurd (true≢false (sym (ap is_there e)))

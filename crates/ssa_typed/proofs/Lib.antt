@@ -1,6 +1,7 @@
 pub mod Building
 pub mod Collecting
 pub mod Differing
+pub mod EmptyMetadata
 pub mod Fitting
 pub mod ItemKeys
 pub mod Laws

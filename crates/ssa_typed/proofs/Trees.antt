@@ -1,5 +1,5 @@
 -- Trees of values of each kind.
-use Rattle.std.proofs.Common.{◌≡◌, List, [], ◌∷◌, ◌++◌, Bool, true, false, ◌&&◌, Vec, Box, BTreeMap, String, Global, string_bytes, nat_cmp, refl, sym, ap, ◌∙◌, subst₂, append-nil, true≢false, rules}
+use Rattle.std.proofs.Common.{◌≡◌, List, [], ◌∷◌, ◌++◌, Bool, true, false, Vec, Box, BTreeMap, String, Global, string_bytes, nat_cmp, refl, sym, ap, ◌∙◌, subst₂, append-nil, true≢false, rules}
 use Rattle.std.specs.Prelude.{Option, None, Some, if◌then◌else◌, option_map}
 use Rattle.std.specs.Borrow.{Bor}
 use Rattle.std.specs.Map.{lookup}
@@ -8,16 +8,17 @@ use Rattle.std.specs.Cmp.Lexicographic.{slice_cmp}
 use Rattle.ssa_schema.proofs.Fields.{view_of_ref, fields-lookup}
 use Rattle.ssa_model.specs.Json.{Text, Json, object, list, Items, Members, same_text}
 use Rattle.ssa_model.specs.Path.{field, Path}
+use Rattle.ssa_model.specs.PathMap.{from_entries}
 use Rattle.ssa_model.specs.Kind as model
-use Rattle.ssa_model.specs.Body.{Content, record_branch, dict_branch, list_branch, places, field_places, entry_places, value_places, item_places, value_order, key_order}
+use Rattle.ssa_model.specs.Body.{Content, record_branch, dict_branch, list_branch, flat, without_empty_metadata, places, field_places, entry_places, value_places, item_places, value_order, key_order}
 use Rattle.ssa_schema.specs.Kinds.{kind_view, fields_view, names_view, scalar_kind_view}
 use Rattle.ssa_schema.specs.Lawful.{is_keyed, are_keyed}
 use Rattle.ssa_schema.specs.declared.kind.Kind as kind
 use Rattle.ssa_schema.specs.declared.kind.ScalarKind.{ScalarKind}
 use Rattle.ssa_path.specs.Children.{elements}
 use Rattle.ssa_path.proofs.Orders.{both, both_first, both_second}
-use Rattle.ssa_typed.specs.Rows.{Row, rows, rows_below, is_tree, are_apart}
-use Rattle.ssa_typed.specs.Flats.{rows_at, member_places, AreListed, AreNamed, IsTreeOf, Fits, ValuesFit, ItemsFit, EntriesFit, FieldsFit}
+use Rattle.ssa_typed.specs.Rows.{Row, body_of, rows, rows_below, is_tree, are_apart}
+use Rattle.ssa_typed.specs.Flats.{rows_at, member_places, AreListed, AreNamed, IsTreeOf, ValuesFit, ItemsFit}
 use Rattle.ssa_typed.specs.declared.node.Node.{Node, Branch, Dict, List as ListOf}
 use Rattle.ssa_typed.proofs.Building.{Child}
 use Rattle.ssa_typed.proofs.Fitting.{values-apart, items-apart}
@@ -126,3 +127,12 @@ module _ (cs : Children) where
         placed = λ p. placed-branch (ListOf cs) cs.items (list_branch (key_order ns vs)) p (item_places ns fs vs p) (rows-List ∙ ap (λ es. ([], list_branch es) ∷ rows_below cs.items) h.order_is) (h.placed p);
         tree = list-tree (key_order ns vs) (item_places ns fs vs) (items-apart ns fs vs fits) h;
       })
+
+-- ---- the body of an object
+
+rows_at-none : (rs : List Row) → rows_at [] rs ≡ rs
+rows_at-none [] = refl
+rows_at-none (r ∷ rs) = ap (λ xs. r ∷ xs) (rows_at-none rs)
+
+pub record-flat : (cs : Children) (fs : model.Fields) (ms : Members) → AreNamed (field_places fs (without_empty_metadata ms)) cs.items → body_of (Branch cs) ≡ flat (model.record_of fs) (object ms)
+record-flat cs fs ms h = ap from_entries (sym (rows_at-none (rows (Branch cs))) ∙ record-placed cs (field_places fs (without_empty_metadata ms)) h [])

@@ -7,7 +7,7 @@ use Rattle.ssa_model.specs.Body.{leaf, record_branch, places, field_places}
 use Rattle.ssa_path.specs.Children.{elements, rises}
 use Rattle.ssa_path.specs.View.{element_view}
 use Rattle.ssa_path.specs.declared.element.Elem.{Elem}
-use Rattle.ssa_typed.specs.Rows.{Row, rows, rows_below, is_tree, are_trees, are_apart, are_fields, are_items}
+use Rattle.ssa_typed.specs.Rows.{Row, rows, rows_below, is_tree, are_trees, are_fields, are_items}
 use Rattle.ssa_typed.specs.declared.node.Node.{Node}
 
 -- each row with a path in front of its own

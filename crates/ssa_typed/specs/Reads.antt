@@ -1,6 +1,5 @@
 -- What reading a body answers.
 use Rattle.std.specs.Prelude.{◌≡◌, ◌<◌, ◌≤◌, [], Option, None, Some, option_map, Result, Ok, Err, Bool, false, codes}
-use Rattle.ssa_model.specs.Json as values
 use Rattle.ssa_model.specs.Json.{Json, Members, member_of}
 use Rattle.ssa_model.specs.Kind.{Kind, faults}
 use Rattle.ssa_model.specs.PathMap.{size}

@@ -1,6 +1,9 @@
 //! Why a value has no body.
+ghost use Rattle.std.specs.Prelude.{◌≡◌};
+ghost use Rattle.ssa_typed.specs.declared.fault.TypedFault.TheVariants.{OutOfMemory};
+
 use ssa_schema::body_fault::BodyFault;
-use std::alloc::{AllocError, AllocFailed};
+use std::alloc::AllocError;
 use thiserror::Error;
 
 /// Why a value has no body under a schema.

@@ -13,7 +13,7 @@ fn is_empty_object(value: &Json) -> bool
     ensures { result ≡ is_empty_object (view value.now) }
 {
     match value {
-        Json::Object(members) => members.is_empty(),
+        Json::Object(members) => members.iter().next().is_none(),
         _ => false,
     }
 }

@@ -1,7 +1,5 @@
-use Rattle.std.proofs.Common.{◌≡◌, List, [], ◌∷◌, ◌++◌, Some, None, option_map, string_bytes, string_cmp, refl, sym, ap, ◌∙◌, subst, subst₂, append_assoc, append-nil, rules}
+use Rattle.std.proofs.Common.{◌≡◌, [], ◌∷◌, ◌++◌, Some, option_map, string_bytes, refl, sym, ap, ◌∙◌, subst, subst₂, append_assoc, append-nil, rules}
 use Rattle.std.proofs.lemmas.List.{map-append}
-use Rattle.std.specs.List.Sorted.{IsStrictlySortedBy}
-use Rattle.std.specs.Map.{keys_of}
 use Rattle.std.specs.Vec.Iter.{into_iter_items}
 use Rattle.ssa_model.specs.Json as values
 use Rattle.ssa_model.specs.Path.{field}
@@ -15,9 +13,9 @@ use Rattle.ssa_schema.specs.Lawful.{is_keyed, are_key_names}
 use Rattle.ssa_schema.specs.declared.kind.Kind as kind
 use Rattle.ssa_schema.proofs.Kinding.{kind_view-Record}
 use Rattle.ssa_path.proofs.Orders.{both_first, both_second}
-use Rattle.ssa_path.specs.declared.element.Elem.TheVariants.{Field, Key}
-use Rattle.ssa_typed.specs.Flats.{member_places, Fits, EntriesFit, FieldsFit, ItemsFit, ValuesFit}
-use Rattle.ssa_typed.proofs.Building.{listing-step, listing-end, naming-step, naming-end}
+use Rattle.ssa_path.specs.declared.element.Elem.TheVariants.{Field}
+use Rattle.ssa_typed.specs.Flats.{member_places, Fits, EntriesFit, FieldsFit}
+use Rattle.ssa_typed.proofs.Building.{listing-step, naming-step, naming-end}
 use Rattle.ssa_typed.proofs.Fitting.{ItemsFitAfter, member-first, member-rest, entry-first, entry-rest, item-first, item-rest}
 use Rattle.ssa_typed.proofs.Trees.{kind_view-Dict, kind_view-SetOf, kind_view-ItemsOf, keyed-at, field-found, known-is, known-there, known-places, member-places, record-placed, record-tree, record-made, dict-made, set-made, items-made}
 use Rattle.ssa_typed.proofs.build.+build.Goals as goal

@@ -1,4 +1,4 @@
-use Rattle.std.proofs.Common.{◌≡◌, [], ◌∷◌, ◌++◌, refl, ap, ◌∙◌, subst}
+use Rattle.std.proofs.Common.{◌≡◌, [], ◌∷◌, refl, ap, ◌∙◌, subst}
 use Rattle.std.specs.Vec.Iter.{into_iter_items}
 use Rattle.ssa_model.specs.Json.{item}
 use Rattle.ssa_model.specs.Path.{value}

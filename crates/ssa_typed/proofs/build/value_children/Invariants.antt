@@ -1,7 +1,4 @@
-use Rattle.std.proofs.Common.{◌≡◌, ◌++◌, true}
 use Rattle.std.specs.Vec.Iter.{into_iter_items}
-use Rattle.ssa_model.specs.Path.{Path, Element}
-use Rattle.ssa_model.specs.Kind.{value_faults}
 use Rattle.ssa_model.specs.Body.{value_order, value_places}
 use Rattle.ssa_json.specs.View.{items_view}
 use Rattle.ssa_schema.specs.Kinds.{scalar_kind_view}

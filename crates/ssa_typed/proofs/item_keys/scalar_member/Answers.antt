@@ -1,7 +1,6 @@
-use Rattle.std.proofs.Common.{◌≡◌, ap, ◌∙◌, sym, None, Some}
+use Rattle.std.proofs.Common.{ap, ◌∙◌, sym, Some}
 use Rattle.std.specs.Prelude.{option_map}
-use Rattle.ssa_model.specs.Json.{member_of}
-use Rattle.ssa_json.specs.View.{view, scalar_view, members_view}
+use Rattle.ssa_json.specs.View.{view, scalar_view}
 use Rattle.ssa_json.proofs.Views.{view_of_ref, view-lookup, view-Scalar, view-List, view-Object}
 use Rattle.ssa_typed.specs.Flats.{scalar_in}
 use Rattle.ssa_typed.proofs.item_keys.scalar_member.Goals as goal

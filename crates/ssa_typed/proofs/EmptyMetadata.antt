@@ -1,0 +1,98 @@
+-- An empty `metadata`.
+use Rattle.std.proofs.Common.{◌≡◌, List, [], ◌∷◌, Bool, true, false, ◌&&◌, cond, Less, Equal, Greater, String, Global, string_bytes, string_cmp, nat_cmp, refl, sym, ap, ◌∙◌, true≢false}
+use Rattle.std.specs.Prelude.{Some, if◌then◌else◌, codes}
+use Rattle.std.specs.declared.cmp.Ordering.{Ordering}
+use Rattle.std.specs.List.{AllByRecursion}
+use Rattle.std.specs.List.Sorted.{IsStrictlySortedBy}
+use Rattle.std.specs.Map.{keys_of, remove_entry}
+use Rattle.std.specs.BTreeMap.{is_at}
+use Rattle.std.specs.Ordering.{is_eq, ordering_reverse}
+use Rattle.std.specs.Cmp.Lexicographic.{slice_cmp}
+use Rattle.std.proofs.lemmas.Cmp.{nat_list_cmp_total}
+use Rattle.ssa_model.specs.Json.{Text, Members, no_members, member, member_of, same_text}
+use Rattle.ssa_model.specs.Kind.{Fields, field_faults}
+use Rattle.ssa_model.specs.Body.{is_empty_object, without_empty_metadata}
+use Rattle.ssa_model.specs.Path.{Path}
+use Rattle.ssa_json.specs.View.{view, members_view}
+use Rattle.ssa_json.proofs.Converting.{Found}
+use Rattle.ssa_json.proofs.Equality.{same_text-true}
+use Rattle.ssa_json.proofs.Ordered.{above_first}
+use Rattle.ssa_typed.specs.Flats.{FieldsFit}
+use Rattle.ssa_typed.specs.Reads.{is_empty_member, has_empty_metadata}
+use Rattle.ssa_typed.proofs.Fitting.{member-join}
+
+eq_turned : (o : Ordering) → is_eq (ordering_reverse o) ≡ is_eq o
+eq_turned Less = refl
+eq_turned Equal = refl
+eq_turned Greater = refl
+
+turned : (t u : Text) → same_text t u ≡ same_text u t
+turned t u = ap is_eq (nat_list_cmp_total.antisymm t u) ∙ eq_turned (slice_cmp nat_cmp u t)
+
+-- the key is that of `metadata`
+abbrev pub at_metadata : String Global → Bool
+at_metadata = is_at (λ k. slice_cmp nat_cmp (codes "metadata") (string_bytes k))
+
+is_own : (e : Found) (b : Bool) → at_metadata e.0 ≡ b → same_text (string_bytes e.0) (codes "metadata") ≡ b
+is_own e b h = turned (string_bytes e.0) (codes "metadata") ∙ h
+
+-- ---- taken out
+
+removed-step : (e : Found) (es : List Found) (b : Bool) → at_metadata e.0 ≡ b → is_empty_member (if b then Some (view e.1) else member_of (codes "metadata") (members_view es)) ≡ true
+    → (has_empty_metadata (members_view es) ≡ true → members_view (remove_entry at_metadata es) ≡ without_empty_metadata (members_view es))
+    → members_view (remove_entry at_metadata (e ∷ es)) ≡ without_empty_metadata (members_view (e ∷ es))
+removed-step e es true is h more =
+    ap (λ b. members_view (cond b es (e ∷ remove_entry at_metadata es))) is
+    ∙ sym (λ i. if is_own e true is i && h i then members_view es else member (string_bytes e.0) (view e.1) (without_empty_metadata (members_view es)))
+removed-step e es false is h more =
+    ap (λ b. members_view (cond b es (e ∷ remove_entry at_metadata es))) is
+    ∙ ap (member (string_bytes e.0) (view e.1)) (more h)
+    ∙ sym (λ i. if is_own e false is i && is_empty_object (view e.1) then members_view es else member (string_bytes e.0) (view e.1) (without_empty_metadata (members_view es)))
+
+pub removed : (es : List Found) → has_empty_metadata (members_view es) ≡ true → members_view (remove_entry at_metadata es) ≡ without_empty_metadata (members_view es)
+removed [] h = absurd (true≢false (sym h))
+removed (e ∷ es) h = removed-step e es (at_metadata e.0) refl h (removed es)
+
+-- ---- not there
+
+-- of names that rise, none is `metadata` after that one
+no_second : (e : Found) (es : List Found) → AllByRecursion (λ y. string_cmp e.0 y ≡ Less) (keys_of es) → same_text (string_bytes e.0) (codes "metadata") ≡ true
+    → without_empty_metadata (members_view es) ≡ members_view es
+no_second e [] above is = refl
+no_second e (f ∷ es) above is =
+    ap (λ b. if b && is_empty_object (view f.1) then members_view es else member (string_bytes f.0) (view f.1) (without_empty_metadata (members_view es))) other
+    ∙ ap (member (string_bytes f.0) (view f.1)) (no_second e es above.1 is)
+  where
+    other : same_text (string_bytes f.0) (codes "metadata") ≡ false
+    other = ap (same_text (string_bytes f.0)) (sym (same_text-true (string_bytes e.0) (codes "metadata") is)) ∙ ap is_eq (above_first e [] f es above)
+
+kept-step : (e : Found) (es : List Found) (b : Bool) → at_metadata e.0 ≡ b → is_empty_member (if b then Some (view e.1) else member_of (codes "metadata") (members_view es)) ≡ false
+    → AllByRecursion (λ y. string_cmp e.0 y ≡ Less) (keys_of es)
+    → (has_empty_metadata (members_view es) ≡ false → members_view es ≡ without_empty_metadata (members_view es))
+    → members_view (e ∷ es) ≡ without_empty_metadata (members_view (e ∷ es))
+kept-step e es true is h above more =
+    ap (member (string_bytes e.0) (view e.1)) (sym (no_second e es above (is_own e true is)))
+    ∙ sym (λ i. if is_own e true is i && h i then members_view es else member (string_bytes e.0) (view e.1) (without_empty_metadata (members_view es)))
+kept-step e es false is h above more =
+    ap (member (string_bytes e.0) (view e.1)) (more h)
+    ∙ sym (λ i. if is_own e false is i && is_empty_object (view e.1) then members_view es else member (string_bytes e.0) (view e.1) (without_empty_metadata (members_view es)))
+
+pub kept : (es : List Found) → IsStrictlySortedBy string_cmp (keys_of es) → has_empty_metadata (members_view es) ≡ false → members_view es ≡ without_empty_metadata (members_view es)
+unfolding IsStrictlySortedBy
+kept [] sorted h = refl
+kept (e ∷ es) sorted h = kept-step e es (at_metadata e.0) refl h sorted.0 (kept es sorted.1)
+
+-- ---- what is left fits
+
+if-fits : (b : Bool) (fs : Fields) (p : Path) (ms ns : Members) → field_faults fs ms p ≡ [] → field_faults fs ns p ≡ [] → field_faults fs (if b then ms else ns) p ≡ []
+if-fits true fs p ms ns e f = e
+if-fits false fs p ms ns e f = f
+
+left-fits : (fs : Fields) (ms : Members) (p : Path) → field_faults fs ms p ≡ [] → field_faults fs (without_empty_metadata ms) p ≡ []
+left-fits fs no_members p e = refl
+left-fits fs (member n v ms) p e =
+    let rest = member-join fs n v ms p e in
+    if-fits (same_text n (codes "metadata") && is_empty_object v) fs p ms (member n v (without_empty_metadata ms)) rest.0 (rest.1 (without_empty_metadata ms) (left-fits fs ms p rest.0))
+
+pub without-fits : (fs : Fields) (ms : Members) → FieldsFit fs ms → FieldsFit fs (without_empty_metadata ms)
+without-fits fs ms h = (h.0, left-fits fs ms h.0 h.1)

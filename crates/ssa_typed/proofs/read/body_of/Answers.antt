@@ -1,0 +1,31 @@
+use Rattle.std.proofs.Common.{◌≡◌, sym, ap, ◌∙◌, subst, subst₂}
+use Rattle.ssa_model.specs.Kind as model
+use Rattle.ssa_model.specs.Body.{field_places, flat}
+use Rattle.ssa_json.specs.View.{members_view}
+use Rattle.ssa_schema.specs.Kinds.{kind_view, fields_view}
+use Rattle.ssa_schema.proofs.Kinding.{kind_view-Record}
+use Rattle.ssa_typed.specs.Flats.{AreNamed, Fits, FieldsFit}
+use Rattle.ssa_typed.proofs.EmptyMetadata.{without-fits}
+use Rattle.ssa_typed.proofs.Trees.{record-tree, record-flat}
+use Rattle.ssa_typed.proofs.read.body_of.Goals as goal
+
+pub field_children-requires-clause-fits : goal.field_children-requires-clause-fits
+field_children-requires-clause-fits c =
+    let fs = fields_view c.in-Record.fields.entries in
+    let ms = members_view c.into_members.result.entries in
+    let is : kind_view c.args.kind.now ≡ model.record_of fs = ap kind_view c.in-Record.is ∙ kind_view-Record c.in-Record.fields in
+    subst (FieldsFit fs) (sym c.without_empty_metadata-members.ensures) (without-fits fs ms (subst₂ Fits is c.into_members.ensures c.requires.fits))
+
+pub new-requires : goal.new-requires
+new-requires c =
+    let fs = fields_view c.in-Record.fields.entries in
+    record-tree c.in_ok-children-in-Record.children (field_places fs (members_view c.without_empty_metadata-members.result.entries)) c.in_ok-children-in-Record.ensures
+
+pub returns : goal.returns
+returns c =
+    let fs = fields_view c.in-Record.fields.entries in
+    let ms = members_view c.into_members.result.entries in
+    let cs = c.in_ok-children-in-Record.children in
+    c.new.ensures
+    ∙ record-flat cs fs ms (subst (λ ns. AreNamed (field_places fs ns) cs.items) c.without_empty_metadata-members.ensures c.in_ok-children-in-Record.ensures)
+    ∙ (λ i. flat (sym (ap kind_view c.in-Record.is ∙ kind_view-Record c.in-Record.fields) i) (sym c.into_members.ensures i))
