@@ -1,8 +1,12 @@
 //! Prints JSON values.
-ghost use Rattle.std.specs.Prelude.{◌≡◌, IfOk, OnOk, true};
+ghost use Rattle.std.specs.Prelude.{◌≡◌, ◌≤◌, Ok, IfOk, OnOk, true};
+ghost use Rattle.serde_json.specs.Data.{depth};
+ghost use Rattle.serde_json.specs.Read.{max_depth};
 ghost use Rattle.serde_json.specs.View.{view as data_view, items_view as data_items, members_view as data_members};
 ghost use Rattle.ssa_model.specs.Json.{compact};
+ghost use Rattle.ssa_json.specs.Reading.{json_reading};
 ghost use Rattle.ssa_json.specs.View.{view, items_view, members_view};
+ghost use Rattle.ssa_json.specs.Writable.{CompactIsRead};
 ghost use Rattle.ssa_json.specs.Written.{data_of, items_data, members_data, is_narrow, items_narrow, members_narrow};
 
 use crate::value::{Json, Scalar};
@@ -12,14 +16,23 @@ use std::collections::BTreeMap;
 
 impl Json {
     /// The one compact spelling of the value: no spaces, names in the order of their bytes, whole
-    /// numbers in decimal, and only the escapes that RFC 8259 demands, the short ones first.
+    /// numbers in decimal, and only the escapes that RFC 8259 demands, the short ones first. Where
+    /// lists and objects nest at most 127 deep, `Json::read` reads it back as the same value.
     pub fn to_text(&self, alloc: Global) -> Result<Vec<u8>, AllocError>
-        ensures { IfOk result (λ text. text.items ≡ compact (view self.now)) }
+        ensures text { IfOk result (λ text. text.items ≡ compact (view self.now)) }
+        ensures is_read { IfOk result (λ text. depth (data_of (view self.now)) ≤ max_depth
+            → json_reading text.items ≡ Ok (view self.now)) }
     {
         let value = to_value(alloc, self)?;
         value.to_vec(alloc)
     }
 }
+
+/// Reading the compact text of a value gives the value, where its numbers fit 64 bits, its texts are
+/// UTF-8, the names of its members rise, and it nests at most 127 deep.
+pub fn compact_is_read()
+    ensures { CompactIsRead }
+{}
 
 // The value as `serde_json` has it.
 #[cycle(encode)]

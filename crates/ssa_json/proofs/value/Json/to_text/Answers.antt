@@ -3,10 +3,15 @@ use Rattle.std.proofs.lemmas.Result.{IfOk-weaker}
 use Rattle.serde_json.specs.Written.{has_float, compact_text}
 use Rattle.ssa_json.specs.View.{view}
 use Rattle.ssa_json.proofs.Printing.{data_of-plain, compact_text-data_of}
+use Rattle.ssa_json.proofs.ReadingBack.{is-read-from}
 use Rattle.ssa_json.proofs.value.Json.to_text.Goals as goal
 
-pub returns : goal.returns
-returns c =
+pub returns-clause-text : goal.returns-clause-text
+returns-clause-text c =
     IfOk-weaker c.to_vec.result _ _
     (λ b text. text (ap has_float c.in_ok-value.ensures.data ∙ data_of-plain (view c.args.self.now)) ∙ ap compact_text c.in_ok-value.ensures.data ∙ compact_text-data_of (view c.args.self.now) c.in_ok-value.ensures.narrow)
     c.to_vec.ensures.text
+
+pub returns-clause-is_read : goal.returns-clause-is_read
+returns-clause-is_read c =
+    is-read-from c.to_vec.result _ (view c.args.self.now) c.in_ok-value.ensures.data c.in_ok-value.ensures.narrow c.to_vec.ensures.utf8 c.to_vec.ensures.reads_back
