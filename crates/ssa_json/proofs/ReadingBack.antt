@@ -24,7 +24,7 @@ use Rattle.ssa_model.specs.Json.{Text, Scalar, text, whole, truth, Items, no_ite
 use Rattle.ssa_model.specs.Json as model
 use Rattle.ssa_json.specs.Reading.{value_of, items_value, members_value, json_reading}
 use Rattle.ssa_json.specs.Written.{scalar_data, data_of, items_data, members_data, is_narrow_whole, is_narrow_scalar, is_narrow, items_narrow, members_narrow}
-use Rattle.ssa_json.specs.Writable.{is_utf8_scalar, has_utf8, items_have_utf8, members_have_utf8, is_below, has_rising, items_have_rising, members_rise, IsWritable}
+use Rattle.ssa_json.specs.Writable.{is_utf8_scalar, has_utf8, items_have_utf8, members_have_utf8, is_below, has_rising, items_have_rising, members_rise, depth, items_depth, members_depth, IsWritable}
 use Rattle.ssa_json.proofs.Converting.{json_reading-data}
 use Rattle.ssa_json.proofs.Printing.{quoted-is, whole-is, compact_text-data_of}
 use Rattle.ssa_json.proofs.RisingNames.{followed_by, followed_by-assoc, followed_by-none, put-above, AreBefore, AreBefore-next}
@@ -122,6 +122,25 @@ mutual
       let parts = and_parts (is_narrow v) (members_narrow ms) narrow in
       (HasNumbers-outline v parts.0, MembersHaveNumbers-outline ms parts.1)
 
+scalar-flat : (s : Scalar) → json.depth (scalar_data s) ≡ 0
+scalar-flat (text t) = refl
+scalar-flat (whole z) = refl
+scalar-flat (truth b) = refl
+
+mutual
+  depth-data_of : (v : model.Json) → json.depth (data_of v) ≡ depth v
+  depth-data_of (scalar s) = scalar-flat s
+  depth-data_of (list vs) = ap suc (items_depth-data vs)
+  depth-data_of (object ms) = ap suc (members_depth-data ms)
+
+  items_depth-data : (vs : Items) → json.items_depth (items_data vs) ≡ items_depth vs
+  items_depth-data no_items = refl
+  items_depth-data (item v vs) = ap₂ max (depth-data_of v) (items_depth-data vs)
+
+  members_depth-data : (ms : Members) → json.members_depth (members_data ms) ≡ members_depth ms
+  members_depth-data no_members = refl
+  members_depth-data (member k v ms) = ap₂ max (depth-data_of v) (members_depth-data ms)
+
 mutual
   depth-outline : (d : json.Data) → tree.depth (outline d) ≡ json.depth d
   depth-outline json.null = refl
@@ -149,7 +168,7 @@ read-compact : (v : model.Json) → IsWritable v → read (compact v) ≡ Some (
 read-compact v w =
     let tree_of = outline (data_of v) in
     let same = tokens-compact v w.narrow ∙ sym (append-nil (tree.json_tokens tree_of)) in
-    let within : tree.depth tree_of ≤ max_depth = subst (λ n. n ≤ max_depth) (sym (depth-outline (data_of v))) w.shallow in
+    let within : tree.depth tree_of ≤ max_depth = subst (λ n. n ≤ max_depth) (sym (depth-outline (data_of v) ∙ depth-data_of v)) w.shallow in
     ap (λ o. option_and_then of_json (option_and_then (λ p. grammar.if_last p.0 p.1) o)) (ap (grammar.value max_depth) same ∙ value-json_tokens tree_of max_depth [] within)
     ∙ of_json-outline v w.narrow w.names
 
@@ -209,7 +228,7 @@ compact-is-read v w =
 -- what is written for the data of a value is read as the value
 pub is-read-from : {E : Type 0} (r : Result (Vec ℕ Global) E) (d : json.Data) (v : model.Json) → d ≡ data_of v → is_narrow v ≡ true
     → IfOk r (λ b. IsUtf8 b.items) → IfOk r (λ b. json.depth d ≤ max_depth → read b.items ≡ Some d)
-    → IfOk r (λ b. json.depth (data_of v) ≤ max_depth → json_reading b.items ≡ Ok v)
+    → IfOk r (λ b. depth v ≤ max_depth → json_reading b.items ≡ Ok v)
 is-read-from (Ok b) d v is narrow texts reads = λ shallow.
-    json_reading-data b.items d texts (reads (subst (λ e. json.depth e ≤ max_depth) (sym is) shallow)) ∙ ap value_of is ∙ value_of-data_of v narrow
+    json_reading-data b.items d texts (reads (subst (λ n. n ≤ max_depth) (sym (ap json.depth is ∙ depth-data_of v)) shallow)) ∙ ap value_of is ∙ value_of-data_of v narrow
 is-read-from (Err e) d v is narrow texts reads = tt

@@ -1,13 +1,12 @@
 -- The values whose compact text is read back.
-use Rattle.std.specs.Prelude.{◌≡◌, ◌≤◌, Bool, true, ◌&&◌, Ok}
+use Rattle.std.specs.Prelude.{◌≡◌, ◌≤◌, ℕ, suc, max, Bool, true, ◌&&◌, Ok}
 use Rattle.std.specs.Str.{is_utf8}
 use Rattle.std.specs.Ordering.{is_lt, nat_cmp}
 use Rattle.std.specs.Cmp.Lexicographic.{slice_cmp}
-use Rattle.serde_json.specs.Data.{depth}
-use Rattle.serde_json.specs.Read.{max_depth}
+pub use Rattle.serde_json.specs.Read.{max_depth}
 use Rattle.ssa_model.specs.Json.{Text, Scalar, text, whole, truth, Json, scalar, list, object, Items, no_items, item, Members, no_members, member, compact}
 use Rattle.ssa_json.specs.Reading.{json_reading}
-use Rattle.ssa_json.specs.Written.{data_of, is_narrow}
+use Rattle.ssa_json.specs.Written.{is_narrow}
 
 abbrev pub is_utf8_scalar : Scalar → Bool
 is_utf8_scalar (text t) = is_utf8 t
@@ -49,12 +48,27 @@ abbrev mutual
   members_rise no_members = true
   members_rise (member n v ms) = is_below n ms && (has_rising v && members_rise ms)
 
+-- how deep lists and objects nest
+abbrev mutual
+  pub depth : Json → ℕ
+  depth (scalar s) = 0
+  depth (list vs) = suc (items_depth vs)
+  depth (object ms) = suc (members_depth ms)
+
+  pub items_depth : Items → ℕ
+  items_depth no_items = 0
+  items_depth (item v vs) = max (depth v) (items_depth vs)
+
+  pub members_depth : Members → ℕ
+  members_depth no_members = 0
+  members_depth (member n v ms) = max (depth v) (members_depth ms)
+
 -- the value is one of the program, and no deeper than the reader goes
 pub record IsWritable (v : Json) : Type 0 where
   pub narrow : is_narrow v ≡ true
   pub texts : has_utf8 v ≡ true
   pub names : has_rising v ≡ true
-  pub shallow : depth (data_of v) ≤ max_depth
+  pub shallow : depth v ≤ max_depth
 
 -- the compact text is the value's own: reading it gives the value back
 abbrev pub CompactIsRead : Type 0

@@ -1,12 +1,10 @@
 //! Prints JSON values.
 ghost use Rattle.std.specs.Prelude.{◌≡◌, ◌≤◌, Ok, IfOk, OnOk, true};
-ghost use Rattle.serde_json.specs.Data.{depth};
-ghost use Rattle.serde_json.specs.Read.{max_depth};
 ghost use Rattle.serde_json.specs.View.{view as data_view, items_view as data_items, members_view as data_members};
 ghost use Rattle.ssa_model.specs.Json.{compact};
 ghost use Rattle.ssa_json.specs.Reading.{json_reading};
 ghost use Rattle.ssa_json.specs.View.{view, items_view, members_view};
-ghost use Rattle.ssa_json.specs.Writable.{CompactIsRead};
+ghost use Rattle.ssa_json.specs.Writable.{CompactIsRead, depth, max_depth};
 ghost use Rattle.ssa_json.specs.Written.{data_of, items_data, members_data, is_narrow, items_narrow, members_narrow};
 
 use crate::value::{Json, Scalar};
@@ -20,8 +18,9 @@ impl Json {
     /// lists and objects nest at most 127 deep, `Json::read` reads it back as the same value.
     pub fn to_text(&self, alloc: Global) -> Result<Vec<u8>, AllocError>
         ensures text { IfOk result (λ text. text.items ≡ compact (view self.now)) }
-        ensures is_read { IfOk result (λ text. depth (data_of (view self.now)) ≤ max_depth
+        ensures is_read { IfOk result (λ text. depth (view self.now) ≤ max_depth
             → json_reading text.items ≡ Ok (view self.now)) }
+        ensures narrow { OnOk result (is_narrow (view self.now) ≡ true) }
     {
         let value = to_value(alloc, self)?;
         value.to_vec(alloc)
