@@ -1,8 +1,6 @@
 -- The compact text of a value is read back as the value.
 use Rattle.std.proofs.Common.{◌≡◌, ◌≤◌, ℕ, suc, ◌^◌, max, ℤ, pos, negsuc, [], ◌∷◌, Bool, true, false, Some, Ok, IsUtf8, refl, sym, ap, ap₂, ◌∙◌, subst, arith, ltb-true, append-nil}
-use Rattle.std.specs.Prelude.{option_map, option_and_then, Result, Err, IfOk}
-use Rattle.std.specs.declared.vec.Vec.{Vec}
-use Rattle.std.specs.declared.alloc.Global.{Global}
+use Rattle.std.specs.Prelude.{option_map, option_and_then}
 use Rattle.std.proofs.lemmas.Bool.{and_parts}
 use Rattle.std.proofs.lemmas.Fmt.{IsAscii-signed}
 use Rattle.std.proofs.lemmas.Str.{IsUtf8-append, IsUtf8-from_ascii, IsUtf8-from_is_utf8}
@@ -167,10 +165,10 @@ tokens-compact v narrow =
 read-compact : (v : model.Json) → IsWritable v → read (compact v) ≡ Some (data_of v)
 read-compact v w =
     let tree_of = outline (data_of v) in
-    let same = tokens-compact v w.narrow ∙ sym (append-nil (tree.json_tokens tree_of)) in
+    let same = tokens-compact v w.of_program.narrow ∙ sym (append-nil (tree.json_tokens tree_of)) in
     let within : tree.depth tree_of ≤ max_depth = subst (λ n. n ≤ max_depth) (sym (depth-outline (data_of v) ∙ depth-data_of v)) w.shallow in
     ap (λ o. option_and_then of_json (option_and_then (λ p. grammar.if_last p.0 p.1) o)) (ap (grammar.value max_depth) same ∙ value-json_tokens tree_of max_depth [] within)
-    ∙ of_json-outline v w.narrow w.names
+    ∙ of_json-outline v w.of_program.narrow w.of_program.names
 
 -- ---- the text is UTF-8
 
@@ -222,13 +220,5 @@ mutual
 
 pub compact-is-read : (v : model.Json) → IsWritable v → json_reading (compact v) ≡ Ok v
 compact-is-read v w =
-    json_reading-data (compact v) (data_of v) (IsUtf8-compact v w.narrow w.texts) (read-compact v w)
-    ∙ value_of-data_of v w.narrow
-
--- what is written for the data of a value is read as the value
-pub is-read-from : {E : Type 0} (r : Result (Vec ℕ Global) E) (d : json.Data) (v : model.Json) → d ≡ data_of v → is_narrow v ≡ true
-    → IfOk r (λ b. IsUtf8 b.items) → IfOk r (λ b. json.depth d ≤ max_depth → read b.items ≡ Some d)
-    → IfOk r (λ b. depth v ≤ max_depth → json_reading b.items ≡ Ok v)
-is-read-from (Ok b) d v is narrow texts reads = λ shallow.
-    json_reading-data b.items d texts (reads (subst (λ n. n ≤ max_depth) (sym (ap json.depth is ∙ depth-data_of v)) shallow)) ∙ ap value_of is ∙ value_of-data_of v narrow
-is-read-from (Err e) d v is narrow texts reads = tt
+    json_reading-data (compact v) (data_of v) (IsUtf8-compact v w.of_program.narrow w.of_program.texts) (read-compact v w)
+    ∙ value_of-data_of v w.of_program.narrow

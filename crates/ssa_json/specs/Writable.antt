@@ -63,11 +63,15 @@ abbrev mutual
   members_depth no_members = 0
   members_depth (member n v ms) = max (depth v) (members_depth ms)
 
--- the value is one of the program, and no deeper than the reader goes
-pub record IsWritable (v : Json) : Type 0 where
+-- what each value of the program has
+pub record IsOfProgram (v : Json) : Type 0 where
   pub narrow : is_narrow v ≡ true
   pub texts : has_utf8 v ≡ true
   pub names : has_rising v ≡ true
+
+-- it is no deeper than the reader goes, too
+pub record IsWritable (v : Json) : Type 0 where
+  pub of_program : IsOfProgram v
   pub shallow : depth v ≤ max_depth
 
 -- the compact text is the value's own: reading it gives the value back

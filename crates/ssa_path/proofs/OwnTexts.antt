@@ -3,7 +3,6 @@ use Rattle.std.proofs.Common.{◌≡◌, ℕ, max, [], ◌∷◌, Bool, true, fa
 use Rattle.std.proofs.lemmas.Bool.{and_parts, and_from}
 use Rattle.std.specs.Str.{is_utf8}
 use Rattle.std.proofs.lemmas.List.{take_more}
-use Rattle.std.proofs.lemmas.Str.{IsUtf8-string_bytes, is_utf8-from_IsUtf8}
 use Rattle.std.specs.Cmp.Lexicographic.{slice_cmp}
 use Rattle.std.specs.Prelude.{◌≢◌, option_map, Err}
 use Rattle.ssa_model.specs.Json.{Text, Scalar, scalar, object, compact, scalar_text}
@@ -17,6 +16,7 @@ use Rattle.ssa_json.specs.declared.value.Scalar as json
 use Rattle.ssa_json.specs.declared.value.Scalar.TheVariants.{Text as TextOf, Int, Bool as BoolOf}
 use Rattle.ssa_json.specs.Writable.{is_utf8_scalar, members_have_utf8, members_rise, members_depth}
 use Rattle.ssa_json.proofs.Equality.{same_text-itself}
+use Rattle.ssa_json.proofs.OfProgram.{string_is_utf8}
 use Rattle.ssa_json.proofs.ReadingBack.{compact-is-read}
 use Rattle.ssa_path.specs.Keys.{Members, members_view, names_rise_after, are_keys}
 use Rattle.ssa_path.proofs.Texts.{Fields}
@@ -40,12 +40,12 @@ key_of-members [] = refl
 key_of-members (k ∷ ks) = ap (option_map (λ ls. k ∷ ls)) (key_of-members ks)
 
 scalar-read : (s : Scalar) → IsElementOfProgram (value s) → json_reading (scalar_text s) ≡ Ok (scalar s)
-scalar-read s h = compact-is-read (scalar s) (record { narrow = h.narrow; texts = h.texts; names = refl; shallow = omega arith })
+scalar-read s h = compact-is-read (scalar s) (record { of_program = record { narrow = h.narrow; texts = h.texts; names = refl }; shallow = omega arith })
 
 keys-read : (ks : Members) → names_rise ks ≡ true → IsElementOfProgram (key ks) → json_reading (compact (object (key_members ks))) ≡ Ok (object (key_members ks))
 keys-read ks rise h =
     compact-is-read (object (key_members ks))
-    (record { narrow = h.narrow; texts = h.texts; names = rising ks rise; shallow = omega (arith, flat-members ks) })
+    (record { of_program = record { narrow = h.narrow; texts = h.texts; names = rising ks rise }; shallow = omega (arith, flat-members ks) })
 
 -- ---- the text spells its element
 
@@ -83,23 +83,20 @@ pub are_narrow-more : (ks : Fields) (i : ℕ) (k : String Global × json.Scalar)
 are_narrow-more ks i k within is before here =
     ap are_narrow (take_more ks i k within ∙ ap (λ x. take i ks ++ x ∷ []) (sym is)) ∙ are_narrow-push (take i ks) k before here
 
-string-is-utf8 : (t : String Global) → is_utf8 (string_bytes t) ≡ true
-string-is-utf8 t = is_utf8-from_IsUtf8 (string_bytes t) (IsUtf8-string_bytes t)
-
 scalar-is-utf8 : (s : json.Scalar) → is_utf8_scalar (scalar_view s) ≡ true
-scalar-is-utf8 (TextOf t) = string-is-utf8 t
+scalar-is-utf8 (TextOf t) = string_is_utf8 t
 scalar-is-utf8 (Int n) = refl
 scalar-is-utf8 (BoolOf b) = refl
 
 texts-are-utf8 : (ks : Fields) → members_have_utf8 (key_members (members_view ks)) ≡ true
 texts-are-utf8 [] = refl
 texts-are-utf8 (k ∷ ks) =
-    and_from (is_utf8 (string_bytes k.0)) _ (string-is-utf8 k.0)
+    and_from (is_utf8 (string_bytes k.0)) _ (string_is_utf8 k.0)
     (and_from (is_utf8_scalar (scalar_view k.1)) (members_have_utf8 (key_members (members_view ks))) (scalar-is-utf8 k.1) (texts-are-utf8 ks))
 
 -- what `Elem::text` knows of each sort
 pub field-of-program : (n : String Global) → IsElementOfProgram (field (string_bytes n))
-field-of-program n = record { lawful = refl; narrow = refl; texts = string-is-utf8 n }
+field-of-program n = record { lawful = refl; narrow = refl; texts = string_is_utf8 n }
 
 pub value-of-program : (s : json.Scalar) → is_narrow_scalar (scalar_view s) ≡ true → IsElementOfProgram (value (scalar_view s))
 value-of-program s narrow = record { lawful = refl; narrow = narrow; texts = scalar-is-utf8 s }

@@ -8,7 +8,7 @@ use Rattle.ssa_json.specs.Reading.{json_reading}
 use Rattle.ssa_json.specs.Written.{is_narrow}
 use Rattle.ssa_json.specs.Writable.{has_utf8}
 use Rattle.ssa_path.specs.declared.element_fault.ElemFault.{ElemFault}
-use Rattle.ssa_path.specs.declared.element_fault.ElemFault.TheVariants.{BadElement, IndexElement, NotCanonical, OutOfMemory}
+use Rattle.ssa_path.specs.declared.element_fault.ElemFault.TheVariants.{OutOfMemory}
 
 -- the element's name, key fields or value, as JSON
 abbrev pub element_json : Element → Json
@@ -32,6 +32,4 @@ IsOwnText t e = IsElementOfProgram e × (element_text e ≡ t)
 -- it is the own text of no element of the program; where memory ran out, nothing is said
 abbrev pub IsOwnTextOfNone : ElemFault → Text → Type 0
 IsOwnTextOfNone OutOfMemory t = Unit {0}
-IsOwnTextOfNone BadElement t = (e : Element) → IsElementOfProgram e → element_text e ≢ t
-IsOwnTextOfNone IndexElement t = (e : Element) → IsElementOfProgram e → element_text e ≢ t
-IsOwnTextOfNone NotCanonical t = (e : Element) → IsElementOfProgram e → element_text e ≢ t
+IsOwnTextOfNone _ t = (e : Element) → IsElementOfProgram e → element_text e ≢ t

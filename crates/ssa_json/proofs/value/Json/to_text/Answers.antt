@@ -3,7 +3,9 @@ use Rattle.std.proofs.lemmas.Result.{IfOk-weaker}
 use Rattle.serde_json.specs.Written.{has_float, compact_text}
 use Rattle.ssa_json.specs.View.{view}
 use Rattle.ssa_json.proofs.Printing.{data_of-plain, compact_text-data_of}
-use Rattle.ssa_json.proofs.ReadingBack.{is-read-from}
+use Rattle.ssa_json.specs.Reading.{json_reading}
+use Rattle.ssa_json.specs.Writable.{IsOfProgram}
+use Rattle.ssa_json.proofs.ReadingBack.{compact-is-read}
 use Rattle.ssa_json.proofs.value.Json.to_text.Goals as goal
 
 pub returns-clause-text : goal.returns-clause-text
@@ -14,4 +16,8 @@ returns-clause-text c =
 
 pub returns-clause-is_read : goal.returns-clause-is_read
 returns-clause-is_read c =
-    is-read-from c.to_vec.result _ (view c.args.self.now) c.in_ok-value.ensures.data c.in_ok-value.ensures.narrow c.to_vec.ensures.utf8 c.to_vec.ensures.reads_back
+    let made = c.in_ok-value.ensures in
+    let of_program : IsOfProgram (view c.args.self.now) = record { narrow = made.narrow; texts = made.texts; names = made.names } in
+    IfOk-weaker c.to_vec.result _ _
+    (λ b is shallow. ap json_reading is ∙ compact-is-read (view c.args.self.now) (record { of_program = of_program; shallow = shallow }))
+    (returns-clause-text c)
