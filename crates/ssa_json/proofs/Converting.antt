@@ -116,7 +116,7 @@ json_reading-none bytes none =
       | false ↦ λ _. refl
     ] refl
 
-json_reading-data : (bytes : List ℕ) (d : json.Data) → IsUtf8 bytes → read bytes ≡ Some d → json_reading bytes ≡ value_of d
+pub json_reading-data : (bytes : List ℕ) (d : json.Data) → IsUtf8 bytes → read bytes ≡ Some d → json_reading bytes ≡ value_of d
 unfolding json_reading
 json_reading-data bytes d text is = rw (is_utf8-from_IsUtf8 bytes text, is) refl
 

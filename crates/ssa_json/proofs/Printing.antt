@@ -50,7 +50,7 @@ digits_before-prepends = search rules
 pub decimal-is : (n : ℕ) → n < 2 ^ 64 → fmt.decimal n ≡ decimal n
 decimal-is n narrow = sym (append-nil (fmt.decimal n)) ∙ sym (decimal_from_prepends digits_before digits_before-prepends (suc n) n [] narrow (let short = length-decimal-le_succ n narrow in omega arith))
 
-whole-is : (z : ℤ) → is_narrow_whole z ≡ true → fmt.signed_decimal z ≡ whole_text z
+pub whole-is : (z : ℤ) → is_narrow_whole z ≡ true → fmt.signed_decimal z ≡ whole_text z
 whole-is (pos n) narrow = decimal-is n (let small = ltb-true n (2 ^ 63) narrow in omega arith)
 whole-is (negsuc n) narrow = ap (λ t. 45 ∷ t) (decimal-is (suc n) (let small = ltb-true n (2 ^ 63) narrow in omega arith))
 

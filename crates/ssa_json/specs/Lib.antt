@@ -4,3 +4,4 @@ pub mod Written
 pub mod Moment
 pub mod Devices
 pub mod Piece
+pub mod Writable

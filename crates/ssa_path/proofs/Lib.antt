@@ -12,3 +12,4 @@ pub mod Readings
 pub mod Searching
 pub mod Sets
 pub mod Texts
+pub mod OwnTexts

@@ -7,3 +7,4 @@ pub mod Meet
 pub mod Order
 pub mod Trie
 pub mod View
+pub mod OwnText

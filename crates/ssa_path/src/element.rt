@@ -1,6 +1,7 @@
 // One step of a path.
 ghost use Rattle.std.specs.Prelude.{◌≡◌, IfOk};
 ghost use Rattle.ssa_model.specs.Path.{element_cmp, is_item_element, same_element};
+ghost use Rattle.ssa_path.specs.OwnText.{OwnTextsAreRead};
 ghost use Rattle.ssa_path.specs.View.{element_view};
 
 use crate::keys::Keys;
@@ -77,3 +78,9 @@ impl Elem {
         }
     }
 }
+
+/// Reading an element's own text gives the element, where the names of its key fields rise by bytes,
+/// its numbers fit 64 bits and its texts are UTF-8, as in each `Elem`.
+pub fn own_texts_are_read()
+    ensures { OwnTextsAreRead }
+{}

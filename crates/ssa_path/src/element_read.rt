@@ -1,5 +1,5 @@
 //! The element of a text.
-ghost use Rattle.std.specs.Prelude.{◌≡◌, Ok, IfOk, option_map};
+ghost use Rattle.std.specs.Prelude.{◌≡◌, Ok, IfOk, IfErr, OnOk, option_map};
 ghost use Rattle.std.specs.Result.{result_ok};
 ghost use Rattle.ssa_model.specs.Json.{object, same_text};
 ghost use Rattle.ssa_model.specs.Path.{element_text, key};
@@ -7,6 +7,7 @@ ghost use Rattle.ssa_model.specs.Session.{after_beginning, key_element, value_el
 ghost use Rattle.ssa_json.specs.Reading.{json_reading};
 ghost use Rattle.ssa_json.specs.View.{view, members_view, scalar_view};
 ghost use Rattle.ssa_path.specs.ElementReading.{ReadsElement, as_scalar};
+ghost use Rattle.ssa_path.specs.OwnText.{IsElementOfProgram, IsOwnText, IsOwnTextOfNone};
 ghost use Rattle.ssa_path.specs.View.{element_view};
 
 use crate::element::Elem;
@@ -18,12 +19,15 @@ use std::alloc::{AllocError, Global};
 use std::collections::BTreeMap;
 
 impl Elem {
-    /// The element that has this very text, as `Elem::text` writes it.
+    /// The element that has this very text, as `Elem::text` writes it. A fault other than want of
+    /// memory tells that no element has it.
     ///
     /// FieldsV1 of the Kubernetes API names fields and items of lists by such texts. It also names
     /// items by their places, as `i:0`; those are refused.
     pub fn read(alloc: Global, text: &str) -> Result<Elem, ElemFault>
-        ensures { ReadsElement result text.now }
+        ensures answers { ReadsElement result text.now }
+        ensures own { IfOk result (λ e. IsOwnText text.now (element_view e)) }
+        ensures of_none { IfErr result (λ fault. IsOwnTextOfNone fault text.now) }
     {
         if after_beginning(text, "i:").is_some() {
             return Err(ElemFault::IndexElement);
@@ -48,7 +52,8 @@ fn after_beginning<'a>(text: &'a str, beginning: &str) -> Option<&'a str>
 
 // Whether the text is the element's own.
 fn has_text(alloc: Global, element: &Elem, text: &str) -> Result<bool, AllocError>
-    ensures { IfOk result (λ b. b ≡ same_text (element_text (element_view element.now)) text.now) }
+    ensures same { IfOk result (λ b. b ≡ same_text (element_text (element_view element.now)) text.now) }
+    ensures of_program { OnOk result (IsElementOfProgram (element_view element.now)) }
 {
     let own = element.text(alloc)?;
     Ok(own.as_slice() == text.as_bytes())

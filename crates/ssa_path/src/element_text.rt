@@ -1,9 +1,13 @@
 //! The text of an element.
-ghost use Rattle.std.specs.Prelude.{◌≡◌, ◌∷◌, ◌++◌, IfOk, OnOk, false};
+ghost use Rattle.std.specs.Prelude.{◌≡◌, ◌∷◌, ◌++◌, Ok, IfOk, OnOk, true, false};
 ghost use Rattle.ssa_model.specs.Json.{comma_if, compact_members, quoted, scalar_text};
 ghost use Rattle.ssa_model.specs.Path.{element_text, key_members};
+ghost use Rattle.ssa_model.specs.Session.{element_of};
+ghost use Rattle.ssa_json.specs.Reading.{json_reading};
 ghost use Rattle.ssa_json.specs.View.{scalar_view};
+ghost use Rattle.ssa_json.specs.Written.{is_narrow_scalar, members_narrow};
 ghost use Rattle.ssa_path.specs.Keys.{members_view};
+ghost use Rattle.ssa_path.specs.OwnText.{IsElementOfProgram};
 ghost use Rattle.ssa_path.specs.View.{element_view};
 
 use crate::element::Elem;
@@ -12,9 +16,12 @@ use std::alloc::{AllocError, Global};
 
 impl Elem {
     /// The text that names the element in FieldsV1 of the Kubernetes API: `f:` and the name, `k:` and
-    /// the key fields as a compact JSON object, or `v:` and the value as compact JSON.
+    /// the key fields as a compact JSON object, or `v:` and the value as compact JSON. `Elem::read`
+    /// gives the element back.
     pub fn text(&self, alloc: Global) -> Result<Vec<u8>, AllocError>
-        ensures { IfOk result (λ text. text.items ≡ element_text (element_view self.now)) }
+        ensures text { IfOk result (λ text. text.items ≡ element_text (element_view self.now)) }
+        ensures of_program { OnOk result (IsElementOfProgram (element_view self.now)) }
+        ensures is_read { IfOk result (λ text. element_of json_reading text.items ≡ Ok (element_view self.now)) }
     {
         let mut text = Vec::new(alloc);
         match self {
@@ -37,7 +44,8 @@ impl Elem {
 
 // Appends a scalar's text.
 fn push_scalar(alloc: Global, text: &mut Vec<u8>, scalar: &Scalar) -> Result<(), AllocError>
-    ensures { OnOk result (text.new.items ≡ text.old.items ++ scalar_text (scalar_view scalar.now)) }
+    ensures text { OnOk result (text.new.items ≡ text.old.items ++ scalar_text (scalar_view scalar.now)) }
+    ensures narrow { OnOk result (is_narrow_scalar (scalar_view scalar.now) ≡ true) }
 {
     let value = Json::Scalar(scalar.copy(alloc)?);
     let bytes = value.to_text(alloc)?;
@@ -60,7 +68,8 @@ fn push_member(
     name: &str,
     scalar: &Scalar,
 ) -> Result<(), AllocError>
-    ensures { OnOk result (text.new.items ≡ text.old.items ++ (comma_if is_later ++ (quoted name.now ++ 58 ∷ scalar_text (scalar_view scalar.now)))) }
+    ensures text { OnOk result (text.new.items ≡ text.old.items ++ (comma_if is_later ++ (quoted name.now ++ 58 ∷ scalar_text (scalar_view scalar.now)))) }
+    ensures narrow { OnOk result (is_narrow_scalar (scalar_view scalar.now) ≡ true) }
 {
     if is_later {
         text.push(b',')?;
@@ -76,7 +85,8 @@ fn push_members(
     text: &mut Vec<u8>,
     members: &[(String, Scalar)],
 ) -> Result<(), AllocError>
-    ensures { OnOk result (text.new.items ≡ text.old.items ++ compact_members false (key_members (members_view members.now))) }
+    ensures text { OnOk result (text.new.items ≡ text.old.items ++ compact_members false (key_members (members_view members.now))) }
+    ensures narrow { OnOk result (members_narrow (key_members (members_view members.now)) ≡ true) }
 {
     let mut is_later = false;
     for member in members {

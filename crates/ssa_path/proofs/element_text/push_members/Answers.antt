@@ -1,6 +1,7 @@
-use Rattle.std.proofs.Common.{◌∷◌, ◌++◌, ap, ◌∙◌}
+use Rattle.std.proofs.Common.{◌∷◌, ◌++◌, take_all, sym, ap, arith, ◌∙◌}
 use Rattle.ssa_model.specs.Json.{comma_if, quoted, scalar_text}
 use Rattle.ssa_json.specs.View.{scalar_view}
+use Rattle.ssa_path.proofs.OwnTexts.{are_narrow, are_narrow-more}
 use Rattle.ssa_path.proofs.Texts.{member-written}
 use Rattle.ssa_path.proofs.element_text.push_members.Goals as goal
 
@@ -8,5 +9,13 @@ pub loop-member-preserved : goal.loop-member-preserved
 loop-member-preserved c =
     let l = c.loop-member in
     let k = c.member-item.result in
-    let here = c.in_ok-push_member.ensures ∙ ap (λ n. l.text.items ++ (comma_if l.is_later ++ (quoted n ++ 58 ∷ scalar_text (scalar_view k.1)))) c.as_str.ensures.value in
-    member-written _ l.text.items c.push_member.new.text.items l.is_later c.args.members.now l.member-index k c.loop-member-test.true c.member-item.is l.invariant here
+    let here = c.in_ok-push_member.ensures.text ∙ ap (λ n. l.text.items ++ (comma_if l.is_later ++ (quoted n ++ 58 ∷ scalar_text (scalar_view k.1)))) c.as_str.ensures.value in
+    record {
+      whole = member-written _ l.text.items c.push_member.new.text.items l.is_later c.args.members.now l.member-index k c.loop-member-test.true c.member-item.is l.invariant.whole here;
+      narrow = are_narrow-more c.args.members.now l.member-index k c.loop-member-test.true c.member-item.is l.invariant.narrow c.in_ok-push_member.ensures.narrow;
+    }
+
+pub returns-clause-narrow : goal.returns-clause-narrow
+returns-clause-narrow c =
+    let l = c.loop-member in
+    ap are_narrow (sym (take_all l.member-index c.args.members.now (omega arith))) ∙ l.invariant.narrow

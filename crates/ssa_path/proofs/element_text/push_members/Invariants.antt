@@ -1,7 +1,11 @@
-use Rattle.std.proofs.Common.{◌≡◌, ◌++◌, false}
+use Rattle.std.proofs.Common.{◌≡◌, ◌++◌, take, true, false}
+use Rattle.ssa_path.proofs.OwnTexts.{are_narrow}
 use Rattle.ssa_path.proofs.Texts.{text_from}
 use Rattle.ssa_path.proofs.element_text.push_members.Given as goal
 
--- with what is left, the text is whole
+-- with what is left, the text is whole, and the numbers of the members so far fit
 abbrev pub invariant-loop-member : goal.invariant-loop-member
-invariant-loop-member l = l.text.items ++ text_from l.is_later l.members l.member-index ≡ l.fn.text.items ++ text_from false l.members 0
+invariant-loop-member l = record {
+  whole : l.text.items ++ text_from l.is_later l.members l.member-index ≡ l.fn.text.items ++ text_from false l.members 0;
+  narrow : are_narrow (take l.member-index l.members) ≡ true;
+}

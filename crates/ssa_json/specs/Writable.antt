@@ -1,0 +1,79 @@
+-- The values whose compact text is read back.
+use Rattle.std.specs.Prelude.{◌≡◌, ◌≤◌, ℕ, suc, max, Bool, true, ◌&&◌, Ok}
+use Rattle.std.specs.Str.{is_utf8}
+use Rattle.std.specs.Ordering.{is_lt, nat_cmp}
+use Rattle.std.specs.Cmp.Lexicographic.{slice_cmp}
+pub use Rattle.serde_json.specs.Read.{max_depth}
+use Rattle.ssa_model.specs.Json.{Text, Scalar, text, whole, truth, Json, scalar, list, object, Items, no_items, item, Members, no_members, member, compact}
+use Rattle.ssa_json.specs.Reading.{json_reading}
+use Rattle.ssa_json.specs.Written.{is_narrow}
+
+abbrev pub is_utf8_scalar : Scalar → Bool
+is_utf8_scalar (text t) = is_utf8 t
+is_utf8_scalar (whole z) = true
+is_utf8_scalar (truth b) = true
+
+-- each text and each name is UTF-8
+abbrev mutual
+  pub has_utf8 : Json → Bool
+  has_utf8 (scalar s) = is_utf8_scalar s
+  has_utf8 (list vs) = items_have_utf8 vs
+  has_utf8 (object ms) = members_have_utf8 ms
+
+  pub items_have_utf8 : Items → Bool
+  items_have_utf8 no_items = true
+  items_have_utf8 (item v vs) = has_utf8 v && items_have_utf8 vs
+
+  pub members_have_utf8 : Members → Bool
+  members_have_utf8 no_members = true
+  members_have_utf8 (member n v ms) = is_utf8 n && (has_utf8 v && members_have_utf8 ms)
+
+-- the name is below the first of the members
+abbrev pub is_below : Text → Members → Bool
+is_below n no_members = true
+is_below n (member m v ms) = is_lt (slice_cmp nat_cmp n m)
+
+-- the names of each object's members rise by their bytes
+abbrev mutual
+  pub has_rising : Json → Bool
+  has_rising (scalar s) = true
+  has_rising (list vs) = items_have_rising vs
+  has_rising (object ms) = members_rise ms
+
+  pub items_have_rising : Items → Bool
+  items_have_rising no_items = true
+  items_have_rising (item v vs) = has_rising v && items_have_rising vs
+
+  pub members_rise : Members → Bool
+  members_rise no_members = true
+  members_rise (member n v ms) = is_below n ms && (has_rising v && members_rise ms)
+
+-- how deep lists and objects nest
+abbrev mutual
+  pub depth : Json → ℕ
+  depth (scalar s) = 0
+  depth (list vs) = suc (items_depth vs)
+  depth (object ms) = suc (members_depth ms)
+
+  pub items_depth : Items → ℕ
+  items_depth no_items = 0
+  items_depth (item v vs) = max (depth v) (items_depth vs)
+
+  pub members_depth : Members → ℕ
+  members_depth no_members = 0
+  members_depth (member n v ms) = max (depth v) (members_depth ms)
+
+-- what each value of the program has
+pub record IsOfProgram (v : Json) : Type 0 where
+  pub narrow : is_narrow v ≡ true
+  pub texts : has_utf8 v ≡ true
+  pub names : has_rising v ≡ true
+
+-- it is no deeper than the reader goes, too
+pub record IsWritable (v : Json) : Type 0 where
+  pub of_program : IsOfProgram v
+  pub shallow : depth v ≤ max_depth
+
+-- the compact text is the value's own: reading it gives the value back
+abbrev pub CompactIsRead : Type 0
+CompactIsRead = (v : Json) → IsWritable v → json_reading (compact v) ≡ Ok v

@@ -1,0 +1,123 @@
+-- The own text of an element is read as the element.
+use Rattle.std.proofs.Common.{◌≡◌, ℕ, max, [], ◌∷◌, Bool, true, false, Some, Ok, String, Global, string_bytes, is_lt, nat_cmp, refl, sym, ap, ◌∙◌, arith, ◌++◌, ◌+◌, ◌<◌, take, get_or, length}
+use Rattle.std.proofs.lemmas.Bool.{and_parts, and_from}
+use Rattle.std.specs.Str.{is_utf8}
+use Rattle.std.proofs.lemmas.List.{take_more}
+use Rattle.std.specs.Cmp.Lexicographic.{slice_cmp}
+use Rattle.std.specs.Prelude.{◌≢◌, option_map, Err}
+use Rattle.ssa_model.specs.Json.{Text, Scalar, scalar, object, compact, scalar_text}
+use Rattle.ssa_model.specs.Path.{Element, field, key, value, key_members, element_text}
+use Rattle.ssa_model.specs.FieldsV1.{names_rise, is_element}
+use Rattle.ssa_model.specs.Session.{key_of, value_element, key_element, is_index, ElementFault, element_of, spelled_element}
+use Rattle.ssa_json.specs.Reading.{json_reading}
+use Rattle.ssa_json.specs.View.{scalar_view}
+use Rattle.ssa_json.specs.Written.{is_narrow_scalar, members_narrow}
+use Rattle.ssa_json.specs.declared.value.Scalar as json
+use Rattle.ssa_json.specs.declared.value.Scalar.TheVariants.{Text as TextOf, Int, Bool as BoolOf}
+use Rattle.ssa_json.specs.Writable.{is_utf8_scalar, members_have_utf8, members_rise, members_depth}
+use Rattle.ssa_json.proofs.Equality.{same_text-itself}
+use Rattle.ssa_json.proofs.OfProgram.{string_is_utf8}
+use Rattle.ssa_json.proofs.ReadingBack.{compact-is-read}
+use Rattle.ssa_path.specs.Keys.{Members, members_view, names_rise_after, are_keys}
+use Rattle.ssa_path.proofs.Texts.{Fields}
+use Rattle.ssa_path.specs.OwnText.{IsElementOfProgram}
+
+-- ---- scalars and key fields are written and read
+
+flat-members : (ks : Members) → members_depth (key_members ks) ≡ 0
+flat-members [] = refl
+flat-members (k ∷ ks) = ap (max 0) (flat-members ks)
+
+rising : (ks : Members) → names_rise ks ≡ true → members_rise (key_members ks) ≡ true
+rising [] h = refl
+rising (k ∷ []) h = refl
+rising (k ∷ l ∷ ks) h =
+    let parts = and_parts (is_lt (slice_cmp nat_cmp k.0 l.0)) (names_rise (l ∷ ks)) h in
+    and_from _ _ parts.0 (rising (l ∷ ks) parts.1)
+
+key_of-members : (ks : Members) → key_of (key_members ks) ≡ Some ks
+key_of-members [] = refl
+key_of-members (k ∷ ks) = ap (option_map (λ ls. k ∷ ls)) (key_of-members ks)
+
+scalar-read : (s : Scalar) → IsElementOfProgram (value s) → json_reading (scalar_text s) ≡ Ok (scalar s)
+scalar-read s h = compact-is-read (scalar s) (record { of_program = record { narrow = h.narrow; texts = h.texts; names = refl }; shallow = omega arith })
+
+keys-read : (ks : Members) → names_rise ks ≡ true → IsElementOfProgram (key ks) → json_reading (compact (object (key_members ks))) ≡ Ok (object (key_members ks))
+keys-read ks rise h =
+    compact-is-read (object (key_members ks))
+    (record { of_program = record { narrow = h.narrow; texts = h.texts; names = rising ks rise }; shallow = omega (arith, flat-members ks) })
+
+-- ---- the text spells its element
+
+spelled : (e : Element) → IsElementOfProgram e → spelled_element json_reading (element_text e) ≡ Some e
+spelled (field n) h = refl
+spelled (value s) h = ap value_element (scalar-read s h)
+spelled (key []) h = let never : false ≡ true = h.lawful in cc
+spelled (key (k ∷ ks)) h = ap key_element (keys-read (k ∷ ks) h.lawful h) ∙ ap (option_map key) (key_of-members (k ∷ ks))
+
+own-if-spelled : (e : Element) → is_index (element_text e) ≡ false → spelled_element json_reading (element_text e) ≡ Some e → element_of json_reading (element_text e) ≡ Ok e
+own-if-spelled e no_index is = rw (no_index, is, same_text-itself (element_text e)) refl
+
+no-index : (e : Element) → is_index (element_text e) ≡ false
+no-index (field n) = refl
+no-index (key ks) = refl
+no-index (value s) = refl
+
+pub own-text-is-read : (e : Element) → IsElementOfProgram e → element_of json_reading (element_text e) ≡ Ok e
+own-text-is-read e h = own-if-spelled e (no-index e) (spelled e h)
+
+-- ---- the program's elements
+
+abbrev pub are_narrow : Fields → Bool
+are_narrow ks = members_narrow (key_members (members_view ks))
+
+are_narrow-push : (ks : Fields) (k : String Global × json.Scalar) → are_narrow ks ≡ true → is_narrow_scalar (scalar_view k.1) ≡ true → are_narrow (ks ++ k ∷ []) ≡ true
+are_narrow-push [] k before here = and_from (is_narrow_scalar (scalar_view k.1)) true here refl
+are_narrow-push (first ∷ ks) k before here =
+    let parts = and_parts (is_narrow_scalar (scalar_view first.1)) (are_narrow ks) before in
+    and_from _ _ parts.0 (are_narrow-push ks k parts.1 here)
+
+-- the next member's number fits too
+pub are_narrow-more : (ks : Fields) (i : ℕ) (k : String Global × json.Scalar) → i < length ks → k ≡ get_or ks i k
+    → are_narrow (take i ks) ≡ true → is_narrow_scalar (scalar_view k.1) ≡ true → are_narrow (take (i + 1) ks) ≡ true
+are_narrow-more ks i k within is before here =
+    ap are_narrow (take_more ks i k within ∙ ap (λ x. take i ks ++ x ∷ []) (sym is)) ∙ are_narrow-push (take i ks) k before here
+
+scalar-is-utf8 : (s : json.Scalar) → is_utf8_scalar (scalar_view s) ≡ true
+scalar-is-utf8 (TextOf t) = string_is_utf8 t
+scalar-is-utf8 (Int n) = refl
+scalar-is-utf8 (BoolOf b) = refl
+
+texts-are-utf8 : (ks : Fields) → members_have_utf8 (key_members (members_view ks)) ≡ true
+texts-are-utf8 [] = refl
+texts-are-utf8 (k ∷ ks) =
+    and_from (is_utf8 (string_bytes k.0)) _ (string_is_utf8 k.0)
+    (and_from (is_utf8_scalar (scalar_view k.1)) (members_have_utf8 (key_members (members_view ks))) (scalar-is-utf8 k.1) (texts-are-utf8 ks))
+
+-- what `Elem::text` knows of each sort
+pub field-of-program : (n : String Global) → IsElementOfProgram (field (string_bytes n))
+field-of-program n = record { lawful = refl; narrow = refl; texts = string_is_utf8 n }
+
+pub value-of-program : (s : json.Scalar) → is_narrow_scalar (scalar_view s) ≡ true → IsElementOfProgram (value (scalar_view s))
+value-of-program s narrow = record { lawful = refl; narrow = narrow; texts = scalar-is-utf8 s }
+
+rise-from-after : (k : Text × Scalar) (ks : Members) → names_rise_after k.0 ks ≡ true → names_rise (k ∷ ks) ≡ true
+rise-from-after k [] h = refl
+rise-from-after k (l ∷ ks) h =
+    let parts = and_parts (is_lt (slice_cmp nat_cmp k.0 l.0)) (names_rise_after l.0 ks) h in
+    and_from _ _ parts.0 (rise-from-after l ks parts.1)
+
+lawful-keys : (ks : Members) → are_keys ks ≡ true → is_element (key ks) ≡ true
+lawful-keys [] h = h
+lawful-keys (k ∷ ks) h = rise-from-after k ks h
+
+pub key-of-program : (keys : Members) (ks : Fields) → members_view ks ≡ keys → are_keys keys ≡ true → are_narrow ks ≡ true → IsElementOfProgram (key keys)
+key-of-program keys ks same rise narrow = record {
+  lawful = lawful-keys keys rise;
+  narrow = ap (λ l. members_narrow (key_members l)) (sym same) ∙ narrow;
+  texts = ap (λ l. members_have_utf8 (key_members l)) (sym same) ∙ texts-are-utf8 ks;
+}
+
+-- a text that is refused is the own text of none
+pub own-text-of-none : (t : Text) (fault : ElementFault) → element_of json_reading t ≡ Err fault → (e : Element) → IsElementOfProgram e → element_text e ≢ t
+own-text-of-none t fault refused e h is = let both : Ok e ≡ Err fault = sym (own-text-is-read e h) ∙ ap (element_of json_reading) is ∙ refused in cc
