@@ -70,9 +70,9 @@ pub(crate) fn collect_child(
             below: Vec::new(alloc),
         }),
         Some(what) => {
-            let below = collect_below(alloc, &child.1, what)?;
+            let parts = collect_below(alloc, &child.1, what)?;
             let here = what.has_place(child, in_dict);
-            Ok(Trie { here, below })
+            Ok(Trie { here, below: parts })
         }
     }
 }
