@@ -8,8 +8,8 @@ use Rattle.ssa_model.specs.Kind.{Fault, unknown_field, Kind, Fields, kind_of, fa
 use Rattle.ssa_schema.specs.Kinds.{names_view}
 use Rattle.ssa_schema.specs.Refusals.{first_of, or_next}
 use Rattle.ssa_schema.specs.Finds.{Finds, Breaks, told, misfit_view}
-use Rattle.ssa_schema.specs.declared.found.Misfit.{Misfit}
-use Rattle.ssa_schema.specs.declared.found.Found.{Found}
+use Rattle.ssa_schema.specs.declared.fit.found.Misfit.{Misfit}
+use Rattle.ssa_schema.specs.declared.fit.found.Found.{Found}
 
 told_append : (xs ys : List Fault) → option_map told (first_of (xs ++ ys)) ≡ or_next (option_map told (first_of xs)) (option_map told (first_of ys))
 told_append [] ys = refl

@@ -7,8 +7,8 @@ use Rattle.ssa_model.specs.Schema as model
 use Rattle.ssa_schema.specs.Refusals.{refusal_view, first_of, faults_at}
 use Rattle.ssa_schema.specs.Builds.{kind_at}
 use Rattle.ssa_schema.specs.Schemas.{schema_reading, Faults, fault_of}
-use Rattle.ssa_schema.specs.declared.refusal.Refusal.{Refusal}
-use Rattle.ssa_schema.specs.declared.refusal.Refusal.TheVariants.{Keyword, Shape, Keys, Depth}
+use Rattle.ssa_schema.specs.declared.read.refusal.Refusal.{Refusal}
+use Rattle.ssa_schema.specs.declared.read.refusal.Refusal.TheVariants.{Keyword, Shape, Keys, Depth}
 
 told : List model.SchemaFault → kinds.Kind → Result kinds.Kind model.SchemaFault
 told [] k = Ok k

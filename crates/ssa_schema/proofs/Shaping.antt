@@ -1,5 +1,5 @@
 -- Laws of building shapes.
-use Rattle.std.proofs.Common.{◌≡◌, ℕ, zero, suc, List, [], ◌∷◌, map, String, Global, Box, BTreeMap, string_bytes, refl, sym, ap, ◌∙◌, rules}
+use Rattle.std.proofs.Common.{◌≡◌, ℕ, zero, suc, List, [], ◌∷◌, map, String, Global, Box, BTreeMap, string_bytes, refl, ap, ◌∙◌, rules}
 use Rattle.ssa_model.specs.Json.{Text, Json, scalar, list, object, Scalar, Items, Members}
 use Rattle.ssa_model.specs.Kind as model
 use Rattle.ssa_model.specs.Schema.{shape_fields}

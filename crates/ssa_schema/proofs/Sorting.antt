@@ -26,6 +26,10 @@ names-insert k (x ∷ xs) = one_name k x xs (insert_key string_cmp xs k) (slice_
 
 -- ---- items that are texts
 
+-- one text more in front
+pub sorted-more : (v : Json) (vs : Items) (t : Text) → Some t ≡ as_text v → with_text t (sorted_items vs) ≡ sorted_items (item v vs)
+sorted-more v vs t e = ap (λ (o : Option Text). elim o [ None ↦ sorted_items vs | Some u ↦ with_text u (sorted_items vs) ]) e
+
 abbrev Sorts : Items → Option (List Text) → Type 0
 Sorts vs None = Unit {0}
 Sorts vs (Some ts) = sorted_items vs ≡ sorted_texts ts

@@ -7,9 +7,9 @@ use Rattle.ssa_schema.specs.Kinds.{names_view}
 use Rattle.ssa_schema.specs.Refusals.{first_of}
 use Rattle.ssa_schema.specs.declared.body_fault.BodyFault.{BodyFault}
 use Rattle.ssa_schema.specs.declared.body_fault.BodyFault.TheVariants as fault
-use Rattle.ssa_schema.specs.declared.found.Misfit.{Misfit}
-use Rattle.ssa_schema.specs.declared.found.Misfit.TheVariants.{UnknownField, WrongType, MissingKey, DuplicateItem}
-use Rattle.ssa_schema.specs.declared.found.Found.{Found}
+use Rattle.ssa_schema.specs.declared.fit.found.Misfit.{Misfit}
+use Rattle.ssa_schema.specs.declared.fit.found.Misfit.TheVariants.{UnknownField, WrongType, MissingKey, DuplicateItem}
+use Rattle.ssa_schema.specs.declared.fit.found.Found.{Found}
 
 -- a fault and its path, as they are told
 abbrev pub Told : Type 0

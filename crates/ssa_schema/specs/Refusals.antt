@@ -2,8 +2,8 @@
 use Rattle.std.specs.Prelude.{ℕ, List, [], ◌∷◌, ◌++◌, Option, None, Some}
 use Rattle.ssa_model.specs.Json.{Json, Members}
 use Rattle.ssa_model.specs.Schema as model
-use Rattle.ssa_schema.specs.declared.refusal.Refusal.{Refusal}
-use Rattle.ssa_schema.specs.declared.refusal.Refusal.TheVariants.{Keyword, Shape, Keys, Depth}
+use Rattle.ssa_schema.specs.declared.read.refusal.Refusal.{Refusal}
+use Rattle.ssa_schema.specs.declared.read.refusal.Refusal.TheVariants.{Keyword, Shape, Keys, Depth}
 
 abbrev pub refusal_view : Refusal → model.SchemaFault
 refusal_view Keyword = model.schema_keyword

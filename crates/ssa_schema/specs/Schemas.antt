@@ -7,8 +7,8 @@ use Rattle.ssa_schema.specs.Kinds.{kind_view}
 use Rattle.ssa_schema.specs.declared.kind.Kind.{Kind}
 use Rattle.ssa_schema.specs.declared.fault.SchemaFault.{SchemaFault}
 use Rattle.ssa_schema.specs.declared.fault.SchemaFault.TheVariants.{SchemaKeyword, SchemaShape, SchemaKeys, SchemaDepth, OutOfMemory}
-use Rattle.ssa_schema.specs.declared.refusal.Refusal.{Refusal}
-use Rattle.ssa_schema.specs.declared.refusal.Refusal.TheVariants.{Keyword, Shape, Keys, Depth}
+use Rattle.ssa_schema.specs.declared.read.refusal.Refusal.{Refusal}
+use Rattle.ssa_schema.specs.declared.read.refusal.Refusal.TheVariants.{Keyword, Shape, Keys, Depth}
 
 -- the kind of the root, or the first fault
 unfoldable pub schema_reading : Json → Result kinds.Kind model.SchemaFault

@@ -1,7 +1,7 @@
 -- Where schemas stand.
 use Rattle.ssa_model.specs.Schema as model
-use Rattle.ssa_schema.specs.declared.standing.Standing.{Standing}
-use Rattle.ssa_schema.specs.declared.standing.Standing.TheVariants.{Root, Below, InAtomic}
+use Rattle.ssa_schema.specs.declared.read.standing.Standing.{Standing}
+use Rattle.ssa_schema.specs.declared.read.standing.Standing.TheVariants.{Root, Below, InAtomic}
 
 abbrev pub standing_view : Standing → model.Standing
 standing_view Root = model.at_root

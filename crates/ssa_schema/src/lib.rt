@@ -2,26 +2,12 @@
 #![tactic(auto)]
 
 pub mod body_fault;
-mod build;
-mod element_text;
 pub mod fault;
 #[cfg(test)]
 mod fault_tests;
-mod faults;
-mod found;
-mod item_keys;
-mod key_names;
-mod keys;
+mod fit;
 pub mod kind;
-mod members;
-mod metadata;
-mod refusal;
-mod rules;
+mod read;
 pub mod schema;
-mod shape_misfit;
-mod shapes;
-mod standing;
 #[cfg(test)]
 mod tests;
-mod text;
-mod walk;

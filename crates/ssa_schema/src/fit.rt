@@ -1,0 +1,7 @@
+//! The first fault of a value under a kind.
+
+pub mod element_text;
+pub mod faults;
+pub mod found;
+pub mod item_keys;
+pub mod shape_misfit;

@@ -1,0 +1,159 @@
+//! The first fault of a value under a kind.
+ghost use Rattle.std.specs.Prelude.{◌≡◌, [], IfOk, option_map};
+ghost use Rattle.ssa_model.specs.Kind.{faults, field_faults, entry_faults, value_faults, item_faults};
+ghost use Rattle.ssa_json.specs.View.{view, items_view, members_view, scalar_view};
+ghost use Rattle.ssa_schema.specs.Kinds.{scalar_kind_view, kind_view, fields_view, names_view};
+ghost use Rattle.ssa_schema.specs.Finds.{Finds, scalar_of, keyed_faults};
+
+use crate::fit::element_text::{field_text, key_text, value_text};
+use crate::fit::found::{Found, Misfit};
+use crate::fit::item_keys::keys_misfit;
+use crate::fit::shape_misfit::{scalar_misfit, shape_misfit};
+use crate::kind::{Kind, ScalarKind, find_field};
+use ssa_json::value::{Json, Scalar};
+use std::alloc::{AllocError, Global};
+use std::collections::{BTreeMap, BTreeSet};
+
+/// The first fault of a value, in the order of the walk; none where it fits.
+#[cycle(walk)]
+pub fn value_fault(alloc: Global, value: &Json, kind: &Kind) -> Result<Option<Found>, AllocError>
+    ensures { IfOk result (λ f. Finds f (faults (kind_view kind.now) (view value.now))) }
+{
+    match (kind, value) {
+        (Kind::Scalar(wanted), Json::Scalar(scalar)) => {
+            Ok(Found::at_place(alloc, scalar_misfit(scalar, wanted)))
+        }
+        (Kind::AtomicOf(shape), _) => Ok(Found::at_place(alloc, shape_misfit(value, shape))),
+        (Kind::Record(fields), Json::Object(members)) => fields_fault(alloc, members, fields),
+        (Kind::Dict(inside), Json::Object(members)) => entries_fault(alloc, members, inside),
+        (Kind::SetOf(wanted), Json::List(items)) => set_fault(alloc, items, wanted),
+        (Kind::ItemsOf { keys, fields }, Json::List(items)) => {
+            items_fault(alloc, items, keys, fields)
+        }
+        _ => Ok(Found::at_place(alloc, Some(Misfit::WrongType))),
+    }
+}
+
+// The first fault of the members of an object with named fields.
+#[cycle(walk)]
+fn fields_fault(
+    alloc: Global,
+    members: &BTreeMap<String, Json>,
+    fields: &BTreeMap<String, Kind>,
+) -> Result<Option<Found>, AllocError>
+    ensures { IfOk result (λ f. Finds f (field_faults (fields_view fields.now.entries) (members_view members.now.entries))) }
+{
+    for (name, member) in members.iter() {
+        let Some(kind) = find_field(fields, name.as_str()) else {
+            let unknown = Found::here(alloc, Misfit::UnknownField);
+            return Ok(Some(unknown.below(field_text(alloc, name.as_str())?)?));
+        };
+        if let Some(found) = value_fault(alloc, member, kind)? {
+            return Ok(Some(found.below(field_text(alloc, name.as_str())?)?));
+        }
+    }
+    Ok(None)
+}
+
+// The first fault of the members of an object with any names.
+#[cycle(walk)]
+fn entries_fault(
+    alloc: Global,
+    members: &BTreeMap<String, Json>,
+    inside: &Kind,
+) -> Result<Option<Found>, AllocError>
+    ensures { IfOk result (λ f. Finds f (entry_faults (kind_view inside.now) (members_view members.now.entries))) }
+{
+    for (name, entry) in members.iter() {
+        if let Some(found) = value_fault(alloc, entry, inside)? {
+            return Ok(Some(found.below(field_text(alloc, name.as_str())?)?));
+        }
+    }
+    Ok(None)
+}
+
+// The scalar, where the value is one of the kind.
+fn scalar_of<'a>(value: &'a Json, wanted: &ScalarKind) -> Option<&'a Scalar>
+    ensures { option_map (λ s. scalar_view s.now) result ≡ scalar_of (scalar_kind_view wanted.now) (view value.now) }
+{
+    match value {
+        Json::Scalar(scalar) => {
+            if wanted.has(scalar) {
+                Some(scalar)
+            } else {
+                None
+            }
+        }
+        _ => None,
+    }
+}
+
+// The first fault of the items of a set. The texts of those before tell whether one is there already.
+fn set_fault(
+    alloc: Global,
+    items: &[Json],
+    wanted: &ScalarKind,
+) -> Result<Option<Found>, AllocError>
+    ensures { IfOk result (λ f. Finds f (value_faults (scalar_kind_view wanted.now) [] (items_view items.now))) }
+{
+    let mut earlier = BTreeSet::new(alloc);
+    for item in items {
+        let Some(scalar) = scalar_of(item, wanted) else {
+            return Ok(Found::at_place(alloc, Some(Misfit::WrongType)));
+        };
+        let is_new = earlier.insert(value_text(alloc, scalar)?)?;
+        if !is_new {
+            let twice = Found::here(alloc, Misfit::DuplicateItem);
+            return Ok(Some(twice.below(value_text(alloc, scalar)?)?));
+        }
+    }
+    Ok(None)
+}
+
+// The first fault of the items of a map list. The texts of the keys before tell whether one is there
+// already.
+#[cycle(walk)]
+fn items_fault(
+    alloc: Global,
+    items: &[Json],
+    keys: &[String],
+    fields: &BTreeMap<String, Kind>,
+) -> Result<Option<Found>, AllocError>
+    ensures { IfOk result (λ f. Finds f (item_faults (names_view keys.now) (fields_view fields.now.entries) [] (items_view items.now))) }
+{
+    let mut earlier = BTreeSet::new(alloc);
+    for item in items {
+        let Json::Object(members) = item else {
+            return Ok(Found::at_place(alloc, Some(Misfit::WrongType)));
+        };
+        if let Some(misfit) = keys_misfit(members, keys, fields) {
+            return Ok(Found::at_place(alloc, Some(misfit)));
+        }
+        let is_new = earlier.insert(key_text(alloc, keys, members)?)?;
+        if let Some(found) = keyed_fault(alloc, members, keys, fields, is_new)? {
+            return Ok(Some(found));
+        }
+    }
+    Ok(None)
+}
+
+// The first fault of an item whose keys are right: an earlier one has them, or a field has a fault.
+#[cycle(walk)]
+fn keyed_fault(
+    alloc: Global,
+    members: &BTreeMap<String, Json>,
+    keys: &[String],
+    fields: &BTreeMap<String, Kind>,
+    is_new: bool,
+) -> Result<Option<Found>, AllocError>
+    ensures { IfOk result (λ f. Finds f (keyed_faults is_new (names_view keys.now) (fields_view fields.now.entries) (members_view members.now.entries))) }
+{
+    if !is_new {
+        let twice = Found::here(alloc, Misfit::DuplicateItem);
+        return Ok(Some(twice.below(key_text(alloc, keys, members)?)?));
+    }
+    if let Some(found) = fields_fault(alloc, members, fields)? {
+        return Ok(Some(found.below(key_text(alloc, keys, members)?)?));
+    }
+    Ok(None)
+}

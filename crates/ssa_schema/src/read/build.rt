@@ -1,0 +1,146 @@
+//! The kinds of schemas.
+ghost use Rattle.std.specs.Prelude.{◌≡◌, IfOk};
+ghost use Rattle.ssa_model.specs.Schema.{scalar_kind_of, kind_fields, property_members, item_members};
+ghost use Rattle.ssa_json.specs.View.{view, members_view};
+ghost use Rattle.ssa_schema.specs.Kinds.{scalar_kind_view, kind_view, fields_view};
+ghost use Rattle.ssa_schema.specs.Builds.{kind_at, merged_kind, list_kind_at, fields_kind_at};
+
+use crate::kind::{Kind, ScalarKind};
+use crate::read::key_names::sorted_keys;
+use crate::read::members::{find_member, is_array_type, is_atomic, is_object_type, list_type_is};
+use crate::read::rules::{item_members, property_members};
+use crate::read::shapes::{scalar_kind_of, shape_of};
+use ssa_json::value::Json;
+use std::alloc::{AllocError, Global};
+use std::collections::BTreeMap;
+
+/// The kind that a schema asks for, where so many levels are left.
+#[cycle(kinds)]
+pub fn kind_of(alloc: Global, schema: &Json, levels: usize) -> Result<Kind, AllocError>
+    ensures { IfOk result (λ k. kind_view k ≡ kind_at levels (view schema.now)) }
+{
+    if levels == 0 {
+        return Ok(Kind::Record(BTreeMap::new(alloc)));
+    }
+    match schema {
+        Json::Object(members) => {
+            if is_atomic(members) {
+                Ok(Kind::AtomicOf(shape_of(alloc, schema, levels)?))
+            } else {
+                kind_of_object(alloc, members, levels - 1)
+            }
+        }
+        Json::List(_) => Ok(Kind::Record(BTreeMap::new(alloc))),
+        Json::Scalar(_) => Ok(Kind::Record(BTreeMap::new(alloc))),
+    }
+}
+
+// The kind of what is not atomic.
+#[cycle(kinds)]
+fn kind_of_object(
+    alloc: Global,
+    members: &BTreeMap<String, Json>,
+    levels: usize,
+) -> Result<Kind, AllocError>
+    ensures { IfOk result (λ k. kind_view k ≡ merged_kind levels (members_view members.now.entries)) }
+{
+    if is_array_type(members) {
+        list_kind(alloc, members, levels)
+    } else if is_object_type(members) {
+        fields_kind(alloc, members, levels)
+    } else {
+        Ok(Kind::Scalar(scalar_kind_of(members)))
+    }
+}
+
+// The kind of the scalars of a set.
+fn item_scalar_kind(members: &BTreeMap<String, Json>) -> ScalarKind
+    ensures { scalar_kind_view result ≡ scalar_kind_of (item_members (members_view members.now.entries)) }
+{
+    match item_members(members) {
+        Some(items) => scalar_kind_of(items),
+        None => ScalarKind::Truth,
+    }
+}
+
+// The kind of a list.
+#[cycle(kinds)]
+fn list_kind(
+    alloc: Global,
+    members: &BTreeMap<String, Json>,
+    levels: usize,
+) -> Result<Kind, AllocError>
+    ensures { IfOk result (λ k. kind_view k ≡ list_kind_at levels (members_view members.now.entries)) }
+{
+    if list_type_is(members, "set") {
+        return Ok(Kind::SetOf(item_scalar_kind(members)));
+    }
+    let keys = sorted_keys(alloc, members)?;
+    let fields = item_kinds(alloc, members, levels)?;
+    Ok(Kind::ItemsOf { keys, fields })
+}
+
+// The kinds of the fields of a list's items.
+#[cycle(kinds)]
+fn item_kinds(
+    alloc: Global,
+    members: &BTreeMap<String, Json>,
+    levels: usize,
+) -> Result<BTreeMap<String, Kind>, AllocError>
+    ensures { IfOk result (λ m. fields_view m.entries ≡ kind_fields (kind_at levels) (property_members (item_members (members_view members.now.entries)))) }
+{
+    match item_members(members) {
+        Some(items) => property_kinds(alloc, items, levels),
+        None => Ok(BTreeMap::new(alloc)),
+    }
+}
+
+// The kind of an object.
+#[cycle(kinds)]
+fn fields_kind(
+    alloc: Global,
+    members: &BTreeMap<String, Json>,
+    levels: usize,
+) -> Result<Kind, AllocError>
+    ensures { IfOk result (λ k. kind_view k ≡ fields_kind_at levels (members_view members.now.entries)) }
+{
+    match find_member(members, "additionalProperties") {
+        Some(any) => {
+            let inside = kind_of(alloc, any, levels)?;
+            Ok(Kind::Dict(Box::new(alloc, inside)?))
+        }
+        None => Ok(Kind::Record(property_kinds(alloc, members, levels)?)),
+    }
+}
+
+// The kinds of the fields.
+#[cycle(kinds)]
+fn property_kinds(
+    alloc: Global,
+    members: &BTreeMap<String, Json>,
+    levels: usize,
+) -> Result<BTreeMap<String, Kind>, AllocError>
+    ensures { IfOk result (λ m. fields_view m.entries ≡ kind_fields (kind_at levels) (property_members (members_view members.now.entries))) }
+{
+    match property_members(members) {
+        Some(properties) => kinds_of(alloc, properties, levels),
+        None => Ok(BTreeMap::new(alloc)),
+    }
+}
+
+// The kinds of schemas under names.
+#[cycle(kinds)]
+fn kinds_of(
+    alloc: Global,
+    schemas: &BTreeMap<String, Json>,
+    levels: usize,
+) -> Result<BTreeMap<String, Kind>, AllocError>
+    ensures { IfOk result (λ m. fields_view m.entries ≡ kind_fields (kind_at levels) (members_view schemas.now.entries)) }
+{
+    let mut found = BTreeMap::new(alloc);
+    for (name, schema) in schemas.iter() {
+        let key = String::from_str(alloc, name.as_str())?;
+        drop(found.insert(key, kind_of(alloc, schema, levels)?)?);
+    }
+    Ok(found)
+}
