@@ -64,12 +64,19 @@ fn items(alloc: Global, first: i64, second: i64) -> Result<Vec<(Elem, Node)>, Fa
     Ok(items)
 }
 
-fn body(root: Node) -> Option<Body> {
+fn body(root: Node) -> Result<Body, Fail> {
     if is_tree(&root) {
-        Some(Body::new(root))
+        Ok(Body::new(root))
     } else {
-        None
+        Err(Fail::new("no tree"))
     }
+}
+
+// A body with the leaf 1 and the items of these numbers.
+fn sample(alloc: Global, first: i64, second: i64) -> Result<Body, Fail> {
+    let dict = dict(alloc)?;
+    let items = items(alloc, first, second)?;
+    body(record(alloc, number(1), dict, items)?)
 }
 
 // The path of elements of these texts.
@@ -95,36 +102,53 @@ fn holds(alloc: Global, set: &FieldSet, wanted: &str) -> Result<bool, AllocError
 }
 
 // What stands at the path, with the number of its children.
-fn shown(alloc: Global, body: &Body, texts: &[&str]) -> Result<(&'static str, usize), Fail> {
+fn shows(
+    alloc: Global,
+    body: &Body,
+    texts: &[&str],
+    sort: &str,
+    children: usize,
+) -> Result<(), Fail> {
     let path = path(alloc, texts)?;
-    Ok(match body.get(&path) {
+    let (found, count) = match body.get(&path) {
         None => ("", 0),
         Some(Look::Leaf(_)) => ("leaf", 0),
         Some(Look::Branch(count)) => ("record", count),
         Some(Look::Dict(count)) => ("Dict", count),
         Some(Look::List(count)) => ("list", count),
-    })
+    };
+    if found == sort && count == children {
+        Ok(())
+    } else {
+        Err(Fail::new("another sort of place"))
+    }
+}
+
+fn lists(alloc: Global, set: &FieldSet, wanted: &str) -> Result<(), Fail> {
+    if holds(alloc, set, wanted)? {
+        Ok(())
+    } else {
+        Err(Fail::new("other paths"))
+    }
 }
 
 #[test]
 fn shows_each_sort_of_place(rt: HostRuntime) -> Result<(), Fail> {
     let alloc = rt.alloc();
-    let root = record(alloc, number(1), dict(alloc)?, items(alloc, 2, 1)?)?;
-    let Some(body) = body(root) else {
-        panic!(rt; "no tree");
-    };
-    assert_eq!(rt; shown(alloc, &body, &[])?, ("record", 4));
-    assert_eq!(rt; shown(alloc, &body, &["f:a"])?, ("leaf", 0));
-    assert_eq!(rt; shown(alloc, &body, &["f:d"])?, ("Dict", 1));
-    assert_eq!(rt; shown(alloc, &body, &["f:d", "f:x"])?, ("record", 0));
-    assert_eq!(rt; shown(alloc, &body, &["f:l"])?, ("list", 2));
-    assert_eq!(rt;
-        shown(alloc, &body, &["f:l", "k:{\"n\":1}", "f:n"])?,
-        ("leaf", 0)
-    );
-    assert_eq!(rt; shown(alloc, &body, &["f:s", "v:10"])?, ("leaf", 0));
-    assert_eq!(rt; shown(alloc, &body, &["f:l", "k:{\"n\":3}"])?, ("", 0));
-    assert_eq!(rt; shown(alloc, &body, &["f:a", "f:a"])?, ("", 0));
+    let body = sample(alloc, 2, 1)?;
+    shows(alloc, &body, &[], "record", 4)?;
+    shows(alloc, &body, &["f:a"], "leaf", 0)?;
+    shows(alloc, &body, &["f:d"], "Dict", 1)?;
+    shows(alloc, &body, &["f:d", "f:x"], "record", 0)?;
+    shows(alloc, &body, &["f:l"], "list", 2)?;
+    shows(alloc, &body, &["f:s", "v:10"], "leaf", 0)?;
+    shows(alloc, &body, &["f:l", "v:9"], "", 0)?;
+    shows(alloc, &body, &["f:a", "f:a"], "", 0)
+}
+
+#[test]
+fn counts_places(rt: HostRuntime) -> Result<(), Fail> {
+    let body = sample(rt.alloc(), 2, 1)?;
     assert_eq!(rt; body.size(), 12);
     Ok(())
 }
@@ -132,85 +156,57 @@ fn shows_each_sort_of_place(rt: HostRuntime) -> Result<(), Fail> {
 #[test]
 fn has_points(rt: HostRuntime) -> Result<(), Fail> {
     let alloc = rt.alloc();
-    let root = record(alloc, number(1), dict(alloc)?, items(alloc, 2, 1)?)?;
-    let Some(body) = body(root) else {
-        panic!(rt; "no tree");
-    };
+    let body = sample(alloc, 2, 1)?;
     let points = body.points(alloc)?;
     let wanted =
         " /f:a /f:d/f:x /f:l/k:{\"n\":1} /f:l/k:{\"n\":1}/f:n /f:l/k:{\"n\":2} /f:l/k:{\"n\":2}/f:n /f:s/v:10 /f:s/v:9";
-    assert!(rt; holds(alloc, &points, wanted)?);
-    Ok(())
+    lists(alloc, &points, wanted)
 }
 
 #[test]
 fn empty_branches_are_points(rt: HostRuntime) -> Result<(), Fail> {
     let alloc = rt.alloc();
+    let none = Vec::new(alloc);
     let root = record(
         alloc,
         Node::Branch(Vec::new(alloc)),
-        Node::Dict(Vec::new(alloc)),
+        Node::Dict(none),
         Vec::new(alloc),
     )?;
-    let Some(body) = body(root) else {
-        panic!(rt; "no tree");
-    };
+    let body = body(root)?;
     let points = body.points(alloc)?;
-    assert!(rt; holds(alloc, &points, " /f:a /f:d /f:l /f:s/v:10 /f:s/v:9")?);
-    Ok(())
+    lists(alloc, &points, " /f:a /f:d /f:l /f:s/v:10 /f:s/v:9")
 }
 
 #[test]
 fn compares_bodies(rt: HostRuntime) -> Result<(), Fail> {
     let alloc = rt.alloc();
-    let root = record(alloc, number(1), dict(alloc)?, items(alloc, 2, 1)?)?;
-    let Some(before) = body(root) else {
-        panic!(rt; "no tree");
-    };
-    let root = record(
-        alloc,
-        number(3),
-        Node::Dict(Vec::new(alloc)),
-        items(alloc, 3, 2)?,
-    )?;
-    let Some(after) = body(root) else {
-        panic!(rt; "no tree");
-    };
+    let before = sample(alloc, 2, 1)?;
+    let items = items(alloc, 3, 2)?;
+    let after = body(record(alloc, number(3), Node::Dict(Vec::new(alloc)), items)?)?;
     let comparison = before.compare(alloc, &after)?;
-    assert!(rt;
-        holds(
-            alloc,
-            &comparison.added,
-            " /f:l/k:{\"n\":3} /f:l/k:{\"n\":3}/f:n"
-        )?
-    );
-    assert!(rt; holds(alloc, &comparison.modified, " /f:a")?);
-    assert!(rt;
-        holds(
-            alloc,
-            &comparison.removed,
-            " /f:d/f:x /f:l/k:{\"n\":1} /f:l/k:{\"n\":1}/f:n"
-        )?
-    );
-    Ok(())
+    lists(
+        alloc,
+        &comparison.added,
+        " /f:l/k:{\"n\":3} /f:l/k:{\"n\":3}/f:n",
+    )?;
+    lists(alloc, &comparison.modified, " /f:a")?;
+    lists(
+        alloc,
+        &comparison.removed,
+        " /f:d/f:x /f:l/k:{\"n\":1} /f:l/k:{\"n\":1}/f:n",
+    )
 }
 
 #[test]
 fn order_makes_no_difference(rt: HostRuntime) -> Result<(), Fail> {
     let alloc = rt.alloc();
-    let root = record(alloc, number(1), dict(alloc)?, items(alloc, 2, 1)?)?;
-    let Some(before) = body(root) else {
-        panic!(rt; "no tree");
-    };
-    let root = record(alloc, number(1), dict(alloc)?, items(alloc, 1, 2)?)?;
-    let Some(after) = body(root) else {
-        panic!(rt; "no tree");
-    };
+    let before = sample(alloc, 2, 1)?;
+    let after = sample(alloc, 1, 2)?;
     let comparison = before.compare(alloc, &after)?;
-    assert!(rt; comparison.added.is_empty());
-    assert!(rt; comparison.modified.is_empty());
-    assert!(rt; comparison.removed.is_empty());
-    Ok(())
+    lists(alloc, &comparison.added, "")?;
+    lists(alloc, &comparison.modified, "")?;
+    lists(alloc, &comparison.removed, "")
 }
 
 #[test]
@@ -218,15 +214,10 @@ fn atomic_values_are_compared_whole(rt: HostRuntime) -> Result<(), Fail> {
     let alloc = rt.alloc();
     let mut values = Vec::new(alloc);
     values.push(Json::Scalar(Scalar::Int(1)))?;
-    let Some(before) = body(Node::Leaf(Leaf::Atomic(Json::List(Vec::new(alloc))))) else {
-        panic!(rt; "no tree");
-    };
-    let Some(after) = body(Node::Leaf(Leaf::Atomic(Json::List(values)))) else {
-        panic!(rt; "no tree");
-    };
+    let before = body(Node::Leaf(Leaf::Atomic(Json::List(Vec::new(alloc)))))?;
+    let after = body(Node::Leaf(Leaf::Atomic(Json::List(values))))?;
     let comparison = before.compare(alloc, &after)?;
-    assert_eq!(rt; comparison.modified.len(), 1);
+    lists(alloc, &comparison.modified, " ")?;
     let comparison = after.compare(alloc, &after)?;
-    assert!(rt; comparison.modified.is_empty());
-    Ok(())
+    lists(alloc, &comparison.modified, "")
 }
