@@ -89,7 +89,7 @@ fn path(alloc: Global, texts: &[&str]) -> Result<Path, Fail> {
 }
 
 // Whether the paths of the set in their order, each behind a blank, make this text.
-fn holds(alloc: Global, set: &FieldSet, wanted: &str) -> Result<bool, AllocError> {
+pub(crate) fn holds(alloc: Global, set: &FieldSet, wanted: &str) -> Result<bool, AllocError> {
     let mut text = Vec::new(alloc);
     for path in &set.paths(alloc)? {
         text.push(b' ')?;
