@@ -24,12 +24,12 @@ record Keeps (old new : Timeline) : Type 0 where
 same : (t : Timeline) → IsHistory nothing_given_up t → Keeps t t
 same t h = record { first = refl; history = h }
 
-keeps-read : (bench : Bench) (r : Result Command LineFault) → IsHistory nothing_given_up bench.timeline → Keeps bench.timeline (answer_read nothing_given_up bench r).1.timeline
+keeps-read : (bench : Bench) (r : Result Command LineFault) → IsHistory nothing_given_up bench.timeline → Keeps bench.timeline (answer_read readings first_rules nothing_given_up bench r).1.timeline
 keeps-read bench (Ok c) h = let kept = (histories_are_carried_out nothing_given_up).0 bench c h in record { first = kept.first; history = kept.history }
 keeps-read bench (Err f) h = same bench.timeline h
 
 keeps-line : (bench : Bench) (line : List Rattle.std.proofs.Common.ℕ) → IsHistory nothing_given_up bench.timeline → Keeps bench.timeline (bench_after bench line).timeline
-keeps-line bench line h = keeps-read bench (read_line readings first_rules line) h
+keeps-line bench line h = keeps-read bench (read_line readings first_rules nothing_given_up line) h
 
 if-keeps : (b : Bool) (old after : Bench) → IsHistory nothing_given_up old.timeline → Keeps old.timeline after.timeline → Keeps old.timeline (if b then old else after).timeline
 if-keeps true old after h k = same old.timeline h
@@ -49,7 +49,7 @@ keeps-replies old new [] [] r h = subst (λ b. Keeps old.timeline b.timeline) (s
 keeps-replies old new (line ∷ lines) [] r h = absurd r
 keeps-replies old new [] (text ∷ texts) r h = absurd r
 keeps-replies old new (line ∷ lines) (text ∷ texts) r h =
-    keeps-both old.timeline r.0.timeline new.timeline (keeps-answer old r.0 line text r.1.0 h) (keeps-replies r.0 new lines texts r.1.1)
+    keeps-both old.timeline r.0.timeline new.timeline (keeps-answer old r.0 line text r.1 h) (keeps-replies r.0 new lines texts r.2)
 
 -- after the replies to some lines, the commands in effect are carried out
 pub replies-carried : (old new : Bench) (lines texts : List (List Rattle.std.proofs.Common.ℕ)) → Replies line_reply bench_after old lines texts new → IsHistory nothing_given_up old.timeline → IsCarriedOut old.timeline new.timeline

@@ -1,0 +1,9 @@
+use Rattle.ssabench.proofs.Effects.{by-end, replies-carried}
+use Rattle.ssabench.proofs.bench_session.session.Goals as goal
+
+pub returns-clause-effect : goal.returns-clause-effect
+returns-clause-effect g c =
+    let old = c.args.bench.now in
+    let new = c.session.new.machine in
+    λ h. by-end c.session.result _ _ _ _ c.session.ensures.ok c.session.ensures.reader c.session.ensures.writer
+    (λ ends. replies-carried old new _ _ ends.replies h) (λ breaks. replies-carried old new _ _ breaks.replies h) (λ stops. replies-carried old new _ _ stops.replies h)
