@@ -6,6 +6,7 @@ pub mod Firsts
 pub mod ItemWalk
 pub mod Kinding
 pub mod Made
+pub mod MemberWalk
 pub mod Reading
 pub mod Shaping
 pub mod Sorting
