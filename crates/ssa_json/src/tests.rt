@@ -33,6 +33,7 @@ fn prints_what_was_read(rt: HostRuntime) -> Result<(), Fail> {
         let value = Json::read(rt.alloc(), text.as_bytes(), text.len())?;
         let printed = value.to_text(rt.alloc())?;
         assert_eq!(rt; printed.as_slice(), want.as_bytes(), "at {text}");
+        assert_eq!(rt; value.to_string(rt.alloc())?.as_str(), want, "at {text}");
         let again = Json::read(rt.alloc(), printed.as_slice(), printed.len())?;
         assert!(rt; again.same(&value), "at {text}");
     }

@@ -66,9 +66,6 @@ pub apart-start : (r : Option (List Text)) → are_distinct_in r ≡ apart_in []
 apart-start None = refl
 apart-start (Some ts) = sym (apart_clear [] ts ∙ ap (λ b. b && are_distinct_texts ts) (all_clear ts))
 
-pub apart-no_text : (before : List Text) (v : Json) (vs : Items) → None ≡ as_text v → apart_in before (texts_of (item v vs)) ≡ false
-apart-no_text before v vs e = ap (λ u. apart_in before (option_and_then (λ x. option_map (λ ts. x ∷ ts) (texts_of vs)) u)) (sym e)
-
 and_false : (b : Bool) → false ≡ (b && false)
 and_false true = refl
 and_false false = refl

@@ -7,6 +7,7 @@ pub mod ItemWalk
 pub mod Kinding
 pub mod Lawful
 pub mod Made
+pub mod MemberWalk
 pub mod Reading
 pub mod Shaping
 pub mod Sorting

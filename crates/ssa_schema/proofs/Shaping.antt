@@ -1,5 +1,5 @@
 -- Laws of building shapes.
-use Rattle.std.proofs.Common.{◌≡◌, ℕ, zero, suc, List, [], ◌∷◌, map, String, Global, Box, BTreeMap, string_bytes, refl, ap, ◌∙◌, rules}
+use Rattle.std.proofs.Common.{◌≡◌, ℕ, zero, suc, List, [], ◌∷◌, map, String, Global, BTreeMap, string_bytes, refl, ap, ◌∙◌, rules}
 use Rattle.ssa_model.specs.Json.{Text, Json, scalar, list, object, Scalar, Items, Members}
 use Rattle.ssa_model.specs.Kind as model
 use Rattle.ssa_model.specs.Schema.{shape_fields}
@@ -35,12 +35,6 @@ shape_view-Record m = search (rules, shape.the_lemmas)
 
 pub shape_view-none : (m : BTreeMap (String Global) shape.Shape) → m.entries ≡ [] → shape_view (shape.Record m) ≡ model.record_shape model.no_shape_fields
 shape_view-none m none = shape_view-Record m ∙ ap (λ es. model.record_shape (shape_fields_view es)) none
-
-pub shape_view-Dict : (b : Box shape.Shape Global) → shape_view (shape.Dict b) ≡ model.dict_shape (shape_view b.value)
-shape_view-Dict b = search (rules, shape.the_lemmas)
-
-pub shape_view-List : (b : Box shape.Shape Global) → shape_view (shape.List b) ≡ model.list_shape (shape_view b.value)
-shape_view-List b = search (rules, shape.the_lemmas)
 
 -- ---- fields by name
 

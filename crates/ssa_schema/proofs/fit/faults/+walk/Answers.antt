@@ -13,7 +13,8 @@ use Rattle.ssa_schema.specs.declared.fit.found.Misfit.TheVariants.{UnknownField}
 use Rattle.ssa_schema.proofs.Distinct.{view-List}
 use Rattle.ssa_schema.proofs.Kinding.{kind_view-ItemsOf}
 use Rattle.ssa_schema.proofs.Earlier.{holds_more, element_test}
-use Rattle.ssa_schema.proofs.Finding.{finds_from, finds_first, finds_below, finds_child, member_found, member_fits, item_fits, item_split, field_split, field_unknown}
+use Rattle.ssa_schema.proofs.Finding.{finds_from, finds_first, finds_below, finds_child, item_fits, item_split}
+use Rattle.ssa_schema.proofs.MemberWalk.{member_found, member_fits, field_split, field_unknown}
 use Rattle.ssa_schema.proofs.ItemWalk.{item_wrong, no_object, item_key_wrong, object_split, keyed_split}
 use Rattle.ssa_schema.proofs.fit.faults.+walk.Goals as goal
 

@@ -4,7 +4,8 @@ use Rattle.ssa_model.specs.Kind.{shape_faults, shape_field_faults, shape_entry_f
 use Rattle.ssa_json.specs.View.{view, items_view, members_view}
 use Rattle.ssa_schema.specs.Kinds.{shape_view, shape_fields_view}
 use Rattle.ssa_schema.specs.Refusals.{first_of}
-use Rattle.ssa_schema.proofs.Finding.{item_split, shape_field_split}
+use Rattle.ssa_schema.proofs.Finding.{item_split}
+use Rattle.ssa_schema.proofs.MemberWalk.{shape_field_split}
 use Rattle.ssa_schema.proofs.Firsts.{first_here, first_later}
 use Rattle.ssa_schema.proofs.fit.shape_misfit.+shape.Goals as goal
 
