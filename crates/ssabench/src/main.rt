@@ -7,6 +7,8 @@ mod command_shape;
 mod engine;
 mod fault_text;
 mod json_text;
+#[cfg(test)]
+mod limit_tests;
 mod line;
 mod machine;
 mod program;

@@ -17,7 +17,7 @@ const SCHEMA: &str =
 const OBJECT: &str =
     "{\"apiVersion\":\"example.com/v1\",\"kind\":\"App\",\"metadata\":{\"name\":\"web\"}}";
 
-fn new_bench(rt: &impl Abort, alloc: Global) -> Result<Bench, Fail> {
+pub(crate) fn new_bench(rt: &impl Abort, alloc: Global) -> Result<Bench, Fail> {
     let schema = Json::read(alloc, SCHEMA.as_bytes(), 1_000)?;
     let kind = read_schema(alloc, &schema)?;
     let object = Json::read(alloc, OBJECT.as_bytes(), 1_000)?;
