@@ -17,9 +17,9 @@ use Rattle.ssa_path.proofs.Combining.{own-within, other-within, both-within}
 use Rattle.ssa_path.proofs.Levels.{any-made, is_trie-made, one-made-root, same_path-reading}
 use Rattle.ssa_path.proofs.Orders.{and_false, both_second}
 use Rattle.ssa_path.proofs.Sets.{has-listed}
-use Rattle.ssa_typed.specs.Differences.{differs, differs_here, differs_below, differs_at, told_of_lost, told_of_new, IsDiffering, IsDifference}
+use Rattle.ssa_typed.specs.Differences.{differs, differs_here, differs_below, differs_at, told_of_lost, told_of_new, IsDiffering, IsDifference, IsToldAlone}
 use Rattle.ssa_typed.specs.InOrder.{referred, IsInOrder}
-use Rattle.ssa_typed.specs.Points.{point_in, collects_of, is_in_dict, IsChildTrie, is_point_of}
+use Rattle.ssa_typed.specs.Points.{point_in, collects_of, is_in_dict, is_point_of}
 use Rattle.ssa_typed.specs.Rows.{rows, below, content_at, body_of, is_tree}
 use Rattle.ssa_typed.specs.declared.compare.Difference.{Difference}
 use Rattle.ssa_typed.specs.declared.compare.Difference.TheVariants.{Added, Modified, Removed}
@@ -112,10 +112,10 @@ module _ (what : Difference) (d : Bool) (rs ss : List Reference) where
   abbrev pub IsComparing : List (Elem × Node) → List (Elem × Node) → List (Elem × Trie) → Type 0
   IsComparing cs ds out = IsMaking (differs what d) (referred rs) (referred ss) cs ds out
 
-  pub comparing-lost : (i j : ℕ) (r : Reference) (out new : List (Elem × Trie)) (t : Trie) → heads_order (drop i (referred rs)) (drop j (referred ss)) ≡ Some Less → r ≡ get_or rs i r
-      → IsChildTrie (told_of_lost what) d (element_view r.now.0) r.now.1 t → IsGrown (element_view r.now.0) t out new
+  pub comparing-lost : (i j : ℕ) (r : Reference) (out new : List (Elem × Trie)) → heads_order (drop i (referred rs)) (drop j (referred ss)) ≡ Some Less → r ≡ get_or rs i r
+      → IsToldAlone (told_of_lost what) d r.now out new
       → IsComparing (drop i (referred rs)) (drop j (referred ss)) out → IsComparing (drop (i + 1) (referred rs)) (drop j (referred ss)) new
-  comparing-lost i j r out new t order is made grown h =
+  comparing-lost i j r out new order is (t, made, grown) h =
       let c = r.now in
       let e = element_view c.0 in
       let cs = drop (i + 1) (referred rs) in
@@ -127,10 +127,10 @@ module _ (what : Difference) (d : Bool) (rs ss : List Reference) where
       making-more (differs what d) e (Some c.1) None (referred rs) (referred ss) (c ∷ cs) ds cs ds out new t (tells-nothing what d)
       (front-own c cs ds heads now.own_rise now.others_rise) (both_second _ _ now.own_rise) now.others_rise (λ p. made.paths_are p ∙ lost-differs what d e c.1 p) made.trie grown now
 
-  pub comparing-new : (i j : ℕ) (s : Reference) (out new : List (Elem × Trie)) (t : Trie) → heads_order (drop i (referred rs)) (drop j (referred ss)) ≡ Some Greater → s ≡ get_or ss j s
-      → IsChildTrie (told_of_new what) d (element_view s.now.0) s.now.1 t → IsGrown (element_view s.now.0) t out new
+  pub comparing-new : (i j : ℕ) (s : Reference) (out new : List (Elem × Trie)) → heads_order (drop i (referred rs)) (drop j (referred ss)) ≡ Some Greater → s ≡ get_or ss j s
+      → IsToldAlone (told_of_new what) d s.now out new
       → IsComparing (drop i (referred rs)) (drop j (referred ss)) out → IsComparing (drop i (referred rs)) (drop (j + 1) (referred ss)) new
-  comparing-new i j s out new t order is made grown h =
+  comparing-new i j s out new order is (t, made, grown) h =
       let c = s.now in
       let e = element_view c.0 in
       let cs = drop i (referred rs) in

@@ -3,10 +3,12 @@ use Rattle.std.specs.Prelude.{◌≡◌, List, [], ◌∷◌, Bool, true, false,
 use Rattle.ssa_model.specs.Path.{Element, Path}
 use Rattle.ssa_model.specs.Body.{Body, is_other_leaf, added, modified, removed}
 use Rattle.ssa_path.specs.Children.{child_at, elements, rises}
+use Rattle.ssa_path.specs.Combine.{IsGrown}
 use Rattle.ssa_path.specs.Trie.{paths, paths_below, is_one_of, is_trie, are_filled_tries}
 use Rattle.ssa_path.specs.declared.element.Elem.{Elem}
 use Rattle.ssa_path.specs.declared.trie.Trie.{Trie}
-use Rattle.ssa_typed.specs.Points.{content_in, point_in, is_in_dict}
+use Rattle.ssa_path.specs.View.{element_view}
+use Rattle.ssa_typed.specs.Points.{content_in, point_in, is_in_dict, IsChildTrie}
 use Rattle.ssa_typed.specs.Rows.{own_content, below}
 use Rattle.ssa_typed.specs.declared.compare.Comparison.{Comparison}
 use Rattle.ssa_typed.specs.declared.compare.Difference.{Difference}
@@ -44,6 +46,10 @@ abbrev pub told_of_new : Difference → Option Collected
 told_of_new Added = Some Points
 told_of_new Modified = None
 told_of_new Removed = None
+
+-- one more child, with what is told of one that a single tree has, where that is some path
+abbrev pub IsToldAlone : Option Collected → Bool → Elem × Node → List (Elem × Trie) → List (Elem × Trie) → Type 0
+IsToldAlone what in_dict c old new = (t : Trie) × IsChildTrie what in_dict (element_view c.0) c.1 t × IsGrown (element_view c.0) t old new
 
 -- tries that hold what differs below two nodes
 pub record IsDiffering (what : Difference) (before after : Node) (ts : List (Elem × Trie)) : Type 0 where

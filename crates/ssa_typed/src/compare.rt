@@ -1,8 +1,8 @@
 //! What one body has otherwise than another that comes before it.
-ghost use Rattle.std.specs.Prelude.{◌≡◌, true, drop, Some, IfOk};
+ghost use Rattle.std.specs.Prelude.{◌≡◌, true, drop, Some, IfOk, OnOk};
 ghost use Rattle.ssa_model.specs.Body.{is_other_leaf};
 ghost use Rattle.ssa_path.specs.Children.{heads_order};
-ghost use Rattle.ssa_typed.specs.Differences.{differs_here, told_of_lost, told_of_new, IsDifference, IsDiffering};
+ghost use Rattle.ssa_typed.specs.Differences.{differs_here, told_of_lost, told_of_new, IsDifference, IsDiffering, IsToldAlone};
 ghost use Rattle.ssa_typed.specs.InOrder.{referred};
 ghost use Rattle.ssa_typed.specs.Rows.{is_tree, leaf_content, own_content};
 
@@ -119,7 +119,24 @@ fn order_at(own: &[&(Elem, Node)], i: usize, others: &[&(Elem, Node)], j: usize)
     }
 }
 
+// Adds what is told of a child that only one of the trees has.
+fn push_alone(
+    alloc: Global,
+    told: &mut Vec<(Elem, Trie)>,
+    child: &(Elem, Node),
+    in_dict: bool,
+    what: Option<Collected>,
+) -> Result<(), AllocError>
+    requires { is_tree child.now.1 ≡ true }
+    ensures { OnOk result (IsToldAlone what in_dict child.now told.old.items told.new.items) }
+{
+    let trie = collect_child(alloc, child, in_dict, what)?;
+    push_filled(alloc, told, &child.0, trie)?;
+    Ok(())
+}
+
 // What differs below two nodes, each child's behind the child's element.
+#[cycle(differing)]
 fn differing_below(
     alloc: Global,
     before: &Node,
@@ -133,38 +150,33 @@ fn differing_below(
     let own = in_order(alloc, before.children())?;
     let others = in_order(alloc, after.children())?;
     let in_dict = after.is_dict();
-    let mut differing = Vec::new(alloc);
+    let mut told = Vec::new(alloc);
     let mut i = 0;
     let mut j = 0;
     while let Some(order) = order_at(&own, i, &others, j) {
         match order {
             Ordering::Less => {
-                let lost = own[i];
-                let child = collect_child(alloc, lost, in_dict, what.of_lost())?;
-                push_filled(alloc, &mut differing, &lost.0, child)?;
+                push_alone(alloc, &mut told, own[i], in_dict, what.of_lost())?;
                 i += 1;
             }
             Ordering::Greater => {
-                let new = others[j];
-                let child = collect_child(alloc, new, in_dict, what.of_new())?;
-                push_filled(alloc, &mut differing, &new.0, child)?;
+                push_alone(alloc, &mut told, others[j], in_dict, what.of_new())?;
                 j += 1;
             }
             Ordering::Equal => {
                 let mine = own[i];
-                let theirs = others[j];
-                let below = differing_below(alloc, &mine.1, &theirs.1, what)?;
-                let here = what.is_here(&mine.1, &theirs.1);
-                push_filled(alloc, &mut differing, &mine.0, Trie { here, below })?;
+                let child = differing(alloc, &mine.1, &others[j].1, what)?;
+                push_filled(alloc, &mut told, &mine.0, child)?;
                 i += 1;
                 j += 1;
             }
         }
     }
-    Ok(differing)
+    Ok(told)
 }
 
 // What differs between two trees, found by one walk over both.
+#[cycle(differing)]
 pub(crate) fn differing(
     alloc: Global,
     before: &Node,

@@ -1,4 +1,4 @@
-// Trees made by hand for tests.
+// Whether what a test made by hand is the tree of a body.
 ghost use Rattle.std.specs.Prelude.{◌≡◌, ◌&&◌, not, true};
 ghost use Rattle.std.specs.List.{list_any};
 ghost use Rattle.ssa_model.specs.Path.{same_element};

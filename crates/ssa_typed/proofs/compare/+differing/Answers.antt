@@ -1,4 +1,4 @@
-use Rattle.std.proofs.Common.{◌<◌, refl, ap, ◌∙◌, length, Some, rules}
+use Rattle.std.proofs.Common.{◌+◌, ◌*◌, ◌<◌, refl, ap, ◌∙◌, length, Some, arith, rules}
 use Rattle.ssa_path.specs.View.{element_view}
 use Rattle.ssa_path.proofs.Combining.{heads-none}
 use Rattle.ssa_typed.specs.Rows.{rows}
@@ -6,10 +6,13 @@ use Rattle.ssa_typed.proofs.Differing.{heads-are, lost-child, new-child, own-chi
 use Rattle.ssa_typed.proofs.Lookups.{tree-child}
 use Rattle.ssa_typed.proofs.References.{order-below}
 use Rattle.ssa_typed.proofs.Sizes.{smaller}
-use Rattle.ssa_typed.proofs.compare.+differing_below.Goals as goal
+use Rattle.ssa_typed.proofs.compare.+differing.Goals as goal
 
-pub collect_child-requires : goal.collect_child-requires
-collect_child-requires t c =
+pub differing-returns : goal.differing-returns
+differing-returns t c = difference-made c.args.what c.args.before.now c.args.after.now _ c.is_here-here.ensures c.in_ok-below.ensures
+
+pub differing_below-push_alone-requires : goal.differing_below-push_alone-requires
+differing_below-push_alone-requires t c =
     let n = c.args.before.now in
     let m = c.args.after.now in
     let rs = c.in_ok-own.own.items in
@@ -17,20 +20,19 @@ collect_child-requires t c =
     let own = order-below n c.children.result.now rs rs c.children.ensures.own refl c.in_ok-own.ensures in
     let other = order-below m c.children-2.result.now ss ss c.children-2.ensures.own refl c.in_ok-others.ensures in
     let heads = heads-are rs ss _ _ c.loop-order.i c.loop-order.j _ _ c.deref.ensures.value c.deref-in-loop-order.ensures.value c.order_at.ensures (c.in-Some.is ∙ ap Some c.in-Less.is) in
-    let r = c.index-lost.result.now in
-    tree-child n (element_view r.now.0) r.now.1 c.requires.before (lost-child n m rs ss c.loop-order.i c.loop-order.j own other r heads c.index-lost.ensures)
+    let r = c.index.result.now in
+    tree-child n (element_view r.now.0) r.now.1 c.requires.before (lost-child n m rs ss c.loop-order.i c.loop-order.j own other r heads c.index.ensures)
 
-pub loop-order-preserved-in-Less : goal.loop-order-preserved-in-Less
-loop-order-preserved-in-Less t c =
+pub differing_below-loop-order-preserved-in-Less : goal.differing_below-loop-order-preserved-in-Less
+differing_below-loop-order-preserved-in-Less t c =
     let rs = c.in_ok-own.own.items in
     let ss = c.in_ok-others.others.items in
     let heads = heads-are rs ss _ _ c.loop-order.i c.loop-order.j _ _ c.deref.ensures.value c.deref-in-loop-order.ensures.value c.order_at.ensures (c.in-Some.is ∙ ap Some c.in-Less.is) in
-    let made = rw c.of_lost.ensures at c.in_ok-child-in-Less.ensures in
-    comparing-lost c.args.what c.is_dict-in_dict.result rs ss c.loop-order.i c.loop-order.j c.index-lost.result.now c.loop-order.differing.items c.push_filled.new.children.items c.in_ok-child-in-Less.child
-    heads c.index-lost.ensures made c.in_ok-push_filled-in-Less.ensures c.loop-order.invariant
+    let told = rw c.of_lost.ensures at c.in_ok-push_alone-in-Less.ensures in
+    comparing-lost c.args.what c.is_dict-in_dict.result rs ss c.loop-order.i c.loop-order.j c.index.result.now c.loop-order.told.items c.push_alone.new.told.items heads c.index.ensures told c.loop-order.invariant
 
-pub collect_child-requires-in-Greater : goal.collect_child-requires-in-Greater
-collect_child-requires-in-Greater t c =
+pub differing_below-push_alone-requires-in-Greater : goal.differing_below-push_alone-requires-in-Greater
+differing_below-push_alone-requires-in-Greater t c =
     let n = c.args.before.now in
     let m = c.args.after.now in
     let rs = c.in_ok-own.own.items in
@@ -38,20 +40,19 @@ collect_child-requires-in-Greater t c =
     let own = order-below n c.children.result.now rs rs c.children.ensures.own refl c.in_ok-own.ensures in
     let other = order-below m c.children-2.result.now ss ss c.children-2.ensures.own refl c.in_ok-others.ensures in
     let heads = heads-are rs ss _ _ c.loop-order.i c.loop-order.j _ _ c.deref.ensures.value c.deref-in-loop-order.ensures.value c.order_at.ensures (c.in-Some.is ∙ ap Some c.in-Greater.is) in
-    let s = c.index-new.result.now in
-    tree-child m (element_view s.now.0) s.now.1 c.requires.after (new-child n m rs ss c.loop-order.i c.loop-order.j own other s heads c.index-new.ensures)
+    let s = c.index-in-Greater.result.now in
+    tree-child m (element_view s.now.0) s.now.1 c.requires.after (new-child n m rs ss c.loop-order.i c.loop-order.j own other s heads c.index-in-Greater.ensures)
 
-pub loop-order-preserved-in-Greater : goal.loop-order-preserved-in-Greater
-loop-order-preserved-in-Greater t c =
+pub differing_below-loop-order-preserved-in-Greater : goal.differing_below-loop-order-preserved-in-Greater
+differing_below-loop-order-preserved-in-Greater t c =
     let rs = c.in_ok-own.own.items in
     let ss = c.in_ok-others.others.items in
     let heads = heads-are rs ss _ _ c.loop-order.i c.loop-order.j _ _ c.deref.ensures.value c.deref-in-loop-order.ensures.value c.order_at.ensures (c.in-Some.is ∙ ap Some c.in-Greater.is) in
-    let made = rw c.of_new.ensures at c.in_ok-child-in-Greater.ensures in
-    comparing-new c.args.what c.is_dict-in_dict.result rs ss c.loop-order.i c.loop-order.j c.index-new.result.now c.loop-order.differing.items c.push_filled-in-Greater.new.children.items c.in_ok-child-in-Greater.child
-    heads c.index-new.ensures made c.in_ok-push_filled-in-Greater.ensures c.loop-order.invariant
+    let told = rw c.of_new.ensures at c.in_ok-push_alone-in-Greater.ensures in
+    comparing-new c.args.what c.is_dict-in_dict.result rs ss c.loop-order.i c.loop-order.j c.index-in-Greater.result.now c.loop-order.told.items c.push_alone-in-Greater.new.told.items heads c.index-in-Greater.ensures told c.loop-order.invariant
 
-pub differing_below-requires : goal.differing_below-requires
-differing_below-requires t c =
+pub differing_below-differing-requires : goal.differing_below-differing-requires
+differing_below-differing-requires t c =
     let n = c.args.before.now in
     let m = c.args.after.now in
     let rs = c.in_ok-own.own.items in
@@ -60,19 +61,16 @@ differing_below-requires t c =
     let other = order-below m c.children-2.result.now ss ss c.children-2.ensures.own refl c.in_ok-others.ensures in
     let heads = heads-are rs ss _ _ c.loop-order.i c.loop-order.j _ _ c.deref.ensures.value c.deref-in-loop-order.ensures.value c.order_at.ensures (c.in-Some.is ∙ ap Some c.in-Equal.is) in
     let r = c.index-mine.result.now in
-    let s = c.index-theirs.result.now in
+    let s = c.index-in-Equal.result.now in
     let child = own-child n m rs ss c.loop-order.i c.loop-order.j own other r heads c.index-mine.ensures in
     let before = tree-child n (element_view r.now.0) r.now.1 c.requires.before child in
-    let after = tree-child m (element_view s.now.0) s.now.1 c.requires.after (other-child n m rs ss c.loop-order.i c.loop-order.j own other s heads c.index-theirs.ensures) in
-    let small : length (rows r.now.1) < length (rows n) = smaller n (element_view r.now.0) r.now.1 child in
-    (search (rules, small), (before, after))
+    let after = tree-child m (element_view s.now.0) s.now.1 c.requires.after (other-child n m rs ss c.loop-order.i c.loop-order.j own other s heads c.index-in-Equal.ensures) in
+    let small = smaller n (element_view r.now.0) r.now.1 child in
+    let falls : 2 * length (rows r.now.1) + 1 < 2 * length (rows n) = omega arith in
+    (search (rules, falls), (before, after))
 
-pub push_filled-requires-in-Equal : goal.push_filled-requires-in-Equal
-push_filled-requires-in-Equal t c =
-    (difference-made c.args.what c.index-mine.result.now.now.1 c.index-theirs.result.now.now.1 _ c.is_here-here.ensures c.in_ok-below-in-Equal.ensures).trie
-
-pub loop-order-preserved : goal.loop-order-preserved
-loop-order-preserved t c =
+pub differing_below-loop-order-preserved : goal.differing_below-loop-order-preserved
+differing_below-loop-order-preserved t c =
     let n = c.args.before.now in
     let m = c.args.after.now in
     let rs = c.in_ok-own.own.items in
@@ -81,16 +79,15 @@ loop-order-preserved t c =
     let other = order-below m c.children-2.result.now ss ss c.children-2.ensures.own refl c.in_ok-others.ensures in
     let heads = heads-are rs ss _ _ c.loop-order.i c.loop-order.j _ _ c.deref.ensures.value c.deref-in-loop-order.ensures.value c.order_at.ensures (c.in-Some.is ∙ ap Some c.in-Equal.is) in
     let r = c.index-mine.result.now in
-    let s = c.index-theirs.result.now in
+    let s = c.index-in-Equal.result.now in
     let child = own-child n m rs ss c.loop-order.i c.loop-order.j own other r heads c.index-mine.ensures in
     let before = tree-child n (element_view r.now.0) r.now.1 c.requires.before child in
-    let after = tree-child m (element_view s.now.0) s.now.1 c.requires.after (other-child n m rs ss c.loop-order.i c.loop-order.j own other s heads c.index-theirs.ensures) in
-    let made = difference-made c.args.what r.now.1 s.now.1 _ c.is_here-here.ensures c.in_ok-below-in-Equal.ensures in
-    comparing-both c.args.what c.is_dict-in_dict.result rs ss c.loop-order.i c.loop-order.j r s c.loop-order.differing.items c.push_filled-in-Equal.new.children.items _
-    heads c.index-mine.ensures c.index-theirs.ensures before after made c.in_ok-push_filled-in-Equal.ensures c.loop-order.invariant
+    let after = tree-child m (element_view s.now.0) s.now.1 c.requires.after (other-child n m rs ss c.loop-order.i c.loop-order.j own other s heads c.index-in-Equal.ensures) in
+    comparing-both c.args.what c.is_dict-in_dict.result rs ss c.loop-order.i c.loop-order.j r s c.loop-order.told.items c.push_filled.new.children.items c.in_ok-child-in-Equal.child
+    heads c.index-mine.ensures c.index-in-Equal.ensures before after c.in_ok-child-in-Equal.ensures c.in_ok-push_filled-in-Equal.ensures c.loop-order.invariant
 
-pub returns : goal.returns
-returns t c =
+pub differing_below-returns : goal.differing_below-returns
+differing_below-returns t c =
     let n = c.args.before.now in
     let m = c.args.after.now in
     let rs = c.in_ok-own.own.items in
@@ -98,4 +95,4 @@ returns t c =
     let own = order-below n c.children.result.now rs rs c.children.ensures.own refl c.in_ok-own.ensures in
     let other = order-below m c.children-2.result.now ss ss c.children-2.ensures.own refl c.in_ok-others.ensures in
     let none = heads-none _ _ (heads-are rs ss _ _ c.loop-order.i c.loop-order.j _ _ c.deref.ensures.value c.deref-in-loop-order.ensures.value c.order_at.ensures c.in_default.is) in
-    comparing-all c.args.what c.is_dict-in_dict.result rs ss n m _ _ c.loop-order.differing.items c.is_dict-in_dict.ensures own other none.0 none.1 c.loop-order.invariant
+    comparing-all c.args.what c.is_dict-in_dict.result rs ss n m _ _ c.loop-order.told.items c.is_dict-in_dict.ensures own other none.0 none.1 c.loop-order.invariant
