@@ -1,5 +1,6 @@
 pub mod Building
 pub mod Collecting
+pub mod Copying
 pub mod Differing
 pub mod EmptyMetadata
 pub mod Fitting

@@ -1,3 +1,5 @@
+pub mod Alike
+pub mod Copies
 pub mod Differences
 pub mod Flats
 pub mod InOrder

@@ -80,6 +80,14 @@ impl Body {
         Ok(FieldSet::from_root(root))
     }
 
+    /// The same body, with new memory.
+    pub fn copy(&self, alloc: Global) -> Result<Body, AllocError>
+        ensures { IfOk result (λ b. b ≡ self.now) }
+    {
+        let root = self.root.copy(alloc)?;
+        Ok(Body { root })
+    }
+
     /// How the body `after`, which comes after this one, differs from it.
     pub fn compare(&self, alloc: Global, after: &Body) -> Result<Comparison, AllocError>
         ensures { IfOk result (λ c. IsComparison self.now after.now c) }
