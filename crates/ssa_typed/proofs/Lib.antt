@@ -3,6 +3,7 @@ pub mod Collecting
 pub mod Copying
 pub mod Differing
 pub mod EmptyMetadata
+pub mod Finding
 pub mod Fitting
 pub mod ItemKeys
 pub mod Laws
@@ -10,6 +11,8 @@ pub mod Levels
 pub mod Looks
 pub mod Lookups
 pub mod Making
+pub mod OverNodes
+pub mod Overlaying
 pub mod References
 pub mod Sizes
 pub mod Sorting

@@ -4,6 +4,7 @@ pub mod Differences
 pub mod Flats
 pub mod InOrder
 pub mod Look
+pub mod Over
 pub mod Points
 pub mod Reads
 pub mod Rows
