@@ -1,3 +1,4 @@
+pub mod Alike
 pub mod Building
 pub mod Collecting
 pub mod Copying

@@ -2,18 +2,19 @@
 use Rattle.std.proofs.Common.{◌≡◌, List, [], ◌∷◌, ◌++◌, Vec, Global, Bool, true, false, not, ◌&&◌, cond, Option, Some, None, refl, sym, ap, subst, ◌∙◌, true≢false, rules}
 use Rattle.std.specs.Prelude.{filter}
 use Rattle.std.specs.List.{list_any}
-use Rattle.ssa_model.specs.Body.{Content, leaf, atom, record_branch, dict_branch, list_branch, joined, over_content, is_leaf, order_at}
+use Rattle.ssa_model.specs.Body.{Content, leaf, atom, record_branch, dict_branch, list_branch, joined, over_content, over, is_leaf, order_at}
 use Rattle.ssa_model.specs.Kind.{is_among}
 use Rattle.ssa_model.specs.Path.{Element, Path, same_element, is_item_element}
+use Rattle.ssa_model.proofs.PathMaps.{same_map, get-over}
 use Rattle.ssa_path.specs.Children.{child_at, elements, rises}
 use Rattle.ssa_path.specs.declared.element.Elem.{Elem}
 use Rattle.ssa_path.specs.View.{element_view}
 use Rattle.ssa_path.proofs.Orders.{same_element-true, same_element-itself, both, both_first, both_second}
-use Rattle.ssa_typed.specs.Alike.{are_alike}
+use Rattle.ssa_typed.specs.Alike.{are_alike, AreAlike}
 use Rattle.ssa_typed.specs.InOrder.{IsInOrder}
 use Rattle.ssa_typed.specs.Over.{AreAlikeTrees, IsOver, AreOver}
 use Rattle.ssa_typed.specs.Points.{content_in}
-use Rattle.ssa_typed.specs.Rows.{below, below_of, content_of, own_content, leaf_content, is_tree, are_trees, are_apart, are_fields, are_items}
+use Rattle.ssa_typed.specs.Rows.{body_of, below, below_of, content_of, own_content, leaf_content, is_tree, are_trees, are_apart, are_fields, are_items}
 use Rattle.ssa_typed.specs.declared.node.Leaf.{Leaf}
 use Rattle.ssa_typed.specs.declared.node.Leaf.TheVariants.{Scalar, Atomic}
 use Rattle.ssa_typed.specs.declared.node.Node.{Node, Leaf as LeafOf, Branch, Dict, List as ListOf, the_lemmas}
@@ -22,6 +23,7 @@ use Rattle.ssa_typed.specs.declared.node.Node.TheViews.{out-Node, roll-Node, rol
 use Rattle.ssa_typed.proofs.Building.{Child}
 use Rattle.ssa_typed.proofs.Copying.{tree-Leaf}
 use Rattle.ssa_typed.proofs.Levels.{Children, level-below, own-Branch, own-Dict, own-List, tree-Branch, tree-Dict, tree-List, rises-apart}
+use Rattle.ssa_typed.proofs.Looks.{get-body}
 use Rattle.ssa_typed.proofs.Lookups.{child_at-rest, child-tree}
 use Rattle.ssa_typed.proofs.Overlaying.{alike-root, over-apart, over-level, some-none}
 
@@ -281,3 +283,13 @@ module _ (n m : Node) (live : is_tree n ≡ true) (config : is_tree m ≡ true) 
       (ap (λ c. Some c) (own-List v ∙ ap list_branch (h.elements_are ∙ (λ i. joined (sym (order-made (out-Node n) sort) i) (items i))))
       ∙ sym (ap (λ c. over_content (Some (own_content n)) (Some c)) own))
       (λ e. ap (child_at e) (below-List v)) h
+
+-- ---- THE BRIDGE: one body over another
+
+pub over-body : (n m made : Node) → IsOver n m made → body_of made ≡ over (body_of n) (body_of m)
+over-body n m made h =
+    same_map (body_of made) (over (body_of n) (body_of m)) (λ p.
+    get-body made p ∙ h.content p ∙ sym (get-over (body_of n) (body_of m) p ∙ (λ i. over_content (get-body n p i) (get-body m p i))))
+
+pub alike-bodies : (n m : Node) → AreAlike (body_of n) (body_of m) → AreAlikeTrees n m
+alike-bodies n m h p = sym (λ i. are_alike (get-body n p i) (get-body m p i)) ∙ h p
