@@ -1,4 +1,5 @@
 pub mod Alike
+pub mod AlikeTrees
 pub mod Building
 pub mod Collecting
 pub mod Copying
