@@ -1,5 +1,5 @@
 -- A binary search among references to children in the order of their elements.
-use Rattle.std.proofs.Common.{◌≡◌, ℕ, zero, suc, ◌<◌, ◌≤◌, List, [], ◌∷◌, length, get_or, Result, Ok, Err, Equal, Option, Some, None, sym, ap, subst, ◌∙◌, refl, arith, true}
+use Rattle.std.proofs.Common.{◌≡◌, ℕ, zero, suc, ◌<◌, ◌≤◌, List, [], ◌∷◌, length, get_or, Result, Ok, Err, Some, None, sym, ap, subst, ◌∙◌, refl, arith, true}
 use Rattle.std.specs.Ordering.{ordering_index}
 use Rattle.std.specs.Result.{MatchResult}
 use Rattle.std.specs.List.Sorted.{IsBinarySearchResult}
@@ -7,7 +7,6 @@ use Rattle.std.specs.declared.cmp.Ordering.{Ordering}
 use Rattle.ssa_model.specs.Path.{Element}
 use Rattle.ssa_path.specs.Children.{elements, rises, child_at, IsSearchResult}
 use Rattle.ssa_path.specs.declared.element.Elem.{Elem}
-use Rattle.ssa_path.specs.View.{element_view}
 use Rattle.ssa_path.proofs.Searching.{compared, search-result, child-found, child-absent}
 use Rattle.ssa_typed.specs.InOrder.{referred}
 use Rattle.ssa_typed.specs.declared.node.Node.{Node}
@@ -37,12 +36,11 @@ module _ (e : Element) (rs : List Reference) where
       let long = length-referred rs in
       λ up.
       let parts =
-          found (λ k j r le lt.
-          subst (λ c. ordering_index (compared_with e (get_or rs k r)) ≤ ordering_index (compared e c)) (at-referred rs j r r.now lt)
-          (subst (λ c. ordering_index (compared e c) ≤ ordering_index (compared e (get_or (referred rs) j r.now))) (at-referred rs k r r.now (omega arith)) (up k j r.now le (omega arith)))) in
-      (
+      found (λ k j r le lt.
+      subst (λ c. ordering_index (compared_with e (get_or rs k r)) ≤ ordering_index (compared e c)) (at-referred rs j r r.now lt)
+      (subst (λ c. ordering_index (compared e c) ≤ ordering_index (compared e (get_or (referred rs) j r.now))) (at-referred rs k r r.now (omega arith)) (up k j r.now le (omega arith)))) in (
         λ k d lt in_range. let x = some-reference rs k (omega arith) in ap (compared e) (at-referred rs k x d (omega arith)) ∙ parts.0 k x lt (omega arith),
-        λ k d le lt. let x = some-reference rs k (omega arith) in ap (compared e) (at-referred rs k x d (omega arith)) ∙ parts.1 k x le (omega arith)
+        λ k d le lt. let x = some-reference rs k (omega arith) in ap (compared e) (at-referred rs k x d (omega arith)) ∙ parts.1 k x le (omega arith),
       )
 
   pub search-found : (r : Result ℕ ℕ) → rises (elements (referred rs)) ≡ true → MatchResult r (λ i. i < length rs) (λ i. i ≤ length rs) → IsBinarySearchResult (compared_with e) rs r → IsSearchResult e (referred rs) r

@@ -1,13 +1,12 @@
 -- A node made of the children of one node over those of another.
-use Rattle.std.proofs.Common.{◌≡◌, List, [], ◌∷◌, ◌++◌, Vec, Global, Bool, true, false, not, ◌&&◌, cond, Option, Some, None, refl, sym, ap, subst, ◌∙◌, true≢false, rules}
+use Rattle.std.proofs.Common.{◌≡◌, List, [], ◌∷◌, ◌++◌, Bool, true, false, not, ◌&&◌, cond, Option, Some, refl, sym, ap, ◌∙◌, true≢false, rules}
 use Rattle.std.specs.Prelude.{filter}
 use Rattle.std.specs.List.{list_any}
 use Rattle.ssa_model.specs.Body.{Content, leaf, atom, record_branch, dict_branch, list_branch, joined, over_content, over, is_leaf, order_at}
 use Rattle.ssa_model.specs.Kind.{is_among}
-use Rattle.ssa_model.specs.Path.{Element, Path, same_element, is_item_element}
+use Rattle.ssa_model.specs.Path.{Element, same_element, is_item_element}
 use Rattle.ssa_model.proofs.PathMaps.{same_map, get-over}
 use Rattle.ssa_path.specs.Children.{child_at, elements, rises}
-use Rattle.ssa_path.specs.declared.element.Elem.{Elem}
 use Rattle.ssa_path.specs.View.{element_view}
 use Rattle.ssa_path.proofs.Orders.{same_element-true, same_element-itself, both, both_first, both_second}
 use Rattle.ssa_typed.specs.Alike.{are_alike, AreAlike}
@@ -277,8 +276,8 @@ module _ (n m : Node) (live : is_tree n ≡ true) (config : is_tree m ≡ true) 
       let items = ap elements (ap below is ∙ below-List w) in
       let sort = list-alike (own_content n) (elements w.items) (ap (λ c. are_alike (Some (own_content n)) (Some c)) (sym own) ∙ alike-root n m alike) in
       let all_items =
-          items-all (elements v.items) ∙ ap (all_of is_item_element) h.elements_are
-          ∙ all-joined is_item_element es fs (sym (items-all es) ∙ items-made (out-Node n) (rolled n live) sort) (sym (items-all fs) ∙ items-made (out-Node m) (rolled m config) (ap is_listing own)) in
+      items-all (elements v.items) ∙ ap (all_of is_item_element) h.elements_are
+      ∙ all-joined is_item_element es fs (sym (items-all es) ∙ items-made (out-Node n) (rolled n live) sort) (sym (items-all fs) ∙ items-made (out-Node m) (rolled m config) (ap is_listing own)) in
       over-level n m (ListOf v) v.items live config (tree-List v ∙ both _ _ (both _ _ (apart-over v.items h) all_items) h.trees)
       (ap (λ c. Some c) (own-List v ∙ ap list_branch (h.elements_are ∙ (λ i. joined (sym (order-made (out-Node n) sort) i) (items i))))
       ∙ sym (ap (λ c. over_content (Some (own_content n)) (Some c)) own))

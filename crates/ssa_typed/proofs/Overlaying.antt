@@ -1,15 +1,14 @@
 -- One tree over another, level by level.
-use Rattle.std.proofs.Common.{◌≡◌, ℕ, zero, suc, arith, ◌+◌, ◌<◌, List, [], ◌∷◌, ◌++◌, length, get_or, take, Bool, true, false, not, ◌&&◌, ◌||◌, cond, Option, Some, None, Bor, refl, sym, ap, subst, ◌∙◌, true≢false, append_assoc, append-nil}
+use Rattle.std.proofs.Common.{◌≡◌, ℕ, zero, suc, arith, ◌+◌, ◌<◌, List, [], ◌∷◌, ◌++◌, length, get_or, take, Bool, true, false, not, ◌&&◌, ◌||◌, cond, Option, Some, None, refl, sym, ap, subst, ◌∙◌}
 use Rattle.std.proofs.lemmas.List.{take_more}
-use Rattle.std.specs.Prelude.{filter, is_none, option_map}
+use Rattle.std.specs.Prelude.{filter}
 use Rattle.std.specs.List.{list_any}
-use Rattle.ssa_model.specs.Body.{Content, leaf, atom, record_branch, dict_branch, list_branch, joined, over_content, is_leaf, order_at}
+use Rattle.ssa_model.specs.Body.{Content, leaf, atom, record_branch, dict_branch, list_branch, joined, over_content}
 use Rattle.ssa_model.specs.Fitting.{are_distinct}
 use Rattle.ssa_model.specs.Kind.{is_among}
-use Rattle.ssa_model.specs.Path.{Element, Path, same_element, is_item_element}
+use Rattle.ssa_model.specs.Path.{Element, Path, same_element}
 use Rattle.ssa_model.proofs.Fitting.{distinct-joined}
-use Rattle.ssa_path.specs.Children.{child_at, elements, rises}
-use Rattle.ssa_path.specs.declared.element.Elem.{Elem}
+use Rattle.ssa_path.specs.Children.{child_at, elements}
 use Rattle.ssa_path.specs.View.{element_view}
 use Rattle.ssa_path.proofs.Orders.{same_element-true, same_element-itself, both, both_first, both_second}
 use Rattle.ssa_typed.specs.Alike.{are_alike}
@@ -17,14 +16,12 @@ use Rattle.ssa_typed.specs.Copies.{kept, kept_below}
 use Rattle.ssa_typed.specs.InOrder.{referred, IsInOrder}
 use Rattle.ssa_typed.specs.Over.{AreAlikeTrees, IsOver, AreOver, IsPushed, is_new, with_new}
 use Rattle.ssa_typed.specs.Points.{content_in}
-use Rattle.ssa_typed.specs.Rows.{Row, rows, below, below_of, content_of, own_content, content_at, leaf_content, is_tree, are_trees, are_apart, are_fields, are_items}
+use Rattle.ssa_typed.specs.Rows.{rows, below, own_content, content_at, is_tree, are_trees, are_apart}
 use Rattle.ssa_typed.specs.declared.node.Node.{Node}
-use Rattle.ssa_typed.specs.declared.node.Node.TheOpen.{Node-F}
-use Rattle.ssa_typed.specs.declared.node.Node.TheViews.{out-Node}
 use Rattle.ssa_typed.proofs.Building.{Child}
-use Rattle.ssa_typed.proofs.Copying.{AreSame, kept-same, kept-rows, kept-tree}
+use Rattle.ssa_typed.proofs.Copying.{kept-same, kept-rows, kept-tree}
 use Rattle.ssa_typed.proofs.References.{Reference, order-below}
-use Rattle.ssa_typed.proofs.Lookups.{content-level, content-root, child_at-rest, child-tree}
+use Rattle.ssa_typed.proofs.Lookups.{content-level, content-root, child_at-rest}
 
 -- ---- going down
 

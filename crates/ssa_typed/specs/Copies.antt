@@ -1,5 +1,5 @@
 -- What a copy of a tree keeps.
-use Rattle.std.specs.Prelude.{◌≡◌, List, map, Bool}
+use Rattle.std.specs.Prelude.{List, map, Bool}
 use Rattle.ssa_model.specs.Path.{Element}
 use Rattle.ssa_path.specs.declared.element.Elem.{Elem}
 use Rattle.ssa_path.specs.View.{element_view}

@@ -1,5 +1,5 @@
 -- One tree over another.
-use Rattle.std.specs.Prelude.{◌≡◌, List, [], ◌∷◌, ◌++◌, Bool, true, false, filter, Option, None, Some}
+use Rattle.std.specs.Prelude.{◌≡◌, List, [], ◌∷◌, ◌++◌, Bool, true, false, filter, None, Some}
 use Rattle.ssa_model.specs.Body.{joined, over_content}
 use Rattle.ssa_model.specs.Path.{Element, Path}
 use Rattle.ssa_path.specs.Children.{child_at, elements}

@@ -1,4 +1,4 @@
-use Rattle.std.proofs.Common.{◌<◌, ◌+◌, ◌≤◌, Some, None, length, refl, sym, ap, subst, ◌∙◌, arith, rules}
+use Rattle.std.proofs.Common.{◌<◌, ◌+◌, Some, None, length, sym, ap, subst, ◌∙◌, arith, rules}
 use Rattle.std.proofs.lemmas.List.{take_all}
 use Rattle.ssa_path.specs.Children.{child_at}
 use Rattle.ssa_path.specs.View.{element_view}
@@ -52,7 +52,7 @@ over_children-returns t c =
     let m = c.args.config.now in
     let made = c.loop-child.made.items in
     let each =
-        subst (λ l. AreOverEach (below m) l made) (take_all c.loop-child.child-index c.children-child-items.result.now c.loop-child-test.false ∙ c.children-child-items.ensures.own) c.loop-child.invariant in
+    subst (λ l. AreOverEach (below m) l made) (take_all c.loop-child.child-index c.children-child-items.result.now c.loop-child-test.false ∙ c.children-child-items.ensures.own) c.loop-child.invariant in
     children-over n m made c.push_new.new.made.items each ((level-below m).trees c.requires.config)
     (c.in_ok-push_new.ensures ∙ (λ i. kept_below (with_new made (c.children-2.ensures.own i) (c.children-3.ensures.own i))))
 

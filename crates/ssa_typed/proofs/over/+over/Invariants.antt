@@ -1,4 +1,4 @@
-use Rattle.std.proofs.Common.{◌+◌, ◌*◌, length, take}
+use Rattle.std.proofs.Common.{◌+◌, length, take}
 use Rattle.ssa_typed.specs.Rows.{below, rows}
 use Rattle.ssa_typed.proofs.Overlaying.{AreOverEach}
 use Rattle.ssa_typed.proofs.over.+over.Given as goal
