@@ -1,7 +1,11 @@
+pub mod Alike
+pub mod AlikeTrees
 pub mod Building
 pub mod Collecting
+pub mod Copying
 pub mod Differing
 pub mod EmptyMetadata
+pub mod Finding
 pub mod Fitting
 pub mod ItemKeys
 pub mod Laws
@@ -9,6 +13,8 @@ pub mod Levels
 pub mod Looks
 pub mod Lookups
 pub mod Making
+pub mod OverNodes
+pub mod Overlaying
 pub mod References
 pub mod Sizes
 pub mod Sorting

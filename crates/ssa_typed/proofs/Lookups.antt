@@ -31,7 +31,7 @@ child-is : (b : Bool) (x c : Node) (rest : Option Node) → is_tree x ≡ true �
 child-is true x c rest here later e = let same : x ≡ c = cc in ap is_tree (sym same) ∙ here
 child-is false x c rest here later e = later e
 
-child-tree : (e : Element) (cs : List (Elem × Node)) (c : Node) → are_trees cs ≡ true → child_at e cs ≡ Some c → is_tree c ≡ true
+pub child-tree : (e : Element) (cs : List (Elem × Node)) (c : Node) → are_trees cs ≡ true → child_at e cs ≡ Some c → is_tree c ≡ true
 child-tree e [] c h s = cc
 child-tree e (x ∷ cs) c h s = child-is (same_element e (element_view x.0)) x.1 c (child_at e cs) (both_first _ (are_trees cs) h) (child-tree e cs c (both_second _ _ h)) s
 

@@ -164,3 +164,31 @@ sorted-children cs rs ss is apart stable up =
           ∙ in_order_rises element_of ss same_element-itself up (λ e. subst (λ l. length l ≤ 1) (sym (alike element_of rs ss stable e)) (once element_of e rs differ));
       same = λ e. child-first e ss ∙ ap (λ l. option_map (λ r. r.now.1) (first l)) (alike element_of rs ss stable e) ∙ sym (child-first e rs) ∙ ap (child_at e) is;
     }
+
+-- ---- children themselves
+
+abbrev pub own_element : Elem × Node → Element
+own_element c = element_view c.0
+
+elements-own : (cs : List (Elem × Node)) → elements cs ≡ map own_element cs
+elements-own [] = refl
+elements-own (c ∷ cs) = ap (λ es. own_element c ∷ es) (elements-own cs)
+
+own-first : (e : Element) (cs : List (Elem × Node)) → child_at e cs ≡ option_map (λ c. c.1) (first (filter (of_element own_element e) cs))
+own-first e [] = refl
+own-first e (c ∷ cs) =
+    elim (of_element own_element e c) as (λ b. cond b (Some c.1) (child_at e cs) ≡ option_map (λ d. d.1) (first (cond b (c ∷ filter (of_element own_element e) cs) (filter (of_element own_element e) cs)))) [
+      | true ↦ refl
+      | false ↦ own-first e cs
+    ]
+
+-- what a stable sort of the children leaves
+pub sorted-own : (cs ds : List (Elem × Node)) → are_apart (elements cs) ≡ true → IsStableBy (before own_element) cs ds → IsSortedBy (before own_element) ds → IsInOrder cs ds
+sorted-own cs ds apart stable up =
+    let differ : are_apart (map own_element cs) ≡ true = ap are_apart (sym (elements-own cs)) ∙ apart in
+    record {
+      rise =
+          ap rises (elements-own ds)
+          ∙ in_order_rises own_element ds same_element-itself up (λ e. subst (λ l. length l ≤ 1) (sym (alike own_element cs ds stable e)) (once own_element e cs differ));
+      same = λ e. own-first e ds ∙ ap (λ l. option_map (λ c. c.1) (first l)) (alike own_element cs ds stable e) ∙ sym (own-first e cs);
+    }

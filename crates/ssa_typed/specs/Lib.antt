@@ -1,7 +1,10 @@
+pub mod Alike
+pub mod Copies
 pub mod Differences
 pub mod Flats
 pub mod InOrder
 pub mod Look
+pub mod Over
 pub mod Points
 pub mod Reads
 pub mod Rows

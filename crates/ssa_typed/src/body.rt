@@ -1,13 +1,15 @@
 //! Bodies, seen as finite maps from whole paths to contents.
 ghost use Rattle.std.specs.Prelude.{◌≡◌, ◌-◌, ◌^◌, true, min, option_map, IfOk};
-ghost use Rattle.ssa_model.specs.Body.{points};
+ghost use Rattle.ssa_model.specs.Body.{over, points};
 ghost use Rattle.ssa_model.specs.PathMap.{size};
+ghost use Rattle.ssa_typed.specs.Alike.{AreAlike};
 ghost use Rattle.ssa_typed.specs.Differences.{IsComparison};
 ghost use Rattle.ssa_typed.specs.Look.{look_of, look_at};
 ghost use Rattle.ssa_typed.specs.Rows.{body_of, is_tree};
 
 use crate::compare::{Comparison, Difference, differing};
 use crate::node::{Look, Node};
+use crate::over::over_node;
 use ssa_path::field_set::FieldSet;
 use ssa_path::path::Path;
 use std::alloc::{AllocError, Global};
@@ -78,6 +80,26 @@ impl Body {
     {
         let root = self.root.points(alloc)?;
         Ok(FieldSet::from_root(root))
+    }
+
+    /// The same body, with new memory.
+    pub fn copy(&self, alloc: Global) -> Result<Body, AllocError>
+        ensures { IfOk result (λ b. b ≡ self.now) }
+    {
+        let root = self.root.copy(alloc)?;
+        Ok(Body { root })
+    }
+
+    /// The configuration over this body: its content where it has the place, else this body's.
+    ///
+    /// Lists keep this body's order, and what the configuration alone has follows in its order.
+    /// Takes about n log n comparisons for n children of a place.
+    pub fn over(&self, alloc: Global, config: &Body) -> Result<Body, AllocError>
+        requires { AreAlike self.now config.now }
+        ensures { IfOk result (λ b. b ≡ over self.now config.now) }
+    {
+        let root = over_node(alloc, &self.root, &config.root)?;
+        Ok(Body { root })
     }
 
     /// How the body `after`, which comes after this one, differs from it.

@@ -1,6 +1,8 @@
 //! The children of a place in the order of their elements.
-ghost use Rattle.std.specs.Prelude.{◌≡◌, true, IfOk};
-ghost use Rattle.ssa_path.specs.Children.{elements};
+ghost use Rattle.std.specs.Prelude.{◌≡◌, true, IfOk, OnOk};
+ghost use Rattle.std.specs.Option.{option_copied};
+ghost use Rattle.ssa_path.specs.Children.{child_at, elements, rises};
+ghost use Rattle.ssa_path.specs.View.{element_view};
 ghost use Rattle.ssa_typed.specs.InOrder.{referred, IsInOrder};
 ghost use Rattle.ssa_typed.specs.Rows.{are_apart};
 
@@ -25,4 +27,27 @@ pub fn in_order<'a>(
     }
     sorted.sort_by(|own, other| own.0.order(&other.0))?;
     Ok(sorted)
+}
+
+/// The child of this element, among references to children in the order of their elements.
+pub fn find_in_order<'a>(sorted: &[&'a (Elem, Node)], element: &Elem) -> Option<&'a Node>
+    requires { rises (elements (referred sorted.now)) ≡ true }
+    ensures { option_copied result ≡ child_at (element_view element.now) (referred sorted.now) }
+{
+    match sorted.binary_search_by(|child| child.0.order(element)) {
+        Ok(i) => {
+            let found = sorted[i];
+            Some(&found.1)
+        }
+        Err(_) => None,
+    }
+}
+
+/// Puts the children of a record or a Dict in the order of their elements.
+pub fn sort_children(children: &mut Vec<(Elem, Node)>) -> Result<(), AllocError>
+    requires { are_apart (elements children.old.items) ≡ true }
+    ensures { OnOk result (IsInOrder children.old.items children.new.items) }
+{
+    children.sort_by(|child, next| child.0.order(&next.0))?;
+    Ok(())
 }

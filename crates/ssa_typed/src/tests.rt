@@ -1,28 +1,12 @@
 use crate::body::Body;
 use crate::node::{Leaf, Look, Node};
-use crate::test_trees::is_tree;
+use crate::test_trees::{is_tree, number, put};
 use ssa_json::value::{Json, Scalar};
 use ssa_path::element::Elem;
 use ssa_path::field_set::FieldSet;
 use ssa_path::path::Path;
 use std::alloc::{AllocError, Global};
 use std::test::Fail;
-
-fn number(n: i64) -> Node {
-    Node::Leaf(Leaf::Scalar(Scalar::Int(n)))
-}
-
-// Puts a child under an element of this text behind the others.
-fn put(
-    alloc: Global,
-    children: &mut Vec<(Elem, Node)>,
-    element: &str,
-    child: Node,
-) -> Result<(), Fail> {
-    let element = Elem::read(alloc, element)?;
-    children.push((element, child))?;
-    Ok(())
-}
 
 // An item of a map list, with its key field.
 fn item(alloc: Global, n: i64) -> Result<Node, Fail> {

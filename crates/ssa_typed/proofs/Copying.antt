@@ -1,0 +1,112 @@
+-- Copies of trees, level by level.
+use Rattle.std.proofs.Common.{◌≡◌, List, [], ◌∷◌, ◌++◌, Bool, true, false, ◌&&◌, cond, Option, Some, None, refl, sym, ap, ◌∙◌, rules}
+use Rattle.ssa_model.specs.Body.{Content, list_branch}
+use Rattle.ssa_model.specs.Path.{Element, Path, same_element}
+use Rattle.ssa_path.specs.Children.{child_at, elements, rises}
+use Rattle.ssa_path.specs.View.{element_view}
+use Rattle.ssa_typed.specs.Copies.{kept, kept_below}
+use Rattle.ssa_typed.specs.Points.{content_in}
+use Rattle.ssa_typed.specs.Rows.{Row, rows, rows_below, content_at, under_element, leaf_content, is_tree, are_trees, are_apart, are_fields, are_items}
+use Rattle.ssa_typed.specs.declared.node.Leaf.{Leaf}
+use Rattle.ssa_typed.specs.declared.node.Node.{Node, Leaf as LeafOf, Branch, Dict, List as ListOf, the_lemmas}
+use Rattle.ssa_typed.proofs.Building.{Child}
+use Rattle.ssa_typed.proofs.Levels.{Children, own-Branch, own-Dict, own-List, tree-Branch, tree-Dict, tree-List, level-Branch, level-Dict, level-List}
+
+abbrev Kept : Type 0
+Kept = Element × (List Row × Bool)
+
+rows_of : List Kept → List Row
+rows_of [] = []
+rows_of (k ∷ ks) = under_element k.0 k.1.0 ++ rows_of ks
+
+elements_of : List Kept → List Element
+elements_of [] = []
+elements_of (k ∷ ks) = k.0 ∷ elements_of ks
+
+are_trees_of : List Kept → Bool
+are_trees_of [] = true
+are_trees_of (k ∷ ks) = k.1.1 && are_trees_of ks
+
+rows-kept : (cs : List Child) → rows_below cs ≡ rows_of (kept_below cs)
+unfolding rows_of
+rows-kept [] = refl
+rows-kept (c ∷ cs) = ap (λ rs. under_element (element_view c.0) (rows c.1) ++ rs) (rows-kept cs)
+
+elements-kept : (cs : List Child) → elements cs ≡ elements_of (kept_below cs)
+unfolding elements_of
+elements-kept [] = refl
+elements-kept (c ∷ cs) = ap (λ es. element_view c.0 ∷ es) (elements-kept cs)
+
+trees-kept : (cs : List Child) → are_trees cs ≡ are_trees_of (kept_below cs)
+unfolding are_trees_of
+trees-kept [] = refl
+trees-kept (c ∷ cs) = ap (λ b. is_tree c.1 && b) (trees-kept cs)
+
+child_of : Element → List Kept → Option (List Row)
+child_of e [] = None
+child_of e (k ∷ ks) = cond (same_element e k.0) (Some k.1.0) (child_of e ks)
+
+content_of : Option (List Row) → Path → Option Content
+content_of None p = None
+content_of (Some rs) p = content_at rs p
+
+content-kept : (cs : List Child) (e : Element) (p : Path) → content_in (child_at e cs) p ≡ content_of (child_of e (kept_below cs)) p
+unfolding content_of child_of
+content-kept [] e p = refl
+content-kept (c ∷ cs) e p =
+    elim (same_element e (element_view c.0)) as (λ b. content_in (cond b (Some c.1) (child_at e cs)) p ≡ content_of (cond b (Some (rows c.1)) (child_of e (kept_below cs))) p) [ true ↦ refl | false ↦ content-kept cs e p ]
+
+-- children that keep the same have the same rows, elements and contents, and are trees alike
+pub record AreSame (cs ds : List Child) : Type 0 where
+  pub rows_same : rows_below cs ≡ rows_below ds
+  pub elements_same : elements cs ≡ elements ds
+  pub contents_same : (e : Element) (p : Path) → content_in (child_at e cs) p ≡ content_in (child_at e ds) p
+  pub trees_same : are_trees cs ≡ are_trees ds
+
+pub kept-same : (cs ds : List Child) → kept_below cs ≡ kept_below ds → AreSame cs ds
+kept-same cs ds e_same = record {
+  rows_same = rows-kept cs ∙ ap rows_of e_same ∙ sym (rows-kept ds);
+  elements_same = elements-kept cs ∙ ap elements_of e_same ∙ sym (elements-kept ds);
+  contents_same = λ e p. content-kept cs e p ∙ ap (λ ks. content_of (child_of e ks) p) e_same ∙ sym (content-kept ds e p);
+  trees_same = trees-kept cs ∙ ap are_trees_of e_same ∙ sym (trees-kept ds);
+}
+
+pub kept-pair : (n m : Node) → rows n ≡ rows m → is_tree n ≡ is_tree m → kept n ≡ kept m
+kept-pair n m e f = let pairs : ◌≡◌ {A = List Row × Bool} _ _ = λ i. (e i, f i) in pairs
+
+pub kept-rows : (n m : Node) → kept n ≡ kept m → rows n ≡ rows m
+kept-rows n m e = ap (λ (k : List Row × Bool). k.0) e
+
+pub kept-tree : (n m : Node) → kept n ≡ kept m → is_tree n ≡ is_tree m
+kept-tree n m e = ap (λ (k : List Row × Bool). k.1) e
+
+pub rows-Leaf : (l : Leaf) → rows (LeafOf l) ≡ ([], leaf_content l) ∷ []
+rows-Leaf l = search (rules, the_lemmas)
+
+pub tree-Leaf : (l : Leaf) → is_tree (LeafOf l) ≡ true
+tree-Leaf l = search (rules, the_lemmas)
+
+module _ (v w : Children) (n : Node) (e : kept_below v.items ≡ kept_below w.items) where
+  same : AreSame v.items w.items
+  same = kept-same v.items w.items e
+
+  pub kept-Branch : n ≡ Branch w → kept (Branch v) ≡ kept n
+  kept-Branch is =
+      kept-pair (Branch v) (Branch w)
+      ((level-Branch v).rows_are ∙ (λ i. ([], (own-Branch v ∙ sym (own-Branch w)) i) ∷ same.rows_same i) ∙ sym (level-Branch w).rows_are)
+      (tree-Branch v ∙ (λ i. (rises (same.elements_same i) && are_fields (same.elements_same i)) && same.trees_same i) ∙ sym (tree-Branch w))
+      ∙ ap kept (sym is)
+
+  pub kept-Dict : n ≡ Dict w → kept (Dict v) ≡ kept n
+  kept-Dict is =
+      kept-pair (Dict v) (Dict w)
+      ((level-Dict v).rows_are ∙ (λ i. ([], (own-Dict v ∙ sym (own-Dict w)) i) ∷ same.rows_same i) ∙ sym (level-Dict w).rows_are)
+      (tree-Dict v ∙ (λ i. (rises (same.elements_same i) && are_fields (same.elements_same i)) && same.trees_same i) ∙ sym (tree-Dict w))
+      ∙ ap kept (sym is)
+
+  pub kept-List : n ≡ ListOf w → kept (ListOf v) ≡ kept n
+  kept-List is =
+      kept-pair (ListOf v) (ListOf w)
+      ((level-List v).rows_are ∙ (λ i. ([], (own-List v ∙ ap list_branch same.elements_same ∙ sym (own-List w)) i) ∷ same.rows_same i) ∙ sym (level-List w).rows_are)
+      (tree-List v ∙ (λ i. (are_apart (same.elements_same i) && are_items (same.elements_same i)) && same.trees_same i) ∙ sym (tree-List w))
+      ∙ ap kept (sym is)

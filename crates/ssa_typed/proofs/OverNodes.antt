@@ -1,0 +1,294 @@
+-- A node made of the children of one node over those of another.
+use Rattle.std.proofs.Common.{◌≡◌, List, [], ◌∷◌, ◌++◌, Bool, true, false, not, ◌&&◌, cond, Option, Some, refl, sym, ap, ◌∙◌, true≢false, rules}
+use Rattle.std.specs.Prelude.{filter}
+use Rattle.std.specs.List.{list_any}
+use Rattle.ssa_model.specs.Body.{Content, leaf, atom, record_branch, dict_branch, list_branch, joined, over_content, over, is_leaf, order_at}
+use Rattle.ssa_model.specs.Kind.{is_among}
+use Rattle.ssa_model.specs.Path.{Element, same_element, is_item_element}
+use Rattle.ssa_model.proofs.PathMaps.{same_map, get-over}
+use Rattle.ssa_path.specs.Children.{child_at, elements, rises}
+use Rattle.ssa_path.specs.View.{element_view}
+use Rattle.ssa_path.proofs.Orders.{same_element-true, same_element-itself, both, both_first, both_second}
+use Rattle.ssa_typed.specs.Alike.{are_alike, AreAlike}
+use Rattle.ssa_typed.specs.InOrder.{IsInOrder}
+use Rattle.ssa_typed.specs.Over.{AreAlikeTrees, IsOver, AreOver}
+use Rattle.ssa_typed.specs.Points.{content_in}
+use Rattle.ssa_typed.specs.Rows.{body_of, below, below_of, content_of, own_content, leaf_content, is_tree, are_trees, are_apart, are_fields, are_items}
+use Rattle.ssa_typed.specs.declared.node.Leaf.{Leaf}
+use Rattle.ssa_typed.specs.declared.node.Leaf.TheVariants.{Scalar, Atomic}
+use Rattle.ssa_typed.specs.declared.node.Node.{Node, Leaf as LeafOf, Branch, Dict, List as ListOf, the_lemmas}
+use Rattle.ssa_typed.specs.declared.node.Node.TheOpen.{Node-F}
+use Rattle.ssa_typed.specs.declared.node.Node.TheViews.{out-Node, roll-Node, roll-out-Node}
+use Rattle.ssa_typed.proofs.Building.{Child}
+use Rattle.ssa_typed.proofs.Copying.{tree-Leaf}
+use Rattle.ssa_typed.proofs.Levels.{Children, level-below, own-Branch, own-Dict, own-List, tree-Branch, tree-Dict, tree-List, rises-apart}
+use Rattle.ssa_typed.proofs.Looks.{get-body}
+use Rattle.ssa_typed.proofs.Lookups.{child_at-rest, child-tree}
+use Rattle.ssa_typed.proofs.Overlaying.{alike-root, over-apart, over-level, some-none}
+
+-- ---- contents of one sort
+
+is_listing : Content → Bool
+is_listing (list_branch es) = true
+is_listing _ = false
+
+leaf-alike : (c d : Content) → are_alike (Some c) (Some d) ≡ true → is_leaf (Some d) ≡ true → is_leaf (Some c) ≡ true
+leaf-alike (leaf s) d h k = refl
+leaf-alike (atom v) d h k = refl
+leaf-alike record_branch (leaf s) h k = h
+leaf-alike record_branch (atom v) h k = h
+leaf-alike record_branch record_branch h k = k
+leaf-alike record_branch dict_branch h k = k
+leaf-alike record_branch (list_branch es) h k = k
+leaf-alike dict_branch (leaf s) h k = h
+leaf-alike dict_branch (atom v) h k = h
+leaf-alike dict_branch record_branch h k = k
+leaf-alike dict_branch dict_branch h k = k
+leaf-alike dict_branch (list_branch es) h k = k
+leaf-alike (list_branch fs) (leaf s) h k = h
+leaf-alike (list_branch fs) (atom v) h k = h
+leaf-alike (list_branch fs) record_branch h k = k
+leaf-alike (list_branch fs) dict_branch h k = k
+leaf-alike (list_branch fs) (list_branch es) h k = k
+
+list-alike : (c : Content) (es : List Element) → are_alike (Some c) (Some (list_branch es)) ≡ true → is_listing c ≡ true
+unfolding is_listing
+list-alike (leaf s) es h = h
+list-alike (atom v) es h = h
+list-alike record_branch es h = h
+list-alike dict_branch es h = h
+list-alike (list_branch fs) es h = refl
+
+record-alike : (c : Content) → are_alike (Some c) (Some record_branch) ≡ true → is_listing c ≡ false
+unfolding is_listing
+record-alike (leaf s) h = refl
+record-alike (atom v) h = refl
+record-alike record_branch h = refl
+record-alike dict_branch h = refl
+record-alike (list_branch es) h = sym h
+
+dict-alike : (c : Content) → are_alike (Some c) (Some dict_branch) ≡ true → is_listing c ≡ false
+unfolding is_listing
+dict-alike (leaf s) h = refl
+dict-alike (atom v) h = refl
+dict-alike record_branch h = refl
+dict-alike dict_branch h = refl
+dict-alike (list_branch es) h = sym h
+
+-- ---- what stands below a node of each sort
+
+below-leaf : (x : Node-F Node) → is_leaf (Some (content_of x)) ≡ true → below_of x ≡ []
+below-leaf (Node-F.Leaf l) h = refl
+below-leaf (Node-F.Branch v) h = absurd (true≢false (sym h))
+below-leaf (Node-F.Dict v) h = absurd (true≢false (sym h))
+below-leaf (Node-F.List v) h = absurd (true≢false (sym h))
+
+fields-made : (x : Node-F Node) → is_tree (roll-Node x) ≡ true → is_listing (content_of x) ≡ false → are_fields (elements (below_of x)) ≡ true
+unfolding is_listing roll-Node denote.Hole.Carrier.roll
+fields-made (Node-F.Leaf l) h k = refl
+fields-made (Node-F.Branch v) h k = both_second (rises (elements v.items)) _ (both_first _ (are_trees v.items) (sym (tree-Branch v) ∙ h))
+fields-made (Node-F.Dict v) h k = both_second (rises (elements v.items)) _ (both_first _ (are_trees v.items) (sym (tree-Dict v) ∙ h))
+fields-made (Node-F.List v) h k = absurd (true≢false k)
+
+items-made : (x : Node-F Node) → is_tree (roll-Node x) ≡ true → is_listing (content_of x) ≡ true → are_items (elements (below_of x)) ≡ true
+unfolding is_listing roll-Node denote.Hole.Carrier.roll
+items-made (Node-F.Leaf l) h k = refl
+items-made (Node-F.Branch v) h k = absurd (true≢false (sym k))
+items-made (Node-F.Dict v) h k = absurd (true≢false (sym k))
+items-made (Node-F.List v) h k = both_second (are_apart (elements v.items)) _ (both_first _ (are_trees v.items) (sym (tree-List v) ∙ h))
+
+order-made : (x : Node-F Node) → is_listing (content_of x) ≡ true → order_at (Some (content_of x)) ≡ elements (below_of x)
+unfolding is_listing
+order-made (Node-F.Leaf (Scalar s)) k = absurd (true≢false (sym k))
+order-made (Node-F.Leaf (Atomic v)) k = absurd (true≢false (sym k))
+order-made (Node-F.Branch v) k = absurd (true≢false (sym k))
+order-made (Node-F.Dict v) k = absurd (true≢false (sym k))
+order-made (Node-F.List v) k = refl
+
+rolled : (n : Node) → is_tree n ≡ true → is_tree (roll-Node (out-Node n)) ≡ true
+rolled n h = ap is_tree (roll-out-Node n) ∙ h
+
+-- ---- a test that each element passes
+
+all_of : (Element → Bool) → List Element → Bool
+all_of test [] = true
+all_of test (e ∷ es) = test e && all_of test es
+
+abbrev is_field : Element → Bool
+is_field e = not (is_item_element e)
+
+fields-all : (es : List Element) → are_fields es ≡ all_of is_field es
+unfolding all_of
+fields-all [] = refl
+fields-all (e ∷ es) = ap (λ b. is_field e && b) (fields-all es)
+
+items-all : (es : List Element) → are_items es ≡ all_of is_item_element es
+unfolding all_of
+items-all [] = refl
+items-all (e ∷ es) = ap (λ b. is_item_element e && b) (items-all es)
+
+module _ (test : Element → Bool) where
+  all-filter : (q : Element → Bool) (es : List Element) → all_of test es ≡ true → all_of test (filter q es) ≡ true
+  unfolding all_of
+  all-filter q [] h = refl
+  all-filter q (e ∷ es) h =
+      elim (q e) as (λ b. all_of test (cond b (e ∷ filter q es) (filter q es)) ≡ true) [
+        | true ↦ both _ _ (both_first (test e) _ h) (all-filter q es (both_second (test e) _ h))
+        | false ↦ all-filter q es (both_second (test e) _ h)
+      ]
+
+  all-append : (es fs : List Element) → all_of test es ≡ true → all_of test fs ≡ true → all_of test (es ++ fs) ≡ true
+  unfolding all_of
+  all-append [] fs h k = k
+  all-append (e ∷ es) fs h k = both _ _ (both_first (test e) _ h) (all-append es fs (both_second (test e) _ h) k)
+
+  all-joined : (es fs : List Element) → all_of test es ≡ true → all_of test fs ≡ true → all_of test (joined es fs) ≡ true
+  all-joined es fs h k = all-append es (filter (λ f. not (is_among f es)) fs) h (all-filter (λ f. not (is_among f es)) fs k)
+
+  all-child : (cs : List Child) (e : Element) (c : Node) → all_of test (elements cs) ≡ true → child_at e cs ≡ Some c → test e ≡ true
+  unfolding all_of
+  all-child [] e c h found = absurd (some-none c (sym found))
+  all-child (d ∷ cs) e c h found =
+      elim (same_element e (element_view d.0)) as (λ b. same_element e (element_view d.0) ≡ b → cond b (Some d.1) (child_at e cs) ≡ Some c → test e ≡ true) [
+        | true ↦ λ s k. ap test (same_element-true e (element_view d.0) s) ∙ both_first (test (element_view d.0)) _ h
+        | false ↦ λ s k. all-child cs e c (both_second (test (element_view d.0)) _ h) k
+      ] refl found
+
+-- the first child and the later ones are found under their elements
+head-child : (d : Child) (ds : List Child) → child_at (element_view d.0) (d ∷ ds) ≡ Some d.1
+head-child d ds = ap (λ b. cond b (Some d.1) (child_at (element_view d.0) ds)) (same_element-itself (element_view d.0))
+
+later-child : (d : Child) (ds : List Child) (e : Element) (c : Node) → are_apart (elements (d ∷ ds)) ≡ true → child_at e ds ≡ Some c → child_at e (d ∷ ds) ≡ Some c
+later-child d ds e c apart found =
+    elim (same_element e (element_view d.0)) as (λ b. same_element e (element_view d.0) ≡ b → cond b (Some d.1) (child_at e ds) ≡ Some c) [
+      | true ↦ λ s. absurd (some-none c (sym found ∙ child_at-rest e d ds s apart))
+      | false ↦ λ s. found
+    ] refl
+
+later-apart : (d : Child) (ds : List Child) → are_apart (elements (d ∷ ds)) ≡ true → are_apart (elements ds) ≡ true
+later-apart d ds apart = both_second (not (list_any (same_element (element_view d.0)) (elements ds))) _ apart
+
+all-found : (test : Element → Bool) (ds : List Child) → are_apart (elements ds) ≡ true → ((e : Element) (c : Node) → child_at e ds ≡ Some c → test e ≡ true) → all_of test (elements ds) ≡ true
+unfolding all_of
+all-found test [] apart h = refl
+all-found test (d ∷ ds) apart h =
+    both _ _ (h (element_view d.0) d.1 (head-child d ds)) (all-found test ds (later-apart d ds apart) (λ e c found. h e c (later-child d ds e c apart found)))
+
+trees-found : (ds : List Child) → are_apart (elements ds) ≡ true → ((e : Element) (c : Node) → child_at e ds ≡ Some c → is_tree c ≡ true) → are_trees ds ≡ true
+trees-found [] apart h = refl
+trees-found (d ∷ ds) apart h =
+    both _ _ (h (element_view d.0) d.1 (head-child d ds)) (trees-found ds (later-apart d ds apart) (λ e c found. h e c (later-child d ds e c apart found)))
+
+-- ---- children put in order
+
+module _ (cs ds : List Child) (order : IsInOrder cs ds) where
+  order-all : (test : Element → Bool) → all_of test (elements cs) ≡ true → all_of test (elements ds) ≡ true
+  order-all test h = all-found test ds (rises-apart (elements ds) order.rise) (λ e c found. all-child test cs e c h (sym (order.same e) ∙ found))
+
+  order-trees : are_trees cs ≡ true → are_trees ds ≡ true
+  order-trees h = trees-found ds (rises-apart (elements ds) order.rise) (λ e c found. child-tree e cs c h (sym (order.same e) ∙ found))
+
+-- ---- each sort of node
+
+own-Leaf : (l : Leaf) → own_content (LeafOf l) ≡ leaf_content l
+own-Leaf l = search (rules, the_lemmas)
+
+below-Branch : (v : Children) → below (Branch v) ≡ v.items
+below-Branch v = search (rules, the_lemmas)
+
+below-Dict : (v : Children) → below (Dict v) ≡ v.items
+below-Dict v = search (rules, the_lemmas)
+
+below-List : (v : Children) → below (ListOf v) ≡ v.items
+below-List v = search (rules, the_lemmas)
+
+leaf-there : (l : Leaf) → is_leaf (Some (leaf_content l)) ≡ true
+leaf-there (Scalar s) = refl
+leaf-there (Atomic v) = refl
+
+over-leaf : (b : Option Content) (l : Leaf) → over_content b (Some (leaf_content l)) ≡ Some (leaf_content l)
+over-leaf b (Scalar s) = refl
+over-leaf b (Atomic v) = refl
+
+module _ (n m : Node) (live : is_tree n ≡ true) (config : is_tree m ≡ true) (alike : AreAlikeTrees n m) where
+  leaf-below : (x : Node) (l : Leaf) → own_content x ≡ leaf_content l → below x ≡ []
+  leaf-below x l is = below-leaf (out-Node x) (ap (λ c. is_leaf (Some c)) is ∙ leaf-there l)
+
+  no-children : (l : Leaf) → m ≡ LeafOf l → below n ≡ []
+  no-children l is =
+      below-leaf (out-Node n)
+      (leaf-alike (own_content n) (own_content m) (alike-root n m alike) (ap (λ x. is_leaf (Some (own_content x))) is ∙ ap (λ c. is_leaf (Some c)) (own-Leaf l) ∙ leaf-there l))
+
+  pub leaf-over : (k l : Leaf) → m ≡ LeafOf l → leaf_content k ≡ leaf_content l → IsOver n m (LeafOf k)
+  leaf-over k l is same =
+      let none_live = no-children l is in
+      let own_config = ap own_content is ∙ own-Leaf l in
+      let none_config = leaf-below m l own_config in
+      let none : AreOver n m [] = record {
+        elements_are = λ i. joined (elements (sym none_live i)) (elements (sym none_config i));
+        contents = λ e p. λ i. over_content (content_in (child_at e (sym none_live i)) p) (content_in (child_at e (sym none_config i)) p);
+        trees = refl;
+      } in
+      over-level n m (LeafOf k) [] live config (tree-Leaf k)
+      (ap (λ c. Some c) (own-Leaf k ∙ same) ∙ sym (ap (λ c. over_content (Some (own_content n)) (Some c)) own_config ∙ over-leaf (Some (own_content n)) l))
+      (λ e. ap (child_at e) (leaf-below (LeafOf k) k (own-Leaf k))) none
+
+  joined-fields : (cs : List Child) → is_listing (own_content n) ≡ false → is_listing (own_content m) ≡ false → AreOver n m cs → all_of is_field (elements cs) ≡ true
+  joined-fields cs a b h =
+      let es = elements (below n) in
+      let fs = elements (below m) in
+      ap (all_of is_field) h.elements_are
+      ∙ all-joined is_field es fs (sym (fields-all es) ∙ fields-made (out-Node n) (rolled n live) a) (sym (fields-all fs) ∙ fields-made (out-Node m) (rolled m config) b)
+
+  -- children of two nodes, put in the order of their elements
+  stand-named : (cs ds : List Child) → is_listing (own_content n) ≡ false → is_listing (own_content m) ≡ false → AreOver n m cs → IsInOrder cs ds → ((rises (elements ds) && are_fields (elements ds)) && are_trees ds) ≡ true
+  stand-named cs ds a b h order =
+      both _ _ (both _ _ order.rise (fields-all (elements ds) ∙ order-all cs ds order is_field (joined-fields cs a b h))) (order-trees cs ds order h.trees)
+
+  pub apart-over : (cs : List Child) → AreOver n m cs → are_apart (elements cs) ≡ true
+  apart-over cs h = over-apart n m cs ((level-below n).apart live) ((level-below m).apart config) h
+
+  module _ (cs : List Child) (h : AreOver n m cs) where
+    pub record-over : (v w : Children) → m ≡ Branch w → IsInOrder cs v.items → IsOver n m (Branch v)
+    unfolding is_listing
+    record-over v w is order =
+        let own = ap own_content is ∙ own-Branch w in
+        let sort = record-alike (own_content n) (ap (λ c. are_alike (Some (own_content n)) (Some c)) (sym own) ∙ alike-root n m alike) in
+        over-level n m (Branch v) cs live config (tree-Branch v ∙ stand-named cs v.items sort (ap is_listing own) h order)
+        (ap (λ c. Some c) (own-Branch v) ∙ sym (ap (λ c. over_content (Some (own_content n)) (Some c)) own))
+        (λ e. ap (child_at e) (below-Branch v) ∙ order.same e) h
+
+    pub dict-over : (v w : Children) → m ≡ Dict w → IsInOrder cs v.items → IsOver n m (Dict v)
+    unfolding is_listing
+    dict-over v w is order =
+        let own = ap own_content is ∙ own-Dict w in
+        let sort = dict-alike (own_content n) (ap (λ c. are_alike (Some (own_content n)) (Some c)) (sym own) ∙ alike-root n m alike) in
+        over-level n m (Dict v) cs live config (tree-Dict v ∙ stand-named cs v.items sort (ap is_listing own) h order)
+        (ap (λ c. Some c) (own-Dict v) ∙ sym (ap (λ c. over_content (Some (own_content n)) (Some c)) own))
+        (λ e. ap (child_at e) (below-Dict v) ∙ order.same e) h
+
+  pub list-over : (v w : Children) → m ≡ ListOf w → AreOver n m v.items → IsOver n m (ListOf v)
+  unfolding is_listing
+  list-over v w is h =
+      let es = elements (below n) in
+      let fs = elements (below m) in
+      let own = ap own_content is ∙ own-List w in
+      let items = ap elements (ap below is ∙ below-List w) in
+      let sort = list-alike (own_content n) (elements w.items) (ap (λ c. are_alike (Some (own_content n)) (Some c)) (sym own) ∙ alike-root n m alike) in
+      let all_items =
+      items-all (elements v.items) ∙ ap (all_of is_item_element) h.elements_are
+      ∙ all-joined is_item_element es fs (sym (items-all es) ∙ items-made (out-Node n) (rolled n live) sort) (sym (items-all fs) ∙ items-made (out-Node m) (rolled m config) (ap is_listing own)) in
+      over-level n m (ListOf v) v.items live config (tree-List v ∙ both _ _ (both _ _ (apart-over v.items h) all_items) h.trees)
+      (ap (λ c. Some c) (own-List v ∙ ap list_branch (h.elements_are ∙ (λ i. joined (sym (order-made (out-Node n) sort) i) (items i))))
+      ∙ sym (ap (λ c. over_content (Some (own_content n)) (Some c)) own))
+      (λ e. ap (child_at e) (below-List v)) h
+
+-- ---- THE BRIDGE: one body over another
+
+pub over-body : (n m made : Node) → IsOver n m made → body_of made ≡ over (body_of n) (body_of m)
+over-body n m made h =
+    same_map (body_of made) (over (body_of n) (body_of m)) (λ p.
+    get-body made p ∙ h.content p ∙ sym (get-over (body_of n) (body_of m) p ∙ (λ i. over_content (get-body n p i) (get-body m p i))))
+
+pub alike-bodies : (n m : Node) → AreAlike (body_of n) (body_of m) → AreAlikeTrees n m
+alike-bodies n m h p = sym (λ i. are_alike (get-body n p i) (get-body m p i)) ∙ h p

@@ -1,0 +1,83 @@
+use Rattle.std.proofs.Common.{◌<◌, ◌+◌, Some, None, length, sym, ap, subst, ◌∙◌, arith, rules}
+use Rattle.std.proofs.lemmas.List.{take_all}
+use Rattle.ssa_path.specs.Children.{child_at}
+use Rattle.ssa_path.specs.View.{element_view}
+use Rattle.ssa_typed.specs.Copies.{kept_below}
+use Rattle.ssa_typed.specs.Over.{with_new}
+use Rattle.ssa_typed.specs.Rows.{below, rows}
+use Rattle.ssa_typed.proofs.Levels.{level-below}
+use Rattle.ssa_typed.proofs.Lookups.{tree-child}
+use Rattle.ssa_typed.proofs.OverNodes.{apart-over, leaf-over, record-over, dict-over, list-over}
+use Rattle.ssa_typed.proofs.Overlaying.{AreOverEach, alike-child, each-over, each-copied, child-at-index, other-child, children-over}
+use Rattle.ssa_typed.proofs.Sizes.{smaller}
+use Rattle.ssa_typed.proofs.over.+over.Goals.{over_children-in-Some+in_ok-node-in-Some+in_ok-push_child-in-Some, over_children-in-None+in_ok-node-in-None+in_ok-push_child-in-None}
+use Rattle.ssa_typed.proofs.over.+over.Goals as goal
+
+pub over_children-over_node-requires : goal.over_children-over_node-requires
+over_children-over_node-requires t c =
+    let n = c.args.live.now in
+    let m = c.args.config.now in
+    let child = c.child-item.result in
+    let e = element_view child.0 in
+    let lt : c.loop-child.child-index < length c.children-child-items.result.now = omega arith in
+    let own = ap (child_at e) (sym c.children-child-items.ensures.own) ∙ child-at-index c.children-child-items.result.now c.loop-child.child-index child lt c.child-item.is (c.children-child-items.ensures.apart c.requires.live) in
+    let other = other-child m c.children.result.now c.in_ok-others.others.items c.deref.result.now e (Some c.in-Some.other.now) c.children.ensures.own c.deref.ensures.value c.in_ok-others.ensures c.in-Some.ensures in
+    let part = smaller n e child.1 own in
+    let small : length (rows child.1) + length (rows child.1) + 1 < length (rows n) + length (rows n) = omega arith in
+    (search (rules, small), (tree-child n e child.1 c.requires.live own, (tree-child m e c.in-Some.other.now c.requires.config other, alike-child n m e child.1 c.in-Some.other.now c.requires.live c.requires.config own other c.requires.alike)))
+
+pub over_children-loop-child-preserved : goal.over_children-loop-child-preserved
+over_children-loop-child-preserved t c =
+    let n = c.args.live.now in
+    let m = c.args.config.now in
+    let child = c.child-item.result in
+    let e = element_view child.0 in
+    let cs = c.children-child-items.result.now in
+    let xs = c.loop-child.made.items in
+    let i = c.loop-child.child-index in
+    let lt : i < length cs = omega arith in
+    let own = ap (child_at e) (sym c.children-child-items.ensures.own) ∙ child-at-index cs i child lt c.child-item.is (c.children-child-items.ensures.apart c.requires.live) in
+    elim c.match-find_in_order.branch [
+      | over_children-in-Some+in_ok-node-in-Some+in_ok-push_child-in-Some w ↦
+          let found = other-child m c.children.result.now c.in_ok-others.others.items c.deref.result.now e (Some w.in-Some.other.now) c.children.ensures.own c.deref.ensures.value c.in_ok-others.ensures w.in-Some.ensures in
+          rw w.made-is (each-over (below m) cs xs w.push_child.new.children.items i child w.in_ok-node-in-Some.node lt c.child-item.is w.in_ok-push_child-in-Some.ensures c.loop-child.invariant w.in-Some.other.now found w.in_ok-node-in-Some.ensures)
+      | over_children-in-None+in_ok-node-in-None+in_ok-push_child-in-None w ↦
+          let none = other-child m c.children.result.now c.in_ok-others.others.items c.deref.result.now e None c.children.ensures.own c.deref.ensures.value c.in_ok-others.ensures w.in-None.ensures in
+          rw w.made-is (each-copied (below m) cs xs w.push_child-in-None.new.children.items i child w.in_ok-node-in-None.node lt c.child-item.is w.in_ok-push_child-in-None.ensures c.loop-child.invariant none (tree-child n e child.1 c.requires.live own) w.in_ok-node-in-None.ensures)
+    ]
+
+pub over_children-returns : goal.over_children-returns
+over_children-returns t c =
+    let n = c.args.live.now in
+    let m = c.args.config.now in
+    let made = c.loop-child.made.items in
+    let each =
+    subst (λ l. AreOverEach (below m) l made) (take_all c.loop-child.child-index c.children-child-items.result.now c.loop-child-test.false ∙ c.children-child-items.ensures.own) c.loop-child.invariant in
+    children-over n m made c.push_new.new.made.items each ((level-below m).trees c.requires.config)
+    (c.in_ok-push_new.ensures ∙ (λ i. kept_below (with_new made (c.children-2.ensures.own i) (c.children-3.ensures.own i))))
+
+pub over_node-sort_children-requires : goal.over_node-sort_children-requires
+over_node-sort_children-requires t c =
+    apart-over c.args.live.now c.args.config.now c.requires.live c.requires.config c.requires.alike c.in_ok-children-in-Branch.children.items c.in_ok-children-in-Branch.ensures
+
+pub over_node-sort_children-requires-in-Dict : goal.over_node-sort_children-requires-in-Dict
+over_node-sort_children-requires-in-Dict t c =
+    apart-over c.args.live.now c.args.config.now c.requires.live c.requires.config c.requires.alike c.in_ok-children-in-Dict.children.items c.in_ok-children-in-Dict.ensures
+
+pub over_node-returns-in_ok-copy-in-Leaf : goal.over_node-returns-in_ok-copy-in-Leaf
+over_node-returns-in_ok-copy-in-Leaf t c =
+    leaf-over c.args.live.now c.args.config.now c.requires.live c.requires.config c.requires.alike c.in_ok-copy-in-Leaf.field-0 c.in-Leaf.leaf c.in-Leaf.is c.in_ok-copy-in-Leaf.ensures
+
+pub over_node-returns-in_ok-sort_children-in-Branch : goal.over_node-returns-in_ok-sort_children-in-Branch
+over_node-returns-in_ok-sort_children-in-Branch t c =
+    record-over c.args.live.now c.args.config.now c.requires.live c.requires.config c.requires.alike c.in_ok-children-in-Branch.children.items c.in_ok-children-in-Branch.ensures
+    c.sort_children.new.children c.in-Branch.field-0 c.in-Branch.is c.in_ok-sort_children-in-Branch.ensures
+
+pub over_node-returns-in_ok-sort_children-in-Dict : goal.over_node-returns-in_ok-sort_children-in-Dict
+over_node-returns-in_ok-sort_children-in-Dict t c =
+    dict-over c.args.live.now c.args.config.now c.requires.live c.requires.config c.requires.alike c.in_ok-children-in-Dict.children.items c.in_ok-children-in-Dict.ensures
+    c.sort_children-in-Dict.new.children c.in-Dict.field-0 c.in-Dict.is c.in_ok-sort_children-in-Dict.ensures
+
+pub over_node-returns-in_ok-over_children-in-List : goal.over_node-returns-in_ok-over_children-in-List
+over_node-returns-in_ok-over_children-in-List t c =
+    list-over c.args.live.now c.args.config.now c.requires.live c.requires.config c.requires.alike c.in_ok-over_children-in-List.field-0 c.in-List.field-0 c.in-List.is c.in_ok-over_children-in-List.ensures

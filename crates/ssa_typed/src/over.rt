@@ -1,0 +1,99 @@
+//! A configuration over a live tree.
+ghost use Rattle.std.specs.Prelude.{◌≡◌, true, IfOk, OnOk};
+ghost use Rattle.ssa_path.specs.Children.{elements};
+ghost use Rattle.ssa_path.specs.View.{element_view};
+ghost use Rattle.ssa_typed.specs.Copies.{kept_below};
+ghost use Rattle.ssa_typed.specs.Over.{with_new, AreAlikeTrees, AreOver, IsOver, IsPushed};
+ghost use Rattle.ssa_typed.specs.Rows.{are_apart, is_tree};
+
+use crate::in_order::{find_in_order, in_order, sort_children};
+use crate::node::Node;
+use ssa_path::element::Elem;
+use std::alloc::{AllocError, Global};
+
+// Puts a child under an element behind the others.
+fn push_child(
+    alloc: Global,
+    children: &mut Vec<(Elem, Node)>,
+    element: &Elem,
+    child: Node,
+) -> Result<(), AllocError>
+    ensures { OnOk result (IsPushed (element_view element.now) child children.old.items children.new.items) }
+{
+    let own = element.copy(alloc)?;
+    children.push((own, child))?;
+    Ok(())
+}
+
+// Puts copies of the configuration's children behind those that are made, where the live ones lack
+// them.
+fn push_new(
+    alloc: Global,
+    made: &mut Vec<(Elem, Node)>,
+    live: &[(Elem, Node)],
+    config: &[(Elem, Node)],
+) -> Result<(), AllocError>
+    requires { are_apart (elements live.now) ≡ true }
+    ensures { OnOk result (kept_below made.new.items ≡ kept_below (with_new made.old.items live.now config.now)) }
+{
+    let own = in_order(alloc, live)?;
+    for child in config {
+        if find_in_order(&own, &child.0).is_none() {
+            let copy = child.1.copy(alloc)?;
+            push_child(alloc, made, &child.0, copy)?;
+        }
+    }
+    Ok(())
+}
+
+// The live children in their order, each over the configuration's child of its element, and behind
+// them what the configuration alone has, in its order.
+#[cycle(over)]
+fn over_children(alloc: Global, live: &Node, config: &Node) -> Result<Vec<(Elem, Node)>, AllocError>
+    requires live { is_tree live.now ≡ true }
+    requires config { is_tree config.now ≡ true }
+    requires alike { AreAlikeTrees live.now config.now }
+    ensures { IfOk result (λ v. AreOver live.now config.now v.items) }
+{
+    let others = in_order(alloc, config.children())?;
+    let mut made = Vec::new(alloc);
+    for child in live.children() {
+        match find_in_order(&others, &child.0) {
+            Some(other) => {
+                let node = over_node(alloc, &child.1, other)?;
+                push_child(alloc, &mut made, &child.0, node)?;
+            }
+            None => {
+                let node = child.1.copy(alloc)?;
+                push_child(alloc, &mut made, &child.0, node)?;
+            }
+        }
+    }
+    push_new(alloc, &mut made, live.children(), config.children())?;
+    Ok(made)
+}
+
+// The configuration's tree over the live one: its content at each place that it has, else the live
+// tree's.
+#[cycle(over)]
+pub(crate) fn over_node(alloc: Global, live: &Node, config: &Node) -> Result<Node, AllocError>
+    requires live { is_tree live.now ≡ true }
+    requires config { is_tree config.now ≡ true }
+    requires alike { AreAlikeTrees live.now config.now }
+    ensures { IfOk result (λ n. IsOver live.now config.now n) }
+{
+    match config {
+        Node::Leaf(leaf) => Ok(Node::Leaf(leaf.copy(alloc)?)),
+        Node::Branch(_) => {
+            let mut children = over_children(alloc, live, config)?;
+            sort_children(&mut children)?;
+            Ok(Node::Branch(children))
+        }
+        Node::Dict(_) => {
+            let mut children = over_children(alloc, live, config)?;
+            sort_children(&mut children)?;
+            Ok(Node::Dict(children))
+        }
+        Node::List(_) => Ok(Node::List(over_children(alloc, live, config)?)),
+    }
+}
