@@ -14,3 +14,4 @@ pub mod Sizes
 pub mod Sorting
 pub mod Stands
 pub mod Trees
+pub mod Values

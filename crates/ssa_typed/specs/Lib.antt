@@ -5,3 +5,4 @@ pub mod Look
 pub mod Points
 pub mod Reads
 pub mod Rows
+pub mod Values
