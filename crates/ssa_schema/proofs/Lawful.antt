@@ -1,5 +1,5 @@
 -- The kinds of schemas without faults: objects with fields at the root, and key fields in each map list.
-use Rattle.std.proofs.Common.{◌≡◌, ℕ, zero, suc, List, [], ◌∷◌, ◌++◌, Bool, true, false, not, ◌&&◌, ◌||◌, refl, sym, ap, ◌∙◌, subst, true≢false}
+use Rattle.std.proofs.Common.{◌≡◌, ℕ, zero, suc, List, [], ◌∷◌, ◌++◌, Bool, true, false, not, ◌&&◌, ◌||◌, refl, sym, ap, ◌∙◌, true≢false}
 use Rattle.std.specs.Prelude.{Option, None, Some, Result, Ok, Err, option_and_then, is_some, codes, if◌then◌else◌}
 use Rattle.std.specs.declared.cmp.Ordering.{Ordering}
 use Rattle.std.specs.declared.cmp.Ordering.TheVariants.{Less, Equal, Greater}
@@ -48,7 +48,7 @@ and_of_true : (a b : Bool) → a ≡ true → (a && b) ≡ false → b ≡ false
 and_of_true true b t e = e
 and_of_true false b t e = absurd (true≢false (sym t))
 
-both : (a b : Bool) → a ≡ true → b ≡ true → (a && b) ≡ true
+pub both : (a b : Bool) → a ≡ true → b ≡ true → (a && b) ≡ true
 both true b t e = e
 both false b t e = absurd (true≢false (sym t))
 
@@ -81,7 +81,7 @@ below-of n (m ∷ ms) h = both_left _ _ h
     both_left true b e = refl
     both_left false b e = e
 
-and_second : (a b : Bool) → (a && b) ≡ true → b ≡ true
+pub and_second : (a b : Bool) → (a && b) ≡ true → b ≡ true
 and_second true b e = e
 and_second false b e = absurd (true≢false (sym e))
 
@@ -356,7 +356,7 @@ put_field-keyed fs n k m j Less own other rest more = both _ _ own (both _ _ oth
 put_field-keyed fs n k m j Equal own other rest more = both _ _ own rest
 put_field-keyed fs n k m j Greater own other rest more = both _ _ other more
 
-and_first : (a b : Bool) → (a && b) ≡ true → a ≡ true
+pub and_first : (a b : Bool) → (a && b) ≡ true → a ≡ true
 and_first true b e = refl
 and_first false b e = e
 

@@ -3,7 +3,7 @@ use Rattle.std.specs.Prelude.{List, [], ◌∷◌, Bool, true, false, ◌&&◌}
 use Rattle.std.specs.Ordering.{is_lt, nat_cmp}
 use Rattle.std.specs.Cmp.Lexicographic.{slice_cmp}
 use Rattle.ssa_model.specs.Json.{Text}
-use Rattle.ssa_model.specs.Kind.{Kind, Fields, scalar_kind, atomic_of, record_of, dict_of, set_of, items_of, no_fields, kind_field}
+use Rattle.ssa_model.specs.Kind.{Kind, Fields, record_of, dict_of, items_of, no_fields, kind_field}
 
 -- each name stands behind the one before it, the first behind this one
 abbrev pub names_rise_after : Text → List Text → Bool
@@ -26,6 +26,23 @@ abbrev mutual
   pub are_keyed : Fields → Bool
   are_keyed no_fields = true
   are_keyed (kind_field n k fs) = is_keyed k && are_keyed fs
+
+-- the name is before all of the fields' names
+abbrev pub is_before_all : Text → Fields → Bool
+is_before_all n no_fields = true
+is_before_all n (kind_field m k fs) = is_lt (slice_cmp nat_cmp n m) && is_before_all n fs
+
+-- the names of the fields rise, at each level
+abbrev mutual
+  pub is_ordered : Kind → Bool
+  is_ordered (record_of fs) = are_ordered fs
+  is_ordered (dict_of k) = is_ordered k
+  is_ordered (items_of names fs) = are_ordered fs
+  is_ordered _ = true
+
+  pub are_ordered : Fields → Bool
+  are_ordered no_fields = true
+  are_ordered (kind_field n k fs) = is_before_all n fs && (is_ordered k && are_ordered fs)
 
 abbrev pub is_record : Kind → Bool
 is_record (record_of fs) = true

@@ -4,7 +4,7 @@ ghost use Rattle.ssa_model.specs.Kind.{faults};
 ghost use Rattle.ssa_model.specs.Schema.{read_schema, whole_profile};
 ghost use Rattle.ssa_json.specs.View.{view};
 ghost use Rattle.ssa_schema.specs.Kinds.{kind_view};
-ghost use Rattle.ssa_schema.specs.Lawful.{is_root_kind};
+ghost use Rattle.ssa_schema.specs.Lawful.{is_ordered, is_root_kind};
 ghost use Rattle.ssa_schema.specs.Refusals.{first_of};
 ghost use Rattle.ssa_schema.specs.Finds.{told, told_view};
 ghost use Rattle.ssa_schema.specs.Schemas.{schema_reading, fault_of, ReadsKind, ReadsSchema};
@@ -49,9 +49,9 @@ impl Model for Schema {
     ghost view = { λ s. (json_view.view s.json, kinds.kind_view s.kind) };
 
     ghost use Rattle.std.specs.Prelude.{◌≡◌, true};
-    ghost use Rattle.ssa_schema.specs.Lawful.{is_root_kind};
+    ghost use Rattle.ssa_schema.specs.Lawful.{is_ordered, is_root_kind};
 
-    ghost invariant = { λ s. is_root_kind (kinds.kind_view s.kind) ≡ true };
+    ghost invariant = { λ s. (is_root_kind (kinds.kind_view s.kind) ≡ true) × (is_ordered (kinds.kind_view s.kind) ≡ true) };
 }
 
 // The fault that a refusal is.
@@ -68,7 +68,8 @@ fn fault_of(refusal: Refusal) -> SchemaFault
 
 // The kind of the root, or why there is none.
 fn read_kind(alloc: Global, schema: &Json) -> Result<Kind, SchemaFault>
-    ensures { ReadsKind result (schema_reading (view schema.now)) }
+    ensures kind { ReadsKind result (schema_reading (view schema.now)) }
+    ensures ordered { IfOk result (λ k. is_ordered (kind_view k) ≡ true) }
 {
     if let Some(refusal) = first_refusal(alloc, schema, LEVELS, Standing::Root)? {
         return Err(fault_of(refusal));
@@ -101,13 +102,16 @@ impl Schema {
     }
 
     /// The kind of the root: what may stand at each place of an object without its identity. It is
-    /// an object with fields, and each map list in it has key fields.
+    /// an object with fields, whose names rise at each level, and each map list in it has key
+    /// fields.
     pub fn kind(&self) -> &Kind
         ensures same { kind_view result.now ≡ self.now.1 }
         ensures root { is_root_kind self.now.1 ≡ true }
+        ensures ordered { is_ordered self.now.1 ≡ true }
     {
         &self.kind
     }
+
     /// The first fault of a value under the schema, none where it fits.
     ///
     /// The members of an object are looked at in the order of their names' bytes and the items of a

@@ -20,3 +20,4 @@ pub mod Sizes
 pub mod Sorting
 pub mod Stands
 pub mod Trees
+pub mod Values

@@ -8,3 +8,4 @@ pub mod Over
 pub mod Points
 pub mod Reads
 pub mod Rows
+pub mod Values

@@ -1,8 +1,9 @@
 //! The kinds of schemas.
-ghost use Rattle.std.specs.Prelude.{◌≡◌, IfOk};
+ghost use Rattle.std.specs.Prelude.{◌≡◌, true, IfOk};
 ghost use Rattle.ssa_model.specs.Schema.{scalar_kind_of, kind_fields, property_members, item_members};
 ghost use Rattle.ssa_json.specs.View.{view, members_view};
 ghost use Rattle.ssa_schema.specs.Kinds.{scalar_kind_view, kind_view, fields_view};
+ghost use Rattle.ssa_schema.specs.Lawful.{is_ordered, are_ordered};
 ghost use Rattle.ssa_schema.specs.Builds.{kind_at, merged_kind, list_kind_at, fields_kind_at};
 
 use crate::kind::{Kind, ScalarKind};
@@ -17,7 +18,8 @@ use std::collections::BTreeMap;
 /// The kind that a schema asks for, where so many levels are left.
 #[cycle(kinds)]
 pub fn kind_of(alloc: Global, schema: &Json, levels: usize) -> Result<Kind, AllocError>
-    ensures { IfOk result (λ k. kind_view k ≡ kind_at levels (view schema.now)) }
+    ensures kind { IfOk result (λ k. kind_view k ≡ kind_at levels (view schema.now)) }
+    ensures ordered { IfOk result (λ k. is_ordered (kind_view k) ≡ true) }
 {
     if levels == 0 {
         return Ok(Kind::Record(BTreeMap::new(alloc)));
@@ -42,7 +44,8 @@ fn kind_of_object(
     members: &BTreeMap<String, Json>,
     levels: usize,
 ) -> Result<Kind, AllocError>
-    ensures { IfOk result (λ k. kind_view k ≡ merged_kind levels (members_view members.now.entries)) }
+    ensures kind { IfOk result (λ k. kind_view k ≡ merged_kind levels (members_view members.now.entries)) }
+    ensures ordered { IfOk result (λ k. is_ordered (kind_view k) ≡ true) }
 {
     if is_array_type(members) {
         list_kind(alloc, members, levels)
@@ -70,7 +73,8 @@ fn list_kind(
     members: &BTreeMap<String, Json>,
     levels: usize,
 ) -> Result<Kind, AllocError>
-    ensures { IfOk result (λ k. kind_view k ≡ list_kind_at levels (members_view members.now.entries)) }
+    ensures kind { IfOk result (λ k. kind_view k ≡ list_kind_at levels (members_view members.now.entries)) }
+    ensures ordered { IfOk result (λ k. is_ordered (kind_view k) ≡ true) }
 {
     if list_type_is(members, "set") {
         return Ok(Kind::SetOf(item_scalar_kind(members)));
@@ -87,7 +91,8 @@ fn item_kinds(
     members: &BTreeMap<String, Json>,
     levels: usize,
 ) -> Result<BTreeMap<String, Kind>, AllocError>
-    ensures { IfOk result (λ m. fields_view m.entries ≡ kind_fields (kind_at levels) (property_members (item_members (members_view members.now.entries)))) }
+    ensures kind { IfOk result (λ m. fields_view m.entries ≡ kind_fields (kind_at levels) (property_members (item_members (members_view members.now.entries)))) }
+    ensures ordered { IfOk result (λ m. are_ordered (fields_view m.entries) ≡ true) }
 {
     match item_members(members) {
         Some(items) => property_kinds(alloc, items, levels),
@@ -102,7 +107,8 @@ fn fields_kind(
     members: &BTreeMap<String, Json>,
     levels: usize,
 ) -> Result<Kind, AllocError>
-    ensures { IfOk result (λ k. kind_view k ≡ fields_kind_at levels (members_view members.now.entries)) }
+    ensures kind { IfOk result (λ k. kind_view k ≡ fields_kind_at levels (members_view members.now.entries)) }
+    ensures ordered { IfOk result (λ k. is_ordered (kind_view k) ≡ true) }
 {
     match find_member(members, "additionalProperties") {
         Some(any) => {
@@ -120,7 +126,8 @@ fn property_kinds(
     members: &BTreeMap<String, Json>,
     levels: usize,
 ) -> Result<BTreeMap<String, Kind>, AllocError>
-    ensures { IfOk result (λ m. fields_view m.entries ≡ kind_fields (kind_at levels) (property_members (members_view members.now.entries))) }
+    ensures kind { IfOk result (λ m. fields_view m.entries ≡ kind_fields (kind_at levels) (property_members (members_view members.now.entries))) }
+    ensures ordered { IfOk result (λ m. are_ordered (fields_view m.entries) ≡ true) }
 {
     match property_members(members) {
         Some(properties) => kinds_of(alloc, properties, levels),
@@ -135,7 +142,8 @@ fn kinds_of(
     schemas: &BTreeMap<String, Json>,
     levels: usize,
 ) -> Result<BTreeMap<String, Kind>, AllocError>
-    ensures { IfOk result (λ m. fields_view m.entries ≡ kind_fields (kind_at levels) (members_view schemas.now.entries)) }
+    ensures kind { IfOk result (λ m. fields_view m.entries ≡ kind_fields (kind_at levels) (members_view schemas.now.entries)) }
+    ensures ordered { IfOk result (λ m. are_ordered (fields_view m.entries) ≡ true) }
 {
     let mut found = BTreeMap::new(alloc);
     for (name, schema) in schemas.iter() {

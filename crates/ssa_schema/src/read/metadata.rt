@@ -1,8 +1,9 @@
 //! The fields that each object has beside those of its schema.
-ghost use Rattle.std.specs.Prelude.{◌≡◌, IfOk};
+ghost use Rattle.std.specs.Prelude.{◌≡◌, true, IfOk};
 ghost use Rattle.ssa_model.specs.Kind as model;
 ghost use Rattle.ssa_model.specs.Schema.{with_field, with_metadata, whole_profile};
 ghost use Rattle.ssa_schema.specs.Kinds.{kind_view, fields_view};
+ghost use Rattle.ssa_schema.specs.Lawful.{is_ordered, are_ordered};
 
 use crate::kind::{Kind, ScalarKind};
 use std::alloc::{AllocError, Global};
@@ -22,7 +23,8 @@ fn with_field(
     name: &str,
     kind: Kind,
 ) -> Result<BTreeMap<String, Kind>, AllocError>
-    ensures { IfOk result (λ m. fields_view m.entries ≡ with_field name.now (kind_view kind) (fields_view fields.entries)) }
+    ensures fields { IfOk result (λ m. fields_view m.entries ≡ with_field name.now (kind_view kind) (fields_view fields.entries)) }
+    ensures ordered { IfOk result (λ m. is_ordered (kind_view kind) ≡ true → are_ordered (fields_view fields.entries) ≡ true → are_ordered (fields_view m.entries) ≡ true) }
 {
     let mut made = fields;
     let key = String::from_str(alloc, name)?;
@@ -43,7 +45,8 @@ fn metadata_fields(alloc: Global) -> Result<BTreeMap<String, Kind>, AllocError>
 
 /// The kind of the root, with the field `metadata` where it is an object with fields.
 pub fn with_metadata(alloc: Global, kind: Kind) -> Result<Kind, AllocError>
-    ensures { IfOk result (λ k. kind_view k ≡ with_metadata whole_profile.metadata (kind_view kind)) }
+    ensures kind { IfOk result (λ k. kind_view k ≡ with_metadata whole_profile.metadata (kind_view kind)) }
+    ensures ordered { IfOk result (λ k. is_ordered (kind_view kind) ≡ true → is_ordered (kind_view k) ≡ true) }
 {
     match kind {
         Kind::Record(fields) => {

@@ -7,13 +7,13 @@ use Rattle.ssa_schema.specs.Schemas.{schema_reading, Faults}
 use Rattle.ssa_schema.proofs.Reading.{reading-none, Faults-refusal}
 use Rattle.ssa_schema.proofs.schema.read_kind.Goals as goal
 
-pub returns-in-Some : goal.returns-in-Some
-returns-in-Some c =
+pub returns-in-Some-clause-kind : goal.returns-in-Some-clause-kind
+returns-in-Some-clause-kind c =
     let v = view c.args.schema.now in
     subst (λ f. Faults f (schema_reading v)) (sym c.fault_of.ensures) (Faults-refusal c.in-Some.refusal v (ap (option_map refusal_view) (sym c.in-Some.is) ∙ c.in_ok-refusal.ensures))
 
-pub returns : goal.returns
-returns c =
+pub returns-clause-kind : goal.returns-clause-kind
+returns-clause-kind c =
     reading-none (view c.args.schema.now) (ap (option_map refusal_view) (sym c.in_default.is) ∙ c.in_ok-refusal.ensures)
-    ∙ ap (λ k. Ok (with_metadata whole_profile.metadata k)) (sym c.in_ok-kind.ensures)
-    ∙ ap Ok (sym c.in_ok-with_metadata.ensures)
+    ∙ ap (λ k. Ok (with_metadata whole_profile.metadata k)) (sym c.in_ok-kind.ensures.kind)
+    ∙ ap Ok (sym c.in_ok-with_metadata.ensures.kind)

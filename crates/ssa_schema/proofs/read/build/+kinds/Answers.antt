@@ -1,8 +1,9 @@
-use Rattle.std.proofs.Common.{◌≡◌, suc, ◌-◌, arith, [], ◌∷◌, ◌++◌, map, string_bytes, string_cmp, sym, ap, ◌∙◌, subst, append_assoc, append-nil}
+use Rattle.std.proofs.Common.{◌≡◌, suc, ◌-◌, arith, [], ◌∷◌, ◌++◌, map, string_bytes, string_cmp, true, sym, ap, ◌∙◌, subst, append_assoc, append-nil}
 use Rattle.std.specs.List.Sorted.{IsStrictlySortedBy}
 use Rattle.std.specs.Map.{keys_of}
 use Rattle.ssa_json.proofs.Converting.{Found}
 use Rattle.ssa_schema.specs.Kinds.{kind_view}
+use Rattle.ssa_schema.proofs.Ordered.{all_ordered, fields-ordered, ordered-insert}
 use Rattle.ssa_schema.proofs.Made.{asked, made-more}
 use Rattle.ssa_schema.proofs.Kinding.{fields-made, kind_view-none, kind_view-AtomicOf, kind_at_atomic, kind_at_none, kind_at_object, kind_at_list, kind_at_scalar}
 use Rattle.std.proofs.lemmas.Result.{IfOk-weaker}
@@ -26,24 +27,29 @@ kinds_of-loop-name-preserved t c =
     record {
       done = done ++ e ∷ [];
       split = all ∙ sym (append_assoc done (e ∷ []) left);
-      same = made-more kind_view (kind_at n) done e left l.found.entries c.insert.new.self.entries c.in_ok-key.key c.in_ok-kind_of.field-0 (subst (λ es. IsStrictlySortedBy string_cmp (keys_of es)) all c.iter-name-items.ensures.ordered) l.invariant.same c.in_ok-insert.ensures.entries key c.in_ok-kind_of.ensures;
+      same = made-more kind_view (kind_at n) done e left l.found.entries c.insert.new.self.entries c.in_ok-key.key c.in_ok-kind_of.field-0 (subst (λ es. IsStrictlySortedBy string_cmp (keys_of es)) all c.iter-name-items.ensures.ordered) l.invariant.same c.in_ok-insert.ensures.entries key c.in_ok-kind_of.ensures.kind;
+      sorted = c.insert.ensures.ordered;
+      ordered = subst (λ fs. all_ordered fs ≡ true) (sym c.in_ok-insert.ensures.entries) (ordered-insert c.in_ok-key.key c.in_ok-kind_of.field-0 l.found.entries c.in_ok-kind_of.ensures.ordered l.invariant.ordered);
     }
 
-pub kinds_of-returns : goal.kinds_of-returns
-kinds_of-returns t c =
+pub kinds_of-returns-clause-kind : goal.kinds_of-returns-clause-kind
+kinds_of-returns-clause-kind t c =
     let l = c.loop-name in
     let n = c.args.levels in
     let all : l.invariant.done ≡ c.args.schemas.now.entries = sym (append-nil l.invariant.done) ∙ ap (λ es. l.invariant.done ++ es) (sym c.in-None.ensures.steps.0) ∙ sym l.invariant.split in
     fields-made n l.found.entries c.args.schemas.now.entries (l.invariant.same ∙ ap (map (asked (kind_at n))) all)
 
-pub kind_of-returns-then-levels-eq0 : goal.kind_of-returns-then-levels-eq0
-kind_of-returns-then-levels-eq0 t c =
+pub kinds_of-returns-clause-ordered : goal.kinds_of-returns-clause-ordered
+kinds_of-returns-clause-ordered t c = fields-ordered c.loop-name.found.entries c.loop-name.invariant.sorted c.loop-name.invariant.ordered
+
+pub kind_of-returns-then-levels-eq0-clause-kind : goal.kind_of-returns-then-levels-eq0-clause-kind
+kind_of-returns-then-levels-eq0-clause-kind t c =
     let none : c.args.levels ≡ 0 = omega arith in
     let v = view c.args.schema.now in
     kind_view-none c.new.result c.new.ensures.empty ∙ sym (kind_at_none v) ∙ ap (λ n. kind_at n v) (sym none)
 
-pub kind_of-returns-in_ok-shape_of-in-Object : goal.kind_of-returns-in_ok-shape_of-in-Object
-kind_of-returns-in_ok-shape_of-in-Object t c =
+pub kind_of-returns-in_ok-shape_of-in-Object-clause-kind : goal.kind_of-returns-in_ok-shape_of-in-Object-clause-kind
+kind_of-returns-in_ok-shape_of-in-Object-clause-kind t c =
     let ms = members_view c.in-Object.members.entries in
     let below = c.args.levels - 1 in
     let more : c.args.levels ≡ suc below = omega arith in
@@ -54,25 +60,25 @@ kind_of-returns-in_ok-shape_of-in-Object t c =
     ∙ sym (kind_at_atomic below ms (sym c.is_atomic.ensures ∙ c.if-is_atomic.true))
     ∙ sym (λ i. kind_at (more i) (seen i))
 
-pub kind_of-returns-else-is_atomic : goal.kind_of-returns-else-is_atomic
-kind_of-returns-else-is_atomic t c =
+pub kind_of-returns-else-is_atomic-clause-kind : goal.kind_of-returns-else-is_atomic-clause-kind
+kind_of-returns-else-is_atomic-clause-kind t c =
     let more : suc (c.args.levels - 1) ≡ c.args.levels = omega arith in
     IfOk-weaker c.kind_of_object.result _ _
     (λ k made. made ∙ sym (kind_at_object (c.args.levels - 1) (members_view c.in-Object.members.entries) (sym c.is_atomic.ensures ∙ c.if-is_atomic.false))
     ∙ (λ i. kind_at (more i) (sym (view-Object c.in-Object.members) i))
     ∙ ap (λ v. kind_at c.args.levels (view v)) (sym c.in-Object.is))
-    c.kind_of_object.ensures
+    c.kind_of_object.ensures.kind
 
-pub kind_of-returns-in-List : goal.kind_of-returns-in-List
-kind_of-returns-in-List t c =
+pub kind_of-returns-in-List-clause-kind : goal.kind_of-returns-in-List-clause-kind
+kind_of-returns-in-List-clause-kind t c =
     let more : suc (c.args.levels - 1) ≡ c.args.levels = omega arith in
     kind_view-none c.new-in-List.result c.new-in-List.ensures.empty
     ∙ sym (kind_at_list (c.args.levels - 1) (items_view c.in-List.field-0.items))
     ∙ (λ i. kind_at (more i) (sym (view-List c.in-List.field-0) i))
     ∙ ap (λ v. kind_at c.args.levels (view v)) (sym c.in-List.is)
 
-pub kind_of-returns-in-Scalar : goal.kind_of-returns-in-Scalar
-kind_of-returns-in-Scalar t c =
+pub kind_of-returns-in-Scalar-clause-kind : goal.kind_of-returns-in-Scalar-clause-kind
+kind_of-returns-in-Scalar-clause-kind t c =
     let more : suc (c.args.levels - 1) ≡ c.args.levels = omega arith in
     kind_view-none c.new-in-Scalar.result c.new-in-Scalar.ensures.empty
     ∙ sym (kind_at_scalar (c.args.levels - 1) (scalar_view c.in-Scalar.field-0))

@@ -1,8 +1,11 @@
-use Rattle.std.proofs.Common.{◌≡◌, List, ◌++◌, ◌+◌, ◌*◌, map}
+use Rattle.std.proofs.Common.{◌≡◌, List, ◌++◌, ◌+◌, ◌*◌, map, string_cmp, true}
+use Rattle.std.specs.List.Sorted.{IsStrictlySortedBy}
+use Rattle.std.specs.Map.{keys_of}
 use Rattle.ssa_json.proofs.Converting.{Found}
 use Rattle.ssa_schema.specs.Kinds.{kind_view}
 use Rattle.ssa_schema.specs.Builds.{kind_at}
 use Rattle.ssa_schema.proofs.Made.{named, asked}
+use Rattle.ssa_schema.proofs.Ordered.{all_ordered}
 use Rattle.ssa_schema.proofs.read.build.+kinds.Given as goal
 
 abbrev pub decreases-kind_of : goal.decreases-kind_of
@@ -32,4 +35,6 @@ invariant-kinds_of-loop-name l = record {
   done : List Found;
   split : l.schemas.entries ≡ done ++ l.name-iterator;
   same : map (named kind_view) l.found.entries ≡ map (asked (kind_at l.levels)) done;
+  sorted : IsStrictlySortedBy string_cmp (keys_of l.found.entries);
+  ordered : all_ordered l.found.entries ≡ true;
 }

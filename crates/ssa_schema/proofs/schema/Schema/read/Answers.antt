@@ -7,10 +7,10 @@ use Rattle.ssa_schema.proofs.Reading.{reading_is}
 use Rattle.ssa_schema.proofs.schema.Schema.read.Goals as goal
 
 pub returns-in-Ok : goal.returns-in-Ok
-returns-in-Ok c = (refl, reading_is (view c.args.schema) ∙ c.in-Ok.ensures)
+returns-in-Ok c = (refl, reading_is (view c.args.schema) ∙ c.in-Ok.ensures.kind)
 
 pub returns-in-Err : goal.returns-in-Err
-returns-in-Err c = subst (λ r. Faults c.in-Err.fault r) (sym (reading_is (view c.args.schema))) c.in-Err.ensures
+returns-in-Err c = subst (λ r. Faults c.in-Err.fault r) (sym (reading_is (view c.args.schema))) c.in-Err.ensures.kind
 
 pub invariant_of-result : goal.invariant_of-result
-invariant_of-result c = read-root (view c.args.schema) (kind_view c.in-Ok.kind) (reading_is (view c.args.schema) ∙ c.in-Ok.ensures)
+invariant_of-result c = (read-root (view c.args.schema) (kind_view c.in-Ok.kind) (reading_is (view c.args.schema) ∙ c.in-Ok.ensures.kind), c.in-Ok.ensures.ordered)
