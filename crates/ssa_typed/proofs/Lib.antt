@@ -10,6 +10,9 @@ pub mod Looks
 pub mod Lookups
 pub mod Making
 pub mod References
+pub mod SameMembers
+pub mod ShownMembers
+pub mod Showing
 pub mod Sizes
 pub mod Sorting
 pub mod Stands
