@@ -16,6 +16,9 @@ pub mod Making
 pub mod OverNodes
 pub mod Overlaying
 pub mod References
+pub mod SameMembers
+pub mod ShownMembers
+pub mod Showing
 pub mod Sizes
 pub mod Sorting
 pub mod Stands

@@ -1,7 +1,12 @@
 //! Bodies, seen as finite maps from whole paths to contents.
-ghost use Rattle.std.specs.Prelude.{◌≡◌, ◌-◌, ◌^◌, true, min, option_map, IfOk};
+ghost use Rattle.std.specs.Prelude.{◌≡◌, [], ◌-◌, ◌^◌, true, min, option_map, IfOk};
 ghost use Rattle.ssa_model.specs.Body.{over, points};
+ghost use Rattle.ssa_model.specs.Fitting.{IsBodyOf};
+ghost use Rattle.ssa_model.specs.Kind.{Kind};
+ghost use Rattle.ssa_model.specs.Objects.{shown};
 ghost use Rattle.ssa_model.specs.PathMap.{size};
+ghost use Rattle.ssa_json.specs.View.{view};
+ghost use Rattle.ssa_schema.specs.Lawful.{is_ordered};
 ghost use Rattle.ssa_typed.specs.Alike.{AreAlike};
 ghost use Rattle.ssa_typed.specs.Differences.{IsComparison};
 ghost use Rattle.ssa_typed.specs.Look.{look_of, look_at};
@@ -10,6 +15,7 @@ ghost use Rattle.ssa_typed.specs.Rows.{body_of, is_tree};
 use crate::compare::{Comparison, Difference, differing};
 use crate::node::{Look, Node};
 use crate::over::over_node;
+use ssa_json::value::Json;
 use ssa_path::field_set::FieldSet;
 use ssa_path::path::Path;
 use std::alloc::{AllocError, Global};
@@ -72,6 +78,13 @@ impl Body {
         ensures { result ≡ min (size self.now) (2 ^ 64 - 1) }
     {
         self.root.size()
+    }
+
+    /// The value that the body is of, in memory of its own.
+    pub fn to_json(&self, alloc: Global) -> Result<Json, AllocError>
+        ensures { IfOk result (λ v. (kind : Kind) → is_ordered kind ≡ true → IsBodyOf kind self.now → view v ≡ shown kind self.now []) }
+    {
+        self.root.to_json(alloc)
     }
 
     /// The leaves, items of lists, entries of Dicts and empty branches.

@@ -16,7 +16,12 @@ fn item(alloc: Global, n: i64) -> Result<Node, Fail> {
 }
 
 // A record of a leaf, a Dict, a map list and a set of two numbers.
-fn record(alloc: Global, leaf: Node, dict: Node, items: Vec<(Elem, Node)>) -> Result<Node, Fail> {
+pub(crate) fn record(
+    alloc: Global,
+    leaf: Node,
+    dict: Node,
+    items: Vec<(Elem, Node)>,
+) -> Result<Node, Fail> {
     let mut set = Vec::new(alloc);
     put(alloc, &mut set, "v:9", number(9))?;
     put(alloc, &mut set, "v:10", number(10))?;
@@ -29,13 +34,13 @@ fn record(alloc: Global, leaf: Node, dict: Node, items: Vec<(Elem, Node)>) -> Re
 }
 
 // A Dict with an entry that is an empty record.
-fn dict(alloc: Global) -> Result<Node, Fail> {
+pub(crate) fn dict(alloc: Global) -> Result<Node, Fail> {
     let mut entries = Vec::new(alloc);
     put(alloc, &mut entries, "f:x", Node::Branch(Vec::new(alloc)))?;
     Ok(Node::Dict(entries))
 }
 
-fn items(alloc: Global, first: i64, second: i64) -> Result<Vec<(Elem, Node)>, Fail> {
+pub(crate) fn items(alloc: Global, first: i64, second: i64) -> Result<Vec<(Elem, Node)>, Fail> {
     let mut items = Vec::new(alloc);
     for n in [first, second] {
         let element = match n {

@@ -1,0 +1,238 @@
+-- The members that a body shows and those of a tree's value: what they have under each name, and that the names rise.
+use Rattle.std.proofs.Common.{◌≡◌, List, [], ◌∷◌, ◌++◌, map, Bool, true, false, ◌&&◌, ◌||◌, cond, Option, Some, None, option_map, Ordering, Less, Equal, Greater, refl, sym, ap, ◌∙◌, true≢false}
+use Rattle.std.specs.Prelude.{filter_map, if◌then◌else◌}
+use Rattle.std.specs.List.{list_any, cons_option}
+use Rattle.std.specs.Ordering.{is_lt, is_eq, ordering_then}
+use Rattle.std.specs.Cmp.{tied_itself}
+use Rattle.std.specs.Cmp.Lexicographic.{nat_list_cmp_total}
+use Rattle.std.specs.FinMap.Entries.{is_sorted, below_all}
+use Rattle.ssa_model.specs.Json.{Text, Json, Members, member, member_of, same_text}
+use Rattle.ssa_model.specs.Path.{Element, field, key, value, Path, element_cmp, path_cmp, same_element, same_path, parent}
+use Rattle.ssa_model.specs.PathMap.{has, paths}
+use Rattle.ssa_model.specs.Kind.{Kind, Fields, no_fields, kind_field, kind_of}
+use Rattle.ssa_model.specs.Body.{Body, Content}
+use Rattle.ssa_model.specs.Objects.{shown, shown_fields, entry_members, name_below, names_below}
+use Rattle.ssa_model.proofs.PathMaps.{has-paths, same_path-true}
+use Rattle.ssa_json.proofs.Equality.{same_text-true}
+use Rattle.ssa_path.specs.Children.{child_at, elements, is_below, rises}
+use Rattle.ssa_path.specs.View.{element_view}
+use Rattle.ssa_path.proofs.Orders.{element_cmp_total, both, both_first, both_second, same_element-true, same_element-itself}
+use Rattle.ssa_schema.specs.Lawful.{is_before_all, is_ordered, are_ordered}
+use Rattle.ssa_typed.specs.Values.{members_of, member_under, value_of, values_of}
+use Rattle.ssa_typed.specs.declared.node.Node.{Node}
+use Rattle.ssa_typed.proofs.Building.{Child}
+use Rattle.ssa_typed.proofs.SameMembers.{named, text_cmp, is_true}
+
+-- ---- the fields that a body shows
+
+none_either : (t : Bool) → ◌≡◌ {A = Option Json} None (cond t None None)
+none_either true = refl
+none_either false = refl
+
+module _ (b : Body) (p : Path) where
+  abbrev place : Text → Path
+  place n = p ++ field n ∷ []
+
+  pub member_of-fields : (n : Text) (fs : Fields) → member_of n (shown_fields fs b p) ≡ cond (has b (place n)) (option_map (λ k. shown k b (place n)) (kind_of n fs)) None
+  member_of-fields n no_fields = none_either (has b (place n))
+  member_of-fields n (kind_field m k fs) =
+      let rest = shown_fields fs b p in
+      elim (same_text n m) as (λ s. same_text n m ≡ s
+      → member_of n (if has b (place m) then member m (shown k b (place m)) rest else rest) ≡ cond (has b (place n)) (option_map (λ k. shown k b (place n)) (if s then Some k else kind_of n fs)) None) [
+        | true ↦ λ is. own m k fs n (same_text-true n m is) is (member_of-fields n fs)
+        | false ↦ λ is. other m k n rest (has b (place m)) is ∙ member_of-fields n fs
+      ] refl
+    where
+      other : (m : Text) (k : Kind) (n : Text) (rest : Members) (t : Bool) → same_text n m ≡ false → member_of n (if t then member m (shown k b (place m)) rest else rest) ≡ member_of n rest
+      other m k n rest true is = ap (λ s. if s then Some (shown k b (place m)) else member_of n rest) is
+      other m k n rest false is = refl
+
+      there : (m : Text) (k : Kind) (fs : Fields) (n : Text) (t : Bool) → n ≡ m → same_text n m ≡ true → has b (place n) ≡ t → member_of n (shown_fields fs b p) ≡ cond t (option_map (λ k. shown k b (place n)) (kind_of n fs)) None
+          → member_of n (if t then member m (shown k b (place m)) (shown_fields fs b p) else shown_fields fs b p) ≡ cond t (Some (shown k b (place n))) None
+      there m k fs n true e is h later = ap (λ s. if s then Some (shown k b (place m)) else member_of n (shown_fields fs b p)) is ∙ ap (λ x. Some (shown k b (place x))) (sym e)
+      there m k fs n false e is h later = later
+
+      own : (m : Text) (k : Kind) (fs : Fields) (n : Text) → n ≡ m → same_text n m ≡ true → member_of n (shown_fields fs b p) ≡ cond (has b (place n)) (option_map (λ k. shown k b (place n)) (kind_of n fs)) None
+          → member_of n (if has b (place m) then member m (shown k b (place m)) (shown_fields fs b p) else shown_fields fs b p) ≡ cond (has b (place n)) (Some (shown k b (place n))) None
+      own m k fs n e is later =
+          ap (λ x. member_of n (if has b (place x) then member m (shown k b (place m)) (shown_fields fs b p) else shown_fields fs b p)) (sym e)
+          ∙ there m k fs n (has b (place n)) e is refl later
+
+  before-fields : (n : Text) (fs : Fields) → is_before_all n fs ≡ true → below_all text_cmp n (named (shown_fields fs b p)) ≡ true
+  before-fields n no_fields h = refl
+  before-fields n (kind_field m k fs) h =
+      let rest = before-fields n fs (both_second _ _ h) in
+      elim (has b (place m)) as (λ t. below_all text_cmp n (named (if t then member m (shown k b (place m)) (shown_fields fs b p) else shown_fields fs b p)) ≡ true) [
+        | true ↦ both _ _ (both_first _ _ h) rest
+        | false ↦ rest
+      ]
+
+  pub fields-rise : (fs : Fields) → are_ordered fs ≡ true → is_sorted text_cmp (named (shown_fields fs b p)) ≡ true
+  fields-rise no_fields h = refl
+  fields-rise (kind_field m k fs) h =
+      let later = both_second (is_before_all m fs) _ h in
+      let rest = fields-rise fs (both_second (is_ordered k) _ later) in
+      elim (has b (place m)) as (λ t. is_sorted text_cmp (named (if t then member m (shown k b (place m)) (shown_fields fs b p) else shown_fields fs b p)) ≡ true) [
+        | true ↦ both _ _ (before-fields m fs (both_first _ _ h)) rest
+        | false ↦ rest
+      ]
+
+-- ---- the members of a tree's value
+
+under-name : (n : Text) (e : Element) (c : Node) (ms : Members) (rest : Option Node) → member_of n ms ≡ option_map value_of rest
+    → member_of n (member_under e (value_of c) ms) ≡ option_map value_of (cond (same_element (field n) e) (Some c) rest)
+under-name n (field m) c ms rest h = elim (same_text n m) as (λ s. (if s then Some (value_of c) else member_of n ms) ≡ option_map value_of (cond s (Some c) rest)) [ true ↦ refl | false ↦ h ]
+under-name n (key ks) c ms rest h = h
+under-name n (value s) c ms rest h = h
+
+pub member_of-children : (n : Text) (cs : List Child) → member_of n (members_of (values_of cs)) ≡ option_map value_of (child_at (field n) cs)
+member_of-children n [] = refl
+member_of-children n (c ∷ cs) = under-name n (element_view c.0) c.1 (members_of (values_of cs)) (child_at (field n) cs) (member_of-children n cs)
+
+below-under : (n : Text) (e : Element) (v : Json) (ms : Members) → is_lt (element_cmp (field n) e) ≡ true → below_all text_cmp n (named ms) ≡ true → below_all text_cmp n (named (member_under e v ms)) ≡ true
+below-under n (field m) v ms h rest = both _ _ h rest
+below-under n (key ks) v ms h rest = rest
+below-under n (value s) v ms h rest = rest
+
+below-children : (n : Text) (cs : List Child) → is_below (field n) (elements cs) ≡ true → below_all text_cmp n (named (members_of (values_of cs))) ≡ true
+below-children n [] h = refl
+below-children n (c ∷ cs) h = below-under n (element_view c.0) (value_of c.1) (members_of (values_of cs)) (both_first _ _ h) (below-children n cs (both_second (is_lt (element_cmp (field n) (element_view c.0))) _ h))
+
+first-rises : (e : Element) (v : Json) (cs : List Child) → is_below e (elements cs) ≡ true → is_sorted text_cmp (named (members_of (values_of cs))) ≡ true → is_sorted text_cmp (named (member_under e v (members_of (values_of cs)))) ≡ true
+first-rises (field m) v cs h rest = both _ _ (below-children m cs h) rest
+first-rises (key ks) v cs h rest = rest
+first-rises (value s) v cs h rest = rest
+
+pub children-rise : (cs : List Child) → rises (elements cs) ≡ true → is_sorted text_cmp (named (members_of (values_of cs))) ≡ true
+children-rise [] h = refl
+children-rise (c ∷ cs) h = first-rises (element_view c.0) (value_of c.1) cs (both_first _ _ h) (children-rise cs (both_second (is_below (element_view c.0) (elements cs)) _ h))
+
+-- ---- the names below a path
+
+abbrev name_of : Path → Path → Option Text
+name_of p q = if same_path (parent q) p then name_below p q else None
+
+abbrev is_name : Text → Option Text → Bool
+is_name n None = false
+is_name n (Some m) = same_text n m
+
+then_equal : (o : Ordering) → is_eq (ordering_then o Equal) ≡ is_eq o
+then_equal Less = refl
+then_equal Equal = refl
+then_equal Greater = refl
+
+then_less : (o : Ordering) → is_eq (ordering_then o Less) ≡ false
+then_less Less = refl
+then_less Equal = refl
+then_less Greater = refl
+
+then_greater : (o : Ordering) → is_eq (ordering_then o Greater) ≡ false
+then_greater Less = refl
+then_greater Equal = refl
+then_greater Greater = refl
+
+longer : (d e : Element) (p : Path) (n : Text) → same_path (d ∷ p ++ field n ∷ []) (e ∷ []) ≡ false
+longer d e [] n = then_greater (element_cmp d e)
+longer d e (f ∷ p) n = then_greater (element_cmp d e)
+
+single : (n : Text) (e : Element) → is_name n (name_of [] (e ∷ [])) ≡ same_path (field n ∷ []) (e ∷ [])
+single n (field m) = sym (then_equal (element_cmp (field n) (field m)))
+single n (key ks) = refl
+single n (value s) = refl
+
+turned : (d e : Element) → same_element e d ≡ same_element d e
+turned d e =
+    elim (same_element e d) as (λ s. same_element e d ≡ s → s ≡ same_element d e) [
+      | true ↦ λ h. sym (same_element-itself e) ∙ ap (λ x. same_element x e) (same_element-true e d h)
+      | false ↦ λ h. by (same_element d e) refl h
+    ] refl
+  where
+    by : (t : Bool) → same_element d e ≡ t → same_element e d ≡ false → false ≡ t
+    by true g h = absurd (true≢false (sym (same_element-itself d) ∙ ap (λ x. same_element x d) (same_element-true d e g) ∙ h))
+    by false g h = refl
+
+then_both : (o q : Ordering) → is_eq (ordering_then o q) ≡ (is_eq o && is_eq q)
+then_both Less q = refl
+then_both Equal q = refl
+then_both Greater q = refl
+
+if_and : (n : Text) (s t : Bool) (o : Option Text) → is_name n (if s && t then o else None) ≡ (s && is_name n (if t then o else None))
+if_and n true t o = refl
+if_and n false t o = refl
+
+one-name : (p q : Path) (n : Text) → is_name n (name_of p q) ≡ same_path (p ++ field n ∷ []) q
+one-name [] [] n = refl
+one-name [] (e ∷ []) n = single n e
+one-name [] (e ∷ f ∷ q) n = sym (then_less (element_cmp (field n) e))
+one-name (d ∷ p) [] n = refl
+one-name (d ∷ p) (e ∷ []) n = sym (longer d e p n)
+one-name (d ∷ p) (e ∷ f ∷ q) n =
+    let here = same_path (parent (f ∷ q)) p in
+    ap (λ t. is_name n (if t then name_below p (f ∷ q) else None)) (then_both (element_cmp e d) (path_cmp (parent (f ∷ q)) p) ∙ ap (λ s. s && here) (turned d e))
+    ∙ if_and n (same_element d e) here (name_below p (f ∷ q))
+    ∙ ap (λ t. same_element d e && t) (one-name p (f ∷ q) n)
+    ∙ sym (then_both (element_cmp d e) (path_cmp (p ++ field n ∷ []) (f ∷ q)))
+
+any-cons : (n : Text) (o : Option Text) (ns : List Text) → list_any (same_text n) (cons_option o ns) ≡ (is_name n o || list_any (same_text n) ns)
+any-cons n None ns = refl
+any-cons n (Some m) ns = refl
+
+among-names : (p : Path) (n : Text) (ps : List Path) → list_any (same_text n) (filter_map (name_of p) ps) ≡ list_any (same_path (p ++ field n ∷ [])) ps
+among-names p n [] = refl
+among-names p n (q ∷ ps) = any-cons n (name_of p q) (filter_map (name_of p) ps) ∙ (λ i. one-name p q n i || among-names p n ps i)
+
+entry-under : (shows : Path → Json) (p : Path) (n : Text) (ns : List Text) → member_of n (entry_members shows p ns) ≡ cond (list_any (same_text n) ns) (Some (shows (p ++ field n ∷ []))) None
+entry-under shows p n [] = refl
+entry-under shows p n (m ∷ ns) =
+    elim (same_text n m) as (λ s. same_text n m ≡ s
+    → (if s then Some (shows (p ++ field m ∷ [])) else member_of n (entry_members shows p ns)) ≡ cond (s || list_any (same_text n) ns) (Some (shows (p ++ field n ∷ []))) None) [
+      | true ↦ λ h. ap (λ x. Some (shows (p ++ field x ∷ []))) (sym (same_text-true n m h))
+      | false ↦ λ h. entry-under shows p n ns
+    ] refl
+
+pub member_of-entries : (shows : Path → Json) (b : Body) (p : Path) (n : Text) → member_of n (entry_members shows p (names_below b p)) ≡ cond (has b (p ++ field n ∷ [])) (Some (shows (p ++ field n ∷ []))) None
+member_of-entries shows b p n =
+    entry-under shows p n (names_below b p)
+    ∙ ap (λ t. cond t (Some (shows (p ++ field n ∷ []))) None) (among-names p n (paths b) ∙ sym (has-paths b (p ++ field n ∷ [])))
+
+-- ---- the names below a path rise
+
+name-is : (p q : Path) (m : Text) → name_of p q ≡ Some m → p ++ field m ∷ [] ≡ q
+name-is p q m h = same_path-true (p ++ field m ∷ []) q (sym (one-name p q m) ∙ ap (is_name m) h ∙ ap is_eq (tied_itself nat_list_cmp_total m))
+
+then_same : (o : Ordering) → ordering_then o Equal ≡ o
+then_same Less = refl
+then_same Equal = refl
+then_same Greater = refl
+
+cmp-after : (p : Path) (m n : Text) → path_cmp (p ++ field m ∷ []) (p ++ field n ∷ []) ≡ text_cmp m n
+cmp-after [] m n = then_same (text_cmp m n)
+cmp-after (x ∷ p) m n = ap (λ o. ordering_then o (path_cmp (p ++ field m ∷ []) (p ++ field n ∷ []))) (tied_itself element_cmp_total x) ∙ cmp-after p m n
+
+abbrev Entry : Type 0
+Entry = Path × Content
+
+abbrev names_of : Path → List Entry → List Text
+names_of p es = filter_map (name_of p) (map (λ e. e.0) es)
+
+module _ (shows : Path → Json) (p : Path) where
+  below-one : (m : Text) (q : Path) (o : Option Text) (ns : List Text) → name_of p q ≡ o → is_lt (path_cmp (p ++ field m ∷ []) q) ≡ true → below_all text_cmp m (named (entry_members shows p ns)) ≡ true
+      → below_all text_cmp m (named (entry_members shows p (cons_option o ns))) ≡ true
+  below-one m q None ns is lt rest = rest
+  below-one m q (Some n) ns is lt rest = both _ _ (sym (ap is_lt (ap (path_cmp (p ++ field m ∷ [])) (sym (name-is p q n is)) ∙ cmp-after p m n)) ∙ lt) rest
+
+  below-names : (m : Text) (es : List Entry) → below_all path_cmp (p ++ field m ∷ []) es ≡ true → below_all text_cmp m (named (entry_members shows p (names_of p es))) ≡ true
+  below-names m [] h = refl
+  below-names m (e ∷ es) h = below-one m e.0 (name_of p e.0) (names_of p es) refl (both_first _ _ h) (below-names m es (both_second (is_lt (path_cmp (p ++ field m ∷ []) e.0)) _ h))
+
+  rise-one : (q : Path) (o : Option Text) (es : List Entry) → name_of p q ≡ o → below_all path_cmp q es ≡ true → is_sorted text_cmp (named (entry_members shows p (names_of p es))) ≡ true
+      → is_sorted text_cmp (named (entry_members shows p (cons_option o (names_of p es)))) ≡ true
+  rise-one q None es is below rest = rest
+  rise-one q (Some m) es is below rest = both _ _ (below-names m es (ap (λ x. below_all path_cmp x es) (name-is p q m is) ∙ below)) rest
+
+  names-rise : (es : List Entry) → is_sorted path_cmp es ≡ true → is_sorted text_cmp (named (entry_members shows p (names_of p es))) ≡ true
+  names-rise [] h = refl
+  names-rise (e ∷ es) h = rise-one e.0 (name_of p e.0) es refl (both_first _ _ h) (names-rise es (both_second (below_all path_cmp e.0 es) _ h))
+
+  pub entries-rise : (b : Body) → is_sorted text_cmp (named (entry_members shows p (names_below b p))) ≡ true
+  entries-rise b = names-rise b.entries (is_true _ b.in_order)
