@@ -1,3 +1,4 @@
+pub mod AnyTree
 pub mod Building
 pub mod Collecting
 pub mod Differing
