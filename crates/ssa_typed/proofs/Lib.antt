@@ -1,10 +1,12 @@
 pub mod AnyTree
+pub mod BodyFits
 pub mod Building
 pub mod Collecting
 pub mod Differing
 pub mod EmptyMetadata
 pub mod Fitting
 pub mod ItemKeys
+pub mod KindRows
 pub mod Laws
 pub mod Levels
 pub mod Looks
@@ -14,4 +16,5 @@ pub mod References
 pub mod Sizes
 pub mod Sorting
 pub mod Stands
+pub mod TreeRows
 pub mod Trees
