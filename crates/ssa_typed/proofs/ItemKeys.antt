@@ -10,6 +10,7 @@ use Rattle.ssa_json.proofs.Equality.{same_text-true, same_text-itself}
 use Rattle.ssa_path.proofs.Orders.{both}
 use Rattle.ssa_path.specs.Keys as keys
 use Rattle.ssa_schema.specs.Lawful.{are_key_names, names_rise_after}
+use Rattle.ssa_typed.proofs.Laws.{none≢some, some-same}
 
 -- ---- lists of faults
 
@@ -99,10 +100,6 @@ unfolding is_there
 keys-some ns fs ms p names e none =
     true≢false (sym (ap is_there (none ∙ ap (λ b. if b then Some (key_scalars ns ms) else None) (keys-there ns fs ms p names e))))
 
-some≢none : {A : Type 0} {x : A} → ◌≡◌ {A = Option A} None (Some x) → ⊥
-unfolding is_there
-some≢none e = true≢false (sym (ap is_there e))
-
 -- ---- keys of the kind
 
 -- the member is a scalar, of the kind of its field
@@ -140,9 +137,6 @@ pub record IsKeyMember (fs : Fields) (ms : Members) (n : Text) (s : Scalar) : Ty
   pub is_kind : kind_of n fs ≡ Some (kinds.scalar_kind of_kind)
   pub is_own : member_of n ms ≡ Some (scalar s)
 
-same-scalar : (s t : Scalar) → ◌≡◌ {A = Option Scalar} (Some s) (Some t) → s ≡ t
-same-scalar s t e = cc
-
 key-member-if : (b : Bool) (fs : Fields) (ms : Members) (n m : Text) (s : Scalar) (rest : Option Scalar) (here : IsKeyField (kind_of m fs) (member_of m ms)) → same_text n m ≡ b
     → (rest ≡ Some s → IsKeyMember fs ms n s) → (if b then Some here.own else rest) ≡ Some s → IsKeyMember fs ms n s
 key-member-if true fs ms n m s rest here same later found =
@@ -150,12 +144,12 @@ key-member-if true fs ms n m s rest here same later found =
     record {
       of_kind = here.of_kind;
       is_kind = ap (λ t. kind_of t fs) is ∙ here.is_kind;
-      is_own = ap (λ t. member_of t ms) is ∙ here.is_own ∙ ap (λ t. Some (scalar t)) (same-scalar here.own s found);
+      is_own = ap (λ t. member_of t ms) is ∙ here.is_own ∙ ap (λ t. Some (scalar t)) (some-same here.own s found);
     }
 key-member-if false fs ms n m s rest here same later found = later found
 
 pub key-member : (ns : List Text) (fs : Fields) (ms : Members) (p : Path) (n : Text) (s : Scalar) → key_faults ns fs ms p ≡ [] → scalar_of n (key_scalars ns ms) ≡ Some s → IsKeyMember fs ms n s
-key-member [] fs ms p n s e found = absurd (some≢none found)
+key-member [] fs ms p n s e found = absurd (none≢some found)
 key-member (m ∷ ns) fs ms p n s e found =
     let here = key-field (kind_of m fs) (member_of m ms) p (nil_first (key_field_fault (kind_of m fs) (member_of m ms) p) _ e) in
     key-member-if (same_text n m) fs ms n m s (scalar_of n (key_scalars ns ms)) here refl

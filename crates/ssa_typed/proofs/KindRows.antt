@@ -13,56 +13,11 @@ use Rattle.ssa_json.proofs.Equality.{same_text-true, same_scalar-itself}
 use Rattle.ssa_typed.specs.Rows.{Row}
 use Rattle.ssa_typed.specs.Flats.{member_places, Fits, FieldsFit, EntriesFit, KeysFit}
 use Rattle.ssa_typed.proofs.Fitting.{ValuesFitAfter, ItemsFitAfter, member-first, member-rest, entry-first, entry-rest, value-is_of, value-rest, item-parts, item-rest}
-use Rattle.ssa_typed.proofs.ItemKeys.{cons≢nil, nil_first, nil_second, unless-true, keys-fit, key-member}
-use Rattle.ssa_typed.proofs.TreeRows.{IsRow, row-left, row-right, none≢some, some-same}
+use Rattle.ssa_typed.proofs.ItemKeys.{unless-true, keys-fit, key-member}
+use Rattle.ssa_typed.proofs.Laws.{none≢some, some-same}
+use Rattle.ssa_typed.proofs.ShapesFit.{shape-anywhere}
+use Rattle.ssa_typed.proofs.TreeRows.{IsRow, row-left, row-right}
 use Rattle.ssa_typed.proofs.Trees.{known-places}
-
--- ---- an atomic value that fits at a path fits at any
-
-abbrev shape_test : Json → Path → Option Shape → List Fault
-shape_test v p None = (unknown_field, p) ∷ []
-shape_test v p (Some s) = shape_faults s v p
-
-shape_test-is : (v : Json) (p : Path) (o : Option Shape) → ◌≡◌ {A = List Fault} (elim o [ None ↦ (unknown_field, p) ∷ [] | Some s ↦ shape_faults s v p ]) (shape_test v p o)
-shape_test-is v p None = refl
-shape_test-is v p (Some s) = refl
-
-shape_member-now : (fs : ShapeFields) (n : Text) (v : Json) (ms : Members) (p : Path) → shape_field_faults fs (member n v ms) p ≡ shape_test v p (shape_of n fs) ++ shape_field_faults fs ms p
-shape_member-now fs n v ms p = ap (λ xs. xs ++ shape_field_faults fs ms p) (shape_test-is v p (shape_of n fs))
-
-shape_member-anywhere : (o : Option Shape) (v : Json) (p q : Path) → ((s : Shape) → shape_faults s v p ≡ [] → shape_faults s v q ≡ []) → shape_test v p o ≡ [] → shape_test v q o ≡ []
-shape_member-anywhere None v p q inside e = absurd (cons≢nil e)
-shape_member-anywhere (Some s) v p q inside e = inside s e
-
-mutual
-  shape-anywhere : (s : Shape) (v : Json) (p q : Path) → shape_faults s v p ≡ [] → shape_faults s v q ≡ []
-  shape-anywhere (kinds.scalar_shape k) (scalar t) p q e = ap (λ b. fault_unless b wrong_type q) (unless-true (is_of k t) wrong_type p e)
-  shape-anywhere (kinds.record_shape fs) (object ms) p q e = shape_fields-anywhere fs ms p q e
-  shape-anywhere (kinds.dict_shape s) (object ms) p q e = shape_entries-anywhere s ms p q e
-  shape-anywhere (kinds.list_shape s) (list vs) p q e = shape_items-anywhere s vs p q e
-  shape-anywhere _ _ p q e = absurd (cons≢nil e)
-
-  shape_fields-anywhere : (fs : ShapeFields) (ms : Members) (p q : Path) → shape_field_faults fs ms p ≡ [] → shape_field_faults fs ms q ≡ []
-  shape_fields-anywhere fs no_members p q e = refl
-  shape_fields-anywhere fs (member n v ms) p q e =
-      let now = sym (shape_member-now fs n v ms p) ∙ e in
-      let first = shape_member-anywhere (shape_of n fs) v p q (λ s f. shape-anywhere s v p q f) (nil_first (shape_test v p (shape_of n fs)) _ now) in
-      let later = shape_fields-anywhere fs ms p q (nil_second (shape_test v p (shape_of n fs)) _ now) in
-      shape_member-now fs n v ms q ∙ (λ i. first i ++ later i)
-
-  shape_entries-anywhere : (s : Shape) (ms : Members) (p q : Path) → shape_entry_faults s ms p ≡ [] → shape_entry_faults s ms q ≡ []
-  shape_entries-anywhere s no_members p q e = refl
-  shape_entries-anywhere s (member n v ms) p q e =
-      let first = shape-anywhere s v p q (nil_first (shape_faults s v p) _ e) in
-      let later = shape_entries-anywhere s ms p q (nil_second (shape_faults s v p) _ e) in
-      λ i. first i ++ later i
-
-  shape_items-anywhere : (s : Shape) (vs : Items) (p q : Path) → shape_item_faults s vs p ≡ [] → shape_item_faults s vs q ≡ []
-  shape_items-anywhere s no_items p q e = refl
-  shape_items-anywhere s (item v vs) p q e =
-      let first = shape-anywhere s v p q (nil_first (shape_faults s v p) _ e) in
-      let later = shape_items-anywhere s vs p q (nil_second (shape_faults s v p) _ e) in
-      λ i. first i ++ later i
 
 -- ---- places, one element further
 
@@ -149,15 +104,15 @@ module _ (root : Kind) (total : List Row) where
     keys = λ n s found. absurd (none≢some (sym (ap (scalar_of n) none) ∙ found));
   }
 
-  value-rows : (k : ScalarKind) (vs : Items) (p : Path) → place_at (of_kind root) p ≡ Some (of_kind (kinds.set_of k)) → ValuesFitAfter k vs → AllKindRows (value_places vs p)
-  value-rows k no_items p at fits = tt
-  value-rows k (item (list ws) vs) p at fits = value-rows k vs p at (value-rest k (list ws) vs fits)
-  value-rows k (item (object ms) vs) p at fits = value-rows k vs p at (value-rest k (object ms) vs fits)
-  value-rows k (item (scalar s) vs) p at fits = (
+  set_rows : (k : ScalarKind) (vs : Items) (p : Path) → place_at (of_kind root) p ≡ Some (of_kind (kinds.set_of k)) → ValuesFitAfter k vs → AllKindRows (value_places vs p)
+  set_rows k no_items p at fits = tt
+  set_rows k (item (list ws) vs) p at fits = set_rows k vs p at (value-rest k (list ws) vs fits)
+  set_rows k (item (object ms) vs) p at fits = set_rows k vs p at (value-rest k (object ms) vs fits)
+  set_rows k (item (scalar s) vs) p at fits = (
     plain-row (p ++ value s ∷ []) (leaf s) (value_of s)
         (place-push p (of_kind root) (value s) (of_kind (kinds.set_of k)) (value_of s) at (ap (λ b. if b then Some (value_of s) else None) (value-is_of k s vs fits)))
         (same_scalar-itself s) (last_keys-push p (value s)),
-    value-rows k vs p at (value-rest k (scalar s) vs fits),
+    set_rows k vs p at (value-rest k (scalar s) vs fits),
   )
 
   mutual
@@ -167,7 +122,7 @@ module _ (root : Kind) (total : List Row) where
     value_rows (record_of fs) (object ms) p at none fits in_all =
         (plain-row p record_branch (of_kind (record_of fs)) at refl none, field_rows (of_kind (record_of fs)) fs ms p at (λ n. refl) fits (λ r h. in_all r (inr h)))
     value_rows (dict_of k) (object ms) p at none fits in_all = (plain-row p dict_branch (of_kind (dict_of k)) at refl none, entry_rows k ms p at fits (λ r h. in_all r (inr h)))
-    value_rows (kinds.set_of k) (list vs) p at none fits in_all = (plain-row p (list_branch (value_order vs)) (of_kind (kinds.set_of k)) at refl none, value-rows k vs p at ([], fits))
+    value_rows (kinds.set_of k) (list vs) p at none fits in_all = (plain-row p (list_branch (value_order vs)) (of_kind (kinds.set_of k)) at refl none, set_rows k vs p at ([], fits))
     value_rows (items_of ns fs) (list vs) p at none fits in_all =
         (plain-row p (list_branch (key_order ns vs)) (of_kind (items_of ns fs)) at refl none, item_rows ns fs vs p at ([], fits) (λ r h. in_all r (inr h)))
     value_rows _ _ p at none fits in_all = tt
@@ -208,7 +163,7 @@ module _ (root : Kind) (total : List Row) where
               (item_rows ns fs vs p at (item-rest ns fs (object ms) vs fits) (in-right (field_places fs ms own) (item_places ns fs vs p) rest)),
         )
 
-  pub kind-row : (rs : List Row) (r : Row) → AllKindRows rs → IsRow r rs → IsKindRow root total r
-  kind-row [] r all one = absurd one
-  kind-row (x ∷ xs) r all (inl e) = subst (IsKindRow root total) (sym e) all.0
-  kind-row (x ∷ xs) r all (inr one) = kind-row xs r all.1 one
+  pub each-row : (rs : List Row) (r : Row) → AllKindRows rs → IsRow r rs → IsKindRow root total r
+  each-row [] r all one = absurd one
+  each-row (x ∷ xs) r all (inl e) = subst (IsKindRow root total) (sym e) all.0
+  each-row (x ∷ xs) r all (inr one) = each-row xs r all.1 one

@@ -13,6 +13,7 @@ pub mod Looks
 pub mod Lookups
 pub mod Making
 pub mod References
+pub mod ShapesFit
 pub mod Sizes
 pub mod Sorting
 pub mod Stands

@@ -1,6 +1,5 @@
 -- Each row of a tree is what its path finds.
-use Rattle.std.proofs.Common.{◌≡◌, List, [], ◌∷◌, ◌++◌, ◌⊎◌, inl, inr, Bool, true, false, cond, Option, Some, None, refl, sym, ap, subst, ◌∙◌, true≢false}
-use Rattle.std.specs.Prelude.{is_some}
+use Rattle.std.proofs.Common.{◌≡◌, List, [], ◌∷◌, ◌++◌, ◌⊎◌, inl, inr, Bool, true, false, cond, Some, refl, sym, ap, subst, ◌∙◌}
 use Rattle.ssa_model.specs.Path.{Element, Path, same_element, same_path}
 use Rattle.ssa_model.specs.Body.{Content}
 use Rattle.ssa_model.proofs.PathMaps.{same_path-true}
@@ -12,6 +11,7 @@ use Rattle.ssa_typed.specs.Rows.{Row, rows, rows_below, under_element, below, ow
 use Rattle.ssa_typed.specs.Points.{content_in}
 use Rattle.ssa_typed.specs.declared.node.Node.{Node}
 use Rattle.ssa_typed.proofs.ItemKeys.{cons≢nil}
+use Rattle.ssa_typed.proofs.Laws.{none≢some, some-same}
 use Rattle.ssa_typed.proofs.Levels.{level-below}
 use Rattle.ssa_typed.proofs.Lookups.{child_at-rest, content-root, content-level, tree-child}
 
@@ -34,12 +34,6 @@ row-split : (r : Row) (xs ys : List Row) → IsRow r (xs ++ ys) → IsRow r xs �
 row-split r [] ys h = inr h
 row-split r (x ∷ xs) ys (inl e) = inl (inl e)
 row-split r (x ∷ xs) ys (inr h) = elim (row-split r xs ys h) [ inl l ↦ inl (inr l) | inr k ↦ inr k ]
-
-pub none≢some : {A : Type 0} {x : A} → ◌≡◌ {A = Option A} None (Some x) → ⊥
-none≢some e = true≢false (sym (ap is_some e))
-
-pub some-same : {A : Type 0} (x y : A) → ◌≡◌ {A = Option A} (Some x) (Some y) → x ≡ y
-some-same x y e = cc
 
 row-if : (b : Bool) (r : Row) (rs : List Row) (p : Path) (c : Content) → same_path p r.0 ≡ b → (content_at rs p ≡ Some c → IsRow (p, c) rs) → cond b (Some r.1) (content_at rs p) ≡ Some c → IsRow (p, c) (r ∷ rs)
 row-if true r rs p c same later e = inl (λ i. (same_path-true p r.0 same i, sym (some-same r.1 c e) i))
