@@ -1,15 +1,12 @@
 -- What holds of the body of each tree, whatever its kind.
-use Rattle.std.proofs.Common.{◌≡◌, List, [], ◌∷◌, ◌++◌, Bool, true, false, not, ◌&&◌, ◌||◌, cond, Option, Some, None, refl, sym, ap, subst, ◌∙◌, true≢false, append-nil, rules}
+use Rattle.std.proofs.Common.{◌≡◌, List, [], ◌∷◌, ◌++◌, Bool, true, false, not, ◌&&◌, ◌||◌, Option, Some, None, refl, sym, ap, subst, ◌∙◌, true≢false, append-nil, rules}
 use Rattle.std.specs.Prelude.{is_some}
 use Rattle.ssa_model.specs.Path.{Element, Path, same_element, is_item_element}
 use Rattle.ssa_model.specs.PathMap.{get, has}
 use Rattle.ssa_model.specs.Kind.{is_among}
 use Rattle.ssa_model.specs.Body.{order_at}
 use Rattle.ssa_model.specs.Fitting.{are_distinct}
-use Rattle.ssa_model.proofs.PathMaps.{get-from_entries}
 use Rattle.ssa_path.specs.Children.{child_at, elements}
-use Rattle.ssa_path.specs.declared.element.Elem.{Elem}
-use Rattle.ssa_path.specs.View.{element_view}
 use Rattle.ssa_path.proofs.Orders.{same_element-true, both, both_first, both_second}
 use Rattle.ssa_typed.specs.Rows.{rows, below, body_of, leaf_content, own_content, content_at, is_tree, are_apart, are_items, are_fields}
 use Rattle.ssa_typed.specs.Points.{content_in}
@@ -19,12 +16,9 @@ use Rattle.ssa_typed.specs.declared.node.Node.{Node, Leaf as LeafOf, Branch, Dic
 use Rattle.ssa_typed.specs.declared.node.Node.TheOpen.{Node-F}
 use Rattle.ssa_typed.specs.declared.node.Node.TheViews.{out-Node, roll-Node, roll-out-Node}
 use Rattle.ssa_typed.proofs.Laws.{not_true}
-use Rattle.ssa_typed.proofs.Levels.{own-Branch, own-Dict, own-List, tree-Branch, tree-Dict, tree-List}
+use Rattle.ssa_typed.proofs.Levels.{own-Branch, own-Dict, own-List, level-below, tree-Branch, tree-Dict, tree-List}
+use Rattle.ssa_typed.proofs.Looks.{get-body, some-below}
 use Rattle.ssa_typed.proofs.Lookups.{content-root, content-level, tree-child}
-
--- what the body has at a path
-pub get-body : (n : Node) (p : Path) → get (body_of n) p ≡ content_at (rows n) p
-get-body n p = get-from_entries (rows n) p
 
 -- ---- the node at a path
 
@@ -147,14 +141,6 @@ once-in (Some n) h = ap (λ c. are_distinct (order_at c)) (content-root n) ∙ (
 pub tree-once : (n : Node) → is_tree n ≡ true → (p : Path) → are_distinct (order_at (get (body_of n) p)) ≡ true
 tree-once n h p = ap (λ c. are_distinct (order_at c)) (get-body n p ∙ content-here p n h) ∙ once-in (node_on p n) (tree-on p n h)
 
-either-there : (b : Bool) (n : Node) (c : Option Node) (rest : Bool) → is_some (content_in c []) ≡ rest → is_some (content_in (cond b (Some n) c) []) ≡ (b || rest)
-either-there true n c rest h = root-there n
-either-there false n c rest h = h
-
-child-there : (e : Element) (cs : List (Elem × Node)) → is_some (content_in (child_at e cs) []) ≡ is_among e (elements cs)
-child-there e [] = refl
-child-there e (c ∷ cs) = either-there (same_element e (element_view c.0)) c.1 (child_at e cs) (is_among e (elements cs)) (child-there e cs)
-
 nothing-there : (e : Element) → false ≡ (is_item_element e && false)
 nothing-there e = elim (is_item_element e) as (λ b. false ≡ (b && false)) [ true ↦ refl | false ↦ refl ]
 
@@ -162,7 +148,7 @@ items-in : (c : Option Node) (e : Element) → IsTreeIn c → is_among e (order_
 items-in None e h = nothing-there e
 items-in (Some n) e h =
     ap (λ c. is_among e (order_at c)) (content-root n) ∙ (ordered n h).items e
-    ∙ ap (λ b. is_item_element e && b) (sym (ap is_some (content-level n e [] h) ∙ child-there e (below n)))
+    ∙ ap (λ b. is_item_element e && b) (sym (ap (λ rs. is_some (content_at rs (e ∷ []))) (level-below n).rows_are ∙ some-below e (below n)))
 
 pub tree-items : (n : Node) → is_tree n ≡ true → (p : Path) (e : Element) → is_among e (order_at (get (body_of n) p)) ≡ (is_item_element e && has (body_of n) (p ++ e ∷ []))
 tree-items n h p e =

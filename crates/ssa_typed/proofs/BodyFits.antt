@@ -10,8 +10,9 @@ use Rattle.ssa_model.specs.Fitting.{IsBodyOf, scalar_of}
 use Rattle.ssa_typed.specs.Rows.{rows, body_of}
 use Rattle.ssa_typed.specs.Flats.{Fits, IsTreeOf}
 use Rattle.ssa_typed.specs.declared.node.Node.{Node}
-use Rattle.ssa_typed.proofs.AnyTree.{get-body, tree-root, tree-closed, tree-once, tree-items}
+use Rattle.ssa_typed.proofs.AnyTree.{tree-root, tree-closed, tree-once, tree-items}
 use Rattle.ssa_typed.proofs.KindRows.{IsKindRow, AllKindRows, last_keys, last_keys-push, value_rows, each-row}
+use Rattle.ssa_typed.proofs.Looks.{get-body}
 use Rattle.ssa_typed.proofs.TreeRows.{row-of, row-found}
 use Rattle.ssa_typed.proofs.Trees.{rows_at-none}
 

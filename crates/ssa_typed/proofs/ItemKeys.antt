@@ -3,7 +3,7 @@ use Rattle.std.proofs.Common.{◌≡◌, List, [], ◌∷◌, ◌++◌, map, Boo
 use Rattle.std.specs.Prelude.{Option, None, Some, if◌then◌else◌}
 use Rattle.ssa_model.specs.Json.{Text, Scalar, Json, scalar, list, object, Members, member_of, same_text}
 use Rattle.ssa_model.specs.Kind as kinds
-use Rattle.ssa_model.specs.Kind.{Kind, Fields, Fault, kind_of, key_scalars, cons_scalar, key_faults, key_field_fault, fault_unless, is_of, wrong_type}
+use Rattle.ssa_model.specs.Kind.{Kind, Fields, kind_of, key_scalars, cons_scalar, key_faults, key_field_fault, fault_unless, is_of, wrong_type}
 use Rattle.ssa_model.specs.Path.{Path}
 use Rattle.ssa_model.specs.Fitting.{are_keys, is_key_of, scalar_of}
 use Rattle.ssa_json.proofs.Equality.{same_text-true, same_text-itself}

@@ -5,7 +5,7 @@ use Rattle.std.specs.List.{AllByRecursion}
 use Rattle.ssa_model.specs.Json.{Text, Scalar, Json, scalar, list, object, Items, no_items, item, Members, no_members, member, member_of, same_text}
 use Rattle.ssa_model.specs.Path.{Element, field, key, value, Path}
 use Rattle.ssa_model.specs.Kind as kinds
-use Rattle.ssa_model.specs.Kind.{Kind, ScalarKind, Fields, Shape, ShapeFields, scalar_kind, atomic_of, record_of, dict_of, items_of, kind_of, shape_of, is_of, item_key, key_scalars, shape_faults, shape_field_faults, shape_entry_faults, shape_item_faults, fault_unless, unknown_field, wrong_type, Fault}
+use Rattle.ssa_model.specs.Kind.{Kind, ScalarKind, Fields, scalar_kind, atomic_of, record_of, dict_of, items_of, kind_of, is_of, item_key, key_scalars, wrong_type}
 use Rattle.ssa_model.specs.Body.{Content, leaf, atom, record_branch, dict_branch, list_branch, places, field_places, entry_places, value_places, item_places, value_order, key_order}
 use Rattle.ssa_model.specs.Fitting.{Place, of_kind, item_of, value_of, place_below, place_at, content_fits, IsAt, scalar_of}
 use Rattle.ssa_model.specs.Operations.{is_none}
