@@ -10,8 +10,8 @@ use Rattle.ssa_model.specs.Kind.{ScalarKind, Kind, Fields, Fault, faults, field_
 use Rattle.ssa_model.specs.Body.{value_order, key_order}
 use Rattle.ssa_path.proofs.Orders.{both, both_first, both_second, same_element-true, same_element-itself}
 use Rattle.ssa_typed.specs.Rows.{are_apart}
-use Rattle.ssa_typed.specs.Flats.{Fits, FieldsFit, EntriesFit, MemberFits, ItemFits, ValuesFit, ItemsFit, IsScalar}
-use Rattle.ssa_typed.proofs.ItemKeys.{cons≢nil, nil_first, nil_second}
+use Rattle.ssa_typed.specs.Flats.{Fits, FieldsFit, KeysFit, EntriesFit, MemberFits, ItemFits, ValuesFit, ItemsFit, IsScalar}
+use Rattle.ssa_typed.proofs.ItemKeys.{cons≢nil, nil_first, nil_second, unless-true}
 
 -- ---- members
 
@@ -59,6 +59,10 @@ entry-rest k n v ms h = (h.0, nil_second (faults k v (h.0 ++ field n ∷ [])) (e
 
 -- ---- items of sets
 
+or-first : {X : Type 0} (xs ys : List X) → or_else xs ys ≡ [] → xs ≡ []
+or-first [] ys e = refl
+or-first (x ∷ xs) ys e = absurd (cons≢nil e)
+
 abbrev pub ValuesFitAfter : ScalarKind → Items → Type 0
 ValuesFitAfter k vs = (earlier : List Element) × ((p : Path) × (value_faults k earlier vs p ≡ []))
 
@@ -70,6 +74,11 @@ value-first k (scalar s) vs h = (s, refl)
 value-first k (list ws) vs h = absurd (cons≢nil h.1.1)
 value-first k (object ms) vs h = absurd (cons≢nil h.1.1)
 
+-- a scalar among the items is of their kind
+pub value-is_of : (k : ScalarKind) (s : Scalar) (vs : Items) → ValuesFitAfter k (item (scalar s) vs) → is_of k s ≡ true
+unfolding value_test
+value-is_of k s vs h = unless-true (is_of k s) wrong_type h.1.0 (or-first (fault_unless (is_of k s) wrong_type h.1.0) _ (nil_first (value_test k h.0 s h.1.0) _ h.1.1))
+
 pub value-rest : (k : ScalarKind) (v : Json) (vs : Items) → ValuesFitAfter k (item v vs) → ValuesFitAfter k vs
 unfolding value_test
 value-rest k (scalar s) vs h = (value s ∷ h.0, (h.1.0, nil_second (value_test k h.0 s h.1.0) _ h.1.1))
@@ -80,10 +89,6 @@ value-rest k (object ms) vs h = absurd (cons≢nil h.1.1)
 
 abbrev pub ItemsFitAfter : List Text → Fields → Items → Type 0
 ItemsFitAfter ns fs vs = (earlier : List Element) × ((p : Path) × (item_faults ns fs earlier vs p ≡ []))
-
-or-first : {X : Type 0} (xs ys : List X) → or_else xs ys ≡ [] → xs ≡ []
-or-first [] ys e = refl
-or-first (x ∷ xs) ys e = absurd (cons≢nil e)
 
 or-second : {X : Type 0} (xs ys : List X) → or_else xs ys ≡ [] → ys ≡ []
 or-second [] ys e = e
@@ -109,12 +114,17 @@ item-keys : (ns : List Text) (fs : Fields) (earlier : List Element) (ms : Member
 unfolding item_test
 item-keys ns fs earlier ms p e = or-first (key_faults ns fs ms p) _ e
 
+-- an item that is an object has its key fields, and its fields fit
+pub item-parts : (ns : List Text) (fs : Fields) (ms : Members) (vs : Items) → ItemsFitAfter ns fs (item (object ms) vs) → KeysFit ns fs ms × FieldsFit fs ms
+item-parts ns fs ms vs h =
+    let now = item-now ns fs h.0 ms vs h.1.0 h.1.1 in
+    ((h.1.0, item-keys ns fs h.0 ms h.1.0 now), (h.1.0 ++ item_key ns ms ∷ [], (item-new ns fs h.0 ms h.1.0 now).1))
+
 pub item-first : (ns : List Text) (fs : Fields) (v : Json) (vs : Items) → ItemsFitAfter ns fs (item v vs) → ItemFits ns fs v
 item-first ns fs (scalar s) vs h = absurd (cons≢nil h.1.1)
 item-first ns fs (list ws) vs h = absurd (cons≢nil h.1.1)
 item-first ns fs (object ms) vs h =
-    let now = item-now ns fs h.0 ms vs h.1.0 h.1.1 in
-    (ms, (refl, ((h.1.0, item-keys ns fs h.0 ms h.1.0 now), (h.1.0 ++ item_key ns ms ∷ [], (item-new ns fs h.0 ms h.1.0 now).1))))
+    (ms, (refl, item-parts ns fs ms vs h))
 
 pub item-rest : (ns : List Text) (fs : Fields) (v : Json) (vs : Items) → ItemsFitAfter ns fs (item v vs) → ItemsFitAfter ns fs vs
 unfolding item_test
@@ -128,10 +138,6 @@ item-rest ns fs (object ms) vs h = (item_key ns ms ∷ h.0, (h.1.0, nil_second (
 are_new : List Element → List Element → Bool
 are_new earlier [] = true
 are_new earlier (e ∷ es) = not (is_among e earlier) && are_new (e ∷ earlier) es
-
-unless-true : (b : Bool) (f : Rattle.ssa_model.specs.Kind.BodyFault) (p : Path) → fault_unless b f p ≡ [] → b ≡ true
-unless-true true f p e = refl
-unless-true false f p e = absurd (cons≢nil e)
 
 values-new : (k : ScalarKind) (earlier : List Element) (vs : Items) (p : Path) → value_faults k earlier vs p ≡ [] → are_new earlier (value_order vs) ≡ true
 unfolding are_new value_test

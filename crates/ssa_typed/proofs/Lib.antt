@@ -1,5 +1,7 @@
 pub mod Alike
 pub mod AlikeTrees
+pub mod AnyTree
+pub mod BodyFits
 pub mod Building
 pub mod Collecting
 pub mod Copying
@@ -8,6 +10,7 @@ pub mod EmptyMetadata
 pub mod Finding
 pub mod Fitting
 pub mod ItemKeys
+pub mod KindRows
 pub mod Laws
 pub mod Levels
 pub mod Looks
@@ -17,10 +20,12 @@ pub mod OverNodes
 pub mod Overlaying
 pub mod References
 pub mod SameMembers
-pub mod ShownMembers
+pub mod ShapesFit
 pub mod Showing
+pub mod ShownMembers
 pub mod Sizes
 pub mod Sorting
 pub mod Stands
+pub mod TreeRows
 pub mod Trees
 pub mod Values

@@ -30,7 +30,7 @@ some_own : (b : Bool) (x : Content) (y : Option Content) → is_some (or_else (c
 some_own true x y = refl
 some_own false x y = refl
 
-some-below : (e : Element) (cs : List (Elem × Node)) → is_some (content_at (rows_below cs) (e ∷ [])) ≡ list_any (same_element e) (elements cs)
+pub some-below : (e : Element) (cs : List (Elem × Node)) → is_some (content_at (rows_below cs) (e ∷ [])) ≡ list_any (same_element e) (elements cs)
 some-below e [] = refl
 some-below e (c ∷ cs) =
     let s = element_view c.0 in

@@ -130,7 +130,7 @@ module _ (cs : Children) where
 
 -- ---- the body of an object
 
-rows_at-none : (rs : List Row) → rows_at [] rs ≡ rs
+pub rows_at-none : (rs : List Row) → rows_at [] rs ≡ rs
 rows_at-none [] = refl
 rows_at-none (r ∷ rs) = ap (λ xs. r ∷ xs) (rows_at-none rs)
 

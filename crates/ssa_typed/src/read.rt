@@ -1,6 +1,7 @@
 //! Bodies of values.
 ghost use Rattle.std.specs.Prelude.{◌≡◌, true, IfOk};
 ghost use Rattle.ssa_model.specs.Body.{flat};
+ghost use Rattle.ssa_model.specs.Fitting.{IsBodyOf};
 ghost use Rattle.ssa_json.specs.View.{view};
 ghost use Rattle.ssa_schema.specs.Kinds.{kind_view};
 ghost use Rattle.ssa_schema.specs.Lawful.{is_root_kind};
@@ -25,7 +26,8 @@ const MOST_PLACES: usize = 20_001;
 fn body_of(alloc: Global, kind: &Kind, value: Json) -> Result<Body, AllocError>
     requires root { is_root_kind (kind_view kind.now) ≡ true }
     requires fits { Fits (kind_view kind.now) (view value) }
-    ensures { IfOk result (λ b. b ≡ flat (kind_view kind.now) (view value)) }
+    ensures exact { IfOk result (λ b. b ≡ flat (kind_view kind.now) (view value)) }
+    ensures fits { IfOk result (λ b. IsBodyOf (kind_view kind.now) b) }
 {
     match kind {
         Kind::Record(fields) => {
@@ -44,7 +46,8 @@ impl Body {
     /// Refused are a value that does not fit the schema, with its first fault, and then one with
     /// more than 20,000 places beside the root.
     pub fn from_json(alloc: Global, schema: &Schema, value: Json) -> Result<Body, TypedFault>
-        ensures { ReadsBody result schema.now.1 (view value) }
+        ensures read { ReadsBody result schema.now.1 (view value) }
+        ensures fits { IfOk result (λ b. IsBodyOf schema.now.1 b) }
     {
         if let Some(fault) = schema.first_fault(alloc, &value)? {
             return Err(TypedFault::Body(fault));

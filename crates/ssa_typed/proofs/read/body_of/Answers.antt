@@ -1,12 +1,16 @@
-use Rattle.std.proofs.Common.{◌≡◌, sym, ap, ◌∙◌, subst, subst₂}
+use Rattle.std.proofs.Common.{◌≡◌, refl, sym, ap, ◌∙◌, subst, subst₂}
 use Rattle.ssa_model.specs.Kind as model
-use Rattle.ssa_model.specs.Body.{field_places, flat}
+use Rattle.ssa_model.specs.Json.{object}
+use Rattle.ssa_model.specs.Body.{field_places, flat, without_empty_metadata}
+use Rattle.ssa_model.specs.Fitting.{IsBodyOf}
 use Rattle.ssa_json.specs.View.{members_view}
 use Rattle.ssa_schema.specs.Kinds.{kind_view, fields_view}
 use Rattle.ssa_schema.proofs.Kinding.{kind_view-Record}
 use Rattle.ssa_typed.specs.Flats.{AreNamed, Fits, FieldsFit}
+use Rattle.ssa_typed.specs.declared.node.Node.{Branch}
+use Rattle.ssa_typed.proofs.BodyFits.{body-fits}
 use Rattle.ssa_typed.proofs.EmptyMetadata.{without-fits}
-use Rattle.ssa_typed.proofs.Trees.{record-tree, record-flat}
+use Rattle.ssa_typed.proofs.Trees.{record-made, record-tree, record-flat}
 use Rattle.ssa_typed.proofs.read.body_of.Goals as goal
 
 pub field_children-requires-clause-fits : goal.field_children-requires-clause-fits
@@ -21,11 +25,22 @@ new-requires c =
     let fs = fields_view c.in-Record.fields.entries in
     record-tree c.in_ok-children-in-Record.children (field_places fs (members_view c.without_empty_metadata-members.result.entries)) c.in_ok-children-in-Record.ensures
 
-pub returns : goal.returns
-returns c =
+pub returns-clause-exact : goal.returns-clause-exact
+returns-clause-exact c =
     let fs = fields_view c.in-Record.fields.entries in
     let ms = members_view c.into_members.result.entries in
     let cs = c.in_ok-children-in-Record.children in
     c.new.ensures
     ∙ record-flat cs fs ms (subst (λ ns. AreNamed (field_places fs ns) cs.items) c.without_empty_metadata-members.ensures c.in_ok-children-in-Record.ensures)
     ∙ (λ i. flat (sym (ap kind_view c.in-Record.is ∙ kind_view-Record c.in-Record.fields) i) (sym c.into_members.ensures i))
+
+pub returns-clause-fits : goal.returns-clause-fits
+returns-clause-fits c =
+    let fs = fields_view c.in-Record.fields.entries in
+    let ms = members_view c.into_members.result.entries in
+    let cs = c.in_ok-children-in-Record.children in
+    let is : kind_view c.args.kind.now ≡ model.record_of fs = ap kind_view c.in-Record.is ∙ kind_view-Record c.in-Record.fields in
+    let named = subst (λ ns. AreNamed (field_places fs ns) cs.items) c.without_empty_metadata-members.ensures c.in_ok-children-in-Record.ensures in
+    subst₂ IsBodyOf (sym is) (sym c.new.ensures)
+    (body-fits (model.record_of fs) (object (without_empty_metadata ms)) (Branch cs) (without-fits fs ms (subst₂ Fits is c.into_members.ensures c.requires.fits))
+    (record-made cs (model.record_of fs) (object (without_empty_metadata ms)) fs (without_empty_metadata ms) refl refl named))

@@ -1,0 +1,169 @@
+-- Each row of a fitting value stands where its kind has a place, and an item has the rows of its key fields.
+use Rattle.std.proofs.Common.{◌≡◌, List, [], ◌∷◌, ◌++◌, inl, inr, Bool, true, false, Option, Some, None, refl, sym, ap, subst, ◌∙◌}
+use Rattle.std.specs.Prelude.{if◌then◌else◌, option_map}
+use Rattle.std.specs.List.{AllByRecursion}
+use Rattle.ssa_model.specs.Json.{Text, Scalar, Json, scalar, list, object, Items, no_items, item, Members, no_members, member, member_of, same_text}
+use Rattle.ssa_model.specs.Path.{Element, field, key, value, Path}
+use Rattle.ssa_model.specs.Kind as kinds
+use Rattle.ssa_model.specs.Kind.{Kind, ScalarKind, Fields, scalar_kind, atomic_of, record_of, dict_of, items_of, kind_of, is_of, item_key, key_scalars, wrong_type}
+use Rattle.ssa_model.specs.Body.{Content, leaf, atom, record_branch, dict_branch, list_branch, places, field_places, entry_places, value_places, item_places, value_order, key_order}
+use Rattle.ssa_model.specs.Fitting.{Place, of_kind, item_of, value_of, place_below, place_at, content_fits, IsAt, scalar_of}
+use Rattle.ssa_model.specs.Operations.{is_none}
+use Rattle.ssa_json.proofs.Equality.{same_text-true, same_scalar-itself}
+use Rattle.ssa_typed.specs.Rows.{Row}
+use Rattle.ssa_typed.specs.Flats.{member_places, Fits, FieldsFit, EntriesFit, KeysFit}
+use Rattle.ssa_typed.proofs.Fitting.{ValuesFitAfter, ItemsFitAfter, member-first, member-rest, entry-first, entry-rest, value-is_of, value-rest, item-parts, item-rest}
+use Rattle.ssa_typed.proofs.ItemKeys.{unless-true, keys-fit, key-member}
+use Rattle.ssa_typed.proofs.Laws.{none≢some, some-same}
+use Rattle.ssa_typed.proofs.ShapesFit.{shape-anywhere}
+use Rattle.ssa_typed.proofs.TreeRows.{IsRow, row-left, row-right}
+use Rattle.ssa_typed.proofs.Trees.{known-places}
+
+-- ---- places, one element further
+
+abbrev then_at : Path → Option Place → Option Place
+then_at p None = None
+then_at p (Some q) = place_at q p
+
+place-level : (q : Place) (e : Element) (p : Path) → place_at q (e ∷ p) ≡ then_at p (place_below q e)
+place-level q e p = elim (place_below q e) as (λ o. ◌≡◌ {A = Option Place} (elim o [ None ↦ None | Some r ↦ place_at r p ]) (then_at p o)) [ None ↦ refl | Some r ↦ refl ]
+
+pub place-push : (p : Path) (q : Place) (e : Element) (r s : Place) → place_at q p ≡ Some r → place_below r e ≡ Some s → place_at q (p ++ e ∷ []) ≡ Some s
+place-push [] q e r s at below = place-level q e [] ∙ ap (λ x. then_at [] (place_below x e)) (some-same q r at) ∙ ap (then_at []) below
+place-push (f ∷ p) q e r s at below =
+    place-level q f (p ++ e ∷ [])
+    ∙ elim (place_below q f) as (λ o. then_at p o ≡ Some r → then_at (p ++ e ∷ []) o ≡ Some s) [ None ↦ λ h. absurd (none≢some h) | Some x ↦ λ h. place-push p x e r s h below ]
+    (sym (place-level q f p) ∙ at)
+
+-- ---- the key that a path ends with
+
+abbrev keys_in : Element → List (Text × Scalar)
+keys_in (field n) = []
+keys_in (key ks) = ks
+keys_in (value s) = []
+
+abbrev pub last_keys : Path → List (Text × Scalar)
+last_keys [] = []
+last_keys (e ∷ []) = keys_in e
+last_keys (e ∷ f ∷ p) = last_keys (f ∷ p)
+
+pub last_keys-push : (p : Path) (e : Element) → last_keys (p ++ e ∷ []) ≡ keys_in e
+last_keys-push [] e = refl
+last_keys-push (f ∷ []) e = refl
+last_keys-push (f ∷ g ∷ p) e = last_keys-push (g ∷ p) e
+
+-- ---- the row of a key field
+
+key-row-if : (b : Bool) (fs : Fields) (m : Text) (v : Json) (ms : Members) (p : Path) (n : Text) (s : Scalar) (k : ScalarKind) → same_text n m ≡ b → kind_of n fs ≡ Some (scalar_kind k)
+    → (member_of n ms ≡ Some (scalar s) → IsRow (p ++ field n ∷ [], leaf s) (field_places fs ms p))
+    → (if b then Some v else member_of n ms) ≡ Some (scalar s) → IsRow (p ++ field n ∷ [], leaf s) (member_places fs m v (p ++ field m ∷ []) ++ field_places fs ms p)
+key-row-if true fs m v ms p n s k same is later found =
+    let named = same_text-true n m same in
+    let own = some-same v (scalar s) found in
+    let one : member_places fs m v (p ++ field m ∷ []) ≡ (p ++ field n ∷ [], leaf s) ∷ [] =
+    (λ i. member_places fs (sym named i) (own i) (p ++ field (sym named i) ∷ [])) ∙ known-places n fs (scalar s) (scalar_kind k) (p ++ field n ∷ []) is in
+    row-left _ (member_places fs m v (p ++ field m ∷ [])) (field_places fs ms p) (subst (IsRow (p ++ field n ∷ [], leaf s)) (sym one) (inl refl))
+key-row-if false fs m v ms p n s k same is later found = row-right _ (member_places fs m v (p ++ field m ∷ [])) (field_places fs ms p) (later found)
+
+key-row : (fs : Fields) (ms : Members) (p : Path) (n : Text) (s : Scalar) (k : ScalarKind) → kind_of n fs ≡ Some (scalar_kind k) → member_of n ms ≡ Some (scalar s) → IsRow (p ++ field n ∷ [], leaf s) (field_places fs ms p)
+key-row fs no_members p n s k is found = absurd (none≢some found)
+key-row fs (member m v ms) p n s k is found = key-row-if (same_text n m) fs m v ms p n s k refl is (key-row fs ms p n s k is) found
+
+-- the row of a key field of an item
+own-key : (ns : List Text) (fs : Fields) (ms : Members) (own : Path) (n : Text) (s : Scalar) → KeysFit ns fs ms → scalar_of n (key_scalars ns ms) ≡ Some s → IsRow (own ++ field n ∷ [], leaf s) (field_places fs ms own)
+own-key ns fs ms own n s fits found = let is = key-member ns fs ms fits.0 n s fits.1 found in key-row fs ms own n s is.of_kind is.is_kind is.is_own
+
+-- ---- the rows of a value
+
+-- the row stands at a place of the kind, and where it is an item's, the rows of its key fields are there
+pub record IsKindRow (root : Kind) (total : List Row) (r : Row) : Type 0 where
+  pub at : IsAt root r.0 r.1
+  pub keys : (n : Text) (s : Scalar) → scalar_of n (last_keys r.0) ≡ Some s → IsRow (r.0 ++ field n ∷ [], leaf s) total
+
+module _ (root : Kind) (total : List Row) where
+  abbrev pub AllKindRows : List Row → Type 0
+  AllKindRows rs = AllByRecursion (IsKindRow root total) rs
+
+  abbrev AreIn : List Row → Type 0
+  AreIn rs = (r : Row) → IsRow r rs → IsRow r total
+
+  all-append : (xs ys : List Row) → AllKindRows xs → AllKindRows ys → AllKindRows (xs ++ ys)
+  all-append [] ys g h = h
+  all-append (x ∷ xs) ys g h = (g.0, all-append xs ys g.1 h)
+
+  in-left : (xs ys : List Row) → AreIn (xs ++ ys) → AreIn xs
+  in-left xs ys h r one = h r (row-left r xs ys one)
+
+  in-right : (xs ys : List Row) → AreIn (xs ++ ys) → AreIn ys
+  in-right xs ys h r one = h r (row-right r xs ys one)
+
+  -- a row that is no item of a map list
+  plain-row : (p : Path) (c : Content) (q : Place) → place_at (of_kind root) p ≡ Some q → content_fits q c ≡ true → last_keys p ≡ [] → IsKindRow root total (p, c)
+  plain-row p c q at fits none = record {
+    at = record { place = q; there = at; fits = fits };
+    keys = λ n s found. absurd (none≢some (sym (ap (scalar_of n) none) ∙ found));
+  }
+
+  set_rows : (k : ScalarKind) (vs : Items) (p : Path) → place_at (of_kind root) p ≡ Some (of_kind (kinds.set_of k)) → ValuesFitAfter k vs → AllKindRows (value_places vs p)
+  set_rows k no_items p at fits = tt
+  set_rows k (item (list ws) vs) p at fits = set_rows k vs p at (value-rest k (list ws) vs fits)
+  set_rows k (item (object ms) vs) p at fits = set_rows k vs p at (value-rest k (object ms) vs fits)
+  set_rows k (item (scalar s) vs) p at fits = (
+    plain-row (p ++ value s ∷ []) (leaf s) (value_of s)
+        (place-push p (of_kind root) (value s) (of_kind (kinds.set_of k)) (value_of s) at (ap (λ b. if b then Some (value_of s) else None) (value-is_of k s vs fits)))
+        (same_scalar-itself s) (last_keys-push p (value s)),
+    set_rows k vs p at (value-rest k (scalar s) vs fits),
+  )
+
+  mutual
+    pub value_rows : (k : Kind) (v : Json) (p : Path) → place_at (of_kind root) p ≡ Some (of_kind k) → last_keys p ≡ [] → Fits k v → AreIn (places k v p) → AllKindRows (places k v p)
+    value_rows (scalar_kind k) (scalar s) p at none fits in_all = (plain-row p (leaf s) (of_kind (scalar_kind k)) at (unless-true (is_of k s) wrong_type fits.0 fits.1) none, tt)
+    value_rows (atomic_of t) v p at none fits in_all = (plain-row p (atom v) (of_kind (atomic_of t)) at (ap is_none (shape-anywhere t v fits.0 [] fits.1)) none, tt)
+    value_rows (record_of fs) (object ms) p at none fits in_all =
+        (plain-row p record_branch (of_kind (record_of fs)) at refl none, field_rows (of_kind (record_of fs)) fs ms p at (λ n. refl) fits (λ r h. in_all r (inr h)))
+    value_rows (dict_of k) (object ms) p at none fits in_all = (plain-row p dict_branch (of_kind (dict_of k)) at refl none, entry_rows k ms p at fits (λ r h. in_all r (inr h)))
+    value_rows (kinds.set_of k) (list vs) p at none fits in_all = (plain-row p (list_branch (value_order vs)) (of_kind (kinds.set_of k)) at refl none, set_rows k vs p at ([], fits))
+    value_rows (items_of ns fs) (list vs) p at none fits in_all =
+        (plain-row p (list_branch (key_order ns vs)) (of_kind (items_of ns fs)) at refl none, item_rows ns fs vs p at ([], fits) (λ r h. in_all r (inr h)))
+    value_rows _ _ p at none fits in_all = tt
+
+    field_rows : (q : Place) (fs : Fields) (ms : Members) (p : Path) → place_at (of_kind root) p ≡ Some q → ((n : Text) → place_below q (field n) ≡ option_map of_kind (kind_of n fs)) → FieldsFit fs ms
+        → AreIn (field_places fs ms p) → AllKindRows (field_places fs ms p)
+    field_rows q fs no_members p at below fits in_all = tt
+    field_rows q fs (member n v ms) p at below fits in_all =
+        let fit = member-first fs n v ms fits in
+        let own = p ++ field n ∷ [] in
+        let is : member_places fs n v own ≡ places fit.0 v own = known-places n fs v fit.0 own fit.1.0 in
+        let there = place-push p (of_kind root) (field n) q (of_kind fit.0) at (below n ∙ ap (option_map of_kind) fit.1.0) in
+        all-append (member_places fs n v own) (field_places fs ms p)
+        (subst AllKindRows (sym is) (value_rows fit.0 v own there (last_keys-push p (field n)) fit.1.1 (subst AreIn is (in-left (member_places fs n v own) (field_places fs ms p) in_all))))
+        (field_rows q fs ms p at below (member-rest fs n v ms fits) (in-right (member_places fs n v own) (field_places fs ms p) in_all))
+
+    entry_rows : (k : Kind) (ms : Members) (p : Path) → place_at (of_kind root) p ≡ Some (of_kind (dict_of k)) → EntriesFit k ms → AreIn (entry_places k ms p) → AllKindRows (entry_places k ms p)
+    entry_rows k no_members p at fits in_all = tt
+    entry_rows k (member n v ms) p at fits in_all =
+        let own = p ++ field n ∷ [] in
+        let there = place-push p (of_kind root) (field n) (of_kind (dict_of k)) (of_kind k) at refl in
+        all-append (places k v own) (entry_places k ms p)
+        (value_rows k v own there (last_keys-push p (field n)) (entry-first k n v ms fits) (in-left (places k v own) (entry_places k ms p) in_all))
+        (entry_rows k ms p at (entry-rest k n v ms fits) (in-right (places k v own) (entry_places k ms p) in_all))
+
+    item_rows : (ns : List Text) (fs : Fields) (vs : Items) (p : Path) → place_at (of_kind root) p ≡ Some (of_kind (items_of ns fs)) → ItemsFitAfter ns fs vs → AreIn (item_places ns fs vs p) → AllKindRows (item_places ns fs vs p)
+    item_rows ns fs no_items p at fits in_all = tt
+    item_rows ns fs (item (scalar s) vs) p at fits in_all = item_rows ns fs vs p at (item-rest ns fs (scalar s) vs fits) in_all
+    item_rows ns fs (item (list ws) vs) p at fits in_all = item_rows ns fs vs p at (item-rest ns fs (list ws) vs fits) in_all
+    item_rows ns fs (item (object ms) vs) p at fits in_all =
+        let own = p ++ item_key ns ms ∷ [] in
+        let parts = item-parts ns fs ms vs fits in
+        let there = place-push p (of_kind root) (item_key ns ms) (of_kind (items_of ns fs)) (item_of ns fs) at (ap (λ b. if b then Some (item_of ns fs) else None) (keys-fit ns fs ms parts.0.0 parts.0.1)) in
+        let rest : AreIn (field_places fs ms own ++ item_places ns fs vs p) = (λ r h. in_all r (inr h)) in (
+          record { at = record { place = item_of ns fs; there = there; fits = refl }; keys = λ n s found. in-left (field_places fs ms own) (item_places ns fs vs p) rest _ (own-key ns fs ms own n s parts.0 (sym (ap (scalar_of n) (last_keys-push p (item_key ns ms))) ∙ found)) },
+          all-append (field_places fs ms own) (item_places ns fs vs p)
+              (field_rows (item_of ns fs) fs ms own there (λ n. refl) parts.1 (in-left (field_places fs ms own) (item_places ns fs vs p) rest))
+              (item_rows ns fs vs p at (item-rest ns fs (object ms) vs fits) (in-right (field_places fs ms own) (item_places ns fs vs p) rest)),
+        )
+
+  pub each-row : (rs : List Row) (r : Row) → AllKindRows rs → IsRow r rs → IsKindRow root total r
+  each-row [] r all one = absurd one
+  each-row (x ∷ xs) r all (inl e) = subst (IsKindRow root total) (sym e) all.0
+  each-row (x ∷ xs) r all (inr one) = each-row xs r all.1 one
