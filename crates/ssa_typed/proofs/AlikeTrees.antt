@@ -9,19 +9,11 @@ use Rattle.ssa_path.proofs.Orders.{same_element-true}
 use Rattle.ssa_typed.specs.Alike.{are_alike, AreAlike}
 use Rattle.ssa_typed.specs.Over.{AreAlikeTrees}
 use Rattle.ssa_typed.specs.Points.{content_in}
-use Rattle.ssa_typed.specs.Rows.{rows, below, content_at, own_content, leaf_content, body_of, is_tree}
-use Rattle.ssa_typed.specs.declared.node.Leaf.{Leaf}
-use Rattle.ssa_typed.specs.declared.node.Leaf.TheVariants.{Scalar, Atomic}
+use Rattle.ssa_typed.specs.Rows.{rows, below, content_at, own_content, body_of, is_tree}
 use Rattle.ssa_typed.specs.declared.node.Node.{Node}
 use Rattle.ssa_typed.proofs.Building.{Child}
 use Rattle.ssa_typed.proofs.Looks.{get-body}
 use Rattle.ssa_typed.proofs.Lookups.{content-level, content-root}
-
-pub alike-leaves : (l k : Leaf) → are_alike (Some (leaf_content l)) (Some (leaf_content k)) ≡ true
-alike-leaves (Scalar s) (Scalar t) = refl
-alike-leaves (Scalar s) (Atomic v) = refl
-alike-leaves (Atomic v) (Scalar t) = refl
-alike-leaves (Atomic v) (Atomic w) = refl
 
 -- where there is such a child, the node is alike to it
 abbrev pub IsAlikeIn : Node → Option Node → Type 0

@@ -6,7 +6,7 @@ use Rattle.ssa_path.specs.Children.{child_at, elements, rises}
 use Rattle.ssa_path.specs.View.{element_view}
 use Rattle.ssa_typed.specs.Copies.{kept, kept_below}
 use Rattle.ssa_typed.specs.Points.{content_in}
-use Rattle.ssa_typed.specs.Rows.{Row, rows, rows_below, content_at, under_element, leaf_content, is_tree, are_trees, are_apart, are_fields, are_items}
+use Rattle.ssa_typed.specs.Rows.{Row, rows, rows_below, content_at, under_element, is_tree, are_trees, are_apart, are_fields, are_items}
 use Rattle.ssa_typed.specs.declared.node.Leaf.{Leaf}
 use Rattle.ssa_typed.specs.declared.node.Node.{Node, Leaf as LeafOf, Branch, Dict, List as ListOf, the_lemmas}
 use Rattle.ssa_typed.proofs.Building.{Child}
@@ -79,9 +79,6 @@ kept-rows n m e = ap (λ (k : List Row × Bool). k.0) e
 
 pub kept-tree : (n m : Node) → kept n ≡ kept m → is_tree n ≡ is_tree m
 kept-tree n m e = ap (λ (k : List Row × Bool). k.1) e
-
-pub rows-Leaf : (l : Leaf) → rows (LeafOf l) ≡ ([], leaf_content l) ∷ []
-rows-Leaf l = search (rules, the_lemmas)
 
 pub tree-Leaf : (l : Leaf) → is_tree (LeafOf l) ≡ true
 tree-Leaf l = search (rules, the_lemmas)
