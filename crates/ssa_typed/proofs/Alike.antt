@@ -7,6 +7,7 @@ use Rattle.ssa_model.specs.Kind.{Kind, scalar_kind, atomic_of, record_of, dict_o
 use Rattle.ssa_model.specs.Path.{Path}
 use Rattle.ssa_model.specs.PathMap.{get}
 use Rattle.ssa_typed.specs.Alike.{are_alike, AreAlike}
+use Rattle.ssa_typed.proofs.Laws.{some-same}
 
 data Sort : Type 0 where
   leaves : Sort
@@ -103,9 +104,6 @@ sort-alike (list_branch es) (atom w) h = cc
 sort-alike (list_branch es) record_branch h = cc
 sort-alike (list_branch es) dict_branch h = cc
 sort-alike (list_branch es) (list_branch fs) h = refl
-
-some-same : (q r : Place) → ◌≡◌ {A = Option Place} (Some q) (Some r) → q ≡ r
-some-same q r e = cc
 
 at-one-place : (kind : Kind) (p : Path) (c d : Content) → IsAt kind p c → IsAt kind p d → are_alike (Some c) (Some d) ≡ true
 at-one-place kind p c d g h =

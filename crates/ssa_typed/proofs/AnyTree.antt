@@ -7,7 +7,7 @@ use Rattle.ssa_model.specs.Kind.{is_among}
 use Rattle.ssa_model.specs.Body.{order_at}
 use Rattle.ssa_model.specs.Fitting.{are_distinct}
 use Rattle.ssa_path.specs.Children.{child_at, elements}
-use Rattle.ssa_path.proofs.Orders.{same_element-true, both, both_first, both_second}
+use Rattle.ssa_path.proofs.Orders.{same_element-true, both_first, both_second}
 use Rattle.ssa_typed.specs.Rows.{rows, below, body_of, leaf_content, own_content, content_at, is_tree, are_apart, are_items, are_fields}
 use Rattle.ssa_typed.specs.Points.{content_in}
 use Rattle.ssa_typed.specs.declared.node.Leaf.{Leaf}
@@ -16,7 +16,7 @@ use Rattle.ssa_typed.specs.declared.node.Node.{Node, Leaf as LeafOf, Branch, Dic
 use Rattle.ssa_typed.specs.declared.node.Node.TheOpen.{Node-F}
 use Rattle.ssa_typed.specs.declared.node.Node.TheViews.{out-Node, roll-Node, roll-out-Node}
 use Rattle.ssa_typed.proofs.Laws.{not_true}
-use Rattle.ssa_typed.proofs.Levels.{own-Branch, own-Dict, own-List, level-below, tree-Branch, tree-Dict, tree-List}
+use Rattle.ssa_typed.proofs.Levels.{apart-distinct, own-Branch, own-Dict, own-List, level-below, tree-Branch, tree-Dict, tree-List}
 use Rattle.ssa_typed.proofs.Looks.{get-body, some-below}
 use Rattle.ssa_typed.proofs.Lookups.{content-root, content-level, tree-child}
 
@@ -84,10 +84,6 @@ record IsOrdered (n : Node) : Type 0 where
   once : are_distinct (order_at (Some (own_content n))) ≡ true
   items : (e : Element) → is_among e (order_at (Some (own_content n))) ≡ (is_item_element e && is_among e (elements (below n)))
 
-distinct-apart : (es : List Element) → are_apart es ≡ true → are_distinct es ≡ true
-distinct-apart [] h = refl
-distinct-apart (e ∷ es) h = both _ _ (both_first _ _ h) (distinct-apart es (both_second (not (is_among e es)) _ h))
-
 ordered-named : (n : Node) (es : List Element) → order_at (Some (own_content n)) ≡ [] → elements (below n) ≡ es → are_fields es ≡ true → IsOrdered n
 ordered-named n es none is h = record {
   once = ap are_distinct none;
@@ -96,7 +92,7 @@ ordered-named n es none is h = record {
 
 ordered-listed : (n : Node) (es : List Element) → order_at (Some (own_content n)) ≡ es → elements (below n) ≡ es → (are_apart es && are_items es) ≡ true → IsOrdered n
 ordered-listed n es own is h = record {
-  once = ap are_distinct own ∙ distinct-apart es (both_first _ _ h);
+  once = ap are_distinct own ∙ sym (apart-distinct es) ∙ both_first _ _ h;
   items = λ e. ap (is_among e) own ∙ only-items e (is_item_element e) es (both_second (are_apart es) _ h) refl ∙ ap (λ fs. is_item_element e && is_among e fs) (sym is);
 }
 

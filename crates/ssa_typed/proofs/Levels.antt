@@ -4,6 +4,7 @@ use Rattle.std.specs.List.{list_any}
 use Rattle.std.specs.Ordering.{is_lt}
 use Rattle.ssa_model.specs.Path.{Element, element_cmp, same_element}
 use Rattle.ssa_model.specs.Body.{Content, record_branch, dict_branch, list_branch}
+use Rattle.ssa_model.specs.Fitting.{are_distinct}
 use Rattle.ssa_path.specs.Children.{elements, is_below, rises}
 use Rattle.ssa_path.specs.declared.element.Elem.{Elem}
 use Rattle.ssa_path.proofs.Orders.{both, both_first, both_second, not_tied}
@@ -32,6 +33,11 @@ below-apart e (f ∷ es) h =
 pub rises-apart : (es : List Element) → rises es ≡ true → are_apart es ≡ true
 rises-apart [] h = refl
 rises-apart (e ∷ es) h = both _ _ (ap not (below-apart e es (both_first _ _ h))) (rises-apart es (both_second _ _ h))
+
+-- no two are equal, in the words of a tree and of a body
+pub apart-distinct : (es : List Element) → are_apart es ≡ are_distinct es
+apart-distinct [] = refl
+apart-distinct (e ∷ es) = ap (λ b. not (list_any (same_element e) es) && b) (apart-distinct es)
 
 -- ---- each sort of place
 

@@ -1,10 +1,9 @@
 -- One tree over another, level by level.
-use Rattle.std.proofs.Common.{◌≡◌, ℕ, zero, suc, arith, ◌+◌, ◌<◌, List, [], ◌∷◌, ◌++◌, length, get_or, take, Bool, true, false, not, ◌&&◌, ◌||◌, cond, Option, Some, None, refl, sym, ap, subst, ◌∙◌}
+use Rattle.std.proofs.Common.{◌≡◌, ℕ, zero, suc, arith, ◌+◌, ◌<◌, List, [], ◌∷◌, ◌++◌, length, get_or, take, Bool, true, false, not, ◌||◌, cond, Option, Some, None, refl, sym, ap, subst, ◌∙◌}
 use Rattle.std.proofs.lemmas.List.{take_more}
 use Rattle.std.specs.Prelude.{filter}
 use Rattle.std.specs.List.{list_any}
 use Rattle.ssa_model.specs.Body.{Content, leaf, atom, record_branch, dict_branch, list_branch, joined, over_content}
-use Rattle.ssa_model.specs.Fitting.{are_distinct}
 use Rattle.ssa_model.specs.Kind.{is_among}
 use Rattle.ssa_model.specs.Path.{Element, Path, same_element}
 use Rattle.ssa_model.proofs.Fitting.{distinct-joined}
@@ -21,6 +20,7 @@ use Rattle.ssa_typed.specs.declared.node.Node.{Node}
 use Rattle.ssa_typed.proofs.Building.{Child}
 use Rattle.ssa_typed.proofs.Copying.{kept-same, kept-rows, kept-tree}
 use Rattle.ssa_typed.proofs.References.{Reference, order-below}
+use Rattle.ssa_typed.proofs.Levels.{apart-distinct}
 use Rattle.ssa_typed.proofs.Lookups.{content-level, content-root, child_at-rest}
 
 -- ---- going down
@@ -165,10 +165,6 @@ children-over n m made new each trees h =
     }
 
 -- ---- a node of these children
-
-apart-distinct : (es : List Element) → are_apart es ≡ are_distinct es
-apart-distinct [] = refl
-apart-distinct (e ∷ es) = ap (λ b. not (list_any (same_element e) es) && b) (apart-distinct es)
 
 pub over-apart : (n m : Node) (cs : List Child) → are_apart (elements (below n)) ≡ true → are_apart (elements (below m)) ≡ true → AreOver n m cs → are_apart (elements cs) ≡ true
 over-apart n m cs live config h =
