@@ -48,7 +48,7 @@ some-child n e = ap (λ rs. is_some (content_at rs (e ∷ []))) (level-below n).
 abbrev singles : Path → List Element → List (Path × Unit {0})
 singles p es = map (λ e. (p ++ e ∷ [], tt)) es
 
-then_equal : (o : Ordering) → is_eq (ordering_then o Equal) ≡ is_eq o
+pub then_equal : (o : Ordering) → is_eq (ordering_then o Equal) ≡ is_eq o
 then_equal Less = refl
 then_equal Equal = refl
 then_equal Greater = refl

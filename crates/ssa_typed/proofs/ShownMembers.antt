@@ -21,6 +21,7 @@ use Rattle.ssa_schema.specs.Lawful.{is_before_all, is_ordered, are_ordered}
 use Rattle.ssa_typed.specs.Values.{members_of, member_under, value_of, values_of}
 use Rattle.ssa_typed.specs.declared.node.Node.{Node}
 use Rattle.ssa_typed.proofs.Building.{Child}
+use Rattle.ssa_typed.proofs.Looks.{then_equal}
 use Rattle.ssa_typed.proofs.SameMembers.{named, text_cmp, is_true}
 
 -- ---- the fields that a body shows
@@ -115,11 +116,6 @@ name_of p q = if same_path (parent q) p then name_below p q else None
 abbrev is_name : Text → Option Text → Bool
 is_name n None = false
 is_name n (Some m) = same_text n m
-
-then_equal : (o : Ordering) → is_eq (ordering_then o Equal) ≡ is_eq o
-then_equal Less = refl
-then_equal Equal = refl
-then_equal Greater = refl
 
 then_less : (o : Ordering) → is_eq (ordering_then o Less) ≡ false
 then_less Less = refl
