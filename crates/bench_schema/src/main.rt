@@ -1,6 +1,10 @@
 //! Looks for the first fault of a value so many times, to be timed from outside.
 #![tactic(auto)]
 
+ghost use Rattle.std.specs.Prelude.{◌≡◌, not, is_some, codes};
+ghost use Rattle.std.specs.Ordering.{eq_by_cmp, nat_cmp};
+ghost use Rattle.std.specs.Cmp.Lexicographic.{slice_cmp};
+
 use anyhow::{Result, bail};
 use ssa_json::value::Json;
 use ssa_schema::body_fault::BodyFault;
@@ -45,8 +49,10 @@ fn read_json<R: Files + AllocGlobal>(rt: &R, name: &str) -> Result<Json> {
     Ok(Json::read(rt.alloc(), bytes.as_slice(), FILE_LIMIT)?)
 }
 
-// The word for what was found.
-fn word_for(fault: &Option<BodyFault>) -> &'static str {
+// The word for what was found: `fits` exactly where that is no fault.
+fn word_for(fault: &Option<BodyFault>) -> &'static str
+    ensures { eq_by_cmp (slice_cmp nat_cmp) (codes "fits") result.now ≡ not (is_some fault.now) }
+{
     match fault {
         None => "fits",
         Some(BodyFault::UnknownField(_)) => "UnknownField",

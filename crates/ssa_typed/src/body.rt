@@ -1,10 +1,10 @@
 //! Bodies, seen as finite maps from whole paths to contents.
-ghost use Rattle.std.specs.Prelude.{◌≡◌, [], ◌-◌, ◌^◌, true, min, option_map, IfOk};
-ghost use Rattle.ssa_model.specs.Body.{over, points};
+ghost use Rattle.std.specs.Prelude.{◌≡◌, [], ◌∷◌, ◌-◌, ◌^◌, true, min, option_map, IfOk};
+ghost use Rattle.ssa_model.specs.Body.{over, points, record_branch};
 ghost use Rattle.ssa_model.specs.Fitting.{IsBodyOf};
 ghost use Rattle.ssa_model.specs.Kind.{Kind};
 ghost use Rattle.ssa_model.specs.Objects.{shown};
-ghost use Rattle.ssa_model.specs.PathMap.{size};
+ghost use Rattle.ssa_model.specs.PathMap.{from_entries, size};
 ghost use Rattle.ssa_json.specs.View.{view};
 ghost use Rattle.ssa_schema.specs.Lawful.{is_ordered};
 ghost use Rattle.ssa_typed.specs.Alike.{AreAlike};
@@ -133,6 +133,7 @@ impl Body {
     pub fn take_root(&mut self, alloc: Global) -> Node
         ensures seen { body_of result ≡ self.old }
         ensures tree { is_tree result ≡ true }
+        ensures left { self.new ≡ from_entries (([], record_branch) ∷ []) }
     {
         mem::replace(&mut self.root, Node::Branch(Vec::new(alloc)))
     }
