@@ -1,16 +1,16 @@
 -- Histories are kept by the answers to lines.
-use Rattle.std.proofs.Common.{◌≡◌, List, [], ◌∷◌, ◌⊎◌, inl, inr, Bool, true, false, Result, Ok, Err, refl, sym, ap, ◌∙◌, subst}
+use Rattle.std.proofs.Common.{◌≡◌, List, [], ◌∷◌, ◌⊎◌, inl, inr, Bool, true, false, Result, Ok, Err, refl, sym, ap, ◌∙◌, subst, arith}
 use Rattle.std.specs.Prelude.{OnOk, if◌then◌else◌, nat_lt, length}
 use Rattle.ssa_model.specs.Commands.{first_rules}
 use Rattle.ssa_model.specs.History.{Bench, Timeline}
 use Rattle.ssa_model.specs.Answers.{Command}
 use Rattle.ssa_model.specs.Session.{LineFault, answer_read, read_line}
-use Rattle.ssa_model.specs.Effect.{IsHistory}
+use Rattle.ssa_model.specs.Effect.{IsHistory, AreSteps}
 use Rattle.ssa_model.proofs.Effect.{histories_are_carried_out}
 use Rattle.ssa_plain.specs.Benches.{nothing_given_up}
 use Rattle.ssabench.specs.BenchLines.{line_reply, bench_after}
 use Rattle.ssabench.specs.Commands.{readings}
-use Rattle.ssabench.specs.Effects.{IsCarriedOut}
+use Rattle.ssabench.specs.Effects.{IsAlone, IsCarriedOut}
 use Rattle.ssabench.specs.Session.{Replies, IsAnswer, IsRefused}
 use Rattle.ssabench.specs.declared.engine.SessionFault.{SessionFault}
 use Rattle.ssabench.specs.declared.engine.SessionFault.TheVariants.{Reader, Writer}
@@ -56,6 +56,12 @@ pub replies-carried : (old new : Bench) (lines texts : List (List Rattle.std.pro
 replies-carried old new lines texts r h =
     let kept = keeps-replies old new lines texts r h in
     record { first = kept.first; history = kept.history; state = (histories_are_carried_out nothing_given_up).1 new.timeline kept.history }
+
+-- one state is a history
+pub alone-history : (t : Timeline) → IsAlone t → IsHistory nothing_given_up t
+alone-history t h =
+    let none : t.place ≡ 0 = h.1 in
+    record { deeds = []; steps = subst (AreSteps nothing_given_up t.first []) (sym h.0) tt; place = omega (arith, none) }
 
 -- a session ends in one of three ways
 pub by-end : (r : Result (Unit {0}) SessionFault) (A B C X : Type 0) → OnOk r A → (r ≡ Err Reader → B) → (r ≡ Err Writer → C) → (A → X) → (B → X) → (C → X) → X

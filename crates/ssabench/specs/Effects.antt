@@ -1,5 +1,5 @@
 -- What stands in a bench after a session: the commands in effect, carried out on the first state.
-use Rattle.std.specs.Prelude.{◌≡◌, take, Ok}
+use Rattle.std.specs.Prelude.{◌≡◌, [], take, Ok}
 use Rattle.ssa_model.specs.History.{Timeline, present}
 use Rattle.ssa_model.specs.Effect.{IsHistory, all_carried_out}
 use Rattle.ssa_plain.specs.Benches.{nothing_given_up}
@@ -10,3 +10,7 @@ pub record IsCarriedOut (old new : Timeline) : Type 0 where
   pub first : new.first ≡ old.first
   pub history : IsHistory nothing_given_up new
   pub state : all_carried_out nothing_given_up new.first (take new.place history.deeds) ≡ Ok (present new)
+
+-- the timeline has one state
+abbrev pub IsAlone : Timeline → Type 0
+IsAlone t = (t.later ≡ []) × (t.place ≡ 0)

@@ -3,7 +3,7 @@ ghost use Rattle.std.specs.Prelude.{◌≡◌, true, OnOk, OnSome, Err};
 ghost use Rattle.std.specs.Io.KnownBytes.{IsAtEnd};
 ghost use Rattle.ssabench.specs.Outcome.{AnswersAll, AnswersWhole, AnswersPartly};
 ghost use Rattle.ssabench.specs.BenchLines.{line_reply, bench_after};
-ghost use Rattle.ssabench.specs.Effects.{IsCarriedOut};
+ghost use Rattle.ssabench.specs.Effects.{IsAlone, IsCarriedOut};
 ghost use Rattle.ssa_model.specs.Effect.{IsHistory};
 ghost use Rattle.ssa_plain.specs.Benches.{nothing_given_up};
 
@@ -38,7 +38,9 @@ pub fn session<R: Source, W: Sink>(
         (W.contents writer.old) (W.contents writer.new) bench.old bench.new }
     ensures writer_failed { result ≡ Err SessionFault.Writer → W.has_failed writer.new ≡ true }
 
-    // However it ends, the state at the place is the commands in effect, carried out on the first state.
+    // However it ends, the state at the place is the commands in effect, carried out on the first state:
+    // of a bench of one state, as a new one is, and of one with such a history.
+    ensures effect_on_new { IsAlone bench.old.timeline → IsCarriedOut bench.old.timeline bench.new.timeline }
     ensures effect { IsHistory nothing_given_up bench.old.timeline → IsCarriedOut bench.old.timeline bench.new.timeline }
 {
     engine::session(alloc, reader, writer, bench)
