@@ -1,5 +1,5 @@
 //! Moments, to the second.
-ghost use Rattle.std.specs.Prelude.{◌≡◌, ◌+◌, ◌<◌, ◌&&◌, ◌↔◌, length, IsOk, IfOk, IfSome, IsTrue};
+ghost use Rattle.std.specs.Prelude.{◌≡◌, ◌+◌, ◌<◌, ◌&&◌, ◌↔◌, length, IsOk, IfOk, IfSome, IsTrue, codes};
 ghost use Rattle.ssa_json.specs.Moment.{is_moment, is_date, is_time, digit_of, two_at, parts_of, has_marks, IsSmall};
 
 use jiff::civil::{Date, Time};
@@ -42,6 +42,15 @@ impl Moment {
         let mut bytes = [0; 20];
         bytes.copy_from_slice(text.as_bytes());
         Ok(Moment { bytes })
+    }
+
+    /// The first moment of all, the beginning of 1970.
+    pub fn first() -> Moment
+        ensures { result ≡ codes "1970-01-01T00:00:00Z" }
+    {
+        Moment {
+            bytes: *b"1970-01-01T00:00:00Z",
+        }
     }
 
     /// The text.
