@@ -1,0 +1,4 @@
+pub mod Managers
+pub mod Tables
+pub mod States
+pub mod Plans

@@ -1,0 +1,28 @@
+-- What managers and their entries are.
+use Rattle.std.specs.Prelude.{List, map, string_bytes}
+use Rattle.ssa_model.specs.PathMap.{PathSet}
+use Rattle.ssa_model.specs.Table as model
+use Rattle.ssa_path.specs.declared.field_set.FieldSet.{FieldSet}
+use Rattle.ssa_merge.specs.declared.manager.Operation.{Operation}
+use Rattle.ssa_merge.specs.declared.manager.Operation.TheVariants.{Apply, Update}
+use Rattle.ssa_merge.specs.declared.manager.ManagerKey.{ManagerKey}
+use Rattle.ssa_merge.specs.declared.managers.Entry.{Entry}
+
+abbrev pub operation_view : Operation → model.Operation
+operation_view Apply = model.applies
+operation_view Update = model.updates
+
+abbrev pub key_view : ManagerKey → model.ManagerKey
+key_view k = record { name = string_bytes k.name; operation = operation_view k.operation }
+
+abbrev pub entry_view : Entry → model.Entry
+entry_view e = record { manager = key_view e.key; owned = e.set; moment = e.at }
+
+abbrev pub table_view : List Entry → model.Table
+table_view = map entry_view
+
+abbrev pub clash_view : ManagerKey × PathSet → model.ManagerKey × PathSet
+clash_view c = (key_view c.0, c.1)
+
+abbrev pub clashes_view : List (ManagerKey × PathSet) → List (model.ManagerKey × PathSet)
+clashes_view = map clash_view

@@ -1,0 +1,27 @@
+-- What a plan says.
+use Rattle.std.specs.Prelude.{◌≡◌, Result, Ok, Err}
+use Rattle.ssa_model.specs.Operations as model
+use Rattle.ssa_typed.specs.Differences.{IsComparison}
+use Rattle.ssa_merge.specs.Managers.{clashes_view}
+use Rattle.ssa_merge.specs.States.{state_view}
+use Rattle.ssa_merge.specs.declared.plan.Plan.{Plan}
+use Rattle.ssa_merge.specs.declared.plan.Refusal.{Refusal}
+use Rattle.ssa_merge.specs.declared.plan.Refusal.TheVariants.{Conflict, TooManyPaths, TooManyManagers, OutOfMemory}
+
+-- the plan leads from one state to another
+pub record IsPlan (before : model.State) (plan : Plan) (after : model.State) : Type 0 where
+  pub target_is : state_view plan.target ≡ after
+  pub comparison_is : IsComparison before.body after.body plan.comparison
+
+-- the refusal that is told
+abbrev pub IsRefusal : Refusal → model.Refusal → Type 0
+IsRefusal (Conflict clashes) r = r ≡ model.conflict (clashes_view clashes.items)
+IsRefusal TooManyPaths r = r ≡ model.too_many_paths
+IsRefusal TooManyManagers r = r ≡ model.too_many_managers
+IsRefusal OutOfMemory r = ⊥
+
+-- The plan's target is the given state, or the refusal is the given one; of want of memory nothing is said.
+abbrev pub IsPlanned : model.State → Result Plan Refusal → Result model.State model.Refusal → Type 0
+IsPlanned before (Ok plan) given = (after : model.State) × (given ≡ Ok after) × IsPlan before plan after
+IsPlanned before (Err OutOfMemory) given = Unit {0}
+IsPlanned before (Err refusal) given = (r : model.Refusal) × (given ≡ Err r) × IsRefusal refusal r

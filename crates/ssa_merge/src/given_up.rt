@@ -1,0 +1,1 @@
+//! What an applier gives up, and what stays of the merged body.

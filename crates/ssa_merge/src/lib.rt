@@ -1,0 +1,9 @@
+//! Managers of fields, and what Apply, Update and Strip make of a state.
+#![tactic(auto)]
+
+pub mod given_up;
+pub mod manager;
+pub mod managers;
+pub mod plan;
+pub mod seat;
+pub mod state;

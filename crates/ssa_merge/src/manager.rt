@@ -1,0 +1,55 @@
+//! Managers of fields: a name, and the operation by which it came to own them.
+ghost use Rattle.std.specs.Prelude.{◌≡◌, IfOk};
+ghost use Rattle.ssa_model.specs.Table.{same_operation, same_manager};
+ghost use Rattle.ssa_merge.specs.Managers.{operation_view, key_view};
+
+use std::alloc::{AllocError, Global};
+
+/// How a manager came to own its fields, as `operation` in an entry of `managedFields`.
+#[derive(Clone, Copy, Debug, PartialEq, Eq)]
+pub enum Operation {
+    Apply,
+    Update,
+}
+
+/// A manager. One name has an entry of its own for each operation.
+#[derive(Drop)]
+pub struct ManagerKey {
+    pub name: String,
+    pub operation: Operation,
+}
+
+impl Operation {
+    /// Whether both are one operation.
+    pub fn is_same(self, other: Operation) -> bool
+        ensures { result ≡ same_operation (operation_view self) (operation_view other) }
+    {
+        match (self, other) {
+            (Operation::Apply, Operation::Apply) => true,
+            (Operation::Apply, Operation::Update) => false,
+            (Operation::Update, Operation::Apply) => false,
+            (Operation::Update, Operation::Update) => true,
+        }
+    }
+}
+
+impl ManagerKey {
+    /// Whether both are one manager.
+    pub fn is_same(&self, other: &ManagerKey) -> bool
+        ensures { result ≡ same_manager (key_view self.now) (key_view other.now) }
+    {
+        let order = self.name.as_bytes().cmp(other.name.as_bytes());
+        order.is_eq() && self.operation.is_same(other.operation)
+    }
+
+    /// The same manager, with new memory.
+    pub fn copy(&self, alloc: Global) -> Result<ManagerKey, AllocError>
+        ensures { IfOk result (λ k. key_view k ≡ key_view self.now) }
+    {
+        let name = String::from_str(alloc, self.name.as_str())?;
+        Ok(ManagerKey {
+            name,
+            operation: self.operation,
+        })
+    }
+}

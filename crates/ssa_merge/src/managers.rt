@@ -1,0 +1,149 @@
+//! The table of managers: who owns which paths, and since when.
+ghost use Rattle.std.specs.Prelude.{◌≡◌, ◌≤◌, [], length, option_map, not, IfOk};
+ghost use Rattle.ssa_model.specs.PathMap.{union};
+ghost use Rattle.ssa_model.specs.Table.{is_in_table, owned_by, owned_by_others};
+ghost use Rattle.ssa_model.specs.Operations.{clashes};
+ghost use Rattle.ssa_merge.specs.Managers.{key_view, entry_view, table_view, clashes_view};
+ghost use Rattle.ssa_merge.specs.Tables.{entry_of};
+
+use crate::manager::{ManagerKey, Operation};
+use arrayvec::ArrayVec;
+use ssa_json::moment::Moment;
+use ssa_path::field_set::FieldSet;
+use std::alloc::{AllocError, Global};
+use std::default::MadeWith;
+use std::marker::Model;
+
+/// The most managers of a table.
+pub const MOST_MANAGERS: usize = 64;
+
+/// A manager, the paths that it owns, and when they last changed by a command of its own.
+#[derive(Drop)]
+pub struct Entry {
+    pub key: ManagerKey,
+    pub set: FieldSet,
+    pub at: Moment,
+}
+
+impl MadeWith<Global> for Entry {
+    fn made_with(alloc: Global) -> Entry {
+        Entry {
+            key: ManagerKey {
+                name: String::new(alloc),
+                operation: Operation::Apply,
+            },
+            set: FieldSet::new(alloc),
+            at: Moment::first(),
+        }
+    }
+}
+
+impl Entry {
+    /// The same entry, with new memory.
+    pub fn copy(&self, alloc: Global) -> Result<Entry, AllocError>
+        ensures { IfOk result (λ e. entry_view e ≡ entry_view self.now) }
+    {
+        let key = self.key.copy(alloc)?;
+        let set = self.set.copy(alloc)?;
+        Ok(Entry {
+            key,
+            set,
+            at: self.at,
+        })
+    }
+}
+
+/// The managers of an object, in the order in which they came: at most 64, each with some path.
+#[derive(Drop)]
+pub struct Managers {
+    entries: ArrayVec<Entry, MOST_MANAGERS, Global>,
+}
+
+impl Model for Managers {
+    ghost use Rattle.ssa_model.specs.Table.{Table};
+    ghost use Rattle.ssa_model.specs.Codes.{coded_entry};
+    ghost use Rattle.std.specs.Coded.{coded_list};
+
+    ghost Value = { Table };
+
+    ghost coded = { coded_list coded_entry };
+
+    ghost use Rattle.ssa_merge.specs.Managers.{table_view};
+
+    ghost view = { λ m. table_view m.entries.items };
+}
+
+impl Managers {
+    /// The empty table. Takes no memory.
+    pub fn new(alloc: Global) -> Managers
+        ensures { result ≡ [] }
+    {
+        Managers {
+            entries: ArrayVec::new_in(alloc),
+        }
+    }
+
+    /// The table of these entries.
+    pub fn of_entries(entries: ArrayVec<Entry, MOST_MANAGERS, Global>) -> Managers
+        ensures { result ≡ table_view entries.items }
+    {
+        Managers { entries }
+    }
+
+    /// The entries, in table order.
+    pub fn entries(&self) -> &[Entry]
+        ensures same { table_view result.now ≡ self.now }
+        ensures few { length result.now ≤ 64 }
+    {
+        self.entries.as_slice()
+    }
+
+    /// The manager's entry, none where the table has not the manager. Takes no memory.
+    pub fn get(&self, key: &ManagerKey) -> Option<&Entry>
+        ensures { option_map (λ e. entry_view e.now) result ≡ entry_of self.now (key_view key.now) }
+    {
+        find_entry(self.entries(), key)
+    }
+
+    /// How many managers there are.
+    pub fn len(&self) -> usize
+        ensures { result ≡ length self.now }
+    {
+        self.entries.len()
+    }
+
+    /// The same table, with new memory.
+    pub fn copy(&self, alloc: Global) -> Result<Managers, AllocError>
+        ensures { IfOk result (λ m. m ≡ self.now) }
+    {
+        let entries = copy_entries(alloc, self.entries())?;
+        Ok(Managers { entries })
+    }
+}
+
+// The same entries, with new memory.
+fn copy_entries(
+    alloc: Global,
+    entries: &[Entry],
+) -> Result<ArrayVec<Entry, MOST_MANAGERS, Global>, AllocError>
+    requires { length entries.now ≤ 64 }
+    ensures { IfOk result (λ copied. table_view copied.items ≡ table_view entries.now) }
+{
+    let mut copied = ArrayVec::new_in(alloc);
+    for entry in entries {
+        copied.push(entry.copy(alloc)?);
+    }
+    Ok(copied)
+}
+
+// The manager's entry.
+fn find_entry<'a>(entries: &'a [Entry], key: &ManagerKey) -> Option<&'a Entry>
+    ensures { option_map (λ e. entry_view e.now) result ≡ entry_of (table_view entries.now) (key_view key.now) }
+{
+    for entry in entries {
+        if entry.key.is_same(key) {
+            return Some(entry);
+        }
+    }
+    None
+}

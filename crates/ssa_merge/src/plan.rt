@@ -1,0 +1,113 @@
+//! What a command makes of a state, before it is carried out.
+ghost use Rattle.std.specs.Prelude.{◌≡◌, length, string_bytes, IfOk};
+ghost use Rattle.ssa_model.specs.Operations.{apply, update, strip};
+ghost use Rattle.ssa_typed.specs.Alike.{AreAlike};
+ghost use Rattle.ssa_merge.specs.States.{state_view, applier, updater};
+ghost use Rattle.ssa_merge.specs.Plans.{IsPlan, IsPlanned};
+ghost use Rattle.ssa_merge.specs.declared.plan.Refusal.TheVariants.{OutOfMemory};
+
+use crate::manager::{ManagerKey, Operation};
+use crate::managers::Managers;
+use crate::state::State;
+use ssa_json::moment::Moment;
+use ssa_path::field_set::FieldSet;
+use ssa_typed::body::Body;
+use ssa_typed::compare::Comparison;
+use std::alloc::{AllocError, Global};
+
+/// The most places of a body, the root among them.
+pub const MOST_PLACES: usize = 20_001;
+
+/// The state that a command leads to, and how its body differs from the one before.
+#[derive(Drop)]
+pub struct Plan {
+    pub target: State,
+    pub comparison: Comparison,
+}
+
+/// Why a command is refused.
+#[derive(Drop)]
+pub enum Refusal {
+    /// The fields that the command would change though other managers own them: each of these
+    /// managers, in table order, with its fields.
+    Conflict(Vec<(ManagerKey, FieldSet)>),
+    /// The body would have more than 20,000 paths beside the root.
+    TooManyPaths,
+    /// The table would have more than 64 managers.
+    TooManyManagers,
+    /// A growth of memory was refused.
+    OutOfMemory,
+}
+
+impl From<AllocError> for Refusal {
+    ghost use Rattle.std.specs.Prelude.{◌≡◌};
+    ghost use Rattle.ssa_merge.specs.declared.plan.Refusal.TheVariants.{OutOfMemory};
+
+    ghost from_gives = { λ _ e. e ≡ OutOfMemory };
+
+    fn from(_refused: AllocError) -> Refusal {
+        Refusal::OutOfMemory
+    }
+}
+
+impl Plan {
+    /// The number of managers after the command.
+    pub fn managers(&self) -> usize
+        ensures { result ≡ length self.now.target.managers }
+    {
+        self.target.managers.len()
+    }
+
+    /// The state that the command leads to. Takes no memory.
+    pub fn into_target(self) -> State
+        ensures { result ≡ self.target }
+    {
+        self.target
+    }
+}
+
+/// Plans an Apply of a configuration by a manager.
+///
+/// The configuration is put over the live body. What the manager owned and the configuration leaves
+/// out is given up, and goes where nobody else needs it. A change of a field that another manager
+/// owns is a conflict, unless it is forced: then the others lose the field. The manager owns the
+/// configuration's points afterwards. See the Kubernetes documentation, "Server-Side Apply".
+///
+/// Of several refusals the first is told: `Conflict`, `TooManyPaths`, `TooManyManagers`.
+pub fn plan_apply(
+    alloc: Global,
+    state: &State,
+    config: Body,
+    who: &str,
+    force: bool,
+    at: Moment,
+) -> Result<Plan, Refusal>
+    requires { AreAlike state.now.body config }
+    ensures { IsPlanned (state_view state.now) result (apply (state_view state.now) (applier who.now) config force at) }
+{
+    Err(Refusal::OutOfMemory)
+}
+
+/// Plans an Update to an object by a manager.
+///
+/// The object becomes the body. The other managers lose what is modified or removed, and the manager
+/// gains what is modified or added. An Update has no conflict; it is refused by `TooManyManagers`
+/// alone.
+pub fn plan_update(
+    alloc: Global,
+    state: &State,
+    object: Body,
+    who: &str,
+    at: Moment,
+) -> Result<Plan, Refusal>
+    ensures { IsPlanned (state_view state.now) result (update (state_view state.now) (updater who.now) object at) }
+{
+    Err(Refusal::OutOfMemory)
+}
+
+/// Plans a Strip: the body stays, and the table is emptied.
+pub fn plan_strip(alloc: Global, state: &State) -> Result<Plan, AllocError>
+    ensures { IfOk result (λ p. IsPlan (state_view state.now) p (strip (state_view state.now))) }
+{
+    Err(AllocError)
+}

@@ -1,0 +1,1 @@
+//! The table after a command.

@@ -1,0 +1,25 @@
+//! States of an object.
+ghost use Rattle.std.specs.Prelude.{◌≡◌, IfOk};
+ghost use Rattle.ssa_merge.specs.States.{state_view};
+
+use crate::managers::Managers;
+use ssa_typed::body::Body;
+use std::alloc::{AllocError, Global};
+
+/// A body, and who owns which of its paths.
+#[derive(Drop)]
+pub struct State {
+    pub body: Body,
+    pub managers: Managers,
+}
+
+impl State {
+    /// The same state, with new memory.
+    pub fn copy(&self, alloc: Global) -> Result<State, AllocError>
+        ensures { IfOk result (λ s. state_view s ≡ state_view self.now) }
+    {
+        let body = self.body.copy(alloc)?;
+        let managers = self.managers.copy(alloc)?;
+        Ok(State { body, managers })
+    }
+}
