@@ -1,13 +1,17 @@
 //! What a command makes of a state, before it is carried out.
-ghost use Rattle.std.specs.Prelude.{◌≡◌, length, string_bytes, IfOk};
-ghost use Rattle.ssa_model.specs.Operations.{apply, update, strip};
+ghost use Rattle.std.specs.Prelude.{◌≡◌, ◌||◌, length, not, IfOk};
+ghost use Rattle.ssa_model.specs.Operations.{apply, update, strip, is_none};
 ghost use Rattle.ssa_typed.specs.Alike.{AreAlike};
+ghost use Rattle.ssa_merge.specs.Managers.{clashes_view, key_view, operation_view};
 ghost use Rattle.ssa_merge.specs.States.{state_view, applier, updater};
 ghost use Rattle.ssa_merge.specs.Plans.{IsPlan, IsPlanned};
 ghost use Rattle.ssa_merge.specs.declared.plan.Refusal.TheVariants.{OutOfMemory};
 
 use crate::manager::{ManagerKey, Operation};
+use crate::given_up::pruned;
 use crate::managers::Managers;
+use crate::owned::clashes;
+use crate::seat::seat;
 use crate::state::State;
 use ssa_json::moment::Moment;
 use ssa_path::field_set::FieldSet;
@@ -66,6 +70,56 @@ impl Plan {
     }
 }
 
+// The manager of a name.
+fn key_of(alloc: Global, who: &str, operation: Operation) -> Result<ManagerKey, AllocError>
+    ensures { IfOk result (λ k. key_view k ≡ record { name = who.now; operation = operation_view operation }) }
+{
+    let name = String::from_str(alloc, who)?;
+    Ok(ManagerKey { name, operation })
+}
+
+// Whether there are clashes that are not forced.
+fn has_conflict(force: bool, found: &[(ManagerKey, FieldSet)]) -> bool
+    ensures { result ≡ not (force || is_none (clashes_view found.now)) }
+{
+    match found {
+        [] => false,
+        [_first, ..] => !force,
+    }
+}
+
+// What an Apply of a configuration by a manager leads to.
+fn applied(
+    alloc: Global,
+    state: &State,
+    key: &ManagerKey,
+    config: &Body,
+    force: bool,
+    at: Moment,
+) -> Result<Plan, Refusal>
+    requires { AreAlike state.now.body config.now }
+    ensures { IsPlanned (state_view state.now) result (apply (state_view state.now) (key_view key.now) config.now force at) }
+{
+    let points = config.points(alloc)?;
+    let body = pruned(alloc, state, key, config, &points)?;
+    let comparison = state.body.compare(alloc, &body)?;
+    let changed = &comparison.modified;
+    let found = clashes(alloc, state.managers.entries(), key, changed)?;
+    if has_conflict(force, &found) {
+        return Err(Refusal::Conflict(found));
+    }
+    if body.size() > MOST_PLACES {
+        return Err(Refusal::TooManyPaths);
+    }
+    match seat(alloc, &state.managers, key, &points, changed, changed, at) {
+        Ok(managers) => Ok(Plan {
+            target: State { body, managers },
+            comparison,
+        }),
+        Err(refusal) => Err(refusal),
+    }
+}
+
 /// Plans an Apply of a configuration by a manager.
 ///
 /// The configuration is put over the live body. What the manager owned and the configuration leaves
@@ -85,7 +139,9 @@ pub fn plan_apply(
     requires { AreAlike state.now.body config }
     ensures { IsPlanned (state_view state.now) result (apply (state_view state.now) (applier who.now) config force at) }
 {
-    Err(Refusal::OutOfMemory)
+    let key = key_of(alloc, who, Operation::Apply)?;
+    let plan = applied(alloc, state, &key, &config, force, at)?;
+    Ok(plan)
 }
 
 /// Plans an Update to an object by a manager.
