@@ -96,3 +96,22 @@ unseated before force clash places body table (Conflict clashes) h n given = abs
 unseated before force clash places body table TooManyPaths h n given = absurd given
 unseated before force clash places body table TooManyManagers h n given = (model.too_many_managers, decided-managers force clash places body table h n given, refl)
 unseated before force clash places body table OutOfMemory h n given = tt
+
+-- ---- an Update
+
+pub placed : (before : State) (plan : Plan) (table : Table) → IsSeated (Ok plan.target.managers) table → IsComparison before.body plan.target.body plan.comparison
+    → IsPlanned before (Ok plan) (if_seated (record { body = plan.target.body; table = table }))
+placed before plan table seated_is compared =
+    let body = plan.target.body in
+    let managers : ◌≡◌ {A = Result State model.Refusal} (Ok (record { body = body; table = table })) (Ok (state_view plan.target)) = λ i. Ok (record { body = body; table = sym seated_is.0 i }) in (
+      state_view plan.target,
+      ap (λ b. if b then Err too_many_managers else Ok (record { body = body; table = table })) (at_most 64 (length table) seated_is.1) ∙ managers,
+      record { target_is = refl; comparison_is = compared },
+    )
+
+pub unplaced : (before : State) (body : bodies.Body) (table : Table) (f : Refusal) → IsSeated (Err f) table → IsPlanned before (Err f) (if_seated (record { body = body; table = table }))
+unplaced before body table (Conflict clashes) given = absurd given
+unplaced before body table TooManyPaths given = absurd given
+unplaced before body table TooManyManagers given =
+    (model.too_many_managers, ap (λ b. if b then Err too_many_managers else Ok (record { body = body; table = table })) (more 64 (length table) given), refl)
+unplaced before body table OutOfMemory given = tt

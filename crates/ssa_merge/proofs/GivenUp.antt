@@ -2,7 +2,7 @@
 use Rattle.std.proofs.Common.{◌≡◌, List, [], ◌∷◌, Bool, true, false, not, ◌&&◌, refl, sym, ap, ◌∙◌}
 use Rattle.std.specs.Prelude.{Option, Some, None, if◌then◌else◌}
 use Rattle.ssa_model.specs.Path.{Path, is_key_field}
-use Rattle.ssa_model.specs.PathMap.{PathSet, empty, has, has_at_or_below, paths, set_of}
+use Rattle.ssa_model.specs.PathMap.{PathSet, empty, has, has_at_or_below, paths, set_of, minus, union}
 use Rattle.ssa_model.specs.Body as model
 use Rattle.ssa_model.specs.Table.{ManagerKey, Entry, Table, same_manager, owned_by, owned_by_others}
 use Rattle.ssa_model.specs.Operations.{State, dropped}
@@ -49,3 +49,15 @@ given_up_of own config others = set_of (paths own) (λ g. not (has config g) && 
 pub dropped-of : (state : State) (a : ManagerKey) (config : model.Body) (o : Option Entry) (others : PathSet) → o ≡ entry_of state.table a → others ≡ owned_by_others state.table a
     → given_up_of (set_in o) config others ≡ dropped state a config
 dropped-of state a config o others is same = λ i. given_up_of ((ap set_in is ∙ sym (owned-entry state.table a)) i) config (same i)
+
+-- ---- what an Update leaves
+
+whatever : (b : Bool) → (b && true) ≡ b
+whatever true = refl
+whatever false = refl
+
+pub empty_union : (s : PathSet) → union empty s ≡ s
+empty_union s = same_sets _ _ (λ q. has-set_of (paths s) (λ p. true) q ∙ whatever (is_one_of (paths s) q) ∙ sym (has-paths s q))
+
+pub owned-after : (table : Table) (a : ManagerKey) (o : Option Entry) (gone gained : PathSet) → o ≡ entry_of table a → union (minus (set_in o) gone) gained ≡ union (minus (owned_by table a) gone) gained
+owned-after table a o gone gained is = λ i. union (minus ((ap set_in is ∙ sym (owned-entry table a)) i) gone) gained

@@ -7,7 +7,6 @@ use Rattle.ssa_merge.specs.Managers.{key_view}
 use Rattle.ssa_merge.specs.States.{state_view}
 use Rattle.ssa_merge.proofs.given_up.pruned.Goals as goal
 
-
 pub returns : goal.returns
 returns c =
     let a = key_view c.args.key.now in

@@ -24,11 +24,12 @@ returns-then-has_conflict c =
     let changed = modified state.body body in
     let table = seat state.table a (points config) changed changed c.args.at in
     let clash_is = c.in_ok-found.ensures ∙ (λ i. clashes a (c.in_ok-comparison.ensures.modified_are i) (c.entries.ensures.same i)) in
-    let unforced = ap (λ cs. not (c.args.force || is_none (clashes_view cs))) (sym c.deref.ensures.value) ∙ sym c.has_conflict.ensures ∙ c.if-has_conflict.true in
-    (conflict found,
-    apply_without-decided gone state a config c.args.force c.args.at body found (size body) table c.in_ok-body.ensures clash_is refl refl
-    ∙ decided-conflict c.args.force found (size body) body table unforced,
-    refl)
+    let unforced = ap (λ cs. not (c.args.force || is_none (clashes_view cs))) (sym c.deref.ensures.value) ∙ sym c.has_conflict.ensures ∙ c.if-has_conflict.true in (
+      conflict found,
+      apply_without-decided gone state a config c.args.force c.args.at body found (size body) table c.in_ok-body.ensures clash_is refl refl
+          ∙ decided-conflict c.args.force found (size body) body table unforced,
+      refl,
+    )
 
 pub returns-then-size-gt-MOST_PLACES : goal.returns-then-size-gt-MOST_PLACES
 returns-then-size-gt-MOST_PLACES c =
@@ -41,11 +42,12 @@ returns-then-size-gt-MOST_PLACES c =
     let changed = modified state.body body in
     let table = seat state.table a (points config) changed changed c.args.at in
     let clash_is = c.in_ok-found.ensures ∙ (λ i. clashes a (c.in_ok-comparison.ensures.modified_are i) (c.entries.ensures.same i)) in
-    let quiet = ap (λ cs. not (c.args.force || is_none (clashes_view cs))) (sym c.deref.ensures.value) ∙ sym c.has_conflict.ensures ∙ c.if-has_conflict.false in
-    (too_many_paths,
-    apply_without-decided gone state a config c.args.force c.args.at body found (size body) table c.in_ok-body.ensures clash_is refl refl
-    ∙ decided-paths c.args.force found (size body) body table quiet (more_places c.size.result (size body) c.size.ensures c.if-size-gt-MOST_PLACES.true),
-    refl)
+    let quiet = ap (λ cs. not (c.args.force || is_none (clashes_view cs))) (sym c.deref.ensures.value) ∙ sym c.has_conflict.ensures ∙ c.if-has_conflict.false in (
+      too_many_paths,
+      apply_without-decided gone state a config c.args.force c.args.at body found (size body) table c.in_ok-body.ensures clash_is refl refl
+          ∙ decided-paths c.args.force found (size body) body table quiet (more_places c.size.result (size body) c.size.ensures c.if-size-gt-MOST_PLACES.true),
+      refl,
+    )
 
 pub returns-in-Ok : goal.returns-in-Ok
 returns-in-Ok c =
@@ -61,7 +63,7 @@ returns-in-Ok c =
     let quiet = ap (λ cs. not (c.args.force || is_none (clashes_view cs))) (sym c.deref.ensures.value) ∙ sym c.has_conflict.ensures ∙ c.if-has_conflict.false in
     let few = few_places c.size.result (size body) c.size.ensures c.if-size-gt-MOST_PLACES.false in
     let seats : ◌≡◌ {A = Table} (seat state.table a c.in_ok-points.points c.in_ok-comparison.comparison.modified c.in_ok-comparison.comparison.modified c.args.at) table
-        = λ i. seat state.table a (c.in_ok-points.ensures i) (c.in_ok-comparison.ensures.modified_are i) (c.in_ok-comparison.ensures.modified_are i) c.args.at in
+    = λ i. seat state.table a (c.in_ok-points.ensures i) (c.in_ok-comparison.ensures.modified_are i) (c.in_ok-comparison.ensures.modified_are i) c.args.at in
     let given = apply_without-decided gone state a config c.args.force c.args.at body found (size body) table c.in_ok-body.ensures clash_is refl refl in
     let plan : Plan = record { target = record { body = body; managers = c.in-Ok.managers }; comparison = c.in_ok-comparison.comparison } in
     let is_seated : Table → Type 0 = IsSeated (Ok c.in-Ok.managers) in
@@ -82,7 +84,7 @@ returns c =
     let quiet = ap (λ cs. not (c.args.force || is_none (clashes_view cs))) (sym c.deref.ensures.value) ∙ sym c.has_conflict.ensures ∙ c.if-has_conflict.false in
     let few = few_places c.size.result (size body) c.size.ensures c.if-size-gt-MOST_PLACES.false in
     let seats : ◌≡◌ {A = Table} (seat state.table a c.in_ok-points.points c.in_ok-comparison.comparison.modified c.in_ok-comparison.comparison.modified c.args.at) table
-        = λ i. seat state.table a (c.in_ok-points.ensures i) (c.in_ok-comparison.ensures.modified_are i) (c.in_ok-comparison.ensures.modified_are i) c.args.at in
+    = λ i. seat state.table a (c.in_ok-points.ensures i) (c.in_ok-comparison.ensures.modified_are i) (c.in_ok-comparison.ensures.modified_are i) c.args.at in
     let given = apply_without-decided gone state a config c.args.force c.args.at body found (size body) table c.in_ok-body.ensures clash_is refl refl in
     let is_seated : Table → Type 0 = IsSeated (Err c.in-Err.refusal) in
     let is_planned : Result State model.Refusal → Type 0 = IsPlanned state (Err c.in-Err.refusal) in
