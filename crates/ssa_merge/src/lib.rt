@@ -8,3 +8,5 @@ pub mod owned;
 pub mod plan;
 pub mod seat;
 pub mod state;
+#[cfg(test)]
+mod tests;
