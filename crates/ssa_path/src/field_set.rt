@@ -1,7 +1,6 @@
 // Sets of paths.
-ghost use Rattle.std.specs.Prelude.{◌≡◌, ◌-◌, ◌^◌, true, min, not, IfOk, OnOk, OnErr};
-ghost use Rattle.ssa_model.specs.Path.{is_key_field};
-ghost use Rattle.ssa_model.specs.PathMap.{empty, has, has_at_or_above, has_at_or_below, insert, is_empty, minus, same_set, set_of, size, union};
+ghost use Rattle.std.specs.Prelude.{◌≡◌, ◌-◌, ◌^◌, true, min, IfOk, OnOk, OnErr};
+ghost use Rattle.ssa_model.specs.PathMap.{empty, has, has_at_or_below, insert, is_empty, minus, size, union};
 ghost use Rattle.ssa_model.specs.PathMap as set;
 ghost use Rattle.ssa_path.specs.Meet.{meet, combined};
 ghost use Rattle.ssa_path.specs.Trie.{is_trie, listed, paths};
@@ -112,38 +111,6 @@ impl FieldSet {
     {
         let root = combine(alloc, &self.root, &other.root, how)?;
         Ok(FieldSet { root })
-    }
-
-    /// The same set, with new memory.
-    pub fn copy(&self, alloc: Global) -> Result<FieldSet, AllocError>
-        ensures { IfOk result (λ s. s ≡ self.now) }
-    {
-        Err(AllocError)
-    }
-
-    /// PLACEHOLDERS
-    pub fn is_same(&self, alloc: Global, other: &FieldSet) -> Result<bool, AllocError>
-        ensures { IfOk result (λ b. b ≡ same_set self.now other.now) }
-    {
-        Err(AllocError)
-    }
-
-    pub fn without_under(&self, alloc: Global, gone: &FieldSet) -> Result<FieldSet, AllocError>
-        ensures { IfOk result (λ s. s ≡ set_of (set.paths self.now) (λ p. not (has_at_or_above gone.now p))) }
-    {
-        Err(AllocError)
-    }
-
-    pub fn without_over(&self, alloc: Global, held: &FieldSet) -> Result<FieldSet, AllocError>
-        ensures { IfOk result (λ s. s ≡ set_of (set.paths self.now) (λ p. not (has_at_or_below held.now p))) }
-    {
-        Err(AllocError)
-    }
-
-    pub fn without_key_fields(&self, alloc: Global) -> Result<FieldSet, AllocError>
-        ensures { IfOk result (λ s. s ≡ set_of (set.paths self.now) (λ p. not (is_key_field p))) }
-    {
-        Err(AllocError)
     }
 
     /// The paths of either set.

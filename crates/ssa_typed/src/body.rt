@@ -1,11 +1,10 @@
 //! Bodies, seen as finite maps from whole paths to contents.
-ghost use Rattle.std.specs.Prelude.{◌≡◌, [], ◌∷◌, ◌-◌, ◌^◌, true, min, not, ◌||◌, option_map, IfOk};
-ghost use Rattle.ssa_model.specs.Body.{over, points, record_branch, restricted};
-ghost use Rattle.ssa_model.specs.Path.{is_root};
+ghost use Rattle.std.specs.Prelude.{◌≡◌, [], ◌∷◌, ◌-◌, ◌^◌, true, min, option_map, IfOk};
+ghost use Rattle.ssa_model.specs.Body.{over, points, record_branch};
 ghost use Rattle.ssa_model.specs.Fitting.{IsBodyOf};
 ghost use Rattle.ssa_model.specs.Kind.{Kind};
 ghost use Rattle.ssa_model.specs.Objects.{shown};
-ghost use Rattle.ssa_model.specs.PathMap.{from_entries, has, has_at_or_below, paths, set_of, size};
+ghost use Rattle.ssa_model.specs.PathMap.{from_entries, size};
 ghost use Rattle.ssa_json.specs.View.{view};
 ghost use Rattle.ssa_schema.specs.Lawful.{is_ordered};
 ghost use Rattle.ssa_typed.specs.Alike.{AreAlike};
@@ -128,19 +127,6 @@ impl Body {
             modified: FieldSet::from_root(modified),
             removed: FieldSet::from_root(removed),
         })
-    }
-
-    /// PLACEHOLDERS
-    pub fn restricted_to(self, alloc: Global, stay: &FieldSet) -> Result<Body, AllocError>
-        ensures { IfOk result (λ b. b ≡ restricted self (λ p. is_root p || has_at_or_below stay.now p)) }
-    {
-        Err(AllocError)
-    }
-
-    pub fn lacking(&self, alloc: Global, set: &FieldSet) -> Result<FieldSet, AllocError>
-        ensures { IfOk result (λ s. s ≡ set_of (paths set.now) (λ p. not (has self.now p))) }
-    {
-        Err(AllocError)
     }
 
     /// The body's tree, in whose place an empty record is left.
