@@ -1,6 +1,6 @@
 // Sets of paths.
-ghost use Rattle.std.specs.Prelude.{◌≡◌, ◌-◌, ◌^◌, true, min, IfOk, OnOk, OnErr};
-ghost use Rattle.ssa_model.specs.PathMap.{empty, has, has_at_or_below, insert, is_empty, minus, size, union};
+ghost use Rattle.std.specs.Prelude.{◌≡◌, ◌-◌, ◌^◌, true, not, min, IfOk, OnOk, OnErr};
+ghost use Rattle.ssa_model.specs.PathMap.{empty, has, has_at_or_above, has_at_or_below, insert, is_empty, minus, set_of, size, union};
 ghost use Rattle.ssa_model.specs.PathMap as set;
 ghost use Rattle.ssa_path.specs.Meet.{meet, combined};
 ghost use Rattle.ssa_path.specs.Trie.{is_trie, listed, paths};
@@ -100,6 +100,14 @@ impl FieldSet {
         self.root.insert(alloc, path.elements())
     }
 
+    /// The same set, with new memory.
+    pub fn copy(&self, alloc: Global) -> Result<FieldSet, AllocError>
+        ensures { IfOk result (λ s. s ≡ self.now) }
+    {
+        let root = self.root.copy(alloc)?;
+        Ok(FieldSet { root })
+    }
+
     // The paths that the combination keeps of those of two sets.
     fn combined(
         &self,
@@ -132,6 +140,20 @@ impl FieldSet {
         ensures { IfOk result (λ s. s ≡ meet self.now other.now) }
     {
         self.combined(alloc, other, Combination::Meet)
+    }
+
+    /// The paths of this set that are under no path of the other.
+    pub fn without_under(&self, alloc: Global, gone: &FieldSet) -> Result<FieldSet, AllocError>
+        ensures { IfOk result (λ s. s ≡ set_of (set.paths self.now) (λ p. not (has_at_or_above gone.now p))) }
+    {
+        self.combined(alloc, gone, Combination::WithoutUnder)
+    }
+
+    /// The paths of this set that have no path of the other at or below them.
+    pub fn without_over(&self, alloc: Global, held: &FieldSet) -> Result<FieldSet, AllocError>
+        ensures { IfOk result (λ s. s ≡ set_of (set.paths self.now) (λ p. not (has_at_or_below held.now p))) }
+    {
+        self.combined(alloc, held, Combination::WithoutOver)
     }
 
     /// The paths of the set, in path order.
