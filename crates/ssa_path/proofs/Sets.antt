@@ -4,7 +4,7 @@ use Rattle.std.specs.Prelude.{is_some}
 use Rattle.std.specs.List.{list_any}
 use Rattle.std.specs.FinMap.Entries.{find, put, by_order}
 use Rattle.ssa_model.specs.Path.{Path, path_cmp, same_path, under}
-use Rattle.ssa_model.specs.PathMap.{PathSet, has, has_at_or_above, has_at_or_below, insert, is_empty, paths as set_paths}
+use Rattle.ssa_model.specs.PathMap.{PathSet, has, has_at_or_above, has_at_or_below, insert, is_empty, set_of, paths as set_paths}
 use Rattle.ssa_model.proofs.PathMaps.{get-from_entries, has-insert, has-minus, has-paths, has-set_of, has-union, same_sets}
 use Rattle.ssa_model.proofs.Texts.{same_path_same}
 use Rattle.ssa_path.specs.Combine.{concerns, is_concerned, keeps, IsCombination}
@@ -92,3 +92,9 @@ listed-combined how m n t h =
     same_sets _ _ (λ q.
     has-listed (paths t) q ∙ h.paths_are q ∙ (λ i. keeps how (sym (has-listed (paths m) q) i) (sym (any-listed (concerns how q) (paths n)) i))
     ∙ sym (has-combined how (listed (paths m)) (listed (paths n)) q))
+
+pub listed-tested : (m t : Trie) (test : Path → Bool) → ((q : Path) → is_one_of (paths t) q ≡ (is_one_of (paths m) q && test q)) → listed (paths t) ≡ set_of (set_paths (listed (paths m))) test
+listed-tested m t test e =
+    same_sets _ _ (λ q.
+    has-listed (paths t) q ∙ e q ∙ ap (λ b. b && test q) (sym (has-listed (paths m) q) ∙ has-paths (listed (paths m)) q)
+    ∙ sym (has-set_of (set_paths (listed (paths m))) test q))

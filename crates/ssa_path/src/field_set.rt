@@ -1,11 +1,13 @@
 // Sets of paths.
 ghost use Rattle.std.specs.Prelude.{◌≡◌, ◌-◌, ◌^◌, true, not, min, IfOk, OnOk, OnErr};
+ghost use Rattle.ssa_model.specs.Path.{is_key_field};
 ghost use Rattle.ssa_model.specs.PathMap.{empty, has, has_at_or_above, has_at_or_below, insert, is_empty, minus, set_of, size, union};
 ghost use Rattle.ssa_model.specs.PathMap as set;
 ghost use Rattle.ssa_path.specs.Meet.{meet, combined};
 ghost use Rattle.ssa_path.specs.Trie.{is_trie, listed, paths};
 
 use crate::combine::{Combination, combine};
+use crate::key_fields::without_key_fields;
 use crate::listing::{count_paths, list_paths};
 use crate::path::Path;
 use crate::trie::Trie;
@@ -154,6 +156,17 @@ impl FieldSet {
         ensures { IfOk result (λ s. s ≡ set_of (set.paths self.now) (λ p. not (has_at_or_below held.now p))) }
     {
         self.combined(alloc, held, Combination::WithoutOver)
+    }
+
+    /// The paths of this set that are no key fields of items.
+    ///
+    /// A key field is told from the path alone: its name is one of those that the element before
+    /// it has.
+    pub fn without_key_fields(&self, alloc: Global) -> Result<FieldSet, AllocError>
+        ensures { IfOk result (λ s. s ≡ set_of (set.paths self.now) (λ p. not (is_key_field p))) }
+    {
+        let root = without_key_fields(alloc, &self.root, &[], self.root.here)?;
+        Ok(FieldSet { root })
     }
 
     /// The paths of the set, in path order.
