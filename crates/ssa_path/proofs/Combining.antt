@@ -14,7 +14,7 @@ use Rattle.ssa_path.specs.Children.{elements, is_below, rises, heads_order}
 use Rattle.ssa_path.specs.Combine.{concerns, is_concerned, covers, keeps, IsCombination, IsCombined, IsKept, IsGrown}
 use Rattle.ssa_path.specs.View.{element_view}
 use Rattle.ssa_path.specs.Trie.{Shape, here_path, is_one_of, paths, paths_below, is_trie, is_filled, has_some, are_filled_tries, IsCopy}
-use Rattle.ssa_path.proofs.Orders.{element_cmp_total, same_element-true, lower, not_tied, both, both_first, both_second, or_false}
+use Rattle.ssa_path.proofs.Orders.{element_cmp_total, same_either_way, same_element-true, lower, not_tied, both, both_first, both_second, or_false}
 use Rattle.ssa_path.proofs.Levels.{GoesOn, same_path-reading, under-reading, any-child, any-made, any-level, child-more, one-made-root, one-level-root, is_trie-made, paths-level, paths-made, some-none}
 use Rattle.ssa_path.proofs.Lists.{left-at}
 
@@ -102,14 +102,6 @@ absent R more e f (c ∷ cs) p s h =
     ∙ (λ i. (other i && list_any (R p) (paths c.1)) || absent R more e f cs p s (both_second _ _ h) i)
 
 -- ---- how the other set concerns a path
-
-reversed : (o : Ordering) → is_eq (ordering_reverse o) ≡ is_eq o
-reversed Less = refl
-reversed Equal = refl
-reversed Greater = refl
-
-same_either_way : (e f : Element) → same_element f e ≡ same_element e f
-same_either_way e f = ap is_eq (element_cmp_total.antisymm f e) ∙ reversed (element_cmp e f)
 
 concerns-more : (how : Combination) → GoesOn (concerns how)
 concerns-more Union = same_path-reading.more

@@ -1,4 +1,5 @@
 pub mod Combining
+pub mod Comparing
 pub mod Escapes
 pub mod Inserting
 pub mod KeyFields

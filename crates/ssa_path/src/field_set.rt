@@ -1,7 +1,7 @@
 // Sets of paths.
 ghost use Rattle.std.specs.Prelude.{◌≡◌, ◌-◌, ◌^◌, true, not, min, IfOk, OnOk, OnErr};
 ghost use Rattle.ssa_model.specs.Path.{is_key_field};
-ghost use Rattle.ssa_model.specs.PathMap.{empty, has, has_at_or_above, has_at_or_below, insert, is_empty, minus, set_of, size, union};
+ghost use Rattle.ssa_model.specs.PathMap.{empty, has, has_at_or_above, has_at_or_below, insert, is_empty, minus, same_set, set_of, size, union};
 ghost use Rattle.ssa_model.specs.PathMap as set;
 ghost use Rattle.ssa_path.specs.Meet.{meet, combined};
 ghost use Rattle.ssa_path.specs.Trie.{is_trie, listed, paths};
@@ -10,6 +10,7 @@ use crate::combine::{Combination, combine};
 use crate::key_fields::without_key_fields;
 use crate::listing::{count_paths, list_paths};
 use crate::path::Path;
+use crate::same::same_tries;
 use crate::trie::Trie;
 use std::alloc::{AllocError, Global};
 use std::marker::Model;
@@ -92,6 +93,13 @@ impl FieldSet {
         ensures { result ≡ is_empty self.now }
     {
         !self.root.has_paths()
+    }
+
+    /// Whether both sets have the same paths. Takes no memory.
+    pub fn is_same(&self, other: &FieldSet) -> bool
+        ensures { result ≡ same_set self.now other.now }
+    {
+        same_tries(&self.root, &other.root)
     }
 
     /// Adds a path. On `Err` the set is as it was.

@@ -13,6 +13,7 @@ pub mod keys;
 pub mod listing;
 mod order;
 pub mod path;
+mod same;
 #[cfg(test)]
 mod set_tests;
 #[cfg(test)]

@@ -139,3 +139,30 @@ fn key_fields_go(rt: HostRuntime) -> Result<(), Fail> {
     );
     Ok(())
 }
+
+#[test]
+fn sets_are_the_same_by_their_paths(rt: HostRuntime) -> Result<(), Fail> {
+    let alloc = rt.alloc();
+    let owner = owned(alloc)?;
+    let copied = owner.copy(alloc)?;
+    assert!(rt; owner.is_same(&copied));
+    assert!(rt; FieldSet::new(alloc).is_same(&FieldSet::new(alloc)));
+    for last in [
+        ["f:status", "f:phase"].as_slice(),
+        ["f:metadata"].as_slice(),
+        ["f:spec", "f:ports"].as_slice(),
+        ["f:spec", "f:ports", PORT, "f:port", "f:a"].as_slice(),
+    ] {
+        let mut longer = owner.copy(alloc)?;
+        longer.insert(alloc, &path(alloc, last)?)?;
+        assert!(rt; !owner.is_same(&longer));
+        assert!(rt; !longer.is_same(&owner));
+        let back = longer.minus(alloc, &set(alloc, &[last])?)?;
+        assert!(rt; back.is_same(&owner));
+    }
+    assert!(rt; !set(alloc, &[&["f:a"]])?.is_same(&set(alloc, &[&["f:b"]])?));
+    assert!(rt; !set(alloc, &[&["f:a"]])?.is_same(&set(alloc, &[&["v:\"a\""]])?));
+    assert!(rt; !set(alloc, &[&["f:a"]])?.is_same(&set(alloc, &[&["f:a", "f:b"]])?));
+    assert!(rt; !set(alloc, &[&[]])?.is_same(&FieldSet::new(alloc)));
+    Ok(())
+}
