@@ -19,6 +19,7 @@ pub mod Making
 pub mod OverNodes
 pub mod Overlaying
 pub mod References
+pub mod Restricting
 pub mod SameMembers
 pub mod ShapesFit
 pub mod Showing

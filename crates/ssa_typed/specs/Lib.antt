@@ -7,5 +7,6 @@ pub mod Look
 pub mod Over
 pub mod Points
 pub mod Reads
+pub mod Restricted
 pub mod Rows
 pub mod Values
