@@ -11,6 +11,7 @@ pub mod Finding
 pub mod Fitting
 pub mod ItemKeys
 pub mod KindRows
+pub mod LackingPaths
 pub mod Laws
 pub mod Levels
 pub mod Looks

@@ -3,6 +3,7 @@ pub mod Copies
 pub mod Differences
 pub mod Flats
 pub mod InOrder
+pub mod Lacking
 pub mod Look
 pub mod Over
 pub mod Points

@@ -3,7 +3,7 @@ use crate::body::Body;
 use crate::node::Node;
 use crate::over_tests::{is_written, leaves};
 use crate::test_trees::{is_tree, put};
-use crate::tests::{path, shows};
+use crate::tests::{holds, path, shows};
 use ssa_path::field_set::FieldSet;
 use std::alloc::Global;
 use std::test::Fail;
@@ -82,4 +82,44 @@ fn the_root_stays(rt: HostRuntime) -> Result<(), Fail> {
     let alloc = rt.alloc();
     let body = sample(alloc)?.restricted_to(alloc, &FieldSet::new(alloc))?;
     shows(alloc, &body, &[], "record", 0)
+}
+
+#[test]
+fn paths_that_are_lacking(rt: HostRuntime) -> Result<(), Fail> {
+    let alloc = rt.alloc();
+    let set = set_of(
+        alloc,
+        &[
+            &[],
+            &["f:a"],
+            &["f:a", "f:b"],
+            &["f:d", "f:x"],
+            &["f:d", "f:y"],
+            &["f:l", "k:{\"n\":1}", "f:n"],
+            &["f:l", "k:{\"n\":1}", "f:x"],
+            &["f:l", "k:{\"n\":3}"],
+            &["f:l", "k:{\"n\":3}", "f:n"],
+            &["f:q", "f:r"],
+            &["f:s", "v:1"],
+            &["f:s", "v:4"],
+        ],
+    )?;
+    let lacking = sample(alloc)?.lacking(alloc, &set)?;
+    assert!(rt;
+        holds(
+            alloc,
+            &lacking,
+            " /f:a/f:b /f:d/f:y /f:l/k:{\"n\":1}/f:x /f:l/k:{\"n\":3} /f:l/k:{\"n\":3}/f:n /f:q/f:r /f:s/v:4"
+        )?
+    );
+    Ok(())
+}
+
+#[test]
+fn a_body_lacks_none_of_its_points(rt: HostRuntime) -> Result<(), Fail> {
+    let alloc = rt.alloc();
+    let body = sample(alloc)?;
+    let lacking = body.lacking(alloc, &body.points(alloc)?)?;
+    assert!(rt; lacking.is_empty());
+    Ok(())
 }
