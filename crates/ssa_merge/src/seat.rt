@@ -45,7 +45,7 @@ fn reseated(
         });
     }
     let set = owned.copy(alloc)?;
-    let is_same_set = owned.is_same(alloc, &entry.set)?;
+    let is_same_set = owned.is_same(&entry.set);
     let at = if changed || !is_same_set {
         at
     } else {
