@@ -71,86 +71,41 @@ fn tell(alloc: Global, state: &State) -> Result<Vec<u8>, AllocError> {
     Ok(told)
 }
 
-fn is(alloc: Global, state: &State, wanted: &str) -> Result<(), Fail> {
-    if tell(alloc, state)?.as_slice() == wanted.as_bytes() {
-        Ok(())
-    } else {
-        Err(Fail::new("another state"))
+// A manager, what it does (`apply`, `force`, `update` or `strip`), the second of its moment, and the
+// object.
+type Move = (&'static str, &'static str, &'static str, &'static str);
+
+// What a move makes of a state.
+fn planned(alloc: Global, state: &State, act: &Move) -> Result<Result<Plan, Refusal>, Fail> {
+    let (who, word, at, text) = act;
+    let at = moment(at)?;
+    let object = body(alloc, text)?;
+    match *word {
+        "update" => Ok(plan_update(alloc, state, object, who, at)),
+        "strip" => Ok(Ok(plan_strip(alloc, state)?)),
+        _ => Ok(plan_apply(alloc, state, object, who, *word == "force", at)),
     }
 }
 
-// The state after an Apply that is accepted.
-fn applied(
-    alloc: Global,
-    state: &State,
-    text: &str,
-    who: &str,
-    force: bool,
-    at: &str,
-) -> Result<State, Fail> {
-    let config = body(alloc, text)?;
-    let plan = plan_apply(alloc, state, config, who, force, moment(at)?);
-    Ok(accepted(plan)?.into_target())
+// The state after moves that are accepted.
+fn after(alloc: Global, moves: &[Move]) -> Result<State, Fail> {
+    let mut state = start(alloc)?;
+    for act in moves {
+        state = accepted(planned(alloc, &state, act)?)?.into_target();
+    }
+    Ok(state)
 }
 
-fn updated(alloc: Global, state: &State, text: &str, who: &str, at: &str) -> Result<State, Fail> {
-    let object = body(alloc, text)?;
-    let plan = plan_update(alloc, state, object, who, moment(at)?);
-    Ok(accepted(plan)?.into_target())
+fn lead_to(alloc: Global, moves: &[Move], wanted: &str) -> Result<bool, Fail> {
+    let state = after(alloc, moves)?;
+    Ok(tell(alloc, &state)?.as_slice() == wanted.as_bytes())
 }
 
-#[test]
-fn force_takes_modified_fields_alone(rt: HostRuntime) -> Result<(), Fail> {
-    let alloc = rt.alloc();
-    let first = start(alloc)?;
-    let config = "{\"image\":\"a:1\",\"replicas\":3}";
-    let second = applied(alloc, &first, config, "m1", false, "2024-05-01T10:00:01Z")?;
-    let config = "{\"image\":\"a:1\",\"replicas\":4}";
-    let plan = plan_apply(
-        alloc,
-        &second,
-        body(alloc, config)?,
-        "m2",
-        true,
-        moment("2024-05-01T10:00:02Z")?,
-    );
-    let plan = accepted(plan)?;
-    let mut modified = Vec::new(alloc);
-    tell_set(alloc, &mut modified, &plan.comparison.modified)?;
-    assert!(rt; modified.as_slice() == b" /f:replicas");
-    assert_eq!(rt; plan.managers(), 2);
-    is(
-        alloc,
-        &plan.into_target(),
-        "{\"image\":\"a:1\",\"replicas\":4} m1 applied 01 /f:image m2 applied 02 /f:image /f:replicas",
-    )
-}
-
-#[test]
-fn conflicts_name_each_manager_and_field(rt: HostRuntime) -> Result<(), Fail> {
-    let alloc = rt.alloc();
-    let state = start(alloc)?;
-    let config = "{\"image\":\"a\",\"replicas\":3}";
-    let state = applied(alloc, &state, config, "m1", false, "2024-05-01T10:00:01Z")?;
-    let state = applied(
-        alloc,
-        &state,
-        "{\"replicas\":3}",
-        "m2",
-        false,
-        "2024-05-01T10:00:02Z",
-    )?;
-    let config = body(alloc, "{\"image\":\"b\",\"replicas\":4}")?;
-    let plan = plan_apply(
-        alloc,
-        &state,
-        config,
-        "m3",
-        false,
-        moment("2024-05-01T10:00:03Z")?,
-    );
-    let Err(Refusal::Conflict(clashes)) = plan else {
-        return Err(Fail::new("no conflict"));
+// Whether the last move is refused for these clashes.
+fn clash(alloc: Global, moves: &[Move], last: &Move, wanted: &str) -> Result<bool, Fail> {
+    let state = after(alloc, moves)?;
+    let Err(Refusal::Conflict(clashes)) = planned(alloc, &state, last)? else {
+        return Ok(false);
     };
     let mut told = Vec::new(alloc);
     for (key, fields) in &clashes {
@@ -158,134 +113,204 @@ fn conflicts_name_each_manager_and_field(rt: HostRuntime) -> Result<(), Fail> {
         told.extend_from_slice(key.name.as_bytes())?;
         tell_set(alloc, &mut told, fields)?;
     }
-    assert!(rt; told.as_slice() == b" m1 /f:image /f:replicas m2 /f:replicas");
+    Ok(told.as_slice() == wanted.as_bytes())
+}
+
+#[test]
+fn force_takes_modified_fields_alone(rt: HostRuntime) -> Result<(), Fail> {
+    let alloc = rt.alloc();
+    let moves = [
+        (
+            "m1",
+            "apply",
+            "2024-05-01T10:00:01Z",
+            "{\"image\":\"a:1\",\"replicas\":3}",
+        ),
+        (
+            "m2",
+            "force",
+            "2024-05-01T10:00:02Z",
+            "{\"image\":\"a:1\",\"replicas\":4}",
+        ),
+    ];
+    assert!(rt;
+        lead_to(
+            alloc,
+            &moves,
+            "{\"image\":\"a:1\",\"replicas\":4} m1 applied 01 /f:image m2 applied 02 /f:image /f:replicas"
+        )?
+    );
     Ok(())
 }
 
 #[test]
 fn a_key_field_stays_with_its_item(rt: HostRuntime) -> Result<(), Fail> {
     let alloc = rt.alloc();
-    let state = start(alloc)?;
-    let config = "{\"ports\":[{\"name\":\"a\",\"port\":80,\"proto\":\"TCP\"}]}";
-    let state = applied(alloc, &state, config, "m1", false, "2024-05-01T10:00:01Z")?;
-    let object = "{\"ports\":[{\"name\":\"a\",\"port\":81,\"proto\":\"TCP\"}]}";
-    let state = updated(alloc, &state, object, "u", "2024-05-01T10:00:02Z")?;
-    let state = applied(alloc, &state, "{}", "m1", false, "2024-05-01T10:00:03Z")?;
-    is(
-        alloc,
-        &state,
-        "{\"ports\":[{\"name\":\"a\",\"port\":81}]} u updated 02 /f:ports/k:{\"name\":\"a\"}/f:port",
-    )
+    let moves = [
+        (
+            "m1",
+            "apply",
+            "2024-05-01T10:00:01Z",
+            "{\"ports\":[{\"name\":\"a\",\"port\":80,\"proto\":\"TCP\"}]}",
+        ),
+        (
+            "u",
+            "update",
+            "2024-05-01T10:00:02Z",
+            "{\"ports\":[{\"name\":\"a\",\"port\":81,\"proto\":\"TCP\"}]}",
+        ),
+        ("m1", "apply", "2024-05-01T10:00:03Z", "{}"),
+    ];
+    assert!(rt;
+        lead_to(
+            alloc,
+            &moves,
+            "{\"ports\":[{\"name\":\"a\",\"port\":81}]} u updated 02 /f:ports/k:{\"name\":\"a\"}/f:port"
+        )?
+    );
+    Ok(())
 }
 
 #[test]
 fn a_given_up_entry_goes_and_the_map_stays(rt: HostRuntime) -> Result<(), Fail> {
     let alloc = rt.alloc();
-    let state = start(alloc)?;
-    let state = applied(
-        alloc,
-        &state,
-        "{\"env\":{\"A\":\"1\",\"B\":\"2\"}}",
-        "m1",
-        false,
-        "2024-05-01T10:00:01Z",
-    )?;
-    let state = applied(
-        alloc,
-        &state,
-        "{\"env\":{\"B\":\"2\"}}",
-        "m2",
-        false,
-        "2024-05-01T10:00:02Z",
-    )?;
-    let state = applied(alloc, &state, "{}", "m1", false, "2024-05-01T10:00:03Z")?;
-    is(
-        alloc,
-        &state,
-        "{\"env\":{\"B\":\"2\"}} m2 applied 02 /f:env/f:B",
-    )
+    let moves = [
+        (
+            "m1",
+            "apply",
+            "2024-05-01T10:00:01Z",
+            "{\"env\":{\"A\":\"1\",\"B\":\"2\"}}",
+        ),
+        (
+            "m2",
+            "apply",
+            "2024-05-01T10:00:02Z",
+            "{\"env\":{\"B\":\"2\"}}",
+        ),
+        ("m1", "apply", "2024-05-01T10:00:03Z", "{}"),
+    ];
+    assert!(rt;
+        lead_to(
+            alloc,
+            &moves,
+            "{\"env\":{\"B\":\"2\"}} m2 applied 02 /f:env/f:B"
+        )?
+    );
+    Ok(())
 }
 
 #[test]
 fn lists_keep_the_live_order(rt: HostRuntime) -> Result<(), Fail> {
     let alloc = rt.alloc();
-    let state = start(alloc)?;
-    let state = applied(
-        alloc,
-        &state,
-        "{\"hosts\":[\"b\",\"a\"]}",
-        "m1",
-        false,
-        "2024-05-01T10:00:01Z",
-    )?;
-    let state = applied(
-        alloc,
-        &state,
-        "{\"hosts\":[\"c\",\"a\"]}",
-        "m2",
-        false,
-        "2024-05-01T10:00:02Z",
-    )?;
-    is(
-        alloc,
-        &state,
-        "{\"hosts\":[\"b\",\"a\",\"c\"]} m1 applied 01 /f:hosts/v:\"a\" /f:hosts/v:\"b\" m2 applied 02 /f:hosts/v:\"a\" /f:hosts/v:\"c\"",
-    )
+    let moves = [
+        (
+            "m1",
+            "apply",
+            "2024-05-01T10:00:01Z",
+            "{\"hosts\":[\"b\",\"a\"]}",
+        ),
+        (
+            "m2",
+            "apply",
+            "2024-05-01T10:00:02Z",
+            "{\"hosts\":[\"c\",\"a\"]}",
+        ),
+    ];
+    assert!(rt;
+        lead_to(
+            alloc,
+            &moves,
+            "{\"hosts\":[\"b\",\"a\",\"c\"]} m1 applied 01 /f:hosts/v:\"a\" /f:hosts/v:\"b\" m2 applied 02 /f:hosts/v:\"a\" /f:hosts/v:\"c\""
+        )?
+    );
+    Ok(())
 }
 
 #[test]
 fn an_update_takes_what_it_changes(rt: HostRuntime) -> Result<(), Fail> {
     let alloc = rt.alloc();
-    let state = start(alloc)?;
-    let config = "{\"hosts\":[\"h\"],\"image\":\"a\",\"replicas\":3}";
-    let state = applied(alloc, &state, config, "m1", false, "2024-05-01T10:00:01Z")?;
-    let object = "{\"env\":{\"A\":\"1\"},\"image\":\"b\",\"replicas\":3}";
-    let state = updated(alloc, &state, object, "m1", "2024-05-01T10:00:02Z")?;
-    is(
-        alloc,
-        &state,
-        "{\"env\":{\"A\":\"1\"},\"image\":\"b\",\"replicas\":3} m1 applied 01 /f:replicas m1 updated 02 /f:env/f:A /f:image",
-    )?;
-    let state = accepted_strip(alloc, &state)?;
-    is(
-        alloc,
-        &state,
-        "{\"env\":{\"A\":\"1\"},\"image\":\"b\",\"replicas\":3}",
-    )
-}
-
-fn accepted_strip(alloc: Global, state: &State) -> Result<State, AllocError> {
-    Ok(plan_strip(alloc, state)?.into_target())
+    let moves = [
+        (
+            "m1",
+            "apply",
+            "2024-05-01T10:00:01Z",
+            "{\"hosts\":[\"h\"],\"image\":\"a\",\"replicas\":3}",
+        ),
+        (
+            "m1",
+            "update",
+            "2024-05-01T10:00:02Z",
+            "{\"env\":{\"A\":\"1\"},\"image\":\"b\",\"replicas\":3}",
+        ),
+    ];
+    assert!(rt;
+        lead_to(
+            alloc,
+            &moves,
+            "{\"env\":{\"A\":\"1\"},\"image\":\"b\",\"replicas\":3} m1 applied 01 /f:replicas m1 updated 02 /f:env/f:A /f:image"
+        )?
+    );
+    Ok(())
 }
 
 #[test]
-fn moments_are_renewed_by_changes_alone(rt: HostRuntime) -> Result<(), Fail> {
+fn a_strip_leaves_the_body(rt: HostRuntime) -> Result<(), Fail> {
     let alloc = rt.alloc();
-    let state = start(alloc)?;
-    let state = applied(
-        alloc,
-        &state,
-        "{\"replicas\":3}",
-        "m1",
-        false,
-        "2024-05-01T10:00:01Z",
-    )?;
-    let state = applied(
-        alloc,
-        &state,
-        "{\"replicas\":3}",
-        "m1",
-        false,
-        "2024-05-01T10:00:09Z",
-    )?;
-    is(alloc, &state, "{\"replicas\":3} m1 applied 01 /f:replicas")?;
-    let state = applied(
-        alloc,
-        &state,
-        "{\"replicas\":4}",
-        "m1",
-        false,
-        "2024-05-01T10:00:09Z",
-    )?;
-    is(alloc, &state, "{\"replicas\":4} m1 applied 09 /f:replicas")
+    let moves = [
+        ("m1", "apply", "2024-05-01T10:00:01Z", "{\"replicas\":3}"),
+        ("", "strip", "2024-05-01T10:00:02Z", "{}"),
+    ];
+    assert!(rt; lead_to(alloc, &moves, "{\"replicas\":3}")?);
+    Ok(())
+}
+
+#[test]
+fn a_moment_stays_where_nothing_changes(rt: HostRuntime) -> Result<(), Fail> {
+    let alloc = rt.alloc();
+    let moves = [
+        ("m1", "apply", "2024-05-01T10:00:01Z", "{\"replicas\":3}"),
+        ("m1", "apply", "2024-05-01T10:00:09Z", "{\"replicas\":3}"),
+    ];
+    assert!(rt; lead_to(alloc, &moves, "{\"replicas\":3} m1 applied 01 /f:replicas")?);
+    Ok(())
+}
+
+#[test]
+fn a_moment_is_renewed_by_a_change(rt: HostRuntime) -> Result<(), Fail> {
+    let alloc = rt.alloc();
+    let moves = [
+        ("m1", "apply", "2024-05-01T10:00:01Z", "{\"replicas\":3}"),
+        ("m1", "apply", "2024-05-01T10:00:09Z", "{\"replicas\":4}"),
+    ];
+    assert!(rt; lead_to(alloc, &moves, "{\"replicas\":4} m1 applied 09 /f:replicas")?);
+    Ok(())
+}
+
+#[test]
+fn conflicts_name_each_manager_and_field(rt: HostRuntime) -> Result<(), Fail> {
+    let alloc = rt.alloc();
+    let moves = [
+        (
+            "m1",
+            "apply",
+            "2024-05-01T10:00:01Z",
+            "{\"image\":\"a\",\"replicas\":3}",
+        ),
+        ("m2", "apply", "2024-05-01T10:00:02Z", "{\"replicas\":3}"),
+    ];
+    let last = (
+        "m3",
+        "apply",
+        "2024-05-01T10:00:03Z",
+        "{\"image\":\"b\",\"replicas\":4}",
+    );
+    assert!(rt;
+        clash(
+            alloc,
+            &moves,
+            &last,
+            " m1 /f:image /f:replicas m2 /f:replicas"
+        )?
+    );
+    Ok(())
 }
