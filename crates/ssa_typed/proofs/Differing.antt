@@ -17,18 +17,19 @@ use Rattle.ssa_path.proofs.Combining.{own-within, other-within, both-within}
 use Rattle.ssa_path.proofs.Levels.{any-made, is_trie-made, one-made-root, same_path-reading}
 use Rattle.ssa_path.proofs.Orders.{and_false, both_second}
 use Rattle.ssa_path.proofs.Sets.{has-listed}
-use Rattle.ssa_typed.specs.Differences.{differs, differs_here, differs_below, differs_at, told_of_lost, told_of_new, IsDiffering, IsDifference, IsToldAlone}
+use Rattle.ssa_typed.specs.Differences.{Difference, Added, Modified, Removed, differs, differs_here, differs_below, differs_at, told_of_lost, told_of_new, AreDifferences, AreDiffering, IsDiffering, IsDifference, IsToldAlone}
 use Rattle.ssa_typed.specs.InOrder.{referred, IsInOrder}
 use Rattle.ssa_typed.specs.Points.{point_in, collects_of, is_in_dict, is_point_of}
 use Rattle.ssa_typed.specs.Rows.{rows, below, content_at, body_of, is_tree}
-use Rattle.ssa_typed.specs.declared.compare.Difference.{Difference}
-use Rattle.ssa_typed.specs.declared.compare.Difference.TheVariants.{Added, Modified, Removed}
+use Rattle.ssa_typed.specs.declared.compare.Parts.{Parts}
+use Rattle.ssa_typed.specs.declared.compare.PartsBelow.{PartsBelow}
 use Rattle.ssa_typed.specs.declared.node.Node.{Node}
+use Rattle.ssa_typed.specs.declared.points.Collected.TheVariants.{Points, All}
 use Rattle.ssa_typed.proofs.Collecting.{point-level}
 use Rattle.ssa_typed.proofs.Laws.{and_true}
 use Rattle.ssa_typed.proofs.Lookups.{content-level, content-root}
 use Rattle.ssa_typed.proofs.Looks.{get-body}
-use Rattle.ssa_typed.proofs.Making.{TellsNothing, IsMaking, making-all, making-more, front-own, front-other, front-both}
+use Rattle.ssa_typed.proofs.Making.{TellsNothing, IsMaking, making-all, making-more, making-skip, front-own, front-other, front-both}
 use Rattle.ssa_typed.proofs.References.{Reference, child-of, left-referred, length-referred}
 use Rattle.ssa_typed.proofs.Stands.{points-body}
 
@@ -142,6 +143,35 @@ module _ (what : Difference) (d : Bool) (rs ss : List Reference) where
       making-more (differs what d) e None (Some c.1) (referred rs) (referred ss) cs (c ∷ ds) cs ds out new t (tells-nothing what d)
       (front-other cs c ds heads now.own_rise now.others_rise) now.own_rise (both_second _ _ now.others_rise) (λ p. made.paths_are p ∙ new-differs what d e c.1 p) made.trie grown now
 
+  -- nothing is told of a child that only one of the trees has
+  pub comparing-past-lost : (i j : ℕ) (r : Reference) (out : List (Elem × Trie)) → heads_order (drop i (referred rs)) (drop j (referred ss)) ≡ Some Less → r ≡ get_or rs i r → told_of_lost what ≡ None
+      → IsComparing (drop i (referred rs)) (drop j (referred ss)) out → IsComparing (drop (i + 1) (referred rs)) (drop j (referred ss)) out
+  comparing-past-lost i j r out order is none h =
+      let c = r.now in
+      let e = element_view c.0 in
+      let cs = drop (i + 1) (referred rs) in
+      let ds = drop j (referred ss) in
+      let lt : i < length rs = subst (λ k. i < k) (length-referred rs) (own-within (referred rs) ds i order) in
+      let left = left-referred rs i r lt is in
+      let now = subst (λ l. IsComparing l ds out) left h in
+      let heads = subst (λ l. heads_order l ds ≡ Some Less) left order in
+      making-skip (differs what d) e (Some c.1) None (referred rs) (referred ss) (c ∷ cs) ds cs ds out (tells-nothing what d)
+      (front-own c cs ds heads now.own_rise now.others_rise) (both_second _ _ now.own_rise) now.others_rise (λ p. sym (lost-differs what d e c.1 p) ∙ ap (λ o. collects_of o d e (Some c.1) p) none) now
+
+  pub comparing-past-new : (i j : ℕ) (s : Reference) (out : List (Elem × Trie)) → heads_order (drop i (referred rs)) (drop j (referred ss)) ≡ Some Greater → s ≡ get_or ss j s → told_of_new what ≡ None
+      → IsComparing (drop i (referred rs)) (drop j (referred ss)) out → IsComparing (drop i (referred rs)) (drop (j + 1) (referred ss)) out
+  comparing-past-new i j s out order is none h =
+      let c = s.now in
+      let e = element_view c.0 in
+      let cs = drop i (referred rs) in
+      let ds = drop (j + 1) (referred ss) in
+      let lt : j < length ss = subst (λ k. j < k) (length-referred ss) (other-within cs (referred ss) j order) in
+      let left = left-referred ss j s lt is in
+      let now = subst (λ l. IsComparing cs l out) left h in
+      let heads = subst (λ l. heads_order cs l ≡ Some Greater) left order in
+      making-skip (differs what d) e None (Some c.1) (referred rs) (referred ss) cs (c ∷ ds) cs ds out (tells-nothing what d)
+      (front-other cs c ds heads now.own_rise now.others_rise) now.own_rise (both_second _ _ now.others_rise) (λ p. sym (new-differs what d e c.1 p) ∙ ap (λ o. collects_of o d e (Some c.1) p) none) now
+
   pub comparing-both : (i j : ℕ) (r s : Reference) (out new : List (Elem × Trie)) (t : Trie) → heads_order (drop i (referred rs)) (drop j (referred ss)) ≡ Some Equal → r ≡ get_or rs i r → s ≡ get_or ss j s
       → is_tree r.now.1 ≡ true → is_tree s.now.1 ≡ true → IsDifference what r.now.1 s.now.1 t → IsGrown (element_view r.now.0) t out new
       → IsComparing (drop i (referred rs)) (drop j (referred ss)) out → IsComparing (drop (i + 1) (referred rs)) (drop (j + 1) (referred ss)) new
@@ -164,6 +194,48 @@ module _ (what : Difference) (d : Bool) (rs ss : List Reference) where
   comparing-all n m cs ds out is own other none_own none_other h =
       let made = making-all (differs what d) (referred rs) (referred ss) cs ds out (tells-nothing what d) none_own none_other h in
       record { paths_are = λ e p. made.paths_are e p ∙ (λ i. differs what (is i) e (own.same e i) (other.same e i) p); risen = made.risen; tries = made.tries }
+
+-- ---- all that is told, by one walk
+
+pub record AreComparing (d : Bool) (rs ss : List Reference) (cs ds : List (Elem × Node)) (own_added own_modified own_removed : List (Elem × Trie)) : Type 0 where
+  pub added_so_far : IsComparing Added d rs ss cs ds own_added
+  pub modified_so_far : IsComparing Modified d rs ss cs ds own_modified
+  pub removed_so_far : IsComparing Removed d rs ss cs ds own_removed
+
+module _ (d : Bool) (rs ss : List Reference) (i j : ℕ) (a m x : List (Elem × Trie)) (h : AreComparing d rs ss (drop i (referred rs)) (drop j (referred ss)) a m x) where
+  pub past-lost : (r : Reference) (new : List (Elem × Trie)) → heads_order (drop i (referred rs)) (drop j (referred ss)) ≡ Some Less → r ≡ get_or rs i r → IsToldAlone (Some All) d r.now x new
+      → AreComparing d rs ss (drop (i + 1) (referred rs)) (drop j (referred ss)) a m new
+  past-lost r new order is told = record {
+    added_so_far = comparing-past-lost Added d rs ss i j r a order is refl h.added_so_far;
+    modified_so_far = comparing-past-lost Modified d rs ss i j r m order is refl h.modified_so_far;
+    removed_so_far = comparing-lost Removed d rs ss i j r x new order is told h.removed_so_far;
+  }
+
+  pub past-new : (s : Reference) (new : List (Elem × Trie)) → heads_order (drop i (referred rs)) (drop j (referred ss)) ≡ Some Greater → s ≡ get_or ss j s → IsToldAlone (Some Points) d s.now a new
+      → AreComparing d rs ss (drop i (referred rs)) (drop (j + 1) (referred ss)) new m x
+  past-new s new order is told = record {
+    added_so_far = comparing-new Added d rs ss i j s a new order is told h.added_so_far;
+    modified_so_far = comparing-past-new Modified d rs ss i j s m order is refl h.modified_so_far;
+    removed_so_far = comparing-past-new Removed d rs ss i j s x order is refl h.removed_so_far;
+  }
+
+  pub past-both : (r s : Reference) (v : Parts) (new_a new_m new_x : List (Elem × Trie)) → heads_order (drop i (referred rs)) (drop j (referred ss)) ≡ Some Equal → r ≡ get_or rs i r → s ≡ get_or ss j s
+      → is_tree r.now.1 ≡ true → is_tree s.now.1 ≡ true → AreDifferences r.now.1 s.now.1 v
+      → IsGrown (element_view r.now.0) v.added a new_a → IsGrown (element_view r.now.0) v.modified m new_m → IsGrown (element_view r.now.0) v.removed x new_x
+      → AreComparing d rs ss (drop (i + 1) (referred rs)) (drop (j + 1) (referred ss)) new_a new_m new_x
+  past-both r s v new_a new_m new_x order is_r is_s before after made grown_a grown_m grown_x = record {
+    added_so_far = comparing-both Added d rs ss i j r s a new_a v.added order is_r is_s before after made.added_trie grown_a h.added_so_far;
+    modified_so_far = comparing-both Modified d rs ss i j r s m new_m v.modified order is_r is_s before after made.modified_trie grown_m h.modified_so_far;
+    removed_so_far = comparing-both Removed d rs ss i j r s x new_x v.removed order is_r is_s before after made.removed_trie grown_x h.removed_so_far;
+  }
+
+pub past-all : (d : Bool) (rs ss : List Reference) (n m : Node) (cs ds : List (Elem × Node)) (v : PartsBelow) → d ≡ is_in_dict m → IsInOrder (below n) (referred rs) → IsInOrder (below m) (referred ss) → cs ≡ [] → ds ≡ []
+    → AreComparing d rs ss cs ds v.added.items v.modified.items v.removed.items → AreDiffering n m v
+past-all d rs ss n m cs ds v is own other none_own none_other h = record {
+  added_below = comparing-all Added d rs ss n m cs ds v.added.items is own other none_own none_other h.added_so_far;
+  modified_below = comparing-all Modified d rs ss n m cs ds v.modified.items is own other none_own none_other h.modified_so_far;
+  removed_below = comparing-all Removed d rs ss n m cs ds v.removed.items is own other none_own none_other h.removed_so_far;
+}
 
 -- ---- THE BRIDGE: the comparison of the bodies that the trees stand for
 

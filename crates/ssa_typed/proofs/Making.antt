@@ -34,6 +34,10 @@ pub record IsMade {A B : Type 0} (test : Test A B) (cs : Children A) (ds : Child
 pub made-none : {A B : Type 0} (test : Test A B) → TellsNothing test → IsMade test [] [] []
 made-none test none = record { paths_are = λ e p. sym (none e p); risen = refl; tries = refl; lower = λ e g h. refl }
 
+gone : (s a : Bool) → ((s && false) || a) ≡ a
+gone true a = refl
+gone false a = refl
+
 -- ---- a trie put in front of others, where it has some path
 
 record IsPut (f : Element) (t : Trie) (us new : List (Elem × Trie)) : Type 0 where
@@ -57,10 +61,6 @@ put-none f t us none = record {
   tries = λ a. a;
   lower = λ e a b. b;
 }
-  where
-    gone : (s a : Bool) → ((s && false) || a) ≡ a
-    gone true a = refl
-    gone false a = refl
 
 -- whatever stands behind what was made so far, the new trie is put in front of it
 abbrev IsPutBetween : Element → Trie → List (Elem × Trie) → List (Elem × Trie) → List (Elem × Trie) → Type 0
@@ -143,6 +143,21 @@ module _ {A B : Type 0} (test : Test A B) (none : TellsNothing test) where
     lower = λ e a b. let parts = front.lower e a b in put.lower e parts.0 (h.lower e parts.1 parts.2);
   }
 
+  -- an element of which nothing is told
+  made-skip : (f : Element) (x : Option A) (y : Option B) (cs0 : Children A) (ds0 : Children B) (cs : Children A) (ds : Children B) (us : List (Elem × Trie)) → IsFront f x y cs0 ds0 cs ds → ((p : Path) → test f x y p ≡ false)
+      → IsMade test cs ds us → IsMade test cs0 ds0 us
+  made-skip f x y cs0 ds0 cs ds us front nothing h = record {
+    paths_are = λ e p.
+        h.paths_are e p
+        ∙ sym (gone (same_element e f) (test e (child_at e cs) (child_at e ds) p))
+        ∙ ap (λ b. (same_element e f && b) || test e (child_at e cs) (child_at e ds) p) (sym (nothing p))
+        ∙ joined f x y cs ds front.own_above front.other_above e p
+        ∙ (λ i. test e (sym (front.own e) i) (sym (front.other e) i) p);
+    risen = h.risen;
+    tries = h.tries;
+    lower = λ e a b. let parts = front.lower e a b in h.lower e parts.1 parts.2;
+  }
+
 -- ---- a walk over both lists
 
 -- whatever is made of what is left of both lists, behind what was made so far it is made of both lists
@@ -168,4 +183,12 @@ making-more test f x y cs0 ds0 cs1 ds1 cs ds out new t none front own_rise other
   rest = λ us g.
       let put = put-grown f t out new (is_filled t) trie refl grown us in
       subst (IsMade test cs0 ds0) (sym put.2) (h.rest put.0 (made-front test none f x y cs1 ds1 cs ds t us put.0 front made put.1 g));
+}
+
+pub making-skip : {A B : Type 0} (test : Test A B) (f : Element) (x : Option A) (y : Option B) (cs0 : Children A) (ds0 : Children B) (cs1 : Children A) (ds1 : Children B) (cs : Children A) (ds : Children B) (out : List (Elem × Trie)) → TellsNothing test → IsFront f x y cs1 ds1 cs ds
+    → rises (elements cs) ≡ true → rises (elements ds) ≡ true → ((p : Path) → test f x y p ≡ false) → IsMaking test cs0 ds0 cs1 ds1 out → IsMaking test cs0 ds0 cs ds out
+making-skip test f x y cs0 ds0 cs1 ds1 cs ds out none front own_rise others_rise nothing h = record {
+  own_rise = own_rise;
+  others_rise = others_rise;
+  rest = λ us g. h.rest us (made-skip test none f x y cs1 ds1 cs ds us front nothing g);
 }

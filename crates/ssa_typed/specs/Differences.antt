@@ -11,11 +11,17 @@ use Rattle.ssa_path.specs.View.{element_view}
 use Rattle.ssa_typed.specs.Points.{content_in, point_in, is_in_dict, IsChildTrie}
 use Rattle.ssa_typed.specs.Rows.{own_content, below}
 use Rattle.ssa_typed.specs.declared.compare.Comparison.{Comparison}
-use Rattle.ssa_typed.specs.declared.compare.Difference.{Difference}
-use Rattle.ssa_typed.specs.declared.compare.Difference.TheVariants.{Added, Modified, Removed}
+use Rattle.ssa_typed.specs.declared.compare.Parts.{Parts}
+use Rattle.ssa_typed.specs.declared.compare.PartsBelow.{PartsBelow}
 use Rattle.ssa_typed.specs.declared.node.Node.{Node}
 use Rattle.ssa_typed.specs.declared.points.Collected.{Collected}
 use Rattle.ssa_typed.specs.declared.points.Collected.TheVariants.{Points, All}
+
+-- what is told of two bodies
+pub data Difference : Type 0 where
+  Added : Difference
+  Modified : Difference
+  Removed : Difference
 
 -- the path is told at or below the children of the element, which the bodies before and after may lack
 abbrev pub differs : Difference → Bool → Element → Option Node → Option Node → Path → Bool
@@ -61,6 +67,18 @@ pub record IsDiffering (what : Difference) (before after : Node) (ts : List (Ele
 pub record IsDifference (what : Difference) (before after : Node) (t : Trie) : Type 0 where
   pub paths_are : (p : Path) → is_one_of (paths t) p ≡ differs_at what before after p
   pub trie : is_trie t ≡ true
+
+-- ---- all that is told
+
+pub record AreDiffering (before after : Node) (v : PartsBelow) : Type 0 where
+  pub added_below : IsDiffering Added before after v.added.items
+  pub modified_below : IsDiffering Modified before after v.modified.items
+  pub removed_below : IsDiffering Removed before after v.removed.items
+
+pub record AreDifferences (before after : Node) (v : Parts) : Type 0 where
+  pub added_trie : IsDifference Added before after v.added
+  pub modified_trie : IsDifference Modified before after v.modified
+  pub removed_trie : IsDifference Removed before after v.removed
 
 -- ---- of bodies
 

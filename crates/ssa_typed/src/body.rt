@@ -13,7 +13,7 @@ ghost use Rattle.ssa_typed.specs.Differences.{IsComparison};
 ghost use Rattle.ssa_typed.specs.Look.{look_of, look_at};
 ghost use Rattle.ssa_typed.specs.Rows.{body_of, is_tree};
 
-use crate::compare::{Comparison, Difference, differing};
+use crate::compare::{Comparison, differing};
 use crate::lacking::lacking_paths;
 use crate::node::{Look, Node};
 use crate::over::over_node;
@@ -144,13 +144,11 @@ impl Body {
     pub fn compare(&self, alloc: Global, after: &Body) -> Result<Comparison, AllocError>
         ensures { IfOk result (λ c. IsComparison self.now after.now c) }
     {
-        let added = differing(alloc, &self.root, &after.root, Difference::Added)?;
-        let modified = differing(alloc, &self.root, &after.root, Difference::Modified)?;
-        let removed = differing(alloc, &self.root, &after.root, Difference::Removed)?;
+        let told = differing(alloc, &self.root, &after.root)?;
         Ok(Comparison {
-            added: FieldSet::from_root(added),
-            modified: FieldSet::from_root(modified),
-            removed: FieldSet::from_root(removed),
+            added: FieldSet::from_root(told.added),
+            modified: FieldSet::from_root(told.modified),
+            removed: FieldSet::from_root(told.removed),
         })
     }
 

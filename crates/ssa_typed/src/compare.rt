@@ -2,7 +2,7 @@
 ghost use Rattle.std.specs.Prelude.{◌≡◌, true, drop, Some, IfOk, OnOk};
 ghost use Rattle.ssa_model.specs.Body.{is_other_leaf};
 ghost use Rattle.ssa_path.specs.Children.{heads_order};
-ghost use Rattle.ssa_typed.specs.Differences.{differs_here, told_of_lost, told_of_new, IsDifference, IsDiffering, IsToldAlone};
+ghost use Rattle.ssa_typed.specs.Differences.{AreDifferences, AreDiffering, IsToldAlone};
 ghost use Rattle.ssa_typed.specs.InOrder.{referred};
 ghost use Rattle.ssa_typed.specs.Rows.{is_tree, leaf_content, own_content};
 
@@ -28,12 +28,20 @@ pub struct Comparison {
     pub removed: FieldSet,
 }
 
-// What is told of two bodies.
-#[derive(Clone, Copy, Drop)]
-pub(crate) enum Difference {
-    Added,
-    Modified,
-    Removed,
+// What differs at and below two places, by what the comparison tells of it.
+#[derive(Drop)]
+pub(crate) struct Parts {
+    pub(crate) added: Trie,
+    pub(crate) modified: Trie,
+    pub(crate) removed: Trie,
+}
+
+// What differs below two places, each child's behind the child's element.
+#[derive(Drop)]
+struct PartsBelow {
+    added: Vec<(Elem, Trie)>,
+    modified: Vec<(Elem, Trie)>,
+    removed: Vec<(Elem, Trie)>,
 }
 
 impl Leaf {
@@ -67,41 +75,6 @@ impl Node {
     }
 }
 
-impl Difference {
-    // Whether a place that both trees have is told itself.
-    fn is_here(self, before: &Node, after: &Node) -> bool
-        ensures { result ≡ differs_here self before.now after.now }
-    {
-        match self {
-            Difference::Added => false,
-            Difference::Modified => before.is_other_leaf(after),
-            Difference::Removed => false,
-        }
-    }
-
-    // What is told of a child that only the tree before has.
-    fn of_lost(self) -> Option<Collected>
-        ensures { result ≡ told_of_lost self }
-    {
-        match self {
-            Difference::Added => None,
-            Difference::Modified => None,
-            Difference::Removed => Some(Collected::All),
-        }
-    }
-
-    // What is told of a child that only the tree after has.
-    fn of_new(self) -> Option<Collected>
-        ensures { result ≡ told_of_new self }
-    {
-        match self {
-            Difference::Added => Some(Collected::Points),
-            Difference::Modified => None,
-            Difference::Removed => None,
-        }
-    }
-}
-
 // How the next children compare: where one list has no more, the other's is first.
 fn order_at(own: &[&(Elem, Node)], i: usize, others: &[&(Elem, Node)], j: usize) -> Option<Ordering>
     ensures { result ≡ heads_order (drop i (referred own.now)) (drop j (referred others.now)) }
@@ -119,75 +92,85 @@ fn order_at(own: &[&(Elem, Node)], i: usize, others: &[&(Elem, Node)], j: usize)
     }
 }
 
-// Adds what is told of a child that only one of the trees has.
+// Adds what is collected of a child that only one of the trees has.
 fn push_alone(
     alloc: Global,
     told: &mut Vec<(Elem, Trie)>,
     child: &(Elem, Node),
     in_dict: bool,
-    what: Option<Collected>,
+    what: Collected,
 ) -> Result<(), AllocError>
     requires { is_tree child.now.1 ≡ true }
-    ensures { OnOk result (IsToldAlone what in_dict child.now told.old.items told.new.items) }
+    ensures { OnOk result (IsToldAlone (Some what) in_dict child.now told.old.items told.new.items) }
 {
     let trie = collect_child(alloc, child, in_dict, what)?;
     push_filled(alloc, told, &child.0, trie)?;
     Ok(())
 }
 
-// What differs below two nodes, each child's behind the child's element.
+// What differs below two nodes.
 #[cycle(differing)]
-fn differing_below(
-    alloc: Global,
-    before: &Node,
-    after: &Node,
-    what: Difference,
-) -> Result<Vec<(Elem, Trie)>, AllocError>
+fn differing_below(alloc: Global, before: &Node, after: &Node) -> Result<PartsBelow, AllocError>
     requires before { is_tree before.now ≡ true }
     requires after { is_tree after.now ≡ true }
-    ensures { IfOk result (λ v. IsDiffering what before.now after.now v.items) }
+    ensures { IfOk result (λ v. AreDiffering before.now after.now v) }
 {
     let own = in_order(alloc, before.children())?;
     let others = in_order(alloc, after.children())?;
     let in_dict = after.is_dict();
-    let mut told = Vec::new(alloc);
-    let mut i = 0;
-    let mut j = 0;
+    let mut added = Vec::new(alloc);
+    let mut modified = Vec::new(alloc);
+    let mut removed = Vec::new(alloc);
+    let (mut i, mut j) = (0, 0);
     while let Some(order) = order_at(&own, i, &others, j) {
         match order {
             Ordering::Less => {
-                push_alone(alloc, &mut told, own[i], in_dict, what.of_lost())?;
+                push_alone(alloc, &mut removed, own[i], in_dict, Collected::All)?;
                 i += 1;
             }
             Ordering::Greater => {
-                push_alone(alloc, &mut told, others[j], in_dict, what.of_new())?;
+                push_alone(alloc, &mut added, others[j], in_dict, Collected::Points)?;
                 j += 1;
             }
             Ordering::Equal => {
                 let mine = own[i];
-                let child = differing(alloc, &mine.1, &others[j].1, what)?;
-                push_filled(alloc, &mut told, &mine.0, child)?;
+                let child = differing(alloc, &mine.1, &others[j].1)?;
+                push_filled(alloc, &mut added, &mine.0, child.added)?;
+                push_filled(alloc, &mut modified, &mine.0, child.modified)?;
+                push_filled(alloc, &mut removed, &mine.0, child.removed)?;
                 i += 1;
                 j += 1;
             }
         }
     }
-    Ok(told)
+    Ok(PartsBelow {
+        added,
+        modified,
+        removed,
+    })
 }
 
 // What differs between two trees, found by one walk over both.
 #[cycle(differing)]
-pub(crate) fn differing(
-    alloc: Global,
-    before: &Node,
-    after: &Node,
-    what: Difference,
-) -> Result<Trie, AllocError>
+pub(crate) fn differing(alloc: Global, before: &Node, after: &Node) -> Result<Parts, AllocError>
     requires before { is_tree before.now ≡ true }
     requires after { is_tree after.now ≡ true }
-    ensures { IfOk result (λ t. IsDifference what before.now after.now t) }
+    ensures { IfOk result (λ v. AreDifferences before.now after.now v) }
 {
-    let below = differing_below(alloc, before, after, what)?;
-    let here = what.is_here(before, after);
-    Ok(Trie { here, below })
+    let below = differing_below(alloc, before, after)?;
+    let here = before.is_other_leaf(after);
+    Ok(Parts {
+        added: Trie {
+            here: false,
+            below: below.added,
+        },
+        modified: Trie {
+            here,
+            below: below.modified,
+        },
+        removed: Trie {
+            here: false,
+            below: below.removed,
+        },
+    })
 }

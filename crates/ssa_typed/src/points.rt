@@ -54,27 +54,19 @@ fn collect_below(
     Ok(collected)
 }
 
-// What is collected at and below a child: nothing, where nothing is asked for.
+// What is collected at and below a child.
 pub(crate) fn collect_child(
     alloc: Global,
     child: &(Elem, Node),
     in_dict: bool,
-    what: Option<Collected>,
+    what: Collected,
 ) -> Result<Trie, AllocError>
     requires { is_tree child.now.1 ≡ true }
-    ensures { IfOk result (λ t. IsChildTrie what in_dict (element_view child.now.0) child.now.1 t) }
+    ensures { IfOk result (λ t. IsChildTrie (Some what) in_dict (element_view child.now.0) child.now.1 t) }
 {
-    match what {
-        None => Ok(Trie {
-            here: false,
-            below: Vec::new(alloc),
-        }),
-        Some(what) => {
-            let parts = collect_below(alloc, &child.1, what)?;
-            let here = what.has_place(child, in_dict);
-            Ok(Trie { here, below: parts })
-        }
-    }
+    let parts = collect_below(alloc, &child.1, what)?;
+    let here = what.has_place(child, in_dict);
+    Ok(Trie { here, below: parts })
 }
 
 impl Node {
