@@ -2,3 +2,4 @@ pub mod Seats
 pub mod Seated
 pub mod GivenUp
 pub mod Applied
+pub mod Fits

@@ -1,5 +1,7 @@
 //! What a command makes of a state, before it is carried out.
 ghost use Rattle.std.specs.Prelude.{◌≡◌, ◌||◌, length, not, IfOk};
+ghost use Rattle.ssa_model.specs.Fitting.{IsBodyOf};
+ghost use Rattle.ssa_model.specs.Kind.{Kind};
 ghost use Rattle.ssa_model.specs.PathMap.{minus, union};
 ghost use Rattle.ssa_model.specs.Table.{owned_by};
 ghost use Rattle.ssa_model.specs.Operations.{apply, update, strip, is_none};
@@ -139,7 +141,8 @@ pub fn plan_apply(
     at: Moment,
 ) -> Result<Plan, Refusal>
     requires { AreAlike state.now.body config }
-    ensures { IsPlanned (state_view state.now) result (apply (state_view state.now) (applier who.now) config force at) }
+    ensures plan { IsPlanned (state_view state.now) result (apply (state_view state.now) (applier who.now) config force at) }
+    ensures fits { IfOk result (λ p. (kind : Kind) → IsBodyOf kind state.now.body → IsBodyOf kind config → IsBodyOf kind p.target.body) }
 {
     let key = key_of(alloc, who, Operation::Apply)?;
     applied(alloc, state, &key, &config, force, at)
@@ -204,7 +207,8 @@ pub fn plan_update(
     who: &str,
     at: Moment,
 ) -> Result<Plan, Refusal>
-    ensures { IsPlanned (state_view state.now) result (update (state_view state.now) (updater who.now) object at) }
+    ensures plan { IsPlanned (state_view state.now) result (update (state_view state.now) (updater who.now) object at) }
+    ensures fits { IfOk result (λ p. (kind : Kind) → IsBodyOf kind object → IsBodyOf kind p.target.body) }
 {
     let key = key_of(alloc, who, Operation::Update)?;
     updated(alloc, state, &key, object, at)
@@ -212,7 +216,8 @@ pub fn plan_update(
 
 /// Plans a Strip: the body stays, and the table is emptied.
 pub fn plan_strip(alloc: Global, state: &State) -> Result<Plan, AllocError>
-    ensures { IfOk result (λ p. IsPlan (state_view state.now) p (strip (state_view state.now))) }
+    ensures plan { IfOk result (λ p. IsPlan (state_view state.now) p (strip (state_view state.now))) }
+    ensures fits { IfOk result (λ p. (kind : Kind) → IsBodyOf kind state.now.body → IsBodyOf kind p.target.body) }
 {
     let body = state.body.copy(alloc)?;
     let comparison = state.body.compare(alloc, &body)?;

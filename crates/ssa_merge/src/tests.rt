@@ -1,6 +1,8 @@
 // Commands on states: what the body and the table are afterwards.
+ghost use Rattle.std.specs.Prelude.{IfOk};
+ghost use Rattle.ssa_model.specs.Fitting.{IsBodyOf};
 
-use crate::manager::Operation;
+use crate::manager::{ManagerKey, Operation};
 use crate::managers::Managers;
 use crate::plan::{Plan, Refusal, plan_apply, plan_strip, plan_update};
 use crate::state::State;
@@ -15,16 +17,27 @@ use std::test::Fail;
 const SCHEMA: &str =
     "{\"properties\":{\"env\":{\"additionalProperties\":{\"type\":\"string\"},\"type\":\"object\"},\"hosts\":{\"items\":{\"type\":\"string\"},\"type\":\"array\",\"x-kubernetes-list-type\":\"set\"},\"image\":{\"type\":\"string\"},\"ports\":{\"items\":{\"properties\":{\"name\":{\"type\":\"string\"},\"port\":{\"type\":\"integer\"},\"proto\":{\"type\":\"string\"}},\"type\":\"object\"},\"type\":\"array\",\"x-kubernetes-list-map-keys\":[\"name\"],\"x-kubernetes-list-type\":\"map\"},\"replicas\":{\"type\":\"integer\"}},\"type\":\"object\"}";
 
-fn body(alloc: Global, text: &str) -> Result<Body, Fail> {
+fn schema(alloc: Global) -> Result<Schema, Fail> {
     let schema = Json::read(alloc, SCHEMA.as_bytes(), SCHEMA.len())?;
-    let schema = Schema::read(alloc, schema)?;
-    let value = Json::read(alloc, text.as_bytes(), text.len())?;
-    Ok(Body::from_json(alloc, &schema, value)?)
+    Ok(Schema::read(alloc, schema)?)
 }
 
-fn start(alloc: Global) -> Result<State, Fail> {
+fn body(alloc: Global, schema: &Schema, text: &str) -> Result<Body, Fail>
+    ensures { IfOk result (λ b. IsBodyOf schema.now.1 b) }
+{
+    let value = Json::read(alloc, text.as_bytes(), text.len())?;
+    match Body::from_json(alloc, schema, value) {
+        Ok(body) => Ok(body),
+        Err(_) => Err(Fail::new("no body")),
+    }
+}
+
+fn start(alloc: Global, schema: &Schema) -> Result<State, Fail>
+    ensures { IfOk result (λ s. IsBodyOf schema.now.1 s.body) }
+{
+    let body = body(alloc, schema, "{}")?;
     Ok(State {
-        body: body(alloc, "{}")?,
+        body,
         managers: Managers::new(alloc),
     })
 }
@@ -33,13 +46,6 @@ fn moment(text: &str) -> Result<Moment, Fail> {
     match Moment::read(text) {
         Ok(at) => Ok(at),
         Err(_) => Err(Fail::new("no moment")),
-    }
-}
-
-fn accepted(plan: Result<Plan, Refusal>) -> Result<Plan, Fail> {
-    match plan {
-        Ok(plan) => Ok(plan),
-        Err(_) => Err(Fail::new("refused")),
     }
 }
 
@@ -75,45 +81,77 @@ fn tell(alloc: Global, state: &State) -> Result<Vec<u8>, AllocError> {
 // object.
 type Move = (&'static str, &'static str, &'static str, &'static str);
 
-// What a move makes of a state.
-fn planned(alloc: Global, state: &State, act: &Move) -> Result<Result<Plan, Refusal>, Fail> {
+// What an object that is applied or put in the place of the live one makes of a state.
+fn planned(
+    alloc: Global,
+    schema: &Schema,
+    state: &State,
+    act: &Move,
+) -> Result<Result<Plan, Refusal>, Fail>
+    requires { IsBodyOf schema.now.1 state.now.body }
+    ensures { IfOk result (λ r. IfOk r (λ p. IsBodyOf schema.now.1 p.target.body)) }
+{
     let (who, word, at, text) = act;
     let at = moment(at)?;
-    let object = body(alloc, text)?;
-    match *word {
-        "update" => Ok(plan_update(alloc, state, object, who, at)),
-        "strip" => Ok(Ok(plan_strip(alloc, state)?)),
-        _ => Ok(plan_apply(alloc, state, object, who, *word == "force", at)),
+    let object = body(alloc, schema, text)?;
+    if *word == "update" {
+        return Ok(plan_update(alloc, state, object, who, at));
+    }
+    Ok(plan_apply(alloc, state, object, who, *word == "force", at))
+}
+
+// The state after a move that is accepted.
+fn moved(alloc: Global, schema: &Schema, state: &State, act: &Move) -> Result<State, Fail>
+    requires { IsBodyOf schema.now.1 state.now.body }
+    ensures { IfOk result (λ s. IsBodyOf schema.now.1 s.body) }
+{
+    if act.1 == "strip" {
+        return Ok(plan_strip(alloc, state)?.into_target());
+    }
+    match planned(alloc, schema, state, act)? {
+        Ok(plan) => Ok(plan.into_target()),
+        Err(_) => Err(Fail::new("refused")),
     }
 }
 
 // The state after moves that are accepted.
-fn after(alloc: Global, moves: &[Move]) -> Result<State, Fail> {
-    let mut state = start(alloc)?;
+fn after(alloc: Global, schema: &Schema, moves: &[Move]) -> Result<State, Fail>
+    ensures { IfOk result (λ s. IsBodyOf schema.now.1 s.body) }
+{
+    let mut state = start(alloc, schema)?;
     for act in moves {
-        state = accepted(planned(alloc, &state, act)?)?.into_target();
+        state = moved(alloc, schema, &state, act)?;
     }
     Ok(state)
 }
 
 fn lead_to(alloc: Global, moves: &[Move], wanted: &str) -> Result<bool, Fail> {
-    let state = after(alloc, moves)?;
+    let schema = schema(alloc)?;
+    let state = after(alloc, &schema, moves)?;
     Ok(tell(alloc, &state)?.as_slice() == wanted.as_bytes())
 }
 
-// Whether the last move is refused for these clashes.
-fn clash(alloc: Global, moves: &[Move], last: &Move, wanted: &str) -> Result<bool, Fail> {
-    let state = after(alloc, moves)?;
-    let Err(Refusal::Conflict(clashes)) = planned(alloc, &state, last)? else {
-        return Ok(false);
-    };
+// The clashes, each behind a blank.
+fn tell_clashes(alloc: Global, clashes: &[(ManagerKey, FieldSet)]) -> Result<Vec<u8>, AllocError> {
     let mut told = Vec::new(alloc);
-    for (key, fields) in &clashes {
+    for (key, fields) in clashes {
         told.push(b' ')?;
         told.extend_from_slice(key.name.as_bytes())?;
         tell_set(alloc, &mut told, fields)?;
     }
-    Ok(told.as_slice() == wanted.as_bytes())
+    Ok(told)
+}
+
+// Whether the last move is refused for these clashes.
+fn clash(alloc: Global, moves: &[Move], last: &Move, wanted: &str) -> Result<bool, Fail> {
+    let schema = schema(alloc)?;
+    let state = after(alloc, &schema, moves)?;
+    match planned(alloc, &schema, &state, last)? {
+        Err(Refusal::Conflict(clashes)) => {
+            Ok(tell_clashes(alloc, &clashes)?.as_slice() == wanted.as_bytes())
+        }
+        _ => Ok(false),
+    }
 }
 
 #[test]
