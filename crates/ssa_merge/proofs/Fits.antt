@@ -54,3 +54,8 @@ pub updated_fits : (state : State) (u : ManagerKey) (object : Body) (at : Text) 
     → IfOk r (λ p. (kind : Kind) → IsBodyOf kind object → IsBodyOf kind p.target.body)
 updated_fits state u object at (Ok p) h = λ kind k. subst (of_kind kind) (sym h.2.target_is) (update_fits kind state u object at h.0 k h.1)
 updated_fits state u object at (Err f) h = tt
+
+-- what follows for each plan follows for the one that is made
+pub if_planned : (r : Result Plan Refusal) (P Q : Plan → Type 0) → ((p : Plan) → P p → Q p) → IfOk r P → IfOk r Q
+if_planned (Ok p) P Q f h = f p h
+if_planned (Err e) P Q f h = tt
