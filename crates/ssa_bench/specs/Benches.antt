@@ -1,0 +1,65 @@
+-- What commands on a bench answer, and how the bench goes on.
+use Rattle.std.specs.Prelude.{◌≡◌, Result, Ok, Err}
+use Rattle.ssa_model.specs.Json.{Text}
+use Rattle.ssa_model.specs.Fitting.{IsBodyOf}
+use Rattle.ssa_model.specs.History as model
+use Rattle.ssa_model.specs.History.{appended, with_timeline}
+use Rattle.ssa_model.specs.Answers as answers
+use Rattle.ssa_model.specs.Answers.{Answer}
+use Rattle.ssa_merge.specs.States.{state_view}
+use Rattle.ssa_bench.specs.Faults.{IsFault, IsGiven}
+use Rattle.ssa_bench.specs.Histories.{label_view}
+use Rattle.ssa_bench.specs.declared.fault.Fault.{Fault}
+use Rattle.ssa_bench.specs.declared.fault.Fault.TheVariants.{OutOfMemory}
+use Rattle.ssa_bench.specs.declared.prepared.Changed.{Changed}
+use Rattle.ssa_bench.specs.declared.prepared.Counts.{Counts}
+use Rattle.ssa_bench.specs.declared.prepared.Prepared.{Prepared}
+
+abbrev pub changed_view : Changed → answers.Changed
+changed_view c = record { added = c.added; modified = c.modified; removed = c.removed; managers = c.managers }
+
+-- the bench is the given one, or the fault is
+abbrev pub IsMade : Result model.Bench Fault → Result model.Bench answers.Fault → Type 0
+IsMade = IsGiven
+
+-- ---- commands that make a state
+
+-- the new state's body is of the bench's kind
+abbrev pub CanCommit : model.Bench → Prepared → Type 0
+CanCommit bench p = IsBodyOf bench.kind p.step.state.body
+
+-- the bench with the prepared state behind its present one
+abbrev pub next_bench : model.Bench → Prepared → model.Bench
+next_bench bench p = with_timeline bench (appended bench.timeline (label_view p.step.label) (state_view p.step.state))
+
+-- the command is refused for the fault, and the bench stays
+pub record IsRefused (bench : model.Bench) (f : Fault) (given : Answer) : Type 0 where
+  pub cause : answers.Fault
+  pub reply : given.0 ≡ answers.fault cause
+  pub told : IsFault f cause
+  pub stays : given.1 ≡ bench
+
+-- the answer tells what is prepared
+pub record IsAccepted (bench : model.Bench) (p : Prepared) (given : Answer) (word : Text) : Type 0 where
+  pub reply : given.0 ≡ answers.changed word (changed_view p.changed)
+  pub next : given.1 ≡ next_bench bench p
+  pub fits : CanCommit bench p
+
+-- What is prepared is the given answer; of want of memory nothing is said.
+abbrev pub IsPrepared : model.Bench → Result Prepared Fault → Answer → Text → Type 0
+IsPrepared bench (Ok p) given word = IsAccepted bench p given word
+IsPrepared bench (Err OutOfMemory) given word = Unit {0}
+IsPrepared bench (Err f) given word = IsRefused bench f given
+
+-- ---- commands that were carried out
+
+-- The reply and the new bench are those of the given answer. A refusal and want of memory leave the bench.
+abbrev pub IsExecuted : model.Bench → model.Bench → Result Changed Fault → Answer → Text → Type 0
+IsExecuted old new (Ok c) given word = (given.0 ≡ answers.changed word (changed_view c)) × (given.1 ≡ new)
+IsExecuted old new (Err OutOfMemory) given word = new ≡ old
+IsExecuted old new (Err f) given word = (new ≡ old) × IsRefused old f given
+
+-- The same of a move in the history, which takes no memory.
+abbrev pub IsMoved : model.Bench → model.Bench → Result Counts Fault → Answer → Text → Type 0
+IsMoved old new (Ok c) given word = (given.0 ≡ answers.moved word c.past c.future) × (given.1 ≡ new)
+IsMoved old new (Err f) given word = (new ≡ old) × IsRefused old f given

@@ -1,0 +1,7 @@
+pub mod Identities
+pub mod Histories
+pub mod Fits
+pub mod BenchView
+pub mod Commands
+pub mod Faults
+pub mod Benches
