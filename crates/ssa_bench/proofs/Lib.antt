@@ -1,3 +1,4 @@
+pub mod Fits
 pub mod Histories
 pub mod Members
 pub mod Values

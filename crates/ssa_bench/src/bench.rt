@@ -11,6 +11,7 @@ ghost use Rattle.ssa_bench.specs.Commands.{command_view, command_word};
 use crate::command::Command;
 use crate::fault::Fault;
 use crate::identity::Identity;
+use crate::object::object_of_body;
 use crate::prepared::{Changed, Counts, Prepared};
 use crate::timeline::Timeline;
 use ssa_json::value::Json;
@@ -66,14 +67,22 @@ impl Bench {
         ensures changed { IfOk result (λ c. c ≡ prepared.changed) }
         ensures err { OnErr result (self.new ≡ self.old) }
     {
-        Err(AllocError)
+        let Prepared { changed, step } = prepared;
+        self.timeline.append(step)?;
+        Ok(changed)
     }
 
     /// Prepares a command and carries it out. The bench stays as it was where the command is refused.
     pub fn execute(&mut self, alloc: Global, command: Command) -> Result<Changed, Fault>
         ensures { IsExecuted self.old self.new result (answer dropped self.old (command_view command)) (command_word command) }
     {
-        Err(Fault::OutOfMemory)
+        match self.prepare(alloc, command) {
+            Ok(prepared) => {
+                let changed = self.commit(prepared)?;
+                Ok(changed)
+            }
+            Err(fault) => Err(fault),
+        }
     }
 
     /// Goes back to the state before the last command. Takes no memory.
@@ -124,6 +133,7 @@ impl Bench {
     pub fn show(&self, alloc: Global) -> Result<Json, AllocError>
         ensures { IfOk result (λ v. view v ≡ object_of_state self.now.identity self.now.kind false (present self.now.timeline)) }
     {
-        Err(AllocError)
+        let now = self.timeline.present();
+        object_of_body(alloc, &self.identity, &self.schema, &now.body)
     }
 }

@@ -1,22 +1,29 @@
 //! The object of an identity and a body.
-ghost use Rattle.std.specs.Prelude.{◌≡◌, IfOk, OnOk, true, option_map, codes};
+ghost use Rattle.std.specs.Prelude.{◌≡◌, IfOk, OnOk, option_map, codes};
 ghost use Rattle.ssa_model.specs.Json.{member_of};
-ghost use Rattle.ssa_model.specs.Kind.{Kind};
 ghost use Rattle.ssa_model.specs.Fitting.{IsBodyOf};
 ghost use Rattle.ssa_model.specs.Objects.{object_of_body, with_member, with_given, with_identity, members_in, members_of_value};
 ghost use Rattle.ssa_json.specs.View.{view, members_view};
-ghost use Rattle.ssa_schema.specs.Lawful.{is_ordered};
 
 use crate::identity::Identity;
 use ssa_json::value::Json;
+use ssa_schema::schema::Schema;
 use ssa_typed::body::Body;
 use std::alloc::{AllocError, Global};
 use std::collections::BTreeMap;
 
-/// The object of an identity and a body.
-pub fn object_of_body(alloc: Global, identity: &Identity, body: &Body) -> Result<Json, AllocError>
-    ensures { IfOk result (λ v. (kind : Kind) → is_ordered kind ≡ true → IsBodyOf kind body.now → view v ≡ object_of_body identity.now kind body.now) }
+/// The object of an identity and a body of a schema.
+pub fn object_of_body(
+    alloc: Global,
+    identity: &Identity,
+    schema: &Schema,
+    body: &Body,
+) -> Result<Json, AllocError>
+    requires { IsBodyOf schema.now.1 body.now }
+    ensures { IfOk result (λ v. view v ≡ object_of_body identity.now schema.now.1 body.now) }
 {
+    // The value of a body is said for kinds whose fields rise, as this one's do.
+    let _kind = schema.kind();
     let shown = body.to_json(alloc)?;
     let mut members = into_members(alloc, shown);
     add_identity(alloc, &mut members, identity)?;
