@@ -1,4 +1,5 @@
 pub mod Fits
 pub mod Histories
 pub mod Members
+pub mod Taken
 pub mod Values

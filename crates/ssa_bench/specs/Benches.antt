@@ -1,6 +1,8 @@
 -- What commands on a bench answer, and how the bench goes on.
-use Rattle.std.specs.Prelude.{◌≡◌, Result, Ok, Err}
-use Rattle.ssa_model.specs.Json.{Text}
+use Rattle.std.specs.Prelude.{◌≡◌, List, Option, Result, Ok, Err}
+use Rattle.ssa_model.specs.Json.{Text, Json}
+use Rattle.ssa_model.specs.Kind.{Kind}
+use Rattle.ssa_model.specs.Body.{Body}
 use Rattle.ssa_model.specs.Fitting.{IsBodyOf}
 use Rattle.ssa_model.specs.History as model
 use Rattle.ssa_model.specs.History.{appended, with_timeline}
@@ -21,6 +23,15 @@ changed_view c = record { added = c.added; modified = c.modified; removed = c.re
 -- the bench is the given one, or the fault is
 abbrev pub IsMade : Result model.Bench Fault → Result model.Bench answers.Fault → Type 0
 IsMade = IsGiven
+
+-- the bench of one state without managers
+abbrev pub lone_bench : Kind → List (Option Json) → Body → model.Bench
+lone_bench kind identity body = record { kind = kind; identity = identity; timeline = answers.lone_state body }
+
+-- the bench of the identity and the body is the given one, or the fault is
+abbrev pub Begins : Kind → Result (List (Option Json) × Body) Fault → Result model.Bench answers.Fault → Type 0
+Begins kind (Ok n) given = given ≡ Ok (lone_bench kind n.0 n.1)
+Begins kind (Err f) given = IsGiven {A = model.Bench} (Err f) given
 
 -- ---- commands that make a state
 

@@ -1,21 +1,30 @@
 //! The bench: an object, its managers, and the history of commands on it.
 ghost use Rattle.std.specs.Prelude.{◌≡◌, IfOk, OnOk, OnErr, false, codes};
-ghost use Rattle.ssa_model.specs.Answers.{answer, bench_of, undo, redo};
+ghost use Rattle.ssa_model.specs.Answers.{answer, bench_of, body_or_fault, undo, redo};
 ghost use Rattle.ssa_model.specs.Entries.{object_of_state};
+ghost use Rattle.ssa_model.specs.Fitting.{IsBodyOf};
 ghost use Rattle.ssa_model.specs.History.{past_len, future_len, present};
 ghost use Rattle.ssa_model.specs.Operations.{dropped};
 ghost use Rattle.ssa_json.specs.View.{view};
-ghost use Rattle.ssa_bench.specs.Benches.{next_bench, CanCommit, IsExecuted, IsMade, IsMoved, IsPrepared};
+ghost use Rattle.ssa_bench.specs.Benches.{lone_bench, next_bench, Begins, CanCommit, IsExecuted, IsMade, IsMoved, IsPrepared};
+ghost use Rattle.ssa_bench.specs.Faults.{IsGiven};
+ghost use Rattle.ssa_bench.specs.Identities.{body_value_of};
 ghost use Rattle.ssa_bench.specs.Commands.{command_view, command_word};
 
+use crate::body_value::body_value;
 use crate::command::Command;
 use crate::fault::Fault;
-use crate::identity::Identity;
+use crate::identity::{Identity, gives_managed_fields};
 use crate::object::object_of_body;
 use crate::prepared::{Changed, Counts, Prepared};
 use crate::timeline::Timeline;
 use ssa_json::value::Json;
+use ssa_merge::managers::Managers;
+use ssa_merge::state::State;
+use ssa_schema::body_fault::BodyFault;
 use ssa_schema::schema::Schema;
+use ssa_typed::body::Body;
+use ssa_typed::fault::TypedFault;
 use std::alloc::{AllocError, Global};
 use std::marker::Model;
 
@@ -45,12 +54,68 @@ impl Model for Bench {
     ghost invariant = { IsFitting };
 }
 
+// The body of an object without its identity, or its first fault.
+fn body_or_fault(alloc: Global, schema: &Schema, object: &Json) -> Result<Body, Fault>
+    ensures given { IsGiven result (body_or_fault schema.now.1 (body_value_of (view object.now))) }
+    ensures fits { IfOk result (λ b. IsBodyOf schema.now.1 b) }
+{
+    let value = body_value(alloc, object)?;
+    match Body::from_json(alloc, schema, value) {
+        Ok(body) => Ok(body),
+        Err(TypedFault::Body(fault)) => Err(Fault::Body(fault)),
+        Err(TypedFault::TooManyPaths) => Err(Fault::TooManyPaths),
+        Err(TypedFault::OutOfMemory) => Err(Fault::OutOfMemory),
+    }
+}
+
+// The identity and the body of an object, or its first fault.
+fn named_body(alloc: Global, schema: &Schema, object: &Json) -> Result<(Identity, Body), Fault>
+    ensures begins { Begins schema.now.1 result (bench_of schema.now.1 (view object.now)) }
+    ensures fits { IfOk result (λ n. IsBodyOf schema.now.1 n.1) }
+{
+    if !object.is_object() {
+        return Err(Fault::Body(BodyFault::WrongType(Vec::new(alloc))));
+    }
+    let Some(identity) = Identity::of_object(alloc, object)? else {
+        return Err(Fault::Identity);
+    };
+    if gives_managed_fields(object) {
+        return Err(Fault::ManagedFieldsGiven);
+    }
+    match body_or_fault(alloc, schema, object) {
+        Ok(body) => Ok((identity, body)),
+        Err(fault) => Err(fault),
+    }
+}
+
 impl Bench {
+    // The bench of one state without managers.
+    fn with_lone_state(alloc: Global, schema: Schema, identity: Identity, body: Body) -> Bench
+        requires { IsBodyOf schema.1 body }
+        ensures { result ≡ lone_bench schema.1 identity body }
+    {
+        let first = State {
+            body,
+            managers: Managers::new(alloc),
+        };
+        Bench {
+            schema,
+            identity,
+            timeline: Timeline::new(alloc, first),
+        }
+    }
+
     /// The bench of an object, with no managers and no history.
+    ///
+    /// Of several faults the first is told: no object, `Identity`, `ManagedFieldsGiven`, the fault of
+    /// the schema, `TooManyPaths`.
     pub fn new(alloc: Global, schema: Schema, object: Json) -> Result<Bench, Fault>
         ensures { IsMade result (bench_of schema.1 (view object)) }
     {
-        Err(Fault::OutOfMemory)
+        match named_body(alloc, &schema, &object) {
+            Ok((identity, body)) => Ok(Bench::with_lone_state(alloc, schema, identity, body)),
+            Err(fault) => Err(fault),
+        }
     }
 
     /// What a command leads to, or why it is refused. The bench is as before.
