@@ -1,0 +1,143 @@
+-- Taking the body of a command's object, test by test.
+use Rattle.std.proofs.Common.{ℕ, ◌<◌, ◌≤◌, nat_lt, arith, List, [], ◌∷◌, Option, Some, None, ◌≡◌, Bool, true, false, not, ◌&&◌, refl, sym, ap, ◌∙◌, true≢false}
+use Rattle.std.proofs.lemmas.Bool.Decides.{nat_tests}
+use Rattle.std.specs.Prelude.{if◌then◌else◌, Ok, Err, Result, is_some, unwrap_or, option_map}
+use Rattle.ssa_model.specs.Json.{Json, scalar, list, object, is_object}
+use Rattle.ssa_model.specs.History.{Bench}
+use Rattle.ssa_model.specs.Body as bodies
+use Rattle.ssa_model.specs.Kind as kinds
+use Rattle.ssa_model.specs.Kind.{Kind, faults, wrong_type}
+use Rattle.ssa_model.specs.PathMap.{size}
+use Rattle.ssa_model.specs.Body.{flat}
+use Rattle.ssa_model.specs.Objects.{identity_of}
+use Rattle.ssa_model.specs.Operations.{too_many_paths}
+use Rattle.ssa_model.specs.Answers as model
+use Rattle.ssa_model.specs.Answers.{body_fault, refused, identity_fault, managed_fields_given, has_identity, gives_managed_fields, names_itself, body_or_fault, command_body, bench_of, with_lone_state}
+use Rattle.ssa_schema.specs.Finds.{Told, told, told_view}
+use Rattle.ssa_schema.specs.Refusals.{first_of}
+use Rattle.ssa_schema.specs.declared.body_fault.BodyFault.{BodyFault}
+use Rattle.ssa_bench.specs.Faults.{IsFault, IsGiven}
+use Rattle.ssa_bench.specs.Identities.{identity_in, body_value_of}
+use Rattle.ssa_bench.specs.declared.fault.Fault.{Fault}
+use Rattle.ssa_bench.specs.declared.fault.Fault.TheVariants.{Body, TooManyPaths, Identity, ManagedFieldsGiven, ManagerName, HistoryFull, NothingToUndo, NothingToRedo, Conflict, TooManyManagers, OutOfMemory}
+
+-- ---- faults that are told
+
+-- the fault that is told is the given one
+pub refused-given : {A : Type 0} (f : Fault) (g : model.Fault) (given : Result A model.Fault) → given ≡ Err g → IsFault f g → IsGiven (Err f) given
+refused-given (Body b) g given e h = (g, e, h)
+refused-given TooManyPaths g given e h = (g, e, h)
+refused-given Identity g given e h = (g, e, h)
+refused-given ManagedFieldsGiven g given e h = (g, e, h)
+refused-given ManagerName g given e h = (g, e, h)
+refused-given HistoryFull g given e h = (g, e, h)
+refused-given NothingToUndo g given e h = (g, e, h)
+refused-given NothingToRedo g given e h = (g, e, h)
+refused-given (Conflict cs) g given e h = (g, e, h)
+refused-given TooManyManagers g given e h = (g, e, h)
+refused-given OutOfMemory g given e h = tt
+
+-- a fault of what is asked first is told of all
+pub passed-on : {A B : Type 0} (f : Fault) (r : Result A model.Fault) (s : Result B model.Fault) → ((g : model.Fault) → r ≡ Err g → s ≡ Err g) → IsGiven (Err f) r → IsGiven (Err f) s
+passed-on (Body b) r s go h = (h.0, go h.0 h.1, h.2)
+passed-on TooManyPaths r s go h = (h.0, go h.0 h.1, h.2)
+passed-on Identity r s go h = (h.0, go h.0 h.1, h.2)
+passed-on ManagedFieldsGiven r s go h = (h.0, go h.0 h.1, h.2)
+passed-on ManagerName r s go h = (h.0, go h.0 h.1, h.2)
+passed-on HistoryFull r s go h = (h.0, go h.0 h.1, h.2)
+passed-on NothingToUndo r s go h = (h.0, go h.0 h.1, h.2)
+passed-on NothingToRedo r s go h = (h.0, go h.0 h.1, h.2)
+passed-on (Conflict cs) r s go h = (h.0, go h.0 h.1, h.2)
+passed-on TooManyManagers r s go h = (h.0, go h.0 h.1, h.2)
+passed-on OutOfMemory r s go h = tt
+
+-- ---- the body of a value
+
+abbrev by_faults : Kind → Json → List kinds.Fault → Result bodies.Body model.Fault
+by_faults kind v fs = elim fs [
+  | [] ↦ if nat_lt 20001 (size (flat kind v)) then Err (refused too_many_paths) else Ok (flat kind v)
+  | f ∷ rest ↦ Err (body_fault f.0 f.1)
+]
+
+at_most : (m n : ℕ) → n ≤ m → nat_lt m n ≡ false
+at_most m n h = grind (arith, nat_tests)
+
+over : (m n : ℕ) → m < n → nat_lt m n ≡ true
+over m n h = grind (arith, nat_tests)
+
+pub body_or_fault-large : (kind : Kind) (v : Json) → faults kind v [] ≡ [] → 20001 < size (flat kind v) → body_or_fault kind v ≡ Err (refused too_many_paths)
+body_or_fault-large kind v none more =
+    ap (by_faults kind v) none ∙ ap (λ b. if b then Err (refused too_many_paths) else Ok (flat kind v)) (over 20001 (size (flat kind v)) more)
+
+pub body_or_fault-fits : (kind : Kind) (v : Json) (b : bodies.Body) → faults kind v [] ≡ [] → b ≡ flat kind v → size b ≤ 20001 → body_or_fault kind v ≡ Ok b
+body_or_fault-fits kind v b none is few =
+    ap (by_faults kind v) none ∙ ap (λ c. if nat_lt 20001 (size c) then Err (refused too_many_paths) else Ok c) (sym is)
+    ∙ ap (λ t. if t then Err (refused too_many_paths) else Ok b) (at_most 20001 (size b) few)
+
+first-told : (kind : Kind) (v : Json) (f : BodyFault) (fs : List kinds.Fault) → ◌≡◌ {A = Option Told} (Some (told_view f)) (option_map told (first_of fs))
+    → (g : model.Fault) × (by_faults kind v fs ≡ Err g) × IsFault (Body f) g
+first-told kind v f [] h = absurd (true≢false (ap is_some h))
+first-told kind v f (m ∷ ms) h = (body_fault m.0 m.1, refl, (m, refl, ap (λ o. unwrap_or {T = Told} o (told_view f)) h))
+
+pub body_or_fault-first : (kind : Kind) (v : Json) (f : BodyFault) → ◌≡◌ {A = Option Told} (Some (told_view f)) (option_map told (first_of (faults kind v []))) → IsGiven (Err (Body f)) (body_or_fault kind v)
+body_or_fault-first kind v f h = first-told kind v f (faults kind v []) h
+
+-- ---- a command's object
+
+abbrev tested : Bench → Json → Bool → Bool → Result bodies.Body model.Fault
+tested bench v identity managed = if not identity then Err identity_fault else (if managed then Err managed_fields_given else body_or_fault bench.kind (body_value_of v))
+
+-- the tests in their order, once the value is an object
+pub command_body-tested : (bench : Bench) (v : Json) → is_object v ≡ true → command_body bench v ≡ tested bench v (has_identity bench v) (gives_managed_fields v)
+command_body-tested bench (object ms) h = refl
+command_body-tested bench (list vs) h = absurd (true≢false (sym h))
+command_body-tested bench (scalar s) h = absurd (true≢false (sym h))
+
+pub command_body-taken : (bench : Bench) (v : Json) → is_object v ≡ true → has_identity bench v ≡ true → gives_managed_fields v ≡ false → command_body bench v ≡ body_or_fault bench.kind (body_value_of v)
+command_body-taken bench v o i m = command_body-tested bench v o ∙ (λ k. tested bench v (i k) (m k))
+
+pub regrouped : (a b c : Bool) → (a && b) ≡ true → c ≡ true → (a && (b && c)) ≡ true
+regrouped true b c h e = λ i. h i && e i
+regrouped false b c h e = h
+
+pub command_body-no_object : (bench : Bench) (v : Json) → is_object v ≡ false → command_body bench v ≡ Err (body_fault wrong_type [])
+command_body-no_object bench (object ms) h = absurd (true≢false h)
+command_body-no_object bench (list vs) h = refl
+command_body-no_object bench (scalar s) h = refl
+
+-- ---- a new bench
+
+abbrev made : Kind → Json → Bool → Bool → Result Bench model.Fault
+made kind v identity managed = if not identity then Err identity_fault else (if managed then Err managed_fields_given else with_lone_state kind (identity_of v) (body_or_fault kind (body_value_of v)))
+
+bench_of-tested : (kind : Kind) (v : Json) → is_object v ≡ true → bench_of kind v ≡ made kind v (names_itself v) (gives_managed_fields v)
+bench_of-tested kind (object ms) h = refl
+bench_of-tested kind (list vs) h = absurd (true≢false (sym h))
+bench_of-tested kind (scalar s) h = absurd (true≢false (sym h))
+
+pub bench_of-no_object : (kind : Kind) (v : Json) → is_object v ≡ false → bench_of kind v ≡ Err (body_fault wrong_type [])
+bench_of-no_object kind (object ms) h = absurd (true≢false h)
+bench_of-no_object kind (list vs) h = refl
+bench_of-no_object kind (scalar s) h = refl
+
+abbrev shown_identity : Json → Bool → Option (List (Option Json))
+shown_identity v b = if b then Some (identity_of v) else None
+
+named : (v : Json) (b : Bool) (i : List (Option Json)) → ◌≡◌ {A = Option (List (Option Json))} (Some i) (shown_identity v b) → (b ≡ true) × (i ≡ identity_of v)
+named v true i h = (refl, ap (λ o. unwrap_or {T = List (Option Json)} o i) h)
+named v false i h = absurd (true≢false (ap is_some h))
+
+unnamed : (v : Json) (b : Bool) → ◌≡◌ {A = Option (List (Option Json))} None (shown_identity v b) → b ≡ false
+unnamed v true h = absurd (true≢false (ap is_some (sym h)))
+unnamed v false h = refl
+
+pub bench_of-nameless : (kind : Kind) (v : Json) → is_object v ≡ true → ◌≡◌ {A = Option (List (Option Json))} None (identity_in v) → bench_of kind v ≡ Err identity_fault
+bench_of-nameless kind v o h = bench_of-tested kind v o ∙ ap (λ b. made kind v b (gives_managed_fields v)) (unnamed v (names_itself v) h)
+
+pub bench_of-managed : (kind : Kind) (v : Json) (i : List (Option Json)) → is_object v ≡ true → ◌≡◌ {A = Option (List (Option Json))} (Some i) (identity_in v) → gives_managed_fields v ≡ true → bench_of kind v ≡ Err managed_fields_given
+bench_of-managed kind v i o h m = bench_of-tested kind v o ∙ (λ k. made kind v ((named v (names_itself v) i h).0 k) (m k))
+
+pub bench_of-body : (kind : Kind) (v : Json) (i : List (Option Json)) (r : Result bodies.Body model.Fault) → is_object v ≡ true → ◌≡◌ {A = Option (List (Option Json))} (Some i) (identity_in v) → gives_managed_fields v ≡ false
+    → body_or_fault kind (body_value_of v) ≡ r → bench_of kind v ≡ with_lone_state kind i r
+bench_of-body kind v i r o h m e =
+    bench_of-tested kind v o ∙ (λ k. made kind v ((named v (names_itself v) i h).0 k) (m k)) ∙ (λ k. with_lone_state kind (sym (named v (names_itself v) i h).1 k) (e k))

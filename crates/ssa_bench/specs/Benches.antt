@@ -1,0 +1,92 @@
+-- What commands on a bench answer, and how the bench goes on.
+use Rattle.std.specs.Prelude.{◌≡◌, List, Option, Result, Ok, Err, if◌then◌else◌, not, nat_le, length, codes}
+use Rattle.ssa_model.specs.Json.{Text, Json}
+use Rattle.ssa_model.specs.Kind.{Kind}
+use Rattle.ssa_model.specs.Body.{Body}
+use Rattle.ssa_model.specs.Fitting.{IsBodyOf}
+use Rattle.ssa_model.specs.History as model
+use Rattle.ssa_model.specs.History.{appended, is_manager_name, past_len, present, with_timeline}
+use Rattle.ssa_model.specs.Operations.{update}
+use Rattle.ssa_model.specs.Answers as answers
+use Rattle.ssa_model.specs.Answers.{Answer}
+use Rattle.ssa_merge.specs.States.{state_view, updater}
+use Rattle.ssa_merge.specs.declared.plan.Plan.{Plan}
+use Rattle.ssa_bench.specs.Faults.{IsFault, IsGiven}
+use Rattle.ssa_bench.specs.Histories.{label_view}
+use Rattle.ssa_bench.specs.declared.fault.Fault.{Fault}
+use Rattle.ssa_bench.specs.declared.fault.Fault.TheVariants.{OutOfMemory}
+use Rattle.ssa_bench.specs.declared.prepared.Changed.{Changed}
+use Rattle.ssa_bench.specs.declared.prepared.Counts.{Counts}
+use Rattle.ssa_bench.specs.declared.prepared.Prepared.{Prepared}
+
+abbrev pub changed_view : Changed → answers.Changed
+changed_view c = record { added = c.added; modified = c.modified; removed = c.removed; managers = c.managers }
+
+-- the bench is the given one, or the fault is
+abbrev pub IsMade : Result model.Bench Fault → Result model.Bench answers.Fault → Type 0
+IsMade = IsGiven
+
+-- the bench of one state without managers
+abbrev pub lone_bench : Kind → List (Option Json) → Body → model.Bench
+lone_bench kind identity body = record { kind = kind; identity = identity; timeline = answers.lone_state body }
+
+-- the bench of the identity and the body is the given one, or the fault is
+abbrev pub Begins : Kind → Result (List (Option Json) × Body) Fault → Result model.Bench answers.Fault → Type 0
+Begins kind (Ok n) given = given ≡ Ok (lone_bench kind n.0 n.1)
+Begins kind (Err f) given = IsGiven {A = model.Bench} (Err f) given
+
+-- ---- commands that make a state
+
+-- the new state's body is of the bench's kind
+abbrev pub CanCommit : model.Bench → Prepared → Type 0
+CanCommit bench p = IsBodyOf bench.kind p.step.state.body
+
+-- the bench with the prepared state behind its present one
+abbrev pub next_bench : model.Bench → Prepared → model.Bench
+next_bench bench p = with_timeline bench (appended bench.timeline (label_view p.step.label) (state_view p.step.state))
+
+-- what a plan changes
+abbrev pub changed_by : Plan → answers.Changed
+changed_by p = record { added = p.comparison.added; modified = p.comparison.modified; removed = p.comparison.removed; managers = length p.target.managers }
+
+-- the body of an Apply's or an Update's object, or the command's first fault
+abbrev pub tested_body : model.Bench → Text → Json → Result Body answers.Fault
+tested_body bench who v =
+    if nat_le 1000 (past_len bench.timeline) then Err answers.history_full
+    else (if not (is_manager_name who) then Err answers.manager_name else answers.command_body bench v)
+
+-- the answer to an Update to a body
+abbrev pub update_answer : model.Bench → Text → Text → Body → Answer
+update_answer bench who at body = answers.accept_or_refuse bench (codes "update") (model.updated who at) (update (present bench.timeline) (updater who) body at)
+
+-- the command is refused for the fault, and the bench stays
+pub record IsRefused (bench : model.Bench) (f : Fault) (given : Answer) : Type 0 where
+  pub cause : answers.Fault
+  pub reply : given.0 ≡ answers.fault cause
+  pub told : IsFault f cause
+  pub stays : given.1 ≡ bench
+
+-- the answer tells what is prepared
+pub record IsAccepted (bench : model.Bench) (p : Prepared) (given : Answer) (word : Text) : Type 0 where
+  pub reply : given.0 ≡ answers.changed word (changed_view p.changed)
+  pub next : given.1 ≡ next_bench bench p
+  pub fits : CanCommit bench p
+
+-- What is prepared is the given answer; of want of memory nothing is said.
+abbrev pub IsPrepared : model.Bench → Result Prepared Fault → Answer → Text → Type 0
+IsPrepared bench (Ok p) given word = IsAccepted bench p given word
+IsPrepared bench (Err OutOfMemory) given word = Unit {0}
+IsPrepared bench (Err f) given word = IsRefused bench f given
+
+-- ---- commands that were carried out
+
+-- The reply and the new bench are those of the given answer. A refusal and want of memory leave the bench.
+abbrev pub IsExecuted : model.Bench → model.Bench → Result Changed Fault → Answer → Text → Type 0
+IsExecuted old new (Ok c) given word = (given.0 ≡ answers.changed word (changed_view c)) × (given.1 ≡ new)
+IsExecuted old new (Err OutOfMemory) given word = new ≡ old
+IsExecuted old new (Err f) given word = (new ≡ old) × IsRefused old f given
+
+-- The same of a move in the history, which takes no memory.
+abbrev pub IsMoved : model.Bench → model.Bench → Result Counts Fault → Answer → Text → Type 0
+IsMoved old new (Ok c) given word = (given.0 ≡ answers.moved word c.past c.future) × (given.1 ≡ new)
+IsMoved old new (Err f) given word = (new ≡ old) × IsRefused old f given

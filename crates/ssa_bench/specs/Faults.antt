@@ -1,0 +1,29 @@
+-- Which fault is told, and results that may be refused.
+use Rattle.std.specs.Prelude.{◌≡◌, Result, Ok, Err}
+use Rattle.ssa_model.specs.Kind as kinds
+use Rattle.ssa_model.specs.Operations as operations
+use Rattle.ssa_model.specs.Answers as model
+use Rattle.ssa_schema.specs.Finds.{told, told_view}
+use Rattle.ssa_merge.specs.Managers.{clashes_view}
+use Rattle.ssa_bench.specs.declared.fault.Fault.{Fault}
+use Rattle.ssa_bench.specs.declared.fault.Fault.TheVariants.{Body, TooManyPaths, Identity, ManagedFieldsGiven, ManagerName, HistoryFull, NothingToUndo, NothingToRedo, Conflict, TooManyManagers, OutOfMemory}
+
+-- The fault is the given one; a body's fault tells its path by the texts of the elements.
+abbrev pub IsFault : Fault → model.Fault → Type 0
+IsFault (Body f) g = (m : kinds.Fault) × (g ≡ model.body_fault m.0 m.1) × (told_view f ≡ told m)
+IsFault TooManyPaths g = g ≡ model.refused operations.too_many_paths
+IsFault Identity g = g ≡ model.identity_fault
+IsFault ManagedFieldsGiven g = g ≡ model.managed_fields_given
+IsFault ManagerName g = g ≡ model.manager_name
+IsFault HistoryFull g = g ≡ model.history_full
+IsFault NothingToUndo g = g ≡ model.nothing_to_undo
+IsFault NothingToRedo g = g ≡ model.nothing_to_redo
+IsFault (Conflict cs) g = g ≡ model.refused (operations.conflict (clashes_view cs.items))
+IsFault TooManyManagers g = g ≡ model.refused operations.too_many_managers
+IsFault OutOfMemory g = ⊥
+
+-- The result is the given one; of want of memory nothing is said.
+abbrev pub IsGiven : {A : Type 0} → Result A Fault → Result A model.Fault → Type 0
+IsGiven (Ok a) given = given ≡ Ok a
+IsGiven (Err OutOfMemory) given = Unit {0}
+IsGiven (Err f) given = (g : model.Fault) × (given ≡ Err g) × IsFault f g

@@ -1,0 +1,8 @@
+pub mod Identities
+pub mod Histories
+pub mod Fits
+pub mod BenchView
+pub mod Commands
+pub mod Faults
+pub mod Refusals
+pub mod Benches

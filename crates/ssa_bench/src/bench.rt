@@ -1,0 +1,332 @@
+//! The bench: an object, its managers, and the history of commands on it.
+ghost use Rattle.std.specs.Prelude.{◌≡◌, ◌||◌, nat_le, IfOk, OnOk, OnErr, false, codes, string_bytes};
+ghost use Rattle.ssa_model.specs.Answers.{answer, apply, update, strip, undo, redo, apply_answer, bench_of, body_or_fault, command_body};
+ghost use Rattle.ssa_model.specs.Entries.{object_of_state};
+ghost use Rattle.ssa_model.specs.Fitting.{IsBodyOf};
+ghost use Rattle.ssa_model.specs.History.{past_len, future_len, present};
+ghost use Rattle.ssa_model.specs.Operations.{dropped};
+ghost use Rattle.ssa_json.specs.View.{view};
+ghost use Rattle.ssa_bench.specs.Benches.{lone_bench, next_bench, Begins, CanCommit, IsExecuted, IsMade, IsMoved, IsPrepared, tested_body, update_answer};
+ghost use Rattle.ssa_bench.specs.Faults.{IsGiven};
+ghost use Rattle.ssa_bench.specs.Identities.{body_value_of};
+ghost use Rattle.ssa_bench.specs.Commands.{command_view, command_word};
+
+use crate::body_value::body_value;
+use crate::command::Command;
+use crate::fault::Fault;
+use crate::identity::{Identity, gives_managed_fields, has_identity};
+use crate::names::is_manager_name;
+use crate::object::object_of_body;
+use crate::prepared::{Changed, Counts, Prepared, accepted};
+use crate::timeline::{Label, Timeline};
+use ssa_json::moment::Moment;
+use ssa_json::value::Json;
+use ssa_merge::managers::Managers;
+use ssa_merge::plan::{plan_apply, plan_strip, plan_update};
+use ssa_merge::state::State;
+use ssa_schema::body_fault::BodyFault;
+use ssa_schema::schema::Schema;
+use ssa_typed::body::Body;
+use ssa_typed::fault::TypedFault;
+use std::alloc::{AllocError, Global};
+use std::marker::Model;
+
+/// The most commands in the past.
+pub const MOST_PAST: usize = 1_000;
+
+/// An object of a schema, its managers, and the history of commands on it.
+#[derive(Drop)]
+pub struct Bench {
+    schema: Schema,
+    identity: Identity,
+    timeline: Timeline,
+}
+
+impl Model for Bench {
+    ghost use Rattle.ssa_model.specs.History as model;
+    ghost use Rattle.ssa_model.specs.BenchCodes.{coded_bench};
+
+    ghost Value = { model.Bench };
+
+    ghost coded = { coded_bench };
+
+    ghost use Rattle.ssa_bench.specs.BenchView.{bench_view, IsFitting};
+
+    ghost view = { bench_view };
+
+    ghost invariant = { IsFitting };
+}
+
+// The body of an object without its identity, or its first fault.
+fn body_or_fault(alloc: Global, schema: &Schema, object: &Json) -> Result<Body, Fault>
+    ensures given { IsGiven result (body_or_fault schema.now.1 (body_value_of (view object.now))) }
+    ensures fits { IfOk result (λ b. IsBodyOf schema.now.1 b) }
+{
+    let value = body_value(alloc, object)?;
+    match Body::from_json(alloc, schema, value) {
+        Ok(body) => Ok(body),
+        Err(TypedFault::Body(fault)) => Err(Fault::Body(fault)),
+        Err(TypedFault::TooManyPaths) => Err(Fault::TooManyPaths),
+        Err(TypedFault::OutOfMemory) => Err(Fault::OutOfMemory),
+    }
+}
+
+// The identity and the body of an object, or its first fault.
+fn named_body(alloc: Global, schema: &Schema, object: &Json) -> Result<(Identity, Body), Fault>
+    ensures begins { Begins schema.now.1 result (bench_of schema.now.1 (view object.now)) }
+    ensures fits { IfOk result (λ n. IsBodyOf schema.now.1 n.1) }
+{
+    if !object.is_object() {
+        return Err(Fault::Body(BodyFault::WrongType(Vec::new(alloc))));
+    }
+    let Some(identity) = Identity::of_object(alloc, object)? else {
+        return Err(Fault::Identity);
+    };
+    if gives_managed_fields(object) {
+        return Err(Fault::ManagedFieldsGiven);
+    }
+    match body_or_fault(alloc, schema, object) {
+        Ok(body) => Ok((identity, body)),
+        Err(fault) => Err(fault),
+    }
+}
+
+impl Bench {
+    // The bench of one state without managers.
+    fn with_lone_state(alloc: Global, schema: Schema, identity: Identity, body: Body) -> Bench
+        requires { IsBodyOf schema.1 body }
+        ensures { result ≡ lone_bench schema.1 identity body }
+    {
+        let first = State {
+            body,
+            managers: Managers::new(alloc),
+        };
+        Bench {
+            schema,
+            identity,
+            timeline: Timeline::new(alloc, first),
+        }
+    }
+
+    /// The bench of an object, with no managers and no history.
+    ///
+    /// Of several faults the first is told: no object, `Identity`, `ManagedFieldsGiven`, the fault of
+    /// the schema, `TooManyPaths`.
+    pub fn new(alloc: Global, schema: Schema, object: Json) -> Result<Bench, Fault>
+        ensures { IsMade result (bench_of schema.1 (view object)) }
+    {
+        match named_body(alloc, &schema, &object) {
+            Ok((identity, body)) => Ok(Bench::with_lone_state(alloc, schema, identity, body)),
+            Err(fault) => Err(fault),
+        }
+    }
+
+    // The body of a command's object, or its first fault.
+    fn command_body(&self, alloc: Global, object: &Json) -> Result<Body, Fault>
+        ensures given { IsGiven result (command_body self.now (view object.now)) }
+        ensures fits { IfOk result (λ b. IsBodyOf self.now.kind b) }
+    {
+        if !object.is_object() {
+            return Err(Fault::Body(BodyFault::WrongType(Vec::new(alloc))));
+        }
+        if !has_identity(object) || !self.identity.is_same_as(object) {
+            return Err(Fault::Identity);
+        }
+        if gives_managed_fields(object) {
+            return Err(Fault::ManagedFieldsGiven);
+        }
+        body_or_fault(alloc, &self.schema, object)
+    }
+
+    // The body of an Apply's or an Update's object, or the first fault of the command.
+    fn tested_body(&self, alloc: Global, who: &str, object: &Json) -> Result<Body, Fault>
+        ensures given { IsGiven result (tested_body self.now who.now (view object.now)) }
+        ensures fits { IfOk result (λ b. IsBodyOf self.now.kind b) }
+    {
+        if self.timeline.past_len() >= MOST_PAST {
+            return Err(Fault::HistoryFull);
+        }
+        if !is_manager_name(who) {
+            return Err(Fault::ManagerName);
+        }
+        self.command_body(alloc, object)
+    }
+
+    // An Apply of a configuration.
+    fn prepare_configuration(
+        &self,
+        alloc: Global,
+        who: String,
+        force: bool,
+        at: Moment,
+        config: Body,
+    ) -> Result<Prepared, Fault>
+        requires { IsBodyOf self.now.kind config }
+        ensures { IsPrepared self.now result (apply_answer dropped self.now (string_bytes who) force at config) (codes "apply") }
+    {
+        let now = self.timeline.present();
+        match plan_apply(alloc, now, config, who.as_str(), force, at) {
+            Ok(plan) => Ok(accepted(Label::Apply { at, force, who }, plan)),
+            Err(refusal) => Err(Fault::from(refusal)),
+        }
+    }
+
+    // An Apply.
+    fn prepare_apply(
+        &self,
+        alloc: Global,
+        who: String,
+        force: bool,
+        at: Moment,
+        object: &Json,
+    ) -> Result<Prepared, Fault>
+        ensures { IsPrepared self.now result (answer dropped self.now (apply (string_bytes who) force at (view object.now))) (codes "apply") }
+    {
+        match self.tested_body(alloc, who.as_str(), object) {
+            Ok(config) => self.prepare_configuration(alloc, who, force, at, config),
+            Err(fault) => Err(fault),
+        }
+    }
+
+    // An Update to a body.
+    fn prepare_replacement(
+        &self,
+        alloc: Global,
+        who: String,
+        at: Moment,
+        body: Body,
+    ) -> Result<Prepared, Fault>
+        requires { IsBodyOf self.now.kind body }
+        ensures { IsPrepared self.now result (update_answer self.now (string_bytes who) at body) (codes "update") }
+    {
+        let now = self.timeline.present();
+        match plan_update(alloc, now, body, who.as_str(), at) {
+            Ok(plan) => Ok(accepted(Label::Update { at, who }, plan)),
+            Err(refusal) => Err(Fault::from(refusal)),
+        }
+    }
+
+    // An Update.
+    fn prepare_update(
+        &self,
+        alloc: Global,
+        who: String,
+        at: Moment,
+        object: &Json,
+    ) -> Result<Prepared, Fault>
+        ensures { IsPrepared self.now result (answer dropped self.now (update (string_bytes who) at (view object.now))) (codes "update") }
+    {
+        match self.tested_body(alloc, who.as_str(), object) {
+            Ok(body) => self.prepare_replacement(alloc, who, at, body),
+            Err(fault) => Err(fault),
+        }
+    }
+
+    // A Strip.
+    fn prepare_strip(&self, alloc: Global) -> Result<Prepared, Fault>
+        ensures { IsPrepared self.now result (answer dropped self.now strip) (codes "strip") }
+    {
+        if self.timeline.past_len() >= MOST_PAST {
+            return Err(Fault::HistoryFull);
+        }
+        let plan = plan_strip(alloc, self.timeline.present())?;
+        Ok(accepted(Label::Strip, plan))
+    }
+
+    /// What a command leads to, or why it is refused. The bench is as before.
+    ///
+    /// Of several faults the first is told: `HistoryFull`, `ManagerName`, the object's as `new` tells
+    /// them, `Conflict`, `TooManyPaths`, `TooManyManagers`. A command that changes nothing is a step
+    /// of the history like any other.
+    pub fn prepare(&self, alloc: Global, command: Command) -> Result<Prepared, Fault>
+        ensures { IsPrepared self.now result (answer dropped self.now (command_view command)) (command_word command) }
+    {
+        match command {
+            Command::Apply {
+                who,
+                force,
+                at,
+                object,
+            } => self.prepare_apply(alloc, who, force, at, &object),
+            Command::Update { who, at, object } => self.prepare_update(alloc, who, at, &object),
+            Command::Strip => self.prepare_strip(alloc),
+        }
+    }
+
+    /// Carries out a command that was prepared on this bench as it is now.
+    pub fn commit(&mut self, prepared: Prepared) -> Result<Changed, AllocError>
+        requires { CanCommit self.old prepared }
+        ensures ok { OnOk result (self.new ≡ next_bench self.old prepared) }
+        ensures changed { IfOk result (λ c. c ≡ prepared.changed) }
+        ensures err { OnErr result (self.new ≡ self.old) }
+    {
+        let Prepared { changed, step } = prepared;
+        self.timeline.append(step)?;
+        Ok(changed)
+    }
+
+    /// Prepares a command and carries it out. The bench stays as it was where the command is refused.
+    pub fn execute(&mut self, alloc: Global, command: Command) -> Result<Changed, Fault>
+        ensures { IsExecuted self.old self.new result (answer dropped self.old (command_view command)) (command_word command) }
+    {
+        match self.prepare(alloc, command) {
+            Ok(prepared) => {
+                let changed = self.commit(prepared)?;
+                Ok(changed)
+            }
+            Err(fault) => Err(fault),
+        }
+    }
+
+    /// Goes back to the state before the last command. Takes no memory.
+    pub fn undo(&mut self) -> Result<Counts, Fault>
+        ensures { IsMoved self.old self.new result (answer dropped self.old undo) (codes "undo") }
+    {
+        if self.timeline.past_len() == 0 {
+            return Err(Fault::NothingToUndo);
+        }
+        let counts = Counts {
+            past: self.timeline.past_len() - 1,
+            future: self.timeline.future_len() + 1,
+        };
+        self.timeline.undo();
+        Ok(counts)
+    }
+
+    /// Goes on to the state after the next command. Takes no memory.
+    pub fn redo(&mut self) -> Result<Counts, Fault>
+        ensures { IsMoved self.old self.new result (answer dropped self.old redo) (codes "redo") }
+    {
+        if self.timeline.future_len() == 0 {
+            return Err(Fault::NothingToRedo);
+        }
+        let counts = Counts {
+            past: self.timeline.past_len() + 1,
+            future: self.timeline.future_len() - 1,
+        };
+        self.timeline.redo();
+        Ok(counts)
+    }
+
+    /// How many commands can be undone.
+    pub fn past_len(&self) -> usize
+        ensures { result ≡ past_len self.now.timeline }
+    {
+        self.timeline.past_len()
+    }
+
+    /// How many commands can be redone.
+    pub fn future_len(&self) -> usize
+        ensures { result ≡ future_len self.now.timeline }
+    {
+        self.timeline.future_len()
+    }
+
+    /// The object of the present state.
+    pub fn show(&self, alloc: Global) -> Result<Json, AllocError>
+        ensures { IfOk result (λ v. view v ≡ object_of_state self.now.identity self.now.kind false (present self.now.timeline)) }
+    {
+        let now = self.timeline.present();
+        object_of_body(alloc, &self.identity, &self.schema, &now.body)
+    }
+}

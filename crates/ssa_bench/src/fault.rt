@@ -1,0 +1,56 @@
+//! Why a command or an object is refused.
+ghost use Rattle.std.specs.Prelude.{◌≡◌};
+ghost use Rattle.ssa_bench.specs.Refusals.{refusal_fault};
+ghost use Rattle.ssa_bench.specs.declared.fault.Fault.TheVariants.{OutOfMemory};
+
+use ssa_merge::manager::ManagerKey;
+use ssa_merge::plan::Refusal;
+use ssa_path::field_set::FieldSet;
+use ssa_schema::body_fault::BodyFault;
+use std::alloc::AllocError;
+
+/// Why a command or an object is refused.
+#[derive(Drop)]
+pub enum Fault {
+    /// The object does not fit the schema: its first fault.
+    Body(BodyFault),
+    /// The body would have more than 20,000 paths beside the root.
+    TooManyPaths,
+    /// The object has no identity, or another than the bench's.
+    Identity,
+    /// The object gives `metadata.managedFields`, which are not a command's to give.
+    ManagedFieldsGiven,
+    /// A manager's name is not of 1 to 128 printable ASCII characters.
+    ManagerName,
+    /// The history has 1,000 commands before the present state.
+    HistoryFull,
+    NothingToUndo,
+    NothingToRedo,
+    /// The managers whose fields the command would change, in table order, each with these fields.
+    Conflict(Vec<(ManagerKey, FieldSet)>),
+    /// The table would have more than 64 managers.
+    TooManyManagers,
+    /// A growth of memory was refused.
+    OutOfMemory,
+}
+
+impl From<AllocError> for Fault {
+    ghost from_gives = { λ _ e. e ≡ OutOfMemory };
+
+    fn from(_refused: AllocError) -> Fault {
+        Fault::OutOfMemory
+    }
+}
+
+impl From<Refusal> for Fault {
+    ghost from_gives = { λ r e. e ≡ refusal_fault r };
+
+    fn from(refusal: Refusal) -> Fault {
+        match refusal {
+            Refusal::Conflict(clashes) => Fault::Conflict(clashes),
+            Refusal::TooManyPaths => Fault::TooManyPaths,
+            Refusal::TooManyManagers => Fault::TooManyManagers,
+            Refusal::OutOfMemory => Fault::OutOfMemory,
+        }
+    }
+}

@@ -1,0 +1,13 @@
+//! The bench: an object, its managers, and the history of commands on it.
+#![tactic(auto)]
+
+pub mod bench;
+pub mod body_value;
+pub mod command;
+pub mod fault;
+pub mod identity;
+pub mod names;
+pub mod object;
+pub mod prepared;
+pub mod text;
+pub mod timeline;

@@ -1,0 +1,100 @@
+//! The object of an identity and a body.
+ghost use Rattle.std.specs.Prelude.{◌≡◌, IfOk, OnOk, option_map, codes};
+ghost use Rattle.ssa_model.specs.Json.{member_of};
+ghost use Rattle.ssa_model.specs.Fitting.{IsBodyOf};
+ghost use Rattle.ssa_model.specs.Objects.{object_of_body, with_member, with_given, with_identity, members_in, members_of_value};
+ghost use Rattle.ssa_json.specs.View.{view, members_view};
+
+use crate::identity::Identity;
+use ssa_json::value::Json;
+use ssa_schema::schema::Schema;
+use ssa_typed::body::Body;
+use std::alloc::{AllocError, Global};
+use std::collections::BTreeMap;
+
+/// The object of an identity and a body of a schema.
+pub fn object_of_body(
+    alloc: Global,
+    identity: &Identity,
+    schema: &Schema,
+    body: &Body,
+) -> Result<Json, AllocError>
+    requires { IsBodyOf schema.now.1 body.now }
+    ensures { IfOk result (λ v. view v ≡ object_of_body identity.now schema.now.1 body.now) }
+{
+    // The value of a body is said for kinds whose fields rise, as this one's do.
+    let _kind = schema.kind();
+    let shown = body.to_json(alloc)?;
+    let mut members = into_members(alloc, shown);
+    add_identity(alloc, &mut members, identity)?;
+    Ok(Json::Object(members))
+}
+
+// The members of an object; none of another value.
+fn into_members(alloc: Global, value: Json) -> BTreeMap<String, Json>
+    ensures { members_view result.entries ≡ members_of_value (view value) }
+{
+    match value {
+        Json::Object(members) => members,
+        _ => BTreeMap::new(alloc),
+    }
+}
+
+// Puts a member in its place.
+fn put(
+    alloc: Global,
+    members: &mut BTreeMap<String, Json>,
+    name: &str,
+    value: Json,
+) -> Result<(), AllocError>
+    ensures { OnOk result (members_view members.new.entries ≡ with_member name.now (view value) (members_view members.old.entries)) }
+{
+    let key = String::from_str(alloc, name)?;
+    drop(members.insert(key, value)?);
+    Ok(())
+}
+
+// The same with a copy of a value that may be absent.
+fn put_given(
+    alloc: Global,
+    members: &mut BTreeMap<String, Json>,
+    name: &str,
+    value: Option<&Json>,
+) -> Result<(), AllocError>
+    ensures { OnOk result (members_view members.new.entries ≡ with_given name.now (option_map (λ v. view v.now) value.entry) (members_view members.old.entries)) }
+{
+    match value {
+        Some(value) => put(alloc, members, name, value.copy(alloc)?),
+        None => Ok(()),
+    }
+}
+
+// The members of `metadata`, with new memory; none where it is absent.
+fn metadata_of(
+    alloc: Global,
+    members: &BTreeMap<String, Json>,
+) -> Result<BTreeMap<String, Json>, AllocError>
+    ensures { IfOk result (λ ms. members_view ms.entries ≡ members_in (member_of (codes "metadata") (members_view members.now.entries))) }
+{
+    match members.get("metadata") {
+        Some(value) => Ok(into_members(alloc, value.copy(alloc)?)),
+        None => Ok(BTreeMap::new(alloc)),
+    }
+}
+
+// Puts the identity among the members.
+fn add_identity(
+    alloc: Global,
+    members: &mut BTreeMap<String, Json>,
+    identity: &Identity,
+) -> Result<(), AllocError>
+    ensures { OnOk result (members_view members.new.entries ≡ with_identity identity.now (members_view members.old.entries)) }
+{
+    let (version, kind, name, namespace) = identity.parts();
+    let mut metadata = metadata_of(alloc, members)?;
+    put_given(alloc, &mut metadata, "namespace", namespace)?;
+    put_given(alloc, &mut metadata, "name", Some(name))?;
+    put(alloc, members, "metadata", Json::Object(metadata))?;
+    put_given(alloc, members, "kind", Some(kind))?;
+    put_given(alloc, members, "apiVersion", Some(version))
+}

@@ -1,0 +1,10 @@
+//! Texts by their bytes.
+ghost use Rattle.std.specs.Prelude.{◌≡◌};
+ghost use Rattle.ssa_model.specs.Json.{same_text};
+
+/// Whether both texts have the same bytes.
+pub fn is_same_text(text: &str, other: &str) -> bool
+    ensures { result ≡ same_text text.now other.now }
+{
+    text.as_bytes().cmp(other.as_bytes()).is_eq()
+}

@@ -1,0 +1,137 @@
+//! The history of a bench: all its states in a row, and a place among them.
+ghost use Rattle.std.specs.Prelude.{◌≡◌, [], OnOk, OnErr, ◌≤◌, ◌+◌, ◌-◌, ◌<◌, ◌^◌, length, take, ◌++◌, ◌∷◌};
+ghost use Rattle.ssa_model.specs.History as model;
+ghost use Rattle.ssa_model.specs.History.{present, past_len, future_len, appended, moved_to};
+ghost use Rattle.ssa_bench.specs.Histories.{label_view};
+ghost use Rattle.ssa_merge.specs.States.{state_view};
+
+use ssa_json::moment::Moment;
+use ssa_merge::state::State;
+use std::alloc::{AllocError, Global};
+use std::marker::Model;
+
+/// The command that made a state.
+#[derive(Drop)]
+pub enum Label {
+    Apply {
+        at: Moment,
+        force: bool,
+        who: String,
+    },
+    Update {
+        at: Moment,
+        who: String,
+    },
+    Strip,
+}
+
+/// A state after the first, and the command that made it.
+#[derive(Drop)]
+pub struct Step {
+    pub label: Label,
+    pub state: State,
+}
+
+/// All states in a row; `place` counts those before the present one.
+#[derive(Drop)]
+pub struct Timeline {
+    first: State,
+    later: Vec<Step>,
+    place: usize,
+}
+
+impl Model for Timeline {
+    ghost use Rattle.ssa_model.specs.History as model;
+    ghost use Rattle.ssa_model.specs.BenchCodes.{coded_timeline};
+
+    ghost Value = { model.Timeline };
+
+    ghost coded = { coded_timeline };
+
+    ghost use Rattle.ssa_bench.specs.Histories.{timeline_view, IsWithin};
+
+    ghost view = { timeline_view };
+
+    ghost invariant = { IsWithin };
+}
+
+// Puts a step at a place of a list, as its last.
+fn cut_and_push(later: &mut Vec<Step>, place: usize, step: Step) -> Result<(), AllocError>
+    requires { place ≤ length later.old.items }
+    ensures ok { OnOk result (later.new.items ≡ take place later.old.items ++ step ∷ []) }
+    ensures err { OnErr result (later.new.items ≡ later.old.items) }
+{
+    if place < later.len() {
+        later[place] = step;
+        later.truncate(place + 1);
+        return Ok(());
+    }
+    later.push(step)?;
+    Ok(())
+}
+
+impl Timeline {
+    /// A timeline of one state.
+    pub fn new(alloc: Global, first: State) -> Timeline
+        ensures { result ≡ record { first = state_view first; later = []; place = 0 } }
+    {
+        Timeline {
+            first,
+            later: Vec::new(alloc),
+            place: 0,
+        }
+    }
+
+    /// The state at the place.
+    pub fn present(&self) -> &State
+        ensures { state_view result.now ≡ present self.now }
+    {
+        if self.place == 0 {
+            &self.first
+        } else {
+            &self.later[self.place - 1].state
+        }
+    }
+
+    /// How many states stand before the place.
+    pub fn past_len(&self) -> usize
+        ensures count { result ≡ past_len self.now }
+        ensures small { result < 2 ^ 63 }
+    {
+        self.place
+    }
+
+    /// How many states stand after the place.
+    pub fn future_len(&self) -> usize
+        ensures count { result ≡ future_len self.now }
+        ensures small { result < 2 ^ 63 }
+    {
+        self.later.len() - self.place
+    }
+
+    /// Cuts off what came after the place, and goes to a new state there.
+    pub fn append(&mut self, step: Step) -> Result<(), AllocError>
+        ensures ok { OnOk result (self.new ≡ appended self.old (label_view step.label) (state_view step.state)) }
+        ensures err { OnErr result (self.new ≡ self.old) }
+    {
+        cut_and_push(&mut self.later, self.place, step)?;
+        self.place += 1;
+        Ok(())
+    }
+
+    /// Goes one state back.
+    pub fn undo(&mut self)
+        requires { 0 < past_len self.old }
+        ensures { self.new ≡ moved_to self.old (past_len self.old - 1) }
+    {
+        self.place -= 1;
+    }
+
+    /// Goes one state forward.
+    pub fn redo(&mut self)
+        requires { 0 < future_len self.old }
+        ensures { self.new ≡ moved_to self.old (past_len self.old + 1) }
+    {
+        self.place += 1;
+    }
+}
