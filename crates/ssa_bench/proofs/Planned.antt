@@ -18,6 +18,7 @@ use Rattle.ssa_merge.specs.Plans.{IsPlan, IsPlanned}
 use Rattle.ssa_merge.specs.States.{state_view}
 use Rattle.ssa_merge.specs.declared.plan.Plan.{Plan}
 use Rattle.ssa_merge.specs.declared.plan.Refusal as plan
+use Rattle.ssa_merge.specs.declared.state.State as states
 use Rattle.ssa_merge.specs.declared.plan.Refusal.TheVariants as plans
 use Rattle.ssa_bench.specs.Benches.{IsAccepted, IsPrepared, changed_view, changed_by, tested_body}
 use Rattle.ssa_bench.specs.Faults.{IsFault, IsGiven}
@@ -79,24 +80,24 @@ module _ (bench : Bench) (who : Text) (v : Json) (go : Body → Answer) where
 
 module _ (bench : Bench) (word : Text) (label : Label) where
   -- a plan that is kept to is the answer
-  planned : (plan : Plan) (p : Prepared) (after : State) → p.step.label ≡ label → p.step.state ≡ plan.target → changed_view p.changed ≡ changed_by plan → IsPlan (present bench.timeline) plan after → IsBodyOf bench.kind after.body
+  planned : (plan : Plan) (p : Prepared) (after : State) → p.step.label ≡ label → p.step.state ≡ plan.target → changed_view p.changed ≡ changed_by plan → IsPlan (present bench.timeline) plan after → IsBodyOf bench.kind plan.target.body
       → IsAccepted bench p (accept bench word (label_view label) after) word
   planned plan p after l s c is fits =
       let target : state_view p.step.state ≡ after = ap state_view s ∙ is.target_is in
       let compared : comparison (present bench.timeline) after ≡ changed_by plan =
       λ i. record { added = sym is.comparison_is.added_are i; modified = sym is.comparison_is.modified_are i; removed = sym is.comparison_is.removed_are i; managers = length (sym is.target_is i).table } in
-      let of_kind : State → Type 0 = λ t. IsBodyOf bench.kind t.body in
+      let of_kind : states.State → Type 0 = λ t. IsBodyOf bench.kind t.body in
       record {
         reply = ap (model.changed word) (compared ∙ sym c);
         next = λ i. with_timeline bench (appended bench.timeline (label_view (sym l i)) (sym target i));
-        fits = subst of_kind (sym target) fits;
+        fits = subst of_kind (sym s) fits;
       }
 
   pub accepted : (plan : Plan) (p : Prepared) (given : Result State Refusal) → p.step.label ≡ label → p.step.state ≡ plan.target → changed_view p.changed ≡ changed_by plan
-      → IsPlanned (present bench.timeline) (Ok plan) given → ((after : State) → given ≡ Ok after → IsBodyOf bench.kind after.body) → IsAccepted bench p (accept_or_refuse bench word (label_view label) given) word
+      → IsPlanned (present bench.timeline) (Ok plan) given → IsBodyOf bench.kind plan.target.body → IsAccepted bench p (accept_or_refuse bench word (label_view label) given) word
   accepted plan p given l s c is fits =
       let tells : Answer → Type 0 = λ a. IsAccepted bench p a word in
-      subst tells (ap (accept_or_refuse bench word (label_view label)) (sym is.1)) (planned plan p is.0 l s c is.2 (fits is.0 is.1))
+      subst tells (ap (accept_or_refuse bench word (label_view label)) (sym is.1)) (planned plan p is.0 l s c is.2 fits)
 
   -- a refusal that is told is the answer
   pub refused-planned : (r : plan.Refusal) (given : Result State Refusal) → IsPlanned (present bench.timeline) (Err r) given → IsPrepared bench (Err (refusal_fault r)) (accept_or_refuse bench word (label_view label) given) word
@@ -104,36 +105,6 @@ module _ (bench : Bench) (word : Text) (label : Label) where
   refused-planned plans.TooManyPaths given h = told bench word faults.TooManyPaths (refused h.0) _ (ap (accept_or_refuse bench word (label_view label)) h.1) (ap refused h.2)
   refused-planned plans.TooManyManagers given h = told bench word faults.TooManyManagers (refused h.0) _ (ap (accept_or_refuse bench word (label_view label)) h.1) (ap refused h.2)
   refused-planned plans.OutOfMemory given h = tt
-
--- ---- the new state's body
-
-unless : (b : Bool) (r : Refusal) (given : Result State Refusal) (after : State) → (if b then Err r else given) ≡ Ok after → given ≡ Ok after
-unless true r given after h = cc
-unless false r given after h = h
-
-same_state : (s after : State) → ◌≡◌ {A = Result State Refusal} (Ok s) (Ok after) → s ≡ after
-same_state s after h = ap (λ (r : Result State Refusal). elim r [ Ok t ↦ t | Err f ↦ s ]) h
-
-module _ (kind : Kind) (state : State) (a : ManagerKey) where
-  abbrev of_kind : State → Type 0
-  of_kind s = IsBodyOf kind s.body
-
-  pub apply_fits : (config : Body) (force : Bool) (at : Text) (after : State) → IsBodyOf kind state.body → IsBodyOf kind config → apply state a config force at ≡ Ok after → IsBodyOf kind after.body
-  apply_fits config force at after g h e =
-      let body = pruned state a config in
-      let changed = modified state.body body in
-      let clash = clashes a changed state.table in
-      let made : State = record { body = body; table = seat state.table a (points config) changed changed at } in
-      let few = unless (nat_lt 20001 (size body)) too_many_paths (if_seated made) after (unless (not (force || is_none clash)) (conflict clash) (if nat_lt 20001 (size body) then Err too_many_paths else if_seated made) after e) in
-      subst of_kind (same_state made after (unless (nat_lt 64 (length made.table)) too_many_managers (Ok made) after few)) (pruned_fits kind state a config g h)
-
-  pub update_fits : (object : Body) (at : Text) (after : State) → IsBodyOf kind object → update state a object at ≡ Ok after → IsBodyOf kind after.body
-  update_fits object at after h e =
-      let changed = modified state.body object in
-      let gone = removed state.body object in
-      let owned = union (minus (owned_by state.table a) gone) (union changed (added state.body object)) in
-      let made : State = record { body = object; table = seat state.table a owned (union changed gone) changed at } in
-      subst of_kind (same_state made after (unless (nat_lt 64 (length made.table)) too_many_managers (Ok made) after e)) h
 
 -- ---- the state that was planned on
 
@@ -151,7 +122,7 @@ not_full : (most n : ℕ) → n < most → nat_le most n ≡ false
 not_full most n h = grind (arith, nat_tests)
 
 pub stripped-accepted : (bench : Bench) (plan : Plan) (p : Prepared) (past : ℕ) → past ≡ past_len bench.timeline → past < 1000 → p.step.label ≡ Strip → p.step.state ≡ plan.target → changed_view p.changed ≡ changed_by plan
-    → IsPlan (present bench.timeline) plan (strip (present bench.timeline)) → IsBodyOf bench.kind (present bench.timeline).body
+    → IsPlan (present bench.timeline) plan (strip (present bench.timeline)) → IsBodyOf bench.kind plan.target.body
     → IsAccepted bench p (if nat_le 1000 (past_len bench.timeline) then (fault history_full, bench) else accept bench (codes "strip") history.stripped (strip (present bench.timeline))) (codes "strip")
 stripped-accepted bench plan p past count few l s c is fits =
     let answer = accept bench (codes "strip") history.stripped (strip (present bench.timeline)) in

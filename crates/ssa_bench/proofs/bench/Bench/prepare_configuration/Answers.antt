@@ -12,7 +12,7 @@ use Rattle.ssa_bench.specs.Benches.{IsPrepared}
 use Rattle.ssa_bench.specs.declared.fault.Fault.{Fault}
 use Rattle.ssa_bench.specs.declared.timeline.Label.TheVariants.{Apply}
 use Rattle.ssa_bench.proofs.Fits.{present_fits}
-use Rattle.ssa_bench.proofs.Planned.{accepted, refused-planned, apply_fits, planned-at}
+use Rattle.ssa_bench.proofs.Planned.{accepted, refused-planned, planned-at}
 use Rattle.ssa_bench.proofs.bench.Bench.prepare_configuration.Goals as goal
 
 pub plan_apply-requires : goal.plan_apply-requires
@@ -28,11 +28,15 @@ returns-in-Ok c =
     let bench = c.args.self.now in
     let who = string_bytes c.args.who in
     let to : State → Text → Result State Refusal = λ s n. apply s (applier n) c.args.config c.args.force c.args.at in
-    let live : model.Bench → Type 0 = λ n. IsBodyOf n.kind (present n.timeline).body in
+    let fits : model.Bench → Type 0 = λ n. IsBodyOf n.kind c.args.config in
+    let made : model.Bench → Type 0 = λ n. IsBodyOf n.kind c.in-Ok.plan.target.body in
+    let body_fits : State → Type 0 = λ s. IsBodyOf b.schema.1 s.body in
+    let live = subst body_fits (sym c.present-now.ensures) (present_fits b.schema.1 b.timeline c.self.invariant) in
+    let config = subst fits (sym c.self.view_is) c.requires in
     let now_is = c.present-now.ensures ∙ ap (λ n. present n.timeline) c.self.view_is in
     accepted bench (codes "apply") (Apply c.args.at c.args.force c.args.who) c.in-Ok.plan c.accepted.result (to (present bench.timeline) who) c.accepted.ensures.label c.accepted.ensures.state c.accepted.ensures.changed
-    (planned-at to (Ok c.in-Ok.plan) (state_view c.present-now.result.now) (present bench.timeline) c.as_str.result.now who now_is c.as_str.ensures.value c.in-Ok.ensures)
-    (λ after e. apply_fits bench.kind (present bench.timeline) (applier who) c.args.config c.args.force c.args.at after (subst live c.self.view_is (present_fits b.schema.1 b.timeline c.self.invariant)) c.requires e)
+    (planned-at to (Ok c.in-Ok.plan) (state_view c.present-now.result.now) (present bench.timeline) c.as_str.result.now who now_is c.as_str.ensures.value c.in-Ok.ensures.plan)
+    (subst made c.self.view_is (c.in-Ok.ensures.fits b.schema.1 live config))
 
 pub returns-in-Err : goal.returns-in-Err
 returns-in-Err c =
@@ -43,4 +47,4 @@ returns-in-Err c =
     let tells : Fault → Type 0 = λ f. IsPrepared bench (Err f) (apply_answer dropped bench who c.args.force c.args.at c.args.config) (codes "apply") in
     subst tells (sym c.from.ensures)
     (refused-planned bench (codes "apply") (Apply c.args.at c.args.force c.args.who) c.in-Err.refusal (to (present bench.timeline) who)
-    (planned-at to (Err c.in-Err.refusal) (state_view c.present-now.result.now) (present bench.timeline) c.as_str.result.now who now_is c.as_str.ensures.value c.in-Err.ensures))
+    (planned-at to (Err c.in-Err.refusal) (state_view c.present-now.result.now) (present bench.timeline) c.as_str.result.now who now_is c.as_str.ensures.value c.in-Err.ensures.plan))

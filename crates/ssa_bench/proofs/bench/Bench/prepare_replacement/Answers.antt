@@ -7,7 +7,7 @@ use Rattle.ssa_merge.specs.States.{state_view, updater}
 use Rattle.ssa_bench.specs.Benches.{IsPrepared, update_answer}
 use Rattle.ssa_bench.specs.declared.fault.Fault.{Fault}
 use Rattle.ssa_bench.specs.declared.timeline.Label.TheVariants.{Update}
-use Rattle.ssa_bench.proofs.Planned.{accepted, refused-planned, update_fits, planned-at}
+use Rattle.ssa_bench.proofs.Planned.{accepted, refused-planned, planned-at}
 use Rattle.ssa_bench.proofs.bench.Bench.prepare_replacement.Goals as goal
 
 pub returns-in-Ok : goal.returns-in-Ok
@@ -17,8 +17,8 @@ returns-in-Ok c =
     let to : State → Text → Result State Refusal = λ s n. update s (updater n) c.args.body c.args.at in
     let now_is = c.present-now.ensures ∙ ap (λ n. present n.timeline) c.self.view_is in
     accepted bench (codes "update") (Update c.args.at c.args.who) c.in-Ok.plan c.accepted.result (to (present bench.timeline) who) c.accepted.ensures.label c.accepted.ensures.state c.accepted.ensures.changed
-    (planned-at to (Ok c.in-Ok.plan) (state_view c.present-now.result.now) (present bench.timeline) c.as_str.result.now who now_is c.as_str.ensures.value c.in-Ok.ensures)
-    (λ after e. update_fits bench.kind (present bench.timeline) (updater who) c.args.body c.args.at after c.requires e)
+    (planned-at to (Ok c.in-Ok.plan) (state_view c.present-now.result.now) (present bench.timeline) c.as_str.result.now who now_is c.as_str.ensures.value c.in-Ok.ensures.plan)
+    (c.in-Ok.ensures.fits bench.kind c.requires)
 
 pub returns-in-Err : goal.returns-in-Err
 returns-in-Err c =
@@ -29,4 +29,4 @@ returns-in-Err c =
     let tells : Fault → Type 0 = λ f. IsPrepared bench (Err f) (update_answer bench who c.args.at c.args.body) (codes "update") in
     subst tells (sym c.from.ensures)
     (refused-planned bench (codes "update") (Update c.args.at c.args.who) c.in-Err.refusal (to (present bench.timeline) who)
-    (planned-at to (Err c.in-Err.refusal) (state_view c.present-now.result.now) (present bench.timeline) c.as_str.result.now who now_is c.as_str.ensures.value c.in-Err.ensures))
+    (planned-at to (Err c.in-Err.refusal) (state_view c.present-now.result.now) (present bench.timeline) c.as_str.result.now who now_is c.as_str.ensures.value c.in-Err.ensures.plan))
