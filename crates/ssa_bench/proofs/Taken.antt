@@ -1,5 +1,5 @@
 -- Taking the body of a command's object, test by test.
-use Rattle.std.proofs.Common.{ℕ, ◌<◌, ◌≤◌, nat_lt, arith, List, [], ◌∷◌, Option, Some, None, ◌≡◌, Bool, true, false, not, refl, sym, ap, ◌∙◌, true≢false}
+use Rattle.std.proofs.Common.{ℕ, ◌<◌, ◌≤◌, nat_lt, arith, List, [], ◌∷◌, Option, Some, None, ◌≡◌, Bool, true, false, not, ◌&&◌, refl, sym, ap, ◌∙◌, true≢false}
 use Rattle.std.proofs.lemmas.Bool.Decides.{nat_tests}
 use Rattle.std.specs.Prelude.{if◌then◌else◌, Ok, Err, Result, is_some, unwrap_or, option_map}
 use Rattle.ssa_model.specs.Json.{Json, scalar, list, object, is_object}
@@ -95,6 +95,10 @@ command_body-tested bench (scalar s) h = absurd (true≢false (sym h))
 
 pub command_body-taken : (bench : Bench) (v : Json) → is_object v ≡ true → has_identity bench v ≡ true → gives_managed_fields v ≡ false → command_body bench v ≡ body_or_fault bench.kind (body_value_of v)
 command_body-taken bench v o i m = command_body-tested bench v o ∙ (λ k. tested bench v (i k) (m k))
+
+pub regrouped : (a b c : Bool) → (a && b) ≡ true → c ≡ true → (a && (b && c)) ≡ true
+regrouped true b c h e = λ i. h i && e i
+regrouped false b c h e = h
 
 pub command_body-no_object : (bench : Bench) (v : Json) → is_object v ≡ false → command_body bench v ≡ Err (body_fault wrong_type [])
 command_body-no_object bench (object ms) h = absurd (true≢false h)

@@ -1,14 +1,16 @@
 -- What commands on a bench answer, and how the bench goes on.
-use Rattle.std.specs.Prelude.{◌≡◌, List, Option, Result, Ok, Err}
+use Rattle.std.specs.Prelude.{◌≡◌, List, Option, Result, Ok, Err, if◌then◌else◌, not, nat_le, length, codes}
 use Rattle.ssa_model.specs.Json.{Text, Json}
 use Rattle.ssa_model.specs.Kind.{Kind}
 use Rattle.ssa_model.specs.Body.{Body}
 use Rattle.ssa_model.specs.Fitting.{IsBodyOf}
 use Rattle.ssa_model.specs.History as model
-use Rattle.ssa_model.specs.History.{appended, with_timeline}
+use Rattle.ssa_model.specs.History.{appended, is_manager_name, past_len, present, with_timeline}
+use Rattle.ssa_model.specs.Operations.{update}
 use Rattle.ssa_model.specs.Answers as answers
 use Rattle.ssa_model.specs.Answers.{Answer}
-use Rattle.ssa_merge.specs.States.{state_view}
+use Rattle.ssa_merge.specs.States.{state_view, updater}
+use Rattle.ssa_merge.specs.declared.plan.Plan.{Plan}
 use Rattle.ssa_bench.specs.Faults.{IsFault, IsGiven}
 use Rattle.ssa_bench.specs.Histories.{label_view}
 use Rattle.ssa_bench.specs.declared.fault.Fault.{Fault}
@@ -42,6 +44,20 @@ CanCommit bench p = IsBodyOf bench.kind p.step.state.body
 -- the bench with the prepared state behind its present one
 abbrev pub next_bench : model.Bench → Prepared → model.Bench
 next_bench bench p = with_timeline bench (appended bench.timeline (label_view p.step.label) (state_view p.step.state))
+
+-- what a plan changes
+abbrev pub changed_by : Plan → answers.Changed
+changed_by p = record { added = p.comparison.added; modified = p.comparison.modified; removed = p.comparison.removed; managers = length p.target.managers }
+
+-- the body of an Apply's or an Update's object, or the command's first fault
+abbrev pub tested_body : model.Bench → Text → Json → Result Body answers.Fault
+tested_body bench who v =
+    if nat_le 1000 (past_len bench.timeline) then Err answers.history_full
+    else (if not (is_manager_name who) then Err answers.manager_name else answers.command_body bench v)
+
+-- the answer to an Update to a body
+abbrev pub update_answer : model.Bench → Text → Text → Body → Answer
+update_answer bench who at body = answers.accept_or_refuse bench (codes "update") (model.updated who at) (update (present bench.timeline) (updater who) body at)
 
 -- the command is refused for the fault, and the bench stays
 pub record IsRefused (bench : model.Bench) (f : Fault) (given : Answer) : Type 0 where

@@ -4,4 +4,5 @@ pub mod Fits
 pub mod BenchView
 pub mod Commands
 pub mod Faults
+pub mod Refusals
 pub mod Benches

@@ -1,12 +1,12 @@
 //! The bench: an object, its managers, and the history of commands on it.
-ghost use Rattle.std.specs.Prelude.{◌≡◌, IfOk, OnOk, OnErr, false, codes};
-ghost use Rattle.ssa_model.specs.Answers.{answer, bench_of, body_or_fault, undo, redo};
+ghost use Rattle.std.specs.Prelude.{◌≡◌, ◌||◌, nat_le, IfOk, OnOk, OnErr, false, codes, string_bytes};
+ghost use Rattle.ssa_model.specs.Answers.{answer, apply, update, strip, undo, redo, apply_answer, bench_of, body_or_fault, command_body};
 ghost use Rattle.ssa_model.specs.Entries.{object_of_state};
 ghost use Rattle.ssa_model.specs.Fitting.{IsBodyOf};
 ghost use Rattle.ssa_model.specs.History.{past_len, future_len, present};
 ghost use Rattle.ssa_model.specs.Operations.{dropped};
 ghost use Rattle.ssa_json.specs.View.{view};
-ghost use Rattle.ssa_bench.specs.Benches.{lone_bench, next_bench, Begins, CanCommit, IsExecuted, IsMade, IsMoved, IsPrepared};
+ghost use Rattle.ssa_bench.specs.Benches.{lone_bench, next_bench, Begins, CanCommit, IsExecuted, IsMade, IsMoved, IsPrepared, tested_body, update_answer};
 ghost use Rattle.ssa_bench.specs.Faults.{IsGiven};
 ghost use Rattle.ssa_bench.specs.Identities.{body_value_of};
 ghost use Rattle.ssa_bench.specs.Commands.{command_view, command_word};
@@ -14,12 +14,15 @@ ghost use Rattle.ssa_bench.specs.Commands.{command_view, command_word};
 use crate::body_value::body_value;
 use crate::command::Command;
 use crate::fault::Fault;
-use crate::identity::{Identity, gives_managed_fields};
+use crate::identity::{Identity, gives_managed_fields, has_identity};
+use crate::names::is_manager_name;
 use crate::object::object_of_body;
-use crate::prepared::{Changed, Counts, Prepared};
-use crate::timeline::Timeline;
+use crate::prepared::{Changed, Counts, Prepared, accepted};
+use crate::timeline::{Label, Timeline};
+use ssa_json::moment::Moment;
 use ssa_json::value::Json;
 use ssa_merge::managers::Managers;
+use ssa_merge::plan::{plan_apply, plan_strip, plan_update};
 use ssa_merge::state::State;
 use ssa_schema::body_fault::BodyFault;
 use ssa_schema::schema::Schema;
@@ -118,11 +121,136 @@ impl Bench {
         }
     }
 
+    // The body of a command's object, or its first fault.
+    fn command_body(&self, alloc: Global, object: &Json) -> Result<Body, Fault>
+        ensures given { IsGiven result (command_body self.now (view object.now)) }
+        ensures fits { IfOk result (λ b. IsBodyOf self.now.kind b) }
+    {
+        if !object.is_object() {
+            return Err(Fault::Body(BodyFault::WrongType(Vec::new(alloc))));
+        }
+        if !has_identity(object) || !self.identity.is_same_as(object) {
+            return Err(Fault::Identity);
+        }
+        if gives_managed_fields(object) {
+            return Err(Fault::ManagedFieldsGiven);
+        }
+        body_or_fault(alloc, &self.schema, object)
+    }
+
+    // The body of an Apply's or an Update's object, or the first fault of the command.
+    fn tested_body(&self, alloc: Global, who: &str, object: &Json) -> Result<Body, Fault>
+        ensures given { IsGiven result (tested_body self.now who.now (view object.now)) }
+        ensures fits { IfOk result (λ b. IsBodyOf self.now.kind b) }
+    {
+        if self.timeline.past_len() >= MOST_PAST {
+            return Err(Fault::HistoryFull);
+        }
+        if !is_manager_name(who) {
+            return Err(Fault::ManagerName);
+        }
+        self.command_body(alloc, object)
+    }
+
+    // An Apply of a configuration.
+    fn prepare_configuration(
+        &self,
+        alloc: Global,
+        who: String,
+        force: bool,
+        at: Moment,
+        config: Body,
+    ) -> Result<Prepared, Fault>
+        requires { IsBodyOf self.now.kind config }
+        ensures { IsPrepared self.now result (apply_answer dropped self.now (string_bytes who) force at config) (codes "apply") }
+    {
+        let now = self.timeline.present();
+        match plan_apply(alloc, now, config, who.as_str(), force, at) {
+            Ok(plan) => Ok(accepted(Label::Apply { at, force, who }, plan)),
+            Err(refusal) => Err(Fault::from(refusal)),
+        }
+    }
+
+    // An Apply.
+    fn prepare_apply(
+        &self,
+        alloc: Global,
+        who: String,
+        force: bool,
+        at: Moment,
+        object: &Json,
+    ) -> Result<Prepared, Fault>
+        ensures { IsPrepared self.now result (answer dropped self.now (apply (string_bytes who) force at (view object.now))) (codes "apply") }
+    {
+        match self.tested_body(alloc, who.as_str(), object) {
+            Ok(config) => self.prepare_configuration(alloc, who, force, at, config),
+            Err(fault) => Err(fault),
+        }
+    }
+
+    // An Update to a body.
+    fn prepare_replacement(
+        &self,
+        alloc: Global,
+        who: String,
+        at: Moment,
+        body: Body,
+    ) -> Result<Prepared, Fault>
+        requires { IsBodyOf self.now.kind body }
+        ensures { IsPrepared self.now result (update_answer self.now (string_bytes who) at body) (codes "update") }
+    {
+        let now = self.timeline.present();
+        match plan_update(alloc, now, body, who.as_str(), at) {
+            Ok(plan) => Ok(accepted(Label::Update { at, who }, plan)),
+            Err(refusal) => Err(Fault::from(refusal)),
+        }
+    }
+
+    // An Update.
+    fn prepare_update(
+        &self,
+        alloc: Global,
+        who: String,
+        at: Moment,
+        object: &Json,
+    ) -> Result<Prepared, Fault>
+        ensures { IsPrepared self.now result (answer dropped self.now (update (string_bytes who) at (view object.now))) (codes "update") }
+    {
+        match self.tested_body(alloc, who.as_str(), object) {
+            Ok(body) => self.prepare_replacement(alloc, who, at, body),
+            Err(fault) => Err(fault),
+        }
+    }
+
+    // A Strip.
+    fn prepare_strip(&self, alloc: Global) -> Result<Prepared, Fault>
+        ensures { IsPrepared self.now result (answer dropped self.now strip) (codes "strip") }
+    {
+        if self.timeline.past_len() >= MOST_PAST {
+            return Err(Fault::HistoryFull);
+        }
+        let plan = plan_strip(alloc, self.timeline.present())?;
+        Ok(accepted(Label::Strip, plan))
+    }
+
     /// What a command leads to, or why it is refused. The bench is as before.
+    ///
+    /// Of several faults the first is told: `HistoryFull`, `ManagerName`, the object's as `new` tells
+    /// them, `Conflict`, `TooManyPaths`, `TooManyManagers`. A command that changes nothing is a step
+    /// of the history like any other.
     pub fn prepare(&self, alloc: Global, command: Command) -> Result<Prepared, Fault>
         ensures { IsPrepared self.now result (answer dropped self.now (command_view command)) (command_word command) }
     {
-        Err(Fault::OutOfMemory)
+        match command {
+            Command::Apply {
+                who,
+                force,
+                at,
+                object,
+            } => self.prepare_apply(alloc, who, force, at, &object),
+            Command::Update { who, at, object } => self.prepare_update(alloc, who, at, &object),
+            Command::Strip => self.prepare_strip(alloc),
+        }
     }
 
     /// Carries out a command that was prepared on this bench as it is now.

@@ -1,8 +1,10 @@
 //! Why a command or an object is refused.
 ghost use Rattle.std.specs.Prelude.{◌≡◌};
+ghost use Rattle.ssa_bench.specs.Refusals.{refusal_fault};
 ghost use Rattle.ssa_bench.specs.declared.fault.Fault.TheVariants.{OutOfMemory};
 
 use ssa_merge::manager::ManagerKey;
+use ssa_merge::plan::Refusal;
 use ssa_path::field_set::FieldSet;
 use ssa_schema::body_fault::BodyFault;
 use std::alloc::AllocError;
@@ -37,5 +39,18 @@ impl From<AllocError> for Fault {
 
     fn from(_refused: AllocError) -> Fault {
         Fault::OutOfMemory
+    }
+}
+
+impl From<Refusal> for Fault {
+    ghost from_gives = { λ r e. e ≡ refusal_fault r };
+
+    fn from(refusal: Refusal) -> Fault {
+        match refusal {
+            Refusal::Conflict(clashes) => Fault::Conflict(clashes),
+            Refusal::TooManyPaths => Fault::TooManyPaths,
+            Refusal::TooManyManagers => Fault::TooManyManagers,
+            Refusal::OutOfMemory => Fault::OutOfMemory,
+        }
     }
 }

@@ -1,7 +1,9 @@
 //! What a command changes, before and after it is carried out.
 ghost use Rattle.std.specs.Prelude.{◌≡◌};
+ghost use Rattle.ssa_bench.specs.Benches.{changed_view, changed_by};
 
-use crate::timeline::Step;
+use crate::timeline::{Label, Step};
+use ssa_merge::plan::Plan;
 use ssa_path::field_set::FieldSet;
 
 /// What an accepted command changed.
@@ -38,4 +40,25 @@ impl Prepared {
     {
         &self.changed
     }
+}
+
+// What a plan changes, and the step to where it leads.
+pub(crate) fn accepted(label: Label, plan: Plan) -> Prepared
+    ensures label { result.step.label ≡ label }
+    ensures state { result.step.state ≡ plan.target }
+    ensures changed { changed_view result.changed ≡ changed_by plan }
+{
+    let managers = plan.managers();
+    let Plan { target, comparison } = plan;
+    let changed = Changed {
+        added: comparison.added,
+        modified: comparison.modified,
+        removed: comparison.removed,
+        managers,
+    };
+    let step = Step {
+        label,
+        state: target,
+    };
+    Prepared { changed, step }
 }

@@ -1,0 +1,4 @@
+pub mod Seats
+pub mod Seated
+pub mod GivenUp
+pub mod Applied

@@ -4,6 +4,9 @@
 pub mod given_up;
 pub mod manager;
 pub mod managers;
+pub mod owned;
 pub mod plan;
 pub mod seat;
 pub mod state;
+#[cfg(test)]
+mod tests;

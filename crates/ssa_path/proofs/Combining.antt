@@ -1,20 +1,21 @@
 -- Two lists of children that rise, put together from their ends on.
-use Rattle.std.proofs.Common.{◌≡◌, ℕ, ◌+◌, ◌<◌, List, [], ◌∷◌, ◌++◌, length, get_or, drop, Bool, true, false, ◌&&◌, ◌||◌, Some, None, Ordering, Less, Equal, Greater, refl, sym, ap, subst, ◌∙◌, true≢false, append_assoc, append-nil, arith, length-drop}
+use Rattle.std.proofs.Common.{◌≡◌, ℕ, ◌+◌, ◌<◌, List, [], ◌∷◌, ◌++◌, length, get_or, drop, Bool, true, false, ◌&&◌, ◌||◌, Some, None, Ordering, Less, Equal, Greater, not, refl, sym, ap, subst, ◌∙◌, true≢false, append_assoc, append-nil, arith, length-drop}
 use Rattle.std.specs.Bool.{MatchBool}
 use Rattle.std.specs.Ordering.{is_lt, is_eq, ordering_reverse}
-use Rattle.ssa_model.specs.Path.{Element, Path, element_cmp, same_element, same_path}
+use Rattle.std.specs.List.{list_any}
+use Rattle.ssa_model.specs.Path.{Element, Path, element_cmp, same_element, same_path, under}
 use Rattle.ssa_path.specs.declared.combine.Combination.{Combination}
-use Rattle.ssa_path.specs.declared.combine.Combination.TheVariants.{Union, Minus, Meet}
+use Rattle.ssa_path.specs.declared.combine.Combination.TheVariants.{Union, Minus, Meet, WithoutUnder, WithoutOver}
 use Rattle.ssa_path.specs.declared.element.Elem.{Elem}
 use Rattle.ssa_path.specs.declared.trie.Trie.{Trie}
 use Rattle.ssa_path.specs.declared.trie.Trie.TheOpen.{Trie-F}
 use Rattle.ssa_path.specs.declared.trie.Trie.TheViews.{out-Trie, roll-Trie}
 use Rattle.ssa_path.specs.Children.{elements, is_below, rises, heads_order}
-use Rattle.ssa_path.specs.Combine.{keeps, IsCombination, IsCombined, IsKept, IsGrown}
+use Rattle.ssa_path.specs.Combine.{concerns, is_concerned, covers, keeps, IsCombination, IsCombined, IsKept, IsGrown}
 use Rattle.ssa_path.specs.View.{element_view}
-use Rattle.ssa_path.specs.Trie.{Shape, is_one_of, paths, paths_below, is_trie, is_filled, has_some, are_filled_tries, IsCopy}
-use Rattle.ssa_path.proofs.Orders.{element_cmp_total, same_element-true, lower, not_tied, both, both_first, both_second, or_false}
-use Rattle.ssa_path.proofs.Levels.{same_path-reading, any-child, any-made, any-level, one-made-root, one-level-root, is_trie-made, some-none}
+use Rattle.ssa_path.specs.Trie.{Shape, here_path, is_one_of, paths, paths_below, is_trie, is_filled, has_some, are_filled_tries, IsCopy}
+use Rattle.ssa_path.proofs.Orders.{element_cmp_total, same_either_way, same_element-true, lower, not_tied, both, both_first, both_second, or_false}
+use Rattle.ssa_path.proofs.Levels.{GoesOn, same_path-reading, under-reading, any-child, any-made, any-level, child-more, one-made-root, one-level-root, is_trie-made, paths-level, paths-made, some-none}
 use Rattle.ssa_path.proofs.Lists.{left-at}
 
 -- ---- how the heads of two lists compare
@@ -93,12 +94,21 @@ other-first (c ∷ cs) d ds e h =
     both _ _ (ap is_lt less) (below-trans (element_view d.0) (element_view c.0) (elements cs) less (both_first _ _ h))
 
 -- children behind an element have no path that begins with it
-one-absent : (e f : Element) (cs : List (Elem × Trie)) (p : Path) → same_element e f ≡ true → is_below f (elements cs) ≡ true → is_one_of (paths_below cs) (e ∷ p) ≡ false
-one-absent e f [] p s h = refl
-one-absent e f (c ∷ cs) p s h =
+absent : (R : Path → Path → Bool) → GoesOn R → (e f : Element) (cs : List (Elem × Trie)) (p : Path) → same_element e f ≡ true → is_below f (elements cs) ≡ true → list_any (R (e ∷ p)) (paths_below cs) ≡ false
+absent R more e f [] p s h = refl
+absent R more e f (c ∷ cs) p s h =
     let other : same_element e (element_view c.0) ≡ false = ap (λ x. same_element x (element_view c.0)) (same_element-true e f s) ∙ not_tied _ (both_first _ _ h) in
-    any-child same_path same_path-reading e c cs p
-    ∙ (λ i. (other i && is_one_of (paths c.1) p) || one-absent e f cs p s (both_second _ _ h) i)
+    child-more R more e c cs p
+    ∙ (λ i. (other i && list_any (R p) (paths c.1)) || absent R more e f cs p s (both_second _ _ h) i)
+
+-- ---- how the other set concerns a path
+
+concerns-more : (how : Combination) → GoesOn (concerns how)
+concerns-more Union = same_path-reading.more
+concerns-more Minus = same_path-reading.more
+concerns-more Meet = same_path-reading.more
+concerns-more WithoutUnder = λ e f p q. ap (λ b. b && under q p) (same_either_way e f)
+concerns-more WithoutOver = under-reading.more
 
 -- ---- one element more in front: s says whether the path begins with it, x and y what the lists hold there, v what is made of that
 
@@ -106,6 +116,8 @@ keeps-none : (how : Combination) → keeps how false false ≡ false
 keeps-none Union = refl
 keeps-none Minus = refl
 keeps-none Meet = refl
+keeps-none WithoutUnder = refl
+keeps-none WithoutOver = refl
 
 front : (how : Combination) (s x y a b u v : Bool) → v ≡ keeps how x y → (s ≡ true → (a ≡ false) × (b ≡ false)) → u ≡ keeps how a b
     → ((s && v) || u) ≡ keeps how ((s && x) || a) ((s && y) || b)
@@ -122,22 +134,32 @@ keeps-own Union false h = refl
 keeps-own Minus true h = refl
 keeps-own Minus false h = refl
 keeps-own Meet x h = absurd (true≢false (sym h))
+keeps-own WithoutUnder true h = refl
+keeps-own WithoutUnder false h = refl
+keeps-own WithoutOver true h = refl
+keeps-own WithoutOver false h = refl
 
 drops-own : (how : Combination) (x : Bool) → keeps how true false ≡ false → false ≡ keeps how x false
 drops-own Union x h = absurd (true≢false h)
 drops-own Minus x h = absurd (true≢false h)
 drops-own Meet true h = refl
 drops-own Meet false h = refl
+drops-own WithoutUnder x h = absurd (true≢false h)
+drops-own WithoutOver x h = absurd (true≢false h)
 
-keeps-other : (how : Combination) (y : Bool) → keeps how false true ≡ true → y ≡ keeps how false y
-keeps-other Union y h = refl
-keeps-other Minus y h = absurd (true≢false (sym h))
-keeps-other Meet y h = absurd (true≢false (sym h))
+keeps-other : (how : Combination) (ps : List Path) (p : Path) → keeps how false true ≡ true → is_one_of ps p ≡ keeps how false (is_concerned how ps p)
+keeps-other Union ps p h = refl
+keeps-other Minus ps p h = absurd (true≢false (sym h))
+keeps-other Meet ps p h = absurd (true≢false (sym h))
+keeps-other WithoutUnder ps p h = absurd (true≢false (sym h))
+keeps-other WithoutOver ps p h = absurd (true≢false (sym h))
 
 drops-other : (how : Combination) (y : Bool) → keeps how false true ≡ false → false ≡ keeps how false y
 drops-other Union y h = absurd (true≢false h)
 drops-other Minus y h = refl
 drops-other Meet y h = refl
+drops-other WithoutUnder y h = refl
+drops-other WithoutOver y h = refl
 
 gone : (s a : Bool) → ((s && false) || a) ≡ a
 gone true a = refl
@@ -154,15 +176,22 @@ Children = List (Elem × Trie)
 abbrev holds : Children → Element → Path → Bool
 holds cs e p = is_one_of (paths_below cs) (e ∷ p)
 
+-- the other list's paths concern the path
+abbrev meets : Combination → Children → Element → Path → Bool
+meets how ds e p = is_concerned how (paths_below ds) (e ∷ p)
+
+meets-child : (how : Combination) (e : Element) (d : Elem × Trie) (ds : Children) (p : Path) → meets how (d ∷ ds) e p ≡ ((same_element e (element_view d.0) && is_concerned how (paths d.1) p) || meets how ds e p)
+meets-child how = child-more (concerns how) (concerns-more how)
+
 -- what rises behind the heads of both lists, with the head's element in front
 module _ (how : Combination) (f : Element) (cs ds us : Children) (own : is_below f (elements cs) ≡ true) (other : is_below f (elements ds) ≡ true) (h : IsCombined how cs ds us) where
-  none_behind : (e : Element) (p : Path) → same_element e f ≡ true → (holds cs e p ≡ false) × (holds ds e p ≡ false)
-  none_behind e p s = (one-absent e f cs p s own, one-absent e f ds p s other)
+  none_behind : (e : Element) (p : Path) → same_element e f ≡ true → (holds cs e p ≡ false) × (meets how ds e p ≡ false)
+  none_behind e p s = (absent same_path same_path-reading.more e f cs p s own, absent (concerns how) (concerns-more how) e f ds p s other)
 
   -- what is made of the heads, where x and y are what they hold
   fronted : (x y v : Path → Bool) → ((p : Path) → v p ≡ keeps how (x p) (y p)) → (e : Element) (p : Path)
-      → ((same_element e f && v p) || holds us e p) ≡ keeps how ((same_element e f && x p) || holds cs e p) ((same_element e f && y p) || holds ds e p)
-  fronted x y v made e p = front how (same_element e f) (x p) (y p) (holds cs e p) (holds ds e p) (holds us e p) (v p) (made p) (none_behind e p) (h.paths_are e p)
+      → ((same_element e f && v p) || holds us e p) ≡ keeps how ((same_element e f && x p) || holds cs e p) ((same_element e f && y p) || meets how ds e p)
+  fronted x y v made e p = front how (same_element e f) (x p) (y p) (holds cs e p) (meets how ds e p) (holds us e p) (v p) (made p) (none_behind e p) (h.paths_are e p)
 
   first-below : is_below f (elements us) ≡ true
   first-below = h.lower f own other
@@ -180,6 +209,9 @@ holds-first u us f e p is = any-child same_path same_path-reading e u us p ∙ a
 abbrev nothing : Path → Bool
 nothing p = false
 
+meets-first : (how : Combination) (d : Elem × Trie) (ds : Children) (f : Element) (e : Element) (p : Path) → element_view d.0 ≡ f → meets how (d ∷ ds) e p ≡ ((same_element e f && is_concerned how (paths d.1) p) || meets how ds e p)
+meets-first how d ds f e p is = meets-child how e d ds p ∙ ap (λ g. (same_element e g && is_concerned how (paths d.1) p) || meets how ds e p) is
+
 -- the own list's head has the first element
 pub own-kept : (how : Combination) (c : Elem × Trie) (cs ds us : Children) (u : Elem × Trie) → heads_order (c ∷ cs) ds ≡ Some Less → rises (elements (c ∷ cs)) ≡ true → rises (elements ds) ≡ true → are_filled_tries (c ∷ cs) ≡ true
     → keeps how true false ≡ true → IsCopy c u → IsCombined how cs ds us → IsCombined how (c ∷ cs) ds (u ∷ us)
@@ -193,7 +225,7 @@ own-kept how c cs ds us u order own_rise other_rise tries kept copy h =
           holds-first u us f e p copy.element
           ∙ ap (λ (s : Shape). (same_element e f && is_one_of s.0 p) || holds us e p) copy.shape_is
           ∙ fronted how f cs ds us own other h (is_one_of (paths c.1)) nothing (is_one_of (paths c.1)) (λ q. keeps-own how (is_one_of (paths c.1) q) kept) e p
-          ∙ (λ i. keeps how (sym (any-child same_path same_path-reading e c cs p) i) (gone (same_element e f) (holds ds e p) i));
+          ∙ (λ i. keeps how (sym (any-child same_path same_path-reading e c cs p) i) (gone (same_element e f) (meets how ds e p) i));
       risen = risen-more how f cs ds us own other h u copy.element;
       tries = tries-more how f cs ds us own other h u (ap (λ (s : Shape). s.1) copy.shape_is ∙ both_first (is_trie c.1) _ parts) (ap (λ (s : Shape). has_some s.0) copy.shape_is ∙ both_second (is_trie c.1) _ parts);
       lower = λ e a b. both _ _ (ap (λ g. is_lt (element_cmp e g)) copy.element ∙ both_first _ _ a) (h.lower e (both_second _ _ a) b);
@@ -209,7 +241,7 @@ own-dropped how c cs ds us order own_rise other_rise kept h =
       paths_are = λ e p.
           sym (gone (same_element e f) (holds us e p))
           ∙ fronted how f cs ds us own other h (is_one_of (paths c.1)) nothing nothing (λ q. drops-own how (is_one_of (paths c.1) q) kept) e p
-          ∙ (λ i. keeps how (sym (any-child same_path same_path-reading e c cs p) i) (gone (same_element e f) (holds ds e p) i));
+          ∙ (λ i. keeps how (sym (any-child same_path same_path-reading e c cs p) i) (gone (same_element e f) (meets how ds e p) i));
       risen = h.risen;
       tries = h.tries;
       lower = λ e a b. h.lower e (both_second _ _ a) b;
@@ -227,8 +259,8 @@ other-kept how cs d ds us u order own_rise other_rise tries kept copy h =
       paths_are = λ e p.
           holds-first u us f e p copy.element
           ∙ ap (λ (s : Shape). (same_element e f && is_one_of s.0 p) || holds us e p) copy.shape_is
-          ∙ fronted how f cs ds us own other h nothing (is_one_of (paths d.1)) (is_one_of (paths d.1)) (λ q. keeps-other how (is_one_of (paths d.1) q) kept) e p
-          ∙ (λ i. keeps how (gone (same_element e f) (holds cs e p) i) (sym (any-child same_path same_path-reading e d ds p) i));
+          ∙ fronted how f cs ds us own other h nothing (is_concerned how (paths d.1)) (is_one_of (paths d.1)) (λ q. keeps-other how (paths d.1) q kept) e p
+          ∙ (λ i. keeps how (gone (same_element e f) (holds cs e p) i) (sym (meets-child how e d ds p) i));
       risen = risen-more how f cs ds us own other h u copy.element;
       tries = tries-more how f cs ds us own other h u (ap (λ (s : Shape). s.1) copy.shape_is ∙ both_first (is_trie d.1) _ parts) (ap (λ (s : Shape). has_some s.0) copy.shape_is ∙ both_second (is_trie d.1) _ parts);
       lower = λ e a b. both _ _ (ap (λ g. is_lt (element_cmp e g)) copy.element ∙ both_first _ _ b) (h.lower e a (both_second _ _ b));
@@ -243,8 +275,8 @@ other-dropped how cs d ds us order own_rise other_rise kept h =
     record {
       paths_are = λ e p.
           sym (gone (same_element e f) (holds us e p))
-          ∙ fronted how f cs ds us own other h nothing (is_one_of (paths d.1)) nothing (λ q. drops-other how (is_one_of (paths d.1) q) kept) e p
-          ∙ (λ i. keeps how (gone (same_element e f) (holds cs e p) i) (sym (any-child same_path same_path-reading e d ds p) i));
+          ∙ fronted how f cs ds us own other h nothing (is_concerned how (paths d.1)) nothing (λ q. drops-other how (is_concerned how (paths d.1) q) kept) e p
+          ∙ (λ i. keeps how (gone (same_element e f) (holds cs e p) i) (sym (meets-child how e d ds p) i));
       risen = h.risen;
       tries = h.tries;
       lower = λ e a b. h.lower e a (both_second _ _ b);
@@ -266,8 +298,8 @@ both-kept how c d cs ds us u order own_rise other_rise is made filled h =
     record {
       paths_are = λ e p.
           holds-first u us f e p is
-          ∙ fronted how f cs ds us own other h (is_one_of (paths c.1)) (is_one_of (paths d.1)) (is_one_of (paths u.1)) made.paths_are e p
-          ∙ (λ i. keeps how (sym (any-child same_path same_path-reading e c cs p) i) (sym (holds-first d ds f e p (sym same)) i));
+          ∙ fronted how f cs ds us own other h (is_one_of (paths c.1)) (is_concerned how (paths d.1)) (is_one_of (paths u.1)) made.paths_are e p
+          ∙ (λ i. keeps how (sym (any-child same_path same_path-reading e c cs p) i) (sym (meets-first how d ds f e p (sym same)) i));
       risen = risen-more how f cs ds us own other h u is;
       tries = tries-more how f cs ds us own other h u made.trie filled;
       lower = λ e a b. both _ _ (ap (λ g. is_lt (element_cmp e g)) is ∙ both_first _ _ a) (h.lower e (both_second _ _ a) (both_second _ _ b));
@@ -283,8 +315,8 @@ both-dropped how c d cs ds us t order own_rise other_rise made none h =
     record {
       paths_are = λ e p.
           sym (gone (same_element e f) (holds us e p))
-          ∙ fronted how f cs ds us own other h (is_one_of (paths c.1)) (is_one_of (paths d.1)) nothing (λ q. ap (λ ps. is_one_of ps q) (sym (some-none (paths t) none)) ∙ made.paths_are q) e p
-          ∙ (λ i. keeps how (sym (any-child same_path same_path-reading e c cs p) i) (sym (holds-first d ds f e p (sym same)) i));
+          ∙ fronted how f cs ds us own other h (is_one_of (paths c.1)) (is_concerned how (paths d.1)) nothing (λ q. ap (λ ps. is_one_of ps q) (sym (some-none (paths t) none)) ∙ made.paths_are q) e p
+          ∙ (λ i. keeps how (sym (any-child same_path same_path-reading e c cs p) i) (sym (meets-first how d ds f e p (sym same)) i));
       risen = h.risen;
       tries = h.tries;
       lower = λ e a b. h.lower e (both_second _ _ a) (both_second _ _ b);
@@ -390,11 +422,58 @@ both-at how cs ds i j c d out new t order is_c is_d made grown h =
 
 -- ---- a place over what was put together below
 
-pub combined-place : (how : Combination) (x : Trie-F Trie) (m n : Trie) → x.here ≡ keeps how (out-Trie m).here (out-Trie n).here → IsCombined how (out-Trie m).below.items (out-Trie n).below.items x.below.items → IsCombination how m n (roll-Trie x)
-combined-place how x m n here h = record { paths_are = held; trie = is_trie-made x h.risen h.tries }
+above-all : (ps : List Path) (p : Path) → is_one_of ps [] ≡ true → list_any (λ q. under q p) ps ≡ true
+above-all [] p h = h
+above-all ([] ∷ ps) p h = refl
+above-all ((e ∷ q) ∷ ps) p h = ap (λ b. under (e ∷ q) p || b) (above-all ps p h) ∙ or_true (under (e ∷ q) p)
   where
-    held : (p : Path) → is_one_of (paths (roll-Trie x)) p ≡ keeps how (is_one_of (paths m) p) (is_one_of (paths n) p)
-    held [] = one-made-root x ∙ here ∙ (λ i. keeps how (sym (one-level-root m) i) (sym (one-level-root n) i))
+    or_true : (b : Bool) → (b || true) ≡ true
+    or_true true = refl
+    or_true false = refl
+
+and_not : (a b : Bool) → b ≡ true → false ≡ (a && not b)
+and_not true b h = ap not (sym h)
+and_not false b h = refl
+
+-- the other set has a path above all that is here, so nothing is left
+pub combined-covered : (how : Combination) (x : Trie-F Trie) (m n : Trie) → covers how n ≡ true → x.here ≡ false → x.below.items ≡ [] → IsCombination how m n (roll-Trie x)
+combined-covered Union x m n h here below = absurd (true≢false (sym h))
+combined-covered Minus x m n h here below = absurd (true≢false (sym h))
+combined-covered Meet x m n h here below = absurd (true≢false (sym h))
+combined-covered WithoutOver x m n h here below = absurd (true≢false (sym h))
+combined-covered WithoutUnder x m n h here below = record {
+  paths_are = λ p. ap (λ ps. is_one_of ps p) none ∙ and_not (is_one_of (paths m) p) _ (above-all (paths n) p h);
+  trie = is_trie-made x (ap (λ l. rises (elements l)) below) (ap are_filled_tries below);
+}
+  where
+    none : paths (roll-Trie x) ≡ []
+    none = paths-made x ∙ (λ i. here_path (here i) ++ paths_below (below i))
+
+-- what concerns a path with an element in front is what is below
+concerned-level : (how : Combination) (n : Trie) (e : Element) (p : Path) → covers how n ≡ false → is_concerned how (paths n) (e ∷ p) ≡ is_concerned how (paths_below (out-Trie n).below.items) (e ∷ p)
+concerned-level Union n e p h = any-level same_path same_path-reading n e p
+concerned-level Minus n e p h = any-level same_path same_path-reading n e p
+concerned-level Meet n e p h = any-level same_path same_path-reading n e p
+concerned-level WithoutUnder n e p h =
+    let here : (out-Trie n).here ≡ false = sym (one-level-root n) ∙ h in
+    ap (list_any (λ q. under q (e ∷ p))) (paths-level n ∙ ap (λ b. here_path b ++ paths_below (out-Trie n).below.items) here)
+concerned-level WithoutOver n e p h = any-level under under-reading n e p
+
+pub combined-place : (how : Combination) (x : Trie-F Trie) (m n : Trie) → covers how n ≡ false → x.here ≡ keeps how (out-Trie m).here (is_concerned how (paths n) []) → IsCombined how (out-Trie m).below.items (out-Trie n).below.items x.below.items → IsCombination how m n (roll-Trie x)
+combined-place how x m n left here h = record { paths_are = held; trie = is_trie-made x h.risen h.tries }
+  where
+    held : (p : Path) → is_one_of (paths (roll-Trie x)) p ≡ keeps how (is_one_of (paths m) p) (is_concerned how (paths n) p)
+    held [] = one-made-root x ∙ here ∙ ap (λ b. keeps how b (is_concerned how (paths n) [])) (sym (one-level-root m))
     held (e ∷ p) =
         any-made same_path same_path-reading x e p ∙ h.paths_are e p
-        ∙ (λ i. keeps how (sym (any-level same_path same_path-reading m e p) i) (sym (any-level same_path same_path-reading n e p) i))
+        ∙ (λ i. keeps how (sym (any-level same_path same_path-reading m e p) i) (sym (concerned-level how n e p left) i))
+
+-- ---- how the other set concerns the root
+
+under-root : (ps : List Path) → list_any (λ q. under q []) ps ≡ is_one_of ps []
+under-root [] = refl
+under-root ([] ∷ ps) = refl
+under-root ((e ∷ q) ∷ ps) = under-root ps
+
+pub concerned-root : (n : Trie) → is_concerned WithoutUnder (paths n) [] ≡ (out-Trie n).here
+concerned-root n = under-root (paths n) ∙ one-level-root n

@@ -9,12 +9,14 @@ use Rattle.ssa_model.specs.PathMap.{paths as set_paths, size}
 use Rattle.ssa_path.specs.Children.{elements, is_below, rises}
 use Rattle.ssa_path.specs.View.{element_view}
 use Rattle.ssa_path.specs.Listing.{behind, stands_before, paths_rise, IsListed}
-use Rattle.ssa_path.specs.Trie.{here_path, is_trie, listed, marked, paths, paths_after, paths_below}
+use Rattle.ssa_path.specs.Trie.{are_filled_tries, here_path, is_filled, is_trie, listed, marked, paths, paths_after, paths_below}
 use Rattle.ssa_path.specs.declared.element.Elem.{Elem}
 use Rattle.ssa_path.specs.declared.trie.Trie.{Trie}
+use Rattle.ssa_path.specs.declared.trie.Trie.TheFolds.{ind-Trie}
+use Rattle.ssa_path.specs.declared.trie.Trie.TheOpen.{Trie-F}
 use Rattle.ssa_path.specs.declared.trie.Trie.TheViews.{out-Trie}
 use Rattle.ssa_path.proofs.Orders.{element_cmp_total, lower, both, both_first, both_second}
-use Rattle.ssa_path.proofs.Levels.{paths-level, trie-parts}
+use Rattle.ssa_path.proofs.Levels.{paths-level, paths-made, shape-made, trie-parts}
 use Rattle.ssa_path.proofs.Lists.{paths_below-append}
 
 -- ---- in path order
@@ -72,6 +74,24 @@ rise-here false cs h = h
 
 pub rise-level : (t : Trie) → is_trie t ≡ true → children_rise (out-Trie t).below.items ≡ true → paths_rise (paths t) ≡ true
 rise-level t h k = ap paths_rise (paths-level t) ∙ rise-here (out-Trie t).here (out-Trie t).below.items (rise-below (out-Trie t).below.items (trie-parts t _ refl h).0 k)
+
+-- every trie lists its paths in order
+abbrev InOrder : Trie → Type 0
+InOrder t = is_trie t ≡ true → paths_rise (paths t) ≡ true
+
+abbrev tries_of : List (Elem × ((t : Trie) × InOrder t)) → List (Elem × Trie)
+tries_of ys = map (λ c. (c.0, c.1.0)) ys
+
+children-rise : (ys : List (Elem × ((t : Trie) × InOrder t))) → are_filled_tries (tries_of ys) ≡ true → children_rise (tries_of ys) ≡ true
+children-rise [] h = refl
+children-rise (y ∷ ys) h = both _ _ (y.1.1 (both_first (is_trie y.1.0) _ (both_first _ _ h))) (children-rise ys (both_second (is_trie y.1.0 && is_filled y.1.0) _ h))
+
+-- y is x with a proof beside each child
+pub rise-trie : (t : Trie) → is_trie t ≡ true → paths_rise (paths t) ≡ true
+rise-trie = ind-Trie InOrder (λ x y is h.
+    let parts = sym (ap (λ s. s.1) (shape-made x)) ∙ h in
+    let inner = subst (λ (z : Trie-F Trie). are_filled_tries z.below.items ≡ true → children_rise z.below.items ≡ true) is (children-rise y.below.items) in
+    ap paths_rise (paths-made x) ∙ rise-here x.here x.below.items (rise-below x.below.items (both_first _ _ parts) (inner (both_second _ _ parts))))
 
 children-push : (cs : List (Elem × Trie)) (c : Elem × Trie) → children_rise cs ≡ true → paths_rise (paths c.1) ≡ true → children_rise (cs ++ c ∷ []) ≡ true
 children-push [] c h k = both _ _ k refl

@@ -53,8 +53,12 @@ is_trie-made x a b = ap (λ s. s.1) (shape-made x) ∙ both _ _ a b
 
 -- ---- readings
 
+-- below the child of the first element, what is left of the path is read
+abbrev pub GoesOn : (Path → Path → Bool) → Type 0
+GoesOn R = (e f : Element) (p q : Path) → R (e ∷ p) (f ∷ q) ≡ (same_element e f && R p q)
+
 pub record IsReading (R : Path → Path → Bool) : Type 0 where
-  pub more : (e f : Element) (p q : Path) → R (e ∷ p) (f ∷ q) ≡ (same_element e f && R p q)
+  pub more : GoesOn R
   pub none : (e : Element) (p : Path) → R (e ∷ p) [] ≡ false
 
 then_and : (o q : Ordering) → is_eq (ordering_then o q) ≡ (is_eq o && is_eq q)
@@ -73,14 +77,23 @@ abbrev pub found : (Path → Path → Bool) → Option Trie → Path → Bool
 found R None p = false
 found R (Some c) p = list_any (R p) (paths c)
 
-module _ (R : Path → Path → Bool) (r : IsReading R) where
+module _ (R : Path → Path → Bool) (more : GoesOn R) where
   and_or : (s a b : Bool) → ((s && a) || (s && b)) ≡ (s && (a || b))
   and_or true a b = refl
   and_or false a b = refl
 
+  after-more : (e f : Element) (ps : List Path) (p : Path) → list_any (R (e ∷ p)) (paths_after f ps) ≡ (same_element e f && list_any (R p) ps)
+  after-more e f [] p = sym (and_false _)
+  after-more e f (x ∷ ps) p = (λ i. more e f p x i || after-more e f ps p i) ∙ and_or (same_element e f) (R p x) (list_any (R p) ps)
+
+  pub child-more : (e : Element) (c : Elem × Trie) (cs : List (Elem × Trie)) (p : Path) → list_any (R (e ∷ p)) (paths_below (c ∷ cs)) ≡ ((same_element e (element_view c.0) && list_any (R p) (paths c.1)) || list_any (R (e ∷ p)) (paths_below cs))
+  child-more e c cs p =
+      list_any-append (R (e ∷ p)) (paths_after (element_view c.0) (paths c.1)) (paths_below cs)
+      ∙ ap (λ b. b || list_any (R (e ∷ p)) (paths_below cs)) (after-more e (element_view c.0) (paths c.1) p)
+
+module _ (R : Path → Path → Bool) (r : IsReading R) where
   pub any-after : (e f : Element) (ps : List Path) (p : Path) → list_any (R (e ∷ p)) (paths_after f ps) ≡ (same_element e f && list_any (R p) ps)
-  any-after e f [] p = sym (and_false _)
-  any-after e f (x ∷ ps) p = (λ i. r.more e f p x i || any-after e f ps p i) ∙ and_or (same_element e f) (R p x) (list_any (R p) ps)
+  any-after = after-more R r.more
 
   any-here : (b : Bool) (e : Element) (p : Path) → list_any (R (e ∷ p)) (here_path b) ≡ false
   any-here true e p = ap (λ t. t || false) (r.none e p)
@@ -91,9 +104,7 @@ module _ (R : Path → Path → Bool) (r : IsReading R) where
   found-first false c x p h = refl
 
   pub any-child : (e : Element) (c : Elem × Trie) (cs : List (Elem × Trie)) (p : Path) → list_any (R (e ∷ p)) (paths_below (c ∷ cs)) ≡ ((same_element e (element_view c.0) && list_any (R p) (paths c.1)) || list_any (R (e ∷ p)) (paths_below cs))
-  any-child e c cs p =
-      list_any-append (R (e ∷ p)) (paths_after (element_view c.0) (paths c.1)) (paths_below cs)
-      ∙ ap (λ b. b || list_any (R (e ∷ p)) (paths_below cs)) (any-after e (element_view c.0) (paths c.1) p)
+  any-child = child-more R r.more
 
   -- a path goes into the child of its first element
   pub any-below : (e : Element) (cs : List (Elem × Trie)) (p : Path) → rises (elements cs) ≡ true → list_any (R (e ∷ p)) (paths_below cs) ≡ found R (child_at e cs) p

@@ -1,6 +1,8 @@
 pub mod Combining
+pub mod Comparing
 pub mod Escapes
 pub mod Inserting
+pub mod KeyFields
 pub mod Levels
 pub mod InOrder
 pub mod Lists

@@ -1,8 +1,8 @@
 -- The order of elements tells them apart, and small laws of tests.
-use Rattle.std.proofs.Common.{◌≡◌, Bool, true, false, ◌&&◌, ◌||◌, Ordering, Less, Equal, Greater, refl, sym, ap, true≢false}
+use Rattle.std.proofs.Common.{◌≡◌, Bool, true, false, ◌&&◌, ◌||◌, Ordering, Less, Equal, Greater, refl, sym, ap, ◌∙◌, true≢false}
 use Rattle.std.specs.Cmp.{Equal-is, tied_itself, on_total, IsTotalOrder}
 use Rattle.std.specs.Cmp.Lexicographic.{nat_list_cmp_total}
-use Rattle.std.specs.Ordering.{is_eq, is_lt}
+use Rattle.std.specs.Ordering.{is_eq, is_lt, ordering_reverse}
 use Rattle.ssa_model.specs.Path.{Element, element_text, element_cmp, same_element}
 use Rattle.ssa_model.proofs.Texts.{same_element_same}
 
@@ -14,6 +14,14 @@ same_element-true d e is = same_element_same d e ((Equal-is (element_cmp d e)).0
 
 pub same_element-itself : (e : Element) → same_element e e ≡ true
 same_element-itself e = ap is_eq (tied_itself element_cmp_total e)
+
+reversed : (o : Ordering) → is_eq (ordering_reverse o) ≡ is_eq o
+reversed Less = refl
+reversed Equal = refl
+reversed Greater = refl
+
+pub same_either_way : (e f : Element) → same_element f e ≡ same_element e f
+same_either_way e f = ap is_eq (element_cmp_total.antisymm f e) ∙ reversed (element_cmp e f)
 
 pub lower : (o : Ordering) → is_lt o ≡ true → o ≡ Less
 lower Less e = refl

@@ -4,14 +4,14 @@ use Rattle.std.specs.Prelude.{is_some}
 use Rattle.std.specs.List.{list_any}
 use Rattle.std.specs.FinMap.Entries.{find, put, by_order}
 use Rattle.ssa_model.specs.Path.{Path, path_cmp, same_path, under}
-use Rattle.ssa_model.specs.PathMap.{PathSet, has, has_at_or_below, insert, is_empty, paths as set_paths}
+use Rattle.ssa_model.specs.PathMap.{PathSet, has, has_at_or_above, has_at_or_below, insert, is_empty, set_of, paths as set_paths}
 use Rattle.ssa_model.proofs.PathMaps.{get-from_entries, has-insert, has-minus, has-paths, has-set_of, has-union, same_sets}
 use Rattle.ssa_model.proofs.Texts.{same_path_same}
-use Rattle.ssa_path.specs.Combine.{keeps, IsCombination}
+use Rattle.ssa_path.specs.Combine.{concerns, is_concerned, keeps, IsCombination}
 use Rattle.ssa_path.specs.Meet.{combined}
 use Rattle.ssa_path.specs.Trie.{has_some, is_one_of, listed, marked, paths}
 use Rattle.ssa_path.specs.declared.combine.Combination.{Combination}
-use Rattle.ssa_path.specs.declared.combine.Combination.TheVariants.{Union, Minus, Meet}
+use Rattle.ssa_path.specs.declared.combine.Combination.TheVariants.{Union, Minus, Meet, WithoutUnder, WithoutOver}
 use Rattle.ssa_path.specs.declared.trie.Trie.{Trie}
 
 some_or : (b : Bool) (o : Option (Unit {0})) → is_some (cond b (Some tt) o) ≡ (b || is_some o)
@@ -80,13 +80,21 @@ pub listed-insert : (n m : Trie) (p : Path) → ((q : Path) → is_one_of (paths
 listed-insert n m p e =
     same_sets _ _ (λ q. has-listed (paths m) q ∙ e q ∙ ap (λ b. same_path q p || b) (sym (has-listed (paths n) q)) ∙ sym (has-insert p (listed (paths n)) q))
 
-has-combined : (how : Combination) (s t : PathSet) (q : Path) → has (combined how s t) q ≡ keeps how (has s q) (has t q)
-has-combined Union s t q = has-union s t q
-has-combined Minus s t q = has-minus s t q
-has-combined Meet s t q = has-set_of (set_paths s) (has t) q ∙ ap (λ b. b && has t q) (sym (has-paths s q))
+has-combined : (how : Combination) (s t : PathSet) (q : Path) → has (combined how s t) q ≡ keeps how (has s q) (is_concerned how (set_paths t) q)
+has-combined Union s t q = has-union s t q ∙ ap (λ b. has s q || b) (has-paths t q)
+has-combined Minus s t q = has-minus s t q ∙ ap (λ b. has s q && not b) (has-paths t q)
+has-combined Meet s t q = has-set_of (set_paths s) (has t) q ∙ (λ i. sym (has-paths s q) i && has-paths t q i)
+has-combined WithoutUnder s t q = has-set_of (set_paths s) (λ p. not (has_at_or_above t p)) q ∙ ap (λ b. b && not (has_at_or_above t q)) (sym (has-paths s q))
+has-combined WithoutOver s t q = has-set_of (set_paths s) (λ p. not (has_at_or_below t p)) q ∙ ap (λ b. b && not (has_at_or_below t q)) (sym (has-paths s q))
 
 pub listed-combined : (how : Combination) (m n t : Trie) → IsCombination how m n t → listed (paths t) ≡ combined how (listed (paths m)) (listed (paths n))
 listed-combined how m n t h =
     same_sets _ _ (λ q.
-    has-listed (paths t) q ∙ h.paths_are q ∙ (λ i. keeps how (sym (has-listed (paths m) q) i) (sym (has-listed (paths n) q) i))
+    has-listed (paths t) q ∙ h.paths_are q ∙ (λ i. keeps how (sym (has-listed (paths m) q) i) (sym (any-listed (concerns how q) (paths n)) i))
     ∙ sym (has-combined how (listed (paths m)) (listed (paths n)) q))
+
+pub listed-tested : (m t : Trie) (test : Path → Bool) → ((q : Path) → is_one_of (paths t) q ≡ (is_one_of (paths m) q && test q)) → listed (paths t) ≡ set_of (set_paths (listed (paths m))) test
+listed-tested m t test e =
+    same_sets _ _ (λ q.
+    has-listed (paths t) q ∙ e q ∙ ap (λ b. b && test q) (sym (has-listed (paths m) q) ∙ has-paths (listed (paths m)) q)
+    ∙ sym (has-set_of (set_paths (listed (paths m))) test q))

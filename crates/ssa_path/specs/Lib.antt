@@ -1,6 +1,7 @@
 pub mod Children
 pub mod Combine
 pub mod ElementReading
+pub mod KeyFields
 pub mod Keys
 pub mod Listing
 pub mod Meet

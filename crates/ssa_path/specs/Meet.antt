@@ -1,12 +1,23 @@
--- The paths of both sets, beside the definitions' union and minus.
-use Rattle.ssa_model.specs.PathMap.{PathSet, has, paths, set_of, minus, union}
+-- The paths that combinations keep, beside the definitions' union and minus.
+use Rattle.std.specs.Prelude.{not}
+use Rattle.ssa_model.specs.PathMap.{PathSet, has, has_at_or_above, has_at_or_below, paths, set_of, minus, union}
 use Rattle.ssa_path.specs.declared.combine.Combination.{Combination}
-use Rattle.ssa_path.specs.declared.combine.Combination.TheVariants.{Union, Minus, Meet}
+use Rattle.ssa_path.specs.declared.combine.Combination.TheVariants.{Union, Minus, Meet, WithoutUnder, WithoutOver}
 
 abbrev pub meet : PathSet → PathSet → PathSet
 meet s t = set_of (paths s) (has t)
+
+-- the paths that are under none of the other set's
+abbrev pub without_under : PathSet → PathSet → PathSet
+without_under s t = set_of (paths s) (λ p. not (has_at_or_above t p))
+
+-- the paths that have none of the other set's at or below them
+abbrev pub without_over : PathSet → PathSet → PathSet
+without_over s t = set_of (paths s) (λ p. not (has_at_or_below t p))
 
 abbrev pub combined : Combination → PathSet → PathSet → PathSet
 combined Union s t = union s t
 combined Minus s t = minus s t
 combined Meet s t = meet s t
+combined WithoutUnder s t = without_under s t
+combined WithoutOver s t = without_over s t

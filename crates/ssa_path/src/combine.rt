@@ -1,9 +1,9 @@
 // Two sets of paths put together, by one walk over both tries.
-ghost use Rattle.std.specs.Prelude.{◌≡◌, true, drop, IfOk, OnOk, OnErr};
+ghost use Rattle.std.specs.Prelude.{◌≡◌, [], true, drop, IfOk, OnOk, OnErr};
 ghost use Rattle.ssa_path.specs.Children.{elements, rises, heads_order};
 ghost use Rattle.ssa_path.specs.View.{element_view};
-ghost use Rattle.ssa_path.specs.Trie.{is_trie, are_filled_tries};
-ghost use Rattle.ssa_path.specs.Combine.{keeps, IsCombination, IsCombined, IsKept, IsGrown};
+ghost use Rattle.ssa_path.specs.Trie.{is_trie, are_filled_tries, paths};
+ghost use Rattle.ssa_path.specs.Combine.{covers, is_concerned, keeps, IsCombination, IsCombined, IsKept, IsGrown};
 
 use crate::element::Elem;
 use crate::trie::{Trie, copy_child};
@@ -16,9 +16,40 @@ pub enum Combination {
     Union,
     Minus,
     Meet,
+    /// The paths that are under none of the other set's.
+    WithoutUnder,
+    /// The paths that have none of the other set's at or below them.
+    WithoutOver,
 }
 
 impl Combination {
+    // Whether the other set concerns the place that the trie stands at.
+    fn is_concerned(self, other: &Trie) -> bool
+        requires { is_trie other.now ≡ true }
+        ensures { result ≡ is_concerned self (paths other.now) [] }
+    {
+        match self {
+            Combination::Union => other.here,
+            Combination::Minus => other.here,
+            Combination::Meet => other.here,
+            Combination::WithoutUnder => other.here,
+            Combination::WithoutOver => other.has_paths(),
+        }
+    }
+
+    // Whether the other set leaves nothing at and below the place that the trie stands at.
+    fn covers(self, other: &Trie) -> bool
+        ensures { result ≡ covers self other.now }
+    {
+        match self {
+            Combination::Union => false,
+            Combination::Minus => false,
+            Combination::Meet => false,
+            Combination::WithoutUnder => other.here,
+            Combination::WithoutOver => false,
+        }
+    }
+
     // Whether the combination has what is in the sets as told.
     fn keeps(self, own: bool, other: bool) -> bool
         ensures { result ≡ keeps self own other }
@@ -27,6 +58,8 @@ impl Combination {
             Combination::Union => own || other,
             Combination::Minus => own && !other,
             Combination::Meet => own && other,
+            Combination::WithoutUnder => own && !other,
+            Combination::WithoutOver => own && !other,
         }
     }
 }
@@ -132,9 +165,16 @@ pub fn combine(
     requires other { is_trie other.now ≡ true }
     ensures { IfOk result (λ t. IsCombination how own.now other.now t) }
 {
+    if how.covers(other) {
+        return Ok(Trie {
+            here: false,
+            below: Vec::new(alloc),
+        });
+    }
     let below = combine_children(alloc, &own.below, &other.below, how)?;
+    let concerned = how.is_concerned(other);
     Ok(Trie {
-        here: how.keeps(own.here, other.here),
+        here: how.keeps(own.here, concerned),
         below,
     })
 }

@@ -1,5 +1,5 @@
 // Sets of paths.
-ghost use Rattle.std.specs.Prelude.{◌≡◌, ◌-◌, ◌^◌, true, min, not, IfOk, OnOk, OnErr};
+ghost use Rattle.std.specs.Prelude.{◌≡◌, ◌-◌, ◌^◌, true, not, min, IfOk, OnOk, OnErr};
 ghost use Rattle.ssa_model.specs.Path.{is_key_field};
 ghost use Rattle.ssa_model.specs.PathMap.{empty, has, has_at_or_above, has_at_or_below, insert, is_empty, minus, same_set, set_of, size, union};
 ghost use Rattle.ssa_model.specs.PathMap as set;
@@ -7,8 +7,10 @@ ghost use Rattle.ssa_path.specs.Meet.{meet, combined};
 ghost use Rattle.ssa_path.specs.Trie.{is_trie, listed, paths};
 
 use crate::combine::{Combination, combine};
+use crate::key_fields::without_key_fields;
 use crate::listing::{count_paths, list_paths};
 use crate::path::Path;
+use crate::same::same_tries;
 use crate::trie::Trie;
 use std::alloc::{AllocError, Global};
 use std::marker::Model;
@@ -93,12 +95,27 @@ impl FieldSet {
         !self.root.has_paths()
     }
 
+    /// Whether both sets have the same paths. Takes no memory.
+    pub fn is_same(&self, other: &FieldSet) -> bool
+        ensures { result ≡ same_set self.now other.now }
+    {
+        same_tries(&self.root, &other.root)
+    }
+
     /// Adds a path. On `Err` the set is as it was.
     pub fn insert(&mut self, alloc: Global, path: &Path) -> Result<(), AllocError>
         ensures ok { OnOk result (self.new ≡ insert path.now tt self.old) }
         ensures err { OnErr result (self.new ≡ self.old) }
     {
         self.root.insert(alloc, path.elements())
+    }
+
+    /// The same set, with new memory.
+    pub fn copy(&self, alloc: Global) -> Result<FieldSet, AllocError>
+        ensures { IfOk result (λ s. s ≡ self.now) }
+    {
+        let root = self.root.copy(alloc)?;
+        Ok(FieldSet { root })
     }
 
     // The paths that the combination keeps of those of two sets.
@@ -112,38 +129,6 @@ impl FieldSet {
     {
         let root = combine(alloc, &self.root, &other.root, how)?;
         Ok(FieldSet { root })
-    }
-
-    /// The same set, with new memory.
-    pub fn copy(&self, alloc: Global) -> Result<FieldSet, AllocError>
-        ensures { IfOk result (λ s. s ≡ self.now) }
-    {
-        Err(AllocError)
-    }
-
-    /// PLACEHOLDERS
-    pub fn is_same(&self, alloc: Global, other: &FieldSet) -> Result<bool, AllocError>
-        ensures { IfOk result (λ b. b ≡ same_set self.now other.now) }
-    {
-        Err(AllocError)
-    }
-
-    pub fn without_under(&self, alloc: Global, gone: &FieldSet) -> Result<FieldSet, AllocError>
-        ensures { IfOk result (λ s. s ≡ set_of (set.paths self.now) (λ p. not (has_at_or_above gone.now p))) }
-    {
-        Err(AllocError)
-    }
-
-    pub fn without_over(&self, alloc: Global, held: &FieldSet) -> Result<FieldSet, AllocError>
-        ensures { IfOk result (λ s. s ≡ set_of (set.paths self.now) (λ p. not (has_at_or_below held.now p))) }
-    {
-        Err(AllocError)
-    }
-
-    pub fn without_key_fields(&self, alloc: Global) -> Result<FieldSet, AllocError>
-        ensures { IfOk result (λ s. s ≡ set_of (set.paths self.now) (λ p. not (is_key_field p))) }
-    {
-        Err(AllocError)
     }
 
     /// The paths of either set.
@@ -165,6 +150,31 @@ impl FieldSet {
         ensures { IfOk result (λ s. s ≡ meet self.now other.now) }
     {
         self.combined(alloc, other, Combination::Meet)
+    }
+
+    /// The paths of this set that are under no path of the other.
+    pub fn without_under(&self, alloc: Global, gone: &FieldSet) -> Result<FieldSet, AllocError>
+        ensures { IfOk result (λ s. s ≡ set_of (set.paths self.now) (λ p. not (has_at_or_above gone.now p))) }
+    {
+        self.combined(alloc, gone, Combination::WithoutUnder)
+    }
+
+    /// The paths of this set that have no path of the other at or below them.
+    pub fn without_over(&self, alloc: Global, held: &FieldSet) -> Result<FieldSet, AllocError>
+        ensures { IfOk result (λ s. s ≡ set_of (set.paths self.now) (λ p. not (has_at_or_below held.now p))) }
+    {
+        self.combined(alloc, held, Combination::WithoutOver)
+    }
+
+    /// The paths of this set that are no key fields of items.
+    ///
+    /// A key field is told from the path alone: its name is one of those that the element before
+    /// it has.
+    pub fn without_key_fields(&self, alloc: Global) -> Result<FieldSet, AllocError>
+        ensures { IfOk result (λ s. s ≡ set_of (set.paths self.now) (λ p. not (is_key_field p))) }
+    {
+        let root = without_key_fields(alloc, &self.root, &[], self.root.here)?;
+        Ok(FieldSet { root })
     }
 
     /// The paths of the set, in path order.

@@ -8,10 +8,14 @@ pub mod element_fault;
 mod element_read;
 mod element_text;
 pub mod field_set;
+mod key_fields;
 pub mod keys;
 pub mod listing;
 mod order;
 pub mod path;
+mod same;
+#[cfg(test)]
+mod set_tests;
 #[cfg(test)]
 mod tests;
 #[cfg(test)]

@@ -219,6 +219,41 @@ fn sets_agree_with_sorted_lists(rt: HostRuntime) -> Result<(), Fail> {
     Ok(())
 }
 
+// Whether what is left of a set beside another is what the sorted lists leave.
+fn agree_apart(alloc: Global, state: &mut u64) -> Result<bool, AllocError> {
+    let own = some_codes(alloc, state)?;
+    let others = some_codes(alloc, state)?;
+    let set = set_of(alloc, &own)?;
+    let other = set_of(alloc, &others)?;
+    let mut not_under = Vec::new(alloc);
+    let mut not_over = Vec::new(alloc);
+    for code in own.iter() {
+        if !others.iter().any(|other| begins(*other, *code)) {
+            not_under.push(*code)?;
+        }
+        if !others.iter().any(|other| begins(*code, *other)) {
+            not_over.push(*code)?;
+        }
+    }
+    let under_none = set.without_under(alloc, &other)?;
+    let over_none = set.without_over(alloc, &other)?;
+    Ok(
+        holds(alloc, &under_none, &not_under)?
+            && holds(alloc, &over_none, &not_over)?
+            && set.is_same(&other) == (own.as_slice() == others.as_slice())
+            && under_none.is_same(&over_none) == (not_under.as_slice() == not_over.as_slice()),
+    )
+}
+
+#[test]
+fn paths_apart_agree_with_sorted_lists(rt: HostRuntime) -> Result<(), Fail> {
+    let mut state = 2;
+    for i in 0..1000 {
+        assert!(rt; agree_apart(rt.alloc(), &mut state)?, "at {i}");
+    }
+    Ok(())
+}
+
 #[test]
 fn one_path_is_a_trie(rt: HostRuntime) -> Result<(), Fail> {
     let alloc = rt.alloc();

@@ -62,7 +62,7 @@ point-trie n x tree here h = record { paths_are = held; trie = is_trie-made x h.
 
 -- ---- the walk over the children
 
-abbrev pub collecting : Collected → Bool → Test
+abbrev pub collecting : Collected → Bool → Test Node Node
 collecting what d e c other p = collects what d e c p
 
 abbrev pub IsCollecting : Collected → Bool → List (Elem × Node) → List (Elem × Node) → List (Elem × Trie) → Type 0

@@ -11,6 +11,7 @@ pub mod Finding
 pub mod Fitting
 pub mod ItemKeys
 pub mod KindRows
+pub mod LackingPaths
 pub mod Laws
 pub mod Levels
 pub mod Looks
@@ -19,6 +20,7 @@ pub mod Making
 pub mod OverNodes
 pub mod Overlaying
 pub mod References
+pub mod Restricting
 pub mod SameMembers
 pub mod ShapesFit
 pub mod Showing

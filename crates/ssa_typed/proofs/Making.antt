@@ -13,26 +13,25 @@ use Rattle.ssa_path.proofs.Combining.{holds-first, own-first, other-first, tied-
 use Rattle.ssa_path.proofs.Levels.{some-none}
 use Rattle.ssa_path.proofs.Orders.{same_element-true, both, both_first, both_second, or_false}
 use Rattle.ssa_path.proofs.Searching.{absent-below}
-use Rattle.ssa_typed.specs.declared.node.Node.{Node}
 
-abbrev pub Children : Type 0
-Children = List (Elem × Node)
+abbrev pub Children : Type 0 → Type 0
+Children A = List (Elem × A)
 
 -- what is told of the child of an element in two lists, and of a path below it
-abbrev pub Test : Type 0
-Test = Element → Option Node → Option Node → Path → Bool
+abbrev pub Test : Type 0 → Type 0 → Type 0
+Test A B = Element → Option A → Option B → Path → Bool
 
 -- nothing is told where neither list has the element
-abbrev pub TellsNothing : Test → Type 0
+abbrev pub TellsNothing : {A B : Type 0} → Test A B → Type 0
 TellsNothing test = (e : Element) (p : Path) → test e None None p ≡ false
 
-pub record IsMade (test : Test) (cs ds : Children) (us : List (Elem × Trie)) : Type 0 where
+pub record IsMade {A B : Type 0} (test : Test A B) (cs : Children A) (ds : Children B) (us : List (Elem × Trie)) : Type 0 where
   pub paths_are : (e : Element) (p : Path) → is_one_of (paths_below us) (e ∷ p) ≡ test e (child_at e cs) (child_at e ds) p
   pub risen : rises (elements us) ≡ true
   pub tries : are_filled_tries us ≡ true
   pub lower : (e : Element) → is_below e (elements cs) ≡ true → is_below e (elements ds) ≡ true → is_below e (elements us) ≡ true
 
-pub made-none : (test : Test) → TellsNothing test → IsMade test [] [] []
+pub made-none : {A B : Type 0} (test : Test A B) → TellsNothing test → IsMade test [] [] []
 made-none test none = record { paths_are = λ e p. sym (none e p); risen = refl; tries = refl; lower = λ e g h. refl }
 
 -- ---- a trie put in front of others, where it has some path
@@ -74,17 +73,17 @@ put-grown f t out new false trie none items us = (us, put-none f t us none, ap (
 
 -- ---- an element in front of what is left of both lists, and what they have there
 
-pub record IsFront (f : Element) (x y : Option Node) (cs0 ds0 cs ds : Children) : Type 0 where
+pub record IsFront {A B : Type 0} (f : Element) (x : Option A) (y : Option B) (cs0 : Children A) (ds0 : Children B) (cs : Children A) (ds : Children B) : Type 0 where
   pub own : (e : Element) → child_at e cs0 ≡ cond (same_element e f) x (child_at e cs)
   pub other : (e : Element) → child_at e ds0 ≡ cond (same_element e f) y (child_at e ds)
   pub own_above : is_below f (elements cs) ≡ true
   pub other_above : is_below f (elements ds) ≡ true
   pub lower : (e : Element) → is_below e (elements cs0) ≡ true → is_below e (elements ds0) ≡ true → (is_lt (element_cmp e f) ≡ true) × (is_below e (elements cs) ≡ true) × (is_below e (elements ds) ≡ true)
 
-skipped : (e f : Element) (cs : Children) → is_below f (elements cs) ≡ true → child_at e cs ≡ cond (same_element e f) None (child_at e cs)
+skipped : {A : Type 0} (e f : Element) (cs : Children A) → is_below f (elements cs) ≡ true → child_at e cs ≡ cond (same_element e f) None (child_at e cs)
 skipped e f cs h = elim (same_element e f) as (λ b. same_element e f ≡ b → child_at e cs ≡ cond b None (child_at e cs)) [ true ↦ λ s. absent-below e f cs s h | false ↦ λ s. refl ] refl
 
-pub front-own : (c : Elem × Node) (cs ds : Children) → heads_order (c ∷ cs) ds ≡ Some Less → rises (elements (c ∷ cs)) ≡ true → rises (elements ds) ≡ true → IsFront (element_view c.0) (Some c.1) None (c ∷ cs) ds cs ds
+pub front-own : {A B : Type 0} (c : Elem × A) (cs : Children A) (ds : Children B) → heads_order (c ∷ cs) ds ≡ Some Less → rises (elements (c ∷ cs)) ≡ true → rises (elements ds) ≡ true → IsFront (element_view c.0) (Some c.1) None (c ∷ cs) ds cs ds
 front-own c cs ds order own_rise other_rise =
     let above = own-first c cs ds order other_rise in
     record {
@@ -95,7 +94,7 @@ front-own c cs ds order own_rise other_rise =
       lower = λ e a b. (both_first (is_lt (element_cmp e (element_view c.0))) _ a, both_second (is_lt (element_cmp e (element_view c.0))) _ a, b);
     }
 
-pub front-other : (cs : Children) (d : Elem × Node) (ds : Children) → heads_order cs (d ∷ ds) ≡ Some Greater → rises (elements cs) ≡ true → rises (elements (d ∷ ds)) ≡ true → IsFront (element_view d.0) None (Some d.1) cs (d ∷ ds) cs ds
+pub front-other : {A B : Type 0} (cs : Children A) (d : Elem × B) (ds : Children B) → heads_order cs (d ∷ ds) ≡ Some Greater → rises (elements cs) ≡ true → rises (elements (d ∷ ds)) ≡ true → IsFront (element_view d.0) None (Some d.1) cs (d ∷ ds) cs ds
 front-other cs d ds order own_rise other_rise =
     let above = other-first cs d ds order own_rise in
     record {
@@ -106,7 +105,7 @@ front-other cs d ds order own_rise other_rise =
       lower = λ e a b. (both_first (is_lt (element_cmp e (element_view d.0))) _ b, a, both_second (is_lt (element_cmp e (element_view d.0))) _ b);
     }
 
-pub front-both : (c d : Elem × Node) (cs ds : Children) → heads_order (c ∷ cs) (d ∷ ds) ≡ Some Equal → rises (elements (c ∷ cs)) ≡ true → rises (elements (d ∷ ds)) ≡ true
+pub front-both : {A B : Type 0} (c : Elem × A) (d : Elem × B) (cs : Children A) (ds : Children B) → heads_order (c ∷ cs) (d ∷ ds) ≡ Some Equal → rises (elements (c ∷ cs)) ≡ true → rises (elements (d ∷ ds)) ≡ true
     → IsFront (element_view c.0) (Some c.1) (Some d.1) (c ∷ cs) (d ∷ ds) cs ds
 front-both c d cs ds order own_rise other_rise =
     let same = tied-heads c d cs ds order in
@@ -120,8 +119,8 @@ front-both c d cs ds order own_rise other_rise =
 
 -- ---- one element more
 
-module _ (test : Test) (none : TellsNothing test) where
-  joined : (f : Element) (x y : Option Node) (cs ds : Children) → is_below f (elements cs) ≡ true → is_below f (elements ds) ≡ true → (e : Element) (p : Path)
+module _ {A B : Type 0} (test : Test A B) (none : TellsNothing test) where
+  joined : (f : Element) (x : Option A) (y : Option B) (cs : Children A) (ds : Children B) → is_below f (elements cs) ≡ true → is_below f (elements ds) ≡ true → (e : Element) (p : Path)
       → ((same_element e f && test f x y p) || test e (child_at e cs) (child_at e ds) p) ≡ test e (cond (same_element e f) x (child_at e cs)) (cond (same_element e f) y (child_at e ds)) p
   joined f x y cs ds own other e p =
       elim (same_element e f) as (λ b. same_element e f ≡ b → ((b && test f x y p) || test e (child_at e cs) (child_at e ds) p) ≡ test e (cond b x (child_at e cs)) (cond b y (child_at e ds)) p) [
@@ -131,7 +130,7 @@ module _ (test : Test) (none : TellsNothing test) where
         | false ↦ λ h. refl
       ] refl
 
-  made-front : (f : Element) (x y : Option Node) (cs0 ds0 cs ds : Children) (t : Trie) (us new : List (Elem × Trie)) → IsFront f x y cs0 ds0 cs ds → ((p : Path) → is_one_of (paths t) p ≡ test f x y p) → IsPut f t us new
+  made-front : (f : Element) (x : Option A) (y : Option B) (cs0 : Children A) (ds0 : Children B) (cs : Children A) (ds : Children B) (t : Trie) (us new : List (Elem × Trie)) → IsFront f x y cs0 ds0 cs ds → ((p : Path) → is_one_of (paths t) p ≡ test f x y p) → IsPut f t us new
       → IsMade test cs ds us → IsMade test cs0 ds0 new
   made-front f x y cs0 ds0 cs ds t us new front made put h = record {
     paths_are = λ e p.
@@ -147,20 +146,20 @@ module _ (test : Test) (none : TellsNothing test) where
 -- ---- a walk over both lists
 
 -- whatever is made of what is left of both lists, behind what was made so far it is made of both lists
-pub record IsMaking (test : Test) (cs0 ds0 cs ds : Children) (out : List (Elem × Trie)) : Type 0 where
+pub record IsMaking {A B : Type 0} (test : Test A B) (cs0 : Children A) (ds0 : Children B) (cs : Children A) (ds : Children B) (out : List (Elem × Trie)) : Type 0 where
   pub own_rise : rises (elements cs) ≡ true
   pub others_rise : rises (elements ds) ≡ true
   pub rest : (us : List (Elem × Trie)) → IsMade test cs ds us → IsMade test cs0 ds0 (out ++ us)
 
-pub making-none : (test : Test) (cs ds : Children) → rises (elements cs) ≡ true → rises (elements ds) ≡ true → IsMaking test cs ds cs ds []
+pub making-none : {A B : Type 0} (test : Test A B) (cs : Children A) (ds : Children B) → rises (elements cs) ≡ true → rises (elements ds) ≡ true → IsMaking test cs ds cs ds []
 making-none test cs ds a b = record { own_rise = a; others_rise = b; rest = λ us h. h }
 
-pub making-all : (test : Test) (cs0 ds0 cs ds : Children) (out : List (Elem × Trie)) → TellsNothing test → cs ≡ [] → ds ≡ [] → IsMaking test cs0 ds0 cs ds out → IsMade test cs0 ds0 out
+pub making-all : {A B : Type 0} (test : Test A B) (cs0 : Children A) (ds0 : Children B) (cs : Children A) (ds : Children B) (out : List (Elem × Trie)) → TellsNothing test → cs ≡ [] → ds ≡ [] → IsMaking test cs0 ds0 cs ds out → IsMade test cs0 ds0 out
 making-all test cs0 ds0 cs ds out none e f h =
     let left : IsMade test cs ds [] = rw (e, f) (made-none test none) in
     subst (IsMade test cs0 ds0) (append-nil out) (h.rest [] left)
 
-pub making-more : (test : Test) (f : Element) (x y : Option Node) (cs0 ds0 cs1 ds1 cs ds : Children) (out new : List (Elem × Trie)) (t : Trie) → TellsNothing test → IsFront f x y cs1 ds1 cs ds
+pub making-more : {A B : Type 0} (test : Test A B) (f : Element) (x : Option A) (y : Option B) (cs0 : Children A) (ds0 : Children B) (cs1 : Children A) (ds1 : Children B) (cs : Children A) (ds : Children B) (out new : List (Elem × Trie)) (t : Trie) → TellsNothing test → IsFront f x y cs1 ds1 cs ds
     → rises (elements cs) ≡ true → rises (elements ds) ≡ true → ((p : Path) → is_one_of (paths t) p ≡ test f x y p) → is_trie t ≡ true → IsGrown f t out new
     → IsMaking test cs0 ds0 cs1 ds1 out → IsMaking test cs0 ds0 cs ds new
 making-more test f x y cs0 ds0 cs1 ds1 cs ds out new t none front own_rise others_rise made trie grown h = record {

@@ -110,25 +110,25 @@ rolled n h = ap is_tree (roll-out-Node n) ∙ h
 
 -- ---- a test that each element passes
 
-all_of : (Element → Bool) → List Element → Bool
+pub all_of : (Element → Bool) → List Element → Bool
 all_of test [] = true
 all_of test (e ∷ es) = test e && all_of test es
 
-abbrev is_field : Element → Bool
+abbrev pub is_field : Element → Bool
 is_field e = not (is_item_element e)
 
-fields-all : (es : List Element) → are_fields es ≡ all_of is_field es
+pub fields-all : (es : List Element) → are_fields es ≡ all_of is_field es
 unfolding all_of
 fields-all [] = refl
 fields-all (e ∷ es) = ap (λ b. is_field e && b) (fields-all es)
 
-items-all : (es : List Element) → are_items es ≡ all_of is_item_element es
+pub items-all : (es : List Element) → are_items es ≡ all_of is_item_element es
 unfolding all_of
 items-all [] = refl
 items-all (e ∷ es) = ap (λ b. is_item_element e && b) (items-all es)
 
 module _ (test : Element → Bool) where
-  all-filter : (q : Element → Bool) (es : List Element) → all_of test es ≡ true → all_of test (filter q es) ≡ true
+  pub all-filter : (q : Element → Bool) (es : List Element) → all_of test es ≡ true → all_of test (filter q es) ≡ true
   unfolding all_of
   all-filter q [] h = refl
   all-filter q (e ∷ es) h =
@@ -190,16 +190,16 @@ module _ (cs ds : List Child) (order : IsInOrder cs ds) where
 
 -- ---- each sort of node
 
-own-Leaf : (l : Leaf) → own_content (LeafOf l) ≡ leaf_content l
+pub own-Leaf : (l : Leaf) → own_content (LeafOf l) ≡ leaf_content l
 own-Leaf l = search (rules, the_lemmas)
 
-below-Branch : (v : Children) → below (Branch v) ≡ v.items
+pub below-Branch : (v : Children) → below (Branch v) ≡ v.items
 below-Branch v = search (rules, the_lemmas)
 
-below-Dict : (v : Children) → below (Dict v) ≡ v.items
+pub below-Dict : (v : Children) → below (Dict v) ≡ v.items
 below-Dict v = search (rules, the_lemmas)
 
-below-List : (v : Children) → below (ListOf v) ≡ v.items
+pub below-List : (v : Children) → below (ListOf v) ≡ v.items
 below-List v = search (rules, the_lemmas)
 
 leaf-there : (l : Leaf) → is_leaf (Some (leaf_content l)) ≡ true

@@ -3,9 +3,11 @@ pub mod Copies
 pub mod Differences
 pub mod Flats
 pub mod InOrder
+pub mod Lacking
 pub mod Look
 pub mod Over
 pub mod Points
 pub mod Reads
+pub mod Restricted
 pub mod Rows
 pub mod Values

@@ -8,7 +8,7 @@ use std::alloc::{AllocError, Global};
 use std::test::Fail;
 
 // Leaves of these numbers under elements of these texts.
-fn leaves(alloc: Global, entries: &[(&str, i64)]) -> Result<Vec<(Elem, Node)>, Fail> {
+pub(crate) fn leaves(alloc: Global, entries: &[(&str, i64)]) -> Result<Vec<(Elem, Node)>, Fail> {
     let mut children = Vec::new(alloc);
     for entry in entries {
         put(alloc, &mut children, entry.0, number(entry.1))?;
@@ -49,7 +49,7 @@ fn write(alloc: Global, text: &mut Vec<u8>, node: &Node) -> Result<(), AllocErro
 }
 
 // Whether the body is written so.
-fn is_written(alloc: Global, body: &Body, wanted: &str) -> Result<bool, AllocError> {
+pub(crate) fn is_written(alloc: Global, body: &Body, wanted: &str) -> Result<bool, AllocError> {
     let mut text = Vec::new(alloc);
     write(alloc, &mut text, body.root())?;
     Ok(text.as_slice() == wanted.as_bytes())

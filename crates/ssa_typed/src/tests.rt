@@ -69,7 +69,7 @@ fn sample(alloc: Global, first: i64, second: i64) -> Result<Body, Fail> {
 }
 
 // The path of elements of these texts.
-fn path(alloc: Global, texts: &[&str]) -> Result<Path, Fail> {
+pub(crate) fn path(alloc: Global, texts: &[&str]) -> Result<Path, Fail> {
     let mut elements = Vec::new(alloc);
     for text in texts {
         elements.push(Elem::read(alloc, text)?)?;
@@ -91,7 +91,7 @@ pub(crate) fn holds(alloc: Global, set: &FieldSet, wanted: &str) -> Result<bool,
 }
 
 // What stands at the path, with the number of its children.
-fn shows(
+pub(crate) fn shows(
     alloc: Global,
     body: &Body,
     texts: &[&str],

@@ -1,8 +1,10 @@
-use Rattle.std.proofs.Common.{◌≡◌, ap, sym, ◌∙◌, drop, Some, Less, Equal, Greater, rules}
+use Rattle.std.proofs.Common.{◌≡◌, refl, ap, sym, ◌∙◌, drop, Some, Less, Equal, Greater, rules}
 use Rattle.ssa_path.specs.Children.{heads_order}
+use Rattle.ssa_path.specs.Combine.{keeps}
 use Rattle.ssa_path.specs.declared.trie.Trie.{the_lemmas}
+use Rattle.ssa_path.specs.declared.trie.Trie.TheViews.{out-Trie}
 use Rattle.ssa_path.proofs.Levels.{trie-parts}
-use Rattle.ssa_path.proofs.Combining.{combining-all, combined-place, heads-none, own-at, other-at, both-at}
+use Rattle.ssa_path.proofs.Combining.{combining-all, combined-place, combined-covered, heads-none, own-at, other-at, both-at}
 use Rattle.ssa_path.proofs.combine.+combine.Goals as goal
 
 pub combine-combine_children-requires : goal.combine-combine_children-requires
@@ -14,7 +16,12 @@ combine-combine_children-requires t c =
 pub combine-returns : goal.combine-returns
 combine-returns t c =
     let below = rw (c.deref.ensures.value, c.deref-2.ensures.value) at c.in_ok-below.ensures in
-    combined-place c.args.how _ c.args.own.now c.args.other.now c.keeps.ensures below
+    let left = sym c.covers.ensures ∙ c.if-covers.false in
+    let here = c.keeps.ensures ∙ ap (keeps c.args.how (out-Trie c.args.own.now).here) c.is_concerned-concerned.ensures in
+    combined-place c.args.how _ c.args.own.now c.args.other.now left here below
+
+pub combine-returns-then-covers : goal.combine-returns-then-covers
+combine-returns-then-covers t c = combined-covered c.args.how _ c.args.own.now c.args.other.now (sym c.covers.ensures ∙ c.if-covers.true) refl c.new.ensures.items
 
 pub combine_children-loop-order-preserved-in-Less : goal.combine_children-loop-order-preserved-in-Less
 combine_children-loop-order-preserved-in-Less t c =

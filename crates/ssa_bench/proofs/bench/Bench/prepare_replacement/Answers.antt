@@ -1,0 +1,32 @@
+use Rattle.std.proofs.Common.{ap, sym, subst, ◌∙◌, string_bytes}
+use Rattle.std.specs.Prelude.{Result, Ok, Err, codes}
+use Rattle.ssa_model.specs.Json.{Text}
+use Rattle.ssa_model.specs.History.{present}
+use Rattle.ssa_model.specs.Operations.{State, Refusal, update}
+use Rattle.ssa_merge.specs.States.{state_view, updater}
+use Rattle.ssa_bench.specs.Benches.{IsPrepared, update_answer}
+use Rattle.ssa_bench.specs.declared.fault.Fault.{Fault}
+use Rattle.ssa_bench.specs.declared.timeline.Label.TheVariants.{Update}
+use Rattle.ssa_bench.proofs.Planned.{accepted, refused-planned, update_fits, planned-at}
+use Rattle.ssa_bench.proofs.bench.Bench.prepare_replacement.Goals as goal
+
+pub returns-in-Ok : goal.returns-in-Ok
+returns-in-Ok c =
+    let bench = c.args.self.now in
+    let who = string_bytes c.args.who in
+    let to : State → Text → Result State Refusal = λ s n. update s (updater n) c.args.body c.args.at in
+    let now_is = c.present-now.ensures ∙ ap (λ n. present n.timeline) c.self.view_is in
+    accepted bench (codes "update") (Update c.args.at c.args.who) c.in-Ok.plan c.accepted.result (to (present bench.timeline) who) c.accepted.ensures.label c.accepted.ensures.state c.accepted.ensures.changed
+    (planned-at to (Ok c.in-Ok.plan) (state_view c.present-now.result.now) (present bench.timeline) c.as_str.result.now who now_is c.as_str.ensures.value c.in-Ok.ensures)
+    (λ after e. update_fits bench.kind (present bench.timeline) (updater who) c.args.body c.args.at after c.requires e)
+
+pub returns-in-Err : goal.returns-in-Err
+returns-in-Err c =
+    let bench = c.args.self.now in
+    let who = string_bytes c.args.who in
+    let to : State → Text → Result State Refusal = λ s n. update s (updater n) c.args.body c.args.at in
+    let now_is = c.present-now.ensures ∙ ap (λ n. present n.timeline) c.self.view_is in
+    let tells : Fault → Type 0 = λ f. IsPrepared bench (Err f) (update_answer bench who c.args.at c.args.body) (codes "update") in
+    subst tells (sym c.from.ensures)
+    (refused-planned bench (codes "update") (Update c.args.at c.args.who) c.in-Err.refusal (to (present bench.timeline) who)
+    (planned-at to (Err c.in-Err.refusal) (state_view c.present-now.result.now) (present bench.timeline) c.as_str.result.now who now_is c.as_str.ensures.value c.in-Err.ensures))

@@ -1,0 +1,12 @@
+use Rattle.std.proofs.Common.{◌≡◌, subst}
+use Rattle.ssa_typed.specs.Differences.{IsComparison}
+use Rattle.ssa_model.specs.Body.{Body}
+use Rattle.ssa_merge.proofs.plan.plan_strip.Goals as goal
+
+pub returns : goal.returns
+returns c =
+    let compares : Body → Type 0 = λ b. IsComparison c.args.state.now.body b c.in_ok-comparison.comparison in
+    record {
+      target_is = λ i. record { body = c.in_ok-body.ensures i; table = c.new.ensures i };
+      comparison_is = subst compares c.in_ok-body.ensures c.in_ok-comparison.ensures;
+    }

@@ -1,0 +1,12 @@
+use Rattle.std.proofs.Common.{◌≡◌, subst}
+use Rattle.ssa_model.specs.Table.{ManagerKey}
+use Rattle.ssa_model.specs.Operations.{update}
+use Rattle.ssa_merge.specs.States.{state_view}
+use Rattle.ssa_merge.specs.Plans.{IsPlanned}
+use Rattle.ssa_merge.proofs.plan.plan_update.Goals as goal
+
+pub returns : goal.returns
+returns c =
+    let state = state_view c.args.state.now in
+    let planned : ManagerKey → Type 0 = λ a. IsPlanned state c.updated.result (update state a c.args.object c.args.at) in
+    subst planned c.in_ok-key.ensures c.updated.ensures

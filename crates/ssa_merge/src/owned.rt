@@ -1,0 +1,53 @@
+//! What a manager owns, what the others own, and whom a change clashes with.
+ghost use Rattle.std.specs.Prelude.{◌≡◌, map, IfOk};
+ghost use Rattle.ssa_model.specs.Table.{owned_by_others};
+ghost use Rattle.ssa_model.specs.Operations.{clashes};
+ghost use Rattle.ssa_merge.specs.Managers.{key_view, table_view, clashes_view};
+
+use crate::manager::ManagerKey;
+use crate::managers::Entry;
+use ssa_path::field_set::FieldSet;
+use std::alloc::{AllocError, Global};
+
+/// The paths that the managers other than this one own.
+pub fn owned_by_others(
+    alloc: Global,
+    table: &[Entry],
+    key: &ManagerKey,
+) -> Result<FieldSet, AllocError>
+    ensures { IfOk result (λ s. s ≡ owned_by_others (table_view table.now) (key_view key.now)) }
+{
+    match table {
+        [] => Ok(FieldSet::new(alloc)),
+        [first, rest @ ..] => {
+            let others = owned_by_others(alloc, rest, key)?;
+            if first.key.is_same(key) {
+                return Ok(others);
+            }
+            let all = first.set.union(alloc, &others)?;
+            Ok(all)
+        }
+    }
+}
+
+/// The managers other than this one that own changed fields, in table order, each with these fields.
+pub fn clashes(
+    alloc: Global,
+    table: &[Entry],
+    key: &ManagerKey,
+    changed: &FieldSet,
+) -> Result<Vec<(ManagerKey, FieldSet)>, AllocError>
+    ensures { IfOk result (λ found. clashes_view found.items ≡ clashes (key_view key.now) changed.now (table_view table.now)) }
+{
+    let mut found = Vec::new(alloc);
+    for entry in table {
+        if !entry.key.is_same(key) {
+            let fields = entry.set.meet(alloc, changed)?;
+            if !fields.is_empty() {
+                let other = entry.key.copy(alloc)?;
+                found.push((other, fields))?;
+            }
+        }
+    }
+    Ok(found)
+}

@@ -1,0 +1,281 @@
+-- The part of a tree that stays, level by level.
+use Rattle.std.proofs.Common.{◌≡◌, suc, ◌+◌, ◌*◌, ◌<◌, ◌≤◌, length, List, [], ◌∷◌, ◌++◌, Bool, true, false, ◌&&◌, ◌||◌, cond, Option, Some, None, refl, sym, ap, subst, ◌∙◌, append_assoc, append-nil, arith, rules}
+use Rattle.std.specs.Prelude.{filter, option_map, if◌then◌else◌}
+use Rattle.std.specs.List.{list_any}
+use Rattle.std.specs.Ordering.{is_lt}
+use Rattle.ssa_model.specs.Body.{Content, leaf, atom, record_branch, dict_branch, list_branch, restricted, restricted_content}
+use Rattle.ssa_model.specs.Path.{Element, Path, element_cmp, is_item_element, is_root, same_element, under}
+use Rattle.ssa_model.specs.PathMap.{has_at_or_below}
+use Rattle.ssa_model.proofs.Fitting.{distinct-filter}
+use Rattle.ssa_model.proofs.PathMaps.{get-restricted, same_map}
+use Rattle.ssa_path.specs.Children.{child_at, elements, is_below, rises}
+use Rattle.ssa_path.specs.declared.element.Elem.{Elem}
+use Rattle.ssa_path.specs.declared.trie.Trie.{Trie}
+use Rattle.ssa_path.specs.declared.trie.Trie.TheViews.{out-Trie}
+use Rattle.ssa_path.specs.Trie.{are_filled_tries, is_filled, is_trie, listed, paths, paths_below}
+use Rattle.ssa_path.specs.View.{element_view}
+use Rattle.ssa_path.proofs.Levels.{any-below, any-level, any-root, found, under-reading}
+use Rattle.ssa_path.proofs.Orders.{both, both_first, both_second, same_element-true}
+use Rattle.ssa_path.proofs.Sets.{below-listed}
+use Rattle.ssa_typed.specs.Points.{content_in}
+use Rattle.ssa_typed.specs.Restricted.{stays, part_at, AreRestricted, IsRestricted}
+use Rattle.ssa_typed.specs.Rows.{body_of, rows, rows_below, below, own_content, leaf_content, content_at, is_tree, are_trees, are_apart, are_fields, are_items}
+use Rattle.ssa_typed.specs.declared.node.Leaf.{Leaf}
+use Rattle.ssa_typed.specs.declared.node.Leaf.TheVariants.{Scalar, Atomic}
+use Rattle.ssa_typed.specs.declared.node.Node.{Node, Leaf as LeafOf, Branch, Dict, List as ListOf, the_lemmas}
+use Rattle.ssa_typed.proofs.Building.{Child}
+use Rattle.ssa_typed.proofs.Copying.{tree-Leaf}
+use Rattle.ssa_typed.proofs.Levels.{Children, own-Branch, own-Dict, own-List, tree-Branch, tree-Dict, tree-List, apart-distinct, level-below}
+use Rattle.ssa_typed.proofs.Lookups.{content-level, content-root}
+use Rattle.ssa_typed.proofs.Looks.{get-body}
+use Rattle.ssa_typed.proofs.Sizes.{length-first, length-level}
+use Rattle.ssa_typed.proofs.OverNodes.{own-Leaf, below-Branch, below-Dict, below-List, all-filter, fields-all, items-all, is_field}
+
+-- ---- the content that stays, told by another test or from another place
+
+content-shift : (f g : Path → Bool) (e : Element) (p : Path) (c : Content) → ((q : Path) → f (e ∷ q) ≡ g q) → restricted_content f (e ∷ p) c ≡ restricted_content g p c
+content-shift f g e p (leaf s) h = refl
+content-shift f g e p (atom v) h = refl
+content-shift f g e p record_branch h = refl
+content-shift f g e p dict_branch h = refl
+content-shift f g e p (list_branch es) h = λ i. list_branch (filter (λ x. h (p ++ x ∷ []) i) es)
+
+part-none : (f : Path → Bool) (p : Path) → part_at f p None ≡ None
+part-none f p = elim (f p) as (λ b. ◌≡◌ {A = Option Content} (if b then None else None) None) [ true ↦ refl | false ↦ refl ]
+
+part-false : (f : Path → Bool) (p : Path) (c : Option Content) → f p ≡ false → part_at f p c ≡ None
+part-false f p c h = ap (λ b. if b then option_map (restricted_content f p) c else None) h
+
+part-shift : (f g : Path → Bool) (e : Element) (p : Path) (c : Option Content) → ((q : Path) → f (e ∷ q) ≡ g q) → part_at f (e ∷ p) c ≡ part_at g p c
+part-shift f g e p None h = part-none f (e ∷ p) ∙ sym (part-none g p)
+part-shift f g e p (Some c) h = λ i. if h p i then Some (content-shift f g e p c h i) else None
+
+-- ---- below a child of the set's tries
+
+module _ (ts : List (Elem × Trie)) (rise : rises (elements ts) ≡ true) (tries : are_filled_tries ts ≡ true) where
+  child-passes : (e : Element) (us : List (Elem × Trie)) (t : Trie) → are_filled_tries us ≡ true → child_at e us ≡ Some t → (is_trie t && is_filled t) ≡ true
+  child-passes e [] t h s = cc
+  child-passes e (u ∷ us) t h s =
+      elim (same_element e (element_view u.0)) as (λ b. cond b (Some u.1) (child_at e us) ≡ Some t → (is_trie t && is_filled t) ≡ true) [
+        | true ↦ λ k. let same : u.1 ≡ t = cc in ap (λ x. is_trie x && is_filled x) (sym same) ∙ both_first (is_trie u.1 && is_filled u.1) _ h
+        | false ↦ λ k. child-passes e us t (both_second (is_trie u.1 && is_filled u.1) _ h) k
+      ] s
+
+  module _ (e : Element) (t : Trie) (there : child_at e ts ≡ Some t) where
+    pub trie-there : is_trie t ≡ true
+    trie-there = both_first (is_trie t) _ (child-passes e ts t tries there)
+
+    in-child : (q : Path) → list_any (under q) (paths t) ≡ stays (paths t) q
+    in-child [] = any-root (paths t) ∙ both_second (is_trie t) _ (child-passes e ts t tries there)
+    in-child (f ∷ q) = refl
+
+    stays-child : (q : Path) → stays (paths_below ts) (e ∷ q) ≡ stays (paths t) q
+    stays-child q = any-below under under-reading e ts q rise ∙ ap (λ o. found under o q) there ∙ in-child q
+
+  stays-nowhere : (e : Element) → child_at e ts ≡ None → (q : Path) → stays (paths_below ts) (e ∷ q) ≡ false
+  stays-nowhere e none q = any-below under under-reading e ts q rise ∙ ap (λ o. found under o q) none
+
+-- ---- the walk over the children
+
+none-stay : (ps : List Path) → AreRestricted ps [] []
+none-stay ps = record { elements_are = refl; contents = λ e p. sym (part-none (stays ps) (e ∷ p)); trees = refl }
+
+-- whatever stays of what is left, behind what was made so far it is what stays of all
+pub record IsRestricting (ps : List Path) (cs left made : List Child) : Type 0 where
+  pub trees : are_trees left ≡ true
+  pub no_more : length (rows_below left) ≤ length (rows_below cs)
+  pub rest : (xs : List Child) → AreRestricted ps left xs → AreRestricted ps cs (made ++ xs)
+
+pub restricting-none : (ps : List Path) (cs : List Child) → are_trees cs ≡ true → IsRestricting ps cs cs []
+restricting-none ps cs trees = record { trees = trees; no_more = omega arith; rest = λ xs h. h }
+
+pub restricting-all : (ps : List Path) (cs left made : List Child) → left ≡ [] → IsRestricting ps cs left made → AreRestricted ps cs made
+restricting-all ps cs left made none h = subst (AreRestricted ps cs) (append-nil made) (h.rest [] (subst (λ l. AreRestricted ps l []) (sym none) (none-stay ps)))
+
+module _ (ps : List Path) (c : Child) (left : List Child) where
+  first-stays : (n : Node) (xs : List Child) → stays ps (element_view c.0 ∷ []) ≡ true → ((p : Path) → content_at (rows n) p ≡ part_at (stays ps) (element_view c.0 ∷ p) (content_at (rows c.1) p)) → is_tree n ≡ true
+      → AreRestricted ps left xs → AreRestricted ps (c ∷ left) ((c.0, n) ∷ xs)
+  first-stays n xs stay content tree h =
+      let f = element_view c.0 in
+      record {
+        elements_are = (λ i. f ∷ h.elements_are i) ∙ sym (ap (λ b. cond b (f ∷ filter (λ e. stays ps (e ∷ [])) (elements left)) (filter (λ e. stays ps (e ∷ [])) (elements left))) stay);
+        contents = λ e p.
+            elim (same_element e f) as (λ b. same_element e f ≡ b → content_in (cond b (Some n) (child_at e xs)) p ≡ part_at (stays ps) (e ∷ p) (content_in (cond b (Some c.1) (child_at e left)) p)) [
+              | true ↦ λ s. content p ∙ ap (λ g. part_at (stays ps) (g ∷ p) (content_at (rows c.1) p)) (sym (same_element-true e f s))
+              | false ↦ λ s. h.contents e p
+            ] refl;
+        trees = both _ _ tree h.trees;
+      }
+
+  first-goes : (xs : List Child) → ((q : Path) → stays ps (element_view c.0 ∷ q) ≡ false) → AreRestricted ps left xs → AreRestricted ps (c ∷ left) xs
+  first-goes xs goes h =
+      let f = element_view c.0 in
+      record {
+        elements_are = h.elements_are ∙ sym (ap (λ b. cond b (f ∷ filter (λ e. stays ps (e ∷ [])) (elements left)) (filter (λ e. stays ps (e ∷ [])) (elements left))) (goes []));
+        contents = λ e p.
+            h.contents e p
+            ∙ elim (same_element e f) as (λ b. same_element e f ≡ b → part_at (stays ps) (e ∷ p) (content_in (child_at e left) p) ≡ part_at (stays ps) (e ∷ p) (content_in (cond b (Some c.1) (child_at e left)) p)) [
+              | true ↦ λ s.
+                  let gone = ap (λ g. stays ps (g ∷ p)) (same_element-true e f s) ∙ goes p in
+                  part-false (stays ps) (e ∷ p) (content_in (child_at e left) p) gone ∙ sym (part-false (stays ps) (e ∷ p) (content_at (rows c.1) p) gone)
+              | false ↦ λ s. refl
+            ] refl;
+        trees = h.trees;
+      }
+
+module _ (ts : List (Elem × Trie)) (rise : rises (elements ts) ≡ true) (tries : are_filled_tries ts ≡ true) (cs : List Child) (c : Child) (all left made : List Child) (is : all ≡ c ∷ left) (h : IsRestricting (paths_below ts) cs all made) where
+  now : IsRestricting (paths_below ts) cs (c ∷ left) made
+  now = subst (λ l. IsRestricting (paths_below ts) cs l made) is h
+
+  pub next-tree : is_tree c.1 ≡ true
+  next-tree = both_first (is_tree c.1) _ now.trees
+
+  fewer : length (rows_below left) ≤ length (rows_below cs)
+  fewer =
+      let first = length-first c left in
+      let bound = now.no_more in
+      omega arith
+
+  pub next-smaller : 2 * length (rows c.1) < 2 * length (rows_below cs) + 1
+  next-smaller =
+      let first = length-first c left in
+      let bound = now.no_more in
+      omega arith
+
+  pub restricting-kept : (t : Trie) (n : Node) (new : List Child) → child_at (element_view c.0) ts ≡ Some t → IsRestricted (paths t) c.1 n → new ≡ made ++ (c.0, n) ∷ [] → IsRestricting (paths_below ts) cs left new
+  restricting-kept t n new there part pushed =
+      let ps = paths_below ts in
+      let f = element_view c.0 in
+      let stay = stays-child ts rise tries f t there in
+      record {
+        trees = both_second (is_tree c.1) _ now.trees;
+        no_more = fewer;
+        rest = λ xs g.
+            subst (AreRestricted ps cs) (sym (append_assoc made ((c.0, n) ∷ []) xs) ∙ ap (λ l. l ++ xs) (sym pushed))
+            (now.rest ((c.0, n) ∷ xs) (first-stays ps c left n xs (stay []) (λ p. part.content p ∙ sym (part-shift (stays ps) (stays (paths t)) f p (content_at (rows c.1) p) stay)) part.tree g));
+      }
+
+  pub restricting-dropped : child_at (element_view c.0) ts ≡ None → IsRestricting (paths_below ts) cs left made
+  restricting-dropped none =
+      record {
+        trees = both_second (is_tree c.1) _ now.trees;
+        no_more = fewer;
+        rest = λ xs g. now.rest xs (first-goes (paths_below ts) c left xs (stays-nowhere ts rise tries (element_view c.0) none) g);
+      }
+
+-- ---- fewer elements stand as well as all
+
+module _ (test : Element → Bool) where
+  filter-below : (e : Element) (es : List Element) → is_below e es ≡ true → is_below e (filter test es) ≡ true
+  filter-below e [] h = refl
+  filter-below e (f ∷ es) h =
+      elim (test f) as (λ b. is_below e (cond b (f ∷ filter test es) (filter test es)) ≡ true) [
+        | true ↦ both _ _ (both_first _ _ h) (filter-below e es (both_second _ _ h))
+        | false ↦ filter-below e es (both_second (is_lt (element_cmp e f)) _ h)
+      ]
+
+  filter-rises : (es : List Element) → rises es ≡ true → rises (filter test es) ≡ true
+  filter-rises [] h = refl
+  filter-rises (e ∷ es) h =
+      elim (test e) as (λ b. rises (cond b (e ∷ filter test es) (filter test es)) ≡ true) [
+        | true ↦ both _ _ (filter-below e es (both_first _ _ h)) (filter-rises es (both_second _ _ h))
+        | false ↦ filter-rises es (both_second (is_below e es) _ h)
+      ]
+
+filter-apart : (test : Element → Bool) (es : List Element) → are_apart es ≡ true → are_apart (filter test es) ≡ true
+filter-apart test es h = apart-distinct (filter test es) ∙ distinct-filter test es (sym (apart-distinct es) ∙ h)
+
+filter-fields : (test : Element → Bool) (es : List Element) → are_fields es ≡ true → are_fields (filter test es) ≡ true
+filter-fields test es h = fields-all (filter test es) ∙ all-filter is_field test es (sym (fields-all es) ∙ h)
+
+filter-items : (test : Element → Bool) (es : List Element) → are_items es ≡ true → are_items (filter test es) ≡ true
+filter-items test es h = items-all (filter test es) ∙ all-filter is_item_element test es (sym (items-all es) ∙ h)
+
+-- ---- the children of a node
+
+module _ (n : Node) (cs : List Child) (is : below n ≡ cs) where
+  pub children-trees : is_tree n ≡ true → are_trees cs ≡ true
+  children-trees tree = ap are_trees (sym is) ∙ (level-below n).trees tree
+
+  pub children-smaller : 2 * length (rows_below cs) + 1 < 2 * length (rows n)
+  children-smaller = let long = length-level n ∙ ap (λ l. suc (length (rows_below l))) is in omega arith
+
+-- ---- a node of the children that stay
+
+abbrev below_set : Trie → List (Elem × Trie)
+below_set t = (out-Trie t).below.items
+
+restricted-level : (t : Trie) (n made : Node) (cs xs : List Child) → is_tree n ≡ true → is_tree made ≡ true → Some (own_content made) ≡ part_at (stays (paths t)) [] (Some (own_content n))
+    → below n ≡ cs → below made ≡ xs → AreRestricted (paths_below (below_set t)) cs xs → IsRestricted (paths t) n made
+restricted-level t n made cs xs tree new own is new_is h = record { content = at; tree = new }
+  where
+    at : (p : Path) → content_at (rows made) p ≡ part_at (stays (paths t)) p (content_at (rows n) p)
+    at [] = content-root made ∙ own ∙ ap (part_at (stays (paths t)) []) (sym (content-root n))
+    at (e ∷ p) =
+        let f = stays (paths_below (below_set t)) in
+        let g = stays (paths t) in
+        let c = content_at (rows n) (e ∷ p) in
+        content-level made e p new ∙ ap (λ l. content_in (child_at e l) p) new_is ∙ h.contents e p
+        ∙ ap (part_at f (e ∷ p)) (ap (λ l. content_in (child_at e l) p) (sym is) ∙ sym (content-level n e p tree))
+        ∙ part-shift f (λ q. g (e ∷ q)) e p c (λ q. sym (any-level under under-reading t e q))
+        ∙ sym (part-shift g (λ q. g (e ∷ q)) e p c (λ q. refl))
+
+part-leaf : (ps : List Path) (l : Leaf) → part_at (stays ps) [] (Some (leaf_content l)) ≡ Some (leaf_content l)
+part-leaf ps (Scalar s) = refl
+part-leaf ps (Atomic v) = refl
+
+below-Leaf : (l : Leaf) → below (LeafOf l) ≡ []
+below-Leaf l = search (rules, the_lemmas)
+
+pub leaf-restricted : (t : Trie) (n : Node) (l : Leaf) → n ≡ LeafOf l → is_tree n ≡ true → IsRestricted (paths t) n (LeafOf l)
+leaf-restricted t n l is tree =
+    let own = ap own_content is ∙ own-Leaf l in
+    restricted-level t n (LeafOf l) [] [] tree (tree-Leaf l) (ap (λ c. Some c) (own-Leaf l) ∙ sym (ap (λ c. part_at (stays (paths t)) [] (Some c)) own ∙ part-leaf (paths t) l))
+    (ap below is ∙ below-Leaf l) (below-Leaf l) (none-stay (paths_below (below_set t)))
+
+module _ (t : Trie) (n : Node) (v w : Children) (tree : is_tree n ≡ true) where
+  abbrev AreLeft : Type 0
+  AreLeft = AreRestricted (paths_below (below_set t)) v.items w.items
+
+  abbrev test_below : Element → Bool
+  test_below e = stays (paths_below (below_set t)) (e ∷ [])
+
+  named-stand : AreLeft → ((rises (elements v.items) && are_fields (elements v.items)) && are_trees v.items) ≡ true → ((rises (elements w.items) && are_fields (elements w.items)) && are_trees w.items) ≡ true
+  named-stand h old =
+      let es = elements v.items in
+      let stand = both_first (rises es && are_fields es) _ old in
+      both _ _ (both _ _ (ap rises h.elements_are ∙ filter-rises test_below es (both_first (rises es) _ stand)) (ap are_fields h.elements_are ∙ filter-fields test_below es (both_second (rises es) _ stand))) h.trees
+
+  pub record-restricted : n ≡ Branch v → AreLeft → IsRestricted (paths t) n (Branch w)
+  record-restricted is h =
+      restricted-level t n (Branch w) v.items w.items tree (tree-Branch w ∙ named-stand h (sym (tree-Branch v) ∙ sym (ap is_tree is) ∙ tree))
+      (ap (λ c. Some c) (own-Branch w) ∙ sym (ap (λ c. part_at (stays (paths t)) [] (Some c)) (ap own_content is ∙ own-Branch v)))
+      (ap below is ∙ below-Branch v) (below-Branch w) h
+
+  pub dict-restricted : n ≡ Dict v → AreLeft → IsRestricted (paths t) n (Dict w)
+  dict-restricted is h =
+      restricted-level t n (Dict w) v.items w.items tree (tree-Dict w ∙ named-stand h (sym (tree-Dict v) ∙ sym (ap is_tree is) ∙ tree))
+      (ap (λ c. Some c) (own-Dict w) ∙ sym (ap (λ c. part_at (stays (paths t)) [] (Some c)) (ap own_content is ∙ own-Dict v)))
+      (ap below is ∙ below-Dict v) (below-Dict w) h
+
+  pub list-restricted : n ≡ ListOf v → AreLeft → IsRestricted (paths t) n (ListOf w)
+  list-restricted is h =
+      let es = elements v.items in
+      let old = sym (tree-List v) ∙ sym (ap is_tree is) ∙ tree in
+      let stand = both_first (are_apart es && are_items es) _ old in
+      let apart = ap are_apart h.elements_are ∙ filter-apart test_below es (both_first (are_apart es) _ stand) in
+      let items = ap are_items h.elements_are ∙ filter-items test_below es (both_second (are_apart es) _ stand) in
+      let order = h.elements_are ∙ (λ i. filter (λ e. sym (any-level under under-reading t e []) i) es) in
+      restricted-level t n (ListOf w) v.items w.items tree (tree-List w ∙ both _ _ (both _ _ apart items) h.trees)
+      (ap (λ c. Some c) (own-List w ∙ ap list_branch order) ∙ sym (ap (λ c. part_at (stays (paths t)) [] (Some c)) (ap own_content is ∙ own-List v)))
+      (ap below is ∙ below-List v) (below-List w) h
+
+-- ---- THE BRIDGE: the part of a body
+
+pub restricted-body : (t : Trie) (n made : Node) → IsRestricted (paths t) n made → body_of made ≡ restricted (body_of n) (λ p. is_root p || has_at_or_below (listed (paths t)) p)
+restricted-body t n made h =
+    let test = λ (p : Path). is_root p || has_at_or_below (listed (paths t)) p in
+    same_map (body_of made) (restricted (body_of n) test) (λ p.
+    get-body made p ∙ h.content p
+    ∙ (λ i. part_at (λ q. is_root q || sym (below-listed (paths t) q) i) p (sym (get-body n p) i))
+    ∙ sym (get-restricted (body_of n) test p))

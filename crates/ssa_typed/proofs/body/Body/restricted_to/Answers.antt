@@ -1,0 +1,11 @@
+use Rattle.std.proofs.Common.{◌||◌, ◌∙◌}
+use Rattle.ssa_model.specs.Body.{restricted}
+use Rattle.ssa_model.specs.Path.{is_root}
+use Rattle.ssa_model.specs.PathMap.{has_at_or_below}
+use Rattle.ssa_typed.proofs.Restricting.{restricted-body}
+use Rattle.ssa_typed.proofs.body.Body.restricted_to.Goals as goal
+
+pub returns : goal.returns
+returns c =
+    restricted-body c.root.result.now c.self.inside.root c.in_ok-root.root c.in_ok-root.ensures
+    ∙ (λ i. restricted (c.self.view_is i) (λ p. is_root p || has_at_or_below (c.root.ensures.same i) p))
