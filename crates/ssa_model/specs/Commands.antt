@@ -72,9 +72,12 @@ abbrev pub rule_of : List CommandRule → Text → Option CommandRule
 rule_of [] word = None
 rule_of (r ∷ rs) word = if same_text word r.word then Some r else rule_of rs word
 
-abbrev pub first_rules : List CommandRule
-first_rules =
-    record { word = codes "apply"; members = needs (codes "at") text_member ∷ needs (codes "manager") text_member ∷ needs (codes "object") any_member ∷ [] }
+-- the commands of a session
+abbrev pub session_rules : List CommandRule
+session_rules =
+    record { word = codes "apply"; members = needs (codes "at") text_member ∷ needs (codes "manager") text_member ∷ needs (codes "object") any_member ∷ may_have (codes "force") truth_member ∷ [] }
+    ∷ record { word = codes "update"; members = needs (codes "at") text_member ∷ needs (codes "manager") text_member ∷ needs (codes "object") any_member ∷ [] }
+    ∷ record { word = codes "strip"; members = [] }
     ∷ record { word = codes "undo"; members = [] }
     ∷ record { word = codes "redo"; members = [] }
     ∷ record { word = codes "show"; members = [] }

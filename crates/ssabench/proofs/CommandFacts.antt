@@ -10,8 +10,9 @@ use Rattle.std.specs.Str.{bytes_eq}
 use Rattle.ssa_model.specs.Json.{Text, text, whole, truth, Json, scalar, list, object, Members, no_members, member, member_of, same_text, as_text}
 use Rattle.ssa_model.specs.Schema.{has_member, is_text}
 use Rattle.ssa_model.specs.Commands as given
-use Rattle.ssa_model.specs.Commands.{MemberRule, CommandRule, rule_of, word_of, first_rules, is_known_member, are_known_members, follows_rule, truth_in, text_in, value_in, command_with}
+use Rattle.ssa_model.specs.Commands.{MemberRule, CommandRule, rule_of, word_of, session_rules, is_known_member, are_known_members, follows_rule, truth_in, text_in, value_in, command_with}
 use Rattle.ssa_model.specs.Answers as answers
+use Rattle.ssa_model.specs.Operations.{dropped}
 use Rattle.ssa_model.specs.Session.{LineFault, bad_moment, command_shape, has_moment, with_path, read_command}
 use Rattle.ssa_json.specs.Moment.{is_moment}
 use Rattle.ssa_json.specs.View.{view, members_view}
@@ -19,37 +20,38 @@ use Rattle.ssa_json.specs.declared.value.Json as values
 use Rattle.ssa_json.proofs.Equality.{same_text-true}
 use Rattle.ssa_json.proofs.Views.{view-lookup}
 use Rattle.ssabench.specs.declared.command_shape.Word.{Word}
-use Rattle.ssabench.specs.declared.command_shape.Word.TheVariants.{Apply, Undo, Redo, Show}
-use Rattle.ssa_plain.specs.Benches.{nothing_given_up}
-use Rattle.ssabench.specs.Commands.{readings, word_text, member_rules, rule_at}
+use Rattle.ssabench.specs.declared.command_shape.Word.TheVariants.{Apply, Update, Strip, Undo, Redo, Show}
+use Rattle.ssabench.specs.Commands.{readings, word_text, member_rules, rule_at, HasRequest, given_moment}
 
 -- what a value is read as
 abbrev pub meaning : Json → Result answers.Command LineFault
-meaning = read_command readings first_rules nothing_given_up
+meaning = read_command readings session_rules dropped
 
 abbrev by_rule : Members → Text → Option CommandRule → Option given.Command
 by_rule ms word r = elim r [ None ↦ None | Some rule ↦ (if follows_rule ms rule then Some (command_with word ms) else None) ]
 
 abbrev by_word : Members → Option Text → Option given.Command
-by_word ms w = elim w [ None ↦ None | Some word ↦ by_rule ms word (rule_of first_rules word) ]
+by_word ms w = elim w [ None ↦ None | Some word ↦ by_rule ms word (rule_of session_rules word) ]
 
 abbrev pub told : Option given.Command → Result answers.Command LineFault
 told o = elim o [
   | None ↦ Err command_shape
-  | Some c ↦ (if has_moment readings first_rules nothing_given_up c then with_path readings first_rules nothing_given_up c else Err bad_moment)
+  | Some c ↦ (if has_moment readings session_rules dropped c then with_path readings session_rules dropped c else Err bad_moment)
 ]
 
 -- ---- by the word
 
-no_word : (ms : Members) (w : Option Text) → option_and_then (rule_of first_rules) w ≡ None → by_word ms w ≡ None
+no_word : (ms : Members) (w : Option Text) → option_and_then (rule_of session_rules) w ≡ None → by_word ms w ≡ None
 no_word ms None none = refl
 no_word ms (Some word) none = ap (by_rule ms word) none
 
-pub meaning-no_word : (ms : Members) → option_and_then (rule_of first_rules) (word_of ms) ≡ None → meaning (object ms) ≡ Err command_shape
+pub meaning-no_word : (ms : Members) → option_and_then (rule_of session_rules) (word_of ms) ≡ None → meaning (object ms) ≡ Err command_shape
 meaning-no_word ms none = ap told (no_word ms (word_of ms) none)
 
-rule_of-word : (word : Word) → rule_of first_rules (word_text word) ≡ Some (rule_at word)
+rule_of-word : (word : Word) → rule_of session_rules (word_text word) ≡ Some (rule_at word)
 rule_of-word Apply = refl
+rule_of-word Update = refl
+rule_of-word Strip = refl
 rule_of-word Undo = refl
 rule_of-word Redo = refl
 rule_of-word Show = refl
@@ -84,51 +86,48 @@ meaning-show ms is follows =
     meaning-word ms Show true is follows
     ∙ ap (λ o. Ok (answers.show (truth_in o))) (absent_member [] ms (codes "managed") (and_parts (are_known_members [] ms) true follows).0 (λ v. refl))
 
-pub rule_of-other : (t : Text) → same_text t (codes "apply") ≡ false → same_text t (codes "undo") ≡ false → same_text t (codes "redo") ≡ false → same_text t (codes "show") ≡ false → rule_of first_rules t ≡ None
-rule_of-other t not_apply not_undo not_redo not_show = rw (not_apply, not_undo, not_redo, not_show) refl
+pub rule_of-other : (t : Text) → same_text t (codes "apply") ≡ false → same_text t (codes "update") ≡ false → same_text t (codes "strip") ≡ false → same_text t (codes "undo") ≡ false → same_text t (codes "redo") ≡ false
+    → same_text t (codes "show") ≡ false → rule_of session_rules t ≡ None
+rule_of-other t not_apply not_update not_strip not_undo not_redo not_show = rw (not_apply, not_update, not_strip, not_undo, not_redo, not_show) refl
 
 pub is_some-view : (o : Option values.Json) → is_some (option_map view o) ≡ is_some o
 is_some-view None = refl
 is_some-view (Some v) = refl
 
--- ---- the members of an apply command
+-- ---- the members of an apply command and of an update command
 
 is_text-from_known : (v : Json) → (is_text v || false) ≡ true → is_text v ≡ true
 is_text-from_known v known = grind (arith, nat_tests)
 
 -- a member that is known to be a text
-text_there : (ms : Members) (n : Text) → are_known_members (member_rules Apply) ms ≡ true → ((v : Json) → is_known_member (member_rules Apply) n v ≡ (is_text v || false)) → has_member n ms ≡ true
+text_there : (rules : List MemberRule) (ms : Members) (n : Text) → are_known_members rules ms ≡ true → ((v : Json) → is_known_member rules n v ≡ (is_text v || false)) → has_member n ms ≡ true
     → is_some (option_and_then as_text (member_of n ms)) ≡ true
-text_there ms n known asked there =
+text_there rules ms n known asked there =
     elim (member_of n ms) as (λ o. member_of n ms ≡ o → is_some o ≡ true → is_some (option_and_then as_text o) ≡ true) [
       | None ↦ λ _ none. none
-      | Some v ↦ λ is _. is_text-from_known v (sym (asked v) ∙ known_member (member_rules Apply) ms n v known is)
+      | Some v ↦ λ is _. is_text-from_known v (sym (asked v) ∙ known_member rules ms n v known is)
     ] refl there
 
--- what the rule of an apply command asks for
-pub record HasApplyMembers (ms : Members) : Type 0 where
-  pub at : is_some (option_and_then as_text (member_of (codes "at") ms)) ≡ true
-  pub manager : is_some (option_and_then as_text (member_of (codes "manager") ms)) ≡ true
-  pub object : is_some (member_of (codes "object") ms) ≡ true
-  pub no_force : member_of (codes "force") ms ≡ None
-
-pub HasApplyMembers-from_rule : (ms : Members) → follows_rule ms (rule_at Apply) ≡ true → HasApplyMembers ms
-HasApplyMembers-from_rule ms follows =
+pub request-from_apply : (ms : Members) → follows_rule ms (rule_at Apply) ≡ true → HasRequest ms
+request-from_apply ms follows =
     let parts = and_parts (are_known_members (member_rules Apply) ms) _ follows in
     let at = and_parts (has_member (codes "at") ms) _ parts.1 in
     let manager = and_parts (has_member (codes "manager") ms) _ at.1 in
     let object = and_parts (has_member (codes "object") ms) _ manager.1 in
-    record {
-      at = text_there ms (codes "at") parts.0 (λ v. refl) at.0;
-      manager = text_there ms (codes "manager") parts.0 (λ v. refl) manager.0;
-      object = object.0;
-      no_force = absent_member (member_rules Apply) ms (codes "force") parts.0 (λ v. refl);
-    }
+    (text_there (member_rules Apply) ms (codes "at") parts.0 (λ v. refl) at.0, text_there (member_rules Apply) ms (codes "manager") parts.0 (λ v. refl) manager.0, object.0)
+
+pub request-from_update : (ms : Members) → follows_rule ms (rule_at Update) ≡ true → HasRequest ms
+request-from_update ms follows =
+    let parts = and_parts (are_known_members (member_rules Update) ms) _ follows in
+    let at = and_parts (has_member (codes "at") ms) _ parts.1 in
+    let manager = and_parts (has_member (codes "manager") ms) _ at.1 in
+    let object = and_parts (has_member (codes "object") ms) _ manager.1 in
+    (text_there (member_rules Update) ms (codes "at") parts.0 (λ v. refl) at.0, text_there (member_rules Update) ms (codes "manager") parts.0 (λ v. refl) manager.0, object.0)
 
 pub there : {A : Type 0} (o : Option A) → is_some o ≡ true → o ≡ None → ⊥
 there o some none = true≢false (sym some ∙ ap is_some none)
 
-text_in-is : (o : Option Json) (t : Text) → option_and_then as_text o ≡ Some t → text_in o ≡ t
+pub text_in-is : (o : Option Json) (t : Text) → option_and_then as_text o ≡ Some t → text_in o ≡ t
 text_in-is None t is = cc
 text_in-is (Some (scalar (text s))) t is = cc
 text_in-is (Some (scalar (whole z))) t is = cc
@@ -136,13 +135,18 @@ text_in-is (Some (scalar (truth b))) t is = cc
 text_in-is (Some (list vs)) t is = cc
 text_in-is (Some (object ms)) t is = cc
 
-pub meaning-apply : (ms : Members) (who at : Text) (v : Json) (b : Bool) → word_of ms ≡ Some (codes "apply") → follows_rule ms (rule_at Apply) ≡ true
-    → option_and_then as_text (member_of (codes "manager") ms) ≡ Some who → option_and_then as_text (member_of (codes "at") ms) ≡ Some at → member_of (codes "object") ms ≡ Some v → is_moment at ≡ b
-    → meaning (object ms) ≡ (if b then Ok (answers.apply who false at v) else Err bad_moment)
-meaning-apply ms who at v b is follows who-is at-is v-is moment =
+pub meaning-apply : (ms : Members) (b : Bool) → word_of ms ≡ Some (codes "apply") → follows_rule ms (rule_at Apply) ≡ true → is_moment (given_moment ms) ≡ b
+    → meaning (object ms)
+    ≡ (if b then Ok (answers.apply (text_in (member_of (codes "manager") ms)) (truth_in (member_of (codes "force") ms)) (given_moment ms) (value_in (member_of (codes "object") ms))) else Err bad_moment)
+meaning-apply ms b is follows moment =
     meaning-word ms Apply true is follows
-    ∙ (λ i. told (Some (given.apply (text_in-is (member_of (codes "manager") ms) who who-is i) (truth_in ((HasApplyMembers-from_rule ms follows).no_force i)) (text_in-is (member_of (codes "at") ms) at at-is i) (value_in (v-is i)))))
-    ∙ ap (λ t. if t then Ok (answers.apply who false at v) else Err bad_moment) moment
+    ∙ ap (λ t. if t then Ok (answers.apply (text_in (member_of (codes "manager") ms)) (truth_in (member_of (codes "force") ms)) (given_moment ms) (value_in (member_of (codes "object") ms))) else Err bad_moment) moment
+
+pub meaning-update : (ms : Members) (b : Bool) → word_of ms ≡ Some (codes "update") → follows_rule ms (rule_at Update) ≡ true → is_moment (given_moment ms) ≡ b
+    → meaning (object ms) ≡ (if b then Ok (answers.update (text_in (member_of (codes "manager") ms)) (given_moment ms) (value_in (member_of (codes "object") ms))) else Err bad_moment)
+meaning-update ms b is follows moment =
+    meaning-word ms Update true is follows
+    ∙ ap (λ t. if t then Ok (answers.update (text_in (member_of (codes "manager") ms)) (given_moment ms) (value_in (member_of (codes "object") ms))) else Err bad_moment) moment
 
 -- a member of another name stays where one is taken out
 pub other_member : (old new : BTreeMap (String Global) values.Json) (gone n : Text) → UpdatesBy string_cmp (λ k. slice_cmp nat_cmp gone (string_bytes k)) old new None → bytes_eq gone n ≡ false

@@ -1,15 +1,15 @@
 -- What a bench answers to a line, for the commands that are there.
 use Rattle.std.specs.Prelude.{ℕ, List}
-use Rattle.ssa_model.specs.Commands.{first_rules}
+use Rattle.ssa_model.specs.Commands.{session_rules}
 use Rattle.ssa_model.specs.History as model
 use Rattle.ssa_model.specs.Session.{line_answer}
-use Rattle.ssa_plain.specs.Benches.{nothing_given_up}
+use Rattle.ssa_model.specs.Operations.{dropped}
 use Rattle.ssabench.specs.Commands.{readings}
 
 -- the reply's text
 abbrev pub line_reply : model.Bench → List ℕ → List ℕ
-line_reply bench line = (line_answer readings first_rules nothing_given_up bench line).0
+line_reply bench line = (line_answer readings session_rules dropped bench line).0
 
 -- the bench after the line
 abbrev pub bench_after : model.Bench → List ℕ → model.Bench
-bench_after bench line = (line_answer readings first_rules nothing_given_up bench line).1
+bench_after bench line = (line_answer readings session_rules dropped bench line).1

@@ -1,19 +1,28 @@
 -- Which lines are which commands, and why the others are none.
-use Rattle.std.specs.Prelude.{◌≡◌, List, [], ◌∷◌, Result, Ok, Err, codes}
-use Rattle.ssa_model.specs.Json.{Text}
+use Rattle.std.specs.Prelude.{◌≡◌, List, [], ◌∷◌, false, true, Option, Some, None, Result, Ok, Err, codes, string_bytes, is_some, option_and_then}
+use Rattle.ssa_model.specs.Json.{Text, Members, member_of, as_text}
 use Rattle.ssa_model.specs.Readings.{Readings, not_json, null_value, number_outside}
-use Rattle.ssa_model.specs.Commands.{MemberRule, text_member, any_member, needs, CommandRule}
+use Rattle.ssa_model.specs.Commands.{MemberRule, text_member, truth_member, any_member, needs, may_have, CommandRule, text_in, value_in}
 use Rattle.ssa_model.specs.Answers as answers
 use Rattle.ssa_model.specs.Session as session
 use Rattle.ssa_model.specs.Session.{unread, bad_moment, command_shape}
 use Rattle.ssa_json.specs.Reading.{json_reading}
 use Rattle.ssa_json.specs.Moment.{is_moment}
-use Rattle.ssa_plain.specs.Replies.{command_view}
-use Rattle.ssa_plain.specs.declared.command.Command.{Command}
+use Rattle.ssa_json.specs.View.{view}
+use Rattle.ssa_bench.specs.Commands as changes
+use Rattle.ssabench.specs.declared.command.Command.{Command}
+use Rattle.ssabench.specs.declared.command.Command.TheVariants as command
 use Rattle.ssabench.specs.declared.command_shape.Word.{Word}
-use Rattle.ssabench.specs.declared.command_shape.Word.TheVariants.{Apply, Undo, Redo, Show}
+use Rattle.ssabench.specs.declared.command_shape.Word.TheVariants.{Apply, Update, Strip, Undo, Redo, Show}
+use Rattle.ssabench.specs.declared.read_command.Request.{Request}
 use Rattle.ssabench.specs.declared.read_command.LineFault.{LineFault}
 use Rattle.ssabench.specs.declared.read_command.LineFault.TheVariants.{NotJson, NullValue, NumberOutside, BadMoment, CommandShape, OutOfMemory}
+
+abbrev pub command_view : Command → answers.Command
+command_view (command.Change c) = changes.command_view c
+command_view command.Undo = answers.undo
+command_view command.Redo = answers.redo
+command_view command.Show = answers.show false
 
 -- JSON text, and moments of the calendar
 abbrev pub readings : Readings
@@ -21,13 +30,17 @@ readings = record { value = json_reading; moment = is_moment }
 
 abbrev pub word_text : Word → Text
 word_text Apply = codes "apply"
+word_text Update = codes "update"
+word_text Strip = codes "strip"
 word_text Undo = codes "undo"
 word_text Redo = codes "redo"
 word_text Show = codes "show"
 
 -- the members beside `do`
 abbrev pub member_rules : Word → List MemberRule
-member_rules Apply = needs (codes "at") text_member ∷ needs (codes "manager") text_member ∷ needs (codes "object") any_member ∷ []
+member_rules Apply = needs (codes "at") text_member ∷ needs (codes "manager") text_member ∷ needs (codes "object") any_member ∷ may_have (codes "force") truth_member ∷ []
+member_rules Update = needs (codes "at") text_member ∷ needs (codes "manager") text_member ∷ needs (codes "object") any_member ∷ []
+member_rules Strip = []
 member_rules Undo = []
 member_rules Redo = []
 member_rules Show = []
@@ -44,3 +57,28 @@ ReadsCommand (Err NumberOutside) r = r ≡ Err (unread number_outside)
 ReadsCommand (Err BadMoment) r = r ≡ Err bad_moment
 ReadsCommand (Err CommandShape) r = r ≡ Err command_shape
 ReadsCommand (Err OutOfMemory) r = Unit {0}
+
+-- ---- commands with a manager, a moment and an object
+
+-- the members that these commands need are there
+abbrev pub HasRequest : Members → Type 0
+HasRequest ms =
+    (is_some (option_and_then as_text (member_of (codes "at") ms)) ≡ true)
+    × (is_some (option_and_then as_text (member_of (codes "manager") ms)) ≡ true)
+    × (is_some (member_of (codes "object") ms) ≡ true)
+
+-- the moment that these commands give
+abbrev pub given_moment : Members → Text
+given_moment ms = text_in (member_of (codes "at") ms)
+
+-- the request is what the members give
+pub record IsRequest (ms : Members) (r : Request) : Type 0 where
+  pub manager_is : text_in (member_of (codes "manager") ms) ≡ string_bytes r.who
+  pub at_is : given_moment ms ≡ r.at
+  pub moment : is_moment (given_moment ms) ≡ true
+  pub object_is : value_in (member_of (codes "object") ms) ≡ view r.object
+
+-- the request, or none where the moment is none
+abbrev pub Requests : Option Request → Members → Type 0
+Requests (Some r) ms = IsRequest ms r
+Requests None ms = is_moment (given_moment ms) ≡ false

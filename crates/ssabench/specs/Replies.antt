@@ -1,26 +1,45 @@
 -- Parts of replies as JSON values, and the replies to lines that are no commands.
-use Rattle.std.specs.Prelude.{List, ◌++◌, map, codes}
-use Rattle.ssa_model.specs.Json.{Text, Json, compact}
+use Rattle.std.specs.Prelude.{ℕ, List, codes}
+use Rattle.ssa_model.specs.Json.{Text, Json, object, member, no_members, compact}
+use Rattle.ssa_model.specs.Kind.{BodyFault, unknown_field, wrong_type, missing_key, duplicate_item}
+use Rattle.ssa_model.specs.PathMap.{PathSet}
 use Rattle.ssa_model.specs.Entries.{text_json}
 use Rattle.ssa_model.specs.Operations.{conflict}
 use Rattle.ssa_model.specs.Readings.{not_json, null_value, number_outside}
-use Rattle.ssa_model.specs.Replies.{list_json, clash_json, refusal_json}
+use Rattle.ssa_model.specs.Replies.{list_json, clash_json, refusal_json, with_fault}
 use Rattle.ssa_model.specs.Session.{unread, bad_moment, command_shape, line_fault_json}
-use Rattle.ssa_plain.specs.Managers.{clash_view}
-use Rattle.ssa_plain.specs.declared.table.Clash.{Clash}
+use Rattle.ssa_schema.specs.Finds.{Told}
+use Rattle.ssa_merge.specs.Managers.{clashes_view}
+use Rattle.ssa_merge.specs.declared.manager.ManagerKey.{ManagerKey}
 use Rattle.ssabench.specs.Session.{out_of_memory_text}
 use Rattle.ssabench.specs.declared.read_command.LineFault.{LineFault}
 use Rattle.ssabench.specs.declared.read_command.LineFault.TheVariants.{NotJson, NullValue, NumberOutside, BadMoment, CommandShape, OutOfMemory}
 
--- the field of a name, in a path
-abbrev pub name_json : Text → Json
-name_json n = text_json (codes "f:" ++ n)
+-- a path by the texts of its elements
+abbrev pub names_json : List Text → Json
+names_json = list_json text_json
 
-abbrev pub clashes_json : List Clash → Json
-clashes_json cs = list_json clash_json (map clash_view cs)
+abbrev pub body_fault_number : BodyFault → ℕ
+body_fault_number unknown_field = 20
+body_fault_number wrong_type = 21
+body_fault_number missing_key = 22
+body_fault_number duplicate_item = 23
 
-abbrev pub conflict_json : List Clash → Json
-conflict_json cs = refusal_json (conflict (map clash_view cs))
+abbrev pub body_fault_name : BodyFault → Text
+body_fault_name unknown_field = codes "UnknownField"
+body_fault_name wrong_type = codes "WrongType"
+body_fault_name missing_key = codes "MissingKey"
+body_fault_name duplicate_item = codes "DuplicateItem"
+
+-- a fault whose path is told by the texts of its elements
+abbrev pub told_json : Told → Json
+told_json t = object (with_fault (body_fault_number t.0) (body_fault_name t.0) (member (codes "path") (names_json t.1) no_members))
+
+abbrev pub clashes_json : List (ManagerKey × PathSet) → Json
+clashes_json cs = list_json clash_json (clashes_view cs)
+
+abbrev pub conflict_json : List (ManagerKey × PathSet) → Json
+conflict_json cs = refusal_json (conflict (clashes_view cs))
 
 abbrev pub line_fault_text : LineFault → Text
 line_fault_text NotJson = compact (line_fault_json (unread not_json))

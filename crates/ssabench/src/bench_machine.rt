@@ -1,28 +1,121 @@
 //! A bench as the machine of a session.
-ghost use Rattle.std.specs.Prelude.{◌≡◌, IfOk, OnErr};
+ghost use Rattle.std.specs.Prelude.{◌≡◌, ◌+◌, IfOk, OnErr, false};
+ghost use Rattle.ssa_model.specs.Answers as model;
 ghost use Rattle.ssa_model.specs.Answers.{answer};
-ghost use Rattle.ssa_model.specs.Replies as model;
-ghost use Rattle.ssa_plain.specs.Benches.{nothing_given_up};
-ghost use Rattle.ssa_plain.specs.Replies.{command_view};
+ghost use Rattle.ssa_model.specs.Operations.{dropped};
+ghost use Rattle.ssa_model.specs.Replies.{reply_text};
+ghost use Rattle.ssa_bench.specs.Commands as changes;
+ghost use Rattle.ssabench.specs.Commands.{command_view};
 
-use crate::fault_text::line_fault_text;
+use crate::command::Command;
+use crate::fault_text::{fault_text, line_fault_text};
 use crate::machine::Machine;
 use crate::read_command::{LineFault, read_command};
-use crate::reply_text::reply_text;
-use ssa_plain::bench::Bench;
-use ssa_plain::command::Command;
+use crate::reply_text::{changed_text, moved_text, shown_text};
+use ssa_bench::bench::Bench;
+use ssa_bench::command as bench;
+use ssa_bench::fault::Fault;
 use std::alloc::{AllocError, Global};
+
+// The word under which the reply tells of a change.
+fn change_word(change: &bench::Command) -> &'static str
+    ensures { result.now ≡ changes.command_word change.now }
+{
+    match change {
+        bench::Command::Apply { .. } => "apply",
+        bench::Command::Update { .. } => "update",
+        bench::Command::Strip => "strip",
+    }
+}
+
+// Answers a change. The reply's text is made before the bench changes.
+fn answer_change(
+    bench: &mut Bench,
+    alloc: Global,
+    change: bench::Command,
+) -> Result<Vec<u8>, AllocError>
+    ensures reply { IfOk result (λ text. text.items ≡ reply_text (answer dropped bench.old (changes.command_view change)).0) }
+    ensures after { IfOk result (λ _. bench.new ≡ (answer dropped bench.old (changes.command_view change)).1) }
+    ensures err { OnErr result (bench.new ≡ bench.old) }
+{
+    let word = change_word(&change);
+    match bench.prepare(alloc, change) {
+        Ok(prepared) => {
+            let text = changed_text(alloc, word, prepared.changed())?;
+            drop(bench.commit(prepared)?);
+            Ok(text)
+        }
+        Err(Fault::OutOfMemory) => Err(AllocError),
+        Err(fault) => fault_text(alloc, &fault),
+    }
+}
+
+// One more. A history of so many commands that there is no count has no room in memory.
+fn one_more(count: usize) -> Result<usize, AllocError>
+    ensures { IfOk result (λ more. more ≡ count + 1) }
+{
+    match count.checked_add(1) {
+        Some(more) => Ok(more),
+        None => Err(AllocError),
+    }
+}
+
+// Goes back by a command. The reply's text is made before.
+fn answer_undo(bench: &mut Bench, alloc: Global) -> Result<Vec<u8>, AllocError>
+    ensures reply { IfOk result (λ text. text.items ≡ reply_text (answer dropped bench.old model.undo).0) }
+    ensures after { IfOk result (λ _. bench.new ≡ (answer dropped bench.old model.undo).1) }
+    ensures err { OnErr result (bench.new ≡ bench.old) }
+{
+    let past = bench.past_len();
+    if past == 0 {
+        return fault_text(alloc, &Fault::NothingToUndo);
+    }
+    let future = one_more(bench.future_len())?;
+    let text = moved_text(alloc, "undo", past - 1, future)?;
+    let Ok(_counts) = bench.undo() else {
+        unreachable!("there is a command to undo");
+    };
+    Ok(text)
+}
+
+// Goes on by a command. The reply's text is made before.
+fn answer_redo(bench: &mut Bench, alloc: Global) -> Result<Vec<u8>, AllocError>
+    ensures reply { IfOk result (λ text. text.items ≡ reply_text (answer dropped bench.old model.redo).0) }
+    ensures after { IfOk result (λ _. bench.new ≡ (answer dropped bench.old model.redo).1) }
+    ensures err { OnErr result (bench.new ≡ bench.old) }
+{
+    let future = bench.future_len();
+    if future == 0 {
+        return fault_text(alloc, &Fault::NothingToRedo);
+    }
+    let past = one_more(bench.past_len())?;
+    let text = moved_text(alloc, "redo", past, future - 1)?;
+    let Ok(_counts) = bench.redo() else {
+        unreachable!("there is a command to redo");
+    };
+    Ok(text)
+}
+
+// The object of the present state.
+fn answer_show(bench: &Bench, alloc: Global) -> Result<Vec<u8>, AllocError>
+    ensures { IfOk result (λ text. text.items ≡ reply_text (answer dropped bench.now (model.show false)).0) }
+{
+    let object = bench.show(alloc)?;
+    shown_text(alloc, &object)
+}
 
 // Answers a command. The reply's text is made before the bench changes.
 fn answer_command(bench: &mut Bench, alloc: Global, command: Command) -> Result<Vec<u8>, AllocError>
-    ensures reply { IfOk result (λ text. text.items ≡ model.reply_text (answer nothing_given_up bench.old (command_view command)).0) }
-    ensures after { IfOk result (λ _. bench.new ≡ (answer nothing_given_up bench.old (command_view command)).1) }
+    ensures reply { IfOk result (λ text. text.items ≡ reply_text (answer dropped bench.old (command_view command)).0) }
+    ensures after { IfOk result (λ _. bench.new ≡ (answer dropped bench.old (command_view command)).1) }
     ensures err { OnErr result (bench.new ≡ bench.old) }
 {
-    let prepared = bench.prepare(alloc, command)?;
-    let text = reply_text(alloc, &prepared.reply)?;
-    bench.commit(prepared.next)?;
-    Ok(text)
+    match command {
+        Command::Change(change) => answer_change(bench, alloc, change),
+        Command::Undo => answer_undo(bench, alloc),
+        Command::Redo => answer_redo(bench, alloc),
+        Command::Show => answer_show(bench, alloc),
+    }
 }
 
 impl Machine for Bench {

@@ -1,19 +1,21 @@
 // Which JSON objects are commands, by their members.
-ghost use Rattle.std.specs.Prelude.{◌≡◌, Some, None, MatchOption, option_map, option_and_then};
+ghost use Rattle.std.specs.Prelude.{◌≡◌, ◌||◌, not, Some, None, MatchOption, option_map, option_and_then};
 ghost use Rattle.std.specs.List.{list_all};
 ghost use Rattle.ssa_json.specs.View.{view, members_view};
 ghost use Rattle.ssa_model.specs.Json.{same_text, as_text, member_of};
 ghost use Rattle.ssa_model.specs.Schema.{has_member, is_text};
-ghost use Rattle.ssa_model.specs.Commands.{rule_of, word_of, first_rules, is_known_member, are_known_members, follows_rule};
+ghost use Rattle.ssa_model.specs.Commands.{rule_of, word_of, session_rules, is_truth, is_known_member, are_known_members, follows_rule};
 ghost use Rattle.ssabench.specs.Commands.{word_text, member_rules, rule_at};
 
-use ssa_json::value::Json;
+use ssa_json::value::{Json, Scalar};
 use std::collections::BTreeMap;
 
 /// What a command does, as its member `do` says.
 #[derive(Clone, Copy, Debug, PartialEq, Eq)]
 pub enum Word {
     Apply,
+    Update,
+    Strip,
     Undo,
     Redo,
     Show,
@@ -26,10 +28,14 @@ fn is_same(text: &str, other: &str) -> bool
 }
 
 fn word_of_text(text: &str) -> Option<Word>
-    ensures { MatchOption result (rule_of first_rules text.now ≡ None) (λ word. text.now ≡ word_text word) }
+    ensures { MatchOption result (rule_of session_rules text.now ≡ None) (λ word. text.now ≡ word_text word) }
 {
     if is_same(text, "apply") {
         Some(Word::Apply)
+    } else if is_same(text, "update") {
+        Some(Word::Update)
+    } else if is_same(text, "strip") {
+        Some(Word::Strip)
     } else if is_same(text, "undo") {
         Some(Word::Undo)
     } else if is_same(text, "redo") {
@@ -50,7 +56,7 @@ pub fn text_of<'a>(members: &'a BTreeMap<String, Json>, name: &str) -> Option<&'
 
 /// The word of a command, where it is one.
 pub fn word_of(members: &BTreeMap<String, Json>) -> Option<Word>
-    ensures { MatchOption result (option_and_then (rule_of first_rules) (word_of (members_view members.now.entries)) ≡ None)
+    ensures { MatchOption result (option_and_then (rule_of session_rules) (word_of (members_view members.now.entries)) ≡ None)
         (λ word. word_of (members_view members.now.entries) ≡ Some (word_text word)) }
 {
     word_of_text(text_of(members, "do")?)
@@ -68,14 +74,27 @@ fn is_text(value: &Json) -> bool
     value.as_text().is_some()
 }
 
-// Whether an apply command may have the member.
-fn is_apply_member(name: &str, value: &Json) -> bool
-    ensures { result ≡ is_known_member (member_rules Word.Apply) name.now (view value.now) }
+fn is_truth(value: &Json) -> bool
+    ensures { result ≡ is_truth (view value.now) }
+{
+    matches!(value, Json::Scalar(Scalar::Bool(_)))
+}
+
+// Whether an update command may have the member.
+fn is_update_member(name: &str, value: &Json) -> bool
+    ensures { result ≡ is_known_member (member_rules Word.Update) name.now (view value.now) }
 {
     is_same(name, "do")
         || (is_same(name, "at") && is_text(value))
         || (is_same(name, "manager") && is_text(value))
         || is_same(name, "object")
+}
+
+// Whether an apply command may have the member.
+fn is_apply_member(name: &str, value: &Json) -> bool
+    ensures { result ≡ is_known_member (member_rules Word.Apply) name.now (view value.now) }
+{
+    is_update_member(name, value) || (is_same(name, "force") && is_truth(value))
 }
 
 // Whether a command of the word may have the member.
@@ -84,7 +103,8 @@ fn is_known_member(word: Word, name: &str, value: &Json) -> bool
 {
     match word {
         Word::Apply => is_apply_member(name, value),
-        Word::Undo | Word::Redo | Word::Show => is_same(name, "do"),
+        Word::Update => is_update_member(name, value),
+        Word::Strip | Word::Undo | Word::Redo | Word::Show => is_same(name, "do"),
     }
 }
 
@@ -99,17 +119,20 @@ fn are_known_members(word: Word, members: &BTreeMap<String, Json>) -> bool
     true
 }
 
+// Whether the members that an apply and an update need are there.
+fn has_request(members: &BTreeMap<String, Json>) -> bool
+    ensures { result ≡ list_all (λ r. not r.required || has_member r.name (members_view members.now.entries)) (member_rules Word.Update) }
+{
+    has_member(members, "at") && has_member(members, "manager") && has_member(members, "object")
+}
+
 /// Whether the members are those of a command of the word: each that it needs, of its type, and no other.
 pub fn follows_rule(word: Word, members: &BTreeMap<String, Json>) -> bool
     ensures { result ≡ follows_rule (members_view members.now.entries) (rule_at word) }
 {
     are_known_members(word, members)
         && match word {
-            Word::Apply => {
-                has_member(members, "at")
-                    && has_member(members, "manager")
-                    && has_member(members, "object")
-            }
-            Word::Undo | Word::Redo | Word::Show => true,
+            Word::Apply | Word::Update => has_request(members),
+            Word::Strip | Word::Undo | Word::Redo | Word::Show => true,
         }
 }

@@ -1,18 +1,22 @@
 // The texts of faults.
 ghost use Rattle.std.specs.Prelude.{◌≡◌, ◌++◌, IfOk, OnOk, codes};
 ghost use Rattle.ssa_model.specs.Json.{compact};
+ghost use Rattle.ssa_model.specs.Answers as model;
 ghost use Rattle.ssa_model.specs.Entries.{operation_text};
-ghost use Rattle.ssa_model.specs.Replies.{clash_json, path_json, fault_reply};
-ghost use Rattle.ssa_plain.specs.Managers.{operation_view, clash_view};
-ghost use Rattle.ssa_plain.specs.Replies.{fault_view};
-ghost use Rattle.ssabench.specs.Replies.{clashes_json, conflict_json, line_fault_text};
+ghost use Rattle.ssa_model.specs.Replies.{clash_json, fault_reply};
+ghost use Rattle.ssa_merge.specs.Managers.{operation_view, key_view};
+ghost use Rattle.ssa_schema.specs.Finds.{told_view};
+ghost use Rattle.ssa_schema.specs.Kinds.{names_view};
+ghost use Rattle.ssa_bench.specs.Faults.{IsFault};
+ghost use Rattle.ssabench.specs.Replies.{clashes_json, conflict_json, names_json, told_json, line_fault_text};
 
 use crate::engine::OUT_OF_MEMORY;
-use crate::json_text::{push_comma, push_path, push_paths, push_string};
+use crate::json_text::{push_comma, push_names, push_paths, push_string};
 use crate::read_command::LineFault;
-use ssa_plain::path::Path;
-use ssa_plain::reply::{BodyFault, Fault};
-use ssa_plain::table::{Clash, Operation};
+use ssa_bench::fault::Fault;
+use ssa_merge::manager::{ManagerKey, Operation};
+use ssa_path::field_set::FieldSet;
+use ssa_schema::body_fault::BodyFault;
 use std::alloc::{AllocError, Global};
 
 /// The reply to a line that is no command.
@@ -41,49 +45,47 @@ fn operation_text(operation: Operation) -> &'static str
 }
 
 // Appends a manager that a command clashes with, and its fields.
-fn push_clash(alloc: Global, text: &mut Vec<u8>, clash: &Clash) -> Result<(), AllocError>
-    ensures { OnOk result (text.new.items ≡ text.old.items ++ compact (clash_json (clash_view clash.now))) }
+fn push_clash(
+    alloc: Global,
+    text: &mut Vec<u8>,
+    manager: &ManagerKey,
+    fields: &FieldSet,
+) -> Result<(), AllocError>
+    ensures { OnOk result (text.new.items ≡ text.old.items ++ compact (clash_json (key_view manager.now, fields.now))) }
 {
     text.extend_from_slice(b"{\"fields\":")?;
-    push_paths(alloc, text, &clash.fields)?;
+    push_paths(alloc, text, fields)?;
     text.extend_from_slice(b",\"manager\":")?;
-    push_string(alloc, text, clash.manager.name.as_str())?;
+    push_string(alloc, text, manager.name.as_str())?;
     text.extend_from_slice(b",\"operation\":")?;
-    push_string(alloc, text, operation_text(clash.manager.operation))?;
+    push_string(alloc, text, operation_text(manager.operation))?;
     text.push(b'}')?;
     Ok(())
 }
 
-fn push_clashes(alloc: Global, text: &mut Vec<u8>, clashes: &[Clash]) -> Result<(), AllocError>
+fn push_clashes(
+    alloc: Global,
+    text: &mut Vec<u8>,
+    clashes: &[(ManagerKey, FieldSet)],
+) -> Result<(), AllocError>
     ensures { OnOk result (text.new.items ≡ text.old.items ++ compact (clashes_json clashes.now)) }
 {
     text.push(b'[')?;
     let mut is_later = false;
     for clash in clashes {
         push_comma(text, is_later)?;
-        push_clash(alloc, text, clash)?;
+        push_clash(alloc, text, &clash.0, &clash.1)?;
         is_later = true;
     }
     text.push(b']')?;
     Ok(())
 }
 
-// Appends the beginning of a fault, the place that it is at, and the end.
-fn push_fault_at(
+fn push_conflict(
     alloc: Global,
     text: &mut Vec<u8>,
-    beginning: &[u8],
-    path: &Path,
+    clashes: &[(ManagerKey, FieldSet)],
 ) -> Result<(), AllocError>
-    ensures { OnOk result (text.new.items ≡ text.old.items ++ (beginning.now ++ (compact (path_json path.now) ++ codes "}"))) }
-{
-    text.extend_from_slice(beginning)?;
-    push_path(alloc, text, path)?;
-    text.push(b'}')?;
-    Ok(())
-}
-
-fn push_conflict(alloc: Global, text: &mut Vec<u8>, clashes: &[Clash]) -> Result<(), AllocError>
     ensures { OnOk result (text.new.items ≡ text.old.items ++ compact (conflict_json clashes.now)) }
 {
     text.extend_from_slice(b"{\"conflicts\":")?;
@@ -91,19 +93,50 @@ fn push_conflict(alloc: Global, text: &mut Vec<u8>, clashes: &[Clash]) -> Result
     text.extend_from_slice(b",\"fault\":50,\"name\":\"Conflict\"}")
 }
 
-/// Appends the reply to a command that is refused.
-pub fn push_fault(alloc: Global, text: &mut Vec<u8>, fault: &Fault) -> Result<(), AllocError>
-    ensures { OnOk result (text.new.items ≡ text.old.items ++ compact (fault_reply (fault_view fault.now))) }
+// Appends the beginning of a fault, the place that it is at, and the end.
+fn push_fault_at(
+    alloc: Global,
+    text: &mut Vec<u8>,
+    beginning: &[u8],
+    path: &[String],
+) -> Result<(), AllocError>
+    ensures { OnOk result (text.new.items ≡ text.old.items ++ (beginning.now ++ (compact (names_json (names_view path.now)) ++ codes "}"))) }
+{
+    text.extend_from_slice(beginning)?;
+    push_names(alloc, text, path)?;
+    text.push(b'}')?;
+    Ok(())
+}
+
+fn push_body_fault(alloc: Global, text: &mut Vec<u8>, fault: &BodyFault) -> Result<(), AllocError>
+    ensures { OnOk result (text.new.items ≡ text.old.items ++ compact (told_json (told_view fault.now))) }
 {
     match fault {
-        Fault::Body(BodyFault::UnknownField, path) => {
+        BodyFault::UnknownField(path) => {
             let beginning = b"{\"fault\":20,\"name\":\"UnknownField\",\"path\":";
             push_fault_at(alloc, text, beginning, path)
         }
-        Fault::Body(BodyFault::WrongType, path) => {
+        BodyFault::WrongType(path) => {
             let beginning = b"{\"fault\":21,\"name\":\"WrongType\",\"path\":";
             push_fault_at(alloc, text, beginning, path)
         }
+        BodyFault::MissingKey(path) => {
+            let beginning = b"{\"fault\":22,\"name\":\"MissingKey\",\"path\":";
+            push_fault_at(alloc, text, beginning, path)
+        }
+        BodyFault::DuplicateItem(path) => {
+            let beginning = b"{\"fault\":23,\"name\":\"DuplicateItem\",\"path\":";
+            push_fault_at(alloc, text, beginning, path)
+        }
+    }
+}
+
+// Appends the reply to a command that is refused.
+fn push_fault(alloc: Global, text: &mut Vec<u8>, fault: &Fault) -> Result<(), AllocError>
+    ensures { OnOk result ((g : model.Fault) → IsFault fault.now g → text.new.items ≡ text.old.items ++ compact (fault_reply g)) }
+{
+    match fault {
+        Fault::Body(fault) => push_body_fault(alloc, text, fault),
         Fault::Conflict(clashes) => push_conflict(alloc, text, clashes),
         Fault::TooManyPaths => text.extend_from_slice(b"{\"fault\":24,\"name\":\"TooManyPaths\"}"),
         Fault::TooManyManagers => {
@@ -121,5 +154,15 @@ pub fn push_fault(alloc: Global, text: &mut Vec<u8>, fault: &Fault) -> Result<()
         Fault::NothingToRedo => {
             text.extend_from_slice(b"{\"fault\":65,\"name\":\"NothingToRedo\"}")
         }
+        Fault::OutOfMemory => text.extend_from_slice(OUT_OF_MEMORY),
     }
+}
+
+/// The reply to a command that is refused.
+pub fn fault_text(alloc: Global, fault: &Fault) -> Result<Vec<u8>, AllocError>
+    ensures { IfOk result (λ text. (g : model.Fault) → IsFault fault.now g → text.items ≡ compact (fault_reply g)) }
+{
+    let mut text = Vec::new(alloc);
+    push_fault(alloc, &mut text, fault)?;
+    Ok(text)
 }

@@ -4,12 +4,17 @@ ghost use Rattle.ssa_model.specs.Json.{compact, comma_if};
 ghost use Rattle.ssa_model.specs.Entries.{text_json};
 ghost use Rattle.ssa_model.specs.Replies.{number_json, path_json, paths_json};
 ghost use Rattle.ssa_json.specs.View.{view};
-ghost use Rattle.ssabench.specs.Replies.{name_json};
+ghost use Rattle.ssa_model.specs.Path.{element_text};
+ghost use Rattle.ssa_path.specs.View.{element_view};
+ghost use Rattle.ssa_schema.specs.Kinds.{names_view};
+ghost use Rattle.ssabench.specs.Replies.{names_json};
 
 use ssa_json::value::{Json, Scalar};
-use ssa_plain::path::Path;
-use ssa_plain::path_set::PathSet;
+use ssa_path::element::Elem;
+use ssa_path::field_set::FieldSet;
+use ssa_path::path::Path;
 use std::alloc::{AllocError, Global};
+use std::str;
 
 /// Appends the comma in front of each item but the first.
 pub fn push_comma(text: &mut Vec<u8>, is_later: bool) -> Result<(), AllocError>
@@ -45,24 +50,41 @@ pub fn push_value(alloc: Global, text: &mut Vec<u8>, value: &Json) -> Result<(),
     text.extend_from_slice(&bytes)
 }
 
-// Appends the text of the field of a name, as `"f:spec"`.
-fn push_field(alloc: Global, text: &mut Vec<u8>, name: &str) -> Result<(), AllocError>
-    ensures { OnOk result (text.new.items ≡ text.old.items ++ compact (name_json name.now)) }
+// Appends the text of an element, as `"f:spec"`.
+fn push_element(alloc: Global, text: &mut Vec<u8>, element: &Elem) -> Result<(), AllocError>
+    ensures { OnOk result (text.new.items ≡ text.old.items ++ compact (text_json (element_text (element_view element.now)))) }
 {
-    let mut element = String::from_str(alloc, "f:")?;
-    element.push_str(name)?;
-    push_string(alloc, text, element.as_str())
+    let bytes = element.text(alloc)?;
+    let Ok(own) = str::from_utf8(&bytes) else {
+        unreachable!("the text of an element is UTF-8");
+    };
+    push_string(alloc, text, own)
 }
 
-/// Appends a path: the list of its elements' texts.
-pub fn push_path(alloc: Global, text: &mut Vec<u8>, path: &Path) -> Result<(), AllocError>
+// Appends a path: the list of its elements' texts.
+fn push_path(alloc: Global, text: &mut Vec<u8>, path: &Path) -> Result<(), AllocError>
     ensures { OnOk result (text.new.items ≡ text.old.items ++ compact (path_json path.now)) }
 {
     text.push(b'[')?;
     let mut is_later = false;
-    for name in path.names() {
+    for element in path.elements() {
         push_comma(text, is_later)?;
-        push_field(alloc, text, name.as_str())?;
+        push_element(alloc, text, element)?;
+        is_later = true;
+    }
+    text.push(b']')?;
+    Ok(())
+}
+
+/// Appends a path that is told by its elements' texts.
+pub fn push_names(alloc: Global, text: &mut Vec<u8>, names: &[String]) -> Result<(), AllocError>
+    ensures { OnOk result (text.new.items ≡ text.old.items ++ compact (names_json (names_view names.now))) }
+{
+    text.push(b'[')?;
+    let mut is_later = false;
+    for name in names {
+        push_comma(text, is_later)?;
+        push_string(alloc, text, name.as_str())?;
         is_later = true;
     }
     text.push(b']')?;
@@ -70,10 +92,10 @@ pub fn push_path(alloc: Global, text: &mut Vec<u8>, path: &Path) -> Result<(), A
 }
 
 /// Appends the paths of a set, in path order.
-pub fn push_paths(alloc: Global, text: &mut Vec<u8>, paths: &PathSet) -> Result<(), AllocError>
+pub fn push_paths(alloc: Global, text: &mut Vec<u8>, paths: &FieldSet) -> Result<(), AllocError>
     ensures { OnOk result (text.new.items ≡ text.old.items ++ compact (paths_json paths.now)) }
 {
-    let paths = paths.in_order(alloc)?;
+    let paths = paths.paths(alloc)?;
     text.push(b'[')?;
     let mut is_later = false;
     for path in &paths {

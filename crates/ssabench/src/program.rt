@@ -1,20 +1,16 @@
 //! The program's words, files and statuses.
 
-ghost use Rattle.std.specs.Prelude.{◌≡◌, IfOk, true};
-ghost use Rattle.ssa_plain.specs.Kinds.{kind_view, is_ordered};
-
 use crate::bench_session::session;
 use crate::engine::OUT_OF_MEMORY;
-use crate::reply_text::reply_text;
+use crate::fault_text::fault_text;
+use ssa_bench::bench::Bench;
+use ssa_bench::fault::Fault;
 use ssa_json::fault::JsonFault;
 use ssa_json::reader::OfReader;
 use ssa_json::sink::OfWriter;
 use ssa_json::value::Json;
-use ssa_plain::bench::{Bench, Made};
-use ssa_plain::kind::Kind;
-use ssa_plain::ordered::is_ordered;
-use ssa_plain::reply::Reply;
-use ssa_plain::schema::{SchemaFault, read_schema};
+use ssa_schema::fault::SchemaFault;
+use ssa_schema::schema::Schema;
 use std::alloc::Global;
 use std::fs::File;
 use std::io;
@@ -78,8 +74,8 @@ fn run_session<R: Files + AllocGlobal + Input + Print + Eprint>(
         eprintln!(rt; "ssabench: cannot read {schema}")?;
         return Ok(Ending::Broken);
     };
-    let kind = match kind_of(rt.alloc(), schema_bytes.as_slice()) {
-        Ok(kind) => kind,
+    let schema = match schema_of(rt.alloc(), schema_bytes.as_slice()) {
+        Ok(schema) => schema,
         Err(line) => return tell(rt, line),
     };
     let Ok(object_bytes) = read_file(rt, object) else {
@@ -90,13 +86,13 @@ fn run_session<R: Files + AllocGlobal + Input + Print + Eprint>(
         Ok(value) => value,
         Err(fault) => return tell(rt, json_fault_line(&fault)),
     };
-    match Bench::new(rt.alloc(), kind, &value) {
-        Ok(Made::Bench(mut bench)) => hold_session(rt, &mut bench),
-        Ok(Made::Refused(fault)) => match reply_text(rt.alloc(), &Reply::Refused(fault)) {
+    match Bench::new(rt.alloc(), schema, value) {
+        Ok(mut bench) => hold_session(rt, &mut bench),
+        Err(Fault::OutOfMemory) => tell(rt, OUT_OF_MEMORY),
+        Err(fault) => match fault_text(rt.alloc(), &fault) {
             Ok(text) => tell(rt, text.as_slice()),
             Err(_) => tell(rt, OUT_OF_MEMORY),
         },
-        Err(_) => tell(rt, OUT_OF_MEMORY),
     }
 }
 
@@ -108,15 +104,11 @@ fn read_file<R: Files + AllocGlobal>(rt: &R, name: &str) -> io::Result<Vec<u8>> 
     Ok(bytes)
 }
 
-// The kind of a schema file, or its fault line.
-fn kind_of(alloc: Global, bytes: &[u8]) -> Result<Kind, &'static [u8]>
-    ensures { IfOk result (λ kind. is_ordered (kind_view kind) ≡ true) }
-{
+// The schema of a schema file, or its fault line.
+fn schema_of(alloc: Global, bytes: &[u8]) -> Result<Schema, &'static [u8]> {
     match Json::read(alloc, bytes, FILE_LIMIT) {
-        Ok(schema) => match read_schema(alloc, &schema) {
-            // The fields come from a map in the order of their names, so this holds.
-            Ok(kind) if is_ordered(&kind) => Ok(kind),
-            Ok(_) => Err(schema_fault_line(&SchemaFault::Shape)),
+        Ok(value) => match Schema::read(alloc, value) {
+            Ok(schema) => Ok(schema),
             Err(fault) => Err(schema_fault_line(&fault)),
         },
         Err(fault) => Err(json_fault_line(&fault)),
@@ -135,9 +127,10 @@ fn json_fault_line(fault: &JsonFault) -> &'static [u8] {
 
 fn schema_fault_line(fault: &SchemaFault) -> &'static [u8] {
     match fault {
-        SchemaFault::Keyword => b"{\"fault\":10,\"name\":\"SchemaKeyword\"}",
-        SchemaFault::Shape => b"{\"fault\":11,\"name\":\"SchemaShape\"}",
-        SchemaFault::Depth => b"{\"fault\":13,\"name\":\"SchemaDepth\"}",
+        SchemaFault::SchemaKeyword => b"{\"fault\":10,\"name\":\"SchemaKeyword\"}",
+        SchemaFault::SchemaShape => b"{\"fault\":11,\"name\":\"SchemaShape\"}",
+        SchemaFault::SchemaKeys => b"{\"fault\":12,\"name\":\"SchemaKeys\"}",
+        SchemaFault::SchemaDepth => b"{\"fault\":13,\"name\":\"SchemaDepth\"}",
         SchemaFault::OutOfMemory => OUT_OF_MEMORY,
     }
 }

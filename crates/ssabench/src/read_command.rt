@@ -3,16 +3,17 @@ ghost use Rattle.std.specs.Prelude.{◌≡◌, IsTrue, Some, option_map, option_
 ghost use Rattle.ssa_json.specs.View.{view, members_view};
 ghost use Rattle.ssa_model.specs.Json.{object, as_text, member_of};
 ghost use Rattle.ssa_model.specs.Session.{read_command, read_line};
-ghost use Rattle.ssa_model.specs.Commands.{first_rules, word_of, follows_rule};
-ghost use Rattle.ssa_plain.specs.Benches.{nothing_given_up};
-ghost use Rattle.ssabench.specs.Commands.{readings, word_text, rule_at, ReadsCommand};
+ghost use Rattle.ssa_model.specs.Commands.{session_rules, word_of, follows_rule, truth_in};
+ghost use Rattle.ssa_model.specs.Operations.{dropped};
+ghost use Rattle.ssabench.specs.Commands.{readings, word_text, rule_at, HasRequest, ReadsCommand, Requests};
 ghost use Rattle.ssabench.specs.declared.read_command.LineFault.TheVariants.{OutOfMemory};
 
+use crate::command::Command;
 use crate::command_shape::{Word, follows_rule, text_of, word_of};
+use ssa_bench::command as bench;
 use ssa_json::fault::JsonFault;
 use ssa_json::moment::Moment;
 use ssa_json::value::{Json, Scalar};
-use ssa_plain::command::Command;
 use std::alloc::{AllocError, AllocFailed, Global};
 use std::collections::BTreeMap;
 use thiserror::Error;
@@ -59,7 +60,7 @@ impl<T: Drop> From<AllocFailed<T>> for LineFault {
 
 /// Reads the line as one JSON text, and its value as a command.
 pub fn read_command(alloc: Global, line: &[u8]) -> Result<Command, LineFault>
-    ensures { ReadsCommand result (read_line readings first_rules nothing_given_up line.now) }
+    ensures { ReadsCommand result (read_line readings session_rules dropped line.now) }
 {
     match Json::read(alloc, line, line.len()) {
         Ok(value) => command_of(value),
@@ -73,7 +74,7 @@ pub fn read_command(alloc: Global, line: &[u8]) -> Result<Command, LineFault>
 
 // The command that a value is.
 fn command_of(value: Json) -> Result<Command, LineFault>
-    ensures { ReadsCommand result (read_command readings first_rules nothing_given_up (view value)) }
+    ensures { ReadsCommand result (read_command readings session_rules dropped (view value)) }
 {
     let Json::Object(members) = value else {
         return Err(LineFault::CommandShape);
@@ -86,36 +87,90 @@ fn command_of(value: Json) -> Result<Command, LineFault>
     }
     match word {
         Word::Apply => apply_command(members),
+        Word::Update => update_command(members),
+        Word::Strip => Ok(Command::Change(bench::Command::Strip)),
         Word::Undo => Ok(Command::Undo),
         Word::Redo => Ok(Command::Redo),
         Word::Show => Ok(Command::Show),
     }
 }
 
-// The apply command of members that follow its rule.
-fn apply_command(mut members: BTreeMap<String, Json>) -> Result<Command, LineFault>
-    requires word { word_of (members_view members.entries) ≡ Some (word_text Word.Apply) }
-    requires shape { IsTrue (follows_rule (members_view members.entries) (rule_at Word.Apply)) }
-    ensures { ReadsCommand result (read_command readings first_rules nothing_given_up (object (members_view members.entries))) }
+// Who asks for a change, when, and with which object.
+#[derive(Drop)]
+struct Request {
+    who: String,
+    at: Moment,
+    object: Json,
+}
+
+// Takes the request out of the members, where its moment is one.
+fn take_request(members: &mut BTreeMap<String, Json>) -> Option<Request>
+    requires { HasRequest (members_view members.old.entries) }
+    ensures { Requests result (members_view members.old.entries) }
 {
-    let Some(text) = text_of(&members, "at") else {
+    let Some(text) = text_of(members, "at") else {
         unreachable!("the shape has a text");
     };
     let Ok(at) = Moment::read(text) else {
-        return Err(LineFault::BadMoment);
+        return None;
     };
     let Some(object) = members.remove("object") else {
         unreachable!("the shape has the member");
     };
-    let Some(who) = take_text(&mut members, "manager") else {
+    let Some(who) = take_text(members, "manager") else {
         unreachable!("the shape has a text");
     };
-    Ok(Command::Apply {
+    Some(Request { who, at, object })
+}
+
+// The apply command of members that follow its rule.
+fn apply_command(mut members: BTreeMap<String, Json>) -> Result<Command, LineFault>
+    requires word { word_of (members_view members.entries) ≡ Some (word_text Word.Apply) }
+    requires shape { IsTrue (follows_rule (members_view members.entries) (rule_at Word.Apply)) }
+    ensures { ReadsCommand result (read_command readings session_rules dropped (object (members_view members.entries))) }
+{
+    let force = truth_of(&members, "force");
+    let Some(Request { who, at, object }) = take_request(&mut members) else {
+        return Err(LineFault::BadMoment);
+    };
+    Ok(Command::Change(bench::Command::Apply {
         who,
-        force: false,
+        force,
         at,
         object,
-    })
+    }))
+}
+
+// The update command of members that follow its rule.
+fn update_command(mut members: BTreeMap<String, Json>) -> Result<Command, LineFault>
+    requires word { word_of (members_view members.entries) ≡ Some (word_text Word.Update) }
+    requires shape { IsTrue (follows_rule (members_view members.entries) (rule_at Word.Update)) }
+    ensures { ReadsCommand result (read_command readings session_rules dropped (object (members_view members.entries))) }
+{
+    let Some(Request { who, at, object }) = take_request(&mut members) else {
+        return Err(LineFault::BadMoment);
+    };
+    Ok(Command::Change(bench::Command::Update { who, at, object }))
+}
+
+// The truth value, where the value is one, and else false.
+fn is_true(value: &Json) -> bool
+    ensures { result ≡ truth_in (Some (view value.now)) }
+{
+    match value {
+        Json::Scalar(Scalar::Bool(truth)) => *truth,
+        _ => false,
+    }
+}
+
+// The truth value of the member of a name, and false where there is none.
+fn truth_of(members: &BTreeMap<String, Json>, name: &str) -> bool
+    ensures { result ≡ truth_in (member_of name.now (members_view members.now.entries)) }
+{
+    match members.get(name) {
+        Some(value) => is_true(value),
+        None => false,
+    }
 }
 
 // Takes out the text of the member of a name, where it is one.

@@ -4,33 +4,43 @@ ghost use Rattle.ssa_model.specs.Json.{compact};
 ghost use Rattle.ssa_model.specs.Answers as model;
 ghost use Rattle.ssa_model.specs.Replies.{changed_json, moved_json, reply_json, reply_text};
 ghost use Rattle.ssa_json.specs.View.{view};
-ghost use Rattle.ssa_plain.specs.Replies.{changed_view, reply_view};
+ghost use Rattle.ssa_bench.specs.Benches.{changed_view};
 
-use crate::fault_text::push_fault;
 use crate::json_text::{push_number, push_paths, push_string, push_value};
+use ssa_bench::prepared::Changed;
 use ssa_json::value::Json;
-use ssa_plain::reply::{Changed, Reply};
 use std::alloc::{AllocError, Global};
 
-/// The one line that a reply is, without its line feed.
-pub fn reply_text(alloc: Global, reply: &Reply) -> Result<Vec<u8>, AllocError>
-    ensures { IfOk result (λ text. text.items ≡ reply_text (reply_view reply.now)) }
+/// The reply to a command that makes a state: what it changes.
+pub fn changed_text(alloc: Global, word: &str, changed: &Changed) -> Result<Vec<u8>, AllocError>
+    ensures { IfOk result (λ text. text.items ≡ reply_text (model.changed word.now (changed_view changed.now))) }
 {
     let mut text = Vec::new(alloc);
-    push_reply(alloc, &mut text, reply)?;
+    push_changed(alloc, &mut text, word, changed)?;
     Ok(text)
 }
 
-fn push_reply(alloc: Global, text: &mut Vec<u8>, reply: &Reply) -> Result<(), AllocError>
-    ensures { OnOk result (text.new.items ≡ text.old.items ++ reply_text (reply_view reply.now)) }
+/// The reply to a move in the history: how many commands can be undone and redone after it.
+pub fn moved_text(
+    alloc: Global,
+    word: &str,
+    past: usize,
+    future: usize,
+) -> Result<Vec<u8>, AllocError>
+    ensures { IfOk result (λ text. text.items ≡ reply_text (model.moved word.now past future)) }
 {
-    match reply {
-        Reply::Applied(changed) => push_changed(alloc, text, "apply", changed),
-        Reply::Undone { past, future } => push_moved(alloc, text, "undo", *past, *future),
-        Reply::Redone { past, future } => push_moved(alloc, text, "redo", *past, *future),
-        Reply::Shown(object) => push_shown(alloc, text, object),
-        Reply::Refused(fault) => push_fault(alloc, text, fault),
-    }
+    let mut text = Vec::new(alloc);
+    push_moved(alloc, &mut text, word, past, future)?;
+    Ok(text)
+}
+
+/// The reply that shows the object.
+pub fn shown_text(alloc: Global, object: &Json) -> Result<Vec<u8>, AllocError>
+    ensures { IfOk result (λ text. text.items ≡ reply_text (model.shown (view object.now))) }
+{
+    let mut text = Vec::new(alloc);
+    push_shown(alloc, &mut text, object)?;
+    Ok(text)
 }
 
 fn push_changed(

@@ -1,7 +1,7 @@
 use Rattle.std.proofs.Common.{◌++◌, ap, ◌∙◌}
 use Rattle.ssa_model.specs.Json.{compact, list}
 use Rattle.ssa_model.specs.Replies.{clash_json}
-use Rattle.ssa_plain.specs.Managers.{clash_view}
+use Rattle.ssa_merge.specs.Managers.{clash_view}
 use Rattle.ssabench.proofs.ReplyFacts.{item-written, list-written, items_json-map}
 use Rattle.ssabench.proofs.fault_text.push_clashes.Goals as goal
 

@@ -1,6 +1,6 @@
 use Rattle.std.proofs.Common.{◌≡◌, ◌∷◌, ◌++◌, false}
 use Rattle.ssa_model.specs.Replies.{clash_json}
-use Rattle.ssa_plain.specs.Managers.{clash_view}
+use Rattle.ssa_merge.specs.Managers.{clash_view}
 use Rattle.ssabench.proofs.ReplyFacts.{rest_text}
 use Rattle.ssabench.proofs.fault_text.push_clashes.Given as goal
 

@@ -1,10 +1,12 @@
-use Rattle.std.proofs.Common.{◌≡◌, ◌∷◌, ◌++◌, false, string_bytes}
-use Rattle.ssabench.specs.Replies.{name_json}
+use Rattle.std.proofs.Common.{◌≡◌, ◌∷◌, ◌++◌, false}
+use Rattle.ssa_model.specs.Entries.{text_json}
+use Rattle.ssa_model.specs.Path.{element_text}
+use Rattle.ssa_path.specs.View.{element_view}
 use Rattle.ssabench.proofs.ReplyFacts.{rest_text}
 use Rattle.ssabench.proofs.json_text.push_path.Given as goal
 
 -- with what is left, the text is whole
-abbrev pub invariant-loop-name : goal.invariant-loop-name
-invariant-loop-name l =
-    l.text.items ++ rest_text (λ n. name_json (string_bytes n)) l.is_later l.name-items l.name-index
-    ≡ l.fn.text.items ++ 91 ∷ rest_text (λ n. name_json (string_bytes n)) false l.name-items 0
+abbrev pub invariant-loop-element : goal.invariant-loop-element
+invariant-loop-element l =
+    l.text.items ++ rest_text (λ e. text_json (element_text (element_view e))) l.is_later l.element-items l.element-index
+    ≡ l.fn.text.items ++ 91 ∷ rest_text (λ e. text_json (element_text (element_view e))) false l.element-items 0
