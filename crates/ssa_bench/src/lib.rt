@@ -9,5 +9,9 @@ pub mod identity;
 pub mod names;
 pub mod object;
 pub mod prepared;
+#[cfg(test)]
+mod refusal_tests;
+#[cfg(test)]
+mod tests;
 pub mod text;
 pub mod timeline;
