@@ -8,6 +8,8 @@ mod command_shape;
 mod engine;
 mod fault_text;
 mod json_text;
+#[cfg(test)]
+mod limit_tests;
 mod line;
 mod machine;
 mod program;
@@ -15,7 +17,11 @@ mod read_command;
 mod read_line;
 mod reply_text;
 #[cfg(test)]
+mod row_tests;
+#[cfg(test)]
 mod tests;
+#[cfg(test)]
+mod text_tests;
 mod write_line;
 
 use program::{Ending, run};
