@@ -4,5 +4,8 @@
 pub mod apply;
 pub mod body;
 pub mod flat;
+pub mod history;
 pub mod path;
+pub mod reply;
 pub mod table;
+
