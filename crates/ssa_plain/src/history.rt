@@ -68,6 +68,16 @@ impl History {
         &self.present
     }
 
+    /// How many states can be undone.
+    pub fn past_len(&self) -> usize {
+        self.past.len()
+    }
+
+    /// How many states can be redone.
+    pub fn future_len(&self) -> usize {
+        self.undone.len()
+    }
+
     // Goes to a new state, from which nothing can be redone.
     fn accept(&mut self, alloc: Global, state: State) -> Result<Text, AllocError> {
         let reply = comparison(alloc, &self.present, &state)?;
@@ -129,7 +139,7 @@ impl History {
 
     // How many states can be undone, and how many redone.
     fn counted(&self, alloc: Global) -> Result<Text, AllocError> {
-        counts(alloc, self.past.len(), self.undone.len())
+        counts(alloc, self.past_len(), self.future_len())
     }
 
     /// Goes back to the state before the last command.

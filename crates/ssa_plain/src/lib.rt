@@ -7,5 +7,10 @@ pub mod flat;
 pub mod history;
 pub mod path;
 pub mod reply;
+#[cfg(test)]
+mod some_objects;
 pub mod table;
-
+#[cfg(test)]
+mod tests;
+#[cfg(test)]
+mod told;
