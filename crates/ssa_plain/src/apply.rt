@@ -1,159 +1,175 @@
-//! Apply on whole states.
-ghost use Rattle.std.specs.Prelude.{◌≡◌, IfOk, map, not, ◌||◌};
-ghost use Rattle.ssa_model.specs.PathMap.{set_of, paths, union, has_at_or_above};
-ghost use Rattle.ssa_model.specs.Body.{points};
-ghost use Rattle.ssa_model.specs.Table.{owned_by_others};
-ghost use Rattle.ssa_model.specs.Operations.{pruned_without, apply_without, is_none};
-ghost use Rattle.ssa_plain.specs.Managers.{key_view, table_view, clash_view};
-ghost use Rattle.ssa_plain.specs.States.{state_view, IsApplied};
-ghost use Rattle.ssa_plain.specs.declared.apply.Refusal.TheVariants.{OutOfMemory};
+//! What Apply, Update and Strip make of a state.
 
-use crate::body::Body;
-use crate::path_set::PathSet;
-use crate::table::{Clash, Entry, ManagerKey, clashes, owned_by_others, seat};
-use ssa_json::moment::Moment;
+use crate::body::{Row, added, has, modified, over, points, removed, restricted};
+use crate::path::{Path, has_at_or_above, has_at_or_below, is_key_field, minus, union};
+use crate::table::{Entry, Manager, Seating, clashes, owned_by, owned_by_others, seat};
 use std::alloc::{AllocError, Global};
 
 /// The most places of a body, the root among them.
-pub const MOST_PLACES: usize = 20_001;
+const MOST_PLACES: usize = 20_001;
 
 /// The most managers of a table.
-pub const MOST_MANAGERS: usize = 64;
+const MOST_MANAGERS: usize = 64;
 
-/// A body, and who owns which of its paths.
-#[derive(Drop)]
+/// A body, and who owns its places.
+#[derive(Clone, PartialEq, Eq, Drop)]
 pub struct State {
-    pub body: Body,
+    pub body: Vec<Row>,
     pub table: Vec<Entry>,
 }
 
-/// Why an Apply is refused.
+/// The state after a command, or why it is refused.
 #[derive(Drop)]
-pub enum Refusal {
-    Conflict(Vec<Clash>),
+pub enum Outcome {
+    Accepted(State),
+    Conflict(Vec<(Manager, Vec<Path>)>),
     TooManyPaths,
     TooManyManagers,
-    OutOfMemory,
 }
 
-impl From<AllocError> for Refusal {
-    ghost use Rattle.std.specs.Prelude.{◌≡◌};
-    ghost use Rattle.ssa_plain.specs.declared.apply.Refusal.TheVariants.{OutOfMemory};
-
-    ghost from_gives = { λ _ e. e ≡ OutOfMemory };
-
-    fn from(_refused: AllocError) -> Refusal {
-        Refusal::OutOfMemory
-    }
-}
-
-impl State {
-    /// The same state, with new memory.
-    pub fn copy(&self, alloc: Global) -> Result<State, AllocError>
-        ensures { IfOk result (λ s. state_view s ≡ state_view self.now) }
-    {
-        let body = self.body.copy(alloc)?;
-        let table = copy_table(alloc, &self.table)?;
-        Ok(State { body, table })
-    }
-}
-
-// The same entries, with new memory.
-fn copy_table(alloc: Global, table: &[Entry]) -> Result<Vec<Entry>, AllocError>
-    ensures { IfOk result (λ copied. table_view copied.items ≡ table_view table.now) }
-{
-    let mut copied = Vec::new(alloc);
-    for entry in table {
-        copied.push(entry.copy(alloc)?)?;
-    }
-    Ok(copied)
-}
-
-// The paths that an Apply keeps, themselves or by a path below, where the paths of `gone` are given up.
-fn kept(
+// Whether a manager that leaves out a place gives it up.
+fn is_dropped(
     alloc: Global,
-    state: &State,
-    merged: &Body,
-    gone: &PathSet,
-    manager: &ManagerKey,
-    config_points: &PathSet,
-) -> Result<PathSet, AllocError>
-    ensures { IfOk result (λ s. s ≡ union (set_of (paths (points merged.now)) (λ p. not (has_at_or_above gone.now p)))
-        (union (owned_by_others (state_view state.now).table (key_view manager.now)) config_points.now)) }
-{
-    let merged_points = merged.points(alloc)?;
-    let stay = merged_points.without_below(alloc, gone)?;
-    let others = owned_by_others(alloc, &state.table, manager)?;
-    let owned = others.union(alloc, config_points)?;
-    let all = stay.union(alloc, &owned)?;
-    Ok(all)
+    place: &Path,
+    config: &[Row],
+    others: &[Path],
+) -> Result<bool, AllocError> {
+    if has(config, place) || has_at_or_below(others, place) {
+        return Ok(false);
+    }
+    Ok(!is_key_field(alloc, place)?)
+}
+
+// The places of a manager that its configuration leaves out and that nobody else needs.
+fn dropped(
+    alloc: Global,
+    own: &[Path],
+    config: &[Row],
+    others: &[Path],
+) -> Result<Vec<Path>, AllocError> {
+    let mut gone = Vec::new(alloc);
+    for place in own {
+        if is_dropped(alloc, place, config, others)? {
+            gone.push(place.to_vec(alloc)?)?;
+        }
+    }
+    Ok(gone)
+}
+
+// The points of a body to which none of the places given up leads.
+fn staying(alloc: Global, body: &[Row], gone: &[Path]) -> Result<Vec<Path>, AllocError> {
+    let mut stay = Vec::new(alloc);
+    for place in &points(alloc, body)? {
+        if !has_at_or_above(gone, place) {
+            stay.push(place.to_vec(alloc)?)?;
+        }
+    }
+    Ok(stay)
 }
 
 // The body after an Apply.
 fn pruned(
     alloc: Global,
     state: &State,
-    gone: &PathSet,
-    manager: &ManagerKey,
-    config: &Body,
-    config_points: &PathSet,
-) -> Result<Body, AllocError>
-    requires { config_points.now ≡ points config.now }
-    ensures { IfOk result (λ b. b ≡ pruned_without gone.now (state_view state.now) (key_view manager.now) config.now) }
-{
-    let merged = state.body.over(alloc, config)?;
-    let stay = kept(alloc, state, &merged, gone, manager, config_points)?;
-    let body = merged.restricted_to(alloc, &stay)?;
-    Ok(body)
+    manager: &Manager,
+    config: &[Row],
+) -> Result<Vec<Row>, AllocError> {
+    let own = owned_by(alloc, &state.table, manager)?;
+    let others = owned_by_others(alloc, &state.table, manager)?;
+    let gone = dropped(alloc, &own, config, &others)?;
+    let merged = over(alloc, &state.body, config)?;
+    let stay = staying(alloc, &merged, &gone)?;
+    let owned = union(alloc, &others, &points(alloc, config)?)?;
+    let kept = union(alloc, &stay, &owned)?;
+    restricted(alloc, &merged, &kept)
 }
 
-// Whether there are clashes that are not forced.
-fn has_conflict(force: bool, clash: &[Clash]) -> bool
-    ensures { result ≡ not (force || is_none (map clash_view clash.now)) }
-{
-    match clash {
-        [] => false,
-        [_first, ..] => !force,
+// The state, if its table is not too long.
+fn if_seated(state: State) -> Outcome {
+    if state.table.len() > MOST_MANAGERS {
+        Outcome::TooManyManagers
+    } else {
+        Outcome::Accepted(state)
     }
 }
 
-/// What an Apply of a configuration by a manager makes of a state, where the paths of `gone` are given up:
-/// the configuration over the live body, and its points the manager's. A change of a field that another manager owns is a conflict,
-/// unless it is forced. Then `TooManyPaths`, and last `TooManyManagers`.
+// The state of a body after an Apply that no other manager forbids.
+fn taken(
+    alloc: Global,
+    table: &[Entry],
+    manager: &Manager,
+    body: Vec<Row>,
+    seating: &Seating,
+    moment: &[u8],
+) -> Result<Outcome, AllocError> {
+    if body.len() > MOST_PLACES {
+        return Ok(Outcome::TooManyPaths);
+    }
+    let table = seat(alloc, table, manager, seating, moment)?;
+    Ok(if_seated(State { body, table }))
+}
+
+/// What an Apply of a configuration makes of a state.
 pub fn apply(
     alloc: Global,
     state: &State,
-    gone: &PathSet,
-    manager: &ManagerKey,
-    config: &Body,
+    manager: &Manager,
+    config: &[Row],
     force: bool,
-    at: Moment,
-) -> Result<State, Refusal>
-    ensures { IsApplied result (apply_without gone.now (state_view state.now) (key_view manager.now) config.now force at) }
-{
-    let points = config.points(alloc)?;
-    let body = pruned(alloc, state, gone, manager, config, &points)?;
-    let changed = state.body.modified(alloc, &body)?;
-    let clash = clashes(alloc, &state.table, manager, &changed)?;
-    if has_conflict(force, &clash) {
-        return Err(Refusal::Conflict(clash));
+    moment: &[u8],
+) -> Result<Outcome, AllocError> {
+    let body = pruned(alloc, state, manager, config)?;
+    let changed = modified(alloc, &state.body, &body)?;
+    let found = clashes(alloc, &state.table, manager, &changed)?;
+    if !force && !found.is_empty() {
+        return Ok(Outcome::Conflict(found));
     }
-    let places = body.size(alloc)?;
-    if places > MOST_PLACES {
-        return Err(Refusal::TooManyPaths);
-    }
-    let table = seat(
-        alloc,
-        &state.table,
-        manager,
-        &points,
-        &changed,
-        &changed,
-        at,
-    )?;
-    let managers = table.as_slice().len();
-    if managers > MOST_MANAGERS {
-        return Err(Refusal::TooManyManagers);
-    }
-    Ok(State { body, table })
+    let seating = Seating {
+        owned: points(alloc, config)?,
+        lost: changed.to_vec(alloc)?,
+        modified: changed,
+    };
+    taken(alloc, &state.table, manager, body, &seating, moment)
+}
+
+// What an Update to a body does to the places that are owned.
+fn replaced(
+    alloc: Global,
+    state: &State,
+    manager: &Manager,
+    object: &[Row],
+) -> Result<Seating, AllocError> {
+    let changed = modified(alloc, &state.body, object)?;
+    let gone = removed(alloc, &state.body, object)?;
+    let new = added(alloc, &state.body, object)?;
+    let own = owned_by(alloc, &state.table, manager)?;
+    let left = minus(alloc, &own, &gone)?;
+    let touched = union(alloc, &changed, &new)?;
+    Ok(Seating {
+        owned: union(alloc, &left, &touched)?,
+        lost: union(alloc, &changed, &gone)?,
+        modified: changed,
+    })
+}
+
+/// What an Update to a body makes of a state.
+pub fn update(
+    alloc: Global,
+    state: &State,
+    manager: &Manager,
+    object: &[Row],
+    moment: &[u8],
+) -> Result<Outcome, AllocError> {
+    let seating = replaced(alloc, state, manager, object)?;
+    let table = seat(alloc, &state.table, manager, &seating, moment)?;
+    let body = object.to_vec(alloc)?;
+    Ok(if_seated(State { body, table }))
+}
+
+/// The state without managers.
+pub fn strip(alloc: Global, state: &State) -> Result<State, AllocError> {
+    Ok(State {
+        body: state.body.to_vec(alloc)?,
+        table: Vec::new(alloc),
+    })
 }

@@ -1,92 +1,142 @@
 //! The body of a value.
-ghost use Rattle.std.specs.Prelude.{◌≡◌, ◌++◌, ◌∷◌, [], IfOk, OnOk, codes, ◌&&◌};
-ghost use Rattle.ssa_model.specs.Json.{same_text};
-ghost use Rattle.ssa_model.specs.Body.{flat, places, field_places, is_empty_object, without_empty_metadata, record_branch};
-ghost use Rattle.ssa_json.specs.View.{view, members_view};
-ghost use Rattle.ssa_plain.specs.View.{rows_view};
-ghost use Rattle.ssa_plain.specs.Kinds.{kind_view, fields_view, member_places, without_bare_metadata};
 
-use crate::body::{Body, Content, Row};
-use crate::kind::{Kind, find_kind};
-use crate::path::Path;
-use ssa_json::value::Json;
+use crate::body::{Content, Row};
+use crate::path::{Path, Text, child};
+use ssa_json::value::{Json, Scalar};
+use ssa_path::element::Elem;
+use ssa_path::keys::Keys;
+use ssa_schema::kind::{Kind, find_field};
 use std::alloc::{AllocError, Global};
 use std::collections::BTreeMap;
 
-/// The body of a fitting value of the root's kind: each of its places with its content.
-pub fn body_of(alloc: Global, kind: &Kind, value: &Json) -> Result<Body, AllocError>
-    ensures { IfOk result (λ b. b ≡ flat (kind_view kind.now) (view value.now)) }
-{
-    let root = Path::root(alloc);
+/// The body of a fitting object: each of its places with its content.
+///
+/// The members of the object's identity are passed over, and `metadata` with nothing else in it.
+pub fn flat(alloc: Global, object: &Json, kind: &Kind) -> Result<Vec<Row>, AllocError> {
     let mut rows = Vec::new(alloc);
-    add_root(alloc, value, kind, &root, &mut rows)?;
-    Ok(Body::of_rows(rows))
-}
-
-// Adds the places of the root's value, but for an empty `metadata`.
-fn add_root(
-    alloc: Global,
-    value: &Json,
-    kind: &Kind,
-    path: &Path,
-    rows: &mut Vec<Row>,
-) -> Result<(), AllocError>
-    ensures { OnOk result (rows_view rows.new.items ≡ rows_view rows.old.items ++ places (kind_view kind.now) (without_bare_metadata (view value.now)) path.now) }
-{
-    match (kind, value) {
-        (Kind::Record(fields), Json::Object(members)) => {
-            add_branch(alloc, path, rows)?;
-            add_root_members(alloc, members, fields, path, rows)
-        }
-        (Kind::Scalar(_), Json::Scalar(_)) => add_places(alloc, value, kind, path, rows),
-        _ => Ok(()),
+    if let (Kind::Record(fields), Json::Object(members)) = (kind, object) {
+        add_row(&mut rows, Vec::new(alloc), Content::Record)?;
+        add_root_members(alloc, members, fields, &mut rows)?;
     }
+    Ok(rows)
 }
 
-// Adds a place with named fields below it.
-fn add_branch(alloc: Global, path: &Path, rows: &mut Vec<Row>) -> Result<(), AllocError>
-    ensures { OnOk result (rows_view rows.new.items ≡ rows_view rows.old.items ++ (path.now, record_branch) ∷ []) }
-{
-    let path = path.copy(alloc)?;
-    rows.push(Row {
-        path,
-        content: Content::Record,
-    })?;
+fn add_row(rows: &mut Vec<Row>, path: Path, content: Content) -> Result<(), AllocError> {
+    rows.push(Row { path, content })?;
     Ok(())
 }
 
-// Whether the member is `metadata` with nothing in it.
-fn is_empty_metadata(name: &str, value: &Json) -> bool
-    ensures { result ≡ (same_text name.now (codes "metadata") && is_empty_object (view value.now)) }
-{
-    name.as_bytes().cmp("metadata".as_bytes()).is_eq() && is_empty(value)
-}
-
-fn is_empty(value: &Json) -> bool
-    ensures { result ≡ is_empty_object (view value.now) }
-{
-    match value {
-        Json::Object(members) => members.iter().next().is_none(),
-        _ => false,
+// Whether the value has nothing but a name and a namespace.
+fn is_bare(metadata: &Json) -> bool {
+    let Json::Object(members) = metadata else {
+        return false;
+    };
+    for (name, _member) in members.iter() {
+        if name.as_str() != "name" && name.as_str() != "namespace" {
+            return false;
+        }
     }
+    true
 }
 
-// Adds the places of the members of the root, but for an empty `metadata`.
+// Adds the places of the root's members, but for `metadata` with nothing but the identity in it.
 fn add_root_members(
     alloc: Global,
     members: &BTreeMap<String, Json>,
-    fields: &[(String, Kind)],
-    path: &Path,
+    fields: &BTreeMap<String, Kind>,
     rows: &mut Vec<Row>,
-) -> Result<(), AllocError>
-    ensures { OnOk result (rows_view rows.new.items ≡ rows_view rows.old.items ++ field_places (fields_view fields.now) (without_empty_metadata (members_view members.now.entries)) path.now) }
-{
+) -> Result<(), AllocError> {
     for (name, member) in members.iter() {
-        if !is_empty_metadata(name.as_str(), member) {
-            add_member(alloc, name.as_str(), member, fields, path, rows)?;
+        if name.as_str() != "metadata" || !is_bare(member) {
+            add_field(alloc, member, name, fields, &[], rows)?;
         }
     }
     Ok(())
+}
+
+/// The compact text of a scalar.
+fn scalar_text(alloc: Global, scalar: &Scalar) -> Result<Text, AllocError> {
+    let value = Json::Scalar(scalar.copy(alloc)?);
+    value.to_text(alloc)
+}
+
+// The place of a field.
+fn field_of(alloc: Global, place: &[Text], name: &str) -> Result<Path, AllocError> {
+    let element = Elem::Field(String::from_str(alloc, name)?);
+    let text = element.text(alloc)?;
+    child(alloc, place, &text)
+}
+
+// The text of a set's item.
+fn value_element(alloc: Global, scalar: &Scalar) -> Result<Text, AllocError> {
+    let element = Elem::Value(scalar.copy(alloc)?);
+    element.text(alloc)
+}
+
+// The key fields of an item that are scalars.
+fn key_members(
+    alloc: Global,
+    item: &Json,
+    names: &[String],
+) -> Result<Vec<(String, Scalar)>, AllocError> {
+    let mut found = Vec::new(alloc);
+    for name in names {
+        if let Some(Json::Scalar(scalar)) = item.member(name) {
+            let key = String::from_str(alloc, name)?;
+            found.push((key, scalar.copy(alloc)?))?;
+        }
+    }
+    Ok(found)
+}
+
+// The text of a map list's item, none where it has no key fields.
+fn key_element(alloc: Global, item: &Json, names: &[String]) -> Result<Option<Text>, AllocError> {
+    let members = key_members(alloc, item, names)?;
+    match Keys::new(members) {
+        Some(keys) => Ok(Some(Elem::Key(keys).text(alloc)?)),
+        None => Ok(None),
+    }
+}
+
+// Adds the items of a set, and tells their texts.
+fn add_values(
+    alloc: Global,
+    items: &[Json],
+    place: &[Text],
+    rows: &mut Vec<Row>,
+) -> Result<Vec<Text>, AllocError> {
+    let mut order = Vec::new(alloc);
+    for item in items {
+        if let Json::Scalar(scalar) = item {
+            let element = value_element(alloc, scalar)?;
+            let path = child(alloc, place, &element)?;
+            add_row(rows, path, Content::Leaf(scalar_text(alloc, scalar)?))?;
+            order.push(element)?;
+        }
+    }
+    Ok(order)
+}
+
+// Adds a set with its items.
+fn add_set(
+    alloc: Global,
+    items: &[Json],
+    place: &[Text],
+    rows: &mut Vec<Row>,
+) -> Result<(), AllocError> {
+    let order = add_values(alloc, items, place, rows)?;
+    add_row(rows, place.to_vec(alloc)?, Content::List(order))
+}
+
+// The texts of a map list's items.
+fn key_order(alloc: Global, items: &[Json], names: &[String]) -> Result<Vec<Text>, AllocError> {
+    let mut order = Vec::new(alloc);
+    for item in items {
+        if let Some(element) = key_element(alloc, item, names)? {
+            order.push(element)?;
+        }
+    }
+    Ok(order)
 }
 
 // Adds the place of a value, and those below it.
@@ -95,60 +145,116 @@ fn add_places(
     alloc: Global,
     value: &Json,
     kind: &Kind,
-    path: &Path,
+    place: &[Text],
     rows: &mut Vec<Row>,
-) -> Result<(), AllocError>
-    ensures { OnOk result (rows_view rows.new.items ≡ rows_view rows.old.items ++ places (kind_view kind.now) (view value.now) path.now) }
-{
+) -> Result<(), AllocError> {
     match (kind, value) {
         (Kind::Scalar(_), Json::Scalar(scalar)) => {
-            let content = Content::Leaf(scalar.copy(alloc)?);
-            let path = path.copy(alloc)?;
-            rows.push(Row { path, content })?;
-            Ok(())
+            let text = scalar_text(alloc, scalar)?;
+            add_row(rows, place.to_vec(alloc)?, Content::Leaf(text))
+        }
+        (Kind::AtomicOf(_), atom) => {
+            let text = atom.to_text(alloc)?;
+            add_row(rows, place.to_vec(alloc)?, Content::Atom(text))
         }
         (Kind::Record(fields), Json::Object(members)) => {
-            add_branch(alloc, path, rows)?;
-            add_members(alloc, members, fields, path, rows)
+            add_row(rows, place.to_vec(alloc)?, Content::Record)?;
+            add_fields(alloc, members, fields, place, rows)
+        }
+        (Kind::Dict(entry), Json::Object(members)) => {
+            add_row(rows, place.to_vec(alloc)?, Content::Dict)?;
+            add_entries(alloc, members, entry, place, rows)
+        }
+        (Kind::SetOf(_), Json::List(items)) => add_set(alloc, items, place, rows),
+        (Kind::ItemsOf { keys, fields }, Json::List(items)) => {
+            let order = key_order(alloc, items, keys)?;
+            add_row(rows, place.to_vec(alloc)?, Content::List(order))?;
+            add_items(alloc, items, keys, fields, place, rows)
         }
         _ => Ok(()),
     }
 }
 
-// Adds the places of the members of an object.
+// Adds the places of a field's value, where there is such a field.
 #[cycle(walk)]
-fn add_members(
+fn add_field(
+    alloc: Global,
+    value: &Json,
+    name: &str,
+    fields: &BTreeMap<String, Kind>,
+    place: &[Text],
+    rows: &mut Vec<Row>,
+) -> Result<(), AllocError> {
+    match find_field(fields, name) {
+        Some(kind) => {
+            let below = field_of(alloc, place, name)?;
+            add_places(alloc, value, kind, &below, rows)
+        }
+        None => Ok(()),
+    }
+}
+
+// Adds the places of the members of a record.
+#[cycle(walk)]
+fn add_fields(
     alloc: Global,
     members: &BTreeMap<String, Json>,
-    fields: &[(String, Kind)],
-    path: &Path,
+    fields: &BTreeMap<String, Kind>,
+    place: &[Text],
     rows: &mut Vec<Row>,
-) -> Result<(), AllocError>
-    ensures { OnOk result (rows_view rows.new.items ≡ rows_view rows.old.items ++ field_places (fields_view fields.now) (members_view members.now.entries) path.now) }
-{
+) -> Result<(), AllocError> {
     for (name, member) in members.iter() {
-        add_member(alloc, name.as_str(), member, fields, path, rows)?;
+        add_field(alloc, member, name, fields, place, rows)?;
     }
     Ok(())
 }
 
-// Adds the places of one member, where it has a field.
+// Adds the places of the members of a Dict.
 #[cycle(walk)]
-fn add_member(
+fn add_entries(
     alloc: Global,
-    name: &str,
-    member: &Json,
-    fields: &[(String, Kind)],
-    path: &Path,
+    members: &BTreeMap<String, Json>,
+    kind: &Kind,
+    place: &[Text],
     rows: &mut Vec<Row>,
-) -> Result<(), AllocError>
-    ensures { OnOk result (rows_view rows.new.items ≡ rows_view rows.old.items ++ member_places (fields_view fields.now) name.now (view member.now) path.now) }
-{
-    match find_kind(fields, name) {
-        Some(kind) => {
-            let child = path.child(alloc, name)?;
-            add_places(alloc, member, kind, &child, rows)
-        }
-        None => Ok(()),
+) -> Result<(), AllocError> {
+    for (name, member) in members.iter() {
+        let below = field_of(alloc, place, name)?;
+        add_places(alloc, member, kind, &below, rows)?;
     }
+    Ok(())
+}
+
+// Adds the places of the items of a map list.
+#[cycle(walk)]
+fn add_items(
+    alloc: Global,
+    items: &Vec<Json>,
+    keys: &[String],
+    fields: &BTreeMap<String, Kind>,
+    place: &[Text],
+    rows: &mut Vec<Row>,
+) -> Result<(), AllocError> {
+    for item in items {
+        add_item(alloc, item, keys, fields, place, rows)?;
+    }
+    Ok(())
+}
+
+// Adds the places of an item of a map list.
+#[cycle(walk)]
+fn add_item(
+    alloc: Global,
+    item: &Json,
+    keys: &[String],
+    fields: &BTreeMap<String, Kind>,
+    place: &[Text],
+    rows: &mut Vec<Row>,
+) -> Result<(), AllocError> {
+    if let (Json::Object(members), Some(element)) = (item, key_element(alloc, item, keys)?) {
+        let below = child(alloc, place, &element)?;
+        add_row(rows, below.to_vec(alloc)?, Content::Record)?;
+        add_fields(alloc, members, fields, &below, rows)?;
+    }
+    Ok(())
 }

@@ -1,21 +1,16 @@
-//! The engine over plain lists of whole paths, as the definitions say it: short, and slow on large objects.
+//! The engine as plain lists of whole paths, for the tests of the benches: short, and slow on large objects.
 #![tactic(auto)]
 
 pub mod apply;
-pub mod bench;
 pub mod body;
-pub mod body_value;
-pub mod command;
-pub mod faults;
 pub mod flat;
-pub mod identity;
-pub mod kind;
-pub mod ordered;
+pub mod history;
 pub mod path;
-pub mod path_set;
 pub mod reply;
-pub mod schema;
-pub mod show;
+#[cfg(test)]
+mod some_objects;
 pub mod table;
-pub mod text;
-pub mod timeline;
+#[cfg(test)]
+mod tests;
+#[cfg(test)]
+mod told;

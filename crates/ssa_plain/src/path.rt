@@ -1,137 +1,126 @@
-//! Paths of fields.
-ghost use Rattle.std.specs.Prelude.{◌≡◌, ◌++◌, ◌∷◌, [], IfOk, OnOk, length};
-ghost use Rattle.ssa_model.specs.Path.{field, same_path, path_cmp, under, is_root, is_item};
-ghost use Rattle.ssa_plain.specs.Names.{names_view};
+//! Places of an object, and sets of them as sorted lists.
 
+use ssa_json::fault::JsonFault;
+use ssa_json::value::Json;
 use std::alloc::{AllocError, Global};
-use std::cmp::Ordering;
-use std::marker::Model;
 
-/// The way from the root of an object to a place, by the names of fields.
-#[derive(Drop)]
-pub struct Path {
-    names: Vec<String>,
+pub type Text = Vec<u8>;
+
+/// The texts of the elements on the way from the root to a place.
+pub type Path = Vec<Text>;
+
+/// The place of an element below a place.
+pub fn child(alloc: Global, place: &[Text], element: &[u8]) -> Result<Path, AllocError> {
+    let mut longer = place.to_vec(alloc)?;
+    longer.push(element.to_vec(alloc)?)?;
+    Ok(longer)
 }
 
-impl Model for Path {
-    ghost use Rattle.ssa_model.specs.Path as model;
-    ghost use Rattle.ssa_model.specs.Codes.{coded_path};
-
-    ghost Value = { model.Path };
-
-    ghost coded = { coded_path };
-
-    ghost use Rattle.ssa_plain.specs.Names.{names_view};
-
-    ghost view = { λ p. names_view p.names.items };
+/// Whether the place is an item of a list.
+pub fn is_item(place: &[Text]) -> bool {
+    match place.last() {
+        Some(element) => element.starts_with(b"k:") || element.starts_with(b"v:"),
+        None => false,
+    }
 }
 
-impl Path {
-    /// The path of the root.
-    pub fn root(alloc: Global) -> Path
-        ensures { result ≡ [] }
-    {
-        Path {
-            names: Vec::new(alloc),
+// The value of an element's text behind its beginning, where it has that beginning.
+fn value_behind(
+    alloc: Global,
+    element: &[u8],
+    beginning: &[u8],
+) -> Result<Option<Json>, AllocError> {
+    let Some(json) = element.strip_prefix(beginning) else {
+        return Ok(None);
+    };
+    match Json::read(alloc, json, json.len()) {
+        Ok(value) => Ok(Some(value)),
+        Err(JsonFault::OutOfMemory) => Err(AllocError),
+        Err(_) => Ok(None),
+    }
+}
+
+// Whether the element is the field of a name.
+fn is_field(element: &[u8], name: &str) -> bool {
+    match element.strip_prefix(b"f:") {
+        Some(own) => own == name.as_bytes(),
+        None => false,
+    }
+}
+
+// Whether the value has a member of the name that the element gives.
+fn has_member(value: &Json, element: &[u8]) -> bool {
+    let Some(members) = value.as_object() else {
+        return false;
+    };
+    for (name, _member) in members.iter() {
+        if is_field(element, name.as_str()) {
+            return true;
         }
     }
+    false
+}
 
-    /// The names, from the root on.
-    pub fn names(&self) -> &[String]
-        ensures { names_view result.now ≡ self.now }
-    {
-        &self.names
-    }
-
-    /// The same path, with new memory.
-    pub fn copy(&self, alloc: Global) -> Result<Path, AllocError>
-        ensures { IfOk result (λ p. p ≡ self.now) }
-    {
-        let names = copy_names(alloc, &self.names)?;
-        Ok(Path { names })
-    }
-
-    /// The path of the field of a name below this one.
-    pub fn child(&self, alloc: Global, name: &str) -> Result<Path, AllocError>
-        ensures { IfOk result (λ p. p ≡ self.now ++ field name.now ∷ []) }
-    {
-        let mut names = copy_names(alloc, &self.names)?;
-        names.push(String::from_str(alloc, name)?)?;
-        Ok(Path { names })
-    }
-
-    /// Whether this is the root.
-    pub fn is_root(&self) -> bool
-        ensures { result ≡ is_root self.now }
-    {
-        self.names.is_empty()
-    }
-
-    /// Whether the place is an item of a list: no path of fields alone is.
-    pub fn is_item(&self) -> bool
-        ensures { result ≡ is_item self.now }
-    {
-        let _names = &self.names;
-        false
-    }
-
-    /// Whether both are one path.
-    pub fn is_same(&self, other: &Path) -> bool
-        ensures { result ≡ same_path self.now other.now }
-    {
-        order_names(&self.names, &other.names).is_eq()
-    }
-
-    /// The order of the paths as lists of their elements' texts.
-    pub fn order(&self, other: &Path) -> Ordering
-        ensures { result ≡ path_cmp self.now other.now }
-    {
-        order_names(&self.names, &other.names)
-    }
-
-    /// Whether the other path is under this one: this is a beginning of it, or equal to it.
-    pub fn is_beginning_of(&self, other: &Path) -> bool
-        ensures { result ≡ under self.now other.now }
-    {
-        is_beginning(&self.names, &other.names)
+/// Whether the place is a field by which an item of a list is told from the others.
+pub fn is_key_field(alloc: Global, place: &[Text]) -> Result<bool, AllocError> {
+    let [.., item, field] = place else {
+        return Ok(false);
+    };
+    match value_behind(alloc, item, b"k:")? {
+        Some(keys) => Ok(has_member(&keys, field)),
+        None => Ok(false),
     }
 }
 
-fn copy_names(alloc: Global, names: &[String]) -> Result<Vec<String>, AllocError>
-    ensures { IfOk result (λ copied. names_view copied.items ≡ names_view names.now) }
-{
-    let mut copied = Vec::new(alloc);
-    for name in names {
-        copied.push(String::from_str(alloc, name.as_str())?)?;
-    }
-    Ok(copied)
+/// Whether one of the paths is the place, or goes on from it.
+pub fn has_at_or_below(paths: &[Path], place: &[Text]) -> bool {
+    paths.iter().any(|path| path.starts_with(place))
 }
 
-fn order_names(names: &[String], others: &[String]) -> Ordering
-    ensures { result ≡ path_cmp (names_view names.now) (names_view others.now) }
-{
-    match (names, others) {
-        ([], []) => Ordering::Equal,
-        ([], [_other, ..]) => Ordering::Less,
-        ([_name, ..], []) => Ordering::Greater,
-        ([name, rest @ ..], [other, other_rest @ ..]) => {
-            match name.as_bytes().cmp(other.as_bytes()) {
-                Ordering::Less => Ordering::Less,
-                Ordering::Equal => order_names(rest, other_rest),
-                Ordering::Greater => Ordering::Greater,
-            }
+/// Whether one of the paths is the place, or leads to it.
+pub fn has_at_or_above(paths: &[Path], place: &[Text]) -> bool {
+    paths.iter().any(|path| place.starts_with(path))
+}
+
+/// Whether the place is one of the paths.
+pub fn has_path(paths: &[Path], place: &[Text]) -> bool {
+    paths.iter().any(|path| path.as_slice() == place)
+}
+
+/// The paths in their order, each once.
+pub fn sorted(mut paths: Vec<Path>) -> Result<Vec<Path>, AllocError> {
+    paths.sort()?;
+    paths.dedup();
+    Ok(paths)
+}
+
+/// The paths of both lists.
+pub fn union(alloc: Global, paths: &[Path], others: &[Path]) -> Result<Vec<Path>, AllocError> {
+    let mut all = paths.to_vec(alloc)?;
+    for other in others {
+        all.push(other.to_vec(alloc)?)?;
+    }
+    sorted(all)
+}
+
+/// The paths that are not among the others.
+pub fn minus(alloc: Global, paths: &[Path], others: &[Path]) -> Result<Vec<Path>, AllocError> {
+    let mut left = Vec::new(alloc);
+    for path in paths {
+        if !has_path(others, path) {
+            left.push(path.to_vec(alloc)?)?;
         }
     }
+    Ok(left)
 }
 
-fn is_beginning(names: &[String], others: &[String]) -> bool
-    ensures { result ≡ under (names_view names.now) (names_view others.now) }
-{
-    match (names, others) {
-        ([], _) => true,
-        ([_name, ..], []) => false,
-        ([name, rest @ ..], [other, other_rest @ ..]) => {
-            name.as_bytes().cmp(other.as_bytes()).is_eq() && is_beginning(rest, other_rest)
+/// The paths that are among the others.
+pub fn meet(alloc: Global, paths: &[Path], others: &[Path]) -> Result<Vec<Path>, AllocError> {
+    let mut both = Vec::new(alloc);
+    for path in paths {
+        if has_path(others, path) {
+            both.push(path.to_vec(alloc)?)?;
         }
     }
+    Ok(both)
 }

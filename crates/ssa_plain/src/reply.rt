@@ -1,49 +1,80 @@
-//! Replies to commands.
+//! Replies, as texts of lines.
 
-use crate::path::Path;
-use crate::path_set::PathSet;
-use crate::table::Clash;
-use ssa_json::value::Json;
+use crate::path::{Path, Text};
+use crate::table::Manager;
+use std::alloc::{AllocError, Global};
 
-/// What is wrong with a value in the place of a body.
-#[derive(Clone, Copy, Debug, PartialEq, Eq)]
-pub enum BodyFault {
-    UnknownField,
-    WrongType,
+/// Adds a line's first word.
+pub fn add_word(reply: &mut Text, word: &str) -> Result<(), AllocError> {
+    reply.push(b'\n')?;
+    reply.extend_from_slice(word.as_bytes())
 }
 
-/// Why a command is refused.
-#[derive(Drop)]
-pub enum Fault {
-    Body(BodyFault, Path),
-    Identity,
-    ManagedFieldsGiven,
-    ManagerName,
-    HistoryFull,
-    NothingToUndo,
-    NothingToRedo,
-    /// Each manager that the command clashes with, in table order, with the fields that it would change.
-    Conflict(Vec<Clash>),
-    TooManyPaths,
-    TooManyManagers,
+/// Adds a word and a number.
+pub fn add_number(
+    alloc: Global,
+    reply: &mut Text,
+    word: &str,
+    number: usize,
+) -> Result<(), AllocError> {
+    let digits = format!(in alloc; "{number}")?;
+    add_word(reply, word)?;
+    reply.push(b' ')?;
+    reply.extend_from_slice(digits.as_bytes())
 }
 
-/// What an accepted command changed.
-#[derive(Drop)]
-pub struct Changed {
-    pub added: PathSet,
-    pub modified: PathSet,
-    pub removed: PathSet,
-    /// How many managers the table has afterwards.
-    pub managers: usize,
+/// Adds the elements of a path, each behind a stroke.
+pub fn add_path(reply: &mut Text, path: &[Text]) -> Result<(), AllocError> {
+    reply.push(b' ')?;
+    for element in path {
+        reply.push(b'/')?;
+        reply.extend_from_slice(element)?;
+    }
+    Ok(())
 }
 
-/// The reply to a command. The counts of past and future are those after a move.
-#[derive(Drop)]
-pub enum Reply {
-    Applied(Changed),
-    Undone { past: usize, future: usize },
-    Redone { past: usize, future: usize },
-    Shown(Json),
-    Refused(Fault),
+/// Adds a word and paths.
+pub fn add_paths(reply: &mut Text, word: &str, paths: &[Path]) -> Result<(), AllocError> {
+    add_word(reply, word)?;
+    for path in paths {
+        add_path(reply, path)?;
+    }
+    Ok(())
+}
+
+/// Adds a manager by its operation and its name.
+pub fn add_manager(reply: &mut Text, name: &[u8], applies: bool) -> Result<(), AllocError> {
+    let operation = if applies {
+        "applied by "
+    } else {
+        "updated by "
+    };
+    add_word(reply, operation)?;
+    reply.extend_from_slice(name)
+}
+
+/// The reply to a command in conflict: the managers, each with its fields.
+pub fn conflict(alloc: Global, clashes: &[(Manager, Vec<Path>)]) -> Result<Text, AllocError> {
+    let mut reply = Vec::new(alloc);
+    add_word(&mut reply, "Conflict")?;
+    for (manager, fields) in clashes {
+        add_manager(&mut reply, &manager.name, manager.applies)?;
+        add_paths(&mut reply, "fields", fields)?;
+    }
+    Ok(reply)
+}
+
+/// The reply to a command that is refused without more to tell.
+pub fn refusal(alloc: Global, name: &str) -> Result<Text, AllocError> {
+    let mut reply = Vec::new(alloc);
+    add_word(&mut reply, name)?;
+    Ok(reply)
+}
+
+/// The reply to an undo or a redo.
+pub fn counts(alloc: Global, past: usize, future: usize) -> Result<Text, AllocError> {
+    let mut reply = Vec::new(alloc);
+    add_number(alloc, &mut reply, "past", past)?;
+    add_number(alloc, &mut reply, "future", future)?;
+    Ok(reply)
 }

@@ -1,7 +1,0 @@
-use Rattle.std.proofs.Common.{◌≡◌, take, false}
-use Rattle.std.specs.List.{list_any}
-use Rattle.ssa_model.specs.Path.{same_path}
-use Rattle.ssa_plain.proofs.path_set.has_path.Given as goal
-
-abbrev pub invariant-loop-other : goal.invariant-loop-other
-invariant-loop-other l = list_any (same_path l.path) (take l.other-index l.paths) ≡ false
