@@ -1,5 +1,5 @@
 -- The decisions of an Apply, over what was computed.
-use Rattle.std.proofs.Common.{◌≡◌, ℕ, ◌<◌, ◌≤◌, List, [], ◌∷◌, map, length, Bool, true, false, not, ◌||◌, nat_lt, refl, sym, ap, ◌∙◌, arith, min, ◌-◌, ◌^◌}
+use Rattle.std.proofs.Common.{◌≡◌, ℕ, ◌<◌, ◌≤◌, List, length, Bool, true, false, not, ◌||◌, nat_lt, refl, sym, ap, ◌∙◌, arith, min, ◌-◌, ◌^◌}
 use Rattle.std.proofs.Math.Nat.{min-le_left, min-eq_left, min-eq_right}
 use Rattle.std.proofs.lemmas.Bool.Decides.{nat_tests}
 use Rattle.std.specs.Prelude.{Result, Ok, Err, if◌then◌else◌}

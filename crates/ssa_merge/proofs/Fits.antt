@@ -10,7 +10,6 @@ use Rattle.ssa_model.specs.Table.{ManagerKey, owned_by, seat}
 use Rattle.ssa_model.specs.Operations as model
 use Rattle.ssa_model.specs.Operations.{State, conflict, too_many_paths, too_many_managers, is_none, if_seated, clashes, pruned, apply, update}
 use Rattle.ssa_model.proofs.Pruned.{pruned_fits}
-use Rattle.ssa_merge.specs.States.{state_view}
 use Rattle.ssa_merge.specs.Plans.{IsPlanned}
 use Rattle.ssa_merge.specs.declared.plan.Plan.{Plan}
 use Rattle.ssa_merge.specs.declared.plan.Refusal.{Refusal}

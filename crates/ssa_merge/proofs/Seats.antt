@@ -1,11 +1,11 @@
 -- The table after a command, with a newcomer and without one.
-use Rattle.std.proofs.Common.{◌≡◌, List, [], ◌∷◌, ◌++◌, map, Bool, true, false, not, ◌&&◌, ◌||◌, cond, refl, sym, ap, ◌∙◌}
+use Rattle.std.proofs.Common.{◌≡◌, [], ◌∷◌, ◌++◌, map, Bool, true, false, not, ◌&&◌, ◌||◌, cond, refl, ap, ◌∙◌}
 use Rattle.std.specs.Prelude.{filter, if◌then◌else◌}
 use Rattle.std.proofs.lemmas.List.{map-append, append-nil}
 use Rattle.std.proofs.lemmas.List.Elements.{filter-append}
 use Rattle.ssa_model.specs.Json.{Text}
 use Rattle.ssa_model.specs.PathMap.{PathSet, empty, is_empty, same_set, minus}
-use Rattle.ssa_model.specs.Table.{ManagerKey, Entry, Table, same_manager, is_in_table, with_manager, reseated, seat}
+use Rattle.ssa_model.specs.Table.{ManagerKey, Entry, Table, same_manager, is_in_table, reseated, seat}
 use Rattle.ssa_model.proofs.Tables.{manager-itself}
 use Rattle.ssa_merge.specs.Tables.{owns}
 

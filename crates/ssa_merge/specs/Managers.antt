@@ -2,7 +2,6 @@
 use Rattle.std.specs.Prelude.{List, map, string_bytes}
 use Rattle.ssa_model.specs.PathMap.{PathSet}
 use Rattle.ssa_model.specs.Table as model
-use Rattle.ssa_path.specs.declared.field_set.FieldSet.{FieldSet}
 use Rattle.ssa_merge.specs.declared.manager.Operation.{Operation}
 use Rattle.ssa_merge.specs.declared.manager.Operation.TheVariants.{Apply, Update}
 use Rattle.ssa_merge.specs.declared.manager.ManagerKey.{ManagerKey}

@@ -1,4 +1,4 @@
-use Rattle.std.proofs.Common.{◌≡◌, ◌∙◌}
+use Rattle.std.proofs.Common.{◌∙◌}
 use Rattle.std.specs.Prelude.{Some, None}
 use Rattle.ssa_merge.specs.Managers.{key_view, entry_view}
 use Rattle.ssa_merge.specs.States.{state_view}

@@ -1,10 +1,9 @@
-use Rattle.std.proofs.Common.{◌≡◌, ap, ◌∙◌, ◌||◌, not}
+use Rattle.std.proofs.Common.{ap, ◌∙◌, ◌||◌, not}
 use Rattle.ssa_model.specs.Path.{is_root}
 use Rattle.ssa_model.specs.PathMap.{paths, set_of, union, has_at_or_above, has_at_or_below}
 use Rattle.ssa_model.specs.Body.{points, restricted}
 use Rattle.ssa_model.specs.Table.{owned_by_others}
 use Rattle.ssa_merge.specs.Managers.{key_view}
-use Rattle.ssa_merge.specs.States.{state_view}
 use Rattle.ssa_merge.proofs.given_up.pruned.Goals as goal
 
 pub returns : goal.returns

@@ -1,4 +1,4 @@
-use Rattle.std.proofs.Common.{◌≡◌, sym, subst}
+use Rattle.std.proofs.Common.{sym, subst}
 use Rattle.ssa_typed.specs.Differences.{IsComparison}
 use Rattle.ssa_model.specs.Body.{Body}
 use Rattle.ssa_model.specs.Fitting.{IsBodyOf}

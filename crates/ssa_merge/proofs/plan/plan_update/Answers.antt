@@ -1,4 +1,4 @@
-use Rattle.std.proofs.Common.{◌≡◌, subst}
+use Rattle.std.proofs.Common.{subst}
 use Rattle.ssa_model.specs.Table.{ManagerKey}
 use Rattle.ssa_model.specs.Operations.{update}
 use Rattle.ssa_merge.specs.Managers.{key_view}

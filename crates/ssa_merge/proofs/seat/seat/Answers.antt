@@ -1,4 +1,4 @@
-use Rattle.std.proofs.Common.{◌≡◌, ◌∷◌, [], ◌++◌, not, filter, map, ap, ◌∙◌, sym}
+use Rattle.std.proofs.Common.{◌∷◌, [], ◌++◌, not, filter, map, ap, ◌∙◌, sym}
 use Rattle.std.proofs.lemmas.List.{map-append}
 use Rattle.ssa_model.specs.Table as model
 use Rattle.ssa_model.specs.Table.{is_in_table, reseated}
