@@ -147,7 +147,7 @@ impl Pair {
         Ok(Replies { bench, plain })
     }
 
-    // Some command: of twenty eleven Applies, two of them forced, and four Updates.
+    // Some command, of two in three an Apply, and of four Applies one forced.
     fn some_replies(&mut self, alloc: Global, state: &mut u64) -> Result<Replies, Fail> {
         match next(state, 60) {
             0 => self.strip(alloc),
@@ -169,21 +169,73 @@ impl Pair {
     }
 }
 
-fn run(rt: &impl Abort, alloc: Global, seed: u64, count: usize) -> Result<(), Fail> {
+// Carries out some commands, of which more than a hundred are accepted.
+fn run(rt: &impl Abort, alloc: Global, seed: u64) -> Result<(), Fail> {
     let mut state = seed;
     let mut pair = begin(alloc, &mut state)?;
-    for i in 0..count {
+    for i in 0..400 {
         let replies = pair.some_replies(alloc, &mut state)?;
         assert!(rt; replies.bench == replies.plain, "at {i}");
         assert!(rt; pair.agrees(alloc)?, "the states at {i}");
     }
+    assert!(rt; pair.bench.past_len() > 100);
     Ok(())
 }
 
 #[test]
 fn benches_answer_as_plain_lists(rt: HostRuntime) -> Result<(), Fail> {
-    for seed in [1, 2, 3] {
-        run(&rt, rt.alloc(), seed, 400)?;
+    run(&rt, rt.alloc(), 1)
+}
+
+#[test]
+fn benches_answer_so_from_another_seed(rt: HostRuntime) -> Result<(), Fail> {
+    run(&rt, rt.alloc(), 2)
+}
+
+#[test]
+fn benches_answer_so_from_a_third_seed(rt: HostRuntime) -> Result<(), Fail> {
+    run(&rt, rt.alloc(), 3)
+}
+
+// The plain engine's reply to an Apply without force.
+fn applied(
+    alloc: Global,
+    history: &mut History,
+    schema: &Schema,
+    name: &str,
+    config: &str,
+) -> Result<Text, Fail> {
+    let json = Json::read(alloc, config.as_bytes(), config.len())?;
+    let rows = flat(alloc, &json, schema.kind())?;
+    let act = act_of(alloc, name)?;
+    Ok(history.apply(alloc, &act, &rows, false)?)
+}
+
+#[test]
+fn the_plain_engine_tells_changes_and_conflicts(rt: HostRuntime) -> Result<(), Fail> {
+    let alloc = rt.alloc();
+    let schema = schema(alloc)?;
+    let empty = Json::read(alloc, b"{}", 2)?;
+    let mut history = History::new(alloc, flat(alloc, &empty, schema.kind())?);
+    for (name, config, want) in [
+        (
+            "m1",
+            "{\"hosts\":[\"b\",\"a\"],\"spec\":{\"size\":9}}",
+            "\nadded /f:hosts/v:\"a\" /f:hosts/v:\"b\" /f:spec/f:size\nmodified\nremoved\nmanagers 1",
+        ),
+        (
+            "m2",
+            "{\"spec\":{\"size\":10}}",
+            "\nConflict\napplied by m1\nfields /f:spec/f:size",
+        ),
+        (
+            "m1",
+            "{\"spec\":{\"size\":10}}",
+            "\nadded\nmodified /f:spec/f:size\nremoved /f:hosts /f:hosts/v:\"a\" /f:hosts/v:\"b\"\nmanagers 1",
+        ),
+    ] {
+        let reply = applied(alloc, &mut history, &schema, name, config)?;
+        assert!(rt; reply.as_slice() == want.as_bytes(), "{name} {config}");
     }
     Ok(())
 }

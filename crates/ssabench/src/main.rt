@@ -17,8 +17,6 @@ mod read_command;
 mod read_line;
 mod reply_text;
 #[cfg(test)]
-mod row_tests;
-#[cfg(test)]
 mod tests;
 #[cfg(test)]
 mod text_tests;
