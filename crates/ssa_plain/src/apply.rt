@@ -1,4 +1,5 @@
 //! What Apply, Update and Strip make of a state.
+ghost use Rattle.std.specs.Prelude.{◌≡◌, [], IfOk};
 
 use crate::body::{Row, added, has, modified, over, points, removed, restricted};
 use crate::path::{Path, has_at_or_above, has_at_or_below, is_key_field, minus, union};
@@ -167,7 +168,9 @@ pub fn update(
 }
 
 /// The state without managers.
-pub fn strip(alloc: Global, state: &State) -> Result<State, AllocError> {
+pub fn strip(alloc: Global, state: &State) -> Result<State, AllocError>
+    ensures { IfOk result (λ s. s.table.items ≡ []) }
+{
     Ok(State {
         body: state.body.to_vec(alloc)?,
         table: Vec::new(alloc),
