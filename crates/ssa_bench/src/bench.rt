@@ -4,7 +4,6 @@ ghost use Rattle.ssa_model.specs.Answers.{answer, apply, update, strip, undo, re
 ghost use Rattle.ssa_model.specs.Entries.{object_of_state};
 ghost use Rattle.ssa_model.specs.Fitting.{IsBodyOf};
 ghost use Rattle.ssa_model.specs.History.{past_len, future_len, present};
-ghost use Rattle.ssa_model.specs.Operations.{dropped};
 ghost use Rattle.ssa_json.specs.View.{view};
 ghost use Rattle.ssa_bench.specs.Benches.{lone_bench, next_bench, Begins, CanCommit, IsExecuted, IsMade, IsMoved, IsPrepared, tested_body, update_answer};
 ghost use Rattle.ssa_bench.specs.Faults.{IsGiven};
@@ -162,7 +161,7 @@ impl Bench {
         config: Body,
     ) -> Result<Prepared, Fault>
         requires { IsBodyOf self.now.kind config }
-        ensures { IsPrepared self.now result (apply_answer dropped self.now (string_bytes who) force at config) (codes "apply") }
+        ensures { IsPrepared self.now result (apply_answer self.now (string_bytes who) force at config) (codes "apply") }
     {
         let now = self.timeline.present();
         match plan_apply(alloc, now, config, who.as_str(), force, at) {
@@ -180,7 +179,7 @@ impl Bench {
         at: Moment,
         object: &Json,
     ) -> Result<Prepared, Fault>
-        ensures { IsPrepared self.now result (answer dropped self.now (apply (string_bytes who) force at (view object.now))) (codes "apply") }
+        ensures { IsPrepared self.now result (answer self.now (apply (string_bytes who) force at (view object.now))) (codes "apply") }
     {
         match self.tested_body(alloc, who.as_str(), object) {
             Ok(config) => self.prepare_configuration(alloc, who, force, at, config),
@@ -214,7 +213,7 @@ impl Bench {
         at: Moment,
         object: &Json,
     ) -> Result<Prepared, Fault>
-        ensures { IsPrepared self.now result (answer dropped self.now (update (string_bytes who) at (view object.now))) (codes "update") }
+        ensures { IsPrepared self.now result (answer self.now (update (string_bytes who) at (view object.now))) (codes "update") }
     {
         match self.tested_body(alloc, who.as_str(), object) {
             Ok(body) => self.prepare_replacement(alloc, who, at, body),
@@ -224,7 +223,7 @@ impl Bench {
 
     // A Strip.
     fn prepare_strip(&self, alloc: Global) -> Result<Prepared, Fault>
-        ensures { IsPrepared self.now result (answer dropped self.now strip) (codes "strip") }
+        ensures { IsPrepared self.now result (answer self.now strip) (codes "strip") }
     {
         if self.timeline.past_len() >= MOST_PAST {
             return Err(Fault::HistoryFull);
@@ -239,7 +238,7 @@ impl Bench {
     /// them, `Conflict`, `TooManyPaths`, `TooManyManagers`. A command that changes nothing is a step
     /// of the history like any other.
     pub fn prepare(&self, alloc: Global, command: Command) -> Result<Prepared, Fault>
-        ensures { IsPrepared self.now result (answer dropped self.now (command_view command)) (command_word command) }
+        ensures { IsPrepared self.now result (answer self.now (command_view command)) (command_word command) }
     {
         match command {
             Command::Apply {
@@ -267,7 +266,7 @@ impl Bench {
 
     /// Prepares a command and carries it out. The bench stays as it was where the command is refused.
     pub fn execute(&mut self, alloc: Global, command: Command) -> Result<Changed, Fault>
-        ensures { IsExecuted self.old self.new result (answer dropped self.old (command_view command)) (command_word command) }
+        ensures { IsExecuted self.old self.new result (answer self.old (command_view command)) (command_word command) }
     {
         match self.prepare(alloc, command) {
             Ok(prepared) => {
@@ -280,7 +279,7 @@ impl Bench {
 
     /// Goes back to the state before the last command. Takes no memory.
     pub fn undo(&mut self) -> Result<Counts, Fault>
-        ensures { IsMoved self.old self.new result (answer dropped self.old undo) (codes "undo") }
+        ensures { IsMoved self.old self.new result (answer self.old undo) (codes "undo") }
     {
         if self.timeline.past_len() == 0 {
             return Err(Fault::NothingToUndo);
@@ -295,7 +294,7 @@ impl Bench {
 
     /// Goes on to the state after the next command. Takes no memory.
     pub fn redo(&mut self) -> Result<Counts, Fault>
-        ensures { IsMoved self.old self.new result (answer dropped self.old redo) (codes "redo") }
+        ensures { IsMoved self.old self.new result (answer self.old redo) (codes "redo") }
     {
         if self.timeline.future_len() == 0 {
             return Err(Fault::NothingToRedo);

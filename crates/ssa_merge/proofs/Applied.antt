@@ -9,7 +9,7 @@ use Rattle.ssa_model.specs.Body as bodies
 use Rattle.ssa_model.specs.Body.{points, modified}
 use Rattle.ssa_model.specs.Table.{ManagerKey, Table, seat}
 use Rattle.ssa_model.specs.Operations as model
-use Rattle.ssa_model.specs.Operations.{State, conflict, too_many_paths, too_many_managers, is_none, if_seated, apply_without, pruned_without, clashes}
+use Rattle.ssa_model.specs.Operations.{State, conflict, too_many_paths, too_many_managers, is_none, if_seated, pruned, clashes}
 use Rattle.ssa_typed.specs.Differences.{IsComparison}
 use Rattle.ssa_merge.specs.States.{state_view}
 use Rattle.ssa_merge.specs.Tables.{IsSeated}
@@ -30,19 +30,19 @@ decided force clash places body table =
     if not (force || is_none clash) then Err (conflict clash)
     else (if nat_lt 20001 places then Err too_many_paths else if_seated (record { body = body; table = table }))
 
-module _ (gone : PathSet) (state : State) (a : ManagerKey) (config : bodies.Body) (force : Bool) (at : Text) where
+module _ (state : State) (a : ManagerKey) (config : bodies.Body) (force : Bool) (at : Text) where
   abbrev given : bodies.Body → Result State model.Refusal
   given body =
       let changed = modified state.body body in
       decided force (clashes a changed state.table) (size body) body (seat state.table a (points config) changed changed at)
 
-  pub apply_without-decided : (body : bodies.Body) (clash : List (ManagerKey × PathSet)) (places : ℕ) (table : Table)
-      → body ≡ pruned_without gone state a config
+  pub apply-decided : (body : bodies.Body) (clash : List (ManagerKey × PathSet)) (places : ℕ) (table : Table)
+      → body ≡ pruned state a config
       → clash ≡ clashes a (modified state.body body) state.table
       → places ≡ size body
       → table ≡ seat state.table a (points config) (modified state.body body) (modified state.body body) at
-      → apply_without gone state a config force at ≡ decided force clash places body table
-  apply_without-decided body clash places table b c n t = ap given (sym b) ∙ (λ i. decided force (sym c i) (sym n i) body (sym t i))
+      → model.apply state a config force at ≡ decided force clash places body table
+  apply-decided body clash places table b c n t = ap given (sym b) ∙ (λ i. decided force (sym c i) (sym n i) body (sym t i))
 
 pub decided-conflict : (force : Bool) (clash : List (ManagerKey × PathSet)) (places : ℕ) (body : bodies.Body) (table : Table) → not (force || is_none clash) ≡ true → decided force clash places body table ≡ Err (conflict clash)
 decided-conflict force clash places body table h =

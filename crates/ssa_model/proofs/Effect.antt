@@ -6,101 +6,100 @@ use Rattle.ssa_model.specs.Json.{Text, Json}
 use Rattle.ssa_model.specs.Body.{Body}
 use Rattle.ssa_model.specs.Operations.{State, Refusal}
 use Rattle.ssa_model.specs.History.{Step, Bench, present, past_len, future_len, last_state, moved_to, is_manager_name}
-use Rattle.ssa_model.specs.Answers.{GivingUp, Answer, Fault, fault, Command, apply, update, strip, undo, redo, show, owners, log, answer, accept, accept_or_refuse, with_body, apply_answer, command_body}
+use Rattle.ssa_model.specs.Answers.{Answer, Fault, fault, Command, apply, update, strip, undo, redo, show, owners, log, answer, accept, accept_or_refuse, with_body, apply_answer, command_body}
 use Rattle.ssa_model.specs.Effect.{body_in, deed_of, Deed, applying, updating, stripping, label_of, carried_out, and_then, all_carried_out, AreSteps, IsHistory, KeepsHistory, PresentIsCarriedOut, HistoriesAreCarriedOut}
 
-module _ (given_up : GivingUp) where
-  steps-take : (n : ℕ) (s : State) (ds : List Deed) (ts : List Step) → AreSteps given_up s ds ts → AreSteps given_up s (take n ds) (take n ts)
-  steps-take zero s ds ts h = tt
-  steps-take (suc n) s [] [] h = tt
-  steps-take (suc n) s [] (t ∷ ts) h = h
-  steps-take (suc n) s (d ∷ ds) [] h = h
-  steps-take (suc n) s (d ∷ ds) (t ∷ ts) h = (h.0, h.1, steps-take n t.state ds ts h.2)
+steps-take : (n : ℕ) (s : State) (ds : List Deed) (ts : List Step) → AreSteps s ds ts → AreSteps s (take n ds) (take n ts)
+steps-take zero s ds ts h = tt
+steps-take (suc n) s [] [] h = tt
+steps-take (suc n) s [] (t ∷ ts) h = h
+steps-take (suc n) s (d ∷ ds) [] h = h
+steps-take (suc n) s (d ∷ ds) (t ∷ ts) h = (h.0, h.1, steps-take n t.state ds ts h.2)
 
-  steps-push : (s : State) (ds : List Deed) (ts : List Step) (d : Deed) (t : Step) → AreSteps given_up s ds ts
-      → t.label ≡ label_of d → carried_out given_up (last_state s ts) d ≡ Ok t.state → AreSteps given_up s (ds ++ d ∷ []) (ts ++ t ∷ [])
-  steps-push s [] [] d t h l e = (l, e, tt)
-  steps-push s [] (u ∷ ts) d t h l e = absurd h
-  steps-push s (c ∷ ds) [] d t h l e = absurd h
-  steps-push s (c ∷ ds) (u ∷ ts) d t h l e = (h.0, h.1, steps-push u.state ds ts d t h.2 l e)
+steps-push : (s : State) (ds : List Deed) (ts : List Step) (d : Deed) (t : Step) → AreSteps s ds ts
+    → t.label ≡ label_of d → carried_out (last_state s ts) d ≡ Ok t.state → AreSteps s (ds ++ d ∷ []) (ts ++ t ∷ [])
+steps-push s [] [] d t h l e = (l, e, tt)
+steps-push s [] (u ∷ ts) d t h l e = absurd h
+steps-push s (c ∷ ds) [] d t h l e = absurd h
+steps-push s (c ∷ ds) (u ∷ ts) d t h l e = (h.0, h.1, steps-push u.state ds ts d t h.2 l e)
 
-  all_carried_out-steps : (s : State) (ds : List Deed) (ts : List Step) → AreSteps given_up s ds ts → all_carried_out given_up s ds ≡ Ok (last_state s ts)
-  all_carried_out-steps s [] [] h = refl
-  all_carried_out-steps s [] (t ∷ ts) h = absurd h
-  all_carried_out-steps s (d ∷ ds) [] h = absurd h
-  all_carried_out-steps s (d ∷ ds) (t ∷ ts) h = ap (λ r. and_then given_up r (λ u. all_carried_out given_up u ds)) h.1 ∙ all_carried_out-steps t.state ds ts h.2
+all_carried_out-steps : (s : State) (ds : List Deed) (ts : List Step) → AreSteps s ds ts → all_carried_out s ds ≡ Ok (last_state s ts)
+all_carried_out-steps s [] [] h = refl
+all_carried_out-steps s [] (t ∷ ts) h = absurd h
+all_carried_out-steps s (d ∷ ds) [] h = absurd h
+all_carried_out-steps s (d ∷ ds) (t ∷ ts) h = ap (λ r. and_then r (λ u. all_carried_out u ds)) h.1 ∙ all_carried_out-steps t.state ds ts h.2
 
-  present_is : PresentIsCarriedOut given_up
-  present_is t h = all_carried_out-steps t.first (take t.place h.deeds) (take t.place t.later) (steps-take t.place t.first h.deeds t.later h.steps)
+present_is : PresentIsCarriedOut
+present_is t h = all_carried_out-steps t.first (take t.place h.deeds) (take t.place t.later) (steps-take t.place t.first h.deeds t.later h.steps)
 
-  longer : (n : ℕ) (ts : List Step) (t : Step) → n ≤ length ts → n + 1 ≤ length (take n ts ++ t ∷ [])
-  longer n ts t h = grind (arith, length-append (take n ts) (t ∷ []), length-take n ts)
+longer : (n : ℕ) (ts : List Step) (t : Step) → n ≤ length ts → n + 1 ≤ length (take n ts ++ t ∷ [])
+longer n ts t h = grind (arith, length-append (take n ts) (t ∷ []), length-take n ts)
 
-  module _ (bench : Bench) (h : IsHistory given_up bench.timeline) where
-    abbrev Keeps : Command → Answer → Type 0
-    Keeps c a = KeepsHistory given_up bench c h a.1.timeline
+module _ (bench : Bench) (h : IsHistory bench.timeline) where
+  abbrev Keeps : Command → Answer → Type 0
+  Keeps c a = KeepsHistory bench c h a.1.timeline
 
-    same : (c : Command) → KeepsHistory given_up bench c h bench.timeline
-    same c = record { first = refl; history = h; deeds = inl refl }
+  same : (c : Command) → KeepsHistory bench c h bench.timeline
+  same c = record { first = refl; history = h; deeds = inl refl }
 
-    accepted : (c : Command) (word : Text) (d : Deed) (s : State) → deed_of bench c ≡ Some d → carried_out given_up (present bench.timeline) d ≡ Ok s → Keeps c (accept bench word (label_of d) s)
-    accepted c word d s own e =
-        let t = bench.timeline in
-        let step : Step = record { label = label_of d; state = s } in
-        record {
-          first = refl;
-          history = record {
-            deeds = take t.place h.deeds ++ d ∷ [];
-            steps = steps-push t.first (take t.place h.deeds) (take t.place t.later) d step (steps-take t.place t.first h.deeds t.later h.steps) refl e;
-            place = longer t.place t.later step h.place;
-          };
-          deeds = inr (d, own, refl);
-        }
+  accepted : (c : Command) (word : Text) (d : Deed) (s : State) → deed_of bench c ≡ Some d → carried_out (present bench.timeline) d ≡ Ok s → Keeps c (accept bench word (label_of d) s)
+  accepted c word d s own e =
+      let t = bench.timeline in
+      let step : Step = record { label = label_of d; state = s } in
+      record {
+        first = refl;
+        history = record {
+          deeds = take t.place h.deeds ++ d ∷ [];
+          steps = steps-push t.first (take t.place h.deeds) (take t.place t.later) d step (steps-take t.place t.first h.deeds t.later h.steps) refl e;
+          place = longer t.place t.later step h.place;
+        };
+        deeds = inr (d, own, refl);
+      }
 
-    given : (c : Command) (word : Text) (d : Deed) (r : Result State Refusal) → deed_of bench c ≡ Some d → carried_out given_up (present bench.timeline) d ≡ r → Keeps c (accept_or_refuse bench word (label_of d) r)
-    given c word d (Ok s) own e = accepted c word d s own e
-    given c word d (Err r) own e = same c
+  given : (c : Command) (word : Text) (d : Deed) (r : Result State Refusal) → deed_of bench c ≡ Some d → carried_out (present bench.timeline) d ≡ r → Keeps c (accept_or_refuse bench word (label_of d) r)
+  given c word d (Ok s) own e = accepted c word d s own e
+  given c word d (Err r) own e = same c
 
-    one_of : (c : Command) (b : Bool) (x y : Answer) → Keeps c x → Keeps c y → Keeps c (if b then x else y)
-    one_of c true x y p q = p
-    one_of c false x y p q = q
+  one_of : (c : Command) (b : Bool) (x y : Answer) → Keeps c x → Keeps c y → Keeps c (if b then x else y)
+  one_of c true x y p q = p
+  one_of c false x y p q = q
 
-    of_body : (c : Command) (r : Result Body Fault) (go : Body → Answer) → ((body : Body) → r ≡ Ok body → Keeps c (go body)) → Keeps c (elim r [ Ok body ↦ go body | Err f ↦ (fault f, bench) ])
-    of_body c (Ok body) go p = p body refl
-    of_body c (Err f) go p = same c
+  of_body : (c : Command) (r : Result Body Fault) (go : Body → Answer) → ((body : Body) → r ≡ Ok body → Keeps c (go body)) → Keeps c (elim r [ Ok body ↦ go body | Err f ↦ (fault f, bench) ])
+  of_body c (Ok body) go p = p body refl
+  of_body c (Err f) go p = same c
 
-    with_body-keeps : (c : Command) (who : Text) (v : Json) (go : Body → Answer) → ((body : Body) → command_body bench v ≡ Ok body → Keeps c (go body)) → Keeps c (with_body bench who v go)
-    with_body-keeps c who v go p =
-        one_of c (nat_le 1000 (past_len bench.timeline)) _ _ (same c)
-        (one_of c (not (is_manager_name who)) _ _ (same c) (of_body c (command_body bench v) go p))
+  with_body-keeps : (c : Command) (who : Text) (v : Json) (go : Body → Answer) → ((body : Body) → command_body bench v ≡ Ok body → Keeps c (go body)) → Keeps c (with_body bench who v go)
+  with_body-keeps c who v go p =
+      one_of c (nat_le 1000 (past_len bench.timeline)) _ _ (same c)
+      (one_of c (not (is_manager_name who)) _ _ (same c) (of_body c (command_body bench v) go p))
 
-    moved : (c : Command) (n : ℕ) → n ≤ length bench.timeline.later → KeepsHistory given_up bench c h (moved_to bench.timeline n)
-    moved c n fits = record { first = refl; history = record { deeds = h.deeds; steps = h.steps; place = fits }; deeds = inl refl }
+  moved : (c : Command) (n : ℕ) → n ≤ length bench.timeline.later → KeepsHistory bench c h (moved_to bench.timeline n)
+  moved c n fits = record { first = refl; history = record { deeds = h.deeds; steps = h.steps; place = fits }; deeds = inl refl }
 
-    unless : (c : Command) (b : Bool) (x y : Answer) → Keeps c x → (b ≡ false → Keeps c y) → Keeps c (if b then x else y)
-    unless c true x y p q = p
-    unless c false x y p q = q refl
+  unless : (c : Command) (b : Bool) (x y : Answer) → Keeps c x → (b ≡ false → Keeps c y) → Keeps c (if b then x else y)
+  unless c true x y p q = p
+  unless c false x y p q = q refl
 
-    back : (n m : ℕ) → n ≤ m → n - 1 ≤ m
-    back n m le = omega (arith, le)
+  back : (n m : ℕ) → n ≤ m → n - 1 ≤ m
+  back n m le = omega (arith, le)
 
-    forth : (n m : ℕ) → (m - n == 0) ≡ false → n + 1 ≤ m
-    forth n m e = grind (arith, nat_tests)
+  forth : (n m : ℕ) → (m - n == 0) ≡ false → n + 1 ≤ m
+  forth n m e = grind (arith, nat_tests)
 
-    keeps : (c : Command) → Keeps c (answer given_up bench c)
-    keeps (apply who force at v) =
-        with_body-keeps (apply who force at v) who v (apply_answer given_up bench who force at)
-        (λ config e. given (apply who force at v) (codes "apply") (applying who force at config) _ (ap (λ r. option_map (applying who force at) (body_in r)) e) refl)
-    keeps (update who at v) =
-        with_body-keeps (update who at v) who v _
-        (λ body e. given (update who at v) (codes "update") (updating who at body) _ (ap (λ r. option_map (updating who at) (body_in r)) e) refl)
-    keeps strip = one_of strip (nat_le 1000 (past_len bench.timeline)) _ _ (same strip) (accepted strip (codes "strip") stripping _ refl refl)
-    keeps undo = one_of undo (past_len bench.timeline == 0) _ _ (same undo) (moved undo (bench.timeline.place - 1) (back bench.timeline.place (length bench.timeline.later) h.place))
-    keeps redo =
-        unless redo (future_len bench.timeline == 0) _ _ (same redo) (λ e. moved redo (bench.timeline.place + 1) (forth bench.timeline.place (length bench.timeline.later) e))
-    keeps (show managed) = same (show managed)
-    keeps (owners p) = same (owners p)
-    keeps log = same log
+  keeps : (c : Command) → Keeps c (answer bench c)
+  keeps (apply who force at v) =
+      with_body-keeps (apply who force at v) who v (apply_answer bench who force at)
+      (λ config e. given (apply who force at v) (codes "apply") (applying who force at config) _ (ap (λ r. option_map (applying who force at) (body_in r)) e) refl)
+  keeps (update who at v) =
+      with_body-keeps (update who at v) who v _
+      (λ body e. given (update who at v) (codes "update") (updating who at body) _ (ap (λ r. option_map (updating who at) (body_in r)) e) refl)
+  keeps strip = one_of strip (nat_le 1000 (past_len bench.timeline)) _ _ (same strip) (accepted strip (codes "strip") stripping _ refl refl)
+  keeps undo = one_of undo (past_len bench.timeline == 0) _ _ (same undo) (moved undo (bench.timeline.place - 1) (back bench.timeline.place (length bench.timeline.later) h.place))
+  keeps redo =
+      unless redo (future_len bench.timeline == 0) _ _ (same redo) (λ e. moved redo (bench.timeline.place + 1) (forth bench.timeline.place (length bench.timeline.later) e))
+  keeps (show managed) = same (show managed)
+  keeps (owners p) = same (owners p)
+  keeps log = same log
 
 pub histories_are_carried_out : HistoriesAreCarriedOut
-histories_are_carried_out given_up = (λ bench c old. keeps given_up bench old c, present_is given_up)
+histories_are_carried_out = (λ bench c old. keeps bench old c, present_is)

@@ -7,7 +7,7 @@ use Rattle.ssa_model.specs.Kind.{Kind, BodyFault, wrong_type, faults}
 use Rattle.ssa_model.specs.Body.{Body, flat, added, modified, removed}
 use Rattle.ssa_model.specs.Table.{applies, updates, ManagerKey, Table}
 use Rattle.ssa_model.specs.Operations as operations
-use Rattle.ssa_model.specs.Operations.{State, Refusal, too_many_paths, apply_without, dropped}
+use Rattle.ssa_model.specs.Operations.{State, Refusal, too_many_paths}
 use Rattle.ssa_model.specs.Objects.{value_at, identity_of, is_missing, is_some_object, is_identity, same_identity, body_value}
 use Rattle.ssa_model.specs.Entries.{object_of_state}
 use Rattle.ssa_model.specs.History.{Label, applied, updated, stripped, Timeline, Bench, present, past_len, future_len, appended, moved_to, with_timeline, is_manager_name}
@@ -129,34 +129,27 @@ owners_of table p = map (λ e. e.manager) (filter (λ e. has e.owned p) table)
 abbrev pub labels_of : Bench → List Label
 labels_of bench = map (λ s. s.label) bench.timeline.later
 
--- which paths an Apply of a configuration by a manager gives up
-abbrev pub GivingUp : Type 0
-GivingUp = State → ManagerKey → Body → PathSet
+abbrev pub apply_answer : Bench → Text → Bool → Text → Body → Answer
+apply_answer bench who force at config =
+    accept_or_refuse bench (codes "apply") (applied who force at) (operations.apply (present bench.timeline) (record { name = who; operation = applies }) config force at)
 
-module _ (given_up : GivingUp) where
-  abbrev pub apply_answer : Bench → Text → Bool → Text → Body → Answer
-  apply_answer bench who force at config =
-      let now = present bench.timeline in
-      let a : ManagerKey = record { name = who; operation = applies } in
-      accept_or_refuse bench (codes "apply") (applied who force at) (apply_without (given_up now a config) now a config force at)
+abbrev pub answer : Bench → Command → Answer
+answer bench (apply who force at v) = with_body bench who v (apply_answer bench who force at)
+answer bench (update who at v) =
+    with_body bench who v (λ body. accept_or_refuse bench (codes "update") (updated who at) (operations.update (present bench.timeline) (record { name = who; operation = updates }) body at))
+answer bench strip =
+    if nat_le 1000 (past_len bench.timeline) then (fault history_full, bench)
+    else accept bench (codes "strip") stripped (operations.strip (present bench.timeline))
+answer bench undo =
+    if past_len bench.timeline == 0 then (fault nothing_to_undo, bench)
+    else (moved (codes "undo") (past_len bench.timeline - 1) (future_len bench.timeline + 1), with_timeline bench (moved_to bench.timeline (bench.timeline.place - 1)))
+answer bench redo =
+    if future_len bench.timeline == 0 then (fault nothing_to_redo, bench)
+    else (moved (codes "redo") (past_len bench.timeline + 1) (future_len bench.timeline - 1), with_timeline bench (moved_to bench.timeline (bench.timeline.place + 1)))
+answer bench (show managed) = (shown (object_of_state bench.identity bench.kind managed (present bench.timeline)), bench)
+answer bench (owners p) = (owned_by (owners_of (present bench.timeline).table p), bench)
+answer bench log = (logged (take bench.timeline.place (labels_of bench)) (drop bench.timeline.place (labels_of bench)), bench)
 
-  abbrev pub answer : Bench → Command → Answer
-  answer bench (apply who force at v) = with_body bench who v (apply_answer bench who force at)
-  answer bench (update who at v) =
-      with_body bench who v (λ body. accept_or_refuse bench (codes "update") (updated who at) (operations.update (present bench.timeline) (record { name = who; operation = updates }) body at))
-  answer bench strip =
-      if nat_le 1000 (past_len bench.timeline) then (fault history_full, bench)
-      else accept bench (codes "strip") stripped (operations.strip (present bench.timeline))
-  answer bench undo =
-      if past_len bench.timeline == 0 then (fault nothing_to_undo, bench)
-      else (moved (codes "undo") (past_len bench.timeline - 1) (future_len bench.timeline + 1), with_timeline bench (moved_to bench.timeline (bench.timeline.place - 1)))
-  answer bench redo =
-      if future_len bench.timeline == 0 then (fault nothing_to_redo, bench)
-      else (moved (codes "redo") (past_len bench.timeline + 1) (future_len bench.timeline - 1), with_timeline bench (moved_to bench.timeline (bench.timeline.place + 1)))
-  answer bench (show managed) = (shown (object_of_state bench.identity bench.kind managed (present bench.timeline)), bench)
-  answer bench (owners p) = (owned_by (owners_of (present bench.timeline).table p), bench)
-  answer bench log = (logged (take bench.timeline.place (labels_of bench)) (drop bench.timeline.place (labels_of bench)), bench)
-
-  abbrev pub run : Bench → List Command → List Reply × Bench
-  run bench [] = ([], bench)
-  run bench (c ∷ cs) = let first = answer bench c in let rest = run first.1 cs in (first.0 ∷ rest.0, rest.1)
+abbrev pub run : Bench → List Command → List Reply × Bench
+run bench [] = ([], bench)
+run bench (c ∷ cs) = let first = answer bench c in let rest = run first.1 cs in (first.0 ∷ rest.0, rest.1)

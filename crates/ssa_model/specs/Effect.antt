@@ -4,9 +4,9 @@ use Rattle.ssa_model.specs.Json.{Text}
 use Rattle.ssa_model.specs.Body.{Body}
 use Rattle.ssa_model.specs.Table.{applies, updates, ManagerKey}
 use Rattle.ssa_model.specs.Operations as operations
-use Rattle.ssa_model.specs.Operations.{State, Refusal, apply_without}
+use Rattle.ssa_model.specs.Operations.{State, Refusal}
 use Rattle.ssa_model.specs.History.{Label, applied, updated, stripped, Step, Timeline, Bench, present}
-use Rattle.ssa_model.specs.Answers.{GivingUp, Command, apply, update, strip, undo, redo, show, owners, log, Fault, command_body, answer}
+use Rattle.ssa_model.specs.Answers.{Command, apply, update, strip, undo, redo, show, owners, log, Fault, command_body, answer}
 
 -- an accepted command, with the body of its object
 pub data Deed : Type 0 where
@@ -34,49 +34,46 @@ deed_of bench (show managed) = None
 deed_of bench (owners p) = None
 deed_of bench log = None
 
-module _ (given_up : GivingUp) where
-  -- the state that a command makes of a state
-  abbrev pub carried_out : State → Deed → Result State Refusal
-  carried_out s (applying who force at config) =
-      let a : ManagerKey = record { name = who; operation = applies } in
-      apply_without (given_up s a config) s a config force at
-  carried_out s (updating who at object) = operations.update s (record { name = who; operation = updates }) object at
-  carried_out s stripping = Ok (operations.strip s)
+-- the state that a command makes of a state
+abbrev pub carried_out : State → Deed → Result State Refusal
+carried_out s (applying who force at config) =
+    operations.apply s (record { name = who; operation = applies }) config force at
+carried_out s (updating who at object) = operations.update s (record { name = who; operation = updates }) object at
+carried_out s stripping = Ok (operations.strip s)
 
-  abbrev pub and_then : Result State Refusal → (State → Result State Refusal) → Result State Refusal
-  and_then (Ok s) go = go s
-  and_then (Err r) go = Err r
+abbrev pub and_then : Result State Refusal → (State → Result State Refusal) → Result State Refusal
+and_then (Ok s) go = go s
+and_then (Err r) go = Err r
 
-  -- one after the other
-  abbrev pub all_carried_out : State → List Deed → Result State Refusal
-  all_carried_out s [] = Ok s
-  all_carried_out s (d ∷ ds) = and_then (carried_out s d) (λ t. all_carried_out t ds)
+-- one after the other
+abbrev pub all_carried_out : State → List Deed → Result State Refusal
+all_carried_out s [] = Ok s
+all_carried_out s (d ∷ ds) = and_then (carried_out s d) (λ t. all_carried_out t ds)
 
-  -- each step is its deed, carried out on the state before it
-  abbrev pub AreSteps : State → List Deed → List Step → Type 0
-  AreSteps s [] [] = Unit {0}
-  AreSteps s [] (t ∷ ts) = ⊥
-  AreSteps s (d ∷ ds) [] = ⊥
-  AreSteps s (d ∷ ds) (t ∷ ts) = (t.label ≡ label_of d) × (carried_out s d ≡ Ok t.state) × AreSteps t.state ds ts
+-- each step is its deed, carried out on the state before it
+abbrev pub AreSteps : State → List Deed → List Step → Type 0
+AreSteps s [] [] = Unit {0}
+AreSteps s [] (t ∷ ts) = ⊥
+AreSteps s (d ∷ ds) [] = ⊥
+AreSteps s (d ∷ ds) (t ∷ ts) = (t.label ≡ label_of d) × (carried_out s d ≡ Ok t.state) × AreSteps t.state ds ts
 
-  pub record IsHistory (t : Timeline) : Type 0 where
-    pub deeds : List Deed
-    pub steps : AreSteps t.first deeds t.later
-    pub place : t.place ≤ length t.later
+pub record IsHistory (t : Timeline) : Type 0 where
+  pub deeds : List Deed
+  pub steps : AreSteps t.first deeds t.later
+  pub place : t.place ≤ length t.later
 
-  -- An answer leaves such a history, from the same first state: of the same deeds, or of those up to the place and the command's own.
-  pub record KeepsHistory (bench : Bench) (c : Command) (old : IsHistory bench.timeline) (new : Timeline) : Type 0 where
-    pub first : new.first ≡ bench.timeline.first
-    pub history : IsHistory new
-    pub deeds : (history.deeds ≡ old.deeds) ⊎ ((d : Deed) × (deed_of bench c ≡ Some d) × (history.deeds ≡ take bench.timeline.place old.deeds ++ d ∷ []))
+-- An answer leaves such a history, from the same first state: of the same deeds, or of those up to the place and the command's own.
+pub record KeepsHistory (bench : Bench) (c : Command) (old : IsHistory bench.timeline) (new : Timeline) : Type 0 where
+  pub first : new.first ≡ bench.timeline.first
+  pub history : IsHistory new
+  pub deeds : (history.deeds ≡ old.deeds) ⊎ ((d : Deed) × (deed_of bench c ≡ Some d) × (history.deeds ≡ take bench.timeline.place old.deeds ++ d ∷ []))
 
-  abbrev pub AnswersKeepHistory : Type 0
-  AnswersKeepHistory = (bench : Bench) (c : Command) (old : IsHistory bench.timeline) → KeepsHistory bench c old (answer given_up bench c).1.timeline
+abbrev pub AnswersKeepHistory : Type 0
+AnswersKeepHistory = (bench : Bench) (c : Command) (old : IsHistory bench.timeline) → KeepsHistory bench c old (answer bench c).1.timeline
 
-  -- the state at the place is the commands in effect, carried out on the first state
-  abbrev pub PresentIsCarriedOut : Type 0
-  PresentIsCarriedOut = (t : Timeline) (h : IsHistory t) → all_carried_out t.first (take t.place h.deeds) ≡ Ok (present t)
+-- the state at the place is the commands in effect, carried out on the first state
+abbrev pub PresentIsCarriedOut : Type 0
+PresentIsCarriedOut = (t : Timeline) (h : IsHistory t) → all_carried_out t.first (take t.place h.deeds) ≡ Ok (present t)
 
--- for every way of giving up
 abbrev pub HistoriesAreCarriedOut : Type 0
-HistoriesAreCarriedOut = (given_up : GivingUp) → AnswersKeepHistory given_up × PresentIsCarriedOut given_up
+HistoriesAreCarriedOut = AnswersKeepHistory × PresentIsCarriedOut

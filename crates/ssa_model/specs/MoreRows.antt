@@ -3,7 +3,6 @@ use Rattle.std.specs.Prelude.{◌≡◌, List, [], ◌∷◌, ◌++◌, codes, f
 use Rattle.ssa_model.specs.Json.{Text, Json, list, object, Items, no_items, item, Members, no_members, member}
 use Rattle.ssa_model.specs.Path.{field}
 use Rattle.ssa_model.specs.PathMap.{get}
-use Rattle.ssa_model.specs.Operations.{dropped}
 use Rattle.ssa_model.specs.History.{present}
 use Rattle.ssa_model.specs.Entries.{fields_json}
 use Rattle.ssa_model.specs.PathMap.{listed}
@@ -33,7 +32,7 @@ env_texts n = codes "f:spec" ∷ codes "f:env" ∷ (codes "f:" ++ n) ∷ []
 
 -- the order of the hosts after the commands
 abbrev pub hosts_after : List Command → List Text
-hosts_after cs = order_of (get (present (answers.run dropped new_bench cs).1.timeline).body (field (codes "spec") ∷ field (codes "hosts") ∷ []))
+hosts_after cs = order_of (get (present (answers.run new_bench cs).1.timeline).body (field (codes "spec") ∷ field (codes "hosts") ∷ []))
 
 -- an atomic list is one field, whole
 abbrev pub AtomicListClashes : Type 0

@@ -7,7 +7,7 @@ use Rattle.ssa_model.specs.History.{Bench}
 use Rattle.ssa_model.specs.Commands as given
 use Rattle.ssa_model.specs.Commands.{CommandRule, command_of, moment_of}
 use Rattle.ssa_model.specs.Answers as answers
-use Rattle.ssa_model.specs.Answers.{Command, GivingUp, answer}
+use Rattle.ssa_model.specs.Answers.{Command, answer}
 use Rattle.ssa_model.specs.Replies.{fault_json, reply_text}
 
 -- ---- reading an element's text
@@ -94,7 +94,7 @@ abbrev pub owners_command : Result Path ElementFault → Result Command LineFaul
 owners_command (Ok p) = Ok (answers.owners p)
 owners_command (Err f) = Err (of_element f)
 
-module _ (readings : Readings) (rules : List CommandRule) (given_up : GivingUp) where
+module _ (readings : Readings) (rules : List CommandRule) where
   -- the moment is one, or there is none
   abbrev pub has_moment : given.Command → Bool
   has_moment c = elim (moment_of c) [ None ↦ true | Some t ↦ readings.moment t ]
@@ -118,7 +118,7 @@ module _ (readings : Readings) (rules : List CommandRule) (given_up : GivingUp) 
 
   -- the reply's text and the next bench
   abbrev pub answer_read : Bench → Result Command LineFault → Text × Bench
-  answer_read bench (Ok c) = (reply_text (answer given_up bench c).0, (answer given_up bench c).1)
+  answer_read bench (Ok c) = (reply_text (answer bench c).0, (answer bench c).1)
   answer_read bench (Err f) = (compact (line_fault_json f), bench)
 
   abbrev pub line_answer : Bench → Text → Text × Bench

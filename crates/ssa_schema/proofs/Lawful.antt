@@ -10,7 +10,7 @@ use Rattle.ssa_model.specs.Json.{Text, Json, scalar, list, object, Members, no_m
 use Rattle.ssa_model.specs.Kind as kinds
 use Rattle.ssa_json.proofs.Equality.{same_text-true}
 use Rattle.ssa_model.specs.Schema as model
-use Rattle.ssa_schema.specs.Lawful.{names_rise_after, are_key_names, is_keyed, are_keyed, is_record, is_root_kind}
+use Rattle.ssa_model.specs.Lawful.{names_rise_after, are_key_names, is_keyed, are_keyed, is_record, is_root_kind}
 
 -- ---- lists of faults
 

@@ -1,7 +1,6 @@
 pub mod Builds
 pub mod Finds
 pub mod Kinds
-pub mod Lawful
 pub mod Refusals
 pub mod Schemas
 pub mod Standings

@@ -4,7 +4,7 @@ ghost use Rattle.ssa_model.specs.Kind.{faults};
 ghost use Rattle.ssa_model.specs.Schema.{read_schema, whole_profile};
 ghost use Rattle.ssa_json.specs.View.{view};
 ghost use Rattle.ssa_schema.specs.Kinds.{kind_view};
-ghost use Rattle.ssa_schema.specs.Lawful.{is_ordered, is_root_kind};
+ghost use Rattle.ssa_model.specs.Lawful.{is_ordered, is_root_kind};
 ghost use Rattle.ssa_schema.specs.Refusals.{first_of};
 ghost use Rattle.ssa_schema.specs.Finds.{told, told_view};
 ghost use Rattle.ssa_schema.specs.Schemas.{schema_reading, fault_of, ReadsKind, ReadsSchema};
@@ -49,7 +49,7 @@ impl Model for Schema {
     ghost view = { λ s. (json_view.view s.json, kinds.kind_view s.kind) };
 
     ghost use Rattle.std.specs.Prelude.{◌≡◌, true};
-    ghost use Rattle.ssa_schema.specs.Lawful.{is_ordered, is_root_kind};
+    ghost use Rattle.ssa_model.specs.Lawful.{is_ordered, is_root_kind};
 
     ghost invariant = { λ s. (is_root_kind (kinds.kind_view s.kind) ≡ true) × (is_ordered (kinds.kind_view s.kind) ≡ true) };
 }

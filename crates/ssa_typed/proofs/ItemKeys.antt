@@ -9,7 +9,7 @@ use Rattle.ssa_model.specs.Fitting.{are_keys, is_key_of, scalar_of}
 use Rattle.ssa_json.proofs.Equality.{same_text-true, same_text-itself}
 use Rattle.ssa_path.proofs.Orders.{both}
 use Rattle.ssa_path.specs.Keys as keys
-use Rattle.ssa_schema.specs.Lawful.{are_key_names, names_rise_after}
+use Rattle.ssa_model.specs.Lawful.{are_key_names, names_rise_after}
 use Rattle.ssa_typed.proofs.Laws.{none≢some, some-same}
 
 -- ---- lists of faults

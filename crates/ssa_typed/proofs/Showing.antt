@@ -14,7 +14,7 @@ use Rattle.ssa_model.specs.Objects.{shown, shown_fields, shown_items, entry_memb
 use Rattle.ssa_path.specs.Children.{child_at, elements, rises}
 use Rattle.ssa_path.specs.View.{element_view}
 use Rattle.ssa_path.proofs.Orders.{both_first, both_second, same_element-itself}
-use Rattle.ssa_schema.specs.Lawful.{is_before_all, is_ordered, are_ordered}
+use Rattle.ssa_model.specs.Lawful.{is_before_all, is_ordered, are_ordered}
 use Rattle.ssa_typed.specs.Points.{content_in}
 use Rattle.ssa_typed.specs.Rows.{rows, below, below_of, body_of, content_at, content_of, own_content, leaf_content, is_tree, are_apart}
 use Rattle.ssa_typed.specs.Values as values

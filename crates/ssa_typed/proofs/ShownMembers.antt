@@ -17,7 +17,7 @@ use Rattle.ssa_json.proofs.Equality.{same_text-true}
 use Rattle.ssa_path.specs.Children.{child_at, elements, is_below, rises}
 use Rattle.ssa_path.specs.View.{element_view}
 use Rattle.ssa_path.proofs.Orders.{element_cmp_total, both, both_first, both_second, same_element-true, same_element-itself}
-use Rattle.ssa_schema.specs.Lawful.{is_before_all, is_ordered, are_ordered}
+use Rattle.ssa_model.specs.Lawful.{is_before_all, is_ordered, are_ordered}
 use Rattle.ssa_typed.specs.Values.{members_of, member_under, value_of, values_of}
 use Rattle.ssa_typed.specs.declared.node.Node.{Node}
 use Rattle.ssa_typed.proofs.Building.{Child}

@@ -12,7 +12,7 @@ use Rattle.ssa_model.specs.PathMap.{from_entries}
 use Rattle.ssa_model.specs.Kind as model
 use Rattle.ssa_model.specs.Body.{Content, record_branch, dict_branch, list_branch, flat, without_empty_metadata, places, field_places, entry_places, value_places, item_places, value_order, key_order}
 use Rattle.ssa_schema.specs.Kinds.{kind_view, fields_view, names_view, scalar_kind_view}
-use Rattle.ssa_schema.specs.Lawful.{is_keyed, are_keyed}
+use Rattle.ssa_model.specs.Lawful.{is_keyed, are_keyed}
 use Rattle.ssa_schema.specs.declared.kind.Kind as kind
 use Rattle.ssa_schema.specs.declared.kind.ScalarKind.{ScalarKind}
 use Rattle.ssa_path.specs.Children.{elements}

@@ -7,7 +7,7 @@ ghost use Rattle.ssa_model.specs.Objects.{shown};
 ghost use Rattle.ssa_model.specs.Path.{is_root};
 ghost use Rattle.ssa_model.specs.PathMap.{from_entries, has, has_at_or_below, paths, set_of, size};
 ghost use Rattle.ssa_json.specs.View.{view};
-ghost use Rattle.ssa_schema.specs.Lawful.{is_ordered};
+ghost use Rattle.ssa_model.specs.Lawful.{is_ordered};
 ghost use Rattle.ssa_typed.specs.Alike.{AreAlike};
 ghost use Rattle.ssa_typed.specs.Differences.{IsComparison};
 ghost use Rattle.ssa_typed.specs.Look.{look_of, look_at};

@@ -4,7 +4,7 @@ ghost use Rattle.ssa_model.specs.Path.{field};
 ghost use Rattle.ssa_model.specs.Body.{field_places, entry_places, value_places, item_places, value_order, key_order};
 ghost use Rattle.ssa_json.specs.View.{view, items_view, members_view};
 ghost use Rattle.ssa_schema.specs.Kinds.{kind_view, fields_view, names_view, scalar_kind_view};
-ghost use Rattle.ssa_schema.specs.Lawful.{are_key_names, are_keyed, is_keyed};
+ghost use Rattle.ssa_model.specs.Lawful.{are_key_names, are_keyed, is_keyed};
 ghost use Rattle.ssa_typed.specs.Flats.{member_places, AreListed, AreNamed, EntriesFit, FieldsFit, Fits, IsChild, IsItem, IsScalar, IsTreeOf, IsValue, ItemFits, ItemsFit, MemberFits, ValuesFit};
 
 use crate::item_keys::keys_of;

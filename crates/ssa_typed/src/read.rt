@@ -4,7 +4,7 @@ ghost use Rattle.ssa_model.specs.Body.{flat};
 ghost use Rattle.ssa_model.specs.Fitting.{IsBodyOf};
 ghost use Rattle.ssa_json.specs.View.{view};
 ghost use Rattle.ssa_schema.specs.Kinds.{kind_view};
-ghost use Rattle.ssa_schema.specs.Lawful.{is_root_kind};
+ghost use Rattle.ssa_model.specs.Lawful.{is_root_kind};
 ghost use Rattle.ssa_typed.specs.Flats.{Fits};
 ghost use Rattle.ssa_typed.specs.Reads.{ReadsBody};
 

@@ -12,7 +12,6 @@ use Rattle.ssa_model.specs.Schema.{has_member, is_text}
 use Rattle.ssa_model.specs.Commands as given
 use Rattle.ssa_model.specs.Commands.{MemberRule, CommandRule, rule_of, word_of, session_rules, is_known_member, are_known_members, follows_rule, truth_in, text_in, value_in, command_with}
 use Rattle.ssa_model.specs.Answers as answers
-use Rattle.ssa_model.specs.Operations.{dropped}
 use Rattle.ssa_model.specs.Session.{LineFault, bad_moment, command_shape, has_moment, with_path, read_command}
 use Rattle.ssa_json.specs.Moment.{is_moment}
 use Rattle.ssa_json.specs.View.{view, members_view}
@@ -25,7 +24,7 @@ use Rattle.ssabench.specs.Commands.{readings, word_text, member_rules, rule_at, 
 
 -- what a value is read as
 abbrev pub meaning : Json → Result answers.Command LineFault
-meaning = read_command readings session_rules dropped
+meaning = read_command readings session_rules
 
 abbrev by_rule : Members → Text → Option CommandRule → Option given.Command
 by_rule ms word r = elim r [ None ↦ None | Some rule ↦ (if follows_rule ms rule then Some (command_with word ms) else None) ]
@@ -36,7 +35,7 @@ by_word ms w = elim w [ None ↦ None | Some word ↦ by_rule ms word (rule_of s
 abbrev pub told : Option given.Command → Result answers.Command LineFault
 told o = elim o [
   | None ↦ Err command_shape
-  | Some c ↦ (if has_moment readings session_rules dropped c then with_path readings session_rules dropped c else Err bad_moment)
+  | Some c ↦ (if has_moment readings session_rules c then with_path readings session_rules c else Err bad_moment)
 ]
 
 -- ---- by the word

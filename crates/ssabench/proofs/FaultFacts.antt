@@ -7,7 +7,6 @@ use Rattle.ssa_model.specs.Kind as kinds
 use Rattle.ssa_model.specs.Kind.{unknown_field, wrong_type, missing_key, duplicate_item}
 use Rattle.ssa_model.specs.Entries.{text_json}
 use Rattle.ssa_model.specs.History.{Bench, past_len, future_len}
-use Rattle.ssa_model.specs.Operations.{dropped}
 use Rattle.ssa_model.specs.Answers.{Fault, body_fault, nothing_to_undo, nothing_to_redo, Reply, fault, answer, undo, redo}
 use Rattle.ssa_model.specs.Replies.{with_fault, fault_at, fault_reply, reply_text}
 use Rattle.ssa_schema.specs.Finds.{told, told_view}
@@ -47,8 +46,8 @@ pub move-refused : {X E : Type 0} (r : Result X E) (text : X → Text) (f : Faul
 move-refused (Ok x) text f reply is told = told f refl ∙ ap reply_text (sym is)
 move-refused (Err e) text f reply is told = tt
 
-pub undo-refused : (bench : Bench) → past_len bench.timeline ≡ 0 → (answer dropped bench undo).0 ≡ fault nothing_to_undo
+pub undo-refused : (bench : Bench) → past_len bench.timeline ≡ 0 → (answer bench undo).0 ≡ fault nothing_to_undo
 undo-refused bench none = rw none refl
 
-pub redo-refused : (bench : Bench) → future_len bench.timeline ≡ 0 → (answer dropped bench redo).0 ≡ fault nothing_to_redo
+pub redo-refused : (bench : Bench) → future_len bench.timeline ≡ 0 → (answer bench redo).0 ≡ fault nothing_to_redo
 redo-refused bench none = rw none refl

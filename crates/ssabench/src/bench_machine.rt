@@ -2,7 +2,6 @@
 ghost use Rattle.std.specs.Prelude.{◌≡◌, ◌+◌, IfOk, OnErr, false};
 ghost use Rattle.ssa_model.specs.Answers as model;
 ghost use Rattle.ssa_model.specs.Answers.{answer};
-ghost use Rattle.ssa_model.specs.Operations.{dropped};
 ghost use Rattle.ssa_model.specs.Replies.{reply_text};
 ghost use Rattle.ssa_bench.specs.Commands as changes;
 ghost use Rattle.ssabench.specs.Commands.{command_view};
@@ -34,8 +33,8 @@ fn answer_change(
     alloc: Global,
     change: bench::Command,
 ) -> Result<Vec<u8>, AllocError>
-    ensures reply { IfOk result (λ text. text.items ≡ reply_text (answer dropped bench.old (changes.command_view change)).0) }
-    ensures after { IfOk result (λ _. bench.new ≡ (answer dropped bench.old (changes.command_view change)).1) }
+    ensures reply { IfOk result (λ text. text.items ≡ reply_text (answer bench.old (changes.command_view change)).0) }
+    ensures after { IfOk result (λ _. bench.new ≡ (answer bench.old (changes.command_view change)).1) }
     ensures err { OnErr result (bench.new ≡ bench.old) }
 {
     let word = change_word(&change);
@@ -62,8 +61,8 @@ fn one_more(count: usize) -> Result<usize, AllocError>
 
 // Goes back by a command. The reply's text is made before.
 fn answer_undo(bench: &mut Bench, alloc: Global) -> Result<Vec<u8>, AllocError>
-    ensures reply { IfOk result (λ text. text.items ≡ reply_text (answer dropped bench.old model.undo).0) }
-    ensures after { IfOk result (λ _. bench.new ≡ (answer dropped bench.old model.undo).1) }
+    ensures reply { IfOk result (λ text. text.items ≡ reply_text (answer bench.old model.undo).0) }
+    ensures after { IfOk result (λ _. bench.new ≡ (answer bench.old model.undo).1) }
     ensures err { OnErr result (bench.new ≡ bench.old) }
 {
     let past = bench.past_len();
@@ -80,8 +79,8 @@ fn answer_undo(bench: &mut Bench, alloc: Global) -> Result<Vec<u8>, AllocError>
 
 // Goes on by a command. The reply's text is made before.
 fn answer_redo(bench: &mut Bench, alloc: Global) -> Result<Vec<u8>, AllocError>
-    ensures reply { IfOk result (λ text. text.items ≡ reply_text (answer dropped bench.old model.redo).0) }
-    ensures after { IfOk result (λ _. bench.new ≡ (answer dropped bench.old model.redo).1) }
+    ensures reply { IfOk result (λ text. text.items ≡ reply_text (answer bench.old model.redo).0) }
+    ensures after { IfOk result (λ _. bench.new ≡ (answer bench.old model.redo).1) }
     ensures err { OnErr result (bench.new ≡ bench.old) }
 {
     let future = bench.future_len();
@@ -98,7 +97,7 @@ fn answer_redo(bench: &mut Bench, alloc: Global) -> Result<Vec<u8>, AllocError>
 
 // The object of the present state.
 fn answer_show(bench: &Bench, alloc: Global) -> Result<Vec<u8>, AllocError>
-    ensures { IfOk result (λ text. text.items ≡ reply_text (answer dropped bench.now (model.show false)).0) }
+    ensures { IfOk result (λ text. text.items ≡ reply_text (answer bench.now (model.show false)).0) }
 {
     let object = bench.show(alloc)?;
     shown_text(alloc, &object)
@@ -106,8 +105,8 @@ fn answer_show(bench: &Bench, alloc: Global) -> Result<Vec<u8>, AllocError>
 
 // Answers a command. The reply's text is made before the bench changes.
 fn answer_command(bench: &mut Bench, alloc: Global, command: Command) -> Result<Vec<u8>, AllocError>
-    ensures reply { IfOk result (λ text. text.items ≡ reply_text (answer dropped bench.old (command_view command)).0) }
-    ensures after { IfOk result (λ _. bench.new ≡ (answer dropped bench.old (command_view command)).1) }
+    ensures reply { IfOk result (λ text. text.items ≡ reply_text (answer bench.old (command_view command)).0) }
+    ensures after { IfOk result (λ _. bench.new ≡ (answer bench.old (command_view command)).1) }
     ensures err { OnErr result (bench.new ≡ bench.old) }
 {
     match command {

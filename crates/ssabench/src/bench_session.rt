@@ -5,7 +5,6 @@ ghost use Rattle.ssabench.specs.Outcome.{AnswersAll, AnswersWhole, AnswersPartly
 ghost use Rattle.ssabench.specs.BenchLines.{line_reply, bench_after};
 ghost use Rattle.ssabench.specs.Effects.{IsAlone, IsCarriedOut};
 ghost use Rattle.ssa_model.specs.Effect.{IsHistory};
-ghost use Rattle.ssa_model.specs.Operations.{dropped};
 
 use crate::engine;
 use crate::engine::SessionFault;
@@ -41,7 +40,7 @@ pub fn session<R: Source, W: Sink>(
     // However it ends, the state at the place is the commands in effect, carried out on the first state:
     // of a bench of one state, as a new one is, and of one with such a history.
     ensures effect_on_new { IsAlone bench.old.timeline → IsCarriedOut bench.old.timeline bench.new.timeline }
-    ensures effect { IsHistory dropped bench.old.timeline → IsCarriedOut bench.old.timeline bench.new.timeline }
+    ensures effect { IsHistory bench.old.timeline → IsCarriedOut bench.old.timeline bench.new.timeline }
 {
     engine::session(alloc, reader, writer, bench)
 }

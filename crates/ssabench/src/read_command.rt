@@ -4,7 +4,6 @@ ghost use Rattle.ssa_json.specs.View.{view, members_view};
 ghost use Rattle.ssa_model.specs.Json.{object, as_text, member_of};
 ghost use Rattle.ssa_model.specs.Session.{read_command, read_line};
 ghost use Rattle.ssa_model.specs.Commands.{session_rules, word_of, follows_rule, truth_in};
-ghost use Rattle.ssa_model.specs.Operations.{dropped};
 ghost use Rattle.ssabench.specs.Commands.{readings, word_text, rule_at, HasRequest, ReadsCommand, Requests};
 ghost use Rattle.ssabench.specs.declared.read_command.LineFault.TheVariants.{OutOfMemory};
 
@@ -60,7 +59,7 @@ impl<T: Drop> From<AllocFailed<T>> for LineFault {
 
 /// Reads the line as one JSON text, and its value as a command.
 pub fn read_command(alloc: Global, line: &[u8]) -> Result<Command, LineFault>
-    ensures { ReadsCommand result (read_line readings session_rules dropped line.now) }
+    ensures { ReadsCommand result (read_line readings session_rules line.now) }
 {
     match Json::read(alloc, line, line.len()) {
         Ok(value) => command_of(value),
@@ -74,7 +73,7 @@ pub fn read_command(alloc: Global, line: &[u8]) -> Result<Command, LineFault>
 
 // The command that a value is.
 fn command_of(value: Json) -> Result<Command, LineFault>
-    ensures { ReadsCommand result (read_command readings session_rules dropped (view value)) }
+    ensures { ReadsCommand result (read_command readings session_rules (view value)) }
 {
     let Json::Object(members) = value else {
         return Err(LineFault::CommandShape);
@@ -127,7 +126,7 @@ fn take_request(members: &mut BTreeMap<String, Json>) -> Option<Request>
 fn apply_command(mut members: BTreeMap<String, Json>) -> Result<Command, LineFault>
     requires word { word_of (members_view members.entries) ≡ Some (word_text Word.Apply) }
     requires shape { IsTrue (follows_rule (members_view members.entries) (rule_at Word.Apply)) }
-    ensures { ReadsCommand result (read_command readings session_rules dropped (object (members_view members.entries))) }
+    ensures { ReadsCommand result (read_command readings session_rules (object (members_view members.entries))) }
 {
     let force = truth_of(&members, "force");
     let Some(Request { who, at, object }) = take_request(&mut members) else {
@@ -145,7 +144,7 @@ fn apply_command(mut members: BTreeMap<String, Json>) -> Result<Command, LineFau
 fn update_command(mut members: BTreeMap<String, Json>) -> Result<Command, LineFault>
     requires word { word_of (members_view members.entries) ≡ Some (word_text Word.Update) }
     requires shape { IsTrue (follows_rule (members_view members.entries) (rule_at Word.Update)) }
-    ensures { ReadsCommand result (read_command readings session_rules dropped (object (members_view members.entries))) }
+    ensures { ReadsCommand result (read_command readings session_rules (object (members_view members.entries))) }
 {
     let Some(Request { who, at, object }) = take_request(&mut members) else {
         return Err(LineFault::BadMoment);

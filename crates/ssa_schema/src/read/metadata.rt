@@ -3,7 +3,7 @@ ghost use Rattle.std.specs.Prelude.{◌≡◌, true, IfOk};
 ghost use Rattle.ssa_model.specs.Kind as model;
 ghost use Rattle.ssa_model.specs.Schema.{with_field, with_metadata, whole_profile};
 ghost use Rattle.ssa_schema.specs.Kinds.{kind_view, fields_view};
-ghost use Rattle.ssa_schema.specs.Lawful.{is_ordered, are_ordered};
+ghost use Rattle.ssa_model.specs.Lawful.{is_ordered, are_ordered};
 
 use crate::kind::{Kind, ScalarKind};
 use std::alloc::{AllocError, Global};

@@ -4,13 +4,13 @@ use Rattle.ssa_model.specs.PathMap.{size}
 use Rattle.ssa_model.specs.Body.{points, modified}
 use Rattle.ssa_model.specs.Table.{Table, seat}
 use Rattle.ssa_model.specs.Operations as model
-use Rattle.ssa_model.specs.Operations.{State, clashes, dropped, conflict, too_many_paths, is_none}
+use Rattle.ssa_model.specs.Operations.{State, clashes, conflict, too_many_paths, is_none}
 use Rattle.ssa_merge.specs.Managers.{key_view, clashes_view}
 use Rattle.ssa_merge.specs.States.{state_view}
 use Rattle.ssa_merge.specs.Tables.{IsSeated}
 use Rattle.ssa_merge.specs.Plans.{IsPlanned}
 use Rattle.ssa_merge.specs.declared.plan.Plan.{Plan}
-use Rattle.ssa_merge.proofs.Applied.{apply_without-decided, decided-conflict, decided-paths, seated, unseated, more_places, few_places}
+use Rattle.ssa_merge.proofs.Applied.{apply-decided, decided-conflict, decided-paths, seated, unseated, more_places, few_places}
 use Rattle.ssa_merge.proofs.plan.applied.Goals as goal
 
 pub returns-then-has_conflict : goal.returns-then-has_conflict
@@ -18,7 +18,6 @@ returns-then-has_conflict c =
     let state = state_view c.args.state.now in
     let a = key_view c.args.key.now in
     let config = c.args.config.now in
-    let gone = dropped state a config in
     let body = c.in_ok-body.body in
     let found = clashes_view c.in_ok-found.found.items in
     let changed = modified state.body body in
@@ -26,7 +25,7 @@ returns-then-has_conflict c =
     let clash_is = c.in_ok-found.ensures ∙ (λ i. clashes a (c.in_ok-comparison.ensures.modified_are i) (c.entries.ensures.same i)) in
     let unforced = ap (λ cs. not (c.args.force || is_none (clashes_view cs))) (sym c.deref.ensures.value) ∙ sym c.has_conflict.ensures ∙ c.if-has_conflict.true in (
       conflict found,
-      apply_without-decided gone state a config c.args.force c.args.at body found (size body) table c.in_ok-body.ensures clash_is refl refl
+      apply-decided state a config c.args.force c.args.at body found (size body) table c.in_ok-body.ensures clash_is refl refl
           ∙ decided-conflict c.args.force found (size body) body table unforced,
       refl,
     )
@@ -36,7 +35,6 @@ returns-then-size-gt-MOST_PLACES c =
     let state = state_view c.args.state.now in
     let a = key_view c.args.key.now in
     let config = c.args.config.now in
-    let gone = dropped state a config in
     let body = c.in_ok-body.body in
     let found = clashes_view c.in_ok-found.found.items in
     let changed = modified state.body body in
@@ -44,7 +42,7 @@ returns-then-size-gt-MOST_PLACES c =
     let clash_is = c.in_ok-found.ensures ∙ (λ i. clashes a (c.in_ok-comparison.ensures.modified_are i) (c.entries.ensures.same i)) in
     let quiet = ap (λ cs. not (c.args.force || is_none (clashes_view cs))) (sym c.deref.ensures.value) ∙ sym c.has_conflict.ensures ∙ c.if-has_conflict.false in (
       too_many_paths,
-      apply_without-decided gone state a config c.args.force c.args.at body found (size body) table c.in_ok-body.ensures clash_is refl refl
+      apply-decided state a config c.args.force c.args.at body found (size body) table c.in_ok-body.ensures clash_is refl refl
           ∙ decided-paths c.args.force found (size body) body table quiet (more_places c.size.result (size body) c.size.ensures c.if-size-gt-MOST_PLACES.true),
       refl,
     )
@@ -54,7 +52,6 @@ returns-in-Ok c =
     let state = state_view c.args.state.now in
     let a = key_view c.args.key.now in
     let config = c.args.config.now in
-    let gone = dropped state a config in
     let body = c.in_ok-body.body in
     let found = clashes_view c.in_ok-found.found.items in
     let changed = modified state.body body in
@@ -64,7 +61,7 @@ returns-in-Ok c =
     let few = few_places c.size.result (size body) c.size.ensures c.if-size-gt-MOST_PLACES.false in
     let seats : ◌≡◌ {A = Table} (seat state.table a c.in_ok-points.points c.in_ok-comparison.comparison.modified c.in_ok-comparison.comparison.modified c.args.at) table
     = λ i. seat state.table a (c.in_ok-points.ensures i) (c.in_ok-comparison.ensures.modified_are i) (c.in_ok-comparison.ensures.modified_are i) c.args.at in
-    let given = apply_without-decided gone state a config c.args.force c.args.at body found (size body) table c.in_ok-body.ensures clash_is refl refl in
+    let given = apply-decided state a config c.args.force c.args.at body found (size body) table c.in_ok-body.ensures clash_is refl refl in
     let plan : Plan = record { target = record { body = body; managers = c.in-Ok.managers }; comparison = c.in_ok-comparison.comparison } in
     let is_seated : Table → Type 0 = IsSeated (Ok c.in-Ok.managers) in
     let is_planned : Result State model.Refusal → Type 0 = IsPlanned state (Ok plan) in
@@ -75,7 +72,6 @@ returns c =
     let state = state_view c.args.state.now in
     let a = key_view c.args.key.now in
     let config = c.args.config.now in
-    let gone = dropped state a config in
     let body = c.in_ok-body.body in
     let found = clashes_view c.in_ok-found.found.items in
     let changed = modified state.body body in
@@ -85,7 +81,7 @@ returns c =
     let few = few_places c.size.result (size body) c.size.ensures c.if-size-gt-MOST_PLACES.false in
     let seats : ◌≡◌ {A = Table} (seat state.table a c.in_ok-points.points c.in_ok-comparison.comparison.modified c.in_ok-comparison.comparison.modified c.args.at) table
     = λ i. seat state.table a (c.in_ok-points.ensures i) (c.in_ok-comparison.ensures.modified_are i) (c.in_ok-comparison.ensures.modified_are i) c.args.at in
-    let given = apply_without-decided gone state a config c.args.force c.args.at body found (size body) table c.in_ok-body.ensures clash_is refl refl in
+    let given = apply-decided state a config c.args.force c.args.at body found (size body) table c.in_ok-body.ensures clash_is refl refl in
     let is_seated : Table → Type 0 = IsSeated (Err c.in-Err.refusal) in
     let is_planned : Result State model.Refusal → Type 0 = IsPlanned state (Err c.in-Err.refusal) in
     subst is_planned (sym given) (unseated state c.args.force found (size body) body table c.in-Err.refusal quiet few (subst is_seated seats c.in-Err.ensures))

@@ -9,7 +9,7 @@ use Rattle.ssa_json.specs.View.{view, members_view, items_view}
 use Rattle.ssa_json.proofs.Converting.{Found}
 use Rattle.ssa_json.proofs.Ordered.{names}
 use Rattle.ssa_schema.specs.Kinds.{kind_view, fields_view, names_view, scalar_kind_view}
-use Rattle.ssa_schema.specs.Lawful.{is_keyed, are_key_names}
+use Rattle.ssa_model.specs.Lawful.{is_keyed, are_key_names}
 use Rattle.ssa_schema.specs.declared.kind.Kind as kind
 use Rattle.ssa_schema.proofs.Kinding.{kind_view-Record}
 use Rattle.ssa_path.proofs.Orders.{both_first, both_second}

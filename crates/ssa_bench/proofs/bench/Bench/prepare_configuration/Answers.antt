@@ -4,7 +4,7 @@ use Rattle.ssa_model.specs.Json.{Text}
 use Rattle.ssa_model.specs.Fitting.{IsBodyOf}
 use Rattle.ssa_model.specs.History as model
 use Rattle.ssa_model.specs.History.{present}
-use Rattle.ssa_model.specs.Operations.{State, Refusal, apply, dropped}
+use Rattle.ssa_model.specs.Operations.{State, Refusal, apply}
 use Rattle.ssa_model.specs.Answers.{apply_answer}
 use Rattle.ssa_typed.proofs.Alike.{bodies_alike}
 use Rattle.ssa_merge.specs.States.{state_view, applier}
@@ -44,7 +44,7 @@ returns-in-Err c =
     let who = string_bytes c.args.who in
     let to : State → Text → Result State Refusal = λ s n. apply s (applier n) c.args.config c.args.force c.args.at in
     let now_is = c.present-now.ensures ∙ ap (λ n. present n.timeline) c.self.view_is in
-    let tells : Fault → Type 0 = λ f. IsPrepared bench (Err f) (apply_answer dropped bench who c.args.force c.args.at c.args.config) (codes "apply") in
+    let tells : Fault → Type 0 = λ f. IsPrepared bench (Err f) (apply_answer bench who c.args.force c.args.at c.args.config) (codes "apply") in
     subst tells (sym c.from.ensures)
     (refused-planned bench (codes "apply") (Apply c.args.at c.args.force c.args.who) c.in-Err.refusal (to (present bench.timeline) who)
     (planned-at to (Err c.in-Err.refusal) (state_view c.present-now.result.now) (present bench.timeline) c.as_str.result.now who now_is c.as_str.ensures.value c.in-Err.ensures.plan))

@@ -1,9 +1,9 @@
 -- What holds of the kind of each schema that is accepted.
-use Rattle.std.specs.Prelude.{List, [], ◌∷◌, Bool, true, false, ◌&&◌}
+use Rattle.std.specs.Prelude.{List, [], ◌∷◌, Bool, true, false, ◌&&◌, Option, Some, None, codes}
 use Rattle.std.specs.Ordering.{is_lt, nat_cmp}
 use Rattle.std.specs.Cmp.Lexicographic.{slice_cmp}
 use Rattle.ssa_model.specs.Json.{Text}
-use Rattle.ssa_model.specs.Kind.{Kind, Fields, record_of, dict_of, items_of, no_fields, kind_field}
+use Rattle.ssa_model.specs.Kind.{Kind, Fields, record_of, dict_of, items_of, no_fields, kind_field, kind_of}
 
 -- each name stands behind the one before it, the first behind this one
 abbrev pub names_rise_after : Text → List Text → Bool
@@ -51,3 +51,15 @@ is_record _ = false
 -- the kind of an object with fields, in which each map list has key fields
 abbrev pub is_root_kind : Kind → Bool
 is_root_kind k = is_record k && is_keyed k
+
+abbrev pub is_some_record : Option Kind → Bool
+is_some_record (Some k) = is_record k
+is_some_record None = false
+
+-- the root's `metadata` is an object with fields
+abbrev pub has_metadata : Kind → Bool
+has_metadata (record_of fs) = is_some_record (kind_of (codes "metadata") fs)
+has_metadata _ = false
+
+abbrev pub is_lawful : Kind → Bool
+is_lawful k = is_root_kind k && (is_ordered k && has_metadata k)
