@@ -1,5 +1,5 @@
 -- The test of equality tells values apart.
-use Rattle.std.proofs.Common.{◌≡◌, ℕ, ℤ, pos, negsuc, Bool, true, false, ◌&&◌, refl, sym, ap, ap₂, subst, arith, true≢false}
+use Rattle.std.proofs.Common.{◌≡◌, ℕ, pos, negsuc, Bool, true, false, ◌&&◌, refl, sym, ap, ap₂, subst, arith, true≢false}
 use Rattle.std.specs.Prelude.{◌==◌, ◌↔◌, IsTrue}
 use Rattle.std.proofs.lemmas.Bool.{and_parts, and_from}
 use Rattle.std.proofs.lemmas.Bool.Decides.{nat_tests}
@@ -7,37 +7,13 @@ use Rattle.std.specs.Cmp.{Equal-is, tied_itself}
 use Rattle.std.specs.Cmp.Lexicographic.{slice_cmp, nat_list_cmp_total}
 use Rattle.std.specs.Ordering.{is_eq, nat_cmp}
 use Rattle.std.specs.FinMap.{slice_cmp-IsAntisymmetric, nat_cmp-IsAntisymmetric}
-use Rattle.ssa_model.specs.Json.{Text, Scalar, text, whole, truth, Json, scalar, list, object, Items, no_items, item, Members, no_members, member, same_text, same_whole, same_truth, same_scalar, same_json, same_items, same_members}
+use Rattle.ssa_model.specs.Json.{Text, Scalar, text, whole, truth, Json, scalar, list, object, Items, no_items, item, Members, no_members, member, same_text, same_truth, same_scalar, same_json, same_items, same_members}
+use Rattle.ssa_model.proofs.Scalars.{same_scalar-true}
 
 -- ---- a test that holds is an equation
 
 pub same_text-true : (t s : Text) → same_text t s ≡ true → t ≡ s
 same_text-true t s e = slice_cmp-IsAntisymmetric nat_cmp-IsAntisymmetric t s ((Equal-is (slice_cmp nat_cmp t s)).0 e)
-
-same_nat-true : (a b : ℕ) → (a == b) ≡ true → a ≡ b
-same_nat-true a b e = grind (arith, nat_tests)
-
-same_whole-true : (y z : ℤ) → same_whole y z ≡ true → y ≡ z
-same_whole-true (pos a) (pos b) e = ap pos (same_nat-true a b e)
-same_whole-true (pos a) (negsuc b) e = absurd (true≢false (sym e))
-same_whole-true (negsuc a) (pos b) e = absurd (true≢false (sym e))
-same_whole-true (negsuc a) (negsuc b) e = ap negsuc (same_nat-true a b e)
-
-same_truth-true : (a b : Bool) → same_truth a b ≡ true → a ≡ b
-same_truth-true true b e = sym e
-same_truth-true false true e = absurd (true≢false (sym e))
-same_truth-true false false e = refl
-
-pub same_scalar-true : (s t : Scalar) → same_scalar s t ≡ true → s ≡ t
-same_scalar-true (text a) (text b) e = ap text (same_text-true a b e)
-same_scalar-true (whole a) (whole b) e = ap whole (same_whole-true a b e)
-same_scalar-true (truth a) (truth b) e = ap truth (same_truth-true a b e)
-same_scalar-true (text a) (whole b) e = absurd (true≢false (sym e))
-same_scalar-true (text a) (truth b) e = absurd (true≢false (sym e))
-same_scalar-true (whole a) (text b) e = absurd (true≢false (sym e))
-same_scalar-true (whole a) (truth b) e = absurd (true≢false (sym e))
-same_scalar-true (truth a) (text b) e = absurd (true≢false (sym e))
-same_scalar-true (truth a) (whole b) e = absurd (true≢false (sym e))
 
 mutual
   pub same_json-true : (v w : Json) → same_json v w ≡ true → v ≡ w

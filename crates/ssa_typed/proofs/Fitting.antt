@@ -8,10 +8,10 @@ use Rattle.ssa_model.specs.Json.{Text, Scalar, Json, scalar, list, object, Items
 use Rattle.ssa_model.specs.Path.{Element, field, value, Path, same_element}
 use Rattle.ssa_model.specs.Kind.{ScalarKind, Kind, Fields, Fault, faults, field_faults, entry_faults, value_faults, item_faults, key_faults, item_key, kind_of, or_else, fault_unless, is_of, is_among, unknown_field, duplicate_item, wrong_type}
 use Rattle.ssa_model.specs.Body.{value_order, key_order}
+use Rattle.ssa_model.proofs.Faults.{cons≢nil, nil_first, nil_second, unless-true}
 use Rattle.ssa_path.proofs.Orders.{both, both_first, both_second, same_element-true, same_element-itself}
 use Rattle.ssa_typed.specs.Rows.{are_apart}
 use Rattle.ssa_typed.specs.Flats.{Fits, FieldsFit, KeysFit, EntriesFit, MemberFits, ItemFits, ValuesFit, ItemsFit, IsScalar}
-use Rattle.ssa_typed.proofs.ItemKeys.{cons≢nil, nil_first, nil_second, unless-true}
 
 -- ---- members
 

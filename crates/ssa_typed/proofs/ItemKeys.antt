@@ -6,33 +6,12 @@ use Rattle.ssa_model.specs.Kind as kinds
 use Rattle.ssa_model.specs.Kind.{Kind, Fields, kind_of, key_scalars, cons_scalar, key_faults, key_field_fault, fault_unless, is_of, wrong_type}
 use Rattle.ssa_model.specs.Path.{Path}
 use Rattle.ssa_model.specs.Fitting.{are_keys, is_key_of, scalar_of}
+use Rattle.ssa_model.proofs.Faults.{cons≢nil, nil_first, nil_second, unless-true}
 use Rattle.ssa_json.proofs.Equality.{same_text-true, same_text-itself}
 use Rattle.ssa_path.proofs.Orders.{both}
 use Rattle.ssa_path.specs.Keys as keys
 use Rattle.ssa_model.specs.Lawful.{are_key_names, names_rise_after}
 use Rattle.ssa_typed.proofs.Laws.{none≢some, some-same}
-
--- ---- lists of faults
-
-is_nil : {X : Type 0} → List X → Bool
-is_nil [] = true
-is_nil (x ∷ xs) = false
-
-pub cons≢nil : {X : Type 0} {x : X} {xs : List X} → x ∷ xs ≡ [] → ⊥
-unfolding is_nil
-cons≢nil e = true≢false (sym (ap is_nil e))
-
-pub nil_first : {X : Type 0} (xs ys : List X) → xs ++ ys ≡ [] → xs ≡ []
-nil_first [] ys e = refl
-nil_first (x ∷ xs) ys e = absurd (cons≢nil e)
-
-pub nil_second : {X : Type 0} (xs ys : List X) → xs ++ ys ≡ [] → ys ≡ []
-nil_second [] ys e = e
-nil_second (x ∷ xs) ys e = absurd (cons≢nil e)
-
-pub unless-true : (b : Bool) (f : kinds.BodyFault) (p : Path) → fault_unless b f p ≡ [] → b ≡ true
-unless-true true f p e = refl
-unless-true false f p e = absurd (cons≢nil e)
 
 -- ---- a key field without a fault
 

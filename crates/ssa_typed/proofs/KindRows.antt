@@ -9,31 +9,16 @@ use Rattle.ssa_model.specs.Kind.{Kind, ScalarKind, Fields, scalar_kind, atomic_o
 use Rattle.ssa_model.specs.Body.{Content, leaf, atom, record_branch, dict_branch, list_branch, places, field_places, entry_places, value_places, item_places, value_order, key_order}
 use Rattle.ssa_model.specs.Fitting.{Place, of_kind, item_of, value_of, place_below, place_at, content_fits, IsAt, scalar_of}
 use Rattle.ssa_model.specs.Operations.{is_none}
+use Rattle.ssa_model.proofs.Faults.{unless-true, shape-anywhere}
+use Rattle.ssa_model.proofs.Places.{place-push}
 use Rattle.ssa_json.proofs.Equality.{same_text-true, same_scalar-itself}
 use Rattle.ssa_typed.specs.Rows.{Row}
 use Rattle.ssa_typed.specs.Flats.{member_places, Fits, FieldsFit, EntriesFit, KeysFit}
 use Rattle.ssa_typed.proofs.Fitting.{ValuesFitAfter, ItemsFitAfter, member-first, member-rest, entry-first, entry-rest, value-is_of, value-rest, item-parts, item-rest}
-use Rattle.ssa_typed.proofs.ItemKeys.{unless-true, keys-fit, key-member}
+use Rattle.ssa_typed.proofs.ItemKeys.{keys-fit, key-member}
 use Rattle.ssa_typed.proofs.Laws.{none≢some, some-same}
-use Rattle.ssa_typed.proofs.ShapesFit.{shape-anywhere}
 use Rattle.ssa_typed.proofs.TreeRows.{IsRow, row-left, row-right}
 use Rattle.ssa_typed.proofs.Trees.{known-places}
-
--- ---- places, one element further
-
-abbrev then_at : Path → Option Place → Option Place
-then_at p None = None
-then_at p (Some q) = place_at q p
-
-place-level : (q : Place) (e : Element) (p : Path) → place_at q (e ∷ p) ≡ then_at p (place_below q e)
-place-level q e p = elim (place_below q e) as (λ o. ◌≡◌ {A = Option Place} (elim o [ None ↦ None | Some r ↦ place_at r p ]) (then_at p o)) [ None ↦ refl | Some r ↦ refl ]
-
-pub place-push : (p : Path) (q : Place) (e : Element) (r s : Place) → place_at q p ≡ Some r → place_below r e ≡ Some s → place_at q (p ++ e ∷ []) ≡ Some s
-place-push [] q e r s at below = place-level q e [] ∙ ap (λ x. then_at [] (place_below x e)) (some-same q r at) ∙ ap (then_at []) below
-place-push (f ∷ p) q e r s at below =
-    place-level q f (p ++ e ∷ [])
-    ∙ elim (place_below q f) as (λ o. then_at p o ≡ Some r → then_at (p ++ e ∷ []) o ≡ Some s) [ None ↦ λ h. absurd (none≢some h) | Some x ↦ λ h. place-push p x e r s h below ]
-    (sym (place-level q f p) ∙ at)
 
 -- ---- the key that a path ends with
 

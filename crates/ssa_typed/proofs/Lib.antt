@@ -22,7 +22,6 @@ pub mod Overlaying
 pub mod References
 pub mod Restricting
 pub mod SameMembers
-pub mod ShapesFit
 pub mod Showing
 pub mod ShownMembers
 pub mod Sizes

@@ -9,6 +9,7 @@ use Rattle.ssa_model.specs.Path.{Element, Path, element_cmp, path_cmp, path_cmp_
 use Rattle.ssa_model.specs.PathMap.{from_entries, get, has, paths, size}
 use Rattle.ssa_model.specs.Body.{Content}
 use Rattle.ssa_model.proofs.PathMaps.{get-from_entries, has-paths, has-set_of, same_sets, same_path-true}
+use Rattle.ssa_model.proofs.ShownNames.{then_equal}
 use Rattle.ssa_path.specs.declared.element.Elem.{Elem}
 use Rattle.ssa_path.specs.View.{element_view}
 use Rattle.ssa_path.specs.Children.{elements}
@@ -47,11 +48,6 @@ some-child n e = ap (λ rs. is_some (content_at rs (e ∷ []))) (level-below n).
 
 abbrev singles : Path → List Element → List (Path × Unit {0})
 singles p es = map (λ e. (p ++ e ∷ [], tt)) es
-
-pub then_equal : (o : Ordering) → is_eq (ordering_then o Equal) ≡ is_eq o
-then_equal Less = refl
-then_equal Equal = refl
-then_equal Greater = refl
 
 same_path-after : (p : Path) (e f : Element) → same_path (p ++ e ∷ []) (p ++ f ∷ []) ≡ same_element e f
 same_path-after [] e f = then_equal (element_cmp e f)

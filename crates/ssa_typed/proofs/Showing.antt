@@ -11,6 +11,7 @@ use Rattle.ssa_model.specs.Body.{Body, Content, leaf, atom, record_branch, dict_
 use Rattle.ssa_model.specs.Fitting as fitting
 use Rattle.ssa_model.specs.Fitting.{Place, of_kind, item_of, are_keys, place_below, place_at, content_fits, IsBodyOf}
 use Rattle.ssa_model.specs.Objects.{shown, shown_fields, shown_items, entry_members, names_below, content_value}
+use Rattle.ssa_model.proofs.Places.{record-branch, item-branch, dict-branch, kind-placed}
 use Rattle.ssa_path.specs.Children.{child_at, elements, rises}
 use Rattle.ssa_path.specs.View.{element_view}
 use Rattle.ssa_path.proofs.Orders.{both_first, both_second, same_element-itself}
@@ -29,7 +30,8 @@ use Rattle.ssa_typed.proofs.Levels.{level-below, tree-Branch, tree-Dict}
 use Rattle.ssa_typed.proofs.Looks.{get-body}
 use Rattle.ssa_typed.proofs.Lookups.{child_at-rest, content-level, content-root, tree-child}
 use Rattle.ssa_typed.proofs.SameMembers.{same-members}
-use Rattle.ssa_typed.proofs.ShownMembers.{member_of-fields, fields-rise, member_of-children, children-rise, member_of-entries, entries-rise}
+use Rattle.ssa_model.proofs.ShownNames.{member_of-fields}
+use Rattle.ssa_typed.proofs.ShownMembers.{fields-rise, member_of-children, children-rise, member_of-entries, entries-rise}
 use Rattle.ssa_typed.proofs.Values.{value-Leaf, value-Branch, value-Dict, value-List}
 
 -- ---- one level
@@ -163,10 +165,6 @@ Shows k b = (p : Path) (c : Node) → IsShownAt b (of_kind k) p c → shown k b 
 abbrev EachShows : Fields → Body → Type 0
 EachShows fs b = (n : Text) (k : Kind) → kind_of n fs ≡ Some k → Shows k b
 
-kind-placed : (o : Option Kind) (s : Place) → option_map of_kind o ≡ Some s → (k : Kind) × ((o ≡ Some k) × (of_kind k ≡ s))
-kind-placed None s h = absurd (none-some s h)
-kind-placed (Some k) s h = (k, (refl, some-is (of_kind k) s h))
-
 module _ (b : Body) (r : Place) (p : Path) (m : Node) (h : IsShownAt b r p m) where
   alike-record : (fs : Fields) → ((n : Text) → place_below r (field n) ≡ option_map of_kind (kind_of n fs)) → EachShows fs b → (n : Text)
       → cond (has b (p ++ field n ∷ [])) (option_map (λ k. shown k b (p ++ field n ∷ [])) (kind_of n fs)) None ≡ option_map value_of (child_at (field n) (below m))
@@ -261,27 +259,6 @@ value-leaf s (atom v) h = refl
 value-leaf s record_branch h = absurd (true≢false (sym h))
 value-leaf s dict_branch h = absurd (true≢false (sym h))
 value-leaf s (list_branch es) h = absurd (true≢false (sym h))
-
-record-branch : (fs : Fields) (c : Content) → content_fits (of_kind (record_of fs)) c ≡ true → c ≡ record_branch
-record-branch fs (leaf s) h = absurd (true≢false (sym h))
-record-branch fs (atom v) h = absurd (true≢false (sym h))
-record-branch fs record_branch h = refl
-record-branch fs dict_branch h = absurd (true≢false (sym h))
-record-branch fs (list_branch es) h = absurd (true≢false (sym h))
-
-item-branch : (ns : List Text) (fs : Fields) (c : Content) → content_fits (item_of ns fs) c ≡ true → c ≡ record_branch
-item-branch ns fs (leaf s) h = absurd (true≢false (sym h))
-item-branch ns fs (atom v) h = absurd (true≢false (sym h))
-item-branch ns fs record_branch h = refl
-item-branch ns fs dict_branch h = absurd (true≢false (sym h))
-item-branch ns fs (list_branch es) h = absurd (true≢false (sym h))
-
-dict-branch : (k : Kind) (c : Content) → content_fits (of_kind (dict_of k)) c ≡ true → c ≡ dict_branch
-dict-branch k (leaf s) h = absurd (true≢false (sym h))
-dict-branch k (atom v) h = absurd (true≢false (sym h))
-dict-branch k record_branch h = absurd (true≢false (sym h))
-dict-branch k dict_branch h = refl
-dict-branch k (list_branch es) h = absurd (true≢false (sym h))
 
 set-list : (k : ScalarKind) (c : Content) → content_fits (of_kind (kinds.set_of k)) c ≡ true → is_list c ≡ true
 set-list k (leaf s) h = absurd (true≢false (sym h))

@@ -13,6 +13,7 @@ use Rattle.ssa_model.specs.Kind.{Kind, Fields, no_fields, kind_field, kind_of}
 use Rattle.ssa_model.specs.Body.{Body, Content}
 use Rattle.ssa_model.specs.Objects.{shown, shown_fields, entry_members, name_below, names_below}
 use Rattle.ssa_model.proofs.PathMaps.{has-paths, same_path-true}
+use Rattle.ssa_model.proofs.ShownNames.{name_of, names-there, name-is}
 use Rattle.ssa_json.proofs.Equality.{same_text-true}
 use Rattle.ssa_path.specs.Children.{child_at, elements, is_below, rises}
 use Rattle.ssa_path.specs.View.{element_view}
@@ -21,49 +22,16 @@ use Rattle.ssa_model.specs.Lawful.{is_before_all, is_ordered, are_ordered}
 use Rattle.ssa_typed.specs.Values.{members_of, member_under, value_of, values_of}
 use Rattle.ssa_typed.specs.declared.node.Node.{Node}
 use Rattle.ssa_typed.proofs.Building.{Child}
-use Rattle.ssa_typed.proofs.Looks.{then_equal}
 use Rattle.ssa_typed.proofs.SameMembers.{named, text_cmp, is_true}
 
 -- ---- the fields that a body shows
 
-none_either : (t : Bool) → ◌≡◌ {A = Option Json} None (cond t None None)
-none_either true = refl
-none_either false = refl
-
 module _ (b : Body) (p : Path) where
-  abbrev place : Text → Path
-  place n = p ++ field n ∷ []
-
-  pub member_of-fields : (n : Text) (fs : Fields) → member_of n (shown_fields fs b p) ≡ cond (has b (place n)) (option_map (λ k. shown k b (place n)) (kind_of n fs)) None
-  member_of-fields n no_fields = none_either (has b (place n))
-  member_of-fields n (kind_field m k fs) =
-      let rest = shown_fields fs b p in
-      elim (same_text n m) as (λ s. same_text n m ≡ s
-      → member_of n (if has b (place m) then member m (shown k b (place m)) rest else rest) ≡ cond (has b (place n)) (option_map (λ k. shown k b (place n)) (if s then Some k else kind_of n fs)) None) [
-        | true ↦ λ is. own m k fs n (same_text-true n m is) is (member_of-fields n fs)
-        | false ↦ λ is. other m k n rest (has b (place m)) is ∙ member_of-fields n fs
-      ] refl
-    where
-      other : (m : Text) (k : Kind) (n : Text) (rest : Members) (t : Bool) → same_text n m ≡ false → member_of n (if t then member m (shown k b (place m)) rest else rest) ≡ member_of n rest
-      other m k n rest true is = ap (λ s. if s then Some (shown k b (place m)) else member_of n rest) is
-      other m k n rest false is = refl
-
-      there : (m : Text) (k : Kind) (fs : Fields) (n : Text) (t : Bool) → n ≡ m → same_text n m ≡ true → has b (place n) ≡ t → member_of n (shown_fields fs b p) ≡ cond t (option_map (λ k. shown k b (place n)) (kind_of n fs)) None
-          → member_of n (if t then member m (shown k b (place m)) (shown_fields fs b p) else shown_fields fs b p) ≡ cond t (Some (shown k b (place n))) None
-      there m k fs n true e is h later = ap (λ s. if s then Some (shown k b (place m)) else member_of n (shown_fields fs b p)) is ∙ ap (λ x. Some (shown k b (place x))) (sym e)
-      there m k fs n false e is h later = later
-
-      own : (m : Text) (k : Kind) (fs : Fields) (n : Text) → n ≡ m → same_text n m ≡ true → member_of n (shown_fields fs b p) ≡ cond (has b (place n)) (option_map (λ k. shown k b (place n)) (kind_of n fs)) None
-          → member_of n (if has b (place m) then member m (shown k b (place m)) (shown_fields fs b p) else shown_fields fs b p) ≡ cond (has b (place n)) (Some (shown k b (place n))) None
-      own m k fs n e is later =
-          ap (λ x. member_of n (if has b (place x) then member m (shown k b (place m)) (shown_fields fs b p) else shown_fields fs b p)) (sym e)
-          ∙ there m k fs n (has b (place n)) e is refl later
-
   before-fields : (n : Text) (fs : Fields) → is_before_all n fs ≡ true → below_all text_cmp n (named (shown_fields fs b p)) ≡ true
   before-fields n no_fields h = refl
   before-fields n (kind_field m k fs) h =
       let rest = before-fields n fs (both_second _ _ h) in
-      elim (has b (place m)) as (λ t. below_all text_cmp n (named (if t then member m (shown k b (place m)) (shown_fields fs b p) else shown_fields fs b p)) ≡ true) [
+      elim (has b (p ++ field m ∷ [])) as (λ t. below_all text_cmp n (named (if t then member m (shown k b (p ++ field m ∷ [])) (shown_fields fs b p) else shown_fields fs b p)) ≡ true) [
         | true ↦ both _ _ (both_first _ _ h) rest
         | false ↦ rest
       ]
@@ -73,7 +41,7 @@ module _ (b : Body) (p : Path) where
   fields-rise (kind_field m k fs) h =
       let later = both_second (is_before_all m fs) _ h in
       let rest = fields-rise fs (both_second (is_ordered k) _ later) in
-      elim (has b (place m)) as (λ t. is_sorted text_cmp (named (if t then member m (shown k b (place m)) (shown_fields fs b p) else shown_fields fs b p)) ≡ true) [
+      elim (has b (p ++ field m ∷ [])) as (λ t. is_sorted text_cmp (named (if t then member m (shown k b (p ++ field m ∷ [])) (shown_fields fs b p) else shown_fields fs b p)) ≡ true) [
         | true ↦ both _ _ (before-fields m fs (both_first _ _ h)) rest
         | false ↦ rest
       ]
@@ -108,74 +76,7 @@ pub children-rise : (cs : List Child) → rises (elements cs) ≡ true → is_so
 children-rise [] h = refl
 children-rise (c ∷ cs) h = first-rises (element_view c.0) (value_of c.1) cs (both_first _ _ h) (children-rise cs (both_second (is_below (element_view c.0) (elements cs)) _ h))
 
--- ---- the names below a path
-
-abbrev name_of : Path → Path → Option Text
-name_of p q = if same_path (parent q) p then name_below p q else None
-
-abbrev is_name : Text → Option Text → Bool
-is_name n None = false
-is_name n (Some m) = same_text n m
-
-then_less : (o : Ordering) → is_eq (ordering_then o Less) ≡ false
-then_less Less = refl
-then_less Equal = refl
-then_less Greater = refl
-
-then_greater : (o : Ordering) → is_eq (ordering_then o Greater) ≡ false
-then_greater Less = refl
-then_greater Equal = refl
-then_greater Greater = refl
-
-longer : (d e : Element) (p : Path) (n : Text) → same_path (d ∷ p ++ field n ∷ []) (e ∷ []) ≡ false
-longer d e [] n = then_greater (element_cmp d e)
-longer d e (f ∷ p) n = then_greater (element_cmp d e)
-
-single : (n : Text) (e : Element) → is_name n (name_of [] (e ∷ [])) ≡ same_path (field n ∷ []) (e ∷ [])
-single n (field m) = sym (then_equal (element_cmp (field n) (field m)))
-single n (key ks) = refl
-single n (value s) = refl
-
-turned : (d e : Element) → same_element e d ≡ same_element d e
-turned d e =
-    elim (same_element e d) as (λ s. same_element e d ≡ s → s ≡ same_element d e) [
-      | true ↦ λ h. sym (same_element-itself e) ∙ ap (λ x. same_element x e) (same_element-true e d h)
-      | false ↦ λ h. by (same_element d e) refl h
-    ] refl
-  where
-    by : (t : Bool) → same_element d e ≡ t → same_element e d ≡ false → false ≡ t
-    by true g h = absurd (true≢false (sym (same_element-itself d) ∙ ap (λ x. same_element x d) (same_element-true d e g) ∙ h))
-    by false g h = refl
-
-then_both : (o q : Ordering) → is_eq (ordering_then o q) ≡ (is_eq o && is_eq q)
-then_both Less q = refl
-then_both Equal q = refl
-then_both Greater q = refl
-
-if_and : (n : Text) (s t : Bool) (o : Option Text) → is_name n (if s && t then o else None) ≡ (s && is_name n (if t then o else None))
-if_and n true t o = refl
-if_and n false t o = refl
-
-one-name : (p q : Path) (n : Text) → is_name n (name_of p q) ≡ same_path (p ++ field n ∷ []) q
-one-name [] [] n = refl
-one-name [] (e ∷ []) n = single n e
-one-name [] (e ∷ f ∷ q) n = sym (then_less (element_cmp (field n) e))
-one-name (d ∷ p) [] n = refl
-one-name (d ∷ p) (e ∷ []) n = sym (longer d e p n)
-one-name (d ∷ p) (e ∷ f ∷ q) n =
-    let here = same_path (parent (f ∷ q)) p in
-    ap (λ t. is_name n (if t then name_below p (f ∷ q) else None)) (then_both (element_cmp e d) (path_cmp (parent (f ∷ q)) p) ∙ ap (λ s. s && here) (turned d e))
-    ∙ if_and n (same_element d e) here (name_below p (f ∷ q))
-    ∙ ap (λ t. same_element d e && t) (one-name p (f ∷ q) n)
-    ∙ sym (then_both (element_cmp d e) (path_cmp (p ++ field n ∷ []) (f ∷ q)))
-
-any-cons : (n : Text) (o : Option Text) (ns : List Text) → list_any (same_text n) (cons_option o ns) ≡ (is_name n o || list_any (same_text n) ns)
-any-cons n None ns = refl
-any-cons n (Some m) ns = refl
-
-among-names : (p : Path) (n : Text) (ps : List Path) → list_any (same_text n) (filter_map (name_of p) ps) ≡ list_any (same_path (p ++ field n ∷ [])) ps
-among-names p n [] = refl
-among-names p n (q ∷ ps) = any-cons n (name_of p q) (filter_map (name_of p) ps) ∙ (λ i. one-name p q n i || among-names p n ps i)
+-- ---- the members that a body shows below a path
 
 entry-under : (shows : Path → Json) (p : Path) (n : Text) (ns : List Text) → member_of n (entry_members shows p ns) ≡ cond (list_any (same_text n) ns) (Some (shows (p ++ field n ∷ []))) None
 entry-under shows p n [] = refl
@@ -189,12 +90,9 @@ entry-under shows p n (m ∷ ns) =
 pub member_of-entries : (shows : Path → Json) (b : Body) (p : Path) (n : Text) → member_of n (entry_members shows p (names_below b p)) ≡ cond (has b (p ++ field n ∷ [])) (Some (shows (p ++ field n ∷ []))) None
 member_of-entries shows b p n =
     entry-under shows p n (names_below b p)
-    ∙ ap (λ t. cond t (Some (shows (p ++ field n ∷ []))) None) (among-names p n (paths b) ∙ sym (has-paths b (p ++ field n ∷ [])))
+    ∙ ap (λ t. cond t (Some (shows (p ++ field n ∷ []))) None) (names-there b p n)
 
 -- ---- the names below a path rise
-
-name-is : (p q : Path) (m : Text) → name_of p q ≡ Some m → p ++ field m ∷ [] ≡ q
-name-is p q m h = same_path-true (p ++ field m ∷ []) q (sym (one-name p q m) ∙ ap (is_name m) h ∙ ap is_eq (tied_itself nat_list_cmp_total m))
 
 then_same : (o : Ordering) → ordering_then o Equal ≡ o
 then_same Less = refl

@@ -10,7 +10,7 @@ use Rattle.ssa_path.proofs.Orders.{same_element-itself, both_second}
 use Rattle.ssa_typed.specs.Rows.{Row, rows, rows_below, under_element, below, own_content, content_at, is_tree, are_apart}
 use Rattle.ssa_typed.specs.Points.{content_in}
 use Rattle.ssa_typed.specs.declared.node.Node.{Node}
-use Rattle.ssa_typed.proofs.ItemKeys.{cons≢nil}
+use Rattle.ssa_model.proofs.Faults.{cons≢nil}
 use Rattle.ssa_typed.proofs.Laws.{none≢some, some-same}
 use Rattle.ssa_typed.proofs.Levels.{level-below}
 use Rattle.ssa_typed.proofs.Lookups.{child_at-rest, content-root, content-level, tree-child}

@@ -1,10 +1,33 @@
--- An atomic value that fits its shape at a path fits it at any.
-use Rattle.std.proofs.Common.{◌≡◌, List, [], ◌∷◌, ◌++◌, Option, Some, None, refl, sym, ap, ◌∙◌}
+-- Lists of faults, and that an atomic value that fits its shape at a path fits it at any.
+use Rattle.std.proofs.Common.{◌≡◌, List, [], ◌∷◌, ◌++◌, Bool, true, false, Option, Some, None, refl, sym, ap, ◌∙◌, true≢false}
 use Rattle.ssa_model.specs.Json.{Text, Json, scalar, list, object, Items, no_items, item, Members, no_members, member}
 use Rattle.ssa_model.specs.Path.{Path}
 use Rattle.ssa_model.specs.Kind as kinds
 use Rattle.ssa_model.specs.Kind.{Shape, ShapeFields, shape_of, is_of, shape_faults, shape_field_faults, shape_entry_faults, shape_item_faults, fault_unless, unknown_field, wrong_type, Fault}
-use Rattle.ssa_typed.proofs.ItemKeys.{cons≢nil, nil_first, nil_second, unless-true}
+
+-- ---- lists of faults
+
+is_nil : {X : Type 0} → List X → Bool
+is_nil [] = true
+is_nil (x ∷ xs) = false
+
+pub cons≢nil : {X : Type 0} {x : X} {xs : List X} → x ∷ xs ≡ [] → ⊥
+unfolding is_nil
+cons≢nil e = true≢false (sym (ap is_nil e))
+
+pub nil_first : {X : Type 0} (xs ys : List X) → xs ++ ys ≡ [] → xs ≡ []
+nil_first [] ys e = refl
+nil_first (x ∷ xs) ys e = absurd (cons≢nil e)
+
+pub nil_second : {X : Type 0} (xs ys : List X) → xs ++ ys ≡ [] → ys ≡ []
+nil_second [] ys e = e
+nil_second (x ∷ xs) ys e = absurd (cons≢nil e)
+
+pub unless-true : (b : Bool) (f : kinds.BodyFault) (p : Path) → fault_unless b f p ≡ [] → b ≡ true
+unless-true true f p e = refl
+unless-true false f p e = absurd (cons≢nil e)
+
+-- ---- atomic values
 
 abbrev shape_test : Json → Path → Option Shape → List Fault
 shape_test v p None = (unknown_field, p) ∷ []

@@ -1,0 +1,31 @@
+-- The test of equality tells scalars apart.
+use Rattle.std.proofs.Common.{◌≡◌, ℕ, ℤ, pos, negsuc, Bool, true, false, refl, sym, ap, arith, true≢false}
+use Rattle.std.specs.Prelude.{◌==◌}
+use Rattle.std.proofs.lemmas.Bool.Decides.{nat_tests}
+use Rattle.ssa_model.specs.Json.{Scalar, text, whole, truth, same_whole, same_truth, same_scalar}
+use Rattle.ssa_model.proofs.Tables.{same_text-true}
+
+same_nat-true : (a b : ℕ) → (a == b) ≡ true → a ≡ b
+same_nat-true a b e = grind (arith, nat_tests)
+
+same_whole-true : (y z : ℤ) → same_whole y z ≡ true → y ≡ z
+same_whole-true (pos a) (pos b) e = ap pos (same_nat-true a b e)
+same_whole-true (pos a) (negsuc b) e = absurd (true≢false (sym e))
+same_whole-true (negsuc a) (pos b) e = absurd (true≢false (sym e))
+same_whole-true (negsuc a) (negsuc b) e = ap negsuc (same_nat-true a b e)
+
+same_truth-true : (a b : Bool) → same_truth a b ≡ true → a ≡ b
+same_truth-true true b e = sym e
+same_truth-true false true e = absurd (true≢false (sym e))
+same_truth-true false false e = refl
+
+pub same_scalar-true : (s t : Scalar) → same_scalar s t ≡ true → s ≡ t
+same_scalar-true (text a) (text b) e = ap text (same_text-true a b e)
+same_scalar-true (whole a) (whole b) e = ap whole (same_whole-true a b e)
+same_scalar-true (truth a) (truth b) e = ap truth (same_truth-true a b e)
+same_scalar-true (text a) (whole b) e = absurd (true≢false (sym e))
+same_scalar-true (text a) (truth b) e = absurd (true≢false (sym e))
+same_scalar-true (whole a) (text b) e = absurd (true≢false (sym e))
+same_scalar-true (whole a) (truth b) e = absurd (true≢false (sym e))
+same_scalar-true (truth a) (text b) e = absurd (true≢false (sym e))
+same_scalar-true (truth a) (whole b) e = absurd (true≢false (sym e))
