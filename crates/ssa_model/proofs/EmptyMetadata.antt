@@ -1,5 +1,5 @@
 -- The `metadata` that a rooted body shows is not empty.
-use Rattle.std.proofs.Common.{◌≡◌, List, [], ◌∷◌, ◌++◌, Bool, true, false, cond, not, ◌&&◌, ◌||◌, Option, Some, None, option_map, refl, sym, ap, ◌∙◌, true≢false, append-nil}
+use Rattle.std.proofs.Common.{◌≡◌, [], ◌∷◌, ◌++◌, Bool, true, false, cond, not, ◌&&◌, Option, Some, None, option_map, refl, sym, ap, ◌∙◌, true≢false, append_assoc, append-nil}
 use Rattle.std.proofs.lemmas.Option.{same_Some, none-some}
 use Rattle.std.specs.Prelude.{if◌then◌else◌, codes}
 use Rattle.std.specs.List.{list_any}
@@ -44,7 +44,7 @@ module _ (kind : Kind) (b : Body) (k : IsBodyOf kind b) where
       by : (r : Path) → x ≡ p ++ r → ⊥
       by [] is = yes_no (under x p) (ap (λ y. under y p) (is ∙ append-nil p) ∙ under-itself p) (no (under x p) (second_so (under p x) _ u))
       by (e ∷ r) is =
-          let there = beginning kind b k r (p ++ e ∷ []) (ap (has b) (Rattle.std.proofs.Common.append_assoc p (e ∷ []) r ∙ sym is) ∙ one) in
+          let there = beginning kind b k r (p ++ e ∷ []) (ap (has b) (append_assoc p (e ∷ []) r ∙ sym is) ∙ one) in
           let s = below kind b k p (of_kind (record_of hs)) e at there in
           let f = record-place hs e s.place s.below in
           yes_no (has b (p ++ e ∷ [])) there (ap (λ y. has b (p ++ y ∷ [])) f.is_own ∙ no-field hs p f.own f.kind empty f.is_kind)

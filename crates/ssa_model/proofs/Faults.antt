@@ -4,6 +4,7 @@ use Rattle.ssa_model.specs.Json.{Text, Json, scalar, list, object, Items, no_ite
 use Rattle.ssa_model.specs.Path.{Path}
 use Rattle.ssa_model.specs.Kind as kinds
 use Rattle.ssa_model.specs.Kind.{Shape, ShapeFields, shape_of, is_of, shape_faults, shape_field_faults, shape_entry_faults, shape_item_faults, fault_unless, unknown_field, wrong_type, Fault}
+use Rattle.ssa_model.specs.Operations.{is_none}
 
 -- ---- lists of faults
 
@@ -26,6 +27,10 @@ nil_second (x ∷ xs) ys e = absurd (cons≢nil e)
 pub unless-true : (b : Bool) (f : kinds.BodyFault) (p : Path) → fault_unless b f p ≡ [] → b ≡ true
 unless-true true f p e = refl
 unless-true false f p e = absurd (cons≢nil e)
+
+pub none-found : (fs : List Fault) → is_none fs ≡ true → fs ≡ []
+none-found [] h = refl
+none-found (f ∷ fs) h = absurd (true≢false (sym h))
 
 -- ---- atomic values
 

@@ -201,12 +201,15 @@ module _ (kind : Kind) (b : Body) (k : IsBodyOf kind b) where
     of_items = list-told;
   }
 
--- the flattening of the members that are shown, where no empty `metadata` is among them
+-- the flattening of the members that are shown, since no empty `metadata` is among them
 pub flat_of_shown : FlatOfShown
 flat_of_shown (record_of fs) body lawful k rooted =
     let kind = record_of fs in
-    let own = each_kind (Told kind body k) (all_told kind body k) kind (first_so (is_ordered kind) _ (second_so (is_root_kind kind) _ lawful)) (second_so (is_record kind) (is_keyed kind) (first_so _ _ lawful)) [] refl k.root in
-    ap (λ ms. from_entries (places kind (object ms) [])) (metadata_stays fs body k (first_so (is_ordered kind) _ (second_so (is_root_kind kind) _ lawful)) (second_so (is_ordered kind) (has_metadata kind) (second_so (is_root_kind kind) _ lawful)) rooted)
+    let later = second_so (is_root_kind kind) _ lawful in
+    let ordered = first_so (is_ordered kind) _ later in
+    let keyed = second_so (is_record kind) (is_keyed kind) (first_so _ _ lawful) in
+    let own = each_kind (Told kind body k) (all_told kind body k) kind ordered keyed [] refl k.root in
+    ap (λ ms. from_entries (places kind (object ms) [])) (metadata_stays fs body k ordered (second_so (is_ordered kind) (has_metadata kind) later) rooted)
     ∙ same_map (from_entries (places kind (shown kind body []) [])) body (λ x. get-from_entries (places kind (shown kind body []) []) x ∙ own x)
 flat_of_shown (scalar_kind s) body lawful k rooted = absurd (true≢false (sym lawful))
 flat_of_shown (atomic_of s) body lawful k rooted = absurd (true≢false (sym lawful))

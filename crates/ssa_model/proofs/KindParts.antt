@@ -1,23 +1,16 @@
 -- Going through the kind of a schema: its parts are lawful as it is, and each field is found by its name.
-use Rattle.std.proofs.Common.{◌≡◌, List, true, false, Some, refl, sym, ap, subst, ◌∙◌, true≢false}
+use Rattle.std.proofs.Common.{◌≡◌, List, true, false, Some, refl, ap, subst, ◌∙◌}
 use Rattle.std.proofs.lemmas.Option.{same_Some, none-some}
 use Rattle.std.specs.Prelude.{if◌then◌else◌}
 use Rattle.std.specs.Ordering.{is_lt, nat_cmp}
-use Rattle.std.specs.Cmp.{first_so, second_so, tied_itself}
-use Rattle.std.specs.Cmp.Lexicographic.{slice_cmp, nat_list_cmp_total}
+use Rattle.std.specs.Cmp.{first_so, second_so}
+use Rattle.std.specs.Cmp.Lexicographic.{slice_cmp}
 use Rattle.ssa_model.specs.Json.{Text, same_text}
 use Rattle.ssa_model.specs.Kind as kinds
 use Rattle.ssa_model.specs.Kind.{Kind, ScalarKind, Shape, Fields, scalar_kind, atomic_of, record_of, dict_of, items_of, no_fields, kind_field, kind_of}
 use Rattle.ssa_model.specs.Lawful.{are_key_names, is_keyed, are_keyed, is_before_all, is_ordered, are_ordered}
+use Rattle.ssa_model.proofs.RisingNames.{apart-less}
 use Rattle.ssa_model.proofs.Tables.{same_text-true, text-itself}
-
--- a name below another is another
-pub apart-less : (n m : Text) → is_lt (slice_cmp nat_cmp m n) ≡ true → same_text n m ≡ false
-apart-less n m h =
-    elim (same_text n m) as (λ t. same_text n m ≡ t → t ≡ false) [
-      | true ↦ λ t. absurd (true≢false (sym h ∙ ap (λ x. is_lt (slice_cmp nat_cmp m x)) (same_text-true n m t) ∙ ap is_lt (tied_itself nat_list_cmp_total m)))
-      | false ↦ λ t. refl
-    ] refl
 
 -- ---- fields
 

@@ -6,15 +6,13 @@ use Rattle.std.specs.Cmp.{first_so, second_so}
 use Rattle.ssa_model.specs.Json.{Text, Json, object, item, Members, member, same_text}
 use Rattle.ssa_model.specs.Path.{Element, field, value, Path, same_element}
 use Rattle.ssa_model.specs.PathMap.{get, has}
-use Rattle.ssa_model.specs.Kind as kinds
-use Rattle.ssa_model.specs.Kind.{Kind, ScalarKind, Shape, Fields, scalar_kind, atomic_of, record_of, dict_of, items_of, no_fields, kind_field, kind_of, is_of, is_among, faults, field_faults, entry_faults, value_faults, item_faults, key_faults, item_key, shape_faults, fault_unless, or_else, wrong_type, duplicate_item, unknown_field}
+use Rattle.ssa_model.specs.Kind.{Kind, ScalarKind, Shape, Fields, scalar_kind, atomic_of, record_of, dict_of, no_fields, kind_field, kind_of, is_among, faults, field_faults, entry_faults, value_faults, item_faults, item_key, shape_faults, fault_unless, or_else, wrong_type, duplicate_item, unknown_field}
 use Rattle.ssa_model.specs.Body.{Content, leaf, atom, Body, order_at}
 use Rattle.ssa_model.specs.Fitting.{Place, of_kind, item_of, place_below, place_at, content_fits, are_distinct, IsBodyOf}
 use Rattle.ssa_model.specs.Lawful.{are_ordered, is_ordered, is_keyed, is_root_kind, is_record}
 use Rattle.ssa_model.specs.Objects.{shown, shown_fields, entry_members, shown_items, names_below, content_value}
-use Rattle.ssa_model.specs.Operations.{is_none}
 use Rattle.ssa_model.specs.ShownBodies.{ShownFits}
-use Rattle.ssa_model.proofs.Faults.{shape-anywhere}
+use Rattle.ssa_model.proofs.Faults.{none-found, shape-anywhere}
 use Rattle.ssa_model.proofs.Fitting.{same_element-true}
 use Rattle.ssa_model.proofs.KindParts.{EachField, each_field, OfEach, OfParts, each_kind}
 use Rattle.ssa_model.proofs.Places.{place-after, stands}
@@ -101,15 +99,8 @@ module _ (kind : Kind) (b : Body) (k : IsBodyOf kind b) where
   abbrev Fits : Kind → Type 0
   Fits j = (p q : Path) → place_at (of_kind kind) p ≡ Some (of_kind j) → has b p ≡ true → faults j (shown j b p) q ≡ []
 
-  shape-so : (s : Shape) (v : Json) → is_none (shape_faults s v []) ≡ true → shape_faults s v [] ≡ []
-  shape-so s v h = by (shape_faults s v []) h
-    where
-      by : (fs : List kinds.Fault) → is_none fs ≡ true → fs ≡ []
-      by [] h = refl
-      by (f ∷ fs) h = absurd (true≢false (sym h))
-
   atomic-fits : (s : Shape) (c : Content) (q : Path) → content_fits (of_kind (atomic_of s)) c ≡ true → faults (atomic_of s) (content_value (Some c)) q ≡ []
-  atomic-fits s (atom v) q h = shape-anywhere s v [] q (shape-so s v h)
+  atomic-fits s (atom v) q h = shape-anywhere s v [] q (none-found (shape_faults s v []) h)
   atomic-fits s _ q h = absurd (true≢false (sym h))
 
   -- the members of a place with fields
@@ -142,4 +133,6 @@ module _ (kind : Kind) (b : Body) (k : IsBodyOf kind b) where
 
 pub shown_fits : ShownFits
 shown_fits kind body lawful k =
-    each_kind (Fits kind body k) (all_fit kind body k) kind (first_so (is_ordered kind) _ (second_so (is_root_kind kind) _ lawful)) (second_so (is_record kind) (is_keyed kind) (first_so _ _ lawful)) [] [] refl k.root
+    let ordered = first_so (is_ordered kind) _ (second_so (is_root_kind kind) _ lawful) in
+    let keyed = second_so (is_record kind) (is_keyed kind) (first_so _ _ lawful) in
+    each_kind (Fits kind body k) (all_fit kind body k) kind ordered keyed [] [] refl k.root

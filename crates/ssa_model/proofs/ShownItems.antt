@@ -1,21 +1,19 @@
 -- The items of lists in a body of a kind: an item of a set is its value, and one of a map list shows the fields of its key.
-use Rattle.std.proofs.Common.{◌≡◌, List, [], ◌∷◌, ◌++◌, Bool, true, false, cond, ◌&&◌, ◌||◌, Option, Some, None, option_map, Ordering, Less, Equal, Greater, refl, sym, ap, ◌∙◌, true≢false}
+use Rattle.std.proofs.Common.{◌≡◌, List, [], ◌∷◌, ◌++◌, Bool, true, false, cond, Option, Some, None, option_map, refl, sym, ap, subst, ◌∙◌, true≢false}
 use Rattle.std.proofs.lemmas.Option.{none-some}
 use Rattle.std.specs.Prelude.{if◌then◌else◌, is_some}
 use Rattle.std.specs.List.{list_any, AllByRecursion}
-use Rattle.std.specs.Ordering.{is_lt, nat_cmp}
 use Rattle.std.specs.Cmp.{first_so, second_so}
-use Rattle.std.specs.Cmp.Lexicographic.{slice_cmp, nat_list_cmp_total}
 use Rattle.ssa_model.specs.Json.{Text, Scalar, scalar, Members, member_of, same_text}
 use Rattle.ssa_model.specs.Path.{Element, field, key, value, Path}
 use Rattle.ssa_model.specs.PathMap.{get, has}
 use Rattle.ssa_model.specs.Kind as kinds
 use Rattle.ssa_model.specs.Kind.{Kind, ScalarKind, Fields, scalar_kind, items_of, kind_of, is_of, is_among, key_scalars, cons_scalar, item_key, key_faults, key_field_fault, fault_unless, wrong_type}
 use Rattle.ssa_model.specs.Body.{leaf, Body, order_at}
-use Rattle.ssa_model.specs.Fitting.{of_kind, item_of, place_at, are_keys, is_key_of, scalar_of, IsBodyOf}
+use Rattle.ssa_model.specs.Fitting.{of_kind, item_of, place_at, content_fits, are_keys, is_key_of, scalar_of, IsBodyOf}
 use Rattle.ssa_model.specs.Lawful.{are_key_names, names_rise_after}
-use Rattle.ssa_model.specs.Objects.{shown, shown_fields}
-use Rattle.ssa_model.proofs.KindParts.{apart-less}
+use Rattle.ssa_model.specs.Objects.{shown, shown_fields, content_value}
+use Rattle.ssa_model.proofs.RisingNames.{apart-less, before, rise-on, do_rise, rest-rise, key-names-rise}
 use Rattle.ssa_model.proofs.Places.{below, listed, stands, value-leaf, set-place, list-place}
 use Rattle.ssa_model.proofs.ShownNames.{member_of-fields}
 use Rattle.ssa_model.proofs.Tables.{same_text-true, text-itself, or_true, true_or}
@@ -30,20 +28,6 @@ each-among same itself P (x ∷ xs) h = (
 
 -- ---- keys whose names rise
 
-less : (o : Ordering) → is_lt o ≡ true → o ≡ Less
-less Less e = refl
-less Equal e = absurd (true≢false (sym e))
-less Greater e = absurd (true≢false (sym e))
-
-abbrev before : Text → Text → Bool
-before n m = is_lt (slice_cmp nat_cmp n m)
-
-rise-on : (n l : Text) (ns : List Text) → before n l ≡ true → names_rise_after l ns ≡ true → names_rise_after n ns ≡ true
-rise-on n l [] h rest = refl
-rise-on n l (m ∷ ns) h rest =
-    let lower = ap is_lt (nat_list_cmp_total.trans n l m (less _ h) (less _ (first_so (before l m) _ rest))) in
-    λ i. lower i && second_so (before l m) (names_rise_after m ns) rest i
-
 key-above : (n : Text) (ns : List Text) (fs : Fields) (ks : List (Text × Scalar)) (m : Text) (s : Scalar) → names_rise_after n ns ≡ true → are_keys ns fs ks ≡ true → scalar_of m ks ≡ Some s → before n m ≡ true
 key-above n ns fs [] m s rise are found = absurd (none-some s found)
 key-above n [] fs (x ∷ ks) m s rise are found = absurd (true≢false (sym are))
@@ -52,18 +36,6 @@ key-above n (l ∷ ns) fs (x ∷ ks) m s rise are found =
       | true ↦ λ t _. ap (before n) (same_text-true m x.0 t ∙ sym (same_text-true l x.0 (first_so _ _ are))) ∙ first_so _ _ rise
       | false ↦ λ t found. key-above n ns fs ks m s (rise-on n l ns (first_so _ _ rise) (second_so (before n l) _ rise)) (second_so _ _ (second_so (same_text l x.0) _ are)) found
     ] refl found
-
-abbrev do_rise : List Text → Bool
-do_rise [] = true
-do_rise (n ∷ ns) = names_rise_after n ns
-
-rest-rise : (n : Text) (ns : List Text) → names_rise_after n ns ≡ true → do_rise ns ≡ true
-rest-rise n [] h = refl
-rest-rise n (m ∷ ns) h = second_so (before n m) _ h
-
-key-names-rise : (ns : List Text) → are_key_names ns ≡ true → do_rise ns ≡ true
-key-names-rise [] h = refl
-key-names-rise (n ∷ ns) h = h
 
 -- a key field is the one that is found by its name
 each-key : (P : Text → Scalar → Type 0) (ns : List Text) (fs : Fields) (ks : List (Text × Scalar)) → do_rise ns ≡ true → are_keys ns fs ks ≡ true → ((n : Text) (s : Scalar) → scalar_of n ks ≡ Some s → P n s)
@@ -141,19 +113,18 @@ module _ (kind : Kind) (b : Body) (k : IsBodyOf kind b) where
         own = x.own;
         is_own = x.is_own;
         fits = x.fits;
-        there = c.is_there ∙ ap Some (value-leaf x.own c.content (ap (λ s. Rattle.ssa_model.specs.Fitting.content_fits s c.content) x.place ∙ c.fits));
+        there = c.is_there ∙ ap Some (value-leaf x.own c.content (ap (λ s. content_fits s c.content) x.place ∙ c.fits));
       }
 
   module _ (ns : List Text) (fs : Fields) (names : are_key_names ns ≡ true) where
     key-member : (p : Path) (ks : List (Text × Scalar)) (n : Text) (s : Scalar) → has b (p ++ key ks ∷ []) ≡ true → scalar_of n ks ≡ Some s → is_key_of (kind_of n fs) s ≡ true
         → member_of n (shown_fields fs b (p ++ key ks ∷ [])) ≡ Some (scalar s)
     key-member p ks n s there found is_key =
-        let at = (p ++ key ks ∷ []) ++ field n ∷ [] in
         let own = k.keys p ks n s found there in
         let j = scalar-key (kind_of n fs) s is_key in
         member_of-fields b (p ++ key ks ∷ []) n fs
         ∙ (λ i. cond (is_some (own i)) (option_map (λ x. shown x b ((p ++ key ks ∷ []) ++ field n ∷ [])) (j.1 i)) None)
-        ∙ ap (λ o. Some (Rattle.ssa_model.specs.Objects.content_value o)) own
+        ∙ ap (λ o. Some (content_value o)) own
 
     abbrev OwnKey : List (Text × Scalar) → Text → Scalar → Type 0
     OwnKey ks n s = (scalar_of n ks ≡ Some s)
@@ -165,13 +136,13 @@ module _ (kind : Kind) (b : Body) (k : IsBodyOf kind b) where
         let later = second_so (same_text l x.0) _ are in
         (ap (λ t. is_key_of (kind_of t fs) x.1) (sym (same_text-true l x.0 (first_so _ _ are))) ∙ first_so _ _ later, key-kinds ls ks (second_so _ _ later))
 
-    both : (p : Path) (ks ls : List (Text × Scalar)) → has b (p ++ key ks ∷ []) ≡ true → AllByRecursion (λ (x : Text × Scalar). OwnKey ks x.0 x.1) ls → AllByRecursion (λ (x : Text × Scalar). is_key_of (kind_of x.0 fs) x.1 ≡ true) ls
+    have-each : (p : Path) (ks ls : List (Text × Scalar)) → has b (p ++ key ks ∷ []) ≡ true → AllByRecursion (λ (x : Text × Scalar). OwnKey ks x.0 x.1) ls → AllByRecursion (λ (x : Text × Scalar). is_key_of (kind_of x.0 fs) x.1 ≡ true) ls
         → Have (shown_fields fs b (p ++ key ks ∷ [])) ls
-    both p ks [] there g h = tt
-    both p ks (x ∷ ls) there g h = (key-member p ks x.0 x.1 there g.0 h.0, both p ks ls there g.1 h.1)
+    have-each p ks [] there g h = tt
+    have-each p ks (x ∷ ls) there g h = (key-member p ks x.0 x.1 there g.0 h.0, have-each p ks ls there g.1 h.1)
 
     have-keys : (p : Path) (ks : List (Text × Scalar)) → has b (p ++ key ks ∷ []) ≡ true → are_keys ns fs ks ≡ true → Have (shown_fields fs b (p ++ key ks ∷ [])) ks
-    have-keys p ks there are = both p ks ks there (each-key (OwnKey ks) ns fs ks (key-names-rise ns names) are (λ n s found. found)) (key-kinds ns ks are)
+    have-keys p ks there are = have-each p ks ks there (each-key (OwnKey ks) ns fs ks (key-names-rise ns names) are (λ n s found. found)) (key-kinds ns ks are)
 
     keyed-item : (p : Path) (ks : List (Text × Scalar)) → has b (p ++ key ks ∷ []) ≡ true → are_keys ns fs ks ≡ true → place_at (of_kind kind) (p ++ key ks ∷ []) ≡ Some (item_of ns fs) → IsListItem kind ns fs b p (key ks)
     keyed-item p ks there are at =
@@ -188,5 +159,5 @@ module _ (kind : Kind) (b : Body) (k : IsBodyOf kind b) where
         let there = listed kind b k p e among in
         let r = below kind b k p (of_kind (items_of ns fs)) e at there in
         let x = list-place ns fs e r.place r.below in
-        Rattle.std.proofs.Common.subst (IsListItem kind ns fs b p) (sym x.is_own)
+        subst (IsListItem kind ns fs b p) (sym x.is_own)
         (keyed-item p x.own (ap (λ y. has b (p ++ y ∷ [])) (sym x.is_own) ∙ there) x.fits (ap (λ y. place_at (of_kind kind) (p ++ y ∷ [])) (sym x.is_own) ∙ r.there ∙ ap Some (sym x.place)))

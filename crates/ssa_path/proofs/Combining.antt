@@ -14,7 +14,8 @@ use Rattle.ssa_path.specs.Children.{elements, is_below, rises, heads_order}
 use Rattle.ssa_path.specs.Combine.{concerns, is_concerned, covers, keeps, IsCombination, IsCombined, IsKept, IsGrown}
 use Rattle.ssa_path.specs.View.{element_view}
 use Rattle.ssa_path.specs.Trie.{Shape, here_path, is_one_of, paths, paths_below, is_trie, is_filled, has_some, are_filled_tries, IsCopy}
-use Rattle.ssa_path.proofs.Orders.{element_cmp_total, same_either_way, same_element-true, lower, not_tied, both, both_first, both_second, or_false}
+use Rattle.ssa_model.proofs.RisingNames.{lower}
+use Rattle.ssa_path.proofs.Orders.{element_cmp_total, same_either_way, same_element-true, not_tied, both, both_first, both_second, or_false}
 use Rattle.ssa_path.proofs.Levels.{GoesOn, same_path-reading, under-reading, any-child, any-made, any-level, child-more, one-made-root, one-level-root, is_trie-made, paths-level, paths-made, some-none}
 use Rattle.ssa_path.proofs.Lists.{left-at}
 

@@ -15,7 +15,8 @@ use Rattle.ssa_path.specs.declared.trie.Trie.{Trie}
 use Rattle.ssa_path.specs.declared.trie.Trie.TheFolds.{ind-Trie}
 use Rattle.ssa_path.specs.declared.trie.Trie.TheOpen.{Trie-F}
 use Rattle.ssa_path.specs.declared.trie.Trie.TheViews.{out-Trie}
-use Rattle.ssa_path.proofs.Orders.{element_cmp_total, lower, both, both_first, both_second}
+use Rattle.ssa_model.proofs.RisingNames.{lower}
+use Rattle.ssa_path.proofs.Orders.{element_cmp_total, both, both_first, both_second}
 use Rattle.ssa_path.proofs.Levels.{paths-level, paths-made, shape-made, trie-parts}
 use Rattle.ssa_path.proofs.Lists.{paths_below-append}
 

@@ -23,11 +23,6 @@ reversed Greater = refl
 pub same_either_way : (e f : Element) → same_element f e ≡ same_element e f
 same_either_way e f = ap is_eq (element_cmp_total.antisymm f e) ∙ reversed (element_cmp e f)
 
-pub lower : (o : Ordering) → is_lt o ≡ true → o ≡ Less
-lower Less e = refl
-lower Equal e = absurd (true≢false (sym e))
-lower Greater e = absurd (true≢false (sym e))
-
 pub not_tied : (o : Ordering) → is_lt o ≡ true → is_eq o ≡ false
 not_tied Less e = refl
 not_tied Equal e = absurd (true≢false (sym e))

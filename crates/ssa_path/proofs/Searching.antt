@@ -8,7 +8,8 @@ use Rattle.ssa_model.proofs.Texts.{same_element_same}
 use Rattle.ssa_path.specs.declared.element.Elem.{Elem}
 use Rattle.ssa_path.specs.View.{element_view}
 use Rattle.ssa_path.specs.Children.{elements, child_at, is_below, rises, IsChildAt, IsSearchResult}
-use Rattle.ssa_path.proofs.Orders.{element_cmp_total, same_element-true, same_element-itself, lower, not_tied, both, both_first, both_second}
+use Rattle.ssa_model.proofs.RisingNames.{lower}
+use Rattle.ssa_path.proofs.Orders.{element_cmp_total, same_element-true, same_element-itself, not_tied, both, both_first, both_second}
 
 -- what stands behind e or at it is followed by what stands behind e
 index_up : (e f g : Element) (o : Ordering) → element_cmp f e ≡ o → element_cmp f g ≡ Less → ordering_index o ≤ ordering_index (element_cmp g e)

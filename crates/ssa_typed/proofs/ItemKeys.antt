@@ -1,5 +1,5 @@
 -- The key fields of items that have them.
-use Rattle.std.proofs.Common.{◌≡◌, List, [], ◌∷◌, ◌++◌, map, Bool, true, false, ◌&&◌, refl, sym, ap, ◌∙◌, true≢false}
+use Rattle.std.proofs.Common.{◌≡◌, List, [], ◌∷◌, map, Bool, true, false, ◌&&◌, refl, sym, ap, ◌∙◌, true≢false}
 use Rattle.std.specs.Prelude.{Option, None, Some, if◌then◌else◌}
 use Rattle.ssa_model.specs.Json.{Text, Scalar, Json, scalar, list, object, Members, member_of, same_text}
 use Rattle.ssa_model.specs.Kind as kinds

@@ -2,16 +2,15 @@
 use Rattle.std.proofs.Common.{◌≡◌, List, [], ◌∷◌, ◌++◌, Bool, true, false, cond, Option, Some, None, option_map, refl, sym, ap, subst, ◌∙◌, append_assoc, append-nil, true≢false}
 use Rattle.std.specs.Prelude.{is_some, if◌then◌else◌}
 use Rattle.std.specs.List.{AllByRecursion}
-use Rattle.ssa_model.specs.Json.{Text, Scalar, Json, scalar, list, object, item, same_text}
-use Rattle.ssa_model.specs.Path.{Element, field, key, value, Path, same_element}
+use Rattle.ssa_model.specs.Json.{Text, Json, scalar, list, object, item, same_text}
+use Rattle.ssa_model.specs.Path.{Element, field, Path, same_element}
 use Rattle.ssa_model.specs.PathMap.{get, has}
 use Rattle.ssa_model.specs.Kind as kinds
 use Rattle.ssa_model.specs.Kind.{Kind, ScalarKind, Fields, scalar_kind, atomic_of, record_of, dict_of, items_of, no_fields, kind_field, kind_of, is_of}
 use Rattle.ssa_model.specs.Body.{Body, Content, leaf, atom, record_branch, dict_branch, list_branch, is_leaf, order_at}
-use Rattle.ssa_model.specs.Fitting as fitting
-use Rattle.ssa_model.specs.Fitting.{Place, of_kind, item_of, are_keys, place_below, place_at, content_fits, IsBodyOf}
+use Rattle.ssa_model.specs.Fitting.{Place, of_kind, item_of, place_below, place_at, content_fits, IsBodyOf}
 use Rattle.ssa_model.specs.Objects.{shown, shown_fields, shown_items, entry_members, names_below, content_value}
-use Rattle.ssa_model.proofs.Places.{record-branch, item-branch, dict-branch, kind-placed}
+use Rattle.ssa_model.proofs.Places.{record-branch, item-branch, dict-branch, set-branch, list-branch, value-leaf, set-place, list-place, kind-placed}
 use Rattle.ssa_path.specs.Children.{child_at, elements, rises}
 use Rattle.ssa_path.specs.View.{element_view}
 use Rattle.ssa_path.proofs.Orders.{both_first, both_second, same_element-itself}
@@ -253,51 +252,18 @@ atomic-leaf s record_branch h = absurd (true≢false (sym h))
 atomic-leaf s dict_branch h = absurd (true≢false (sym h))
 atomic-leaf s (list_branch es) h = absurd (true≢false (sym h))
 
-value-leaf : (s : Scalar) (c : Content) → content_fits (fitting.value_of s) c ≡ true → is_leaf (Some c) ≡ true
-value-leaf s (leaf t) h = refl
-value-leaf s (atom v) h = refl
-value-leaf s record_branch h = absurd (true≢false (sym h))
-value-leaf s dict_branch h = absurd (true≢false (sym h))
-value-leaf s (list_branch es) h = absurd (true≢false (sym h))
-
-set-list : (k : ScalarKind) (c : Content) → content_fits (of_kind (kinds.set_of k)) c ≡ true → is_list c ≡ true
-set-list k (leaf s) h = absurd (true≢false (sym h))
-set-list k (atom v) h = absurd (true≢false (sym h))
-set-list k record_branch h = absurd (true≢false (sym h))
-set-list k dict_branch h = absurd (true≢false (sym h))
-set-list k (list_branch es) h = refl
-
-items-list : (ns : List Text) (fs : Fields) (c : Content) → content_fits (of_kind (items_of ns fs)) c ≡ true → is_list c ≡ true
-items-list ns fs (leaf s) h = absurd (true≢false (sym h))
-items-list ns fs (atom v) h = absurd (true≢false (sym h))
-items-list ns fs record_branch h = absurd (true≢false (sym h))
-items-list ns fs dict_branch h = absurd (true≢false (sym h))
-items-list ns fs (list_branch es) h = refl
-
--- the place below a list
-if-place : (t : Bool) (r s : Place) → (if t then Some r else None) ≡ Some s → r ≡ s
-if-place true r s h = some-is r s h
-if-place false r s h = absurd (none-some s h)
-
-set-place : (k : ScalarKind) (e : Element) (s : Place) (c : Content) → place_below (of_kind (kinds.set_of k)) e ≡ Some s → content_fits s c ≡ true → is_leaf (Some c) ≡ true
-set-place k (field n) s c h fits = absurd (none-some s h)
-set-place k (key ks) s c h fits = absurd (none-some s h)
-set-place k (value t) s c h fits = value-leaf t c (ap (λ r. content_fits r c) (if-place (is_of k t) (fitting.value_of t) s h) ∙ fits)
-
-item-place : (ns : List Text) (fs : Fields) (e : Element) (s : Place) → place_below (of_kind (items_of ns fs)) e ≡ Some s → item_of ns fs ≡ s
-item-place ns fs (field n) s h = absurd (none-some s h)
-item-place ns fs (key ks) s h = if-place (are_keys ns fs ks) (item_of ns fs) s h
-item-place ns fs (value t) s h = absurd (none-some s h)
-
 -- ---- any kind
 
 set-child : (b : Body) (k : ScalarKind) (p : Path) (e : Element) (c : Node) → IsBelow b (of_kind (kinds.set_of k)) p e c → content_value (get b (p ++ e ∷ [])) ≡ value_of c
-set-child b k p e c d = leaf-at b d.place (p ++ e ∷ []) c d.shows (set-place k e d.place (own_content c) d.there (own-fits b d.place (p ++ e ∷ []) c d.shows))
+set-child b k p e c d =
+    let fits = own-fits b d.place (p ++ e ∷ []) c d.shows in
+    let x = set-place k e d.place d.there in
+    leaf-at b d.place (p ++ e ∷ []) c d.shows (ap (λ o. is_leaf (Some o)) (value-leaf x.own (own_content c) (ap (λ s. content_fits s (own_content c)) x.place ∙ fits)))
 
 item-child : (b : Body) (ns : List Text) (fs : Fields) (p : Path) (e : Element) (c : Node) → are_ordered fs ≡ true → EachShows fs b → IsBelow b (of_kind (items_of ns fs)) p e c
     → object (shown_fields fs b (p ++ e ∷ [])) ≡ value_of c
 item-child b ns fs p e c ordered each d =
-    let h : IsShownAt b (item_of ns fs) (p ++ e ∷ []) c = subst (λ s. IsShownAt b s (p ++ e ∷ []) c) (sym (item-place ns fs e d.place d.there)) d.shows in
+    let h : IsShownAt b (item_of ns fs) (p ++ e ∷ []) c = subst (λ s. IsShownAt b s (p ++ e ∷ []) c) (sym (list-place ns fs e d.place d.there).place) d.shows in
     record-at b (item_of ns fs) (p ++ e ∷ []) c h fs (λ n. refl) ordered (item-branch ns fs (own_content c) (own-fits b (item_of ns fs) (p ++ e ∷ []) c h)) each
 
 mutual
@@ -312,10 +278,10 @@ mutual
       dict-at b r p m h k refl (dict-branch k (own_content m) (own-fits b r p m h)) (kind-shown k b o)
   kind-shown (kinds.set_of k) b o p m h =
       let r = of_kind (kinds.set_of k) in
-      list-at b r p m (λ q. content_value (get b q)) h (set-list k (own_content m) (own-fits b r p m h)) (λ e c d. set-child b k p e c d)
+      list-at b r p m (λ q. content_value (get b q)) h (ap is_list (set-branch k (own_content m) (own-fits b r p m h))) (λ e c d. set-child b k p e c d)
   kind-shown (items_of ns fs) b o p m h =
       let r = of_kind (items_of ns fs) in
-      list-at b r p m (λ q. object (shown_fields fs b q)) h (items-list ns fs (own_content m) (own-fits b r p m h)) (λ e c d. item-child b ns fs p e c o (fields-shown fs b o) d)
+      list-at b r p m (λ q. object (shown_fields fs b q)) h (ap is_list (list-branch ns fs (own_content m) (own-fits b r p m h))) (λ e c d. item-child b ns fs p e c o (fields-shown fs b o) d)
 
   fields-shown : (fs : Fields) (b : Body) → are_ordered fs ≡ true → EachShows fs b
   fields-shown no_fields b o n k is p m h = absurd (none-some k is)

@@ -13,7 +13,8 @@ use Rattle.ssa_json.proofs.Converting.{Found}
 use Rattle.ssa_json.specs.declared.value.Json as program
 use Rattle.ssa_path.specs.Children.{elements, is_below, rises}
 use Rattle.ssa_path.specs.View.{element_view}
-use Rattle.ssa_path.proofs.Orders.{lower, both_first, both_second}
+use Rattle.ssa_model.proofs.RisingNames.{lower}
+use Rattle.ssa_path.proofs.Orders.{both_first, both_second}
 use Rattle.ssa_typed.specs.Rows.{is_tree, are_trees}
 use Rattle.ssa_typed.specs.Values.{items_of, leaf_value, members_of, member_under, with_member_under, value_of, values_of}
 use Rattle.ssa_typed.specs.declared.node.Leaf.{Leaf}
