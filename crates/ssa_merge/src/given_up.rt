@@ -1,11 +1,11 @@
 //! What an applier gives up, and what stays of the merged body.
-ghost use Rattle.std.specs.Prelude.{◌≡◌, not, ◌&&◌, IfOk};
-ghost use Rattle.ssa_model.specs.PathMap.{has, has_at_or_above, has_at_or_below, paths, set_of, union};
-ghost use Rattle.ssa_model.specs.Path.{is_key_field};
+ghost use Rattle.std.specs.Prelude.{◌≡◌, not, IfOk};
+ghost use Rattle.ssa_model.specs.PathMap.{has_at_or_above, paths, set_of, union};
 ghost use Rattle.ssa_model.specs.Body.{points};
 ghost use Rattle.ssa_model.specs.Table.{owned_by_others};
-ghost use Rattle.ssa_model.specs.Operations.{dropped, pruned};
+ghost use Rattle.ssa_model.specs.Operations.{pruned};
 ghost use Rattle.ssa_typed.specs.Alike.{AreAlike};
+ghost use Rattle.ssa_merge.specs.GivenUp.{left_out, pruned_beside};
 ghost use Rattle.ssa_merge.specs.Managers.{key_view};
 ghost use Rattle.ssa_merge.specs.States.{state_view};
 
@@ -16,37 +16,20 @@ use ssa_path::field_set::FieldSet;
 use ssa_typed::body::Body;
 use std::alloc::{AllocError, Global};
 
-// The paths of a set that a configuration leaves out, that are no key fields, and that have no path
-// of the others at or below them.
+// The paths of the manager's that its configuration leaves out, but for key fields.
 fn left_out(
-    alloc: Global,
-    own: &FieldSet,
-    config: &Body,
-    others: &FieldSet,
-) -> Result<FieldSet, AllocError>
-    ensures { IfOk result (λ s. s ≡ set_of (paths own.now) (λ g. not (has config.now g) && (not (is_key_field g) && not (has_at_or_below others.now g)))) }
-{
-    let absent = config.lacking(alloc, own)?;
-    let free = absent.without_key_fields(alloc)?;
-    let unheld = free.without_over(alloc, others)?;
-    Ok(unheld)
-}
-
-// The paths of the manager's that its configuration gives up.
-fn dropped(
     alloc: Global,
     state: &State,
     key: &ManagerKey,
     config: &Body,
-    others: &FieldSet,
 ) -> Result<FieldSet, AllocError>
-    requires { others.now ≡ owned_by_others (state_view state.now).table (key_view key.now) }
-    ensures { IfOk result (λ s. s ≡ dropped (state_view state.now) (key_view key.now) config.now) }
+    ensures { IfOk result (λ s. s ≡ left_out (state_view state.now) (key_view key.now) config.now) }
 {
     match state.managers.get(key) {
         Some(entry) => {
-            let gone = left_out(alloc, &entry.set, config, others)?;
-            Ok(gone)
+            let absent = config.lacking(alloc, entry.set.get())?;
+            let free = absent.without_key_fields(alloc)?;
+            Ok(free)
         }
         None => Ok(FieldSet::new(alloc)),
     }
@@ -70,8 +53,28 @@ fn kept(
     Ok(all)
 }
 
+// The merged body without what the manager gives up and nobody else needs, where its configuration
+// leaves these paths out.
+fn restricted(
+    alloc: Global,
+    state: &State,
+    key: &ManagerKey,
+    config_points: &FieldSet,
+    merged: Body,
+    left_out: &FieldSet,
+) -> Result<Body, AllocError>
+    ensures { IfOk result (λ b. b ≡ pruned_beside merged left_out.now (owned_by_others (state_view state.now).table (key_view key.now)) config_points.now) }
+{
+    let others = owned_by_others(alloc, state.managers.entries(), key)?;
+    let gone = left_out.without_over(alloc, &others)?;
+    let stay = kept(alloc, &merged, &gone, &others, config_points)?;
+    let body = merged.restricted_to(alloc, &stay)?;
+    Ok(body)
+}
+
 /// The body after an Apply: the configuration over the live body, without what the manager gives up
-/// and nobody else needs.
+/// and nobody else needs. Where the configuration leaves nothing of the manager's out, that is the
+/// merged body, and nothing is looked up of the others.
 pub fn pruned(
     alloc: Global,
     state: &State,
@@ -83,10 +86,11 @@ pub fn pruned(
     requires points { config_points.now ≡ points config.now }
     ensures { IfOk result (λ b. b ≡ pruned (state_view state.now) (key_view key.now) config.now) }
 {
-    let others = owned_by_others(alloc, state.managers.entries(), key)?;
-    let gone = dropped(alloc, state, key, config, &others)?;
     let merged = state.body.over(alloc, config)?;
-    let stay = kept(alloc, &merged, &gone, &others, config_points)?;
-    let body = merged.restricted_to(alloc, &stay)?;
+    let left_out = left_out(alloc, state, key, config)?;
+    if left_out.is_empty() {
+        return Ok(merged);
+    }
+    let body = restricted(alloc, state, key, config_points, merged, &left_out)?;
     Ok(body)
 }

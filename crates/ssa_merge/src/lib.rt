@@ -7,6 +7,7 @@ pub mod managers;
 pub mod owned;
 pub mod plan;
 pub mod seat;
+pub mod shared_set;
 pub mod state;
 #[cfg(test)]
 mod tests;

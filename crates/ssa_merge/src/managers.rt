@@ -7,9 +7,9 @@ ghost use Rattle.ssa_merge.specs.Managers.{key_view, entry_view, table_view, cla
 ghost use Rattle.ssa_merge.specs.Tables.{entry_of};
 
 use crate::manager::{ManagerKey, Operation};
+use crate::shared_set::SharedSet;
 use arrayvec::ArrayVec;
 use ssa_json::moment::Moment;
-use ssa_path::field_set::FieldSet;
 use std::alloc::{AllocError, Global};
 use std::default::MadeWith;
 use std::marker::Model;
@@ -18,10 +18,12 @@ use std::marker::Model;
 pub const MOST_MANAGERS: usize = 64;
 
 /// A manager, the paths that it owns, and when they last changed by a command of its own.
+///
+/// The tables of a timeline share the sets that no command changed.
 #[derive(Drop)]
 pub struct Entry {
     pub key: ManagerKey,
-    pub set: FieldSet,
+    pub set: SharedSet,
     pub at: Moment,
 }
 
@@ -32,19 +34,19 @@ impl MadeWith<Global> for Entry {
                 name: String::new(alloc),
                 operation: Operation::Apply,
             },
-            set: FieldSet::new(alloc),
+            set: SharedSet::empty(alloc),
             at: Moment::first(),
         }
     }
 }
 
 impl Entry {
-    /// The same entry, with new memory.
+    /// The same entry, which shares the set.
     pub fn copy(&self, alloc: Global) -> Result<Entry, AllocError>
         ensures { IfOk result (λ e. entry_view e ≡ entry_view self.now) }
     {
         let key = self.key.copy(alloc)?;
-        let set = self.set.copy(alloc)?;
+        let set = self.set.share(alloc)?;
         Ok(Entry {
             key,
             set,
@@ -112,7 +114,7 @@ impl Managers {
         self.entries.len()
     }
 
-    /// The same table, with new memory.
+    /// The same table, which shares the sets.
     pub fn copy(&self, alloc: Global) -> Result<Managers, AllocError>
         ensures { IfOk result (λ m. m ≡ self.now) }
     {
@@ -121,7 +123,7 @@ impl Managers {
     }
 }
 
-// The same entries, with new memory.
+// The same entries, which share the sets.
 fn copy_entries(
     alloc: Global,
     entries: &[Entry],

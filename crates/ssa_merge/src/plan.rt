@@ -161,7 +161,7 @@ fn owned_after_update(
     let gained = comparison.modified.union(alloc, &comparison.added)?;
     match state.managers.get(key) {
         Some(entry) => {
-            let stayed = entry.set.minus(alloc, &comparison.removed)?;
+            let stayed = entry.set.get().minus(alloc, &comparison.removed)?;
             let owned = stayed.union(alloc, &gained)?;
             Ok(owned)
         }

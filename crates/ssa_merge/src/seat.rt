@@ -1,6 +1,6 @@
 //! The table after a command.
 ghost use Rattle.std.specs.Prelude.{◌≡◌, ◌<◌, ◌≤◌, filter, map, length, not, Err, IfOk};
-ghost use Rattle.ssa_model.specs.PathMap.{is_empty};
+ghost use Rattle.ssa_model.specs.PathMap.{is_empty, minus};
 ghost use Rattle.ssa_model.specs.Table.{is_in_table, reseated, seat};
 ghost use Rattle.ssa_merge.specs.Managers.{key_view, entry_view, table_view};
 ghost use Rattle.ssa_merge.specs.Tables.{owns, IsSeated};
@@ -8,6 +8,7 @@ ghost use Rattle.ssa_merge.specs.Tables.{owns, IsSeated};
 use crate::manager::ManagerKey;
 use crate::managers::{Entry, MOST_MANAGERS, Managers};
 use crate::plan::Refusal;
+use crate::shared_set::SharedSet;
 use arrayvec::ArrayVec;
 use ssa_json::moment::Moment;
 use ssa_path::field_set::FieldSet;
@@ -21,6 +22,33 @@ pub fn is_in_table(table: &[Entry], key: &ManagerKey) -> bool
         [] => false,
         [first, rest @ ..] => first.key.is_same(key) || is_in_table(rest, key),
     }
+}
+
+// What stays of a set that loses these paths: the set itself, shared, where it has none of them.
+fn left_of(alloc: Global, set: &SharedSet, lost: &FieldSet) -> Result<SharedSet, AllocError>
+    ensures { IfOk result (λ left. left ≡ minus set.now lost.now) }
+{
+    let taken = set.get().meet(alloc, lost)?;
+    if taken.is_empty() {
+        let whole = set.share(alloc)?;
+        return Ok(whole);
+    }
+    let rest = set.get().minus(alloc, lost)?;
+    let left = SharedSet::new(alloc, rest)?;
+    Ok(left)
+}
+
+// The set that a manager owns: the one before, shared, where it has the same paths.
+fn as_before(alloc: Global, owned: &FieldSet, before: &SharedSet) -> Result<SharedSet, AllocError>
+    ensures { IfOk result (λ set. set ≡ owned.now) }
+{
+    if owned.is_same(before.get()) {
+        let same = before.share(alloc)?;
+        return Ok(same);
+    }
+    let copied = owned.copy(alloc)?;
+    let set = SharedSet::new(alloc, copied)?;
+    Ok(set)
 }
 
 // One entry after a command: the manager owns `owned`, the others lose `lost`.
@@ -37,20 +65,20 @@ fn reseated(
 {
     let name = entry.key.copy(alloc)?;
     if !entry.key.is_same(key) {
-        let left = entry.set.minus(alloc, lost)?;
+        let left = left_of(alloc, &entry.set, lost)?;
         return Ok(Entry {
             key: name,
             set: left,
             at: entry.at,
         });
     }
-    let set = owned.copy(alloc)?;
-    let is_same_set = owned.is_same(&entry.set);
+    let is_same_set = owned.is_same(entry.set.get());
     let at = if changed || !is_same_set {
         at
     } else {
         entry.at
     };
+    let set = as_before(alloc, owned, &entry.set)?;
     Ok(Entry { key: name, set, at })
 }
 
@@ -71,7 +99,7 @@ fn reseated_entries(
     let mut made = ArrayVec::new_in(alloc);
     for entry in table {
         let next = reseated(alloc, entry, key, owned, lost, changed, at)?;
-        if !next.set.is_empty() {
+        if !next.set.get().is_empty() {
             made.push(next);
         }
     }
@@ -105,7 +133,8 @@ pub fn seat(
         return Err(Refusal::TooManyManagers);
     }
     let name = key.copy(alloc)?;
-    let set = owned.copy(alloc)?;
+    let copied = owned.copy(alloc)?;
+    let set = SharedSet::new(alloc, copied)?;
     made.push(Entry { key: name, set, at });
     Ok(Managers::of_entries(made))
 }

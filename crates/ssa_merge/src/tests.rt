@@ -72,7 +72,7 @@ fn tell(alloc: Global, state: &State) -> Result<Vec<u8>, AllocError> {
             Operation::Update => told.extend_from_slice(b" updated ")?,
         }
         told.extend_from_slice(&entry.at.write()[17..19])?;
-        tell_set(alloc, &mut told, &entry.set)?;
+        tell_set(alloc, &mut told, entry.set.get())?;
     }
     Ok(told)
 }

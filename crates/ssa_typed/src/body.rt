@@ -8,7 +8,7 @@ ghost use Rattle.ssa_model.specs.Path.{is_root};
 ghost use Rattle.ssa_model.specs.PathMap.{from_entries, has, has_at_or_below, paths, set_of, size};
 ghost use Rattle.ssa_json.specs.View.{view};
 ghost use Rattle.ssa_model.specs.Lawful.{is_ordered};
-ghost use Rattle.ssa_typed.specs.Alike.{AreAlike};
+ghost use Rattle.ssa_typed.specs.Alike.{AreAlike, ItemsStand};
 ghost use Rattle.ssa_typed.specs.Differences.{IsComparison};
 ghost use Rattle.ssa_typed.specs.Look.{look_of, look_at};
 ghost use Rattle.ssa_typed.specs.Rows.{body_of, is_tree};
@@ -112,7 +112,8 @@ impl Body {
     /// Takes about n log n comparisons for n children of a place.
     pub fn over(&self, alloc: Global, config: &Body) -> Result<Body, AllocError>
         requires { AreAlike self.now config.now }
-        ensures { IfOk result (λ b. b ≡ over self.now config.now) }
+        ensures merged { IfOk result (λ b. b ≡ over self.now config.now) }
+        ensures stand { IfOk result (λ b. ItemsStand b) }
     {
         let root = over_node(alloc, &self.root, &config.root)?;
         Ok(Body { root })

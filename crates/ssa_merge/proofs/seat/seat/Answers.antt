@@ -51,5 +51,5 @@ returns c =
     let pushed =
     ap table_view c.push.ensures.items
     ∙ map-append entry_view c.in_ok-made.made.items (record { key = c.in_ok-name.name; set = c.in_ok-set.set; at = c.args.at } ∷ [])
-    ∙ (λ i. table_view c.in_ok-made.made.items ++ record { manager = c.in_ok-name.ensures i; owned = c.in_ok-set.ensures i; moment = c.args.at } ∷ []) in
+    ∙ (λ i. table_view c.in_ok-made.made.items ++ record { manager = c.in_ok-name.ensures i; owned = (c.in_ok-set.ensures ∙ c.in_ok-copied.ensures) i; moment = c.args.at } ∷ []) in
     (c.of_entries-2.ensures ∙ pushed ∙ made, few_more c.in_ok-made.made.items _ newcomer made (sym c.is_full.ensures.value ∙ c.if-is_full.false) c.in_ok-made.ensures.few)
