@@ -1,19 +1,20 @@
 -- Each operation that a valid state takes leads to a valid state.
-use Rattle.std.proofs.Common.{◌≡◌, ℕ, ◌≤◌, [], ◌∷◌, Bool, true, false, not, ◌&&◌, ◌||◌, refl, sym, ap, subst, ◌∙◌, true≢false, nat_lt, ltb-false}
-use Rattle.std.specs.Prelude.{Option, Some, None, is_some, if◌then◌else◌, Result, Ok, Err, codes}
+use Rattle.std.proofs.Common.{◌≡◌, ◌≤◌, [], ◌∷◌, Bool, true, false, not, ◌&&◌, ◌||◌, refl, sym, ap, subst, ◌∙◌, true≢false}
+use Rattle.std.specs.Prelude.{Option, Some, None, is_some, if◌then◌else◌, codes}
 use Rattle.std.specs.List.{list_any}
 use Rattle.std.specs.Cmp.{first_so, second_so}
 use Rattle.ssa_model.specs.Path.{Path, field, same_element, is_root, under}
 use Rattle.ssa_model.specs.PathMap.{PathSet, get, has, paths, union, has_at_or_below, has_at_or_above, size}
 use Rattle.ssa_model.specs.Kind as kinds
 use Rattle.ssa_model.specs.Kind.{Kind, scalar_kind, atomic_of, record_of, dict_of, items_of}
-use Rattle.ssa_model.specs.Body.{Content, leaf, atom, record_branch, dict_branch, list_branch, Body, is_leaf, is_dict, is_bare, is_point, points, over, strictly_under, modified}
-use Rattle.ssa_model.specs.Table.{ManagerKey, Table, same_manager, owned_by_others, seat}
-use Rattle.ssa_model.specs.Operations.{State, kept, pruned, dropped, clashes, is_none, conflict, too_many_paths}
+use Rattle.ssa_model.specs.Body.{Content, leaf, atom, record_branch, dict_branch, list_branch, Body, is_leaf, is_dict, is_bare, is_point, points, over, strictly_under}
+use Rattle.ssa_model.specs.Table.{ManagerKey, Table, same_manager, owned_by_others}
+use Rattle.ssa_model.specs.Operations.{State, kept, pruned, dropped}
 use Rattle.ssa_model.specs.Fitting.{Place, of_kind, item_of, value_of, content_fits, IsBodyOf}
 use Rattle.ssa_model.specs.Valid.{OwnedOwnable, OwnsOwnable, AllEntries, IsRooted, metadata_path, IsValidState, ApplyKeepsValid, UpdateKeepsValid, StripKeepsValid}
+use Rattle.ssa_model.proofs.Accepted.{applied_is, updated_is}
 use Rattle.ssa_model.proofs.PathMaps.{has-set_of, has-union, has-points, has-paths, is_one_of}
-use Rattle.ssa_model.proofs.Tables.{apart_by, first_false, second_false, or_true, true_or, yes_no, either, ownable-has, leaf-point, leaf-has, has-over, has-restricted, kept-stays, spared, seated_few, from_else, apply_keeps, update_keeps, strip_keeps}
+use Rattle.ssa_model.proofs.Tables.{apart_by, first_false, second_false, or_true, true_or, yes_no, either, ownable-has, leaf-point, leaf-has, has-over, has-restricted, kept-stays, spared, apply_keeps, update_keeps, strip_keeps}
 use Rattle.ssa_model.proofs.Fitting.{some_place, same_element-true, over_fits}
 use Rattle.ssa_model.proofs.Pruned.{some_one, from_one, pruned_fits}
 
@@ -115,13 +116,6 @@ others-ownable b (e ∷ es) a h =
 
 -- ---- Apply
 
-sized_few : {X E : Type 0} (n : ℕ) (r : E) (s : Result X E) (x : X) → (if nat_lt 20001 n then Err r else s) ≡ Ok x → n ≤ 20001
-sized_few n r s x h =
-    elim (nat_lt 20001 n) as (λ t. nat_lt 20001 n ≡ t → (if t then Err r else s) ≡ Ok x → n ≤ 20001) [
-      | true ↦ λ t h. absurd (let c : ⊥ = cc in c)
-      | false ↦ λ t h. ltb-false 20001 n t
-    ] refl h
-
 module _ (kind : Kind) (state : State) (a : ManagerKey) (config : Body) (valid : IsValidState kind state) (fits : IsBodyOf kind config) (rooted : IsRooted config) where
   abbrev others : PathSet
   others = owned_by_others state.table a
@@ -209,22 +203,18 @@ module _ (kind : Kind) (state : State) (a : ManagerKey) (config : Body) (valid :
 
 pub apply_keeps_valid : ApplyKeepsValid
 apply_keeps_valid kind state next a config force at valid fits rooted name ok =
-    let body = pruned state a config in
-    let changed = modified state.body body in
-    let clash = clashes a changed state.table in
-    let sized = from_else (not (force || is_none clash)) (conflict clash) _ next ok in
-    let seated = seated_few (record { body = body; table = seat state.table a (points config) changed changed at }) next (from_else (nat_lt 20001 (size body)) too_many_paths _ next sized) in
-    let is : body ≡ next.body = ap (λ s. s.body) seated.0 in
+    let made = applied_is state next a config force at ok in
+    let is : pruned state a config ≡ next.body = ap (λ s. s.body) made.0 in
     record {
       fits = subst (IsBodyOf kind) is (after_fits kind state a config valid fits rooted);
       rooted = subst IsRooted is (after_rooted kind state a config valid fits rooted);
-      few = subst (λ b. size b ≤ 20001) is (sized_few (size body) too_many_paths _ next sized);
+      few = subst (λ b. size b ≤ 20001) is made.2;
       table = apply_keeps state next a config force at valid.table valid.rooted rooted name ok;
     }
 
 pub update_keeps_valid : UpdateKeepsValid
 update_keeps_valid kind state next u object at valid fits rooted few name ok =
-    let is : object ≡ next.body = ap (λ s. s.body) (seated_few _ next ok).0 in
+    let is : object ≡ next.body = ap (λ s. s.body) (updated_is state next u object at ok).0 in
     record {
       fits = subst (IsBodyOf kind) is fits;
       rooted = subst IsRooted is rooted;
