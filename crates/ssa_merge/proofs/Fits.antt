@@ -1,46 +1,27 @@
 -- The bodies of states that are planned are of the kind of those that they are made of.
-use Rattle.std.proofs.Common.{◌≡◌, Bool, true, false, not, ◌||◌, length, nat_lt, sym, ap, subst}
-use Rattle.std.specs.Prelude.{Result, Ok, Err, IfOk, if◌then◌else◌}
+use Rattle.std.proofs.Common.{◌≡◌, Bool, sym, subst}
+use Rattle.std.specs.Prelude.{Result, Ok, Err, IfOk}
 use Rattle.ssa_model.specs.Json.{Text}
 use Rattle.ssa_model.specs.Kind.{Kind}
 use Rattle.ssa_model.specs.Fitting.{IsBodyOf}
-use Rattle.ssa_model.specs.PathMap.{size, minus, union}
-use Rattle.ssa_model.specs.Body.{Body, points, added, modified, removed}
-use Rattle.ssa_model.specs.Table.{ManagerKey, owned_by, seat}
-use Rattle.ssa_model.specs.Operations as model
-use Rattle.ssa_model.specs.Operations.{State, conflict, too_many_paths, too_many_managers, is_none, if_seated, clashes, pruned, apply, update}
+use Rattle.ssa_model.specs.Body.{Body}
+use Rattle.ssa_model.specs.Table.{ManagerKey}
+use Rattle.ssa_model.specs.Operations.{State, apply, update}
+use Rattle.ssa_model.proofs.Accepted.{applied_is, updated_is}
 use Rattle.ssa_model.proofs.Pruned.{pruned_fits}
 use Rattle.ssa_merge.specs.Plans.{IsPlanned}
 use Rattle.ssa_merge.specs.declared.plan.Plan.{Plan}
 use Rattle.ssa_merge.specs.declared.plan.Refusal.{Refusal}
-
-unless : (b : Bool) (r : model.Refusal) (given : Result State model.Refusal) (after : State) → (if b then Err r else given) ≡ Ok after → given ≡ Ok after
-unless true r given after h = cc
-unless false r given after h = h
-
-same_state : (s after : State) → ◌≡◌ {A = Result State model.Refusal} (Ok s) (Ok after) → s ≡ after
-same_state s after h = ap (λ (r : Result State model.Refusal). elim r [ Ok t ↦ t | Err f ↦ s ]) h
 
 module _ (kind : Kind) where
   abbrev of_kind : State → Type 0
   of_kind s = IsBodyOf kind s.body
 
   apply_fits : (state : State) (a : ManagerKey) (config : Body) (force : Bool) (at : Text) (after : State) → IsBodyOf kind state.body → IsBodyOf kind config → apply state a config force at ≡ Ok after → IsBodyOf kind after.body
-  apply_fits state a config force at after g h e =
-      let body = pruned state a config in
-      let changed = modified state.body body in
-      let clash = clashes a changed state.table in
-      let made : State = record { body = body; table = seat state.table a (points config) changed changed at } in
-      let few = unless (nat_lt 20001 (size body)) too_many_paths (if_seated made) after (unless (not (force || is_none clash)) (conflict clash) (if nat_lt 20001 (size body) then Err too_many_paths else if_seated made) after e) in
-      subst of_kind (same_state made after (unless (nat_lt 64 (length made.table)) too_many_managers (Ok made) after few)) (pruned_fits kind state a config g h)
+  apply_fits state a config force at after g h e = subst of_kind (applied_is state after a config force at e).0 (pruned_fits kind state a config g h)
 
   update_fits : (state : State) (u : ManagerKey) (object : Body) (at : Text) (after : State) → IsBodyOf kind object → update state u object at ≡ Ok after → IsBodyOf kind after.body
-  update_fits state u object at after h e =
-      let changed = modified state.body object in
-      let gone = removed state.body object in
-      let owned = union (minus (owned_by state.table u) gone) (union changed (added state.body object)) in
-      let made : State = record { body = object; table = seat state.table u owned (union changed gone) changed at } in
-      subst of_kind (same_state made after (unless (nat_lt 64 (length made.table)) too_many_managers (Ok made) after e)) h
+  update_fits state u object at after h e = subst of_kind (updated_is state after u object at e).0 h
 
 -- ---- of plans
 

@@ -3,3 +3,4 @@ pub mod Seated
 pub mod GivenUp
 pub mod Applied
 pub mod Fits
+pub mod Valid

@@ -1,6 +1,7 @@
 -- What a plan says.
-use Rattle.std.specs.Prelude.{◌≡◌, Result, Ok, Err}
+use Rattle.std.specs.Prelude.{◌≡◌, true, Result, Ok, Err}
 use Rattle.ssa_model.specs.Operations as model
+use Rattle.ssa_model.specs.Valid.{has_distinct_keys, KeepsOrder}
 use Rattle.ssa_typed.specs.Differences.{IsComparison}
 use Rattle.ssa_merge.specs.Managers.{clashes_view}
 use Rattle.ssa_merge.specs.States.{state_view}
@@ -12,6 +13,10 @@ use Rattle.ssa_merge.specs.declared.plan.Refusal.TheVariants.{Conflict, TooManyP
 pub record IsPlan (before : model.State) (plan : Plan) (after : model.State) : Type 0 where
   pub target_is : state_view plan.target ≡ after
   pub comparison_is : IsComparison before.body after.body plan.comparison
+
+-- the managers that are there before and after stand in the same order
+abbrev pub StandInOrder : model.State → Plan → Type 0
+StandInOrder before plan = has_distinct_keys before.table ≡ true → KeepsOrder before.table (state_view plan.target).table
 
 -- the refusal that is told
 abbrev pub IsRefusal : Refusal → model.Refusal → Type 0

@@ -1,14 +1,16 @@
 //! What a command makes of a state, before it is carried out.
-ghost use Rattle.std.specs.Prelude.{◌≡◌, ◌||◌, length, not, IfOk};
+ghost use Rattle.std.specs.Prelude.{◌≡◌, ◌≤◌, ◌||◌, length, not, true, IfOk};
 ghost use Rattle.ssa_model.specs.Fitting.{IsBodyOf};
+ghost use Rattle.ssa_model.specs.History.{is_manager_name};
 ghost use Rattle.ssa_model.specs.Kind.{Kind};
-ghost use Rattle.ssa_model.specs.PathMap.{minus, union};
+ghost use Rattle.ssa_model.specs.PathMap.{minus, size, union};
 ghost use Rattle.ssa_model.specs.Table.{owned_by};
 ghost use Rattle.ssa_model.specs.Operations.{apply, update, strip, is_none};
+ghost use Rattle.ssa_model.specs.Valid.{IsRooted, IsValidState};
 ghost use Rattle.ssa_typed.specs.Alike.{AreAlike};
 ghost use Rattle.ssa_merge.specs.Managers.{clashes_view, key_view, operation_view};
 ghost use Rattle.ssa_merge.specs.States.{state_view, applier, updater};
-ghost use Rattle.ssa_merge.specs.Plans.{IsPlan, IsPlanned};
+ghost use Rattle.ssa_merge.specs.Plans.{IsPlan, IsPlanned, StandInOrder};
 ghost use Rattle.ssa_merge.specs.declared.plan.Refusal.TheVariants.{OutOfMemory};
 
 use crate::given_up::pruned;
@@ -143,6 +145,8 @@ pub fn plan_apply(
     requires { AreAlike state.now.body config }
     ensures plan { IsPlanned (state_view state.now) result (apply (state_view state.now) (applier who.now) config force at) }
     ensures fits { IfOk result (λ p. (kind : Kind) → IsBodyOf kind state.now.body → IsBodyOf kind config → IsBodyOf kind p.target.body) }
+    ensures valid { IfOk result (λ p. (kind : Kind) → IsValidState kind (state_view state.now) → IsBodyOf kind config → IsRooted config → is_manager_name who.now ≡ true → IsValidState kind (state_view p.target)) }
+    ensures order { IfOk result (StandInOrder (state_view state.now)) }
 {
     let key = key_of(alloc, who, Operation::Apply)?;
     applied(alloc, state, &key, &config, force, at)
@@ -209,6 +213,8 @@ pub fn plan_update(
 ) -> Result<Plan, Refusal>
     ensures plan { IsPlanned (state_view state.now) result (update (state_view state.now) (updater who.now) object at) }
     ensures fits { IfOk result (λ p. (kind : Kind) → IsBodyOf kind object → IsBodyOf kind p.target.body) }
+    ensures valid { IfOk result (λ p. (kind : Kind) → IsValidState kind (state_view state.now) → IsBodyOf kind object → IsRooted object → size object ≤ 20001 → is_manager_name who.now ≡ true → IsValidState kind (state_view p.target)) }
+    ensures order { IfOk result (StandInOrder (state_view state.now)) }
 {
     let key = key_of(alloc, who, Operation::Update)?;
     updated(alloc, state, &key, object, at)
@@ -218,6 +224,8 @@ pub fn plan_update(
 pub fn plan_strip(alloc: Global, state: &State) -> Result<Plan, AllocError>
     ensures plan { IfOk result (λ p. IsPlan (state_view state.now) p (strip (state_view state.now))) }
     ensures fits { IfOk result (λ p. (kind : Kind) → IsBodyOf kind state.now.body → IsBodyOf kind p.target.body) }
+    ensures valid { IfOk result (λ p. (kind : Kind) → IsValidState kind (state_view state.now) → IsValidState kind (state_view p.target)) }
+    ensures order { IfOk result (StandInOrder (state_view state.now)) }
 {
     let body = state.body.copy(alloc)?;
     let comparison = state.body.compare(alloc, &body)?;

@@ -2,7 +2,7 @@
 use Rattle.std.specs.Prelude.{◌≡◌, ◌≤◌, List, [], ◌∷◌, Bool, length, take, Result, Ok, Err, ◌++◌, ◌⊎◌, Option, Some, None, option_map}
 use Rattle.ssa_model.specs.Json.{Text}
 use Rattle.ssa_model.specs.Body.{Body}
-use Rattle.ssa_model.specs.Table.{applies, updates, ManagerKey}
+use Rattle.ssa_model.specs.Table.{applies, updates}
 use Rattle.ssa_model.specs.Operations as operations
 use Rattle.ssa_model.specs.Operations.{State, Refusal}
 use Rattle.ssa_model.specs.History.{Label, applied, updated, stripped, Step, Timeline, Bench, present}

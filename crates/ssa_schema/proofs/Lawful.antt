@@ -396,7 +396,7 @@ if-true : (b : Bool) (j k : kinds.Kind) → b ≡ true → is_record j ≡ true 
 if-true true j k e h = h
 if-true false j k e h = absurd (true≢false (sym e))
 
-root-record : (n : ℕ) (v : Json) → model.schema_faults model.whole_profile (suc n) model.at_root v ≡ [] → is_record (model.kind_of_schema (suc n) v) ≡ true
+pub root-record : (n : ℕ) (v : Json) → model.schema_faults model.whole_profile (suc n) model.at_root v ≡ [] → is_record (model.kind_of_schema (suc n) v) ≡ true
 unfolding is_it
 root-record n (scalar t) e = absurd (cons≢nil e)
 root-record n (list vs) e = absurd (cons≢nil e)
@@ -409,23 +409,24 @@ root-record n (object ms) e =
     (if-false (model.is_array_type ms) _ _ (one-type (member_of (codes "type") ms) is_object)
     (if-true (model.is_object_type ms) _ _ is_object (no-other (member_of (codes "additionalProperties") ms) (model.kind_fields (model.kind_of_schema n) (model.property_members ms)) (model.kind_of_schema n) (or_first _ _ later))))
 
-is_root_told : Result kinds.Kind model.SchemaFault → Bool
-is_root_told (Ok k) = is_root_kind k
-is_root_told (Err f) = false
+passes : (kinds.Kind → Bool) → Result kinds.Kind model.SchemaFault → Bool
+passes test (Ok k) = test k
+passes test (Err f) = false
 
 is_refused : Result kinds.Kind model.SchemaFault → Bool
 is_refused (Ok k) = false
 is_refused (Err f) = true
 
-told-kind : (fs : List model.SchemaFault) (j k : kinds.Kind) → (fs ≡ [] → is_root_kind j ≡ true) → ◌≡◌ {A = Result kinds.Kind model.SchemaFault} (elim fs [ [] ↦ Ok j | f ∷ gs ↦ Err f ]) (Ok k) → is_root_kind k ≡ true
-unfolding is_root_told is_refused
-told-kind [] j k h e = ap is_root_told (sym e) ∙ h refl
-told-kind (f ∷ fs) j k h e = absurd (true≢false (ap is_refused e))
+-- a kind that is told passes a test that the one of a schema without faults passes
+pub told-kind : (test : kinds.Kind → Bool) (fs : List model.SchemaFault) (j k : kinds.Kind) → (fs ≡ [] → test j ≡ true) → ◌≡◌ {A = Result kinds.Kind model.SchemaFault} (elim fs [ [] ↦ Ok j | f ∷ gs ↦ Err f ]) (Ok k) → test k ≡ true
+unfolding passes is_refused
+told-kind test [] j k h e = ap (passes test) (sym e) ∙ h refl
+told-kind test (f ∷ fs) j k h e = absurd (true≢false (ap is_refused e))
 
 -- the kind of a schema that is accepted
 pub read-root : (v : Json) (k : kinds.Kind) → model.read_schema model.whole_profile v ≡ Ok k → is_root_kind k ≡ true
 read-root v k e =
-    told-kind (model.schema_faults model.whole_profile model.most_levels model.at_root v) _ k
+    told-kind is_root_kind (model.schema_faults model.whole_profile model.most_levels model.at_root v) _ k
     (λ none. with_metadata-root model.whole_profile.metadata (model.kind_of_schema model.most_levels v) refl (root-record 31 v none)
     (ap (λ m. is_keyed (model.kind_of_schema m v)) (sym (above-none model.most_levels)) ∙ (levels-keyed model.most_levels zero model.at_root v none).0))
     e

@@ -8,6 +8,7 @@ pub mod Kinding
 pub mod Lawful
 pub mod Made
 pub mod MemberWalk
+pub mod Metadata
 pub mod Ordered
 pub mod Reading
 pub mod Shaping

@@ -4,7 +4,7 @@ ghost use Rattle.ssa_model.specs.Kind.{faults};
 ghost use Rattle.ssa_model.specs.Schema.{read_schema, whole_profile};
 ghost use Rattle.ssa_json.specs.View.{view};
 ghost use Rattle.ssa_schema.specs.Kinds.{kind_view};
-ghost use Rattle.ssa_model.specs.Lawful.{is_ordered, is_root_kind};
+ghost use Rattle.ssa_model.specs.Lawful.{has_metadata, is_ordered, is_root_kind};
 ghost use Rattle.ssa_schema.specs.Refusals.{first_of};
 ghost use Rattle.ssa_schema.specs.Finds.{told, told_view};
 ghost use Rattle.ssa_schema.specs.Schemas.{schema_reading, fault_of, ReadsKind, ReadsSchema};
@@ -49,9 +49,9 @@ impl Model for Schema {
     ghost view = { λ s. (json_view.view s.json, kinds.kind_view s.kind) };
 
     ghost use Rattle.std.specs.Prelude.{◌≡◌, true};
-    ghost use Rattle.ssa_model.specs.Lawful.{is_ordered, is_root_kind};
+    ghost use Rattle.ssa_model.specs.Lawful.{has_metadata, is_ordered, is_root_kind};
 
-    ghost invariant = { λ s. (is_root_kind (kinds.kind_view s.kind) ≡ true) × (is_ordered (kinds.kind_view s.kind) ≡ true) };
+    ghost invariant = { λ s. (is_root_kind (kinds.kind_view s.kind) ≡ true) × (is_ordered (kinds.kind_view s.kind) ≡ true) × (has_metadata (kinds.kind_view s.kind) ≡ true) };
 }
 
 // The fault that a refusal is.
@@ -103,11 +103,12 @@ impl Schema {
 
     /// The kind of the root: what may stand at each place of an object without its identity. It is
     /// an object with fields, whose names rise at each level, and each map list in it has key
-    /// fields.
+    /// fields. Its field `metadata` is an object with fields.
     pub fn kind(&self) -> &Kind
         ensures same { kind_view result.now ≡ self.now.1 }
         ensures root { is_root_kind self.now.1 ≡ true }
         ensures ordered { is_ordered self.now.1 ≡ true }
+        ensures metadata { has_metadata self.now.1 ≡ true }
     {
         &self.kind
     }

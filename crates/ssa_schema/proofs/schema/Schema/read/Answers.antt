@@ -3,6 +3,7 @@ use Rattle.ssa_json.specs.View.{view}
 use Rattle.ssa_schema.specs.Schemas.{Faults}
 use Rattle.ssa_schema.specs.Kinds.{kind_view}
 use Rattle.ssa_schema.proofs.Lawful.{read-root}
+use Rattle.ssa_schema.proofs.Metadata.{read-metadata}
 use Rattle.ssa_schema.proofs.Reading.{reading_is}
 use Rattle.ssa_schema.proofs.schema.Schema.read.Goals as goal
 
@@ -13,4 +14,6 @@ pub returns-in-Err : goal.returns-in-Err
 returns-in-Err c = subst (λ r. Faults c.in-Err.fault r) (sym (reading_is (view c.args.schema))) c.in-Err.ensures.kind
 
 pub invariant_of-result : goal.invariant_of-result
-invariant_of-result c = (read-root (view c.args.schema) (kind_view c.in-Ok.kind) (reading_is (view c.args.schema) ∙ c.in-Ok.ensures.kind), c.in-Ok.ensures.ordered)
+invariant_of-result c =
+    let read = reading_is (view c.args.schema) ∙ c.in-Ok.ensures.kind in
+    (read-root (view c.args.schema) (kind_view c.in-Ok.kind) read, c.in-Ok.ensures.ordered, read-metadata (view c.args.schema) (kind_view c.in-Ok.kind) read)

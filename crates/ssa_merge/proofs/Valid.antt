@@ -1,0 +1,61 @@
+-- Plans on valid states lead to valid states, and keep the managers' order.
+use Rattle.std.proofs.Common.{◌≡◌, ◌≤◌, List, [], ◌∷◌, Bool, true, refl, sym, subst}
+use Rattle.std.specs.Prelude.{Result, Ok, Err, IfOk, filter, map}
+use Rattle.ssa_model.specs.Json.{Text}
+use Rattle.ssa_model.specs.Kind.{Kind}
+use Rattle.ssa_model.specs.Fitting.{IsBodyOf}
+use Rattle.ssa_model.specs.PathMap.{size, minus, union}
+use Rattle.ssa_model.specs.Body.{Body, points, added, modified, removed}
+use Rattle.ssa_model.specs.History.{is_manager_name}
+use Rattle.ssa_model.specs.Table.{ManagerKey, is_in_table, owned_by}
+use Rattle.ssa_model.specs.Operations.{State, pruned, apply, update, strip}
+use Rattle.ssa_model.specs.Valid.{IsRooted, IsValidState, KeepsOrder}
+use Rattle.ssa_model.proofs.Accepted.{applied_is, updated_is}
+use Rattle.ssa_model.proofs.SharedManagers.{operations_keep_order}
+use Rattle.ssa_model.proofs.ValidStates.{apply_keeps_valid, update_keeps_valid, strip_keeps_valid}
+use Rattle.ssa_merge.specs.States.{state_view}
+use Rattle.ssa_merge.specs.Plans.{IsPlan, IsPlanned, StandInOrder}
+use Rattle.ssa_merge.specs.declared.plan.Plan.{Plan}
+use Rattle.ssa_merge.specs.declared.plan.Refusal.{Refusal}
+
+pub applied_valid : (state : State) (a : ManagerKey) (config : Body) (force : Bool) (at : Text) (r : Result Plan Refusal) → IsPlanned state r (apply state a config force at)
+    → IfOk r (λ p. (kind : Kind) → IsValidState kind state → IsBodyOf kind config → IsRooted config → is_manager_name a.name ≡ true → IsValidState kind (state_view p.target))
+applied_valid state a config force at (Ok p) h = λ kind valid fits rooted name. subst (IsValidState kind) (sym h.2.target_is) (apply_keeps_valid kind state h.0 a config force at valid fits rooted name h.1)
+applied_valid state a config force at (Err f) h = tt
+
+pub updated_valid : (state : State) (u : ManagerKey) (object : Body) (at : Text) (r : Result Plan Refusal) → IsPlanned state r (update state u object at)
+    → IfOk r (λ p. (kind : Kind) → IsValidState kind state → IsBodyOf kind object → IsRooted object → size object ≤ 20001 → is_manager_name u.name ≡ true → IsValidState kind (state_view p.target))
+updated_valid state u object at (Ok p) h = λ kind valid fits rooted few name. subst (IsValidState kind) (sym h.2.target_is) (update_keeps_valid kind state h.0 u object at valid fits rooted few name h.1)
+updated_valid state u object at (Err f) h = tt
+
+pub stripped_valid : (state : State) (p : Plan) → IsPlan state p (strip state) → (kind : Kind) → IsValidState kind state → IsValidState kind (state_view p.target)
+stripped_valid state p h kind valid = subst (IsValidState kind) (sym h.target_is) (strip_keeps_valid kind state valid)
+
+-- ---- the managers' order
+
+-- from the state that is planned
+planned_order : (before after : State) (p : Plan) → IsPlan before p after → KeepsOrder before.table after.table → KeepsOrder before.table (state_view p.target).table
+planned_order before after p h order = subst (λ s. KeepsOrder before.table s.table) (sym h.target_is) order
+
+pub applied_order : (state : State) (a : ManagerKey) (config : Body) (force : Bool) (at : Text) (r : Result Plan Refusal) → IsPlanned state r (apply state a config force at) → IfOk r (StandInOrder state)
+applied_order state a config force at (Ok p) h = λ distinct.
+    let changed = modified state.body (pruned state a config) in
+    planned_order state h.0 p h.2
+    (subst (λ s. KeepsOrder state.table s.table) (applied_is state h.0 a config force at h.1).0 (operations_keep_order state.table a (points config) changed changed at distinct))
+applied_order state a config force at (Err f) h = tt
+
+pub updated_order : (state : State) (u : ManagerKey) (object : Body) (at : Text) (r : Result Plan Refusal) → IsPlanned state r (update state u object at) → IfOk r (StandInOrder state)
+updated_order state u object at (Ok p) h = λ distinct.
+    let changed = modified state.body object in
+    let gone = removed state.body object in
+    let owned = union (minus (owned_by state.table u) gone) (union changed (added state.body object)) in
+    planned_order state h.0 p h.2
+    (subst (λ s. KeepsOrder state.table s.table) (updated_is state h.0 u object at h.1).0 (operations_keep_order state.table u owned (union changed gone) changed at distinct))
+updated_order state u object at (Err f) h = tt
+
+no_shared : (bs : List ManagerKey) → filter (is_in_table []) bs ≡ []
+no_shared [] = refl
+no_shared (b ∷ bs) = no_shared bs
+
+pub stripped_order : (state : State) (p : Plan) → IsPlan state p (strip state) → StandInOrder state p
+stripped_order state p h distinct = planned_order state (strip state) p h (no_shared (map (λ e. e.manager) state.table))
