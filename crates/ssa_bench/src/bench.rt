@@ -1,5 +1,5 @@
 //! The bench: an object, its managers, and the history of commands on it.
-ghost use Rattle.std.specs.Prelude.{◌≡◌, ◌||◌, nat_le, IfOk, OnOk, OnErr, false, codes, string_bytes};
+ghost use Rattle.std.specs.Prelude.{◌≡◌, ◌<◌, ◌^◌, ◌||◌, nat_le, IfOk, OnOk, OnErr, false, codes, string_bytes};
 ghost use Rattle.ssa_model.specs.Answers.{answer, apply, update, strip, undo, redo, apply_answer, bench_of, body_or_fault, command_body};
 ghost use Rattle.ssa_model.specs.Entries.{object_of_state};
 ghost use Rattle.ssa_model.specs.Fitting.{IsBodyOf};
@@ -309,14 +309,16 @@ impl Bench {
 
     /// How many commands can be undone.
     pub fn past_len(&self) -> usize
-        ensures { result ≡ past_len self.now.timeline }
+        ensures count { result ≡ past_len self.now.timeline }
+        ensures small { result < 2 ^ 63 }
     {
         self.timeline.past_len()
     }
 
     /// How many commands can be redone.
     pub fn future_len(&self) -> usize
-        ensures { result ≡ future_len self.now.timeline }
+        ensures count { result ≡ future_len self.now.timeline }
+        ensures small { result < 2 ^ 63 }
     {
         self.timeline.future_len()
     }

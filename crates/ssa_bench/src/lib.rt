@@ -6,6 +6,8 @@ pub mod body_value;
 pub mod command;
 pub mod fault;
 pub mod identity;
+#[cfg(test)]
+mod long_tests;
 pub mod names;
 pub mod object;
 pub mod prepared;

@@ -209,7 +209,12 @@ pub(crate) fn refuses(
 }
 
 // The object that is shown is `web` with these other members.
-fn shows(rt: &impl Abort, alloc: Global, bench: &Bench, members: &str) -> Result<(), Fail> {
+pub(crate) fn shows(
+    rt: &impl Abort,
+    alloc: Global,
+    bench: &Bench,
+    members: &str,
+) -> Result<(), Fail> {
     let shown = bench.show(alloc)?.to_text(alloc)?;
     let wanted = object(alloc, members)?.to_text(alloc)?;
     assert_eq!(rt; shown.as_slice(), wanted.as_slice());
@@ -232,7 +237,7 @@ fn moves(
     }
 }
 
-fn stands_at(rt: &impl Abort, bench: &Bench, past: usize, future: usize) {
+pub(crate) fn stands_at(rt: &impl Abort, bench: &Bench, past: usize, future: usize) {
     assert_eq!(rt; bench.past_len(), past);
     assert_eq!(rt; bench.future_len(), future);
 }

@@ -1,5 +1,5 @@
 //! A bench as the machine of a session.
-ghost use Rattle.std.specs.Prelude.{◌≡◌, ◌+◌, IfOk, OnErr, false};
+ghost use Rattle.std.specs.Prelude.{◌≡◌, IfOk, OnErr, false};
 ghost use Rattle.ssa_model.specs.Answers as model;
 ghost use Rattle.ssa_model.specs.Answers.{answer};
 ghost use Rattle.ssa_model.specs.Replies.{reply_text};
@@ -49,16 +49,6 @@ fn answer_change(
     }
 }
 
-// One more. A history of so many commands that there is no count has no room in memory.
-fn one_more(count: usize) -> Result<usize, AllocError>
-    ensures { IfOk result (λ more. more ≡ count + 1) }
-{
-    match count.checked_add(1) {
-        Some(more) => Ok(more),
-        None => Err(AllocError),
-    }
-}
-
 // Goes back by a command. The reply's text is made before.
 fn answer_undo(bench: &mut Bench, alloc: Global) -> Result<Vec<u8>, AllocError>
     ensures reply { IfOk result (λ text. text.items ≡ reply_text (answer bench.old model.undo).0) }
@@ -69,7 +59,7 @@ fn answer_undo(bench: &mut Bench, alloc: Global) -> Result<Vec<u8>, AllocError>
     if past == 0 {
         return fault_text(alloc, &Fault::NothingToUndo);
     }
-    let future = one_more(bench.future_len())?;
+    let future = bench.future_len() + 1;
     let text = moved_text(alloc, "undo", past - 1, future)?;
     let Ok(_counts) = bench.undo() else {
         unreachable!("there is a command to undo");
@@ -87,7 +77,7 @@ fn answer_redo(bench: &mut Bench, alloc: Global) -> Result<Vec<u8>, AllocError>
     if future == 0 {
         return fault_text(alloc, &Fault::NothingToRedo);
     }
-    let past = one_more(bench.past_len())?;
+    let past = bench.past_len() + 1;
     let text = moved_text(alloc, "redo", past, future - 1)?;
     let Ok(_counts) = bench.redo() else {
         unreachable!("there is a command to redo");
