@@ -19,6 +19,7 @@ pub mod Lookups
 pub mod Making
 pub mod OverNodes
 pub mod Overlaying
+pub mod Reached
 pub mod References
 pub mod Restricting
 pub mod SameMembers

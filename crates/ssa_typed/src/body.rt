@@ -11,6 +11,7 @@ ghost use Rattle.ssa_model.specs.Lawful.{is_ordered};
 ghost use Rattle.ssa_typed.specs.Alike.{AreAlike};
 ghost use Rattle.ssa_typed.specs.Differences.{IsComparison};
 ghost use Rattle.ssa_typed.specs.Look.{look_of, look_at};
+ghost use Rattle.ssa_typed.specs.Reached.{PointsKeepAll, PointsTellPlaces};
 ghost use Rattle.ssa_typed.specs.Rows.{body_of, is_tree};
 
 use crate::compare::{Comparison, differing};
@@ -96,6 +97,20 @@ impl Body {
     {
         let root = self.root.points(alloc)?;
         Ok(FieldSet::from_root(root))
+    }
+
+    /// The places of the body are its root and what is at or above one of its points.
+    pub fn points_tell_places(&self)
+        ensures { PointsTellPlaces self.now }
+    {
+        let _root = self.root();
+    }
+
+    /// Where all the points of the body stay, by themselves or by a path below, all of it stays.
+    pub fn points_keep_all(&self)
+        ensures { PointsKeepAll self.now }
+    {
+        let _root = self.root();
     }
 
     /// The same body, with new memory.
