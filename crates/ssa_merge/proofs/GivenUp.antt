@@ -1,12 +1,15 @@
 -- What is given up, as three tests one after the other.
-use Rattle.std.proofs.Common.{◌≡◌, List, [], ◌∷◌, Bool, true, false, not, ◌&&◌, refl, sym, ap, ◌∙◌}
+use Rattle.std.proofs.Common.{◌≡◌, List, [], ◌∷◌, map, Bool, true, false, not, ◌&&◌, ◌||◌, refl, sym, ap, ◌∙◌, true≢false}
 use Rattle.std.specs.Prelude.{Option, Some, None, if◌then◌else◌}
-use Rattle.ssa_model.specs.Path.{Path, is_key_field}
-use Rattle.ssa_model.specs.PathMap.{PathSet, empty, has, has_at_or_below, paths, set_of, minus, union}
+use Rattle.ssa_model.specs.Path.{Path, is_key_field, is_root}
+use Rattle.ssa_model.specs.PathMap.{PathSet, empty, has, has_at_or_above, has_at_or_below, insert, is_empty, paths, set_of, minus, union}
 use Rattle.ssa_model.specs.Body as model
 use Rattle.ssa_model.specs.Table.{ManagerKey, Entry, Table, same_manager, owned_by, owned_by_others}
-use Rattle.ssa_model.specs.Operations.{State, dropped}
-use Rattle.ssa_model.proofs.PathMaps.{has-paths, has-set_of, same_sets, is_one_of}
+use Rattle.ssa_model.specs.Operations.{State, dropped, kept, pruned}
+use Rattle.ssa_model.proofs.PathMaps.{has-insert, has-paths, has-set_of, has-union, same_sets, is_one_of}
+use Rattle.ssa_model.proofs.Tables.{true_or}
+use Rattle.ssa_typed.specs.Reached.{PointsKeepAll, PointsTellPlaces}
+use Rattle.ssa_merge.specs.Absent.{absent}
 use Rattle.ssa_merge.specs.Tables.{entry_of}
 
 both : (a b c : Bool) → ((a && b) && c) ≡ (a && (b && c))
@@ -21,13 +24,29 @@ twice ps f g = same_sets _ _ (λ q.
     ∙ both (is_one_of ps q) (f q) (g q)
     ∙ sym (has-set_of ps (λ p. f p && g p) q))
 
--- the three tests of a configuration and of the others
-pub left_out : (own others : PathSet) (config : model.Body)
-    → set_of (paths (set_of (paths (set_of (paths own) (λ p. not (has config p)))) (λ p. not (is_key_field p)))) (λ p. not (has_at_or_below others p))
-    ≡ set_of (paths own) (λ g. not (has config g) && (not (is_key_field g) && not (has_at_or_below others g)))
-left_out own others config =
-    twice (paths (set_of (paths own) (λ p. not (has config p)))) (λ p. not (is_key_field p)) (λ p. not (has_at_or_below others p))
-    ∙ twice (paths own) (λ p. not (has config p)) (λ p. not (is_key_field p) && not (has_at_or_below others p))
+abbrev pub only_root : PathSet
+only_root = insert [] tt empty
+
+root-only : (p : Path) → has only_root p ≡ is_root p
+root-only [] = has-insert [] empty []
+root-only (e ∷ p) = has-insert [] empty (e ∷ p)
+
+-- a set without the one path of another, which is the root
+pub no-root : (s root : PathSet) → root ≡ only_root → minus s root ≡ set_of (paths s) (λ p. not (is_root p))
+no-root s root is = ap (minus s) is ∙ (λ i. set_of (paths s) (λ p. not (root-only p i)))
+
+neither : (root below there : Bool) → there ≡ (root || below) → (not below && not root) ≡ not there
+neither true true there h = ap not (sym h)
+neither true false there h = ap not (sym h)
+neither false true there h = ap not (sym h)
+neither false false there h = ap not (sym h)
+
+-- what has no point of the configuration at or below it, and is not the root, it leaves out
+pub unreached : (own : PathSet) (config : model.Body) → PointsTellPlaces config
+    → set_of (paths (set_of (paths own) (λ p. not (has_at_or_below (model.points config) p)))) (λ p. not (is_root p)) ≡ set_of (paths own) (λ p. not (has config p))
+unreached own config law =
+    twice (paths own) (λ p. not (has_at_or_below (model.points config) p)) (λ p. not (is_root p))
+    ∙ (λ i. set_of (paths own) (λ p. neither (is_root p) (has_at_or_below (model.points config) p) (has config p) (law p) i))
 
 abbrev pub set_in : Option Entry → PathSet
 set_in None = empty
@@ -42,13 +61,41 @@ pub owned-entry : (table : Table) (a : ManagerKey) → owned_by table a ≡ set_
 owned-entry [] a = refl
 owned-entry (e ∷ es) a = picked (same_manager e.manager a) e (owned_by es a) (entry_of es a) (owned-entry es a)
 
--- what is given up of a set
-abbrev pub given_up_of : PathSet → model.Body → PathSet → PathSet
-given_up_of own config others = set_of (paths own) (λ g. not (has config g) && (not (is_key_field g) && not (has_at_or_below others g)))
+pub absent-of : (state : State) (a : ManagerKey) (config : model.Body) (o : Option Entry) → o ≡ entry_of state.table a → set_of (paths (set_in o)) (λ g. not (has config g)) ≡ absent state a config
+absent-of state a config o is = λ i. set_of (paths ((ap set_in is ∙ sym (owned-entry state.table a)) i)) (λ g. not (has config g))
 
-pub dropped-of : (state : State) (a : ManagerKey) (config : model.Body) (o : Option Entry) (others : PathSet) → o ≡ entry_of state.table a → others ≡ owned_by_others state.table a
-    → given_up_of (set_in o) config others ≡ dropped state a config
-dropped-of state a config o others is same = λ i. given_up_of ((ap set_in is ∙ sym (owned-entry state.table a)) i) config (same i)
+-- what is given up of what is left out
+pub dropped-absent : (state : State) (a : ManagerKey) (config : model.Body) (left others : PathSet) → left ≡ absent state a config → others ≡ owned_by_others state.table a
+    → set_of (paths left) (λ g. not (is_key_field g) && not (has_at_or_below others g)) ≡ dropped state a config
+dropped-absent state a config left others is same =
+    (λ i. set_of (paths (is i)) (λ g. not (is_key_field g) && not (has_at_or_below (same i) g)))
+    ∙ twice (paths (owned_by state.table a)) (λ g. not (has config g)) (λ g. not (is_key_field g) && not (has_at_or_below (owned_by_others state.table a) g))
+
+no-entries : (s : PathSet) → is_empty s ≡ true → paths s ≡ []
+no-entries s h = elim s.entries as (λ es. elim es [ [] ↦ true | e ∷ rest ↦ false ] ≡ true → map (λ e. e.0) es ≡ []) [ [] ↦ λ k. refl | e ∷ es ↦ λ k. absurd (true≢false (sym k)) ] h
+
+none-dropped : (state : State) (a : ManagerKey) (config : model.Body) (left : PathSet) → left ≡ absent state a config → is_empty left ≡ true → dropped state a config ≡ empty
+none-dropped state a config left is none =
+    sym (dropped-absent state a config left (owned_by_others state.table a) is refl)
+    ∙ ap (λ ps. set_of ps (λ g. not (is_key_field g) && not (has_at_or_below (owned_by_others state.table a) g))) (no-entries left none)
+
+-- where nothing is left out, all of the merged body stays
+pub all-stays : (state : State) (a : ManagerKey) (config merged : model.Body) (left : PathSet) → left ≡ absent state a config → is_empty left ≡ true → merged ≡ model.over state.body config → PointsKeepAll merged → merged ≡ pruned state a config
+all-stays state a config merged left is none made law =
+    sym (law (kept state a config) there) ∙ ap (λ b. model.restricted b (λ p. is_root p || has_at_or_below (kept state a config) p)) made
+  where
+    spared : (p : Path) → has_at_or_above (dropped state a config) p ≡ false
+    spared p = ap (λ s. has_at_or_above s p) (none-dropped state a config left is none)
+
+    there : (p : Path) → has (model.points merged) p ≡ true → has (kept state a config) p ≡ true
+    there p h =
+        has-union (set_of (paths (model.points (model.over state.body config))) (λ q. not (has_at_or_above (dropped state a config) q))) (union (owned_by_others state.table a) (model.points config)) p
+        ∙ true_or _ _
+        (has-set_of (paths (model.points (model.over state.body config))) (λ q. not (has_at_or_above (dropped state a config) q)) p
+        ∙ (λ i. point i && not (spared p i)))
+      where
+        point : is_one_of (paths (model.points (model.over state.body config))) p ≡ true
+        point = sym (has-paths (model.points (model.over state.body config)) p) ∙ ap (λ b. has (model.points b) p) (sym made) ∙ h
 
 -- ---- what an Update leaves
 

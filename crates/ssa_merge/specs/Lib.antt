@@ -1,4 +1,5 @@
+pub mod Absent
 pub mod Managers
-pub mod Tables
-pub mod States
 pub mod Plans
+pub mod States
+pub mod Tables

@@ -1,11 +1,11 @@
 //! What an applier gives up, and what stays of the merged body.
 ghost use Rattle.std.specs.Prelude.{◌≡◌, not, ◌&&◌, IfOk};
-ghost use Rattle.ssa_model.specs.PathMap.{has, has_at_or_above, has_at_or_below, paths, set_of, union};
-ghost use Rattle.ssa_model.specs.Path.{is_key_field};
+ghost use Rattle.ssa_model.specs.PathMap.{has_at_or_above, has_at_or_below, paths, set_of, union};
+ghost use Rattle.ssa_model.specs.Path.{is_key_field, is_root};
 ghost use Rattle.ssa_model.specs.Body.{points};
-ghost use Rattle.ssa_model.specs.Table.{owned_by_others};
-ghost use Rattle.ssa_model.specs.Operations.{dropped, pruned};
+ghost use Rattle.ssa_model.specs.Operations.{pruned};
 ghost use Rattle.ssa_typed.specs.Alike.{AreAlike};
+ghost use Rattle.ssa_merge.specs.Absent.{absent};
 ghost use Rattle.ssa_merge.specs.Managers.{key_view};
 ghost use Rattle.ssa_merge.specs.States.{state_view};
 
@@ -13,43 +13,50 @@ use crate::manager::ManagerKey;
 use crate::owned::owned_by_others;
 use crate::state::State;
 use ssa_path::field_set::FieldSet;
+use ssa_path::path::Path;
 use ssa_typed::body::Body;
 use std::alloc::{AllocError, Global};
 
-// The paths of a set that a configuration leaves out, that are no key fields, and that have no path
-// of the others at or below them.
-fn left_out(
-    alloc: Global,
-    own: &FieldSet,
-    config: &Body,
-    others: &FieldSet,
-) -> Result<FieldSet, AllocError>
-    ensures { IfOk result (λ s. s ≡ set_of (paths own.now) (λ g. not (has config.now g) && (not (is_key_field g) && not (has_at_or_below others.now g)))) }
+// The set without the root.
+fn without_root(alloc: Global, set: &FieldSet) -> Result<FieldSet, AllocError>
+    ensures { IfOk result (λ s. s ≡ set_of (paths set.now) (λ p. not (is_root p))) }
 {
-    let absent = config.lacking(alloc, own)?;
-    let free = absent.without_key_fields(alloc)?;
-    let unheld = free.without_over(alloc, others)?;
-    Ok(unheld)
+    let mut root = FieldSet::new(alloc);
+    root.insert(alloc, &Path::new(Vec::new(alloc)))?;
+    let rest = set.minus(alloc, &root)?;
+    Ok(rest)
 }
 
-// The paths of the manager's that its configuration gives up.
-fn dropped(
+// The paths of the manager's at which its configuration has nothing. The points of the
+// configuration tell its places, so that no walk over it is needed.
+fn left_out(
     alloc: Global,
     state: &State,
     key: &ManagerKey,
     config: &Body,
-    others: &FieldSet,
+    config_points: &FieldSet,
 ) -> Result<FieldSet, AllocError>
-    requires { others.now ≡ owned_by_others (state_view state.now).table (key_view key.now) }
-    ensures { IfOk result (λ s. s ≡ dropped (state_view state.now) (key_view key.now) config.now) }
+    requires { config_points.now ≡ points config.now }
+    ensures { IfOk result (λ s. s ≡ absent (state_view state.now) (key_view key.now) config.now) }
 {
+    config.points_tell_places();
     match state.managers.get(key) {
         Some(entry) => {
-            let gone = left_out(alloc, &entry.set, config, others)?;
+            let unreached = entry.set.without_over(alloc, config_points)?;
+            let gone = without_root(alloc, &unreached)?;
             Ok(gone)
         }
         None => Ok(FieldSet::new(alloc)),
     }
+}
+
+// Those of the paths that are no key fields, and that have no path of the others at or below them.
+fn unneeded(alloc: Global, absent: &FieldSet, others: &FieldSet) -> Result<FieldSet, AllocError>
+    ensures { IfOk result (λ s. s ≡ set_of (paths absent.now) (λ g. not (is_key_field g) && not (has_at_or_below others.now g))) }
+{
+    let free = absent.without_key_fields(alloc)?;
+    let unheld = free.without_over(alloc, others)?;
+    Ok(unheld)
 }
 
 // The paths that stay, themselves or by a path below: the merged body's points that are under none
@@ -83,9 +90,14 @@ pub fn pruned(
     requires points { config_points.now ≡ points config.now }
     ensures { IfOk result (λ b. b ≡ pruned (state_view state.now) (key_view key.now) config.now) }
 {
-    let others = owned_by_others(alloc, state.managers.entries(), key)?;
-    let gone = dropped(alloc, state, key, config, &others)?;
+    let absent = left_out(alloc, state, key, config, config_points)?;
     let merged = state.body.over(alloc, config)?;
+    if absent.is_empty() {
+        merged.points_keep_all();
+        return Ok(merged);
+    }
+    let others = owned_by_others(alloc, state.managers.entries(), key)?;
+    let gone = unneeded(alloc, &absent, &others)?;
     let stay = kept(alloc, &merged, &gone, &others, config_points)?;
     let body = merged.restricted_to(alloc, &stay)?;
     Ok(body)
