@@ -1,21 +1,18 @@
--- What is given up, in steps.
-use Rattle.std.proofs.Common.{◌≡◌, List, [], ◌∷◌, Bool, true, false, not, ◌&&◌, ◌||◌, refl, sym, ap, ◌∙◌, true≢false}
+-- What is given up, and sets that lose nothing.
+use Rattle.std.proofs.Common.{◌≡◌, List, [], ◌∷◌, map, Bool, true, false, not, ◌&&◌, ◌||◌, refl, sym, ap, ◌∙◌, true≢false}
 use Rattle.std.specs.Prelude.{Option, Some, None, if◌then◌else◌}
 use Rattle.std.specs.Cmp.{first_so, second_so}
 use Rattle.std.specs.Cmp.Lexicographic.{pointwise}
-use Rattle.ssa_model.specs.Path.{Path, is_key_field, is_root, same_path, under}
-use Rattle.ssa_model.specs.PathMap.{PathSet, same_entries_map, empty, has, has_at_or_above, has_at_or_below, is_empty, paths, same_set, set_of, minus, union}
+use Rattle.ssa_model.specs.Path.{Path, is_key_field, is_root, same_path}
+use Rattle.ssa_model.specs.PathMap.{PathSet, empty, has, has_at_or_above, has_at_or_below, insert, is_empty, paths, same_set, set_of, minus, union}
 use Rattle.ssa_model.specs.Body as model
-use Rattle.ssa_model.specs.Body.{over, points, restricted}
 use Rattle.ssa_model.specs.Table.{ManagerKey, Entry, Table, same_manager, owned_by, owned_by_others}
 use Rattle.ssa_model.specs.Operations.{State, dropped, kept, pruned}
-use Rattle.ssa_model.proofs.PathMaps.{has-minus, has-paths, has-set_of, has-union, same_path-true, same_sets, is_one_of}
-use Rattle.ssa_model.proofs.Pruned.{some_one, from_one}
-use Rattle.ssa_model.proofs.Reaching.{reaches-point, whole-part}
+use Rattle.ssa_model.proofs.PathMaps.{has-insert, has-minus, has-paths, has-set_of, has-union, same_path-true, same_sets, is_one_of}
 use Rattle.ssa_model.proofs.Tables.{true_or}
 use Rattle.ssa_path.specs.Meet.{meet}
-use Rattle.ssa_typed.specs.Alike.{ItemsStand}
-use Rattle.ssa_merge.specs.GivenUp.{left_out, pruned_beside}
+use Rattle.ssa_typed.specs.Reached.{PointsKeepAll, PointsTellPlaces}
+use Rattle.ssa_merge.specs.Absent.{absent}
 use Rattle.ssa_merge.specs.Tables.{entry_of}
 
 both : (a b c : Bool) → ((a && b) && c) ≡ (a && (b && c))
@@ -30,6 +27,30 @@ twice ps f g = same_sets _ _ (λ q.
     ∙ both (is_one_of ps q) (f q) (g q)
     ∙ sym (has-set_of ps (λ p. f p && g p) q))
 
+abbrev pub only_root : PathSet
+only_root = insert [] tt empty
+
+root-only : (p : Path) → has only_root p ≡ is_root p
+root-only [] = has-insert [] empty []
+root-only (e ∷ p) = has-insert [] empty (e ∷ p)
+
+-- a set without the one path of another, which is the root
+pub no-root : (s root : PathSet) → root ≡ only_root → minus s root ≡ set_of (paths s) (λ p. not (is_root p))
+no-root s root is = ap (minus s) is ∙ (λ i. set_of (paths s) (λ p. not (root-only p i)))
+
+neither : (root below there : Bool) → there ≡ (root || below) → (not below && not root) ≡ not there
+neither true true there h = ap not (sym h)
+neither true false there h = ap not (sym h)
+neither false true there h = ap not (sym h)
+neither false false there h = ap not (sym h)
+
+-- what has no point of the configuration at or below it, and is not the root, it leaves out
+pub unreached : (own : PathSet) (config : model.Body) → PointsTellPlaces config
+    → set_of (paths (set_of (paths own) (λ p. not (has_at_or_below (model.points config) p)))) (λ p. not (is_root p)) ≡ set_of (paths own) (λ p. not (has config p))
+unreached own config law =
+    twice (paths own) (λ p. not (has_at_or_below (model.points config) p)) (λ p. not (is_root p))
+    ∙ (λ i. set_of (paths own) (λ p. neither (is_root p) (has_at_or_below (model.points config) p) (has config p) (law p) i))
+
 abbrev pub set_in : Option Entry → PathSet
 set_in None = empty
 set_in (Some e) = e.owned
@@ -43,66 +64,46 @@ pub owned-entry : (table : Table) (a : ManagerKey) → owned_by table a ≡ set_
 owned-entry [] a = refl
 owned-entry (e ∷ es) a = picked (same_manager e.manager a) e (owned_by es a) (entry_of es a) (owned-entry es a)
 
--- ---- what is left out, and what of that is given up
+pub absent-of : (state : State) (a : ManagerKey) (config : model.Body) (o : Option Entry) → o ≡ entry_of state.table a → set_of (paths (set_in o)) (λ g. not (has config g)) ≡ absent state a config
+absent-of state a config o is = λ i. set_of (paths ((ap set_in is ∙ sym (owned-entry state.table a)) i)) (λ g. not (has config g))
 
-pub left_out-of : (state : State) (a : ManagerKey) (config : model.Body) (o : Option Entry) → o ≡ entry_of state.table a
-    → set_of (paths (set_of (paths (set_in o)) (λ p. not (has config p)))) (λ p. not (is_key_field p)) ≡ left_out state a config
-left_out-of state a config o is =
-    twice (paths (set_in o)) (λ p. not (has config p)) (λ p. not (is_key_field p))
-    ∙ ap (λ s. set_of (paths s) (λ g. not (has config g) && not (is_key_field g))) (ap set_in is ∙ sym (owned-entry state.table a))
+-- what is given up of what is left out
+pub dropped-absent : (state : State) (a : ManagerKey) (config : model.Body) (left others : PathSet) → left ≡ absent state a config → others ≡ owned_by_others state.table a
+    → set_of (paths left) (λ g. not (is_key_field g) && not (has_at_or_below others g)) ≡ dropped state a config
+dropped-absent state a config left others is same =
+    (λ i. set_of (paths (is i)) (λ g. not (is_key_field g) && not (has_at_or_below (same i) g)))
+    ∙ twice (paths (owned_by state.table a)) (λ g. not (has config g)) (λ g. not (is_key_field g) && not (has_at_or_below (owned_by_others state.table a) g))
 
-pub none-left : (state : State) (a : ManagerKey) (config : model.Body) → None ≡ entry_of state.table a → empty ≡ left_out state a config
-none-left state a config none = left_out-of state a config None none
+no-entries : (s : PathSet) → is_empty s ≡ true → paths s ≡ []
+no-entries s h = elim s.entries as (λ es. elim es [ [] ↦ true | e ∷ rest ↦ false ] ≡ true → map (λ e. e.0) es ≡ []) [ [] ↦ λ k. refl | e ∷ es ↦ λ k. absurd (true≢false (sym k)) ] h
 
-dropped-left : (state : State) (a : ManagerKey) (config : model.Body) → set_of (paths (left_out state a config)) (λ g. not (has_at_or_below (owned_by_others state.table a) g)) ≡ dropped state a config
-dropped-left state a config =
-    let own = owned_by state.table a in
-    let others = owned_by_others state.table a in
-    twice (paths own) (λ g. not (has config g) && not (is_key_field g)) (λ g. not (has_at_or_below others g))
-    ∙ ap (set_of (paths own)) (λ i. λ g. both (not (has config g)) (not (is_key_field g)) (not (has_at_or_below others g)) i)
+none-dropped : (state : State) (a : ManagerKey) (config : model.Body) (left : PathSet) → left ≡ absent state a config → is_empty left ≡ true → dropped state a config ≡ empty
+none-dropped state a config left is none =
+    sym (dropped-absent state a config left (owned_by_others state.table a) is refl)
+    ∙ ap (λ ps. set_of ps (λ g. not (is_key_field g) && not (has_at_or_below (owned_by_others state.table a) g))) (no-entries left none)
 
-pub pruned-beside : (state : State) (a : ManagerKey) (config : model.Body) → pruned_beside (over state.body config) (left_out state a config) (owned_by_others state.table a) (points config) ≡ pruned state a config
-pruned-beside state a config =
-    let merged = over state.body config in
-    ap (λ gone. restricted merged (λ p. is_root p || has_at_or_below (union (set_of (paths (points merged)) (λ q. not (has_at_or_above gone q))) (union (owned_by_others state.table a) (points config))) p))
-    (dropped-left state a config)
+-- where nothing is left out, all of the merged body stays
+pub all-stays : (state : State) (a : ManagerKey) (config merged : model.Body) (left : PathSet) → left ≡ absent state a config → is_empty left ≡ true → merged ≡ model.over state.body config → PointsKeepAll merged → merged ≡ pruned state a config
+all-stays state a config merged left is none made law =
+    sym (law (kept state a config) there) ∙ ap (λ b. model.restricted b (λ p. is_root p || has_at_or_below (kept state a config) p)) made
+  where
+    spared : (p : Path) → has_at_or_above (dropped state a config) p ≡ false
+    spared p = ap (λ s. has_at_or_above s p) (none-dropped state a config left is none)
 
--- ---- where nothing is left out
+    there : (p : Path) → has (model.points merged) p ≡ true → has (kept state a config) p ≡ true
+    there p h =
+        has-union (set_of (paths (model.points (model.over state.body config))) (λ q. not (has_at_or_above (dropped state a config) q))) (union (owned_by_others state.table a) (model.points config)) p
+        ∙ true_or _ _
+        (has-set_of (paths (model.points (model.over state.body config))) (λ q. not (has_at_or_above (dropped state a config) q)) p
+        ∙ (λ i. point i && not (spared p i)))
+      where
+        point : is_one_of (paths (model.points (model.over state.body config))) p ≡ true
+        point = sym (has-paths (model.points (model.over state.body config)) p) ∙ ap (λ b. has (model.points b) p) (sym made) ∙ h
 
-nothing : (es : List (Path × Unit {0})) → elim es [ [] ↦ true | e ∷ rest ↦ false ] ≡ true → es ≡ []
-nothing [] h = refl
-nothing (e ∷ es) h = absurd (true≢false (sym h))
+-- ---- an empty set
 
 pub is_empty-true : (s : PathSet) → is_empty s ≡ true → s ≡ empty
-is_empty-true s h = same_entries_map s empty (nothing s.entries h)
-
-module _ (state : State) (a : ManagerKey) (config : model.Body) (none : is_empty (left_out state a config) ≡ true) where
-  abbrev merged : model.Body
-  merged = over state.body config
-
-  none_dropped : dropped state a config ≡ empty
-  none_dropped = sym (dropped-left state a config) ∙ ap (λ s. set_of (paths s) (λ g. not (has_at_or_below (owned_by_others state.table a) g))) (is_empty-true (left_out state a config) none)
-
-  point-kept : (p : Path) → has (points merged) p ≡ true → has (kept state a config) p ≡ true
-  point-kept p h =
-      let spared = set_of (paths (points merged)) (λ q. not (has_at_or_above (dropped state a config) q)) in
-      let spares : has spared p ≡ true =
-      has-set_of (paths (points merged)) (λ q. not (has_at_or_above (dropped state a config) q)) p
-      ∙ (λ i. (sym (has-paths (points merged) p) ∙ h) i && not (has_at_or_above (none_dropped i) p)) in
-      has-union spared (union (owned_by_others state.table a) (points config)) p ∙ true_or (has spared p) _ spares
-
-  kept-below : (p : Path) → has_at_or_below (points merged) p ≡ true → has_at_or_below (kept state a config) p ≡ true
-  kept-below p h =
-      let x = some_one (under p) (paths (points merged)) h in
-      from_one (under p) (paths (kept state a config)) x.0 (sym (has-paths (kept state a config) x.0) ∙ point-kept x.0 (has-paths (points merged) x.0 ∙ x.1)) x.2
-
-  stays : (p : Path) (root : Bool) → (root || has_at_or_below (points merged) p) ≡ true → (root || has_at_or_below (kept state a config) p) ≡ true
-  stays p true h = refl
-  stays p false h = kept-below p h
-
-  -- the merged body stays whole
-  pub pruned-whole : ItemsStand merged → merged ≡ pruned state a config
-  pruned-whole stand = sym (whole-part merged (λ p. is_root p || has_at_or_below (kept state a config) p) stand (λ p there. stays p (is_root p) (reaches-point merged p there)))
+is_empty-true s h = same_sets s empty (λ p. has-paths s p ∙ ap (λ ps. is_one_of ps p) (no-entries s h))
 
 -- ---- a set that loses nothing
 

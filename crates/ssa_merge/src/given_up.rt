@@ -1,11 +1,11 @@
 //! What an applier gives up, and what stays of the merged body.
-ghost use Rattle.std.specs.Prelude.{◌≡◌, not, IfOk};
-ghost use Rattle.ssa_model.specs.PathMap.{has_at_or_above, paths, set_of, union};
+ghost use Rattle.std.specs.Prelude.{◌≡◌, not, ◌&&◌, IfOk};
+ghost use Rattle.ssa_model.specs.PathMap.{has_at_or_above, has_at_or_below, paths, set_of, union};
+ghost use Rattle.ssa_model.specs.Path.{is_key_field, is_root};
 ghost use Rattle.ssa_model.specs.Body.{points};
-ghost use Rattle.ssa_model.specs.Table.{owned_by_others};
 ghost use Rattle.ssa_model.specs.Operations.{pruned};
 ghost use Rattle.ssa_typed.specs.Alike.{AreAlike};
-ghost use Rattle.ssa_merge.specs.GivenUp.{left_out, pruned_beside};
+ghost use Rattle.ssa_merge.specs.Absent.{absent};
 ghost use Rattle.ssa_merge.specs.Managers.{key_view};
 ghost use Rattle.ssa_merge.specs.States.{state_view};
 
@@ -13,26 +13,50 @@ use crate::manager::ManagerKey;
 use crate::owned::owned_by_others;
 use crate::state::State;
 use ssa_path::field_set::FieldSet;
+use ssa_path::path::Path;
 use ssa_typed::body::Body;
 use std::alloc::{AllocError, Global};
 
-// The paths of the manager's that its configuration leaves out, but for key fields.
+// The set without the root.
+fn without_root(alloc: Global, set: &FieldSet) -> Result<FieldSet, AllocError>
+    ensures { IfOk result (λ s. s ≡ set_of (paths set.now) (λ p. not (is_root p))) }
+{
+    let mut root = FieldSet::new(alloc);
+    root.insert(alloc, &Path::new(Vec::new(alloc)))?;
+    let rest = set.minus(alloc, &root)?;
+    Ok(rest)
+}
+
+// The paths of the manager's at which its configuration has nothing. The points of the
+// configuration tell its places, so that no walk over it is needed.
 fn left_out(
     alloc: Global,
     state: &State,
     key: &ManagerKey,
     config: &Body,
+    config_points: &FieldSet,
 ) -> Result<FieldSet, AllocError>
-    ensures { IfOk result (λ s. s ≡ left_out (state_view state.now) (key_view key.now) config.now) }
+    requires { config_points.now ≡ points config.now }
+    ensures { IfOk result (λ s. s ≡ absent (state_view state.now) (key_view key.now) config.now) }
 {
+    config.points_tell_places();
     match state.managers.get(key) {
         Some(entry) => {
-            let absent = config.lacking(alloc, entry.set.get())?;
-            let free = absent.without_key_fields(alloc)?;
-            Ok(free)
+            let unreached = entry.set.get().without_over(alloc, config_points)?;
+            let gone = without_root(alloc, &unreached)?;
+            Ok(gone)
         }
         None => Ok(FieldSet::new(alloc)),
     }
+}
+
+// Those of the paths that are no key fields, and that have no path of the others at or below them.
+fn unneeded(alloc: Global, absent: &FieldSet, others: &FieldSet) -> Result<FieldSet, AllocError>
+    ensures { IfOk result (λ s. s ≡ set_of (paths absent.now) (λ g. not (is_key_field g) && not (has_at_or_below others.now g))) }
+{
+    let free = absent.without_key_fields(alloc)?;
+    let unheld = free.without_over(alloc, others)?;
+    Ok(unheld)
 }
 
 // The paths that stay, themselves or by a path below: the merged body's points that are under none
@@ -53,28 +77,8 @@ fn kept(
     Ok(all)
 }
 
-// The merged body without what the manager gives up and nobody else needs, where its configuration
-// leaves these paths out.
-fn restricted(
-    alloc: Global,
-    state: &State,
-    key: &ManagerKey,
-    config_points: &FieldSet,
-    merged: Body,
-    left_out: &FieldSet,
-) -> Result<Body, AllocError>
-    ensures { IfOk result (λ b. b ≡ pruned_beside merged left_out.now (owned_by_others (state_view state.now).table (key_view key.now)) config_points.now) }
-{
-    let others = owned_by_others(alloc, state.managers.entries(), key)?;
-    let gone = left_out.without_over(alloc, &others)?;
-    let stay = kept(alloc, &merged, &gone, &others, config_points)?;
-    let body = merged.restricted_to(alloc, &stay)?;
-    Ok(body)
-}
-
 /// The body after an Apply: the configuration over the live body, without what the manager gives up
-/// and nobody else needs. Where the configuration leaves nothing of the manager's out, that is the
-/// merged body, and nothing is looked up of the others.
+/// and nobody else needs.
 pub fn pruned(
     alloc: Global,
     state: &State,
@@ -86,11 +90,15 @@ pub fn pruned(
     requires points { config_points.now ≡ points config.now }
     ensures { IfOk result (λ b. b ≡ pruned (state_view state.now) (key_view key.now) config.now) }
 {
+    let absent = left_out(alloc, state, key, config, config_points)?;
     let merged = state.body.over(alloc, config)?;
-    let left_out = left_out(alloc, state, key, config)?;
-    if left_out.is_empty() {
+    if absent.is_empty() {
+        merged.points_keep_all();
         return Ok(merged);
     }
-    let body = restricted(alloc, state, key, config_points, merged, &left_out)?;
+    let others = owned_by_others(alloc, state.managers.entries(), key)?;
+    let gone = unneeded(alloc, &absent, &others)?;
+    let stay = kept(alloc, &merged, &gone, &others, config_points)?;
+    let body = merged.restricted_to(alloc, &stay)?;
     Ok(body)
 }

@@ -15,7 +15,7 @@ use Rattle.ssa_path.specs.declared.trie.Trie.TheViews.{out-Trie}
 use Rattle.ssa_path.proofs.InOrder.{paths-listed, rise-trie}
 use Rattle.ssa_path.proofs.Levels.{paths-level, same_path-reading, trie-parts}
 use Rattle.ssa_path.proofs.Lists.{left-at}
-use Rattle.ssa_path.proofs.Orders.{and_assoc, and_false, both_first, both_second, not_tied, same_either_way, same_element-itself, same_element-true}
+use Rattle.ssa_path.proofs.Orders.{and_assoc, and_false, both_first, both_second, not_tied, same_either_way, same_element-itself, same_element-true, none_first}
 
 abbrev same_paths : List Path → List Path → Bool
 same_paths = pointwise same_path
@@ -28,9 +28,6 @@ Children = List (Elem × Trie)
 -- none of these paths begins as the first of those with e in front does
 abbrev IsApart : Element → List Path → Type 0
 IsApart e r = (p : Path) (x : List Path) → (same_paths ((e ∷ p) ∷ x) r ≡ false) × (same_paths r ((e ∷ p) ∷ x) ≡ false)
-
-none_first : (b c : Bool) → b ≡ false → (b && c) ≡ false
-none_first b c h = ap (λ x. x && c) h
 
 unlike : (e f : Element) (p q : Path) → same_element e f ≡ false → same_path (e ∷ p) (f ∷ q) ≡ false
 unlike e f p q h = same_path-reading.more e f p q ∙ none_first (same_element e f) (same_path p q) h

@@ -39,6 +39,9 @@ both_second false b e = absurd (true≢false (sym e))
 pub both : (a b : Bool) → a ≡ true → b ≡ true → (a && b) ≡ true
 both a b e f = λ i. e i && f i
 
+pub none_first : (b c : Bool) → b ≡ false → (b && c) ≡ false
+none_first b c h = ap (λ x. x && c) h
+
 pub or_false : (a : Bool) → (a || false) ≡ a
 or_false true = refl
 or_false false = refl

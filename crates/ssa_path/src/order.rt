@@ -1,5 +1,5 @@
 // The order of elements' texts by their bytes. The texts themselves are never made.
-ghost use Rattle.std.specs.Prelude.{◌≡◌, ◌≤◌, ◌<◌, ◌+◌, ◌++◌, false, length, take, drop};
+ghost use Rattle.std.specs.Prelude.{◌≡◌, ◌≤◌, ◌<◌, ◌+◌, ◌++◌, [], ◌∷◌, false, length, take, drop, IfSome};
 ghost use Rattle.std.specs.Ordering.{nat_cmp};
 ghost use Rattle.std.specs.Cmp.Lexicographic.{slice_cmp};
 ghost use Rattle.ssa_model.specs.Json.{compact_members, hex_digit, quoted, scalar_text, whole_text};
@@ -49,12 +49,34 @@ fn mark(byte: Option<u8>) -> ([u8; 6], usize)
     }
 }
 
-fn order_marks(byte: Option<u8>, other: Option<u8>) -> Ordering
+// The mark where it is a single byte.
+fn single_mark(byte: Option<u8>) -> Option<u8>
+    ensures { IfSome result (λ only. mark byte ≡ only ∷ []) }
+{
+    match byte {
+        None => Some(b'"'),
+        Some(b'"') => None,
+        Some(b'\\') => None,
+        Some(byte) => { if byte < 0x20 { None } else { Some(byte) } }
+    }
+}
+
+fn order_escapes(byte: Option<u8>, other: Option<u8>) -> Ordering
     ensures { result ≡ slice_cmp nat_cmp (mark byte) (mark other) }
 {
     let (bytes, len) = mark(byte);
     let (other_bytes, other_len) = mark(other);
     bytes[..len].cmp(&other_bytes[..other_len])
+}
+
+// Most marks are single bytes, which are compared with no arrays.
+fn order_marks(byte: Option<u8>, other: Option<u8>) -> Ordering
+    ensures { result ≡ slice_cmp nat_cmp (mark byte) (mark other) }
+{
+    match (single_mark(byte), single_mark(other)) {
+        (Some(own), Some(others)) => own.cmp(&others),
+        _ => order_escapes(byte, other),
+    }
 }
 
 // The order of two texts in quotes.
@@ -90,7 +112,10 @@ pub fn order_scalars(scalar: &Scalar, end: &[u8], other: &Scalar, other_end: &[u
 {
     match (scalar, other) {
         (Scalar::Text(text), Scalar::Text(other_text)) => {
-            order_quoted(text.as_bytes(), other_text.as_bytes()).then(end.cmp(other_end))
+            match order_quoted(text.as_bytes(), other_text.as_bytes()) {
+                Ordering::Equal => end.cmp(other_end),
+                found => found,
+            }
         }
         (Scalar::Text(_), Scalar::Int(_)) => Ordering::Less,
         (Scalar::Text(_), Scalar::Bool(_)) => Ordering::Less,

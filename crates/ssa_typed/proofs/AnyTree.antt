@@ -121,14 +121,18 @@ root-there n = ap is_some (content-root n)
 pub tree-root : (n : Node) → has (body_of n) [] ≡ true
 tree-root n = ap is_some (get-body n []) ∙ root-there n
 
-closed-in : (c : Option Node) (e : Element) → is_some (content_in c (e ∷ [])) ≡ true → is_some (content_in c []) ≡ true
-closed-in None e h = h
-closed-in (Some n) e h = root-there n
+closed-in : (c : Option Node) (q : Path) → is_some (content_in c q) ≡ true → is_some (content_in c []) ≡ true
+closed-in None q h = h
+closed-in (Some n) q h = root-there n
+
+-- each beginning of a path is a path
+pub tree-beginning : (n : Node) → is_tree n ≡ true → (p q : Path) → has (body_of n) (p ++ q) ≡ true → has (body_of n) p ≡ true
+tree-beginning n h p q there =
+    ap is_some (get-body n p ∙ content-here p n h)
+    ∙ closed-in (node_on p n) q (sym (ap is_some (get-body n (p ++ q) ∙ content-on p n q h)) ∙ there)
 
 pub tree-closed : (n : Node) → is_tree n ≡ true → (p : Path) (e : Element) → has (body_of n) (p ++ e ∷ []) ≡ true → has (body_of n) p ≡ true
-tree-closed n h p e there =
-    ap is_some (get-body n p ∙ content-here p n h)
-    ∙ closed-in (node_on p n) e (sym (ap is_some (get-body n (p ++ e ∷ []) ∙ content-on p n (e ∷ []) h)) ∙ there)
+tree-closed n h p e there = tree-beginning n h p (e ∷ []) there
 
 once-in : (c : Option Node) → IsTreeIn c → are_distinct (order_at (content_in c [])) ≡ true
 once-in None h = refl

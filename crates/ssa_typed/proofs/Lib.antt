@@ -19,6 +19,8 @@ pub mod Lookups
 pub mod Making
 pub mod OverNodes
 pub mod Overlaying
+pub mod Pairs
+pub mod Reached
 pub mod References
 pub mod Restricting
 pub mod SameMembers
@@ -29,4 +31,5 @@ pub mod Sorting
 pub mod Stands
 pub mod TreeRows
 pub mod Trees
+pub mod Unchanged
 pub mod Values

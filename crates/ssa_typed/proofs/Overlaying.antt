@@ -90,7 +90,7 @@ none-any e [] = refl
 none-any e (c ∷ cs) =
     elim (same_element e (element_view c.0)) as (λ b. elim (cond b (Some c.1) (child_at e cs)) [ None ↦ true | Some x ↦ false ] ≡ not (b || is_among e (elements cs))) [ true ↦ refl | false ↦ none-any e cs ]
 
-new-elements : (cs ds : List Child) → elements (filter (is_new cs) ds) ≡ filter (λ f. not (is_among f (elements cs))) (elements ds)
+pub new-elements : (cs ds : List Child) → elements (filter (is_new cs) ds) ≡ filter (λ f. not (is_among f (elements cs))) (elements ds)
 new-elements cs [] = refl
 new-elements cs (d ∷ ds) =
     one (is_new cs d)
@@ -137,7 +137,7 @@ over-none (Some record_branch) = refl
 over-none (Some dict_branch) = refl
 over-none (Some (list_branch es)) = ap (λ fs. Some (list_branch fs)) (all_pass es)
 
-elements-append : (cs ds : List Child) → elements (cs ++ ds) ≡ elements cs ++ elements ds
+pub elements-append : (cs ds : List Child) → elements (cs ++ ds) ≡ elements cs ++ elements ds
 elements-append [] ds = refl
 elements-append (c ∷ cs) ds = ap (λ es. element_view c.0 ∷ es) (elements-append cs ds)
 
@@ -184,7 +184,7 @@ over-level n m made cs live config tree own same h = record { content = at; tree
 
 -- ---- one live child more
 
-taken-at : (cs : List Child) (i : ℕ) (c : Child) → i < length cs → c ≡ get_or cs i c → take (i + 1) cs ≡ take i cs ++ c ∷ []
+pub taken-at : (cs : List Child) (i : ℕ) (c : Child) → i < length cs → c ≡ get_or cs i c → take (i + 1) cs ≡ take i cs ++ c ∷ []
 taken-at cs i c lt is = take_more cs i c lt ∙ ap (λ x. take i cs ++ x ∷ []) (sym is)
 
 pub some-none : (c : Node) → ◌≡◌ {A = Option Node} (Some c) None → ⊥

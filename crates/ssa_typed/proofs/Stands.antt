@@ -40,7 +40,7 @@ stands-append : (rs ss : List Row) (p : Path) → stands_below (rs ++ ss) p ≡ 
 stands-append [] ss p = refl
 stands-append (r ∷ rs) ss p = ap (λ b. strictly_under p r.0 || b) (stands-append rs ss p) ∙ or_assoc (strictly_under p r.0) _ _
 
-one_level : (e s : Element) (p q : Path) → strictly_under (e ∷ p) (s ∷ q) ≡ (same_element e s && strictly_under p q)
+pub one_level : (e s : Element) (p q : Path) → strictly_under (e ∷ p) (s ∷ q) ≡ (same_element e s && strictly_under p q)
 one_level e s p q =
     elim (same_element e s) as (λ b. same_element e s ≡ b → ((b && under p q) && not (same_element s e && under q p)) ≡ (b && strictly_under p q)) [
       | true ↦ λ h. ap (λ b. under p q && not (b && under q p)) (ap (λ x. same_element s x) (same_element-true e s h) ∙ same_element-itself s)

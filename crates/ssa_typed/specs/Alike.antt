@@ -1,9 +1,8 @@
--- Bodies one of which may be put over the other, and what is made of them.
-use Rattle.std.specs.Prelude.{◌≡◌, [], ◌∷◌, ◌++◌, Bool, true, false, Option, None, Some}
-use Rattle.ssa_model.specs.Path.{Element, Path}
-use Rattle.ssa_model.specs.PathMap.{get, has}
-use Rattle.ssa_model.specs.Kind.{is_among}
-use Rattle.ssa_model.specs.Body.{Content, leaf, atom, record_branch, dict_branch, list_branch, Body, is_leaf, order_at}
+-- Bodies one of which may be put over the other.
+use Rattle.std.specs.Prelude.{◌≡◌, Bool, true, false, Option, None, Some}
+use Rattle.ssa_model.specs.Path.{Path}
+use Rattle.ssa_model.specs.PathMap.{get}
+use Rattle.ssa_model.specs.Body.{Content, leaf, atom, record_branch, dict_branch, list_branch, Body, is_leaf}
 
 -- both have the same sort of content, or one has none: a leaf or an atomic value, a record, a Dict or a list
 abbrev pub are_alike : Option Content → Option Content → Bool
@@ -18,7 +17,3 @@ are_alike _ _ = false
 
 abbrev pub AreAlike : Body → Body → Type 0
 AreAlike live config = (p : Path) → are_alike (get live p) (get config p) ≡ true
-
--- what the orders of lists name stands in the body
-abbrev pub ItemsStand : Body → Type 0
-ItemsStand b = (p : Path) (e : Element) → is_among e (order_at (get b p)) ≡ true → has b (p ++ e ∷ []) ≡ true

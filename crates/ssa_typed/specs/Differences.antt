@@ -1,7 +1,7 @@
 -- What one body has otherwise than another that comes before it, told by their trees.
 use Rattle.std.specs.Prelude.{◌≡◌, List, [], ◌∷◌, Bool, true, false, ◌&&◌, not, is_some, Option, Some, None}
 use Rattle.ssa_model.specs.Path.{Element, Path}
-use Rattle.ssa_model.specs.Body.{Body, is_other_leaf, added, modified, removed}
+use Rattle.ssa_model.specs.Body.{Body, Content, is_other_leaf, added, modified, removed}
 use Rattle.ssa_path.specs.Children.{child_at, elements, rises}
 use Rattle.ssa_path.specs.Combine.{IsGrown}
 use Rattle.ssa_path.specs.Trie.{paths, paths_below, is_one_of, is_trie, are_filled_tries}
@@ -9,7 +9,7 @@ use Rattle.ssa_path.specs.declared.element.Elem.{Elem}
 use Rattle.ssa_path.specs.declared.trie.Trie.{Trie}
 use Rattle.ssa_path.specs.View.{element_view}
 use Rattle.ssa_typed.specs.Points.{content_in, point_in, is_in_dict, IsChildTrie}
-use Rattle.ssa_typed.specs.Rows.{own_content, below}
+use Rattle.ssa_typed.specs.Rows.{rows, own_content, below, content_at, is_tree}
 use Rattle.ssa_typed.specs.declared.compare.Comparison.{Comparison}
 use Rattle.ssa_typed.specs.declared.compare.Parts.{Parts}
 use Rattle.ssa_typed.specs.declared.compare.PartsBelow.{PartsBelow}
@@ -79,6 +79,18 @@ pub record AreDifferences (before after : Node) (v : Parts) : Type 0 where
   pub added_trie : IsDifference Added before after v.added
   pub modified_trie : IsDifference Modified before after v.modified
   pub removed_trie : IsDifference Removed before after v.removed
+
+-- ---- trees of which nothing is told
+
+-- something stands at both places or at neither, and no two leaves that differ
+abbrev pub IsUntold : Option Content → Option Content → Type 0
+IsUntold before after = (is_some before ≡ is_some after) × (is_other_leaf before after ≡ false)
+
+abbrev pub AreUnchanged : Node → Node → Type 0
+AreUnchanged before after = (p : Path) → IsUntold (content_at (rows before) p) (content_at (rows after) p)
+
+abbrev pub TellsNothing : Parts → Type 0
+TellsNothing v = (before after : Node) → is_tree before ≡ true → is_tree after ≡ true → AreUnchanged before after → AreDifferences before after v
 
 -- ---- of bodies
 

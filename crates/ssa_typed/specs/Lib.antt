@@ -7,6 +7,7 @@ pub mod Lacking
 pub mod Look
 pub mod Over
 pub mod Points
+pub mod Reached
 pub mod Reads
 pub mod Restricted
 pub mod Rows

@@ -8,9 +8,10 @@ ghost use Rattle.ssa_model.specs.Path.{is_root};
 ghost use Rattle.ssa_model.specs.PathMap.{from_entries, has, has_at_or_below, paths, set_of, size};
 ghost use Rattle.ssa_json.specs.View.{view};
 ghost use Rattle.ssa_model.specs.Lawful.{is_ordered};
-ghost use Rattle.ssa_typed.specs.Alike.{AreAlike, ItemsStand};
+ghost use Rattle.ssa_typed.specs.Alike.{AreAlike};
 ghost use Rattle.ssa_typed.specs.Differences.{IsComparison};
 ghost use Rattle.ssa_typed.specs.Look.{look_of, look_at};
+ghost use Rattle.ssa_typed.specs.Reached.{PointsKeepAll, PointsTellPlaces};
 ghost use Rattle.ssa_typed.specs.Rows.{body_of, is_tree};
 
 use crate::compare::{Comparison, differing};
@@ -98,6 +99,20 @@ impl Body {
         Ok(FieldSet::from_root(root))
     }
 
+    /// The places of the body are its root and what is at or above one of its points.
+    pub fn points_tell_places(&self)
+        ensures { PointsTellPlaces self.now }
+    {
+        let _root = self.root();
+    }
+
+    /// Where all the points of the body stay, by themselves or by a path below, all of it stays.
+    pub fn points_keep_all(&self)
+        ensures { PointsKeepAll self.now }
+    {
+        let _root = self.root();
+    }
+
     /// The same body, with new memory.
     pub fn copy(&self, alloc: Global) -> Result<Body, AllocError>
         ensures { IfOk result (λ b. b ≡ self.now) }
@@ -112,8 +127,7 @@ impl Body {
     /// Takes about n log n comparisons for n children of a place.
     pub fn over(&self, alloc: Global, config: &Body) -> Result<Body, AllocError>
         requires { AreAlike self.now config.now }
-        ensures merged { IfOk result (λ b. b ≡ over self.now config.now) }
-        ensures stand { IfOk result (λ b. ItemsStand b) }
+        ensures { IfOk result (λ b. b ≡ over self.now config.now) }
     {
         let root = over_node(alloc, &self.root, &config.root)?;
         Ok(Body { root })

@@ -2,11 +2,11 @@
 ghost use Rattle.std.specs.Prelude.{◌≡◌, true, drop, Some, IfOk, OnOk};
 ghost use Rattle.ssa_model.specs.Body.{is_other_leaf};
 ghost use Rattle.ssa_path.specs.Children.{heads_order};
-ghost use Rattle.ssa_typed.specs.Differences.{AreDifferences, AreDiffering, IsToldAlone};
+ghost use Rattle.ssa_typed.specs.Differences.{AreDifferences, AreDiffering, AreUnchanged, IsToldAlone, TellsNothing};
 ghost use Rattle.ssa_typed.specs.InOrder.{referred};
 ghost use Rattle.ssa_typed.specs.Rows.{is_tree, leaf_content, own_content};
 
-use crate::in_order::in_order;
+use crate::in_order::{in_order, stand_alike};
 use crate::node::{Leaf, Node};
 use crate::points::{Collected, collect_child};
 use ssa_path::combine::push_filled;
@@ -72,6 +72,48 @@ impl Node {
             (Node::Dict(_), _) => false,
             (Node::List(_), _) => false,
         }
+    }
+}
+
+// Whether both trees have the same places, in the same order, and no leaves that differ.
+fn is_unchanged(before: &Node, after: &Node) -> bool
+    requires before { is_tree before.now ≡ true }
+    requires after { is_tree after.now ≡ true }
+    ensures { result ≡ true → AreUnchanged before.now after.now }
+{
+    if before.is_other_leaf(after) {
+        return false;
+    }
+    let (own, others) = (before.children(), after.children());
+    if !stand_alike(own, others) {
+        return false;
+    }
+    for (i, child) in own.iter().enumerate() {
+        if !is_unchanged(&child.1, &others[i].1) {
+            return false;
+        }
+    }
+    true
+}
+
+// What is told of trees that are unchanged.
+fn no_parts(alloc: Global) -> Parts
+    ensures { TellsNothing result }
+{
+    let (added, modified, removed) = (Vec::new(alloc), Vec::new(alloc), Vec::new(alloc));
+    Parts {
+        added: Trie {
+            here: false,
+            below: added,
+        },
+        modified: Trie {
+            here: false,
+            below: modified,
+        },
+        removed: Trie {
+            here: false,
+            below: removed,
+        },
     }
 }
 
@@ -150,13 +192,18 @@ fn differing_below(alloc: Global, before: &Node, after: &Node) -> Result<PartsBe
     })
 }
 
-// What differs between two trees, found by one walk over both.
+// What differs between two trees, found by one walk over both. The items of a list and the entries
+// of a Dict are mostly unchanged, and then need not be put in order.
 #[cycle(differing)]
 pub(crate) fn differing(alloc: Global, before: &Node, after: &Node) -> Result<Parts, AllocError>
     requires before { is_tree before.now ≡ true }
     requires after { is_tree after.now ≡ true }
     ensures { IfOk result (λ v. AreDifferences before.now after.now v) }
 {
+    let is_record = matches!(after, Node::Branch(_));
+    if !is_record && is_unchanged(before, after) {
+        return Ok(no_parts(alloc));
+    }
     let below = differing_below(alloc, before, after)?;
     let here = before.is_other_leaf(after);
     Ok(Parts {

@@ -43,6 +43,21 @@ pub fn find_in_order<'a>(sorted: &[&'a (Elem, Node)], element: &Elem) -> Option<
     }
 }
 
+/// Whether both have children of the same elements in the same order. Takes no memory.
+pub fn stand_alike(own: &[(Elem, Node)], others: &[(Elem, Node)]) -> bool
+    ensures { result ≡ true → elements own.now ≡ elements others.now }
+{
+    if own.len() != others.len() {
+        return false;
+    }
+    for (i, child) in own.iter().enumerate() {
+        if !child.0.is_same(&others[i].0) {
+            return false;
+        }
+    }
+    true
+}
+
 /// Puts the children of a record or a Dict in the order of their elements.
 pub fn sort_children(children: &mut Vec<(Elem, Node)>) -> Result<(), AllocError>
     requires { are_apart (elements children.old.items) ≡ true }

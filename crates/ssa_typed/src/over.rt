@@ -4,9 +4,9 @@ ghost use Rattle.ssa_path.specs.Children.{elements};
 ghost use Rattle.ssa_path.specs.View.{element_view};
 ghost use Rattle.ssa_typed.specs.Copies.{kept_below};
 ghost use Rattle.ssa_typed.specs.Over.{with_new, AreAlikeTrees, AreOver, IsOver, IsPushed};
-ghost use Rattle.ssa_typed.specs.Rows.{are_apart, is_tree};
+ghost use Rattle.ssa_typed.specs.Rows.{are_apart, below, is_tree};
 
-use crate::in_order::{find_in_order, in_order, sort_children};
+use crate::in_order::{find_in_order, in_order, sort_children, stand_alike};
 use crate::node::Node;
 use ssa_path::element::Elem;
 use std::alloc::{AllocError, Global};
@@ -46,10 +46,28 @@ fn push_new(
     Ok(())
 }
 
+// The live children, each over the configuration's child at the same place.
+#[cycle(over)]
+fn over_alike(alloc: Global, live: &Node, config: &Node) -> Result<Vec<(Elem, Node)>, AllocError>
+    requires live { is_tree live.now ≡ true }
+    requires config { is_tree config.now ≡ true }
+    requires alike { AreAlikeTrees live.now config.now }
+    requires same { elements (below live.now) ≡ elements (below config.now) }
+    ensures { IfOk result (λ v. AreOver live.now config.now v.items) }
+{
+    let (own, others) = (live.children(), config.children());
+    let mut made = Vec::new(alloc);
+    for (i, child) in own.iter().enumerate() {
+        let node = over_node(alloc, &child.1, &others[i].1)?;
+        push_child(alloc, &mut made, &child.0, node)?;
+    }
+    Ok(made)
+}
+
 // The live children in their order, each over the configuration's child of its element, and behind
 // them what the configuration alone has, in its order.
 #[cycle(over)]
-fn over_children(alloc: Global, live: &Node, config: &Node) -> Result<Vec<(Elem, Node)>, AllocError>
+fn over_found(alloc: Global, live: &Node, config: &Node) -> Result<Vec<(Elem, Node)>, AllocError>
     requires live { is_tree live.now ≡ true }
     requires config { is_tree config.now ≡ true }
     requires alike { AreAlikeTrees live.now config.now }
@@ -71,6 +89,22 @@ fn over_children(alloc: Global, live: &Node, config: &Node) -> Result<Vec<(Elem,
     }
     push_new(alloc, &mut made, live.children(), config.children())?;
     Ok(made)
+}
+
+// The children of the one place over those of the other. A configuration mostly repeats the live
+// children, so that nothing has to be found.
+#[cycle(over)]
+fn over_children(alloc: Global, live: &Node, config: &Node) -> Result<Vec<(Elem, Node)>, AllocError>
+    requires live { is_tree live.now ≡ true }
+    requires config { is_tree config.now ≡ true }
+    requires alike { AreAlikeTrees live.now config.now }
+    ensures { IfOk result (λ v. AreOver live.now config.now v.items) }
+{
+    if stand_alike(live.children(), config.children()) {
+        over_alike(alloc, live, config)
+    } else {
+        over_found(alloc, live, config)
+    }
 }
 
 // The configuration's tree over the live one: its content at each place that it has, else the live

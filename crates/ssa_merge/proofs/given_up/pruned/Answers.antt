@@ -1,23 +1,24 @@
-use Rattle.std.proofs.Common.{ap, ◌∙◌, sym, subst}
-use Rattle.ssa_model.specs.PathMap.{is_empty}
+use Rattle.std.proofs.Common.{ap, sym, ◌∙◌, ◌||◌, not}
+use Rattle.ssa_model.specs.Path.{is_root}
+use Rattle.ssa_model.specs.PathMap.{paths, set_of, union, has_at_or_above, has_at_or_below}
+use Rattle.ssa_model.specs.Body.{points, restricted}
 use Rattle.ssa_model.specs.Table.{owned_by_others}
-use Rattle.ssa_typed.specs.Alike.{ItemsStand}
-use Rattle.ssa_merge.specs.GivenUp.{pruned_beside}
 use Rattle.ssa_merge.specs.Managers.{key_view}
 use Rattle.ssa_merge.specs.States.{state_view}
-use Rattle.ssa_merge.proofs.GivenUp.{pruned-beside, pruned-whole}
+use Rattle.ssa_merge.proofs.GivenUp.{all-stays, dropped-absent}
 use Rattle.ssa_merge.proofs.given_up.pruned.Goals as goal
 
 pub returns-then-is_empty : goal.returns-then-is_empty
 returns-then-is_empty c =
-    let none = ap is_empty (sym c.in_ok-left_out.ensures) ∙ sym c.is_empty.ensures ∙ c.if-is_empty.true in
-    c.in_ok-merged.ensures.merged
-    ∙ pruned-whole (state_view c.args.state.now) (key_view c.args.key.now) c.args.config.now none (subst ItemsStand c.in_ok-merged.ensures.merged c.in_ok-merged.ensures.stand)
+    all-stays (state_view c.args.state.now) (key_view c.args.key.now) c.args.config.now c.in_ok-merged.merged c.in_ok-absent.absent
+    c.in_ok-absent.ensures (sym c.is_empty.ensures ∙ c.if-is_empty.true) c.in_ok-merged.ensures c.points_keep_all.ensures
 
 pub returns : goal.returns
 returns c =
     let state = state_view c.args.state.now in
     let a = key_view c.args.key.now in
+    let others = c.in_ok-others.ensures ∙ (λ i. owned_by_others (c.entries.ensures.same i) a) in
+    let gone = c.in_ok-gone.ensures ∙ dropped-absent state a c.args.config.now c.in_ok-absent.absent c.in_ok-others.others c.in_ok-absent.ensures others in
     c.in_ok-body.ensures
-    ∙ (λ i. pruned_beside (c.in_ok-merged.ensures.merged i) (c.in_ok-left_out.ensures i) (owned_by_others state.table a) (c.requires.points i))
-    ∙ pruned-beside state a c.args.config.now
+    ∙ ap (λ s. restricted c.in_ok-merged.merged (λ p. is_root p || has_at_or_below s p)) c.in_ok-stay.ensures
+    ∙ (λ i. restricted (c.in_ok-merged.ensures i) (λ p. is_root p || has_at_or_below (union (set_of (paths (points (c.in_ok-merged.ensures i))) (λ q. not (has_at_or_above (gone i) q))) (union (others i) (c.requires.points i))) p))

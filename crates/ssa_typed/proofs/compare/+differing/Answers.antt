@@ -108,3 +108,7 @@ differing_below-returns t c =
     let other = order-below m c.children-2.result.now ss ss c.children-2.ensures.own refl c.in_ok-others.ensures in
     let none = heads-none _ _ (heads-are rs ss _ _ c.loop-order.i c.loop-order.j _ _ c.deref.ensures.value c.deref-in-loop-order.ensures.value c.order_at.ensures c.in_default.is) in
     past-all c.is_dict-in_dict.result rs ss n m _ _ _ c.is_dict-in_dict.ensures own other none.0 none.1 c.loop-order.invariant
+
+pub differing-returns-then-is_unchanged : goal.differing-returns-then-is_unchanged
+differing-returns-then-is_unchanged t c =
+    c.no_parts.ensures c.args.before.now c.args.after.now c.requires.before c.requires.after (c.is_unchanged.ensures c.if-is_unchanged.true)

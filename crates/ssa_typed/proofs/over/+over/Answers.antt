@@ -1,6 +1,6 @@
-use Rattle.std.proofs.Common.{◌<◌, ◌+◌, Some, None, length, sym, ap, subst, ◌∙◌, arith, rules}
+use Rattle.std.proofs.Common.{◌<◌, ◌+◌, ◌*◌, Some, None, length, get_or, sym, ap, subst, ◌∙◌, arith, rules}
 use Rattle.std.proofs.lemmas.List.{take_all}
-use Rattle.ssa_path.specs.Children.{child_at}
+use Rattle.ssa_path.specs.Children.{child_at, elements}
 use Rattle.ssa_path.specs.View.{element_view}
 use Rattle.ssa_typed.specs.Copies.{kept_below}
 use Rattle.ssa_typed.specs.Over.{with_new}
@@ -9,12 +9,13 @@ use Rattle.ssa_typed.proofs.Levels.{level-below}
 use Rattle.ssa_typed.proofs.Lookups.{tree-child}
 use Rattle.ssa_typed.proofs.OverNodes.{apart-over, leaf-over, record-over, dict-over, list-over}
 use Rattle.ssa_typed.proofs.Overlaying.{AreOverEach, alike-child, each-over, each-copied, child-at-index, other-child, children-over}
+use Rattle.ssa_typed.proofs.Pairs.{same-length, beside, alike-over}
 use Rattle.ssa_typed.proofs.Sizes.{smaller}
-use Rattle.ssa_typed.proofs.over.+over.Goals.{over_children-in-Some+in_ok-node-in-Some+in_ok-push_child-in-Some, over_children-in-None+in_ok-node-in-None+in_ok-push_child-in-None}
+use Rattle.ssa_typed.proofs.over.+over.Goals.{over_found-in-Some+in_ok-node-in-Some+in_ok-push_child-in-Some, over_found-in-None+in_ok-node-in-None+in_ok-push_child-in-None}
 use Rattle.ssa_typed.proofs.over.+over.Goals as goal
 
-pub over_children-over_node-requires : goal.over_children-over_node-requires
-over_children-over_node-requires t c =
+pub over_found-over_node-requires : goal.over_found-over_node-requires
+over_found-over_node-requires t c =
     let n = c.args.live.now in
     let m = c.args.config.now in
     let child = c.child-item.result in
@@ -23,11 +24,11 @@ over_children-over_node-requires t c =
     let own = ap (child_at e) (sym c.children-child-items.ensures.own) ∙ child-at-index c.children-child-items.result.now c.loop-child.child-index child lt c.child-item.is (c.children-child-items.ensures.apart c.requires.live) in
     let other = other-child m c.children.result.now c.in_ok-others.others.items c.deref.result.now e (Some c.in-Some.other.now) c.children.ensures.own c.deref.ensures.value c.in_ok-others.ensures c.in-Some.ensures in
     let part = smaller n e child.1 own in
-    let small : length (rows child.1) + length (rows child.1) + 1 < length (rows n) + length (rows n) = omega arith in
+    let small : 3 * length (rows child.1) + 2 < 3 * length (rows n) = omega arith in
     (search (rules, small), (tree-child n e child.1 c.requires.live own, (tree-child m e c.in-Some.other.now c.requires.config other, alike-child n m e child.1 c.in-Some.other.now c.requires.live c.requires.config own other c.requires.alike)))
 
-pub over_children-loop-child-preserved : goal.over_children-loop-child-preserved
-over_children-loop-child-preserved t c =
+pub over_found-loop-child-preserved : goal.over_found-loop-child-preserved
+over_found-loop-child-preserved t c =
     let n = c.args.live.now in
     let m = c.args.config.now in
     let child = c.child-item.result in
@@ -38,16 +39,16 @@ over_children-loop-child-preserved t c =
     let lt : i < length cs = omega arith in
     let own = ap (child_at e) (sym c.children-child-items.ensures.own) ∙ child-at-index cs i child lt c.child-item.is (c.children-child-items.ensures.apart c.requires.live) in
     elim c.match-find_in_order.branch [
-      | over_children-in-Some+in_ok-node-in-Some+in_ok-push_child-in-Some w ↦
+      | over_found-in-Some+in_ok-node-in-Some+in_ok-push_child-in-Some w ↦
           let found = other-child m c.children.result.now c.in_ok-others.others.items c.deref.result.now e (Some w.in-Some.other.now) c.children.ensures.own c.deref.ensures.value c.in_ok-others.ensures w.in-Some.ensures in
           rw w.made-is (each-over (below m) cs xs w.push_child.new.children.items i child w.in_ok-node-in-Some.node lt c.child-item.is w.in_ok-push_child-in-Some.ensures c.loop-child.invariant w.in-Some.other.now found w.in_ok-node-in-Some.ensures)
-      | over_children-in-None+in_ok-node-in-None+in_ok-push_child-in-None w ↦
+      | over_found-in-None+in_ok-node-in-None+in_ok-push_child-in-None w ↦
           let none = other-child m c.children.result.now c.in_ok-others.others.items c.deref.result.now e None c.children.ensures.own c.deref.ensures.value c.in_ok-others.ensures w.in-None.ensures in
           rw w.made-is (each-copied (below m) cs xs w.push_child-in-None.new.children.items i child w.in_ok-node-in-None.node lt c.child-item.is w.in_ok-push_child-in-None.ensures c.loop-child.invariant none (tree-child n e child.1 c.requires.live own) w.in_ok-node-in-None.ensures)
     ]
 
-pub over_children-returns : goal.over_children-returns
-over_children-returns t c =
+pub over_found-returns : goal.over_found-returns
+over_found-returns t c =
     let n = c.args.live.now in
     let m = c.args.config.now in
     let made = c.loop-child.made.items in
@@ -81,3 +82,46 @@ over_node-returns-in_ok-sort_children-in-Dict t c =
 pub over_node-returns-in_ok-over_children-in-List : goal.over_node-returns-in_ok-over_children-in-List
 over_node-returns-in_ok-over_children-in-List t c =
     list-over c.args.live.now c.args.config.now c.requires.live c.requires.config c.requires.alike c.in_ok-over_children-in-List.field-0 c.in-List.field-0 c.in-List.is c.in_ok-over_children-in-List.ensures
+
+pub over_alike-bounds-others-i : goal.over_alike-bounds-others-i
+over_alike-bounds-others-i t c =
+    let long = same-length c.children-own.result.now c.children-others.result.now (ap elements c.children-own.ensures.own ∙ c.requires.same ∙ ap elements (sym c.children-others.ensures.own)) in
+    omega arith
+
+pub over_alike-over_node-requires : goal.over_alike-over_node-requires
+over_alike-over_node-requires t c =
+    let n = c.args.live.now in
+    let m = c.args.config.now in
+    let child = c.index-own-i.result in
+    let e = element_view child.0 in
+    let cs = c.children-own.result.now in
+    let ds = c.children-others.result.now in
+    let i = c.loop-i.i in
+    let d = get_or ds i c.index-others-i.result in
+    let same = ap elements c.children-own.ensures.own ∙ c.requires.same ∙ ap elements (sym c.children-others.ensures.own) in
+    let own = ap (child_at e) (sym c.children-own.ensures.own) ∙ child-at-index cs i child c.loop-i-test.true c.index-own-i.is (c.children-own.ensures.apart c.requires.live) in
+    let other = beside m cs ds i child c.index-others-i.result c.children-others.ensures.own (c.children-others.ensures.apart c.requires.config) same c.loop-i-test.true c.index-own-i.is c.index-others-i.is in
+    let part = smaller n e child.1 own in
+    let small : 3 * length (rows child.1) + 2 < 3 * length (rows n) = omega arith in
+    (search (rules, small), (tree-child n e child.1 c.requires.live own, (tree-child m e d.1 c.requires.config other, alike-child n m e child.1 d.1 c.requires.live c.requires.config own other c.requires.alike)))
+
+pub over_alike-loop-i-preserved : goal.over_alike-loop-i-preserved
+over_alike-loop-i-preserved t c =
+    let m = c.args.config.now in
+    let child = c.index-own-i.result in
+    let e = element_view child.0 in
+    let cs = c.children-own.result.now in
+    let ds = c.children-others.result.now in
+    let i = c.loop-i.i in
+    let d = get_or ds i c.index-others-i.result in
+    let same = ap elements c.children-own.ensures.own ∙ c.requires.same ∙ ap elements (sym c.children-others.ensures.own) in
+    let other = beside m cs ds i child c.index-others-i.result c.children-others.ensures.own (c.children-others.ensures.apart c.requires.config) same c.loop-i-test.true c.index-own-i.is c.index-others-i.is in
+    each-over (below m) cs c.loop-i.made.items c.push_child.new.children.items i child c.in_ok-node.node c.loop-i-test.true c.index-own-i.is c.in_ok-push_child.ensures c.loop-i.invariant d.1 other c.in_ok-node.ensures
+
+pub over_alike-returns : goal.over_alike-returns
+over_alike-returns t c =
+    let n = c.args.live.now in
+    let m = c.args.config.now in
+    let made = c.loop-i.made.items in
+    let each = subst (λ l. AreOverEach (below m) l made) (take_all c.loop-i.i c.children-own.result.now c.loop-i-test.false ∙ c.children-own.ensures.own) c.loop-i.invariant in
+    alike-over n m made each ((level-below m).trees c.requires.config) c.requires.same

@@ -1,0 +1,10 @@
+-- What a manager owns and its configuration leaves out.
+use Rattle.std.specs.Prelude.{not}
+use Rattle.ssa_model.specs.PathMap.{PathSet, has, paths, set_of}
+use Rattle.ssa_model.specs.Body as model
+use Rattle.ssa_model.specs.Table.{ManagerKey, owned_by}
+use Rattle.ssa_model.specs.Operations.{State}
+
+-- the paths of the manager's at which the configuration has nothing
+abbrev pub absent : State → ManagerKey → model.Body → PathSet
+absent state a config = set_of (paths (owned_by state.table a)) (λ g. not (has config g))

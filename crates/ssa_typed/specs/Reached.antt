@@ -1,0 +1,13 @@
+-- Each place of a body but its root is at or above one of its points.
+use Rattle.std.specs.Prelude.{◌≡◌, true, ◌||◌}
+use Rattle.ssa_model.specs.Path.{Path, is_root}
+use Rattle.ssa_model.specs.PathMap.{PathSet, has, has_at_or_below}
+use Rattle.ssa_model.specs.Body.{Body, points, restricted}
+
+-- the points tell all the places
+abbrev pub PointsTellPlaces : Body → Type 0
+PointsTellPlaces b = (p : Path) → has b p ≡ (is_root p || has_at_or_below (points b) p)
+
+-- where all the points stay, all of the body stays
+abbrev pub PointsKeepAll : Body → Type 0
+PointsKeepAll b = (stay : PathSet) → ((p : Path) → has (points b) p ≡ true → has stay p ≡ true) → restricted b (λ p. is_root p || has_at_or_below stay p) ≡ b
