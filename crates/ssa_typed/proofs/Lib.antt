@@ -21,6 +21,7 @@ pub mod OverNodes
 pub mod Overlaying
 pub mod References
 pub mod Restricting
+pub mod Rooted
 pub mod SameMembers
 pub mod ShapesFit
 pub mod Showing
