@@ -12,8 +12,10 @@ use Rattle.ssa_model.specs.Fitting.{of_kind, content_fits}
 use Rattle.ssa_model.specs.Lawful.{is_some_record, has_metadata}
 use Rattle.ssa_model.specs.Valid.{IsRooted, metadata_path}
 use Rattle.ssa_model.proofs.PathMaps.{has-paths, has-points}
+use Rattle.ssa_model.proofs.Fitting.{some_there}
 use Rattle.ssa_model.proofs.Pruned.{from_one}
 use Rattle.ssa_model.proofs.Tables.{apart_by, yes_no}
+use Rattle.ssa_model.proofs.ValidStates.{leaf_place}
 use Rattle.std.specs.Cmp.{first_so}
 use Rattle.ssa_json.proofs.Equality.{same_text-itself}
 use Rattle.ssa_path.proofs.Orders.{same_element-true, same_element-itself}
@@ -132,17 +134,9 @@ below-row fs (object (member n v ms)) p fits some =
 
 -- ---- the body
 
-some_value : {A : Type 0} (o : Option A) → is_some o ≡ true → (x : A) × (o ≡ Some x)
-some_value None h = absurd (true≢false (sym h))
-some_value (Some x) h = (x, refl)
-
 some_record : (o : Option Kind) → is_some_record o ≡ true → (fs : Fields) × (o ≡ Some (record_of fs))
 some_record (Some (record_of fs)) h = (fs, refl)
 some_record _ h = absurd (true≢false (sym h))
-
-record_content : (fs : Fields) (c : Content) → content_fits (of_kind (record_of fs)) c ≡ true → is_leaf (Some c) ≡ false
-record_content fs record_branch h = refl
-record_content fs _ h = absurd (true≢false (sym h))
 
 module _ (fs : Fields) (ms : Members) (n : Node) (lawful : has_metadata (record_of fs) ≡ true) (fits : FieldsFit fs ms) (kept : has_empty_metadata ms ≡ false) (made : IsTreeOf (record_of fs) (object ms) n) where
   abbrev body : Body
@@ -162,7 +156,7 @@ module _ (fs : Fields) (ms : Members) (n : Node) (lawful : has_metadata (record_
       let at = (body-fits (record_of fs) (object ms) n fits made).fits metadata_path c is in
       let there = place-push [] (of_kind (record_of fs)) (field (codes "metadata")) (of_kind (record_of fs)) (of_kind (record_of own.0)) refl (ap (option_map of_kind) own.1) in
       let place : at.place ≡ of_kind (record_of own.0) = some-same at.place (of_kind (record_of own.0)) (sym at.there ∙ there) in
-      ap is_leaf is ∙ record_content own.0 c (ap (λ q. content_fits q c) (sym place) ∙ at.fits)
+      ap is_leaf is ∙ leaf_place (of_kind (record_of own.0)) c (ap (λ q. content_fits q c) (sym place) ∙ at.fits)
 
   -- the body has what the rows of the members have
   row_there : (p : Path) (c : Content) → IsRow (p, c) (field_places fs ms []) → get body p ≡ Some c
@@ -175,7 +169,7 @@ module _ (fs : Fields) (ms : Members) (n : Node) (lawful : has_metadata (record_
   metadata_member : (c : Content) → get body metadata_path ≡ Some c → (v : Json) × (member_of (codes "metadata") ms ≡ Some v)
   metadata_member c is =
       let row = row-of (rows n) metadata_path c (sym (get-body n metadata_path) ∙ is) in
-      some_value (member_of (codes "metadata") ms) (named-row fs ms (codes "metadata") [] c (metadata_row c (subst (IsRow (metadata_path, c)) rows_are row)))
+      some_there (member_of (codes "metadata") ms) (named-row fs ms (codes "metadata") [] c (metadata_row c (subst (IsRow (metadata_path, c)) rows_are row)))
 
   member_fits : (v : Json) → member_of (codes "metadata") ms ≡ Some v → Fits (record_of own.0) v
   member_fits v found = let fit = found-fits fs ms (codes "metadata") v fits found in subst (λ k. Fits k v) (known-is (codes "metadata") fs fit.0 (record_of own.0) fit.1.0 own.1) fit.1.1
@@ -193,7 +187,7 @@ module _ (fs : Fields) (ms : Members) (n : Node) (lawful : has_metadata (record_
     root = ap is_leaf root_is;
     metadata = apart_by (has (points body) metadata_path) (λ t.
         let there = first_so (has body metadata_path) (is_point body metadata_path) (sym (has-points body metadata_path) ∙ t) in
-        let c = some_value (get body metadata_path) there in
+        let c = some_there (get body metadata_path) there in
         let none : is_point body metadata_path ≡ false = λ i. no_leaf c.0 c.1 i || (is_dict (root_is i) || not (something_below c.0 c.1 i)) in
         yes_no (has (points body) metadata_path) t (has-points body metadata_path ∙ (λ i. there i && none i)));
   }
