@@ -1,4 +1,4 @@
-pub mod Fits
+pub mod ValidTimelines
 pub mod Histories
 pub mod Members
 pub mod Planned

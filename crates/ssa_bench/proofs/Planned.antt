@@ -1,19 +1,15 @@
 -- The answer to a command, from what was planned.
-use Rattle.std.proofs.Common.{◌≡◌, ℕ, ◌<◌, arith, Bool, true, false, not, ◌||◌, nat_lt, length, refl, sym, ap, subst, ◌∙◌}
+use Rattle.std.proofs.Common.{◌≡◌, ℕ, ◌<◌, arith, Bool, true, false, not, length, refl, sym, ap, subst, ◌∙◌}
 use Rattle.std.proofs.lemmas.Bool.Decides.{nat_tests}
 use Rattle.std.specs.Prelude.{Result, Ok, Err, if◌then◌else◌, nat_le, codes}
 use Rattle.ssa_model.specs.Json.{Text, Json}
-use Rattle.ssa_model.specs.Kind.{Kind}
-use Rattle.ssa_model.specs.PathMap.{size, union, minus}
-use Rattle.ssa_model.specs.Body.{Body, points, added, modified, removed}
-use Rattle.ssa_model.specs.Fitting.{IsBodyOf}
-use Rattle.ssa_model.specs.Table.{ManagerKey, owned_by, seat}
-use Rattle.ssa_model.specs.Operations.{State, Refusal, conflict, too_many_paths, too_many_managers, is_none, if_seated, clashes, apply, update, strip, pruned}
+use Rattle.ssa_model.specs.Body.{Body}
+use Rattle.ssa_model.specs.Operations.{State, Refusal, clashes, strip}
 use Rattle.ssa_model.specs.History.{Bench, appended, is_manager_name, past_len, present, with_timeline}
 use Rattle.ssa_model.specs.History as history
 use Rattle.ssa_model.specs.Answers as model
 use Rattle.ssa_model.specs.Answers.{Answer, fault, refused, history_full, manager_name, comparison, accept, accept_or_refuse, command_body, with_body}
-use Rattle.ssa_model.proofs.Pruned.{pruned_fits}
+use Rattle.ssa_model.specs.Valid.{IsValidState}
 use Rattle.ssa_merge.specs.Plans.{IsPlan, IsPlanned}
 use Rattle.ssa_merge.specs.States.{state_view}
 use Rattle.ssa_merge.specs.declared.plan.Plan.{Plan}
@@ -80,24 +76,24 @@ module _ (bench : Bench) (who : Text) (v : Json) (go : Body → Answer) where
 
 module _ (bench : Bench) (word : Text) (label : Label) where
   -- a plan that is kept to is the answer
-  planned : (plan : Plan) (p : Prepared) (after : State) → p.step.label ≡ label → p.step.state ≡ plan.target → changed_view p.changed ≡ changed_by plan → IsPlan (present bench.timeline) plan after → IsBodyOf bench.kind plan.target.body
+  planned : (plan : Plan) (p : Prepared) (after : State) → p.step.label ≡ label → p.step.state ≡ plan.target → changed_view p.changed ≡ changed_by plan → IsPlan (present bench.timeline) plan after → IsValidState bench.kind (state_view plan.target)
       → IsAccepted bench p (accept bench word (label_view label) after) word
-  planned plan p after l s c is fits =
+  planned plan p after l s c is valid =
       let target : state_view p.step.state ≡ after = ap state_view s ∙ is.target_is in
       let compared : comparison (present bench.timeline) after ≡ changed_by plan =
       λ i. record { added = sym is.comparison_is.added_are i; modified = sym is.comparison_is.modified_are i; removed = sym is.comparison_is.removed_are i; managers = length (sym is.target_is i).table } in
-      let of_kind : states.State → Type 0 = λ t. IsBodyOf bench.kind t.body in
+      let is_valid : states.State → Type 0 = λ t. IsValidState bench.kind (state_view t) in
       record {
         reply = ap (model.changed word) (compared ∙ sym c);
         next = λ i. with_timeline bench (appended bench.timeline (label_view (sym l i)) (sym target i));
-        fits = subst of_kind (sym s) fits;
+        valid = subst is_valid (sym s) valid;
       }
 
   pub accepted : (plan : Plan) (p : Prepared) (given : Result State Refusal) → p.step.label ≡ label → p.step.state ≡ plan.target → changed_view p.changed ≡ changed_by plan
-      → IsPlanned (present bench.timeline) (Ok plan) given → IsBodyOf bench.kind plan.target.body → IsAccepted bench p (accept_or_refuse bench word (label_view label) given) word
-  accepted plan p given l s c is fits =
+      → IsPlanned (present bench.timeline) (Ok plan) given → IsValidState bench.kind (state_view plan.target) → IsAccepted bench p (accept_or_refuse bench word (label_view label) given) word
+  accepted plan p given l s c is valid =
       let tells : Answer → Type 0 = λ a. IsAccepted bench p a word in
-      subst tells (ap (accept_or_refuse bench word (label_view label)) (sym is.1)) (planned plan p is.0 l s c is.2 fits)
+      subst tells (ap (accept_or_refuse bench word (label_view label)) (sym is.1)) (planned plan p is.0 l s c is.2 valid)
 
   -- a refusal that is told is the answer
   pub refused-planned : (r : plan.Refusal) (given : Result State Refusal) → IsPlanned (present bench.timeline) (Err r) given → IsPrepared bench (Err (refusal_fault r)) (accept_or_refuse bench word (label_view label) given) word
@@ -122,10 +118,10 @@ not_full : (most n : ℕ) → n < most → nat_le most n ≡ false
 not_full most n h = grind (arith, nat_tests)
 
 pub stripped-accepted : (bench : Bench) (plan : Plan) (p : Prepared) (past : ℕ) → past ≡ past_len bench.timeline → past < 1000 → p.step.label ≡ Strip → p.step.state ≡ plan.target → changed_view p.changed ≡ changed_by plan
-    → IsPlan (present bench.timeline) plan (strip (present bench.timeline)) → IsBodyOf bench.kind plan.target.body
+    → IsPlan (present bench.timeline) plan (strip (present bench.timeline)) → IsValidState bench.kind (state_view plan.target)
     → IsAccepted bench p (if nat_le 1000 (past_len bench.timeline) then (fault history_full, bench) else accept bench (codes "strip") history.stripped (strip (present bench.timeline))) (codes "strip")
-stripped-accepted bench plan p past count few l s c is fits =
+stripped-accepted bench plan p past count few l s c is valid =
     let answer = accept bench (codes "strip") history.stripped (strip (present bench.timeline)) in
     let tells : Answer → Type 0 = λ a. IsAccepted bench p a (codes "strip") in
     subst tells (ap (λ b. if b then (fault history_full, bench) else answer) (sym (ap (nat_le 1000) (sym count) ∙ not_full 1000 past few)))
-    (planned bench (codes "strip") Strip plan p (strip (present bench.timeline)) l s c is fits)
+    (planned bench (codes "strip") Strip plan p (strip (present bench.timeline)) l s c is valid)

@@ -3,12 +3,12 @@ use Rattle.std.specs.Prelude.{◌≡◌, List, Option, Result, Ok, Err, if◌the
 use Rattle.ssa_model.specs.Json.{Text, Json}
 use Rattle.ssa_model.specs.Kind.{Kind}
 use Rattle.ssa_model.specs.Body.{Body}
-use Rattle.ssa_model.specs.Fitting.{IsBodyOf}
 use Rattle.ssa_model.specs.History as model
 use Rattle.ssa_model.specs.History.{appended, is_manager_name, past_len, present, with_timeline}
 use Rattle.ssa_model.specs.Operations.{update}
 use Rattle.ssa_model.specs.Answers as answers
 use Rattle.ssa_model.specs.Answers.{Answer}
+use Rattle.ssa_model.specs.Valid.{IsValidState}
 use Rattle.ssa_merge.specs.States.{state_view, updater}
 use Rattle.ssa_merge.specs.declared.plan.Plan.{Plan}
 use Rattle.ssa_bench.specs.Faults.{IsFault, IsGiven}
@@ -37,9 +37,9 @@ Begins kind (Err f) given = IsGiven {A = model.Bench} (Err f) given
 
 -- ---- commands that make a state
 
--- the new state's body is of the bench's kind
+-- the new state is valid
 abbrev pub CanCommit : model.Bench → Prepared → Type 0
-CanCommit bench p = IsBodyOf bench.kind p.step.state.body
+CanCommit bench p = IsValidState bench.kind (state_view p.step.state)
 
 -- the bench with the prepared state behind its present one
 abbrev pub next_bench : model.Bench → Prepared → model.Bench
@@ -70,7 +70,7 @@ pub record IsRefused (bench : model.Bench) (f : Fault) (given : Answer) : Type 0
 pub record IsAccepted (bench : model.Bench) (p : Prepared) (given : Answer) (word : Text) : Type 0 where
   pub reply : given.0 ≡ answers.changed word (changed_view p.changed)
   pub next : given.1 ≡ next_bench bench p
-  pub fits : CanCommit bench p
+  pub valid : CanCommit bench p
 
 -- What is prepared is the given answer; of want of memory nothing is said.
 abbrev pub IsPrepared : model.Bench → Result Prepared Fault → Answer → Text → Type 0

@@ -1,6 +1,6 @@
 pub mod Identities
 pub mod Histories
-pub mod Fits
+pub mod ValidTimelines
 pub mod BenchView
 pub mod Commands
 pub mod Faults

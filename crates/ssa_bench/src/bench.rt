@@ -1,14 +1,14 @@
 //! The bench: an object, its managers, and the history of commands on it.
-ghost use Rattle.std.specs.Prelude.{◌≡◌, ◌<◌, ◌^◌, ◌||◌, nat_le, IfOk, OnOk, OnErr, false, codes, string_bytes};
+ghost use Rattle.std.specs.Prelude.{◌≡◌, ◌<◌, ◌^◌, ◌||◌, nat_le, IfOk, OnOk, OnErr, false, true, codes, string_bytes};
 ghost use Rattle.ssa_model.specs.Answers.{answer, apply, update, strip, undo, redo, apply_answer, bench_of, body_or_fault, command_body};
 ghost use Rattle.ssa_model.specs.Entries.{object_of_state};
-ghost use Rattle.ssa_model.specs.Fitting.{IsBodyOf};
-ghost use Rattle.ssa_model.specs.History.{past_len, future_len, present};
+ghost use Rattle.ssa_model.specs.History.{is_manager_name, past_len, future_len, present};
 ghost use Rattle.ssa_json.specs.View.{view};
 ghost use Rattle.ssa_bench.specs.Benches.{lone_bench, next_bench, Begins, CanCommit, IsExecuted, IsMade, IsMoved, IsPrepared, tested_body, update_answer};
 ghost use Rattle.ssa_bench.specs.Faults.{IsGiven};
 ghost use Rattle.ssa_bench.specs.Identities.{body_value_of};
 ghost use Rattle.ssa_bench.specs.Commands.{command_view, command_word};
+ghost use Rattle.ssa_bench.specs.ValidTimelines.{AllValid, IsValidBody};
 
 use crate::body_value::body_value;
 use crate::command::Command;
@@ -49,17 +49,17 @@ impl Model for Bench {
 
     ghost coded = { coded_bench };
 
-    ghost use Rattle.ssa_bench.specs.BenchView.{bench_view, IsFitting};
+    ghost use Rattle.ssa_bench.specs.BenchView.{bench_view, IsValid};
 
     ghost view = { bench_view };
 
-    ghost invariant = { IsFitting };
+    ghost invariant = { IsValid };
 }
 
 // The body of an object without its identity, or its first fault.
 fn body_or_fault(alloc: Global, schema: &Schema, object: &Json) -> Result<Body, Fault>
     ensures given { IsGiven result (body_or_fault schema.now.1 (body_value_of (view object.now))) }
-    ensures fits { IfOk result (λ b. IsBodyOf schema.now.1 b) }
+    ensures valid { IfOk result (λ b. IsValidBody schema.now.1 b) }
 {
     let value = body_value(alloc, object)?;
     match Body::from_json(alloc, schema, value) {
@@ -73,7 +73,7 @@ fn body_or_fault(alloc: Global, schema: &Schema, object: &Json) -> Result<Body, 
 // The identity and the body of an object, or its first fault.
 fn named_body(alloc: Global, schema: &Schema, object: &Json) -> Result<(Identity, Body), Fault>
     ensures begins { Begins schema.now.1 result (bench_of schema.now.1 (view object.now)) }
-    ensures fits { IfOk result (λ n. IsBodyOf schema.now.1 n.1) }
+    ensures valid { IfOk result (λ n. IsValidBody schema.now.1 n.1) }
 {
     if !object.is_object() {
         return Err(Fault::Body(BodyFault::WrongType(Vec::new(alloc))));
@@ -93,7 +93,7 @@ fn named_body(alloc: Global, schema: &Schema, object: &Json) -> Result<(Identity
 impl Bench {
     // The bench of one state without managers.
     fn with_lone_state(alloc: Global, schema: Schema, identity: Identity, body: Body) -> Bench
-        requires { IsBodyOf schema.1 body }
+        requires { IsValidBody schema.1 body }
         ensures { result ≡ lone_bench schema.1 identity body }
     {
         let first = State {
@@ -123,7 +123,7 @@ impl Bench {
     // The body of a command's object, or its first fault.
     fn command_body(&self, alloc: Global, object: &Json) -> Result<Body, Fault>
         ensures given { IsGiven result (command_body self.now (view object.now)) }
-        ensures fits { IfOk result (λ b. IsBodyOf self.now.kind b) }
+        ensures valid { IfOk result (λ b. IsValidBody self.now.kind b) }
     {
         if !object.is_object() {
             return Err(Fault::Body(BodyFault::WrongType(Vec::new(alloc))));
@@ -140,7 +140,8 @@ impl Bench {
     // The body of an Apply's or an Update's object, or the first fault of the command.
     fn tested_body(&self, alloc: Global, who: &str, object: &Json) -> Result<Body, Fault>
         ensures given { IsGiven result (tested_body self.now who.now (view object.now)) }
-        ensures fits { IfOk result (λ b. IsBodyOf self.now.kind b) }
+        ensures valid { IfOk result (λ b. IsValidBody self.now.kind b) }
+        ensures named { IfOk result (λ b. is_manager_name who.now ≡ true) }
     {
         if self.timeline.past_len() >= MOST_PAST {
             return Err(Fault::HistoryFull);
@@ -160,7 +161,8 @@ impl Bench {
         at: Moment,
         config: Body,
     ) -> Result<Prepared, Fault>
-        requires { IsBodyOf self.now.kind config }
+        requires valid { IsValidBody self.now.kind config }
+        requires named { is_manager_name (string_bytes who) ≡ true }
         ensures { IsPrepared self.now result (apply_answer self.now (string_bytes who) force at config) (codes "apply") }
     {
         let now = self.timeline.present();
@@ -195,7 +197,8 @@ impl Bench {
         at: Moment,
         body: Body,
     ) -> Result<Prepared, Fault>
-        requires { IsBodyOf self.now.kind body }
+        requires valid { IsValidBody self.now.kind body }
+        requires named { is_manager_name (string_bytes who) ≡ true }
         ensures { IsPrepared self.now result (update_answer self.now (string_bytes who) at body) (codes "update") }
     {
         let now = self.timeline.present();
@@ -305,6 +308,14 @@ impl Bench {
         };
         self.timeline.redo();
         Ok(counts)
+    }
+
+    /// Each state of the history is valid: its body is one of the schema's kind, and its table is one
+    /// of the body.
+    pub fn states_are_valid(&self)
+        ensures { AllValid self.now.kind self.now.timeline }
+    {
+        let _ = &self.timeline;
     }
 
     /// How many commands can be undone.

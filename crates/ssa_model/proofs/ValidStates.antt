@@ -1,6 +1,6 @@
 -- Each operation that a valid state takes leads to a valid state.
 use Rattle.std.proofs.Common.{◌≡◌, ◌≤◌, [], ◌∷◌, Bool, true, false, not, ◌&&◌, ◌||◌, refl, sym, ap, subst, ◌∙◌, true≢false}
-use Rattle.std.specs.Prelude.{Option, Some, None, is_some, if◌then◌else◌, codes}
+use Rattle.std.specs.Prelude.{Option, Some, if◌then◌else◌, codes}
 use Rattle.std.specs.List.{list_any}
 use Rattle.std.specs.Cmp.{first_so, second_so}
 use Rattle.ssa_model.specs.Path.{Path, field, same_element, is_root, under}
@@ -15,18 +15,18 @@ use Rattle.ssa_model.specs.Valid.{OwnedOwnable, OwnsOwnable, AllEntries, IsRoote
 use Rattle.ssa_model.proofs.Accepted.{applied_is, updated_is}
 use Rattle.ssa_model.proofs.PathMaps.{has-set_of, has-union, has-points, has-paths, is_one_of}
 use Rattle.ssa_model.proofs.Tables.{apart_by, first_false, second_false, or_true, true_or, yes_no, either, ownable-has, leaf-point, leaf-has, has-over, has-restricted, kept-stays, spared, apply_keeps, update_keeps, strip_keeps}
-use Rattle.ssa_model.proofs.Fitting.{some_place, same_element-true, over_fits}
+use Rattle.ssa_model.proofs.Fitting.{some_place, some_there, same_element-true, over_fits}
 use Rattle.ssa_model.proofs.Pruned.{some_one, from_one, pruned_fits}
 
 -- ---- contents that fit one place
 
-abbrev is_leaf_place : Place → Bool
+abbrev pub is_leaf_place : Place → Bool
 is_leaf_place (of_kind (scalar_kind k)) = true
 is_leaf_place (of_kind (atomic_of s)) = true
 is_leaf_place (value_of s) = true
 is_leaf_place _ = false
 
-leaf_place : (q : Place) (c : Content) → content_fits q c ≡ true → is_leaf (Some c) ≡ is_leaf_place q
+pub leaf_place : (q : Place) (c : Content) → content_fits q c ≡ true → is_leaf (Some c) ≡ is_leaf_place q
 leaf_place (of_kind (scalar_kind k)) (leaf s) h = refl
 leaf_place (of_kind (atomic_of s)) (atom v) h = refl
 leaf_place (of_kind (record_of g)) record_branch h = refl
@@ -52,17 +52,13 @@ dict_place (item_of ns g) record_branch h = refl
 dict_place (value_of s) (leaf t) h = refl
 dict_place _ _ h = absurd (true≢false (sym h))
 
-some_content : (o : Option Content) → is_some o ≡ true → (c : Content) × (o ≡ Some c)
-some_content None h = absurd (true≢false (sym h))
-some_content (Some c) h = (c, refl)
-
 -- a test of contents that the place decides answers alike in two bodies of a kind
 module _ (test : Option Content → Bool) (of_place : Place → Bool) (decided : (q : Place) (c : Content) → content_fits q c ≡ true → test (Some c) ≡ of_place q)
     (kind : Kind) (b c : Body) (g : IsBodyOf kind b) (h : IsBodyOf kind c) (p : Path) where
   same_test : has b p ≡ true → has c p ≡ true → test (get b p) ≡ test (get c p)
   same_test here there =
-      let x = some_content (get b p) here in
-      let y = some_content (get c p) there in
+      let x = some_there (get b p) here in
+      let y = some_there (get c p) there in
       let s = g.fits p x.0 x.1 in
       let t = h.fits p y.0 y.1 in
       ap test x.1 ∙ decided s.place x.0 s.fits ∙ ap of_place (some_place s.place t.place (sym s.there ∙ t.there)) ∙ sym (decided t.place y.0 t.fits) ∙ ap test (sym y.1)

@@ -1,6 +1,6 @@
 -- An empty `metadata`.
 use Rattle.std.proofs.Common.{◌≡◌, List, [], ◌∷◌, Bool, true, false, ◌&&◌, cond, Less, Equal, Greater, String, Global, string_bytes, string_cmp, nat_cmp, refl, sym, ap, ◌∙◌, true≢false}
-use Rattle.std.specs.Prelude.{Some, if◌then◌else◌, codes}
+use Rattle.std.specs.Prelude.{None, Some, if◌then◌else◌, codes}
 use Rattle.std.specs.declared.cmp.Ordering.{Ordering}
 use Rattle.std.specs.List.{AllByRecursion}
 use Rattle.std.specs.List.Sorted.{IsStrictlySortedBy}
@@ -52,6 +52,26 @@ removed-step e es false is h more =
 pub removed : (es : List Found) → has_empty_metadata (members_view es) ≡ true → members_view (remove_entry at_metadata es) ≡ without_empty_metadata (members_view es)
 removed [] h = absurd (true≢false (sym h))
 removed (e ∷ es) h = removed-step e es (at_metadata e.0) refl h (removed es)
+
+-- ---- gone
+
+-- of names that rise, none is `metadata` after that one
+no_further : (e : Found) (es : List Found) → AllByRecursion (λ y. string_cmp e.0 y ≡ Less) (keys_of es) → at_metadata e.0 ≡ true → member_of (codes "metadata") (members_view es) ≡ None
+no_further e [] above is = refl
+no_further e (f ∷ es) above is = ap (λ b. if b then Some (view f.1) else member_of (codes "metadata") (members_view es)) other ∙ no_further e es above.1 is
+  where
+    other : same_text (codes "metadata") (string_bytes f.0) ≡ false
+    other = ap (λ n. same_text n (string_bytes f.0)) (same_text-true (codes "metadata") (string_bytes e.0) is) ∙ ap is_eq above.0
+
+gone-step : (e : Found) (es : List Found) (b : Bool) → at_metadata e.0 ≡ b → AllByRecursion (λ y. string_cmp e.0 y ≡ Less) (keys_of es) → has_empty_metadata (members_view (remove_entry at_metadata es)) ≡ false
+    → has_empty_metadata (members_view (cond b es (e ∷ remove_entry at_metadata es))) ≡ false
+gone-step e es true is above more = ap is_empty_member (no_further e es above is)
+gone-step e es false is above more = ap (λ b. is_empty_member (if b then Some (view e.1) else member_of (codes "metadata") (members_view (remove_entry at_metadata es)))) is ∙ more
+
+pub gone : (es : List Found) → IsStrictlySortedBy string_cmp (keys_of es) → has_empty_metadata (members_view (remove_entry at_metadata es)) ≡ false
+unfolding IsStrictlySortedBy
+gone [] sorted = refl
+gone (e ∷ es) sorted = gone-step e es (at_metadata e.0) refl sorted.0 (gone es sorted.1)
 
 -- ---- not there
 

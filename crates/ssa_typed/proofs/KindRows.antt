@@ -17,7 +17,7 @@ use Rattle.ssa_typed.specs.Flats.{member_places, Fits, FieldsFit, EntriesFit, Ke
 use Rattle.ssa_typed.proofs.Fitting.{ValuesFitAfter, ItemsFitAfter, member-first, member-rest, entry-first, entry-rest, value-is_of, value-rest, item-parts, item-rest}
 use Rattle.ssa_typed.proofs.ItemKeys.{keys-fit, key-member}
 use Rattle.ssa_typed.proofs.Laws.{none≢some, some-same}
-use Rattle.ssa_typed.proofs.TreeRows.{IsRow, row-left, row-right}
+use Rattle.ssa_typed.proofs.TreeRows.{IsRow, all-append, row-left, row-right}
 use Rattle.ssa_typed.proofs.Trees.{known-places}
 
 -- ---- the key that a path ends with
@@ -37,26 +37,27 @@ last_keys-push [] e = refl
 last_keys-push (f ∷ []) e = refl
 last_keys-push (f ∷ g ∷ p) e = last_keys-push (g ∷ p) e
 
--- ---- the row of a key field
+-- ---- the rows of a member
 
-key-row-if : (b : Bool) (fs : Fields) (m : Text) (v : Json) (ms : Members) (p : Path) (n : Text) (s : Scalar) (k : ScalarKind) → same_text n m ≡ b → kind_of n fs ≡ Some (scalar_kind k)
-    → (member_of n ms ≡ Some (scalar s) → IsRow (p ++ field n ∷ [], leaf s) (field_places fs ms p))
-    → (if b then Some v else member_of n ms) ≡ Some (scalar s) → IsRow (p ++ field n ∷ [], leaf s) (member_places fs m v (p ++ field m ∷ []) ++ field_places fs ms p)
-key-row-if true fs m v ms p n s k same is later found =
+member-row-if : (b : Bool) (fs : Fields) (m : Text) (w : Json) (ms : Members) (p : Path) (n : Text) (v : Json) (k : Kind) (r : Row) → same_text n m ≡ b → kind_of n fs ≡ Some k → IsRow r (places k v (p ++ field n ∷ []))
+    → (member_of n ms ≡ Some v → IsRow r (field_places fs ms p))
+    → (if b then Some w else member_of n ms) ≡ Some v → IsRow r (member_places fs m w (p ++ field m ∷ []) ++ field_places fs ms p)
+member-row-if true fs m w ms p n v k r same is row later found =
     let named = same_text-true n m same in
-    let own = some-same v (scalar s) found in
-    let one : member_places fs m v (p ++ field m ∷ []) ≡ (p ++ field n ∷ [], leaf s) ∷ [] =
-    (λ i. member_places fs (sym named i) (own i) (p ++ field (sym named i) ∷ [])) ∙ known-places n fs (scalar s) (scalar_kind k) (p ++ field n ∷ []) is in
-    row-left _ (member_places fs m v (p ++ field m ∷ [])) (field_places fs ms p) (subst (IsRow (p ++ field n ∷ [], leaf s)) (sym one) (inl refl))
-key-row-if false fs m v ms p n s k same is later found = row-right _ (member_places fs m v (p ++ field m ∷ [])) (field_places fs ms p) (later found)
+    let own = some-same w v found in
+    let one : member_places fs m w (p ++ field m ∷ []) ≡ places k v (p ++ field n ∷ []) =
+    (λ i. member_places fs (sym named i) (own i) (p ++ field (sym named i) ∷ [])) ∙ known-places n fs v k (p ++ field n ∷ []) is in
+    row-left r (member_places fs m w (p ++ field m ∷ [])) (field_places fs ms p) (subst (IsRow r) (sym one) row)
+member-row-if false fs m w ms p n v k r same is row later found = row-right r (member_places fs m w (p ++ field m ∷ [])) (field_places fs ms p) (later found)
 
-key-row : (fs : Fields) (ms : Members) (p : Path) (n : Text) (s : Scalar) (k : ScalarKind) → kind_of n fs ≡ Some (scalar_kind k) → member_of n ms ≡ Some (scalar s) → IsRow (p ++ field n ∷ [], leaf s) (field_places fs ms p)
-key-row fs no_members p n s k is found = absurd (none≢some found)
-key-row fs (member m v ms) p n s k is found = key-row-if (same_text n m) fs m v ms p n s k refl is (key-row fs ms p n s k is) found
+-- a row of a member is a row of the object
+pub member-row : (fs : Fields) (ms : Members) (p : Path) (n : Text) (v : Json) (k : Kind) (r : Row) → kind_of n fs ≡ Some k → member_of n ms ≡ Some v → IsRow r (places k v (p ++ field n ∷ [])) → IsRow r (field_places fs ms p)
+member-row fs no_members p n v k r is found row = absurd (none≢some found)
+member-row fs (member m w ms) p n v k r is found row = member-row-if (same_text n m) fs m w ms p n v k r refl is row (λ later. member-row fs ms p n v k r is later row) found
 
 -- the row of a key field of an item
 own-key : (ns : List Text) (fs : Fields) (ms : Members) (own : Path) (n : Text) (s : Scalar) → KeysFit ns fs ms → scalar_of n (key_scalars ns ms) ≡ Some s → IsRow (own ++ field n ∷ [], leaf s) (field_places fs ms own)
-own-key ns fs ms own n s fits found = let is = key-member ns fs ms fits.0 n s fits.1 found in key-row fs ms own n s is.of_kind is.is_kind is.is_own
+own-key ns fs ms own n s fits found = let is = key-member ns fs ms fits.0 n s fits.1 found in member-row fs ms own n (scalar s) (scalar_kind is.of_kind) (own ++ field n ∷ [], leaf s) is.is_kind is.is_own (inl refl)
 
 -- ---- the rows of a value
 
@@ -71,10 +72,6 @@ module _ (root : Kind) (total : List Row) where
 
   abbrev AreIn : List Row → Type 0
   AreIn rs = (r : Row) → IsRow r rs → IsRow r total
-
-  all-append : (xs ys : List Row) → AllKindRows xs → AllKindRows ys → AllKindRows (xs ++ ys)
-  all-append [] ys g h = h
-  all-append (x ∷ xs) ys g h = (g.0, all-append xs ys g.1 h)
 
   in-left : (xs ys : List Row) → AreIn (xs ++ ys) → AreIn xs
   in-left xs ys h r one = h r (row-left r xs ys one)
@@ -120,7 +117,7 @@ module _ (root : Kind) (total : List Row) where
         let own = p ++ field n ∷ [] in
         let is : member_places fs n v own ≡ places fit.0 v own = known-places n fs v fit.0 own fit.1.0 in
         let there = place-push p (of_kind root) (field n) q (of_kind fit.0) at (below n ∙ ap (option_map of_kind) fit.1.0) in
-        all-append (member_places fs n v own) (field_places fs ms p)
+        all-append (IsKindRow root total) (member_places fs n v own) (field_places fs ms p)
         (subst AllKindRows (sym is) (value_rows fit.0 v own there (last_keys-push p (field n)) fit.1.1 (subst AreIn is (in-left (member_places fs n v own) (field_places fs ms p) in_all))))
         (field_rows q fs ms p at below (member-rest fs n v ms fits) (in-right (member_places fs n v own) (field_places fs ms p) in_all))
 
@@ -129,7 +126,7 @@ module _ (root : Kind) (total : List Row) where
     entry_rows k (member n v ms) p at fits in_all =
         let own = p ++ field n ∷ [] in
         let there = place-push p (of_kind root) (field n) (of_kind (dict_of k)) (of_kind k) at refl in
-        all-append (places k v own) (entry_places k ms p)
+        all-append (IsKindRow root total) (places k v own) (entry_places k ms p)
         (value_rows k v own there (last_keys-push p (field n)) (entry-first k n v ms fits) (in-left (places k v own) (entry_places k ms p) in_all))
         (entry_rows k ms p at (entry-rest k n v ms fits) (in-right (places k v own) (entry_places k ms p) in_all))
 
@@ -143,12 +140,7 @@ module _ (root : Kind) (total : List Row) where
         let there = place-push p (of_kind root) (item_key ns ms) (of_kind (items_of ns fs)) (item_of ns fs) at (ap (λ b. if b then Some (item_of ns fs) else None) (keys-fit ns fs ms parts.0.0 parts.0.1)) in
         let rest : AreIn (field_places fs ms own ++ item_places ns fs vs p) = (λ r h. in_all r (inr h)) in (
           record { at = record { place = item_of ns fs; there = there; fits = refl }; keys = λ n s found. in-left (field_places fs ms own) (item_places ns fs vs p) rest _ (own-key ns fs ms own n s parts.0 (sym (ap (scalar_of n) (last_keys-push p (item_key ns ms))) ∙ found)) },
-          all-append (field_places fs ms own) (item_places ns fs vs p)
+          all-append (IsKindRow root total) (field_places fs ms own) (item_places ns fs vs p)
               (field_rows (item_of ns fs) fs ms own there (λ n. refl) parts.1 (in-left (field_places fs ms own) (item_places ns fs vs p) rest))
               (item_rows ns fs vs p at (item-rest ns fs (object ms) vs fits) (in-right (field_places fs ms own) (item_places ns fs vs p) rest)),
         )
-
-  pub each-row : (rs : List Row) (r : Row) → AllKindRows rs → IsRow r rs → IsKindRow root total r
-  each-row [] r all one = absurd one
-  each-row (x ∷ xs) r all (inl e) = subst (IsKindRow root total) (sym e) all.0
-  each-row (x ∷ xs) r all (inr one) = each-row xs r all.1 one

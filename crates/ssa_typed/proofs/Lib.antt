@@ -23,6 +23,7 @@ pub mod Pairs
 pub mod Reached
 pub mod References
 pub mod Restricting
+pub mod Rooted
 pub mod SameMembers
 pub mod Showing
 pub mod ShownMembers

@@ -1,5 +1,6 @@
 -- Each row of a tree is what its path finds.
 use Rattle.std.proofs.Common.{◌≡◌, List, [], ◌∷◌, ◌++◌, ◌⊎◌, inl, inr, Bool, true, false, cond, Some, refl, sym, ap, subst, ◌∙◌}
+use Rattle.std.specs.List.{AllByRecursion}
 use Rattle.ssa_model.specs.Path.{Element, Path, same_element, same_path}
 use Rattle.ssa_model.specs.Body.{Content}
 use Rattle.ssa_model.proofs.PathMaps.{same_path-true}
@@ -30,10 +31,24 @@ pub row-right : (r : Row) (xs ys : List Row) → IsRow r ys → IsRow r (xs ++ y
 row-right r [] ys h = h
 row-right r (x ∷ xs) ys h = inr (row-right r xs ys h)
 
-row-split : (r : Row) (xs ys : List Row) → IsRow r (xs ++ ys) → IsRow r xs ⊎ IsRow r ys
+pub row-split : (r : Row) (xs ys : List Row) → IsRow r (xs ++ ys) → IsRow r xs ⊎ IsRow r ys
 row-split r [] ys h = inr h
 row-split r (x ∷ xs) ys (inl e) = inl (inl e)
 row-split r (x ∷ xs) ys (inr h) = elim (row-split r xs ys h) [ inl l ↦ inl (inr l) | inr k ↦ inr k ]
+
+-- ---- what holds of all rows
+
+module _ (P : Row → Type 0) where
+  pub all-append : (xs ys : List Row) → AllByRecursion P xs → AllByRecursion P ys → AllByRecursion P (xs ++ ys)
+  all-append [] ys g h = h
+  all-append (x ∷ xs) ys g h = (g.0, all-append xs ys g.1 h)
+
+  pub each-row : (rs : List Row) (r : Row) → AllByRecursion P rs → IsRow r rs → P r
+  each-row [] r all one = absurd one
+  each-row (x ∷ xs) r all (inl e) = subst P (sym e) all.0
+  each-row (x ∷ xs) r all (inr one) = each-row xs r all.1 one
+
+-- ---- what a path finds
 
 row-if : (b : Bool) (r : Row) (rs : List Row) (p : Path) (c : Content) → same_path p r.0 ≡ b → (content_at rs p ≡ Some c → IsRow (p, c) rs) → cond b (Some r.1) (content_at rs p) ≡ Some c → IsRow (p, c) (r ∷ rs)
 row-if true r rs p c same later e = inl (λ i. (same_path-true p r.0 same i, sym (some-same r.1 c e) i))

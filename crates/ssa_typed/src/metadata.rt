@@ -1,5 +1,5 @@
 //! An empty `metadata`, which no body has.
-ghost use Rattle.std.specs.Prelude.{◌≡◌, true, string_cmp};
+ghost use Rattle.std.specs.Prelude.{◌≡◌, false, string_cmp};
 ghost use Rattle.std.specs.BTreeMap.{IsOrdered};
 ghost use Rattle.ssa_model.specs.Body.{is_empty_object, without_empty_metadata};
 ghost use Rattle.ssa_json.specs.View.{view, members_view};
@@ -34,7 +34,8 @@ fn has_empty_metadata(members: &BTreeMap<String, Json>) -> bool
 
 /// The members of an object but for a `metadata` with nothing in it.
 pub fn without_empty_metadata(members: BTreeMap<String, Json>) -> BTreeMap<String, Json>
-    ensures { members_view result.entries ≡ without_empty_metadata (members_view members.entries) }
+    ensures members { members_view result.entries ≡ without_empty_metadata (members_view members.entries) }
+    ensures gone { has_empty_metadata (members_view result.entries) ≡ false }
 {
     let mut members = members;
     if has_empty_metadata(&members) {

@@ -4,7 +4,8 @@ ghost use Rattle.ssa_model.specs.Body.{flat};
 ghost use Rattle.ssa_model.specs.Fitting.{IsBodyOf};
 ghost use Rattle.ssa_json.specs.View.{view};
 ghost use Rattle.ssa_schema.specs.Kinds.{kind_view};
-ghost use Rattle.ssa_model.specs.Lawful.{is_root_kind};
+ghost use Rattle.ssa_model.specs.Lawful.{has_metadata, is_root_kind};
+ghost use Rattle.ssa_model.specs.Valid.{IsRooted};
 ghost use Rattle.ssa_typed.specs.Flats.{Fits};
 ghost use Rattle.ssa_typed.specs.Reads.{ReadsBody};
 
@@ -25,9 +26,11 @@ const MOST_PLACES: usize = 20_001;
 // The body of a value that fits a root's kind.
 fn body_of(alloc: Global, kind: &Kind, value: Json) -> Result<Body, AllocError>
     requires root { is_root_kind (kind_view kind.now) ≡ true }
+    requires metadata { has_metadata (kind_view kind.now) ≡ true }
     requires fits { Fits (kind_view kind.now) (view value) }
     ensures exact { IfOk result (λ b. b ≡ flat (kind_view kind.now) (view value)) }
     ensures fits { IfOk result (λ b. IsBodyOf (kind_view kind.now) b) }
+    ensures rooted { IfOk result (λ b. IsRooted b) }
 {
     match kind {
         Kind::Record(fields) => {
@@ -48,6 +51,7 @@ impl Body {
     pub fn from_json(alloc: Global, schema: &Schema, value: Json) -> Result<Body, TypedFault>
         ensures read { ReadsBody result schema.now.1 (view value) }
         ensures fits { IfOk result (λ b. IsBodyOf schema.now.1 b) }
+        ensures rooted { IfOk result (λ b. IsRooted b) }
     {
         if let Some(fault) = schema.first_fault(alloc, &value)? {
             return Err(TypedFault::Body(fault));
