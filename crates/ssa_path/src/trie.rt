@@ -105,7 +105,7 @@ impl Trie {
     pub fn copy(&self, alloc: Global) -> Result<Trie, AllocError>
         ensures { IfOk result (λ t. shape t ≡ shape self.now) }
     {
-        let mut below = Vec::new(alloc);
+        let mut below = Vec::with_capacity(alloc, self.below.len())?;
         for child in &self.below {
             let element = child.0.copy(alloc)?;
             let trie = child.1.copy(alloc)?;

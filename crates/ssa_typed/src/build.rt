@@ -36,7 +36,7 @@ fn value_children(
     ensures { IfOk result (λ cs. AreListed (value_order (items_view items.items)) (value_places (items_view items.items)) cs.items) }
 {
     let _kind = kind;
-    let mut children = Vec::new(alloc);
+    let mut children = Vec::with_capacity(alloc, items.len())?;
     for item in items {
         children.push(value_child(alloc, item)?)?;
     }
@@ -162,7 +162,7 @@ fn item_children(
     requires fits { ItemsFit (names_view keys.now) (fields_view fields.now.entries) (items_view items.items) }
     ensures { IfOk result (λ cs. AreListed (key_order (names_view keys.now) (items_view items.items)) (item_places (names_view keys.now) (fields_view fields.now.entries) (items_view items.items)) cs.items) }
 {
-    let mut children = Vec::new(alloc);
+    let mut children = Vec::with_capacity(alloc, items.len())?;
     for item in items {
         children.push(item_child(alloc, fields, keys, item)?)?;
     }

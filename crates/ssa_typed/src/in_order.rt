@@ -21,7 +21,7 @@ pub fn in_order<'a>(
     requires { are_apart (elements children.now) ≡ true }
     ensures { IfOk result (λ v. IsInOrder children.now (referred v.items)) }
 {
-    let mut sorted = Vec::new(alloc);
+    let mut sorted = Vec::with_capacity(alloc, children.len())?;
     for child in children {
         sorted.push(child)?;
     }

@@ -56,7 +56,7 @@ fn over_alike(alloc: Global, live: &Node, config: &Node) -> Result<Vec<(Elem, No
     ensures { IfOk result (λ v. AreOver live.now config.now v.items) }
 {
     let (own, others) = (live.children(), config.children());
-    let mut made = Vec::new(alloc);
+    let mut made = Vec::with_capacity(alloc, own.len())?;
     for (i, child) in own.iter().enumerate() {
         let node = over_node(alloc, &child.1, &others[i].1)?;
         push_child(alloc, &mut made, &child.0, node)?;

@@ -45,7 +45,7 @@ fn collect_below(
 {
     let children = in_order(alloc, node.children())?;
     let in_dict = node.is_dict();
-    let mut collected = Vec::new(alloc);
+    let mut collected = Vec::with_capacity(alloc, children.len())?;
     for child in &children {
         let below = collect_below(alloc, &child.1, what)?;
         let here = what.has_place(child, in_dict);
