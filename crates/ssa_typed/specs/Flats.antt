@@ -3,7 +3,7 @@ use Rattle.std.specs.Prelude.{◌≡◌, List, [], ◌∷◌, ◌++◌, map, tru
 use Rattle.ssa_model.specs.Json.{Text, Scalar, Json, scalar, list, object, Items, Members}
 use Rattle.ssa_model.specs.Path.{Element, value, Path}
 use Rattle.ssa_model.specs.Kind.{ScalarKind, Kind, Fields, faults, field_faults, entry_faults, value_faults, item_faults, key_faults, item_key, kind_of}
-use Rattle.ssa_model.specs.Body.{leaf, record_branch, places, field_places}
+use Rattle.ssa_model.specs.Body.{Body, flat, leaf, record_branch, places, field_places}
 use Rattle.ssa_path.specs.Children.{elements, rises}
 use Rattle.ssa_path.specs.View.{element_view}
 use Rattle.ssa_path.specs.declared.element.Elem.{Elem}
@@ -51,6 +51,11 @@ IsObject v = (ms : Members) × (v ≡ object ms)
 
 abbrev pub IsList : Json → Type 0
 IsList v = (vs : Items) × (v ≡ list vs)
+
+-- the body is the flattening of the value, which fits the kind
+pub record IsFlattening (k : Kind) (v : Json) (b : Body) : Type 0 where
+  pub fits : faults k v [] ≡ []
+  pub body : flat k v ≡ b
 
 -- ---- what is made of them
 

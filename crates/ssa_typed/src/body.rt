@@ -7,10 +7,12 @@ ghost use Rattle.ssa_model.specs.Objects.{shown};
 ghost use Rattle.ssa_model.specs.Path.{is_root};
 ghost use Rattle.ssa_model.specs.PathMap.{from_entries, has, has_at_or_below, paths, set_of, size};
 ghost use Rattle.ssa_json.specs.View.{view};
-ghost use Rattle.ssa_model.specs.Lawful.{is_ordered};
+ghost use Rattle.ssa_model.specs.Lawful.{is_lawful, is_ordered};
+ghost use Rattle.ssa_model.specs.Valid.{IsRooted};
 ghost use Rattle.ssa_typed.specs.Alike.{AreAlike};
 ghost use Rattle.ssa_typed.specs.Differences.{IsComparison};
 ghost use Rattle.ssa_typed.specs.Look.{look_of, look_at};
+ghost use Rattle.ssa_typed.specs.Flats.{IsFlattening};
 ghost use Rattle.ssa_typed.specs.Reached.{PointsKeepAll, PointsTellPlaces};
 ghost use Rattle.ssa_typed.specs.Rows.{body_of, is_tree};
 
@@ -84,11 +86,14 @@ impl Body {
         self.root.size()
     }
 
-    /// The value that the body is of, in memory of its own.
+    /// The value that the body is of, in memory of its own. It fits each schema that the body fits,
+    /// and the body is its flattening.
     pub fn to_json(&self, alloc: Global) -> Result<Json, AllocError>
-        ensures { IfOk result (λ v. (kind : Kind) → is_ordered kind ≡ true → IsBodyOf kind self.now → view v ≡ shown kind self.now []) }
+        ensures shown { IfOk result (λ v. (kind : Kind) → is_ordered kind ≡ true → IsBodyOf kind self.now → view v ≡ shown kind self.now []) }
+        ensures back { IfOk result (λ v. (kind : Kind) → is_lawful kind ≡ true → IsBodyOf kind self.now → IsRooted self.now → IsFlattening kind (view v) self.now) }
     {
-        self.root.to_json(alloc)
+        let value = self.root.to_json(alloc)?;
+        Ok(value)
     }
 
     /// The leaves, items of lists, entries of Dicts and empty branches.

@@ -1,13 +1,26 @@
-use Rattle.std.proofs.Common.{[], ap, sym, subst, ◌∙◌}
-use Rattle.std.proofs.lemmas.Result.{IfOk-weaker}
+use Rattle.std.proofs.Common.{[], ap, sym, subst, ◌&&◌, ◌∙◌}
+use Rattle.std.specs.Cmp.{first_so, second_so}
+use Rattle.ssa_model.specs.Body.{flat}
 use Rattle.ssa_model.specs.Fitting.{IsBodyOf}
+use Rattle.ssa_model.specs.Kind.{faults}
+use Rattle.ssa_model.specs.Lawful.{has_metadata, is_ordered, is_root_kind}
 use Rattle.ssa_model.specs.Objects.{shown}
+use Rattle.ssa_model.proofs.FlatOfShown.{flat_of_shown}
+use Rattle.ssa_model.proofs.ShownFits.{shown_fits}
 use Rattle.ssa_typed.proofs.Showing.{body-shown}
 use Rattle.ssa_typed.proofs.body.Body.to_json.Goals as goal
 
-pub returns : goal.returns
-returns c =
+pub returns-clause-shown : goal.returns-clause-shown
+returns-clause-shown c kind ordered body =
     let n = c.self.inside.root in
-    IfOk-weaker c.to_json.result _ _
-    (λ v made kind ordered body. made ∙ body-shown n kind c.self.invariant ordered (subst (IsBodyOf kind) (sym c.self.view_is) body) ∙ ap (λ b. shown kind b []) c.self.view_is)
-    c.to_json.ensures
+    c.in_ok-value.ensures ∙ body-shown n kind c.self.invariant ordered (subst (IsBodyOf kind) (sym c.self.view_is) body) ∙ ap (λ b. shown kind b []) c.self.view_is
+
+pub returns-clause-back : goal.returns-clause-back
+returns-clause-back c kind lawful body rooted =
+    let ordered = first_so (is_ordered kind) (has_metadata kind) (second_so (is_root_kind kind) (is_ordered kind && has_metadata kind) lawful) in
+    let n = c.self.inside.root in
+    let is = c.in_ok-value.ensures ∙ body-shown n kind c.self.invariant ordered (subst (IsBodyOf kind) (sym c.self.view_is) body) ∙ ap (λ b. shown kind b []) c.self.view_is in
+    record {
+      fits = ap (λ v. faults kind v []) is ∙ shown_fits kind c.args.self.now lawful body;
+      body = ap (flat kind) is ∙ flat_of_shown kind c.args.self.now lawful body rooted;
+    }
