@@ -8,7 +8,7 @@ use Rattle.std.specs.Prelude.{◌≢◌, option_map, Err}
 use Rattle.ssa_model.specs.Json.{Text, Scalar, scalar, object, compact, scalar_text}
 use Rattle.ssa_model.specs.Path.{Element, field, key, value, key_members, element_text}
 use Rattle.ssa_model.specs.FieldsV1.{names_rise, is_element}
-use Rattle.ssa_model.specs.Session.{key_of, value_element, key_element, is_index, ElementFault, element_of, spelled_element}
+use Rattle.ssa_model.specs.ElementTexts.{key_of, value_element, key_element, is_index, ElementFault, element_of, spelled_element}
 use Rattle.ssa_json.specs.Reading.{json_reading}
 use Rattle.ssa_json.specs.View.{scalar_view}
 use Rattle.ssa_json.specs.Written.{is_narrow_scalar, members_narrow}

@@ -1,0 +1,29 @@
+-- The faults of a value as FieldsV1.
+use Rattle.std.specs.Prelude.{List, [], ◌∷◌, ◌++◌, Bool, true, false, Result, Ok, Err, if◌then◌else◌, codes}
+use Rattle.ssa_model.specs.Json.{Text, Json, scalar, list, object, Members, no_members, member, same_text, same_json}
+use Rattle.ssa_model.specs.Readings.{ReadFault}
+use Rattle.ssa_model.specs.ElementTexts.{ElementFault, bad_element, not_canonical, element_of}
+use Rattle.ssa_model.specs.FieldsV1.{dot_alone}
+
+abbrev pub is_nothing_inside : Json → Bool
+is_nothing_inside (object no_members) = true
+is_nothing_inside _ = false
+
+-- All faults in the order of the members, depth first; the first is told. The value is an object, `.` has `{}`, and each
+-- other member is an element's own text with an object, which isn't `{".":{}}`.
+module _ (reading : Text → Result Json ReadFault) where
+  abbrev mutual
+    pub fields_faults : Json → List ElementFault
+    fields_faults (object ms) = member_faults ms
+    fields_faults (scalar s) = bad_element ∷ []
+    fields_faults (list vs) = bad_element ∷ []
+
+    pub member_faults : Members → List ElementFault
+    member_faults no_members = []
+    member_faults (member n v ms) =
+        (if same_text n (codes ".") then (if is_nothing_inside v then [] else bad_element ∷ [])
+        else elim (element_of reading n) [
+          | Err f ↦ f ∷ []
+          | Ok e ↦ (if same_json v dot_alone then not_canonical ∷ [] else fields_faults v)
+        ])
+        ++ member_faults ms
