@@ -1,9 +1,10 @@
 //! The bench: an object, its managers, and the history of commands on it.
 ghost use Rattle.std.specs.Prelude.{◌≡◌, ◌<◌, ◌^◌, ◌||◌, nat_le, IfOk, OnOk, OnErr, false, true, codes, string_bytes};
-ghost use Rattle.ssa_model.specs.Answers.{answer, apply, update, strip, undo, redo, apply_answer, bench_of, body_or_fault, command_body};
+ghost use Rattle.ssa_model.specs.Answers.{answer, apply, update, strip, undo, redo, apply_answer, bench_of, body_or_fault, command_body, owners_of};
 ghost use Rattle.ssa_model.specs.Entries.{object_of_state};
 ghost use Rattle.ssa_model.specs.History.{is_manager_name, past_len, future_len, present};
 ghost use Rattle.ssa_json.specs.View.{view};
+ghost use Rattle.ssa_merge.specs.Managers.{lent_keys};
 ghost use Rattle.ssa_bench.specs.Benches.{lone_bench, next_bench, Begins, CanCommit, IsExecuted, IsMade, IsMoved, IsPrepared, tested_body, update_answer};
 ghost use Rattle.ssa_bench.specs.Faults.{IsGiven};
 ghost use Rattle.ssa_bench.specs.Identities.{body_value_of};
@@ -20,9 +21,12 @@ use crate::prepared::{Changed, Counts, Prepared, accepted};
 use crate::timeline::{Label, Timeline};
 use ssa_json::moment::Moment;
 use ssa_json::value::Json;
+use ssa_merge::manager::ManagerKey;
 use ssa_merge::managers::Managers;
+use ssa_merge::owned::owners;
 use ssa_merge::plan::{plan_apply, plan_strip, plan_update};
 use ssa_merge::state::State;
+use ssa_path::path::Path;
 use ssa_schema::body_fault::BodyFault;
 use ssa_schema::schema::Schema;
 use ssa_typed::body::Body;
@@ -340,5 +344,15 @@ impl Bench {
     {
         let now = self.timeline.present();
         object_of_body(alloc, &self.identity, &self.schema, &now.body)
+    }
+
+    /// The managers that own the path in the present state, in table order: none of a path that nobody
+    /// owns, or that is not there.
+    pub fn owners(&self, alloc: Global, path: &Path) -> Result<Vec<&ManagerKey>, AllocError>
+        ensures { IfOk result (λ ks. lent_keys ks.items ≡ owners_of (present self.now.timeline).table path.now) }
+    {
+        let now = self.timeline.present();
+        let found = owners(alloc, now.managers.entries(), path)?;
+        Ok(found)
     }
 }

@@ -1,5 +1,6 @@
 -- What managers and their entries are.
 use Rattle.std.specs.Prelude.{List, map, string_bytes}
+use Rattle.std.specs.Borrow.{Bor}
 use Rattle.ssa_model.specs.PathMap.{PathSet}
 use Rattle.ssa_model.specs.Table as model
 use Rattle.ssa_merge.specs.declared.manager.Operation.{Operation}
@@ -13,6 +14,10 @@ operation_view Update = model.updates
 
 abbrev pub key_view : ManagerKey → model.ManagerKey
 key_view k = record { name = string_bytes k.name; operation = operation_view k.operation }
+
+-- the managers that are lent
+abbrev pub lent_keys : List (Bor ManagerKey) → List model.ManagerKey
+lent_keys = map (λ k. key_view k.now)
 
 abbrev pub entry_view : Entry → model.Entry
 entry_view e = record { manager = key_view e.key; owned = e.set; moment = e.at }

@@ -1,13 +1,32 @@
-//! What a manager owns, what the others own, and whom a change clashes with.
+//! Who owns a path, what the others own, and whom a change clashes with.
 ghost use Rattle.std.specs.Prelude.{◌≡◌, map, IfOk};
+ghost use Rattle.ssa_model.specs.Answers.{owners_of};
 ghost use Rattle.ssa_model.specs.Table.{owned_by_others};
 ghost use Rattle.ssa_model.specs.Operations.{clashes};
-ghost use Rattle.ssa_merge.specs.Managers.{key_view, table_view, clashes_view};
+ghost use Rattle.ssa_merge.specs.Managers.{key_view, lent_keys, table_view, clashes_view};
 
 use crate::manager::ManagerKey;
 use crate::managers::Entry;
 use ssa_path::field_set::FieldSet;
+use ssa_path::path::Path;
 use std::alloc::{AllocError, Global};
+
+/// The managers that own the path, in table order.
+pub fn owners<'a>(
+    alloc: Global,
+    table: &'a [Entry],
+    path: &Path,
+) -> Result<Vec<&'a ManagerKey>, AllocError>
+    ensures { IfOk result (λ ks. lent_keys ks.items ≡ owners_of (table_view table.now) path.now) }
+{
+    let mut found = Vec::new(alloc);
+    for entry in table {
+        if entry.set.get().has(path) {
+            found.push(&entry.key)?;
+        }
+    }
+    Ok(found)
+}
 
 /// The paths that the managers other than this one own.
 pub fn owned_by_others(

@@ -81,6 +81,7 @@ session_rules =
     ∷ record { word = codes "undo"; members = [] }
     ∷ record { word = codes "redo"; members = [] }
     ∷ record { word = codes "show"; members = [] }
+    ∷ record { word = codes "owners"; members = needs (codes "path") texts_member ∷ [] }
     ∷ []
 
 abbrev pub whole_rules : List CommandRule

@@ -7,19 +7,22 @@ use Rattle.std.proofs.lemmas.Map.Text.{btree_map_updates_text}
 use Rattle.std.specs.BTreeMap.{UpdatesBy, get_by_text}
 use Rattle.std.specs.Cmp.Lexicographic.{slice_cmp}
 use Rattle.std.specs.Str.{bytes_eq}
-use Rattle.ssa_model.specs.Json.{Text, text, whole, truth, Json, scalar, list, object, Members, no_members, member, member_of, same_text, as_text}
-use Rattle.ssa_model.specs.Schema.{has_member, is_text}
+use Rattle.ssa_model.specs.Json.{Text, text, whole, truth, Json, scalar, list, object, Items, Members, no_members, member, member_of, same_text, as_text}
+use Rattle.ssa_model.specs.Schema.{has_member, is_text, list_of_texts}
 use Rattle.ssa_model.specs.Commands as given
-use Rattle.ssa_model.specs.Commands.{MemberRule, CommandRule, rule_of, word_of, session_rules, is_known_member, are_known_members, follows_rule, truth_in, text_in, value_in, command_with}
+use Rattle.ssa_model.specs.Commands.{MemberRule, CommandRule, rule_of, word_of, session_rules, is_known_member, are_known_members, follows_rule, truth_in, text_in, texts_in, value_in, command_with}
 use Rattle.ssa_model.specs.Answers as answers
-use Rattle.ssa_model.specs.Session.{LineFault, bad_moment, command_shape, has_moment, with_path, read_command}
+use Rattle.ssa_model.specs.Session.{LineFault, bad_moment, command_shape, has_moment, owners_command, with_path, read_command}
+use Rattle.ssa_model.specs.ElementTexts.{path_of}
 use Rattle.ssa_json.specs.Moment.{is_moment}
+use Rattle.ssa_json.specs.Reading.{json_reading}
 use Rattle.ssa_json.specs.View.{view, members_view}
 use Rattle.ssa_json.specs.declared.value.Json as values
 use Rattle.ssa_json.proofs.Equality.{same_text-true}
 use Rattle.ssa_json.proofs.Views.{view-lookup}
 use Rattle.ssabench.specs.declared.command_shape.Word.{Word}
-use Rattle.ssabench.specs.declared.command_shape.Word.TheVariants.{Apply, Update, Strip, Undo, Redo, Show}
+use Rattle.ssabench.specs.declared.command_shape.Word.TheVariants.{Apply, Update, Strip, Undo, Redo, Show, Owners}
+use Rattle.ssabench.specs.PathTexts.{given_texts}
 use Rattle.ssabench.specs.Commands.{readings, word_text, member_rules, rule_at, HasRequest, given_moment}
 
 -- what a value is read as
@@ -54,6 +57,7 @@ rule_of-word Strip = refl
 rule_of-word Undo = refl
 rule_of-word Redo = refl
 rule_of-word Show = refl
+rule_of-word Owners = refl
 
 pub meaning-word : (ms : Members) (word : Word) (b : Bool) → word_of ms ≡ Some (word_text word) → follows_rule ms (rule_at word) ≡ b
     → meaning (object ms) ≡ told (if b then Some (command_with (word_text word) ms) else None)
@@ -86,8 +90,8 @@ meaning-show ms is follows =
     ∙ ap (λ o. Ok (answers.show (truth_in o))) (absent_member [] ms (codes "managed") (and_parts (are_known_members [] ms) true follows).0 (λ v. refl))
 
 pub rule_of-other : (t : Text) → same_text t (codes "apply") ≡ false → same_text t (codes "update") ≡ false → same_text t (codes "strip") ≡ false → same_text t (codes "undo") ≡ false → same_text t (codes "redo") ≡ false
-    → same_text t (codes "show") ≡ false → rule_of session_rules t ≡ None
-rule_of-other t not_apply not_update not_strip not_undo not_redo not_show = rw (not_apply, not_update, not_strip, not_undo, not_redo, not_show) refl
+    → same_text t (codes "show") ≡ false → same_text t (codes "owners") ≡ false → rule_of session_rules t ≡ None
+rule_of-other t not_apply not_update not_strip not_undo not_redo not_show not_owners = rw (not_apply, not_update, not_strip, not_undo, not_redo, not_show, not_owners) refl
 
 pub is_some-view : (o : Option values.Json) → is_some (option_map view o) ≡ is_some o
 is_some-view None = refl
@@ -95,8 +99,8 @@ is_some-view (Some v) = refl
 
 -- ---- the members of an apply command and of an update command
 
-is_text-from_known : (v : Json) → (is_text v || false) ≡ true → is_text v ≡ true
-is_text-from_known v known = grind (arith, nat_tests)
+is_true-or_false : (b : Bool) → (b || false) ≡ true → b ≡ true
+is_true-or_false b either = grind (arith, nat_tests)
 
 -- a member that is known to be a text
 text_there : (rules : List MemberRule) (ms : Members) (n : Text) → are_known_members rules ms ≡ true → ((v : Json) → is_known_member rules n v ≡ (is_text v || false)) → has_member n ms ≡ true
@@ -104,7 +108,7 @@ text_there : (rules : List MemberRule) (ms : Members) (n : Text) → are_known_m
 text_there rules ms n known asked there =
     elim (member_of n ms) as (λ o. member_of n ms ≡ o → is_some o ≡ true → is_some (option_and_then as_text o) ≡ true) [
       | None ↦ λ _ none. none
-      | Some v ↦ λ is _. is_text-from_known v (sym (asked v) ∙ known_member rules ms n v known is)
+      | Some v ↦ λ is _. is_true-or_false (is_text v) (sym (asked v) ∙ known_member rules ms n v known is)
     ] refl there
 
 pub request-from_apply : (ms : Members) → follows_rule ms (rule_at Apply) ≡ true → HasRequest ms
@@ -146,6 +150,23 @@ pub meaning-update : (ms : Members) (b : Bool) → word_of ms ≡ Some (codes "u
 meaning-update ms b is follows moment =
     meaning-word ms Update true is follows
     ∙ ap (λ t. if t then Ok (answers.update (text_in (member_of (codes "manager") ms)) (given_moment ms) (value_in (member_of (codes "object") ms))) else Err bad_moment) moment
+
+-- ---- the members of an owners command
+
+-- the member is a list of texts
+pub texts_there : (ms : Members) → follows_rule ms (rule_at Owners) ≡ true → is_some (option_and_then list_of_texts (member_of (codes "path") ms)) ≡ true
+texts_there ms follows =
+    let parts = and_parts (are_known_members (member_rules Owners) ms) _ follows in
+    let path = and_parts (has_member (codes "path") ms) _ parts.1 in
+    elim (member_of (codes "path") ms) as (λ o. member_of (codes "path") ms ≡ o → is_some o ≡ true → is_some (option_and_then list_of_texts o) ≡ true) [
+      | None ↦ λ _ none. none
+      | Some v ↦ λ is _. is_true-or_false (is_some (list_of_texts v)) (known_member (member_rules Owners) ms (codes "path") v parts.0 is)
+    ] refl path.0
+
+pub meaning-owners : (ms : Members) (vs : Items) → word_of ms ≡ Some (codes "owners") → follows_rule ms (rule_at Owners) ≡ true → member_of (codes "path") ms ≡ Some (list vs)
+    → meaning (object ms) ≡ owners_command (path_of json_reading (given_texts vs))
+meaning-owners ms vs is follows there =
+    meaning-word ms Owners true is follows ∙ ap (λ o. owners_command (path_of json_reading (texts_in o))) there
 
 -- a member of another name stays where one is taken out
 pub other_member : (old new : BTreeMap (String Global) values.Json) (gone n : Text) → UpdatesBy string_cmp (λ k. slice_cmp nat_cmp gone (string_bytes k)) old new None → bytes_eq gone n ≡ false

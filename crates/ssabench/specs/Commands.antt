@@ -2,10 +2,11 @@
 use Rattle.std.specs.Prelude.{◌≡◌, List, [], ◌∷◌, false, true, Option, Some, None, Result, Ok, Err, codes, string_bytes, is_some, option_and_then}
 use Rattle.ssa_model.specs.Json.{Text, Members, member_of, as_text}
 use Rattle.ssa_model.specs.Readings.{Readings, not_json, null_value, number_outside}
-use Rattle.ssa_model.specs.Commands.{MemberRule, text_member, truth_member, any_member, needs, may_have, CommandRule, text_in, value_in}
+use Rattle.ssa_model.specs.Commands.{MemberRule, text_member, truth_member, texts_member, any_member, needs, may_have, CommandRule, text_in, value_in}
 use Rattle.ssa_model.specs.Answers as answers
 use Rattle.ssa_model.specs.Session as session
-use Rattle.ssa_model.specs.Session.{unread, bad_moment, command_shape}
+use Rattle.ssa_model.specs.Session.{unread, bad_moment, command_shape, of_element}
+use Rattle.ssa_model.specs.ElementTexts.{bad_element, index_element, not_canonical}
 use Rattle.ssa_json.specs.Reading.{json_reading}
 use Rattle.ssa_json.specs.Moment.{is_moment}
 use Rattle.ssa_json.specs.View.{view}
@@ -13,16 +14,17 @@ use Rattle.ssa_bench.specs.Commands as changes
 use Rattle.ssabench.specs.declared.command.Command.{Command}
 use Rattle.ssabench.specs.declared.command.Command.TheVariants as command
 use Rattle.ssabench.specs.declared.command_shape.Word.{Word}
-use Rattle.ssabench.specs.declared.command_shape.Word.TheVariants.{Apply, Update, Strip, Undo, Redo, Show}
+use Rattle.ssabench.specs.declared.command_shape.Word.TheVariants.{Apply, Update, Strip, Undo, Redo, Show, Owners}
 use Rattle.ssabench.specs.declared.read_command.Request.{Request}
 use Rattle.ssabench.specs.declared.read_command.LineFault.{LineFault}
-use Rattle.ssabench.specs.declared.read_command.LineFault.TheVariants.{NotJson, NullValue, NumberOutside, BadMoment, CommandShape, OutOfMemory}
+use Rattle.ssabench.specs.declared.read_command.LineFault.TheVariants.{NotJson, NullValue, NumberOutside, BadMoment, CommandShape, BadElement, IndexElement, NotCanonical, OutOfMemory}
 
 abbrev pub command_view : Command → answers.Command
 command_view (command.Change c) = changes.command_view c
 command_view command.Undo = answers.undo
 command_view command.Redo = answers.redo
 command_view command.Show = answers.show false
+command_view (command.Owners p) = answers.owners p
 
 -- JSON text, and moments of the calendar
 abbrev pub readings : Readings
@@ -35,6 +37,7 @@ word_text Strip = codes "strip"
 word_text Undo = codes "undo"
 word_text Redo = codes "redo"
 word_text Show = codes "show"
+word_text Owners = codes "owners"
 
 -- the members beside `do`
 abbrev pub member_rules : Word → List MemberRule
@@ -44,6 +47,7 @@ member_rules Strip = []
 member_rules Undo = []
 member_rules Redo = []
 member_rules Show = []
+member_rules Owners = needs (codes "path") texts_member ∷ []
 
 abbrev pub rule_at : Word → CommandRule
 rule_at word = record { word = word_text word; members = member_rules word }
@@ -56,6 +60,9 @@ ReadsCommand (Err NullValue) r = r ≡ Err (unread null_value)
 ReadsCommand (Err NumberOutside) r = r ≡ Err (unread number_outside)
 ReadsCommand (Err BadMoment) r = r ≡ Err bad_moment
 ReadsCommand (Err CommandShape) r = r ≡ Err command_shape
+ReadsCommand (Err BadElement) r = r ≡ Err (of_element bad_element)
+ReadsCommand (Err IndexElement) r = r ≡ Err (of_element index_element)
+ReadsCommand (Err NotCanonical) r = r ≡ Err (of_element not_canonical)
 ReadsCommand (Err OutOfMemory) r = Unit {0}
 
 -- ---- commands with a manager, a moment and an object

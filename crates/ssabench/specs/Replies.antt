@@ -7,13 +7,14 @@ use Rattle.ssa_model.specs.Entries.{text_json}
 use Rattle.ssa_model.specs.Operations.{conflict}
 use Rattle.ssa_model.specs.Readings.{not_json, null_value, number_outside}
 use Rattle.ssa_model.specs.Replies.{list_json, clash_json, refusal_json, with_fault}
-use Rattle.ssa_model.specs.Session.{unread, bad_moment, command_shape, line_fault_json}
+use Rattle.ssa_model.specs.Session.{unread, bad_moment, command_shape, of_element, line_fault_json}
+use Rattle.ssa_model.specs.ElementTexts.{bad_element, index_element, not_canonical}
 use Rattle.ssa_schema.specs.Finds.{Told}
 use Rattle.ssa_merge.specs.Managers.{clashes_view}
 use Rattle.ssa_merge.specs.declared.manager.ManagerKey.{ManagerKey}
 use Rattle.ssabench.specs.Session.{out_of_memory_text}
 use Rattle.ssabench.specs.declared.read_command.LineFault.{LineFault}
-use Rattle.ssabench.specs.declared.read_command.LineFault.TheVariants.{NotJson, NullValue, NumberOutside, BadMoment, CommandShape, OutOfMemory}
+use Rattle.ssabench.specs.declared.read_command.LineFault.TheVariants.{NotJson, NullValue, NumberOutside, BadMoment, CommandShape, BadElement, IndexElement, NotCanonical, OutOfMemory}
 
 -- a path by the texts of its elements
 abbrev pub names_json : List Text → Json
@@ -47,4 +48,7 @@ line_fault_text NullValue = compact (line_fault_json (unread null_value))
 line_fault_text NumberOutside = compact (line_fault_json (unread number_outside))
 line_fault_text BadMoment = compact (line_fault_json bad_moment)
 line_fault_text CommandShape = compact (line_fault_json command_shape)
+line_fault_text BadElement = compact (line_fault_json (of_element bad_element))
+line_fault_text IndexElement = compact (line_fault_json (of_element index_element))
+line_fault_text NotCanonical = compact (line_fault_json (of_element not_canonical))
 line_fault_text OutOfMemory = out_of_memory_text

@@ -10,10 +10,11 @@ use crate::command::Command;
 use crate::fault_text::{fault_text, line_fault_text};
 use crate::machine::Machine;
 use crate::read_command::{LineFault, read_command};
-use crate::reply_text::{changed_text, moved_text, shown_text};
+use crate::reply_text::{changed_text, moved_text, owners_text, shown_text};
 use ssa_bench::bench::Bench;
 use ssa_bench::command as bench;
 use ssa_bench::fault::Fault;
+use ssa_path::path::Path;
 use std::alloc::{AllocError, Global};
 
 // The word under which the reply tells of a change.
@@ -93,6 +94,15 @@ fn answer_show(bench: &Bench, alloc: Global) -> Result<Vec<u8>, AllocError>
     shown_text(alloc, &object)
 }
 
+// The managers that own a path.
+fn answer_owners(bench: &Bench, alloc: Global, path: &Path) -> Result<Vec<u8>, AllocError>
+    ensures { IfOk result (λ text. text.items ≡ reply_text (answer bench.now (model.owners path.now)).0) }
+{
+    let owners = bench.owners(alloc, path)?;
+    let text = owners_text(alloc, &owners)?;
+    Ok(text)
+}
+
 // Answers a command. The reply's text is made before the bench changes.
 fn answer_command(bench: &mut Bench, alloc: Global, command: Command) -> Result<Vec<u8>, AllocError>
     ensures reply { IfOk result (λ text. text.items ≡ reply_text (answer bench.old (command_view command)).0) }
@@ -104,6 +114,7 @@ fn answer_command(bench: &mut Bench, alloc: Global, command: Command) -> Result<
         Command::Undo => answer_undo(bench, alloc),
         Command::Redo => answer_redo(bench, alloc),
         Command::Show => answer_show(bench, alloc),
+        Command::Owners(path) => answer_owners(bench, alloc, &path),
     }
 }
 

@@ -1,6 +1,7 @@
 //! Commands of a session.
 
 use ssa_bench::command as bench;
+use ssa_path::path::Path;
 
 /// What a line asks a bench for.
 #[derive(Drop)]
@@ -10,4 +11,6 @@ pub enum Command {
     Undo,
     Redo,
     Show,
+    /// Who owns a path.
+    Owners(Path),
 }

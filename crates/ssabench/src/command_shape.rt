@@ -1,9 +1,9 @@
 // Which JSON objects are commands, by their members.
-ghost use Rattle.std.specs.Prelude.{◌≡◌, ◌||◌, not, Some, None, MatchOption, option_map, option_and_then};
+ghost use Rattle.std.specs.Prelude.{◌≡◌, ◌||◌, not, Some, None, MatchOption, is_some, option_map, option_and_then};
 ghost use Rattle.std.specs.List.{list_all};
-ghost use Rattle.ssa_json.specs.View.{view, members_view};
+ghost use Rattle.ssa_json.specs.View.{view, items_view, members_view};
 ghost use Rattle.ssa_model.specs.Json.{same_text, as_text, member_of};
-ghost use Rattle.ssa_model.specs.Schema.{has_member, is_text};
+ghost use Rattle.ssa_model.specs.Schema.{has_member, is_text, list_of_texts, texts_of};
 ghost use Rattle.ssa_model.specs.Commands.{rule_of, word_of, session_rules, is_truth, is_known_member, are_known_members, follows_rule};
 ghost use Rattle.ssabench.specs.Commands.{word_text, member_rules, rule_at};
 
@@ -19,6 +19,7 @@ pub enum Word {
     Undo,
     Redo,
     Show,
+    Owners,
 }
 
 fn is_same(text: &str, other: &str) -> bool
@@ -42,6 +43,8 @@ fn word_of_text(text: &str) -> Option<Word>
         Some(Word::Redo)
     } else if is_same(text, "show") {
         Some(Word::Show)
+    } else if is_same(text, "owners") {
+        Some(Word::Owners)
     } else {
         None
     }
@@ -80,6 +83,28 @@ fn is_truth(value: &Json) -> bool
     matches!(value, Json::Scalar(Scalar::Bool(_)))
 }
 
+// Whether all items are texts.
+fn are_texts(items: &[Json]) -> bool
+    ensures { result ≡ is_some (texts_of (items_view items.now)) }
+{
+    for item in items {
+        if !is_text(item) {
+            return false;
+        }
+    }
+    true
+}
+
+// Whether the value is a list of texts.
+fn is_list_of_texts(value: &Json) -> bool
+    ensures { result ≡ is_some (list_of_texts (view value.now)) }
+{
+    match value {
+        Json::List(items) => are_texts(items),
+        _ => false,
+    }
+}
+
 // Whether an update command may have the member.
 fn is_update_member(name: &str, value: &Json) -> bool
     ensures { result ≡ is_known_member (member_rules Word.Update) name.now (view value.now) }
@@ -104,6 +129,7 @@ fn is_known_member(word: Word, name: &str, value: &Json) -> bool
     match word {
         Word::Apply => is_apply_member(name, value),
         Word::Update => is_update_member(name, value),
+        Word::Owners => is_same(name, "do") || (is_same(name, "path") && is_list_of_texts(value)),
         Word::Strip | Word::Undo | Word::Redo | Word::Show => is_same(name, "do"),
     }
 }
@@ -133,6 +159,7 @@ pub fn follows_rule(word: Word, members: &BTreeMap<String, Json>) -> bool
     are_known_members(word, members)
         && match word {
             Word::Apply | Word::Update => has_request(members),
+            Word::Owners => has_member(members, "path"),
             Word::Strip | Word::Undo | Word::Redo | Word::Show => true,
         }
 }

@@ -2,19 +2,18 @@
 ghost use Rattle.std.specs.Prelude.{◌≡◌, ◌++◌, IfOk, OnOk, codes};
 ghost use Rattle.ssa_model.specs.Json.{compact};
 ghost use Rattle.ssa_model.specs.Answers as model;
-ghost use Rattle.ssa_model.specs.Entries.{operation_text};
 ghost use Rattle.ssa_model.specs.Replies.{clash_json, fault_reply};
-ghost use Rattle.ssa_merge.specs.Managers.{operation_view, key_view};
+ghost use Rattle.ssa_merge.specs.Managers.{key_view};
 ghost use Rattle.ssa_schema.specs.Finds.{told_view};
 ghost use Rattle.ssa_schema.specs.Kinds.{names_view};
 ghost use Rattle.ssa_bench.specs.Faults.{IsFault};
 ghost use Rattle.ssabench.specs.Replies.{clashes_json, conflict_json, names_json, told_json, line_fault_text};
 
 use crate::engine::OUT_OF_MEMORY;
-use crate::json_text::{push_comma, push_names, push_paths, push_string};
+use crate::json_text::{operation_text, push_comma, push_names, push_paths, push_string};
 use crate::read_command::LineFault;
 use ssa_bench::fault::Fault;
-use ssa_merge::manager::{ManagerKey, Operation};
+use ssa_merge::manager::ManagerKey;
 use ssa_path::field_set::FieldSet;
 use ssa_schema::body_fault::BodyFault;
 use std::alloc::{AllocError, Global};
@@ -29,19 +28,12 @@ pub fn line_fault_text(alloc: Global, fault: &LineFault) -> Result<Vec<u8>, Allo
         LineFault::NumberOutside => b"{\"fault\":3,\"name\":\"NumberOutside\"}",
         LineFault::BadMoment => b"{\"fault\":6,\"name\":\"BadMoment\"}",
         LineFault::CommandShape => b"{\"fault\":66,\"name\":\"CommandShape\"}",
+        LineFault::BadElement => b"{\"fault\":30,\"name\":\"BadElement\"}",
+        LineFault::IndexElement => b"{\"fault\":31,\"name\":\"IndexElement\"}",
+        LineFault::NotCanonical => b"{\"fault\":32,\"name\":\"NotCanonical\"}",
         LineFault::OutOfMemory => OUT_OF_MEMORY,
     };
     text.to_vec(alloc)
-}
-
-// The word of an operation in `managedFields`.
-fn operation_text(operation: Operation) -> &'static str
-    ensures { result.now ≡ operation_text (operation_view operation) }
-{
-    match operation {
-        Operation::Apply => "Apply",
-        Operation::Update => "Update",
-    }
 }
 
 // Appends a manager that a command clashes with, and its fields.

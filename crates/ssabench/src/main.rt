@@ -12,6 +12,7 @@ mod json_text;
 mod limit_tests;
 mod line;
 mod machine;
+mod path_texts;
 mod program;
 mod read_command;
 mod read_line;

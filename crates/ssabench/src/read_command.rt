@@ -9,10 +9,12 @@ ghost use Rattle.ssabench.specs.declared.read_command.LineFault.TheVariants.{Out
 
 use crate::command::Command;
 use crate::command_shape::{Word, follows_rule, text_of, word_of};
+use crate::path_texts::path_of_texts;
 use ssa_bench::command as bench;
 use ssa_json::fault::JsonFault;
 use ssa_json::moment::Moment;
 use ssa_json::value::{Json, Scalar};
+use ssa_path::element_fault::ElemFault;
 use std::alloc::{AllocError, AllocFailed, Global};
 use std::collections::BTreeMap;
 use thiserror::Error;
@@ -36,6 +38,15 @@ pub enum LineFault {
     /// another member.
     #[error("not a command")]
     CommandShape,
+    /// The shape is a command's, and the first text of the path that is left out here is no element.
+    #[error("not an element of a path")]
+    BadElement,
+    /// The first such text names an item by its place, as `i:0` does.
+    #[error("an element by its place")]
+    IndexElement,
+    /// The first such text is another spelling of an element.
+    #[error("not the element's own text")]
+    NotCanonical,
     /// A growth was refused.
     #[error("out of memory")]
     OutOfMemory,
@@ -62,7 +73,7 @@ pub fn read_command(alloc: Global, line: &[u8]) -> Result<Command, LineFault>
     ensures { ReadsCommand result (read_line readings session_rules line.now) }
 {
     match Json::read(alloc, line, line.len()) {
-        Ok(value) => command_of(value),
+        Ok(value) => command_of(alloc, value),
         Err(JsonFault::NotJson) => Err(LineFault::NotJson),
         Err(JsonFault::NullValue) => Err(LineFault::NullValue),
         Err(JsonFault::NumberOutside) => Err(LineFault::NumberOutside),
@@ -72,7 +83,7 @@ pub fn read_command(alloc: Global, line: &[u8]) -> Result<Command, LineFault>
 }
 
 // The command that a value is.
-fn command_of(value: Json) -> Result<Command, LineFault>
+fn command_of(alloc: Global, value: Json) -> Result<Command, LineFault>
     ensures { ReadsCommand result (read_command readings session_rules (view value)) }
 {
     let Json::Object(members) = value else {
@@ -91,6 +102,7 @@ fn command_of(value: Json) -> Result<Command, LineFault>
         Word::Undo => Ok(Command::Undo),
         Word::Redo => Ok(Command::Redo),
         Word::Show => Ok(Command::Show),
+        Word::Owners => owners_command(alloc, &members),
     }
 }
 
@@ -150,6 +162,27 @@ fn update_command(mut members: BTreeMap<String, Json>) -> Result<Command, LineFa
         return Err(LineFault::BadMoment);
     };
     Ok(Command::Change(bench::Command::Update { who, at, object }))
+}
+
+// The owners command of members that follow its rule.
+fn owners_command(
+    alloc: Global,
+    members: &BTreeMap<String, Json>,
+) -> Result<Command, LineFault>
+    requires word { word_of (members_view members.now.entries) ≡ Some (word_text Word.Owners) }
+    requires shape { IsTrue (follows_rule (members_view members.now.entries) (rule_at Word.Owners)) }
+    ensures { ReadsCommand result (read_command readings session_rules (object (members_view members.now.entries))) }
+{
+    let Some(Json::List(texts)) = members.get("path") else {
+        unreachable!("the shape has a list of texts");
+    };
+    match path_of_texts(alloc, texts) {
+        Ok(path) => Ok(Command::Owners(path)),
+        Err(ElemFault::BadElement) => Err(LineFault::BadElement),
+        Err(ElemFault::IndexElement) => Err(LineFault::IndexElement),
+        Err(ElemFault::NotCanonical) => Err(LineFault::NotCanonical),
+        Err(ElemFault::OutOfMemory) => Err(LineFault::OutOfMemory),
+    }
 }
 
 // The truth value, where the value is one, and else false.

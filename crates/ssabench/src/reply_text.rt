@@ -2,13 +2,15 @@
 ghost use Rattle.std.specs.Prelude.{◌≡◌, ◌++◌, IfOk, OnOk, codes};
 ghost use Rattle.ssa_model.specs.Json.{compact};
 ghost use Rattle.ssa_model.specs.Answers as model;
-ghost use Rattle.ssa_model.specs.Replies.{changed_json, moved_json, reply_json, reply_text};
+ghost use Rattle.ssa_model.specs.Replies.{changed_json, key_json, list_json, moved_json, reply_json, reply_text};
 ghost use Rattle.ssa_json.specs.View.{view};
+ghost use Rattle.ssa_merge.specs.Managers.{key_view, lent_keys};
 ghost use Rattle.ssa_bench.specs.Benches.{changed_view};
 
-use crate::json_text::{push_number, push_paths, push_string, push_value};
+use crate::json_text::{operation_text, push_comma, push_number, push_paths, push_string, push_value};
 use ssa_bench::prepared::Changed;
 use ssa_json::value::Json;
+use ssa_merge::manager::ManagerKey;
 use std::alloc::{AllocError, Global};
 
 /// The reply to a command that makes a state: what it changes.
@@ -40,6 +42,15 @@ pub fn shown_text(alloc: Global, object: &Json) -> Result<Vec<u8>, AllocError>
 {
     let mut text = Vec::new(alloc);
     push_shown(alloc, &mut text, object)?;
+    Ok(text)
+}
+
+/// The reply that tells who owns a path.
+pub fn owners_text(alloc: Global, owners: &[&ManagerKey]) -> Result<Vec<u8>, AllocError>
+    ensures { IfOk result (λ text. text.items ≡ reply_text (model.owned_by (lent_keys owners.now))) }
+{
+    let mut text = Vec::new(alloc);
+    push_owners(alloc, &mut text, owners)?;
     Ok(text)
 }
 
@@ -89,6 +100,54 @@ fn push_shown(alloc: Global, text: &mut Vec<u8>, object: &Json) -> Result<(), Al
 {
     text.extend_from_slice(b"{\"done\":\"show\",\"object\":")?;
     push_value(alloc, text, object)?;
+    text.push(b'}')?;
+    Ok(())
+}
+
+// Appends a manager, as `{"manager":"kubectl","operation":"Apply"}`.
+fn push_manager(
+    alloc: Global,
+    text: &mut Vec<u8>,
+    manager: &ManagerKey,
+) -> Result<(), AllocError>
+    ensures { OnOk result (text.new.items ≡ text.old.items ++ compact (key_json (key_view manager.now))) }
+{
+    text.extend_from_slice(b"{\"manager\":")?;
+    push_string(alloc, text, manager.name.as_str())?;
+    text.extend_from_slice(b",\"operation\":")?;
+    push_string(alloc, text, operation_text(manager.operation))?;
+    text.push(b'}')?;
+    Ok(())
+}
+
+// Appends the managers as a list.
+fn push_managers(
+    alloc: Global,
+    text: &mut Vec<u8>,
+    managers: &[&ManagerKey],
+) -> Result<(), AllocError>
+    ensures { OnOk result (text.new.items ≡ text.old.items ++ compact (list_json key_json (lent_keys managers.now))) }
+{
+    text.push(b'[')?;
+    let mut is_later = false;
+    for manager in managers {
+        push_comma(text, is_later)?;
+        push_manager(alloc, text, manager)?;
+        is_later = true;
+    }
+    text.push(b']')?;
+    Ok(())
+}
+
+fn push_owners(
+    alloc: Global,
+    text: &mut Vec<u8>,
+    owners: &[&ManagerKey],
+) -> Result<(), AllocError>
+    ensures { OnOk result (text.new.items ≡ text.old.items ++ compact (reply_json (model.owned_by (lent_keys owners.now)))) }
+{
+    text.extend_from_slice(b"{\"done\":\"owners\",\"owners\":")?;
+    push_managers(alloc, text, owners)?;
     text.push(b'}')?;
     Ok(())
 }

@@ -1,0 +1,25 @@
+-- What reading a path from its elements' texts answers.
+use Rattle.std.specs.Prelude.{◌≡◌, List, [], Option, Some, None, Result, Ok, Err}
+use Rattle.ssa_model.specs.Json.{Text, Items}
+use Rattle.ssa_model.specs.Schema.{texts_of}
+use Rattle.ssa_model.specs.Path as model
+use Rattle.ssa_model.specs.ElementTexts.{ElementFault, bad_element, index_element, not_canonical, path_of}
+use Rattle.ssa_json.specs.Reading.{json_reading}
+use Rattle.ssa_path.specs.declared.path.Path.{Path}
+use Rattle.ssa_path.specs.declared.element_fault.ElemFault.{ElemFault}
+use Rattle.ssa_path.specs.declared.element_fault.ElemFault.TheVariants.{BadElement, IndexElement, NotCanonical, OutOfMemory}
+
+-- the texts, where all items are texts
+abbrev pub given_texts : Items → List Text
+given_texts vs = elim (texts_of vs) [ None ↦ [] | Some ts ↦ ts ]
+
+-- The path is the one of these texts, or the fault is the first one's; where memory ran out, nothing is said.
+abbrev pub IsPathRead : Result model.Path ElemFault → Result model.Path ElementFault → Type 0
+IsPathRead (Ok p) r = r ≡ Ok p
+IsPathRead (Err BadElement) r = r ≡ Err bad_element
+IsPathRead (Err IndexElement) r = r ≡ Err index_element
+IsPathRead (Err NotCanonical) r = r ≡ Err not_canonical
+IsPathRead (Err OutOfMemory) r = Unit {0}
+
+abbrev pub ReadsPath : Result model.Path ElemFault → Items → Type 0
+ReadsPath result vs = IsPathRead result (path_of json_reading (given_texts vs))
