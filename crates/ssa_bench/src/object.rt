@@ -6,6 +6,7 @@ ghost use Rattle.ssa_model.specs.Objects.{object_of_body, with_member, with_give
 ghost use Rattle.ssa_json.specs.View.{view, members_view};
 
 use crate::identity::Identity;
+use ssa_json::members::put_member;
 use ssa_json::value::Json;
 use ssa_schema::schema::Schema;
 use ssa_typed::body::Body;
@@ -40,21 +41,7 @@ fn into_members(alloc: Global, value: Json) -> BTreeMap<String, Json>
     }
 }
 
-// Puts a member in its place.
-fn put(
-    alloc: Global,
-    members: &mut BTreeMap<String, Json>,
-    name: &str,
-    value: Json,
-) -> Result<(), AllocError>
-    ensures { OnOk result (members_view members.new.entries ≡ with_member name.now (view value) (members_view members.old.entries)) }
-{
-    let key = String::from_str(alloc, name)?;
-    drop(members.insert(key, value)?);
-    Ok(())
-}
-
-// The same with a copy of a value that may be absent.
+// Puts a copy of a value in its place, where it is there.
 fn put_given(
     alloc: Global,
     members: &mut BTreeMap<String, Json>,
@@ -64,7 +51,7 @@ fn put_given(
     ensures { OnOk result (members_view members.new.entries ≡ with_given name.now (option_map (λ v. view v.now) value.entry) (members_view members.old.entries)) }
 {
     match value {
-        Some(value) => put(alloc, members, name, value.copy(alloc)?),
+        Some(value) => put_member(alloc, members, name, value.copy(alloc)?),
         None => Ok(()),
     }
 }
@@ -94,7 +81,7 @@ fn add_identity(
     let mut metadata = metadata_of(alloc, members)?;
     put_given(alloc, &mut metadata, "namespace", namespace)?;
     put_given(alloc, &mut metadata, "name", Some(name))?;
-    put(alloc, members, "metadata", Json::Object(metadata))?;
+    put_member(alloc, members, "metadata", Json::Object(metadata))?;
     put_given(alloc, members, "kind", Some(kind))?;
     put_given(alloc, members, "apiVersion", Some(version))
 }

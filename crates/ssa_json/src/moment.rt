@@ -1,9 +1,11 @@
 //! Moments, to the second.
-ghost use Rattle.std.specs.Prelude.{◌≡◌, ◌+◌, ◌<◌, ◌&&◌, ◌↔◌, length, IsOk, IfOk, IfSome, IsTrue, codes};
+ghost use Rattle.std.specs.Prelude.{◌≡◌, ◌+◌, ◌<◌, ◌&&◌, ◌↔◌, length, IsOk, IfOk, IfSome, IsTrue, codes, string_bytes};
 ghost use Rattle.ssa_json.specs.Moment.{is_moment, is_date, is_time, digit_of, two_at, parts_of, has_marks, IsSmall};
 
 use jiff::civil::{Date, Time};
+use std::alloc::{AllocError, Global};
 use std::marker::Model;
+use std::str;
 
 /// A text that is no moment.
 #[derive(Clone, Copy, Debug, PartialEq, Eq)]
@@ -59,6 +61,16 @@ impl Moment {
         ensures moment { IsTrue (is_moment self.now) }
     {
         self.bytes
+    }
+
+    /// The text as a `String`.
+    pub fn to_text(&self, alloc: Global) -> Result<String, AllocError>
+        ensures { IfOk result (λ text. string_bytes text ≡ self.now) }
+    {
+        let Ok(text) = str::from_utf8(&self.bytes) else {
+            unreachable!("the bytes of a moment are ASCII");
+        };
+        String::from_str(alloc, text)
     }
 }
 

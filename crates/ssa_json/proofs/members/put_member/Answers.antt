@@ -1,8 +1,8 @@
 use Rattle.std.proofs.Common.{ap, ◌∙◌}
 use Rattle.ssa_model.specs.Objects.{with_member}
 use Rattle.ssa_json.specs.View.{view, members_view}
-use Rattle.ssa_bench.proofs.Members.{inserted}
-use Rattle.ssa_bench.proofs.object.put.Goals as goal
+use Rattle.ssa_json.proofs.PutMembers.{inserted}
+use Rattle.ssa_json.proofs.members.put_member.Goals as goal
 
 pub returns : goal.returns
 returns c =
