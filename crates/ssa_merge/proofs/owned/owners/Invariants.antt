@@ -4,4 +4,4 @@ use Rattle.ssa_merge.specs.Managers.{lent_keys, table_view}
 use Rattle.ssa_merge.proofs.owned.owners.Given as goal
 
 abbrev pub invariant-loop-entry : goal.invariant-loop-entry
-invariant-loop-entry l = lent_keys l.found.items ≡ owners_of (table_view (take l.entry-index l.table)) l.path.now
+invariant-loop-entry l = lent_keys l.found.items ≡ owners_of (table_view (take l.entry-index l.table)) l.path
