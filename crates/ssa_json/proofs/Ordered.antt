@@ -14,7 +14,7 @@ Named V = String Global × V
 abbrev pub names : {V : Type 0} → List (Named V) → List (List ℕ)
 names es = map (λ e. string_bytes e.0) es
 
-abbrev IsAbove : List ℕ → List (List ℕ) → Type 0
+abbrev pub IsAbove : List ℕ → List (List ℕ) → Type 0
 IsAbove k ns = AllByRecursion (λ n. slice_cmp nat_cmp k n ≡ Greater) ns
 
 module _ {V : Type 0} where
@@ -27,13 +27,13 @@ module _ {V : Type 0} where
   above_first first es e more h =
       nat_list_cmp_total.antisymm (string_bytes e.0) (string_bytes first.0) ∙ ap ordering_reverse (below_middle first es e more h)
 
-  above_before : (done : List (Named V)) (e : Named V) (more : List (Named V)) → IsStrictlySortedBy string_cmp (keys_of (done ++ e ∷ more)) → IsAbove (string_bytes e.0) (names done)
+  pub above_before : (done : List (Named V)) (e : Named V) (more : List (Named V)) → IsStrictlySortedBy string_cmp (keys_of (done ++ e ∷ more)) → IsAbove (string_bytes e.0) (names done)
   unfolding IsStrictlySortedBy
   above_before [] e more h = tt
   above_before (first ∷ done) e more h = (above_first first done e more h.0, above_before done e more h.1)
 
   -- a name above all others goes last
-  insert_entry-last : (es : List (Named V)) (k : String Global) (v : V) → IsAbove (string_bytes k) (names es) → insert_entry string_cmp es k v ≡ es ++ (k, v) ∷ []
+  pub insert_entry-last : (es : List (Named V)) (k : String Global) (v : V) → IsAbove (string_bytes k) (names es) → insert_entry string_cmp es k v ≡ es ++ (k, v) ∷ []
   insert_entry-last [] k v h = refl
   insert_entry-last (e ∷ es) k v h = rw h.0 (ap (λ t. e ∷ t) (insert_entry-last es k v h.1))
 

@@ -1,6 +1,7 @@
 //! Managers of fields, and what Apply, Update and Strip make of a state.
 #![tactic(auto)]
 
+pub mod entries;
 pub mod given_up;
 pub mod manager;
 pub mod managers;

@@ -1,5 +1,6 @@
 //! Managers of fields: a name, and the operation by which it came to own them.
 ghost use Rattle.std.specs.Prelude.{◌≡◌, IfOk};
+ghost use Rattle.ssa_model.specs.Entries.{operation_text};
 ghost use Rattle.ssa_model.specs.Table.{same_operation, same_manager};
 ghost use Rattle.ssa_merge.specs.Managers.{operation_view, key_view};
 
@@ -20,6 +21,16 @@ pub struct ManagerKey {
 }
 
 impl Operation {
+    /// The word of the operation in `managedFields`.
+    pub fn text(self) -> &'static str
+        ensures { result.now ≡ operation_text (operation_view self) }
+    {
+        match self {
+            Operation::Apply => "Apply",
+            Operation::Update => "Update",
+        }
+    }
+
     /// Whether both are one operation.
     pub fn is_same(self, other: Operation) -> bool
         ensures { result ≡ same_operation (operation_view self) (operation_view other) }

@@ -98,7 +98,7 @@ children-push : (cs : List (Elem × Trie)) (c : Elem × Trie) → children_rise 
 children-push [] c h k = both _ _ k refl
 children-push (d ∷ cs) c h k = both _ _ (both_first _ _ h) (children-push cs c (both_second _ _ h) k)
 
-taken : (cs : List (Elem × Trie)) (i : ℕ) (c : Elem × Trie) → i < length cs → c ≡ get_or cs i c → take (i + 1) cs ≡ take i cs ++ c ∷ []
+pub taken : (cs : List (Elem × Trie)) (i : ℕ) (c : Elem × Trie) → i < length cs → c ≡ get_or cs i c → take (i + 1) cs ≡ take i cs ++ c ∷ []
 taken cs i c lt is = take_more cs i c lt ∙ ap (λ x. take i cs ++ x ∷ []) (sym is)
 
 -- ---- the paths listed

@@ -1,5 +1,6 @@
 pub mod Combining
 pub mod Comparing
+pub mod ElementTexts
 pub mod Escapes
 pub mod Inserting
 pub mod KeyFields
@@ -15,3 +16,6 @@ pub mod Searching
 pub mod Sets
 pub mod Texts
 pub mod OwnTexts
+pub mod FieldsLevels
+pub mod FieldsMembers
+pub mod FieldsSays

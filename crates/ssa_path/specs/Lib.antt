@@ -9,3 +9,4 @@ pub mod Order
 pub mod Trie
 pub mod View
 pub mod OwnText
+pub mod FieldsWriting

@@ -1,5 +1,5 @@
 //! The text of an element.
-ghost use Rattle.std.specs.Prelude.{◌≡◌, ◌∷◌, ◌++◌, Ok, IfOk, OnOk, true, false};
+ghost use Rattle.std.specs.Prelude.{◌≡◌, ◌∷◌, ◌++◌, Ok, IfOk, OnOk, true, false, string_bytes};
 ghost use Rattle.ssa_model.specs.Json.{comma_if, compact_members, quoted, scalar_text};
 ghost use Rattle.ssa_model.specs.Path.{element_text, key_members};
 ghost use Rattle.ssa_model.specs.ElementTexts.{element_of};
@@ -39,6 +39,18 @@ impl Elem {
             }
         }
         Ok(text)
+    }
+
+    /// The element's text, as a string.
+    pub fn name(&self, alloc: Global) -> Result<String, AllocError>
+        ensures text { IfOk result (λ name. string_bytes name ≡ element_text (element_view self.now)) }
+        ensures of_program { OnOk result (IsElementOfProgram (element_view self.now)) }
+    {
+        let text = self.text(alloc)?;
+        match String::from_utf8(text) {
+            Ok(name) => Ok(name),
+            Err(_) => unreachable!("the text of an element is UTF-8"),
+        }
     }
 }
 

@@ -8,6 +8,7 @@ pub mod element_fault;
 mod element_read;
 mod element_text;
 pub mod field_set;
+mod fields_v1;
 mod key_fields;
 pub mod keys;
 pub mod listing;

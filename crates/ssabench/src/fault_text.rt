@@ -10,7 +10,7 @@ ghost use Rattle.ssa_bench.specs.Faults.{IsFault};
 ghost use Rattle.ssabench.specs.Replies.{clashes_json, conflict_json, names_json, told_json, line_fault_text};
 
 use crate::engine::OUT_OF_MEMORY;
-use crate::json_text::{operation_text, push_comma, push_names, push_paths, push_string};
+use crate::json_text::{push_comma, push_names, push_paths, push_string};
 use crate::read_command::LineFault;
 use ssa_bench::fault::Fault;
 use ssa_merge::manager::ManagerKey;
@@ -50,7 +50,7 @@ fn push_clash(
     text.extend_from_slice(b",\"manager\":")?;
     push_string(alloc, text, manager.name.as_str())?;
     text.extend_from_slice(b",\"operation\":")?;
-    push_string(alloc, text, operation_text(manager.operation))?;
+    push_string(alloc, text, manager.operation.text())?;
     text.push(b'}')?;
     Ok(())
 }

@@ -1,32 +1,20 @@
 // Appends JSON text, piece by piece.
 ghost use Rattle.std.specs.Prelude.{◌≡◌, ◌++◌, OnOk};
 ghost use Rattle.ssa_model.specs.Json.{compact, comma_if};
-ghost use Rattle.ssa_model.specs.Entries.{operation_text, text_json};
+ghost use Rattle.ssa_model.specs.Entries.{text_json};
 ghost use Rattle.ssa_model.specs.Replies.{number_json, path_json, paths_json};
 ghost use Rattle.ssa_json.specs.View.{view};
 ghost use Rattle.ssa_model.specs.Path.{element_text};
 ghost use Rattle.ssa_path.specs.View.{element_view};
-ghost use Rattle.ssa_merge.specs.Managers.{operation_view};
 ghost use Rattle.ssa_schema.specs.Kinds.{names_view};
 ghost use Rattle.ssabench.specs.Replies.{names_json};
 
 use ssa_json::value::{Json, Scalar};
-use ssa_merge::manager::Operation;
 use ssa_path::element::Elem;
 use ssa_path::field_set::FieldSet;
 use ssa_path::path::Path;
 use std::alloc::{AllocError, Global};
 use std::str;
-
-/// The word of an operation in `managedFields`.
-pub fn operation_text(operation: Operation) -> &'static str
-    ensures { result.now ≡ operation_text (operation_view operation) }
-{
-    match operation {
-        Operation::Apply => "Apply",
-        Operation::Update => "Update",
-    }
-}
 
 /// Appends the comma in front of each item but the first.
 pub fn push_comma(text: &mut Vec<u8>, is_later: bool) -> Result<(), AllocError>

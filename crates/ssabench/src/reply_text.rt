@@ -7,7 +7,7 @@ ghost use Rattle.ssa_json.specs.View.{view};
 ghost use Rattle.ssa_merge.specs.Managers.{key_view, lent_keys};
 ghost use Rattle.ssa_bench.specs.Benches.{changed_view};
 
-use crate::json_text::{operation_text, push_comma, push_number, push_paths, push_string, push_value};
+use crate::json_text::{push_comma, push_number, push_paths, push_string, push_value};
 use ssa_bench::prepared::Changed;
 use ssa_json::value::Json;
 use ssa_merge::manager::ManagerKey;
@@ -115,7 +115,7 @@ fn push_manager(
     text.extend_from_slice(b"{\"manager\":")?;
     push_string(alloc, text, manager.name.as_str())?;
     text.extend_from_slice(b",\"operation\":")?;
-    push_string(alloc, text, operation_text(manager.operation))?;
+    push_string(alloc, text, manager.operation.text())?;
     text.push(b'}')?;
     Ok(())
 }

@@ -2,7 +2,7 @@ use Rattle.std.proofs.Common.{IsUtf8, ap, subst, sym, ◌∙◌}
 use Rattle.ssa_model.specs.ElementTexts.{element_of}
 use Rattle.ssa_json.specs.Reading.{json_reading}
 use Rattle.ssa_path.specs.View.{element_view}
-use Rattle.ssabench.proofs.ElementTexts.{element_text-is-utf8}
+use Rattle.ssa_path.proofs.ElementTexts.{element_text-is-utf8}
 use Rattle.ssabench.proofs.json_text.push_element.Goals as goal
 
 pub unreachable-requires : goal.unreachable-requires

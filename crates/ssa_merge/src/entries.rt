@@ -1,0 +1,64 @@
+//! The table of managers as the entries of `managedFields`.
+ghost use Rattle.std.specs.Prelude.{◌≡◌, IfOk, OnOk};
+ghost use Rattle.ssa_model.specs.Entries.{entry_items, entry_json, text_json};
+ghost use Rattle.ssa_model.specs.Json.{list};
+ghost use Rattle.ssa_model.specs.Objects.{with_member};
+ghost use Rattle.ssa_json.specs.View.{view, members_view};
+ghost use Rattle.ssa_merge.specs.Managers.{entry_view};
+
+use crate::managers::{Entry, Managers};
+use ssa_json::members::put_member;
+use ssa_json::value::{Json, Scalar};
+use std::alloc::{AllocError, Global};
+use std::collections::BTreeMap;
+
+// Puts a text in its place among members.
+fn put_text(
+    alloc: Global,
+    members: &mut BTreeMap<String, Json>,
+    name: &str,
+    text: &str,
+) -> Result<(), AllocError>
+    ensures { OnOk result (members_view members.new.entries ≡ with_member name.now (text_json text.now) (members_view members.old.entries)) }
+{
+    let value = Json::Scalar(Scalar::Text(String::from_str(alloc, text)?));
+    put_member(alloc, members, name, value)
+}
+
+impl Entry {
+    /// The entry of `managedFields`, for an object of this `apiVersion`.
+    ///
+    /// It has exactly the members `apiVersion`, `fieldsType`, `fieldsV1`, `manager`, `operation` and
+    /// `time`, as
+    /// [ManagedFieldsEntry](https://kubernetes.io/docs/reference/kubernetes-api/common-definitions/object-meta/)
+    /// has them.
+    pub fn to_json(&self, alloc: Global, api_version: &str) -> Result<Json, AllocError>
+        ensures { IfOk result (λ v. view v ≡ entry_json (text_json api_version.now) (entry_view self.now)) }
+    {
+        let fields = self.set.get().to_fields_v1(alloc)?;
+        let time = self.at.to_text(alloc)?;
+        let mut members = BTreeMap::new(alloc);
+        put_text(alloc, &mut members, "time", time.as_str())?;
+        put_text(alloc, &mut members, "operation", self.key.operation.text())?;
+        put_text(alloc, &mut members, "manager", self.key.name.as_str())?;
+        put_member(alloc, &mut members, "fieldsV1", fields)?;
+        put_text(alloc, &mut members, "fieldsType", "FieldsV1")?;
+        put_text(alloc, &mut members, "apiVersion", api_version)?;
+        Ok(Json::Object(members))
+    }
+}
+
+impl Managers {
+    /// The list of `managedFields`, for an object of this `apiVersion`: an entry for each manager, in
+    /// table order.
+    pub fn to_entries(&self, alloc: Global, api_version: &str) -> Result<Json, AllocError>
+        ensures { IfOk result (λ v. view v ≡ list (entry_items (text_json api_version.now) self.now)) }
+    {
+        let mut entries = Vec::with_capacity(alloc, self.len())?;
+        for entry in self.entries() {
+            let value = entry.to_json(alloc, api_version)?;
+            entries.push(value)?;
+        }
+        Ok(Json::List(entries))
+    }
+}

@@ -1,0 +1,25 @@
+-- What lists of paths are written as, on the way down.
+use Rattle.std.specs.Prelude.{◌≡◌, ◌≢◌, List, Bool, true, false, codes, if◌then◌else◌}
+use Rattle.ssa_model.specs.Json.{Json, Members, no_members, member}
+use Rattle.ssa_model.specs.Path.{Path}
+use Rattle.ssa_model.specs.Entries.{is_place_alone, longest, nothing_written, written_paths}
+use Rattle.ssa_model.specs.FieldsV1.{dot_alone, IsCanonical}
+
+-- the object of the paths
+abbrev pub paths_json : List Path → Json
+paths_json ps = written_paths (longest ps) ps
+
+-- what stands under an element, where these are the paths that go on from it
+abbrev pub below_json : List Path → Json
+below_json ps = if is_place_alone ps then nothing_written else paths_json ps
+
+-- the member `.` alone, or none
+abbrev pub dot_members : Bool → Members
+dot_members true = member (codes ".") nothing_written no_members
+dot_members false = no_members
+
+-- the value stands under an element, in the one writing of the paths that go on from it
+pub record IsWrittenBelow (ps : List Path) (v : Json) : Type 0 where
+  pub json : v ≡ below_json ps
+  pub not_dot : v ≢ dot_alone
+  pub canonical : IsCanonical v

@@ -1,0 +1,71 @@
+// Sets of paths written as FieldsV1.
+ghost use Rattle.std.specs.Prelude.{◌≡◌, true, IfOk};
+ghost use Rattle.ssa_model.specs.Entries.{fields_json};
+ghost use Rattle.ssa_model.specs.FieldsV1.{AreCanonical, IsWritten};
+ghost use Rattle.ssa_model.specs.Json.{object};
+ghost use Rattle.ssa_json.specs.View.{view, members_view};
+ghost use Rattle.ssa_path.specs.FieldsWriting.{dot_members, paths_json, IsWrittenBelow};
+ghost use Rattle.ssa_path.specs.Trie.{is_filled, is_trie, paths};
+
+use crate::field_set::FieldSet;
+use crate::trie::Trie;
+use ssa_json::value::Json;
+use std::alloc::{AllocError, Global};
+use std::collections::BTreeMap;
+
+impl FieldSet {
+    /// The set as FieldsV1 of the Kubernetes API: an object with a member for each first element of
+    /// the paths, under the element's text, and in it what goes on from there.
+    ///
+    /// A member `.` with `{}` says that the place itself is in the set. Where nothing below a place
+    /// is, the place is written as `{}` alone.
+    pub fn to_fields_v1(&self, alloc: Global) -> Result<Json, AllocError>
+        ensures json { IfOk result (λ v. view v ≡ fields_json self.now) }
+        ensures written { IfOk result (λ v. IsWritten self.now (view v)) }
+    {
+        let members = place_members(alloc, self.root())?;
+        Ok(Json::Object(members))
+    }
+}
+
+// The member that says that the place itself is in the set, where it is.
+fn own_member(alloc: Global, here: bool) -> Result<BTreeMap<String, Json>, AllocError>
+    ensures { IfOk result (λ ms. members_view ms.entries ≡ dot_members here) }
+{
+    let mut members = BTreeMap::new(alloc);
+    if here {
+        let name = String::from_str(alloc, ".")?;
+        drop(members.insert(name, Json::Object(BTreeMap::new(alloc)))?);
+    }
+    Ok(members)
+}
+
+// The members of a place, with `.` where the place itself is in the set.
+#[cycle(place)]
+fn place_members(alloc: Global, place: &Trie) -> Result<BTreeMap<String, Json>, AllocError>
+    requires { is_trie place.now ≡ true }
+    ensures json { IfOk result (λ ms. object (members_view ms.entries) ≡ paths_json (paths place.now)) }
+    ensures canonical { IfOk result (λ ms. AreCanonical (members_view ms.entries)) }
+{
+    let mut members = own_member(alloc, place.here)?;
+    for child in &place.below {
+        let name = child.0.name(alloc)?;
+        let value = below_value(alloc, &child.1)?;
+        drop(members.insert(name, value)?);
+    }
+    Ok(members)
+}
+
+// What stands under an element: `{}` where nothing below its place is in the set.
+#[cycle(place)]
+fn below_value(alloc: Global, place: &Trie) -> Result<Json, AllocError>
+    requires trie { is_trie place.now ≡ true }
+    requires filled { is_filled place.now ≡ true }
+    ensures { IfOk result (λ v. IsWrittenBelow (paths place.now) (view v)) }
+{
+    if place.below.is_empty() {
+        return Ok(Json::Object(BTreeMap::new(alloc)));
+    }
+    let members = place_members(alloc, place)?;
+    Ok(Json::Object(members))
+}
