@@ -1,3 +1,4 @@
+pub mod EntryItems
 pub mod Seats
 pub mod Seated
 pub mod GivenUp
