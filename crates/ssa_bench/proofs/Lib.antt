@@ -1,3 +1,5 @@
+pub mod Named
+pub mod ShownMembers
 pub mod ValidTimelines
 pub mod Histories
 pub mod Planned

@@ -16,7 +16,7 @@ use crate::command::Command;
 use crate::fault::Fault;
 use crate::identity::{Identity, gives_managed_fields, has_identity};
 use crate::names::is_manager_name;
-use crate::object::object_of_body;
+use crate::object::object_of_state;
 use crate::prepared::{Changed, Counts, Prepared, accepted};
 use crate::timeline::{Label, Timeline};
 use ssa_json::moment::Moment;
@@ -338,12 +338,13 @@ impl Bench {
         self.timeline.future_len()
     }
 
-    /// The object of the present state.
-    pub fn show(&self, alloc: Global) -> Result<Json, AllocError>
-        ensures { IfOk result (λ v. view v ≡ object_of_state self.now.identity self.now.kind false (present self.now.timeline)) }
+    /// The object of the present state; with `managed`, its metadata has the managers' entries as
+    /// `managedFields`, where there are some.
+    pub fn show(&self, alloc: Global, managed: bool) -> Result<Json, AllocError>
+        ensures { IfOk result (λ v. view v ≡ object_of_state self.now.identity self.now.kind managed (present self.now.timeline)) }
     {
         let now = self.timeline.present();
-        object_of_body(alloc, &self.identity, &self.schema, &now.body)
+        object_of_state(alloc, &self.identity, &self.schema, managed, now)
     }
 
     /// The managers that own the path in the present state, in table order: none of a path that nobody

@@ -2,7 +2,7 @@
 ghost use Rattle.std.specs.Prelude.{◌≡◌, ◌∷◌, [], IfOk, codes, not, ◌&&◌, ◌||◌, Some, None, option_map};
 ghost use Rattle.ssa_model.specs.Objects.{value_at, identity_of, is_named_text, is_some_object, is_identity, same_value, same_identity, is_missing};
 ghost use Rattle.ssa_json.specs.View.{view};
-ghost use Rattle.ssa_bench.specs.Identities.{identity_in};
+ghost use Rattle.ssa_bench.specs.Identities.{identity_in, HasVersion};
 
 use ssa_json::value::Json;
 use std::alloc::{AllocError, Global};
@@ -29,6 +29,10 @@ impl Model for Identity {
     ghost use Rattle.ssa_bench.specs.Identities.{identity_view};
 
     ghost view = { identity_view };
+
+    ghost use Rattle.ssa_bench.specs.Identities.{IsNamed};
+
+    ghost invariant = { IsNamed };
 }
 
 // The member of a member.
@@ -149,6 +153,16 @@ impl Identity {
             &self.name,
             self.namespace.as_ref(),
         )
+    }
+
+    /// The `apiVersion`.
+    pub fn version(&self) -> &str
+        ensures { HasVersion result.now self.now }
+    {
+        let Some(version) = self.version.as_text() else {
+            unreachable!("the version is a text");
+        };
+        version
     }
 
     /// Whether the object's identity is this one, absence of the namespace included.

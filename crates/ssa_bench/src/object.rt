@@ -1,20 +1,23 @@
-//! The object of an identity and a body.
+//! The object of an identity and a state.
 ghost use Rattle.std.specs.Prelude.{◌≡◌, IfOk, OnOk, option_map, codes};
 ghost use Rattle.ssa_model.specs.Json.{member_of};
 ghost use Rattle.ssa_model.specs.Fitting.{IsBodyOf};
 ghost use Rattle.ssa_model.specs.Objects.{object_of_body, with_member, with_given, with_identity, members_in, members_of_value};
+ghost use Rattle.ssa_model.specs.Entries.{object_of_state, with_entries};
 ghost use Rattle.ssa_json.specs.View.{view, members_view};
+ghost use Rattle.ssa_merge.specs.States.{state_view};
 
 use crate::identity::Identity;
 use ssa_json::members::put_member;
 use ssa_json::value::Json;
+use ssa_merge::state::State;
 use ssa_schema::schema::Schema;
 use ssa_typed::body::Body;
 use std::alloc::{AllocError, Global};
 use std::collections::BTreeMap;
 
-/// The object of an identity and a body of a schema.
-pub fn object_of_body(
+// The object of an identity and a body of a schema.
+fn object_of_body(
     alloc: Global,
     identity: &Identity,
     schema: &Schema,
@@ -29,6 +32,38 @@ pub fn object_of_body(
     let mut members = into_members(alloc, shown);
     add_identity(alloc, &mut members, identity)?;
     Ok(Json::Object(members))
+}
+
+// The object with these entries as its `managedFields`.
+fn with_managed_fields(alloc: Global, shown: Json, entries: Json) -> Result<Json, AllocError>
+    ensures { IfOk result (λ v. view v ≡ with_entries (view entries) (view shown)) }
+{
+    let mut members = into_members(alloc, shown);
+    let mut metadata = metadata_of(alloc, &members)?;
+    put_member(alloc, &mut metadata, "managedFields", entries)?;
+    put_member(alloc, &mut members, "metadata", Json::Object(metadata))?;
+    Ok(Json::Object(members))
+}
+
+/// The object of an identity and a state of a schema, with the managers' entries as its
+/// `managedFields` where they are asked for and there are some.
+pub fn object_of_state(
+    alloc: Global,
+    identity: &Identity,
+    schema: &Schema,
+    managed: bool,
+    state: &State,
+) -> Result<Json, AllocError>
+    requires { IsBodyOf schema.now.1 (state_view state.now).body }
+    ensures { IfOk result (λ v. view v ≡ object_of_state identity.now schema.now.1 managed (state_view state.now)) }
+{
+    let shown = object_of_body(alloc, identity, schema, &state.body)?;
+    if !managed || state.managers.len() == 0 {
+        return Ok(shown);
+    }
+    let entries = state.managers.to_entries(alloc, identity.version())?;
+    let object = with_managed_fields(alloc, shown, entries)?;
+    Ok(object)
 }
 
 // The members of an object; none of another value.

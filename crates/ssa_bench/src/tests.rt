@@ -215,7 +215,7 @@ pub(crate) fn shows(
     bench: &Bench,
     members: &str,
 ) -> Result<(), Fail> {
-    let shown = bench.show(alloc)?.to_text(alloc)?;
+    let shown = bench.show(alloc, false)?.to_text(alloc)?;
     let wanted = object(alloc, members)?.to_text(alloc)?;
     assert_eq!(rt; shown.as_slice(), wanted.as_slice());
     Ok(())

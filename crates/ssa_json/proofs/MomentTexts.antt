@@ -28,10 +28,10 @@ two_small t i n is =
     elim (digit_of (slice_index t i)) as (λ a. digit_of (slice_index t i) ≡ a → (slice_index t i < 128) × (slice_index t (i + 1) < 128)) [
       | None ↦ λ none. absurd (true≢false (sym (ap is_some is) ∙ rw none refl))
       | Some a ↦ λ first.
-      elim (digit_of (slice_index t (i + 1))) as (λ b. digit_of (slice_index t (i + 1)) ≡ b → (slice_index t i < 128) × (slice_index t (i + 1) < 128)) [
-        | None ↦ λ none. absurd (true≢false (sym (ap is_some is) ∙ rw (first, none) refl))
-        | Some b ↦ λ second. (digit_small (slice_index t i) (ap is_some first), digit_small (slice_index t (i + 1)) (ap is_some second))
-      ] refl
+          elim (digit_of (slice_index t (i + 1))) as (λ b. digit_of (slice_index t (i + 1)) ≡ b → (slice_index t i < 128) × (slice_index t (i + 1) < 128)) [
+            | None ↦ λ none. absurd (true≢false (sym (ap is_some is) ∙ rw (first, none) refl))
+            | Some b ↦ λ second. (digit_small (slice_index t i) (ap is_some first), digit_small (slice_index t (i + 1)) (ap is_some second))
+          ] refl
     ] refl
 
 past-end : (t : List ℕ) (i : ℕ) → length t ≤ i → slice_index t i < 128

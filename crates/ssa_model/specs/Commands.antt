@@ -80,7 +80,7 @@ session_rules =
     ∷ record { word = codes "strip"; members = [] }
     ∷ record { word = codes "undo"; members = [] }
     ∷ record { word = codes "redo"; members = [] }
-    ∷ record { word = codes "show"; members = [] }
+    ∷ record { word = codes "show"; members = may_have (codes "managed") truth_member ∷ [] }
     ∷ record { word = codes "owners"; members = needs (codes "path") texts_member ∷ [] }
     ∷ []
 

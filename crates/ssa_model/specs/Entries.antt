@@ -81,12 +81,17 @@ abbrev pub version_in : Option Json → Json
 version_in (Some v) = v
 version_in None = nothing_written
 
+-- the object with `managedFields` in its metadata
+abbrev pub with_entries : Json → Json → Json
+with_entries entries v =
+    let metadata = members_in (value_at (codes "metadata" ∷ []) v) in
+    object (with_member (codes "metadata") (object (with_member (codes "managedFields") entries metadata)) (members_in (Some v)))
+
 abbrev pub with_managed_fields : Table → Json → Json
 with_managed_fields [] v = v
 with_managed_fields (e ∷ es) v =
     let version = version_in (value_at (codes "apiVersion" ∷ []) v) in
-    let metadata = members_in (value_at (codes "metadata" ∷ []) v) in
-    object (with_member (codes "metadata") (object (with_member (codes "managedFields") (list (entry_items version (e ∷ es))) metadata)) (members_in (Some v)))
+    with_entries (list (entry_items version (e ∷ es))) v
 
 -- the object of a state, with its managers' entries where they are asked for and there are some
 abbrev pub object_of_state : List (Option Json) → Kind → Bool → State → Json

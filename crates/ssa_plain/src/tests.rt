@@ -161,7 +161,7 @@ impl Pair {
 
     // Whether both have the same body and the same counts of undo and redo.
     fn agrees(&self, alloc: Global) -> Result<bool, Fail> {
-        let shown = self.bench.show(alloc)?;
+        let shown = self.bench.show(alloc, false)?;
         let rows = flat(alloc, &shown, self.schema.kind())?;
         let counts = self.bench.past_len() == self.history.past_len()
             && self.bench.future_len() == self.history.future_len();

@@ -8,7 +8,7 @@ use Rattle.std.specs.BTreeMap.{UpdatesBy, get_by_text}
 use Rattle.std.specs.Cmp.Lexicographic.{slice_cmp}
 use Rattle.std.specs.Str.{bytes_eq}
 use Rattle.ssa_model.specs.Json.{Text, text, whole, truth, Json, scalar, list, object, Items, Members, no_members, member, member_of, same_text, as_text}
-use Rattle.ssa_model.specs.Schema.{has_member, is_text, list_of_texts}
+use Rattle.ssa_model.specs.Schema.{has_member, is_text, list_of_texts, texts_of}
 use Rattle.ssa_model.specs.Commands as given
 use Rattle.ssa_model.specs.Commands.{MemberRule, CommandRule, rule_of, word_of, session_rules, is_known_member, are_known_members, follows_rule, truth_in, text_in, texts_in, value_in, command_with}
 use Rattle.ssa_model.specs.Answers as answers
@@ -22,7 +22,7 @@ use Rattle.ssa_json.proofs.Equality.{same_text-true}
 use Rattle.ssa_json.proofs.Views.{view-lookup}
 use Rattle.ssabench.specs.declared.command_shape.Word.{Word}
 use Rattle.ssabench.specs.declared.command_shape.Word.TheVariants.{Apply, Update, Strip, Undo, Redo, Show, Owners}
-use Rattle.ssabench.specs.PathTexts.{given_texts}
+use Rattle.ssabench.specs.PathTexts.{as_list, given_texts}
 use Rattle.ssabench.specs.Commands.{readings, word_text, member_rules, rule_at, HasRequest, given_moment}
 
 -- what a value is read as
@@ -76,18 +76,8 @@ known_member rules (member m w rest) n v known is =
       | false ↦ λ _ later. known_member rules rest n v parts.1 later
     ] refl is
 
--- a member that the rules do not name is absent
-pub absent_member : (rules : List MemberRule) (ms : Members) (n : Text) → are_known_members rules ms ≡ true → ((v : Json) → is_known_member rules n v ≡ false) → member_of n ms ≡ None
-absent_member rules ms n known unknown =
-    elim (member_of n ms) as (λ o. member_of n ms ≡ o → o ≡ None) [
-      | None ↦ λ _. refl
-      | Some v ↦ λ is. absurd (true≢false (sym (known_member rules ms n v known is) ∙ unknown v))
-    ] refl
-
-pub meaning-show : (ms : Members) → word_of ms ≡ Some (codes "show") → follows_rule ms (rule_at Show) ≡ true → meaning (object ms) ≡ Ok (answers.show false)
-meaning-show ms is follows =
-    meaning-word ms Show true is follows
-    ∙ ap (λ o. Ok (answers.show (truth_in o))) (absent_member [] ms (codes "managed") (and_parts (are_known_members [] ms) true follows).0 (λ v. refl))
+pub meaning-show : (ms : Members) → word_of ms ≡ Some (codes "show") → follows_rule ms (rule_at Show) ≡ true → meaning (object ms) ≡ Ok (answers.show (truth_in (member_of (codes "managed") ms)))
+meaning-show ms is follows = meaning-word ms Show true is follows
 
 pub rule_of-other : (t : Text) → same_text t (codes "apply") ≡ false → same_text t (codes "update") ≡ false → same_text t (codes "strip") ≡ false → same_text t (codes "undo") ≡ false → same_text t (codes "redo") ≡ false
     → same_text t (codes "show") ≡ false → same_text t (codes "owners") ≡ false → rule_of session_rules t ≡ None
@@ -163,10 +153,28 @@ texts_there ms follows =
       | Some v ↦ λ is _. is_true-or_false (is_some (list_of_texts v)) (known_member (member_rules Owners) ms (codes "path") v parts.0 is)
     ] refl path.0
 
-pub meaning-owners : (ms : Members) (vs : Items) → word_of ms ≡ Some (codes "owners") → follows_rule ms (rule_at Owners) ≡ true → member_of (codes "path") ms ≡ Some (list vs)
+list-given : (o : Option Json) (vs : Items) → option_and_then as_list o ≡ Some vs → o ≡ Some (list vs)
+list-given None vs is = cc
+list-given (Some (scalar s)) vs is = cc
+list-given (Some (list ws)) vs is = cc
+list-given (Some (object ms)) vs is = cc
+
+list-there : (o : Option Json) → is_some (option_and_then list_of_texts o) ≡ true → option_and_then as_list o ≡ None → ⊥
+list-there None some none = true≢false (sym some)
+list-there (Some (scalar s)) some none = true≢false (sym some)
+list-there (Some (list vs)) some none = cc
+list-there (Some (object ms)) some none = true≢false (sym some)
+
+pub path-there : (ms : Members) → follows_rule ms (rule_at Owners) ≡ true → option_and_then as_list (member_of (codes "path") ms) ≡ None → ⊥
+path-there ms follows none = list-there (member_of (codes "path") ms) (texts_there ms follows) none
+
+pub path-texts : (ms : Members) (vs : Items) → follows_rule ms (rule_at Owners) ≡ true → option_and_then as_list (member_of (codes "path") ms) ≡ Some vs → is_some (texts_of vs) ≡ true
+path-texts ms vs follows is = sym (ap (λ o. is_some (option_and_then list_of_texts o)) (list-given (member_of (codes "path") ms) vs is)) ∙ texts_there ms follows
+
+pub meaning-owners : (ms : Members) (vs : Items) → word_of ms ≡ Some (codes "owners") → follows_rule ms (rule_at Owners) ≡ true → option_and_then as_list (member_of (codes "path") ms) ≡ Some vs
     → meaning (object ms) ≡ owners_command (path_of json_reading (given_texts vs))
 meaning-owners ms vs is follows there =
-    meaning-word ms Owners true is follows ∙ ap (λ o. owners_command (path_of json_reading (texts_in o))) there
+    meaning-word ms Owners true is follows ∙ ap (λ o. owners_command (path_of json_reading (texts_in o))) (list-given (member_of (codes "path") ms) vs there)
 
 -- a member of another name stays where one is taken out
 pub other_member : (old new : BTreeMap (String Global) values.Json) (gone n : Text) → UpdatesBy string_cmp (λ k. slice_cmp nat_cmp gone (string_bytes k)) old new None → bytes_eq gone n ≡ false

@@ -1,6 +1,6 @@
 -- Reading a path, text by text.
 use Rattle.std.proofs.Common.{◌≡◌, ℕ, ◌+◌, ◌<◌, ◌≤◌, List, [], ◌∷◌, ◌++◌, true, drop, length, get_or, refl, sym, ap, ◌∙◌, append_assoc, true≢false}
-use Rattle.std.specs.Prelude.{Option, Some, None, Result, Ok, Err, is_some}
+use Rattle.std.specs.Prelude.{Option, Some, None, Result, Ok, Err, is_some, option_and_then, option_map}
 use Rattle.std.proofs.lemmas.List.{append-nil, drop_more, drop_all}
 use Rattle.ssa_model.specs.Json.{Text, text, whole, truth, Json, scalar, list, object, Items, item, as_text}
 use Rattle.ssa_model.specs.Schema.{texts_of}
@@ -9,7 +9,7 @@ use Rattle.ssa_model.specs.ElementTexts.{ElementFault, element_of, next_element,
 use Rattle.ssa_json.specs.Reading.{json_reading}
 use Rattle.ssa_json.specs.View.{view, items_view}
 use Rattle.ssa_json.specs.declared.value.Json as values
-use Rattle.ssabench.specs.PathTexts.{given_texts}
+use Rattle.ssabench.specs.PathTexts.{given_texts, texts_or_none}
 
 -- the path of a beginning that is read and of what is left
 abbrev pub behind : Path → Result Path ElementFault → Result Path ElementFault
@@ -26,13 +26,14 @@ behind-next es e (Ok p) = ap Ok (sym (append_assoc es (e ∷ []) p))
 behind-next es e (Err f) = refl
 
 -- a text in front
+more : (s : Text) (o : Option (List Text)) → is_some (option_and_then (λ t. option_map (λ ts. t ∷ ts) o) (Some s)) ≡ true
+    → (is_some o ≡ true) × (texts_or_none (option_and_then (λ t. option_map (λ ts. t ∷ ts) o) (Some s)) ≡ s ∷ texts_or_none o)
+more s None some = absurd (true≢false (sym some))
+more s (Some ts) some = (refl, refl)
+
 texts-more : (v : Json) (t : Text) (vs : Items) → as_text v ≡ Some t → is_some (texts_of (item v vs)) ≡ true
     → (is_some (texts_of vs) ≡ true) × (given_texts (item v vs) ≡ t ∷ given_texts vs)
-texts-more (scalar (text s)) t vs is some =
-    elim (texts_of vs) as (λ o. texts_of vs ≡ o → (is_some (texts_of vs) ≡ true) × (given_texts (item (scalar (text s)) vs) ≡ t ∷ given_texts vs)) [
-      | None ↦ λ none. absurd (true≢false (sym some ∙ rw none refl))
-      | Some ts ↦ λ there. let same : s ≡ t = cc in (ap is_some there, rw there (ap (λ x. x ∷ ts) same))
-    ] refl
+texts-more (scalar (text s)) t vs is some = let same : s ≡ t = cc in let both = more s (texts_of vs) some in (both.0, both.1 ∙ ap (λ x. x ∷ given_texts vs) same)
 texts-more (scalar (whole z)) t vs is some = cc
 texts-more (scalar (truth b)) t vs is some = cc
 texts-more (list ws) t vs is some = cc
@@ -50,12 +51,11 @@ pub path-more : (ts : List values.Json) (es : Path) (i : ℕ) (j : values.Json) 
     → IsSoFar ts es i → as_text (view j) ≡ Some t → element_of json_reading t ≡ Ok e → IsSoFar ts (es ++ e ∷ []) (i + 1)
 path-more ts es i j t e within is so_far is_text is_element =
     let front : drop i ts ≡ j ∷ drop (i + 1) ts = drop_more ts i j within ∙ ap (λ y. y ∷ drop (i + 1) ts) (sym is) in
-    let next = texts-more (view j) t (items_view (drop (i + 1) ts)) is_text (sym (ap (λ xs. is_some (texts_of (items_view xs))) front) ∙ so_far.0) in
-    (
+    let next = texts-more (view j) t (items_view (drop (i + 1) ts)) is_text (sym (ap (λ xs. is_some (texts_of (items_view xs))) front) ∙ so_far.0) in (
       next.0,
       so_far.1 ∙ ap (λ xs. behind es (path_of json_reading (given_texts (items_view xs)))) front ∙ ap (λ xs. behind es (path_of json_reading xs)) next.1
-      ∙ ap (λ r. behind es (elim r [ Ok e ↦ next_element e (path_of json_reading (given_texts (items_view (drop (i + 1) ts)))) | Err f ↦ Err f ])) is_element
-      ∙ behind-next es e (path_of json_reading (given_texts (items_view (drop (i + 1) ts)))),
+          ∙ ap (λ r. behind es (elim r [ Ok e ↦ next_element e (path_of json_reading (given_texts (items_view (drop (i + 1) ts)))) | Err f ↦ Err f ])) is_element
+          ∙ behind-next es e (path_of json_reading (given_texts (items_view (drop (i + 1) ts)))),
     )
 
 -- the next text is no element's

@@ -23,7 +23,7 @@ abbrev pub command_view : Command → answers.Command
 command_view (command.Change c) = changes.command_view c
 command_view command.Undo = answers.undo
 command_view command.Redo = answers.redo
-command_view command.Show = answers.show false
+command_view (command.Show managed) = answers.show managed
 command_view (command.Owners p) = answers.owners p
 
 -- JSON text, and moments of the calendar
@@ -46,7 +46,7 @@ member_rules Update = needs (codes "at") text_member ∷ needs (codes "manager")
 member_rules Strip = []
 member_rules Undo = []
 member_rules Redo = []
-member_rules Show = []
+member_rules Show = may_have (codes "managed") truth_member ∷ []
 member_rules Owners = needs (codes "path") texts_member ∷ []
 
 abbrev pub rule_at : Word → CommandRule

@@ -1,6 +1,6 @@
 -- What reading a path from its elements' texts answers.
 use Rattle.std.specs.Prelude.{◌≡◌, List, [], Option, Some, None, Result, Ok, Err}
-use Rattle.ssa_model.specs.Json.{Text, Items}
+use Rattle.ssa_model.specs.Json.{Text, Json, list, Items}
 use Rattle.ssa_model.specs.Schema.{texts_of}
 use Rattle.ssa_model.specs.Path as model
 use Rattle.ssa_model.specs.ElementTexts.{ElementFault, bad_element, index_element, not_canonical, path_of}
@@ -9,9 +9,17 @@ use Rattle.ssa_path.specs.declared.path.Path.{Path}
 use Rattle.ssa_path.specs.declared.element_fault.ElemFault.{ElemFault}
 use Rattle.ssa_path.specs.declared.element_fault.ElemFault.TheVariants.{BadElement, IndexElement, NotCanonical, OutOfMemory}
 
+-- the items of a list
+abbrev pub as_list : Json → Option Items
+as_list (list vs) = Some vs
+as_list _ = None
+
+abbrev pub texts_or_none : Option (List Text) → List Text
+texts_or_none o = elim o [ None ↦ [] | Some ts ↦ ts ]
+
 -- the texts, where all items are texts
 abbrev pub given_texts : Items → List Text
-given_texts vs = elim (texts_of vs) [ None ↦ [] | Some ts ↦ ts ]
+given_texts vs = texts_or_none (texts_of vs)
 
 -- The path is the one of these texts, or the fault is the first one's; where memory ran out, nothing is said.
 abbrev pub IsPathRead : Result model.Path ElemFault → Result model.Path ElementFault → Type 0

@@ -86,11 +86,11 @@ fn answer_redo(bench: &mut Bench, alloc: Global) -> Result<Vec<u8>, AllocError>
     Ok(text)
 }
 
-// The object of the present state.
-fn answer_show(bench: &Bench, alloc: Global) -> Result<Vec<u8>, AllocError>
-    ensures { IfOk result (λ text. text.items ≡ reply_text (answer bench.now (model.show false)).0) }
+// The object of the present state, with the managers' entries where they are asked for.
+fn answer_show(bench: &Bench, alloc: Global, managed: bool) -> Result<Vec<u8>, AllocError>
+    ensures { IfOk result (λ text. text.items ≡ reply_text (answer bench.now (model.show managed)).0) }
 {
-    let object = bench.show(alloc)?;
+    let object = bench.show(alloc, managed)?;
     shown_text(alloc, &object)
 }
 
@@ -113,7 +113,7 @@ fn answer_command(bench: &mut Bench, alloc: Global, command: Command) -> Result<
         Command::Change(change) => answer_change(bench, alloc, change),
         Command::Undo => answer_undo(bench, alloc),
         Command::Redo => answer_redo(bench, alloc),
-        Command::Show => answer_show(bench, alloc),
+        Command::Show(managed) => answer_show(bench, alloc, managed),
         Command::Owners(path) => answer_owners(bench, alloc, &path),
     }
 }

@@ -10,7 +10,8 @@ pub enum Command {
     Change(bench::Command),
     Undo,
     Redo,
-    Show,
+    /// The object, with the managers' entries where that is said.
+    Show(bool),
     /// Who owns a path.
     Owners(Path),
 }

@@ -5,6 +5,7 @@ ghost use Rattle.ssa_json.specs.View.{view, items_view, members_view};
 ghost use Rattle.ssa_model.specs.Json.{same_text, as_text, member_of};
 ghost use Rattle.ssa_model.specs.Schema.{has_member, is_text, list_of_texts, texts_of};
 ghost use Rattle.ssa_model.specs.Commands.{rule_of, word_of, session_rules, is_truth, is_known_member, are_known_members, follows_rule};
+ghost use Rattle.ssabench.specs.PathTexts.{as_list};
 ghost use Rattle.ssabench.specs.Commands.{word_text, member_rules, rule_at};
 
 use ssa_json::value::{Json, Scalar};
@@ -55,6 +56,23 @@ pub fn text_of<'a>(members: &'a BTreeMap<String, Json>, name: &str) -> Option<&'
     ensures { option_map (λ text. text.now) result ≡ option_and_then as_text (member_of name.now (members_view members.now.entries)) }
 {
     members.get(name)?.as_text()
+}
+
+// The items, where the value is a list.
+fn as_list(value: &Json) -> Option<&[Json]>
+    ensures { option_map (λ items. items_view items.now) result ≡ as_list (view value.now) }
+{
+    match value {
+        Json::List(items) => Some(items.as_slice()),
+        _ => None,
+    }
+}
+
+/// The items of the member of a name, where it is a list.
+pub fn list_of<'a>(members: &'a BTreeMap<String, Json>, name: &str) -> Option<&'a [Json]>
+    ensures { option_map (λ items. items_view items.now) result ≡ option_and_then as_list (member_of name.now (members_view members.now.entries)) }
+{
+    as_list(members.get(name)?)
 }
 
 /// The word of a command, where it is one.
@@ -130,7 +148,8 @@ fn is_known_member(word: Word, name: &str, value: &Json) -> bool
         Word::Apply => is_apply_member(name, value),
         Word::Update => is_update_member(name, value),
         Word::Owners => is_same(name, "do") || (is_same(name, "path") && is_list_of_texts(value)),
-        Word::Strip | Word::Undo | Word::Redo | Word::Show => is_same(name, "do"),
+        Word::Show => is_same(name, "do") || (is_same(name, "managed") && is_truth(value)),
+        Word::Strip | Word::Undo | Word::Redo => is_same(name, "do"),
     }
 }
 

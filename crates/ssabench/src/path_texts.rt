@@ -21,7 +21,9 @@ pub fn path_of_texts(alloc: Global, texts: &[Json]) -> Result<Path, ElemFault>
             unreachable!("each item is a text");
         };
         let element = Elem::read(alloc, text)?;
-        elements.push(element)?;
+        let Ok(()) = elements.push(element) else {
+            return Err(ElemFault::OutOfMemory);
+        };
     }
     Ok(Path::new(elements))
 }

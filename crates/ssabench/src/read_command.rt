@@ -8,7 +8,7 @@ ghost use Rattle.ssabench.specs.Commands.{readings, word_text, rule_at, HasReque
 ghost use Rattle.ssabench.specs.declared.read_command.LineFault.TheVariants.{OutOfMemory};
 
 use crate::command::Command;
-use crate::command_shape::{Word, follows_rule, text_of, word_of};
+use crate::command_shape::{Word, follows_rule, list_of, text_of, word_of};
 use crate::path_texts::path_of_texts;
 use ssa_bench::command as bench;
 use ssa_json::fault::JsonFault;
@@ -101,7 +101,7 @@ fn command_of(alloc: Global, value: Json) -> Result<Command, LineFault>
         Word::Strip => Ok(Command::Change(bench::Command::Strip)),
         Word::Undo => Ok(Command::Undo),
         Word::Redo => Ok(Command::Redo),
-        Word::Show => Ok(Command::Show),
+        Word::Show => Ok(Command::Show(truth_of(&members, "managed"))),
         Word::Owners => owners_command(alloc, &members),
     }
 }
@@ -165,15 +165,12 @@ fn update_command(mut members: BTreeMap<String, Json>) -> Result<Command, LineFa
 }
 
 // The owners command of members that follow its rule.
-fn owners_command(
-    alloc: Global,
-    members: &BTreeMap<String, Json>,
-) -> Result<Command, LineFault>
+fn owners_command(alloc: Global, members: &BTreeMap<String, Json>) -> Result<Command, LineFault>
     requires word { word_of (members_view members.now.entries) ≡ Some (word_text Word.Owners) }
     requires shape { IsTrue (follows_rule (members_view members.now.entries) (rule_at Word.Owners)) }
     ensures { ReadsCommand result (read_command readings session_rules (object (members_view members.now.entries))) }
 {
-    let Some(Json::List(texts)) = members.get("path") else {
+    let Some(texts) = list_of(members, "path") else {
         unreachable!("the shape has a list of texts");
     };
     match path_of_texts(alloc, texts) {

@@ -105,11 +105,7 @@ fn push_shown(alloc: Global, text: &mut Vec<u8>, object: &Json) -> Result<(), Al
 }
 
 // Appends a manager, as `{"manager":"kubectl","operation":"Apply"}`.
-fn push_manager(
-    alloc: Global,
-    text: &mut Vec<u8>,
-    manager: &ManagerKey,
-) -> Result<(), AllocError>
+fn push_manager(alloc: Global, text: &mut Vec<u8>, manager: &ManagerKey) -> Result<(), AllocError>
     ensures { OnOk result (text.new.items ≡ text.old.items ++ compact (key_json (key_view manager.now))) }
 {
     text.extend_from_slice(b"{\"manager\":")?;
@@ -139,11 +135,7 @@ fn push_managers(
     Ok(())
 }
 
-fn push_owners(
-    alloc: Global,
-    text: &mut Vec<u8>,
-    owners: &[&ManagerKey],
-) -> Result<(), AllocError>
+fn push_owners(alloc: Global, text: &mut Vec<u8>, owners: &[&ManagerKey]) -> Result<(), AllocError>
     ensures { OnOk result (text.new.items ≡ text.old.items ++ compact (reply_json (model.owned_by (lent_keys owners.now)))) }
 {
     text.extend_from_slice(b"{\"done\":\"owners\",\"owners\":")?;

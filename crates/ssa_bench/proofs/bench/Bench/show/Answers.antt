@@ -3,8 +3,8 @@ use Rattle.ssa_model.specs.Valid.{IsValidState}
 use Rattle.ssa_bench.proofs.ValidTimelines.{present_valid}
 use Rattle.ssa_bench.proofs.bench.Bench.show.Goals as goal
 
-pub object_of_body-requires : goal.object_of_body-requires
-object_of_body-requires c =
+pub object_of_state-requires : goal.object_of_state-requires
+object_of_state-requires c =
     let b = c.self.inside in
     let now = subst (IsValidState b.schema.1) (sym c.present-now.ensures) (present_valid b.schema.1 b.timeline c.self.invariant) in
     now.fits
