@@ -94,7 +94,7 @@ turned d e =
     by true g h = absurd (true≢false (sym (element-itself d) ∙ ap (λ x. same_element x d) (same_element-true d e g) ∙ h))
     by false g h = refl
 
-then_both : (o q : Ordering) → is_eq (ordering_then o q) ≡ (is_eq o && is_eq q)
+pub then_both : (o q : Ordering) → is_eq (ordering_then o q) ≡ (is_eq o && is_eq q)
 then_both Less q = refl
 then_both Equal q = refl
 then_both Greater q = refl
