@@ -43,14 +43,14 @@ fault-none (Some (kinds.items_of ns fs)) p e = cons≢nil e
 -- ---- keys of the kind
 
 -- the member is a scalar, of the kind of its field
-record IsKeyField (k : Option Kind) (o : Option Json) : Type 0 where
-  of_kind : kinds.ScalarKind
-  own : Scalar
-  is_kind : k ≡ Some (kinds.scalar_kind of_kind)
-  is_own : o ≡ Some (scalar own)
-  fits : is_of of_kind own ≡ true
+pub record IsKeyField (k : Option Kind) (o : Option Json) : Type 0 where
+  pub of_kind : kinds.ScalarKind
+  pub own : Scalar
+  pub is_kind : k ≡ Some (kinds.scalar_kind of_kind)
+  pub is_own : o ≡ Some (scalar own)
+  pub fits : is_of of_kind own ≡ true
 
-key-field : (k : Option Kind) (o : Option Json) (p : Path) → key_field_fault k o p ≡ [] → IsKeyField k o
+pub key-field : (k : Option Kind) (o : Option Json) (p : Path) → key_field_fault k o p ≡ [] → IsKeyField k o
 key-field k None p e = absurd (fault-none k p e)
 key-field k (Some (list vs)) p e = absurd (fault-list k vs p e)
 key-field k (Some (object ms)) p e = absurd (fault-object k ms p e)
