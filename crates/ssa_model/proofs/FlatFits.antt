@@ -16,14 +16,10 @@ use Rattle.ssa_model.proofs.Faults.{cons≢nil}
 use Rattle.ssa_model.proofs.FaultlessParts.{member-join}
 use Rattle.ssa_model.proofs.PathMaps.{get-from_entries}
 use Rattle.ssa_model.proofs.Reaching.{Standing, level, reached, reached-push, content_at, FitsAt}
-use Rattle.ssa_model.proofs.ReachedFits.{fits-below, fits-reached, HasContent, own-content, order-distinct, order-level, key-leaf}
+use Rattle.ssa_model.proofs.ReachedFits.{fits-below, fits-reached, HasContent, own-content, order-distinct, order-level, key-leaf, and-no}
 use Rattle.ssa_model.proofs.ReachedPlaces.{value-told}
 
 -- ---- bodies that have what is reached
-
-nothing-below : (b : Bool) → false ≡ (b && false)
-nothing-below true = refl
-nothing-below false = refl
 
 -- what stands above what stands
 above-one : (o : Option Standing) (e : Element) (x : Standing) → option_and_then (λ y. level y.0 y.1 e) o ≡ Some x → (y : Standing) × ((o ≡ Some y) × (level y.0 y.1 e ≡ Some x))
@@ -86,7 +82,7 @@ module _ (kind : Kind) (v : Json) (fits : Fits kind v) (b : Body) (tells : (p : 
   items-at p e =
       ap (λ o. is_among e (order_at o)) (tells p)
       ∙ elim (at p) as (λ o. at p ≡ o → is_among e (order_at (content_at o)) ≡ (is_item_element e && is_some (content_at (option_and_then (λ y. level y.0 y.1 e) o)))) [
-        | None ↦ λ _. nothing-below (is_item_element e)
+        | None ↦ λ _. and-no (is_item_element e)
         | Some x ↦ λ there. order-level x.0 x.1 e ∙ ap (λ t. is_item_element e && t) (has-content x.0 x.1 e (fits-reached p (of_kind kind) v x fits there).1)
       ] refl
       ∙ ap (λ t. is_item_element e && t) (sym (has-at (p ++ e ∷ []) ∙ ap (λ o. is_some (content_at o)) (reached-push p (of_kind kind) v e)))

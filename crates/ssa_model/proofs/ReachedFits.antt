@@ -84,7 +84,7 @@ order-distinct (item_of ns fs) (object ms) fits = refl
 order-distinct (value_of s) (scalar t) fits = refl
 order-distinct _ _ fits = refl
 
-and-no : (b : Bool) → false ≡ (b && false)
+pub and-no : (b : Bool) → false ≡ (b && false)
 and-no true = refl
 and-no false = refl
 

@@ -17,7 +17,7 @@ use Rattle.ssa_model.proofs.Faults.{cons≢nil}
 use Rattle.ssa_model.proofs.FaultlessParts.{member-first, member-rest, entry-first, entry-rest, ValuesFitAfter, value-rest, ItemsFitAfter, item-parts, item-rest, values-distinct, items-distinct}
 use Rattle.ssa_model.proofs.Fitting.{same_element-true}
 use Rattle.ssa_model.proofs.PlacesTold.{Entries, find-both}
-use Rattle.ssa_model.proofs.Reaching.{Standing, Level, nothing_below, member_level, value_level, item_at, item_level, level, reached, content_of, content_at}
+use Rattle.ssa_model.proofs.Reaching.{Standing, Level, nothing_below, member_level, value_level, item_at, item_level, level, reached, content_of, content_at, own_scalar}
 use Rattle.ssa_model.proofs.ShownNames.{then_both}
 use Rattle.ssa_model.proofs.Tables.{same_text-true, no}
 
@@ -134,10 +134,6 @@ no-values : (e : Element) → value_level no_items e ≡ None
 no-values (field n) = refl
 no-values (key ks) = refl
 no-values (value s) = refl
-
-abbrev own_scalar : Element → Option Scalar
-own_scalar (value s) = Some s
-own_scalar _ = None
 
 first-value : (s : Scalar) (vs : Items) (f : Element) → value_level (item (scalar s) vs) f ≡ (if same_element f (value s) then Some (value_of s, scalar s) else value_level vs f)
 first-value s vs (field n) = refl

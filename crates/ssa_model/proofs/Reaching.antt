@@ -143,7 +143,7 @@ entry-below k ms n x fits h =
 
 -- ---- items
 
-abbrev own_scalar : Element → Option Scalar
+abbrev pub own_scalar : Element → Option Scalar
 own_scalar (value s) = Some s
 own_scalar _ = None
 
