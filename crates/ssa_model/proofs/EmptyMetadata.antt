@@ -72,7 +72,7 @@ all-kept b (kind_field n j gs) h =
       | false ↦ λ t. all-kept b gs h.1
     ] refl
 
-record-in : (o : Option Kind) → is_some_record o ≡ true → (hs : Fields) × (o ≡ Some (record_of hs))
+pub record-in : (o : Option Kind) → is_some_record o ≡ true → (hs : Fields) × (o ≡ Some (record_of hs))
 record-in (Some (record_of hs)) h = (hs, refl)
 record-in _ h = absurd (true≢false (sym h))
 

@@ -19,7 +19,7 @@ abbrev pub EachField : (Text → Kind → Type 0) → Fields → Type 0
 EachField P no_fields = Unit {0}
 EachField P (kind_field n k fs) = P n k × EachField P fs
 
-none-before : (n m : Text) (k : Kind) (fs : Fields) → is_before_all m fs ≡ true → kind_of n fs ≡ Some k → same_text n m ≡ false
+pub none-before : (n m : Text) (k : Kind) (fs : Fields) → is_before_all m fs ≡ true → kind_of n fs ≡ Some k → same_text n m ≡ false
 none-before n m k no_fields h is = absurd (none-some k is)
 none-before n m k (kind_field l j fs) h is =
     elim (same_text n l) as (λ t. same_text n l ≡ t → (if t then Some j else kind_of n fs) ≡ Some k → same_text n m ≡ false) [

@@ -72,7 +72,7 @@ list-branch ns fs _ h = absurd (true≢false (sym h))
 
 -- ---- the elements below a place
 
-if-some : {A : Type 0} (t : Bool) (r s : A) → (if t then Some r else None) ≡ Some s → (t ≡ true) × (r ≡ s)
+pub if-some : {A : Type 0} (t : Bool) (r s : A) → (if t then Some r else None) ≡ Some s → (t ≡ true) × (r ≡ s)
 if-some true r s h = (refl, same_Some r s h)
 if-some false r s h = absurd (none-some s h)
 

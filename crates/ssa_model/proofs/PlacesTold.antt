@@ -20,7 +20,7 @@ Entries = List (Path × Content)
 
 -- ---- answers of lists
 
-find-both : (xs ys : Entries) (x : Path) → find path_cmp x (xs ++ ys) ≡ option_or (find path_cmp x xs) (find path_cmp x ys)
+pub find-both : (xs ys : Entries) (x : Path) → find path_cmp x (xs ++ ys) ≡ option_or (find path_cmp x xs) (find path_cmp x ys)
 find-both [] ys x = refl
 find-both (e ∷ xs) ys x =
     elim (same_path x e.0) as (λ t. cond t (Some e.1) (find path_cmp x (xs ++ ys)) ≡ option_or (cond t (Some e.1) (find path_cmp x xs)) (find path_cmp x ys)) [ true ↦ refl | false ↦ find-both xs ys x ]

@@ -3,7 +3,7 @@ use Rattle.std.proofs.Common.{◌≡◌, ℕ, ℤ, pos, negsuc, Bool, true, fals
 use Rattle.std.specs.Prelude.{◌==◌}
 use Rattle.std.proofs.lemmas.Bool.Decides.{nat_tests}
 use Rattle.ssa_model.specs.Json.{Scalar, text, whole, truth, same_whole, same_truth, same_scalar}
-use Rattle.ssa_model.proofs.Tables.{same_text-true}
+use Rattle.ssa_model.proofs.Tables.{same_text-true, text-itself}
 
 same_nat-true : (a b : ℕ) → (a == b) ≡ true → a ≡ b
 same_nat-true a b e = grind (arith, nat_tests)
@@ -29,3 +29,16 @@ same_scalar-true (whole a) (text b) e = absurd (true≢false (sym e))
 same_scalar-true (whole a) (truth b) e = absurd (true≢false (sym e))
 same_scalar-true (truth a) (text b) e = absurd (true≢false (sym e))
 same_scalar-true (truth a) (whole b) e = absurd (true≢false (sym e))
+
+same_nat-itself : (a : ℕ) → (a == a) ≡ true
+same_nat-itself a = grind (arith, nat_tests)
+
+same_truth-itself : (a : Bool) → same_truth a a ≡ true
+same_truth-itself true = refl
+same_truth-itself false = refl
+
+pub same_scalar-itself : (s : Scalar) → same_scalar s s ≡ true
+same_scalar-itself (text t) = text-itself t
+same_scalar-itself (whole (pos n)) = same_nat-itself n
+same_scalar-itself (whole (negsuc n)) = same_nat-itself n
+same_scalar-itself (truth b) = same_truth-itself b

@@ -94,7 +94,7 @@ turned d e =
     by true g h = absurd (true≢false (sym (element-itself d) ∙ ap (λ x. same_element x d) (same_element-true d e g) ∙ h))
     by false g h = refl
 
-then_both : (o q : Ordering) → is_eq (ordering_then o q) ≡ (is_eq o && is_eq q)
+pub then_both : (o q : Ordering) → is_eq (ordering_then o q) ≡ (is_eq o && is_eq q)
 then_both Less q = refl
 then_both Equal q = refl
 then_both Greater q = refl
@@ -120,7 +120,7 @@ any-cons : (n : Text) (o : Option Text) (ns : List Text) → list_any (same_text
 any-cons n None ns = refl
 any-cons n (Some m) ns = refl
 
-among-names : (p : Path) (n : Text) (ps : List Path) → list_any (same_text n) (filter_map (name_of p) ps) ≡ list_any (same_path (p ++ field n ∷ [])) ps
+pub among-names : (p : Path) (n : Text) (ps : List Path) → list_any (same_text n) (filter_map (name_of p) ps) ≡ list_any (same_path (p ++ field n ∷ [])) ps
 among-names p n [] = refl
 among-names p n (q ∷ ps) = any-cons n (name_of p q) (filter_map (name_of p) ps) ∙ (λ i. one-name p q n i || among-names p n ps i)
 

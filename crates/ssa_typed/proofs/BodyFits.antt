@@ -8,7 +8,8 @@ use Rattle.ssa_model.specs.Kind.{Kind}
 use Rattle.ssa_model.specs.Body.{Content, leaf, places}
 use Rattle.ssa_model.specs.Fitting.{IsBodyOf, scalar_of}
 use Rattle.ssa_typed.specs.Rows.{rows, body_of}
-use Rattle.ssa_typed.specs.Flats.{Fits, IsTreeOf}
+use Rattle.ssa_model.specs.Faultless.{Fits}
+use Rattle.ssa_typed.specs.Flats.{IsTreeOf}
 use Rattle.ssa_typed.specs.declared.node.Node.{Node}
 use Rattle.ssa_typed.proofs.AnyTree.{tree-root, tree-closed, tree-once, tree-items}
 use Rattle.ssa_typed.proofs.KindRows.{IsKindRow, AllKindRows, last_keys, last_keys-push, value_rows}

@@ -9,17 +9,13 @@ use Rattle.std.specs.BTreeMap.{is_at}
 use Rattle.std.specs.Ordering.{is_eq, ordering_reverse}
 use Rattle.std.specs.Cmp.Lexicographic.{slice_cmp}
 use Rattle.std.proofs.lemmas.Cmp.{nat_list_cmp_total}
-use Rattle.ssa_model.specs.Json.{Text, Members, no_members, member, member_of, same_text}
-use Rattle.ssa_model.specs.Kind.{Fields, field_faults}
+use Rattle.ssa_model.specs.Json.{Text, member, member_of, same_text}
 use Rattle.ssa_model.specs.Body.{is_empty_object, without_empty_metadata}
-use Rattle.ssa_model.specs.Path.{Path}
 use Rattle.ssa_json.specs.View.{view, members_view}
 use Rattle.ssa_json.proofs.Converting.{Found}
 use Rattle.ssa_json.proofs.Equality.{same_text-true}
 use Rattle.ssa_json.proofs.Ordered.{above_first}
-use Rattle.ssa_typed.specs.Flats.{FieldsFit}
 use Rattle.ssa_typed.specs.Reads.{is_empty_member, has_empty_metadata}
-use Rattle.ssa_typed.proofs.Fitting.{member-join}
 
 eq_turned : (o : Ordering) → is_eq (ordering_reverse o) ≡ is_eq o
 eq_turned Less = refl
@@ -101,18 +97,3 @@ pub kept : (es : List Found) → IsStrictlySortedBy string_cmp (keys_of es) → 
 unfolding IsStrictlySortedBy
 kept [] sorted h = refl
 kept (e ∷ es) sorted h = kept-step e es (at_metadata e.0) refl h sorted.0 (kept es sorted.1)
-
--- ---- what is left fits
-
-if-fits : (b : Bool) (fs : Fields) (p : Path) (ms ns : Members) → field_faults fs ms p ≡ [] → field_faults fs ns p ≡ [] → field_faults fs (if b then ms else ns) p ≡ []
-if-fits true fs p ms ns e f = e
-if-fits false fs p ms ns e f = f
-
-left-fits : (fs : Fields) (ms : Members) (p : Path) → field_faults fs ms p ≡ [] → field_faults fs (without_empty_metadata ms) p ≡ []
-left-fits fs no_members p e = refl
-left-fits fs (member n v ms) p e =
-    let rest = member-join fs n v ms p e in
-    if-fits (same_text n (codes "metadata") && is_empty_object v) fs p ms (member n v (without_empty_metadata ms)) rest.0 (rest.1 (without_empty_metadata ms) (left-fits fs ms p rest.0))
-
-pub without-fits : (fs : Fields) (ms : Members) → FieldsFit fs ms → FieldsFit fs (without_empty_metadata ms)
-without-fits fs ms h = (h.0, left-fits fs ms h.0 h.1)

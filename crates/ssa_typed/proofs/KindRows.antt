@@ -13,9 +13,10 @@ use Rattle.ssa_model.proofs.Faults.{unless-true, shape-anywhere}
 use Rattle.ssa_model.proofs.Places.{place-push}
 use Rattle.ssa_json.proofs.Equality.{same_text-true, same_scalar-itself}
 use Rattle.ssa_typed.specs.Rows.{Row}
-use Rattle.ssa_typed.specs.Flats.{member_places, Fits, FieldsFit, EntriesFit, KeysFit}
-use Rattle.ssa_typed.proofs.Fitting.{ValuesFitAfter, ItemsFitAfter, member-first, member-rest, entry-first, entry-rest, value-is_of, value-rest, item-parts, item-rest}
-use Rattle.ssa_typed.proofs.ItemKeys.{keys-fit, key-member}
+use Rattle.ssa_model.specs.Faultless.{Fits, FieldsFit, EntriesFit, KeysFit}
+use Rattle.ssa_typed.specs.Flats.{member_places}
+use Rattle.ssa_model.proofs.FaultlessParts.{ValuesFitAfter, ItemsFitAfter, member-first, member-rest, entry-first, entry-rest, value-is_of, value-rest, item-parts, item-rest}
+use Rattle.ssa_model.proofs.FaultlessKeys.{keys-fit, key-member}
 use Rattle.ssa_typed.proofs.Laws.{none≢some, some-same}
 use Rattle.ssa_typed.proofs.TreeRows.{IsRow, all-append, row-left, row-right}
 use Rattle.ssa_typed.proofs.Trees.{known-places}

@@ -9,8 +9,10 @@ use Rattle.ssa_model.specs.Kind as kinds
 use Rattle.ssa_model.specs.Kind.{Kind, Fields, scalar_kind, atomic_of, record_of, dict_of, items_of, kind_of, item_key}
 use Rattle.ssa_model.specs.Body.{Body, Content, leaf, atom, record_branch, dict_branch, list_branch, is_leaf, is_dict, is_point, points, is_empty_object, strictly_under, places, field_places, entry_places, value_places, item_places, value_order, key_order}
 use Rattle.ssa_model.specs.Fitting.{of_kind, content_fits}
-use Rattle.ssa_model.specs.Lawful.{is_some_record, has_metadata}
+use Rattle.ssa_model.specs.Lawful.{has_metadata}
 use Rattle.ssa_model.specs.Valid.{IsRooted, metadata_path}
+use Rattle.ssa_model.proofs.EmptyMetadata.{record-in}
+use Rattle.ssa_model.proofs.Reaching.{found-field}
 use Rattle.ssa_model.proofs.PathMaps.{has-paths, has-points}
 use Rattle.ssa_model.proofs.Fitting.{some_there}
 use Rattle.ssa_model.proofs.Pruned.{from_one}
@@ -21,14 +23,15 @@ use Rattle.ssa_json.proofs.Equality.{same_text-itself}
 use Rattle.ssa_path.proofs.Orders.{same_element-true, same_element-itself}
 use Rattle.ssa_model.proofs.Faults.{cons≢nil}
 use Rattle.ssa_model.proofs.Places.{place-push}
-use Rattle.ssa_typed.specs.Flats.{member_places, Fits, FieldsFit, MemberFits, IsTreeOf}
+use Rattle.ssa_model.specs.Faultless.{Fits, FieldsFit}
+use Rattle.ssa_typed.specs.Flats.{member_places, IsTreeOf}
 use Rattle.ssa_typed.specs.Reads.{is_empty_member, has_empty_metadata}
 use Rattle.ssa_typed.specs.Rows.{Row, rows, body_of, content_at}
 use Rattle.ssa_typed.specs.declared.node.Node.{Node}
 use Rattle.ssa_typed.proofs.BodyFits.{body-fits, value-of-tree}
-use Rattle.ssa_typed.proofs.Fitting.{member-first, member-rest}
+use Rattle.ssa_model.proofs.FaultlessParts.{member-first}
 use Rattle.ssa_typed.proofs.KindRows.{member-row}
-use Rattle.ssa_typed.proofs.Laws.{none≢some, some-same}
+use Rattle.ssa_typed.proofs.Laws.{some-same}
 use Rattle.ssa_typed.proofs.Looks.{get-body}
 use Rattle.ssa_typed.proofs.Trees.{known-is}
 use Rattle.ssa_typed.proofs.TreeRows.{IsRow, all-append, each-row, row-found, row-of, row-split}
@@ -101,18 +104,6 @@ named-row fs (member m v ms) n p c h =
     first : AllByRecursion (Begins (field m)) (member_places fs m v (field m ∷ []))
     first = elim (kind_of m fs) as (λ o. AllByRecursion (Begins (field m)) (elim o [ None ↦ [] | Some k ↦ places k v (field m ∷ []) ])) [ None ↦ tt | Some k ↦ value_begin k v (field m) [] ]
 
-found-fits-if : (b : Bool) (fs : Fields) (m : Text) (w : Json) (ms : Members) (n : Text) (v : Json) → same_text n m ≡ b → FieldsFit fs (member m w ms) → (member_of n ms ≡ Some v → MemberFits fs n v)
-    → (if b then Some w else member_of n ms) ≡ Some v → MemberFits fs n v
-found-fits-if true fs m w ms n v same fits later found =
-    let named = Rattle.ssa_json.proofs.Equality.same_text-true n m same in
-    subst (MemberFits fs n) (some-same w v found) (subst (λ t. MemberFits fs t w) (sym named) (member-first fs m w ms fits))
-found-fits-if false fs m w ms n v same fits later found = later found
-
--- the member that is found fits
-found-fits : (fs : Fields) (ms : Members) (n : Text) (v : Json) → FieldsFit fs ms → member_of n ms ≡ Some v → MemberFits fs n v
-found-fits fs no_members n v fits found = absurd (none≢some found)
-found-fits fs (member m w ms) n v fits found = found-fits-if (same_text n m) fs m w ms n v refl fits (λ later. found-fits fs ms n v (member-rest fs m w ms fits) later) found
-
 -- a fitting value has a place at its own path
 own-row : (k : Kind) (v : Json) (p : Path) → Fits k v → (c : Content) × IsRow (p, c) (places k v p)
 own-row (scalar_kind k) (scalar s) p h = (leaf s, inl refl)
@@ -135,16 +126,12 @@ below-row fs (object (member n v ms)) p fits some =
 
 -- ---- the body
 
-some_record : (o : Option Kind) → is_some_record o ≡ true → (fs : Fields) × (o ≡ Some (record_of fs))
-some_record (Some (record_of fs)) h = (fs, refl)
-some_record _ h = absurd (true≢false (sym h))
-
 module _ (fs : Fields) (ms : Members) (n : Node) (lawful : has_metadata (record_of fs) ≡ true) (fits : FieldsFit fs ms) (kept : has_empty_metadata ms ≡ false) (made : IsTreeOf (record_of fs) (object ms) n) where
   abbrev body : Body
   body = body_of n
 
   own : (gs : Fields) × (kind_of (codes "metadata") fs ≡ Some (record_of gs))
-  own = some_record (kind_of (codes "metadata") fs) lawful
+  own = record-in (kind_of (codes "metadata") fs) lawful
 
   rows_are : rows n ≡ ([], record_branch) ∷ field_places fs ms []
   rows_are = value-of-tree (record_of fs) (object ms) n made
@@ -173,7 +160,7 @@ module _ (fs : Fields) (ms : Members) (n : Node) (lawful : has_metadata (record_
       some_there (member_of (codes "metadata") ms) (named-row fs ms (codes "metadata") [] c (metadata_row c (subst (IsRow (metadata_path, c)) rows_are row)))
 
   member_fits : (v : Json) → member_of (codes "metadata") ms ≡ Some v → Fits (record_of own.0) v
-  member_fits v found = let fit = found-fits fs ms (codes "metadata") v fits found in subst (λ k. Fits k v) (known-is (codes "metadata") fs fit.0 (record_of own.0) fit.1.0 own.1) fit.1.1
+  member_fits v found = let fit = found-field fs ms (codes "metadata") v fits found in subst (λ k. Fits k v) (known-is (codes "metadata") fs fit.0 (record_of own.0) fit.1.0 own.1) fit.1.1
 
   something_below : (c : Content) → get body metadata_path ≡ Some c → list_any (strictly_under metadata_path) (paths body) ≡ true
   something_below c is =

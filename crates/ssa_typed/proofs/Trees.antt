@@ -18,7 +18,8 @@ use Rattle.ssa_schema.specs.declared.kind.ScalarKind.{ScalarKind}
 use Rattle.ssa_path.specs.Children.{elements}
 use Rattle.ssa_path.proofs.Orders.{both, both_first, both_second}
 use Rattle.ssa_typed.specs.Rows.{Row, body_of, rows, rows_below, is_tree, are_apart}
-use Rattle.ssa_typed.specs.Flats.{rows_at, member_places, AreListed, AreNamed, IsTreeOf, ValuesFit, ItemsFit}
+use Rattle.ssa_model.specs.Faultless.{ValuesFit, ItemsFit}
+use Rattle.ssa_typed.specs.Flats.{rows_at, member_places, AreListed, AreNamed, IsTreeOf}
 use Rattle.ssa_typed.specs.declared.node.Node.{Node, Branch, Dict, List as ListOf}
 use Rattle.ssa_typed.proofs.Building.{Child}
 use Rattle.ssa_typed.proofs.Fitting.{values-apart, items-apart}

@@ -5,7 +5,8 @@ ghost use Rattle.ssa_model.specs.Body.{field_places, entry_places, value_places,
 ghost use Rattle.ssa_json.specs.View.{view, items_view, members_view};
 ghost use Rattle.ssa_schema.specs.Kinds.{kind_view, fields_view, names_view, scalar_kind_view};
 ghost use Rattle.ssa_model.specs.Lawful.{are_key_names, are_keyed, is_keyed};
-ghost use Rattle.ssa_typed.specs.Flats.{member_places, AreListed, AreNamed, EntriesFit, FieldsFit, Fits, IsChild, IsItem, IsScalar, IsTreeOf, IsValue, ItemFits, ItemsFit, MemberFits, ValuesFit};
+ghost use Rattle.ssa_model.specs.Faultless.{EntriesFit, FieldsFit, Fits, IsScalar, ItemFits, ItemsFit, MemberFits, ValuesFit};
+ghost use Rattle.ssa_typed.specs.Flats.{member_places, AreListed, AreNamed, IsChild, IsItem, IsTreeOf, IsValue};
 
 use crate::item_keys::keys_of;
 use crate::node::{Leaf, Node};

@@ -6,7 +6,8 @@ ghost use Rattle.ssa_json.specs.View.{members_view, scalar_view};
 ghost use Rattle.ssa_path.specs.Keys as keys;
 ghost use Rattle.ssa_schema.specs.Kinds.{fields_view, names_view};
 ghost use Rattle.ssa_model.specs.Lawful.{are_key_names};
-ghost use Rattle.ssa_typed.specs.Flats.{scalar_in, KeysFit};
+ghost use Rattle.ssa_model.specs.Faultless.{KeysFit};
+ghost use Rattle.ssa_typed.specs.Flats.{scalar_in};
 
 use ssa_json::value::{Json, Scalar};
 use ssa_path::keys::Keys;

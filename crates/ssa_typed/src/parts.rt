@@ -2,7 +2,8 @@
 ghost use Rattle.std.specs.Prelude.{◌≡◌};
 ghost use Rattle.ssa_model.specs.Json as values;
 ghost use Rattle.ssa_json.specs.View.{view, items_view, members_view, scalar_view};
-ghost use Rattle.ssa_typed.specs.Flats.{IsList, IsObject, IsScalar};
+ghost use Rattle.ssa_model.specs.Faultless.{IsScalar};
+ghost use Rattle.ssa_typed.specs.Flats.{IsList, IsObject};
 
 use ssa_json::value::{Json, Scalar};
 use std::collections::BTreeMap;

@@ -6,7 +6,7 @@ ghost use Rattle.ssa_json.specs.View.{view};
 ghost use Rattle.ssa_schema.specs.Kinds.{kind_view};
 ghost use Rattle.ssa_model.specs.Lawful.{has_metadata, is_root_kind};
 ghost use Rattle.ssa_model.specs.Valid.{IsRooted};
-ghost use Rattle.ssa_typed.specs.Flats.{Fits};
+ghost use Rattle.ssa_model.specs.Faultless.{Fits};
 ghost use Rattle.ssa_typed.specs.Reads.{ReadsBody};
 
 use crate::body::Body;

@@ -14,9 +14,10 @@ use Rattle.ssa_schema.specs.declared.kind.Kind as kind
 use Rattle.ssa_schema.proofs.Kinding.{kind_view-Record}
 use Rattle.ssa_path.proofs.Orders.{both_first, both_second}
 use Rattle.ssa_path.specs.declared.element.Elem.TheVariants.{Field}
-use Rattle.ssa_typed.specs.Flats.{member_places, Fits, EntriesFit, FieldsFit}
+use Rattle.ssa_model.specs.Faultless.{Fits, EntriesFit, FieldsFit}
+use Rattle.ssa_typed.specs.Flats.{member_places}
 use Rattle.ssa_typed.proofs.Building.{listing-step, naming-step, naming-end}
-use Rattle.ssa_typed.proofs.Fitting.{ItemsFitAfter, member-first, member-rest, entry-first, entry-rest, item-first, item-rest}
+use Rattle.ssa_model.proofs.FaultlessParts.{ItemsFitAfter, member-first, member-rest, entry-first, entry-rest, item-first, item-rest}
 use Rattle.ssa_typed.proofs.Trees.{kind_view-Dict, kind_view-SetOf, kind_view-ItemsOf, keyed-at, field-found, known-is, known-there, known-places, member-places, record-placed, record-tree, record-made, dict-made, set-made, items-made}
 use Rattle.ssa_typed.proofs.build.+build.Goals as goal
 

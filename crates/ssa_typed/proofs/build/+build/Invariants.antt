@@ -5,9 +5,9 @@ use Rattle.ssa_json.specs.View.{items_view, members_view}
 use Rattle.ssa_json.proofs.Converting.{Found}
 use Rattle.ssa_json.proofs.Ordered.{names}
 use Rattle.ssa_schema.specs.Kinds.{kind_view, fields_view, names_view}
-use Rattle.ssa_typed.specs.Flats.{EntriesFit, FieldsFit}
+use Rattle.ssa_model.specs.Faultless.{EntriesFit, FieldsFit}
 use Rattle.ssa_typed.proofs.Building.{IsListing, IsNaming}
-use Rattle.ssa_typed.proofs.Fitting.{ItemsFitAfter}
+use Rattle.ssa_model.proofs.FaultlessParts.{ItemsFitAfter}
 use Rattle.ssa_typed.proofs.build.+build.Given as goal
 
 -- the fields so far, and those that are left

@@ -6,7 +6,7 @@ use Rattle.ssa_model.specs.Body.{leaf, value_order, value_places}
 use Rattle.ssa_json.specs.View.{view, items_view}
 use Rattle.ssa_schema.specs.Kinds.{scalar_kind_view}
 use Rattle.ssa_typed.proofs.Building.{listing-step}
-use Rattle.ssa_typed.proofs.Fitting.{ValuesFitAfter, value-rest}
+use Rattle.ssa_model.proofs.FaultlessParts.{ValuesFitAfter, value-rest}
 use Rattle.ssa_typed.proofs.build.value_children.Goals as goal
 
 pub loop-item-preserved : goal.loop-item-preserved

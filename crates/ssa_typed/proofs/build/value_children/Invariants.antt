@@ -3,7 +3,7 @@ use Rattle.ssa_model.specs.Body.{value_order, value_places}
 use Rattle.ssa_json.specs.View.{items_view}
 use Rattle.ssa_schema.specs.Kinds.{scalar_kind_view}
 use Rattle.ssa_typed.proofs.Building.{IsListing}
-use Rattle.ssa_typed.proofs.Fitting.{ValuesFitAfter}
+use Rattle.ssa_model.proofs.FaultlessParts.{ValuesFitAfter}
 use Rattle.ssa_typed.proofs.build.value_children.Given as goal
 
 -- the items so far, and those that are left

@@ -6,13 +6,14 @@ use Rattle.ssa_model.specs.Fitting.{IsBodyOf}
 use Rattle.ssa_json.specs.View.{members_view}
 use Rattle.ssa_schema.specs.Kinds.{kind_view, fields_view}
 use Rattle.ssa_schema.proofs.Kinding.{kind_view-Record}
-use Rattle.ssa_typed.specs.Flats.{AreNamed, Fits, FieldsFit}
+use Rattle.ssa_model.specs.Faultless.{Fits, FieldsFit}
+use Rattle.ssa_typed.specs.Flats.{AreNamed}
 use Rattle.ssa_typed.specs.declared.node.Node.{Branch}
 use Rattle.ssa_typed.proofs.BodyFits.{body-fits}
 use Rattle.ssa_model.specs.Lawful.{has_metadata}
 use Rattle.ssa_model.specs.Valid.{IsRooted}
 use Rattle.ssa_typed.specs.Reads.{has_empty_metadata}
-use Rattle.ssa_typed.proofs.EmptyMetadata.{without-fits}
+use Rattle.ssa_model.proofs.FlatFits.{without-fits}
 use Rattle.ssa_typed.proofs.Rooted.{body-rooted}
 use Rattle.ssa_typed.proofs.Trees.{record-made, record-tree, record-flat}
 use Rattle.ssa_typed.proofs.read.body_of.Goals as goal
