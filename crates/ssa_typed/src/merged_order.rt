@@ -26,7 +26,7 @@ fn live_order<'a>(
     requires { are_apart (elements live.now) ≡ true }
     ensures { IfOk result (λ order. entries_view order.entries ≡ by_texts (merged live.now [])) }
 {
-    let mut order = IndexMap::new(alloc);
+    let mut order = IndexMap::with_capacity(alloc, live.len())?;
     for child in live {
         let text = child.0.text(alloc)?;
         let own = MergedChild {
@@ -42,7 +42,7 @@ fn live_order<'a>(
 /// The live children in their order, and behind them what the configuration alone has in its
 /// order, by the texts of their elements.
 ///
-/// Makes and hashes the text of each element once, whatever the number of children.
+/// Makes the text of each element once, and looks each up by its hash.
 pub(crate) fn merged_order<'a>(
     alloc: Global,
     live: &'a [(Elem, Node)],
