@@ -1,5 +1,5 @@
 -- The merged children of two nodes, each with its counterparts.
-use Rattle.std.proofs.Common.{◌≡◌, ℕ, ◌<◌, List, [], ◌∷◌, map, length, get_or, true, Option, Some, None, ◌⊎◌, inl, inr, Vec, Global, refl, sym, ap, subst, ◌∙◌, arith}
+use Rattle.std.proofs.Common.{◌≡◌, ℕ, ◌<◌, List, [], ◌∷◌, map, length, get_or, true, Option, Some, None, ◌⊎◌, inl, inr, Vec, Global, refl, sym, ap, ◌∙◌, arith}
 use Rattle.std.proofs.lemmas.List.{get_or-map, length-map}
 use Rattle.std.specs.Map.{values_of}
 use Rattle.ssa_model.specs.Body.{joined}
