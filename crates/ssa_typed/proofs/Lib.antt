@@ -17,6 +17,8 @@ pub mod Levels
 pub mod Looks
 pub mod Lookups
 pub mod Making
+pub mod MergedChildren
+pub mod MergedOrder
 pub mod OverNodes
 pub mod Overlaying
 pub mod Pairs

@@ -1,6 +1,6 @@
 -- One tree over another, level by level.
-use Rattle.std.proofs.Common.{◌≡◌, ℕ, zero, suc, arith, ◌+◌, ◌<◌, List, [], ◌∷◌, ◌++◌, length, get_or, take, Bool, true, false, not, ◌||◌, cond, Option, Some, None, refl, sym, ap, subst, ◌∙◌}
-use Rattle.std.proofs.lemmas.List.{take_more}
+use Rattle.std.proofs.Common.{◌≡◌, ℕ, zero, suc, arith, ◌+◌, ◌<◌, List, [], ◌∷◌, ◌++◌, length, get_or, map, take, Bool, true, false, not, ◌||◌, cond, Option, Some, None, option_map, refl, sym, ap, subst, ◌∙◌}
+use Rattle.std.proofs.lemmas.List.{take_more, map-append}
 use Rattle.std.specs.Prelude.{filter}
 use Rattle.std.specs.List.{list_any}
 use Rattle.ssa_model.specs.Body.{Content, leaf, atom, record_branch, dict_branch, list_branch, joined, over_content}
@@ -8,17 +8,19 @@ use Rattle.ssa_model.specs.Kind.{is_among}
 use Rattle.ssa_model.specs.Path.{Element, Path, same_element}
 use Rattle.ssa_model.proofs.Fitting.{distinct-joined}
 use Rattle.ssa_path.specs.Children.{child_at, elements}
+use Rattle.ssa_path.specs.declared.element.Elem.{Elem}
 use Rattle.ssa_path.specs.View.{element_view}
-use Rattle.ssa_path.proofs.Orders.{same_element-true, same_element-itself, both, both_first, both_second}
+use Rattle.ssa_path.proofs.Orders.{same_element-true, same_element-itself, both, both_second}
 use Rattle.ssa_typed.specs.Alike.{are_alike}
-use Rattle.ssa_typed.specs.Copies.{kept, kept_below}
+use Rattle.ssa_typed.specs.Copies.{kept}
 use Rattle.ssa_typed.specs.InOrder.{referred, IsInOrder}
-use Rattle.ssa_typed.specs.Over.{AreAlikeTrees, IsOver, AreOver, IsPushed, is_new, with_new}
+use Rattle.ssa_typed.specs.MergedOrder.{Merged, is_new, live_child, new_child, merged}
+use Rattle.ssa_typed.specs.Over.{AreAlikeTrees, IsOver, AreOver, IsPushed}
 use Rattle.ssa_typed.specs.Points.{content_in}
 use Rattle.ssa_typed.specs.Rows.{rows, below, own_content, content_at, is_tree, are_trees, are_apart}
 use Rattle.ssa_typed.specs.declared.node.Node.{Node}
 use Rattle.ssa_typed.proofs.Building.{Child}
-use Rattle.ssa_typed.proofs.Copying.{kept-same, kept-rows, kept-tree}
+use Rattle.ssa_typed.proofs.Copying.{kept-rows, kept-tree}
 use Rattle.ssa_typed.proofs.References.{Reference, order-below}
 use Rattle.ssa_typed.proofs.Levels.{apart-distinct}
 use Rattle.ssa_typed.proofs.Lookups.{content-level, content-root, child_at-rest}
@@ -32,56 +34,52 @@ alike-child n m e c d live config is_c is_d h p =
 pub alike-root : (n m : Node) → AreAlikeTrees n m → are_alike (Some (own_content n)) (Some (own_content m)) ≡ true
 alike-root n m h = sym (λ i. are_alike (content-root n i) (content-root m i)) ∙ h []
 
--- ---- each child over its counterpart
+-- ---- each child over what the configuration has over it
 
-pub record IsOverChild (other : Option Node) (c d : Child) : Type 0 where
-  pub element : element_view d.0 ≡ element_view c.0
-  pub content : (p : Path) → content_at (rows d.1) p ≡ over_content (content_at (rows c.1) p) (content_in other p)
-  pub tree : is_tree d.1 ≡ true
+pub record IsMade (p : Merged) (x : Child) : Type 0 where
+  pub element : element_view x.0 ≡ element_view p.0
+  pub content : (q : Path) → content_at (rows x.1) q ≡ over_content (content_at (rows p.1.0) q) (content_in p.1.1 q)
+  pub tree : is_tree x.1 ≡ true
 
--- each of these is over the configuration's child of its element
-abbrev pub AreOverEach : List Child → List Child → List Child → Type 0
-AreOverEach ds [] [] = Unit {0}
-AreOverEach ds [] (x ∷ xs) = ⊥
-AreOverEach ds (c ∷ cs) [] = ⊥
-AreOverEach ds (c ∷ cs) (x ∷ xs) = IsOverChild (child_at (element_view c.0) ds) c x × AreOverEach ds cs xs
+abbrev pub AreMade : List Merged → List Child → Type 0
+AreMade [] [] = Unit {0}
+AreMade [] (x ∷ xs) = ⊥
+AreMade (p ∷ ps) [] = ⊥
+AreMade (p ∷ ps) (x ∷ xs) = IsMade p x × AreMade ps xs
 
-pub each-push : (ds cs xs : List Child) (c x : Child) → AreOverEach ds cs xs → IsOverChild (child_at (element_view c.0) ds) c x → AreOverEach ds (cs ++ c ∷ []) (xs ++ x ∷ [])
-each-push ds [] [] c x h k = (k, tt)
-each-push ds [] (y ∷ xs) c x h k = absurd h
-each-push ds (b ∷ cs) [] c x h k = absurd h
-each-push ds (b ∷ cs) (y ∷ xs) c x h k = (h.0, each-push ds cs xs c x h.1 k)
+made-push : (ps : List Merged) (xs : List Child) (p : Merged) (x : Child) → AreMade ps xs → IsMade p x → AreMade (ps ++ p ∷ []) (xs ++ x ∷ [])
+made-push [] [] p x h one = (one, tt)
+made-push [] (y ∷ xs) p x h one = absurd h
+made-push (r ∷ ps) [] p x h one = absurd h
+made-push (r ∷ ps) (y ∷ xs) p x h one = (h.0, made-push ps xs p x h.1 one)
 
-each-elements : (ds cs xs : List Child) → AreOverEach ds cs xs → elements xs ≡ elements cs
-each-elements ds [] [] h = refl
-each-elements ds [] (x ∷ xs) h = absurd h
-each-elements ds (c ∷ cs) [] h = absurd h
-each-elements ds (c ∷ cs) (x ∷ xs) h = λ i. h.0.element i ∷ each-elements ds cs xs h.1 i
+made-elements : (ps : List Merged) (xs : List Child) → AreMade ps xs → elements xs ≡ elements ps
+made-elements [] [] h = refl
+made-elements [] (x ∷ xs) h = absurd h
+made-elements (p ∷ ps) [] h = absurd h
+made-elements (p ∷ ps) (x ∷ xs) h = λ i. h.0.element i ∷ made-elements ps xs h.1 i
 
-each-trees : (ds cs xs : List Child) → AreOverEach ds cs xs → are_trees xs ≡ true
-each-trees ds [] [] h = refl
-each-trees ds [] (x ∷ xs) h = absurd h
-each-trees ds (c ∷ cs) [] h = absurd h
-each-trees ds (c ∷ cs) (x ∷ xs) h = both _ _ h.0.tree (each-trees ds cs xs h.1)
+made-trees : (ps : List Merged) (xs : List Child) → AreMade ps xs → are_trees xs ≡ true
+made-trees [] [] h = refl
+made-trees [] (x ∷ xs) h = absurd h
+made-trees (p ∷ ps) [] h = absurd h
+made-trees (p ∷ ps) (x ∷ xs) h = both _ _ h.0.tree (made-trees ps xs h.1)
 
--- what stands below an element: the live child over the configuration's, else what the rest has
-abbrev over_either : Option Node → Option Node → Option Node → Path → Option Content
-over_either None other rest p = content_in rest p
-over_either (Some c) other rest p = over_content (content_at (rows c) p) (content_in other p)
+-- what stands below a merged child
+abbrev merged_content : Option (Node × Option Node) → Path → Option Content
+merged_content None q = None
+merged_content (Some n) q = over_content (content_at (rows n.0) q) (content_in n.1 q)
 
-head-content : (ds cs rest : List Child) (e : Element) (p : Path) (c x : Child) (b : Bool) (xs : Option Node) → same_element e (element_view c.0) ≡ b → IsOverChild (child_at (element_view c.0) ds) c x
-    → content_in xs p ≡ over_either (child_at e cs) (child_at e ds) (child_at e rest) p
-    → content_in (cond b (Some x.1) xs) p ≡ over_either (cond b (Some c.1) (child_at e cs)) (child_at e ds) (child_at e rest) p
-head-content ds cs rest e p c x true xs s h later = h.content p ∙ ap (λ f. over_content (content_at (rows c.1) p) (content_in (child_at f ds) p)) (sym (same_element-true e (element_view c.0) s))
-head-content ds cs rest e p c x false xs s h later = later
-
-each-content : (ds cs xs rest : List Child) (e : Element) (p : Path) → AreOverEach ds cs xs → content_in (child_at e (xs ++ rest)) p ≡ over_either (child_at e cs) (child_at e ds) (child_at e rest) p
-each-content ds [] [] rest e p h = refl
-each-content ds [] (x ∷ xs) rest e p h = absurd h
-each-content ds (c ∷ cs) [] rest e p h = absurd h
-each-content ds (c ∷ cs) (x ∷ xs) rest e p h =
-    ap (λ f. content_in (cond (same_element e f) (Some x.1) (child_at e (xs ++ rest))) p) h.0.element
-    ∙ head-content ds cs rest e p c x (same_element e (element_view c.0)) (child_at e (xs ++ rest)) refl h.0 (each-content ds cs xs rest e p h.1)
+made-content : (ps : List Merged) (xs : List Child) (e : Element) (q : Path) → AreMade ps xs → content_in (child_at e xs) q ≡ merged_content (child_at e ps) q
+made-content [] [] e q h = refl
+made-content [] (x ∷ xs) e q h = absurd h
+made-content (p ∷ ps) [] e q h = absurd h
+made-content (p ∷ ps) (x ∷ xs) e q h =
+    ap (λ f. content_in (cond (same_element e f) (Some x.1) (child_at e xs)) q) h.0.element
+    ∙ (elim (same_element e (element_view p.0)) as (λ b. content_in (cond b (Some x.1) (child_at e xs)) q ≡ merged_content (cond b (Some p.1) (child_at e ps)) q) [
+      | true ↦ h.0.content q
+      | false ↦ made-content ps xs e q h.1
+    ])
 
 -- ---- what the configuration alone has
 
@@ -99,14 +97,6 @@ new-elements cs (d ∷ ds) =
     one : (b : Bool) → elements (cond b (d ∷ filter (is_new cs) ds) (filter (is_new cs) ds)) ≡ cond b (element_view d.0 ∷ elements (filter (is_new cs) ds)) (elements (filter (is_new cs) ds))
     one true = refl
     one false = refl
-
-new-trees : (cs ds : List Child) → are_trees ds ≡ true → are_trees (filter (is_new cs) ds) ≡ true
-new-trees cs [] h = refl
-new-trees cs (d ∷ ds) h =
-    elim (is_new cs d) as (λ b. are_trees (cond b (d ∷ filter (is_new cs) ds) (filter (is_new cs) ds)) ≡ true) [
-      | true ↦ both _ _ (both_first (is_tree d.1) _ h) (new-trees cs ds (both_second (is_tree d.1) _ h))
-      | false ↦ new-trees cs ds (both_second (is_tree d.1) _ h)
-    ]
 
 -- where the live children lack the element, the new ones have the configuration's child of it
 new-child : (cs ds : List Child) (e : Element) → child_at e cs ≡ None → child_at e (filter (is_new cs) ds) ≡ child_at e ds
@@ -141,27 +131,64 @@ pub elements-append : (cs ds : List Child) → elements (cs ++ ds) ≡ elements 
 elements-append [] ds = refl
 elements-append (c ∷ cs) ds = ap (λ es. element_view c.0 ∷ es) (elements-append cs ds)
 
-are_trees-append : (cs ds : List Child) → are_trees cs ≡ true → are_trees ds ≡ true → are_trees (cs ++ ds) ≡ true
-are_trees-append [] ds h k = k
-are_trees-append (c ∷ cs) ds h k = both _ _ (both_first (is_tree c.1) _ h) (are_trees-append cs ds (both_second (is_tree c.1) _ h) k)
+-- ---- the merged children
 
-either-content : (cs ds : List Child) (e : Element) (p : Path)
-    → over_either (child_at e cs) (child_at e ds) (child_at e (filter (is_new cs) ds)) p ≡ over_content (content_in (child_at e cs) p) (content_in (child_at e ds) p)
-either-content cs ds e p =
-    elim (child_at e cs) as (λ o. child_at e cs ≡ o → over_either o (child_at e ds) (child_at e (filter (is_new cs) ds)) p ≡ over_content (content_in o p) (content_in (child_at e ds) p)) [
-      | None ↦ λ h. ap (λ o. content_in o p) (new-child cs ds e h) ∙ sym (over-none (content_in (child_at e ds) p))
-      | Some c ↦ λ h. refl
+live-found : (cs ds : List Child) (rest : List Merged) (e : Element) → child_at e (map (live_child ds) cs ++ rest) ≡ elim (child_at e cs) [ None ↦ child_at e rest | Some c ↦ Some (c, child_at e ds) ]
+live-found [] ds rest e = refl
+live-found (c ∷ cs) ds rest e =
+    elim (same_element e (element_view c.0)) as (λ b. same_element e (element_view c.0) ≡ b
+    → cond b (Some (c.1, child_at (element_view c.0) ds)) (child_at e (map (live_child ds) cs ++ rest)) ≡ elim (cond b (Some c.1) (child_at e cs)) [ None ↦ child_at e rest | Some x ↦ Some (x, child_at e ds) ]) [
+      | true ↦ λ s. ap (λ f. Some (c.1, child_at f ds)) (sym (same_element-true e (element_view c.0) s))
+      | false ↦ λ s. live-found cs ds rest e
     ] refl
 
-pub children-over : (n m : Node) (made new : List Child) → AreOverEach (below m) (below n) made → are_trees (below m) ≡ true → kept_below new ≡ kept_below (with_new made (below n) (below m)) → AreOver n m new
-children-over n m made new each trees h =
+new-found : (ds : List Child) (e : Element) → child_at e (map new_child ds) ≡ option_map (λ d. (d, None)) (child_at e ds)
+new-found [] e = refl
+new-found (d ∷ ds) e =
+    elim (same_element e (element_view d.0)) as (λ b. cond b (Some (d.1, None)) (child_at e (map new_child ds)) ≡ option_map (λ x. (x, None)) (cond b (Some d.1) (child_at e ds))) [
+      | true ↦ refl
+      | false ↦ new-found ds e
+    ]
+
+-- the live child of an element with the configuration's, else the configuration's alone
+abbrev pub found_in : Option Node → Option Node → Option (Node × Option Node)
+found_in None other = option_map (λ d. (d, None)) other
+found_in (Some c) other = Some (c, other)
+
+pub merged-found : (cs ds : List Child) (e : Element) → child_at e (merged cs ds) ≡ found_in (child_at e cs) (child_at e ds)
+merged-found cs ds e =
+    live-found cs ds (map new_child (filter (is_new cs) ds)) e
+    ∙ (elim (child_at e cs) as (λ o. child_at e cs ≡ o → elim o [ None ↦ child_at e (map new_child (filter (is_new cs) ds)) | Some c ↦ Some (c, child_at e ds) ] ≡ found_in o (child_at e ds)) [
+      | None ↦ λ h. new-found (filter (is_new cs) ds) e ∙ ap (option_map (λ d. (d, None))) (new-child cs ds e h)
+      | Some c ↦ λ h. refl
+    ] refl)
+
+found-content : (own other : Option Node) (q : Path) → merged_content (found_in own other) q ≡ over_content (content_in own q) (content_in other q)
+found-content None None q = refl
+found-content None (Some d) q = sym (over-none (content_at (rows d) q))
+found-content (Some c) other q = refl
+
+live-elements : (cs ds : List Child) (rest : List Merged) → elements (map (live_child ds) cs ++ rest) ≡ elements cs ++ elements rest
+live-elements [] ds rest = refl
+live-elements (c ∷ cs) ds rest = ap (λ es. element_view c.0 ∷ es) (live-elements cs ds rest)
+
+new_child-elements : (ds : List Child) → elements (map new_child ds) ≡ elements ds
+new_child-elements [] = refl
+new_child-elements (d ∷ ds) = ap (λ es. element_view d.0 ∷ es) (new_child-elements ds)
+
+pub merged-elements : (cs ds : List Child) → elements (merged cs ds) ≡ joined (elements cs) (elements ds)
+merged-elements cs ds =
+    live-elements cs ds (map new_child (filter (is_new cs) ds))
+    ∙ ap (λ es. elements cs ++ es) (new_child-elements (filter (is_new cs) ds) ∙ new-elements cs ds)
+
+pub children-over : (n m : Node) (made : List Child) → AreMade (merged (below n) (below m)) made → AreOver n m made
+children-over n m made each =
     let cs = below n in
     let ds = below m in
-    let same = kept-same new (with_new made cs ds) h in
     record {
-      elements_are = same.elements_same ∙ elements-append made (filter (is_new cs) ds) ∙ (λ i. each-elements ds cs made each i ++ new-elements cs ds i);
-      contents = λ e p. same.contents_same e p ∙ each-content ds cs made (filter (is_new cs) ds) e p each ∙ either-content cs ds e p;
-      trees = same.trees_same ∙ are_trees-append made (filter (is_new cs) ds) (each-trees ds cs made each) (new-trees cs ds trees);
+      elements_are = made-elements (merged cs ds) made each ∙ merged-elements cs ds;
+      contents = λ e q. made-content (merged cs ds) made e q each ∙ ap (λ o. merged_content o q) (merged-found cs ds e) ∙ found-content (child_at e cs) (child_at e ds) q;
+      trees = made-trees (merged cs ds) made each;
     }
 
 -- ---- a node of these children
@@ -182,37 +209,43 @@ over-level n m made cs live config tree own same h = record { content = at; tree
         content-level made e p tree ∙ ap (λ c. content_in c p) (same e) ∙ h.contents e p
         ∙ sym (λ i. over_content (content-level n e p live i) (content-level m e p config i))
 
--- ---- one live child more
+-- ---- one child more
 
-pub taken-at : (cs : List Child) (i : ℕ) (c : Child) → i < length cs → c ≡ get_or cs i c → take (i + 1) cs ≡ take i cs ++ c ∷ []
-taken-at cs i c lt is = take_more cs i c lt ∙ ap (λ x. take i cs ++ x ∷ []) (sym is)
+pub taken-at : {Z : Type 0} (zs : List Z) (i : ℕ) (z : Z) → i < length zs → z ≡ get_or zs i z → take (i + 1) zs ≡ take i zs ++ z ∷ []
+taken-at zs i z lt is = take_more zs i z lt ∙ ap (λ x. take i zs ++ x ∷ []) (sym is)
 
-pub some-none : (c : Node) → ◌≡◌ {A = Option Node} (Some c) None → ⊥
+pub some-none : {A : Type 0} (c : A) → ◌≡◌ {A = Option A} (Some c) None → ⊥
 some-none c e = cc
 
-each-more : (ds cs xs : List Child) (i : ℕ) (c x : Child) → i < length cs → c ≡ get_or cs i c → IsOverChild (child_at (element_view c.0) ds) c x → AreOverEach ds (take i cs) xs → AreOverEach ds (take (i + 1) cs) (xs ++ x ∷ [])
-each-more ds cs xs i c x lt is k h = subst (λ l. AreOverEach ds l (xs ++ x ∷ [])) (sym (taken-at cs i c lt is)) (each-push ds (take i cs) xs c x h k)
+module _ {Z : Type 0} (merged_of : Z → Merged) (zs : List Z) (i : ℕ) (z : Z) (xs new : List Child) (n : Node)
+    (lt : i < length zs) (is : z ≡ get_or zs i z) (pushed : IsPushed (element_view (merged_of z).0) n xs new) (h : AreMade (map merged_of (take i zs)) xs) where
+  made-more : IsMade (merged_of z) (pushed.0, n) → AreMade (map merged_of (take (i + 1) zs)) new
+  made-more one =
+      subst (AreMade (map merged_of (take (i + 1) zs))) (sym pushed.2)
+      (subst (λ ps. AreMade ps (xs ++ (pushed.0, n) ∷ [])) (sym (ap (map merged_of) (taken-at zs i z lt is) ∙ map-append merged_of (take i zs) (z ∷ [])))
+      (made-push (map merged_of (take i zs)) xs (merged_of z) (pushed.0, n) h one))
 
-module _ (ds cs xs new : List Child) (i : ℕ) (c : Child) (n : Node) (lt : i < length cs) (is : c ≡ get_or cs i c) (pushed : IsPushed (element_view c.0) n xs new) (h : AreOverEach ds (take i cs) xs) where
-  -- over the configuration's child
-  pub each-over : (d : Node) → child_at (element_view c.0) ds ≡ Some d → IsOver c.1 d n → AreOverEach ds (take (i + 1) cs) new
-  each-over d found made =
-      subst (AreOverEach ds (take (i + 1) cs)) (sym pushed.2)
-      (each-more ds cs xs i c (pushed.0, n) lt is (record { element = pushed.1; content = λ p. made.content p ∙ ap (λ o. over_content (content_at (rows c.1) p) (content_in o p)) (sym found); tree = made.tree }) h)
-
-  -- a copy, where the configuration has no such child
-  pub each-copied : child_at (element_view c.0) ds ≡ None → is_tree c.1 ≡ true → kept n ≡ kept c.1 → AreOverEach ds (take (i + 1) cs) new
-  each-copied none tree copy =
-      subst (AreOverEach ds (take (i + 1) cs)) (sym pushed.2)
-      (each-more ds cs xs i c (pushed.0, n) lt is (record {
+  -- over what the configuration has
+  pub made-over : (d : Node) → (merged_of z).1.1 ≡ Some d → IsOver (merged_of z).1.0 d n → AreMade (map merged_of (take (i + 1) zs)) new
+  made-over d over made =
+      made-more (record {
         element = pushed.1;
-        content = λ p. ap (λ rs. content_at rs p) (kept-rows n c.1 copy) ∙ ap (λ o. over_content (content_at (rows c.1) p) (content_in o p)) (sym none);
-        tree = kept-tree n c.1 copy ∙ tree;
-      }) h)
+        content = λ q. made.content q ∙ ap (λ o. over_content (content_at (rows (merged_of z).1.0) q) (content_in o q)) (sym over);
+        tree = made.tree;
+      })
+
+  -- a copy, where the configuration has nothing over it
+  pub made-copied : (merged_of z).1.1 ≡ None → is_tree (merged_of z).1.0 ≡ true → kept n ≡ kept (merged_of z).1.0 → AreMade (map merged_of (take (i + 1) zs)) new
+  made-copied none tree copy =
+      made-more (record {
+        element = pushed.1;
+        content = λ q. ap (λ rs. content_at rs q) (kept-rows n (merged_of z).1.0 copy) ∙ ap (λ o. over_content (content_at (rows (merged_of z).1.0) q) (content_in o q)) (sym none);
+        tree = kept-tree n (merged_of z).1.0 copy ∙ tree;
+      })
 
 -- ---- the child at an index
 
-pub child-at-index : (cs : List Child) (i : ℕ) (c : Child) → i < length cs → c ≡ get_or cs i c → are_apart (elements cs) ≡ true → child_at (element_view c.0) cs ≡ Some c.1
+pub child-at-index : {A : Type 0} (cs : List (Elem × A)) (i : ℕ) (c : Elem × A) → i < length cs → c ≡ get_or cs i c → are_apart (elements cs) ≡ true → child_at (element_view c.0) cs ≡ Some c.1
 child-at-index [] i c lt is apart = absurd (omega arith)
 child-at-index (d ∷ cs) zero c lt is apart =
     (λ i. cond (same_element (element_view c.0) (element_view (sym is i).0)) (Some (sym is i).1) (child_at (element_view c.0) cs)) ∙ ap (λ b. cond b (Some c.1) (child_at (element_view c.0) cs)) (same_element-itself (element_view c.0))

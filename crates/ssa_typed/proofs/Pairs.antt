@@ -1,5 +1,5 @@
 -- Children of the same elements in the same order, side by side.
-use Rattle.std.proofs.Common.{◌≡◌, ℕ, zero, suc, ◌+◌, ◌<◌, List, [], ◌∷◌, ◌++◌, length, get_or, take, Bool, true, false, not, cond, Some, refl, sym, ap, ◌∙◌, append-nil, arith}
+use Rattle.std.proofs.Common.{◌≡◌, ℕ, zero, suc, ◌+◌, ◌<◌, List, [], ◌∷◌, ◌++◌, map, length, get_or, take, Bool, true, false, not, cond, Some, refl, sym, ap, subst, ◌∙◌, append-nil, arith}
 use Rattle.std.specs.Prelude.{filter}
 use Rattle.ssa_model.specs.Kind.{is_among}
 use Rattle.ssa_model.specs.Path.{Element, same_element}
@@ -7,13 +7,13 @@ use Rattle.ssa_model.proofs.Tables.{or_true, true_or}
 use Rattle.ssa_path.specs.Children.{child_at, elements}
 use Rattle.ssa_path.specs.View.{element_view}
 use Rattle.ssa_path.proofs.Orders.{same_element-itself, same_element-true}
-use Rattle.ssa_typed.specs.Copies.{kept_below}
-use Rattle.ssa_typed.specs.Over.{is_new, AreOver}
-use Rattle.ssa_typed.specs.Rows.{below, are_apart, are_trees}
+use Rattle.ssa_typed.specs.MergedOrder.{is_new, live_child, new_child}
+use Rattle.ssa_typed.specs.Over.{AreOver}
+use Rattle.ssa_typed.specs.Rows.{below, are_apart}
 use Rattle.ssa_typed.specs.declared.node.Node.{Node}
 use Rattle.ssa_typed.proofs.Building.{Child}
 use Rattle.ssa_typed.proofs.Levels.{length-elements}
-use Rattle.ssa_typed.proofs.Overlaying.{AreOverEach, child-at-index, children-over, elements-append, new-elements, taken-at}
+use Rattle.ssa_typed.proofs.Overlaying.{AreMade, child-at-index, children-over, elements-append, new-elements, taken-at}
 
 elements-taken : (cs : List Child) (i : ℕ) (c : Child) → i < length cs → c ≡ get_or cs i c → elements (take (i + 1) cs) ≡ elements (take i cs) ++ element_view c.0 ∷ []
 elements-taken cs i c lt is = ap elements (taken-at cs i c lt is) ∙ elements-append (take i cs) (c ∷ [])
@@ -68,6 +68,7 @@ none-new cs ds h =
     no-elements (filter (is_new cs) ds)
     (new-elements cs ds ∙ (λ i. filter (λ f. not (is_among f (elements cs))) (sym h i)) ∙ none-pass (λ f. not (is_among f (elements cs))) (elements cs) (λ e among. ap not among))
 
-pub alike-over : (n m : Node) (made : List Child) → AreOverEach (below m) (below n) made → are_trees (below m) ≡ true → elements (below n) ≡ elements (below m) → AreOver n m made
-alike-over n m made each trees h =
-    children-over n m made made each trees (ap kept_below (sym (append-nil made) ∙ ap (λ l. made ++ l) (sym (none-new (below n) (below m) h))))
+pub alike-over : (n m : Node) (made : List Child) → AreMade (map (live_child (below m)) (below n)) made → elements (below n) ≡ elements (below m) → AreOver n m made
+alike-over n m made each h =
+    let live = map (live_child (below m)) (below n) in
+    children-over n m made (subst (λ ps. AreMade ps made) (sym (append-nil live) ∙ ap (λ news. live ++ map new_child news) (sym (none-new (below n) (below m) h))) each)

@@ -5,6 +5,7 @@ pub mod Flats
 pub mod InOrder
 pub mod Lacking
 pub mod Look
+pub mod MergedOrder
 pub mod Over
 pub mod Points
 pub mod Reached

@@ -1,5 +1,5 @@
 -- One tree over another.
-use Rattle.std.specs.Prelude.{◌≡◌, List, [], ◌∷◌, ◌++◌, Bool, true, false, filter, None, Some}
+use Rattle.std.specs.Prelude.{◌≡◌, List, [], ◌∷◌, ◌++◌, true}
 use Rattle.ssa_model.specs.Body.{joined, over_content}
 use Rattle.ssa_model.specs.Path.{Element, Path}
 use Rattle.ssa_path.specs.Children.{child_at, elements}
@@ -23,14 +23,6 @@ pub record AreOver (live config : Node) (cs : List (Elem × Node)) : Type 0 wher
   pub elements_are : elements cs ≡ joined (elements (below live)) (elements (below config))
   pub contents : (e : Element) (p : Path) → content_in (child_at e cs) p ≡ over_content (content_in (child_at e (below live)) p) (content_in (child_at e (below config)) p)
   pub trees : are_trees cs ≡ true
-
--- no child of the others has the child's element
-abbrev pub is_new : List (Elem × Node) → Elem × Node → Bool
-is_new cs d = elim (child_at (element_view d.0) cs) [ None ↦ true | Some c ↦ false ]
-
--- the children with those of the configuration behind them that the live ones lack
-abbrev pub with_new : List (Elem × Node) → List (Elem × Node) → List (Elem × Node) → List (Elem × Node)
-with_new made live config = made ++ filter (is_new live) config
 
 -- one child more, under this element
 abbrev pub IsPushed : Element → Node → List (Elem × Node) → List (Elem × Node) → Type 0

@@ -2,11 +2,11 @@
 ghost use Rattle.std.specs.Prelude.{◌≡◌, true, IfOk, OnOk};
 ghost use Rattle.ssa_path.specs.Children.{elements};
 ghost use Rattle.ssa_path.specs.View.{element_view};
-ghost use Rattle.ssa_typed.specs.Copies.{kept_below};
-ghost use Rattle.ssa_typed.specs.Over.{with_new, AreAlikeTrees, AreOver, IsOver, IsPushed};
-ghost use Rattle.ssa_typed.specs.Rows.{are_apart, below, is_tree};
+ghost use Rattle.ssa_typed.specs.Over.{AreAlikeTrees, AreOver, IsOver, IsPushed};
+ghost use Rattle.ssa_typed.specs.Rows.{below, is_tree};
 
-use crate::in_order::{find_in_order, in_order, sort_children, stand_alike};
+use crate::in_order::{sort_children, stand_alike};
+use crate::merged_order::merged_order;
 use crate::node::Node;
 use ssa_path::element::Elem;
 use std::alloc::{AllocError, Global};
@@ -22,27 +22,6 @@ fn push_child(
 {
     let own = element.copy(alloc)?;
     children.push((own, child))?;
-    Ok(())
-}
-
-// Puts copies of the configuration's children behind those that are made, where the live ones lack
-// them.
-fn push_new(
-    alloc: Global,
-    made: &mut Vec<(Elem, Node)>,
-    live: &[(Elem, Node)],
-    config: &[(Elem, Node)],
-) -> Result<(), AllocError>
-    requires { are_apart (elements live.now) ≡ true }
-    ensures { OnOk result (kept_below made.new.items ≡ kept_below (with_new made.old.items live.now config.now)) }
-{
-    let own = in_order(alloc, live)?;
-    for child in config {
-        if find_in_order(&own, &child.0).is_none() {
-            let copy = child.1.copy(alloc)?;
-            push_child(alloc, made, &child.0, copy)?;
-        }
-    }
     Ok(())
 }
 
@@ -73,21 +52,15 @@ fn over_found(alloc: Global, live: &Node, config: &Node) -> Result<Vec<(Elem, No
     requires alike { AreAlikeTrees live.now config.now }
     ensures { IfOk result (λ v. AreOver live.now config.now v.items) }
 {
-    let others = in_order(alloc, config.children())?;
-    let mut made = Vec::new(alloc);
-    for child in live.children() {
-        match find_in_order(&others, &child.0) {
-            Some(other) => {
-                let node = over_node(alloc, &child.1, other)?;
-                push_child(alloc, &mut made, &child.0, node)?;
-            }
-            None => {
-                let node = child.1.copy(alloc)?;
-                push_child(alloc, &mut made, &child.0, node)?;
-            }
-        }
+    let order = merged_order(alloc, live.children(), config.children())?;
+    let mut made = Vec::with_capacity(alloc, order.len())?;
+    for child in order.values().as_slice() {
+        let node = match child.over {
+            Some(other) => over_node(alloc, child.node, other)?,
+            None => child.node.copy(alloc)?,
+        };
+        push_child(alloc, &mut made, child.element, node)?;
     }
-    push_new(alloc, &mut made, live.children(), config.children())?;
     Ok(made)
 }
 

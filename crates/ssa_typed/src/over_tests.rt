@@ -121,3 +121,29 @@ fn records_and_dicts_are_merged(rt: HostRuntime) -> Result<(), Fail> {
     assert!(rt; is_written(alloc, &body, "(f:a 2)(f:c 3)(f:d (f:w 2)(f:x 1)(f:z 3))")?);
     Ok(())
 }
+
+#[test]
+fn new_items_stand_behind_in_their_own_order(rt: HostRuntime) -> Result<(), Fail> {
+    let alloc = rt.alloc();
+    let live = Node::List(leaves(alloc, &[("v:\"a\"", 1), ("v:\"b\"", 1), ("v:\"c\"", 1)])?);
+    let config = Node::List(leaves(
+        alloc,
+        &[
+            ("v:\"x\"", 2),
+            ("v:\"c\"", 3),
+            ("v:\"y\"", 2),
+            ("v:\"a\"", 3),
+        ],
+    )?);
+    let Some(body) = over(alloc, live, config)? else {
+        panic!(rt; "not alike");
+    };
+    assert!(rt;
+        is_written(
+            alloc,
+            &body,
+            "(v:\"a\" 3)(v:\"b\" 1)(v:\"c\" 3)(v:\"x\" 2)(v:\"y\" 2)"
+        )?
+    );
+    Ok(())
+}

@@ -1,17 +1,19 @@
-use Rattle.std.proofs.Common.{◌<◌, ◌+◌, ◌*◌, Some, None, length, get_or, sym, ap, subst, ◌∙◌, arith, rules}
+use Rattle.std.proofs.Common.{◌<◌, ◌+◌, ◌*◌, length, map, get_or, sym, ap, subst, ◌∙◌, arith, rules}
 use Rattle.std.proofs.lemmas.List.{take_all}
+use Rattle.std.specs.Option.{option_copied}
 use Rattle.ssa_path.specs.Children.{child_at, elements}
 use Rattle.ssa_path.specs.View.{element_view}
-use Rattle.ssa_typed.specs.Copies.{kept_below}
-use Rattle.ssa_typed.specs.Over.{with_new}
+use Rattle.ssa_typed.specs.Copies.{kept}
+use Rattle.ssa_typed.specs.MergedOrder.{live_child, merged_view}
+use Rattle.ssa_typed.specs.Over.{IsOver}
 use Rattle.ssa_typed.specs.Rows.{below, rows}
-use Rattle.ssa_typed.proofs.Levels.{level-below}
 use Rattle.ssa_typed.proofs.Lookups.{tree-child}
+use Rattle.ssa_typed.proofs.MergedChildren.{values-merged, both-there, one-tree}
 use Rattle.ssa_typed.proofs.OverNodes.{apart-over, leaf-over, record-over, dict-over, list-over}
-use Rattle.ssa_typed.proofs.Overlaying.{AreOverEach, alike-child, each-over, each-copied, child-at-index, other-child, children-over}
+use Rattle.ssa_typed.proofs.Overlaying.{AreMade, alike-child, child-at-index, made-over, made-copied, children-over}
 use Rattle.ssa_typed.proofs.Pairs.{same-length, beside, alike-over}
 use Rattle.ssa_typed.proofs.Sizes.{smaller}
-use Rattle.ssa_typed.proofs.over.+over.Goals.{over_found-in-Some+in_ok-node-in-Some+in_ok-push_child-in-Some, over_found-in-None+in_ok-node-in-None+in_ok-push_child-in-None}
+use Rattle.ssa_typed.proofs.over.+over.Goals.{over_found-in-Some+in_ok-node-in-Some, over_found-in-None+in_ok-node-in-None}
 use Rattle.ssa_typed.proofs.over.+over.Goals as goal
 
 pub over_found-over_node-requires : goal.over_found-over_node-requires
@@ -19,43 +21,40 @@ over_found-over_node-requires t c =
     let n = c.args.live.now in
     let m = c.args.config.now in
     let child = c.child-item.result in
-    let e = element_view child.0 in
-    let lt : c.loop-child.child-index < length c.children-child-items.result.now = omega arith in
-    let own = ap (child_at e) (sym c.children-child-items.ensures.own) ∙ child-at-index c.children-child-items.result.now c.loop-child.child-index child lt c.child-item.is (c.children-child-items.ensures.apart c.requires.live) in
-    let other = other-child m c.children.result.now c.in_ok-others.others.items c.deref.result.now e (Some c.in-Some.other.now) c.children.ensures.own c.deref.ensures.value c.in_ok-others.ensures c.in-Some.ensures in
-    let part = smaller n e child.1 own in
-    let small : 3 * length (rows child.1) + 2 < 3 * length (rows n) = omega arith in
-    (search (rules, small), (tree-child n e child.1 c.requires.live own, (tree-child m e c.in-Some.other.now c.requires.config other, alike-child n m e child.1 c.in-Some.other.now c.requires.live c.requires.config own other c.requires.alike)))
+    let e = element_view child.element.now in
+    let other = c.in-Some.other.now in
+    let are = values-merged n m c.children.result.now c.children-2.result.now c.in_ok-order.order.entries c.as_slice-child-items.result.now c.children.ensures.own c.children-2.ensures.own c.in_ok-order.ensures (c.as_slice-child-items.ensures ∙ c.values.ensures.rest) in
+    let there = both-there n m c.requires.live c.requires.config c.as_slice-child-items.result.now are c.loop-child.child-index child c.loop-child-test.true c.child-item.is other (ap option_copied c.in-Some.is) in
+    let part = smaller n e child.node.now there.0 in
+    let small : 3 * length (rows child.node.now) + 2 < 3 * length (rows n) = omega arith in
+    (search (rules, small), (tree-child n e child.node.now c.requires.live there.0, (tree-child m e other c.requires.config there.1, alike-child n m e child.node.now other c.requires.live c.requires.config there.0 there.1 c.requires.alike)))
 
 pub over_found-loop-child-preserved : goal.over_found-loop-child-preserved
 over_found-loop-child-preserved t c =
     let n = c.args.live.now in
     let m = c.args.config.now in
     let child = c.child-item.result in
-    let e = element_view child.0 in
-    let cs = c.children-child-items.result.now in
-    let xs = c.loop-child.made.items in
+    let vs = c.as_slice-child-items.result.now in
     let i = c.loop-child.child-index in
-    let lt : i < length cs = omega arith in
-    let own = ap (child_at e) (sym c.children-child-items.ensures.own) ∙ child-at-index cs i child lt c.child-item.is (c.children-child-items.ensures.apart c.requires.live) in
-    elim c.match-find_in_order.branch [
-      | over_found-in-Some+in_ok-node-in-Some+in_ok-push_child-in-Some w ↦
-          let found = other-child m c.children.result.now c.in_ok-others.others.items c.deref.result.now e (Some w.in-Some.other.now) c.children.ensures.own c.deref.ensures.value c.in_ok-others.ensures w.in-Some.ensures in
-          rw w.made-is (each-over (below m) cs xs w.push_child.new.children.items i child w.in_ok-node-in-Some.node lt c.child-item.is w.in_ok-push_child-in-Some.ensures c.loop-child.invariant w.in-Some.other.now found w.in_ok-node-in-Some.ensures)
-      | over_found-in-None+in_ok-node-in-None+in_ok-push_child-in-None w ↦
-          let none = other-child m c.children.result.now c.in_ok-others.others.items c.deref.result.now e None c.children.ensures.own c.deref.ensures.value c.in_ok-others.ensures w.in-None.ensures in
-          rw w.made-is (each-copied (below m) cs xs w.push_child-in-None.new.children.items i child w.in_ok-node-in-None.node lt c.child-item.is w.in_ok-push_child-in-None.ensures c.loop-child.invariant none (tree-child n e child.1 c.requires.live own) w.in_ok-node-in-None.ensures)
+    let are = values-merged n m c.children.result.now c.children-2.result.now c.in_ok-order.order.entries vs c.children.ensures.own c.children-2.ensures.own c.in_ok-order.ensures (c.as_slice-child-items.ensures ∙ c.values.ensures.rest) in
+    elim c.match-child.branch [
+      | over_found-in-Some+in_ok-node-in-Some w ↦
+          made-over merged_view vs i child c.loop-child.made.items c.push_child.new.children.items c.match-child.node c.loop-child-test.true c.child-item.is c.in_ok-push_child.ensures c.loop-child.invariant
+          w.in-Some.other.now (ap option_copied w.in-Some.is) (subst (IsOver child.node.now w.in-Some.other.now) (sym w.node-is) w.in_ok-node-in-Some.ensures)
+      | over_found-in-None+in_ok-node-in-None w ↦
+          let none = ap option_copied w.in-None.is in
+          made-copied merged_view vs i child c.loop-child.made.items c.push_child.new.children.items c.match-child.node c.loop-child-test.true c.child-item.is c.in_ok-push_child.ensures c.loop-child.invariant
+          none (one-tree n m c.requires.live c.requires.config vs are i child c.loop-child-test.true c.child-item.is none) (ap kept w.node-is ∙ w.in_ok-node-in-None.ensures)
     ]
 
 pub over_found-returns : goal.over_found-returns
 over_found-returns t c =
     let n = c.args.live.now in
     let m = c.args.config.now in
+    let vs = c.as_slice-child-items.result.now in
     let made = c.loop-child.made.items in
-    let each =
-    subst (λ l. AreOverEach (below m) l made) (take_all c.loop-child.child-index c.children-child-items.result.now c.loop-child-test.false ∙ c.children-child-items.ensures.own) c.loop-child.invariant in
-    children-over n m made c.push_new.new.made.items each ((level-below m).trees c.requires.config)
-    (c.in_ok-push_new.ensures ∙ (λ i. kept_below (with_new made (c.children-2.ensures.own i) (c.children-3.ensures.own i))))
+    let are = values-merged n m c.children.result.now c.children-2.result.now c.in_ok-order.order.entries vs c.children.ensures.own c.children-2.ensures.own c.in_ok-order.ensures (c.as_slice-child-items.ensures ∙ c.values.ensures.rest) in
+    children-over n m made (subst (λ ps. AreMade ps made) (ap (map merged_view) (take_all c.loop-child.child-index vs c.loop-child-test.false) ∙ are) c.loop-child.invariant)
 
 pub over_node-sort_children-requires : goal.over_node-sort_children-requires
 over_node-sort_children-requires t c =
@@ -116,12 +115,12 @@ over_alike-loop-i-preserved t c =
     let d = get_or ds i c.index-others-i.result in
     let same = ap elements c.children-own.ensures.own ∙ c.requires.same ∙ ap elements (sym c.children-others.ensures.own) in
     let other = beside m cs ds i child c.index-others-i.result c.children-others.ensures.own (c.children-others.ensures.apart c.requires.config) same c.loop-i-test.true c.index-own-i.is c.index-others-i.is in
-    each-over (below m) cs c.loop-i.made.items c.push_child.new.children.items i child c.in_ok-node.node c.loop-i-test.true c.index-own-i.is c.in_ok-push_child.ensures c.loop-i.invariant d.1 other c.in_ok-node.ensures
+    made-over (live_child (below m)) cs i child c.loop-i.made.items c.push_child.new.children.items c.in_ok-node.node c.loop-i-test.true c.index-own-i.is c.in_ok-push_child.ensures c.loop-i.invariant d.1 other c.in_ok-node.ensures
 
 pub over_alike-returns : goal.over_alike-returns
 over_alike-returns t c =
     let n = c.args.live.now in
     let m = c.args.config.now in
     let made = c.loop-i.made.items in
-    let each = subst (λ l. AreOverEach (below m) l made) (take_all c.loop-i.i c.children-own.result.now c.loop-i-test.false ∙ c.children-own.ensures.own) c.loop-i.invariant in
-    alike-over n m made each ((level-below m).trees c.requires.config) c.requires.same
+    let each = subst (λ l. AreMade (map (live_child (below m)) l) made) (take_all c.loop-i.i c.children-own.result.now c.loop-i-test.false ∙ c.children-own.ensures.own) c.loop-i.invariant in
+    alike-over n m made each c.requires.same

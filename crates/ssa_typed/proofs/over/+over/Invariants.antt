@@ -1,6 +1,7 @@
-use Rattle.std.proofs.Common.{◌+◌, ◌*◌, length, take}
+use Rattle.std.proofs.Common.{◌+◌, ◌*◌, length, map, take}
+use Rattle.ssa_typed.specs.MergedOrder.{live_child, merged_view}
 use Rattle.ssa_typed.specs.Rows.{below, rows}
-use Rattle.ssa_typed.proofs.Overlaying.{AreOverEach}
+use Rattle.ssa_typed.proofs.Overlaying.{AreMade}
 use Rattle.ssa_typed.proofs.over.+over.Given as goal
 
 abbrev pub decreases-over_alike : goal.decreases-over_alike
@@ -16,7 +17,7 @@ abbrev pub decreases-over_node : goal.decreases-over_node
 decreases-over_node l = 3 * length (rows l.live.now) + 2
 
 abbrev pub invariant-over_alike-loop-i : goal.invariant-over_alike-loop-i
-invariant-over_alike-loop-i l = AreOverEach (below l.config) (take l.i l.own) l.made.items
+invariant-over_alike-loop-i l = AreMade (map (live_child (below l.config)) (take l.i l.own)) l.made.items
 
 abbrev pub invariant-over_found-loop-child : goal.invariant-over_found-loop-child
-invariant-over_found-loop-child l = AreOverEach (below l.config) (take l.child-index l.child-items) l.made.items
+invariant-over_found-loop-child l = AreMade (map merged_view (take l.child-index l.child-items)) l.made.items

@@ -1,0 +1,42 @@
+-- The merged order of the children of a live place and of the configuration's place.
+use Rattle.std.specs.Prelude.{ℕ, List, ◌++◌, map, filter, Bool, true, false, Option, None, Some, Vec}
+use Rattle.std.specs.Option.{option_copied}
+use Rattle.std.specs.declared.alloc.Global.{Global}
+use Rattle.ssa_model.specs.Json.{Text}
+use Rattle.ssa_model.specs.Path.{element_text}
+use Rattle.ssa_path.specs.Children.{child_at}
+use Rattle.ssa_path.specs.View.{element_view}
+use Rattle.ssa_path.specs.declared.element.Elem.{Elem}
+use Rattle.ssa_typed.specs.declared.merged_order.MergedChild.{MergedChild}
+use Rattle.ssa_typed.specs.declared.node.Node.{Node}
+
+-- an element, its node, and what the configuration has over that
+abbrev pub Merged : Type 0
+Merged = Elem × (Node × Option Node)
+
+-- no live child has the child's element
+abbrev pub is_new : List (Elem × Node) → Elem × Node → Bool
+is_new live d = elim (child_at (element_view d.0) live) [ None ↦ true | Some c ↦ false ]
+
+-- a live child with the configuration's child of its element
+abbrev pub live_child : List (Elem × Node) → Elem × Node → Merged
+live_child config c = (c.0, (c.1, child_at (element_view c.0) config))
+
+-- a child that the configuration alone has
+abbrev pub new_child : Elem × Node → Merged
+new_child d = (d.0, (d.1, None))
+
+-- the live children, and behind them those that the configuration alone has
+abbrev pub merged : List (Elem × Node) → List (Elem × Node) → List Merged
+merged live config = map (live_child config) live ++ map new_child (filter (is_new live) config)
+
+abbrev pub merged_view : MergedChild → Merged
+merged_view c = (c.element.now, (c.node.now, option_copied c.over))
+
+-- the entries of a map of such children
+abbrev pub entries_view : List (Vec ℕ Global × MergedChild) → List (Text × Merged)
+entries_view = map (λ entry. (entry.0.items, merged_view entry.1))
+
+-- each child under its element's text
+abbrev pub by_texts : List Merged → List (Text × Merged)
+by_texts = map (λ child. (element_text (element_view child.0), child))
