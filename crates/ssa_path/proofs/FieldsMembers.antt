@@ -30,11 +30,11 @@ abbrev pub Found : Type 0
 Found = String Global × json.Json
 
 -- one member more goes last
-abbrev with_last : Members → Text → Json → Members
+abbrev pub with_last : Members → Text → Json → Members
 with_last no_members n v = member n v no_members
 with_last (member m w ms) n v = member m w (with_last ms n v)
 
-members-last : (es : List Found) (e : Found) → members_view (es ++ e ∷ []) ≡ with_last (members_view es) (string_bytes e.0) (view e.1)
+pub members-last : (es : List Found) (e : Found) → members_view (es ++ e ∷ []) ≡ with_last (members_view es) (string_bytes e.0) (view e.1)
 members-last [] e = refl
 members-last (x ∷ es) e = ap (member (string_bytes x.0) (view x.1)) (members-last es e)
 
