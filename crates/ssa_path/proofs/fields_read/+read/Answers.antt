@@ -1,4 +1,4 @@
-use Rattle.std.proofs.Common.{true, false, refl, sym, ap, subst, ◌∙◌}
+use Rattle.std.proofs.Common.{◌≡◌, true, false, refl, sym, ap, subst, ◌∙◌}
 use Rattle.std.proofs.lemmas.Result.{err_from_is_err_and}
 use Rattle.std.specs.Prelude.{codes, not}
 use Rattle.ssa_model.specs.Json.{same_text}
@@ -20,8 +20,8 @@ read_members-returns-in_err-child-clause-answers t c =
     let l = c.loop-name in
     let e : Found = (c.in-Some.name.now, c.in-Some.member.now) in
     let fault = c.in_err-child.field-0.0 in
-    let other = sym c.is_dot.ensures ∙ c.if-not-is_dot.true in
-    let same = c.as_str-then-not-is_dot.ensures.value ∙ sym c.as_str.ensures.value in
+    let other : same_text c.as_str.result.now (codes ".") ≡ false = sym c.is_dot.ensures ∙ c.if-not-is_dot.true in
+    let same : c.as_str-then-not-is_dot.result.now ≡ c.as_str.result.now = c.as_str-then-not-is_dot.ensures.value ∙ sym c.as_str.ensures.value in
     let first = child-first c.args.members.now.entries l.here l.below.items e c.next.new.self l.name-iterator l.invariant c.in-Some.ensures.steps c.as_str-then-not-is_dot.result.now fault
     c.as_str-then-not-is_dot.ensures.value (ap (λ n. same_text n (codes ".")) same ∙ other) c.in_err-child.ensures.answers in
     let p = err_from_is_err_and c.from_residual.result c.from_residual.ensures.1 in
@@ -31,8 +31,8 @@ pub read_members-loop-name-preserved-then-not-is_dot : goal.read_members-loop-na
 read_members-loop-name-preserved-then-not-is_dot t c =
     let l = c.loop-name in
     let e : Found = (c.in-Some.name.now, c.in-Some.member.now) in
-    let other = sym c.is_dot.ensures ∙ c.if-not-is_dot.true in
-    let same = c.as_str-then-not-is_dot.ensures.value ∙ sym c.as_str.ensures.value in
+    let other : same_text c.as_str.result.now (codes ".") ≡ false = sym c.is_dot.ensures ∙ c.if-not-is_dot.true in
+    let same : c.as_str-then-not-is_dot.result.now ≡ c.as_str.result.now = c.as_str-then-not-is_dot.ensures.value ∙ sym c.as_str.ensures.value in
     let more = child-more c.args.members.now.entries l.here l.below.items e c.next.new.self l.name-iterator l.invariant c.in-Some.ensures.steps c.as_str-then-not-is_dot.result.now c.in_ok-child.child
     c.as_str-then-not-is_dot.ensures.value (ap (λ n. same_text n (codes ".")) same ∙ other) c.in_ok-child.ensures.answers c.in_ok-child.ensures.child in
     subst (λ cs. IsReading c.args.members.now.entries l.here cs c.next.new.self) (sym c.in-Ok.ensures.items) more
