@@ -1,4 +1,4 @@
-use Rattle.std.proofs.Common.{◌≡◌, true, false, refl, sym, ap, subst, ◌∙◌}
+use Rattle.std.proofs.Common.{◌≡◌, [], ◌∷◌, ◌++◌, true, false, refl, sym, ap, subst, ◌∙◌}
 use Rattle.std.proofs.lemmas.Result.{err_from_is_err_and}
 use Rattle.std.specs.Prelude.{codes, not}
 use Rattle.ssa_model.specs.Json.{same_text}
@@ -35,7 +35,8 @@ read_members-loop-name-preserved-then-not-is_dot t c =
     let same : c.as_str-then-not-is_dot.result.now ≡ c.as_str.result.now = c.as_str-then-not-is_dot.ensures.value ∙ sym c.as_str.ensures.value in
     let more = child-more c.args.members.now.entries l.here l.below.items e c.next.new.self l.name-iterator l.invariant c.in-Some.ensures.steps c.as_str-then-not-is_dot.result.now c.in_ok-child.child
     c.as_str-then-not-is_dot.ensures.value (ap (λ n. same_text n (codes ".")) same ∙ other) c.in_ok-child.ensures.answers c.in_ok-child.ensures.child in
-    subst (λ cs. IsReading c.args.members.now.entries l.here cs c.next.new.self) (sym c.in-Ok.ensures.items) more
+    let pushed : c.push.new.self.items ≡ l.below.items ++ c.in_ok-child.child ∷ [] = c.in-Ok.ensures.items in
+    subst (λ cs. IsReading c.args.members.now.entries l.here cs c.next.new.self) (sym pushed) more
 
 pub read_members-loop-name-preserved : goal.read_members-loop-name-preserved
 read_members-loop-name-preserved t c =
