@@ -1,10 +1,8 @@
 -- Members put in one after another, as the children of a place are written.
-use Rattle.std.proofs.Common.{◌≡◌, ◌≢◌, ℕ, ◌+◌, ◌<◌, List, [], ◌∷◌, ◌++◌, length, get_or, take, drop, Bool, true, false, ◌&&◌, cond, true≢false, String, Global, string_bytes, Less, Greater, nat_cmp, refl, sym, ap, subst, ◌∙◌, inl, inr}
+use Rattle.std.proofs.Common.{◌≡◌, ◌≢◌, ℕ, ◌+◌, ◌<◌, List, [], ◌∷◌, ◌++◌, length, get_or, drop, Bool, true, false, ◌&&◌, cond, true≢false, String, Global, string_bytes, Greater, nat_cmp, refl, sym, ap, subst, ◌∙◌, inl, inr}
 use Rattle.std.specs.Prelude.{codes, not, ◌==◌, vec_len}
 use Rattle.std.specs.Ordering.{is_lt, ordering_reverse}
-use Rattle.std.specs.Cmp.Lexicographic.{slice_cmp, nat_list_cmp_total}
-use Rattle.std.specs.List.{AllByRecursion}
-use Rattle.std.proofs.lemmas.List.{take_more}
+use Rattle.std.specs.Cmp.Lexicographic.{slice_cmp}
 use Rattle.ssa_model.specs.Json.{Text, Json, object, Members, no_members, member}
 use Rattle.ssa_model.specs.Path.{Path, Element, field, key, value, element_cmp, element_text}
 use Rattle.ssa_model.specs.Entries.{is_place_alone, nothing_written}

@@ -1,5 +1,5 @@
 -- What the members of an object say, one after another.
-use Rattle.std.proofs.Common.{◌≡◌, ◌≢◌, List, [], ◌∷◌, ◌++◌, Bool, true, false, ◌&&◌, ◌||◌, cond, true≢false, Option, Some, None, Ok, Err, String, Global, string_bytes, string_cmp, Less, Equal, Greater, nat_cmp, refl, sym, ap, subst, ◌∙◌, append_assoc, append-nil, arith, inl}
+use Rattle.std.proofs.Common.{◌≡◌, ◌≢◌, List, [], ◌∷◌, ◌++◌, Bool, true, false, ◌||◌, cond, true≢false, Some, None, Ok, Err, String, Global, string_bytes, string_cmp, Less, Equal, Greater, nat_cmp, refl, sym, ap, subst, ◌∙◌, append_assoc, append-nil, arith, inl}
 use Rattle.std.specs.Prelude.{codes, length, ◌↔◌, IsTrue}
 use Rattle.std.specs.Ordering.{is_lt}
 use Rattle.std.specs.Cmp.Lexicographic.{slice_cmp}
@@ -7,10 +7,10 @@ use Rattle.std.specs.List.{AllByRecursion}
 use Rattle.std.specs.List.Sorted.{IsStrictlySortedBy}
 use Rattle.std.specs.Map.{keys_of}
 use Rattle.ssa_model.specs.Json.{Text, Json, scalar, list, object, Members, no_members, member, same_text, same_json}
-use Rattle.ssa_model.specs.Path.{Element, field, key, value, element_cmp, element_text}
+use Rattle.ssa_model.specs.Path.{Element, field, key, value, element_text}
 use Rattle.ssa_model.specs.Entries.{nothing_written}
-use Rattle.ssa_model.specs.ElementTexts.{ElementFault, bad_element, index_element, not_canonical, element_of}
-use Rattle.ssa_model.specs.FieldsV1.{AreCanonical, IsCanonical, dot_alone}
+use Rattle.ssa_model.specs.ElementTexts.{ElementFault, bad_element, not_canonical, element_of}
+use Rattle.ssa_model.specs.FieldsV1.{AreCanonical, dot_alone}
 use Rattle.ssa_model.specs.FieldsFaults.{is_nothing_inside, fields_faults, member_faults}
 use Rattle.ssa_json.specs.Reading.{json_reading}
 use Rattle.ssa_json.specs.View.{view, members_view}
@@ -20,7 +20,7 @@ use Rattle.ssa_path.specs.Children.{elements, is_below, rises}
 use Rattle.ssa_path.specs.ElementReading.{ReadsElement}
 use Rattle.ssa_path.specs.FieldsReading.{fields_fault, first_fault, IsFirst, below_faults, child_faults, IsPlaceOf, IsPlaceBelow, IsChildOf}
 use Rattle.ssa_path.specs.FieldsWriting.{paths_json}
-use Rattle.ssa_path.specs.Trie.{are_filled_tries, has_some, here_path, is_filled, is_trie, paths, paths_below}
+use Rattle.ssa_path.specs.Trie.{are_filled_tries, has_some, here_path, paths, paths_below}
 use Rattle.ssa_path.specs.View.{element_view}
 use Rattle.ssa_path.specs.declared.element.Elem.{Elem}
 use Rattle.ssa_path.specs.declared.element_fault.ElemFault.{ElemFault}

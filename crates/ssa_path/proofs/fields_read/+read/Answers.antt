@@ -3,11 +3,6 @@ use Rattle.std.proofs.lemmas.Result.{err_from_is_err_and}
 use Rattle.std.specs.Prelude.{codes, not}
 use Rattle.ssa_model.specs.Json.{same_text}
 use Rattle.ssa_json.specs.View.{view}
-use Rattle.ssa_path.specs.FieldsReading.{IsFirst}
-use Rattle.ssa_path.specs.Trie.{has_some}
-use Rattle.ssa_path.specs.declared.element.Elem.{Elem}
-use Rattle.ssa_path.specs.declared.trie.Trie.{Trie}
-use Rattle.ssa_path.specs.declared.trie.Trie.TheViews.{out-Trie}
 use Rattle.ssa_path.proofs.FieldsMembers.{Found, below-some}
 use Rattle.ssa_path.proofs.FieldsReadings.{IsReading, reading-none, child-first, child-more, dot-more, reading-all, dot-refused, alone-read, place-read}
 use Rattle.ssa_path.proofs.fields_read.+read.Goals as goal
