@@ -1,10 +1,8 @@
 -- Members put in one after another, as the children of a place are written.
-use Rattle.std.proofs.Common.{◌≡◌, ◌≢◌, ℕ, ◌+◌, ◌<◌, List, [], ◌∷◌, ◌++◌, length, get_or, take, drop, Bool, true, false, ◌&&◌, cond, true≢false, String, Global, string_bytes, Less, Greater, nat_cmp, refl, sym, ap, subst, ◌∙◌, inl, inr}
+use Rattle.std.proofs.Common.{◌≡◌, ◌≢◌, ℕ, ◌+◌, ◌<◌, List, [], ◌∷◌, ◌++◌, length, get_or, drop, Bool, true, false, ◌&&◌, cond, true≢false, String, Global, string_bytes, Greater, nat_cmp, refl, sym, ap, subst, ◌∙◌, inl, inr}
 use Rattle.std.specs.Prelude.{codes, not, ◌==◌, vec_len}
 use Rattle.std.specs.Ordering.{is_lt, ordering_reverse}
-use Rattle.std.specs.Cmp.Lexicographic.{slice_cmp, nat_list_cmp_total}
-use Rattle.std.specs.List.{AllByRecursion}
-use Rattle.std.proofs.lemmas.List.{take_more}
+use Rattle.std.specs.Cmp.Lexicographic.{slice_cmp}
 use Rattle.ssa_model.specs.Json.{Text, Json, object, Members, no_members, member}
 use Rattle.ssa_model.specs.Path.{Path, Element, field, key, value, element_cmp, element_text}
 use Rattle.ssa_model.specs.Entries.{is_place_alone, nothing_written}
@@ -30,11 +28,11 @@ abbrev pub Found : Type 0
 Found = String Global × json.Json
 
 -- one member more goes last
-abbrev with_last : Members → Text → Json → Members
+abbrev pub with_last : Members → Text → Json → Members
 with_last no_members n v = member n v no_members
 with_last (member m w ms) n v = member m w (with_last ms n v)
 
-members-last : (es : List Found) (e : Found) → members_view (es ++ e ∷ []) ≡ with_last (members_view es) (string_bytes e.0) (view e.1)
+pub members-last : (es : List Found) (e : Found) → members_view (es ++ e ∷ []) ≡ with_last (members_view es) (string_bytes e.0) (view e.1)
 members-last [] e = refl
 members-last (x ∷ es) e = ap (member (string_bytes x.0) (view x.1)) (members-last es e)
 

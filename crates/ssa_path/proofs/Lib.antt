@@ -18,4 +18,5 @@ pub mod Texts
 pub mod OwnTexts
 pub mod FieldsLevels
 pub mod FieldsMembers
+pub mod FieldsReadings
 pub mod FieldsSays

@@ -9,4 +9,5 @@ pub mod Order
 pub mod Trie
 pub mod View
 pub mod OwnText
+pub mod FieldsReading
 pub mod FieldsWriting

@@ -63,7 +63,8 @@ fn below_value(alloc: Global, place: &Trie) -> Result<Json, AllocError>
     requires filled { is_filled place.now ≡ true }
     ensures { IfOk result (λ v. IsWrittenBelow (paths place.now) (view v)) }
 {
-    if place.below.is_empty() {
+    let is_alone = place.below.is_empty();
+    if is_alone {
         return Ok(Json::Object(BTreeMap::new(alloc)));
     }
     let members = place_members(alloc, place)?;

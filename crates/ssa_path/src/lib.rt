@@ -8,6 +8,10 @@ pub mod element_fault;
 mod element_read;
 mod element_text;
 pub mod field_set;
+pub mod fields_fault;
+mod fields_read;
+#[cfg(test)]
+mod fields_tests;
 mod fields_v1;
 mod key_fields;
 pub mod keys;

@@ -1,4 +1,4 @@
-use Rattle.std.proofs.Common.{◌≡◌, [], ◌∷◌, ◌++◌, ◌+◌, drop, take, take_all, true, false, not, string_bytes, sym, ap, subst, ◌∙◌, arith, rules}
+use Rattle.std.proofs.Common.{◌≡◌, ◌+◌, drop, take, take_all, true, false, not, string_bytes, sym, ap, subst, ◌∙◌, arith, rules}
 use Rattle.ssa_model.specs.Json.{object}
 use Rattle.ssa_model.specs.FieldsV1.{AreCanonical, IsCanonical}
 use Rattle.ssa_json.specs.View.{members_view}
@@ -57,15 +57,15 @@ place_members-returns-clause-json t c =
     let all = take_all l.child-index c.deref-child-items.result.now (omega arith) ∙ c.deref-child-items.ensures.value in
     ap object (l.invariant.json ∙ ap (λ ds. dotted (out-Trie c.args.place.now).here (child_members ds)) all) ∙ sym (level-trie c.args.place.now c.requires)
 
-pub below_value-returns-then-is_empty : goal.below_value-returns-then-is_empty
-below_value-returns-then-is_empty t c =
+pub below_value-returns-then-is_alone : goal.below_value-returns-then-is_alone
+below_value-returns-then-is_alone t c =
     let place = c.args.place.now in
-    let none : has_some {A = Elem × Trie} (out-Trie place).below.items ≡ false = below-some place c.is_empty.result c.is_empty.ensures ∙ ap not c.if-is_empty.true in
+    let none : has_some {A = Elem × Trie} (out-Trie place).below.items ≡ false = below-some place c.is_empty-is_alone.result c.is_empty-is_alone.ensures ∙ ap not c.if-is_alone.true in
     alone-written (paths place) _ (alone-place place none c.requires.filled) (view-Object c.new.result ∙ ap (λ es. object (members_view es)) c.new.ensures.empty)
 
 pub below_value-returns : goal.below_value-returns
 below_value-returns t c =
     let place = c.args.place.now in
-    let some : has_some {A = Elem × Trie} (out-Trie place).below.items ≡ true = below-some place c.is_empty.result c.is_empty.ensures ∙ ap not c.if-is_empty.false in
+    let some : has_some {A = Elem × Trie} (out-Trie place).below.items ≡ true = below-some place c.is_empty-is_alone.result c.is_empty-is_alone.ensures ∙ ap not c.if-is_alone.false in
     let members = c.in_ok-members.members in
     place-written place _ c.requires.trie some (view-Object members ∙ c.in_ok-members.ensures.json) (subst IsCanonical (sym (view-Object members)) c.in_ok-members.ensures.canonical)

@@ -1,0 +1,116 @@
+// Sets of paths read from FieldsV1.
+ghost use Rattle.std.specs.Prelude.{◌≡◌, IfOk, codes};
+ghost use Rattle.ssa_model.specs.Entries.{fields_json};
+ghost use Rattle.ssa_model.specs.FieldsFaults.{is_nothing_inside, member_faults};
+ghost use Rattle.ssa_model.specs.FieldsV1.{IsWritten};
+ghost use Rattle.ssa_model.specs.Json.{object, same_text};
+ghost use Rattle.ssa_json.specs.Reading.{json_reading};
+ghost use Rattle.ssa_json.specs.View.{view, members_view};
+ghost use Rattle.ssa_path.specs.FieldsReading.{below_faults, child_faults, IsChildOf, IsPlaceBelow, IsPlaceOf, ReadsFields, TellsFirst};
+
+use crate::element::Elem;
+use crate::field_set::FieldSet;
+use crate::fields_fault::FieldsFault;
+use crate::trie::Trie;
+use ssa_json::value::Json;
+use std::alloc::Global;
+use std::collections::BTreeMap;
+
+impl FieldSet {
+    /// The set that a value says as FieldsV1 of the Kubernetes API, as `FieldSet::to_fields_v1`
+    /// writes it. A set has one writing, and no other is read.
+    ///
+    /// The fault is the first of them all, members in the order of their names and what is inside
+    /// each before the next.
+    pub fn from_fields_v1(alloc: Global, value: &Json) -> Result<FieldSet, FieldsFault>
+        ensures answers { ReadsFields result (view value.now) }
+        ensures written { IfOk result (λ s. IsWritten s (view value.now)) }
+        ensures back { IfOk result (λ s. fields_json s ≡ view value.now) }
+    {
+        let root = read_place(alloc, value)?;
+        Ok(FieldSet::from_root(root))
+    }
+}
+
+// Whether the text is the one that stands for the place itself.
+fn is_dot(name: &str) -> bool
+    ensures { result ≡ same_text name.now (codes ".") }
+{
+    name.as_bytes() == b".".as_slice()
+}
+
+// Whether the value is `{}`.
+fn is_nothing_inside(value: &Json) -> bool
+    ensures { result ≡ is_nothing_inside (view value.now) }
+{
+    match value {
+        Json::Object(members) => members.is_empty(),
+        Json::List(_) | Json::Scalar(_) => false,
+    }
+}
+
+// The place that a value says.
+#[cycle(read)]
+fn read_place(alloc: Global, value: &Json) -> Result<Trie, FieldsFault>
+    ensures answers { ReadsFields result (view value.now) }
+    ensures place { IfOk result (λ t. IsPlaceOf (view value.now) t) }
+{
+    match value {
+        Json::Object(members) => read_members(alloc, members),
+        Json::List(_) | Json::Scalar(_) => Err(FieldsFault::BadElement),
+    }
+}
+
+// The place that the members of an object say.
+#[cycle(read)]
+fn read_members(alloc: Global, members: &BTreeMap<String, Json>) -> Result<Trie, FieldsFault>
+    ensures answers { TellsFirst result (member_faults json_reading (members_view members.now.entries)) }
+    ensures place { IfOk result (λ t. IsPlaceOf (object (members_view members.now.entries)) t) }
+{
+    let mut here = false;
+    let mut below = Vec::new(alloc);
+    for (name, member) in members.iter() {
+        if !is_dot(name.as_str()) {
+            let child = read_child(alloc, name.as_str(), member)?;
+            let Ok(()) = below.push(child) else {
+                return Err(FieldsFault::OutOfMemory);
+            };
+            continue;
+        }
+        if !is_nothing_inside(member) {
+            return Err(FieldsFault::BadElement);
+        }
+        here = true;
+    }
+    Ok(Trie { here, below })
+}
+
+// The child that a member says, where the member is not `.`.
+#[cycle(read)]
+fn read_child(alloc: Global, name: &str, value: &Json) -> Result<(Elem, Trie), FieldsFault>
+    ensures answers { TellsFirst result (child_faults name.now (view value.now)) }
+    ensures child { IfOk result (λ c. IsChildOf name.now (view value.now) c) }
+{
+    let element = Elem::read(alloc, name)?;
+    let place = read_below(alloc, value)?;
+    Ok((element, place))
+}
+
+// The place that a value says under an element, where `{}` says the place alone.
+#[cycle(read)]
+fn read_below(alloc: Global, value: &Json) -> Result<Trie, FieldsFault>
+    ensures answers { TellsFirst result (below_faults (view value.now)) }
+    ensures place { IfOk result (λ t. IsPlaceBelow (view value.now) t) }
+{
+    let place = read_place(alloc, value)?;
+    if !place.below.is_empty() {
+        return Ok(place);
+    }
+    if place.here {
+        return Err(FieldsFault::NotCanonical);
+    }
+    Ok(Trie {
+        here: true,
+        below: Vec::new(alloc),
+    })
+}
