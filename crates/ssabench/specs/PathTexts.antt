@@ -5,7 +5,6 @@ use Rattle.ssa_model.specs.Schema.{texts_of}
 use Rattle.ssa_model.specs.Path as model
 use Rattle.ssa_model.specs.ElementTexts.{ElementFault, bad_element, index_element, not_canonical, path_of}
 use Rattle.ssa_json.specs.Reading.{json_reading}
-use Rattle.ssa_path.specs.declared.path.Path.{Path}
 use Rattle.ssa_path.specs.declared.element_fault.ElemFault.{ElemFault}
 use Rattle.ssa_path.specs.declared.element_fault.ElemFault.TheVariants.{BadElement, IndexElement, NotCanonical, OutOfMemory}
 
