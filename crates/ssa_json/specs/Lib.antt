@@ -1,5 +1,6 @@
 pub mod View
 pub mod Reading
+pub mod Readings
 pub mod Written
 pub mod Moment
 pub mod Devices

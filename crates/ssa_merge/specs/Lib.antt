@@ -1,4 +1,5 @@
 pub mod Absent
+pub mod GivenEntries
 pub mod Held
 pub mod Managers
 pub mod Tables

@@ -2,6 +2,8 @@
 #![tactic(auto)]
 
 pub mod entries;
+pub mod entries_read;
+pub mod entry_fault;
 pub mod given_up;
 pub mod manager;
 pub mod managers;

@@ -1,6 +1,6 @@
 -- The answer to a command, and a run of commands.
-use Rattle.std.specs.Prelude.{ℕ, ◌+◌, ◌-◌, List, [], ◌∷◌, Bool, not, ◌&&◌, ◌==◌, length, Option, Result, Ok, Err, if◌then◌else◌, nat_lt, nat_le, codes, map, filter, take, drop}
-use Rattle.ssa_model.specs.Json.{Text, Json, scalar, list, object}
+use Rattle.std.specs.Prelude.{ℕ, ◌+◌, ◌-◌, List, [], ◌∷◌, Bool, not, ◌&&◌, ◌==◌, length, Option, Some, None, Result, Ok, Err, if◌then◌else◌, nat_lt, nat_le, codes, map, filter, take, drop}
+use Rattle.ssa_model.specs.Json.{Text, Json, scalar, list, object, Members}
 use Rattle.ssa_model.specs.Path.{Path}
 use Rattle.ssa_model.specs.PathMap.{PathSet, has, size}
 use Rattle.ssa_model.specs.Kind.{Kind, BodyFault, wrong_type, faults}
@@ -8,14 +8,18 @@ use Rattle.ssa_model.specs.Body.{Body, flat, added, modified, removed}
 use Rattle.ssa_model.specs.Table.{applies, updates, ManagerKey, Table}
 use Rattle.ssa_model.specs.Operations as operations
 use Rattle.ssa_model.specs.Operations.{State, Refusal, too_many_paths}
-use Rattle.ssa_model.specs.Objects.{value_at, identity_of, is_missing, is_some_object, is_identity, same_identity, body_value}
+use Rattle.ssa_model.specs.Objects.{value_at, identity_of, is_missing, is_some_object, is_identity, same_identity, body_value, file_value}
+use Rattle.ssa_model.specs.Readings.{Readings}
+use Rattle.ssa_model.specs.Commands.{text_in}
 use Rattle.ssa_model.specs.Entries.{object_of_state}
+use Rattle.ssa_model.specs.GivenEntries.{EntryFault, table_of}
 use Rattle.ssa_model.specs.History.{Label, applied, updated, stripped, Timeline, Bench, present, past_len, future_len, appended, moved_to, with_timeline, is_manager_name}
 
 pub data Fault : Type 0 where
   body_fault : BodyFault → Path → Fault
   identity_fault : Fault
   managed_fields_given : Fault
+  entry_fault : EntryFault → Fault
   manager_name : Fault
   history_full : Fault
   nothing_to_undo : Fault
@@ -51,25 +55,41 @@ command_body bench (scalar s) = Err (body_fault wrong_type [])
 
 -- ---- a new bench
 
-abbrev pub lone_state : Body → Timeline
-lone_state body = record { first = record { body = body; table = [] }; later = []; place = 0 }
-
-abbrev pub with_lone_state : Kind → List (Option Json) → Result Body Fault → Result Bench Fault
-with_lone_state kind identity (Ok body) = Ok (record { kind = kind; identity = identity; timeline = lone_state body })
-with_lone_state kind identity (Err f) = Err f
+abbrev pub lone_state : State → Timeline
+lone_state state = record { first = state; later = []; place = 0 }
 
 -- an object file says what the object is called
 abbrev pub names_itself : Json → Bool
 names_itself v = is_some_object (value_at (codes "metadata" ∷ []) v) && is_identity (identity_of v)
 
--- The bench of an object file without managers' entries, or its first fault. The file is tested like a command's object, but for the comparison of the identity.
-abbrev pub bench_of : Kind → Json → Result Bench Fault
-bench_of kind (object ms) =
-    if not (names_itself (object ms)) then Err identity_fault
-    else (if gives_managed_fields (object ms) then Err managed_fields_given
-    else with_lone_state kind (identity_of (object ms)) (body_or_fault kind (body_value ms)))
-bench_of kind (list vs) = Err (body_fault wrong_type [])
-bench_of kind (scalar s) = Err (body_fault wrong_type [])
+abbrev pub with_lone_state : Kind → List (Option Json) → Result State Fault → Result Bench Fault
+with_lone_state kind identity (Ok state) = Ok (record { kind = kind; identity = identity; timeline = lone_state state })
+with_lone_state kind identity (Err f) = Err f
+
+abbrev pub with_table : Body → Result Table EntryFault → Result State Fault
+with_table body (Ok table) = Ok (record { body = body; table = table })
+with_table body (Err f) = Err (entry_fault f)
+
+module _ (readings : Readings) where
+  -- the table of an object file with this body; no entries are an empty table
+  abbrev pub given_table : Body → Json → Result Table EntryFault
+  given_table body v =
+      elim (value_at (codes "metadata" ∷ codes "managedFields" ∷ []) v) [
+        | None ↦ Ok []
+        | Some entries ↦ table_of readings body (text_in (value_at (codes "apiVersion" ∷ []) v)) entries
+      ]
+
+  -- the state of an object file, or its first fault: the body's come before the entries'
+  abbrev pub file_state : Kind → Members → Result State Fault
+  file_state kind ms = elim (body_or_fault kind (file_value ms)) [ Ok body ↦ with_table body (given_table body (object ms)) | Err f ↦ Err f ]
+
+  -- the bench of an object file, or the file's first fault
+  abbrev pub bench_of : Kind → Json → Result Bench Fault
+  bench_of kind (object ms) =
+      if not (names_itself (object ms)) then Err identity_fault
+      else with_lone_state kind (identity_of (object ms)) (file_state kind ms)
+  bench_of kind (list vs) = Err (body_fault wrong_type [])
+  bench_of kind (scalar s) = Err (body_fault wrong_type [])
 
 -- ---- commands on a bench
 

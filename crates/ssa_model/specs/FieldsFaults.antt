@@ -1,6 +1,8 @@
--- The faults of a value as FieldsV1.
-use Rattle.std.specs.Prelude.{List, [], ◌∷◌, ◌++◌, Bool, true, false, Result, Ok, Err, if◌then◌else◌, codes}
+-- The faults of a value as FieldsV1, and the set that a value without faults says.
+use Rattle.std.specs.Prelude.{List, [], ◌∷◌, ◌++◌, map, Bool, true, false, Result, Ok, Err, if◌then◌else◌, codes}
 use Rattle.ssa_model.specs.Json.{Text, Json, scalar, list, object, Members, no_members, member, same_text, same_json}
+use Rattle.ssa_model.specs.Path.{Path}
+use Rattle.ssa_model.specs.PathMap.{PathSet, listed}
 use Rattle.ssa_model.specs.Readings.{ReadFault}
 use Rattle.ssa_model.specs.ElementTexts.{ElementFault, bad_element, not_canonical, element_of}
 use Rattle.ssa_model.specs.FieldsV1.{dot_alone}
@@ -9,9 +11,9 @@ abbrev pub is_nothing_inside : Json → Bool
 is_nothing_inside (object no_members) = true
 is_nothing_inside _ = false
 
--- All faults in the order of the members, depth first; the first is told. The value is an object, `.` has `{}`, and each
--- other member is an element's own text with an object, which isn't `{".":{}}`.
 module _ (reading : Text → Result Json ReadFault) where
+  -- All faults in the order of the members, depth first; the first is told. The value is an object, `.` has `{}`, and each
+  -- other member is an element's own text with an object, which isn't `{".":{}}`.
   abbrev mutual
     pub fields_faults : Json → List ElementFault
     fields_faults (object ms) = member_faults ms
@@ -27,3 +29,21 @@ module _ (reading : Text → Result Json ReadFault) where
           | Ok e ↦ (if same_json v dot_alone then not_canonical ∷ [] else fields_faults v)
         ])
         ++ member_faults ms
+
+  -- The paths that a value without faults says: `.` says the place itself, an element with `{}` the place of this element
+  -- alone, and an element with another object the paths that the object says below it.
+  abbrev mutual
+    pub said_paths : Json → List Path
+    said_paths (object ms) = member_paths ms
+    said_paths (scalar s) = []
+    said_paths (list vs) = []
+
+    pub member_paths : Members → List Path
+    member_paths no_members = []
+    member_paths (member n v ms) =
+        (if same_text n (codes ".") then [] ∷ []
+        else elim (element_of reading n) [ Err f ↦ [] | Ok e ↦ map (λ p. e ∷ p) (if is_nothing_inside v then [] ∷ [] else said_paths v) ])
+        ++ member_paths ms
+
+  abbrev pub said_set : Json → PathSet
+  said_set v = listed (said_paths v)

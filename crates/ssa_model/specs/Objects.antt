@@ -56,17 +56,35 @@ abbrev pub without : List Text → Members → Members
 without names no_members = no_members
 without names (member n v ms) = if list_any (same_text n) names then without names ms else member n v (without names ms)
 
-abbrev pub without_name : Json → Json
-without_name (object ms) = object (without (codes "name" ∷ codes "namespace" ∷ []) ms)
-without_name v = v
+abbrev pub without_names : List Text → Json → Json
+without_names names (object ms) = object (without names ms)
+without_names names v = v
 
-abbrev pub without_names_in_metadata : Members → Members
-without_names_in_metadata no_members = no_members
-without_names_in_metadata (member n v ms) = member n (if same_text n (codes "metadata") then without_name v else v) (without_names_in_metadata ms)
+abbrev pub without_in_metadata : List Text → Members → Members
+without_in_metadata names no_members = no_members
+without_in_metadata names (member n v ms) = member n (if same_text n (codes "metadata") then without_names names v else v) (without_in_metadata names ms)
 
--- the object without its identity
+-- the object without `apiVersion`, `kind` and these members of its metadata
+abbrev pub value_without : List Text → Members → Json
+value_without names ms = object (without_in_metadata names (without (codes "apiVersion" ∷ codes "kind" ∷ []) ms))
+
+-- the identity's members of metadata
+abbrev pub identity_names : List Text
+identity_names = codes "name" ∷ codes "namespace" ∷ []
+
+-- what an object file's metadata may have beside the body: the identity, what a server keeps, and the managers' entries
+abbrev pub file_names : List Text
+file_names =
+    identity_names
+    ++ codes "uid" ∷ codes "resourceVersion" ∷ codes "generation" ∷ codes "creationTimestamp" ∷ codes "selfLink" ∷ codes "managedFields" ∷ []
+
+-- a command's object without its identity
 abbrev pub body_value : Members → Json
-body_value ms = object (without_names_in_metadata (without (codes "apiVersion" ∷ codes "kind" ∷ []) ms))
+body_value = value_without identity_names
+
+-- the body's value of an object file
+abbrev pub file_value : Members → Json
+file_value = value_without file_names
 
 -- ---- the object of a body
 

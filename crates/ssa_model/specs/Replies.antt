@@ -8,7 +8,10 @@ use Rattle.ssa_model.specs.Table.{ManagerKey}
 use Rattle.ssa_model.specs.Operations.{Refusal, conflict, too_many_paths, too_many_managers}
 use Rattle.ssa_model.specs.Entries.{operation_text, text_json}
 use Rattle.ssa_model.specs.History.{Label, applied, updated, stripped}
-use Rattle.ssa_model.specs.Answers.{Fault, body_fault, identity_fault, managed_fields_given, manager_name, history_full, nothing_to_undo, nothing_to_redo, refused, Reply, changed, moved, shown, owned_by, logged, fault, Changed}
+use Rattle.ssa_model.specs.ElementTexts.{ElementFault, bad_element, index_element, not_canonical}
+use Rattle.ssa_model.specs.GivenEntries as entries
+use Rattle.ssa_model.specs.GivenEntries.{EntryFault}
+use Rattle.ssa_model.specs.Answers.{Fault, body_fault, identity_fault, managed_fields_given, entry_fault, manager_name, history_full, nothing_to_undo, nothing_to_redo, refused, Reply, changed, moved, shown, owned_by, logged, fault, Changed}
 
 abbrev pub number_json : ℕ → Json
 number_json n = scalar (whole (pos n))
@@ -57,10 +60,27 @@ refusal_json (conflict cs) = object (member (codes "conflicts") (list_json clash
 refusal_json too_many_paths = fault_json 24 (codes "TooManyPaths")
 refusal_json too_many_managers = fault_json 43 (codes "TooManyManagers")
 
+abbrev pub element_fault_json : ElementFault → Json
+element_fault_json bad_element = fault_json 30 (codes "BadElement")
+element_fault_json index_element = fault_json 31 (codes "IndexElement")
+element_fault_json not_canonical = fault_json 32 (codes "NotCanonical")
+
+abbrev pub entry_fault_json : EntryFault → Json
+entry_fault_json entries.bad_moment = fault_json 6 (codes "BadMoment")
+entry_fault_json (entries.of_fields f) = element_fault_json f
+entry_fault_json (entries.absent_path p) = fault_at 40 (codes "AbsentPath") p
+entry_fault_json entries.duplicate_manager = fault_json 41 (codes "DuplicateManager")
+entry_fault_json entries.empty_entry = fault_json 42 (codes "EmptyEntry")
+entry_fault_json entries.too_many_managers = fault_json 43 (codes "TooManyManagers")
+entry_fault_json entries.other_version = fault_json 44 (codes "OtherVersion")
+entry_fault_json entries.bad_entry = fault_json 45 (codes "BadEntry")
+entry_fault_json entries.manager_name = fault_json 62 (codes "ManagerName")
+
 abbrev pub fault_reply : Fault → Json
 fault_reply (body_fault f p) = body_fault_json f p
 fault_reply identity_fault = fault_json 60 (codes "Identity")
 fault_reply managed_fields_given = fault_json 61 (codes "ManagedFieldsGiven")
+fault_reply (entry_fault f) = entry_fault_json f
 fault_reply manager_name = fault_json 62 (codes "ManagerName")
 fault_reply history_full = fault_json 63 (codes "HistoryFull")
 fault_reply nothing_to_undo = fault_json 64 (codes "NothingToUndo")

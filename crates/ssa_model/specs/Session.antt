@@ -2,14 +2,14 @@
 use Rattle.std.specs.Prelude.{List, Bool, true, Some, None, Result, Ok, Err, if◌then◌else◌, codes}
 use Rattle.ssa_model.specs.Json.{Text, Json, compact}
 use Rattle.ssa_model.specs.Path.{Path}
-use Rattle.ssa_model.specs.ElementTexts.{ElementFault, bad_element, index_element, not_canonical, path_of}
+use Rattle.ssa_model.specs.ElementTexts.{ElementFault, path_of}
 use Rattle.ssa_model.specs.Readings.{ReadFault, not_json, null_value, number_outside, Readings}
 use Rattle.ssa_model.specs.History.{Bench}
 use Rattle.ssa_model.specs.Commands as given
 use Rattle.ssa_model.specs.Commands.{CommandRule, command_of, moment_of}
 use Rattle.ssa_model.specs.Answers as answers
 use Rattle.ssa_model.specs.Answers.{Command, answer}
-use Rattle.ssa_model.specs.Replies.{fault_json, reply_text}
+use Rattle.ssa_model.specs.Replies.{fault_json, element_fault_json, reply_text}
 
 -- ---- faults of a line
 
@@ -24,9 +24,7 @@ line_fault_json (unread not_json) = fault_json 1 (codes "NotJson")
 line_fault_json (unread null_value) = fault_json 2 (codes "NullValue")
 line_fault_json (unread number_outside) = fault_json 3 (codes "NumberOutside")
 line_fault_json bad_moment = fault_json 6 (codes "BadMoment")
-line_fault_json (of_element bad_element) = fault_json 30 (codes "BadElement")
-line_fault_json (of_element index_element) = fault_json 31 (codes "IndexElement")
-line_fault_json (of_element not_canonical) = fault_json 32 (codes "NotCanonical")
+line_fault_json (of_element f) = element_fault_json f
 line_fault_json command_shape = fault_json 66 (codes "CommandShape")
 
 -- ---- the answer to a line

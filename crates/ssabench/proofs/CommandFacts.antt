@@ -23,7 +23,8 @@ use Rattle.ssa_json.proofs.Views.{view-lookup}
 use Rattle.ssabench.specs.declared.command_shape.Word.{Word}
 use Rattle.ssabench.specs.declared.command_shape.Word.TheVariants.{Apply, Update, Strip, Undo, Redo, Show, Owners}
 use Rattle.ssabench.specs.PathTexts.{as_list, given_texts}
-use Rattle.ssabench.specs.Commands.{readings, word_text, member_rules, rule_at, HasRequest, given_moment}
+use Rattle.ssa_json.specs.Readings.{readings}
+use Rattle.ssabench.specs.Commands.{word_text, member_rules, rule_at, HasRequest, given_moment}
 
 -- what a value is read as
 abbrev pub meaning : Json → Result answers.Command LineFault

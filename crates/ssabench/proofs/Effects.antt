@@ -8,7 +8,7 @@ use Rattle.ssa_model.specs.Session.{LineFault, answer_read, read_line}
 use Rattle.ssa_model.specs.Effect.{IsHistory, AreSteps}
 use Rattle.ssa_model.proofs.Effect.{histories_are_carried_out}
 use Rattle.ssabench.specs.BenchLines.{line_reply, bench_after}
-use Rattle.ssabench.specs.Commands.{readings}
+use Rattle.ssa_json.specs.Readings.{readings}
 use Rattle.ssabench.specs.Effects.{IsAlone, IsCarriedOut}
 use Rattle.ssabench.specs.Session.{Replies, IsAnswer, IsRefused}
 use Rattle.ssabench.specs.declared.engine.SessionFault.{SessionFault}

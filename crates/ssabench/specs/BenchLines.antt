@@ -3,7 +3,7 @@ use Rattle.std.specs.Prelude.{ℕ, List}
 use Rattle.ssa_model.specs.Commands.{session_rules}
 use Rattle.ssa_model.specs.History as model
 use Rattle.ssa_model.specs.Session.{line_answer}
-use Rattle.ssabench.specs.Commands.{readings}
+use Rattle.ssa_json.specs.Readings.{readings}
 
 -- the reply's text
 abbrev pub line_reply : model.Bench → List ℕ → List ℕ

@@ -4,7 +4,8 @@ ghost use Rattle.ssa_json.specs.View.{view, members_view};
 ghost use Rattle.ssa_model.specs.Json.{object, as_text, member_of};
 ghost use Rattle.ssa_model.specs.Session.{read_command, read_line};
 ghost use Rattle.ssa_model.specs.Commands.{session_rules, word_of, follows_rule, truth_in};
-ghost use Rattle.ssabench.specs.Commands.{readings, word_text, rule_at, HasRequest, ReadsCommand, Requests};
+ghost use Rattle.ssa_json.specs.Readings.{readings};
+ghost use Rattle.ssabench.specs.Commands.{word_text, rule_at, HasRequest, ReadsCommand, Requests};
 ghost use Rattle.ssabench.specs.declared.read_command.LineFault.TheVariants.{OutOfMemory};
 
 use crate::command::Command;

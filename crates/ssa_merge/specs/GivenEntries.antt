@@ -1,0 +1,28 @@
+-- What reading managers' entries answers.
+use Rattle.std.specs.Prelude.{◌≡◌, Result, Ok, Err}
+use Rattle.ssa_model.specs.ElementTexts as texts
+use Rattle.ssa_model.specs.GivenEntries as model
+use Rattle.ssa_model.specs.Table.{Table}
+use Rattle.ssa_merge.specs.declared.entry_fault.EntryFault.{EntryFault}
+use Rattle.ssa_merge.specs.declared.entry_fault.EntryFault.TheVariants.{TooManyManagers, BadEntry, ManagerName, OtherVersion, BadMoment, BadElement, IndexElement, NotCanonical, EmptyEntry, AbsentPath, DuplicateManager, OutOfMemory}
+
+-- the fault is the given one
+abbrev pub IsEntryFault : EntryFault → model.EntryFault → Type 0
+IsEntryFault TooManyManagers g = g ≡ model.too_many_managers
+IsEntryFault BadEntry g = g ≡ model.bad_entry
+IsEntryFault ManagerName g = g ≡ model.manager_name
+IsEntryFault OtherVersion g = g ≡ model.other_version
+IsEntryFault BadMoment g = g ≡ model.bad_moment
+IsEntryFault BadElement g = g ≡ model.of_fields texts.bad_element
+IsEntryFault IndexElement g = g ≡ model.of_fields texts.index_element
+IsEntryFault NotCanonical g = g ≡ model.of_fields texts.not_canonical
+IsEntryFault EmptyEntry g = g ≡ model.empty_entry
+IsEntryFault (AbsentPath p) g = g ≡ model.absent_path p
+IsEntryFault DuplicateManager g = g ≡ model.duplicate_manager
+IsEntryFault OutOfMemory g = ⊥
+
+-- What is read is the given table or its first fault; of want of memory nothing is said.
+abbrev pub GivesEntries : {A : Type 0} → Result A EntryFault → Result A model.EntryFault → Type 0
+GivesEntries (Ok a) given = given ≡ Ok a
+GivesEntries (Err OutOfMemory) given = Unit {0}
+GivesEntries (Err f) given = (g : model.EntryFault) × (given ≡ Err g) × IsEntryFault f g

@@ -1,0 +1,46 @@
+//! Why a value is no table of managers.
+ghost use Rattle.std.specs.Prelude.{◌≡◌};
+ghost use Rattle.ssa_merge.specs.declared.entry_fault.EntryFault.TheVariants.{OutOfMemory};
+
+use ssa_path::path::Path;
+use std::alloc::AllocError;
+
+/// Why `Managers::from_entries` gives no table: the first fault of the first entry that has one.
+#[derive(Drop)]
+pub enum EntryFault {
+    /// The table would have more than 64 managers.
+    TooManyManagers,
+    /// The value is no list, or an entry is no object of exactly the members `apiVersion`,
+    /// `fieldsType`, `fieldsV1`, `manager`, `operation` and `time`, texts but for `fieldsV1`, with the
+    /// fields type `FieldsV1` and the operation `Apply` or `Update`.
+    BadEntry,
+    /// A manager's name is not of 1 to 128 printable ASCII characters.
+    ManagerName,
+    /// An entry is of another `apiVersion` than the object.
+    OtherVersion,
+    /// The time of an entry is no moment.
+    BadMoment,
+    /// `fieldsV1` is no object, or has a member that is no element.
+    BadElement,
+    /// `fieldsV1` has an item of a list by its place.
+    IndexElement,
+    /// `fieldsV1` is not the one writing of its set.
+    NotCanonical,
+    /// An entry owns nothing.
+    EmptyEntry,
+    /// The first path, in path order, that an entry owns and that the object's body does not have, or
+    /// that nobody can own: the root and `metadata`.
+    AbsentPath(Path),
+    /// An earlier entry has the same manager and operation.
+    DuplicateManager,
+    /// A growth of memory was refused.
+    OutOfMemory,
+}
+
+impl From<AllocError> for EntryFault {
+    ghost from_gives = { λ _ e. e ≡ OutOfMemory };
+
+    fn from(_refused: AllocError) -> EntryFault {
+        EntryFault::OutOfMemory
+    }
+}
