@@ -1,5 +1,6 @@
 -- What timelines are, and of which kind their bodies.
 use Rattle.std.specs.Prelude.{List, map, length, ◌≤◌, string_bytes}
+use Rattle.std.specs.Borrow.{Bor}
 use Rattle.ssa_model.specs.History as model
 use Rattle.ssa_merge.specs.States.{state_view}
 use Rattle.ssa_bench.specs.declared.timeline.Label.{Label}
@@ -11,6 +12,10 @@ abbrev pub label_view : Label → model.Label
 label_view (Apply at force who) = model.applied (string_bytes who) force at
 label_view (Update at who) = model.updated (string_bytes who) at
 label_view Strip = model.stripped
+
+-- the labels that are lent
+abbrev pub lent_labels : List (Bor Label) → List model.Label
+lent_labels = map (λ l. label_view l.now)
 
 abbrev pub step_view : Step → model.Step
 step_view s = record { label = label_view s.label; state = state_view s.state }

@@ -1,6 +1,6 @@
 //! The bench: an object, its managers, and the history of commands on it.
 ghost use Rattle.std.specs.Prelude.{◌≡◌, ◌<◌, ◌^◌, ◌||◌, nat_le, IfOk, OnOk, OnErr, false, true, codes, string_bytes};
-ghost use Rattle.ssa_model.specs.Answers.{answer, apply, update, strip, undo, redo, apply_answer, bench_of, body_or_fault, command_body, owners_of};
+ghost use Rattle.ssa_model.specs.Answers.{answer, apply, update, strip, undo, redo, log, logged, apply_answer, bench_of, body_or_fault, command_body, owners_of};
 ghost use Rattle.ssa_model.specs.Entries.{object_of_state};
 ghost use Rattle.ssa_model.specs.History.{is_manager_name, past_len, future_len, present};
 ghost use Rattle.ssa_json.specs.View.{view};
@@ -9,6 +9,7 @@ ghost use Rattle.ssa_bench.specs.Benches.{lone_bench, next_bench, Begins, CanCom
 ghost use Rattle.ssa_bench.specs.Faults.{IsGiven};
 ghost use Rattle.ssa_bench.specs.Identities.{body_value_of};
 ghost use Rattle.ssa_bench.specs.Commands.{command_view, command_word};
+ghost use Rattle.ssa_bench.specs.Histories.{lent_labels};
 ghost use Rattle.ssa_bench.specs.ValidTimelines.{AllValid, IsValidBody};
 
 use crate::body_value::body_value;
@@ -18,7 +19,7 @@ use crate::identity::{Identity, gives_managed_fields, has_identity};
 use crate::names::is_manager_name;
 use crate::object::object_of_state;
 use crate::prepared::{Changed, Counts, Prepared, accepted};
-use crate::timeline::{Label, Timeline};
+use crate::timeline::{Label, Log, Timeline, labels};
 use ssa_json::moment::Moment;
 use ssa_json::value::Json;
 use ssa_merge::manager::ManagerKey;
@@ -355,5 +356,15 @@ impl Bench {
         let now = self.timeline.present();
         let found = owners(alloc, now.managers.entries(), path)?;
         Ok(found)
+    }
+
+    /// The labels of the commands of the history: of those that can be undone, oldest first, and of
+    /// those that can be redone, the next one first.
+    pub fn log(&self, alloc: Global) -> Result<Log<'_>, AllocError>
+        ensures { IfOk result (λ l. answer self.now log ≡ (logged (lent_labels l.past.items) (lent_labels l.future.items), self.now)) }
+    {
+        let past = labels(alloc, self.timeline.past())?;
+        let future = labels(alloc, self.timeline.future())?;
+        Ok(Log { past, future })
     }
 }

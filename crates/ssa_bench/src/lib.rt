@@ -8,6 +8,8 @@ pub mod fault;
 pub mod identity;
 #[cfg(test)]
 mod long_tests;
+#[cfg(test)]
+mod look_tests;
 pub mod names;
 pub mod object;
 pub mod prepared;

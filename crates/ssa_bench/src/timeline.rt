@@ -1,8 +1,8 @@
 //! The history of a bench: all its states in a row, and a place among them.
-ghost use Rattle.std.specs.Prelude.{◌≡◌, [], OnOk, OnErr, ◌≤◌, ◌+◌, ◌-◌, ◌<◌, ◌^◌, length, take, ◌++◌, ◌∷◌};
+ghost use Rattle.std.specs.Prelude.{◌≡◌, [], OnOk, OnErr, IfOk, ◌≤◌, ◌+◌, ◌-◌, ◌<◌, ◌^◌, length, map, take, drop, ◌++◌, ◌∷◌};
 ghost use Rattle.ssa_model.specs.History as model;
 ghost use Rattle.ssa_model.specs.History.{present, past_len, future_len, appended, moved_to};
-ghost use Rattle.ssa_bench.specs.Histories.{label_view};
+ghost use Rattle.ssa_bench.specs.Histories.{label_view, lent_labels, steps_view};
 ghost use Rattle.ssa_merge.specs.States.{state_view};
 
 use ssa_json::moment::Moment;
@@ -30,6 +30,14 @@ pub enum Label {
 pub struct Step {
     pub label: Label,
     pub state: State,
+}
+
+/// The labels of a history: those of the states up to the place, oldest first, and those behind it,
+/// the next one first.
+#[derive(Drop)]
+pub struct Log<'a> {
+    pub past: Vec<&'a Label>,
+    pub future: Vec<&'a Label>,
 }
 
 /// All states in a row; `place` counts those before the present one.
@@ -70,6 +78,17 @@ fn cut_and_push(later: &mut Vec<Step>, place: usize, step: Step) -> Result<(), A
     Ok(())
 }
 
+/// The labels of steps, in their order.
+pub fn labels(alloc: Global, steps: &[Step]) -> Result<Vec<&Label>, AllocError>
+    ensures { IfOk result (λ ls. lent_labels ls.items ≡ map (λ s. s.label) (steps_view steps.now)) }
+{
+    let mut found = Vec::with_capacity(alloc, steps.len())?;
+    for step in steps {
+        found.push(&step.label)?;
+    }
+    Ok(found)
+}
+
 impl Timeline {
     /// A timeline of one state.
     pub fn new(alloc: Global, first: State) -> Timeline
@@ -107,6 +126,20 @@ impl Timeline {
         ensures small { result < 2 ^ 63 }
     {
         self.later.len() - self.place
+    }
+
+    /// The steps that led to the place, oldest first.
+    pub fn past(&self) -> &[Step]
+        ensures { steps_view result.now ≡ take (past_len self.now) self.now.later }
+    {
+        &self.later[..self.place]
+    }
+
+    /// The steps behind the place, the next one first.
+    pub fn future(&self) -> &[Step]
+        ensures { steps_view result.now ≡ drop (past_len self.now) self.now.later }
+    {
+        &self.later[self.place..]
     }
 
     /// Cuts off what came after the place, and goes to a new state there.

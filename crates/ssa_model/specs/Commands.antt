@@ -82,17 +82,6 @@ session_rules =
     ∷ record { word = codes "redo"; members = [] }
     ∷ record { word = codes "show"; members = may_have (codes "managed") truth_member ∷ [] }
     ∷ record { word = codes "owners"; members = needs (codes "path") texts_member ∷ [] }
-    ∷ []
-
-abbrev pub whole_rules : List CommandRule
-whole_rules =
-    record { word = codes "apply"; members = needs (codes "at") text_member ∷ needs (codes "manager") text_member ∷ needs (codes "object") any_member ∷ may_have (codes "force") truth_member ∷ [] }
-    ∷ record { word = codes "update"; members = needs (codes "at") text_member ∷ needs (codes "manager") text_member ∷ needs (codes "object") any_member ∷ [] }
-    ∷ record { word = codes "strip"; members = [] }
-    ∷ record { word = codes "undo"; members = [] }
-    ∷ record { word = codes "redo"; members = [] }
-    ∷ record { word = codes "show"; members = may_have (codes "managed") truth_member ∷ [] }
-    ∷ record { word = codes "owners"; members = needs (codes "path") texts_member ∷ [] }
     ∷ record { word = codes "log"; members = [] }
     ∷ []
 

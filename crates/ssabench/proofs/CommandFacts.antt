@@ -21,7 +21,7 @@ use Rattle.ssa_json.specs.declared.value.Json as values
 use Rattle.ssa_json.proofs.Equality.{same_text-true}
 use Rattle.ssa_json.proofs.Views.{view-lookup}
 use Rattle.ssabench.specs.declared.command_shape.Word.{Word}
-use Rattle.ssabench.specs.declared.command_shape.Word.TheVariants.{Apply, Update, Strip, Undo, Redo, Show, Owners}
+use Rattle.ssabench.specs.declared.command_shape.Word.TheVariants.{Apply, Update, Strip, Undo, Redo, Show, Owners, Log}
 use Rattle.ssabench.specs.PathTexts.{as_list, given_texts}
 use Rattle.ssa_json.specs.Readings.{readings}
 use Rattle.ssabench.specs.Commands.{word_text, member_rules, rule_at, HasRequest, given_moment}
@@ -59,6 +59,7 @@ rule_of-word Undo = refl
 rule_of-word Redo = refl
 rule_of-word Show = refl
 rule_of-word Owners = refl
+rule_of-word Log = refl
 
 pub meaning-word : (ms : Members) (word : Word) (b : Bool) → word_of ms ≡ Some (word_text word) → follows_rule ms (rule_at word) ≡ b
     → meaning (object ms) ≡ told (if b then Some (command_with (word_text word) ms) else None)
@@ -81,8 +82,8 @@ pub meaning-show : (ms : Members) → word_of ms ≡ Some (codes "show") → fol
 meaning-show ms is follows = meaning-word ms Show true is follows
 
 pub rule_of-other : (t : Text) → same_text t (codes "apply") ≡ false → same_text t (codes "update") ≡ false → same_text t (codes "strip") ≡ false → same_text t (codes "undo") ≡ false → same_text t (codes "redo") ≡ false
-    → same_text t (codes "show") ≡ false → same_text t (codes "owners") ≡ false → rule_of session_rules t ≡ None
-rule_of-other t not_apply not_update not_strip not_undo not_redo not_show not_owners = rw (not_apply, not_update, not_strip, not_undo, not_redo, not_show, not_owners) refl
+    → same_text t (codes "show") ≡ false → same_text t (codes "owners") ≡ false → same_text t (codes "log") ≡ false → rule_of session_rules t ≡ None
+rule_of-other t not_apply not_update not_strip not_undo not_redo not_show not_owners not_log = rw (not_apply, not_update, not_strip, not_undo, not_redo, not_show, not_owners, not_log) refl
 
 pub is_some-view : (o : Option values.Json) → is_some (option_map view o) ≡ is_some o
 is_some-view None = refl

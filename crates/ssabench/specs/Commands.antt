@@ -13,7 +13,7 @@ use Rattle.ssa_bench.specs.Commands as changes
 use Rattle.ssabench.specs.declared.command.Command.{Command}
 use Rattle.ssabench.specs.declared.command.Command.TheVariants as command
 use Rattle.ssabench.specs.declared.command_shape.Word.{Word}
-use Rattle.ssabench.specs.declared.command_shape.Word.TheVariants.{Apply, Update, Strip, Undo, Redo, Show, Owners}
+use Rattle.ssabench.specs.declared.command_shape.Word.TheVariants.{Apply, Update, Strip, Undo, Redo, Show, Owners, Log}
 use Rattle.ssabench.specs.declared.read_command.Request.{Request}
 use Rattle.ssabench.specs.declared.read_command.LineFault.{LineFault}
 use Rattle.ssabench.specs.declared.read_command.LineFault.TheVariants.{NotJson, NullValue, NumberOutside, BadMoment, CommandShape, BadElement, IndexElement, NotCanonical, OutOfMemory}
@@ -24,6 +24,7 @@ command_view command.Undo = answers.undo
 command_view command.Redo = answers.redo
 command_view (command.Show managed) = answers.show managed
 command_view (command.Owners p) = answers.owners p
+command_view command.Log = answers.log
 
 abbrev pub word_text : Word → Text
 word_text Apply = codes "apply"
@@ -33,6 +34,7 @@ word_text Undo = codes "undo"
 word_text Redo = codes "redo"
 word_text Show = codes "show"
 word_text Owners = codes "owners"
+word_text Log = codes "log"
 
 -- the members beside `do`
 abbrev pub member_rules : Word → List MemberRule
@@ -43,6 +45,7 @@ member_rules Undo = []
 member_rules Redo = []
 member_rules Show = may_have (codes "managed") truth_member ∷ []
 member_rules Owners = needs (codes "path") texts_member ∷ []
+member_rules Log = []
 
 abbrev pub rule_at : Word → CommandRule
 rule_at word = record { word = word_text word; members = member_rules word }

@@ -8,6 +8,7 @@ ghost use Rattle.ssabench.specs.Commands.{command_view};
 
 use crate::command::Command;
 use crate::fault_text::{fault_text, line_fault_text};
+use crate::log_text::log_text;
 use crate::machine::Machine;
 use crate::read_command::{LineFault, read_command};
 use crate::reply_text::{changed_text, moved_text, owners_text, shown_text};
@@ -103,6 +104,15 @@ fn answer_owners(bench: &Bench, alloc: Global, path: &Path) -> Result<Vec<u8>, A
     Ok(text)
 }
 
+// The commands of the history.
+fn answer_log(bench: &Bench, alloc: Global) -> Result<Vec<u8>, AllocError>
+    ensures { IfOk result (λ text. text.items ≡ reply_text (answer bench.now model.log).0) }
+{
+    let log = bench.log(alloc)?;
+    let text = log_text(alloc, &log)?;
+    Ok(text)
+}
+
 // Answers a command. The reply's text is made before the bench changes.
 fn answer_command(bench: &mut Bench, alloc: Global, command: Command) -> Result<Vec<u8>, AllocError>
     ensures reply { IfOk result (λ text. text.items ≡ reply_text (answer bench.old (command_view command)).0) }
@@ -115,6 +125,7 @@ fn answer_command(bench: &mut Bench, alloc: Global, command: Command) -> Result<
         Command::Redo => answer_redo(bench, alloc),
         Command::Show(managed) => answer_show(bench, alloc, managed),
         Command::Owners(path) => answer_owners(bench, alloc, &path),
+        Command::Log => answer_log(bench, alloc),
     }
 }
 

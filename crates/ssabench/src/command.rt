@@ -14,4 +14,6 @@ pub enum Command {
     Show(bool),
     /// Who owns a path.
     Owners(Path),
+    /// The commands of the history.
+    Log,
 }

@@ -21,6 +21,7 @@ pub enum Word {
     Redo,
     Show,
     Owners,
+    Log,
 }
 
 fn is_same(text: &str, other: &str) -> bool
@@ -46,6 +47,8 @@ fn word_of_text(text: &str) -> Option<Word>
         Some(Word::Show)
     } else if is_same(text, "owners") {
         Some(Word::Owners)
+    } else if is_same(text, "log") {
+        Some(Word::Log)
     } else {
         None
     }
@@ -149,7 +152,7 @@ fn is_known_member(word: Word, name: &str, value: &Json) -> bool
         Word::Update => is_update_member(name, value),
         Word::Owners => is_same(name, "do") || (is_same(name, "path") && is_list_of_texts(value)),
         Word::Show => is_same(name, "do") || (is_same(name, "managed") && is_truth(value)),
-        Word::Strip | Word::Undo | Word::Redo => is_same(name, "do"),
+        Word::Strip | Word::Undo | Word::Redo | Word::Log => is_same(name, "do"),
     }
 }
 
@@ -179,6 +182,6 @@ pub fn follows_rule(word: Word, members: &BTreeMap<String, Json>) -> bool
         && match word {
             Word::Apply | Word::Update => has_request(members),
             Word::Owners => has_member(members, "path"),
-            Word::Strip | Word::Undo | Word::Redo | Word::Show => true,
+            Word::Strip | Word::Undo | Word::Redo | Word::Show | Word::Log => true,
         }
 }

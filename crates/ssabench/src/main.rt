@@ -11,6 +11,7 @@ mod json_text;
 #[cfg(test)]
 mod limit_tests;
 mod line;
+mod log_text;
 mod machine;
 mod path_texts;
 mod program;

@@ -104,6 +104,7 @@ fn command_of(alloc: Global, value: Json) -> Result<Command, LineFault>
         Word::Redo => Ok(Command::Redo),
         Word::Show => Ok(Command::Show(truth_of(&members, "managed"))),
         Word::Owners => owners_command(alloc, &members),
+        Word::Log => Ok(Command::Log),
     }
 }
 

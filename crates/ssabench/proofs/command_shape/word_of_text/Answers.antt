@@ -24,9 +24,12 @@ returns-then-is_same-6 c = same_text-true _ _ (sym c.is_same-else-is_same-5.ensu
 pub returns-then-is_same-7 : goal.returns-then-is_same-7
 returns-then-is_same-7 c = same_text-true _ _ (sym c.is_same-else-is_same-6.ensures ∙ c.if-is_same-7.true)
 
-pub returns-else-is_same-7 : goal.returns-else-is_same-7
-returns-else-is_same-7 c =
+pub returns-then-is_same-8 : goal.returns-then-is_same-8
+returns-then-is_same-8 c = same_text-true _ _ (sym c.is_same-else-is_same-7.ensures ∙ c.if-is_same-8.true)
+
+pub returns-else-is_same-8 : goal.returns-else-is_same-8
+returns-else-is_same-8 c =
     rule_of-other c.args.text.now (sym c.is_same.ensures ∙ c.if-is_same.false) (sym c.is_same-else-is_same.ensures ∙ c.if-is_same-2.false)
     (sym c.is_same-else-is_same-2.ensures ∙ c.if-is_same-3.false) (sym c.is_same-else-is_same-3.ensures ∙ c.if-is_same-4.false)
     (sym c.is_same-else-is_same-4.ensures ∙ c.if-is_same-5.false) (sym c.is_same-else-is_same-5.ensures ∙ c.if-is_same-6.false)
-    (sym c.is_same-else-is_same-6.ensures ∙ c.if-is_same-7.false)
+    (sym c.is_same-else-is_same-6.ensures ∙ c.if-is_same-7.false) (sym c.is_same-else-is_same-7.ensures ∙ c.if-is_same-8.false)
