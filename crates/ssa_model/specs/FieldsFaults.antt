@@ -1,11 +1,12 @@
 -- The faults of a value as FieldsV1, and the set that a value without faults says.
-use Rattle.std.specs.Prelude.{List, [], ◌∷◌, ◌++◌, map, Bool, true, false, Result, Ok, Err, if◌then◌else◌, codes}
+use Rattle.std.specs.Prelude.{◌≡◌, List, [], ◌∷◌, ◌++◌, map, Bool, true, false, Result, Ok, Err, if◌then◌else◌, codes}
 use Rattle.ssa_model.specs.Json.{Text, Json, scalar, list, object, Members, no_members, member, same_text, same_json}
 use Rattle.ssa_model.specs.Path.{Path}
-use Rattle.ssa_model.specs.PathMap.{PathSet, listed}
+use Rattle.ssa_model.specs.PathMap.{PathSet, has, listed}
 use Rattle.ssa_model.specs.Readings.{ReadFault}
 use Rattle.ssa_model.specs.ElementTexts.{ElementFault, bad_element, not_canonical, element_of}
-use Rattle.ssa_model.specs.FieldsV1.{dot_alone}
+use Rattle.ssa_model.specs.FieldsV1.{dot_alone, says}
+use Rattle.ssa_model.specs.FlatBodies.{has_distinct_names}
 
 abbrev pub is_nothing_inside : Json → Bool
 is_nothing_inside (object no_members) = true
@@ -47,3 +48,8 @@ module _ (reading : Text → Result Json ReadFault) where
 
   abbrev pub said_set : Json → PathSet
   said_set v = listed (said_paths v)
+
+-- The set has just the paths that the value says. Where an object named a member twice, a path would lead to the first of the
+-- two alone.
+abbrev pub SaidSetSays : Type 0
+SaidSetSays = (reading : Text → Result Json ReadFault) (v : Json) (p : Path) → has_distinct_names v ≡ true → fields_faults reading v ≡ [] → says v p ≡ has (said_set reading v) p
