@@ -10,6 +10,8 @@ pub mod identity;
 mod long_tests;
 pub mod names;
 pub mod object;
+#[cfg(test)]
+mod object_file_tests;
 pub mod prepared;
 #[cfg(test)]
 mod refusal_tests;
