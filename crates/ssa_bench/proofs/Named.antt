@@ -1,5 +1,5 @@
 -- The identity that is found in an object is one.
-use Rattle.std.proofs.Common.{◌≡◌, List, Bool, true, false, Option, Some, None, ◌&&◌, refl, sym, ap, subst, ◌∙◌, cond}
+use Rattle.std.proofs.Common.{◌≡◌, List, Bool, true, false, Option, Some, None, ◌&&◌, refl, subst, cond}
 use Rattle.std.proofs.lemmas.Bool.{and_parts}
 use Rattle.std.specs.Prelude.{codes, [], ◌∷◌}
 use Rattle.ssa_model.specs.Json.{Json}

@@ -35,6 +35,7 @@ module _ (bench : Bench) (word : Text) where
   told faults.TooManyPaths g a e h = record { cause = g; reply = ap (λ x. x.0) e; told = h; stays = ap (λ x. x.1) e }
   told faults.Identity g a e h = record { cause = g; reply = ap (λ x. x.0) e; told = h; stays = ap (λ x. x.1) e }
   told faults.ManagedFieldsGiven g a e h = record { cause = g; reply = ap (λ x. x.0) e; told = h; stays = ap (λ x. x.1) e }
+  told (faults.Entry f) g a e h = record { cause = g; reply = ap (λ x. x.0) e; told = h; stays = ap (λ x. x.1) e }
   told faults.ManagerName g a e h = record { cause = g; reply = ap (λ x. x.0) e; told = h; stays = ap (λ x. x.1) e }
   told faults.HistoryFull g a e h = record { cause = g; reply = ap (λ x. x.0) e; told = h; stays = ap (λ x. x.1) e }
   told faults.NothingToUndo g a e h = record { cause = g; reply = ap (λ x. x.0) e; told = h; stays = ap (λ x. x.1) e }
@@ -49,6 +50,7 @@ module _ (bench : Bench) (word : Text) where
   told-first faults.TooManyPaths r a go h = told faults.TooManyPaths h.0 a (go h.0 h.1) h.2
   told-first faults.Identity r a go h = told faults.Identity h.0 a (go h.0 h.1) h.2
   told-first faults.ManagedFieldsGiven r a go h = told faults.ManagedFieldsGiven h.0 a (go h.0 h.1) h.2
+  told-first (faults.Entry f) r a go h = told (faults.Entry f) h.0 a (go h.0 h.1) h.2
   told-first faults.ManagerName r a go h = told faults.ManagerName h.0 a (go h.0 h.1) h.2
   told-first faults.HistoryFull r a go h = told faults.HistoryFull h.0 a (go h.0 h.1) h.2
   told-first faults.NothingToUndo r a go h = told faults.NothingToUndo h.0 a (go h.0 h.1) h.2

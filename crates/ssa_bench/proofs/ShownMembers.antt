@@ -3,12 +3,12 @@ use Rattle.std.proofs.Common.{◌≡◌, List, [], ◌∷◌, Less, Equal, Great
 use Rattle.std.specs.Prelude.{Option, codes}
 use Rattle.std.specs.Ordering.{is_eq}
 use Rattle.std.specs.Cmp.Lexicographic.{slice_cmp}
-use Rattle.ssa_model.specs.Json.{Text, Json, scalar, list, object, Members, no_members, member, member_of, same_text}
+use Rattle.ssa_model.specs.Json.{Text, Json, list, object, Members, no_members, member, member_of}
 use Rattle.ssa_model.specs.Body.{Body}
 use Rattle.ssa_model.specs.Kind.{Kind}
 use Rattle.ssa_model.specs.Entries.{entry_items, object_of_state, text_json, version_in, with_entries}
 use Rattle.ssa_model.specs.Table.{Table}
-use Rattle.ssa_model.specs.Objects.{members_in, members_of_value, object_of_body, shown, value_at, with_given, with_identity, with_member}
+use Rattle.ssa_model.specs.Objects.{members_in, members_of_value, object_of_body, shown, value_at, with_given, with_member}
 use Rattle.ssa_bench.specs.Identities.{HasVersion}
 use Rattle.ssa_json.proofs.Equality.{same_text-itself}
 

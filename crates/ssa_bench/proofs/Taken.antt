@@ -10,16 +10,20 @@ use Rattle.ssa_model.specs.Kind.{Kind, faults, wrong_type}
 use Rattle.ssa_model.specs.PathMap.{size}
 use Rattle.ssa_model.specs.Body.{flat}
 use Rattle.ssa_model.specs.Objects.{identity_of}
-use Rattle.ssa_model.specs.Operations.{too_many_paths}
+use Rattle.ssa_model.specs.GivenEntries as entries
+use Rattle.ssa_model.specs.Table.{Table}
+use Rattle.ssa_model.specs.Operations.{State, too_many_paths}
 use Rattle.ssa_model.specs.Answers as model
-use Rattle.ssa_model.specs.Answers.{body_fault, refused, identity_fault, managed_fields_given, has_identity, gives_managed_fields, names_itself, body_or_fault, command_body, bench_of, with_lone_state}
+use Rattle.ssa_model.specs.Answers.{body_fault, refused, identity_fault, managed_fields_given, has_identity, gives_managed_fields, names_itself, body_or_fault, command_body, bench_of, given_table, with_lone_state, with_table}
 use Rattle.ssa_schema.specs.Finds.{Told, told, told_view}
 use Rattle.ssa_schema.specs.Refusals.{first_of}
 use Rattle.ssa_schema.specs.declared.body_fault.BodyFault.{BodyFault}
+use Rattle.ssa_json.specs.Readings.{readings}
+use Rattle.ssa_bench.specs.Benches.{file_state_of, table_or_fault}
 use Rattle.ssa_bench.specs.Faults.{IsFault, IsGiven}
-use Rattle.ssa_bench.specs.Identities.{identity_in, body_value_of}
+use Rattle.ssa_bench.specs.Identities.{identity_in, body_value_of, file_value_of}
 use Rattle.ssa_bench.specs.declared.fault.Fault.{Fault}
-use Rattle.ssa_bench.specs.declared.fault.Fault.TheVariants.{Body, TooManyPaths, Identity, ManagedFieldsGiven, ManagerName, HistoryFull, NothingToUndo, NothingToRedo, Conflict, TooManyManagers, OutOfMemory}
+use Rattle.ssa_bench.specs.declared.fault.Fault.TheVariants.{Body, TooManyPaths, Identity, ManagedFieldsGiven, Entry, ManagerName, HistoryFull, NothingToUndo, NothingToRedo, Conflict, TooManyManagers, OutOfMemory}
 
 -- ---- faults that are told
 
@@ -29,6 +33,7 @@ refused-given (Body b) g given e h = (g, e, h)
 refused-given TooManyPaths g given e h = (g, e, h)
 refused-given Identity g given e h = (g, e, h)
 refused-given ManagedFieldsGiven g given e h = (g, e, h)
+refused-given (Entry f) g given e h = (g, e, h)
 refused-given ManagerName g given e h = (g, e, h)
 refused-given HistoryFull g given e h = (g, e, h)
 refused-given NothingToUndo g given e h = (g, e, h)
@@ -43,6 +48,7 @@ passed-on (Body b) r s go h = (h.0, go h.0 h.1, h.2)
 passed-on TooManyPaths r s go h = (h.0, go h.0 h.1, h.2)
 passed-on Identity r s go h = (h.0, go h.0 h.1, h.2)
 passed-on ManagedFieldsGiven r s go h = (h.0, go h.0 h.1, h.2)
+passed-on (Entry f) r s go h = (h.0, go h.0 h.1, h.2)
 passed-on ManagerName r s go h = (h.0, go h.0 h.1, h.2)
 passed-on HistoryFull r s go h = (h.0, go h.0 h.1, h.2)
 passed-on NothingToUndo r s go h = (h.0, go h.0 h.1, h.2)
@@ -107,15 +113,29 @@ command_body-no_object bench (scalar s) h = refl
 
 -- ---- a new bench
 
-abbrev made : Kind → Json → Bool → Bool → Result Bench model.Fault
-made kind v identity managed = if not identity then Err identity_fault else (if managed then Err managed_fields_given else with_lone_state kind (identity_of v) (body_or_fault kind (body_value_of v)))
+abbrev and_body : bodies.Body → Result Table model.Fault → Result State model.Fault
+and_body body r = elim r [ Ok table ↦ Ok (record { body = body; table = table }) | Err f ↦ Err f ]
 
-bench_of-tested : (kind : Kind) (v : Json) → is_object v ≡ true → bench_of kind v ≡ made kind v (names_itself v) (gives_managed_fields v)
+with_table-or_fault : (body : bodies.Body) (r : Result Table entries.EntryFault) → with_table body r ≡ and_body body (table_or_fault r)
+with_table-or_fault body (Ok table) = refl
+with_table-or_fault body (Err f) = refl
+
+abbrev and_table : Json → Result bodies.Body model.Fault → Result State model.Fault
+and_table v r = elim r [ Ok body ↦ with_table body (given_table readings body v) | Err f ↦ Err f ]
+
+pub file_state-body : (kind : Kind) (v : Json) (body : bodies.Body) (r : Result Table model.Fault) → body_or_fault kind (file_value_of v) ≡ Ok body → table_or_fault (given_table readings body v) ≡ r
+    → file_state_of kind v ≡ and_body body r
+file_state-body kind v body r e h = ap (and_table v) e ∙ with_table-or_fault body (given_table readings body v) ∙ ap (and_body body) h
+
+abbrev made : Kind → Json → Bool → Result State model.Fault → Result Bench model.Fault
+made kind v identity r = if not identity then Err identity_fault else with_lone_state kind (identity_of v) r
+
+bench_of-tested : (kind : Kind) (v : Json) → is_object v ≡ true → bench_of readings kind v ≡ made kind v (names_itself v) (file_state_of kind v)
 bench_of-tested kind (object ms) h = refl
 bench_of-tested kind (list vs) h = absurd (true≢false (sym h))
 bench_of-tested kind (scalar s) h = absurd (true≢false (sym h))
 
-pub bench_of-no_object : (kind : Kind) (v : Json) → is_object v ≡ false → bench_of kind v ≡ Err (body_fault wrong_type [])
+pub bench_of-no_object : (kind : Kind) (v : Json) → is_object v ≡ false → bench_of readings kind v ≡ Err (body_fault wrong_type [])
 bench_of-no_object kind (object ms) h = absurd (true≢false h)
 bench_of-no_object kind (list vs) h = refl
 bench_of-no_object kind (scalar s) h = refl
@@ -131,13 +151,15 @@ unnamed : (v : Json) (b : Bool) → ◌≡◌ {A = Option (List (Option Json))} 
 unnamed v true h = absurd (true≢false (ap is_some (sym h)))
 unnamed v false h = refl
 
-pub bench_of-nameless : (kind : Kind) (v : Json) → is_object v ≡ true → ◌≡◌ {A = Option (List (Option Json))} None (identity_in v) → bench_of kind v ≡ Err identity_fault
-bench_of-nameless kind v o h = bench_of-tested kind v o ∙ ap (λ b. made kind v b (gives_managed_fields v)) (unnamed v (names_itself v) h)
+-- the identity that was found is the object's
+pub identity-found : (v : Json) (i : List (Option Json)) → ◌≡◌ {A = Option (List (Option Json))} (Some i) (identity_in v) → i ≡ identity_of v
+identity-found v i h = (named v (names_itself v) i h).1
 
-pub bench_of-managed : (kind : Kind) (v : Json) (i : List (Option Json)) → is_object v ≡ true → ◌≡◌ {A = Option (List (Option Json))} (Some i) (identity_in v) → gives_managed_fields v ≡ true → bench_of kind v ≡ Err managed_fields_given
-bench_of-managed kind v i o h m = bench_of-tested kind v o ∙ (λ k. made kind v ((named v (names_itself v) i h).0 k) (m k))
+pub bench_of-nameless : (kind : Kind) (v : Json) → is_object v ≡ true → ◌≡◌ {A = Option (List (Option Json))} None (identity_in v) → bench_of readings kind v ≡ Err identity_fault
+bench_of-nameless kind v o h = bench_of-tested kind v o ∙ ap (λ b. made kind v b (file_state_of kind v)) (unnamed v (names_itself v) h)
 
-pub bench_of-body : (kind : Kind) (v : Json) (i : List (Option Json)) (r : Result bodies.Body model.Fault) → is_object v ≡ true → ◌≡◌ {A = Option (List (Option Json))} (Some i) (identity_in v) → gives_managed_fields v ≡ false
-    → body_or_fault kind (body_value_of v) ≡ r → bench_of kind v ≡ with_lone_state kind i r
-bench_of-body kind v i r o h m e =
-    bench_of-tested kind v o ∙ (λ k. made kind v ((named v (names_itself v) i h).0 k) (m k)) ∙ (λ k. with_lone_state kind (sym (named v (names_itself v) i h).1 k) (e k))
+pub bench_of-state : (kind : Kind) (v : Json) (i : List (Option Json)) (r : Result State model.Fault) → is_object v ≡ true → ◌≡◌ {A = Option (List (Option Json))} (Some i) (identity_in v)
+    → file_state_of kind v ≡ r → bench_of readings kind v ≡ with_lone_state kind i r
+bench_of-state kind v i r o h e =
+    let found = named v (names_itself v) i h in
+    bench_of-tested kind v o ∙ (λ k. made kind v (found.0 k) (e k)) ∙ (λ k. with_lone_state kind (sym found.1 k) r)

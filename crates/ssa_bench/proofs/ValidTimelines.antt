@@ -1,14 +1,13 @@
 -- Histories whose states are all valid.
-use Rattle.std.proofs.Common.{List, [], ◌∷◌, take, refl, arith}
+use Rattle.std.proofs.Common.{List, [], ◌∷◌, take}
 use Rattle.std.specs.List.{All}
 use Rattle.std.proofs.lemmas.List.Elements.{All-head, All-tail, All-take, All-push, All-nil}
 use Rattle.ssa_model.specs.Kind.{Kind}
-use Rattle.ssa_model.specs.Body.{Body}
 use Rattle.ssa_model.specs.Operations.{State}
 use Rattle.ssa_model.specs.History.{Label, Step, Timeline, last_state, present, appended}
 use Rattle.ssa_model.specs.Answers.{lone_state}
 use Rattle.ssa_model.specs.Valid.{IsValidState}
-use Rattle.ssa_bench.specs.ValidTimelines.{IsValidBody, MakesValid, AllValid}
+use Rattle.ssa_bench.specs.ValidTimelines.{MakesValid, AllValid}
 
 last_valid : (kind : Kind) (s : State) (ts : List Step) → IsValidState kind s → All (MakesValid kind) ts → IsValidState kind (last_state s ts)
 last_valid kind s [] h all = h
@@ -23,14 +22,5 @@ appended_valid kind t label s h valid = record {
   later = All-push (MakesValid kind) (take t.place t.later) (record { label = label; state = s }) (All-take (MakesValid kind) t.place t.later h.later) valid;
 }
 
--- a body with an empty table
-pub lone_valid : (kind : Kind) (body : Body) → IsValidBody kind body → AllValid kind (lone_state body)
-lone_valid kind body h = record {
-  first = record {
-    fits = h.fits;
-    rooted = h.rooted;
-    few = h.few;
-    table = record { distinct = refl; few = omega arith; names = tt; own_some = tt; ownable = tt };
-  };
-  later = All-nil (MakesValid kind);
-}
+pub lone_valid : (kind : Kind) (s : State) → IsValidState kind s → AllValid kind (lone_state s)
+lone_valid kind s h = record { first = h; later = All-nil (MakesValid kind) }

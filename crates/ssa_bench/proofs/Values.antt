@@ -6,7 +6,7 @@ use Rattle.std.proofs.lemmas.List.{map-append, append-nil}
 use Rattle.std.proofs.lemmas.List.Elements.{filter-append}
 use Rattle.ssa_model.specs.Json as model
 use Rattle.ssa_model.specs.Json.{Text, same_text, Members, no_members, member}
-use Rattle.ssa_model.specs.Objects.{without, without_names_in_metadata}
+use Rattle.ssa_model.specs.Objects.{without, without_in_metadata}
 use Rattle.ssa_json.specs.View.{view, members_view}
 use Rattle.ssa_json.proofs.Converting.{Found, named, members_after}
 use Rattle.ssa_json.proofs.Ordered.{names}
@@ -16,8 +16,8 @@ use Rattle.ssa_bench.specs.Identities.{nameless}
 abbrev pub stays : List Text → Found → Bool
 stays ns e = not (list_any (same_text (string_bytes e.0)) ns)
 
-abbrev pub nameless_member : Text × model.Json → Text × model.Json
-nameless_member m = (m.0, nameless m.0 m.1)
+abbrev pub nameless_member : List Text → Text × model.Json → Text × model.Json
+nameless_member ns m = (m.0, nameless ns m.0 m.1)
 
 one_less : (b : Bool) (n : Text) (v : model.Json) (rest : Members) (xs : List (Text × model.Json)) → members_after xs no_members ≡ rest
     → members_after (cond (not b) ((n, v) ∷ xs) xs) no_members ≡ (if b then rest else member n v rest)
@@ -36,10 +36,10 @@ without-filter ns (e ∷ es) =
     ap (λ xs. members_after xs no_members) (front (stays ns e) e (filter (stays ns) es))
     ∙ one_less (list_any (same_text (string_bytes e.0)) ns) (string_bytes e.0) (view e.1) (without ns (members_view es)) (map named (filter (stays ns) es)) (without-filter ns es)
 
-pub nameless-members : (es : List Found) → members_after (map nameless_member (map named es)) no_members ≡ without_names_in_metadata (members_view es)
+pub nameless-members : (ns : List Text) (es : List Found) → members_after (map (nameless_member ns) (map named es)) no_members ≡ without_in_metadata ns (members_view es)
 unfolding members_after
-nameless-members [] = refl
-nameless-members (e ∷ es) = ap (member (string_bytes e.0) (nameless (string_bytes e.0) (view e.1))) (nameless-members es)
+nameless-members ns [] = refl
+nameless-members ns (e ∷ es) = ap (member (string_bytes e.0) (nameless ns (string_bytes e.0) (view e.1))) (nameless-members ns es)
 
 -- a member at the end
 pub one_stays : (ns : List Text) (done : List Found) (e : Found) → list_any (same_text (string_bytes e.0)) ns ≡ false
@@ -57,10 +57,10 @@ first_parts : (es : List Found) → map (λ (m : Text × model.Json). m.0) (map 
 first_parts [] = refl
 first_parts (e ∷ es) = ap (λ ns. string_bytes e.0 ∷ ns) (first_parts es)
 
-nameless_parts : (es : List Found) → map (λ (m : Text × model.Json). m.0) (map nameless_member (map named es)) ≡ names es
-nameless_parts [] = refl
-nameless_parts (e ∷ es) = ap (λ ns. string_bytes e.0 ∷ ns) (nameless_parts es)
+nameless_parts : (ns : List Text) (es : List Found) → map (λ (m : Text × model.Json). m.0) (map (nameless_member ns) (map named es)) ≡ names es
+nameless_parts ns [] = refl
+nameless_parts ns (e ∷ es) = ap (λ ms. string_bytes e.0 ∷ ms) (nameless_parts ns es)
 
 -- the names stay
-pub nameless_names : (made done : List Found) → map named made ≡ map nameless_member (map named done) → names made ≡ names done
-nameless_names made done same = sym (first_parts made) ∙ ap (map (λ (m : Text × model.Json). m.0)) same ∙ nameless_parts done
+pub nameless_names : (ns : List Text) (made done : List Found) → map named made ≡ map (nameless_member ns) (map named done) → names made ≡ names done
+nameless_names ns made done same = sym (first_parts made) ∙ ap (map (λ (m : Text × model.Json). m.0)) same ∙ nameless_parts ns done

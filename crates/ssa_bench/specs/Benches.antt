@@ -3,16 +3,22 @@ use Rattle.std.specs.Prelude.{◌≡◌, List, Option, Result, Ok, Err, if◌the
 use Rattle.ssa_model.specs.Json.{Text, Json}
 use Rattle.ssa_model.specs.Kind.{Kind}
 use Rattle.ssa_model.specs.Body.{Body}
+use Rattle.ssa_model.specs.Table.{Table}
+use Rattle.ssa_model.specs.GivenEntries.{EntryFault}
 use Rattle.ssa_model.specs.History as model
 use Rattle.ssa_model.specs.History.{appended, is_manager_name, past_len, present, with_timeline}
+use Rattle.ssa_model.specs.Operations as operations
 use Rattle.ssa_model.specs.Operations.{update}
 use Rattle.ssa_model.specs.Answers as answers
 use Rattle.ssa_model.specs.Answers.{Answer}
 use Rattle.ssa_model.specs.Valid.{IsValidState}
+use Rattle.ssa_json.specs.Readings.{readings}
 use Rattle.ssa_merge.specs.States.{state_view, updater}
 use Rattle.ssa_merge.specs.declared.plan.Plan.{Plan}
+use Rattle.ssa_merge.specs.declared.state.State.{State}
 use Rattle.ssa_bench.specs.Faults.{IsFault, IsGiven}
 use Rattle.ssa_bench.specs.Histories.{label_view}
+use Rattle.ssa_bench.specs.Identities.{file_value_of}
 use Rattle.ssa_bench.specs.declared.fault.Fault.{Fault}
 use Rattle.ssa_bench.specs.declared.fault.Fault.TheVariants.{OutOfMemory}
 use Rattle.ssa_bench.specs.declared.prepared.Changed.{Changed}
@@ -26,14 +32,24 @@ changed_view c = record { added = c.added; modified = c.modified; removed = c.re
 abbrev pub IsMade : Result model.Bench Fault → Result model.Bench answers.Fault → Type 0
 IsMade = IsGiven
 
--- the bench of one state without managers
-abbrev pub lone_bench : Kind → List (Option Json) → Body → model.Bench
-lone_bench kind identity body = record { kind = kind; identity = identity; timeline = answers.lone_state body }
+-- the bench of one state
+abbrev pub lone_bench : Kind → List (Option Json) → operations.State → model.Bench
+lone_bench kind identity state = record { kind = kind; identity = identity; timeline = answers.lone_state state }
 
--- the bench of the identity and the body is the given one, or the fault is
-abbrev pub Begins : Kind → Result (List (Option Json) × Body) Fault → Result model.Bench answers.Fault → Type 0
-Begins kind (Ok n) given = given ≡ Ok (lone_bench kind n.0 n.1)
-Begins kind (Err f) given = IsGiven {A = model.Bench} (Err f) given
+-- the table, or its fault as one of the bench
+abbrev pub table_or_fault : Result Table EntryFault → Result Table answers.Fault
+table_or_fault (Ok table) = Ok table
+table_or_fault (Err f) = Err (answers.entry_fault f)
+
+-- the state of an object file, or its first fault: the body's come before the entries'
+abbrev pub file_state_of : Kind → Json → Result operations.State answers.Fault
+file_state_of kind v =
+    elim (answers.body_or_fault kind (file_value_of v)) [ Ok body ↦ answers.with_table body (answers.given_table readings body v) | Err f ↦ Err f ]
+
+-- the state is the given one, or the fault is
+abbrev pub IsGivenState : Result State Fault → Result operations.State answers.Fault → Type 0
+IsGivenState (Ok s) given = given ≡ Ok (state_view s)
+IsGivenState (Err f) given = IsGiven {A = operations.State} (Err f) given
 
 -- ---- commands that make a state
 

@@ -2,11 +2,13 @@
 use Rattle.std.specs.Prelude.{◌≡◌, Result, Ok, Err}
 use Rattle.ssa_model.specs.Kind as kinds
 use Rattle.ssa_model.specs.Operations as operations
+use Rattle.ssa_model.specs.GivenEntries as entries
 use Rattle.ssa_model.specs.Answers as model
 use Rattle.ssa_schema.specs.Finds.{told, told_view}
 use Rattle.ssa_merge.specs.Managers.{clashes_view}
+use Rattle.ssa_merge.specs.GivenEntries.{IsEntryFault}
 use Rattle.ssa_bench.specs.declared.fault.Fault.{Fault}
-use Rattle.ssa_bench.specs.declared.fault.Fault.TheVariants.{Body, TooManyPaths, Identity, ManagedFieldsGiven, ManagerName, HistoryFull, NothingToUndo, NothingToRedo, Conflict, TooManyManagers, OutOfMemory}
+use Rattle.ssa_bench.specs.declared.fault.Fault.TheVariants.{Body, TooManyPaths, Identity, ManagedFieldsGiven, Entry, ManagerName, HistoryFull, NothingToUndo, NothingToRedo, Conflict, TooManyManagers, OutOfMemory}
 
 -- The fault is the given one; a body's fault tells its path by the texts of the elements.
 abbrev pub IsFault : Fault → model.Fault → Type 0
@@ -14,6 +16,7 @@ IsFault (Body f) g = (m : kinds.Fault) × (g ≡ model.body_fault m.0 m.1) × (t
 IsFault TooManyPaths g = g ≡ model.refused operations.too_many_paths
 IsFault Identity g = g ≡ model.identity_fault
 IsFault ManagedFieldsGiven g = g ≡ model.managed_fields_given
+IsFault (Entry f) g = (h : entries.EntryFault) × (g ≡ model.entry_fault h) × IsEntryFault f h
 IsFault ManagerName g = g ≡ model.manager_name
 IsFault HistoryFull g = g ≡ model.history_full
 IsFault NothingToUndo g = g ≡ model.nothing_to_undo

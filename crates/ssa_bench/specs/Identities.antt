@@ -1,7 +1,7 @@
 -- What identities are.
 use Rattle.std.specs.Prelude.{◌≡◌, true, List, [], ◌∷◌, Option, Some, None, option_map, if◌then◌else◌, codes, ◌&&◌}
 use Rattle.ssa_model.specs.Json.{Text, Json, scalar, list, object, same_text}
-use Rattle.ssa_model.specs.Objects.{value_at, identity_of, is_identity, is_some_object, body_value, without_name}
+use Rattle.ssa_model.specs.Objects.{value_at, identity_of, is_identity, is_some_object, value_without, without_names, identity_names, file_names}
 use Rattle.ssa_model.specs.Entries.{text_json}
 use Rattle.ssa_json.specs.View.{view}
 use Rattle.ssa_bench.specs.declared.identity.Identity.TheInside.{Inside}
@@ -21,12 +21,20 @@ HasVersion t identity = (kind name : Json) × (namespace : Option Json) × (iden
 abbrev pub identity_in : Json → Option (List (Option Json))
 identity_in v = if is_some_object (value_at (codes "metadata" ∷ []) v) && is_identity (identity_of v) then Some (identity_of v) else None
 
--- the body's value of an object
-abbrev pub body_value_of : Json → Json
-body_value_of (object ms) = body_value ms
-body_value_of (list vs) = list vs
-body_value_of (scalar s) = scalar s
+-- an object without `apiVersion`, `kind` and these members of its metadata
+abbrev pub value_but : List Text → Json → Json
+value_but names (object ms) = value_without names ms
+value_but names (list vs) = list vs
+value_but names (scalar s) = scalar s
 
--- a member's value, of the metadata without the name and the namespace
-abbrev pub nameless : Text → Json → Json
-nameless n v = if same_text n (codes "metadata") then without_name v else v
+-- the body's value of a command's object
+abbrev pub body_value_of : Json → Json
+body_value_of = value_but identity_names
+
+-- the body's value of an object file
+abbrev pub file_value_of : Json → Json
+file_value_of = value_but file_names
+
+-- a member's value, of the metadata without these members
+abbrev pub nameless : List Text → Text → Json → Json
+nameless names n v = if same_text n (codes "metadata") then without_names names v else v

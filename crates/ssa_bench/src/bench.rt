@@ -1,21 +1,24 @@
 //! The bench: an object, its managers, and the history of commands on it.
 ghost use Rattle.std.specs.Prelude.{◌≡◌, ◌<◌, ◌^◌, ◌||◌, nat_le, IfOk, OnOk, OnErr, false, true, codes, string_bytes};
-ghost use Rattle.ssa_model.specs.Answers.{answer, apply, update, strip, undo, redo, log, logged, apply_answer, bench_of, body_or_fault, command_body, owners_of};
+ghost use Rattle.ssa_model.specs.Answers.{answer, apply, update, strip, undo, redo, log, logged, apply_answer, bench_of, body_or_fault, command_body, given_table, owners_of};
 ghost use Rattle.ssa_model.specs.Entries.{object_of_state};
 ghost use Rattle.ssa_model.specs.History.{is_manager_name, past_len, future_len, present};
+ghost use Rattle.ssa_model.specs.Objects.{identity_of};
+ghost use Rattle.ssa_model.specs.Valid.{IsTable, IsValidState};
+ghost use Rattle.ssa_json.specs.Readings.{readings};
 ghost use Rattle.ssa_json.specs.View.{view};
 ghost use Rattle.ssa_merge.specs.Managers.{lent_keys};
-ghost use Rattle.ssa_bench.specs.Benches.{lone_bench, next_bench, Begins, CanCommit, IsExecuted, IsMade, IsMoved, IsPrepared, tested_body, update_answer};
+ghost use Rattle.ssa_merge.specs.States.{state_view};
+ghost use Rattle.ssa_bench.specs.Benches.{lone_bench, next_bench, file_state_of, table_or_fault, CanCommit, IsExecuted, IsGivenState, IsMade, IsMoved, IsPrepared, tested_body, update_answer};
 ghost use Rattle.ssa_bench.specs.Faults.{IsGiven};
-ghost use Rattle.ssa_bench.specs.Identities.{body_value_of};
 ghost use Rattle.ssa_bench.specs.Commands.{command_view, command_word};
 ghost use Rattle.ssa_bench.specs.Histories.{lent_labels};
 ghost use Rattle.ssa_bench.specs.ValidTimelines.{AllValid, IsValidBody};
 
-use crate::body_value::body_value;
+use crate::body_value::{body_value, file_value};
 use crate::command::Command;
 use crate::fault::Fault;
-use crate::identity::{Identity, gives_managed_fields, has_identity};
+use crate::identity::{Identity, given_entries, gives_managed_fields, has_identity};
 use crate::names::is_manager_name;
 use crate::object::object_of_state;
 use crate::prepared::{Changed, Counts, Prepared, accepted};
@@ -61,12 +64,11 @@ impl Model for Bench {
     ghost invariant = { IsValid };
 }
 
-// The body of an object without its identity, or its first fault.
-fn body_or_fault(alloc: Global, schema: &Schema, object: &Json) -> Result<Body, Fault>
-    ensures given { IsGiven result (body_or_fault schema.now.1 (body_value_of (view object.now))) }
+// The body that the value is, or its first fault.
+fn body_or_fault(alloc: Global, schema: &Schema, value: Json) -> Result<Body, Fault>
+    ensures given { IsGiven result (body_or_fault schema.now.1 (view value)) }
     ensures valid { IfOk result (λ b. IsValidBody schema.now.1 b) }
 {
-    let value = body_value(alloc, object)?;
     match Body::from_json(alloc, schema, value) {
         Ok(body) => Ok(body),
         Err(TypedFault::Body(fault)) => Err(Fault::Body(fault)),
@@ -75,36 +77,53 @@ fn body_or_fault(alloc: Global, schema: &Schema, object: &Json) -> Result<Body, 
     }
 }
 
-// The identity and the body of an object, or its first fault.
-fn named_body(alloc: Global, schema: &Schema, object: &Json) -> Result<(Identity, Body), Fault>
-    ensures begins { Begins schema.now.1 result (bench_of schema.now.1 (view object.now)) }
-    ensures valid { IfOk result (λ n. IsValidBody schema.now.1 n.1) }
+// The table of managers that an object file gives, or its first fault.
+fn given_managers(
+    alloc: Global,
+    object: &Json,
+    identity: &Identity,
+    body: &Body,
+) -> Result<Managers, Fault>
+    requires { identity.now ≡ identity_of (view object.now) }
+    ensures given { IsGiven result (table_or_fault (given_table readings body.now (view object.now))) }
+    ensures valid { IfOk result (λ m. IsTable body.now m) }
 {
-    if !object.is_object() {
-        return Err(Fault::Body(BodyFault::WrongType(Vec::new(alloc))));
-    }
-    let Some(identity) = Identity::of_object(alloc, object)? else {
-        return Err(Fault::Identity);
+    let Some(entries) = given_entries(object) else {
+        return Ok(Managers::new(alloc));
     };
-    if gives_managed_fields(object) {
-        return Err(Fault::ManagedFieldsGiven);
+    match Managers::from_entries(alloc, entries, body, identity.version()) {
+        Ok(managers) => Ok(managers),
+        Err(fault) => Err(Fault::from(fault)),
     }
-    match body_or_fault(alloc, schema, object) {
-        Ok(body) => Ok((identity, body)),
+}
+
+// The state that an object file gives, or its first fault.
+fn file_state(
+    alloc: Global,
+    schema: &Schema,
+    object: &Json,
+    identity: &Identity,
+) -> Result<State, Fault>
+    requires { identity.now ≡ identity_of (view object.now) }
+    ensures given { IsGivenState result (file_state_of schema.now.1 (view object.now)) }
+    ensures valid { IfOk result (λ s. IsValidState schema.now.1 (state_view s)) }
+{
+    let value = file_value(alloc, object)?;
+    match body_or_fault(alloc, schema, value) {
+        Ok(body) => match given_managers(alloc, object, identity, &body) {
+            Ok(managers) => Ok(State { body, managers }),
+            Err(fault) => Err(fault),
+        },
         Err(fault) => Err(fault),
     }
 }
 
 impl Bench {
-    // The bench of one state without managers.
-    fn with_lone_state(alloc: Global, schema: Schema, identity: Identity, body: Body) -> Bench
-        requires { IsValidBody schema.1 body }
-        ensures { result ≡ lone_bench schema.1 identity body }
+    // The bench of one state.
+    fn with_lone_state(alloc: Global, schema: Schema, identity: Identity, first: State) -> Bench
+        requires { IsValidState schema.1 (state_view first) }
+        ensures { result ≡ lone_bench schema.1 identity (state_view first) }
     {
-        let first = State {
-            body,
-            managers: Managers::new(alloc),
-        };
         Bench {
             schema,
             identity,
@@ -112,15 +131,24 @@ impl Bench {
         }
     }
 
-    /// The bench of an object, with no managers and no history.
+    /// The bench of an object file, with the managers whose entries `metadata.managedFields` gives
+    /// and no history.
     ///
-    /// Of several faults the first is told: no object, `Identity`, `ManagedFieldsGiven`, the fault of
-    /// the schema, `TooManyPaths`.
+    /// What a server keeps in `metadata` (`uid`, `resourceVersion`, `generation`,
+    /// `creationTimestamp`, `selfLink`) is dropped. Of several faults the first is told: no object,
+    /// `Identity`, the fault of the schema, `TooManyPaths`, and then `Entry`, the first fault of the
+    /// entries as `Managers::from_entries` tells it.
     pub fn new(alloc: Global, schema: Schema, object: Json) -> Result<Bench, Fault>
-        ensures { IsMade result (bench_of schema.1 (view object)) }
+        ensures { IsMade result (bench_of readings schema.1 (view object)) }
     {
-        match named_body(alloc, &schema, &object) {
-            Ok((identity, body)) => Ok(Bench::with_lone_state(alloc, schema, identity, body)),
+        if !object.is_object() {
+            return Err(Fault::Body(BodyFault::WrongType(Vec::new(alloc))));
+        }
+        let Some(identity) = Identity::of_object(alloc, &object)? else {
+            return Err(Fault::Identity);
+        };
+        match file_state(alloc, &schema, &object, &identity) {
+            Ok(state) => Ok(Bench::with_lone_state(alloc, schema, identity, state)),
             Err(fault) => Err(fault),
         }
     }
@@ -139,7 +167,8 @@ impl Bench {
         if gives_managed_fields(object) {
             return Err(Fault::ManagedFieldsGiven);
         }
-        body_or_fault(alloc, &self.schema, object)
+        let value = body_value(alloc, object)?;
+        body_or_fault(alloc, &self.schema, value)
     }
 
     // The body of an Apply's or an Update's object, or the first fault of the command.
@@ -242,9 +271,10 @@ impl Bench {
 
     /// What a command leads to, or why it is refused. The bench is as before.
     ///
-    /// Of several faults the first is told: `HistoryFull`, `ManagerName`, the object's as `new` tells
-    /// them, `Conflict`, `TooManyPaths`, `TooManyManagers`. A command that changes nothing is a step
-    /// of the history like any other.
+    /// Of several faults the first is told: `HistoryFull`, `ManagerName`, then of the object: no
+    /// object, `Identity`, `ManagedFieldsGiven`, the fault of the schema, `TooManyPaths`; and then
+    /// `Conflict`, `TooManyPaths`, `TooManyManagers`. A command that changes nothing is a step of the
+    /// history like any other.
     pub fn prepare(&self, alloc: Global, command: Command) -> Result<Prepared, Fault>
         ensures { IsPrepared self.now result (answer self.now (command_view command)) (command_word command) }
     {

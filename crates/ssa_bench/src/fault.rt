@@ -1,8 +1,9 @@
 //! Why a command or an object is refused.
 ghost use Rattle.std.specs.Prelude.{◌≡◌};
-ghost use Rattle.ssa_bench.specs.Refusals.{refusal_fault};
+ghost use Rattle.ssa_bench.specs.Refusals.{refusal_fault, entry_fault};
 ghost use Rattle.ssa_bench.specs.declared.fault.Fault.TheVariants.{OutOfMemory};
 
+use ssa_merge::entry_fault::EntryFault;
 use ssa_merge::manager::ManagerKey;
 use ssa_merge::plan::Refusal;
 use ssa_path::field_set::FieldSet;
@@ -20,6 +21,8 @@ pub enum Fault {
     Identity,
     /// The object gives `metadata.managedFields`, which are not a command's to give.
     ManagedFieldsGiven,
+    /// The `metadata.managedFields` of an object file are no table of managers: their first fault.
+    Entry(EntryFault),
     /// A manager's name is not of 1 to 128 printable ASCII characters.
     ManagerName,
     /// The history has 1,000 commands before the present state.
@@ -39,6 +42,17 @@ impl From<AllocError> for Fault {
 
     fn from(_refused: AllocError) -> Fault {
         Fault::OutOfMemory
+    }
+}
+
+impl From<EntryFault> for Fault {
+    ghost from_gives = { λ f e. e ≡ entry_fault f };
+
+    fn from(fault: EntryFault) -> Fault {
+        match fault {
+            EntryFault::OutOfMemory => Fault::OutOfMemory,
+            _ => Fault::Entry(fault),
+        }
     }
 }
 

@@ -12,6 +12,8 @@ mod long_tests;
 mod look_tests;
 pub mod names;
 pub mod object;
+#[cfg(test)]
+mod object_file_tests;
 pub mod prepared;
 #[cfg(test)]
 mod refusal_tests;

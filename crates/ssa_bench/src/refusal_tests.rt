@@ -59,7 +59,7 @@ const NO_BENCH: [(&str, &str); 12] = [
     ),
     (
         "{\"apiVersion\":\"v1\",\"kind\":\"App\",\"metadata\":{\"managedFields\":[],\"name\":\"web\"},\"z\":1}",
-        "ManagedFieldsGiven",
+        "UnknownField /f:z",
     ),
     (
         "{\"apiVersion\":\"v1\",\"kind\":\"App\",\"metadata\":{\"name\":\"web\"},\"spec\":{\"replicas\":\"x\",\"z\":1}}",

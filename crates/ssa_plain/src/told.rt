@@ -51,6 +51,7 @@ fn name_of(fault: &Fault) -> &'static str {
         Fault::TooManyPaths => "TooManyPaths",
         Fault::Identity => "Identity",
         Fault::ManagedFieldsGiven => "ManagedFieldsGiven",
+        Fault::Entry(_) => "Entry",
         Fault::ManagerName => "ManagerName",
         Fault::HistoryFull => "HistoryFull",
         Fault::NothingToUndo => "NothingToUndo",

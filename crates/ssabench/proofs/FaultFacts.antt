@@ -8,12 +8,16 @@ use Rattle.ssa_model.specs.Kind.{unknown_field, wrong_type, missing_key, duplica
 use Rattle.ssa_model.specs.Entries.{text_json}
 use Rattle.ssa_model.specs.History.{Bench, past_len, future_len}
 use Rattle.ssa_model.specs.Answers.{Fault, body_fault, nothing_to_undo, nothing_to_redo, Reply, fault, answer, undo, redo}
-use Rattle.ssa_model.specs.Replies.{with_fault, fault_at, fault_reply, reply_text}
+use Rattle.ssa_model.specs.GivenEntries as entries
+use Rattle.ssa_model.specs.Replies.{with_fault, entry_fault_json, fault_at, fault_reply, reply_text}
 use Rattle.ssa_schema.specs.Finds.{told, told_view}
 use Rattle.ssa_schema.specs.declared.body_fault.BodyFault.{BodyFault}
 use Rattle.ssa_bench.specs.Faults.{IsFault}
-use Rattle.ssa_bench.specs.declared.fault.Fault.TheVariants.{Body}
-use Rattle.ssabench.specs.Replies.{names_json, told_json}
+use Rattle.ssa_merge.specs.GivenEntries.{IsEntryFault}
+use Rattle.ssa_merge.specs.declared.entry_fault.EntryFault.{EntryFault}
+use Rattle.ssa_merge.specs.declared.entry_fault.EntryFault.TheVariants as faults
+use Rattle.ssa_bench.specs.declared.fault.Fault.TheVariants.{Body, Entry}
+use Rattle.ssabench.specs.Replies.{names_json, told_json, entry_fault_text}
 use Rattle.ssabench.proofs.ReplyFacts.{items_json-map}
 
 -- ---- a fault with its path
@@ -32,6 +36,28 @@ pub body_fault-written : {T E : Type 0} (r : Result T E) (old new : Text) (f : B
 body_fault-written (Ok x) old new f IsTold is_told is =
     λ g h. let t = is_told g h in is ∙ ap (λ v. old ++ compact v) (ap told_json t.2 ∙ told_json-told t.0.0 t.0.1 ∙ ap fault_reply (sym t.1))
 body_fault-written (Err e) old new f IsTold is_told is = tt
+
+-- ---- faults of entries
+
+entry_fault-text : (f : EntryFault) (h : entries.EntryFault) → IsEntryFault f h → entry_fault_text f ≡ compact (entry_fault_json h)
+entry_fault-text faults.TooManyManagers h is = ap (λ e. compact (entry_fault_json e)) (sym is)
+entry_fault-text faults.BadEntry h is = ap (λ e. compact (entry_fault_json e)) (sym is)
+entry_fault-text faults.ManagerName h is = ap (λ e. compact (entry_fault_json e)) (sym is)
+entry_fault-text faults.OtherVersion h is = ap (λ e. compact (entry_fault_json e)) (sym is)
+entry_fault-text faults.BadMoment h is = ap (λ e. compact (entry_fault_json e)) (sym is)
+entry_fault-text faults.BadElement h is = ap (λ e. compact (entry_fault_json e)) (sym is)
+entry_fault-text faults.IndexElement h is = ap (λ e. compact (entry_fault_json e)) (sym is)
+entry_fault-text faults.NotCanonical h is = ap (λ e. compact (entry_fault_json e)) (sym is)
+entry_fault-text faults.EmptyEntry h is = ap (λ e. compact (entry_fault_json e)) (sym is)
+entry_fault-text (faults.AbsentPath p) h is = ap (λ e. compact (entry_fault_json e)) (sym is)
+entry_fault-text faults.DuplicateManager h is = ap (λ e. compact (entry_fault_json e)) (sym is)
+entry_fault-text faults.OutOfMemory h is = absurd is
+
+pub entry_fault-written : {T E : Type 0} (r : Result T E) (old new : Text) (f : EntryFault) (IsTold : Fault → Type 0) → ((g : Fault) → IsTold g → IsFault (Entry f) g)
+    → OnOk r (new ≡ old ++ entry_fault_text f) → OnOk r ((g : Fault) → IsTold g → new ≡ old ++ compact (fault_reply g))
+entry_fault-written (Ok x) old new f IsTold is_told is =
+    λ g h. let t = is_told g h in is ∙ ap (λ t. old ++ t) (entry_fault-text f t.0 t.2 ∙ ap (λ k. compact (fault_reply k)) (sym t.1))
+entry_fault-written (Err e) old new f IsTold is_told is = tt
 
 -- ---- other faults
 

@@ -5,13 +5,16 @@ use Rattle.ssa_model.specs.Kind.{BodyFault, unknown_field, wrong_type, missing_k
 use Rattle.ssa_model.specs.PathMap.{PathSet}
 use Rattle.ssa_model.specs.Entries.{text_json}
 use Rattle.ssa_model.specs.Operations.{conflict}
+use Rattle.ssa_model.specs.GivenEntries as entries
 use Rattle.ssa_model.specs.Readings.{not_json, null_value, number_outside}
-use Rattle.ssa_model.specs.Replies.{list_json, clash_json, refusal_json, with_fault}
+use Rattle.ssa_model.specs.Replies.{list_json, clash_json, entry_fault_json, refusal_json, with_fault}
 use Rattle.ssa_model.specs.Session.{unread, bad_moment, command_shape, of_element, line_fault_json}
 use Rattle.ssa_model.specs.ElementTexts.{bad_element, index_element, not_canonical}
 use Rattle.ssa_schema.specs.Finds.{Told}
 use Rattle.ssa_merge.specs.Managers.{clashes_view}
 use Rattle.ssa_merge.specs.declared.manager.ManagerKey.{ManagerKey}
+use Rattle.ssa_merge.specs.declared.entry_fault.EntryFault.{EntryFault}
+use Rattle.ssa_merge.specs.declared.entry_fault.EntryFault.TheVariants as fault
 use Rattle.ssabench.specs.Session.{out_of_memory_text}
 use Rattle.ssabench.specs.declared.read_command.LineFault.{LineFault}
 use Rattle.ssabench.specs.declared.read_command.LineFault.TheVariants.{NotJson, NullValue, NumberOutside, BadMoment, CommandShape, BadElement, IndexElement, NotCanonical, OutOfMemory}
@@ -52,3 +55,17 @@ line_fault_text BadElement = compact (line_fault_json (of_element bad_element))
 line_fault_text IndexElement = compact (line_fault_json (of_element index_element))
 line_fault_text NotCanonical = compact (line_fault_json (of_element not_canonical))
 line_fault_text OutOfMemory = out_of_memory_text
+
+abbrev pub entry_fault_text : EntryFault → Text
+entry_fault_text fault.TooManyManagers = compact (entry_fault_json entries.too_many_managers)
+entry_fault_text fault.BadEntry = compact (entry_fault_json entries.bad_entry)
+entry_fault_text fault.ManagerName = compact (entry_fault_json entries.manager_name)
+entry_fault_text fault.OtherVersion = compact (entry_fault_json entries.other_version)
+entry_fault_text fault.BadMoment = compact (entry_fault_json entries.bad_moment)
+entry_fault_text fault.BadElement = compact (entry_fault_json (entries.of_fields bad_element))
+entry_fault_text fault.IndexElement = compact (entry_fault_json (entries.of_fields index_element))
+entry_fault_text fault.NotCanonical = compact (entry_fault_json (entries.of_fields not_canonical))
+entry_fault_text fault.EmptyEntry = compact (entry_fault_json entries.empty_entry)
+entry_fault_text (fault.AbsentPath p) = compact (entry_fault_json (entries.absent_path p))
+entry_fault_text fault.DuplicateManager = compact (entry_fault_json entries.duplicate_manager)
+entry_fault_text fault.OutOfMemory = out_of_memory_text

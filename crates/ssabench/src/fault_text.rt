@@ -10,6 +10,7 @@ ghost use Rattle.ssa_bench.specs.Faults.{IsFault};
 ghost use Rattle.ssabench.specs.Replies.{clashes_json, conflict_json, names_json, told_json, line_fault_text};
 
 use crate::engine::OUT_OF_MEMORY;
+use crate::entry_fault_text::push_entry_fault;
 use crate::json_text::{push_comma, push_names, push_paths, push_string};
 use crate::read_command::LineFault;
 use ssa_bench::fault::Fault;
@@ -130,6 +131,7 @@ fn push_fault(alloc: Global, text: &mut Vec<u8>, fault: &Fault) -> Result<(), Al
     match fault {
         Fault::Body(fault) => push_body_fault(alloc, text, fault),
         Fault::Conflict(clashes) => push_conflict(alloc, text, clashes),
+        Fault::Entry(fault) => push_entry_fault(alloc, text, fault),
         Fault::TooManyPaths => text.extend_from_slice(b"{\"fault\":24,\"name\":\"TooManyPaths\"}"),
         Fault::TooManyManagers => {
             text.extend_from_slice(b"{\"fault\":43,\"name\":\"TooManyManagers\"}")

@@ -61,8 +61,8 @@ fn push_element(alloc: Global, text: &mut Vec<u8>, element: &Elem) -> Result<(),
     push_string(alloc, text, own)
 }
 
-// Appends a path: the list of its elements' texts.
-fn push_path(alloc: Global, text: &mut Vec<u8>, path: &Path) -> Result<(), AllocError>
+/// Appends a path: the list of its elements' texts.
+pub fn push_path(alloc: Global, text: &mut Vec<u8>, path: &Path) -> Result<(), AllocError>
     ensures { OnOk result (text.new.items ≡ text.old.items ++ compact (path_json path.now)) }
 {
     text.push(b'[')?;

@@ -6,6 +6,7 @@ mod bench_session;
 mod command;
 mod command_shape;
 mod engine;
+mod entry_fault_text;
 mod fault_text;
 mod json_text;
 #[cfg(test)]
@@ -15,6 +16,8 @@ mod log_text;
 mod machine;
 mod path_texts;
 mod program;
+#[cfg(test)]
+mod program_tests;
 mod read_command;
 mod read_line;
 mod reply_text;

@@ -47,6 +47,23 @@ impl Ending {
     }
 }
 
+/// The fault line of an object file that is refused.
+#[derive(Drop)]
+pub enum FaultLine {
+    Fixed(&'static [u8]),
+    Made(Vec<u8>),
+}
+
+impl FaultLine {
+    /// The line, without its line feed.
+    pub fn bytes(&self) -> &[u8] {
+        match self {
+            FaultLine::Fixed(line) => line,
+            FaultLine::Made(text) => text.as_slice(),
+        }
+    }
+}
+
 /// Carries out the words that the program was given.
 pub fn run<R: Files + Env + AllocGlobal + Input + Print + Eprint>(rt: &R) -> io::Result<Ending> {
     let mut words = Vec::new(rt.alloc());
@@ -82,16 +99,24 @@ fn run_session<R: Files + AllocGlobal + Input + Print + Eprint>(
         eprintln!(rt; "ssabench: cannot read {object}")?;
         return Ok(Ending::Broken);
     };
-    let value = match Json::read(rt.alloc(), object_bytes.as_slice(), FILE_LIMIT) {
-        Ok(value) => value,
-        Err(fault) => return tell(rt, json_fault_line(&fault)),
-    };
-    match Bench::new(rt.alloc(), schema, value) {
+    match bench_of(rt.alloc(), schema, object_bytes.as_slice()) {
         Ok(mut bench) => hold_session(rt, &mut bench),
-        Err(Fault::OutOfMemory) => tell(rt, OUT_OF_MEMORY),
-        Err(fault) => match fault_text(rt.alloc(), &fault) {
-            Ok(text) => tell(rt, text.as_slice()),
-            Err(_) => tell(rt, OUT_OF_MEMORY),
+        Err(line) => tell(rt, line.bytes()),
+    }
+}
+
+/// The bench of an object file, or its fault line.
+pub fn bench_of(alloc: Global, schema: Schema, bytes: &[u8]) -> Result<Bench, FaultLine> {
+    let value = match Json::read(alloc, bytes, FILE_LIMIT) {
+        Ok(value) => value,
+        Err(fault) => return Err(FaultLine::Fixed(json_fault_line(&fault))),
+    };
+    match Bench::new(alloc, schema, value) {
+        Ok(bench) => Ok(bench),
+        Err(Fault::OutOfMemory) => Err(FaultLine::Fixed(OUT_OF_MEMORY)),
+        Err(fault) => match fault_text(alloc, &fault) {
+            Ok(text) => Err(FaultLine::Made(text)),
+            Err(_) => Err(FaultLine::Fixed(OUT_OF_MEMORY)),
         },
     }
 }
@@ -141,10 +166,15 @@ fn tell<R: Print>(rt: &R, line: &[u8]) -> io::Result<Ending> {
     out.write_all(line)?;
     out.write_all(b"\n")?;
     out.flush()?;
+    Ok(ending_of(line))
+}
+
+/// How a run ends that has printed a fault line of its files.
+pub fn ending_of(line: &[u8]) -> Ending {
     if line == OUT_OF_MEMORY {
-        Ok(Ending::Broken)
+        Ending::Broken
     } else {
-        Ok(Ending::Refused)
+        Ending::Refused
     }
 }
 

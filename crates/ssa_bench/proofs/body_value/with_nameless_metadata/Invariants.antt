@@ -7,5 +7,5 @@ abbrev pub invariant-loop-name : goal.invariant-loop-name
 invariant-loop-name l = record {
   done : List Found;
   split : l.members.entries ≡ done ++ l.name-iterator;
-  same : map named l.made.entries ≡ map nameless_member (map named done);
+  same : map named l.made.entries ≡ map (nameless_member (map (λ n. n.now) l.names)) (map named done);
 }

@@ -2,12 +2,16 @@ use Rattle.std.proofs.Common.{refl, subst}
 use Rattle.ssa_model.specs.Answers.{refused, identity_fault, managed_fields_given, manager_name, history_full, nothing_to_undo, nothing_to_redo}
 use Rattle.ssa_model.specs.Operations.{too_many_paths, too_many_managers}
 use Rattle.ssa_bench.specs.Faults.{IsFault}
-use Rattle.ssabench.proofs.FaultFacts.{body_fault-written, fault-written}
+use Rattle.ssabench.proofs.FaultFacts.{body_fault-written, entry_fault-written, fault-written}
 use Rattle.ssabench.proofs.fault_text.push_fault.Goals as goal
 
 pub returns-in-Body : goal.returns-in-Body
 returns-in-Body c =
     body_fault-written c.push_body_fault.result _ _ c.in-Body.fault (IsFault c.args.fault.now) (λ g h. subst (λ f. IsFault f g) c.in-Body.is h) c.push_body_fault.ensures
+
+pub returns-in-Entry : goal.returns-in-Entry
+returns-in-Entry c =
+    entry_fault-written c.push_entry_fault.result _ _ c.in-Entry.fault (IsFault c.args.fault.now) (λ g h. subst (λ f. IsFault f g) c.in-Entry.is h) c.push_entry_fault.ensures
 
 pub returns-in-TooManyPaths : goal.returns-in-TooManyPaths
 returns-in-TooManyPaths c =

@@ -1,4 +1,4 @@
-use Rattle.std.proofs.Common.{rules, ◌≡◌, List, [], ◌∷◌, Option, Some, None, true, option_map}
+use Rattle.std.proofs.Common.{rules, ◌≡◌, List, [], ◌∷◌, Option, Some, option_map}
 use Rattle.ssa_model.specs.Json.{Json}
 use Rattle.ssa_json.specs.View.{view}
 use Rattle.ssa_bench.specs.Identities.{identity_in}

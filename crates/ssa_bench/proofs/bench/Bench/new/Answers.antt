@@ -1,0 +1,42 @@
+use Rattle.std.proofs.Common.{◌≡◌, [], Option, None, Some, List, map, string_bytes, refl, sym, ap, ◌∙◌}
+use Rattle.std.specs.Prelude.{Ok, Err}
+use Rattle.ssa_model.specs.Json.{Json}
+use Rattle.ssa_model.specs.Kind.{wrong_type}
+use Rattle.ssa_model.specs.Answers.{body_fault, identity_fault}
+use Rattle.ssa_json.specs.View.{view}
+use Rattle.ssa_merge.specs.States.{state_view}
+use Rattle.ssa_bench.specs.Benches.{file_state_of}
+use Rattle.ssa_bench.specs.Identities.{identity_in}
+use Rattle.ssa_bench.proofs.Taken.{passed-on, identity-found, bench_of-no_object, bench_of-nameless, bench_of-state}
+use Rattle.ssa_bench.proofs.bench.Bench.new.Goals as goal
+
+pub returns-then-not-is_object : goal.returns-then-not-is_object
+returns-then-not-is_object c = (
+  body_fault wrong_type [],
+  bench_of-no_object c.args.schema.1 (view c.args.object) (sym c.is_object.ensures ∙ c.if-not-is_object.true),
+  ((wrong_type, []), refl, (λ i. (wrong_type, map string_bytes (c.new.ensures.items i)))),
+)
+
+pub returns-in_default : goal.returns-in_default
+returns-in_default c =
+    let none : ◌≡◌ {A = Option (List (Option Json))} None (identity_in (view c.args.object)) = sym c.in_default.is ∙ c.in_ok-identity.ensures in
+    (identity_fault, bench_of-nameless c.args.schema.1 (view c.args.object) (sym c.is_object.ensures ∙ c.if-not-is_object.false) none, refl)
+
+pub file_state-requires : goal.file_state-requires
+file_state-requires c =
+    let some : ◌≡◌ {A = Option (List (Option Json))} (Some c.in-Some.identity) (identity_in (view c.args.object)) = sym c.in-Some.is ∙ c.in_ok-identity.ensures in
+    identity-found (view c.args.object) c.in-Some.identity some
+
+pub returns-in-Ok : goal.returns-in-Ok
+returns-in-Ok c =
+    let some : ◌≡◌ {A = Option (List (Option Json))} (Some c.in-Some.identity) (identity_in (view c.args.object)) = sym c.in-Some.is ∙ c.in_ok-identity.ensures in
+    bench_of-state c.args.schema.1 (view c.args.object) c.in-Some.identity (Ok (state_view c.in-Ok.state)) (sym c.is_object.ensures ∙ c.if-not-is_object.false) some c.in-Ok.ensures.given
+    ∙ ap Ok (sym c.with_lone_state.ensures)
+
+pub returns-in-Err : goal.returns-in-Err
+returns-in-Err c =
+    let kind = c.args.schema.1 in
+    let v = view c.args.object in
+    let some : ◌≡◌ {A = Option (List (Option Json))} (Some c.in-Some.identity) (identity_in v) = sym c.in-Some.is ∙ c.in_ok-identity.ensures in
+    passed-on c.in-Err.fault (file_state_of kind v) _
+    (λ g e. bench_of-state kind v c.in-Some.identity (Err g) (sym c.is_object.ensures ∙ c.if-not-is_object.false) some e) c.in-Err.ensures.given

@@ -1,0 +1,16 @@
+use Rattle.std.proofs.Common.{ap, sym, ◌∙◌}
+use Rattle.std.specs.Prelude.{Err}
+use Rattle.ssa_model.specs.Answers.{body_or_fault, given_table}
+use Rattle.ssa_json.specs.Readings.{readings}
+use Rattle.ssa_json.specs.View.{view}
+use Rattle.ssa_bench.specs.Benches.{table_or_fault}
+use Rattle.ssa_bench.proofs.Taken.{file_state-body, passed-on}
+use Rattle.ssa_bench.proofs.bench.file_state.Goals as goal
+
+pub returns-in-Err-given_managers-clause-given : goal.returns-in-Err-given_managers-clause-given
+returns-in-Err-given_managers-clause-given c =
+    let kind = c.args.schema.now.1 in
+    let v = view c.args.object.now in
+    let body = ap (body_or_fault kind) (sym c.in_ok-value.ensures) ∙ c.in-Ok.ensures.given in
+    passed-on c.in-Err-given_managers.fault (table_or_fault (given_table readings c.in-Ok.body v)) _
+    (λ g e. file_state-body kind v c.in-Ok.body (Err g) body e) c.in-Err-given_managers.ensures.given
