@@ -1,6 +1,5 @@
 -- What reading one entry answers, and what the entry says.
 use Rattle.std.specs.Prelude.{◌≡◌, List, [], ◌∷◌, Bool, true, false, Option, Some, None, Result, Ok, Err, codes}
-use Rattle.std.specs.declared.alloc.Global.{Global}
 use Rattle.arrayvec.specs.ArrayVec.{ArrayVec}
 use Rattle.ssa_json.specs.View.{view}
 use Rattle.ssa_model.specs.Json.{Text, Json, scalar, list, object, Members, no_members, member}
@@ -78,6 +77,6 @@ abbrev pub TellsEntry : Result Entry EntryFault → Result table.Entry model.Ent
 TellsEntry (Ok e) given = given ≡ Ok (entry_view e)
 TellsEntry (Err f) given = GivesEntries {A = table.Entry} (Err f) given
 
-abbrev pub TellsTable : Result (ArrayVec Entry 64 Global) EntryFault → Result Table model.EntryFault → Type 0
+abbrev pub TellsTable : Result (ArrayVec Entry) EntryFault → Result Table model.EntryFault → Type 0
 TellsTable (Ok es) given = given ≡ Ok (table_view es.items)
 TellsTable (Err f) given = GivesEntries {A = Table} (Err f) given

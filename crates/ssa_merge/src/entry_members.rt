@@ -1,5 +1,6 @@
 //! What the members of an entry of `managedFields` say.
-ghost use Rattle.std.specs.Prelude.{◌≡◌, ◌&&◌, MatchOption, codes, false, option_map, is_some};
+ghost use Rattle.std.specs.Prelude.{◌≡◌, ◌∷◌, ◌&&◌, MatchOption, codes, false, option_map, is_some, string_cmp};
+ghost use Rattle.std.specs.BTreeMap.{IsOrdered};
 ghost use Rattle.std.specs.List.{list_all, list_any};
 ghost use Rattle.ssa_json.specs.View.{view, members_view};
 ghost use Rattle.ssa_model.specs.Commands.{text_in};
@@ -47,7 +48,8 @@ fn is_entry_member(name: &str, value: &Json) -> bool
 }
 
 fn are_entry_members(members: &BTreeMap<String, Json>) -> bool
-    ensures { result ≡ are_entry_members (members_view members.now.entries) }
+    ensures told { result ≡ are_entry_members (members_view members.now.entries) }
+    ensures ordered { IsOrdered string_cmp members.now }
 {
     for (name, value) in members.iter() {
         if !is_entry_member(name.as_str(), value) {
