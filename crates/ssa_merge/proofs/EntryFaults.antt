@@ -26,21 +26,7 @@ use Rattle.ssa_merge.specs.declared.entry_fault.EntryFault.{EntryFault}
 use Rattle.ssa_merge.specs.declared.entry_fault.EntryFault.TheVariants.{TooManyManagers, BadEntry, ManagerName, OtherVersion, BadMoment, BadElement, IndexElement, NotCanonical, EmptyEntry, AbsentPath, DuplicateManager, OutOfMemory}
 use Rattle.ssa_merge.specs.declared.entry_members.Said.{Said}
 
--- a fault goes on from one answer to the next
-pub goes_on : {A B : Type 0} (f : EntryFault) (r : Result A model.EntryFault) (s : Result B model.EntryFault) → ((g : model.EntryFault) → r ≡ Err g → s ≡ Err g) → GivesEntries {A = A} (Err f) r → GivesEntries {A = B} (Err f) s
-goes_on OutOfMemory r s on h = tt
-goes_on TooManyManagers r s on h = (h.0, on h.0 h.1, h.2)
-goes_on BadEntry r s on h = (h.0, on h.0 h.1, h.2)
-goes_on ManagerName r s on h = (h.0, on h.0 h.1, h.2)
-goes_on OtherVersion r s on h = (h.0, on h.0 h.1, h.2)
-goes_on BadMoment r s on h = (h.0, on h.0 h.1, h.2)
-goes_on BadElement r s on h = (h.0, on h.0 h.1, h.2)
-goes_on IndexElement r s on h = (h.0, on h.0 h.1, h.2)
-goes_on NotCanonical r s on h = (h.0, on h.0 h.1, h.2)
-goes_on EmptyEntry r s on h = (h.0, on h.0 h.1, h.2)
-goes_on (AbsentPath p) r s on h = (h.0, on h.0 h.1, h.2)
-goes_on DuplicateManager r s on h = (h.0, on h.0 h.1, h.2)
-
+-- a fault of what is owned is the entry's
 pub owned_goes_on : {B : Type 0} (f : EntryFault) (o : Option model.EntryFault) (s : Result B model.EntryFault) → ((g : model.EntryFault) → o ≡ Some g → s ≡ Err g) → TellsOwned (Err f) o → GivesEntries {A = B} (Err f) s
 owned_goes_on OutOfMemory r s on h = tt
 owned_goes_on TooManyManagers r s on h = (h.0, on h.0 h.1, h.2)
@@ -55,61 +41,11 @@ owned_goes_on EmptyEntry r s on h = (h.0, on h.0 h.1, h.2)
 owned_goes_on (AbsentPath p) r s on h = (h.0, on h.0 h.1, h.2)
 owned_goes_on DuplicateManager r s on h = (h.0, on h.0 h.1, h.2)
 
--- the first fault of fields
-begins : (fs : List ElementFault) (g : ElementFault) → first_fault fs ≡ Some g → (gs : List ElementFault) × (fs ≡ g ∷ gs)
-begins [] g h = cc
-begins (f ∷ fs) g h = let same : f ≡ g = cc in (fs, ap (λ x. x ∷ fs) same)
-
-pub fields_go_on : {B : Type 0} (f : FieldsFault) (e : EntryFault) (fs : List ElementFault) (s : Result B model.EntryFault)
-    → e ≡ fault_of_fields f → ((g : ElementFault) (gs : List ElementFault) → fs ≡ g ∷ gs → s ≡ Err (of_fields g)) → IsFirst f fs → GivesEntries {A = B} (Err e) s
-fields_go_on {B} f e fs s is on h = subst (λ x. GivesEntries {A = B} (Err x) s) (sym is) (by f h)
-  where
-    by : (f : FieldsFault) → IsFirst f fs → GivesEntries {A = B} (Err (fault_of_fields f)) s
-    by fields.BadElement h = let all = begins fs _ h in (_, on _ all.0 all.1, refl)
-    by fields.IndexElement h = let all = begins fs _ h in (_, on _ all.0 all.1, refl)
-    by fields.NotCanonical h = let all = begins fs _ h in (_, on _ all.0 all.1, refl)
-    by fields.OutOfMemory h = tt
-
--- ---- what an entry owns
-
-module _ (body : Body) (before : Table) where
-  abbrev owned : ManagerKey → PathSet → Option model.EntryFault
-  owned a s = owned_fault readings body [] before (owning a s)
-
-  pub owned-empty : (a : ManagerKey) (s : PathSet) → is_empty s ≡ true → owned a s ≡ Some empty_entry
-  owned-empty a s h =
-      ap (λ t. if t then Some empty_entry else (elim (not_ownable body s) [ p ∷ ps ↦ Some (absent_path p) | [] ↦ (if is_in_table before a then Some duplicate_manager else None) ])) h
-
-  some-first : (ps : List Path) (p : Path) (rest : Option model.EntryFault) → Some p ≡ first_of ps → (elim ps [ q ∷ qs ↦ Some (absent_path q) | [] ↦ rest ]) ≡ Some (absent_path p)
-  some-first [] p rest h = cc
-  some-first (q ∷ ps) p rest h = let same : p ≡ q = cc in ap (λ x. Some (absent_path x)) (sym same)
-
-  no-first : (ps : List Path) (rest : Option model.EntryFault) → None ≡ first_of ps → (elim ps [ q ∷ qs ↦ Some (absent_path q) | [] ↦ rest ]) ≡ rest
-  no-first [] rest h = refl
-  no-first (q ∷ ps) rest h = cc
-
-  pub owned-absent : (a : ManagerKey) (s : PathSet) (p : Path) → is_empty s ≡ false → Some p ≡ first_of (not_ownable body s) → owned a s ≡ Some (absent_path p)
-  owned-absent a s p some first =
-      ap (λ t. if t then Some empty_entry else (elim (not_ownable body s) [ p ∷ ps ↦ Some (absent_path p) | [] ↦ (if is_in_table before a then Some duplicate_manager else None) ])) some
-      ∙ some-first (not_ownable body s) p (if is_in_table before a then Some duplicate_manager else None) first
-
-  pub owned-known : (a : ManagerKey) (s : PathSet) (known : Bool) → is_empty s ≡ false → None ≡ first_of (not_ownable body s) → is_in_table before a ≡ known
-      → owned a s ≡ (if known then Some duplicate_manager else None)
-  owned-known a s known some first is =
-      ap (λ t. if t then Some empty_entry else (elim (not_ownable body s) [ p ∷ ps ↦ Some (absent_path p) | [] ↦ (if is_in_table before a then Some duplicate_manager else None) ])) some
-      ∙ no-first (not_ownable body s) (if is_in_table before a then Some duplicate_manager else None) first
-      ∙ ap (λ t. if t then Some duplicate_manager else None) is
-
 -- ---- an entry
 
 module _ (body : Body) (version : Text) (before : Table) where
   abbrev entry : Json → Result Entry model.EntryFault
   entry v = value_entry readings body version before v
-
-  pub no-entry : (v : Json) → IsNoEntry v → entry v ≡ Err bad_entry
-  no-entry (object ms) h = ap (λ t. if not t then Err bad_entry else (elim (entry_fault readings body version before ms) [ Some f ↦ Err f | None ↦ Ok (said_entry readings ms) ])) h
-  no-entry (scalar s) h = refl
-  no-entry (list vs) h = refl
 
   abbrev pub entry_of : Said → Entry
   entry_of s = record { manager = record { name = s.name.now; operation = operation_view s.operation }; owned = said_set json_reading (view s.fields.now); moment = s.time.now }
@@ -139,12 +75,24 @@ module _ (body : Body) (version : Text) (before : Table) where
   in_order (scalar x) s says = absurd says
   in_order (list vs) s says = absurd says
 
-  pub whole : (v : Json) (s : Said) (e : Entry) → SaysIn v s → s.version.now ≡ version → e.manager.name ≡ s.name.now → e.manager.operation ≡ operation_view s.operation → fields_json e.owned ≡ view s.fields.now → e.moment ≡ s.time.now
-      → entry_json (text_json version) e ≡ v
-  whole (object ms) s e says v n o f t =
-      (λ i. entry_of_parts (sym v i) (n i) (o i) (f i) (t i)) ∙ ap object (sym says.whole)
-    where
-      abbrev entry_of_parts : Text → Text → Operation → Json → Text → Json
-      entry_of_parts v n o f t = object (members_saying v f n o t)
-  whole (scalar x) s e says v n o f t = absurd says
-  whole (list vs) s e says v n o f t = absurd says
+  -- an entry that has passed all tests before that of what it owns
+  pub passed : (v : Json) (s : Said) (name : Text) (owned : PathSet) (moment : Text) → SaysIn v s → is_manager_name s.name.now ≡ true → same_text s.version.now version ≡ true → is_moment s.time.now ≡ true
+      → fields_faults json_reading (view s.fields.now) ≡ [] → name ≡ s.name.now → owned ≡ said_set json_reading (view s.fields.now) → moment ≡ s.time.now
+      → entry v ≡ result_of (owned_fault readings body [] before (owning (record { name = name; operation = operation_view s.operation }) owned)) (record { manager = record { name = name; operation = operation_view s.operation }; owned = owned; moment = moment })
+  passed v s name owned moment says named same timed faultless name_is owned_is moment_is =
+      in_order v s says
+      ∙ (λ i. result_of (fault_in (named i) (same i) (timed i) (faultless i) (owned_fault readings body version before (entry_of s))) (entry_of s))
+      ∙ (λ i. let e : Entry = record { manager = record { name = sym name_is i; operation = operation_view s.operation }; owned = sym owned_is i; moment = sym moment_is i } in
+      result_of (owned_fault readings body version before e) e)
+
+  pub owned-fault : (v : Json) (o : Option model.EntryFault) (e : Entry) (f : EntryFault) → entry v ≡ result_of o e → TellsOwned (Err f) o → GivesEntries {A = Entry} (Err f) (entry v)
+  owned-fault v o e f is h = owned_goes_on f o (entry v) (λ g one. is ∙ ap (λ x. result_of x e) one) h
+
+  pub no-fault : (v : Json) (o : Option model.EntryFault) (e : Entry) → entry v ≡ result_of o e → o ≡ None → entry v ≡ Ok e
+  no-fault v o e is none = is ∙ ap (λ x. result_of x e) none
+
+pub whole : (v : Json) (s : Said) (version name : Text) (fields : Json) (moment : Text) → SaysIn v s → s.version.now ≡ version → name ≡ s.name.now → fields ≡ view s.fields.now → moment ≡ s.time.now
+    → object (members_saying version fields name (operation_view s.operation) moment) ≡ v
+whole (object ms) s version name fields moment says v n f t = (λ i. object (members_saying (sym v i) (f i) (n i) (operation_view s.operation) (t i))) ∙ ap object (sym says.whole)
+whole (scalar x) s version name fields moment says v n f t = absurd says
+whole (list vs) s version name fields moment says v n f t = absurd says

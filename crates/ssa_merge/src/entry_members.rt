@@ -24,7 +24,8 @@ pub struct Said<'a> {
     pub fields: &'a Json,
 }
 
-fn is_same(text: &str, other: &str) -> bool
+/// Whether both texts have the same bytes.
+pub fn is_same(text: &str, other: &str) -> bool
     ensures { result ≡ same_text text.now other.now }
 {
     text.as_bytes().cmp(other.as_bytes()).is_eq()

@@ -8,7 +8,7 @@ ghost use Rattle.ssa_merge.specs.EntryReading.{TellsEntry, TellsOwned, owning};
 ghost use Rattle.ssa_merge.specs.Managers.{entry_view, key_view, table_view};
 
 use crate::entry_fault::EntryFault;
-use crate::entry_members::{Said, said_in};
+use crate::entry_members::{is_same, said_in};
 use crate::manager::ManagerKey;
 use crate::managers::Entry;
 use crate::names::is_manager_name;
@@ -55,30 +55,24 @@ pub fn read_entry(
     ensures answers { TellsEntry result (value_entry readings body.now api_version.now (table_view before.now) (view entry.now)) }
     ensures back { IfOk result (λ e. entry_json (text_json api_version.now) (entry_view e) ≡ view entry.now) }
 {
-    let Some(
-        Said {
-            name,
-            operation,
-            version,
-            time,
-            fields,
-        },
-    ) = said_in(entry)
-    else {
+    let Some(said) = said_in(entry) else {
         return Err(EntryFault::BadEntry);
     };
-    if !is_manager_name(name) {
+    if !is_manager_name(said.name) {
         return Err(EntryFault::ManagerName);
     }
-    if !version.as_bytes().cmp(api_version.as_bytes()).is_eq() {
+    if !is_same(said.version, api_version) {
         return Err(EntryFault::OtherVersion);
     }
-    let Ok(at) = Moment::read(time) else {
+    let Ok(at) = Moment::read(said.time) else {
         return Err(EntryFault::BadMoment);
     };
-    let set = FieldSet::from_fields_v1(alloc, fields)?;
-    let name = String::from_str(alloc, name)?;
-    let key = ManagerKey { name, operation };
+    let set = FieldSet::from_fields_v1(alloc, said.fields)?;
+    let name = String::from_str(alloc, said.name)?;
+    let key = ManagerKey {
+        name,
+        operation: said.operation,
+    };
     check_owned(alloc, &key, &set, before, body)?;
     let set = SharedSet::new(alloc, set)?;
     Ok(Entry { key, set, at })
