@@ -1,26 +1,21 @@
 -- The faults that are told are those of the definitions.
-use Rattle.std.proofs.Common.{◌≡◌, List, [], ◌∷◌, Bool, true, false, not, refl, sym, ap, subst, ◌∙◌, true≢false}
-use Rattle.std.specs.Prelude.{Option, Some, None, Result, Ok, Err, codes, if◌then◌else◌}
+use Rattle.std.proofs.Common.{◌≡◌, List, [], ◌∷◌, Bool, true, not, sym, ap, ◌∙◌}
+use Rattle.std.specs.Prelude.{Option, Some, None, Result, Ok, Err, if◌then◌else◌}
 use Rattle.ssa_model.specs.Json.{Text, Json, scalar, list, object, Members, same_text}
 use Rattle.ssa_model.specs.Body.{Body}
 use Rattle.ssa_model.specs.ElementTexts.{ElementFault}
-use Rattle.ssa_model.specs.Entries.{entry_json, fields_json, operation_text, text_json}
 use Rattle.ssa_model.specs.FieldsFaults.{fields_faults, said_set}
 use Rattle.ssa_model.specs.GivenEntries as model
 use Rattle.ssa_model.specs.GivenEntries.{bad_entry, manager_name, other_version, bad_moment, of_fields, empty_entry, absent_path, duplicate_manager, is_entry, entry_fault, not_ownable, operation_of, operation_in, owned_fault, said_entry, value_entry}
 use Rattle.ssa_model.specs.History.{is_manager_name}
-use Rattle.ssa_model.specs.Path.{Path}
-use Rattle.ssa_model.specs.PathMap.{PathSet, is_empty}
-use Rattle.ssa_model.specs.Table.{ManagerKey, Entry, Operation, Table, applies, is_in_table}
+use Rattle.ssa_model.specs.PathMap.{PathSet}
+use Rattle.ssa_model.specs.Table.{Entry, Operation, Table, applies}
 use Rattle.ssa_json.specs.Moment.{is_moment}
 use Rattle.ssa_json.specs.Reading.{json_reading}
 use Rattle.ssa_json.specs.Readings.{readings}
 use Rattle.ssa_json.specs.View.{view}
-use Rattle.ssa_path.specs.FieldsReading.{first_fault, IsFirst}
-use Rattle.ssa_path.specs.declared.fields_fault.FieldsFault.{FieldsFault}
-use Rattle.ssa_path.specs.declared.fields_fault.FieldsFault.TheVariants as fields
-use Rattle.ssa_merge.specs.EntryReading.{fault_of_fields, first_of, IsNoEntry, Says, SaysIn, TellsOwned, members_saying, owning}
-use Rattle.ssa_merge.specs.GivenEntries.{GivesEntries, IsEntryFault}
+use Rattle.ssa_merge.specs.EntryReading.{Says, SaysIn, TellsOwned, members_saying, owning}
+use Rattle.ssa_merge.specs.GivenEntries.{GivesEntries}
 use Rattle.ssa_merge.specs.Managers.{operation_view}
 use Rattle.ssa_merge.specs.declared.entry_fault.EntryFault.{EntryFault}
 use Rattle.ssa_merge.specs.declared.entry_fault.EntryFault.TheVariants.{TooManyManagers, BadEntry, ManagerName, OtherVersion, BadMoment, BadElement, IndexElement, NotCanonical, EmptyEntry, AbsentPath, DuplicateManager, OutOfMemory}

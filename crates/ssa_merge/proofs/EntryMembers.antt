@@ -1,7 +1,7 @@
 -- The members of an entry are those that it is written with.
 use Rattle.std.proofs.Common.{◌≡◌, List, [], ◌∷◌, map, Bool, true, false, ◌&&◌, ◌||◌, T, String, Global, string_bytes, string_cmp, nat_cmp, Less, refl, sym, ap, subst, ◌∙◌, true≢false}
 use Rattle.std.specs.Prelude.{Option, Some, None, codes, is_some, if◌then◌else◌}
-use Rattle.std.specs.List.{list_all, list_any, AllByRecursion}
+use Rattle.std.specs.List.{list_all, AllByRecursion}
 use Rattle.std.specs.List.Sorted.{IsStrictlySortedBy}
 use Rattle.std.specs.Map.{keys_of}
 use Rattle.std.specs.Ordering.{is_lt}
@@ -9,10 +9,10 @@ use Rattle.std.specs.Cmp.{first_so, second_so}
 use Rattle.std.specs.Cmp.Lexicographic.{slice_cmp, nat_list_cmp_total}
 use Rattle.std.specs.FinMap.{slice_cmp-IsAntisymmetric, nat_cmp-IsAntisymmetric}
 use Rattle.std.specs.FinMap.Entries.{find, is_sorted, below_all, same_entries}
-use Rattle.ssa_model.specs.Json.{Text, Json, scalar, text, list, object, Members, no_members, member, member_of, same_text}
+use Rattle.ssa_model.specs.Json.{Text, Json, scalar, text, Members, no_members, member, member_of, same_text}
 use Rattle.ssa_model.specs.Commands.{text_in, value_in}
 use Rattle.ssa_model.specs.Entries.{operation_text, text_json}
-use Rattle.ssa_model.specs.GivenEntries.{entry_texts, is_entry, is_entry_member, are_entry_members, operation_of, text_at, fields_in}
+use Rattle.ssa_model.specs.GivenEntries.{entry_texts, is_entry_member, are_entry_members, operation_of, text_at, fields_in}
 use Rattle.ssa_model.specs.Schema.{has_member, is_text}
 use Rattle.ssa_model.specs.Table.{Operation, applies, updates}
 use Rattle.ssa_json.specs.View.{view, members_view}

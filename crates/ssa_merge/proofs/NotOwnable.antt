@@ -5,15 +5,13 @@ use Rattle.std.specs.declared.cmp.Ordering.{Ordering}
 use Rattle.std.specs.declared.cmp.Ordering.TheVariants.{Less, Equal, Greater}
 use Rattle.std.specs.Ordering.{is_eq, nat_cmp, ordering_then}
 use Rattle.std.specs.Cmp.Lexicographic.{slice_cmp}
-use Rattle.std.specs.Cmp.{first_so, second_so}
 use Rattle.std.specs.FinMap.Entries.{where_key, is_sorted-where_key, find-where_key}
-use Rattle.ssa_model.specs.Json.{same_text}
-use Rattle.ssa_model.specs.Path.{Path, Element, field, key, value, path_cmp, same_path}
+use Rattle.ssa_model.specs.Path.{Path, field, key, value, path_cmp, same_path}
 use Rattle.ssa_model.specs.PathMap.{PathSet, empty, get, has, insert, is_empty, paths, set_of, union}
 use Rattle.ssa_model.specs.Body.{Body, is_ownable}
 use Rattle.ssa_model.specs.Valid.{metadata_path}
 use Rattle.ssa_model.proofs.Texts.{same_path_same}
-use Rattle.ssa_model.proofs.PathMaps.{has-insert, has-paths, has-set_of, has-union, is_one_of, same_sets}
+use Rattle.ssa_model.proofs.PathMaps.{has-insert, has-paths, has-set_of, has-union, same_sets}
 use Rattle.ssa_path.specs.Meet.{meet}
 use Rattle.ssa_model.specs.GivenEntries.{not_ownable}
 use Rattle.ssa_merge.specs.EntryReading.{first_of}

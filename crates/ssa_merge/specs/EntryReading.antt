@@ -1,5 +1,5 @@
 -- What reading one entry answers, and what the entry says.
-use Rattle.std.specs.Prelude.{◌≡◌, List, [], ◌∷◌, Bool, true, false, Option, Some, None, Result, Ok, Err, codes}
+use Rattle.std.specs.Prelude.{◌≡◌, List, [], ◌∷◌, true, false, Option, Some, None, Result, Ok, Err, codes}
 use Rattle.arrayvec.specs.ArrayVec.{ArrayVec}
 use Rattle.ssa_json.specs.View.{view}
 use Rattle.ssa_model.specs.Json.{Text, Json, scalar, list, object, Members, no_members, member}
