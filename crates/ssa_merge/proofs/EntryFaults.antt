@@ -53,7 +53,7 @@ module _ (body : Body) (version : Text) (before : Table) where
       else (elim fs [ f ∷ gs ↦ Some (of_fields f) | [] ↦ last ])))
 
   abbrev pub fault_of : Said → Option model.EntryFault
-  fault_of s = fault_in (is_manager_name s.name.now) (same_text s.version.now version) (is_moment s.time.now) (fields_faults json_reading (view s.fields.now)) (owned_fault readings body version before (entry_of s))
+  fault_of s = fault_in (is_manager_name s.name.now) (same_text s.version.now version) (is_moment s.time.now) (fields_faults json_reading (view s.fields.now)) (owned_fault body before (entry_of s))
 
   abbrev pub result_of : Option model.EntryFault → Entry → Result Entry model.EntryFault
   result_of fault e = elim fault [ Some f ↦ Err f | None ↦ Ok e ]
@@ -63,7 +63,7 @@ module _ (body : Body) (version : Text) (before : Table) where
       let word : operation_in ms ≡ operation_view s.operation = ap (λ o. elim o as (λ _. Operation) [ Some x ↦ x | None ↦ applies ]) (sym says.operation) in
       let same : said_entry readings ms ≡ entry_of s = λ i. record { manager = record { name = sym says.name i; operation = word i }; owned = said_set json_reading (sym says.fields i); moment = sym says.time i } in
       ap (λ t. if not t then Err bad_entry else (elim (entry_fault readings body version before ms) [ Some f ↦ Err f | None ↦ Ok (said_entry readings ms) ])) says.entry
-      ∙ (λ i. result_of (fault_in (is_manager_name (sym says.name i)) (same_text (sym says.version i) version) (is_moment (sym says.time i)) (fields_faults json_reading (sym says.fields i)) (owned_fault readings body version before (same i))) (same i))
+      ∙ (λ i. result_of (fault_in (is_manager_name (sym says.name i)) (same_text (sym says.version i) version) (is_moment (sym says.time i)) (fields_faults json_reading (sym says.fields i)) (owned_fault body before (same i))) (same i))
 
   pub in_order : (v : Json) (s : Said) → SaysIn v s → entry v ≡ result_of (fault_of s) (entry_of s)
   in_order (object ms) s says = as_said ms s says
@@ -73,12 +73,12 @@ module _ (body : Body) (version : Text) (before : Table) where
   -- an entry that has passed all tests before that of what it owns
   pub passed : (v : Json) (s : Said) (name : Text) (owned : PathSet) (moment : Text) → SaysIn v s → is_manager_name s.name.now ≡ true → same_text s.version.now version ≡ true → is_moment s.time.now ≡ true
       → fields_faults json_reading (view s.fields.now) ≡ [] → name ≡ s.name.now → owned ≡ said_set json_reading (view s.fields.now) → moment ≡ s.time.now
-      → entry v ≡ result_of (owned_fault readings body [] before (owning (record { name = name; operation = operation_view s.operation }) owned)) (record { manager = record { name = name; operation = operation_view s.operation }; owned = owned; moment = moment })
+      → entry v ≡ result_of (owned_fault body before (owning (record { name = name; operation = operation_view s.operation }) owned)) (record { manager = record { name = name; operation = operation_view s.operation }; owned = owned; moment = moment })
   passed v s name owned moment says named same timed faultless name_is owned_is moment_is =
       in_order v s says
-      ∙ (λ i. result_of (fault_in (named i) (same i) (timed i) (faultless i) (owned_fault readings body version before (entry_of s))) (entry_of s))
+      ∙ (λ i. result_of (fault_in (named i) (same i) (timed i) (faultless i) (owned_fault body before (entry_of s))) (entry_of s))
       ∙ (λ i. let e : Entry = record { manager = record { name = sym name_is i; operation = operation_view s.operation }; owned = sym owned_is i; moment = sym moment_is i } in
-      result_of (owned_fault readings body version before e) e)
+      result_of (owned_fault body before e) e)
 
   pub owned-fault : (v : Json) (o : Option model.EntryFault) (e : Entry) (f : EntryFault) → entry v ≡ result_of o e → TellsOwned (Err f) o → GivesEntries {A = Entry} (Err f) (entry v)
   owned-fault v o e f is h = owned_goes_on f o (entry v) (λ g one. is ∙ ap (λ x. result_of x e) one) h

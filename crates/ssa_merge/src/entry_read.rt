@@ -29,7 +29,7 @@ fn check_owned(
     before: &[Entry],
     body: &Body,
 ) -> Result<(), EntryFault>
-    ensures { TellsOwned result (owned_fault readings body.now [] (table_view before.now) (owning (key_view key.now) set.now)) }
+    ensures { TellsOwned result (owned_fault body.now (table_view before.now) (owning (key_view key.now) set.now)) }
 {
     if set.is_empty() {
         return Err(EntryFault::EmptyEntry);

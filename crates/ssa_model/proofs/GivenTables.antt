@@ -62,7 +62,7 @@ few-more table e h = grind (arith, nat_tests, length-append)
 
 module _ (readings : Readings) (body : Body) (version : Text) where
   -- one entry more
-  next-table : (before : Table) (e : Entry) → nat_le 64 (length before) ≡ false → is_manager_name e.manager.name ≡ true → owned_fault readings body version before e ≡ None → IsTable body before → IsTable body (before ++ e ∷ [])
+  next-table : (before : Table) (e : Entry) → nat_le 64 (length before) ≡ false → is_manager_name e.manager.name ≡ true → owned_fault body before e ≡ None → IsTable body before → IsTable body (before ++ e ∷ [])
   next-table before e room name none table =
       let parts = no-fault (is_empty e.owned) (not_ownable body e.owned) (is_in_table before e.manager) none in
       record {

@@ -63,6 +63,12 @@ operation_in ms = elim (operation_of (text_at (codes "operation") ms)) [ Some o 
 abbrev pub not_ownable : Body → PathSet → List Path
 not_ownable body owned = filter (λ p. not (is_ownable body p)) (paths owned)
 
+-- the first fault of what the entry owns, behind these entries
+abbrev pub owned_fault : Body → Table → Entry → Option EntryFault
+owned_fault body before e =
+    if is_empty e.owned then Some empty_entry
+    else (elim (not_ownable body e.owned) [ p ∷ ps ↦ Some (absent_path p) | [] ↦ (if is_in_table before e.manager then Some duplicate_manager else None) ])
+
 module _ (readings : Readings) where
   -- what an entry says
   abbrev pub said_entry : Members → Entry
@@ -73,19 +79,13 @@ module _ (readings : Readings) where
   }
 
   module _ (body : Body) (version : Text) where
-    -- the first fault of what the entry owns, behind these entries
-    abbrev pub owned_fault : Table → Entry → Option EntryFault
-    owned_fault before e =
-        if is_empty e.owned then Some empty_entry
-        else (elim (not_ownable body e.owned) [ p ∷ ps ↦ Some (absent_path p) | [] ↦ (if is_in_table before e.manager then Some duplicate_manager else None) ])
-
     -- the first fault of members that are an entry's
     abbrev pub entry_fault : Table → Members → Option EntryFault
     entry_fault before ms =
         if not (is_manager_name (text_at (codes "manager") ms)) then Some manager_name
         else (if not (same_text (text_at (codes "apiVersion") ms) version) then Some other_version
         else (if not (readings.moment (text_at (codes "time") ms)) then Some bad_moment
-        else (elim (fields_faults readings.value (fields_in ms)) [ f ∷ fs ↦ Some (of_fields f) | [] ↦ owned_fault before (said_entry ms) ])))
+        else (elim (fields_faults readings.value (fields_in ms)) [ f ∷ fs ↦ Some (of_fields f) | [] ↦ owned_fault body before (said_entry ms) ])))
 
     -- the entry that members say, or the first fault
     abbrev pub members_entry : Table → Members → Result Entry EntryFault
