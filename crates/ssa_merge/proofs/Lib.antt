@@ -5,3 +5,6 @@ pub mod GivenUp
 pub mod Applied
 pub mod Fits
 pub mod Valid
+mod EntryMembers
+mod NotOwnable
+mod EntryFaults

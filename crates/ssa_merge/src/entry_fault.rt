@@ -1,7 +1,9 @@
 //! Why a value is no table of managers.
 ghost use Rattle.std.specs.Prelude.{◌≡◌};
+ghost use Rattle.ssa_merge.specs.EntryReading.{fault_of_fields};
 ghost use Rattle.ssa_merge.specs.declared.entry_fault.EntryFault.TheVariants.{OutOfMemory};
 
+use ssa_path::fields_fault::FieldsFault;
 use ssa_path::path::Path;
 use std::alloc::AllocError;
 
@@ -42,5 +44,18 @@ impl From<AllocError> for EntryFault {
 
     fn from(_refused: AllocError) -> EntryFault {
         EntryFault::OutOfMemory
+    }
+}
+
+impl From<FieldsFault> for EntryFault {
+    ghost from_gives = { λ f e. e ≡ fault_of_fields f };
+
+    fn from(fault: FieldsFault) -> EntryFault {
+        match fault {
+            FieldsFault::BadElement => EntryFault::BadElement,
+            FieldsFault::IndexElement => EntryFault::IndexElement,
+            FieldsFault::NotCanonical => EntryFault::NotCanonical,
+            FieldsFault::OutOfMemory => EntryFault::OutOfMemory,
+        }
     }
 }

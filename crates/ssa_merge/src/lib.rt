@@ -3,10 +3,16 @@
 
 pub mod entries;
 pub mod entries_read;
+#[cfg(test)]
+mod entries_tests;
 pub mod entry_fault;
+mod entry_members;
+mod entry_read;
 pub mod given_up;
 pub mod manager;
 pub mod managers;
+pub mod names;
+mod ownable;
 pub mod owned;
 pub mod plan;
 pub mod seat;

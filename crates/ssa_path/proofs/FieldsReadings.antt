@@ -11,16 +11,16 @@ use Rattle.ssa_model.specs.Path.{Element, field, key, value, element_text}
 use Rattle.ssa_model.specs.Entries.{nothing_written}
 use Rattle.ssa_model.specs.ElementTexts.{ElementFault, bad_element, not_canonical, element_of}
 use Rattle.ssa_model.specs.FieldsV1.{AreCanonical, dot_alone}
-use Rattle.ssa_model.specs.FieldsFaults.{is_nothing_inside, fields_faults, member_faults}
+use Rattle.ssa_model.specs.FieldsFaults.{is_nothing_inside, fields_faults, member_faults, member_paths, said_paths}
 use Rattle.ssa_json.specs.Reading.{json_reading}
 use Rattle.ssa_json.specs.View.{view, members_view}
 use Rattle.ssa_json.proofs.Equality.{same_json-true, same_text-true}
 use Rattle.ssa_json.proofs.Ordered.{IsAbove, names, above_before}
 use Rattle.ssa_path.specs.Children.{elements, is_below, rises}
 use Rattle.ssa_path.specs.ElementReading.{ReadsElement}
-use Rattle.ssa_path.specs.FieldsReading.{fields_fault, first_fault, IsFirst, below_faults, child_faults, IsPlaceOf, IsPlaceBelow, IsChildOf}
+use Rattle.ssa_path.specs.FieldsReading.{fields_fault, first_fault, IsFirst, below_faults, child_faults, said_below, IsPlaceOf, IsPlaceBelow, IsChildOf}
 use Rattle.ssa_path.specs.FieldsWriting.{paths_json}
-use Rattle.ssa_path.specs.Trie.{are_filled_tries, has_some, here_path, paths, paths_below}
+use Rattle.ssa_path.specs.Trie.{are_filled_tries, has_some, here_path, is_filled, paths, paths_below}
 use Rattle.ssa_path.specs.View.{element_view}
 use Rattle.ssa_path.specs.declared.element.Elem.{Elem}
 use Rattle.ssa_path.specs.declared.element_fault.ElemFault.{ElemFault}
@@ -32,9 +32,11 @@ use Rattle.ssa_path.specs.declared.trie.Trie.TheOpen.{Trie-F}
 use Rattle.ssa_path.specs.declared.trie.Trie.TheViews.{out-Trie, roll-Trie}
 use Rattle.ssa_path.proofs.FieldsLevels.{dotted, child_members, level, level-shown}
 use Rattle.ssa_path.proofs.FieldsMembers.{Found, with_last, members-last, members-more, canonical-more, alone-place, alone-written, place-written}
+use Rattle.ssa_path.proofs.FieldsSaid.{said-dot, said-more}
 use Rattle.ssa_path.proofs.Levels.{filled-is, is_trie-made, paths-level, paths-made}
 use Rattle.ssa_path.proofs.Lists.{filled-append}
 use Rattle.ssa_path.proofs.Orders.{both}
+use Rattle.ssa_path.proofs.OwnTexts.{own-text-is-read}
 
 -- ---- the first fault
 
@@ -112,17 +114,34 @@ alone-read v place x h none here own_here empty =
         trie = is_trie-made x (ap (λ cs. rises (elements cs)) empty) (ap are_filled_tries empty);
         filled = ap has_some own;
         written = alone-written (paths (roll-Trie x)) v own is;
+        said = own ∙ ap said_below (sym is);
       },
     )
 
+nothing-inside : (v : Json) → is_nothing_inside v ≡ true → v ≡ nothing_written
+nothing-inside (object no_members) h = refl
+nothing-inside (object (member n v ms)) h = absurd (true≢false (sym h))
+nothing-inside (scalar s) h = absurd (true≢false (sym h))
+nothing-inside (list vs) h = absurd (true≢false (sym h))
+
+-- where a place has paths, the value has something inside
+some-inside : (v : Json) (t : Trie) → is_filled t ≡ true → paths t ≡ said_paths json_reading v → paths t ≡ said_below v
+some-inside v t filled said =
+    elim (is_nothing_inside v) as (λ b. is_nothing_inside v ≡ b → paths t ≡ cond b ([] ∷ []) (said_paths json_reading v)) [
+      | true ↦ λ none. absurd (true≢false (sym filled ∙ ap has_some (said ∙ ap (said_paths json_reading) (nothing-inside v none))))
+      | false ↦ λ _. said
+    ] refl
+
 pub place-read : (v : Json) (place : Trie) → IsPlaceOf v place → has_some {A = Elem × Trie} (out-Trie place).below.items ≡ true → fields_faults json_reading v ≡ [] → (below_faults v ≡ []) × IsPlaceBelow v place
 place-read v place h some none =
-    let written = place-written place v h.trie some h.json h.canonical in (
+    let written = place-written place v h.trie some h.json h.canonical in
+    let filled = filled-is place h.trie ∙ ap (λ b. (out-Trie place).here || b) some ∙ or_true (out-Trie place).here in (
       below-none v written.not_dot none,
       record {
         trie = h.trie;
-        filled = filled-is place h.trie ∙ ap (λ b. (out-Trie place).here || b) some ∙ or_true (out-Trie place).here;
+        filled = filled;
         written = written;
+        said = some-inside v place filled h.said;
       },
     )
   where
@@ -139,6 +158,7 @@ pub record IsReading (es : List Found) (here : Bool) (cs : List (Elem × Trie)) 
   pub json : members_view done ≡ dotted here (child_members cs)
   pub canonical : AreCanonical (members_view done)
   pub tries : are_filled_tries cs ≡ true
+  pub said : here_path here ++ paths_below cs ≡ member_paths json_reading (members_view done)
   pub faults : member_faults json_reading (members_view es) ≡ member_faults json_reading (members_view left)
 
 pub reading-none : (es left : List Found) (cs : List (Elem × Trie)) → cs ≡ [] → left ≡ es → IsReading es false cs left
@@ -148,6 +168,7 @@ reading-none es left cs none all = record {
   json = ap child_members (sym none);
   canonical = tt;
   tries = ap are_filled_tries none;
+  said = ap paths_below none;
   faults = ap (λ l. member_faults json_reading (members_view l)) (sym all);
 }
 
@@ -178,6 +199,7 @@ module _ (es : List Found) (here : Bool) (cs : List (Elem × Trie)) (e : Found) 
         json = members-more here now.done e cs c now.json (sym name ∙ sym h.name.1) place.written.json;
         canonical = canonical-more now.done e now.canonical (element_view c.0, h.name.0.lawful, h.name.1 ∙ name) place.written.not_dot place.written.canonical;
         tries = filled-append cs (c ∷ []) ∙ both _ _ now.tries (both _ _ (both _ _ place.trie place.filled) refl);
+        said = said-more here now.done e cs c now.said (ap (λ m. same_text m (codes ".")) (sym name) ∙ other) (ap (element_of json_reading) (sym name ∙ sym h.name.1) ∙ own-text-is-read (element_view c.0) h.name.0) place.said;
         faults =
             faults-now ∙ faults-child (string_bytes e.0) (view e.1) (members_view left) (ap (λ m. same_text m (codes ".")) (sym name) ∙ other)
             ∙ ap (λ fs. fs ++ member_faults json_reading (members_view left)) (ap (λ m. child_faults m (view e.1)) (sym name) ∙ none);
@@ -205,15 +227,13 @@ first-dot (d ∷ done) false (c ∷ cs) n dot above is =
     let name : string_bytes d.0 ≡ element_text (element_view c.0) = cc in
     let other : Less ≡ Greater = sym (below-dot (element_view c.0)) ∙ sym (λ i. slice_cmp nat_cmp (dot i) (name i)) ∙ above.0 in cc
 
-nothing-inside : (v : Json) → is_nothing_inside v ≡ true → v ≡ nothing_written
-nothing-inside (object no_members) h = refl
-nothing-inside (object (member n v ms)) h = absurd (true≢false (sym h))
-nothing-inside (scalar s) h = absurd (true≢false (sym h))
-nothing-inside (list vs) h = absurd (true≢false (sym h))
-
 none-before : (here : Bool) (cs : List (Elem × Trie)) → no_members ≡ dotted here (child_members cs) → no_members ≡ child_members cs
 none-before true cs h = cc
 none-before false cs h = h
+
+childless : (cs : List (Elem × Trie)) → no_members ≡ child_members cs → cs ≡ []
+childless [] h = refl
+childless (c ∷ cs) h = cc
 
 below-children : (k : String Global) (f : Element) (es : List Found) (cs : List (Elem × Trie)) → string_bytes k ≡ element_text f → AllByRecursion (λ y. string_cmp k y ≡ Less) (keys_of es) → members_view es ≡ child_members cs → is_below f (elements cs) ≡ true
 below-children k f [] [] text h is = refl
@@ -259,6 +279,7 @@ dot-more es here cs e left rest n now steps sorted name dot inside =
       json = ap (λ l. members_view (l ++ e ∷ [])) none ∙ (λ i. member (text i) (nothing i) (empty i));
       canonical = subst AreCanonical (sym (members-last now.done e)) (canonical-dot (members_view now.done) (string_bytes e.0) (view e.1) now.canonical text nothing);
       tries = now.tries;
+      said = said-dot e cs (childless cs empty) (ap (λ m. same_text m (codes ".")) (sym name) ∙ dot) ∙ ap (λ l. member_paths json_reading (members_view (l ++ e ∷ []))) (sym none);
       faults =
           faults-now es here cs e left rest now steps
           ∙ faults-dot (string_bytes e.0) (view e.1) (members_view left) true (ap (λ m. same_text m (codes ".")) (sym name) ∙ dot) inside;
@@ -276,6 +297,7 @@ reading-all es x rest none sorted now =
         trie = is_trie-made x rise now.tries;
         json = ap object json ∙ sym (ap paths_json (paths-made x) ∙ level-shown x.here x.below.items rise now.tries);
         canonical = subst (λ l. AreCanonical (members_view l)) (sym all) now.canonical;
+        said = paths-made x ∙ now.said ∙ ap (λ l. member_paths json_reading (members_view l)) (sym all);
       },
     )
 

@@ -19,4 +19,5 @@ pub mod OwnTexts
 pub mod FieldsLevels
 pub mod FieldsMembers
 pub mod FieldsReadings
+pub mod FieldsSaid
 pub mod FieldsSays

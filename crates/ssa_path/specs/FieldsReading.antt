@@ -3,7 +3,8 @@ use Rattle.std.specs.Prelude.{◌≡◌, List, [], ◌∷◌, Option, Some, None
 use Rattle.ssa_model.specs.Json.{Text, Json, same_json}
 use Rattle.ssa_model.specs.ElementTexts.{ElementFault, bad_element, index_element, not_canonical, element_of}
 use Rattle.ssa_model.specs.FieldsV1.{dot_alone, IsCanonical}
-use Rattle.ssa_model.specs.FieldsFaults.{fields_faults}
+use Rattle.ssa_model.specs.Path.{Path}
+use Rattle.ssa_model.specs.FieldsFaults.{fields_faults, is_nothing_inside, said_paths}
 use Rattle.ssa_json.specs.Reading.{json_reading}
 use Rattle.ssa_path.specs.FieldsWriting.{paths_json, IsWrittenBelow}
 use Rattle.ssa_path.specs.OwnText.{IsOwnText}
@@ -51,17 +52,23 @@ below_faults v = if same_json v dot_alone then not_canonical ∷ [] else fields_
 abbrev pub child_faults : Text → Json → List ElementFault
 child_faults n v = elim (element_of json_reading n) [ Err f ↦ f ∷ [] | Ok e ↦ below_faults v ]
 
--- the value is the one writing of the place's paths
+-- the paths that a value under an element says, from the element on
+abbrev pub said_below : Json → List Path
+said_below v = if is_nothing_inside v then [] ∷ [] else said_paths json_reading v
+
+-- the value is the one writing of the place's paths, and says these
 pub record IsPlaceOf (v : Json) (t : Trie) : Type 0 where
   pub trie : is_trie t ≡ true
   pub json : v ≡ paths_json (paths t)
   pub canonical : IsCanonical v
+  pub said : paths t ≡ said_paths json_reading v
 
 -- so it is of a place under an element
 pub record IsPlaceBelow (v : Json) (t : Trie) : Type 0 where
   pub trie : is_trie t ≡ true
   pub filled : is_filled t ≡ true
   pub written : IsWrittenBelow (paths t) v
+  pub said : paths t ≡ said_below v
 
 -- the member is the one writing of the child
 pub record IsChildOf (n : Text) (v : Json) (c : Elem × Trie) : Type 0 where

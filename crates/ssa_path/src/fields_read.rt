@@ -1,7 +1,7 @@
 // Sets of paths read from FieldsV1.
 ghost use Rattle.std.specs.Prelude.{◌≡◌, IfOk, codes};
 ghost use Rattle.ssa_model.specs.Entries.{fields_json};
-ghost use Rattle.ssa_model.specs.FieldsFaults.{is_nothing_inside, member_faults};
+ghost use Rattle.ssa_model.specs.FieldsFaults.{is_nothing_inside, member_faults, said_set};
 ghost use Rattle.ssa_model.specs.FieldsV1.{IsWritten};
 ghost use Rattle.ssa_model.specs.Json.{object, same_text};
 ghost use Rattle.ssa_json.specs.Reading.{json_reading};
@@ -26,6 +26,7 @@ impl FieldSet {
         ensures answers { ReadsFields result (view value.now) }
         ensures written { IfOk result (λ s. IsWritten s (view value.now)) }
         ensures back { IfOk result (λ s. fields_json s ≡ view value.now) }
+        ensures said { IfOk result (λ s. s ≡ said_set json_reading (view value.now)) }
     {
         let root = read_place(alloc, value)?;
         Ok(FieldSet::from_root(root))

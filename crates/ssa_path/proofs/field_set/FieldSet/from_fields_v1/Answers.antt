@@ -1,4 +1,5 @@
-use Rattle.std.proofs.Common.{sym, ◌∙◌}
+use Rattle.std.proofs.Common.{ap, sym, ◌∙◌}
+use Rattle.ssa_model.specs.PathMap.{listed}
 use Rattle.ssa_path.proofs.FieldsSays.{json-of-set, written-set}
 use Rattle.ssa_path.proofs.field_set.FieldSet.from_fields_v1.Goals as goal
 
@@ -11,3 +12,6 @@ pub returns-clause-back : goal.returns-clause-back
 returns-clause-back c =
     let place = c.in_ok-root.ensures.place in
     json-of-set c.in_ok-root.root c.from_root.result place.trie (sym c.from_root.ensures) ∙ sym place.json
+
+pub returns-clause-said : goal.returns-clause-said
+returns-clause-said c = c.from_root.ensures ∙ ap listed c.in_ok-root.ensures.place.said

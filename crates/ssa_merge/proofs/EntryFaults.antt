@@ -1,0 +1,93 @@
+-- The faults that are told are those of the definitions.
+use Rattle.std.proofs.Common.{◌≡◌, List, [], ◌∷◌, Bool, true, not, sym, ap, ◌∙◌}
+use Rattle.std.specs.Prelude.{Option, Some, None, Result, Ok, Err, if◌then◌else◌}
+use Rattle.ssa_model.specs.Json.{Text, Json, scalar, list, object, Members, same_text}
+use Rattle.ssa_model.specs.Body.{Body}
+use Rattle.ssa_model.specs.ElementTexts.{ElementFault}
+use Rattle.ssa_model.specs.FieldsFaults.{fields_faults, said_set}
+use Rattle.ssa_model.specs.GivenEntries as model
+use Rattle.ssa_model.specs.GivenEntries.{bad_entry, manager_name, other_version, bad_moment, of_fields, empty_entry, absent_path, duplicate_manager, is_entry, entry_fault, not_ownable, operation_of, operation_in, owned_fault, said_entry, value_entry}
+use Rattle.ssa_model.specs.History.{is_manager_name}
+use Rattle.ssa_model.specs.PathMap.{PathSet}
+use Rattle.ssa_model.specs.Table.{Entry, Operation, Table, applies}
+use Rattle.ssa_json.specs.Moment.{is_moment}
+use Rattle.ssa_json.specs.Reading.{json_reading}
+use Rattle.ssa_json.specs.Readings.{readings}
+use Rattle.ssa_json.specs.View.{view}
+use Rattle.ssa_merge.specs.EntryReading.{Says, SaysIn, TellsOwned, members_saying, owning}
+use Rattle.ssa_merge.specs.GivenEntries.{GivesEntries}
+use Rattle.ssa_merge.specs.Managers.{operation_view}
+use Rattle.ssa_merge.specs.declared.entry_fault.EntryFault.{EntryFault}
+use Rattle.ssa_merge.specs.declared.entry_fault.EntryFault.TheVariants.{TooManyManagers, BadEntry, ManagerName, OtherVersion, BadMoment, BadElement, IndexElement, NotCanonical, EmptyEntry, AbsentPath, DuplicateManager, OutOfMemory}
+use Rattle.ssa_merge.specs.declared.entry_members.Said.{Said}
+
+-- a fault of what is owned is the entry's
+pub owned_goes_on : {B : Type 0} (f : EntryFault) (o : Option model.EntryFault) (s : Result B model.EntryFault) → ((g : model.EntryFault) → o ≡ Some g → s ≡ Err g) → TellsOwned (Err f) o → GivesEntries {A = B} (Err f) s
+owned_goes_on OutOfMemory r s on h = tt
+owned_goes_on TooManyManagers r s on h = (h.0, on h.0 h.1, h.2)
+owned_goes_on BadEntry r s on h = (h.0, on h.0 h.1, h.2)
+owned_goes_on ManagerName r s on h = (h.0, on h.0 h.1, h.2)
+owned_goes_on OtherVersion r s on h = (h.0, on h.0 h.1, h.2)
+owned_goes_on BadMoment r s on h = (h.0, on h.0 h.1, h.2)
+owned_goes_on BadElement r s on h = (h.0, on h.0 h.1, h.2)
+owned_goes_on IndexElement r s on h = (h.0, on h.0 h.1, h.2)
+owned_goes_on NotCanonical r s on h = (h.0, on h.0 h.1, h.2)
+owned_goes_on EmptyEntry r s on h = (h.0, on h.0 h.1, h.2)
+owned_goes_on (AbsentPath p) r s on h = (h.0, on h.0 h.1, h.2)
+owned_goes_on DuplicateManager r s on h = (h.0, on h.0 h.1, h.2)
+
+-- ---- an entry
+
+module _ (body : Body) (version : Text) (before : Table) where
+  abbrev entry : Json → Result Entry model.EntryFault
+  entry v = value_entry readings body version before v
+
+  abbrev pub entry_of : Said → Entry
+  entry_of s = record { manager = record { name = s.name.now; operation = operation_view s.operation }; owned = said_set json_reading (view s.fields.now); moment = s.time.now }
+
+  abbrev pub fault_in : Bool → Bool → Bool → List ElementFault → Option model.EntryFault → Option model.EntryFault
+  fault_in name same moment fs last =
+      if not name then Some manager_name
+      else (if not same then Some other_version
+      else (if not moment then Some bad_moment
+      else (elim fs [ f ∷ gs ↦ Some (of_fields f) | [] ↦ last ])))
+
+  abbrev pub fault_of : Said → Option model.EntryFault
+  fault_of s = fault_in (is_manager_name s.name.now) (same_text s.version.now version) (is_moment s.time.now) (fields_faults json_reading (view s.fields.now)) (owned_fault readings body version before (entry_of s))
+
+  abbrev pub result_of : Option model.EntryFault → Entry → Result Entry model.EntryFault
+  result_of fault e = elim fault [ Some f ↦ Err f | None ↦ Ok e ]
+
+  as_said : (ms : Members) (s : Said) → Says ms s → entry (object ms) ≡ result_of (fault_of s) (entry_of s)
+  as_said ms s says =
+      let word : operation_in ms ≡ operation_view s.operation = ap (λ o. elim o as (λ _. Operation) [ Some x ↦ x | None ↦ applies ]) (sym says.operation) in
+      let same : said_entry readings ms ≡ entry_of s = λ i. record { manager = record { name = sym says.name i; operation = word i }; owned = said_set json_reading (sym says.fields i); moment = sym says.time i } in
+      ap (λ t. if not t then Err bad_entry else (elim (entry_fault readings body version before ms) [ Some f ↦ Err f | None ↦ Ok (said_entry readings ms) ])) says.entry
+      ∙ (λ i. result_of (fault_in (is_manager_name (sym says.name i)) (same_text (sym says.version i) version) (is_moment (sym says.time i)) (fields_faults json_reading (sym says.fields i)) (owned_fault readings body version before (same i))) (same i))
+
+  pub in_order : (v : Json) (s : Said) → SaysIn v s → entry v ≡ result_of (fault_of s) (entry_of s)
+  in_order (object ms) s says = as_said ms s says
+  in_order (scalar x) s says = absurd says
+  in_order (list vs) s says = absurd says
+
+  -- an entry that has passed all tests before that of what it owns
+  pub passed : (v : Json) (s : Said) (name : Text) (owned : PathSet) (moment : Text) → SaysIn v s → is_manager_name s.name.now ≡ true → same_text s.version.now version ≡ true → is_moment s.time.now ≡ true
+      → fields_faults json_reading (view s.fields.now) ≡ [] → name ≡ s.name.now → owned ≡ said_set json_reading (view s.fields.now) → moment ≡ s.time.now
+      → entry v ≡ result_of (owned_fault readings body [] before (owning (record { name = name; operation = operation_view s.operation }) owned)) (record { manager = record { name = name; operation = operation_view s.operation }; owned = owned; moment = moment })
+  passed v s name owned moment says named same timed faultless name_is owned_is moment_is =
+      in_order v s says
+      ∙ (λ i. result_of (fault_in (named i) (same i) (timed i) (faultless i) (owned_fault readings body version before (entry_of s))) (entry_of s))
+      ∙ (λ i. let e : Entry = record { manager = record { name = sym name_is i; operation = operation_view s.operation }; owned = sym owned_is i; moment = sym moment_is i } in
+      result_of (owned_fault readings body version before e) e)
+
+  pub owned-fault : (v : Json) (o : Option model.EntryFault) (e : Entry) (f : EntryFault) → entry v ≡ result_of o e → TellsOwned (Err f) o → GivesEntries {A = Entry} (Err f) (entry v)
+  owned-fault v o e f is h = owned_goes_on f o (entry v) (λ g one. is ∙ ap (λ x. result_of x e) one) h
+
+  pub no-fault : (v : Json) (o : Option model.EntryFault) (e : Entry) → entry v ≡ result_of o e → o ≡ None → entry v ≡ Ok e
+  no-fault v o e is none = is ∙ ap (λ x. result_of x e) none
+
+pub whole : (v : Json) (s : Said) (version name : Text) (fields : Json) (moment : Text) → SaysIn v s → s.version.now ≡ version → name ≡ s.name.now → fields ≡ view s.fields.now → moment ≡ s.time.now
+    → object (members_saying version fields name (operation_view s.operation) moment) ≡ v
+whole (object ms) s version name fields moment says v n f t = (λ i. object (members_saying (sym v i) (f i) (n i) (operation_view s.operation) (t i))) ∙ ap object (sym says.whole)
+whole (scalar x) s version name fields moment says v n f t = absurd says
+whole (list vs) s version name fields moment says v n f t = absurd says

@@ -1,0 +1,29 @@
+use Rattle.std.proofs.Common.{◌&&◌, option_map, is_some, codes, ap, sym, ◌∙◌}
+use Rattle.ssa_json.specs.View.{view, members_view}
+use Rattle.ssa_model.specs.Commands.{value_in}
+use Rattle.ssa_model.specs.Json.{same_text}
+use Rattle.ssa_model.specs.GivenEntries.{operation_of}
+use Rattle.ssa_merge.specs.EntryReading.{members_saying}
+use Rattle.ssa_merge.specs.Managers.{operation_view}
+use Rattle.ssa_merge.proofs.EntryMembers.{members-whole}
+use Rattle.ssa_merge.proofs.entry_members.said_by.Goals as goal
+
+pub returns : goal.returns
+returns c =
+    let ms = members_view c.args.members.now.entries in
+    let o = operation_view c.in_ok-operation.operation in
+    let are = sym c.are_entry_members.ensures.told ∙ c.if-not-are_entry_members.false in
+    let all = sym c.has_all_members.ensures ∙ c.if-not-has_all_members.false in
+    let kind = sym (c.is_same.ensures ∙ ap (λ t. same_text t (codes "FieldsV1")) c.text_at.ensures) ∙ c.if-not-is_same.false in
+    let word = sym (ap (option_map operation_view) c.in_ok-operation.was) ∙ c.operation_of.ensures ∙ ap operation_of c.text_at-2.ensures in
+    let fields = ap value_in (sym (ap (option_map (λ v. view v.now)) c.in-Some.is) ∙ c.find_member.ensures) in
+    record {
+      entry = λ i. are i && (all i && (kind i && is_some (sym word i)));
+      name = c.text_at-3.ensures;
+      operation = word;
+      version = c.text_at-4.ensures;
+      time = c.text_at-5.ensures;
+      fields = fields;
+      whole = members-whole c.args.members.now.entries o c.are_entry_members.ensures.ordered are all kind (sym word)
+          ∙ (λ i. members_saying (sym c.text_at-4.ensures i) (sym fields i) (sym c.text_at-3.ensures i) o (sym c.text_at-5.ensures i));
+    }

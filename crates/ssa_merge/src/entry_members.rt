@@ -1,0 +1,141 @@
+//! What the members of an entry of `managedFields` say.
+ghost use Rattle.std.specs.Prelude.{◌≡◌, ◌∷◌, ◌&&◌, MatchOption, codes, false, option_map, is_some, string_cmp};
+ghost use Rattle.std.specs.BTreeMap.{IsOrdered};
+ghost use Rattle.std.specs.List.{list_all, list_any};
+ghost use Rattle.ssa_json.specs.View.{view, members_view};
+ghost use Rattle.ssa_model.specs.Commands.{text_in};
+ghost use Rattle.ssa_model.specs.GivenEntries.{are_entry_members, entry_texts, is_entry, is_entry_member, operation_of};
+ghost use Rattle.ssa_model.specs.Json.{member_of, same_text};
+ghost use Rattle.ssa_model.specs.Schema.{has_member};
+ghost use Rattle.ssa_merge.specs.EntryReading.{IsNoEntry, Says, SaysIn};
+ghost use Rattle.ssa_merge.specs.Managers.{operation_view};
+
+use crate::manager::Operation;
+use ssa_json::value::Json;
+use std::collections::BTreeMap;
+
+/// What an entry says.
+#[derive(Drop)]
+pub struct Said<'a> {
+    pub name: &'a str,
+    pub operation: Operation,
+    pub version: &'a str,
+    pub time: &'a str,
+    pub fields: &'a Json,
+}
+
+/// Whether both texts have the same bytes.
+pub fn is_same(text: &str, other: &str) -> bool
+    ensures { result ≡ same_text text.now other.now }
+{
+    text.as_bytes().cmp(other.as_bytes()).is_eq()
+}
+
+// Whether a member of this name is a text.
+fn is_text_name(name: &str) -> bool
+    ensures { result ≡ list_any (same_text name.now) entry_texts }
+{
+    is_same(name, "apiVersion")
+        || is_same(name, "fieldsType")
+        || is_same(name, "manager")
+        || is_same(name, "operation")
+        || is_same(name, "time")
+}
+
+fn is_entry_member(name: &str, value: &Json) -> bool
+    ensures { result ≡ is_entry_member name.now (view value.now) }
+{
+    is_same(name, "fieldsV1") || (is_text_name(name) && value.as_text().is_some())
+}
+
+fn are_entry_members(members: &BTreeMap<String, Json>) -> bool
+    ensures told { result ≡ are_entry_members (members_view members.now.entries) }
+    ensures ordered { IsOrdered string_cmp members.now }
+{
+    for (name, value) in members.iter() {
+        if !is_entry_member(name.as_str(), value) {
+            return false;
+        }
+    }
+    true
+}
+
+fn find_member<'a>(members: &'a BTreeMap<String, Json>, name: &str) -> Option<&'a Json>
+    ensures { option_map (λ v. view v.now) result ≡ member_of name.now (members_view members.now.entries) }
+{
+    members.get(name)
+}
+
+fn has_member(members: &BTreeMap<String, Json>, name: &str) -> bool
+    ensures { result ≡ has_member name.now (members_view members.now.entries) }
+{
+    find_member(members, name).is_some()
+}
+
+fn has_all_members(members: &BTreeMap<String, Json>) -> bool
+    ensures { result ≡ list_all (λ n. has_member n (members_view members.now.entries)) (codes "fieldsV1" ∷ entry_texts) }
+{
+    has_member(members, "fieldsV1")
+        && has_member(members, "apiVersion")
+        && has_member(members, "fieldsType")
+        && has_member(members, "manager")
+        && has_member(members, "operation")
+        && has_member(members, "time")
+}
+
+// The text of a member, empty where it is none.
+fn text_at<'a>(members: &'a BTreeMap<String, Json>, name: &str) -> &'a str
+    ensures { result.now ≡ text_in (member_of name.now (members_view members.now.entries)) }
+{
+    match find_member(members, name) {
+        Some(value) => value.as_text().unwrap_or(""),
+        None => "",
+    }
+}
+
+fn operation_of(text: &str) -> Option<Operation>
+    ensures { option_map operation_view result ≡ operation_of text.now }
+{
+    if is_same(text, "Apply") {
+        return Some(Operation::Apply);
+    }
+    if is_same(text, "Update") {
+        return Some(Operation::Update);
+    }
+    None
+}
+
+// What members say, where they are an entry's.
+fn said_by(members: &BTreeMap<String, Json>) -> Option<Said<'_>>
+    ensures { MatchOption result (is_entry (members_view members.now.entries) ≡ false) (λ s. Says (members_view members.now.entries) s) }
+{
+    if !are_entry_members(members) || !has_all_members(members) {
+        return None;
+    }
+    if !is_same(text_at(members, "fieldsType"), "FieldsV1") {
+        return None;
+    }
+    let operation = operation_of(text_at(members, "operation"))?;
+    let Some(fields) = find_member(members, "fieldsV1") else {
+        unreachable!("an entry has all its members");
+    };
+    Some(Said {
+        name: text_at(members, "manager"),
+        operation,
+        version: text_at(members, "apiVersion"),
+        time: text_at(members, "time"),
+        fields,
+    })
+}
+
+/// What a value says as an entry, where it is one: an object of exactly the members `apiVersion`,
+/// `fieldsType`, `fieldsV1`, `manager`, `operation` and `time`, texts but for `fieldsV1`, with the
+/// fields type `FieldsV1` and the operation `Apply` or `Update`.
+pub fn said_in(entry: &Json) -> Option<Said<'_>>
+    ensures { MatchOption result (IsNoEntry (view entry.now)) (λ s. SaysIn (view entry.now) s) }
+{
+    match entry {
+        Json::Object(members) => said_by(members),
+        Json::List(_) | Json::Scalar(_) => None,
+    }
+}

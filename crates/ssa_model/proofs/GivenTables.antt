@@ -1,0 +1,102 @@
+-- The table that managers' entries say is one of the body.
+use Rattle.std.proofs.Common.{◌≡◌, ℕ, ◌+◌, ◌≤◌, List, [], ◌∷◌, ◌++◌, Bool, true, false, not, ◌&&◌, length, filter, refl, sym, ap, subst, ◌∙◌, arith, length-append}
+use Rattle.std.proofs.lemmas.Bool.Decides.{nat_tests}
+use Rattle.std.specs.Prelude.{Option, Some, None, Result, Ok, Err, nat_le, if◌then◌else◌}
+use Rattle.ssa_model.specs.Json.{Text, Json, scalar, list, object, Items, no_items, item, Members}
+use Rattle.ssa_model.specs.Path.{Path}
+use Rattle.ssa_model.specs.PathMap.{has, is_empty, paths}
+use Rattle.ssa_model.specs.Body.{Body, is_ownable}
+use Rattle.ssa_model.specs.Table.{Entry, Table, is_in_table}
+use Rattle.ssa_model.specs.Readings.{Readings}
+use Rattle.ssa_model.specs.ElementTexts.{ElementFault}
+use Rattle.ssa_model.specs.GivenEntries.{EntryFault, too_many_managers, bad_entry, manager_name, other_version, bad_moment, of_fields, empty_entry, absent_path, duplicate_manager, is_entry, not_ownable, said_entry, owned_fault, entry_fault, value_entry, next_entry, table_behind}
+use Rattle.ssa_model.specs.History.{is_manager_name}
+use Rattle.ssa_model.specs.Valid.{has_distinct_keys, OwnedOwnable, OwnsOwnable, AllEntries, IsTable}
+use Rattle.ssa_model.proofs.Lists.{is_one_of-filter}
+use Rattle.ssa_model.proofs.PathMaps.{has-paths, is_one_of}
+use Rattle.ssa_model.proofs.Tables.{distinct-push, all-push}
+
+-- where no path fails the test, each passes
+passes : (test : Path → Bool) (ps : List Path) (q : Path) → filter (λ p. not (test p)) ps ≡ [] → is_one_of ps q ≡ true → test q ≡ true
+passes test ps q none one =
+    by (test q) ((λ i. sym one i && not (test q)) ∙ sym (is_one_of-filter (λ p. not (test p)) ps q) ∙ ap (λ qs. is_one_of qs q) none)
+  where
+    by : (t : Bool) → not t ≡ false → t ≡ true
+    by true h = refl
+    by false h = cc
+
+all-ownable : (body : Body) (e : Entry) → not_ownable body e.owned ≡ [] → OwnsOwnable body e
+all-ownable body e none p h = passes (is_ownable body) (paths e.owned) p none (sym (has-paths e.owned p) ∙ h)
+
+-- ---- entries without a fault
+
+no-fault : (nothing : Bool) (others : List Path) (known : Bool)
+    → ◌≡◌ {A = Option EntryFault} (if nothing then Some empty_entry else (elim others [ p ∷ ps ↦ Some (absent_path p) | [] ↦ (if known then Some duplicate_manager else None) ])) None
+    → (nothing ≡ false) × (others ≡ []) × (known ≡ false)
+no-fault true others known h = cc
+no-fault false (p ∷ ps) known h = cc
+no-fault false [] true h = cc
+no-fault false [] false h = (refl, refl, refl)
+
+no-fault-before : (name version moment : Bool) (fs : List ElementFault) (last : Option EntryFault)
+    → ◌≡◌ {A = Option EntryFault} (if not name then Some manager_name else (if not version then Some other_version else (if not moment then Some bad_moment else (elim fs [ f ∷ gs ↦ Some (of_fields f) | [] ↦ last ])))) None
+    → (name ≡ true) × (last ≡ None)
+no-fault-before false version moment fs last h = cc
+no-fault-before true false moment fs last h = cc
+no-fault-before true true false fs last h = cc
+no-fault-before true true true (f ∷ fs) last h = cc
+no-fault-before true true true [] last h = (refl, h)
+
+said : (right : Bool) (fault : Option EntryFault) (e given : Entry)
+    → ◌≡◌ {A = Result Entry EntryFault} (if not right then Err bad_entry else (elim fault [ Some f ↦ Err f | None ↦ Ok e ])) (Ok given)
+    → (fault ≡ None) × (e ≡ given)
+said false fault e given h = cc
+said true (Some f) e given h = cc
+said true None e given h = (refl, cc)
+
+same-table : (a b : Table) → ◌≡◌ {A = Result Table EntryFault} (Ok a) (Ok b) → a ≡ b
+same-table a b h = cc
+
+few-more : (table : Table) (e : Entry) → nat_le 64 (length table) ≡ false → length (table ++ e ∷ []) ≤ 64
+few-more table e h = grind (arith, nat_tests, length-append)
+
+module _ (readings : Readings) (body : Body) (version : Text) where
+  -- one entry more
+  next-table : (before : Table) (e : Entry) → nat_le 64 (length before) ≡ false → is_manager_name e.manager.name ≡ true → owned_fault readings body version before e ≡ None → IsTable body before → IsTable body (before ++ e ∷ [])
+  next-table before e room name none table =
+      let parts = no-fault (is_empty e.owned) (not_ownable body e.owned) (is_in_table before e.manager) none in
+      record {
+        distinct = distinct-push before e table.distinct parts.2;
+        few = few-more before e room;
+        names = all-push (λ x. is_manager_name x.manager.name ≡ true) before e table.names name;
+        own_some = all-push (λ x. is_empty x.owned ≡ false) before e table.own_some parts.0;
+        ownable = all-push (OwnsOwnable body) before e table.ownable (all-ownable body e parts.1);
+      }
+
+  next-members : (before : Table) (ms : Members) (e : Entry) → nat_le 64 (length before) ≡ false
+      → ◌≡◌ {A = Result Entry EntryFault} (if not (is_entry ms) then Err bad_entry else (elim (entry_fault readings body version before ms) [ Some f ↦ Err f | None ↦ Ok (said_entry readings ms) ])) (Ok e)
+      → IsTable body before → IsTable body (before ++ e ∷ [])
+  next-members before ms e room one table =
+      let own = said (is_entry ms) (entry_fault readings body version before ms) (said_entry readings ms) e one in
+      let none = no-fault-before _ _ _ _ _ own.0 in
+      subst (λ x. IsTable body (before ++ x ∷ [])) own.1 (next-table before (said_entry readings ms) room none.0 none.1 table)
+
+  next-value : (full : Bool) (before : Table) (v : Json) (e : Entry) → nat_le 64 (length before) ≡ full
+      → ◌≡◌ {A = Result Entry EntryFault} (if full then Err too_many_managers else value_entry readings body version before v) (Ok e)
+      → IsTable body before → IsTable body (before ++ e ∷ [])
+  next-value true before v e room one table = cc
+  next-value false before (object ms) e room one table = next-members before ms e room one table
+  next-value false before (list vs) e room one table = cc
+  next-value false before (scalar s) e room one table = cc
+
+  -- the table that the items lead to
+  pub given_table : (vs : Items) (before table : Table) → IsTable body before → table_behind readings body version before vs ≡ Ok table → IsTable body table
+  given_table no_items before table h is = subst (IsTable body) (same-table before table is) h
+  given_table (item v vs) before table h is =
+      elim (next_entry readings body version before v) as (λ r. next_entry readings body version before v ≡ r → ◌≡◌ {A = Result Table EntryFault} (elim r [ Ok e ↦ table_behind readings body version (before ++ e ∷ []) vs | Err f ↦ Err f ]) (Ok table) → IsTable body table) [
+        | Err f ↦ λ _ none. absurd (by f none)
+        | Ok e ↦ λ one rest. given_table vs (before ++ e ∷ []) table (next-value (nat_le 64 (length before)) before v e refl one h) rest
+      ] refl is
+    where
+      by : (f : EntryFault) → ◌≡◌ {A = Result Table EntryFault} (Err f) (Ok table) → ⊥
+      by f none = cc
