@@ -8,7 +8,6 @@ pub mod fault;
 pub mod identity;
 #[cfg(test)]
 mod long_tests;
-pub mod names;
 pub mod object;
 #[cfg(test)]
 mod object_file_tests;
