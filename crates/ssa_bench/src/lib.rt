@@ -10,7 +10,6 @@ pub mod identity;
 mod long_tests;
 #[cfg(test)]
 mod look_tests;
-pub mod names;
 pub mod object;
 #[cfg(test)]
 mod object_file_tests;

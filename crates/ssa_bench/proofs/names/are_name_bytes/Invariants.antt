@@ -1,7 +1,0 @@
-use Rattle.std.proofs.Common.{◌≡◌, take, true}
-use Rattle.std.specs.List.{list_all}
-use Rattle.ssa_model.specs.History.{is_name_byte}
-use Rattle.ssa_bench.proofs.names.are_name_bytes.Given as goal
-
-abbrev pub invariant-loop-byte : goal.invariant-loop-byte
-invariant-loop-byte l = list_all is_name_byte (take l.byte-index l.bytes) ≡ true
