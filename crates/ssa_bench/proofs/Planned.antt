@@ -78,13 +78,13 @@ module _ (bench : Bench) (who : Text) (v : Json) (go : Body → Answer) where
 
 module _ (bench : Bench) (word : Text) (label : Label) where
   -- a plan that is kept to is the answer
-  planned : (plan : Plan) (p : Prepared) (after : State) → p.step.label ≡ label → p.step.state ≡ plan.target → changed_view p.changed ≡ changed_by plan → IsPlan (present bench.timeline) plan after → IsValidState bench.kind (state_view plan.target)
+  planned : (plan : Plan) (p : Prepared) (after : State) → p.step.label ≡ label → p.step.state ≡ plan.target → changed_view p.changed ≡ changed_by plan → IsPlan (present bench.timeline) plan after → IsValidState bench.schema.1 (state_view plan.target)
       → IsAccepted bench p (accept bench word (label_view label) after) word
   planned plan p after l s c is valid =
       let target : state_view p.step.state ≡ after = ap state_view s ∙ is.target_is in
       let compared : comparison (present bench.timeline) after ≡ changed_by plan =
       λ i. record { added = sym is.comparison_is.added_are i; modified = sym is.comparison_is.modified_are i; removed = sym is.comparison_is.removed_are i; managers = length (sym is.target_is i).table } in
-      let is_valid : states.State → Type 0 = λ t. IsValidState bench.kind (state_view t) in
+      let is_valid : states.State → Type 0 = λ t. IsValidState bench.schema.1 (state_view t) in
       record {
         reply = ap (model.changed word) (compared ∙ sym c);
         next = λ i. with_timeline bench (appended bench.timeline (label_view (sym l i)) (sym target i));
@@ -92,7 +92,7 @@ module _ (bench : Bench) (word : Text) (label : Label) where
       }
 
   pub accepted : (plan : Plan) (p : Prepared) (given : Result State Refusal) → p.step.label ≡ label → p.step.state ≡ plan.target → changed_view p.changed ≡ changed_by plan
-      → IsPlanned (present bench.timeline) (Ok plan) given → IsValidState bench.kind (state_view plan.target) → IsAccepted bench p (accept_or_refuse bench word (label_view label) given) word
+      → IsPlanned (present bench.timeline) (Ok plan) given → IsValidState bench.schema.1 (state_view plan.target) → IsAccepted bench p (accept_or_refuse bench word (label_view label) given) word
   accepted plan p given l s c is valid =
       let tells : Answer → Type 0 = λ a. IsAccepted bench p a word in
       subst tells (ap (accept_or_refuse bench word (label_view label)) (sym is.1)) (planned plan p is.0 l s c is.2 valid)
@@ -120,7 +120,7 @@ not_full : (most n : ℕ) → n < most → nat_le most n ≡ false
 not_full most n h = grind (arith, nat_tests)
 
 pub stripped-accepted : (bench : Bench) (plan : Plan) (p : Prepared) (past : ℕ) → past ≡ past_len bench.timeline → past < 1000 → p.step.label ≡ Strip → p.step.state ≡ plan.target → changed_view p.changed ≡ changed_by plan
-    → IsPlan (present bench.timeline) plan (strip (present bench.timeline)) → IsValidState bench.kind (state_view plan.target)
+    → IsPlan (present bench.timeline) plan (strip (present bench.timeline)) → IsValidState bench.schema.1 (state_view plan.target)
     → IsAccepted bench p (if nat_le 1000 (past_len bench.timeline) then (fault history_full, bench) else accept bench (codes "strip") history.stripped (strip (present bench.timeline))) (codes "strip")
 stripped-accepted bench plan p past count few l s c is valid =
     let answer = accept bench (codes "strip") history.stripped (strip (present bench.timeline)) in

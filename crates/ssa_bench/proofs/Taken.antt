@@ -3,7 +3,7 @@ use Rattle.std.proofs.Common.{ℕ, ◌<◌, ◌≤◌, nat_lt, arith, List, [], 
 use Rattle.std.proofs.lemmas.Bool.Decides.{nat_tests}
 use Rattle.std.specs.Prelude.{if◌then◌else◌, Ok, Err, Result, is_some, unwrap_or, option_map}
 use Rattle.ssa_model.specs.Json.{Json, scalar, list, object, is_object}
-use Rattle.ssa_model.specs.History.{Bench}
+use Rattle.ssa_model.specs.History.{Schema, Bench}
 use Rattle.ssa_model.specs.Body as bodies
 use Rattle.ssa_model.specs.Kind as kinds
 use Rattle.ssa_model.specs.Kind.{Kind, faults, wrong_type}
@@ -91,7 +91,7 @@ body_or_fault-first kind v f h = first-told kind v f (faults kind v []) h
 -- ---- a command's object
 
 abbrev tested : Bench → Json → Bool → Bool → Result bodies.Body model.Fault
-tested bench v identity managed = if not identity then Err identity_fault else (if managed then Err managed_fields_given else body_or_fault bench.kind (body_value_of v))
+tested bench v identity managed = if not identity then Err identity_fault else (if managed then Err managed_fields_given else body_or_fault bench.schema.1 (body_value_of v))
 
 -- the tests in their order, once the value is an object
 pub command_body-tested : (bench : Bench) (v : Json) → is_object v ≡ true → command_body bench v ≡ tested bench v (has_identity bench v) (gives_managed_fields v)
@@ -99,7 +99,7 @@ command_body-tested bench (object ms) h = refl
 command_body-tested bench (list vs) h = absurd (true≢false (sym h))
 command_body-tested bench (scalar s) h = absurd (true≢false (sym h))
 
-pub command_body-taken : (bench : Bench) (v : Json) → is_object v ≡ true → has_identity bench v ≡ true → gives_managed_fields v ≡ false → command_body bench v ≡ body_or_fault bench.kind (body_value_of v)
+pub command_body-taken : (bench : Bench) (v : Json) → is_object v ≡ true → has_identity bench v ≡ true → gives_managed_fields v ≡ false → command_body bench v ≡ body_or_fault bench.schema.1 (body_value_of v)
 command_body-taken bench v o i m = command_body-tested bench v o ∙ (λ k. tested bench v (i k) (m k))
 
 pub regrouped : (a b c : Bool) → (a && b) ≡ true → c ≡ true → (a && (b && c)) ≡ true
@@ -127,18 +127,18 @@ pub file_state-body : (kind : Kind) (v : Json) (body : bodies.Body) (r : Result 
     → file_state_of kind v ≡ and_body body r
 file_state-body kind v body r e h = ap (and_table v) e ∙ with_table-or_fault body (given_table readings body v) ∙ ap (and_body body) h
 
-abbrev made : Kind → Json → Bool → Result State model.Fault → Result Bench model.Fault
-made kind v identity r = if not identity then Err identity_fault else with_lone_state kind (identity_of v) r
+abbrev made : Schema → Json → Bool → Result State model.Fault → Result Bench model.Fault
+made schema v identity r = if not identity then Err identity_fault else with_lone_state schema (identity_of v) r
 
-bench_of-tested : (kind : Kind) (v : Json) → is_object v ≡ true → bench_of readings kind v ≡ made kind v (names_itself v) (file_state_of kind v)
-bench_of-tested kind (object ms) h = refl
-bench_of-tested kind (list vs) h = absurd (true≢false (sym h))
-bench_of-tested kind (scalar s) h = absurd (true≢false (sym h))
+bench_of-tested : (schema : Schema) (v : Json) → is_object v ≡ true → bench_of readings schema v ≡ made schema v (names_itself v) (file_state_of schema.1 v)
+bench_of-tested schema (object ms) h = refl
+bench_of-tested schema (list vs) h = absurd (true≢false (sym h))
+bench_of-tested schema (scalar s) h = absurd (true≢false (sym h))
 
-pub bench_of-no_object : (kind : Kind) (v : Json) → is_object v ≡ false → bench_of readings kind v ≡ Err (body_fault wrong_type [])
-bench_of-no_object kind (object ms) h = absurd (true≢false h)
-bench_of-no_object kind (list vs) h = refl
-bench_of-no_object kind (scalar s) h = refl
+pub bench_of-no_object : (schema : Schema) (v : Json) → is_object v ≡ false → bench_of readings schema v ≡ Err (body_fault wrong_type [])
+bench_of-no_object schema (object ms) h = absurd (true≢false h)
+bench_of-no_object schema (list vs) h = refl
+bench_of-no_object schema (scalar s) h = refl
 
 abbrev shown_identity : Json → Bool → Option (List (Option Json))
 shown_identity v b = if b then Some (identity_of v) else None
@@ -155,11 +155,11 @@ unnamed v false h = refl
 pub identity-found : (v : Json) (i : List (Option Json)) → ◌≡◌ {A = Option (List (Option Json))} (Some i) (identity_in v) → i ≡ identity_of v
 identity-found v i h = (named v (names_itself v) i h).1
 
-pub bench_of-nameless : (kind : Kind) (v : Json) → is_object v ≡ true → ◌≡◌ {A = Option (List (Option Json))} None (identity_in v) → bench_of readings kind v ≡ Err identity_fault
-bench_of-nameless kind v o h = bench_of-tested kind v o ∙ ap (λ b. made kind v b (file_state_of kind v)) (unnamed v (names_itself v) h)
+pub bench_of-nameless : (schema : Schema) (v : Json) → is_object v ≡ true → ◌≡◌ {A = Option (List (Option Json))} None (identity_in v) → bench_of readings schema v ≡ Err identity_fault
+bench_of-nameless schema v o h = bench_of-tested schema v o ∙ ap (λ b. made schema v b (file_state_of schema.1 v)) (unnamed v (names_itself v) h)
 
-pub bench_of-state : (kind : Kind) (v : Json) (i : List (Option Json)) (r : Result State model.Fault) → is_object v ≡ true → ◌≡◌ {A = Option (List (Option Json))} (Some i) (identity_in v)
-    → file_state_of kind v ≡ r → bench_of readings kind v ≡ with_lone_state kind i r
-bench_of-state kind v i r o h e =
+pub bench_of-state : (schema : Schema) (v : Json) (i : List (Option Json)) (r : Result State model.Fault) → is_object v ≡ true → ◌≡◌ {A = Option (List (Option Json))} (Some i) (identity_in v)
+    → file_state_of schema.1 v ≡ r → bench_of readings schema v ≡ with_lone_state schema i r
+bench_of-state schema v i r o h e =
     let found = named v (names_itself v) i h in
-    bench_of-tested kind v o ∙ (λ k. made kind v (found.0 k) (e k)) ∙ (λ k. with_lone_state kind (sym found.1 k) r)
+    bench_of-tested schema v o ∙ (λ k. made schema v (found.0 k) (e k)) ∙ (λ k. with_lone_state schema (sym found.1 k) r)

@@ -4,7 +4,7 @@ use Rattle.ssa_bench.specs.ValidTimelines.{AllValid}
 use Rattle.ssa_bench.specs.declared.bench.Bench.TheInside.{Inside}
 
 abbrev pub bench_view : Inside → model.Bench
-bench_view b = record { kind = b.schema.1; identity = b.identity; timeline = b.timeline }
+bench_view b = record { schema = b.schema; identity = b.identity; timeline = b.timeline }
 
 -- each state is valid
 abbrev pub IsValid : Inside → Type 0

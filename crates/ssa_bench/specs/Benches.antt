@@ -33,8 +33,8 @@ abbrev pub IsMade : Result model.Bench Fault → Result model.Bench answers.Faul
 IsMade = IsGiven
 
 -- the bench of one state
-abbrev pub lone_bench : Kind → List (Option Json) → operations.State → model.Bench
-lone_bench kind identity state = record { kind = kind; identity = identity; timeline = answers.lone_state state }
+abbrev pub lone_bench : model.Schema → List (Option Json) → operations.State → model.Bench
+lone_bench schema identity state = record { schema = schema; identity = identity; timeline = answers.lone_state state }
 
 -- the table, or its fault as one of the bench
 abbrev pub table_or_fault : Result Table EntryFault → Result Table answers.Fault
@@ -55,7 +55,7 @@ IsGivenState (Err f) given = IsGiven {A = operations.State} (Err f) given
 
 -- the new state is valid
 abbrev pub CanCommit : model.Bench → Prepared → Type 0
-CanCommit bench p = IsValidState bench.kind (state_view p.step.state)
+CanCommit bench p = IsValidState bench.schema.1 (state_view p.step.state)
 
 -- the bench with the prepared state behind its present one
 abbrev pub next_bench : model.Bench → Prepared → model.Bench

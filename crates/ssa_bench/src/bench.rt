@@ -122,7 +122,7 @@ impl Bench {
     // The bench of one state.
     fn with_lone_state(alloc: Global, schema: Schema, identity: Identity, first: State) -> Bench
         requires { IsValidState schema.1 (state_view first) }
-        ensures { result ≡ lone_bench schema.1 identity (state_view first) }
+        ensures { result ≡ lone_bench schema identity (state_view first) }
     {
         Bench {
             schema,
@@ -139,7 +139,7 @@ impl Bench {
     /// `Identity`, the fault of the schema, `TooManyPaths`, and then `Entry`, the first fault of the
     /// entries as `Managers::from_entries` tells it.
     pub fn new(alloc: Global, schema: Schema, object: Json) -> Result<Bench, Fault>
-        ensures { IsMade result (bench_of readings schema.1 (view object)) }
+        ensures { IsMade result (bench_of readings schema (view object)) }
     {
         if !object.is_object() {
             return Err(Fault::Body(BodyFault::WrongType(Vec::new(alloc))));
@@ -156,7 +156,7 @@ impl Bench {
     // The body of a command's object, or its first fault.
     fn command_body(&self, alloc: Global, object: &Json) -> Result<Body, Fault>
         ensures given { IsGiven result (command_body self.now (view object.now)) }
-        ensures valid { IfOk result (λ b. IsValidBody self.now.kind b) }
+        ensures valid { IfOk result (λ b. IsValidBody self.now.schema.1 b) }
     {
         if !object.is_object() {
             return Err(Fault::Body(BodyFault::WrongType(Vec::new(alloc))));
@@ -174,7 +174,7 @@ impl Bench {
     // The body of an Apply's or an Update's object, or the first fault of the command.
     fn tested_body(&self, alloc: Global, who: &str, object: &Json) -> Result<Body, Fault>
         ensures given { IsGiven result (tested_body self.now who.now (view object.now)) }
-        ensures valid { IfOk result (λ b. IsValidBody self.now.kind b) }
+        ensures valid { IfOk result (λ b. IsValidBody self.now.schema.1 b) }
         ensures named { IfOk result (λ b. is_manager_name who.now ≡ true) }
     {
         if self.timeline.past_len() >= MOST_PAST {
@@ -195,7 +195,7 @@ impl Bench {
         at: Moment,
         config: Body,
     ) -> Result<Prepared, Fault>
-        requires valid { IsValidBody self.now.kind config }
+        requires valid { IsValidBody self.now.schema.1 config }
         requires named { is_manager_name (string_bytes who) ≡ true }
         ensures { IsPrepared self.now result (apply_answer self.now (string_bytes who) force at config) (codes "apply") }
     {
@@ -231,7 +231,7 @@ impl Bench {
         at: Moment,
         body: Body,
     ) -> Result<Prepared, Fault>
-        requires valid { IsValidBody self.now.kind body }
+        requires valid { IsValidBody self.now.schema.1 body }
         requires named { is_manager_name (string_bytes who) ≡ true }
         ensures { IsPrepared self.now result (update_answer self.now (string_bytes who) at body) (codes "update") }
     {
@@ -348,7 +348,7 @@ impl Bench {
     /// Each state of the history is valid: its body is one of the schema's kind, and its table is one
     /// of the body.
     pub fn states_are_valid(&self)
-        ensures { AllValid self.now.kind self.now.timeline }
+        ensures { AllValid self.now.schema.1 self.now.timeline }
     {
         let _ = &self.timeline;
     }
@@ -372,7 +372,7 @@ impl Bench {
     /// The object of the present state; with `managed`, its metadata has the managers' entries as
     /// `managedFields`, where there are some.
     pub fn show(&self, alloc: Global, managed: bool) -> Result<Json, AllocError>
-        ensures { IfOk result (λ v. view v ≡ object_of_state self.now.identity self.now.kind managed (present self.now.timeline)) }
+        ensures { IfOk result (λ v. view v ≡ object_of_state self.now.identity self.now.schema.1 managed (present self.now.timeline)) }
     {
         let now = self.timeline.present();
         object_of_state(alloc, &self.identity, &self.schema, managed, now)

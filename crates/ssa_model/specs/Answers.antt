@@ -13,7 +13,7 @@ use Rattle.ssa_model.specs.Readings.{Readings}
 use Rattle.ssa_model.specs.Commands.{text_in}
 use Rattle.ssa_model.specs.Entries.{object_of_state}
 use Rattle.ssa_model.specs.GivenEntries.{EntryFault, table_of}
-use Rattle.ssa_model.specs.History.{Label, applied, updated, stripped, Timeline, Bench, present, past_len, future_len, appended, moved_to, with_timeline, is_manager_name}
+use Rattle.ssa_model.specs.History.{Label, applied, updated, stripped, Timeline, Schema, Bench, present, past_len, future_len, appended, moved_to, with_timeline, is_manager_name}
 
 pub data Fault : Type 0 where
   body_fault : BodyFault → Path → Fault
@@ -49,7 +49,7 @@ abbrev pub command_body : Bench → Json → Result Body Fault
 command_body bench (object ms) =
     if not (has_identity bench (object ms)) then Err identity_fault
     else (if gives_managed_fields (object ms) then Err managed_fields_given
-    else body_or_fault bench.kind (body_value ms))
+    else body_or_fault bench.schema.1 (body_value ms))
 command_body bench (list vs) = Err (body_fault wrong_type [])
 command_body bench (scalar s) = Err (body_fault wrong_type [])
 
@@ -62,9 +62,9 @@ lone_state state = record { first = state; later = []; place = 0 }
 abbrev pub names_itself : Json → Bool
 names_itself v = is_some_object (value_at (codes "metadata" ∷ []) v) && is_identity (identity_of v)
 
-abbrev pub with_lone_state : Kind → List (Option Json) → Result State Fault → Result Bench Fault
-with_lone_state kind identity (Ok state) = Ok (record { kind = kind; identity = identity; timeline = lone_state state })
-with_lone_state kind identity (Err f) = Err f
+abbrev pub with_lone_state : Schema → List (Option Json) → Result State Fault → Result Bench Fault
+with_lone_state schema identity (Ok state) = Ok (record { schema = schema; identity = identity; timeline = lone_state state })
+with_lone_state schema identity (Err f) = Err f
 
 abbrev pub with_table : Body → Result Table EntryFault → Result State Fault
 with_table body (Ok table) = Ok (record { body = body; table = table })
@@ -84,12 +84,12 @@ module _ (readings : Readings) where
   file_state kind ms = elim (body_or_fault kind (file_value ms)) [ Ok body ↦ with_table body (given_table body (object ms)) | Err f ↦ Err f ]
 
   -- the bench of an object file, or the file's first fault
-  abbrev pub bench_of : Kind → Json → Result Bench Fault
-  bench_of kind (object ms) =
+  abbrev pub bench_of : Schema → Json → Result Bench Fault
+  bench_of schema (object ms) =
       if not (names_itself (object ms)) then Err identity_fault
-      else with_lone_state kind (identity_of (object ms)) (file_state kind ms)
-  bench_of kind (list vs) = Err (body_fault wrong_type [])
-  bench_of kind (scalar s) = Err (body_fault wrong_type [])
+      else with_lone_state schema (identity_of (object ms)) (file_state schema.1 ms)
+  bench_of schema (list vs) = Err (body_fault wrong_type [])
+  bench_of schema (scalar s) = Err (body_fault wrong_type [])
 
 -- ---- commands on a bench
 
@@ -166,7 +166,7 @@ answer bench undo =
 answer bench redo =
     if future_len bench.timeline == 0 then (fault nothing_to_redo, bench)
     else (moved (codes "redo") (past_len bench.timeline + 1) (future_len bench.timeline - 1), with_timeline bench (moved_to bench.timeline (bench.timeline.place + 1)))
-answer bench (show managed) = (shown (object_of_state bench.identity bench.kind managed (present bench.timeline)), bench)
+answer bench (show managed) = (shown (object_of_state bench.identity bench.schema.1 managed (present bench.timeline)), bench)
 answer bench (owners p) = (owned_by (owners_of (present bench.timeline).table p), bench)
 answer bench log = (logged (take bench.timeline.place (labels_of bench)) (drop bench.timeline.place (labels_of bench)), bench)
 

@@ -7,7 +7,7 @@ use base.Stored.{Gv, gnil, gnum, gcons}
 use Rattle.ssa_model.specs.Json.{Text, Json}
 use Rattle.ssa_model.specs.Kind.{ScalarKind, texts, wholes, truths, Shape, scalar_shape, record_shape, dict_shape, list_shape, ShapeFields, no_shape_fields, shape_field, Kind, scalar_kind, atomic_of, record_of, dict_of, set_of, items_of, Fields, no_fields, kind_field}
 use Rattle.ssa_model.specs.Operations.{State}
-use Rattle.ssa_model.specs.History.{Label, applied, updated, stripped, Step, Timeline, Bench}
+use Rattle.ssa_model.specs.History.{Label, applied, updated, stripped, Step, Timeline, Schema, Bench}
 use Rattle.ssa_model.specs.Codes.{coded_text, coded_json, coded_state, first_part, second_part}
 
 abbrev pub scalar_kind_bits : ScalarKind → Bool × Bool
@@ -170,4 +170,4 @@ coded_identity = coded_list (coded_option coded_json)
 
 abbrev pub coded_bench : Coded Bench
 coded_bench =
-    code_by (Kind × (List (Option Json) × Timeline)) (coded× coded_kind (coded× coded_identity coded_timeline)) (λ b. (b.kind, (b.identity, b.timeline))) (λ p. record { kind = p.0; identity = p.1.0; timeline = p.1.1 }) (λ _. refl)
+    code_by (Schema × (List (Option Json) × Timeline)) (coded× (coded× coded_json coded_kind) (coded× coded_identity coded_timeline)) (λ b. (b.schema, (b.identity, b.timeline))) (λ p. record { schema = p.0; identity = p.1.0; timeline = p.1.1 }) (λ _. refl)

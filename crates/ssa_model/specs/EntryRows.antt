@@ -8,7 +8,7 @@ use Rattle.ssa_model.specs.ElementTexts.{bad_element, index_element}
 use Rattle.ssa_model.specs.GivenEntries.{bad_entry, manager_name, other_version, bad_moment, of_fields, empty_entry, absent_path, duplicate_manager}
 use Rattle.ssa_model.specs.History.{Bench, present}
 use Rattle.ssa_model.specs.Answers.{Fault, body_fault, managed_fields_given, entry_fault, command_body, bench_of}
-use Rattle.ssa_model.specs.Sample.{sample_kind, string_json, number_json}
+use Rattle.ssa_model.specs.Sample.{sample_schema, string_json, number_json}
 use Rattle.ssa_model.specs.Rows.{sample_object, new_bench, shown_table, m1, m2, replicas_texts, image_texts}
 
 -- `t1` is the one moment, and no text is JSON
@@ -55,7 +55,7 @@ table_in (Err f) = Err f
 
 -- the managers of such an object file, or its fault
 abbrev pub given : List Json → Result (List (Text × List (List Text) × Text)) Fault
-given entries = table_in (bench_of row_readings sample_kind (file_with entries))
+given entries = table_in (bench_of row_readings sample_schema (file_with entries))
 
 abbrev pub EntriesAreTaken : Type 0
 EntriesAreTaken =
@@ -87,7 +87,7 @@ BadSetsAreTold =
 -- a wrong body is told before a wrong entry
 abbrev pub BodyIsTestedFirst : Type 0
 BodyIsTestedFirst =
-    table_in (bench_of row_readings sample_kind (file_of (member (codes "size") (number_json 3) no_members) (object no_members ∷ [])))
+    table_in (bench_of row_readings sample_schema (file_of (member (codes "size") (number_json 3) no_members) (object no_members ∷ [])))
     ≡ Err (body_fault unknown_field (field (codes "spec") ∷ field (codes "size") ∷ []))
 
 abbrev pub with_uid : Json
@@ -96,6 +96,6 @@ with_uid = sample_object (member (codes "uid") (string_json (codes "7")) no_memb
 -- what a server keeps in metadata is dropped from an object file, and an unknown field of a command's object
 abbrev pub ServerMembersAreDropped : Type 0
 ServerMembersAreDropped =
-    (table_in (bench_of row_readings sample_kind with_uid) ≡ Ok [])
+    (table_in (bench_of row_readings sample_schema with_uid) ≡ Ok [])
     × (command_body new_bench with_uid ≡ Err (body_fault unknown_field (field (codes "metadata") ∷ field (codes "uid") ∷ [])))
     × (command_body new_bench (file_with []) ≡ Err managed_fields_given)

@@ -1,5 +1,5 @@
 -- More worked examples: sets, maps and atomic values, repeats, strip, and one name under two operations.
-use Rattle.std.specs.Prelude.{◌≡◌, List, [], ◌∷◌, ◌++◌, codes, false}
+use Rattle.std.specs.Prelude.{◌≡◌, List, [], ◌∷◌, ◌++◌, codes, false, Ok}
 use Rattle.ssa_model.specs.Json.{Text, Json, list, object, Items, no_items, item, Members, no_members, member}
 use Rattle.ssa_model.specs.Path.{field}
 use Rattle.ssa_model.specs.PathMap.{get}
@@ -8,7 +8,8 @@ use Rattle.ssa_model.specs.Entries.{fields_json}
 use Rattle.ssa_model.specs.PathMap.{listed}
 use Rattle.ssa_model.specs.Answers as answers
 use Rattle.ssa_model.specs.Answers.{Command, apply, update, strip, undo, redo}
-use Rattle.ssa_model.specs.Sample.{string_json, number_json, replicas_path}
+use Rattle.ssa_model.specs.Schema.{read_schema, whole_profile}
+use Rattle.ssa_model.specs.Sample.{sample_schema, string_json, number_json, replicas_path}
 use Rattle.ssa_model.specs.Rows.{object_with, bare_object, with_replicas, with_image, new_bench, replies, table_after, order_of, done, at, clash, m1, m2, replicas_texts, image_texts, written}
 
 abbrev pub texts_json : List Text → Items
@@ -109,3 +110,7 @@ TwoOperationsOfOneName =
 -- the writing of a set as FieldsV1
 abbrev pub SetIsWritten : Type 0
 SetIsWritten = fields_json (listed ((field (codes "spec") ∷ []) ∷ replicas_path ∷ [])) ≡ written
+
+-- the sample schema is read as the sample's kind
+abbrev pub SampleIsRead : Type 0
+SampleIsRead = read_schema whole_profile sample_schema.0 ≡ Ok sample_schema.1

@@ -13,14 +13,14 @@ use Rattle.ssa_bench.proofs.bench.Bench.new.Goals as goal
 pub returns-then-not-is_object : goal.returns-then-not-is_object
 returns-then-not-is_object c = (
   body_fault wrong_type [],
-  bench_of-no_object c.args.schema.1 (view c.args.object) (sym c.is_object.ensures ∙ c.if-not-is_object.true),
+  bench_of-no_object c.args.schema (view c.args.object) (sym c.is_object.ensures ∙ c.if-not-is_object.true),
   ((wrong_type, []), refl, (λ i. (wrong_type, map string_bytes (c.new.ensures.items i)))),
 )
 
 pub returns-in_default : goal.returns-in_default
 returns-in_default c =
     let none : ◌≡◌ {A = Option (List (Option Json))} None (identity_in (view c.args.object)) = sym c.in_default.is ∙ c.in_ok-identity.ensures in
-    (identity_fault, bench_of-nameless c.args.schema.1 (view c.args.object) (sym c.is_object.ensures ∙ c.if-not-is_object.false) none, refl)
+    (identity_fault, bench_of-nameless c.args.schema (view c.args.object) (sym c.is_object.ensures ∙ c.if-not-is_object.false) none, refl)
 
 pub file_state-requires : goal.file_state-requires
 file_state-requires c =
@@ -30,13 +30,13 @@ file_state-requires c =
 pub returns-in-Ok : goal.returns-in-Ok
 returns-in-Ok c =
     let some : ◌≡◌ {A = Option (List (Option Json))} (Some c.in-Some.identity) (identity_in (view c.args.object)) = sym c.in-Some.is ∙ c.in_ok-identity.ensures in
-    bench_of-state c.args.schema.1 (view c.args.object) c.in-Some.identity (Ok (state_view c.in-Ok.state)) (sym c.is_object.ensures ∙ c.if-not-is_object.false) some c.in-Ok.ensures.given
+    bench_of-state c.args.schema (view c.args.object) c.in-Some.identity (Ok (state_view c.in-Ok.state)) (sym c.is_object.ensures ∙ c.if-not-is_object.false) some c.in-Ok.ensures.given
     ∙ ap Ok (sym c.with_lone_state.ensures)
 
 pub returns-in-Err : goal.returns-in-Err
 returns-in-Err c =
-    let kind = c.args.schema.1 in
+    let schema = c.args.schema in
     let v = view c.args.object in
     let some : ◌≡◌ {A = Option (List (Option Json))} (Some c.in-Some.identity) (identity_in v) = sym c.in-Some.is ∙ c.in_ok-identity.ensures in
-    passed-on c.in-Err.fault (file_state_of kind v) _
-    (λ g e. bench_of-state kind v c.in-Some.identity (Err g) (sym c.is_object.ensures ∙ c.if-not-is_object.false) some e) c.in-Err.ensures.given
+    passed-on c.in-Err.fault (file_state_of schema.1 v) _
+    (λ g e. bench_of-state schema v c.in-Some.identity (Err g) (sym c.is_object.ensures ∙ c.if-not-is_object.false) some e) c.in-Err.ensures.given

@@ -19,7 +19,7 @@ use Rattle.ssa_bench.proofs.bench.Bench.prepare_configuration.Goals as goal
 pub plan_apply-requires : goal.plan_apply-requires
 plan_apply-requires c =
     let b = c.self.inside in
-    let valid : model.Bench → Type 0 = λ n. IsValidBody n.kind c.args.config in
+    let valid : model.Bench → Type 0 = λ n. IsValidBody n.schema.1 c.args.config in
     let live = subst (IsValidState b.schema.1) (sym c.present-now.ensures) (present_valid b.schema.1 b.timeline c.self.invariant) in
     let config = subst valid (sym c.self.view_is) c.requires.valid in
     bodies_alike b.schema.1 c.present-now.result.now.body c.args.config live.fits config.fits
@@ -30,8 +30,8 @@ returns-in-Ok c =
     let bench = c.args.self.now in
     let who = string_bytes c.args.who in
     let to : State → Text → Result State Refusal = λ s n. apply s (applier n) c.args.config c.args.force c.args.at in
-    let valid : model.Bench → Type 0 = λ n. IsValidBody n.kind c.args.config in
-    let made : model.Bench → Type 0 = λ n. IsValidState n.kind (state_view c.in-Ok.plan.target) in
+    let valid : model.Bench → Type 0 = λ n. IsValidBody n.schema.1 c.args.config in
+    let made : model.Bench → Type 0 = λ n. IsValidState n.schema.1 (state_view c.in-Ok.plan.target) in
     let live = subst (IsValidState b.schema.1) (sym c.present-now.ensures) (present_valid b.schema.1 b.timeline c.self.invariant) in
     let config = subst valid (sym c.self.view_is) c.requires.valid in
     let named = ap is_manager_name c.as_str.ensures.value ∙ c.requires.named in
