@@ -1,17 +1,17 @@
 -- The table that managers' entries say is one of the body.
-use Rattle.std.proofs.Common.{◌≡◌, ℕ, ◌+◌, ◌≤◌, List, [], ◌∷◌, ◌++◌, Bool, true, false, not, ◌&&◌, length, filter, refl, sym, ap, subst, ◌∙◌, arith, length-append}
+use Rattle.std.proofs.Common.{◌≡◌, ◌≤◌, List, [], ◌∷◌, ◌++◌, Bool, true, false, not, ◌&&◌, length, filter, refl, sym, ap, subst, ◌∙◌, arith, length-append}
 use Rattle.std.proofs.lemmas.Bool.Decides.{nat_tests}
 use Rattle.std.specs.Prelude.{Option, Some, None, Result, Ok, Err, nat_le, if◌then◌else◌}
 use Rattle.ssa_model.specs.Json.{Text, Json, scalar, list, object, Items, no_items, item, Members}
 use Rattle.ssa_model.specs.Path.{Path}
-use Rattle.ssa_model.specs.PathMap.{has, is_empty, paths}
+use Rattle.ssa_model.specs.PathMap.{is_empty, paths}
 use Rattle.ssa_model.specs.Body.{Body, is_ownable}
 use Rattle.ssa_model.specs.Table.{Entry, Table, is_in_table}
 use Rattle.ssa_model.specs.Readings.{Readings}
 use Rattle.ssa_model.specs.ElementTexts.{ElementFault}
 use Rattle.ssa_model.specs.GivenEntries.{EntryFault, too_many_managers, bad_entry, manager_name, other_version, bad_moment, of_fields, empty_entry, absent_path, duplicate_manager, is_entry, not_ownable, said_entry, owned_fault, entry_fault, value_entry, next_entry, table_behind}
 use Rattle.ssa_model.specs.History.{is_manager_name}
-use Rattle.ssa_model.specs.Valid.{has_distinct_keys, OwnedOwnable, OwnsOwnable, AllEntries, IsTable}
+use Rattle.ssa_model.specs.Valid.{OwnsOwnable, IsTable}
 use Rattle.ssa_model.proofs.Lists.{is_one_of-filter}
 use Rattle.ssa_model.proofs.PathMaps.{has-paths, is_one_of}
 use Rattle.ssa_model.proofs.Tables.{distinct-push, all-push}
