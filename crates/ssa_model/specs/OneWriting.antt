@@ -1,4 +1,4 @@
--- Each set has one writing as FieldsV1.
+-- A set has at most one writing as FieldsV1 in which names rise.
 use Rattle.std.specs.Prelude.{◌≡◌, ◌≢◌, [], ◌∷◌, true, false, codes}
 use Rattle.ssa_model.specs.Json.{Text, Json, object, no_members, member}
 use Rattle.ssa_model.specs.Path.{field, Path}
