@@ -7,7 +7,7 @@ use Rattle.std.specs.List.Sorted.{IsStrictlySortedBy}
 use Rattle.std.specs.Map.{keys_of}
 use Rattle.std.specs.Str.{is_utf8}
 use Rattle.ssa_json.specs.View.{view, items_view, members_view}
-use Rattle.ssa_json.specs.Writable.{has_utf8, items_have_utf8, members_have_utf8, is_below, has_rising, items_have_rising, members_rise}
+use Rattle.ssa_json.specs.Writable.{has_utf8, items_have_utf8, members_have_utf8, is_below, has_rising_names, items_have_rising_names, members_rise}
 use Rattle.ssa_json.specs.declared.value.Json.{Json}
 use Rattle.ssa_json.proofs.Converting.{Found}
 
@@ -31,11 +31,11 @@ members_have_utf8-push (w ∷ ms) m before here =
 
 -- ---- names
 
-pub items_have_rising-push : (vs : List Json) (v : Json) → items_have_rising (items_view vs) ≡ true → has_rising (view v) ≡ true → items_have_rising (items_view (vs ++ v ∷ [])) ≡ true
-items_have_rising-push [] v before here = rw here refl
-items_have_rising-push (w ∷ vs) v before here =
-    let parts = and_parts (has_rising (view w)) (items_have_rising (items_view vs)) before in
-    and_from (has_rising (view w)) _ parts.0 (items_have_rising-push vs v parts.1 here)
+pub items_have_rising_names-push : (vs : List Json) (v : Json) → items_have_rising_names (items_view vs) ≡ true → has_rising_names (view v) ≡ true → items_have_rising_names (items_view (vs ++ v ∷ [])) ≡ true
+items_have_rising_names-push [] v before here = rw here refl
+items_have_rising_names-push (w ∷ vs) v before here =
+    let parts = and_parts (has_rising_names (view w)) (items_have_rising_names (items_view vs)) before in
+    and_from (has_rising_names (view w)) _ parts.0 (items_have_rising_names-push vs v parts.1 here)
 
 below-pushed : (w : Found) (ms : List Found) (m : Found) (more : List Found) → AllByRecursion (λ y. string_cmp w.0 y ≡ Less) (keys_of (ms ++ m ∷ more)) → is_below (string_bytes w.0) (members_view (ms ++ m ∷ [])) ≡ true
 below-pushed w [] m more h = ap is_lt h.0
@@ -43,11 +43,11 @@ below-pushed w (x ∷ ms) m more h = ap is_lt h.0
 
 -- the next member of a map
 pub members_rise-push : (ms : List Found) (m : Found) (more : List Found) → IsStrictlySortedBy string_cmp (keys_of (ms ++ m ∷ more))
-    → members_rise (members_view ms) ≡ true → has_rising (view m.1) ≡ true → members_rise (members_view (ms ++ m ∷ [])) ≡ true
+    → members_rise (members_view ms) ≡ true → has_rising_names (view m.1) ≡ true → members_rise (members_view (ms ++ m ∷ [])) ≡ true
 unfolding IsStrictlySortedBy
 members_rise-push [] m more sorted before here = rw here refl
 members_rise-push (w ∷ ms) m more sorted before here =
     let rise = and_parts (is_below (string_bytes w.0) (members_view ms)) _ before in
-    let parts = and_parts (has_rising (view w.1)) (members_rise (members_view ms)) rise.1 in
+    let parts = and_parts (has_rising_names (view w.1)) (members_rise (members_view ms)) rise.1 in
     and_from (is_below (string_bytes w.0) _) _ (below-pushed w ms m more sorted.0)
-    (and_from (has_rising (view w.1)) _ parts.0 (members_rise-push ms m more sorted.1 parts.1 here))
+    (and_from (has_rising_names (view w.1)) _ parts.0 (members_rise-push ms m more sorted.1 parts.1 here))

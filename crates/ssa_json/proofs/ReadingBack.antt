@@ -22,7 +22,7 @@ use Rattle.ssa_model.specs.Json.{Text, Scalar, text, whole, truth, Items, no_ite
 use Rattle.ssa_model.specs.Json as model
 use Rattle.ssa_json.specs.Reading.{value_of, items_value, members_value, json_reading}
 use Rattle.ssa_json.specs.Written.{scalar_data, data_of, items_data, members_data, is_narrow_whole, is_narrow_scalar, is_narrow, items_narrow, members_narrow}
-use Rattle.ssa_json.specs.Writable.{is_utf8_scalar, has_utf8, items_have_utf8, members_have_utf8, is_below, has_rising, items_have_rising, members_rise, depth, items_depth, members_depth, IsWritable}
+use Rattle.ssa_json.specs.Writable.{is_utf8_scalar, has_utf8, items_have_utf8, members_have_utf8, is_below, has_rising_names, items_have_rising_names, members_rise, depth, items_depth, members_depth, IsWritable}
 use Rattle.ssa_json.proofs.Converting.{json_reading-data}
 use Rattle.ssa_json.proofs.Printing.{quoted-is, whole-is, compact_text-data_of}
 use Rattle.ssa_json.proofs.RisingNames.{followed_by, followed_by-assoc, followed_by-none, put-above, AreBefore, AreBefore-next}
@@ -72,16 +72,16 @@ none-before no_members = tt
 none-before (member k v ms) = tt
 
 mutual
-  of_json-outline : (v : model.Json) → is_narrow v ≡ true → has_rising v ≡ true → of_json (outline (data_of v)) ≡ Some (data_of v)
+  of_json-outline : (v : model.Json) → is_narrow v ≡ true → has_rising_names v ≡ true → of_json (outline (data_of v)) ≡ Some (data_of v)
   of_json-outline (scalar s) narrow rising = scalar-read s narrow
   of_json-outline (list vs) narrow rising = ap (option_map json.array) (of_items-outline vs narrow rising)
   of_json-outline (object ms) narrow rising = ap (option_map json.object) (of_members-outline ms json.no_members narrow rising (none-before ms))
 
-  of_items-outline : (vs : Items) → items_narrow vs ≡ true → items_have_rising vs ≡ true → of_items (items_outline (items_data vs)) ≡ Some (items_data vs)
+  of_items-outline : (vs : Items) → items_narrow vs ≡ true → items_have_rising_names vs ≡ true → of_items (items_outline (items_data vs)) ≡ Some (items_data vs)
   of_items-outline no_items narrow rising = refl
   of_items-outline (item v vs) narrow rising =
       let narrows = and_parts (is_narrow v) (items_narrow vs) narrow in
-      let rise = and_parts (has_rising v) (items_have_rising vs) rising in
+      let rise = and_parts (has_rising_names v) (items_have_rising_names vs) rising in
       rw (of_json-outline v narrows.0 rise.0, of_items-outline vs narrows.1 rise.1) refl
 
   of_members-outline : (ms : Members) (found : json.Members) → members_narrow ms ≡ true → members_rise ms ≡ true → AreBefore found ms
@@ -90,7 +90,7 @@ mutual
   of_members-outline (member k v ms) found narrow rising before =
       let narrows = and_parts (is_narrow v) (members_narrow ms) narrow in
       let rise = and_parts (is_below k ms) _ rising in
-      let rises = and_parts (has_rising v) (members_rise ms) rise.1 in
+      let rises = and_parts (has_rising_names v) (members_rise ms) rise.1 in
       let d = data_of v in
       ap (option_and_then (λ e. of_members (members_outline (members_data ms)) (put k e found))) (of_json-outline v narrows.0 rises.0)
       ∙ ap (of_members (members_outline (members_data ms))) (put-above k d found before)

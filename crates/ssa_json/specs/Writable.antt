@@ -1,10 +1,9 @@
 -- The values whose compact text is read back.
 use Rattle.std.specs.Prelude.{◌≡◌, ◌≤◌, ℕ, suc, max, Bool, true, ◌&&◌, Ok}
 use Rattle.std.specs.Str.{is_utf8}
-use Rattle.std.specs.Ordering.{is_lt, nat_cmp}
-use Rattle.std.specs.Cmp.Lexicographic.{slice_cmp}
 pub use Rattle.serde_json.specs.Read.{max_depth}
-use Rattle.ssa_model.specs.Json.{Text, Scalar, text, whole, truth, Json, scalar, list, object, Items, no_items, item, Members, no_members, member, compact}
+pub use Rattle.ssa_model.specs.RisingNames.{is_below, has_rising_names, items_have_rising_names, members_rise}
+use Rattle.ssa_model.specs.Json.{Scalar, text, whole, truth, Json, scalar, list, object, Items, no_items, item, Members, no_members, member, compact}
 use Rattle.ssa_json.specs.Reading.{json_reading}
 use Rattle.ssa_json.specs.Written.{is_narrow}
 
@@ -28,26 +27,6 @@ abbrev mutual
   members_have_utf8 no_members = true
   members_have_utf8 (member n v ms) = is_utf8 n && (has_utf8 v && members_have_utf8 ms)
 
--- the name is below the first of the members
-abbrev pub is_below : Text → Members → Bool
-is_below n no_members = true
-is_below n (member m v ms) = is_lt (slice_cmp nat_cmp n m)
-
--- the names of each object's members rise by their bytes
-abbrev mutual
-  pub has_rising : Json → Bool
-  has_rising (scalar s) = true
-  has_rising (list vs) = items_have_rising vs
-  has_rising (object ms) = members_rise ms
-
-  pub items_have_rising : Items → Bool
-  items_have_rising no_items = true
-  items_have_rising (item v vs) = has_rising v && items_have_rising vs
-
-  pub members_rise : Members → Bool
-  members_rise no_members = true
-  members_rise (member n v ms) = is_below n ms && (has_rising v && members_rise ms)
-
 -- how deep lists and objects nest
 abbrev mutual
   pub depth : Json → ℕ
@@ -67,7 +46,7 @@ abbrev mutual
 pub record IsOfProgram (v : Json) : Type 0 where
   pub narrow : is_narrow v ≡ true
   pub texts : has_utf8 v ≡ true
-  pub names : has_rising v ≡ true
+  pub names : has_rising_names v ≡ true
 
 -- it is no deeper than the reader goes, too
 pub record IsWritable (v : Json) : Type 0 where

@@ -4,7 +4,7 @@ ghost use Rattle.serde_json.specs.View.{view as data_view, items_view as data_it
 ghost use Rattle.ssa_model.specs.Json.{compact};
 ghost use Rattle.ssa_json.specs.Reading.{json_reading};
 ghost use Rattle.ssa_json.specs.View.{view, items_view, members_view};
-ghost use Rattle.ssa_json.specs.Writable.{CompactIsRead, IsOfProgram, depth, has_rising, has_utf8, items_have_rising, items_have_utf8, max_depth, members_have_utf8, members_rise};
+ghost use Rattle.ssa_json.specs.Writable.{CompactIsRead, IsOfProgram, depth, has_rising_names, has_utf8, items_have_rising_names, items_have_utf8, max_depth, members_have_utf8, members_rise};
 ghost use Rattle.ssa_json.specs.Written.{data_of, items_data, members_data, is_narrow, items_narrow, members_narrow};
 
 use crate::value::{Json, Scalar};
@@ -47,7 +47,7 @@ fn to_value(alloc: Global, value: &Json) -> Result<Value, AllocError>
     ensures data { IfOk result (λ v. data_view v ≡ data_of (view value.now)) }
     ensures narrow { OnOk result (is_narrow (view value.now) ≡ true) }
     ensures texts { OnOk result (has_utf8 (view value.now) ≡ true) }
-    ensures names { OnOk result (has_rising (view value.now) ≡ true) }
+    ensures names { OnOk result (has_rising_names (view value.now) ≡ true) }
 {
     match value {
         Json::Scalar(Scalar::Text(text)) => Ok(Value::String(text.clone()?)),
@@ -63,7 +63,7 @@ fn items_to_values(alloc: Global, items: &Vec<Json>) -> Result<Vec<Value>, Alloc
     ensures data { IfOk result (λ v. data_items v.items ≡ items_data (items_view items.now.items)) }
     ensures narrow { OnOk result (items_narrow (items_view items.now.items) ≡ true) }
     ensures texts { OnOk result (items_have_utf8 (items_view items.now.items) ≡ true) }
-    ensures names { OnOk result (items_have_rising (items_view items.now.items) ≡ true) }
+    ensures names { OnOk result (items_have_rising_names (items_view items.now.items) ≡ true) }
 {
     let mut found = Vec::new(alloc);
     for item in items {

@@ -54,10 +54,10 @@ other-behind e f (p ∷ ps) q other =
 
 -- ---- texts
 
-other-way : (s t : Text) → same_text s t ≡ false → same_text t s ≡ false
+pub other-way : (s t : Text) → same_text s t ≡ false → same_text t s ≡ false
 other-way s t other = apart_by (same_text t s) (λ same. true≢false (sym (text-itself s) ∙ ap (same_text s) (sym (same_text-true t s same)) ∙ other))
 
-no-dot : (e : Element) → same_text (element_text e) (codes ".") ≡ false
+pub no-dot : (e : Element) → same_text (element_text e) (codes ".") ≡ false
 no-dot (field n) = refl
 no-dot (key ks) = refl
 no-dot (value s) = refl
@@ -67,10 +67,10 @@ none-there None h = refl
 none-there (Some v) h = absurd (true≢false (sym h))
 
 -- something stands there, and it is `{}` or has `.`
-abbrev is_said : Option Json → Bool
+abbrev pub is_said : Option Json → Bool
 is_said o = is_no_object o || has_dot o
 
-abbrev value_in : Path → Option Json → Option Json
+abbrev pub value_in : Path → Option Json → Option Json
 value_in p o = elim o [ None ↦ None | Some v ↦ value_below v p ]
 
 module _ (reading : Text → Result Json ReadFault) where

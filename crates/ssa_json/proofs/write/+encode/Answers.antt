@@ -10,7 +10,7 @@ use Rattle.ssa_json.specs.Written.{data_of}
 use Rattle.ssa_json.specs.View.{view}
 use Rattle.ssa_json.proofs.Converting.{Found}
 use Rattle.ssa_json.proofs.Printing.{items_of-data, put-last, items_narrow-push, members_narrow-push}
-use Rattle.ssa_json.proofs.OfProgram.{string_is_utf8, items_have_utf8-push, items_have_rising-push, members_have_utf8-push, members_rise-push}
+use Rattle.ssa_json.proofs.OfProgram.{string_is_utf8, items_have_utf8-push, items_have_rising_names-push, members_have_utf8-push, members_rise-push}
 use Rattle.ssa_json.proofs.write.+encode.Goals as goal
 
 pub items_to_values-returns-clause-data : goal.items_to_values-returns-clause-data
@@ -35,7 +35,7 @@ items_to_values-loop-item-preserved t c =
           ∙ sym (map-append f (take l.item-index xs) (x ∷ [])) ∙ ap (map f) (sym more);
       narrow = rw more (items_narrow-push (take l.item-index xs) x l.invariant.narrow c.in_ok-to_value.ensures.narrow);
       texts = rw more (items_have_utf8-push (take l.item-index xs) x l.invariant.texts c.in_ok-to_value.ensures.texts);
-      names = rw more (items_have_rising-push (take l.item-index xs) x l.invariant.names c.in_ok-to_value.ensures.names);
+      names = rw more (items_have_rising_names-push (take l.item-index xs) x l.invariant.names c.in_ok-to_value.ensures.names);
     }
 
 pub members_to_values-loop-key-preserved : goal.members_to_values-loop-key-preserved
