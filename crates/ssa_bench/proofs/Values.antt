@@ -1,66 +1,164 @@
--- Members without some, and with a nameless metadata.
-use Rattle.std.proofs.Common.{◌≡◌, List, [], ◌∷◌, ◌++◌, map, Bool, true, false, not, cond, filter, string_bytes, refl, sym, ap, ◌∙◌}
-use Rattle.std.specs.Prelude.{if◌then◌else◌}
-use Rattle.std.specs.List.{list_any}
-use Rattle.std.proofs.lemmas.List.{map-append, append-nil}
-use Rattle.std.proofs.lemmas.List.Elements.{filter-append}
-use Rattle.ssa_model.specs.Json as model
-use Rattle.ssa_model.specs.Json.{Text, same_text, Members, no_members, member}
-use Rattle.ssa_model.specs.Objects.{without, without_in_metadata}
+-- Members taken out of an object, and out of its metadata.
+use Rattle.std.proofs.Common.{◌≡◌, List, [], ◌∷◌, Bool, true, false, ◌||◌, cond, Option, Some, None, Ordering, Less, Equal, Greater, String, Global, string_bytes, string_cmp, nat_cmp, refl, sym, ap, ◌∙◌}
+use Rattle.std.specs.Prelude.{if◌then◌else◌, codes, option_and_then, unwrap_or}
+use Rattle.std.specs.Ordering.{is_eq, ordering_reverse}
+use Rattle.std.specs.Cmp.Lexicographic.{slice_cmp, nat_list_cmp_total}
+use Rattle.std.specs.List.{list_any, AllByRecursion}
+use Rattle.std.specs.List.Sorted.{IsStrictlySortedBy}
+use Rattle.std.specs.Map.{keys_of, lookup, remove_entry, set_value}
+use Rattle.std.specs.BTreeMap.{is_at}
+use Rattle.ssa_model.specs.Json.{Text, Json, scalar, list, object, same_text, Members, no_members, member, member_of}
+use Rattle.ssa_model.specs.Objects.{value_at, without, without_names, without_in_metadata, file_names}
 use Rattle.ssa_json.specs.View.{view, members_view}
-use Rattle.ssa_json.proofs.Converting.{Found, named, members_after}
-use Rattle.ssa_json.proofs.Ordered.{names}
-use Rattle.ssa_bench.specs.Identities.{nameless}
+use Rattle.ssa_json.specs.declared.value.Json as values
+use Rattle.ssa_json.proofs.Converting.{Found}
+use Rattle.ssa_json.proofs.Equality.{same_text-true}
+use Rattle.ssa_model.proofs.Tables.{or-false}
+use Rattle.ssa_bench.specs.Identities.{file_value_of}
 
--- the member stays
-abbrev pub stays : List Text → Found → Bool
-stays ns e = not (list_any (same_text (string_bytes e.0)) ns)
+-- the test by which a map finds a name
+abbrev pub finds : Text → String Global → Bool
+finds n = is_at (λ k. slice_cmp nat_cmp n (string_bytes k))
 
-abbrev pub nameless_member : List Text → Text × model.Json → Text × model.Json
-nameless_member ns m = (m.0, nameless ns m.0 m.1)
+is_eq-reverse : (o : Ordering) → is_eq (ordering_reverse o) ≡ is_eq o
+is_eq-reverse Less = refl
+is_eq-reverse Equal = refl
+is_eq-reverse Greater = refl
 
-one_less : (b : Bool) (n : Text) (v : model.Json) (rest : Members) (xs : List (Text × model.Json)) → members_after xs no_members ≡ rest
-    → members_after (cond (not b) ((n, v) ∷ xs) xs) no_members ≡ (if b then rest else member n v rest)
-unfolding members_after
-one_less true n v rest xs h = h
-one_less false n v rest xs h = ap (member n v) h
+-- what is left out by one name is what a map finds by it
+by_one_name : (k n : Text) → list_any (same_text k) (n ∷ []) ≡ is_eq (slice_cmp nat_cmp n k)
+by_one_name k n = or-false (same_text k n) ∙ ap is_eq (nat_list_cmp_total.antisymm k n) ∙ is_eq-reverse (slice_cmp nat_cmp n k)
 
-front : (b : Bool) (e : Found) (es : List Found) → map named (cond b (e ∷ es) es) ≡ cond b (named e ∷ map named es) (map named es)
-front true e es = refl
-front false e es = refl
+-- ---- names taken out one after the other
 
-pub without-filter : (ns : List Text) (es : List Found) → members_after (map named (filter (stays ns) es)) no_members ≡ without ns (members_view es)
-unfolding members_after
-without-filter ns [] = refl
-without-filter ns (e ∷ es) =
-    ap (λ xs. members_after xs no_members) (front (stays ns e) e (filter (stays ns) es))
-    ∙ one_less (list_any (same_text (string_bytes e.0)) ns) (string_bytes e.0) (view e.1) (without ns (members_view es)) (map named (filter (stays ns) es)) (without-filter ns es)
+pub without-none : (ms : Members) → without [] ms ≡ ms
+without-none no_members = refl
+without-none (member k v ms) = ap (member k v) (without-none ms)
 
-pub nameless-members : (ns : List Text) (es : List Found) → members_after (map (nameless_member ns) (map named es)) no_members ≡ without_in_metadata ns (members_view es)
-unfolding members_after
-nameless-members ns [] = refl
-nameless-members ns (e ∷ es) = ap (member (string_bytes e.0) (nameless ns (string_bytes e.0) (view e.1))) (nameless-members ns es)
+pub without-first : (n : Text) (ns : List Text) (ms : Members) → without ns (without (n ∷ []) ms) ≡ without (n ∷ ns) ms
+without-first n ns no_members = refl
+without-first n ns (member k v ms) =
+    elim (same_text k n) as (λ b. without ns (if b || false then without (n ∷ []) ms else member k v (without (n ∷ []) ms)) ≡ (if b || list_any (same_text k) ns then without (n ∷ ns) ms else member k v (without (n ∷ ns) ms))) [
+      | true ↦ without-first n ns ms
+      | false ↦ ap (λ rest. if list_any (same_text k) ns then rest else member k v rest) (without-first n ns ms)
+    ]
 
--- a member at the end
-pub one_stays : (ns : List Text) (done : List Found) (e : Found) → list_any (same_text (string_bytes e.0)) ns ≡ false
-    → map named (filter (stays ns) (done ++ e ∷ [])) ≡ map named (filter (stays ns) done) ++ named e ∷ []
-one_stays ns done e h =
-    ap (map named) (filter-append (stays ns) done (e ∷ []) ∙ ap (λ b. filter (stays ns) done ++ cond (not b) (e ∷ []) []) h)
-    ∙ map-append named (filter (stays ns) done) (e ∷ [])
+-- a name that is left out anyway
+without-again : (n : Text) (ns : List Text) (ms : Members) → list_any (same_text n) ns ≡ true → without ns (without (n ∷ []) ms) ≡ without ns ms
+without-again n ns no_members among = refl
+without-again n ns (member k v ms) among =
+    elim (same_text k n) as (λ b. same_text k n ≡ b → without ns (if b || false then without (n ∷ []) ms else member k v (without (n ∷ []) ms)) ≡ without ns (member k v ms)) [
+      | true ↦ λ is. without-again n ns ms among ∙ ap (λ b. if b then without ns ms else member k v (without ns ms)) (sym (ap (λ t. list_any (same_text t) ns) (same_text-true k n is) ∙ among))
+      | false ↦ λ _. ap (λ rest. if list_any (same_text k) ns then rest else member k v rest) (without-again n ns ms among)
+    ] refl
 
-pub one_goes : (ns : List Text) (done : List Found) (e : Found) → list_any (same_text (string_bytes e.0)) ns ≡ true
-    → map named (filter (stays ns) (done ++ e ∷ [])) ≡ map named (filter (stays ns) done)
-one_goes ns done e h =
-    ap (map named) (filter-append (stays ns) done (e ∷ []) ∙ ap (λ b. filter (stays ns) done ++ cond (not b) (e ∷ []) []) h ∙ append-nil (filter (stays ns) done))
+-- ---- one name taken out of a map
 
-first_parts : (es : List Found) → map (λ (m : Text × model.Json). m.0) (map named es) ≡ names es
-first_parts [] = refl
-first_parts (e ∷ es) = ap (λ ns. string_bytes e.0 ∷ ns) (first_parts es)
+found_none : (n : Text) (e : Found) (es : List Found) → is_eq (slice_cmp nat_cmp n (string_bytes e.0)) ≡ false → lookup (finds n) (e ∷ es) ≡ None → lookup (finds n) es ≡ None
+found_none n e es other h = ap (λ b. cond b (Some e.1) (lookup (finds n) es)) (sym other) ∙ h
 
-nameless_parts : (ns : List Text) (es : List Found) → map (λ (m : Text × model.Json). m.0) (map (nameless_member ns) (map named es)) ≡ names es
-nameless_parts ns [] = refl
-nameless_parts ns (e ∷ es) = ap (λ ms. string_bytes e.0 ∷ ms) (nameless_parts ns es)
+member_by : (n : Text) (e : Found) (es : List Found) (b : Bool) → is_eq (slice_cmp nat_cmp n (string_bytes e.0)) ≡ b
+    → without (n ∷ []) (members_view (e ∷ es)) ≡ (if b then without (n ∷ []) (members_view es) else member (string_bytes e.0) (view e.1) (without (n ∷ []) (members_view es)))
+member_by n e es b is =
+    ap (λ t. if t then without (n ∷ []) (members_view es) else member (string_bytes e.0) (view e.1) (without (n ∷ []) (members_view es))) (by_one_name (string_bytes e.0) n ∙ is)
 
--- the names stay
-pub nameless_names : (ns : List Text) (made done : List Found) → map named made ≡ map (nameless_member ns) (map named done) → names made ≡ names done
-nameless_names ns made done same = sym (first_parts made) ∙ ap (map (λ (m : Text × model.Json). m.0)) same ∙ nameless_parts ns done
+absent : (n : Text) (es : List Found) → lookup (finds n) es ≡ None → without (n ∷ []) (members_view es) ≡ members_view es
+absent n [] none = refl
+absent n (e ∷ es) none =
+    elim (is_eq (slice_cmp nat_cmp n (string_bytes e.0))) as (λ b. is_eq (slice_cmp nat_cmp n (string_bytes e.0)) ≡ b → ◌≡◌ {A = Option values.Json} (cond b (Some e.1) (lookup (finds n) es)) None → without (n ∷ []) (members_view (e ∷ es)) ≡ members_view (e ∷ es)) [
+      | true ↦ λ _ h. cc
+      | false ↦ λ is h. member_by n e es false is ∙ ap (member (string_bytes e.0) (view e.1)) (absent n es h)
+    ] refl none
+
+removed : (n : Text) (es : List Found) → lookup (finds n) (remove_entry (finds n) es) ≡ None → members_view (remove_entry (finds n) es) ≡ without (n ∷ []) (members_view es)
+removed n [] none = refl
+removed n (e ∷ es) none =
+    elim (is_eq (slice_cmp nat_cmp n (string_bytes e.0))) as (λ b. is_eq (slice_cmp nat_cmp n (string_bytes e.0)) ≡ b → lookup (finds n) (cond b es (e ∷ remove_entry (finds n) es)) ≡ None
+    → members_view (cond b es (e ∷ remove_entry (finds n) es)) ≡ without (n ∷ []) (members_view (e ∷ es))) [
+      | true ↦ λ is h. sym (member_by n e es true is ∙ absent n es h)
+      | false ↦ λ is h. ap (member (string_bytes e.0) (view e.1)) (removed n es (found_none n e (remove_entry (finds n) es) is h)) ∙ sym (member_by n e es false is)
+    ] refl none
+
+pub without-removed : (n : Text) (old new : List Found) → new ≡ remove_entry (finds n) old → lookup (finds n) new ≡ None → members_view new ≡ without (n ∷ []) (members_view old)
+without-removed n old new is none = ap members_view is ∙ removed n old (ap (lookup (finds n)) (sym is) ∙ none)
+
+-- one name of several taken out
+pub removed-next : (n : Text) (ns : List Text) (old new : List Found) → new ≡ remove_entry (finds n) old → lookup (finds n) new ≡ None → without ns (members_view new) ≡ without (n ∷ ns) (members_view old)
+removed-next n ns old new is none = ap (without ns) (without-removed n old new is none) ∙ without-first n ns (members_view old)
+
+-- the value of one name
+pub value_at-one : (n : Text) (ms : Members) → member_of n ms ≡ value_at (n ∷ []) (object ms)
+value_at-one n ms = found (member_of n ms)
+  where
+    found : (o : Option Json) → o ≡ option_and_then (value_at []) o
+    found None = refl
+    found (Some v) = refl
+
+-- ---- names taken out of the metadata
+
+-- a name behind one that is equal
+absent_behind : (n : Text) (k : String Global) (es : List Found) → n ≡ string_bytes k → AllByRecursion (λ y. string_cmp k y ≡ Less) (keys_of es) → lookup (finds n) es ≡ None
+absent_behind n k [] is h = refl
+absent_behind n k (e ∷ es) is h =
+    ap (λ o. cond (is_eq o) (Some e.1) (lookup (finds n) es)) (ap (λ t. slice_cmp nat_cmp t (string_bytes e.0)) is ∙ h.0) ∙ absent_behind n k es is h.1
+
+metadata_by : (ns : List Text) (e : Found) (b : Bool) → is_eq (slice_cmp nat_cmp (codes "metadata") (string_bytes e.0)) ≡ b
+    → (if same_text (string_bytes e.0) (codes "metadata") then without_names ns (view e.1) else view e.1) ≡ (if b then without_names ns (view e.1) else view e.1)
+metadata_by ns e b is =
+    ap (λ t. if t then without_names ns (view e.1) else view e.1) (sym (or-false (same_text (string_bytes e.0) (codes "metadata"))) ∙ by_one_name (string_bytes e.0) (codes "metadata") ∙ is)
+
+-- without metadata all members stay
+pub no_metadata : (ns : List Text) (es : List Found) → lookup (finds (codes "metadata")) es ≡ None → members_view es ≡ without_in_metadata ns (members_view es)
+no_metadata ns [] none = refl
+no_metadata ns (e ∷ es) none =
+    let k = string_bytes e.0 in
+    elim (is_eq (slice_cmp nat_cmp (codes "metadata") k)) as (λ b. is_eq (slice_cmp nat_cmp (codes "metadata") k) ≡ b → ◌≡◌ {A = Option values.Json} (cond b (Some e.1) (lookup (finds (codes "metadata")) es)) None
+    → members_view (e ∷ es) ≡ without_in_metadata ns (members_view (e ∷ es))) [
+      | true ↦ λ _ h. cc
+      | false ↦ λ is h. λ i. member k (sym (metadata_by ns e false is) i) (no_metadata ns es h i)
+    ] refl none
+
+-- the metadata of a map, written back without some members
+pub written : (ns : List Text) (es : List Found) (v w : values.Json) → IsStrictlySortedBy string_cmp (keys_of es) → lookup (finds (codes "metadata")) es ≡ Some v → view w ≡ without_names ns (view v)
+    → members_view (set_value (finds (codes "metadata")) es w) ≡ without_in_metadata ns (members_view es)
+unfolding IsStrictlySortedBy
+written ns [] v w ordered found is = refl
+written ns (e ∷ es) v w ordered found is =
+    let k = string_bytes e.0 in
+    elim (is_eq (slice_cmp nat_cmp (codes "metadata") k)) as (λ b. is_eq (slice_cmp nat_cmp (codes "metadata") k) ≡ b → ◌≡◌ {A = Option values.Json} (cond b (Some e.1) (lookup (finds (codes "metadata")) es)) (Some v)
+    → members_view (cond b ((e.0, w) ∷ es) (e ∷ set_value (finds (codes "metadata")) es w)) ≡ without_in_metadata ns (members_view (e ∷ es))) [
+      | true ↦ λ here h.
+          let value = is ∙ ap (λ o. without_names ns (view (unwrap_or {T = values.Json} o e.1))) (sym h) ∙ sym (metadata_by ns e true here) in
+          let rest = no_metadata ns es (absent_behind (codes "metadata") e.0 es (same_text-true (codes "metadata") k here) ordered.0) in
+          λ i. member k (value i) (rest i)
+      | false ↦ λ other h. λ i. member k (sym (metadata_by ns e false other) i) (written ns es v w ordered.1 h is i)
+    ] refl found
+
+-- ---- the metadata is stripped once
+
+names-again : (n : Text) (ns : List Text) (v : Json) → list_any (same_text n) ns ≡ true → without_names ns (without_names (n ∷ []) v) ≡ without_names ns v
+names-again n ns (object ms) among = ap object (without-again n ns ms among)
+names-again n ns (list vs) among = refl
+names-again n ns (scalar s) among = refl
+
+metadata-again : (n : Text) (ns : List Text) (ms : Members) → list_any (same_text n) ns ≡ true → without_in_metadata ns (without_in_metadata (n ∷ []) ms) ≡ without_in_metadata ns ms
+metadata-again n ns no_members among = refl
+metadata-again n ns (member k v ms) among =
+    let value : (b : Bool) → (if b then without_names ns (if b then without_names (n ∷ []) v else v) else (if b then without_names (n ∷ []) v else v)) ≡ (if b then without_names ns v else v) = λ b. elim b as (λ b. (if b then without_names ns (if b then without_names (n ∷ []) v else v) else (if b then without_names (n ∷ []) v else v)) ≡ (if b then without_names ns v else v)) [ true ↦ names-again n ns v among | false ↦ refl ] in
+    λ i. member k (value (same_text k (codes "metadata")) i) (metadata-again n ns ms among i)
+
+metadata-later : (names ns : List Text) (ms : Members) → without names (without_in_metadata ns ms) ≡ without_in_metadata ns (without names ms)
+metadata-later names ns no_members = refl
+metadata-later names ns (member k v ms) =
+    let w = if same_text k (codes "metadata") then without_names ns v else v in
+    elim (list_any (same_text k) names) as (λ b. (if b then without names (without_in_metadata ns ms) else member k w (without names (without_in_metadata ns ms))) ≡ without_in_metadata ns (if b then without names ms else member k v (without names ms))) [
+      | true ↦ metadata-later names ns ms
+      | false ↦ ap (member k w) (metadata-later names ns ms)
+    ]
+
+-- the managers' entries are no part of the value
+pub without_entries : (ms : Members) → file_value_of (object (without_in_metadata (codes "managedFields" ∷ []) ms)) ≡ file_value_of (object ms)
+without_entries ms =
+    let identity = codes "apiVersion" ∷ codes "kind" ∷ [] in
+    ap (λ rest. object (without_in_metadata file_names rest)) (metadata-later identity (codes "managedFields" ∷ []) ms)
+    ∙ ap object (metadata-again (codes "managedFields") file_names (without identity ms) refl)

@@ -1,7 +1,8 @@
 -- What identities are.
 use Rattle.std.specs.Prelude.{◌≡◌, true, List, [], ◌∷◌, Option, Some, None, option_map, if◌then◌else◌, codes, ◌&&◌}
-use Rattle.ssa_model.specs.Json.{Text, Json, scalar, list, object, same_text}
-use Rattle.ssa_model.specs.Objects.{value_at, identity_of, is_identity, is_some_object, value_without, without_names, identity_names, file_names}
+use Rattle.ssa_model.specs.Json.{Text, Json, scalar, list, object}
+use Rattle.ssa_model.specs.Objects.{value_at, identity_of, is_identity, is_some_object, value_without, identity_names, file_names}
+use Rattle.ssa_model.specs.Commands.{text_in}
 use Rattle.ssa_model.specs.Entries.{text_json}
 use Rattle.ssa_json.specs.View.{view}
 use Rattle.ssa_bench.specs.declared.identity.Identity.TheInside.{Inside}
@@ -16,6 +17,11 @@ IsNamed i = is_identity (identity_view i) ≡ true
 -- the version of the identity
 abbrev pub HasVersion : Text → List (Option Json) → Type 0
 HasVersion t identity = (kind name : Json) × (namespace : Option Json) × (identity ≡ Some (text_json t) ∷ Some kind ∷ Some name ∷ namespace ∷ [])
+
+-- the text of the identity's version
+abbrev pub version_of : List (Option Json) → Text
+version_of [] = []
+version_of (version ∷ rest) = text_in version
 
 -- the identity of an object that has one
 abbrev pub identity_in : Json → Option (List (Option Json))
@@ -34,7 +40,3 @@ body_value_of = value_but identity_names
 -- the body's value of an object file
 abbrev pub file_value_of : Json → Json
 file_value_of = value_but file_names
-
--- a member's value, of the metadata without these members
-abbrev pub nameless : List Text → Text → Json → Json
-nameless names n v = if same_text n (codes "metadata") then without_names names v else v

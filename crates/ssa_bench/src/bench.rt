@@ -1,6 +1,6 @@
 //! The bench: an object, its managers, and the history of commands on it.
-ghost use Rattle.std.specs.Prelude.{◌≡◌, ◌<◌, ◌^◌, ◌||◌, nat_le, IfOk, OnOk, OnErr, false, true, codes, string_bytes};
-ghost use Rattle.ssa_model.specs.Answers.{answer, apply, update, strip, undo, redo, log, logged, apply_answer, bench_of, body_or_fault, command_body, given_table, owners_of};
+ghost use Rattle.std.specs.Prelude.{◌≡◌, ◌<◌, ◌^◌, ◌||◌, nat_le, IfOk, OnOk, OnErr, false, true, option_map, codes, string_bytes};
+ghost use Rattle.ssa_model.specs.Answers.{answer, apply, update, strip, undo, redo, log, logged, apply_answer, bench_of, body_or_fault, command_body, owners_of};
 ghost use Rattle.ssa_model.specs.Entries.{object_of_state};
 ghost use Rattle.ssa_model.specs.History.{is_manager_name, past_len, future_len, present};
 ghost use Rattle.ssa_model.specs.Objects.{identity_of};
@@ -9,16 +9,16 @@ ghost use Rattle.ssa_json.specs.Readings.{readings};
 ghost use Rattle.ssa_json.specs.View.{view};
 ghost use Rattle.ssa_merge.specs.Managers.{lent_keys};
 ghost use Rattle.ssa_merge.specs.States.{state_view};
-ghost use Rattle.ssa_bench.specs.Benches.{lone_bench, next_bench, file_state_of, table_or_fault, CanCommit, IsExecuted, IsGivenState, IsMade, IsMoved, IsPrepared, tested_body, update_answer};
+ghost use Rattle.ssa_bench.specs.Benches.{lone_bench, next_bench, file_state_of, table_or_fault, CanCommit, IsExecuted, IsGivenState, IsMade, IsMoved, IsPrepared, table_of_entries, tested_body, update_answer};
 ghost use Rattle.ssa_bench.specs.Faults.{IsGiven};
 ghost use Rattle.ssa_bench.specs.Commands.{command_view, command_word};
 ghost use Rattle.ssa_bench.specs.Histories.{lent_labels};
 ghost use Rattle.ssa_bench.specs.ValidTimelines.{AllValid, IsValidBody};
 
-use crate::body_value::{body_value, file_value};
+use crate::body_value::{body_value, file_parts};
 use crate::command::Command;
 use crate::fault::Fault;
-use crate::identity::{Identity, given_entries, gives_managed_fields, has_identity};
+use crate::identity::{Identity, gives_managed_fields, has_identity};
 use crate::object::object_of_state;
 use crate::prepared::{Changed, Counts, Prepared, accepted};
 use crate::timeline::{Label, Log, Timeline, labels};
@@ -77,21 +77,20 @@ fn body_or_fault(alloc: Global, schema: &Schema, value: Json) -> Result<Body, Fa
     }
 }
 
-// The table of managers that an object file gives, or its first fault.
+// The table of managers that the entries of an object file give, or their first fault.
 fn given_managers(
     alloc: Global,
-    object: &Json,
+    entries: Option<Json>,
     identity: &Identity,
     body: &Body,
 ) -> Result<Managers, Fault>
-    requires { identity.now ≡ identity_of (view object.now) }
-    ensures given { IsGiven result (table_or_fault (given_table readings body.now (view object.now))) }
+    ensures given { IsGiven result (table_or_fault (table_of_entries body.now identity.now (option_map view entries))) }
     ensures valid { IfOk result (λ m. IsTable body.now m) }
 {
-    let Some(entries) = given_entries(object) else {
+    let Some(entries) = entries else {
         return Ok(Managers::new(alloc));
     };
-    match Managers::from_entries(alloc, entries, body, identity.version()) {
+    match Managers::from_entries(alloc, &entries, body, identity.version()) {
         Ok(managers) => Ok(managers),
         Err(fault) => Err(Fault::from(fault)),
     }
@@ -101,16 +100,16 @@ fn given_managers(
 fn file_state(
     alloc: Global,
     schema: &Schema,
-    object: &Json,
+    object: Json,
     identity: &Identity,
 ) -> Result<State, Fault>
-    requires { identity.now ≡ identity_of (view object.now) }
-    ensures given { IsGivenState result (file_state_of schema.now.1 (view object.now)) }
+    requires { identity.now ≡ identity_of (view object) }
+    ensures given { IsGivenState result (file_state_of schema.now.1 (view object)) }
     ensures valid { IfOk result (λ s. IsValidState schema.now.1 (state_view s)) }
 {
-    let value = file_value(alloc, object)?;
+    let (value, entries) = file_parts(object);
     match body_or_fault(alloc, schema, value) {
-        Ok(body) => match given_managers(alloc, object, identity, &body) {
+        Ok(body) => match given_managers(alloc, entries, identity, &body) {
             Ok(managers) => Ok(State { body, managers }),
             Err(fault) => Err(fault),
         },
@@ -147,33 +146,32 @@ impl Bench {
         let Some(identity) = Identity::of_object(alloc, &object)? else {
             return Err(Fault::Identity);
         };
-        match file_state(alloc, &schema, &object, &identity) {
+        match file_state(alloc, &schema, object, &identity) {
             Ok(state) => Ok(Bench::with_lone_state(alloc, schema, identity, state)),
             Err(fault) => Err(fault),
         }
     }
 
     // The body of a command's object, or its first fault.
-    fn command_body(&self, alloc: Global, object: &Json) -> Result<Body, Fault>
-        ensures given { IsGiven result (command_body self.now (view object.now)) }
+    fn command_body(&self, alloc: Global, object: Json) -> Result<Body, Fault>
+        ensures given { IsGiven result (command_body self.now (view object)) }
         ensures valid { IfOk result (λ b. IsValidBody self.now.schema.1 b) }
     {
         if !object.is_object() {
             return Err(Fault::Body(BodyFault::WrongType(Vec::new(alloc))));
         }
-        if !has_identity(object) || !self.identity.is_same_as(object) {
+        if !has_identity(&object) || !self.identity.is_same_as(&object) {
             return Err(Fault::Identity);
         }
-        if gives_managed_fields(object) {
+        if gives_managed_fields(&object) {
             return Err(Fault::ManagedFieldsGiven);
         }
-        let value = body_value(alloc, object)?;
-        body_or_fault(alloc, &self.schema, value)
+        body_or_fault(alloc, &self.schema, body_value(object))
     }
 
     // The body of an Apply's or an Update's object, or the first fault of the command.
-    fn tested_body(&self, alloc: Global, who: &str, object: &Json) -> Result<Body, Fault>
-        ensures given { IsGiven result (tested_body self.now who.now (view object.now)) }
+    fn tested_body(&self, alloc: Global, who: &str, object: Json) -> Result<Body, Fault>
+        ensures given { IsGiven result (tested_body self.now who.now (view object)) }
         ensures valid { IfOk result (λ b. IsValidBody self.now.schema.1 b) }
         ensures named { IfOk result (λ b. is_manager_name who.now ≡ true) }
     {
@@ -213,9 +211,9 @@ impl Bench {
         who: String,
         force: bool,
         at: Moment,
-        object: &Json,
+        object: Json,
     ) -> Result<Prepared, Fault>
-        ensures { IsPrepared self.now result (answer self.now (apply (string_bytes who) force at (view object.now))) (codes "apply") }
+        ensures { IsPrepared self.now result (answer self.now (apply (string_bytes who) force at (view object))) (codes "apply") }
     {
         match self.tested_body(alloc, who.as_str(), object) {
             Ok(config) => self.prepare_configuration(alloc, who, force, at, config),
@@ -248,9 +246,9 @@ impl Bench {
         alloc: Global,
         who: String,
         at: Moment,
-        object: &Json,
+        object: Json,
     ) -> Result<Prepared, Fault>
-        ensures { IsPrepared self.now result (answer self.now (update (string_bytes who) at (view object.now))) (codes "update") }
+        ensures { IsPrepared self.now result (answer self.now (update (string_bytes who) at (view object))) (codes "update") }
     {
         match self.tested_body(alloc, who.as_str(), object) {
             Ok(body) => self.prepare_replacement(alloc, who, at, body),
@@ -284,8 +282,8 @@ impl Bench {
                 force,
                 at,
                 object,
-            } => self.prepare_apply(alloc, who, force, at, &object),
-            Command::Update { who, at, object } => self.prepare_update(alloc, who, at, &object),
+            } => self.prepare_apply(alloc, who, force, at, object),
+            Command::Update { who, at, object } => self.prepare_update(alloc, who, at, object),
             Command::Strip => self.prepare_strip(alloc),
         }
     }

@@ -1,30 +1,47 @@
 //! The value of an object's body: the object without what is not of its body.
-ghost use Rattle.std.specs.Prelude.{◌≡◌, IfOk, map};
-ghost use Rattle.std.specs.List.{list_any};
-ghost use Rattle.ssa_model.specs.Json.{same_text};
-ghost use Rattle.ssa_model.specs.Objects.{without, without_names, without_in_metadata};
+//!
+//! The object is taken whole, and what stays of it is moved: nothing is copied, and no memory is
+//! asked for.
+ghost use Rattle.std.specs.Prelude.{◌≡◌, ◌∷◌, [], codes, map, option_map};
+ghost use Rattle.ssa_model.specs.Json.{object};
+ghost use Rattle.ssa_model.specs.Objects.{value_at, without, without_names, without_in_metadata};
 ghost use Rattle.ssa_json.specs.View.{view, members_view};
-ghost use Rattle.ssa_bench.specs.Identities.{body_value_of, file_value_of, value_but, nameless};
+ghost use Rattle.ssa_bench.specs.Identities.{body_value_of, file_value_of, value_but};
 
-use crate::text::is_same_text;
-use ssa_json::value::Json;
-use std::alloc::{AllocError, Global};
+use ssa_json::value::{Json, Scalar};
 use std::collections::BTreeMap;
+use std::mem;
 
 /// A command's object without its identity.
-pub fn body_value(alloc: Global, object: &Json) -> Result<Json, AllocError>
-    ensures { IfOk result (λ v. view v ≡ body_value_of (view object.now)) }
+pub fn body_value(object: Json) -> Json
+    ensures { view result ≡ body_value_of (view object) }
 {
-    value_but(alloc, object, &["name", "namespace"])
+    value_but(object, &["name", "namespace"])
 }
 
-/// The object of a file without its identity, the managers' entries, and what a server keeps in
-/// `metadata`: `uid`, `resourceVersion`, `generation`, `creationTimestamp` and `selfLink`.
-pub fn file_value(alloc: Global, object: &Json) -> Result<Json, AllocError>
-    ensures { IfOk result (λ v. view v ≡ file_value_of (view object.now)) }
+/// The body's value of an object file, and the value of its `metadata.managedFields`, where it is
+/// there.
+///
+/// The body's value is the object without its identity, the managers' entries, and what a server
+/// keeps in `metadata`: `uid`, `resourceVersion`, `generation`, `creationTimestamp` and `selfLink`.
+pub fn file_parts(object: Json) -> (Json, Option<Json>)
+    ensures value { view result.0 ≡ file_value_of (view object) }
+    ensures entries { option_map view result.1 ≡ value_at (codes "metadata" ∷ codes "managedFields" ∷ []) (view object) }
+{
+    match object {
+        Json::Object(mut members) => {
+            let entries = take_entries(&mut members);
+            (file_value(Json::Object(members)), entries)
+        }
+        other => (file_value(other), None),
+    }
+}
+
+// The body's value of an object file.
+fn file_value(object: Json) -> Json
+    ensures { view result ≡ file_value_of (view object) }
 {
     value_but(
-        alloc,
         object,
         &[
             "name",
@@ -40,86 +57,75 @@ pub fn file_value(alloc: Global, object: &Json) -> Result<Json, AllocError>
 }
 
 // The object without `apiVersion` and `kind`, and without these members of its metadata.
-fn value_but(alloc: Global, object: &Json, names: &[&str]) -> Result<Json, AllocError>
-    ensures { IfOk result (λ v. view v ≡ value_but (map (λ n. n.now) names.now) (view object.now)) }
+fn value_but(object: Json, names: &[&str]) -> Json
+    ensures { view result ≡ value_but (map (λ n. n.now) names.now) (view object) }
 {
     match object {
-        Json::Object(members) => {
-            let rest = members_without(alloc, members, &["apiVersion", "kind"])?;
-            let stripped = with_nameless_metadata(alloc, &rest, names)?;
-            Ok(Json::Object(stripped))
+        Json::Object(mut members) => {
+            remove_members(&mut members, &["apiVersion", "kind"]);
+            strip_metadata(&mut members, names);
+            Json::Object(members)
         }
-        Json::List(_) => object.copy(alloc),
-        Json::Scalar(_) => object.copy(alloc),
+        other => other,
     }
 }
 
-// Whether the text is one of the names.
-fn is_one_of(text: &str, names: &[&str]) -> bool
-    ensures { result ≡ list_any (same_text text.now) (map (λ n. n.now) names.now) }
+// Takes out the members of these names.
+fn remove_members(members: &mut BTreeMap<String, Json>, names: &[&str])
+    ensures { members_view members.new.entries ≡ without (map (λ n. n.now) names.now) (members_view members.old.entries) }
 {
     for name in names {
-        if is_same_text(text, name) {
-            return true;
-        }
+        drop(members.remove(*name));
     }
-    false
 }
 
-// The members but those of the names.
-fn members_without(
-    alloc: Global,
-    members: &BTreeMap<String, Json>,
-    names: &[&str],
-) -> Result<BTreeMap<String, Json>, AllocError>
-    ensures { IfOk result (λ m. members_view m.entries ≡ without (map (λ n. n.now) names.now) (members_view members.now.entries)) }
+// Takes the members of these names out of the metadata.
+fn strip_metadata(members: &mut BTreeMap<String, Json>, names: &[&str])
+    ensures { members_view members.new.entries ≡ without_in_metadata (map (λ n. n.now) names.now) (members_view members.old.entries) }
 {
-    let mut kept = BTreeMap::new(alloc);
-    for (name, member) in members.iter() {
-        if !is_one_of(name.as_str(), names) {
-            let key = String::from_str(alloc, name.as_str())?;
-            let copied = member.copy(alloc)?;
-            drop(kept.insert(key, copied)?);
-        }
+    if let Some(metadata) = members.get_mut("metadata") {
+        let whole = mem::replace(metadata, Json::Scalar(Scalar::Bool(false)));
+        *metadata = without_names(whole, names);
     }
-    Ok(kept)
 }
 
 // A metadata value without these members.
-fn without_names(alloc: Global, value: &Json, names: &[&str]) -> Result<Json, AllocError>
-    ensures { IfOk result (λ v. view v ≡ without_names (map (λ n. n.now) names.now) (view value.now)) }
+fn without_names(value: Json, names: &[&str]) -> Json
+    ensures { view result ≡ without_names (map (λ n. n.now) names.now) (view value) }
 {
     match value {
-        Json::Object(members) => Ok(Json::Object(members_without(alloc, members, names)?)),
-        Json::List(_) => value.copy(alloc),
-        Json::Scalar(_) => value.copy(alloc),
+        Json::Object(mut members) => {
+            remove_members(&mut members, names);
+            Json::Object(members)
+        }
+        other => other,
     }
 }
 
-// The value under its name, without these members where it is the metadata.
-fn nameless(alloc: Global, name: &str, value: &Json, names: &[&str]) -> Result<Json, AllocError>
-    ensures { IfOk result (λ v. view v ≡ nameless (map (λ n. n.now) names.now) name.now (view value.now)) }
+// Takes the managers' entries out of the metadata, where they are there.
+fn take_entries(members: &mut BTreeMap<String, Json>) -> Option<Json>
+    ensures entries { option_map view result ≡ value_at (codes "metadata" ∷ codes "managedFields" ∷ []) (object (members_view members.old.entries)) }
+    ensures rest { members_view members.new.entries ≡ without_in_metadata (codes "managedFields" ∷ []) (members_view members.old.entries) }
 {
-    if is_same_text(name, "metadata") {
-        without_names(alloc, value, names)
-    } else {
-        value.copy(alloc)
-    }
+    let Some(metadata) = members.get_mut("metadata") else {
+        return None;
+    };
+    let whole = mem::replace(metadata, Json::Scalar(Scalar::Bool(false)));
+    let (rest, entries) = without_member(whole, "managedFields");
+    *metadata = rest;
+    entries
 }
 
-// The members, with the metadata without these members.
-fn with_nameless_metadata(
-    alloc: Global,
-    members: &BTreeMap<String, Json>,
-    names: &[&str],
-) -> Result<BTreeMap<String, Json>, AllocError>
-    ensures { IfOk result (λ m. members_view m.entries ≡ without_in_metadata (map (λ n. n.now) names.now) (members_view members.now.entries)) }
+// The value without the member of a name, and that member, where the value is an object that has one.
+fn without_member(value: Json, name: &str) -> (Json, Option<Json>)
+    ensures rest { view result.0 ≡ without_names (name.now ∷ []) (view value) }
+    ensures taken { option_map view result.1 ≡ value_at (name.now ∷ []) (view value) }
 {
-    let mut made = BTreeMap::new(alloc);
-    for (name, member) in members.iter() {
-        let key = String::from_str(alloc, name.as_str())?;
-        let value = nameless(alloc, name.as_str(), member, names)?;
-        drop(made.insert(key, value)?);
+    match value {
+        Json::Object(mut members) => {
+            let taken = members.remove(name);
+            (Json::Object(members), taken)
+        }
+        other => (other, None),
     }
-    Ok(made)
 }

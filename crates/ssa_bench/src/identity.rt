@@ -103,13 +103,6 @@ fn has_metadata(object: &Json) -> bool
     }
 }
 
-/// The value of `metadata.managedFields`, where it is there.
-pub fn given_entries(object: &Json) -> Option<&Json>
-    ensures { option_map (λ v. view v.now) result ≡ value_at (codes "metadata" ∷ codes "managedFields" ∷ []) (view object.now) }
-{
-    member_in(object, "metadata", "managedFields")
-}
-
 /// Whether a command's object carries `managedFields`, whatever its value.
 pub fn gives_managed_fields(object: &Json) -> bool
     ensures { result ≡ not (is_missing (value_at (codes "metadata" ∷ codes "managedFields" ∷ []) (view object.now))) }

@@ -13,17 +13,17 @@ use Rattle.ssa_bench.proofs.bench.Bench.command_body.Goals as goal
 pub returns-then-not-is_object-clause-given : goal.returns-then-not-is_object-clause-given
 returns-then-not-is_object-clause-given c = (
   body_fault wrong_type [],
-  command_body-no_object c.args.self.now (view c.args.object.now) (sym c.is_object.ensures ∙ c.if-not-is_object.true),
+  command_body-no_object c.args.self.now (view c.args.object) (sym c.is_object.ensures ∙ c.if-not-is_object.true),
   ((wrong_type, []), refl, (λ i. (wrong_type, map string_bytes (c.new.ensures.items i)))),
 )
 
 pub returns-clause-given : goal.returns-clause-given
 returns-clause-given c =
-    let v = view c.args.object.now in
+    let v = view c.args.object in
     let given : Result bodies.Body model.Fault → Type 0 = IsGiven c.body_or_fault.result in
     let same = ap (λ b. same_identity (identity_of v) b.identity) (sym c.self.view_is) ∙ sym c.is_same_as.ensures ∙ c.if-not-is_same_as.false in
     subst given
-    ((λ i. body_or_fault (c.self.view_is i).schema.1 (c.in_ok-value.ensures i))
+    ((λ i. body_or_fault (c.self.view_is i).schema.1 (c.body_value.ensures i))
     ∙ sym (command_body-taken c.args.self.now v (sym c.is_object.ensures ∙ c.if-not-is_object.false) (regrouped _ _ _ (sym c.has_identity.ensures ∙ c.if-not-has_identity.false) same)
     (sym c.gives_managed_fields.ensures ∙ c.if-gives_managed_fields.false)))
     c.body_or_fault.ensures.given

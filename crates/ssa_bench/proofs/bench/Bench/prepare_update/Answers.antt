@@ -10,7 +10,7 @@ pub returns-in-Ok : goal.returns-in-Ok
 returns-in-Ok c =
     let bench = c.args.self.now in
     let who = string_bytes c.args.who in
-    let v = view c.args.object.now in
+    let v = view c.args.object in
     let prepares : Answer → Type 0 = λ a. IsPrepared bench c.prepare_replacement.result a (codes "update") in
     let named = ap (λ n. tested_body bench n v) (sym c.as_str.ensures.value) ∙ c.in-Ok.ensures.given in
     subst prepares (sym (with_body-tested bench who v (update_answer bench who c.args.at) (Ok c.in-Ok.body) named)) c.prepare_replacement.ensures
@@ -19,6 +19,6 @@ pub returns-in-Err : goal.returns-in-Err
 returns-in-Err c =
     let bench = c.args.self.now in
     let who = string_bytes c.args.who in
-    let v = view c.args.object.now in
+    let v = view c.args.object in
     told-first bench (codes "update") c.in-Err.fault (tested_body bench c.as_str.result.now v) _
     (λ g e. with_body-tested bench who v (update_answer bench who c.args.at) (Err g) (ap (λ n. tested_body bench n v) (sym c.as_str.ensures.value) ∙ e)) c.in-Err.ensures.given
