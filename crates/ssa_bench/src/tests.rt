@@ -3,7 +3,6 @@
 use crate::bench::Bench;
 use crate::command::Command;
 use crate::fault::Fault;
-use crate::object_file_tests::tell_entry_fault;
 use crate::prepared::{Changed, Counts};
 use ssa_json::moment::Moment;
 use ssa_json::value::Json;
@@ -109,7 +108,7 @@ fn tell_body_fault(alloc: Global, fault: &BodyFault) -> Result<Vec<u8>, AllocErr
 pub(crate) fn tell_fault(alloc: Global, fault: &Fault) -> Result<Vec<u8>, AllocError> {
     let name = match fault {
         Fault::Body(fault) => return tell_body_fault(alloc, fault),
-        Fault::Entry(fault) => return tell_entry_fault(alloc, fault),
+        Fault::Entry(_) => "Entry",
         Fault::Conflict(clashes) => {
             let mut told = Vec::from_slice(alloc, b"Conflict")?;
             for clash in clashes {
