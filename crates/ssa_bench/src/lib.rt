@@ -8,11 +8,14 @@ pub mod fault;
 pub mod identity;
 #[cfg(test)]
 mod long_tests;
+#[cfg(test)]
+mod look_tests;
 pub mod object;
+#[cfg(test)]
+mod object_file_tests;
 pub mod prepared;
 #[cfg(test)]
 mod refusal_tests;
 #[cfg(test)]
 mod tests;
-pub mod text;
 pub mod timeline;

@@ -6,6 +6,7 @@ use crate::fault::Fault;
 use crate::prepared::{Changed, Counts};
 use ssa_json::moment::Moment;
 use ssa_json::value::Json;
+use ssa_merge::entry_fault::EntryFault;
 use ssa_path::field_set::FieldSet;
 use ssa_schema::body_fault::BodyFault;
 use ssa_schema::schema::Schema;
@@ -104,11 +105,37 @@ fn tell_body_fault(alloc: Global, fault: &BodyFault) -> Result<Vec<u8>, AllocErr
     Ok(told)
 }
 
+// The name of an entry's fault, with the path of an absent one.
+fn tell_entry_fault(alloc: Global, fault: &EntryFault) -> Result<Vec<u8>, AllocError> {
+    let name = match fault {
+        EntryFault::AbsentPath(path) => {
+            let mut told = Vec::from_slice(alloc, b"entry AbsentPath ")?;
+            for element in path.elements() {
+                told.push(b'/')?;
+                told.extend_from_slice(&element.text(alloc)?)?;
+            }
+            return Ok(told);
+        }
+        EntryFault::TooManyManagers => "entry TooManyManagers",
+        EntryFault::BadEntry => "entry BadEntry",
+        EntryFault::ManagerName => "entry ManagerName",
+        EntryFault::OtherVersion => "entry OtherVersion",
+        EntryFault::BadMoment => "entry BadMoment",
+        EntryFault::BadElement => "entry BadElement",
+        EntryFault::IndexElement => "entry IndexElement",
+        EntryFault::NotCanonical => "entry NotCanonical",
+        EntryFault::EmptyEntry => "entry EmptyEntry",
+        EntryFault::DuplicateManager => "entry DuplicateManager",
+        EntryFault::OutOfMemory => "entry OutOfMemory",
+    };
+    Vec::from_slice(alloc, name.as_bytes())
+}
+
 // The fault's name, with the path or with the managers and their fields.
 pub(crate) fn tell_fault(alloc: Global, fault: &Fault) -> Result<Vec<u8>, AllocError> {
     let name = match fault {
         Fault::Body(fault) => return tell_body_fault(alloc, fault),
-        Fault::Entry(_) => "Entry",
+        Fault::Entry(fault) => return tell_entry_fault(alloc, fault),
         Fault::Conflict(clashes) => {
             let mut told = Vec::from_slice(alloc, b"Conflict")?;
             for clash in clashes {

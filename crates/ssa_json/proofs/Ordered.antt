@@ -1,5 +1,5 @@
 -- Members that come in the order of their names.
-use Rattle.std.proofs.Common.{◌≡◌, ℕ, List, [], ◌∷◌, ◌++◌, map, String, Global, Less, Greater, string_bytes, string_cmp, nat_cmp, refl, ap, ◌∙◌, Bool, true, false, cond, filter}
+use Rattle.std.proofs.Common.{◌≡◌, ℕ, List, [], ◌∷◌, ◌++◌, map, String, Global, Less, Greater, string_bytes, string_cmp, nat_cmp, refl, ap, ◌∙◌}
 use Rattle.std.proofs.lemmas.Cmp.{nat_list_cmp_total}
 use Rattle.std.specs.Cmp.Lexicographic.{slice_cmp}
 use Rattle.std.specs.List.{AllByRecursion}
@@ -43,16 +43,3 @@ pub inserted-last : {V W : Type 0} (done : List (Named V)) (e : Named V) (more :
     → insert_entry string_cmp found k w ≡ found ++ (k, w) ∷ []
 inserted-last done e more found k w sorted same key =
     insert_entry-last found k w (rw (same, key) (above_before done e more sorted))
-
--- ---- among some of the members
-
-above-filter : {V : Type 0} (test : Named V → Bool) (k : List ℕ) (es : List (Named V)) → IsAbove k (names es) → IsAbove k (names (filter test es))
-above-filter test k [] h = tt
-above-filter test k (e ∷ es) h = elim (test e) as (λ b. IsAbove k (names (cond b (e ∷ filter test es) (filter test es)))) [ true ↦ (h.0, above-filter test k es h.1) | false ↦ above-filter test k es h.1 ]
-
--- the next member goes last, in a map with the names of some of those before it
-pub inserted-last-among : {V W : Type 0} (test : Named V → Bool) (done : List (Named V)) (e : Named V) (more : List (Named V)) (found : List (Named W)) (k : String Global) (w : W)
-    → IsStrictlySortedBy string_cmp (keys_of (done ++ e ∷ more)) → names found ≡ names (filter test done) → string_bytes k ≡ string_bytes e.0
-    → insert_entry string_cmp found k w ≡ found ++ (k, w) ∷ []
-inserted-last-among test done e more found k w sorted same key =
-    insert_entry-last found k w (rw (same, key) (above-filter test (string_bytes e.0) done (above_before done e more sorted)))

@@ -13,5 +13,6 @@ pub mod sink;
 pub mod source;
 #[cfg(test)]
 mod tests;
+pub mod text;
 pub mod value;
 pub mod write;

@@ -1,11 +1,27 @@
 //! Members of objects.
-ghost use Rattle.std.specs.Prelude.{◌≡◌, OnOk};
+ghost use Rattle.std.specs.Prelude.{◌≡◌, OnOk, option_map};
+ghost use Rattle.ssa_model.specs.Json.{member_of};
 ghost use Rattle.ssa_model.specs.Objects.{with_member};
+ghost use Rattle.ssa_model.specs.Schema.{has_member};
 ghost use Rattle.ssa_json.specs.View.{view, members_view};
 
 use crate::value::Json;
 use std::alloc::{AllocError, Global};
 use std::collections::BTreeMap;
+
+/// The member of a name, where there is one.
+pub fn find_member<'a>(members: &'a BTreeMap<String, Json>, name: &str) -> Option<&'a Json>
+    ensures { option_map (λ v. view v.now) result ≡ member_of name.now (members_view members.now.entries) }
+{
+    members.get(name)
+}
+
+/// Whether there is a member of the name.
+pub fn has_member(members: &BTreeMap<String, Json>, name: &str) -> bool
+    ensures { result ≡ has_member name.now (members_view members.now.entries) }
+{
+    find_member(members, name).is_some()
+}
 
 /// Puts a member in its place among members whose names rise, or in the place of the one of its name.
 pub fn put_member(

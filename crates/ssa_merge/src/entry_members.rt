@@ -11,6 +11,8 @@ ghost use Rattle.ssa_merge.specs.EntryReading.{IsNoEntry, Says, SaysIn};
 ghost use Rattle.ssa_merge.specs.Managers.{operation_view};
 
 use crate::manager::Operation;
+use ssa_json::members::{find_member, has_member};
+use ssa_json::text::is_same_text;
 use ssa_json::value::Json;
 use std::collections::BTreeMap;
 
@@ -24,28 +26,21 @@ pub struct Said<'a> {
     pub fields: &'a Json,
 }
 
-/// Whether both texts have the same bytes.
-pub fn is_same(text: &str, other: &str) -> bool
-    ensures { result ≡ same_text text.now other.now }
-{
-    text.as_bytes().cmp(other.as_bytes()).is_eq()
-}
-
 // Whether a member of this name is a text.
 fn is_text_name(name: &str) -> bool
     ensures { result ≡ list_any (same_text name.now) entry_texts }
 {
-    is_same(name, "apiVersion")
-        || is_same(name, "fieldsType")
-        || is_same(name, "manager")
-        || is_same(name, "operation")
-        || is_same(name, "time")
+    is_same_text(name, "apiVersion")
+        || is_same_text(name, "fieldsType")
+        || is_same_text(name, "manager")
+        || is_same_text(name, "operation")
+        || is_same_text(name, "time")
 }
 
 fn is_entry_member(name: &str, value: &Json) -> bool
     ensures { result ≡ is_entry_member name.now (view value.now) }
 {
-    is_same(name, "fieldsV1") || (is_text_name(name) && value.as_text().is_some())
+    is_same_text(name, "fieldsV1") || (is_text_name(name) && value.as_text().is_some())
 }
 
 fn are_entry_members(members: &BTreeMap<String, Json>) -> bool
@@ -58,18 +53,6 @@ fn are_entry_members(members: &BTreeMap<String, Json>) -> bool
         }
     }
     true
-}
-
-fn find_member<'a>(members: &'a BTreeMap<String, Json>, name: &str) -> Option<&'a Json>
-    ensures { option_map (λ v. view v.now) result ≡ member_of name.now (members_view members.now.entries) }
-{
-    members.get(name)
-}
-
-fn has_member(members: &BTreeMap<String, Json>, name: &str) -> bool
-    ensures { result ≡ has_member name.now (members_view members.now.entries) }
-{
-    find_member(members, name).is_some()
 }
 
 fn has_all_members(members: &BTreeMap<String, Json>) -> bool
@@ -96,10 +79,10 @@ fn text_at<'a>(members: &'a BTreeMap<String, Json>, name: &str) -> &'a str
 fn operation_of(text: &str) -> Option<Operation>
     ensures { option_map operation_view result ≡ operation_of text.now }
 {
-    if is_same(text, "Apply") {
+    if is_same_text(text, "Apply") {
         return Some(Operation::Apply);
     }
-    if is_same(text, "Update") {
+    if is_same_text(text, "Update") {
         return Some(Operation::Update);
     }
     None
@@ -112,7 +95,7 @@ fn said_by(members: &BTreeMap<String, Json>) -> Option<Said<'_>>
     if !are_entry_members(members) || !has_all_members(members) {
         return None;
     }
-    if !is_same(text_at(members, "fieldsType"), "FieldsV1") {
+    if !is_same_text(text_at(members, "fieldsType"), "FieldsV1") {
         return None;
     }
     let operation = operation_of(text_at(members, "operation"))?;

@@ -8,7 +8,7 @@ ghost use Rattle.ssa_merge.specs.EntryReading.{TellsEntry, TellsOwned, owning};
 ghost use Rattle.ssa_merge.specs.Managers.{entry_view, key_view, table_view};
 
 use crate::entry_fault::EntryFault;
-use crate::entry_members::{is_same, said_in};
+use crate::entry_members::said_in;
 use crate::manager::ManagerKey;
 use crate::managers::Entry;
 use crate::names::is_manager_name;
@@ -16,6 +16,7 @@ use crate::ownable::first_not_ownable;
 use crate::seat::is_in_table;
 use crate::shared_set::SharedSet;
 use ssa_json::moment::Moment;
+use ssa_json::text::is_same_text;
 use ssa_json::value::Json;
 use ssa_path::field_set::FieldSet;
 use ssa_typed::body::Body;
@@ -61,7 +62,7 @@ pub fn read_entry(
     if !is_manager_name(said.name) {
         return Err(EntryFault::ManagerName);
     }
-    if !is_same(said.version, api_version) {
+    if !is_same_text(said.version, api_version) {
         return Err(EntryFault::OtherVersion);
     }
     let Ok(at) = Moment::read(said.time) else {

@@ -4,11 +4,11 @@ use Rattle.std.specs.Prelude.{codes, is_some}
 use Rattle.std.specs.List.{list_any}
 use Rattle.ssa_model.specs.Json.{Json, object, Members, member_of, member_at}
 use Rattle.ssa_model.specs.Path.{Element, field, key, value, Path, element_text, same_element, same_path, is_root}
-use Rattle.ssa_model.specs.PathMap.{PathSet, has}
+use Rattle.ssa_model.specs.PathMap.{PathSet, has, listed}
 use Rattle.ssa_model.specs.Entries.{with_head, heads, tails, nothing_written, field_members, fields_json}
 use Rattle.ssa_model.specs.FieldsV1.{value_below, is_no_object, has_dot, says, IsCanonical, IsWritten}
 use Rattle.ssa_path.specs.FieldsWriting.{paths_json, below_json}
-use Rattle.ssa_path.specs.Trie.{has_some, is_one_of, is_trie, listed, paths}
+use Rattle.ssa_path.specs.Trie.{has_some, is_one_of, is_trie, paths}
 use Rattle.ssa_path.specs.declared.trie.Trie.{Trie}
 use Rattle.ssa_path.proofs.FieldsLevels.{dotted, level, any-root-is}
 use Rattle.ssa_path.proofs.InOrder.{paths-listed, rise-trie}

@@ -5,11 +5,11 @@ use Rattle.std.specs.Cmp.{tied_itself}
 use Rattle.std.specs.Ordering.{is_lt, ordering_then}
 use Rattle.std.specs.FinMap.Entries.{put, by_order}
 use Rattle.ssa_model.specs.Path.{Element, Path, element_cmp, path_cmp}
-use Rattle.ssa_model.specs.PathMap.{paths as set_paths, size}
+use Rattle.ssa_model.specs.PathMap.{paths as set_paths, size, listed, marked}
 use Rattle.ssa_path.specs.Children.{elements, is_below, rises}
 use Rattle.ssa_path.specs.View.{element_view}
 use Rattle.ssa_path.specs.Listing.{behind, stands_before, paths_rise, IsListed}
-use Rattle.ssa_path.specs.Trie.{are_filled_tries, here_path, is_filled, is_trie, listed, marked, paths, paths_after, paths_below}
+use Rattle.ssa_path.specs.Trie.{are_filled_tries, here_path, is_filled, is_trie, paths, paths_after, paths_below}
 use Rattle.ssa_path.specs.declared.element.Elem.{Elem}
 use Rattle.ssa_path.specs.declared.trie.Trie.{Trie}
 use Rattle.ssa_path.specs.declared.trie.Trie.TheFolds.{ind-Trie}

@@ -2,7 +2,6 @@
 use Rattle.std.specs.Prelude.{◌≡◌, List, [], ◌∷◌, ◌++◌, map, Bool, true, false, ◌&&◌, ◌||◌}
 use Rattle.std.specs.List.{list_any}
 use Rattle.ssa_model.specs.Path.{Element, Path, same_path, under}
-use Rattle.ssa_model.specs.PathMap.{PathSet, from_entries}
 use Rattle.ssa_path.specs.Children.{elements, rises}
 use Rattle.ssa_path.specs.View.{element_view}
 use Rattle.ssa_path.specs.declared.element.Elem.{Elem}
@@ -60,13 +59,6 @@ are_filled_tries cs = all_filled (map (λ c. (c.0, shape c.1)) cs)
 -- whether a path is one of these
 abbrev pub is_one_of : List Path → Path → Bool
 is_one_of ps p = list_any (same_path p) ps
-
-abbrev pub marked : List Path → List (Path × Unit {0})
-marked ps = map (λ p. (p, tt)) ps
-
--- the set of these paths
-abbrev pub listed : List Path → PathSet
-listed ps = from_entries (marked ps)
 
 -- ---- what functions over tries give
 

@@ -9,5 +9,4 @@ pub mod refusal;
 pub mod rules;
 pub mod shapes;
 pub mod standing;
-pub mod text;
 pub mod walk;

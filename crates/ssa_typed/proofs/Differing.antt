@@ -2,7 +2,7 @@
 use Rattle.std.proofs.Common.{◌≡◌, ℕ, ◌+◌, ◌<◌, List, [], ◌∷◌, length, get_or, drop, Bool, true, false, not, ◌&&◌, Option, Some, None, Ordering, Less, Equal, Greater, refl, sym, ap, subst, ◌∙◌}
 use Rattle.std.specs.Prelude.{is_some}
 use Rattle.ssa_model.specs.Path.{Element, Path, same_path}
-use Rattle.ssa_model.specs.PathMap.{PathSet, get, has, paths as set_paths}
+use Rattle.ssa_model.specs.PathMap.{PathSet, get, has, paths as set_paths, listed}
 use Rattle.ssa_model.specs.Body.{Body, Content, leaf, atom, record_branch, dict_branch, list_branch, is_other_leaf, points, added, modified, removed}
 use Rattle.ssa_model.proofs.PathMaps.{has-paths, has-set_of, same_sets}
 use Rattle.ssa_path.specs.Children.{child_at, heads_order}
@@ -11,7 +11,7 @@ use Rattle.ssa_path.specs.declared.element.Elem.{Elem}
 use Rattle.ssa_path.specs.declared.trie.Trie.{Trie}
 use Rattle.ssa_path.specs.declared.trie.Trie.TheOpen.{Trie-F}
 use Rattle.ssa_path.specs.declared.trie.Trie.TheViews.{roll-Trie}
-use Rattle.ssa_path.specs.Trie.{is_one_of, listed, paths}
+use Rattle.ssa_path.specs.Trie.{is_one_of, paths}
 use Rattle.ssa_path.specs.View.{element_view}
 use Rattle.ssa_path.proofs.Combining.{own-within, other-within, both-within}
 use Rattle.ssa_path.proofs.Levels.{any-made, is_trie-made, one-made-root, same_path-reading}

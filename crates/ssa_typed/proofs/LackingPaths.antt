@@ -2,7 +2,7 @@
 use Rattle.std.proofs.Common.{◌≡◌, ℕ, zero, suc, ◌+◌, ◌<◌, List, [], ◌∷◌, length, get_or, drop, true, false, not, ◌&&◌, Some, None, refl, sym, ap, subst, ◌∙◌, arith}
 use Rattle.std.specs.Prelude.{is_some}
 use Rattle.ssa_model.specs.Path.{Path, same_path}
-use Rattle.ssa_model.specs.PathMap.{has, set_of, paths as set_paths}
+use Rattle.ssa_model.specs.PathMap.{has, set_of, paths as set_paths, listed}
 use Rattle.ssa_model.proofs.PathMaps.{has-paths, has-set_of, same_sets}
 use Rattle.ssa_path.specs.Children.{child_at, elements, rises}
 use Rattle.ssa_path.specs.Combine.{IsGrown}
@@ -10,7 +10,7 @@ use Rattle.ssa_path.specs.declared.element.Elem.{Elem}
 use Rattle.ssa_path.specs.declared.trie.Trie.{Trie}
 use Rattle.ssa_path.specs.declared.trie.Trie.TheOpen.{Trie-F}
 use Rattle.ssa_path.specs.declared.trie.Trie.TheViews.{out-Trie, roll-Trie}
-use Rattle.ssa_path.specs.Trie.{Shape, is_one_of, is_trie, is_filled, are_filled_tries, listed, paths, shape}
+use Rattle.ssa_path.specs.Trie.{Shape, is_one_of, is_trie, is_filled, are_filled_tries, paths, shape}
 use Rattle.ssa_path.specs.View.{element_view}
 use Rattle.ssa_path.proofs.Levels.{any-below, any-level, any-made, found, is_trie-made, one-made-root, same_path-reading}
 use Rattle.ssa_path.proofs.Lists.{left-at}

@@ -5,14 +5,14 @@ use Rattle.std.specs.List.{list_any}
 use Rattle.std.specs.Ordering.{is_lt}
 use Rattle.ssa_model.specs.Body.{Content, leaf, atom, record_branch, dict_branch, list_branch, restricted, restricted_content}
 use Rattle.ssa_model.specs.Path.{Element, Path, element_cmp, is_item_element, is_root, same_element, under}
-use Rattle.ssa_model.specs.PathMap.{has_at_or_below}
+use Rattle.ssa_model.specs.PathMap.{has_at_or_below, listed}
 use Rattle.ssa_model.proofs.Fitting.{distinct-filter}
 use Rattle.ssa_model.proofs.PathMaps.{get-restricted, same_map}
 use Rattle.ssa_path.specs.Children.{child_at, elements, is_below, rises}
 use Rattle.ssa_path.specs.declared.element.Elem.{Elem}
 use Rattle.ssa_path.specs.declared.trie.Trie.{Trie}
 use Rattle.ssa_path.specs.declared.trie.Trie.TheViews.{out-Trie}
-use Rattle.ssa_path.specs.Trie.{are_filled_tries, is_filled, is_trie, listed, paths, paths_below}
+use Rattle.ssa_path.specs.Trie.{are_filled_tries, is_filled, is_trie, paths, paths_below}
 use Rattle.ssa_path.specs.View.{element_view}
 use Rattle.ssa_path.proofs.Levels.{any-below, any-level, any-root, found, under-reading}
 use Rattle.ssa_path.proofs.Orders.{both, both_first, both_second, same_element-true}

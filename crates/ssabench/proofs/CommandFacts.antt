@@ -85,10 +85,6 @@ pub rule_of-other : (t : Text) → same_text t (codes "apply") ≡ false → sam
     → same_text t (codes "show") ≡ false → same_text t (codes "owners") ≡ false → same_text t (codes "log") ≡ false → rule_of session_rules t ≡ None
 rule_of-other t not_apply not_update not_strip not_undo not_redo not_show not_owners not_log = rw (not_apply, not_update, not_strip, not_undo, not_redo, not_show, not_owners, not_log) refl
 
-pub is_some-view : (o : Option values.Json) → is_some (option_map view o) ≡ is_some o
-is_some-view None = refl
-is_some-view (Some v) = refl
-
 -- ---- the members of an apply command and of an update command
 
 is_true-or_false : (b : Bool) → (b || false) ≡ true → b ≡ true

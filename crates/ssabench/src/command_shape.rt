@@ -8,6 +8,8 @@ ghost use Rattle.ssa_model.specs.Commands.{rule_of, word_of, session_rules, is_t
 ghost use Rattle.ssabench.specs.PathTexts.{as_list};
 ghost use Rattle.ssabench.specs.Commands.{word_text, member_rules, rule_at};
 
+use ssa_json::members::{find_member, has_member};
+use ssa_json::text::is_same_text;
 use ssa_json::value::{Json, Scalar};
 use std::collections::BTreeMap;
 
@@ -24,30 +26,24 @@ pub enum Word {
     Log,
 }
 
-fn is_same(text: &str, other: &str) -> bool
-    ensures { result ≡ same_text text.now other.now }
-{
-    text == other
-}
-
 fn word_of_text(text: &str) -> Option<Word>
     ensures { MatchOption result (rule_of session_rules text.now ≡ None) (λ word. text.now ≡ word_text word) }
 {
-    if is_same(text, "apply") {
+    if is_same_text(text, "apply") {
         Some(Word::Apply)
-    } else if is_same(text, "update") {
+    } else if is_same_text(text, "update") {
         Some(Word::Update)
-    } else if is_same(text, "strip") {
+    } else if is_same_text(text, "strip") {
         Some(Word::Strip)
-    } else if is_same(text, "undo") {
+    } else if is_same_text(text, "undo") {
         Some(Word::Undo)
-    } else if is_same(text, "redo") {
+    } else if is_same_text(text, "redo") {
         Some(Word::Redo)
-    } else if is_same(text, "show") {
+    } else if is_same_text(text, "show") {
         Some(Word::Show)
-    } else if is_same(text, "owners") {
+    } else if is_same_text(text, "owners") {
         Some(Word::Owners)
-    } else if is_same(text, "log") {
+    } else if is_same_text(text, "log") {
         Some(Word::Log)
     } else {
         None
@@ -58,7 +54,7 @@ fn word_of_text(text: &str) -> Option<Word>
 pub fn text_of<'a>(members: &'a BTreeMap<String, Json>, name: &str) -> Option<&'a str>
     ensures { option_map (λ text. text.now) result ≡ option_and_then as_text (member_of name.now (members_view members.now.entries)) }
 {
-    members.get(name)?.as_text()
+    find_member(members, name)?.as_text()
 }
 
 // The items, where the value is a list.
@@ -75,7 +71,7 @@ fn as_list(value: &Json) -> Option<&[Json]>
 pub fn list_of<'a>(members: &'a BTreeMap<String, Json>, name: &str) -> Option<&'a [Json]>
     ensures { option_map (λ items. items_view items.now) result ≡ option_and_then as_list (member_of name.now (members_view members.now.entries)) }
 {
-    as_list(members.get(name)?)
+    as_list(find_member(members, name)?)
 }
 
 /// The word of a command, where it is one.
@@ -84,12 +80,6 @@ pub fn word_of(members: &BTreeMap<String, Json>) -> Option<Word>
         (λ word. word_of (members_view members.now.entries) ≡ Some (word_text word)) }
 {
     word_of_text(text_of(members, "do")?)
-}
-
-fn has_member(members: &BTreeMap<String, Json>, name: &str) -> bool
-    ensures { result ≡ has_member name.now (members_view members.now.entries) }
-{
-    members.contains_key(name)
 }
 
 fn is_text(value: &Json) -> bool
@@ -130,17 +120,17 @@ fn is_list_of_texts(value: &Json) -> bool
 fn is_update_member(name: &str, value: &Json) -> bool
     ensures { result ≡ is_known_member (member_rules Word.Update) name.now (view value.now) }
 {
-    is_same(name, "do")
-        || (is_same(name, "at") && is_text(value))
-        || (is_same(name, "manager") && is_text(value))
-        || is_same(name, "object")
+    is_same_text(name, "do")
+        || (is_same_text(name, "at") && is_text(value))
+        || (is_same_text(name, "manager") && is_text(value))
+        || is_same_text(name, "object")
 }
 
 // Whether an apply command may have the member.
 fn is_apply_member(name: &str, value: &Json) -> bool
     ensures { result ≡ is_known_member (member_rules Word.Apply) name.now (view value.now) }
 {
-    is_update_member(name, value) || (is_same(name, "force") && is_truth(value))
+    is_update_member(name, value) || (is_same_text(name, "force") && is_truth(value))
 }
 
 // Whether a command of the word may have the member.
@@ -150,9 +140,11 @@ fn is_known_member(word: Word, name: &str, value: &Json) -> bool
     match word {
         Word::Apply => is_apply_member(name, value),
         Word::Update => is_update_member(name, value),
-        Word::Owners => is_same(name, "do") || (is_same(name, "path") && is_list_of_texts(value)),
-        Word::Show => is_same(name, "do") || (is_same(name, "managed") && is_truth(value)),
-        Word::Strip | Word::Undo | Word::Redo | Word::Log => is_same(name, "do"),
+        Word::Owners => is_same_text(name, "do")
+            || (is_same_text(name, "path") && is_list_of_texts(value)),
+        Word::Show => is_same_text(name, "do")
+            || (is_same_text(name, "managed") && is_truth(value)),
+        Word::Strip | Word::Undo | Word::Redo | Word::Log => is_same_text(name, "do"),
     }
 }
 

@@ -14,7 +14,6 @@ use ssa_path::element::Elem;
 use ssa_path::field_set::FieldSet;
 use ssa_path::path::Path;
 use std::alloc::{AllocError, Global};
-use std::str;
 
 /// Appends the comma in front of each item but the first.
 pub fn push_comma(text: &mut Vec<u8>, is_later: bool) -> Result<(), AllocError>
@@ -54,11 +53,8 @@ pub fn push_value(alloc: Global, text: &mut Vec<u8>, value: &Json) -> Result<(),
 fn push_element(alloc: Global, text: &mut Vec<u8>, element: &Elem) -> Result<(), AllocError>
     ensures { OnOk result (text.new.items ≡ text.old.items ++ compact (text_json (element_text (element_view element.now)))) }
 {
-    let bytes = element.text(alloc)?;
-    let Ok(own) = str::from_utf8(&bytes) else {
-        unreachable!("the text of an element is UTF-8");
-    };
-    push_string(alloc, text, own)
+    let value = Json::Scalar(Scalar::Text(element.name(alloc)?));
+    push_value(alloc, text, &value)
 }
 
 /// Appends a path: the list of its elements' texts.

@@ -16,6 +16,8 @@ mod log_text;
 mod machine;
 mod path_texts;
 mod program;
+#[cfg(test)]
+mod program_tests;
 mod read_command;
 mod read_line;
 mod reply_text;

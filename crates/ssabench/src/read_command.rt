@@ -13,6 +13,7 @@ use crate::command_shape::{Word, follows_rule, list_of, text_of, word_of};
 use crate::path_texts::path_of_texts;
 use ssa_bench::command as bench;
 use ssa_json::fault::JsonFault;
+use ssa_json::members::find_member;
 use ssa_json::moment::Moment;
 use ssa_json::value::{Json, Scalar};
 use ssa_path::element_fault::ElemFault;
@@ -198,7 +199,7 @@ fn is_true(value: &Json) -> bool
 fn truth_of(members: &BTreeMap<String, Json>, name: &str) -> bool
     ensures { result ≡ truth_in (member_of name.now (members_view members.now.entries)) }
 {
-    match members.get(name) {
+    match find_member(members, name) {
         Some(value) => is_true(value),
         None => false,
     }

@@ -6,7 +6,7 @@ ghost use Rattle.ssa_model.specs.Kind.{item_key};
 ghost use Rattle.ssa_json.specs.View.{members_view, scalar_view};
 ghost use Rattle.ssa_schema.specs.Kinds.{names_view};
 
-use crate::read::members::find_member;
+use ssa_json::members::find_member;
 use ssa_json::value::{Json, Scalar};
 use std::alloc::{AllocError, Global};
 use std::collections::BTreeMap;

@@ -8,7 +8,7 @@ ghost use Rattle.ssa_schema.specs.Finds.{Breaks};
 use crate::fit::found::Misfit;
 use crate::fit::shape_misfit::scalar_misfit;
 use crate::kind::{Kind, find_field};
-use crate::read::members::find_member;
+use ssa_json::members::find_member;
 use ssa_json::value::Json;
 use std::collections::BTreeMap;
 

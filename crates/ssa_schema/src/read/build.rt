@@ -8,9 +8,10 @@ ghost use Rattle.ssa_schema.specs.Builds.{kind_at, merged_kind, list_kind_at, fi
 
 use crate::kind::{Kind, ScalarKind};
 use crate::read::key_names::sorted_keys;
-use crate::read::members::{find_member, is_array_type, is_atomic, is_object_type, list_type_is};
+use crate::read::members::{is_array_type, is_atomic, is_object_type, list_type_is};
 use crate::read::rules::{item_members, property_members};
 use crate::read::shapes::{scalar_kind_of, shape_of};
+use ssa_json::members::find_member;
 use ssa_json::value::Json;
 use std::alloc::{AllocError, Global};
 use std::collections::BTreeMap;

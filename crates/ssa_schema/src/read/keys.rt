@@ -7,10 +7,11 @@ ghost use Rattle.ssa_schema.specs.Words.{are_distinct_in, are_text_items, each_t
 ghost use Rattle.ssa_schema.specs.Refusals.{refusal_view, first_of};
 
 use crate::read::members::{
-    find_member, has_member, is_array_type, is_atomic, is_object_type, is_scalar_type, list_type_is,
+    is_array_type, is_atomic, is_object_type, is_scalar_type, list_type_is,
 };
 use crate::read::refusal::Refusal;
 use crate::read::rules::{item_members, property_members};
+use ssa_json::members::{find_member, has_member};
 use ssa_json::value::Json;
 use std::alloc::{AllocError, Global};
 use std::collections::{BTreeMap, BTreeSet};

@@ -5,23 +5,10 @@ ghost use Rattle.ssa_model.specs.Schema.{has_member, member_is, is_one_of_texts,
 ghost use Rattle.ssa_json.specs.View.{view, members_view};
 ghost use Rattle.ssa_schema.specs.Words.{value_is};
 
-use crate::read::text::is_same_text;
+use ssa_json::members::{find_member, has_member};
+use ssa_json::text::is_same_text;
 use ssa_json::value::Json;
 use std::collections::BTreeMap;
-
-/// The member of a name, where there is one.
-pub fn find_member<'a>(members: &'a BTreeMap<String, Json>, name: &str) -> Option<&'a Json>
-    ensures { option_map (λ v. view v.now) result ≡ member_of name.now (members_view members.now.entries) }
-{
-    members.get(name)
-}
-
-/// Whether there is a member of the name.
-pub fn has_member(members: &BTreeMap<String, Json>, name: &str) -> bool
-    ensures { result ≡ has_member name.now (members_view members.now.entries) }
-{
-    find_member(members, name).is_some()
-}
 
 /// Whether the value is the text.
 pub fn value_is(value: &Json, text: &str) -> bool

@@ -9,10 +9,11 @@ ghost use Rattle.ssa_schema.specs.Words.{members_found, members_under, lacks_typ
 ghost use Rattle.ssa_schema.specs.Standings.{standing_view};
 
 use crate::read::members::{
-    find_member, has_marker, has_member, is_array_type, is_atomic, is_object_type, is_one_of,
-    is_scalar_type, is_text_among, list_type_is, value_is,
+    has_marker, is_array_type, is_atomic, is_object_type, is_one_of, is_scalar_type, is_text_among,
+    list_type_is, value_is,
 };
 use crate::read::standing::Standing;
+use ssa_json::members::{find_member, has_member};
 use ssa_json::value::Json;
 use std::collections::BTreeMap;
 

@@ -6,8 +6,9 @@ ghost use Rattle.ssa_schema.specs.Kinds.{scalar_kind_view, shape_view, shape_fie
 ghost use Rattle.ssa_schema.specs.Builds.{shape_at, object_shape, list_shape_at, fields_shape_at};
 
 use crate::kind::{ScalarKind, Shape};
-use crate::read::members::{find_member, is_array_type, is_object_type, member_is};
+use crate::read::members::{is_array_type, is_object_type, member_is};
 use crate::read::rules::property_members;
+use ssa_json::members::find_member;
 use ssa_json::value::Json;
 use std::alloc::{AllocError, Global};
 use std::collections::BTreeMap;

@@ -7,10 +7,10 @@ ghost use Rattle.ssa_schema.specs.Standings.{standing_view};
 ghost use Rattle.ssa_schema.specs.Refusals.{refusal_view, first_of, own_faults, object_faults, faults_at};
 
 use crate::read::keys::{has_wrong_keys, items_refusal};
-use crate::read::members::find_member;
 use crate::read::refusal::Refusal;
 use crate::read::rules::{has_unknown_keyword, has_wrong_shape, has_wrong_type, property_members};
 use crate::read::standing::Standing;
+use ssa_json::members::find_member;
 use ssa_json::value::Json;
 use std::alloc::{AllocError, Global};
 use std::collections::BTreeMap;

@@ -14,7 +14,7 @@ returns c =
     let o = operation_view c.in_ok-operation.operation in
     let are = sym c.are_entry_members.ensures.told ∙ c.if-not-are_entry_members.false in
     let all = sym c.has_all_members.ensures ∙ c.if-not-has_all_members.false in
-    let kind = sym (c.is_same.ensures ∙ ap (λ t. same_text t (codes "FieldsV1")) c.text_at.ensures) ∙ c.if-not-is_same.false in
+    let kind = sym (c.is_same_text.ensures ∙ ap (λ t. same_text t (codes "FieldsV1")) c.text_at.ensures) ∙ c.if-not-is_same_text.false in
     let word = sym (ap (option_map operation_view) c.in_ok-operation.was) ∙ c.operation_of.ensures ∙ ap operation_of c.text_at-2.ensures in
     let fields = ap value_in (sym (ap (option_map (λ v. view v.now)) c.in-Some.is) ∙ c.find_member.ensures) in
     record {
