@@ -1,0 +1,37 @@
+-- The text of a bench file: one compact value a line, each line ended by a line feed.
+use Rattle.std.specs.Prelude.{◌+◌, List, [], ◌∷◌, ◌++◌, map, length, flat_map, true, codes}
+use Rattle.ssa_model.specs.Json.{Text, Json, object, no_members, member, compact}
+use Rattle.ssa_model.specs.Entries.{object_of_state}
+use Rattle.ssa_model.specs.Operations.{State}
+use Rattle.ssa_model.specs.History.{Step, Timeline, Bench}
+use Rattle.ssa_model.specs.Replies.{number_json, label_json}
+
+abbrev pub line : Json → Text
+line v = compact v ++ 10 ∷ []
+
+-- the format, the place of the present state, and how many states there are
+abbrev pub head_json : Timeline → Json
+head_json t =
+    object (member (codes "format") (number_json 1) (member (codes "place") (number_json t.place) (member (codes "states") (number_json (length t.later + 1)) no_members)))
+
+-- a state's object, and the command that made it
+abbrev pub state_json : Json → Json → Json
+state_json command shown = object (member (codes "command") command (member (codes "object") shown no_members))
+
+-- the object of a state, with its managers' entries
+abbrev pub whole_object : Bench → State → Json
+whole_object bench s = object_of_state bench.identity bench.schema.1 true s
+
+-- no command made the first state
+abbrev pub first_json : Bench → Json
+first_json bench = state_json (object no_members) (whole_object bench bench.timeline.first)
+
+abbrev pub step_json : Bench → Step → Json
+step_json bench s = state_json (label_json s.label) (whole_object bench s.state)
+
+-- the head, the schema, and the states in their order
+abbrev pub bench_values : Bench → List Json
+bench_values bench = head_json bench.timeline ∷ bench.schema.0 ∷ first_json bench ∷ map (step_json bench) bench.timeline.later
+
+abbrev pub bench_text : Bench → Text
+bench_text bench = flat_map line (bench_values bench)
