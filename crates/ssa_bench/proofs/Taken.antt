@@ -9,19 +9,19 @@ use Rattle.ssa_model.specs.Kind as kinds
 use Rattle.ssa_model.specs.Kind.{Kind, faults, wrong_type}
 use Rattle.ssa_model.specs.PathMap.{size}
 use Rattle.ssa_model.specs.Body.{flat}
-use Rattle.ssa_model.specs.Objects.{identity_of}
+use Rattle.ssa_model.specs.Objects.{identity_of, body_value, file_value}
 use Rattle.ssa_model.specs.GivenEntries as entries
 use Rattle.ssa_model.specs.Table.{Table}
 use Rattle.ssa_model.specs.Operations.{State, too_many_paths}
 use Rattle.ssa_model.specs.Answers as model
-use Rattle.ssa_model.specs.Answers.{body_fault, refused, identity_fault, managed_fields_given, has_identity, gives_managed_fields, names_itself, body_or_fault, command_body, bench_of, given_table, with_lone_state, with_table}
+use Rattle.ssa_model.specs.Answers.{body_fault, refused, identity_fault, managed_fields_given, has_identity, gives_managed_fields, names_itself, body_or_fault, command_body, bench_of, given_table, with_lone_state, with_table, file_state}
 use Rattle.ssa_schema.specs.Finds.{Told, told, told_view}
 use Rattle.ssa_schema.specs.Refusals.{first_of}
 use Rattle.ssa_schema.specs.declared.body_fault.BodyFault.{BodyFault}
 use Rattle.ssa_json.specs.Readings.{readings}
-use Rattle.ssa_bench.specs.Benches.{file_state_of, table_or_fault}
+use Rattle.ssa_bench.specs.Benches.{table_or_fault}
 use Rattle.ssa_bench.specs.Faults.{IsFault, IsGiven}
-use Rattle.ssa_bench.specs.Identities.{identity_in, body_value_of, file_value_of}
+use Rattle.ssa_bench.specs.Identities.{identity_in}
 use Rattle.ssa_bench.specs.declared.fault.Fault.{Fault}
 use Rattle.ssa_bench.specs.declared.fault.Fault.TheVariants.{Body, TooManyPaths, Identity, ManagedFieldsGiven, Entry, ManagerName, HistoryFull, NothingToUndo, NothingToRedo, Conflict, TooManyManagers, OutOfMemory}
 
@@ -91,7 +91,7 @@ body_or_fault-first kind v f h = first-told kind v f (faults kind v []) h
 -- ---- a command's object
 
 abbrev tested : Bench → Json → Bool → Bool → Result bodies.Body model.Fault
-tested bench v identity managed = if not identity then Err identity_fault else (if managed then Err managed_fields_given else body_or_fault bench.schema.1 (body_value_of v))
+tested bench v identity managed = if not identity then Err identity_fault else (if managed then Err managed_fields_given else body_or_fault bench.schema.1 (body_value v))
 
 -- the tests in their order, once the value is an object
 pub command_body-tested : (bench : Bench) (v : Json) → is_object v ≡ true → command_body bench v ≡ tested bench v (has_identity bench v) (gives_managed_fields v)
@@ -99,7 +99,7 @@ command_body-tested bench (object ms) h = refl
 command_body-tested bench (list vs) h = absurd (true≢false (sym h))
 command_body-tested bench (scalar s) h = absurd (true≢false (sym h))
 
-pub command_body-taken : (bench : Bench) (v : Json) → is_object v ≡ true → has_identity bench v ≡ true → gives_managed_fields v ≡ false → command_body bench v ≡ body_or_fault bench.schema.1 (body_value_of v)
+pub command_body-taken : (bench : Bench) (v : Json) → is_object v ≡ true → has_identity bench v ≡ true → gives_managed_fields v ≡ false → command_body bench v ≡ body_or_fault bench.schema.1 (body_value v)
 command_body-taken bench v o i m = command_body-tested bench v o ∙ (λ k. tested bench v (i k) (m k))
 
 pub regrouped : (a b c : Bool) → (a && b) ≡ true → c ≡ true → (a && (b && c)) ≡ true
@@ -123,14 +123,14 @@ with_table-or_fault body (Err f) = refl
 abbrev and_table : Json → Result bodies.Body model.Fault → Result State model.Fault
 and_table v r = elim r [ Ok body ↦ with_table body (given_table readings body v) | Err f ↦ Err f ]
 
-pub file_state-body : (kind : Kind) (v : Json) (body : bodies.Body) (r : Result Table model.Fault) → body_or_fault kind (file_value_of v) ≡ Ok body → table_or_fault (given_table readings body v) ≡ r
-    → file_state_of kind v ≡ and_body body r
+pub file_state-body : (kind : Kind) (v : Json) (body : bodies.Body) (r : Result Table model.Fault) → body_or_fault kind (file_value v) ≡ Ok body → table_or_fault (given_table readings body v) ≡ r
+    → file_state readings kind v ≡ and_body body r
 file_state-body kind v body r e h = ap (and_table v) e ∙ with_table-or_fault body (given_table readings body v) ∙ ap (and_body body) h
 
 abbrev made : Schema → Json → Bool → Result State model.Fault → Result Bench model.Fault
 made schema v identity r = if not identity then Err identity_fault else with_lone_state schema (identity_of v) r
 
-bench_of-tested : (schema : Schema) (v : Json) → is_object v ≡ true → bench_of readings schema v ≡ made schema v (names_itself v) (file_state_of schema.1 v)
+bench_of-tested : (schema : Schema) (v : Json) → is_object v ≡ true → bench_of readings schema v ≡ made schema v (names_itself v) (file_state readings schema.1 v)
 bench_of-tested schema (object ms) h = refl
 bench_of-tested schema (list vs) h = absurd (true≢false (sym h))
 bench_of-tested schema (scalar s) h = absurd (true≢false (sym h))
@@ -156,10 +156,10 @@ pub identity-found : (v : Json) (i : List (Option Json)) → ◌≡◌ {A = Opti
 identity-found v i h = (named v (names_itself v) i h).1
 
 pub bench_of-nameless : (schema : Schema) (v : Json) → is_object v ≡ true → ◌≡◌ {A = Option (List (Option Json))} None (identity_in v) → bench_of readings schema v ≡ Err identity_fault
-bench_of-nameless schema v o h = bench_of-tested schema v o ∙ ap (λ b. made schema v b (file_state_of schema.1 v)) (unnamed v (names_itself v) h)
+bench_of-nameless schema v o h = bench_of-tested schema v o ∙ ap (λ b. made schema v b (file_state readings schema.1 v)) (unnamed v (names_itself v) h)
 
 pub bench_of-state : (schema : Schema) (v : Json) (i : List (Option Json)) (r : Result State model.Fault) → is_object v ≡ true → ◌≡◌ {A = Option (List (Option Json))} (Some i) (identity_in v)
-    → file_state_of schema.1 v ≡ r → bench_of readings schema v ≡ with_lone_state schema i r
+    → file_state readings schema.1 v ≡ r → bench_of readings schema v ≡ with_lone_state schema i r
 bench_of-state schema v i r o h e =
     let found = named v (names_itself v) i h in
     bench_of-tested schema v o ∙ (λ k. made schema v (found.0 k) (e k)) ∙ (λ k. with_lone_state schema (sym found.1 k) r)

@@ -8,13 +8,12 @@ use Rattle.std.specs.List.Sorted.{IsStrictlySortedBy}
 use Rattle.std.specs.Map.{keys_of, lookup, remove_entry, set_value}
 use Rattle.std.specs.BTreeMap.{is_at}
 use Rattle.ssa_model.specs.Json.{Text, Json, scalar, list, object, same_text, Members, no_members, member, member_of}
-use Rattle.ssa_model.specs.Objects.{value_at, without, without_names, without_in_metadata, file_names}
+use Rattle.ssa_model.specs.Objects.{value_at, without, without_names, without_in_metadata, file_names, file_value}
 use Rattle.ssa_json.specs.View.{view, members_view}
 use Rattle.ssa_json.specs.declared.value.Json as values
 use Rattle.ssa_json.proofs.Converting.{Found}
 use Rattle.ssa_json.proofs.Equality.{same_text-true}
 use Rattle.ssa_model.proofs.Tables.{or-false}
-use Rattle.ssa_bench.specs.Identities.{file_value_of}
 
 -- the test by which a map finds a name
 abbrev pub finds : Text → String Global → Bool
@@ -157,7 +156,7 @@ metadata-later names ns (member k v ms) =
     ]
 
 -- the managers' entries are no part of the value
-pub without_entries : (ms : Members) → file_value_of (object (without_in_metadata (codes "managedFields" ∷ []) ms)) ≡ file_value_of (object ms)
+pub without_entries : (ms : Members) → file_value (object (without_in_metadata (codes "managedFields" ∷ []) ms)) ≡ file_value (object ms)
 without_entries ms =
     let identity = codes "apiVersion" ∷ codes "kind" ∷ [] in
     ap (λ rest. object (without_in_metadata file_names rest)) (metadata-later identity (codes "managedFields" ∷ []) ms)

@@ -1,5 +1,6 @@
 -- What commands on a bench answer, and how the bench goes on.
 use Rattle.std.specs.Prelude.{◌≡◌, List, [], Option, None, Some, Result, Ok, Err, if◌then◌else◌, not, nat_le, length, codes}
+use Rattle.ssa_model.specs.Objects.{file_value}
 use Rattle.ssa_model.specs.Json.{Text, Json}
 use Rattle.ssa_model.specs.Kind.{Kind}
 use Rattle.ssa_model.specs.Body.{Body}
@@ -18,7 +19,7 @@ use Rattle.ssa_merge.specs.declared.plan.Plan.{Plan}
 use Rattle.ssa_merge.specs.declared.state.State.{State}
 use Rattle.ssa_bench.specs.Faults.{IsFault, IsGiven}
 use Rattle.ssa_bench.specs.Histories.{label_view}
-use Rattle.ssa_bench.specs.Identities.{file_value_of, version_of}
+use Rattle.ssa_bench.specs.Identities.{version_of}
 use Rattle.ssa_bench.specs.declared.fault.Fault.{Fault}
 use Rattle.ssa_bench.specs.declared.fault.Fault.TheVariants.{OutOfMemory}
 use Rattle.ssa_bench.specs.declared.prepared.Changed.{Changed}
@@ -44,11 +45,6 @@ table_or_fault (Err f) = Err (answers.entry_fault f)
 -- the table that these entries give under the version of the identity; no entries are an empty table
 abbrev pub table_of_entries : Body → List (Option Json) → Option Json → Result Table EntryFault
 table_of_entries body identity given = elim given [ None ↦ Ok [] | Some entries ↦ table_of readings body (version_of identity) entries ]
-
--- the state of an object file, or its first fault: the body's come before the entries'
-abbrev pub file_state_of : Kind → Json → Result operations.State answers.Fault
-file_state_of kind v =
-    elim (answers.body_or_fault kind (file_value_of v)) [ Ok body ↦ answers.with_table body (answers.given_table readings body v) | Err f ↦ Err f ]
 
 -- the state is the given one, or the fault is
 abbrev pub IsGivenState : Result State Fault → Result operations.State answers.Fault → Type 0

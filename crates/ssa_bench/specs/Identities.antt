@@ -26,17 +26,3 @@ version_of (version ∷ rest) = text_in version
 -- the identity of an object that has one
 abbrev pub identity_in : Json → Option (List (Option Json))
 identity_in v = if is_some_object (value_at (codes "metadata" ∷ []) v) && is_identity (identity_of v) then Some (identity_of v) else None
-
--- an object without `apiVersion`, `kind` and these members of its metadata
-abbrev pub value_but : List Text → Json → Json
-value_but names (object ms) = value_without names ms
-value_but names (list vs) = list vs
-value_but names (scalar s) = scalar s
-
--- the body's value of a command's object
-abbrev pub body_value_of : Json → Json
-body_value_of = value_but identity_names
-
--- the body's value of an object file
-abbrev pub file_value_of : Json → Json
-file_value_of = value_but file_names

@@ -1,6 +1,6 @@
 //! The bench: an object, its managers, and the history of commands on it.
 ghost use Rattle.std.specs.Prelude.{◌≡◌, ◌<◌, ◌^◌, ◌||◌, nat_le, IfOk, OnOk, OnErr, false, true, option_map, codes, string_bytes};
-ghost use Rattle.ssa_model.specs.Answers.{answer, apply, update, strip, undo, redo, log, logged, apply_answer, bench_of, body_or_fault, command_body, owners_of};
+ghost use Rattle.ssa_model.specs.Answers.{answer, apply, update, strip, undo, redo, log, logged, apply_answer, bench_of, body_or_fault, command_body, owners_of, file_state};
 ghost use Rattle.ssa_model.specs.Entries.{object_of_state};
 ghost use Rattle.ssa_model.specs.History.{is_manager_name, past_len, future_len, present};
 ghost use Rattle.ssa_model.specs.Objects.{identity_of};
@@ -9,7 +9,7 @@ ghost use Rattle.ssa_json.specs.Readings.{readings};
 ghost use Rattle.ssa_json.specs.View.{view};
 ghost use Rattle.ssa_merge.specs.Managers.{lent_keys};
 ghost use Rattle.ssa_merge.specs.States.{state_view};
-ghost use Rattle.ssa_bench.specs.Benches.{lone_bench, next_bench, file_state_of, table_or_fault, CanCommit, IsExecuted, IsGivenState, IsMade, IsMoved, IsPrepared, table_of_entries, tested_body, update_answer};
+ghost use Rattle.ssa_bench.specs.Benches.{lone_bench, next_bench, table_or_fault, CanCommit, IsExecuted, IsGivenState, IsMade, IsMoved, IsPrepared, table_of_entries, tested_body, update_answer};
 ghost use Rattle.ssa_bench.specs.Faults.{IsGiven};
 ghost use Rattle.ssa_bench.specs.Commands.{command_view, command_word};
 ghost use Rattle.ssa_bench.specs.Histories.{lent_labels};
@@ -104,7 +104,7 @@ fn file_state(
     identity: &Identity,
 ) -> Result<State, Fault>
     requires { identity.now ≡ identity_of (view object) }
-    ensures given { IsGivenState result (file_state_of schema.now.1 (view object)) }
+    ensures given { IsGivenState result (file_state readings schema.now.1 (view object)) }
     ensures valid { IfOk result (λ s. IsValidState schema.now.1 (state_view s)) }
 {
     let (value, entries) = file_parts(object);

@@ -4,9 +4,8 @@
 //! asked for.
 ghost use Rattle.std.specs.Prelude.{◌≡◌, ◌∷◌, [], codes, map, option_map};
 ghost use Rattle.ssa_model.specs.Json.{object};
-ghost use Rattle.ssa_model.specs.Objects.{value_at, without, without_names, without_in_metadata};
+ghost use Rattle.ssa_model.specs.Objects.{value_at, without, without_names, without_in_metadata, body_value, file_value, value_without};
 ghost use Rattle.ssa_json.specs.View.{view, members_view};
-ghost use Rattle.ssa_bench.specs.Identities.{body_value_of, file_value_of, value_but};
 
 use ssa_json::value::{Json, Scalar};
 use std::collections::BTreeMap;
@@ -14,9 +13,9 @@ use std::mem;
 
 /// A command's object without its identity.
 pub fn body_value(object: Json) -> Json
-    ensures { view result ≡ body_value_of (view object) }
+    ensures { view result ≡ body_value (view object) }
 {
-    value_but(object, &["name", "namespace"])
+    value_without(object, &["name", "namespace"])
 }
 
 /// The body's value of an object file, and the value of its `metadata.managedFields`, where it is
@@ -25,7 +24,7 @@ pub fn body_value(object: Json) -> Json
 /// The body's value is the object without its identity, the managers' entries, and what a server
 /// keeps in `metadata`: `uid`, `resourceVersion`, `generation`, `creationTimestamp` and `selfLink`.
 pub fn file_parts(object: Json) -> (Json, Option<Json>)
-    ensures value { view result.0 ≡ file_value_of (view object) }
+    ensures value { view result.0 ≡ file_value (view object) }
     ensures entries { option_map view result.1 ≡ value_at (codes "metadata" ∷ codes "managedFields" ∷ []) (view object) }
 {
     match object {
@@ -39,9 +38,9 @@ pub fn file_parts(object: Json) -> (Json, Option<Json>)
 
 // The body's value of an object file.
 fn file_value(object: Json) -> Json
-    ensures { view result ≡ file_value_of (view object) }
+    ensures { view result ≡ file_value (view object) }
 {
-    value_but(
+    value_without(
         object,
         &[
             "name",
@@ -57,8 +56,8 @@ fn file_value(object: Json) -> Json
 }
 
 // The object without `apiVersion` and `kind`, and without these members of its metadata.
-fn value_but(object: Json, names: &[&str]) -> Json
-    ensures { view result ≡ value_but (map (λ n. n.now) names.now) (view object) }
+fn value_without(object: Json, names: &[&str]) -> Json
+    ensures { view result ≡ value_without (map (λ n. n.now) names.now) (view object) }
 {
     match object {
         Json::Object(mut members) => {

@@ -1,6 +1,6 @@
 -- The answer to a command, and a run of commands.
 use Rattle.std.specs.Prelude.{ℕ, ◌+◌, ◌-◌, List, [], ◌∷◌, Bool, not, ◌&&◌, ◌==◌, length, Option, Some, None, Result, Ok, Err, if◌then◌else◌, nat_lt, nat_le, codes, map, filter, take, drop}
-use Rattle.ssa_model.specs.Json.{Text, Json, scalar, list, object, Members}
+use Rattle.ssa_model.specs.Json.{Text, Json, scalar, list, object}
 use Rattle.ssa_model.specs.Path.{Path}
 use Rattle.ssa_model.specs.PathMap.{PathSet, has, size}
 use Rattle.ssa_model.specs.Kind.{Kind, BodyFault, wrong_type, faults}
@@ -49,7 +49,7 @@ abbrev pub command_body : Bench → Json → Result Body Fault
 command_body bench (object ms) =
     if not (has_identity bench (object ms)) then Err identity_fault
     else (if gives_managed_fields (object ms) then Err managed_fields_given
-    else body_or_fault bench.schema.1 (body_value ms))
+    else body_or_fault bench.schema.1 (body_value (object ms)))
 command_body bench (list vs) = Err (body_fault wrong_type [])
 command_body bench (scalar s) = Err (body_fault wrong_type [])
 
@@ -80,14 +80,14 @@ module _ (readings : Readings) where
       ]
 
   -- the state of an object file, or its first fault: the body's come before the entries'
-  abbrev pub file_state : Kind → Members → Result State Fault
-  file_state kind ms = elim (body_or_fault kind (file_value ms)) [ Ok body ↦ with_table body (given_table body (object ms)) | Err f ↦ Err f ]
+  abbrev pub file_state : Kind → Json → Result State Fault
+  file_state kind v = elim (body_or_fault kind (file_value v)) [ Ok body ↦ with_table body (given_table body v) | Err f ↦ Err f ]
 
   -- the bench of an object file, or the file's first fault
   abbrev pub bench_of : Schema → Json → Result Bench Fault
   bench_of schema (object ms) =
       if not (names_itself (object ms)) then Err identity_fault
-      else with_lone_state schema (identity_of (object ms)) (file_state schema.1 ms)
+      else with_lone_state schema (identity_of (object ms)) (file_state schema.1 (object ms))
   bench_of schema (list vs) = Err (body_fault wrong_type [])
   bench_of schema (scalar s) = Err (body_fault wrong_type [])
 

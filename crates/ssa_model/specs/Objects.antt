@@ -64,9 +64,10 @@ abbrev pub without_in_metadata : List Text → Members → Members
 without_in_metadata names no_members = no_members
 without_in_metadata names (member n v ms) = member n (if same_text n (codes "metadata") then without_names names v else v) (without_in_metadata names ms)
 
--- the object without `apiVersion`, `kind` and these members of its metadata
-abbrev pub value_without : List Text → Members → Json
-value_without names ms = object (without_in_metadata names (without (codes "apiVersion" ∷ codes "kind" ∷ []) ms))
+-- an object without `apiVersion`, `kind` and these members of its metadata
+abbrev pub value_without : List Text → Json → Json
+value_without names (object ms) = object (without_in_metadata names (without (codes "apiVersion" ∷ codes "kind" ∷ []) ms))
+value_without names v = v
 
 -- the identity's members of metadata
 abbrev pub identity_names : List Text
@@ -79,11 +80,11 @@ file_names =
     ++ codes "uid" ∷ codes "resourceVersion" ∷ codes "generation" ∷ codes "creationTimestamp" ∷ codes "selfLink" ∷ codes "managedFields" ∷ []
 
 -- a command's object without its identity
-abbrev pub body_value : Members → Json
+abbrev pub body_value : Json → Json
 body_value = value_without identity_names
 
 -- the body's value of an object file
-abbrev pub file_value : Members → Json
+abbrev pub file_value : Json → Json
 file_value = value_without file_names
 
 -- ---- the object of a body

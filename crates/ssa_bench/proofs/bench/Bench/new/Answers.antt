@@ -2,10 +2,9 @@ use Rattle.std.proofs.Common.{◌≡◌, [], Option, None, Some, List, map, stri
 use Rattle.std.specs.Prelude.{Ok, Err}
 use Rattle.ssa_model.specs.Json.{Json}
 use Rattle.ssa_model.specs.Kind.{wrong_type}
-use Rattle.ssa_model.specs.Answers.{body_fault, identity_fault}
+use Rattle.ssa_model.specs.Answers.{body_fault, identity_fault, file_state}
 use Rattle.ssa_json.specs.View.{view}
 use Rattle.ssa_merge.specs.States.{state_view}
-use Rattle.ssa_bench.specs.Benches.{file_state_of}
 use Rattle.ssa_bench.specs.Identities.{identity_in}
 use Rattle.ssa_bench.proofs.Taken.{passed-on, identity-found, bench_of-no_object, bench_of-nameless, bench_of-state}
 use Rattle.ssa_bench.proofs.bench.Bench.new.Goals as goal
@@ -38,5 +37,5 @@ returns-in-Err c =
     let schema = c.args.schema in
     let v = view c.args.object in
     let some : ◌≡◌ {A = Option (List (Option Json))} (Some c.in-Some.identity) (identity_in v) = sym c.in-Some.is ∙ c.in_ok-identity.ensures in
-    passed-on c.in-Err.fault (file_state_of schema.1 v) _
+    passed-on c.in-Err.fault (file_state readings schema.1 v) _
     (λ g e. bench_of-state schema v c.in-Some.identity (Err g) (sym c.is_object.ensures ∙ c.if-not-is_object.false) some e) c.in-Err.ensures.given
