@@ -1,8 +1,6 @@
 -- What commands on a bench answer, and how the bench goes on.
 use Rattle.std.specs.Prelude.{◌≡◌, List, [], Option, None, Some, Result, Ok, Err, if◌then◌else◌, not, nat_le, length, codes}
-use Rattle.ssa_model.specs.Objects.{file_value}
 use Rattle.ssa_model.specs.Json.{Text, Json}
-use Rattle.ssa_model.specs.Kind.{Kind}
 use Rattle.ssa_model.specs.Body.{Body}
 use Rattle.ssa_model.specs.Table.{Table}
 use Rattle.ssa_model.specs.GivenEntries.{EntryFault, table_of}

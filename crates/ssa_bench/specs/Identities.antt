@@ -1,7 +1,7 @@
 -- What identities are.
 use Rattle.std.specs.Prelude.{◌≡◌, true, List, [], ◌∷◌, Option, Some, None, option_map, if◌then◌else◌, codes, ◌&&◌}
-use Rattle.ssa_model.specs.Json.{Text, Json, scalar, list, object}
-use Rattle.ssa_model.specs.Objects.{value_at, identity_of, is_identity, is_some_object, value_without, identity_names, file_names}
+use Rattle.ssa_model.specs.Json.{Text, Json}
+use Rattle.ssa_model.specs.Objects.{value_at, identity_of, is_identity, is_some_object}
 use Rattle.ssa_model.specs.Commands.{text_in}
 use Rattle.ssa_model.specs.Entries.{text_json}
 use Rattle.ssa_json.specs.View.{view}

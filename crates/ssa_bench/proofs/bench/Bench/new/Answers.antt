@@ -3,6 +3,7 @@ use Rattle.std.specs.Prelude.{Ok, Err}
 use Rattle.ssa_model.specs.Json.{Json}
 use Rattle.ssa_model.specs.Kind.{wrong_type}
 use Rattle.ssa_model.specs.Answers.{body_fault, identity_fault, file_state}
+use Rattle.ssa_json.specs.Readings.{readings}
 use Rattle.ssa_json.specs.View.{view}
 use Rattle.ssa_merge.specs.States.{state_view}
 use Rattle.ssa_bench.specs.Identities.{identity_in}
