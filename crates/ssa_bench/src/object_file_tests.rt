@@ -31,9 +31,18 @@ fn entry(
     operation: &str,
     more: &str,
 ) -> Result<String, Fail> {
-    Ok(format!(in alloc;
-        "{{\"apiVersion\":\"example.com/{version}\",\"fieldsType\":\"FieldsV1\",\"fieldsV1\":{fields},\"manager\":\"m1\",\"operation\":\"{operation}\"{more},\"time\":\"2024-05-01T10:00:01Z\"}}"
-    )?)
+    Ok([
+        "{\"apiVersion\":\"example.com/",
+        version,
+        "\",\"fieldsType\":\"FieldsV1\",\"fieldsV1\":",
+        fields,
+        ",\"manager\":\"m1\",\"operation\":\"",
+        operation,
+        "\"",
+        more,
+        ",\"time\":\"2024-05-01T10:00:01Z\"}",
+    ]
+    .concat(alloc)?)
 }
 
 const REPLICAS: &str = "{\"f:spec\":{\"f:replicas\":{}}}";

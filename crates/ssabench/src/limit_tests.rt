@@ -31,9 +31,17 @@ const DONE: &str =
 
 // An apply of the manager, with these further members of the metadata and of the object.
 fn apply(alloc: Global, manager: i64, metadata: &str, end: &str) -> Result<String, Fail> {
-    Ok(format!(in alloc;
-        "{{\"at\":\"2024-05-01T10:00:01Z\",\"do\":\"apply\",\"manager\":\"m{manager}\",\"object\":{{\"apiVersion\":\"example.com/v1\",\"kind\":\"App\",\"metadata\":{{{metadata}\"name\":\"web\"}}{end}}}}}"
-    )?)
+    let name = format!(in alloc; "m{manager}")?;
+    Ok([
+        "{\"at\":\"2024-05-01T10:00:01Z\",\"do\":\"apply\",\"manager\":\"",
+        name.as_str(),
+        "\",\"object\":{\"apiVersion\":\"example.com/v1\",\"kind\":\"App\",\"metadata\":{",
+        metadata,
+        "\"name\":\"web\"}",
+        end,
+        "}}",
+    ]
+    .concat(alloc)?)
 }
 
 // An apply of the manager with a label of its own.

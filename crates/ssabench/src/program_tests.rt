@@ -24,9 +24,18 @@ fn entry(
     manager: &str,
     time: &str,
 ) -> Result<String, Fail> {
-    Ok(format!(in alloc;
-        "{{\"apiVersion\":\"{version}\",\"fieldsType\":\"FieldsV1\",\"fieldsV1\":{fields},\"manager\":\"{manager}\",\"operation\":\"Apply\",\"time\":\"{time}\"}}"
-    )?)
+    Ok([
+        "{\"apiVersion\":\"",
+        version,
+        "\",\"fieldsType\":\"FieldsV1\",\"fieldsV1\":",
+        fields,
+        ",\"manager\":\"",
+        manager,
+        "\",\"operation\":\"Apply\",\"time\":\"",
+        time,
+        "\"}",
+    ]
+    .concat(alloc)?)
 }
 
 fn schema(alloc: Global) -> Result<Schema, Fail> {
@@ -35,9 +44,12 @@ fn schema(alloc: Global) -> Result<Schema, Fail> {
 
 // What the object `web` of three replicas with these entries makes: `made`, or the fault line.
 fn tell_made(alloc: Global, entries: &str) -> Result<Vec<u8>, Fail> {
-    let object = format!(in alloc;
-        "{{\"apiVersion\":\"example.com/v1\",\"kind\":\"App\",\"metadata\":{{\"managedFields\":{entries},\"name\":\"web\"}},\"spec\":{{\"replicas\":3}}}}"
-    )?;
+    let object = [
+        "{\"apiVersion\":\"example.com/v1\",\"kind\":\"App\",\"metadata\":{\"managedFields\":",
+        entries,
+        ",\"name\":\"web\"},\"spec\":{\"replicas\":3}}",
+    ]
+    .concat(alloc)?;
     match bench_of(alloc, schema(alloc)?, object.as_bytes()) {
         Ok(_bench) => Ok(Vec::from_slice(alloc, b"made")?),
         Err(line) => Ok(Vec::from_slice(alloc, line.bytes())?),
