@@ -4,6 +4,7 @@ ghost use Rattle.ssa_model.specs.Entries.{operation_text};
 ghost use Rattle.ssa_model.specs.Table.{same_operation, same_manager};
 ghost use Rattle.ssa_merge.specs.Managers.{operation_view, key_view};
 
+use ssa_json::text::is_same_text;
 use std::alloc::{AllocError, Global};
 
 /// How a manager came to own its fields, as `operation` in an entry of `managedFields`.
@@ -49,8 +50,8 @@ impl ManagerKey {
     pub fn is_same(&self, other: &ManagerKey) -> bool
         ensures { result ≡ same_manager (key_view self.now) (key_view other.now) }
     {
-        let order = self.name.as_bytes().cmp(other.name.as_bytes());
-        order.is_eq() && self.operation.is_same(other.operation)
+        is_same_text(self.name.as_str(), other.name.as_str())
+            && self.operation.is_same(other.operation)
     }
 
     /// The same manager, with new memory.

@@ -9,6 +9,7 @@ ghost use Rattle.ssa_path.specs.View.{element_view};
 use crate::combine::push_filled;
 use crate::element::Elem;
 use crate::trie::Trie;
+use ssa_json::text::is_same_text;
 use ssa_json::value::Scalar;
 use std::alloc::{AllocError, Global};
 
@@ -17,7 +18,7 @@ fn have_name(keys: &[(String, Scalar)], name: &str) -> bool
     ensures { result ≡ names_key (key (members_view keys.now)) (field name.now) }
 {
     for member in keys {
-        if name.as_bytes().cmp(member.0.as_str().as_bytes()).is_eq() {
+        if is_same_text(name, member.0.as_str()) {
             return true;
         }
     }
