@@ -6,6 +6,7 @@ pub mod body_value;
 pub mod command;
 pub mod fault;
 pub mod identity;
+pub mod label_json;
 #[cfg(test)]
 mod long_tests;
 #[cfg(test)]
