@@ -17,6 +17,7 @@ mod object_file_tests;
 pub mod prepared;
 #[cfg(test)]
 mod refusal_tests;
+pub mod saving;
 #[cfg(test)]
 mod tests;
 pub mod timeline;
