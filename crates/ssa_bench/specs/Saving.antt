@@ -1,12 +1,11 @@
 -- What a save writes, and why a bench is not saved.
 use Rattle.std.specs.Prelude.{◌≡◌, ◌<◌, ◌≤◌, ℕ, List, Option, Bool, true, length}
-use Rattle.ssa_model.specs.Json.{Text, Json, object, no_members}
-use Rattle.ssa_model.specs.Entries.{object_of_state}
-use Rattle.ssa_model.specs.BenchText.{line, state_json}
-use Rattle.ssa_model.specs.Replies.{label_json}
+use Rattle.ssa_model.specs.Json.{Text, Json}
+use Rattle.ssa_model.specs.BenchText.{line, first_json, step_json}
 use Rattle.ssa_model.specs.Operations.{State}
 use Rattle.ssa_model.specs.History.{Schema, Step, Timeline, Bench}
 use Rattle.ssa_json.specs.Devices.{AppendsPart}
+use Rattle.ssa_bench.specs.Benches.{lone_bench}
 use Rattle.ssa_bench.specs.declared.saving.SaveFault.{SaveFault}
 use Rattle.ssa_bench.specs.declared.saving.SaveFault.TheVariants.{BenchTooLong, Io, OutOfMemory}
 
@@ -25,15 +24,13 @@ CannotHold OutOfMemory text = Unit {0}
 abbrev pub bench_with : Schema → List (Option Json) → Timeline → Bench
 bench_with schema identity timeline = record { schema = schema; identity = identity; timeline = timeline }
 
--- the value of a state's line, under the schema and the identity
-abbrev pub state_value : Schema → List (Option Json) → Json → State → Json
-state_value schema identity command state = state_json command (object_of_state identity schema.1 true state)
-
+-- the value of the first state's line, under the schema and the identity
 abbrev pub first_value : Schema → List (Option Json) → State → Json
-first_value schema identity state = state_value schema identity (object no_members) state
+first_value schema identity state = first_json (lone_bench schema identity state)
 
+-- and of a later one's
 abbrev pub step_value : Schema → List (Option Json) → Step → Json
-step_value schema identity s = state_value schema identity (label_json s.label) s.state
+step_value schema identity s = step_json (lone_bench schema identity s.state) s
 
 abbrev pub step_line : Schema → List (Option Json) → Step → Text
 step_line schema identity s = line (step_value schema identity s)
