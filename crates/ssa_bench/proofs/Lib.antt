@@ -5,3 +5,4 @@ pub mod Histories
 pub mod Planned
 pub mod Taken
 pub mod Values
+pub mod SavingFacts

@@ -6,3 +6,4 @@ pub mod Commands
 pub mod Faults
 pub mod Refusals
 pub mod Benches
+pub mod Saving

@@ -1,9 +1,11 @@
 //! The bench: an object, its managers, and the history of commands on it.
-ghost use Rattle.std.specs.Prelude.{◌≡◌, ◌<◌, ◌^◌, ◌||◌, nat_le, IfOk, OnOk, OnErr, false, true, option_map, codes, string_bytes};
+ghost use Rattle.std.specs.Prelude.{◌≡◌, ◌≤◌, ◌<◌, ◌-◌, ◌^◌, ◌||◌, nat_le, length, IfErr, IfOk, OnOk, OnErr, false, true, option_map, codes, string_bytes};
 ghost use Rattle.ssa_model.specs.Answers.{answer, apply, update, strip, undo, redo, log, logged, apply_answer, bench_of, body_or_fault, command_body, owners_of, file_state};
 ghost use Rattle.ssa_model.specs.Entries.{object_of_state};
 ghost use Rattle.ssa_model.specs.History.{is_manager_name, past_len, future_len, present};
+ghost use Rattle.ssa_model.specs.BenchText.{bench_text};
 ghost use Rattle.ssa_model.specs.Objects.{identity_of};
+ghost use Rattle.ssa_model.specs.PathMap.{size};
 ghost use Rattle.ssa_model.specs.Valid.{IsTable, IsValidState};
 ghost use Rattle.ssa_json.specs.Readings.{readings};
 ghost use Rattle.ssa_json.specs.View.{view};
@@ -13,6 +15,8 @@ ghost use Rattle.ssa_bench.specs.Benches.{lone_bench, next_bench, table_or_fault
 ghost use Rattle.ssa_bench.specs.Faults.{IsGiven};
 ghost use Rattle.ssa_bench.specs.Commands.{command_view, command_word};
 ghost use Rattle.ssa_bench.specs.Histories.{lent_labels};
+ghost use Rattle.std.specs.Io.KnownBytes.{Appends};
+ghost use Rattle.ssa_bench.specs.Saving.{NotSaved};
 ghost use Rattle.ssa_bench.specs.ValidTimelines.{AllValid, IsValidBody};
 
 use crate::body_value::{body_value, file_parts};
@@ -21,8 +25,10 @@ use crate::fault::Fault;
 use crate::identity::{Identity, gives_managed_fields, has_identity};
 use crate::object::object_of_state;
 use crate::prepared::{Changed, Counts, Prepared, accepted};
+use crate::saving::{SaveFault, bench_text, write_text};
 use crate::timeline::{Label, Log, Timeline, labels};
 use ssa_json::moment::Moment;
+use ssa_json::sink::Sink;
 use ssa_json::value::Json;
 use ssa_merge::manager::ManagerKey;
 use ssa_merge::managers::Managers;
@@ -376,6 +382,15 @@ impl Bench {
         object_of_state(alloc, &self.identity, &self.schema, managed, now)
     }
 
+    /// How many managers the present state has, and how many paths its body has without the root.
+    pub fn counts(&self) -> (usize, usize)
+        ensures managers { result.0 ≡ length (present self.now.timeline).table }
+        ensures paths { result.1 ≡ size (present self.now.timeline).body - 1 }
+    {
+        let now = self.timeline.present();
+        (now.managers.len(), now.body.size() - 1)
+    }
+
     /// The managers that own the path in the present state, in table order: none of a path that nobody
     /// owns, or that is not there.
     pub fn owners(&self, alloc: Global, path: &Path) -> Result<Vec<&ManagerKey>, AllocError>
@@ -394,5 +409,18 @@ impl Bench {
         let past = labels(alloc, self.timeline.past())?;
         let future = labels(alloc, self.timeline.future())?;
         Ok(Log { past, future })
+    }
+
+    /// Writes the bench as a file, and hands it on. A file has at most
+    /// [`MOST_FILE_BYTES`](crate::saving::MOST_FILE_BYTES) bytes; nothing is written before all of it
+    /// stands in memory.
+    pub fn save<S: Sink>(&self, alloc: Global, sink: &mut S) -> Result<(), SaveFault>
+        ensures ok { OnOk result (Appends (S.contents sink.old) (S.contents sink.new) (bench_text self.now)) }
+        ensures fits { OnOk result (length (bench_text self.now) ≤ 67108864) }
+        ensures refused { IfErr result (NotSaved S.contents S.has_failed sink.old sink.new (bench_text self.now)) }
+    {
+        let text = bench_text(alloc, &self.schema, &self.identity, &self.timeline)?;
+        write_text(sink, &text)?;
+        Ok(())
     }
 }

@@ -6,6 +6,7 @@ pub mod body_value;
 pub mod command;
 pub mod fault;
 pub mod identity;
+pub mod label_json;
 #[cfg(test)]
 mod long_tests;
 #[cfg(test)]
@@ -16,6 +17,7 @@ mod object_file_tests;
 pub mod prepared;
 #[cfg(test)]
 mod refusal_tests;
+pub mod saving;
 #[cfg(test)]
 mod tests;
 pub mod timeline;

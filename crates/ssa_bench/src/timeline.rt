@@ -112,6 +112,20 @@ impl Timeline {
         }
     }
 
+    /// The first of all states.
+    pub fn first(&self) -> &State
+        ensures { state_view result.now ≡ self.now.first }
+    {
+        &self.first
+    }
+
+    /// The steps to all later states, oldest first, those behind the place too.
+    pub fn later(&self) -> &[Step]
+        ensures { steps_view result.now ≡ self.now.later }
+    {
+        &self.later
+    }
+
     /// How many states stand before the place.
     pub fn past_len(&self) -> usize
         ensures count { result ≡ past_len self.now }

@@ -1,11 +1,12 @@
 //! Members of objects.
 ghost use Rattle.std.specs.Prelude.{◌≡◌, OnOk, option_map};
+ghost use Rattle.ssa_model.specs.Entries.{text_json};
 ghost use Rattle.ssa_model.specs.Json.{member_of};
 ghost use Rattle.ssa_model.specs.Objects.{with_member};
 ghost use Rattle.ssa_model.specs.Schema.{has_member};
 ghost use Rattle.ssa_json.specs.View.{view, members_view};
 
-use crate::value::Json;
+use crate::value::{Json, Scalar};
 use std::alloc::{AllocError, Global};
 use std::collections::BTreeMap;
 
@@ -35,4 +36,17 @@ pub fn put_member(
     let key = String::from_str(alloc, name)?;
     drop(members.insert(key, value)?);
     Ok(())
+}
+
+/// Puts a text in its place among members whose names rise, or in the place of the one of its name.
+pub fn put_text(
+    alloc: Global,
+    members: &mut BTreeMap<String, Json>,
+    name: &str,
+    text: &str,
+) -> Result<(), AllocError>
+    ensures { OnOk result (members_view members.new.entries ≡ with_member name.now (text_json text.now) (members_view members.old.entries)) }
+{
+    let value = Json::Scalar(Scalar::Text(String::from_str(alloc, text)?));
+    put_member(alloc, members, name, value)
 }

@@ -1,7 +1,7 @@
 // Where bytes go.
-ghost use Rattle.std.specs.Prelude.{◌≡◌, ℕ, ◌<◌, ◌≤◌, List, length, Bool, true, Option, IfOk, IsTrue, IsErr, false};
-ghost use Rattle.std.specs.Io.KnownBytes.{Keeps, WriteAppends};
-ghost use Rattle.ssa_json.specs.Devices.{is_fault};
+ghost use Rattle.std.specs.Prelude.{◌≡◌, ℕ, ◌<◌, ◌≤◌, List, length, Bool, true, Option, IfOk, OnOk, OnErr, IsTrue, IsErr, false};
+ghost use Rattle.std.specs.Io.KnownBytes.{Appends, Keeps, WriteAppends};
+ghost use Rattle.ssa_json.specs.Devices.{AppendsPart, is_fault};
 
 use crate::source::DeviceFault;
 use std::io::Write;
@@ -27,6 +27,20 @@ pub trait Sink {
         ensures bytes { Keeps (contents self.old) (contents self.new) }
         ensures failed { has_failed self.new ≡ is_fault result }
         ensures stays_failed { IsTrue (has_failed self.old) → IsErr result };
+}
+
+/// Writes all the bytes. A fault leaves a beginning of them written.
+pub fn write_all<W: Sink>(writer: &mut W, bytes: &[u8]) -> Result<(), DeviceFault>
+    ensures ok { OnOk result (Appends (W.contents writer.old) (W.contents writer.new) bytes.now) }
+    ensures err { OnErr result (AppendsPart (W.contents writer.old) (W.contents writer.new) bytes.now) }
+    ensures failed { OnErr result (W.has_failed writer.new ≡ true) }
+{
+    let mut rest = bytes;
+    while !rest.is_empty() {
+        let n = writer.write(rest)?;
+        rest = &rest[n..];
+    }
+    Ok(())
 }
 
 /// A `std` writer as a sink. It has failed once the writer fails or takes no byte of some, and fails from then on.

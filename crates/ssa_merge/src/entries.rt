@@ -1,29 +1,15 @@
 //! The table of managers as the entries of `managedFields`.
-ghost use Rattle.std.specs.Prelude.{◌≡◌, IfOk, OnOk};
+ghost use Rattle.std.specs.Prelude.{◌≡◌, IfOk};
 ghost use Rattle.ssa_model.specs.Entries.{entry_items, entry_json, text_json};
 ghost use Rattle.ssa_model.specs.Json.{list};
-ghost use Rattle.ssa_model.specs.Objects.{with_member};
-ghost use Rattle.ssa_json.specs.View.{view, members_view};
+ghost use Rattle.ssa_json.specs.View.{view};
 ghost use Rattle.ssa_merge.specs.Managers.{entry_view};
 
 use crate::managers::{Entry, Managers};
-use ssa_json::members::put_member;
-use ssa_json::value::{Json, Scalar};
+use ssa_json::members::{put_member, put_text};
+use ssa_json::value::Json;
 use std::alloc::{AllocError, Global};
 use std::collections::BTreeMap;
-
-// Puts a text in its place among members.
-fn put_text(
-    alloc: Global,
-    members: &mut BTreeMap<String, Json>,
-    name: &str,
-    text: &str,
-) -> Result<(), AllocError>
-    ensures { OnOk result (members_view members.new.entries ≡ with_member name.now (text_json text.now) (members_view members.old.entries)) }
-{
-    let value = Json::Scalar(Scalar::Text(String::from_str(alloc, text)?));
-    put_member(alloc, members, name, value)
-}
 
 impl Entry {
     /// The entry of `managedFields`, for an object of this `apiVersion`.

@@ -7,7 +7,7 @@ use Rattle.std.specs.Io.KnownBytes.{Consumes, Appends, IsAtEnd}
 use Rattle.ssabench.specs.declared.line.Line.{Line}
 use Rattle.ssabench.specs.Lines.{line_feed, split_lines, whole_lines, unfinished_line, last_line, lines, ended, HasNoLineFeed}
 use Rattle.ssabench.specs.Reading.{TakesLine}
-use Rattle.ssabench.specs.Writing.{AppendsPart}
+use Rattle.ssa_json.specs.Devices.{AppendsPart}
 use Rattle.ssabench.specs.Session.{IsAnswer, IsRefused, AnswersLine, Replies}
 use Rattle.ssabench.specs.Outcome.{AnswersAll, AnswersWhole, AnswersPartly}
 use Rattle.ssabench.proofs.LinesFacts.{split_lines-whole, split_lines-unfinished}

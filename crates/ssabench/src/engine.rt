@@ -1,9 +1,9 @@
 // The session: reads lines, has each answered, and writes the replies.
 ghost use Rattle.std.specs.Prelude.{◌≡◌, ℕ, List, true, OnOk, OnErr, OnSome, Err};
 ghost use Rattle.std.specs.Io.KnownBytes.{IsAtEnd, Appends};
+ghost use Rattle.ssa_json.specs.Devices.{AppendsPart};
 ghost use Rattle.ssabench.specs.Held.{Holds};
 ghost use Rattle.ssabench.specs.Session.{AnswersLine};
-ghost use Rattle.ssabench.specs.Writing.{AppendsPart};
 ghost use Rattle.ssabench.specs.Outcome.{AnswersAll, AnswersWhole, AnswersPartly};
 
 use crate::line::Line;

@@ -4,7 +4,7 @@ use Rattle.std.proofs.Transfers.{starts_with_of_eq, starts_with_of_append}
 use Rattle.std.proofs.KnownBytes.{Appends-trans}
 use Rattle.std.specs.Io.{StartsWith}
 use Rattle.std.specs.Io.KnownBytes.{Appends}
-use Rattle.ssabench.specs.Writing.{AppendsPart}
+use Rattle.ssa_json.specs.Devices.{AppendsPart}
 
 -- all the bytes are a beginning of them
 pub AppendsPart-whole : (a b : Option (List ℕ)) (bytes : List ℕ) → Appends a b bytes → AppendsPart a b bytes
