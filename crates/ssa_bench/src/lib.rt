@@ -19,5 +19,7 @@ pub mod prepared;
 mod refusal_tests;
 pub mod saving;
 #[cfg(test)]
+mod saving_tests;
+#[cfg(test)]
 mod tests;
 pub mod timeline;

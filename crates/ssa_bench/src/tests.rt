@@ -14,7 +14,7 @@ use std::alloc::{AllocError, Global};
 use std::process::Abort;
 use std::test::Fail;
 
-const SCHEMA: &str =
+pub(crate) const SCHEMA: &str =
     "{\"properties\":{\"hosts\":{\"items\":{\"type\":\"integer\"},\"type\":\"array\",\"x-kubernetes-list-type\":\"set\"},\"spec\":{\"properties\":{\"image\":{\"type\":\"string\"},\"replicas\":{\"type\":\"integer\"}},\"type\":\"object\"}},\"type\":\"object\"}";
 
 pub(crate) fn json(alloc: Global, text: &str) -> Result<Json, Fail> {
