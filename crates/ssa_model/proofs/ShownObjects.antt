@@ -1,0 +1,384 @@
+-- The object that is shown of a body is taken as that body.
+use Rattle.std.proofs.Common.{◌≡◌, ◌≤◌, ℕ, nat_lt, arith, List, [], ◌∷◌, ◌++◌, Bool, true, false, cond, not, ◌&&◌, ◌||◌, Option, Some, None, option_map, option_and_then, refl, sym, ap, ◌∙◌, subst, true≢false}
+use Rattle.std.proofs.lemmas.Bool.Decides.{nat_tests}
+use Rattle.std.proofs.lemmas.Option.{none-some}
+use Rattle.std.specs.Prelude.{if◌then◌else◌, codes, Result, Ok, Err}
+use Rattle.std.specs.List.{list_any}
+use Rattle.std.specs.Ordering.{is_eq, is_lt, nat_cmp}
+use Rattle.std.specs.Cmp.{first_so, second_so}
+use Rattle.std.specs.Cmp.Lexicographic.{slice_cmp}
+use Rattle.std.specs.declared.cmp.Ordering.TheVariants.{Less, Equal, Greater}
+use Rattle.ssa_model.specs.Json.{Text, text, Json, scalar, object, Members, no_members, member, member_of, same_text}
+use Rattle.ssa_model.specs.Path.{field, Path}
+use Rattle.ssa_model.specs.PathMap.{has, size, from_entries}
+use Rattle.ssa_model.specs.Kind as kinds
+use Rattle.ssa_model.specs.Kind.{Kind, Fields, record_of, no_fields, kind_field, kind_of, unknown_field, faults, field_faults}
+use Rattle.ssa_model.specs.Body.{Body, flat, places, without_empty_metadata, is_empty_object}
+use Rattle.ssa_model.specs.Lawful.{is_root_kind, is_ordered, are_ordered, is_before_all, has_metadata}
+use Rattle.ssa_model.specs.Objects.{value_at, identity_of, is_named_text, is_missing, is_some_object, is_identity, same_value, same_identity, without, without_in_metadata, value_without, identity_names, file_names, body_value, shown, shown_fields, with_member, with_given, members_in, with_identity, object_of_body}
+use Rattle.ssa_model.specs.Commands.{text_in}
+use Rattle.ssa_model.specs.GivenEntries.{table_of}
+use Rattle.ssa_model.specs.Operations.{too_many_paths}
+use Rattle.ssa_model.specs.Readings.{Readings}
+use Rattle.ssa_model.specs.History.{Schema, Bench}
+use Rattle.ssa_model.specs.Answers.{Fault, refused, body_fault, identity_fault, managed_fields_given, has_identity, gives_managed_fields, body_or_fault, command_body, names_itself, with_lone_state, with_table, given_table, file_state, bench_of, lone_state}
+use Rattle.ssa_model.specs.ShownObjects.{names_none, fields_in, IsShownBody, ShownMakesBench, ShownIsCommands}
+use Rattle.ssa_model.specs.Valid.{metadata_path}
+use Rattle.ssa_model.proofs.EmptyMetadata.{record-in, metadata_stays}
+use Rattle.ssa_model.proofs.FaultlessParts.{member-join}
+use Rattle.ssa_model.proofs.FlatOfShown.{flat_of_shown}
+use Rattle.ssa_model.proofs.PutMembers.{metadata, are_above, rise, put-found, put-other, put-again, without-put, have_none, without-none, none-put, none-of, in-metadata, greater-other}
+use Rattle.ssa_model.proofs.ShownFits.{shown_fits}
+use Rattle.ssa_model.proofs.ShownNames.{member_of-fields}
+use Rattle.ssa_model.proofs.Tables.{text-itself}
+
+-- ---- the members that a body shows
+
+module _ (b : Body) (p : Path) where
+  abbrev with_field : Bool → Text → Kind → Fields → Members
+  with_field t m k fs = if t then member m (shown k b (p ++ field m ∷ [])) (shown_fields fs b p) else shown_fields fs b p
+
+  shown-above : (n : Text) (fs : Fields) → is_before_all n fs ≡ true → are_above n (shown_fields fs b p) ≡ true
+  shown-above n no_fields h = refl
+  shown-above n (kind_field m k fs) h =
+      let first = first_so (is_lt (slice_cmp nat_cmp n m)) _ h in
+      let rest = shown-above n fs (second_so (is_lt (slice_cmp nat_cmp n m)) _ h) in
+      elim (has b (p ++ field m ∷ [])) as (λ t. are_above n (with_field t m k fs) ≡ true) [ true ↦ (λ i. first i && rest i) | false ↦ rest ]
+
+  shown-rise : (fs : Fields) → are_ordered fs ≡ true → rise (shown_fields fs b p) ≡ true
+  shown-rise no_fields h = refl
+  shown-rise (kind_field m k fs) h =
+      let above = shown-above m fs (first_so (is_before_all m fs) _ h) in
+      let rest = shown-rise fs (second_so (is_ordered k) _ (second_so (is_before_all m fs) _ h)) in
+      elim (has b (p ++ field m ∷ [])) as (λ t. rise (with_field t m k fs) ≡ true) [ true ↦ (λ i. above i && rest i) | false ↦ rest ]
+
+  shown-none : (names : List Text) (fs : Fields) → names_none names fs ≡ true → have_none names (shown_fields fs b p) ≡ true
+  shown-none names no_fields h = refl
+  shown-none names (kind_field m k fs) h =
+      let first = first_so (not (list_any (same_text m) names)) _ h in
+      let rest = shown-none names fs (second_so (not (list_any (same_text m) names)) _ h) in
+      elim (has b (p ++ field m ∷ [])) as (λ t. have_none names (with_field t m k fs) ≡ true) [ true ↦ (λ i. first i && rest i) | false ↦ rest ]
+
+-- ---- identities
+
+named : (o : Option Json) → is_named_text o ≡ true → (t : Text) × (o ≡ Some (scalar (text t)))
+named (Some (scalar (text (b ∷ bs)))) h = (b ∷ bs, refl)
+named _ h = absurd (true≢false (sym h))
+
+abbrev parts : Text → Text → Text → Option Json → List (Option Json)
+parts v k n ns = Some (scalar (text v)) ∷ Some (scalar (text k)) ∷ Some (scalar (text n)) ∷ ns ∷ []
+
+record IsParts (i : List (Option Json)) : Type 0 where
+  version : Text
+  kind : Text
+  name : Text
+  namespace : Option Json
+  is : i ≡ parts version kind name namespace
+  fits : (is_missing namespace || is_named_text namespace) ≡ true
+
+identity-parts : (i : List (Option Json)) → is_identity i ≡ true → IsParts i
+identity-parts (v ∷ k ∷ n ∷ ns ∷ []) h =
+    let later = second_so (is_named_text v) _ h in
+    let last = second_so (is_named_text k) _ later in
+    let a = named v (first_so (is_named_text v) _ h) in
+    let b = named k (first_so (is_named_text k) _ later) in
+    let c = named n (first_so (is_named_text n) _ last) in
+    record { version = a.0; kind = b.0; name = c.0; namespace = ns; is = (λ i. a.1 i ∷ b.1 i ∷ c.1 i ∷ ns ∷ []); fits = second_so (is_named_text n) _ last }
+identity-parts _ h = absurd (true≢false (sym h))
+
+namespace-itself : (ns : Option Json) → (is_missing ns || is_named_text ns) ≡ true → same_value ns ns ≡ true
+namespace-itself None h = refl
+namespace-itself (Some (scalar (text t))) h = text-itself t
+namespace-itself (Some v) h = absurd (true≢false (sym h))
+
+parts-itself : (v k n : Text) (ns : Option Json) → (is_missing ns || is_named_text ns) ≡ true → same_identity (parts v k n ns) (parts v k n ns) ≡ true
+parts-itself v k n ns h = λ i. text-itself v i && (text-itself k i && (text-itself n i && (namespace-itself ns h i && true)))
+
+-- ---- the value without the identity
+
+abbrev root_names : List Text
+root_names = codes "apiVersion" ∷ codes "kind" ∷ []
+
+-- these names are taken out of the metadata, and the identity's are among them
+record TakesOut (names : List Text) : Type 0 where
+  name : list_any (same_text (codes "name")) names ≡ true
+  namespace : list_any (same_text (codes "namespace")) names ≡ true
+
+given-out : (names : List Text) (ns : Option Json) (ms : Members) → TakesOut names → without names (with_given (codes "namespace") ns ms) ≡ without names ms
+given-out names None ms out = refl
+given-out names (Some v) ms out = without-put names (codes "namespace") v ms out.namespace
+
+module _ (fs : Fields) (b : Body) (hs : Fields) (is_metadata : kind_of metadata fs ≡ Some (record_of hs)) (ordered : are_ordered fs ≡ true) (apart : names_none root_names fs ≡ true) where
+  abbrev ms : Members
+  ms = shown_fields fs b []
+
+  abbrev shown_metadata : Bool → Option Json
+  shown_metadata t = cond t (Some (object (shown_fields hs b metadata_path))) None
+
+  metadata-is : member_of metadata ms ≡ shown_metadata (has b metadata_path)
+  metadata-is = member_of-fields b [] metadata fs ∙ ap (λ o. cond (has b metadata_path) (option_map (λ k. shown k b metadata_path) o) None) is_metadata
+
+  abbrev inner : Members
+  inner = members_in (member_of metadata ms)
+
+  inner-none : (names : List Text) → names_none names hs ≡ true → have_none names inner ≡ true
+  inner-none names h =
+      ap (λ o. have_none names (members_in o)) metadata-is
+      ∙ elim (has b metadata_path) as (λ t. have_none names (members_in (shown_metadata t)) ≡ true) [ true ↦ shown-none b metadata_path names hs h | false ↦ refl ]
+
+  abbrev whole : Text → Option Json → Members
+  whole n ns = with_member (codes "name") (scalar (text n)) (with_given (codes "namespace") ns inner)
+
+  value-is : (names : List Text) (v k n : Text) (ns : Option Json) → TakesOut names → names_none names hs ≡ true
+      → value_without names (object (with_identity (parts v k n ns) ms)) ≡ object (with_member metadata (object inner) ms)
+  value-is names v k n ns out none =
+      let put = with_member metadata (object (whole n ns)) ms in
+      let with_kind = with_member (codes "kind") (scalar (text k)) put in
+      let bare =
+      without-put root_names (codes "apiVersion") (scalar (text v)) with_kind refl ∙ without-put root_names (codes "kind") (scalar (text k)) put refl
+      ∙ without-none root_names put (none-put root_names metadata (object (whole n ns)) ms (shown-none b [] root_names fs apart) refl) in
+      let stripped =
+      without-put names (codes "name") (scalar (text n)) (with_given (codes "namespace") ns inner) out.name ∙ given-out names ns inner out
+      ∙ without-none names inner (inner-none names none) in
+      ap (λ x. object (without_in_metadata names x)) bare
+      ∙ ap object (in-metadata names (whole n ns) ms (shown-rise b [] fs ordered) ∙ ap (λ x. with_member metadata (object x) ms) stripped)
+
+-- ---- an empty `metadata` is nothing
+
+empty-put : (ms : Members) → member_of metadata ms ≡ None → without_empty_metadata (with_member metadata (object no_members) ms) ≡ ms
+empty-put no_members h = refl
+empty-put (member m w ms) h =
+    elim (slice_cmp nat_cmp metadata m) as (λ o. slice_cmp nat_cmp metadata m ≡ o
+    → without_empty_metadata (elim o [ Less ↦ member metadata (object no_members) (member m w ms) | Equal ↦ member metadata (object no_members) ms | Greater ↦ member m w (with_member metadata (object no_members) ms) ]) ≡ member m w ms) [
+      | Less ↦ λ o. refl
+      | Equal ↦ λ o. absurd (none-some w (sym h ∙ ap (λ s. if is_eq s then Some w else member_of metadata ms) o))
+      | Greater ↦ λ o.
+          ap (λ t. if t && is_empty_object w then with_member metadata (object no_members) ms else member m w (without_empty_metadata (with_member metadata (object no_members) ms))) (greater-other metadata m o)
+          ∙ ap (member m w) (empty-put ms (sym (ap (λ s. if is_eq s then Some w else member_of metadata ms) o) ∙ h))
+    ] refl
+
+module _ (fs hs : Fields) (is : kind_of metadata fs ≡ Some (record_of hs)) (p : Path) where
+  put-first : (ns : Members) → field_faults fs ns p ≡ [] → field_faults fs (member metadata (object no_members) ns) p ≡ []
+  put-first ns h =
+      ap (λ o. elim o [ None ↦ (unknown_field, p ++ field metadata ∷ []) ∷ [] | Some k ↦ faults k (object no_members) (p ++ field metadata ∷ []) ] ++ field_faults fs ns p) is ∙ h
+
+  put-fits : (ns : Members) → field_faults fs ns p ≡ [] → field_faults fs (with_member metadata (object no_members) ns) p ≡ []
+  put-fits no_members h = put-first no_members refl
+  put-fits (member m w ns) h =
+      let join = member-join fs m w ns p h in
+      elim (slice_cmp nat_cmp metadata m) as (λ o.
+      field_faults fs (elim o [ Less ↦ member metadata (object no_members) (member m w ns) | Equal ↦ member metadata (object no_members) ns | Greater ↦ member m w (with_member metadata (object no_members) ns) ]) p ≡ []) [
+        | Less ↦ put-first (member m w ns) h
+        | Equal ↦ put-first ns join.0
+        | Greater ↦ join.1 (with_member metadata (object no_members) ns) (put-fits ns join.0)
+      ]
+
+-- ---- the body of the value
+
+abbrev by_faults : Kind → Json → List kinds.Fault → Result Body Fault
+by_faults kind v fs = elim fs [
+  | [] ↦ if nat_lt 20001 (size (flat kind v)) then Err (refused too_many_paths) else Ok (flat kind v)
+  | f ∷ rest ↦ Err (body_fault f.0 f.1)
+]
+
+at_most : (m n : ℕ) → n ≤ m → nat_lt m n ≡ false
+at_most m n h = grind (arith, nat_tests)
+
+fits-is : (kind : Kind) (v : Json) (b : Body) → faults kind v [] ≡ [] → flat kind v ≡ b → size b ≤ 20001 → body_or_fault kind v ≡ Ok b
+fits-is kind v b none is few =
+    ap (by_faults kind v) none ∙ ap (λ c. if nat_lt 20001 (size c) then Err (refused too_many_paths) else Ok c) is
+    ∙ ap (λ t. if t then Err (refused too_many_paths) else Ok b) (at_most 20001 (size b) few)
+
+module _ (fs : Fields) (b : Body) (s : IsShownBody (record_of fs) b) where
+  abbrev kind : Kind
+  kind = record_of fs
+
+  later : (is_ordered kind && has_metadata kind) ≡ true
+  later = second_so (is_root_kind kind) _ s.lawful
+
+  ordered : are_ordered fs ≡ true
+  ordered = first_so (is_ordered kind) _ later
+
+  has-one : has_metadata kind ≡ true
+  has-one = second_so (is_ordered kind) _ later
+
+  abbrev of_metadata : (hs : Fields) × (kind_of metadata fs ≡ Some (record_of hs))
+  of_metadata = record-in (kind_of metadata fs) has-one
+
+  abbrev hs : Fields
+  hs = of_metadata.0
+
+  apart-root : names_none root_names fs ≡ true
+  apart-root = first_so (names_none root_names fs) _ s.apart
+
+  apart-file : names_none file_names hs ≡ true
+  apart-file = ap (λ o. names_none file_names (fields_in o)) (sym of_metadata.1) ∙ second_so (names_none root_names fs) _ s.apart
+
+  abbrev fields : Members
+  fields = shown_fields fs b []
+
+  none-shown : faults kind (object fields) [] ≡ []
+  none-shown = shown_fits kind b s.lawful s.fits
+
+  put-is : (o : Option Json) → member_of metadata fields ≡ o → (t : Bool) → o ≡ cond t (Some (object (shown_fields hs b metadata_path))) None
+      → (faults kind (object (with_member metadata (object (members_in o)) fields)) [] ≡ []) × (flat kind (object (with_member metadata (object (members_in o)) fields)) ≡ b)
+  put-is o found true is =
+      let same : with_member metadata (object (members_in o)) fields ≡ fields =
+      put-again metadata (object (members_in o)) fields (shown-rise b [] fs ordered) (found ∙ is ∙ ap (λ x. Some (object (members_in x))) (sym is)) in (
+        ap (λ x. faults kind (object x) []) same ∙ none-shown,
+        ap (λ x. flat kind (object x)) same ∙ flat_of_shown kind b s.lawful s.fits s.rooted,
+      )
+  put-is o found false is =
+      let bare : with_member metadata (object (members_in o)) fields ≡ with_member metadata (object no_members) fields = ap (λ x. with_member metadata (object (members_in x)) fields) is in
+      let stays = metadata_stays fs b s.fits ordered has-one s.rooted in (
+        ap (λ x. faults kind (object x) []) bare ∙ put-fits fs hs of_metadata.1 [] fields none-shown,
+        ap (λ x. flat kind (object x)) bare
+            ∙ ap (λ x. from_entries (places kind (object x) [])) (empty-put fields (found ∙ is) ∙ sym stays)
+            ∙ flat_of_shown kind b s.lawful s.fits s.rooted,
+      )
+
+  -- the body is taken back, without these names of metadata
+  taken : (names : List Text) (v k n : Text) (ns : Option Json) → TakesOut names → names_none names hs ≡ true
+      → body_or_fault kind (value_without names (object (with_identity (parts v k n ns) fields))) ≡ Ok b
+  taken names v k n ns out none =
+      let made = put-is (member_of metadata fields) refl (has b metadata_path) (metadata-is fs b hs of_metadata.1 ordered apart-root) in
+      ap (body_or_fault kind) (value-is fs b hs of_metadata.1 ordered apart-root names v k n ns out none)
+      ∙ fits-is kind (object (with_member metadata (object (members_in (member_of metadata fields))) fields)) b made.0 made.1 s.few
+
+-- ---- what the object says
+
+abbrev file_out : TakesOut file_names
+file_out = record { name = refl; namespace = refl }
+
+abbrev identity_out : TakesOut identity_names
+identity_out = record { name = refl; namespace = refl }
+
+either : (a b c : Bool) → not (a || (b || c)) ≡ true → not (a || (b || false)) ≡ true
+either true b c h = absurd (true≢false (sym h))
+either false true c h = absurd (true≢false (sym h))
+either false false c h = refl
+
+-- the names of the identity are among those of a file's metadata
+fewer-none : (fs : Fields) → names_none file_names fs ≡ true → names_none identity_names fs ≡ true
+fewer-none no_fields h = refl
+fewer-none (kind_field n k fs) h =
+    let first = either (same_text n (codes "name")) (same_text n (codes "namespace")) _ (first_so (not (list_any (same_text n) file_names)) _ h) in
+    let rest = fewer-none fs (second_so (not (list_any (same_text n) file_names)) _ h) in
+    (λ i. first i && rest i)
+
+module _ (fs : Fields) (b : Body) (s : IsShownBody (record_of fs) b) (v k n : Text) (ns : Option Json) where
+  abbrev members : Members
+  members = with_identity (parts v k n ns) (shown_fields fs b [])
+
+  abbrev inside : Members
+  inside = whole fs b (hs fs b s) (of_metadata fs b s).1 (ordered fs b s) (apart-root fs b s) n ns
+
+  abbrev below_metadata : Members
+  below_metadata = inner fs b (hs fs b s) (of_metadata fs b s).1 (ordered fs b s) (apart-root fs b s)
+
+  abbrev with_kind : Members
+  with_kind = with_member (codes "kind") (scalar (text k)) (with_member metadata (object inside) (shown_fields fs b []))
+
+  version-there : member_of (codes "apiVersion") members ≡ Some (scalar (text v))
+  version-there = put-found (codes "apiVersion") (scalar (text v)) with_kind
+
+  kind-there : member_of (codes "kind") members ≡ Some (scalar (text k))
+  kind-there =
+      put-other (codes "kind") (codes "apiVersion") (scalar (text v)) with_kind refl
+      ∙ put-found (codes "kind") (scalar (text k)) (with_member metadata (object inside) (shown_fields fs b []))
+
+  metadata-there : member_of metadata members ≡ Some (object inside)
+  metadata-there =
+      put-other metadata (codes "apiVersion") (scalar (text v)) with_kind refl
+      ∙ put-other metadata (codes "kind") (scalar (text k)) (with_member metadata (object inside) (shown_fields fs b [])) refl
+      ∙ put-found metadata (object inside) (shown_fields fs b [])
+
+  name-there : member_of (codes "name") inside ≡ Some (scalar (text n))
+  name-there = put-found (codes "name") (scalar (text n)) (with_given (codes "namespace") ns below_metadata)
+
+  no-name : (q : Text) → list_any (same_text q) file_names ≡ true → member_of q below_metadata ≡ None
+  no-name q among =
+      none-of file_names q below_metadata (inner-none fs b (hs fs b s) (of_metadata fs b s).1 (ordered fs b s) (apart-root fs b s) file_names (apart-file fs b s)) among
+
+  given-there : (o : Option Json) → member_of (codes "namespace") (with_given (codes "namespace") o below_metadata) ≡ o
+  given-there None = no-name (codes "namespace") refl
+  given-there (Some w) = put-found (codes "namespace") w below_metadata
+
+  namespace-there : member_of (codes "namespace") inside ≡ ns
+  namespace-there = put-other (codes "namespace") (codes "name") (scalar (text n)) (with_given (codes "namespace") ns below_metadata) refl ∙ given-there ns
+
+  given-other : (o : Option Json) → member_of (codes "managedFields") (with_given (codes "namespace") o below_metadata) ≡ None
+  given-other None = no-name (codes "managedFields") refl
+  given-other (Some w) = put-other (codes "managedFields") (codes "namespace") w below_metadata refl ∙ no-name (codes "managedFields") refl
+
+  no-entries : value_at (codes "metadata" ∷ codes "managedFields" ∷ []) (object members) ≡ None
+  no-entries =
+      ap (option_and_then (value_at (codes "managedFields" ∷ []))) metadata-there
+      ∙ ap (option_and_then (value_at [])) (put-other (codes "managedFields") (codes "name") (scalar (text n)) (with_given (codes "namespace") ns below_metadata) refl ∙ given-other ns)
+
+  itself : (o : Option Json) → option_and_then (value_at []) o ≡ o
+  itself None = refl
+  itself (Some w) = refl
+
+  in-it : (q : Text) → value_at (codes "metadata" ∷ q ∷ []) (object members) ≡ member_of q inside
+  in-it q = ap (option_and_then (value_at (q ∷ []))) metadata-there ∙ itself (member_of q inside)
+
+  identity-is : identity_of (object members) ≡ parts v k n ns
+  identity-is =
+      let a = ap (option_and_then (value_at [])) version-there in
+      let c = ap (option_and_then (value_at [])) kind-there in
+      let d = in-it (codes "name") ∙ name-there in
+      let e = in-it (codes "namespace") ∙ namespace-there in
+      (λ i. a i ∷ c i ∷ d i ∷ e i ∷ [])
+
+  is-object : is_some_object (value_at (codes "metadata" ∷ []) (object members)) ≡ true
+  is-object = ap (λ o. is_some_object (option_and_then (value_at []) o)) metadata-there
+
+-- ---- the laws
+
+abbrev Makes : Readings → Schema → Body → List (Option Json) → Type 0
+Makes readings schema body i =
+    bench_of readings schema (object_of_body i schema.1 body) ≡ Ok (record { schema = schema; identity = i; timeline = lone_state (record { body = body; table = [] }) })
+
+makes-record : (readings : Readings) (value : Json) (fs : Fields) (body : Body) → IsShownBody (record_of fs) body → (v k n : Text) (ns : Option Json) → is_identity (parts v k n ns) ≡ true
+    → Makes readings (value, record_of fs) body (parts v k n ns)
+makes-record readings value fs body s v k n ns h =
+    let obj = object (members fs body s v k n ns) in
+    let identity = identity-is fs body s v k n ns in
+    let named : names_itself obj ≡ true = (λ i. is-object fs body s v k n ns i && is_identity (identity i)) ∙ h in
+    let state : file_state readings (record_of fs) obj ≡ Ok (record { body = body; table = [] }) =
+    ap (λ r. elim r [ Ok c ↦ with_table c (given_table readings c obj) | Err f ↦ Err f ]) (taken fs body s file_names v k n ns file_out (apart-file fs body s))
+    ∙ ap (λ o. with_table body (elim o [ None ↦ Ok [] | Some entries ↦ table_of readings body (text_in (value_at (codes "apiVersion" ∷ []) obj)) entries ])) (no-entries fs body s v k n ns) in
+    ap (λ t. if not t then Err identity_fault else with_lone_state (value, record_of fs) (identity_of obj) (file_state readings (record_of fs) obj)) named
+    ∙ (λ i. with_lone_state (value, record_of fs) (identity i) (state i))
+
+pub shown_makes_bench : ShownMakesBench
+shown_makes_bench readings (value, kinds.record_of fs) identity body h s =
+    let p = identity-parts identity h in
+    subst (Makes readings (value, record_of fs) body) (sym p.is) (makes-record readings value fs body s p.version p.kind p.name p.namespace (ap is_identity (sym p.is) ∙ h))
+shown_makes_bench readings (value, _) identity body h s = absurd (true≢false (sym s.lawful))
+
+takes-record : (bench : Bench) (fs : Fields) (body : Body) → bench.schema.1 ≡ record_of fs → IsShownBody (record_of fs) body → (v k n : Text) (ns : Option Json) → is_identity (parts v k n ns) ≡ true
+    → same_identity (parts v k n ns) bench.identity ≡ true → command_body bench (object_of_body (parts v k n ns) (record_of fs) body) ≡ Ok body
+takes-record bench fs body is s v k n ns h same =
+    let obj = object (members fs body s v k n ns) in
+    let identity = identity-is fs body s v k n ns in
+    let own : has_identity bench obj ≡ true =
+    (λ i. is-object fs body s v k n ns i && (is_identity (identity i) && same_identity (identity i) bench.identity)) ∙ (λ i. h i && same i) in
+    let bare : gives_managed_fields obj ≡ false = ap (λ o. not (is_missing o)) (no-entries fs body s v k n ns) in
+    ap (λ t. if not t then Err identity_fault else (if gives_managed_fields obj then Err managed_fields_given else body_or_fault bench.schema.1 (body_value obj))) own
+    ∙ ap (λ t. if t then Err managed_fields_given else body_or_fault bench.schema.1 (body_value obj)) bare
+    ∙ ap (λ kd. body_or_fault kd (body_value obj)) is
+    ∙ taken fs body s identity_names v k n ns identity_out (fewer-none (hs fs body s) (apart-file fs body s))
+
+takes-any : (bench : Bench) (kd : Kind) (body : Body) → bench.schema.1 ≡ kd → is_identity bench.identity ≡ true → IsShownBody kd body → command_body bench (object_of_body bench.identity kd body) ≡ Ok body
+takes-any bench (kinds.record_of fs) body is h s =
+    let p = identity-parts bench.identity h in
+    let whole_same : same_identity (parts p.version p.kind p.name p.namespace) bench.identity ≡ true =
+    ap (same_identity (parts p.version p.kind p.name p.namespace)) p.is ∙ parts-itself p.version p.kind p.name p.namespace p.fits in
+    ap (λ i. command_body bench (object_of_body i (record_of fs) body)) p.is
+    ∙ takes-record bench fs body is s p.version p.kind p.name p.namespace (ap is_identity (sym p.is) ∙ h) whole_same
+takes-any bench _ body is h s = absurd (true≢false (sym s.lawful))
+
+pub shown_is_commands : ShownIsCommands
+shown_is_commands bench body h s = takes-any bench bench.schema.1 body refl h s
