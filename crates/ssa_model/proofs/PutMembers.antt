@@ -77,6 +77,47 @@ put-again n v (member m w ms) r h =
       | Greater ↦ λ o. ap (member m w) (put-again n v ms (second_so (are_above m ms) _ r) (sym (ap (λ s. if is_eq s then Some w else member_of n ms) o) ∙ h))
     ] refl
 
+pub put-twice : (n : Text) (v w : Json) (ms : Members) → with_member n v (with_member n w ms) ≡ with_member n v ms
+put-twice n v w no_members = ap (λ o. elim o [ Less ↦ member n v (member n w no_members) | Equal ↦ member n v no_members | Greater ↦ member n w (member n v no_members) ]) (tied_itself nat_list_cmp_total n)
+put-twice n v w (member m u ms) =
+    elim (order n m) as (λ o. order n m ≡ o → with_member n v (elim o [ Less ↦ member n w (member m u ms) | Equal ↦ member n w ms | Greater ↦ member m u (with_member n w ms) ])
+    ≡ elim o [ Less ↦ member n v (member m u ms) | Equal ↦ member n v ms | Greater ↦ member m u (with_member n v ms) ]) [
+      | Less ↦ λ o. ap (λ o. elim o [ Less ↦ member n v (member n w (member m u ms)) | Equal ↦ member n v (member m u ms) | Greater ↦ member n w (with_member n v (member m u ms)) ]) (tied_itself nat_list_cmp_total n)
+      | Equal ↦ λ o. ap (λ o. elim o [ Less ↦ member n v (member n w ms) | Equal ↦ member n v ms | Greater ↦ member n w (with_member n v ms) ]) (tied_itself nat_list_cmp_total n)
+      | Greater ↦ λ o.
+          ap (λ o. elim o [ Less ↦ member n v (member m u (with_member n w ms)) | Equal ↦ member n v (with_member n w ms) | Greater ↦ member m u (with_member n v (with_member n w ms)) ]) o
+          ∙ ap (member m u) (put-twice n v w ms)
+    ] refl
+
+-- ---- names go on rising
+
+above-put : (q n : Text) (v : Json) (ms : Members) → before q n ≡ true → are_above q ms ≡ true → are_above q (with_member n v ms) ≡ true
+above-put q n v no_members first h = λ i. first i && true
+above-put q n v (member m w ms) first h =
+    elim (order n m) as (λ o. are_above q (elim o [ Less ↦ member n v (member m w ms) | Equal ↦ member n v ms | Greater ↦ member m w (with_member n v ms) ]) ≡ true) [
+      | Less ↦ (λ i. first i && h i)
+      | Equal ↦ (λ i. first i && second_so (before q m) _ h i)
+      | Greater ↦ (λ i. first_so (before q m) _ h i && above-put q n v ms first (second_so (before q m) _ h) i)
+    ]
+
+pub rise-put : (n : Text) (v : Json) (ms : Members) → rise ms ≡ true → rise (with_member n v ms) ≡ true
+rise-put n v no_members r = refl
+rise-put n v (member m w ms) r =
+    let above = first_so (are_above m ms) _ r in
+    let rest = second_so (are_above m ms) _ r in
+    elim (order n m) as (λ o. order n m ≡ o → rise (elim o [ Less ↦ member n v (member m w ms) | Equal ↦ member n v ms | Greater ↦ member m w (with_member n v ms) ]) ≡ true) [
+      | Less ↦ λ o. (λ i. (is_lt (o i) && above-on n m ms o above i) && r i)
+      | Equal ↦ λ o. (λ i. are_above (order-same n m o i) ms && rest i) ∙ (λ i. above i && true)
+      | Greater ↦ λ o.
+          let up : before m n ≡ true = ap is_lt (nat_list_cmp_total.antisymm m n ∙ ap ordering_reverse o) in
+          λ i. above-put m n v ms up above i && rise-put n v ms rest i
+    ] refl
+
+put-below : (n : Text) (v : Json) (ms : Members) → are_above n ms ≡ true → with_member n v ms ≡ member n v ms
+put-below n v no_members h = refl
+put-below n v (member m w ms) h =
+    ap (λ o. elim o [ Less ↦ member n v (member m w ms) | Equal ↦ member n v ms | Greater ↦ member m w (with_member n v ms) ]) (lower (order n m) (first_so (before n m) _ h))
+
 -- ---- taking away by names
 
 pub without-put : (names : List Text) (n : Text) (v : Json) (ms : Members) → list_any (same_text n) names ≡ true → without names (with_member n v ms) ≡ without names ms
@@ -88,6 +129,38 @@ without-put names n v (member m w ms) h =
           ap (λ t. if t then without names ms else member n v (without names ms)) h
           ∙ sym (ap (λ t. if t then without names ms else member m w (without names ms)) (ap (λ x. list_any (same_text x) names) (sym (order-same n m o)) ∙ h))
       | Greater ↦ λ o. ap (λ r. if list_any (same_text m) names then r else member m w r) (without-put names n v ms h)
+    ] refl
+
+above-without : (names : List Text) (n : Text) (ms : Members) → are_above n ms ≡ true → are_above n (without names ms) ≡ true
+above-without names n no_members h = refl
+above-without names n (member m v ms) h =
+    let rest = above-without names n ms (second_so (before n m) _ h) in
+    elim (list_any (same_text m) names) as (λ t. are_above n (if t then without names ms else member m v (without names ms)) ≡ true) [ true ↦ rest | false ↦ (λ i. first_so (before n m) _ h i && rest i) ]
+
+-- a member of another name stays where others are taken away
+pub without-keeps : (names : List Text) (n : Text) (v : Json) (ms : Members) → rise ms ≡ true → list_any (same_text n) names ≡ false → without names (with_member n v ms) ≡ with_member n v (without names ms)
+without-keeps names n v no_members r other = ap (λ t. if t then no_members else member n v no_members) other
+without-keeps names n v (member m w ms) r other =
+    let above = first_so (are_above m ms) _ r in
+    let rest = second_so (are_above m ms) _ r in
+    elim (order n m) as (λ o. order n m ≡ o → without names (elim o [ Less ↦ member n v (member m w ms) | Equal ↦ member n v ms | Greater ↦ member m w (with_member n v ms) ])
+    ≡ with_member n v (if list_any (same_text m) names then without names ms else member m w (without names ms))) [
+      | Less ↦ λ o.
+          let all : are_above n (member m w ms) ≡ true = λ i. is_lt (o i) && above-on n m ms o above i in
+          ap (λ t. if t then without names (member m w ms) else member n v (without names (member m w ms))) other
+          ∙ sym (put-below n v (without names (member m w ms)) (above-without names n (member m w ms) all))
+      | Equal ↦ λ o.
+          let same : list_any (same_text m) names ≡ false = ap (λ x. list_any (same_text x) names) (sym (order-same n m o)) ∙ other in
+          ap (λ t. if t then without names ms else member n v (without names ms)) other
+          ∙ sym (ap (λ t. with_member n v (if t then without names ms else member m w (without names ms))) same
+          ∙ ap (λ o. elim o [ Less ↦ member n v (member m w (without names ms)) | Equal ↦ member n v (without names ms) | Greater ↦ member m w (with_member n v (without names ms)) ]) o)
+      | Greater ↦ λ o.
+          elim (list_any (same_text m) names) as (λ t. (if t then without names (with_member n v ms) else member m w (without names (with_member n v ms))) ≡ with_member n v (if t then without names ms else member m w (without names ms))) [
+            | true ↦ without-keeps names n v ms rest other
+            | false ↦
+                ap (member m w) (without-keeps names n v ms rest other)
+                ∙ sym (ap (λ o. elim o [ Less ↦ member n v (member m w (without names ms)) | Equal ↦ member n v (without names ms) | Greater ↦ member m w (with_member n v (without names ms)) ]) o)
+          ]
     ] refl
 
 abbrev pub have_none : List Text → Members → Bool

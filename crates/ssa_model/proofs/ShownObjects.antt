@@ -45,7 +45,7 @@ module _ (b : Body) (p : Path) where
       let rest = shown-above n fs (second_so (is_lt (slice_cmp nat_cmp n m)) _ h) in
       elim (has b (p ++ field m ∷ [])) as (λ t. are_above n (with_field t m k fs) ≡ true) [ true ↦ (λ i. first i && rest i) | false ↦ rest ]
 
-  shown-rise : (fs : Fields) → are_ordered fs ≡ true → rise (shown_fields fs b p) ≡ true
+  pub shown-rise : (fs : Fields) → are_ordered fs ≡ true → rise (shown_fields fs b p) ≡ true
   shown-rise no_fields h = refl
   shown-rise (kind_field m k fs) h =
       let above = shown-above m fs (first_so (is_before_all m fs) _ h) in
@@ -65,18 +65,18 @@ named : (o : Option Json) → is_named_text o ≡ true → (t : Text) × (o ≡ 
 named (Some (scalar (text (b ∷ bs)))) h = (b ∷ bs, refl)
 named _ h = absurd (true≢false (sym h))
 
-abbrev parts : Text → Text → Text → Option Json → List (Option Json)
+abbrev pub parts : Text → Text → Text → Option Json → List (Option Json)
 parts v k n ns = Some (scalar (text v)) ∷ Some (scalar (text k)) ∷ Some (scalar (text n)) ∷ ns ∷ []
 
-record IsParts (i : List (Option Json)) : Type 0 where
-  version : Text
-  kind : Text
-  name : Text
-  namespace : Option Json
-  is : i ≡ parts version kind name namespace
-  fits : (is_missing namespace || is_named_text namespace) ≡ true
+pub record IsParts (i : List (Option Json)) : Type 0 where
+  pub version : Text
+  pub kind : Text
+  pub name : Text
+  pub namespace : Option Json
+  pub is : i ≡ parts version kind name namespace
+  pub fits : (is_missing namespace || is_named_text namespace) ≡ true
 
-identity-parts : (i : List (Option Json)) → is_identity i ≡ true → IsParts i
+pub identity-parts : (i : List (Option Json)) → is_identity i ≡ true → IsParts i
 identity-parts (v ∷ k ∷ n ∷ ns ∷ []) h =
     let later = second_so (is_named_text v) _ h in
     let last = second_so (is_named_text k) _ later in
@@ -91,34 +91,34 @@ namespace-itself None h = refl
 namespace-itself (Some (scalar (text t))) h = text-itself t
 namespace-itself (Some v) h = absurd (true≢false (sym h))
 
-parts-itself : (v k n : Text) (ns : Option Json) → (is_missing ns || is_named_text ns) ≡ true → same_identity (parts v k n ns) (parts v k n ns) ≡ true
+pub parts-itself : (v k n : Text) (ns : Option Json) → (is_missing ns || is_named_text ns) ≡ true → same_identity (parts v k n ns) (parts v k n ns) ≡ true
 parts-itself v k n ns h = λ i. text-itself v i && (text-itself k i && (text-itself n i && (namespace-itself ns h i && true)))
 
 -- ---- the value without the identity
 
-abbrev root_names : List Text
+abbrev pub root_names : List Text
 root_names = codes "apiVersion" ∷ codes "kind" ∷ []
 
 -- these names are taken out of the metadata, and the identity's are among them
-record TakesOut (names : List Text) : Type 0 where
-  name : list_any (same_text (codes "name")) names ≡ true
-  namespace : list_any (same_text (codes "namespace")) names ≡ true
+pub record TakesOut (names : List Text) : Type 0 where
+  pub name : list_any (same_text (codes "name")) names ≡ true
+  pub namespace : list_any (same_text (codes "namespace")) names ≡ true
 
 given-out : (names : List Text) (ns : Option Json) (ms : Members) → TakesOut names → without names (with_given (codes "namespace") ns ms) ≡ without names ms
 given-out names None ms out = refl
 given-out names (Some v) ms out = without-put names (codes "namespace") v ms out.namespace
 
 module _ (fs : Fields) (b : Body) (hs : Fields) (is_metadata : kind_of metadata fs ≡ Some (record_of hs)) (ordered : are_ordered fs ≡ true) (apart : names_none root_names fs ≡ true) where
-  abbrev ms : Members
+  abbrev pub ms : Members
   ms = shown_fields fs b []
 
-  abbrev shown_metadata : Bool → Option Json
+  abbrev pub shown_metadata : Bool → Option Json
   shown_metadata t = cond t (Some (object (shown_fields hs b metadata_path))) None
 
   metadata-is : member_of metadata ms ≡ shown_metadata (has b metadata_path)
   metadata-is = member_of-fields b [] metadata fs ∙ ap (λ o. cond (has b metadata_path) (option_map (λ k. shown k b metadata_path) o) None) is_metadata
 
-  abbrev inner : Members
+  abbrev pub inner : Members
   inner = members_in (member_of metadata ms)
 
   inner-none : (names : List Text) → names_none names hs ≡ true → have_none names inner ≡ true
@@ -126,22 +126,28 @@ module _ (fs : Fields) (b : Body) (hs : Fields) (is_metadata : kind_of metadata 
       ap (λ o. have_none names (members_in o)) metadata-is
       ∙ elim (has b metadata_path) as (λ t. have_none names (members_in (shown_metadata t)) ≡ true) [ true ↦ shown-none b metadata_path names hs h | false ↦ refl ]
 
-  abbrev whole : Text → Option Json → Members
+  abbrev pub whole : Text → Option Json → Members
   whole n ns = with_member (codes "name") (scalar (text n)) (with_given (codes "namespace") ns inner)
+
+  abbrev pub put : Text → Option Json → Members
+  put n ns = with_member metadata (object (whole n ns)) ms
+
+  pub bare-is : (v k n : Text) (ns : Option Json) → without root_names (with_identity (parts v k n ns) ms) ≡ put n ns
+  bare-is v k n ns =
+      without-put root_names (codes "apiVersion") (scalar (text v)) (with_member (codes "kind") (scalar (text k)) (put n ns)) refl
+      ∙ without-put root_names (codes "kind") (scalar (text k)) (put n ns) refl
+      ∙ without-none root_names (put n ns) (none-put root_names metadata (object (whole n ns)) ms (shown-none b [] root_names fs apart) refl)
+
+  pub stripped-is : (names : List Text) (n : Text) (ns : Option Json) → TakesOut names → names_none names hs ≡ true → without names (whole n ns) ≡ inner
+  stripped-is names n ns out none =
+      without-put names (codes "name") (scalar (text n)) (with_given (codes "namespace") ns inner) out.name ∙ given-out names ns inner out
+      ∙ without-none names inner (inner-none names none)
 
   value-is : (names : List Text) (v k n : Text) (ns : Option Json) → TakesOut names → names_none names hs ≡ true
       → value_without names (object (with_identity (parts v k n ns) ms)) ≡ object (with_member metadata (object inner) ms)
   value-is names v k n ns out none =
-      let put = with_member metadata (object (whole n ns)) ms in
-      let with_kind = with_member (codes "kind") (scalar (text k)) put in
-      let bare =
-      without-put root_names (codes "apiVersion") (scalar (text v)) with_kind refl ∙ without-put root_names (codes "kind") (scalar (text k)) put refl
-      ∙ without-none root_names put (none-put root_names metadata (object (whole n ns)) ms (shown-none b [] root_names fs apart) refl) in
-      let stripped =
-      without-put names (codes "name") (scalar (text n)) (with_given (codes "namespace") ns inner) out.name ∙ given-out names ns inner out
-      ∙ without-none names inner (inner-none names none) in
-      ap (λ x. object (without_in_metadata names x)) bare
-      ∙ ap object (in-metadata names (whole n ns) ms (shown-rise b [] fs ordered) ∙ ap (λ x. with_member metadata (object x) ms) stripped)
+      ap (λ x. object (without_in_metadata names x)) (bare-is v k n ns)
+      ∙ ap object (in-metadata names (whole n ns) ms (shown-rise b [] fs ordered) ∙ ap (λ x. with_member metadata (object x) ms) (stripped-is names n ns out none))
 
 -- ---- an empty `metadata` is nothing
 
@@ -190,31 +196,31 @@ fits-is kind v b none is few =
     ∙ ap (λ t. if t then Err (refused too_many_paths) else Ok b) (at_most 20001 (size b) few)
 
 module _ (fs : Fields) (b : Body) (s : IsShownBody (record_of fs) b) where
-  abbrev kind : Kind
+  abbrev pub kind : Kind
   kind = record_of fs
 
-  later : (is_ordered kind && has_metadata kind) ≡ true
+  pub later : (is_ordered kind && has_metadata kind) ≡ true
   later = second_so (is_root_kind kind) _ s.lawful
 
-  ordered : are_ordered fs ≡ true
+  pub ordered : are_ordered fs ≡ true
   ordered = first_so (is_ordered kind) _ later
 
-  has-one : has_metadata kind ≡ true
+  pub has-one : has_metadata kind ≡ true
   has-one = second_so (is_ordered kind) _ later
 
-  abbrev of_metadata : (hs : Fields) × (kind_of metadata fs ≡ Some (record_of hs))
+  abbrev pub of_metadata : (hs : Fields) × (kind_of metadata fs ≡ Some (record_of hs))
   of_metadata = record-in (kind_of metadata fs) has-one
 
-  abbrev hs : Fields
+  abbrev pub hs : Fields
   hs = of_metadata.0
 
-  apart-root : names_none root_names fs ≡ true
+  pub apart-root : names_none root_names fs ≡ true
   apart-root = first_so (names_none root_names fs) _ s.apart
 
-  apart-file : names_none file_names hs ≡ true
+  pub apart-file : names_none file_names hs ≡ true
   apart-file = ap (λ o. names_none file_names (fields_in o)) (sym of_metadata.1) ∙ second_so (names_none root_names fs) _ s.apart
 
-  abbrev fields : Members
+  abbrev pub fields : Members
   fields = shown_fields fs b []
 
   none-shown : faults kind (object fields) [] ≡ []
@@ -237,17 +243,23 @@ module _ (fs : Fields) (b : Body) (s : IsShownBody (record_of fs) b) where
             ∙ flat_of_shown kind b s.lawful s.fits s.rooted,
       )
 
+  -- the value without anything of the identity
+  abbrev pub bare_value : Json
+  bare_value = object (with_member metadata (object (members_in (member_of metadata fields))) fields)
+
+  pub bare-taken : body_or_fault kind bare_value ≡ Ok b
+  bare-taken =
+      let made = put-is (member_of metadata fields) refl (has b metadata_path) (metadata-is fs b hs of_metadata.1 ordered apart-root) in
+      fits-is kind bare_value b made.0 made.1 s.few
+
   -- the body is taken back, without these names of metadata
   taken : (names : List Text) (v k n : Text) (ns : Option Json) → TakesOut names → names_none names hs ≡ true
       → body_or_fault kind (value_without names (object (with_identity (parts v k n ns) fields))) ≡ Ok b
-  taken names v k n ns out none =
-      let made = put-is (member_of metadata fields) refl (has b metadata_path) (metadata-is fs b hs of_metadata.1 ordered apart-root) in
-      ap (body_or_fault kind) (value-is fs b hs of_metadata.1 ordered apart-root names v k n ns out none)
-      ∙ fits-is kind (object (with_member metadata (object (members_in (member_of metadata fields))) fields)) b made.0 made.1 s.few
+  taken names v k n ns out none = ap (body_or_fault kind) (value-is fs b hs of_metadata.1 ordered apart-root names v k n ns out none) ∙ bare-taken
 
 -- ---- what the object says
 
-abbrev file_out : TakesOut file_names
+abbrev pub file_out : TakesOut file_names
 file_out = record { name = refl; namespace = refl }
 
 abbrev identity_out : TakesOut identity_names
@@ -267,33 +279,33 @@ fewer-none (kind_field n k fs) h =
     (λ i. first i && rest i)
 
 module _ (fs : Fields) (b : Body) (s : IsShownBody (record_of fs) b) (v k n : Text) (ns : Option Json) where
-  abbrev members : Members
+  abbrev pub members : Members
   members = with_identity (parts v k n ns) (shown_fields fs b [])
 
-  abbrev inside : Members
+  abbrev pub inside : Members
   inside = whole fs b (hs fs b s) (of_metadata fs b s).1 (ordered fs b s) (apart-root fs b s) n ns
 
-  abbrev below_metadata : Members
+  abbrev pub below_metadata : Members
   below_metadata = inner fs b (hs fs b s) (of_metadata fs b s).1 (ordered fs b s) (apart-root fs b s)
 
-  abbrev with_kind : Members
+  abbrev pub with_kind : Members
   with_kind = with_member (codes "kind") (scalar (text k)) (with_member metadata (object inside) (shown_fields fs b []))
 
-  version-there : member_of (codes "apiVersion") members ≡ Some (scalar (text v))
+  pub version-there : member_of (codes "apiVersion") members ≡ Some (scalar (text v))
   version-there = put-found (codes "apiVersion") (scalar (text v)) with_kind
 
-  kind-there : member_of (codes "kind") members ≡ Some (scalar (text k))
+  pub kind-there : member_of (codes "kind") members ≡ Some (scalar (text k))
   kind-there =
       put-other (codes "kind") (codes "apiVersion") (scalar (text v)) with_kind refl
       ∙ put-found (codes "kind") (scalar (text k)) (with_member metadata (object inside) (shown_fields fs b []))
 
-  metadata-there : member_of metadata members ≡ Some (object inside)
+  pub metadata-there : member_of metadata members ≡ Some (object inside)
   metadata-there =
       put-other metadata (codes "apiVersion") (scalar (text v)) with_kind refl
       ∙ put-other metadata (codes "kind") (scalar (text k)) (with_member metadata (object inside) (shown_fields fs b [])) refl
       ∙ put-found metadata (object inside) (shown_fields fs b [])
 
-  name-there : member_of (codes "name") inside ≡ Some (scalar (text n))
+  pub name-there : member_of (codes "name") inside ≡ Some (scalar (text n))
   name-there = put-found (codes "name") (scalar (text n)) (with_given (codes "namespace") ns below_metadata)
 
   no-name : (q : Text) → list_any (same_text q) file_names ≡ true → member_of q below_metadata ≡ None
@@ -304,7 +316,7 @@ module _ (fs : Fields) (b : Body) (s : IsShownBody (record_of fs) b) (v k n : Te
   given-there None = no-name (codes "namespace") refl
   given-there (Some w) = put-found (codes "namespace") w below_metadata
 
-  namespace-there : member_of (codes "namespace") inside ≡ ns
+  pub namespace-there : member_of (codes "namespace") inside ≡ ns
   namespace-there = put-other (codes "namespace") (codes "name") (scalar (text n)) (with_given (codes "namespace") ns below_metadata) refl ∙ given-there ns
 
   given-other : (o : Option Json) → member_of (codes "managedFields") (with_given (codes "namespace") o below_metadata) ≡ None
@@ -316,14 +328,14 @@ module _ (fs : Fields) (b : Body) (s : IsShownBody (record_of fs) b) (v k n : Te
       ap (option_and_then (value_at (codes "managedFields" ∷ []))) metadata-there
       ∙ ap (option_and_then (value_at [])) (put-other (codes "managedFields") (codes "name") (scalar (text n)) (with_given (codes "namespace") ns below_metadata) refl ∙ given-other ns)
 
-  itself : (o : Option Json) → option_and_then (value_at []) o ≡ o
+  pub itself : (o : Option Json) → option_and_then (value_at []) o ≡ o
   itself None = refl
   itself (Some w) = refl
 
-  in-it : (q : Text) → value_at (codes "metadata" ∷ q ∷ []) (object members) ≡ member_of q inside
+  pub in-it : (q : Text) → value_at (codes "metadata" ∷ q ∷ []) (object members) ≡ member_of q inside
   in-it q = ap (option_and_then (value_at (q ∷ []))) metadata-there ∙ itself (member_of q inside)
 
-  identity-is : identity_of (object members) ≡ parts v k n ns
+  pub identity-is : identity_of (object members) ≡ parts v k n ns
   identity-is =
       let a = ap (option_and_then (value_at [])) version-there in
       let c = ap (option_and_then (value_at [])) kind-there in
@@ -331,7 +343,7 @@ module _ (fs : Fields) (b : Body) (s : IsShownBody (record_of fs) b) (v k n : Te
       let e = in-it (codes "namespace") ∙ namespace-there in
       (λ i. a i ∷ c i ∷ d i ∷ e i ∷ [])
 
-  is-object : is_some_object (value_at (codes "metadata" ∷ []) (object members)) ≡ true
+  pub is-object : is_some_object (value_at (codes "metadata" ∷ []) (object members)) ≡ true
   is-object = ap (λ o. is_some_object (option_and_then (value_at []) o)) metadata-there
 
 -- ---- the laws

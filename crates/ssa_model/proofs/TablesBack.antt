@@ -1,0 +1,128 @@
+-- The entries that a table is written as say the table.
+use Rattle.std.proofs.Common.{◌≡◌, ◌≤◌, ◌<◌, ℕ, suc, arith, length, List, [], ◌∷◌, ◌++◌, filter, true, false, cond, not, ◌||◌, Option, Some, None, refl, sym, ap, ◌∙◌, subst, append_assoc, append-nil}
+use Rattle.std.proofs.lemmas.Bool.Decides.{nat_tests}
+use Rattle.std.specs.Prelude.{if◌then◌else◌, codes, nat_le, Ok, Err}
+use Rattle.std.specs.Cmp.{first_so, second_so}
+use Rattle.ssa_model.specs.Json.{Text, Json, Members, no_members, member, same_text}
+use Rattle.ssa_model.specs.Path.{Path}
+use Rattle.ssa_model.specs.PathMap.{paths, is_empty}
+use Rattle.ssa_model.specs.Body.{Body, is_ownable}
+use Rattle.ssa_model.specs.Table.{Operation, applies, updates, ManagerKey, Entry, Table, same_manager, is_in_table}
+use Rattle.ssa_model.specs.Readings.{Readings}
+use Rattle.ssa_model.specs.Entries.{fields_json, operation_text, text_json, entry_json, entry_items}
+use Rattle.ssa_model.specs.FieldsFaults.{fields_faults}
+use Rattle.ssa_model.specs.GivenEntries.{EntryFault, too_many_managers, bad_entry, manager_name, other_version, bad_moment, of_fields, empty_entry, absent_path, duplicate_manager, is_entry, operation_of, not_ownable, owned_fault, said_entry, entry_fault, members_entry, next_entry, table_behind}
+use Rattle.ssa_model.specs.History.{is_manager_name}
+use Rattle.ssa_model.specs.ShownStates.{IsReadBack}
+use Rattle.ssa_model.specs.Valid.{has_distinct_keys, OwnsOwnable, AllEntries, IsTable}
+use Rattle.ssa_model.proofs.PathMaps.{is_one_of, has-paths, same_path-itself}
+use Rattle.ssa_model.proofs.Tables.{text-itself, apart-back, first_false, second_false, no, or_true, true_or}
+
+-- ---- the members of an entry
+
+abbrev entry_of : Text → Json → Text → Operation → Text → Members
+entry_of version fields name o time =
+    member (codes "apiVersion") (text_json version) (member (codes "fieldsType") (text_json (codes "FieldsV1")) (member (codes "fieldsV1") fields
+    (member (codes "manager") (text_json name) (member (codes "operation") (text_json (operation_text o)) (member (codes "time") (text_json time) no_members)))))
+
+entry-is : (version : Text) (fields : Json) (name : Text) (o : Operation) (time : Text) → is_entry (entry_of version fields name o time) ≡ true
+entry-is version fields name applies time = refl
+entry-is version fields name updates time = refl
+
+operation-back : (o : Operation) → elim (operation_of (operation_text o)) [ Some q ↦ q | None ↦ applies ] ≡ o
+operation-back applies = refl
+operation-back updates = refl
+
+none-other : (b : Body) (ps : List Path) → ((p : Path) → is_one_of ps p ≡ true → is_ownable b p ≡ true) → filter (λ p. not (is_ownable b p)) ps ≡ []
+none-other b [] h = refl
+none-other b (p ∷ ps) h =
+    ap (λ t. cond (not t) (p ∷ filter (λ q. not (is_ownable b q)) ps) (filter (λ q. not (is_ownable b q)) ps)) (h p (true_or _ _ (same_path-itself p)))
+    ∙ none-other b ps (λ q one. h q (or_true _ _ one))
+
+none-refused : (b : Body) (e : Entry) → OwnsOwnable b e → not_ownable b e.owned ≡ []
+none-refused b e h = none-other b (paths e.owned) (λ p one. h p (has-paths e.owned p ∙ one))
+
+module _ (readings : Readings) (body : Body) (version : Text) where
+  -- what is known of an entry of a table
+  pub record IsGood (e : Entry) : Type 0 where
+    pub name : is_manager_name e.manager.name ≡ true
+    pub some : is_empty e.owned ≡ false
+    pub ownable : OwnsOwnable body e
+    pub back : IsReadBack readings e
+
+  abbrev entry_members : Entry → Members
+  entry_members e = entry_of version (fields_json e.owned) e.manager.name e.manager.operation e.moment
+
+  said-is : (e : Entry) → IsGood e → said_entry readings (entry_members e) ≡ e
+  said-is e g = λ i. record { manager = record { name = e.manager.name; operation = operation-back e.manager.operation i }; owned = g.back.says i; moment = e.moment }
+
+  no-owned-fault : (before : Table) (e : Entry) → IsGood e → is_in_table before e.manager ≡ false → owned_fault body before e ≡ None
+  no-owned-fault before e g new =
+      let last : Option EntryFault = if is_in_table before e.manager then Some duplicate_manager else None in
+      ap (λ t. if t then Some empty_entry else elim (not_ownable body e.owned) [ p ∷ ps ↦ Some (absent_path p) | [] ↦ (if is_in_table before e.manager then Some duplicate_manager else None) ]) g.some
+      ∙ ap (λ (ps : List Path). elim ps [ p ∷ qs ↦ Some (absent_path p) | [] ↦ (if is_in_table before e.manager then Some duplicate_manager else None) ]) (none-refused body e g.ownable)
+      ∙ ap (λ t. if t then Some duplicate_manager else None) new
+
+  abbrev by_fields : Table → Entry → Option EntryFault
+  by_fields before e = elim (fields_faults readings.value (fields_json e.owned)) [ f ∷ fs ↦ Some (of_fields f) | [] ↦ owned_fault body before (said_entry readings (entry_members e)) ]
+
+  no-fault : (before : Table) (e : Entry) → IsGood e → is_in_table before e.manager ≡ false → entry_fault readings body version before (entry_members e) ≡ None
+  no-fault before e g new =
+      ap (λ t. if not t then Some manager_name else (if not (same_text version version) then Some other_version else (if not (readings.moment e.moment) then Some bad_moment else by_fields before e))) g.name
+      ∙ ap (λ t. if not t then Some other_version else (if not (readings.moment e.moment) then Some bad_moment else by_fields before e)) (text-itself version)
+      ∙ ap (λ t. if not t then Some bad_moment else by_fields before e) g.back.moment
+      ∙ ap (λ fs. elim fs [ f ∷ rest ↦ Some (of_fields f) | [] ↦ owned_fault body before (said_entry readings (entry_members e)) ]) g.back.no_fault
+      ∙ ap (owned_fault body before) (said-is e g) ∙ no-owned-fault before e g new
+
+  few : (m : ℕ) → m < 64 → nat_le 64 m ≡ false
+  few m h = grind (arith, nat_tests)
+
+  entry-back : (before : Table) (e : Entry) → IsGood e → is_in_table before e.manager ≡ false → length before < 64 → next_entry readings body version before (entry_json (text_json version) e) ≡ Ok e
+  entry-back before e g new short =
+      ap (λ t. if t then Err too_many_managers else members_entry readings body version before (entry_members e)) (few (length before) short)
+      ∙ ap (λ t. if not t then Err bad_entry else (elim (entry_fault readings body version before (entry_members e)) [ Some f ↦ Err f | None ↦ Ok (said_entry readings (entry_members e)) ]))
+      (entry-is version (fields_json e.owned) e.manager.name e.manager.operation e.moment)
+      ∙ ap (λ o. elim o [ Some f ↦ Err f | None ↦ Ok (said_entry readings (entry_members e)) ]) (no-fault before e g new)
+      ∙ ap Ok (said-is e g)
+
+  -- ---- one behind the other
+
+  in-middle : (xs : Table) (e : Entry) (es : Table) (a : ManagerKey) → is_in_table (xs ++ e ∷ es) a ≡ false → same_manager e.manager a ≡ false
+  in-middle [] e es a h = first_false _ _ h
+  in-middle (x ∷ xs) e es a h = in-middle xs e es a (second_false (same_manager x.manager a) _ h)
+
+  not-before : (before : Table) (e : Entry) (es : Table) → has_distinct_keys (before ++ e ∷ es) ≡ true → is_in_table before e.manager ≡ false
+  not-before [] e es h = refl
+  not-before (x ∷ xs) e es h =
+      let other = apart-back e.manager x.manager (in-middle xs e es x.manager (no (is_in_table (xs ++ e ∷ es) x.manager) (first_so (not (is_in_table (xs ++ e ∷ es) x.manager)) _ h))) in
+      let rest = not-before xs e es (second_so (not (is_in_table (xs ++ e ∷ es) x.manager)) _ h) in
+      λ i. other i || rest i
+
+  shorter : (before : Table) (e : Entry) (es : Table) → length (before ++ e ∷ es) ≤ 64 → length before < 64
+  shorter [] e es h = omega arith
+  shorter (x ∷ xs) e es h = by xs e es h
+    where
+      longer : (xs : Table) (e : Entry) (es : Table) → length xs < length (xs ++ e ∷ es)
+      longer [] e es = omega arith
+      longer (y ∷ ys) e es = let r = longer ys e es in omega arith
+
+      by : (xs : Table) (e : Entry) (es : Table) → suc (length (xs ++ e ∷ es)) ≤ 64 → suc (length xs) < 64
+      by xs e es h = let r = longer xs e es in omega arith
+
+  pub entries-back : (before es : Table) → has_distinct_keys (before ++ es) ≡ true → length (before ++ es) ≤ 64 → AllEntries IsGood es
+      → table_behind readings body version before (entry_items (text_json version) es) ≡ Ok (before ++ es)
+  entries-back before [] distinct short all = ap Ok (sym (append-nil before))
+  entries-back before (e ∷ es) distinct short all =
+      let moved : (before ++ e ∷ []) ++ es ≡ before ++ e ∷ es = append_assoc before (e ∷ []) es in
+      ap (λ r. elim r [ Ok x ↦ table_behind readings body version (before ++ x ∷ []) (entry_items (text_json version) es) | Err f ↦ Err f ])
+      (entry-back before e all.0 (not-before before e es distinct) (shorter before e es short))
+      ∙ entries-back (before ++ e ∷ []) es (ap has_distinct_keys moved ∙ distinct) (subst (λ t. length t ≤ 64) (sym moved) short) all.1
+      ∙ ap Ok moved
+
+  join : (es : Table) → AllEntries (λ e. is_manager_name e.manager.name ≡ true) es → AllEntries (λ e. is_empty e.owned ≡ false) es → AllEntries (OwnsOwnable body) es → AllEntries (IsReadBack readings) es → AllEntries IsGood es
+  join [] a b c d = tt
+  join (e ∷ es) a b c d = (record { name = a.0; some = b.0; ownable = c.0; back = d.0 }, join es a.1 b.1 c.1 d.1)
+
+  -- the table is read from its entries
+  pub table-back : (table : Table) → IsTable body table → AllEntries (IsReadBack readings) table → table_behind readings body version [] (entry_items (text_json version) table) ≡ Ok table
+  table-back table t back = entries-back [] table t.distinct t.few (join table t.names t.own_some t.ownable back)
