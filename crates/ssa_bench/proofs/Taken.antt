@@ -1,20 +1,19 @@
 -- Taking the body of a command's object, test by test.
-use Rattle.std.proofs.Common.{ℕ, ◌<◌, ◌≤◌, nat_lt, arith, List, [], ◌∷◌, Option, Some, None, ◌≡◌, Bool, true, false, not, ◌&&◌, refl, sym, ap, ◌∙◌, true≢false}
-use Rattle.std.proofs.lemmas.Bool.Decides.{nat_tests}
+use Rattle.std.proofs.Common.{List, [], ◌∷◌, Option, Some, None, ◌≡◌, Bool, true, false, not, ◌&&◌, refl, sym, ap, ◌∙◌, true≢false}
 use Rattle.std.specs.Prelude.{if◌then◌else◌, Ok, Err, Result, is_some, unwrap_or, option_map}
 use Rattle.ssa_model.specs.Json.{Json, scalar, list, object, is_object}
 use Rattle.ssa_model.specs.History.{Schema, Bench}
 use Rattle.ssa_model.specs.Body as bodies
 use Rattle.ssa_model.specs.Kind as kinds
 use Rattle.ssa_model.specs.Kind.{Kind, faults, wrong_type}
-use Rattle.ssa_model.specs.PathMap.{size}
 use Rattle.ssa_model.specs.Body.{flat}
 use Rattle.ssa_model.specs.Objects.{identity_of, body_value, file_value}
 use Rattle.ssa_model.specs.GivenEntries as entries
 use Rattle.ssa_model.specs.Table.{Table}
-use Rattle.ssa_model.specs.Operations.{State, too_many_paths}
+use Rattle.ssa_model.specs.Operations.{State}
 use Rattle.ssa_model.specs.Answers as model
 use Rattle.ssa_model.specs.Answers.{body_fault, refused, identity_fault, managed_fields_given, has_identity, gives_managed_fields, names_itself, body_or_fault, command_body, bench_of, given_table, with_lone_state, with_table, file_state}
+use Rattle.ssa_model.proofs.GivenBodies.{by_faults}
 use Rattle.ssa_schema.specs.Finds.{Told, told, told_view}
 use Rattle.ssa_schema.specs.Refusals.{first_of}
 use Rattle.ssa_schema.specs.declared.body_fault.BodyFault.{BodyFault}
@@ -58,27 +57,6 @@ passed-on TooManyManagers r s go h = (h.0, go h.0 h.1, h.2)
 passed-on OutOfMemory r s go h = tt
 
 -- ---- the body of a value
-
-abbrev by_faults : Kind → Json → List kinds.Fault → Result bodies.Body model.Fault
-by_faults kind v fs = elim fs [
-  | [] ↦ if nat_lt 20001 (size (flat kind v)) then Err (refused too_many_paths) else Ok (flat kind v)
-  | f ∷ rest ↦ Err (body_fault f.0 f.1)
-]
-
-at_most : (m n : ℕ) → n ≤ m → nat_lt m n ≡ false
-at_most m n h = grind (arith, nat_tests)
-
-over : (m n : ℕ) → m < n → nat_lt m n ≡ true
-over m n h = grind (arith, nat_tests)
-
-pub body_or_fault-large : (kind : Kind) (v : Json) → faults kind v [] ≡ [] → 20001 < size (flat kind v) → body_or_fault kind v ≡ Err (refused too_many_paths)
-body_or_fault-large kind v none more =
-    ap (by_faults kind v) none ∙ ap (λ b. if b then Err (refused too_many_paths) else Ok (flat kind v)) (over 20001 (size (flat kind v)) more)
-
-pub body_or_fault-fits : (kind : Kind) (v : Json) (b : bodies.Body) → faults kind v [] ≡ [] → b ≡ flat kind v → size b ≤ 20001 → body_or_fault kind v ≡ Ok b
-body_or_fault-fits kind v b none is few =
-    ap (by_faults kind v) none ∙ ap (λ c. if nat_lt 20001 (size c) then Err (refused too_many_paths) else Ok c) (sym is)
-    ∙ ap (λ t. if t then Err (refused too_many_paths) else Ok b) (at_most 20001 (size b) few)
 
 first-told : (kind : Kind) (v : Json) (f : BodyFault) (fs : List kinds.Fault) → ◌≡◌ {A = Option Told} (Some (told_view f)) (option_map told (first_of fs))
     → (g : model.Fault) × (by_faults kind v fs ≡ Err g) × IsFault (Body f) g

@@ -1,8 +1,7 @@
 -- The object that is shown of a body is taken as that body.
-use Rattle.std.proofs.Common.{◌≡◌, ◌≤◌, ℕ, nat_lt, arith, List, [], ◌∷◌, ◌++◌, Bool, true, false, cond, not, ◌&&◌, ◌||◌, Option, Some, None, option_map, option_and_then, refl, sym, ap, ◌∙◌, subst, true≢false}
-use Rattle.std.proofs.lemmas.Bool.Decides.{nat_tests}
+use Rattle.std.proofs.Common.{◌≡◌, List, [], ◌∷◌, ◌++◌, Bool, true, false, cond, not, ◌&&◌, ◌||◌, Option, Some, None, option_map, option_and_then, refl, sym, ap, ◌∙◌, subst, true≢false}
 use Rattle.std.proofs.lemmas.Option.{none-some}
-use Rattle.std.specs.Prelude.{if◌then◌else◌, codes, Result, Ok, Err}
+use Rattle.std.specs.Prelude.{if◌then◌else◌, codes, Ok, Err}
 use Rattle.std.specs.List.{list_any}
 use Rattle.std.specs.Ordering.{is_eq, is_lt, nat_cmp}
 use Rattle.std.specs.Cmp.{first_so, second_so}
@@ -10,7 +9,7 @@ use Rattle.std.specs.Cmp.Lexicographic.{slice_cmp}
 use Rattle.std.specs.declared.cmp.Ordering.TheVariants.{Less, Equal, Greater}
 use Rattle.ssa_model.specs.Json.{Text, text, Json, scalar, object, Members, no_members, member, member_of, same_text}
 use Rattle.ssa_model.specs.Path.{field, Path}
-use Rattle.ssa_model.specs.PathMap.{has, size, from_entries}
+use Rattle.ssa_model.specs.PathMap.{has, from_entries}
 use Rattle.ssa_model.specs.Kind as kinds
 use Rattle.ssa_model.specs.Kind.{Kind, Fields, record_of, no_fields, kind_field, kind_of, unknown_field, faults, field_faults}
 use Rattle.ssa_model.specs.Body.{Body, flat, places, without_empty_metadata, is_empty_object}
@@ -18,15 +17,15 @@ use Rattle.ssa_model.specs.Lawful.{is_root_kind, is_ordered, are_ordered, is_bef
 use Rattle.ssa_model.specs.Objects.{value_at, identity_of, is_named_text, is_missing, is_some_object, is_identity, same_value, same_identity, without, without_in_metadata, value_without, identity_names, file_names, body_value, shown, shown_fields, with_member, with_given, members_in, with_identity, object_of_body}
 use Rattle.ssa_model.specs.Commands.{text_in}
 use Rattle.ssa_model.specs.GivenEntries.{table_of}
-use Rattle.ssa_model.specs.Operations.{too_many_paths}
 use Rattle.ssa_model.specs.Readings.{Readings}
 use Rattle.ssa_model.specs.History.{Schema, Bench}
-use Rattle.ssa_model.specs.Answers.{Fault, refused, body_fault, identity_fault, managed_fields_given, has_identity, gives_managed_fields, body_or_fault, command_body, names_itself, with_lone_state, with_table, given_table, file_state, bench_of, lone_state}
+use Rattle.ssa_model.specs.Answers.{identity_fault, managed_fields_given, has_identity, gives_managed_fields, body_or_fault, command_body, names_itself, with_lone_state, with_table, given_table, file_state, bench_of, lone_state}
 use Rattle.ssa_model.specs.ShownObjects.{names_none, fields_in, IsShownBody, ShownMakesBench, ShownIsCommands}
 use Rattle.ssa_model.specs.Valid.{metadata_path}
 use Rattle.ssa_model.proofs.EmptyMetadata.{record-in, metadata_stays}
 use Rattle.ssa_model.proofs.FaultlessParts.{member-join}
 use Rattle.ssa_model.proofs.FlatOfShown.{flat_of_shown}
+use Rattle.ssa_model.proofs.GivenBodies.{body_or_fault-fits}
 use Rattle.ssa_model.proofs.PutMembers.{metadata, are_above, rise, put-found, put-other, put-again, without-put, have_none, without-none, none-put, none-of, in-metadata, greater-other}
 use Rattle.ssa_model.proofs.ShownFits.{shown_fits}
 use Rattle.ssa_model.proofs.ShownNames.{member_of-fields}
@@ -181,20 +180,6 @@ module _ (fs hs : Fields) (is : kind_of metadata fs ≡ Some (record_of hs)) (p 
 
 -- ---- the body of the value
 
-abbrev by_faults : Kind → Json → List kinds.Fault → Result Body Fault
-by_faults kind v fs = elim fs [
-  | [] ↦ if nat_lt 20001 (size (flat kind v)) then Err (refused too_many_paths) else Ok (flat kind v)
-  | f ∷ rest ↦ Err (body_fault f.0 f.1)
-]
-
-at_most : (m n : ℕ) → n ≤ m → nat_lt m n ≡ false
-at_most m n h = grind (arith, nat_tests)
-
-fits-is : (kind : Kind) (v : Json) (b : Body) → faults kind v [] ≡ [] → flat kind v ≡ b → size b ≤ 20001 → body_or_fault kind v ≡ Ok b
-fits-is kind v b none is few =
-    ap (by_faults kind v) none ∙ ap (λ c. if nat_lt 20001 (size c) then Err (refused too_many_paths) else Ok c) is
-    ∙ ap (λ t. if t then Err (refused too_many_paths) else Ok b) (at_most 20001 (size b) few)
-
 module _ (fs : Fields) (b : Body) (s : IsShownBody (record_of fs) b) where
   abbrev pub kind : Kind
   kind = record_of fs
@@ -250,7 +235,7 @@ module _ (fs : Fields) (b : Body) (s : IsShownBody (record_of fs) b) where
   pub bare-taken : body_or_fault kind bare_value ≡ Ok b
   bare-taken =
       let made = put-is (member_of metadata fields) refl (has b metadata_path) (metadata-is fs b hs of_metadata.1 ordered apart-root) in
-      fits-is kind bare_value b made.0 made.1 s.few
+      body_or_fault-fits kind bare_value b made.0 made.1 s.few
 
   -- the body is taken back, without these names of metadata
   taken : (names : List Text) (v k n : Text) (ns : Option Json) → TakesOut names → names_none names hs ≡ true
