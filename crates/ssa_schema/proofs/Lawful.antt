@@ -1,6 +1,7 @@
 -- The kinds of schemas without faults: objects with fields at the root, and key fields in each map list.
 use Rattle.std.proofs.Common.{◌≡◌, ℕ, zero, suc, List, [], ◌∷◌, ◌++◌, Bool, true, false, not, ◌&&◌, ◌||◌, refl, sym, ap, ◌∙◌, true≢false}
 use Rattle.std.specs.Prelude.{Option, None, Some, Result, Ok, Err, option_and_then, is_some, codes, if◌then◌else◌}
+use Rattle.std.specs.List.{list_any}
 use Rattle.std.specs.declared.cmp.Ordering.{Ordering}
 use Rattle.std.specs.declared.cmp.Ordering.TheVariants.{Less, Equal, Greater}
 use Rattle.std.specs.Ordering.{is_lt, is_eq, nat_cmp}
@@ -384,30 +385,37 @@ one-type (Some (scalar (Rattle.ssa_model.specs.Json.truth b))) h = refl
 one-type (Some (list vs)) h = refl
 one-type (Some (object ms)) h = refl
 
-no-other : (o : Option Json) (fs : kinds.Fields) (kind : Json → kinds.Kind) → is_some o ≡ false → is_record (elim o [ None ↦ kinds.record_of fs | Some v ↦ kinds.dict_of (kind v) ]) ≡ true
+no-other : (o : Option Json) (fs : kinds.Fields) (kind : Json → kinds.Kind) → is_some o ≡ false → ◌≡◌ {A = kinds.Kind} (elim o [ None ↦ kinds.record_of fs | Some v ↦ kinds.dict_of (kind v) ]) (kinds.record_of fs)
 no-other None fs kind h = refl
 no-other (Some v) fs kind h = absurd (true≢false h)
 
-if-false : (b : Bool) (j k : kinds.Kind) → b ≡ false → is_record k ≡ true → is_record (if b then j else k) ≡ true
-if-false true j k e h = absurd (true≢false e)
-if-false false j k e h = h
+if-false : (b : Bool) (j k : kinds.Kind) → b ≡ false → (if b then j else k) ≡ k
+if-false b j k e = ap (λ t. if t then j else k) e
 
-if-true : (b : Bool) (j k : kinds.Kind) → b ≡ true → is_record j ≡ true → is_record (if b then j else k) ≡ true
-if-true true j k e h = h
-if-true false j k e h = absurd (true≢false (sym e))
+if-true : (b : Bool) (j k : kinds.Kind) → b ≡ true → (if b then j else k) ≡ j
+if-true b j k e = ap (λ t. if t then j else k) e
 
-pub root-record : (n : ℕ) (v : Json) → model.schema_faults model.whole_profile (suc n) model.at_root v ≡ [] → is_record (model.kind_of_schema (suc n) v) ≡ true
+-- what a root without faults is: an object with the fields of its properties, of which none has a reserved name
+pub root-is : (n : ℕ) (ms : Members) → model.schema_faults model.whole_profile (suc n) model.at_root (object ms) ≡ []
+    → (model.kind_of_schema (suc n) (object ms) ≡ kinds.record_of (model.kind_fields (model.kind_of_schema n) (model.property_members ms)))
+    × (list_any (λ n. model.is_one_of_texts n model.reserved_names) (model.names (model.property_members ms)) ≡ false)
 unfolding is_it
-root-record n (scalar t) e = absurd (cons≢nil e)
-root-record n (list vs) e = absurd (cons≢nil e)
-root-record n (object ms) e =
+root-is n ms e =
     let clean = is-clean n model.at_root ms e in
     let right : model.is_wrong_root ms ≡ false = or_second (model.is_in_atomic model.at_root && model.has_marker ms) _ (or_second (model.is_wrong_array ms) _ (or_second (model.is_wrong_object ms) _ (or_second (model.is_wrong_scalar ms) _ clean.no_shape))) in
     let is_object : model.is_object_type ms ≡ true = not_false _ (or_first _ _ right) in
     let later = or_second (not (model.is_object_type ms)) _ right in
-    if-false (model.is_atomic ms) _ _ (or_first _ _ (or_second (model.has_member (codes "additionalProperties") ms) _ later))
-    (if-false (model.is_array_type ms) _ _ (one-type (member_of (codes "type") ms) is_object)
-    (if-true (model.is_object_type ms) _ _ is_object (no-other (member_of (codes "additionalProperties") ms) (model.kind_fields (model.kind_of_schema n) (model.property_members ms)) (model.kind_of_schema n) (or_first _ _ later))))
+    let last = or_second (model.has_member (codes "additionalProperties") ms) _ later in (
+      if-false (model.is_atomic ms) _ _ (or_first _ _ last) ∙ if-false (model.is_array_type ms) _ _ (one-type (member_of (codes "type") ms) is_object)
+      ∙ if-true (model.is_object_type ms) _ _ is_object
+      ∙ no-other (member_of (codes "additionalProperties") ms) (model.kind_fields (model.kind_of_schema n) (model.property_members ms)) (model.kind_of_schema n) (or_first _ _ later),
+      or_second (model.is_atomic ms) _ last,
+    )
+
+pub root-record : (n : ℕ) (v : Json) → model.schema_faults model.whole_profile (suc n) model.at_root v ≡ [] → is_record (model.kind_of_schema (suc n) v) ≡ true
+root-record n (scalar t) e = absurd (cons≢nil e)
+root-record n (list vs) e = absurd (cons≢nil e)
+root-record n (object ms) e = ap is_record (root-is n ms e).0
 
 passes : (kinds.Kind → Bool) → Result kinds.Kind model.SchemaFault → Bool
 passes test (Ok k) = test k

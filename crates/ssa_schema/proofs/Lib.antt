@@ -13,3 +13,4 @@ pub mod Ordered
 pub mod Reading
 pub mod Shaping
 pub mod Sorting
+pub mod Apart

@@ -12,7 +12,7 @@ use Rattle.ssa_json.proofs.Equality.{same_text-itself}
 use Rattle.ssa_schema.proofs.Lawful.{root-record, told-kind}
 
 -- a field that is put among others is found
-kind_of-with_field : (n : Text) (k : Kind) (fs : Fields) → kind_of n (with_field n k fs) ≡ Some k
+pub kind_of-with_field : (n : Text) (k : Kind) (fs : Fields) → kind_of n (with_field n k fs) ≡ Some k
 kind_of-with_field n k no_fields = ap (λ b. if b then Some k else None) (same_text-itself n)
 kind_of-with_field n k (kind_field m j fs) =
     elim (slice_cmp nat_cmp n m) as (λ o. slice_cmp nat_cmp n m ≡ o → kind_of n (elim o [ Less ↦ kind_field n k (kind_field m j fs) | Equal ↦ kind_field n k fs | Greater ↦ kind_field m j (with_field n k fs) ]) ≡ Some k) [

@@ -5,6 +5,7 @@ ghost use Rattle.ssa_model.specs.Schema.{read_schema, whole_profile};
 ghost use Rattle.ssa_json.specs.View.{view};
 ghost use Rattle.ssa_schema.specs.Kinds.{kind_view};
 ghost use Rattle.ssa_model.specs.Lawful.{has_metadata, is_ordered, is_root_kind};
+ghost use Rattle.ssa_model.specs.ShownObjects.{leaves_identity};
 ghost use Rattle.ssa_schema.specs.Refusals.{first_of};
 ghost use Rattle.ssa_schema.specs.Finds.{told, told_view};
 ghost use Rattle.ssa_schema.specs.Schemas.{schema_reading, fault_of, ReadsKind, ReadsSchema};
@@ -50,8 +51,9 @@ impl Model for Schema {
 
     ghost use Rattle.std.specs.Prelude.{◌≡◌, true};
     ghost use Rattle.ssa_model.specs.Lawful.{has_metadata, is_ordered, is_root_kind};
+    ghost use Rattle.ssa_model.specs.ShownObjects.{leaves_identity};
 
-    ghost invariant = { λ s. (is_root_kind (kinds.kind_view s.kind) ≡ true) × (is_ordered (kinds.kind_view s.kind) ≡ true) × (has_metadata (kinds.kind_view s.kind) ≡ true) };
+    ghost invariant = { λ s. (is_root_kind (kinds.kind_view s.kind) ≡ true) × (is_ordered (kinds.kind_view s.kind) ≡ true) × (has_metadata (kinds.kind_view s.kind) ≡ true) × (leaves_identity (kinds.kind_view s.kind) ≡ true) };
 }
 
 // The fault that a refusal is.
@@ -103,12 +105,14 @@ impl Schema {
 
     /// The kind of the root: what may stand at each place of an object without its identity. It is
     /// an object with fields, whose names rise at each level, and each map list in it has key
-    /// fields. Its field `metadata` is an object with fields.
+    /// fields. Its field `metadata` is an object with fields. No field of the root is named as a part
+    /// of the identity, and none of `metadata` as what an object file's metadata has beside the body.
     pub fn kind(&self) -> &Kind
         ensures same { kind_view result.now ≡ self.now.1 }
         ensures root { is_root_kind self.now.1 ≡ true }
         ensures ordered { is_ordered self.now.1 ≡ true }
         ensures metadata { has_metadata self.now.1 ≡ true }
+        ensures apart { leaves_identity self.now.1 ≡ true }
     {
         &self.kind
     }

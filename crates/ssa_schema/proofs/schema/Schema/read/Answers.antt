@@ -2,6 +2,7 @@ use Rattle.std.proofs.Common.{refl, sym, ◌∙◌, subst}
 use Rattle.ssa_json.specs.View.{view}
 use Rattle.ssa_schema.specs.Schemas.{Faults}
 use Rattle.ssa_schema.specs.Kinds.{kind_view}
+use Rattle.ssa_schema.proofs.Apart.{read-leaves}
 use Rattle.ssa_schema.proofs.Lawful.{read-root}
 use Rattle.ssa_schema.proofs.Metadata.{read-metadata}
 use Rattle.ssa_schema.proofs.Reading.{reading_is}
@@ -16,4 +17,4 @@ returns-in-Err c = subst (λ r. Faults c.in-Err.fault r) (sym (reading_is (view 
 pub invariant_of-result : goal.invariant_of-result
 invariant_of-result c =
     let read = reading_is (view c.args.schema) ∙ c.in-Ok.ensures.kind in
-    (read-root (view c.args.schema) (kind_view c.in-Ok.kind) read, c.in-Ok.ensures.ordered, read-metadata (view c.args.schema) (kind_view c.in-Ok.kind) read)
+    (read-root (view c.args.schema) (kind_view c.in-Ok.kind) read, c.in-Ok.ensures.ordered, read-metadata (view c.args.schema) (kind_view c.in-Ok.kind) read, read-leaves (view c.args.schema) (kind_view c.in-Ok.kind) read)
