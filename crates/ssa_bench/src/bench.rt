@@ -1,5 +1,5 @@
 //! The bench: an object, its managers, and the history of commands on it.
-ghost use Rattle.std.specs.Prelude.{◌≡◌, ◌≤◌, ◌<◌, ◌-◌, ◌^◌, ◌||◌, nat_le, length, IfErr, IfOk, OnOk, OnErr, false, true, option_map, codes, string_bytes};
+ghost use Rattle.std.specs.Prelude.{◌≡◌, [], Ok, ◌≤◌, ◌<◌, ◌-◌, ◌^◌, ◌||◌, nat_le, length, IfErr, IfOk, OnOk, OnErr, false, true, option_map, codes, string_bytes};
 ghost use Rattle.ssa_model.specs.Answers.{answer, apply, update, strip, undo, redo, log, logged, apply_answer, bench_of, body_or_fault, command_body, owners_of, file_state};
 ghost use Rattle.ssa_model.specs.Entries.{object_of_state};
 ghost use Rattle.ssa_model.specs.History.{is_manager_name, past_len, future_len, present};
@@ -355,6 +355,17 @@ impl Bench {
         ensures { AllValid self.now.schema.1 self.now.timeline }
     {
         let _ = &self.timeline;
+    }
+
+    /// The object that is shown without the managers' entries is taken as the present body: by a
+    /// command, and by an object file, which makes a bench without managers and history.
+    pub fn shown_is_taken(&self)
+        ensures command { command_body self.now (object_of_state self.now.identity self.now.schema.1 false (present self.now.timeline)) ≡ Ok (present self.now.timeline).body }
+        ensures file { bench_of readings self.now.schema (object_of_state self.now.identity self.now.schema.1 false (present self.now.timeline))
+            ≡ Ok (lone_bench self.now.schema self.now.identity (record { body = (present self.now.timeline).body; table = [] })) }
+    {
+        let _kind = self.schema.kind();
+        self.identity.parts_are_named();
     }
 
     /// How many commands can be undone.

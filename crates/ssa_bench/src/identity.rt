@@ -1,5 +1,5 @@
 //! The identity of an object: its version, kind, name and namespace.
-ghost use Rattle.std.specs.Prelude.{◌≡◌, ◌∷◌, [], IfOk, codes, not, ◌&&◌, ◌||◌, Some, None, option_map};
+ghost use Rattle.std.specs.Prelude.{true, ◌≡◌, ◌∷◌, [], IfOk, codes, not, ◌&&◌, ◌||◌, Some, None, option_map};
 ghost use Rattle.ssa_model.specs.Objects.{value_at, identity_of, is_named_text, is_some_object, is_identity, same_value, same_identity, is_missing};
 ghost use Rattle.ssa_json.specs.View.{view};
 ghost use Rattle.ssa_bench.specs.Identities.{identity_in, HasVersion};
@@ -153,6 +153,13 @@ impl Identity {
             &self.name,
             self.namespace.as_ref(),
         )
+    }
+
+    /// Each part is a text that isn't empty; the namespace may be absent.
+    pub fn parts_are_named(&self)
+        ensures { is_identity self.now ≡ true }
+    {
+        let _ = &self.name;
     }
 
     /// The `apiVersion`.
