@@ -1,13 +1,13 @@
 -- The kind of each schema that is accepted has no field named as a part of the identity.
 use Rattle.std.proofs.Common.{◌≡◌, ℕ, suc, List, [], ◌∷◌, Bool, true, false, not, ◌&&◌, ◌||◌, refl, sym, ap, ◌∙◌, true≢false}
-use Rattle.std.specs.Prelude.{Some, Ok, codes}
+use Rattle.std.specs.Prelude.{Ok, codes}
 use Rattle.std.specs.declared.cmp.Ordering.TheVariants.{Less, Equal, Greater}
 use Rattle.std.specs.Ordering.{nat_cmp}
 use Rattle.std.specs.Cmp.{first_so, second_so}
 use Rattle.std.specs.Cmp.Lexicographic.{slice_cmp}
 use Rattle.std.specs.List.{list_any}
 use Rattle.ssa_model.specs.Json.{Text, Json, scalar, list, object, Members, no_members, member, same_text}
-use Rattle.ssa_model.specs.Kind.{Kind, Fields, scalar_kind, atomic_of, record_of, dict_of, set_of, items_of, no_fields, kind_field, kind_of}
+use Rattle.ssa_model.specs.Kind.{Kind, Fields, scalar_kind, atomic_of, record_of, dict_of, set_of, items_of, no_fields, kind_field}
 use Rattle.ssa_model.specs.Objects.{file_names}
 use Rattle.ssa_model.specs.Schema.{with_field, with_metadata, read_schema, schema_faults, kind_of_schema, kind_fields, whole_profile, most_levels, at_root, names, is_one_of_texts, reserved_names, property_members}
 use Rattle.ssa_model.specs.ShownObjects.{names_none, fields_in, leaves_identity}

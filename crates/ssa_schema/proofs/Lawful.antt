@@ -407,8 +407,8 @@ root-is n ms e =
     let later = or_second (not (model.is_object_type ms)) _ right in
     let last = or_second (model.has_member (codes "additionalProperties") ms) _ later in (
       if-false (model.is_atomic ms) _ _ (or_first _ _ last) ∙ if-false (model.is_array_type ms) _ _ (one-type (member_of (codes "type") ms) is_object)
-      ∙ if-true (model.is_object_type ms) _ _ is_object
-      ∙ no-other (member_of (codes "additionalProperties") ms) (model.kind_fields (model.kind_of_schema n) (model.property_members ms)) (model.kind_of_schema n) (or_first _ _ later),
+          ∙ if-true (model.is_object_type ms) _ _ is_object
+          ∙ no-other (member_of (codes "additionalProperties") ms) (model.kind_fields (model.kind_of_schema n) (model.property_members ms)) (model.kind_of_schema n) (or_first _ _ later),
       or_second (model.is_atomic ms) _ last,
     )
 
