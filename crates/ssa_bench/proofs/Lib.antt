@@ -6,3 +6,4 @@ pub mod Planned
 pub mod Taken
 pub mod Values
 pub mod SavingFacts
+pub mod ReadBack

@@ -7,3 +7,4 @@ pub mod Faults
 pub mod Refusals
 pub mod Benches
 pub mod Saving
+pub mod ReadBack

@@ -17,6 +17,7 @@ ghost use Rattle.ssa_bench.specs.Commands.{command_view, command_word};
 ghost use Rattle.ssa_bench.specs.Histories.{lent_labels};
 ghost use Rattle.std.specs.Io.KnownBytes.{Appends};
 ghost use Rattle.ssa_bench.specs.Saving.{NotSaved};
+ghost use Rattle.ssa_bench.specs.ReadBack.{AllTakenBack};
 ghost use Rattle.ssa_bench.specs.ValidTimelines.{AllValid, IsValidBody};
 
 use crate::body_value::{body_value, file_parts};
@@ -366,6 +367,31 @@ impl Bench {
     {
         let _kind = self.schema.kind();
         self.identity.parts_are_named();
+    }
+
+    /// The object that is shown with the managers' entries is taken by an object file as the present
+    /// state, without the history.
+    ///
+    /// Looks at the numbers of the managers' sets, and changes nothing. Takes no memory.
+    pub fn shown_state_is_taken(&self)
+        ensures { bench_of readings self.now.schema (object_of_state self.now.identity self.now.schema.1 true (present self.now.timeline))
+            ≡ Ok (lone_bench self.now.schema self.now.identity (present self.now.timeline)) }
+    {
+        let _kind = self.schema.kind();
+        self.identity.parts_are_named();
+        self.timeline.present().managers.own_entries_are_read();
+    }
+
+    /// The object that is shown of each state of the history, with the managers' entries, is taken by
+    /// an object file as that state: so each is in the bench file.
+    ///
+    /// Looks at the numbers of the managers' sets, and changes nothing. Takes no memory.
+    pub fn shown_states_are_taken(&self)
+        ensures { AllTakenBack self.now }
+    {
+        let _kind = self.schema.kind();
+        self.identity.parts_are_named();
+        self.timeline.own_entries_are_read();
     }
 
     /// How many commands can be undone.

@@ -3,6 +3,8 @@ ghost use Rattle.std.specs.Prelude.{◌≡◌, [], OnOk, OnErr, IfOk, ◌≤◌,
 ghost use Rattle.ssa_model.specs.History as model;
 ghost use Rattle.ssa_model.specs.History.{present, past_len, future_len, appended, moved_to};
 ghost use Rattle.ssa_bench.specs.Histories.{label_view, lent_labels, steps_view};
+ghost use Rattle.std.specs.List.{All};
+ghost use Rattle.ssa_bench.specs.ReadBack.{AllTablesBack, MakesTableBack};
 ghost use Rattle.ssa_merge.specs.States.{state_view};
 
 use ssa_json::moment::Moment;
@@ -89,6 +91,15 @@ pub fn labels(alloc: Global, steps: &[Step]) -> Result<Vec<&Label>, AllocError>
     Ok(found)
 }
 
+// The tables of the states are read from what they are written as.
+fn steps_are_read(steps: &[Step])
+    ensures { All MakesTableBack (steps_view steps.now) }
+{
+    for step in steps {
+        step.state.managers.own_entries_are_read();
+    }
+}
+
 impl Timeline {
     /// A timeline of one state.
     pub fn new(alloc: Global, first: State) -> Timeline
@@ -99,6 +110,16 @@ impl Timeline {
             later: Vec::new(alloc),
             place: 0,
         }
+    }
+
+    /// The sets of each state's managers are read from what they are written as.
+    ///
+    /// Looks at the numbers of the sets, and changes nothing. Takes no memory.
+    pub fn own_entries_are_read(&self)
+        ensures { AllTablesBack self.now }
+    {
+        self.first.managers.own_entries_are_read();
+        steps_are_read(&self.later);
     }
 
     /// The state at the place.

@@ -8,3 +8,4 @@ pub mod Valid
 mod EntryMembers
 mod NotOwnable
 mod EntryFaults
+mod EntriesBack

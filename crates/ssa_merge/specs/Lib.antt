@@ -6,3 +6,4 @@ pub mod Managers
 pub mod Tables
 pub mod States
 pub mod Plans
+pub mod EntriesBack

@@ -2,6 +2,7 @@
 #![tactic(auto)]
 
 pub mod entries;
+pub mod entries_back;
 pub mod entries_read;
 #[cfg(test)]
 mod entries_tests;

@@ -11,6 +11,7 @@ use Rattle.ssa_model.specs.FieldsV1.{IsElementText, value_below, says, dot_alone
 use Rattle.ssa_model.specs.OneWriting.{OneWriting, SetHasOneWriting, WritingIsMet, two_fields, OrderTells}
 use Rattle.ssa_model.specs.RisingNames.{is_below, has_rising_names, members_rise}
 use Rattle.ssa_model.specs.Rows.{written}
+use Rattle.ssa_model.proofs.Ascii.{ascii-is-utf8}
 use Rattle.ssa_model.proofs.RisingNames.{apart-less, before, lower}
 use Rattle.ssa_model.proofs.SaidSets.{other-way, no-dot, is_said, value_in, said_set_says}
 use Rattle.ssa_model.proofs.Tables.{same_text-true, text-itself}
@@ -180,7 +181,7 @@ set_has_one_writing s v w a b r q = one-value v w a.canonical b.canonical r q (�
 -- ---- the premises are met
 
 pub written_canonical : IsCanonical written
-written_canonical = (inr ((field (codes "spec"), refl, refl), (λ e. cc), (inl (refl, refl), (inr ((field (codes "replicas"), refl, refl), (λ e. cc), tt), tt))), tt)
+written_canonical = (inr ((field (codes "spec"), ascii-is-utf8 (codes "spec") refl, refl), (λ e. cc), (inl (refl, refl), (inr ((field (codes "replicas"), ascii-is-utf8 (codes "replicas") refl, refl), (λ e. cc), tt), tt))), tt)
 
 pub writing_is_met : WritingIsMet
 writing_is_met = (record { canonical = written_canonical; says_set = λ p. said_set_says (λ t. Ok written) written p refl refl }, refl)
@@ -198,8 +199,8 @@ either-way false false = refl
 
 pub order_tells : OrderTells
 order_tells = (
-  (inr ((field (codes "a"), refl, refl), (λ e. cc), tt), (inr ((field (codes "b"), refl, refl), (λ e. cc), tt), tt)),
-  (inr ((field (codes "b"), refl, refl), (λ e. cc), tt), (inr ((field (codes "a"), refl, refl), (λ e. cc), tt), tt)),
+  (inr ((field (codes "a"), ascii-is-utf8 (codes "a") refl, refl), (λ e. cc), tt), (inr ((field (codes "b"), ascii-is-utf8 (codes "b") refl, refl), (λ e. cc), tt), tt)),
+  (inr ((field (codes "b"), ascii-is-utf8 (codes "b") refl, refl), (λ e. cc), tt), (inr ((field (codes "a"), ascii-is-utf8 (codes "a") refl, refl), (λ e. cc), tt), tt)),
   alike,
   (λ e. true≢false (ap has_rising_names e)),
   refl,

@@ -125,7 +125,7 @@ alone-written ps v is written = record {
   canonical = subst IsCanonical (sym written) tt;
 }
 
-more-than-place : (b : Bool) (cs : List (Elem × Trie)) → has_some {A = Elem × Trie} cs ≡ true → are_filled_tries cs ≡ true → is_place_alone (here_path b ++ paths_below cs) ≡ false
+pub more-than-place : (b : Bool) (cs : List (Elem × Trie)) → has_some {A = Elem × Trie} cs ≡ true → are_filled_tries cs ≡ true → is_place_alone (here_path b ++ paths_below cs) ≡ false
 more-than-place b [] some h = absurd (true≢false (sym some))
 more-than-place b (c ∷ cs) some h = by b (paths c.1) (both_second (is_trie c.1) _ (both_first (is_trie c.1 && is_filled c.1) _ h))
   where
@@ -134,7 +134,7 @@ more-than-place b (c ∷ cs) some h = by b (paths c.1) (both_second (is_trie c.1
     by true (p ∷ ps) filled = refl
     by false (p ∷ ps) filled = refl
 
-not-dot : (b : Bool) (cs : List (Elem × Trie)) → has_some {A = Elem × Trie} cs ≡ true → object (dotted b (child_members cs)) ≢ dot_alone
+pub not-dot : (b : Bool) (cs : List (Elem × Trie)) → has_some {A = Elem × Trie} cs ≡ true → object (dotted b (child_members cs)) ≢ dot_alone
 not-dot b [] some e = true≢false (sym some)
 not-dot true (c ∷ cs) some e = cc
 not-dot false (c ∷ cs) some e = let text : element_text (element_view c.0) ≡ codes "." = cc in by (element_view c.0) text

@@ -16,7 +16,7 @@ use Rattle.ssa_path.proofs.FieldsMembers.{Found, with_last, members-last}
 use Rattle.ssa_path.proofs.Lists.{paths_below-append}
 
 -- the paths that one member says
-abbrev own_paths : Text → Json → List Path
+abbrev pub own_paths : Text → Json → List Path
 own_paths n v = cond (same_text n (codes ".")) ([] ∷ []) (elim (element_of json_reading n) [ Err f ↦ [] | Ok e ↦ map (λ p. e ∷ p) (said_below v) ])
 
 -- those of the last member come last
@@ -31,7 +31,7 @@ after-map e (p ∷ ps) = ap (λ qs. (e ∷ p) ∷ qs) (after-map e ps)
 own-dot : (n : Text) (v : Json) → same_text n (codes ".") ≡ true → own_paths n v ≡ [] ∷ []
 own-dot n v dot = ap (λ b. cond b ([] ∷ []) (elim (element_of json_reading n) [ Err f ↦ [] | Ok e ↦ map (λ p. e ∷ p) (said_below v) ])) dot
 
-own-child : (n : Text) (v : Json) (e : Element) (ps : List Path) → same_text n (codes ".") ≡ false → element_of json_reading n ≡ Ok e → ps ≡ said_below v → own_paths n v ≡ paths_after e ps
+pub own-child : (n : Text) (v : Json) (e : Element) (ps : List Path) → same_text n (codes ".") ≡ false → element_of json_reading n ≡ Ok e → ps ≡ said_below v → own_paths n v ≡ paths_after e ps
 own-child n v e ps other own inside =
     (λ i. cond (other i) ([] ∷ []) (elim (own i) [ Err f ↦ [] | Ok d ↦ map (λ p. d ∷ p) (said_below v) ]))
     ∙ ap (map (λ p. e ∷ p)) (sym inside) ∙ sym (after-map e ps)

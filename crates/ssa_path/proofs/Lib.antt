@@ -21,3 +21,4 @@ pub mod FieldsMembers
 pub mod FieldsReadings
 pub mod FieldsSaid
 pub mod FieldsSays
+pub mod FieldsBack

@@ -1,11 +1,12 @@
 -- The own text of an element is read as the element.
-use Rattle.std.proofs.Common.{◌≡◌, ℕ, max, [], ◌∷◌, Bool, true, false, Some, Ok, String, Global, string_bytes, is_lt, nat_cmp, refl, sym, ap, ◌∙◌, arith, ◌++◌, ◌+◌, ◌<◌, take, get_or, length}
+use Rattle.std.proofs.Common.{pos, negsuc, true≢false, ◌≡◌, ℕ, max, [], ◌∷◌, Bool, true, false, Some, Ok, String, Global, string_bytes, is_lt, nat_cmp, refl, sym, ap, ◌∙◌, arith, ◌++◌, ◌+◌, ◌<◌, take, get_or, length}
 use Rattle.std.proofs.lemmas.Bool.{and_parts, and_from}
 use Rattle.std.specs.Str.{is_utf8}
 use Rattle.std.proofs.lemmas.List.{take_more}
 use Rattle.std.specs.Cmp.Lexicographic.{slice_cmp}
 use Rattle.std.specs.Prelude.{◌≢◌, option_map, Err}
-use Rattle.ssa_model.specs.Json.{Text, Scalar, scalar, object, compact, scalar_text}
+use Rattle.ssa_model.specs.Ranges.{is_in_range, are_in_range}
+use Rattle.ssa_model.specs.Json.{Text, Scalar, text, whole, truth, scalar, object, compact, scalar_text}
 use Rattle.ssa_model.specs.Path.{Element, field, key, value, key_members, element_text}
 use Rattle.ssa_model.specs.FieldsV1.{names_rise, is_element}
 use Rattle.ssa_model.specs.ElementTexts.{key_of, value_element, key_element, is_index, ElementFault, element_of, spelled_element}
@@ -53,7 +54,7 @@ spelled : (e : Element) → IsElementOfProgram e → spelled_element json_readin
 spelled (field n) h = refl
 spelled (value s) h = ap value_element (scalar-read s h)
 spelled (key []) h = let never : false ≡ true = h.lawful in cc
-spelled (key (k ∷ ks)) h = ap key_element (keys-read (k ∷ ks) h.lawful h) ∙ ap (option_map key) (key_of-members (k ∷ ks))
+spelled (key (k ∷ ks)) h = ap key_element (keys-read (k ∷ ks) (and_parts (names_rise (k ∷ ks)) _ h.lawful).0 h) ∙ ap (option_map key) (key_of-members (k ∷ ks))
 
 own-if-spelled : (e : Element) → is_index (element_text e) ≡ false → spelled_element json_reading (element_text e) ≡ Some e → element_of json_reading (element_text e) ≡ Ok e
 own-if-spelled e no_index is = rw (no_index, is, same_text-itself (element_text e)) refl
@@ -94,12 +95,61 @@ texts-are-utf8 (k ∷ ks) =
     and_from (is_utf8 (string_bytes k.0)) _ (string_is_utf8 k.0)
     (and_from (is_utf8_scalar (scalar_view k.1)) (members_have_utf8 (key_members (members_view ks))) (scalar-is-utf8 k.1) (texts-are-utf8 ks))
 
+-- ---- the range of scalars and of key fields
+
+in-range : (s : Scalar) → is_narrow_scalar s ≡ true → is_utf8_scalar s ≡ true → is_in_range s ≡ true
+in-range (text t) narrow texts = texts
+in-range (whole (pos n)) narrow texts = narrow
+in-range (whole (negsuc n)) narrow texts = narrow
+in-range (truth b) narrow texts = refl
+
+keys-in-range : (ks : Members) → members_narrow (key_members ks) ≡ true → members_have_utf8 (key_members ks) ≡ true → are_in_range ks ≡ true
+keys-in-range [] narrow texts = refl
+keys-in-range (k ∷ ks) narrow texts =
+    let small = and_parts (is_narrow_scalar k.1) _ narrow in
+    let named = and_parts (is_utf8 k.0) _ texts in
+    let rest = and_parts (is_utf8_scalar k.1) _ named.1 in
+    and_from (is_utf8 k.0) _ named.0 (and_from (is_in_range k.1) _ (in-range k.1 small.0 rest.0) (keys-in-range ks small.1 rest.1))
+
+narrow-in-range : (s : Scalar) → is_in_range s ≡ true → is_narrow_scalar s ≡ true
+narrow-in-range (text t) h = refl
+narrow-in-range (whole (pos n)) h = h
+narrow-in-range (whole (negsuc n)) h = h
+narrow-in-range (truth b) h = refl
+
+utf8-in-range : (s : Scalar) → is_in_range s ≡ true → is_utf8_scalar s ≡ true
+utf8-in-range (text t) h = h
+utf8-in-range (whole z) h = refl
+utf8-in-range (truth b) h = refl
+
+keys-narrow : (ks : Members) → are_in_range ks ≡ true → members_narrow (key_members ks) ≡ true
+keys-narrow [] h = refl
+keys-narrow (k ∷ ks) h =
+    let rest = and_parts (is_in_range k.1) (are_in_range ks) (and_parts (is_utf8 k.0) _ h).1 in
+    and_from (is_narrow_scalar k.1) _ (narrow-in-range k.1 rest.0) (keys-narrow ks rest.1)
+
+keys-have-utf8 : (ks : Members) → are_in_range ks ≡ true → members_have_utf8 (key_members ks) ≡ true
+keys-have-utf8 [] h = refl
+keys-have-utf8 (k ∷ ks) h =
+    let named = and_parts (is_utf8 k.0) _ h in
+    let rest = and_parts (is_in_range k.1) (are_in_range ks) named.1 in
+    and_from (is_utf8 k.0) _ named.0 (and_from (is_utf8_scalar k.1) _ (utf8-in-range k.1 rest.0) (keys-have-utf8 ks rest.1))
+
+-- each element of the definitions is one of the program
+pub element-of-program : (e : Element) → is_element e ≡ true → IsElementOfProgram e
+element-of-program (field n) h = record { lawful = h; narrow = refl; texts = h }
+element-of-program (key []) h = absurd (true≢false (sym h))
+element-of-program (key (k ∷ ks)) h =
+    let range = (and_parts (names_rise (k ∷ ks)) _ h).1 in
+    record { lawful = h; narrow = keys-narrow (k ∷ ks) range; texts = keys-have-utf8 (k ∷ ks) range }
+element-of-program (value s) h = record { lawful = h; narrow = narrow-in-range s h; texts = utf8-in-range s h }
+
 -- what `Elem::text` knows of each sort
 pub field-of-program : (n : String Global) → IsElementOfProgram (field (string_bytes n))
-field-of-program n = record { lawful = refl; narrow = refl; texts = string_is_utf8 n }
+field-of-program n = record { lawful = string_is_utf8 n; narrow = refl; texts = string_is_utf8 n }
 
 pub value-of-program : (s : json.Scalar) → is_narrow_scalar (scalar_view s) ≡ true → IsElementOfProgram (value (scalar_view s))
-value-of-program s narrow = record { lawful = refl; narrow = narrow; texts = scalar-is-utf8 s }
+value-of-program s narrow = record { lawful = in-range (scalar_view s) narrow (scalar-is-utf8 s); narrow = narrow; texts = scalar-is-utf8 s }
 
 rise-from-after : (k : Text × Scalar) (ks : Members) → names_rise_after k.0 ks ≡ true → names_rise (k ∷ ks) ≡ true
 rise-from-after k [] h = refl
@@ -107,16 +157,15 @@ rise-from-after k (l ∷ ks) h =
     let parts = and_parts (is_lt (slice_cmp nat_cmp k.0 l.0)) (names_rise_after l.0 ks) h in
     and_from _ _ parts.0 (rise-from-after l ks parts.1)
 
-lawful-keys : (ks : Members) → are_keys ks ≡ true → is_element (key ks) ≡ true
-lawful-keys [] h = h
-lawful-keys (k ∷ ks) h = rise-from-after k ks h
+lawful-keys : (ks : Members) → are_keys ks ≡ true → are_in_range ks ≡ true → is_element (key ks) ≡ true
+lawful-keys [] h range = h
+lawful-keys (k ∷ ks) h range = and_from _ _ (rise-from-after k ks h) range
 
 pub key-of-program : (keys : Members) (ks : Fields) → members_view ks ≡ keys → are_keys keys ≡ true → are_narrow ks ≡ true → IsElementOfProgram (key keys)
-key-of-program keys ks same rise narrow = record {
-  lawful = lawful-keys keys rise;
-  narrow = ap (λ l. members_narrow (key_members l)) (sym same) ∙ narrow;
-  texts = ap (λ l. members_have_utf8 (key_members l)) (sym same) ∙ texts-are-utf8 ks;
-}
+key-of-program keys ks same rise narrow =
+    let small = ap (λ l. members_narrow (key_members l)) (sym same) ∙ narrow in
+    let texts = ap (λ l. members_have_utf8 (key_members l)) (sym same) ∙ texts-are-utf8 ks in
+    record { lawful = lawful-keys keys rise (keys-in-range keys small texts); narrow = small; texts = texts }
 
 -- a text that is refused is the own text of none
 pub own-text-of-none : (t : Text) (fault : ElementFault) → element_of json_reading t ≡ Err fault → (e : Element) → IsElementOfProgram e → element_text e ≢ t

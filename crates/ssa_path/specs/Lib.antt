@@ -11,3 +11,4 @@ pub mod View
 pub mod OwnText
 pub mod FieldsReading
 pub mod FieldsWriting
+pub mod FieldsBack

@@ -1,9 +1,10 @@
 // Sets of paths written as FieldsV1.
-ghost use Rattle.std.specs.Prelude.{◌≡◌, true, IfOk};
+ghost use Rattle.std.specs.Prelude.{◌≡◌, true, IfOk, OnOk};
 ghost use Rattle.ssa_model.specs.Entries.{fields_json};
 ghost use Rattle.ssa_model.specs.FieldsV1.{AreCanonical, IsWritten};
 ghost use Rattle.ssa_model.specs.Json.{object};
 ghost use Rattle.ssa_json.specs.View.{view, members_view};
+ghost use Rattle.ssa_path.specs.FieldsBack.{AreReadBack, IsReadBack};
 ghost use Rattle.ssa_path.specs.FieldsWriting.{dot_members, paths_json, IsWrittenBelow};
 ghost use Rattle.ssa_path.specs.Trie.{is_filled, is_trie, paths};
 
@@ -22,6 +23,7 @@ impl FieldSet {
     pub fn to_fields_v1(&self, alloc: Global) -> Result<Json, AllocError>
         ensures json { IfOk result (λ v. view v ≡ fields_json self.now) }
         ensures written { IfOk result (λ v. IsWritten self.now (view v)) }
+        ensures is_read { OnOk result (IsReadBack self.now) }
     {
         let members = place_members(alloc, self.root())?;
         Ok(Json::Object(members))
@@ -46,6 +48,7 @@ fn place_members(alloc: Global, place: &Trie) -> Result<BTreeMap<String, Json>, 
     requires { is_trie place.now ≡ true }
     ensures json { IfOk result (λ ms. object (members_view ms.entries) ≡ paths_json (paths place.now)) }
     ensures canonical { IfOk result (λ ms. AreCanonical (members_view ms.entries)) }
+    ensures back { OnOk result (AreReadBack (paths place.now)) }
 {
     let mut members = own_member(alloc, place.here)?;
     for child in &place.below {
@@ -61,7 +64,8 @@ fn place_members(alloc: Global, place: &Trie) -> Result<BTreeMap<String, Json>, 
 fn below_value(alloc: Global, place: &Trie) -> Result<Json, AllocError>
     requires trie { is_trie place.now ≡ true }
     requires filled { is_filled place.now ≡ true }
-    ensures { IfOk result (λ v. IsWrittenBelow (paths place.now) (view v)) }
+    ensures written { IfOk result (λ v. IsWrittenBelow (paths place.now) (view v)) }
+    ensures back { OnOk result (AreReadBack (paths place.now)) }
 {
     let is_alone = place.below.is_empty();
     if is_alone {

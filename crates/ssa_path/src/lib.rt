@@ -8,6 +8,7 @@ pub mod element_fault;
 mod element_read;
 mod element_text;
 pub mod field_set;
+mod fields_back;
 pub mod fields_fault;
 mod fields_read;
 #[cfg(test)]
