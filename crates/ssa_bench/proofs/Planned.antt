@@ -18,13 +18,13 @@ use Rattle.ssa_merge.specs.declared.state.State as states
 use Rattle.ssa_merge.specs.declared.plan.Refusal.TheVariants as plans
 use Rattle.ssa_bench.specs.Benches.{IsAccepted, IsPrepared, changed_view, changed_by, tested_body}
 use Rattle.ssa_bench.specs.Faults.{IsFault, IsGiven}
-use Rattle.ssa_bench.specs.Histories.{label_view}
+use Rattle.ssa_turn.specs.Histories.{label_view}
 use Rattle.ssa_bench.specs.Refusals.{refusal_fault}
 use Rattle.ssa_bench.specs.declared.fault.Fault as engine
 use Rattle.ssa_bench.specs.declared.fault.Fault.TheVariants as faults
 use Rattle.ssa_bench.specs.declared.prepared.Prepared.{Prepared}
-use Rattle.ssa_bench.specs.declared.timeline.Label.{Label}
-use Rattle.ssa_bench.specs.declared.timeline.Label.TheVariants.{Strip}
+use Rattle.ssa_turn.specs.declared.label.Label.{Label}
+use Rattle.ssa_turn.specs.declared.label.Label.TheVariants.{Strip}
 
 -- ---- refusals before the plan
 

@@ -1,29 +1,16 @@
 -- Histories whose states are read back from what they are shown as.
-use Rattle.std.proofs.Common.{◌≡◌, ℕ, ◌+◌, ◌<◌, List, [], ◌∷◌, ◌++◌, length, get_or, take, true, sym, ap, subst, ◌∙◌}
+use Rattle.std.proofs.Common.{◌≡◌, List, [], ◌∷◌, true}
 use Rattle.std.specs.List.{All}
-use Rattle.std.proofs.lemmas.List.{take_more}
-use Rattle.std.proofs.lemmas.List.Elements.{All-head, All-tail, All-push, All-nil, All-cons}
+use Rattle.std.proofs.lemmas.List.Elements.{All-head, All-tail, All-nil, All-cons}
 use Rattle.ssa_model.specs.History as model
 use Rattle.ssa_model.specs.Lawful.{is_lawful}
 use Rattle.ssa_model.specs.Objects.{is_identity}
 use Rattle.ssa_model.specs.ShownObjects.{leaves_identity}
 use Rattle.ssa_model.proofs.ShownStates.{shown_state_is_taken}
 use Rattle.ssa_json.specs.Readings.{readings}
-use Rattle.ssa_bench.specs.Histories.{step_view}
-use Rattle.ssa_bench.specs.ReadBack.{MakesTableBack, AllTablesBack, MakesTakenBack, AllTakenBack}
-use Rattle.ssa_bench.specs.ValidTimelines.{MakesValid, AllValid}
-use Rattle.ssa_bench.specs.declared.timeline.Step.{Step}
-
--- ---- steps, one behind the other
-
-abbrev pub IsStepBack : Step → Type 0
-IsStepBack s = MakesTableBack (step_view s)
-
-pub steps-more : (xs : List Step) (i : ℕ) (x : Step) → i < length xs → x ≡ get_or xs i x → All IsStepBack (take i xs) → IsStepBack x → All IsStepBack (take (i + 1) xs)
-steps-more xs i x within is before here =
-    subst (All IsStepBack) (sym (take_more xs i x within ∙ ap (λ y. take i xs ++ y ∷ []) (sym is))) (All-push IsStepBack (take i xs) x before here)
-
--- ---- a bench
+use Rattle.ssa_turn.specs.TablesBack.{MakesTableBack, AllTablesBack}
+use Rattle.ssa_bench.specs.ReadBack.{MakesTakenBack, AllTakenBack}
+use Rattle.ssa_model.specs.ValidTimelines.{MakesValid, AllValid}
 
 -- what the law on shown states asks of a bench
 pub record IsShown (n : model.Bench) : Type 0 where

@@ -20,7 +20,7 @@ use Rattle.ssa_schema.specs.declared.body_fault.BodyFault.{BodyFault}
 use Rattle.ssa_json.specs.Readings.{readings}
 use Rattle.ssa_bench.specs.Benches.{table_or_fault}
 use Rattle.ssa_bench.specs.Faults.{IsFault, IsGiven}
-use Rattle.ssa_bench.specs.Identities.{identity_in}
+use Rattle.ssa_object.specs.Identities.{identity_in}
 use Rattle.ssa_bench.specs.declared.fault.Fault.{Fault}
 use Rattle.ssa_bench.specs.declared.fault.Fault.TheVariants.{Body, TooManyPaths, Identity, ManagedFieldsGiven, Entry, ManagerName, HistoryFull, NothingToUndo, NothingToRedo, Conflict, TooManyManagers, OutOfMemory}
 

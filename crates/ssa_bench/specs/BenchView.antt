@@ -1,6 +1,6 @@
 -- What a bench is.
 use Rattle.ssa_model.specs.History as model
-use Rattle.ssa_bench.specs.ValidTimelines.{AllValid}
+use Rattle.ssa_model.specs.ValidTimelines.{AllValid}
 use Rattle.ssa_bench.specs.declared.bench.Bench.TheInside.{Inside}
 
 abbrev pub bench_view : Inside → model.Bench

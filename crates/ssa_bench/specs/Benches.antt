@@ -16,8 +16,8 @@ use Rattle.ssa_merge.specs.States.{state_view, updater}
 use Rattle.ssa_merge.specs.declared.plan.Plan.{Plan}
 use Rattle.ssa_merge.specs.declared.state.State.{State}
 use Rattle.ssa_bench.specs.Faults.{IsFault, IsGiven}
-use Rattle.ssa_bench.specs.Histories.{label_view}
-use Rattle.ssa_bench.specs.Identities.{version_of}
+use Rattle.ssa_turn.specs.Histories.{label_view}
+use Rattle.ssa_object.specs.Identities.{version_of}
 use Rattle.ssa_bench.specs.declared.fault.Fault.{Fault}
 use Rattle.ssa_bench.specs.declared.fault.Fault.TheVariants.{OutOfMemory}
 use Rattle.ssa_bench.specs.declared.prepared.Changed.{Changed}
@@ -30,10 +30,6 @@ changed_view c = record { added = c.added; modified = c.modified; removed = c.re
 -- the bench is the given one, or the fault is
 abbrev pub IsMade : Result model.Bench Fault → Result model.Bench answers.Fault → Type 0
 IsMade = IsGiven
-
--- the bench of one state
-abbrev pub lone_bench : model.Schema → List (Option Json) → operations.State → model.Bench
-lone_bench schema identity state = record { schema = schema; identity = identity; timeline = answers.lone_state state }
 
 -- the table, or its fault as one of the bench
 abbrev pub table_or_fault : Result Table EntryFault → Result Table answers.Fault

@@ -1,6 +1,6 @@
 //! The bench: an object, its managers, and the history of commands on it.
 ghost use Rattle.std.specs.Prelude.{◌≡◌, [], Ok, ◌≤◌, ◌<◌, ◌-◌, ◌^◌, ◌||◌, nat_le, length, IfErr, IfOk, OnOk, OnErr, false, true, option_map, codes, string_bytes};
-ghost use Rattle.ssa_model.specs.Answers.{answer, apply, update, strip, undo, redo, log, logged, apply_answer, bench_of, body_or_fault, command_body, owners_of, file_state};
+ghost use Rattle.ssa_model.specs.Answers.{answer, apply, update, strip, undo, redo, log, logged, apply_answer, bench_of, body_or_fault, command_body, owners_of, file_state, lone_bench};
 ghost use Rattle.ssa_model.specs.Entries.{object_of_state};
 ghost use Rattle.ssa_model.specs.History.{is_manager_name, past_len, future_len, present};
 ghost use Rattle.ssa_model.specs.BenchText.{bench_text};
@@ -11,23 +11,19 @@ ghost use Rattle.ssa_json.specs.Readings.{readings};
 ghost use Rattle.ssa_json.specs.View.{view};
 ghost use Rattle.ssa_merge.specs.Managers.{lent_keys};
 ghost use Rattle.ssa_merge.specs.States.{state_view};
-ghost use Rattle.ssa_bench.specs.Benches.{lone_bench, next_bench, table_or_fault, CanCommit, IsExecuted, IsGivenState, IsMade, IsMoved, IsPrepared, table_of_entries, tested_body, update_answer};
+ghost use Rattle.ssa_bench.specs.Benches.{next_bench, table_or_fault, CanCommit, IsExecuted, IsGivenState, IsMade, IsMoved, IsPrepared, table_of_entries, tested_body, update_answer};
 ghost use Rattle.ssa_bench.specs.Faults.{IsGiven};
 ghost use Rattle.ssa_bench.specs.Commands.{command_view, command_word};
-ghost use Rattle.ssa_bench.specs.Histories.{lent_labels};
+ghost use Rattle.ssa_turn.specs.Histories.{lent_labels};
 ghost use Rattle.std.specs.Io.KnownBytes.{Appends};
-ghost use Rattle.ssa_bench.specs.Saving.{NotSaved};
+ghost use Rattle.ssa_file.specs.Saving.{NotSaved};
 ghost use Rattle.ssa_bench.specs.ReadBack.{AllTakenBack};
-ghost use Rattle.ssa_bench.specs.ValidTimelines.{AllValid, IsValidBody};
+ghost use Rattle.ssa_model.specs.ValidTimelines.{AllValid, IsValidBody};
 
-use crate::body_value::{body_value, file_parts};
 use crate::command::Command;
 use crate::fault::Fault;
-use crate::identity::{Identity, gives_managed_fields, has_identity};
-use crate::object::object_of_state;
 use crate::prepared::{Changed, Counts, Prepared, accepted};
-use crate::saving::{SaveFault, bench_text, write_text};
-use crate::timeline::{Label, Log, Timeline, labels};
+use ssa_file::saving::{SaveFault, bench_text, write_text};
 use ssa_json::moment::Moment;
 use ssa_json::sink::Sink;
 use ssa_json::value::Json;
@@ -37,9 +33,14 @@ use ssa_merge::names::is_manager_name;
 use ssa_merge::owned::owners;
 use ssa_merge::plan::{plan_apply, plan_strip, plan_update};
 use ssa_merge::state::State;
+use ssa_object::body_value::{body_value, file_parts};
+use ssa_object::identity::{Identity, gives_managed_fields, has_identity};
+use ssa_object::object::object_of_state;
 use ssa_path::path::Path;
 use ssa_schema::body_fault::BodyFault;
 use ssa_schema::schema::Schema;
+use ssa_turn::label::Label;
+use ssa_turn::timeline::{Log, Timeline, labels};
 use ssa_typed::body::Body;
 use ssa_typed::fault::TypedFault;
 use std::alloc::{AllocError, Global};
@@ -449,7 +450,7 @@ impl Bench {
     }
 
     /// Writes the bench as a file, and hands it on. A file has at most
-    /// [`MOST_FILE_BYTES`](crate::saving::MOST_FILE_BYTES) bytes; nothing is written before all of it
+    /// [`MOST_FILE_BYTES`](ssa_file::saving::MOST_FILE_BYTES) bytes; nothing is written before all of it
     /// stands in memory.
     pub fn save<S: Sink>(&self, alloc: Global, sink: &mut S) -> Result<(), SaveFault>
         ensures ok { OnOk result (Appends (S.contents sink.old) (S.contents sink.new) (bench_text self.now)) }

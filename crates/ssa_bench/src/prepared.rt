@@ -2,9 +2,10 @@
 ghost use Rattle.std.specs.Prelude.{◌≡◌};
 ghost use Rattle.ssa_bench.specs.Benches.{changed_view, changed_by};
 
-use crate::timeline::{Label, Step};
 use ssa_merge::plan::Plan;
 use ssa_path::field_set::FieldSet;
+use ssa_turn::label::Label;
+use ssa_turn::timeline::Step;
 
 /// What an accepted command changed.
 #[derive(Drop)]

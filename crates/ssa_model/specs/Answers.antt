@@ -58,12 +58,16 @@ command_body bench (scalar s) = Err (body_fault wrong_type [])
 abbrev pub lone_state : State → Timeline
 lone_state state = record { first = state; later = []; place = 0 }
 
+-- the bench of one state
+abbrev pub lone_bench : Schema → List (Option Json) → State → Bench
+lone_bench schema identity state = record { schema = schema; identity = identity; timeline = lone_state state }
+
 -- an object file says what the object is called
 abbrev pub names_itself : Json → Bool
 names_itself v = is_some_object (value_at (codes "metadata" ∷ []) v) && is_identity (identity_of v)
 
 abbrev pub with_lone_state : Schema → List (Option Json) → Result State Fault → Result Bench Fault
-with_lone_state schema identity (Ok state) = Ok (record { schema = schema; identity = identity; timeline = lone_state state })
+with_lone_state schema identity (Ok state) = Ok (lone_bench schema identity state)
 with_lone_state schema identity (Err f) = Err f
 
 abbrev pub with_table : Body → Result Table EntryFault → Result State Fault

@@ -1,8 +1,5 @@
 //! The program's words, files and statuses.
 
-use crate::bench_session::session;
-use crate::engine::OUT_OF_MEMORY;
-use crate::fault_text::fault_text;
 use ssa_bench::bench::Bench;
 use ssa_bench::fault::Fault;
 use ssa_json::fault::JsonFault;
@@ -11,6 +8,9 @@ use ssa_json::sink::OfWriter;
 use ssa_json::value::Json;
 use ssa_schema::fault::SchemaFault;
 use ssa_schema::schema::Schema;
+use ssa_session::bench_session::session;
+use ssa_session::engine::OUT_OF_MEMORY;
+use ssa_session::fault_text::fault_text;
 use std::alloc::Global;
 use std::fs::File;
 use std::io;

@@ -2,9 +2,9 @@ use Rattle.std.proofs.Common.{sym, subst}
 use Rattle.ssa_model.specs.History as model
 use Rattle.ssa_model.specs.Valid.{IsValidState}
 use Rattle.ssa_merge.specs.States.{state_view}
-use Rattle.ssa_bench.specs.Histories.{label_view}
-use Rattle.ssa_bench.specs.ValidTimelines.{AllValid}
-use Rattle.ssa_bench.proofs.ValidTimelines.{appended_valid}
+use Rattle.ssa_turn.specs.Histories.{label_view}
+use Rattle.ssa_model.specs.ValidTimelines.{AllValid}
+use Rattle.ssa_model.proofs.ValidTimelines.{appended_valid}
 use Rattle.ssa_bench.proofs.bench.Bench.commit.Goals as goal
 
 pub invariant_of-self-2 : goal.invariant_of-self-2

@@ -8,7 +8,7 @@ use Rattle.ssa_model.specs.Operations.{State}
 use Rattle.ssa_model.specs.History.{present}
 use Rattle.ssa_model.specs.Valid.{IsValidState}
 use Rattle.ssa_merge.specs.States.{state_view}
-use Rattle.ssa_bench.proofs.ValidTimelines.{present_valid}
+use Rattle.ssa_model.proofs.ValidTimelines.{present_valid}
 use Rattle.ssa_bench.proofs.bench.Bench.counts.Goals as goal
 
 has_some : {X : Type 0} (es : List (Path × X)) → is_some (find path_cmp [] es) ≡ true → 1 ≤ length es

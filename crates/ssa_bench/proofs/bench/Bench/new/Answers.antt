@@ -6,7 +6,7 @@ use Rattle.ssa_model.specs.Answers.{body_fault, identity_fault, file_state}
 use Rattle.ssa_json.specs.Readings.{readings}
 use Rattle.ssa_json.specs.View.{view}
 use Rattle.ssa_merge.specs.States.{state_view}
-use Rattle.ssa_bench.specs.Identities.{identity_in}
+use Rattle.ssa_object.specs.Identities.{identity_in}
 use Rattle.ssa_bench.proofs.Taken.{passed-on, identity-found, bench_of-no_object, bench_of-nameless, bench_of-state}
 use Rattle.ssa_bench.proofs.bench.Bench.new.Goals as goal
 

@@ -9,11 +9,11 @@ use Rattle.ssa_model.specs.Valid.{IsValidState}
 use Rattle.ssa_typed.proofs.Alike.{bodies_alike}
 use Rattle.ssa_merge.specs.States.{state_view, applier}
 use Rattle.ssa_bench.specs.Benches.{IsPrepared}
-use Rattle.ssa_bench.specs.ValidTimelines.{IsValidBody}
+use Rattle.ssa_model.specs.ValidTimelines.{IsValidBody}
 use Rattle.ssa_bench.specs.declared.fault.Fault.{Fault}
-use Rattle.ssa_bench.specs.declared.timeline.Label.TheVariants.{Apply}
+use Rattle.ssa_turn.specs.declared.label.Label.TheVariants.{Apply}
 use Rattle.ssa_bench.proofs.Planned.{accepted, refused-planned, planned-at}
-use Rattle.ssa_bench.proofs.ValidTimelines.{present_valid}
+use Rattle.ssa_model.proofs.ValidTimelines.{present_valid}
 use Rattle.ssa_bench.proofs.bench.Bench.prepare_configuration.Goals as goal
 
 pub plan_apply-requires : goal.plan_apply-requires

@@ -7,11 +7,11 @@ use Rattle.ssa_model.specs.Operations.{State, Refusal, update}
 use Rattle.ssa_model.specs.Valid.{IsValidState}
 use Rattle.ssa_merge.specs.States.{state_view, updater}
 use Rattle.ssa_bench.specs.Benches.{IsPrepared, update_answer}
-use Rattle.ssa_bench.specs.ValidTimelines.{IsValidBody}
+use Rattle.ssa_model.specs.ValidTimelines.{IsValidBody}
 use Rattle.ssa_bench.specs.declared.fault.Fault.{Fault}
-use Rattle.ssa_bench.specs.declared.timeline.Label.TheVariants.{Update}
+use Rattle.ssa_turn.specs.declared.label.Label.TheVariants.{Update}
 use Rattle.ssa_bench.proofs.Planned.{accepted, refused-planned, planned-at}
-use Rattle.ssa_bench.proofs.ValidTimelines.{present_valid}
+use Rattle.ssa_model.proofs.ValidTimelines.{present_valid}
 use Rattle.ssa_bench.proofs.bench.Bench.prepare_replacement.Goals as goal
 
 pub returns-in-Ok : goal.returns-in-Ok

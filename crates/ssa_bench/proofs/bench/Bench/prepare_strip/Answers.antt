@@ -6,7 +6,7 @@ use Rattle.ssa_model.specs.Valid.{IsValidState}
 use Rattle.ssa_merge.specs.States.{state_view}
 use Rattle.ssa_merge.specs.Plans.{IsPlan}
 use Rattle.ssa_bench.proofs.Planned.{stripped-accepted}
-use Rattle.ssa_bench.proofs.ValidTimelines.{present_valid}
+use Rattle.ssa_model.proofs.ValidTimelines.{present_valid}
 use Rattle.ssa_bench.proofs.bench.Bench.prepare_strip.Goals as goal
 
 pub returns : goal.returns

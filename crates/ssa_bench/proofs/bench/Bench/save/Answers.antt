@@ -3,9 +3,9 @@ use Rattle.std.specs.Io.KnownBytes.{Appends}
 use Rattle.ssa_model.specs.Json.{Text}
 use Rattle.ssa_model.specs.BenchText.{bench_text}
 use Rattle.ssa_json.specs.Devices.{AppendsPart}
-use Rattle.ssa_bench.specs.Saving.{NotSaved}
-use Rattle.ssa_bench.specs.declared.saving.SaveFault.TheVariants.{Io}
-use Rattle.ssa_bench.proofs.SavingFacts.{handed-on}
+use Rattle.ssa_file.specs.Saving.{NotSaved}
+use Rattle.ssa_file.specs.declared.saving.SaveFault.TheVariants.{Io}
+use Rattle.ssa_file.proofs.SavingFacts.{handed-on}
 use Rattle.ssa_bench.proofs.bench.Bench.save.Goals as goal
 
 broken_off : {S : Type 0} (contents : S → Option (List ℕ)) (has_failed : S → Bool) (old new : S) (written text : Text) → written ≡ text → length written ≤ 67108864

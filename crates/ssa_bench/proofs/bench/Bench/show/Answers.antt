@@ -1,6 +1,6 @@
 use Rattle.std.proofs.Common.{sym, subst}
 use Rattle.ssa_model.specs.Valid.{IsValidState}
-use Rattle.ssa_bench.proofs.ValidTimelines.{present_valid}
+use Rattle.ssa_model.proofs.ValidTimelines.{present_valid}
 use Rattle.ssa_bench.proofs.bench.Bench.show.Goals as goal
 
 pub object_of_state-requires : goal.object_of_state-requires

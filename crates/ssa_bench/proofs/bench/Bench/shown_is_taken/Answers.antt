@@ -7,7 +7,7 @@ use Rattle.ssa_model.specs.Objects.{is_identity}
 use Rattle.ssa_model.specs.ShownObjects.{IsShownBody}
 use Rattle.ssa_model.proofs.ShownObjects.{shown_makes_bench, shown_is_commands}
 use Rattle.ssa_json.specs.Readings.{readings}
-use Rattle.ssa_bench.proofs.ValidTimelines.{present_valid}
+use Rattle.ssa_model.proofs.ValidTimelines.{present_valid}
 use Rattle.ssa_bench.proofs.bench.Bench.shown_is_taken.Goals as goal
 
 pub returns : goal.returns

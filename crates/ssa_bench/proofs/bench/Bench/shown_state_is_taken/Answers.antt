@@ -8,7 +8,7 @@ use Rattle.ssa_model.specs.ShownStates.{IsReadBack}
 use Rattle.ssa_model.specs.Valid.{AllEntries, IsValidState}
 use Rattle.ssa_model.proofs.ShownStates.{shown_state_is_taken}
 use Rattle.ssa_json.specs.Readings.{readings}
-use Rattle.ssa_bench.proofs.ValidTimelines.{present_valid}
+use Rattle.ssa_model.proofs.ValidTimelines.{present_valid}
 use Rattle.ssa_bench.proofs.bench.Bench.shown_state_is_taken.Goals as goal
 
 -- what a bench has of which the law speaks

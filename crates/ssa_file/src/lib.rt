@@ -1,0 +1,4 @@
+//! Bench files: a bench as a text.
+#![tactic(auto)]
+
+pub mod saving;

@@ -1,0 +1,26 @@
+-- Histories whose states are all valid.
+use Rattle.std.proofs.Common.{List, [], ◌∷◌, take}
+use Rattle.std.specs.List.{All}
+use Rattle.std.proofs.lemmas.List.Elements.{All-head, All-tail, All-take, All-push, All-nil}
+use Rattle.ssa_model.specs.Kind.{Kind}
+use Rattle.ssa_model.specs.Operations.{State}
+use Rattle.ssa_model.specs.History.{Label, Step, Timeline, last_state, present, appended}
+use Rattle.ssa_model.specs.Answers.{lone_state}
+use Rattle.ssa_model.specs.Valid.{IsValidState}
+use Rattle.ssa_model.specs.ValidTimelines.{MakesValid, AllValid}
+
+last_valid : (kind : Kind) (s : State) (ts : List Step) → IsValidState kind s → All (MakesValid kind) ts → IsValidState kind (last_state s ts)
+last_valid kind s [] h all = h
+last_valid kind s (t ∷ ts) h all = last_valid kind t.state ts (All-head (MakesValid kind) t ts all) (All-tail (MakesValid kind) t ts all)
+
+pub present_valid : (kind : Kind) (t : Timeline) → AllValid kind t → IsValidState kind (present t)
+present_valid kind t h = last_valid kind t.first (take t.place t.later) h.first (All-take (MakesValid kind) t.place t.later h.later)
+
+pub appended_valid : (kind : Kind) (t : Timeline) (label : Label) (s : State) → AllValid kind t → IsValidState kind s → AllValid kind (appended t label s)
+appended_valid kind t label s h valid = record {
+  first = h.first;
+  later = All-push (MakesValid kind) (take t.place t.later) (record { label = label; state = s }) (All-take (MakesValid kind) t.place t.later h.later) valid;
+}
+
+pub lone_valid : (kind : Kind) (s : State) → IsValidState kind s → AllValid kind (lone_state s)
+lone_valid kind s h = record { first = h; later = All-nil (MakesValid kind) }

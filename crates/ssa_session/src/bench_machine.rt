@@ -1,0 +1,152 @@
+//! A bench as the machine of a session.
+ghost use Rattle.std.specs.Prelude.{◌≡◌, IfOk, OnErr, false};
+ghost use Rattle.ssa_model.specs.Answers as model;
+ghost use Rattle.ssa_model.specs.Answers.{answer};
+ghost use Rattle.ssa_model.specs.Replies.{reply_text};
+ghost use Rattle.ssa_bench.specs.Commands as changes;
+ghost use Rattle.ssa_session.specs.Commands.{command_view};
+
+use crate::command::Command;
+use crate::fault_text::{fault_text, line_fault_text};
+use crate::log_text::log_text;
+use crate::machine::Machine;
+use crate::read_command::{LineFault, read_command};
+use crate::reply_text::{changed_text, moved_text, owners_text, shown_text};
+use ssa_bench::bench::Bench;
+use ssa_bench::command as bench;
+use ssa_bench::fault::Fault;
+use ssa_path::path::Path;
+use std::alloc::{AllocError, Global};
+
+// The word under which the reply tells of a change.
+fn change_word(change: &bench::Command) -> &'static str
+    ensures { result.now ≡ changes.command_word change.now }
+{
+    match change {
+        bench::Command::Apply { .. } => "apply",
+        bench::Command::Update { .. } => "update",
+        bench::Command::Strip => "strip",
+    }
+}
+
+// Answers a change. The reply's text is made before the bench changes.
+fn answer_change(
+    bench: &mut Bench,
+    alloc: Global,
+    change: bench::Command,
+) -> Result<Vec<u8>, AllocError>
+    ensures reply { IfOk result (λ text. text.items ≡ reply_text (answer bench.old (changes.command_view change)).0) }
+    ensures after { IfOk result (λ _. bench.new ≡ (answer bench.old (changes.command_view change)).1) }
+    ensures err { OnErr result (bench.new ≡ bench.old) }
+{
+    let word = change_word(&change);
+    match bench.prepare(alloc, change) {
+        Ok(prepared) => {
+            let text = changed_text(alloc, word, prepared.changed())?;
+            drop(bench.commit(prepared)?);
+            Ok(text)
+        }
+        Err(Fault::OutOfMemory) => Err(AllocError),
+        Err(fault) => fault_text(alloc, &fault),
+    }
+}
+
+// Goes back by a command. The reply's text is made before.
+fn answer_undo(bench: &mut Bench, alloc: Global) -> Result<Vec<u8>, AllocError>
+    ensures reply { IfOk result (λ text. text.items ≡ reply_text (answer bench.old model.undo).0) }
+    ensures after { IfOk result (λ _. bench.new ≡ (answer bench.old model.undo).1) }
+    ensures err { OnErr result (bench.new ≡ bench.old) }
+{
+    let past = bench.past_len();
+    if past == 0 {
+        return fault_text(alloc, &Fault::NothingToUndo);
+    }
+    let future = bench.future_len() + 1;
+    let text = moved_text(alloc, "undo", past - 1, future)?;
+    let Ok(_counts) = bench.undo() else {
+        unreachable!("there is a command to undo");
+    };
+    Ok(text)
+}
+
+// Goes on by a command. The reply's text is made before.
+fn answer_redo(bench: &mut Bench, alloc: Global) -> Result<Vec<u8>, AllocError>
+    ensures reply { IfOk result (λ text. text.items ≡ reply_text (answer bench.old model.redo).0) }
+    ensures after { IfOk result (λ _. bench.new ≡ (answer bench.old model.redo).1) }
+    ensures err { OnErr result (bench.new ≡ bench.old) }
+{
+    let future = bench.future_len();
+    if future == 0 {
+        return fault_text(alloc, &Fault::NothingToRedo);
+    }
+    let past = bench.past_len() + 1;
+    let text = moved_text(alloc, "redo", past, future - 1)?;
+    let Ok(_counts) = bench.redo() else {
+        unreachable!("there is a command to redo");
+    };
+    Ok(text)
+}
+
+// The object of the present state, with the managers' entries where they are asked for.
+fn answer_show(bench: &Bench, alloc: Global, managed: bool) -> Result<Vec<u8>, AllocError>
+    ensures { IfOk result (λ text. text.items ≡ reply_text (answer bench.now (model.show managed)).0) }
+{
+    let object = bench.show(alloc, managed)?;
+    shown_text(alloc, &object)
+}
+
+// The managers that own a path.
+fn answer_owners(bench: &Bench, alloc: Global, path: &Path) -> Result<Vec<u8>, AllocError>
+    ensures { IfOk result (λ text. text.items ≡ reply_text (answer bench.now (model.owners path.now)).0) }
+{
+    let owners = bench.owners(alloc, path)?;
+    let text = owners_text(alloc, &owners)?;
+    Ok(text)
+}
+
+// The commands of the history.
+fn answer_log(bench: &Bench, alloc: Global) -> Result<Vec<u8>, AllocError>
+    ensures { IfOk result (λ text. text.items ≡ reply_text (answer bench.now model.log).0) }
+{
+    let log = bench.log(alloc)?;
+    let text = log_text(alloc, &log)?;
+    Ok(text)
+}
+
+// Answers a command. The reply's text is made before the bench changes.
+fn answer_command(bench: &mut Bench, alloc: Global, command: Command) -> Result<Vec<u8>, AllocError>
+    ensures reply { IfOk result (λ text. text.items ≡ reply_text (answer bench.old (command_view command)).0) }
+    ensures after { IfOk result (λ _. bench.new ≡ (answer bench.old (command_view command)).1) }
+    ensures err { OnErr result (bench.new ≡ bench.old) }
+{
+    match command {
+        Command::Change(change) => answer_change(bench, alloc, change),
+        Command::Undo => answer_undo(bench, alloc),
+        Command::Redo => answer_redo(bench, alloc),
+        Command::Show(managed) => answer_show(bench, alloc, managed),
+        Command::Owners(path) => answer_owners(bench, alloc, &path),
+        Command::Log => answer_log(bench, alloc),
+    }
+}
+
+impl Machine for Bench {
+    ghost use Rattle.ssa_session.specs.BenchLines.{line_reply, bench_after};
+
+    ghost reply = { line_reply };
+
+    ghost after = { bench_after };
+
+    fn answer(&mut self, alloc: Global, line: &[u8]) -> Result<Vec<u8>, AllocError> {
+        match read_command(alloc, line) {
+            Ok(command) => {
+                let text = answer_command(self, alloc, command)?;
+                Ok(text)
+            }
+            Err(LineFault::OutOfMemory) => Err(AllocError),
+            Err(fault) => {
+                let text = line_fault_text(alloc, &fault)?;
+                Ok(text)
+            }
+        }
+    }
+}

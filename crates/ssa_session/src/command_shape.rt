@@ -1,0 +1,179 @@
+// Which JSON objects are commands, by their members.
+ghost use Rattle.std.specs.Prelude.{◌≡◌, ◌||◌, not, Some, None, MatchOption, is_some, option_map, option_and_then};
+ghost use Rattle.std.specs.List.{list_all};
+ghost use Rattle.ssa_json.specs.View.{view, items_view, members_view};
+ghost use Rattle.ssa_model.specs.Json.{same_text, as_text, member_of};
+ghost use Rattle.ssa_model.specs.Schema.{has_member, is_text, list_of_texts, texts_of};
+ghost use Rattle.ssa_model.specs.Commands.{rule_of, word_of, session_rules, is_truth, is_known_member, are_known_members, follows_rule};
+ghost use Rattle.ssa_session.specs.PathTexts.{as_list};
+ghost use Rattle.ssa_session.specs.Commands.{word_text, member_rules, rule_at};
+
+use ssa_json::members::{find_member, has_member};
+use ssa_json::text::is_same_text;
+use ssa_json::value::{Json, Scalar};
+use std::collections::BTreeMap;
+
+/// What a command does, as its member `do` says.
+#[derive(Clone, Copy, Debug, PartialEq, Eq)]
+pub enum Word {
+    Apply,
+    Update,
+    Strip,
+    Undo,
+    Redo,
+    Show,
+    Owners,
+    Log,
+}
+
+fn word_of_text(text: &str) -> Option<Word>
+    ensures { MatchOption result (rule_of session_rules text.now ≡ None) (λ word. text.now ≡ word_text word) }
+{
+    if is_same_text(text, "apply") {
+        Some(Word::Apply)
+    } else if is_same_text(text, "update") {
+        Some(Word::Update)
+    } else if is_same_text(text, "strip") {
+        Some(Word::Strip)
+    } else if is_same_text(text, "undo") {
+        Some(Word::Undo)
+    } else if is_same_text(text, "redo") {
+        Some(Word::Redo)
+    } else if is_same_text(text, "show") {
+        Some(Word::Show)
+    } else if is_same_text(text, "owners") {
+        Some(Word::Owners)
+    } else if is_same_text(text, "log") {
+        Some(Word::Log)
+    } else {
+        None
+    }
+}
+
+/// The text of the member of a name, where it is one.
+pub fn text_of<'a>(members: &'a BTreeMap<String, Json>, name: &str) -> Option<&'a str>
+    ensures { option_map (λ text. text.now) result ≡ option_and_then as_text (member_of name.now (members_view members.now.entries)) }
+{
+    find_member(members, name)?.as_text()
+}
+
+// The items, where the value is a list.
+fn as_list(value: &Json) -> Option<&[Json]>
+    ensures { option_map (λ items. items_view items.now) result ≡ as_list (view value.now) }
+{
+    match value {
+        Json::List(items) => Some(items.as_slice()),
+        _ => None,
+    }
+}
+
+/// The items of the member of a name, where it is a list.
+pub fn list_of<'a>(members: &'a BTreeMap<String, Json>, name: &str) -> Option<&'a [Json]>
+    ensures { option_map (λ items. items_view items.now) result ≡ option_and_then as_list (member_of name.now (members_view members.now.entries)) }
+{
+    as_list(find_member(members, name)?)
+}
+
+/// The word of a command, where it is one.
+pub fn word_of(members: &BTreeMap<String, Json>) -> Option<Word>
+    ensures { MatchOption result (option_and_then (rule_of session_rules) (word_of (members_view members.now.entries)) ≡ None)
+        (λ word. word_of (members_view members.now.entries) ≡ Some (word_text word)) }
+{
+    word_of_text(text_of(members, "do")?)
+}
+
+fn is_text(value: &Json) -> bool
+    ensures { result ≡ is_text (view value.now) }
+{
+    value.as_text().is_some()
+}
+
+fn is_truth(value: &Json) -> bool
+    ensures { result ≡ is_truth (view value.now) }
+{
+    matches!(value, Json::Scalar(Scalar::Bool(_)))
+}
+
+// Whether all items are texts.
+fn are_texts(items: &[Json]) -> bool
+    ensures { result ≡ is_some (texts_of (items_view items.now)) }
+{
+    for item in items {
+        if !is_text(item) {
+            return false;
+        }
+    }
+    true
+}
+
+// Whether the value is a list of texts.
+fn is_list_of_texts(value: &Json) -> bool
+    ensures { result ≡ is_some (list_of_texts (view value.now)) }
+{
+    match value {
+        Json::List(items) => are_texts(items),
+        _ => false,
+    }
+}
+
+// Whether an update command may have the member.
+fn is_update_member(name: &str, value: &Json) -> bool
+    ensures { result ≡ is_known_member (member_rules Word.Update) name.now (view value.now) }
+{
+    is_same_text(name, "do")
+        || (is_same_text(name, "at") && is_text(value))
+        || (is_same_text(name, "manager") && is_text(value))
+        || is_same_text(name, "object")
+}
+
+// Whether an apply command may have the member.
+fn is_apply_member(name: &str, value: &Json) -> bool
+    ensures { result ≡ is_known_member (member_rules Word.Apply) name.now (view value.now) }
+{
+    is_update_member(name, value) || (is_same_text(name, "force") && is_truth(value))
+}
+
+// Whether a command of the word may have the member.
+fn is_known_member(word: Word, name: &str, value: &Json) -> bool
+    ensures { result ≡ is_known_member (member_rules word) name.now (view value.now) }
+{
+    match word {
+        Word::Apply => is_apply_member(name, value),
+        Word::Update => is_update_member(name, value),
+        Word::Owners => is_same_text(name, "do")
+            || (is_same_text(name, "path") && is_list_of_texts(value)),
+        Word::Show => is_same_text(name, "do")
+            || (is_same_text(name, "managed") && is_truth(value)),
+        Word::Strip | Word::Undo | Word::Redo | Word::Log => is_same_text(name, "do"),
+    }
+}
+
+fn are_known_members(word: Word, members: &BTreeMap<String, Json>) -> bool
+    ensures { result ≡ are_known_members (member_rules word) (members_view members.now.entries) }
+{
+    for (name, value) in members.iter() {
+        if !is_known_member(word, name.as_str(), value) {
+            return false;
+        }
+    }
+    true
+}
+
+// Whether the members that an apply and an update need are there.
+fn has_request(members: &BTreeMap<String, Json>) -> bool
+    ensures { result ≡ list_all (λ r. not r.required || has_member r.name (members_view members.now.entries)) (member_rules Word.Update) }
+{
+    has_member(members, "at") && has_member(members, "manager") && has_member(members, "object")
+}
+
+/// Whether the members are those of a command of the word: each that it needs, of its type, and no other.
+pub fn follows_rule(word: Word, members: &BTreeMap<String, Json>) -> bool
+    ensures { result ≡ follows_rule (members_view members.now.entries) (rule_at word) }
+{
+    are_known_members(word, members)
+        && match word {
+            Word::Apply | Word::Update => has_request(members),
+            Word::Owners => has_member(members, "path"),
+            Word::Strip | Word::Undo | Word::Redo | Word::Show | Word::Log => true,
+        }
+}

@@ -1,0 +1,101 @@
+// The session: reads lines, has each answered, and writes the replies.
+ghost use Rattle.std.specs.Prelude.{◌≡◌, ℕ, List, true, OnOk, OnErr, OnSome, Err};
+ghost use Rattle.std.specs.Io.KnownBytes.{IsAtEnd, Appends};
+ghost use Rattle.ssa_json.specs.Devices.{AppendsPart};
+ghost use Rattle.ssa_session.specs.Held.{Holds};
+ghost use Rattle.ssa_session.specs.Session.{AnswersLine};
+ghost use Rattle.ssa_session.specs.Outcome.{AnswersAll, AnswersWhole, AnswersPartly};
+
+use crate::line::Line;
+use crate::machine::Machine;
+use crate::read_line::{LineEnd, read_line};
+use crate::write_line::write_line;
+use ssa_json::sink::Sink;
+use ssa_json::source::{DeviceFault, Source};
+use std::alloc::Global;
+
+/// Which device has failed.
+#[derive(Clone, Copy, Debug, PartialEq, Eq)]
+pub enum SessionFault {
+    /// The one that lines are read from.
+    Reader,
+    /// The one that replies are written to.
+    Writer,
+}
+
+/// The reply to a line that is too long.
+pub const TOO_LONG: &[u8] = b"{\"fault\":4,\"name\":\"TooLong\"}";
+
+/// The reply to a line that counts as not given, since a growth was refused.
+pub const OUT_OF_MEMORY: &[u8] = b"{\"fault\":5,\"name\":\"OutOfMemory\"}";
+
+/// Answers each line of the input, and writes the replies, each ended by a line feed and flushed. Bytes
+/// after the last line feed are a line too, once the input has ended. Holds one line at a time.
+pub fn session<R: Source, W: Sink, M: Machine>(
+    alloc: Global,
+    reader: &mut R,
+    writer: &mut W,
+    machine: &mut M,
+) -> Result<(), SessionFault>
+    // All lines of the input are answered, and the input has ended.
+    ensures ok { OnOk result (AnswersAll M.reply M.after (R.remaining reader.old) (R.remaining reader.new)
+        (W.contents writer.old) (W.contents writer.new) machine.old machine.new) }
+    ensures at_end { OnOk result (OnSome (R.remaining reader.old) (IsAtEnd (R.remaining reader.new))) }
+    ensures met_end { OnOk result (R.has_met_end reader.new ≡ true) }
+
+    // The reader failed: the whole lines that were read are answered.
+    ensures reader { result ≡ Err SessionFault.Reader → AnswersWhole M.reply M.after (R.remaining reader.old) (R.remaining reader.new)
+        (W.contents writer.old) (W.contents writer.new) machine.old machine.new }
+    ensures reader_failed { result ≡ Err SessionFault.Reader → R.has_failed reader.new ≡ true }
+
+    // The writer failed: of the last reply a beginning is written.
+    ensures writer { result ≡ Err SessionFault.Writer → AnswersPartly M.reply M.after (R.remaining reader.old) (R.remaining reader.new)
+        (W.contents writer.old) (W.contents writer.new) machine.old machine.new }
+    ensures writer_failed { result ≡ Err SessionFault.Writer → W.has_failed writer.new ≡ true }
+{
+    let mut line = Line::new(alloc);
+    loop {
+        let Ok(end) = read_line(alloc, reader, &mut line) else {
+            return Err(SessionFault::Reader);
+        };
+        match end {
+            LineEnd::LineFeed => {
+                let Ok(()) = answer_line(alloc, writer, machine, &line) else {
+                    return Err(SessionFault::Writer);
+                };
+            }
+            LineEnd::EndOfInput => {
+                if line.is_empty() {
+                    return Ok(());
+                }
+                let Ok(()) = answer_line(alloc, writer, machine, &line) else {
+                    return Err(SessionFault::Writer);
+                };
+                return Ok(());
+            }
+        }
+    }
+}
+
+// Answers the line that is held.
+fn answer_line<W: Sink, M: Machine>(
+    alloc: Global,
+    writer: &mut W,
+    machine: &mut M,
+    line: &Line,
+) -> Result<(), DeviceFault>
+    ensures ok { OnOk result ((text : List ℕ) → Holds line.now text
+        → AnswersLine M.reply M.after machine.old machine.new text (Appends (W.contents writer.old) (W.contents writer.new))) }
+    ensures err { OnErr result ((text : List ℕ) → Holds line.now text
+        → AnswersLine M.reply M.after machine.old machine.new text (AppendsPart (W.contents writer.old) (W.contents writer.new))) }
+    ensures failed { OnErr result (W.has_failed writer.new ≡ true) }
+{
+    match line {
+        Line::TooLong => write_line(writer, TOO_LONG),
+        Line::OutOfMemory => write_line(writer, OUT_OF_MEMORY),
+        Line::Kept(bytes) => match machine.answer(alloc, bytes) {
+            Ok(text) => write_line(writer, &text),
+            Err(_) => write_line(writer, OUT_OF_MEMORY),
+        },
+    }
+}

@@ -1,0 +1,19 @@
+// Writes a line to a sink.
+ghost use Rattle.std.specs.Prelude.{◌≡◌, ◌++◌, ◌∷◌, [], OnOk, OnErr, true};
+ghost use Rattle.std.specs.Io.KnownBytes.{Appends};
+ghost use Rattle.ssa_json.specs.Devices.{AppendsPart};
+ghost use Rattle.ssa_session.specs.Lines.{line_feed};
+
+use ssa_json::sink::{Sink, write_all};
+use ssa_json::source::DeviceFault;
+
+/// Writes a text and a line feed, and hands them on. A fault leaves a beginning written.
+pub fn write_line<W: Sink>(writer: &mut W, text: &[u8]) -> Result<(), DeviceFault>
+    ensures ok { OnOk result (Appends (W.contents writer.old) (W.contents writer.new) (text.now ++ line_feed ∷ [])) }
+    ensures err { OnErr result (AppendsPart (W.contents writer.old) (W.contents writer.new) (text.now ++ line_feed ∷ [])) }
+    ensures failed { OnErr result (W.has_failed writer.new ≡ true) }
+{
+    write_all(writer, text)?;
+    write_all(writer, b"\n")?;
+    writer.flush()
+}

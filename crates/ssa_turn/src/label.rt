@@ -1,0 +1,73 @@
+//! The commands that made the states of a history, and how they are told.
+ghost use Rattle.std.specs.Prelude.{◌≡◌, IfOk};
+ghost use Rattle.ssa_model.specs.History.{applied, stripped, updated};
+ghost use Rattle.ssa_model.specs.Replies.{label_json};
+ghost use Rattle.ssa_json.specs.View.{view};
+ghost use Rattle.ssa_turn.specs.Histories.{label_view};
+
+use ssa_json::members::{put_member, put_text};
+use ssa_json::moment::Moment;
+use ssa_json::value::{Json, Scalar};
+use std::alloc::{AllocError, Global};
+use std::collections::BTreeMap;
+
+/// The command that made a state.
+#[derive(Drop)]
+pub enum Label {
+    Apply {
+        at: Moment,
+        force: bool,
+        who: String,
+    },
+    Update {
+        at: Moment,
+        who: String,
+    },
+    Strip,
+}
+
+fn applied_json(alloc: Global, at: &Moment, force: bool, who: &str) -> Result<Json, AllocError>
+    ensures { IfOk result (λ v. view v ≡ label_json (applied who.now force at.now)) }
+{
+    let time = at.to_text(alloc)?;
+    let force = Json::Scalar(Scalar::Bool(force));
+    let mut members = BTreeMap::new(alloc);
+    put_text(alloc, &mut members, "manager", who)?;
+    put_member(alloc, &mut members, "force", force)?;
+    put_text(alloc, &mut members, "do", "apply")?;
+    put_text(alloc, &mut members, "at", time.as_str())?;
+    Ok(Json::Object(members))
+}
+
+fn updated_json(alloc: Global, at: &Moment, who: &str) -> Result<Json, AllocError>
+    ensures { IfOk result (λ v. view v ≡ label_json (updated who.now at.now)) }
+{
+    let time = at.to_text(alloc)?;
+    let mut members = BTreeMap::new(alloc);
+    put_text(alloc, &mut members, "manager", who)?;
+    put_text(alloc, &mut members, "do", "update")?;
+    put_text(alloc, &mut members, "at", time.as_str())?;
+    Ok(Json::Object(members))
+}
+
+fn stripped_json(alloc: Global) -> Result<Json, AllocError>
+    ensures { IfOk result (λ v. view v ≡ label_json stripped) }
+{
+    let mut members = BTreeMap::new(alloc);
+    put_text(alloc, &mut members, "do", "strip")?;
+    Ok(Json::Object(members))
+}
+
+impl Label {
+    /// The label as a value, as
+    /// `{"at":"2024-05-01T10:00:01Z","do":"apply","force":false,"manager":"kubectl"}`.
+    pub fn to_json(&self, alloc: Global) -> Result<Json, AllocError>
+        ensures { IfOk result (λ v. view v ≡ label_json (label_view self.now)) }
+    {
+        match self {
+            Label::Apply { at, force, who } => applied_json(alloc, at, *force, who.as_str()),
+            Label::Update { at, who } => updated_json(alloc, at, who.as_str()),
+            Label::Strip => stripped_json(alloc),
+        }
+    }
+}

@@ -1,8 +1,0 @@
-use Rattle.std.proofs.Common.{◌∙◌, sym}
-use Rattle.ssa_model.specs.Answers.{nothing_to_redo}
-use Rattle.ssabench.proofs.FaultFacts.{move-refused, redo-refused}
-use Rattle.ssabench.proofs.bench_machine.answer_redo.Goals as goal
-
-pub returns-then-future-eq0-clause-reply : goal.returns-then-future-eq0-clause-reply
-returns-then-future-eq0-clause-reply c =
-    move-refused c.fault_text.result (λ t. t.items) nothing_to_redo _ (redo-refused c.args.bench.now (sym c.future_len-future.ensures.count ∙ c.if-future-eq0.true)) c.fault_text.ensures

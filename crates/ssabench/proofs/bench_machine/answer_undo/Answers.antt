@@ -1,8 +1,0 @@
-use Rattle.std.proofs.Common.{◌∙◌, sym}
-use Rattle.ssa_model.specs.Answers.{nothing_to_undo}
-use Rattle.ssabench.proofs.FaultFacts.{move-refused, undo-refused}
-use Rattle.ssabench.proofs.bench_machine.answer_undo.Goals as goal
-
-pub returns-then-past-eq0-clause-reply : goal.returns-then-past-eq0-clause-reply
-returns-then-past-eq0-clause-reply c =
-    move-refused c.fault_text.result (λ t. t.items) nothing_to_undo _ (undo-refused c.args.bench.now (sym c.past_len-past.ensures.count ∙ c.if-past-eq0.true)) c.fault_text.ensures

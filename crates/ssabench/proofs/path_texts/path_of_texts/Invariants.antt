@@ -1,6 +1,0 @@
-use Rattle.ssa_path.specs.View.{path_view}
-use Rattle.ssabench.proofs.PathTexts.{IsSoFar}
-use Rattle.ssabench.proofs.path_texts.path_of_texts.Given as goal
-
-abbrev pub invariant-loop-text : goal.invariant-loop-text
-invariant-loop-text l = IsSoFar l.texts (path_view l.elements.items) l.text-index

@@ -1,8 +1,0 @@
-use Rattle.ssabench.proofs.ReplyFacts.{joined}
-use Rattle.ssabench.proofs.reply_text.push_shown.Goals as goal
-
-pub returns : goal.returns
-returns c =
-    joined c.args.text.now.items _ _ c.in_ok-extend_from_slice.ensures.items
-    (joined c.extend_from_slice.new.self.items _ _ c.in_ok-push_value.ensures
-    (c.in_ok-push.ensures.items))
