@@ -1,0 +1,2 @@
+//! Tests of plans, benches and sessions.
+#![tactic(auto)]
