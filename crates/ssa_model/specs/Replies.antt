@@ -8,6 +8,8 @@ use Rattle.ssa_model.specs.Table.{ManagerKey}
 use Rattle.ssa_model.specs.Operations.{Refusal, conflict, too_many_paths, too_many_managers}
 use Rattle.ssa_model.specs.Entries.{operation_text, text_json}
 use Rattle.ssa_model.specs.History.{Label, applied, updated, stripped}
+use Rattle.ssa_model.specs.Readings.{ReadFault, not_json, null_value, number_outside}
+use Rattle.ssa_model.specs.Schema.{SchemaFault, schema_keyword, schema_shape, schema_keys, schema_depth}
 use Rattle.ssa_model.specs.ElementTexts.{ElementFault, bad_element, index_element, not_canonical}
 use Rattle.ssa_model.specs.GivenEntries as entries
 use Rattle.ssa_model.specs.GivenEntries.{EntryFault}
@@ -86,6 +88,18 @@ fault_reply history_full = fault_json 63 (codes "HistoryFull")
 fault_reply nothing_to_undo = fault_json 64 (codes "NothingToUndo")
 fault_reply nothing_to_redo = fault_json 65 (codes "NothingToRedo")
 fault_reply (refused r) = refusal_json r
+
+-- bytes that are no value
+abbrev pub read_fault_json : ReadFault → Json
+read_fault_json not_json = fault_json 1 (codes "NotJson")
+read_fault_json null_value = fault_json 2 (codes "NullValue")
+read_fault_json number_outside = fault_json 3 (codes "NumberOutside")
+
+abbrev pub schema_fault_json : SchemaFault → Json
+schema_fault_json schema_keyword = fault_json 10 (codes "SchemaKeyword")
+schema_fault_json schema_shape = fault_json 11 (codes "SchemaShape")
+schema_fault_json schema_keys = fault_json 12 (codes "SchemaKeys")
+schema_fault_json schema_depth = fault_json 13 (codes "SchemaDepth")
 
 -- ---- replies
 

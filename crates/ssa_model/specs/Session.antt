@@ -3,13 +3,13 @@ use Rattle.std.specs.Prelude.{List, Bool, true, Some, None, Result, Ok, Err, if�
 use Rattle.ssa_model.specs.Json.{Text, Json, compact}
 use Rattle.ssa_model.specs.Path.{Path}
 use Rattle.ssa_model.specs.ElementTexts.{ElementFault, path_of}
-use Rattle.ssa_model.specs.Readings.{ReadFault, not_json, null_value, number_outside, Readings}
+use Rattle.ssa_model.specs.Readings.{ReadFault, Readings}
 use Rattle.ssa_model.specs.History.{Bench}
 use Rattle.ssa_model.specs.Commands as given
 use Rattle.ssa_model.specs.Commands.{CommandRule, command_of, moment_of}
 use Rattle.ssa_model.specs.Answers as answers
 use Rattle.ssa_model.specs.Answers.{Command, answer}
-use Rattle.ssa_model.specs.Replies.{fault_json, element_fault_json, reply_text}
+use Rattle.ssa_model.specs.Replies.{fault_json, element_fault_json, read_fault_json, reply_text}
 
 -- ---- faults of a line
 
@@ -20,9 +20,7 @@ pub data LineFault : Type 0 where
   of_element : ElementFault → LineFault
 
 abbrev pub line_fault_json : LineFault → Json
-line_fault_json (unread not_json) = fault_json 1 (codes "NotJson")
-line_fault_json (unread null_value) = fault_json 2 (codes "NullValue")
-line_fault_json (unread number_outside) = fault_json 3 (codes "NumberOutside")
+line_fault_json (unread f) = read_fault_json f
 line_fault_json bad_moment = fault_json 6 (codes "BadMoment")
 line_fault_json (of_element f) = element_fault_json f
 line_fault_json command_shape = fault_json 66 (codes "CommandShape")

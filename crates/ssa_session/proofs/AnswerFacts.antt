@@ -1,13 +1,13 @@
 -- Laws of the answers to lines.
 use Rattle.std.proofs.Common.{◌≡◌, ℕ, ◌<◌, List, [], ◌∷◌, ◌++◌, length, inl, inr, refl, lt-ltb}
-use Rattle.ssa_session.specs.declared.line.TheConstants.{LINE_LIMIT}
+use Rattle.ssa_model.specs.Limits.{most_line_bytes}
 use Rattle.ssa_session.specs.Session.{AnswersLine, too_long_text, out_of_memory_text}
 
 module _ {M : Type 0} (reply : M → List ℕ → List ℕ) (after : M → List ℕ → M) where
-  pub AnswersLine-too_long : (m : M) (line : List ℕ) (Writes : List ℕ → Type 0) → LINE_LIMIT < length line → Writes (too_long_text ++ 10 ∷ []) → AnswersLine reply after m m line Writes
+  pub AnswersLine-too_long : (m : M) (line : List ℕ) (Writes : List ℕ → Type 0) → most_line_bytes < length line → Writes (too_long_text ++ 10 ∷ []) → AnswersLine reply after m m line Writes
   AnswersLine-too_long m line Writes over writes = record {
     text = too_long_text;
-    answer = inl (rw (lt-ltb LINE_LIMIT (length line) over) refl, rw (lt-ltb LINE_LIMIT (length line) over) refl);
+    answer = inl (rw (lt-ltb most_line_bytes (length line) over) refl, rw (lt-ltb most_line_bytes (length line) over) refl);
     writes = writes;
   }
 

@@ -13,7 +13,7 @@ use Rattle.ssa_session.specs.Effects.{IsAlone, IsCarriedOut}
 use Rattle.ssa_session.specs.Session.{Replies, IsAnswer, IsRefused}
 use Rattle.ssa_session.specs.declared.engine.SessionFault.{SessionFault}
 use Rattle.ssa_session.specs.declared.engine.SessionFault.TheVariants.{Reader, Writer}
-use Rattle.ssa_session.specs.declared.line.TheConstants.{LINE_LIMIT}
+use Rattle.ssa_model.specs.Limits.{most_line_bytes}
 
 -- the new timeline has a history from the same first state
 record Keeps (old new : Timeline) : Type 0 where
@@ -37,7 +37,7 @@ if-keeps false old after h k = k
 keeps-answer : (old new : Bench) (line text : List Rattle.std.proofs.Common.ℕ) → IsAnswer line_reply bench_after old line text new ⊎ IsRefused line_reply bench_after old line text new
     → IsHistory old.timeline → Keeps old.timeline new.timeline
 keeps-answer old new line text (inl a) h =
-    subst (λ b. Keeps old.timeline b.timeline) (sym a.1) (if-keeps (nat_lt LINE_LIMIT (length line)) old (bench_after old line) h (keeps-line old line h))
+    subst (λ b. Keeps old.timeline b.timeline) (sym a.1) (if-keeps (nat_lt most_line_bytes (length line)) old (bench_after old line) h (keeps-line old line h))
 keeps-answer old new line text (inr r) h = subst (λ b. Keeps old.timeline b.timeline) (sym r.1) (same old.timeline h)
 
 keeps-both : (a b c : Timeline) → Keeps a b → (IsHistory b → Keeps b c) → Keeps a c

@@ -2,10 +2,10 @@
 use Rattle.std.specs.Prelude.{◌≡◌, ℕ, ◌<◌, ◌≤◌, List, length}
 use Rattle.ssa_session.specs.declared.line.Line.{Line}
 use Rattle.ssa_session.specs.declared.line.Line.TheVariants.{Kept, TooLong, OutOfMemory}
-use Rattle.ssa_session.specs.declared.line.TheConstants.{LINE_LIMIT}
+use Rattle.ssa_model.specs.Limits.{most_line_bytes}
 
 -- the line holds the text, or says why it does not
 abbrev pub Holds : Line → List ℕ → Type 0
-Holds (Kept bytes) text = (bytes.items ≡ text) × (length text ≤ LINE_LIMIT)
-Holds TooLong text = LINE_LIMIT < length text
+Holds (Kept bytes) text = (bytes.items ≡ text) × (length text ≤ most_line_bytes)
+Holds TooLong text = most_line_bytes < length text
 Holds OutOfMemory text = 0 < length text

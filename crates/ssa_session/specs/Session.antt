@@ -2,7 +2,7 @@
 use Rattle.std.specs.Prelude.{◌≡◌, ℕ, List, [], ◌∷◌, ◌++◌, length, codes, nat_lt, if◌then◌else◌, ◌⊎◌}
 use Rattle.ssa_model.specs.Json.{compact}
 use Rattle.ssa_model.specs.Replies.{fault_json}
-use Rattle.ssa_session.specs.declared.line.TheConstants.{LINE_LIMIT}
+use Rattle.ssa_model.specs.Limits.{most_line_bytes}
 
 -- the reply to a line over the limit
 abbrev pub too_long_text : List ℕ
@@ -17,8 +17,8 @@ module _ {M : Type 0} (reply : M → List ℕ → List ℕ) (after : M → List 
   -- The reply to a line and the machine after it. A line over the limit has a fixed reply, and is not shown to the machine.
   abbrev pub IsAnswer : M → List ℕ → List ℕ → M → Type 0
   IsAnswer old line text new =
-      (text ≡ (if nat_lt LINE_LIMIT (length line) then too_long_text else reply old line))
-      × (new ≡ (if nat_lt LINE_LIMIT (length line) then old else after old line))
+      (text ≡ (if nat_lt most_line_bytes (length line) then too_long_text else reply old line))
+      × (new ≡ (if nat_lt most_line_bytes (length line) then old else after old line))
 
   -- a line that counts as not given
   abbrev pub IsRefused : M → List ℕ → List ℕ → M → Type 0

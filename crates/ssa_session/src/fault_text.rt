@@ -19,14 +19,23 @@ use ssa_path::field_set::FieldSet;
 use ssa_schema::body_fault::BodyFault;
 use std::alloc::{AllocError, Global};
 
+/// The line of a fault of bytes that are no JSON text.
+pub const NOT_JSON: &[u8] = b"{\"fault\":1,\"name\":\"NotJson\"}";
+
+/// The line of a null.
+pub const NULL_VALUE: &[u8] = b"{\"fault\":2,\"name\":\"NullValue\"}";
+
+/// The line of a number that is no whole number of 64 bits.
+pub const NUMBER_OUTSIDE: &[u8] = b"{\"fault\":3,\"name\":\"NumberOutside\"}";
+
 /// The reply to a line that is no command.
 pub fn line_fault_text(alloc: Global, fault: &LineFault) -> Result<Vec<u8>, AllocError>
     ensures { IfOk result (λ text. text.items ≡ line_fault_text fault.now) }
 {
     let text = match fault {
-        LineFault::NotJson => b"{\"fault\":1,\"name\":\"NotJson\"}".as_slice(),
-        LineFault::NullValue => b"{\"fault\":2,\"name\":\"NullValue\"}",
-        LineFault::NumberOutside => b"{\"fault\":3,\"name\":\"NumberOutside\"}",
+        LineFault::NotJson => NOT_JSON,
+        LineFault::NullValue => NULL_VALUE,
+        LineFault::NumberOutside => NUMBER_OUTSIDE,
         LineFault::BadMoment => b"{\"fault\":6,\"name\":\"BadMoment\"}",
         LineFault::CommandShape => b"{\"fault\":66,\"name\":\"CommandShape\"}",
         LineFault::BadElement => b"{\"fault\":30,\"name\":\"BadElement\"}",

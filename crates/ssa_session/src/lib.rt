@@ -8,6 +8,7 @@ pub mod command_shape;
 pub mod engine;
 pub mod entry_fault_text;
 pub mod fault_text;
+pub mod files;
 pub mod json_text;
 pub mod line;
 pub mod log_text;

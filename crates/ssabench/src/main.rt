@@ -3,10 +3,10 @@
 
 mod program;
 
-use program::{Ending, run};
+use program::{Status, run};
 use std::process::ExitCode;
 
 fn main(rt: HostRuntime) -> ExitCode {
-    let ending = run(&rt).unwrap_or(Ending::Broken);
-    ExitCode::from(ending.status())
+    let status = run(&rt).unwrap_or(Status::Broken);
+    ExitCode::from(status.code())
 }

@@ -1,0 +1,218 @@
+//! A bench from a schema file and an object file, and a session on it.
+ghost use Rattle.std.specs.Prelude.{◌≡◌, ◌++◌, ◌∷◌, [], ◌⊎◌, Ok, Err, IfOk, OnErr, OnOk, OnSome, true};
+ghost use Rattle.std.specs.Io.KnownBytes.{Appends, IsAtEnd};
+ghost use Rattle.ssa_model.specs.Files as model;
+ghost use Rattle.ssa_model.specs.Files.{bench_of_file, file_fault_text, schema_of_file, value_of_file};
+ghost use Rattle.ssa_json.specs.Devices.{AppendsPart};
+ghost use Rattle.ssa_json.specs.Readings.{readings};
+ghost use Rattle.ssa_json.specs.View.{view};
+ghost use Rattle.ssa_session.specs.Files.{IsFileFault, IsGivenFile, IsGivenValue, IsTold, json_fault, schema_fault, object_fault};
+ghost use Rattle.ssa_session.specs.FileSessions.{IsHeld, IsTelling};
+
+use crate::bench_session::session;
+use crate::engine::{OUT_OF_MEMORY, SessionFault, TOO_LONG};
+use crate::fault_text::{NOT_JSON, NULL_VALUE, NUMBER_OUTSIDE, fault_text};
+use crate::write_line::write_line;
+use ssa_bench::bench::Bench;
+use ssa_bench::fault::Fault;
+use ssa_json::fault::JsonFault;
+use ssa_json::sink::Sink;
+use ssa_json::source::{DeviceFault, Source};
+use ssa_json::value::Json;
+use ssa_schema::fault::SchemaFault;
+use ssa_schema::schema::Schema;
+use std::alloc::{AllocError, Global};
+
+/// The most bytes of a schema file, and of an object file.
+pub const MOST_INPUT_BYTES: usize = 1_048_576;
+
+/// Why a schema file or an object file makes no bench.
+#[derive(Drop)]
+pub enum FileFault {
+    /// The bytes are no value, or more than [`MOST_INPUT_BYTES`].
+    Json(JsonFault),
+    /// The value is no schema.
+    Schema(SchemaFault),
+    /// The value is no object of the schema, or its managers' entries are no table.
+    Object(Fault),
+    /// A growth of memory was refused.
+    OutOfMemory,
+}
+
+impl From<JsonFault> for FileFault {
+    ghost from_gives = { λ f e. e ≡ json_fault f };
+
+    fn from(fault: JsonFault) -> FileFault {
+        match fault {
+            JsonFault::OutOfMemory => FileFault::OutOfMemory,
+            _ => FileFault::Json(fault),
+        }
+    }
+}
+
+impl From<SchemaFault> for FileFault {
+    ghost from_gives = { λ f e. e ≡ schema_fault f };
+
+    fn from(fault: SchemaFault) -> FileFault {
+        match fault {
+            SchemaFault::OutOfMemory => FileFault::OutOfMemory,
+            _ => FileFault::Schema(fault),
+        }
+    }
+}
+
+impl From<Fault> for FileFault {
+    ghost from_gives = { λ f e. e ≡ object_fault f };
+
+    fn from(fault: Fault) -> FileFault {
+        match fault {
+            Fault::OutOfMemory => FileFault::OutOfMemory,
+            _ => FileFault::Object(fault),
+        }
+    }
+}
+
+/// How a run on the files ended, where no device failed.
+#[derive(Clone, Copy, Debug, PartialEq, Eq)]
+pub enum Ending {
+    /// The session came to the end of its input, whatever it refused.
+    Done,
+    /// A file was refused, and its fault line is written.
+    Refused,
+    /// A growth was refused before the session began, and the line that says so is written.
+    OutOfMemory,
+}
+
+// The value of a file's bytes.
+fn value_of(alloc: Global, bytes: &[u8]) -> Result<Json, FileFault>
+    ensures { IsGivenValue result (value_of_file readings bytes.now) }
+{
+    match Json::read(alloc, bytes, MOST_INPUT_BYTES) {
+        Ok(value) => Ok(value),
+        Err(fault) => Err(FileFault::from(fault)),
+    }
+}
+
+/// The schema of a schema file. Of several faults the first is told: the bytes' own, then those of
+/// `Schema::read`.
+pub fn schema_of(alloc: Global, bytes: &[u8]) -> Result<Schema, FileFault>
+    ensures { IsGivenFile result (schema_of_file readings bytes.now) }
+{
+    match value_of(alloc, bytes) {
+        Ok(value) => match Schema::read(alloc, value) {
+            Ok(schema) => Ok(schema),
+            Err(fault) => Err(FileFault::from(fault)),
+        },
+        Err(fault) => Err(fault),
+    }
+}
+
+/// The bench of an object file. Of several faults the first is told: the bytes' own, then those of
+/// `Bench::new`.
+pub fn bench_of(alloc: Global, schema: Schema, bytes: &[u8]) -> Result<Bench, FileFault>
+    ensures { IsGivenFile result (bench_of_file readings schema bytes.now) }
+{
+    match value_of(alloc, bytes) {
+        Ok(value) => match Bench::new(alloc, schema, value) {
+            Ok(bench) => Ok(bench),
+            Err(fault) => Err(FileFault::from(fault)),
+        },
+        Err(fault) => Err(fault),
+    }
+}
+
+fn json_fault_text(fault: &JsonFault) -> &'static [u8]
+    ensures { (g : model.FileFault) → IsFileFault (FileFault.Json fault.now) g → result.now ≡ file_fault_text g }
+{
+    match fault {
+        JsonFault::NotJson => NOT_JSON,
+        JsonFault::NullValue => NULL_VALUE,
+        JsonFault::NumberOutside => NUMBER_OUTSIDE,
+        JsonFault::TooLong => TOO_LONG,
+        JsonFault::OutOfMemory => OUT_OF_MEMORY,
+    }
+}
+
+fn schema_fault_text(fault: &SchemaFault) -> &'static [u8]
+    ensures { (g : model.FileFault) → IsFileFault (FileFault.Schema fault.now) g → result.now ≡ file_fault_text g }
+{
+    match fault {
+        SchemaFault::SchemaKeyword => b"{\"fault\":10,\"name\":\"SchemaKeyword\"}",
+        SchemaFault::SchemaShape => b"{\"fault\":11,\"name\":\"SchemaShape\"}",
+        SchemaFault::SchemaKeys => b"{\"fault\":12,\"name\":\"SchemaKeys\"}",
+        SchemaFault::SchemaDepth => b"{\"fault\":13,\"name\":\"SchemaDepth\"}",
+        SchemaFault::OutOfMemory => OUT_OF_MEMORY,
+    }
+}
+
+// The line of a file's fault; none where memory ran out, now or before.
+fn told(alloc: Global, fault: &FileFault) -> Result<Vec<u8>, AllocError>
+    ensures { IfOk result (λ text. IsTold fault.now text.items) }
+{
+    match fault {
+        FileFault::Json(JsonFault::OutOfMemory)
+        | FileFault::Schema(SchemaFault::OutOfMemory)
+        | FileFault::Object(Fault::OutOfMemory)
+        | FileFault::OutOfMemory => Err(AllocError),
+        FileFault::Json(fault) => json_fault_text(fault).to_vec(alloc),
+        FileFault::Schema(fault) => schema_fault_text(fault).to_vec(alloc),
+        FileFault::Object(fault) => fault_text(alloc, fault),
+    }
+}
+
+/// Writes the line of a file's fault, and tells how the run ends by it.
+pub fn tell<W: Sink>(
+    alloc: Global,
+    writer: &mut W,
+    fault: &FileFault,
+) -> Result<Ending, DeviceFault>
+    ensures telling { IsTelling fault.now (W.contents writer.old) (W.contents writer.new) result }
+    ensures failed { OnErr result (W.has_failed writer.new ≡ true) }
+{
+    match told(alloc, fault) {
+        Ok(text) => {
+            write_line(writer, &text)?;
+            Ok(Ending::Refused)
+        }
+        Err(_) => {
+            write_line(writer, OUT_OF_MEMORY)?;
+            Ok(Ending::OutOfMemory)
+        }
+    }
+}
+
+/// Makes a bench of an object file and holds a session on it; or writes the line of the file's first
+/// fault.
+pub fn session_on<R: Source, W: Sink>(
+    alloc: Global,
+    schema: Schema,
+    object: &[u8],
+    reader: &mut R,
+    writer: &mut W,
+) -> Result<Ending, SessionFault>
+    ensures held { IsHeld (bench_of_file readings schema object.now) (R.remaining reader.old) (R.remaining reader.new)
+        (W.contents writer.old) (W.contents writer.new) result }
+
+    // The session is done only at the end of its input, and a device's fault is told only where it failed.
+    ensures at_end { result ≡ Ok Ending.Done → OnSome (R.remaining reader.old) (IsAtEnd (R.remaining reader.new)) }
+    ensures met_end { result ≡ Ok Ending.Done → R.has_met_end reader.new ≡ true }
+    ensures reader_failed { result ≡ Err SessionFault.Reader → R.has_failed reader.new ≡ true }
+    ensures writer_failed { result ≡ Err SessionFault.Writer → W.has_failed writer.new ≡ true }
+
+    // A file that is refused leaves the input unread.
+    ensures unread { (result ≡ Ok Ending.Refused) ⊎ (result ≡ Ok Ending.OutOfMemory) → reader.new ≡ reader.old }
+{
+    let mut bench = match bench_of(alloc, schema, object) {
+        Ok(bench) => bench,
+        Err(fault) => {
+            return match tell(alloc, writer, &fault) {
+                Ok(ending) => Ok(ending),
+                Err(_) => Err(SessionFault::Writer),
+            };
+        }
+    };
+    match session(alloc, reader, writer, &mut bench) {
+        Ok(()) => Ok(Ending::Done),
+        Err(fault) => Err(fault),
+    }
+}
