@@ -1,0 +1,12 @@
+use Rattle.ssa_model.proofs.Headline.{runs_go_on, run_is_in_effect, undo_restores_all, redo_restores_all, refusals_change_nothing, conflicts_list_clashes}
+use Rattle.ssa_model.proofs.headline_holds.Goals as goal
+
+pub returns : goal.returns
+returns c = record {
+  runs = runs_go_on;
+  effect = run_is_in_effect;
+  undo = undo_restores_all;
+  redo = redo_restores_all;
+  refusals = refusals_change_nothing;
+  conflicts = conflicts_list_clashes;
+}
