@@ -25,12 +25,12 @@ runs_go_on bench [] ds = refl
 runs_go_on bench (c ∷ cs) ds = ap (λ r. ((answer bench c).0 ∷ r.0, r.1)) (runs_go_on (answer bench c).1 cs ds)
 
 -- after a list of commands the states are made by its deeds
-record KeepsRun (bench : Bench) (ds : List Deed) (cs : List Command) : Type 0 where
-  first : (run bench cs).1.timeline.first ≡ bench.timeline.first
-  history : IsHistory (run bench cs).1.timeline
-  deeds : history.deeds ≡ deeds_of_run bench ds cs
+pub record KeepsRun (bench : Bench) (ds : List Deed) (cs : List Command) : Type 0 where
+  pub first : (run bench cs).1.timeline.first ≡ bench.timeline.first
+  pub history : IsHistory (run bench cs).1.timeline
+  pub deeds : history.deeds ≡ deeds_of_run bench ds cs
 
-keeps-run : (bench : Bench) (cs : List Command) (h : IsHistory bench.timeline) → KeepsRun bench h.deeds cs
+pub keeps-run : (bench : Bench) (cs : List Command) (h : IsHistory bench.timeline) → KeepsRun bench h.deeds cs
 keeps-run bench [] h = record { first = refl; history = h; deeds = refl }
 keeps-run bench (c ∷ cs) h =
     let kept = histories_are_carried_out.0 bench c h in

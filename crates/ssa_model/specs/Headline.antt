@@ -1,6 +1,6 @@
 -- The headline, law by law: what stands after any list of commands, and what undo, redo and refusals leave.
 use Rattle.std.specs.Prelude.{◌≡◌, ◌<◌, ◌≤◌, List, [], ◌++◌, Bool, false, true, length, take, Ok, codes}
-use Rattle.ssa_model.specs.Json.{Text, Json}
+use Rattle.ssa_model.specs.Json.{Text, Json, same_text}
 use Rattle.ssa_model.specs.Body.{Body, modified}
 use Rattle.ssa_model.specs.PathMap.{PathSet}
 use Rattle.ssa_model.specs.Table.{applies, ManagerKey}
@@ -8,6 +8,9 @@ use Rattle.ssa_model.specs.Operations as operations
 use Rattle.ssa_model.specs.Operations.{State, clashes, conflict, pruned}
 use Rattle.ssa_model.specs.History.{Bench, Timeline, past_len, future_len, present}
 use Rattle.ssa_model.specs.Answers.{Answer, Command, Fault, apply, undo, redo, fault, moved, refused, answer, command_body, run}
+use Rattle.ssa_model.specs.Readings.{Readings}
+use Rattle.ssa_model.specs.Commands.{CommandRule}
+use Rattle.ssa_model.specs.Session.{line_answer, out_of_memory_text, too_long_text}
 use Rattle.ssa_model.specs.Effect.{all_carried_out, in_effect, is_accepted}
 
 -- the timeline has one state, as that of a bench made from an object file
@@ -60,3 +63,9 @@ abbrev pub ConflictsListClashes : Type 0
 ConflictsListClashes =
     (bench : Bench) (who : Text) (force : Bool) (at : Text) (v : Json) (cs : List (ManagerKey × PathSet))
     → (answer bench (apply who force at v)).0 ≡ fault (refused (conflict cs)) → IsConflictOf bench who force v cs
+
+-- no answer to a line is told as want of memory is
+abbrev pub AnswersAreTold : Type 0
+AnswersAreTold =
+    (same_text too_long_text out_of_memory_text ≡ false)
+    × ((readings : Readings) (rules : List CommandRule) (bench : Bench) (line : Text) → same_text (line_answer readings rules bench line).0 out_of_memory_text ≡ false)

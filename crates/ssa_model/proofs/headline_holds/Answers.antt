@@ -1,4 +1,5 @@
 use Rattle.ssa_model.proofs.Headline.{runs_go_on, run_is_in_effect, undo_restores_all, redo_restores_all, refusals_change_nothing, conflicts_list_clashes}
+use Rattle.ssa_model.proofs.ToldAnswers.{answers_are_told}
 use Rattle.ssa_model.proofs.headline_holds.Goals as goal
 
 pub returns : goal.returns
@@ -9,4 +10,5 @@ returns c = record {
   redo = redo_restores_all;
   refusals = refusals_change_nothing;
   conflicts = conflicts_list_clashes;
+  told = answers_are_told;
 }
