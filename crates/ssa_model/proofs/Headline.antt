@@ -11,10 +11,10 @@ use Rattle.ssa_model.specs.PathMap.{PathSet, size}
 use Rattle.ssa_model.specs.Table.{applies, ManagerKey}
 use Rattle.ssa_model.specs.Operations as operations
 use Rattle.ssa_model.specs.Operations.{State, Refusal, clashes, conflict, too_many_paths, pruned, if_seated, is_none}
-use Rattle.ssa_model.specs.History.{Label, stripped, Bench, Timeline, Step, past_len, future_len, present, appended, moved_to, with_timeline, is_manager_name}
-use Rattle.ssa_model.specs.Answers.{Answer, Reply, Command, Fault, apply, update, strip, undo, redo, show, owners, log, fault, moved, refused, body_fault, identity_fault, managed_fields_given, nothing_to_undo, nothing_to_redo, history_full, manager_name, answer, accept, accept_or_refuse, with_body, apply_answer, command_body, run}
-use Rattle.ssa_model.specs.Effect.{all_carried_out, deeds_of_run, deeds_after, in_effect, is_accepted, Deed, AreSteps, IsHistory}
-use Rattle.ssa_model.specs.Headline.{IsAlone, RunsGoOn, RunIsInEffect, IsRestored, UndoRestoresAll, RedoRestoresAll, RefusalsChangeNothing, IsConflictOf, ConflictsListClashes}
+use Rattle.ssa_model.specs.History.{Label, stripped, Bench, Timeline, past_len, future_len, present, appended, moved_to, with_timeline, is_manager_name}
+use Rattle.ssa_model.specs.Answers.{Answer, Command, Fault, apply, update, strip, undo, redo, show, owners, log, fault, moved, refused, body_fault, identity_fault, managed_fields_given, nothing_to_undo, nothing_to_redo, history_full, manager_name, answer, accept, accept_or_refuse, with_body, apply_answer, command_body, run}
+use Rattle.ssa_model.specs.Effect.{all_carried_out, deeds_of_run, is_accepted, Deed, AreSteps, IsHistory}
+use Rattle.ssa_model.specs.Headline.{IsAlone, RunsGoOn, RunIsInEffect, RunKeepsHistory, IsRestored, UndoRestoresAll, RedoRestoresAll, RefusalsChangeNothing, IsConflictOf, ConflictsListClashes}
 use Rattle.ssa_model.proofs.Effect.{histories_are_carried_out}
 use Rattle.ssa_model.proofs.Tables.{undo_restores, take_first}
 
@@ -24,21 +24,25 @@ pub runs_go_on : RunsGoOn
 runs_go_on bench [] ds = refl
 runs_go_on bench (c ∷ cs) ds = ap (λ r. ((answer bench c).0 ∷ r.0, r.1)) (runs_go_on (answer bench c).1 cs ds)
 
--- after a list of commands the states are made by its deeds
-pub record KeepsRun (bench : Bench) (ds : List Deed) (cs : List Command) : Type 0 where
-  pub first : (run bench cs).1.timeline.first ≡ bench.timeline.first
-  pub history : IsHistory (run bench cs).1.timeline
-  pub deeds : history.deeds ≡ deeds_of_run bench ds cs
+abbrev FromRun : Bench → List Deed → List Command → Type 0
+FromRun bench before cs = (history : IsHistory (run bench cs).1.timeline) × ((run bench cs).1.timeline.first ≡ bench.timeline.first) × (history.deeds ≡ deeds_of_run bench before cs)
 
-pub keeps-run : (bench : Bench) (cs : List Command) (h : IsHistory bench.timeline) → KeepsRun bench h.deeds cs
-keeps-run bench [] h = record { first = refl; history = h; deeds = refl }
-keeps-run bench (c ∷ cs) h =
+from-run : (bench : Bench) (cs : List Command) (h : IsHistory bench.timeline) → FromRun bench h.deeds cs
+from-run bench [] h = (h, refl, refl)
+from-run bench (c ∷ cs) h =
     let kept = histories_are_carried_out.0 bench c h in
-    let rest = keeps-run (answer bench c).1 cs kept.history in
+    let rest = from-run (answer bench c).1 cs kept.history in
+    (rest.0, rest.1 ∙ kept.first, rest.2 ∙ ap (λ ds. deeds_of_run (answer bench c).1 ds cs) kept.deeds)
+
+pub run_keeps_history : RunKeepsHistory
+run_keeps_history bench cs before =
+    let made = from-run bench cs before in
+    let last = (run bench cs).1.timeline in
     record {
-      first = rest.first ∙ kept.first;
-      history = rest.history;
-      deeds = rest.deeds ∙ ap (λ ds. deeds_of_run (answer bench c).1 ds cs) kept.deeds;
+      first = made.1;
+      history = made.0;
+      deeds = made.2;
+      state = ap (λ s. all_carried_out s (take last.place made.0.deeds)) (sym made.1) ∙ histories_are_carried_out.1 last made.0;
     }
 
 abbrev alone-history : (t : Timeline) → IsAlone t → IsHistory t
@@ -48,10 +52,9 @@ alone-history t h =
 
 pub run_is_in_effect : RunIsInEffect
 run_is_in_effect bench cs alone =
-    let kept = keeps-run bench cs (alone-history bench.timeline alone) in
+    let kept = run_keeps_history bench cs (alone-history bench.timeline alone) in
     let last = (run bench cs).1.timeline in
-    (λ i. all_carried_out (sym kept.first i) (take last.place (sym kept.deeds i)))
-    ∙ histories_are_carried_out.1 last kept.history
+    ap (λ ds. all_carried_out bench.timeline.first (take last.place ds)) (sym kept.deeds) ∙ kept.state
 
 -- ---- what holds of an answer, by the tests that it goes through
 
@@ -255,10 +258,10 @@ module _ (bench : Bench) (who : Text) (force : Bool) (v : Json) where
       by_result bench Lists _ _ (operations.apply now a config force at)
       (λ s cs h. cc)
       (λ f e cs h.
-        let same : f ≡ conflict cs = cc in
-        let clash = clashes a (modified now.body (pruned now a config)) now.table in
-        let found = decided (not (force || is_none clash)) (nat_lt 20001 (size (pruned now a config))) clash cs _ (e ∙ ap Err same) in
-        record { config = config; body = is; unforced = unforced force (is_none clash) found.0; listed = found.1 })
+      let same : f ≡ conflict cs = cc in
+      let clash = clashes a (modified now.body (pruned now a config)) now.table in
+      let found = decided (not (force || is_none clash)) (nat_lt 20001 (size (pruned now a config))) clash cs _ (e ∙ ap Err same) in
+      record { config = config; body = is; unforced = unforced force (is_none clash) found.0; listed = found.1 })
 
   lists : (at : Text) → Lists (answer bench (apply who force at v))
   lists at = by_body bench Lists who v (apply_answer bench who force at) other (lists-config at)

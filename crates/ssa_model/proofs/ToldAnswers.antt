@@ -1,5 +1,5 @@
 -- No answer to a line is the line of want of memory: the texts differ in what they begin with.
-use Rattle.std.proofs.Common.{◌≡◌, List, [], ◌∷◌, false, refl}
+use Rattle.std.proofs.Common.{◌≡◌, List, false, refl}
 use Rattle.std.specs.Prelude.{Result, Ok, Err}
 use Rattle.ssa_model.specs.Json.{Text, compact, same_text}
 use Rattle.ssa_model.specs.Path.{Path}
@@ -10,9 +10,9 @@ use Rattle.ssa_model.specs.GivenEntries as entries
 use Rattle.ssa_model.specs.Readings.{Readings, ReadFault, not_json, null_value, number_outside}
 use Rattle.ssa_model.specs.History.{Bench}
 use Rattle.ssa_model.specs.Commands.{CommandRule}
-use Rattle.ssa_model.specs.Answers.{Answer, Command, Fault, Reply, answer, body_fault, identity_fault, managed_fields_given, entry_fault, manager_name, history_full, nothing_to_undo, nothing_to_redo, refused, changed, moved, shown, owned_by, logged, fault}
+use Rattle.ssa_model.specs.Answers.{Command, Fault, Reply, answer, body_fault, identity_fault, managed_fields_given, entry_fault, manager_name, history_full, nothing_to_undo, nothing_to_redo, refused, changed, moved, shown, owned_by, logged, fault}
 use Rattle.ssa_model.specs.Replies.{body_fault_json, element_fault_json, entry_fault_json, fault_reply, read_fault_json, refusal_json, reply_text}
-use Rattle.ssa_model.specs.Session.{LineFault, unread, bad_moment, command_shape, of_element, answer_read, line_answer, line_fault_json, out_of_memory_text, read_line, too_long_text}
+use Rattle.ssa_model.specs.Session.{LineFault, unread, bad_moment, command_shape, of_element, answer_read, line_fault_json, out_of_memory_text, read_line}
 use Rattle.ssa_model.specs.Headline.{AnswersAreTold}
 
 abbrev IsOther : Text → Type 0

@@ -4,14 +4,13 @@ use Rattle.ssa_model.specs.Json.{Text, Json, same_text}
 use Rattle.ssa_model.specs.Body.{Body, modified}
 use Rattle.ssa_model.specs.PathMap.{PathSet}
 use Rattle.ssa_model.specs.Table.{applies, ManagerKey}
-use Rattle.ssa_model.specs.Operations as operations
-use Rattle.ssa_model.specs.Operations.{State, clashes, conflict, pruned}
+use Rattle.ssa_model.specs.Operations.{clashes, conflict, pruned}
 use Rattle.ssa_model.specs.History.{Bench, Timeline, past_len, future_len, present}
 use Rattle.ssa_model.specs.Answers.{Answer, Command, Fault, apply, undo, redo, fault, moved, refused, answer, command_body, run}
 use Rattle.ssa_model.specs.Readings.{Readings}
 use Rattle.ssa_model.specs.Commands.{CommandRule}
 use Rattle.ssa_model.specs.Session.{line_answer, out_of_memory_text, too_long_text}
-use Rattle.ssa_model.specs.Effect.{all_carried_out, in_effect, is_accepted}
+use Rattle.ssa_model.specs.Effect.{Deed, IsHistory, all_carried_out, deeds_of_run, in_effect, is_accepted}
 
 -- the timeline has one state, as that of a bench made from an object file
 abbrev pub IsAlone : Timeline → Type 0
@@ -24,6 +23,16 @@ RunsGoOn = (bench : Bench) (cs ds : List Command) → run bench (cs ++ ds) ≡ (
 -- the state at the place is the commands in effect, carried out one after the other on the state that the bench was made from
 abbrev pub RunIsInEffect : Type 0
 RunIsInEffect = (bench : Bench) (cs : List Command) → IsAlone bench.timeline → all_carried_out bench.timeline.first (in_effect bench cs) ≡ Ok (present (run bench cs).1.timeline)
+
+-- After a list of commands on a bench whose states are made by deeds, so are the states: by these and the accepted commands'.
+pub record KeepsRun (bench : Bench) (before : List Deed) (cs : List Command) : Type 0 where
+  pub first : (run bench cs).1.timeline.first ≡ bench.timeline.first
+  pub history : IsHistory (run bench cs).1.timeline
+  pub deeds : history.deeds ≡ deeds_of_run bench before cs
+  pub state : all_carried_out bench.timeline.first (take (run bench cs).1.timeline.place history.deeds) ≡ Ok (present (run bench cs).1.timeline)
+
+abbrev pub RunKeepsHistory : Type 0
+RunKeepsHistory = (bench : Bench) (cs : List Command) (before : IsHistory bench.timeline) → KeepsRun bench before.deeds cs
 
 -- the bench is as it was up to its place, and one command can be done again
 pub record IsRestored (bench : Bench) (given : Answer) : Type 0 where

@@ -1,20 +1,16 @@
 -- The bench after the replies to lines is that of the commands that the lines gave.
 use Rattle.std.proofs.Common.{◌≡◌, ℕ, List, [], ◌∷◌, ◌++◌, ◌⊎◌, inl, inr, Bool, true, false, Option, Result, Ok, Err, refl, sym, ap, ◌∙◌, subst}
-use Rattle.std.specs.Prelude.{OnOk, if◌then◌else◌, nat_lt, length, take}
+use Rattle.std.specs.Prelude.{OnOk, if◌then◌else◌, nat_lt, length}
 use Rattle.ssa_model.specs.Json.{same_text}
 use Rattle.ssa_model.specs.Limits.{most_line_bytes}
 use Rattle.ssa_model.specs.Commands.{session_rules}
-use Rattle.ssa_model.specs.History.{Bench, present}
+use Rattle.ssa_model.specs.History.{Bench}
 use Rattle.ssa_model.specs.Answers.{Command, run}
-use Rattle.ssa_model.specs.Effect.{IsHistory, all_carried_out}
 use Rattle.ssa_model.specs.Session.{LineFault, answer_read, command_in, given_commands, line_answer, out_of_memory_text, read_line, too_long_text}
-use Rattle.ssa_model.proofs.Headline.{keeps-run, runs_go_on, run_is_in_effect}
-use Rattle.ssa_model.proofs.Effect.{histories_are_carried_out}
-use Rattle.ssa_model.proofs.ToldAnswers.{answers_are_told}
-use Rattle.ssa_json.proofs.Equality.{same_text-itself}
+use Rattle.ssa_model.specs.Headline.{AnswersAreTold, RunIsInEffect, RunKeepsHistory, RunsGoOn}
 use Rattle.ssa_json.specs.Readings.{readings}
 use Rattle.ssa_session.specs.BenchLines.{line_reply, bench_after}
-use Rattle.ssa_session.specs.Effects.{IsRunOf, IsCarriedOut, RunsAll, RunsWhole, RunsPartly, commands_of}
+use Rattle.ssa_session.specs.Effects.{IsRunOf, RunsAll, RunsWhole, RunsPartly, commands_of}
 use Rattle.ssa_session.specs.Lines.{lines, whole_lines}
 use Rattle.ssa_session.specs.Outcome.{AnswersAll, AnswersWhole, AnswersPartly}
 use Rattle.ssa_session.specs.Session.{Replies, IsAnswer, IsRefused}
@@ -38,9 +34,9 @@ unfolding command_by
 after-line true old line = refl
 after-line false old line = after-read old (read_line readings session_rules line)
 
-told-by : (long : Bool) (old : Bench) (line : Bytes) → same_text (if long then too_long_text else line_reply old line) out_of_memory_text ≡ false
-told-by true old line = answers_are_told.0
-told-by false old line = answers_are_told.1 readings session_rules old line
+told-by : AnswersAreTold → (long : Bool) (old : Bench) (line : Bytes) → same_text (if long then too_long_text else line_reply old line) out_of_memory_text ≡ false
+told-by laws true old line = laws.0
+told-by laws false old line = laws.1 readings session_rules old line
 
 -- the commands of a line with this reply
 abbrev given_by : Bytes → Bytes → List Command
@@ -54,51 +50,47 @@ if-want : (b : Bool) (cs : List Command) → b ≡ true → (if b then [] else c
 if-want true cs h = refl
 if-want false cs h = cc
 
-answered : (old new : Bench) (line text : Bytes) → IsAnswer line_reply bench_after old line text new ⊎ IsRefused line_reply bench_after old line text new → new ≡ (run old (given_by line text)).1
+answered : AnswersAreTold → (old new : Bench) (line text : Bytes) → IsAnswer line_reply bench_after old line text new ⊎ IsRefused line_reply bench_after old line text new → new ≡ (run old (given_by line text)).1
 unfolding command_by
-answered old new line text (inl a) =
+answered laws old new line text (inl a) =
     let long = nat_lt most_line_bytes (length line) in
-    let told : same_text text out_of_memory_text ≡ false = ap (λ t. same_text t out_of_memory_text) a.0 ∙ told-by long old line in
+    let told : same_text text out_of_memory_text ≡ false = ap (λ t. same_text t out_of_memory_text) a.0 ∙ told-by laws long old line in
     a.1 ∙ after-line long old line ∙ ap (λ cs. (run old cs).1) (sym (unless-want (same_text text out_of_memory_text) (command_in readings session_rules line) told))
-answered old new line text (inr r) =
-    let told : same_text text out_of_memory_text ≡ true = ap (λ t. same_text t out_of_memory_text) r.0 ∙ same_text-itself out_of_memory_text in
+answered laws old new line text (inr r) =
+    let told : same_text text out_of_memory_text ≡ true = ap (λ t. same_text t out_of_memory_text) r.0 in
     r.1 ∙ ap (λ cs. (run old cs).1) (sym (if-want (same_text text out_of_memory_text) (command_in readings session_rules line) told))
 
 -- ---- all lines
 
-replies-run : (old new : Bench) (ls ts : List Bytes) → Replies line_reply bench_after old ls ts new → new ≡ (run old (commands_of ls ts)).1
-replies-run old new [] [] r = r
-replies-run old new (l ∷ ls) [] r = absurd r
-replies-run old new [] (t ∷ ts) r = absurd r
-replies-run old new (l ∷ ls) (t ∷ ts) r =
-    replies-run r.0 new ls ts r.2
-    ∙ ap (λ b. (run b (commands_of ls ts)).1) (answered old r.0 l t r.1)
-    ∙ ap (λ a. a.1) (sym (runs_go_on old (given_by l t) (commands_of ls ts)))
+-- the laws of the model that a session's run rests on
+pub record Laws : Type 0 where
+  pub told : AnswersAreTold
+  pub runs : RunsGoOn
+  pub effect : RunIsInEffect
+  pub history : RunKeepsHistory
 
--- what is said of a run
-run-is : (old : Bench) (cs : List Command) → IsRunOf old (run old cs).1 cs
-run-is old cs = record {
-  run_is = refl;
-  in_effect = run_is_in_effect old cs;
-  carried_out = λ before.
-      let kept = keeps-run old cs before in
-      record {
-        first = kept.first;
-        history = kept.history;
-        deeds = kept.deeds;
-        state = ap (λ s. all_carried_out s (take (run old cs).1.timeline.place kept.history.deeds)) (sym kept.first) ∙ histories_are_carried_out.1 (run old cs).1.timeline kept.history;
-      };
-}
+module _ (laws : Laws) where
+  replies-run : (old new : Bench) (ls ts : List Bytes) → Replies line_reply bench_after old ls ts new → new ≡ (run old (commands_of ls ts)).1
+  replies-run old new [] [] r = r
+  replies-run old new (l ∷ ls) [] r = absurd r
+  replies-run old new [] (t ∷ ts) r = absurd r
+  replies-run old new (l ∷ ls) (t ∷ ts) r =
+      replies-run r.0 new ls ts r.2
+      ∙ ap (λ b. (run b (commands_of ls ts)).1) (answered laws.told old r.0 l t r.1)
+      ∙ ap (λ a. a.1) (sym (laws.runs old (given_by l t) (commands_of ls ts)))
 
-replies-are_run : (old new : Bench) (ls ts : List Bytes) → Replies line_reply bench_after old ls ts new → IsRunOf old new (commands_of ls ts)
-replies-are_run old new ls ts r = subst (λ b. IsRunOf old b (commands_of ls ts)) (sym (replies-run old new ls ts r)) (run-is old (commands_of ls ts))
+  replies-are_run : (old new : Bench) (ls ts : List Bytes) → Replies line_reply bench_after old ls ts new → IsRunOf old new (commands_of ls ts)
+  replies-are_run old new ls ts r =
+      let cs = commands_of ls ts in
+      let is_run : Bench → Type 0 = λ b. IsRunOf old b cs in
+      subst is_run (sym (replies-run old new ls ts r)) (record { run_is = refl; in_effect = laws.effect old cs; history = laws.history old cs })
 
-module _ (left left_after written written_after : Option (List ℕ)) (old new : Bench) where
-  pub runs-all : AnswersAll line_reply bench_after left left_after written written_after old new → RunsAll left left_after written written_after old new
-  runs-all a = record { answers = a; runs = replies-are_run old new (lines a.input) a.texts a.replies }
+  module _ (left left_after written written_after : Option (List ℕ)) (old new : Bench) where
+    pub runs-all : AnswersAll line_reply bench_after left left_after written written_after old new → RunsAll left left_after written written_after old new
+    runs-all a = record { answers = a; runs = replies-are_run old new (lines a.input) a.texts a.replies }
 
-  pub runs-whole : AnswersWhole line_reply bench_after left left_after written written_after old new → RunsWhole left left_after written written_after old new
-  runs-whole a = record { answers = a; runs = replies-are_run old new (whole_lines a.input) a.texts a.replies }
+    pub runs-whole : AnswersWhole line_reply bench_after left left_after written written_after old new → RunsWhole left left_after written written_after old new
+    runs-whole a = record { answers = a; runs = replies-are_run old new (whole_lines a.input) a.texts a.replies }
 
-  pub runs-partly : AnswersPartly line_reply bench_after left left_after written written_after old new → RunsPartly left left_after written written_after old new
-  runs-partly a = record { answers = a; runs = replies-are_run old new (lines a.input) (a.texts ++ a.last ∷ []) a.replies }
+    pub runs-partly : AnswersPartly line_reply bench_after left left_after written written_after old new → RunsPartly left left_after written written_after old new
+    runs-partly a = record { answers = a; runs = replies-are_run old new (lines a.input) (a.texts ++ a.last ∷ []) a.replies }

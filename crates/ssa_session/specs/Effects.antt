@@ -1,10 +1,10 @@
 -- What stands in a bench after a session: the commands that its lines gave, carried out one after the other.
-use Rattle.std.specs.Prelude.{◌≡◌, ℕ, List, ◌∷◌, [], ◌++◌, Option, Ok, take}
+use Rattle.std.specs.Prelude.{◌≡◌, ℕ, List, ◌∷◌, [], ◌++◌, Option, Ok}
 use Rattle.ssa_model.specs.History.{Bench, present}
 use Rattle.ssa_model.specs.Answers.{Command, run}
 use Rattle.ssa_model.specs.Commands.{session_rules}
-use Rattle.ssa_model.specs.Effect.{IsHistory, all_carried_out, deeds_of_run, in_effect}
-use Rattle.ssa_model.specs.Headline.{IsAlone}
+use Rattle.ssa_model.specs.Effect.{IsHistory, all_carried_out, in_effect}
+use Rattle.ssa_model.specs.Headline.{IsAlone, KeepsRun}
 use Rattle.ssa_model.specs.Session.{given_commands}
 use Rattle.ssa_json.specs.Readings.{readings}
 use Rattle.ssa_session.specs.BenchLines.{line_reply, bench_after}
@@ -15,20 +15,13 @@ use Rattle.ssa_session.specs.Outcome.{AnswersAll, AnswersWhole, AnswersPartly}
 abbrev pub commands_of : List (List ℕ) → List (List ℕ) → List Command
 commands_of = given_commands readings session_rules
 
--- Each state after the first is a deed, carried out on the state before it: those of the bench before, and the
--- accepted commands. The state at the place is the deeds up to it, carried out on the first state.
-pub record IsCarriedOut (old new : Bench) (before : IsHistory old.timeline) (cs : List Command) : Type 0 where
-  pub first : new.timeline.first ≡ old.timeline.first
-  pub history : IsHistory new.timeline
-  pub deeds : history.deeds ≡ deeds_of_run old before.deeds cs
-  pub state : all_carried_out old.timeline.first (take new.timeline.place history.deeds) ≡ Ok (present new.timeline)
-
 -- The bench is that of the run of the commands. On a bench of one state, as a new one is, the state at the place is
--- the commands in effect, carried out on that state.
+-- the commands in effect, carried out on that state. On a bench whose states are made by deeds, each state is a deed
+-- carried out on the one before it: those of before, and the accepted commands'.
 pub record IsRunOf (old new : Bench) (cs : List Command) : Type 0 where
   pub run_is : new ≡ (run old cs).1
   pub in_effect : IsAlone old.timeline → all_carried_out old.timeline.first (in_effect old cs) ≡ Ok (present new.timeline)
-  pub carried_out : (before : IsHistory old.timeline) → IsCarriedOut old new before cs
+  pub history : (before : IsHistory old.timeline) → KeepsRun old before.deeds cs
 
 module _ (left left_after written written_after : Option (List ℕ)) (old new : Bench) where
   -- every line that was read was answered, and the bench is that of its commands

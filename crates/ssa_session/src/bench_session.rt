@@ -8,6 +8,7 @@ use crate::engine::SessionFault;
 use ssa_bench::bench::Bench;
 use ssa_json::sink::Sink;
 use ssa_json::source::Source;
+use ssa_model::headline_holds;
 use std::alloc::Global;
 
 /// Answers each line of the input by what the bench answers, and writes the replies, each ended by a line feed.
@@ -35,5 +36,6 @@ pub fn session<R: Source, W: Sink>(
         (W.contents writer.old) (W.contents writer.new) bench.old bench.new }
     ensures writer_failed { result ≡ Err SessionFault.Writer → W.has_failed writer.new ≡ true }
 {
+    headline_holds();
     engine::session(alloc, reader, writer, bench)
 }
