@@ -1,13 +1,13 @@
 -- Answers keep a history of commands carried out, and the present state is what they make.
-use Rattle.std.proofs.Common.{◌≡◌, ℕ, suc, zero, ◌+◌, ◌-◌, ◌≤◌, ◌==◌, List, [], ◌∷◌, ◌++◌, length, take, Bool, true, false, not, refl, ap, ◌∙◌, arith, length-append, length-take, nat_le, inl, inr}
+use Rattle.std.proofs.Common.{◌≡◌, ℕ, suc, zero, ◌+◌, ◌-◌, ◌≤◌, ◌==◌, List, [], ◌∷◌, ◌++◌, length, take, Bool, true, false, not, refl, ap, ◌∙◌, arith, length-append, length-take, nat_le, sym}
 use Rattle.std.proofs.lemmas.Bool.Decides.{nat_tests}
-use Rattle.std.specs.Prelude.{Result, Ok, Err, if◌then◌else◌, codes, Some, option_map}
+use Rattle.std.specs.Prelude.{Result, Ok, Err, if◌then◌else◌, codes, None, Some, option_map}
 use Rattle.ssa_model.specs.Json.{Text, Json}
 use Rattle.ssa_model.specs.Body.{Body}
 use Rattle.ssa_model.specs.Operations.{State, Refusal}
-use Rattle.ssa_model.specs.History.{Step, Bench, present, past_len, future_len, last_state, moved_to, is_manager_name}
-use Rattle.ssa_model.specs.Answers.{Answer, Fault, fault, Command, apply, update, strip, undo, redo, show, owners, log, answer, accept, accept_or_refuse, with_body, apply_answer, command_body}
-use Rattle.ssa_model.specs.Effect.{body_in, deed_of, Deed, applying, updating, stripping, label_of, carried_out, and_then, all_carried_out, AreSteps, IsHistory, KeepsHistory, PresentIsCarriedOut, HistoriesAreCarriedOut}
+use Rattle.ssa_model.specs.History.{Step, Bench, present, past_len, future_len, last_state, moved_to, with_timeline, is_manager_name}
+use Rattle.ssa_model.specs.Answers.{Answer, Reply, moved, shown, owned_by, logged, refused, history_full, manager_name, nothing_to_undo, nothing_to_redo, Fault, fault, Command, apply, update, strip, undo, redo, show, owners, log, answer, accept, accept_or_refuse, with_body, apply_answer, command_body}
+use Rattle.ssa_model.specs.Effect.{is_accepted, body_in, deed_of, Deed, applying, updating, stripping, label_of, carried_out, and_then, all_carried_out, AreSteps, IsHistory, KeepsHistory, PresentIsCarriedOut, HistoriesAreCarriedOut}
 
 steps-take : (n : ℕ) (s : State) (ds : List Deed) (ts : List Step) → AreSteps s ds ts → AreSteps s (take n ds) (take n ts)
 steps-take zero s ds ts h = tt
@@ -37,10 +37,13 @@ longer n ts t h = grind (arith, length-append (take n ts) (t ∷ []), length-tak
 
 module _ (bench : Bench) (h : IsHistory bench.timeline) where
   abbrev Keeps : Command → Answer → Type 0
-  Keeps c a = KeepsHistory bench c h a.1.timeline
+  Keeps c a = KeepsHistory bench c h a
 
-  same : (c : Command) → KeepsHistory bench c h bench.timeline
-  same c = record { first = refl; history = h; deeds = inl refl }
+  same : (c : Command) (reply : Reply) → is_accepted reply ≡ false → Keeps c (reply, bench)
+  same c reply refused_is = record { first = refl; history = h; deeds = ap (λ b. deeds_by c b) (sym refused_is) }
+    where
+      deeds_by : Command → Bool → List Deed
+      deeds_by c b = if b then elim (deed_of bench c) [ None ↦ h.deeds | Some d ↦ take bench.timeline.place h.deeds ++ d ∷ [] ] else h.deeds
 
   accepted : (c : Command) (word : Text) (d : Deed) (s : State) → deed_of bench c ≡ Some d → carried_out (present bench.timeline) d ≡ Ok s → Keeps c (accept bench word (label_of d) s)
   accepted c word d s own e =
@@ -53,12 +56,12 @@ module _ (bench : Bench) (h : IsHistory bench.timeline) where
           steps = steps-push t.first (take t.place h.deeds) (take t.place t.later) d step (steps-take t.place t.first h.deeds t.later h.steps) refl e;
           place = longer t.place t.later step h.place;
         };
-        deeds = inr (d, own, refl);
+        deeds = ap (λ o. elim o [ None ↦ h.deeds | Some e ↦ take t.place h.deeds ++ e ∷ [] ]) (sym own);
       }
 
   given : (c : Command) (word : Text) (d : Deed) (r : Result State Refusal) → deed_of bench c ≡ Some d → carried_out (present bench.timeline) d ≡ r → Keeps c (accept_or_refuse bench word (label_of d) r)
   given c word d (Ok s) own e = accepted c word d s own e
-  given c word d (Err r) own e = same c
+  given c word d (Err r) own e = same c (fault (refused r)) refl
 
   one_of : (c : Command) (b : Bool) (x y : Answer) → Keeps c x → Keeps c y → Keeps c (if b then x else y)
   one_of c true x y p q = p
@@ -66,15 +69,15 @@ module _ (bench : Bench) (h : IsHistory bench.timeline) where
 
   of_body : (c : Command) (r : Result Body Fault) (go : Body → Answer) → ((body : Body) → r ≡ Ok body → Keeps c (go body)) → Keeps c (elim r [ Ok body ↦ go body | Err f ↦ (fault f, bench) ])
   of_body c (Ok body) go p = p body refl
-  of_body c (Err f) go p = same c
+  of_body c (Err f) go p = same c (fault f) refl
 
   with_body-keeps : (c : Command) (who : Text) (v : Json) (go : Body → Answer) → ((body : Body) → command_body bench v ≡ Ok body → Keeps c (go body)) → Keeps c (with_body bench who v go)
   with_body-keeps c who v go p =
-      one_of c (nat_le 1000 (past_len bench.timeline)) _ _ (same c)
-      (one_of c (not (is_manager_name who)) _ _ (same c) (of_body c (command_body bench v) go p))
+      one_of c (nat_le 1000 (past_len bench.timeline)) _ _ (same c (fault history_full) refl)
+      (one_of c (not (is_manager_name who)) _ _ (same c (fault manager_name) refl) (of_body c (command_body bench v) go p))
 
-  moved : (c : Command) (n : ℕ) → n ≤ length bench.timeline.later → KeepsHistory bench c h (moved_to bench.timeline n)
-  moved c n fits = record { first = refl; history = record { deeds = h.deeds; steps = h.steps; place = fits }; deeds = inl refl }
+  goes : (c : Command) (word : Text) (past future n : ℕ) → n ≤ length bench.timeline.later → Keeps c (moved word past future, with_timeline bench (moved_to bench.timeline n))
+  goes c word past future n fits = record { first = refl; history = record { deeds = h.deeds; steps = h.steps; place = fits }; deeds = refl }
 
   unless : (c : Command) (b : Bool) (x y : Answer) → Keeps c x → (b ≡ false → Keeps c y) → Keeps c (if b then x else y)
   unless c true x y p q = p
@@ -93,13 +96,13 @@ module _ (bench : Bench) (h : IsHistory bench.timeline) where
   keeps (update who at v) =
       with_body-keeps (update who at v) who v _
       (λ body e. given (update who at v) (codes "update") (updating who at body) _ (ap (λ r. option_map (updating who at) (body_in r)) e) refl)
-  keeps strip = one_of strip (nat_le 1000 (past_len bench.timeline)) _ _ (same strip) (accepted strip (codes "strip") stripping _ refl refl)
-  keeps undo = one_of undo (past_len bench.timeline == 0) _ _ (same undo) (moved undo (bench.timeline.place - 1) (back bench.timeline.place (length bench.timeline.later) h.place))
+  keeps strip = one_of strip (nat_le 1000 (past_len bench.timeline)) _ _ (same strip (fault history_full) refl) (accepted strip (codes "strip") stripping _ refl refl)
+  keeps undo = one_of undo (past_len bench.timeline == 0) _ _ (same undo (fault nothing_to_undo) refl) (goes undo (codes "undo") _ _ (bench.timeline.place - 1) (back bench.timeline.place (length bench.timeline.later) h.place))
   keeps redo =
-      unless redo (future_len bench.timeline == 0) _ _ (same redo) (λ e. moved redo (bench.timeline.place + 1) (forth bench.timeline.place (length bench.timeline.later) e))
-  keeps (show managed) = same (show managed)
-  keeps (owners p) = same (owners p)
-  keeps log = same log
+      unless redo (future_len bench.timeline == 0) _ _ (same redo (fault nothing_to_redo) refl) (λ e. goes redo (codes "redo") _ _ (bench.timeline.place + 1) (forth bench.timeline.place (length bench.timeline.later) e))
+  keeps (show managed) = same (show managed) (shown _) refl
+  keeps (owners p) = same (owners p) (owned_by _) refl
+  keeps log = same log (logged _ _) refl
 
 pub histories_are_carried_out : HistoriesAreCarriedOut
 histories_are_carried_out = (λ bench c old. keeps bench old c, present_is)

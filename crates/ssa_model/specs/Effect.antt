@@ -1,12 +1,12 @@
 -- The commands in effect: each state after the first is its command carried out on the state before it.
-use Rattle.std.specs.Prelude.{◌≡◌, ◌≤◌, List, [], ◌∷◌, Bool, length, take, Result, Ok, Err, ◌++◌, ◌⊎◌, Option, Some, None, option_map}
+use Rattle.std.specs.Prelude.{◌≡◌, ◌≤◌, List, [], ◌∷◌, Bool, true, false, if◌then◌else◌, length, take, Result, Ok, Err, ◌++◌, Option, Some, None, option_map}
 use Rattle.ssa_model.specs.Json.{Text}
 use Rattle.ssa_model.specs.Body.{Body}
 use Rattle.ssa_model.specs.Table.{applies, updates}
 use Rattle.ssa_model.specs.Operations as operations
 use Rattle.ssa_model.specs.Operations.{State, Refusal}
 use Rattle.ssa_model.specs.History.{Label, applied, updated, stripped, Step, Timeline, Bench, present}
-use Rattle.ssa_model.specs.Answers.{Command, apply, update, strip, undo, redo, show, owners, log, Fault, command_body, answer}
+use Rattle.ssa_model.specs.Answers.{Command, apply, update, strip, undo, redo, show, owners, log, Fault, command_body, Reply, changed, moved, shown, owned_by, logged, fault, Answer, answer, run}
 
 -- an accepted command, with the body of its object
 pub data Deed : Type 0 where
@@ -62,16 +62,43 @@ pub record IsHistory (t : Timeline) : Type 0 where
   pub steps : AreSteps t.first deeds t.later
   pub place : t.place ≤ length t.later
 
--- An answer leaves such a history, from the same first state: of the same deeds, or of those up to the place and the command's own.
-pub record KeepsHistory (bench : Bench) (c : Command) (old : IsHistory bench.timeline) (new : Timeline) : Type 0 where
-  pub first : new.first ≡ bench.timeline.first
-  pub history : IsHistory new
-  pub deeds : (history.deeds ≡ old.deeds) ⊎ ((d : Deed) × (deed_of bench c ≡ Some d) × (history.deeds ≡ take bench.timeline.place old.deeds ++ d ∷ []))
+-- the command was accepted, and made a state
+abbrev pub is_accepted : Reply → Bool
+is_accepted (changed word c) = true
+is_accepted (moved word past future) = false
+is_accepted (shown v) = false
+is_accepted (owned_by ks) = false
+is_accepted (logged past future) = false
+is_accepted (fault f) = false
+
+-- the deeds of a bench whose states are made by these, after a command with this reply: an accepted one is put behind those up to the place
+abbrev pub deeds_with : Bench → List Deed → Command → Reply → List Deed
+deeds_with bench ds c reply =
+    if is_accepted reply then elim (deed_of bench c) [ None ↦ ds | Some d ↦ take bench.timeline.place ds ++ d ∷ [] ]
+    else ds
+
+abbrev pub deeds_after : Bench → List Deed → Command → List Deed
+deeds_after bench ds c = deeds_with bench ds c (answer bench c).0
+
+-- the deeds after a list of commands
+abbrev pub deeds_of_run : Bench → List Deed → List Command → List Deed
+deeds_of_run bench ds [] = ds
+deeds_of_run bench ds (c ∷ cs) = deeds_of_run (answer bench c).1 (deeds_after bench ds c) cs
+
+-- The commands in effect after a list of commands on a bench of one state: those accepted and not undone, in order.
+abbrev pub in_effect : Bench → List Command → List Deed
+in_effect bench cs = take (run bench cs).1.timeline.place (deeds_of_run bench [] cs)
+
+-- An answer leaves a history, from the same first state, of the deeds after the command.
+pub record KeepsHistory (bench : Bench) (c : Command) (old : IsHistory bench.timeline) (given : Answer) : Type 0 where
+  pub first : given.1.timeline.first ≡ bench.timeline.first
+  pub history : IsHistory given.1.timeline
+  pub deeds : history.deeds ≡ deeds_with bench old.deeds c given.0
 
 abbrev pub AnswersKeepHistory : Type 0
-AnswersKeepHistory = (bench : Bench) (c : Command) (old : IsHistory bench.timeline) → KeepsHistory bench c old (answer bench c).1.timeline
+AnswersKeepHistory = (bench : Bench) (c : Command) (old : IsHistory bench.timeline) → KeepsHistory bench c old (answer bench c)
 
--- the state at the place is the commands in effect, carried out on the first state
+-- the state at the place is the deeds up to it, carried out on the first state
 abbrev pub PresentIsCarriedOut : Type 0
 PresentIsCarriedOut = (t : Timeline) (h : IsHistory t) → all_carried_out t.first (take t.place h.deeds) ≡ Ok (present t)
 

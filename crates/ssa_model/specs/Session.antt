@@ -1,6 +1,7 @@
 -- The answer to a line of a session: its reply's text, and the bench after it.
-use Rattle.std.specs.Prelude.{List, Bool, true, Some, None, Result, Ok, Err, if◌then◌else◌, codes}
-use Rattle.ssa_model.specs.Json.{Text, Json, compact}
+use Rattle.std.specs.Prelude.{List, [], ◌∷◌, ◌++◌, Bool, true, Some, None, Result, Ok, Err, if◌then◌else◌, nat_lt, length, codes}
+use Rattle.ssa_model.specs.Json.{Text, Json, compact, same_text}
+use Rattle.ssa_model.specs.Limits.{most_line_bytes}
 use Rattle.ssa_model.specs.Path.{Path}
 use Rattle.ssa_model.specs.ElementTexts.{ElementFault, path_of}
 use Rattle.ssa_model.specs.Readings.{ReadFault, Readings}
@@ -24,6 +25,14 @@ line_fault_json (unread f) = read_fault_json f
 line_fault_json bad_moment = fault_json 6 (codes "BadMoment")
 line_fault_json (of_element f) = element_fault_json f
 line_fault_json command_shape = fault_json 66 (codes "CommandShape")
+
+-- the reply to a line over the limit
+abbrev pub too_long_text : Text
+too_long_text = compact (fault_json 4 (codes "TooLong"))
+
+-- the reply to a line for which there was no memory, and which counts as not given
+abbrev pub out_of_memory_text : Text
+out_of_memory_text = compact (fault_json 5 (codes "OutOfMemory"))
 
 -- ---- the answer to a line
 
@@ -60,3 +69,13 @@ module _ (readings : Readings) (rules : List CommandRule) where
 
   abbrev pub line_answer : Bench → Text → Text × Bench
   line_answer bench line = answer_read bench (read_line line)
+
+  -- the command that a line gives, where it is one
+  abbrev pub command_in : Text → List Command
+  command_in line = if nat_lt most_line_bytes (length line) then [] else elim (read_line line) [ Ok c ↦ c ∷ [] | Err f ↦ [] ]
+
+  -- the commands that lines with these replies give, in order: a line that is answered by want of memory gives none
+  abbrev pub given_commands : List Text → List Text → List Command
+  given_commands [] texts = []
+  given_commands (line ∷ lines) [] = []
+  given_commands (line ∷ lines) (text ∷ texts) = (if same_text text out_of_memory_text then [] else command_in line) ++ given_commands lines texts

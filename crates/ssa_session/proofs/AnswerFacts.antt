@@ -1,7 +1,8 @@
 -- Laws of the answers to lines.
 use Rattle.std.proofs.Common.{◌≡◌, ℕ, ◌<◌, List, [], ◌∷◌, ◌++◌, length, inl, inr, refl, lt-ltb}
 use Rattle.ssa_model.specs.Limits.{most_line_bytes}
-use Rattle.ssa_session.specs.Session.{AnswersLine, too_long_text, out_of_memory_text}
+use Rattle.ssa_model.specs.Session.{too_long_text, out_of_memory_text}
+use Rattle.ssa_session.specs.Session.{AnswersLine}
 
 module _ {M : Type 0} (reply : M → List ℕ → List ℕ) (after : M → List ℕ → M) where
   pub AnswersLine-too_long : (m : M) (line : List ℕ) (Writes : List ℕ → Type 0) → most_line_bytes < length line → Writes (too_long_text ++ 10 ∷ []) → AnswersLine reply after m m line Writes

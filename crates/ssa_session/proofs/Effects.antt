@@ -1,69 +1,96 @@
--- Histories are kept by the answers to lines.
-use Rattle.std.proofs.Common.{◌≡◌, List, [], ◌∷◌, ◌⊎◌, inl, inr, Bool, true, false, Result, Ok, Err, refl, sym, ap, ◌∙◌, subst, arith}
+-- The bench after the replies to lines is that of the commands that the lines gave.
+use Rattle.std.proofs.Common.{◌≡◌, ℕ, List, [], ◌∷◌, ◌++◌, ◌⊎◌, inl, inr, Bool, true, false, Option, Result, Ok, Err, refl, sym, ap, ◌∙◌, subst}
 use Rattle.std.specs.Prelude.{OnOk, if◌then◌else◌, nat_lt, length}
-use Rattle.ssa_model.specs.Commands.{session_rules}
-use Rattle.ssa_model.specs.History.{Bench, Timeline}
-use Rattle.ssa_model.specs.Answers.{Command}
-use Rattle.ssa_model.specs.Session.{LineFault, answer_read, read_line}
-use Rattle.ssa_model.specs.Effect.{IsHistory, AreSteps}
-use Rattle.ssa_model.proofs.Effect.{histories_are_carried_out}
-use Rattle.ssa_session.specs.BenchLines.{line_reply, bench_after}
-use Rattle.ssa_json.specs.Readings.{readings}
-use Rattle.ssa_session.specs.Effects.{IsAlone, IsCarriedOut}
-use Rattle.ssa_session.specs.Session.{Replies, IsAnswer, IsRefused}
-use Rattle.ssa_session.specs.declared.engine.SessionFault.{SessionFault}
-use Rattle.ssa_session.specs.declared.engine.SessionFault.TheVariants.{Reader, Writer}
+use Rattle.ssa_model.specs.Json.{same_text}
 use Rattle.ssa_model.specs.Limits.{most_line_bytes}
+use Rattle.ssa_model.specs.Commands.{session_rules}
+use Rattle.ssa_model.specs.History.{Bench}
+use Rattle.ssa_model.specs.Answers.{Command, run}
+use Rattle.ssa_model.specs.Session.{LineFault, answer_read, command_in, given_commands, line_answer, out_of_memory_text, read_line, too_long_text}
+use Rattle.ssa_model.specs.Headline.{AnswersAreTold, RunIsInEffect, RunKeepsHistory, RunsGoOn}
+use Rattle.ssa_json.specs.Readings.{readings}
+use Rattle.ssa_session.specs.BenchLines.{line_reply, bench_after}
+use Rattle.ssa_session.specs.Effects.{IsRunOf, RunsAll, RunsWhole, RunsPartly, commands_of}
+use Rattle.ssa_session.specs.Lines.{lines, whole_lines}
+use Rattle.ssa_session.specs.Outcome.{AnswersAll, AnswersWhole, AnswersPartly}
+use Rattle.ssa_session.specs.Session.{Replies, IsAnswer, IsRefused}
 
--- the new timeline has a history from the same first state
-record Keeps (old new : Timeline) : Type 0 where
-  first : new.first ≡ old.first
-  history : IsHistory new
+abbrev Bytes : Type 0
+Bytes = List ℕ
 
-same : (t : Timeline) → IsHistory t → Keeps t t
-same t h = record { first = refl; history = h }
+-- ---- one line
 
-keeps-read : (bench : Bench) (r : Result Command LineFault) → IsHistory bench.timeline → Keeps bench.timeline (answer_read readings session_rules bench r).1.timeline
-keeps-read bench (Ok c) h = let kept = histories_are_carried_out.0 bench c h in record { first = kept.first; history = kept.history }
-keeps-read bench (Err f) h = same bench.timeline h
+-- the bench after a line that was read
+after-read : (old : Bench) (r : Result Command LineFault) → (answer_read readings session_rules old r).1 ≡ (run old (elim r [ Ok c ↦ c ∷ [] | Err f ↦ [] ])).1
+after-read old (Ok c) = refl
+after-read old (Err f) = refl
 
-keeps-line : (bench : Bench) (line : List Rattle.std.proofs.Common.ℕ) → IsHistory bench.timeline → Keeps bench.timeline (bench_after bench line).timeline
-keeps-line bench line h = keeps-read bench (read_line readings session_rules line) h
+-- the command of a line over the limit, and of another
+command_by : Bool → Bytes → List Command
+command_by long line = if long then [] else elim (read_line readings session_rules line) [ Ok c ↦ c ∷ [] | Err f ↦ [] ]
 
-if-keeps : (b : Bool) (old after : Bench) → IsHistory old.timeline → Keeps old.timeline after.timeline → Keeps old.timeline (if b then old else after).timeline
-if-keeps true old after h k = same old.timeline h
-if-keeps false old after h k = k
+after-line : (long : Bool) (old : Bench) (line : Bytes) → (if long then old else bench_after old line) ≡ (run old (command_by long line)).1
+unfolding command_by
+after-line true old line = refl
+after-line false old line = after-read old (read_line readings session_rules line)
 
-keeps-answer : (old new : Bench) (line text : List Rattle.std.proofs.Common.ℕ) → IsAnswer line_reply bench_after old line text new ⊎ IsRefused line_reply bench_after old line text new
-    → IsHistory old.timeline → Keeps old.timeline new.timeline
-keeps-answer old new line text (inl a) h =
-    subst (λ b. Keeps old.timeline b.timeline) (sym a.1) (if-keeps (nat_lt most_line_bytes (length line)) old (bench_after old line) h (keeps-line old line h))
-keeps-answer old new line text (inr r) h = subst (λ b. Keeps old.timeline b.timeline) (sym r.1) (same old.timeline h)
+told-by : AnswersAreTold → (long : Bool) (old : Bench) (line : Bytes) → same_text (if long then too_long_text else line_reply old line) out_of_memory_text ≡ false
+told-by laws true old line = laws.0
+told-by laws false old line = laws.1 readings session_rules old line
 
-keeps-both : (a b c : Timeline) → Keeps a b → (IsHistory b → Keeps b c) → Keeps a c
-keeps-both a b c k l = let m = l k.history in record { first = m.first ∙ k.first; history = m.history }
+-- the commands of a line with this reply
+abbrev given_by : Bytes → Bytes → List Command
+given_by line text = if same_text text out_of_memory_text then [] else command_in readings session_rules line
 
-keeps-replies : (old new : Bench) (lines texts : List (List Rattle.std.proofs.Common.ℕ)) → Replies line_reply bench_after old lines texts new → IsHistory old.timeline → Keeps old.timeline new.timeline
-keeps-replies old new [] [] r h = subst (λ b. Keeps old.timeline b.timeline) (sym r) (same old.timeline h)
-keeps-replies old new (line ∷ lines) [] r h = absurd r
-keeps-replies old new [] (text ∷ texts) r h = absurd r
-keeps-replies old new (line ∷ lines) (text ∷ texts) r h =
-    keeps-both old.timeline r.0.timeline new.timeline (keeps-answer old r.0 line text r.1 h) (keeps-replies r.0 new lines texts r.2)
+unless-want : (b : Bool) (cs : List Command) → b ≡ false → (if b then [] else cs) ≡ cs
+unless-want true cs h = cc
+unless-want false cs h = refl
 
--- after the replies to some lines, the commands in effect are carried out
-pub replies-carried : (old new : Bench) (lines texts : List (List Rattle.std.proofs.Common.ℕ)) → Replies line_reply bench_after old lines texts new → IsHistory old.timeline → IsCarriedOut old.timeline new.timeline
-replies-carried old new lines texts r h =
-    let kept = keeps-replies old new lines texts r h in
-    record { first = kept.first; history = kept.history; state = histories_are_carried_out.1 new.timeline kept.history }
+if-want : (b : Bool) (cs : List Command) → b ≡ true → (if b then [] else cs) ≡ []
+if-want true cs h = refl
+if-want false cs h = cc
 
--- one state is a history
-pub alone-history : (t : Timeline) → IsAlone t → IsHistory t
-alone-history t h =
-    let none : t.place ≡ 0 = h.1 in
-    record { deeds = []; steps = subst (AreSteps t.first []) (sym h.0) tt; place = omega (arith, none) }
+answered : AnswersAreTold → (old new : Bench) (line text : Bytes) → IsAnswer line_reply bench_after old line text new ⊎ IsRefused line_reply bench_after old line text new → new ≡ (run old (given_by line text)).1
+unfolding command_by
+answered laws old new line text (inl a) =
+    let long = nat_lt most_line_bytes (length line) in
+    let told : same_text text out_of_memory_text ≡ false = ap (λ t. same_text t out_of_memory_text) a.0 ∙ told-by laws long old line in
+    a.1 ∙ after-line long old line ∙ ap (λ cs. (run old cs).1) (sym (unless-want (same_text text out_of_memory_text) (command_in readings session_rules line) told))
+answered laws old new line text (inr r) =
+    let told : same_text text out_of_memory_text ≡ true = ap (λ t. same_text t out_of_memory_text) r.0 in
+    r.1 ∙ ap (λ cs. (run old cs).1) (sym (if-want (same_text text out_of_memory_text) (command_in readings session_rules line) told))
 
--- a session ends in one of three ways
-pub by-end : (r : Result (Unit {0}) SessionFault) (A B C X : Type 0) → OnOk r A → (r ≡ Err Reader → B) → (r ≡ Err Writer → C) → (A → X) → (B → X) → (C → X) → X
-by-end (Ok u) A B C X a b c f g h = f a
-by-end (Err Reader) A B C X a b c f g h = g (b refl)
-by-end (Err Writer) A B C X a b c f g h = h (c refl)
+-- ---- all lines
+
+-- the laws of the model that a session's run rests on
+pub record Laws : Type 0 where
+  pub told : AnswersAreTold
+  pub runs : RunsGoOn
+  pub effect : RunIsInEffect
+  pub history : RunKeepsHistory
+
+module _ (laws : Laws) where
+  replies-run : (old new : Bench) (ls ts : List Bytes) → Replies line_reply bench_after old ls ts new → new ≡ (run old (commands_of ls ts)).1
+  replies-run old new [] [] r = r
+  replies-run old new (l ∷ ls) [] r = absurd r
+  replies-run old new [] (t ∷ ts) r = absurd r
+  replies-run old new (l ∷ ls) (t ∷ ts) r =
+      replies-run r.0 new ls ts r.2
+      ∙ ap (λ b. (run b (commands_of ls ts)).1) (answered laws.told old r.0 l t r.1)
+      ∙ ap (λ a. a.1) (sym (laws.runs old (given_by l t) (commands_of ls ts)))
+
+  replies-are_run : (old new : Bench) (ls ts : List Bytes) → Replies line_reply bench_after old ls ts new → IsRunOf old new (commands_of ls ts)
+  replies-are_run old new ls ts r =
+      let cs = commands_of ls ts in
+      let is_run : Bench → Type 0 = λ b. IsRunOf old b cs in
+      subst is_run (sym (replies-run old new ls ts r)) (record { run_is = refl; in_effect = laws.effect old cs; history = laws.history old cs })
+
+  module _ (left left_after written written_after : Option (List ℕ)) (old new : Bench) where
+    pub runs-all : AnswersAll line_reply bench_after left left_after written written_after old new → RunsAll left left_after written written_after old new
+    runs-all a = record { answers = a; runs = replies-are_run old new (lines a.input) a.texts a.replies }
+
+    pub runs-whole : AnswersWhole line_reply bench_after left left_after written written_after old new → RunsWhole left left_after written written_after old new
+    runs-whole a = record { answers = a; runs = replies-are_run old new (whole_lines a.input) a.texts a.replies }
+
+    pub runs-partly : AnswersPartly line_reply bench_after left left_after written written_after old new → RunsPartly left left_after written written_after old new
+    runs-partly a = record { answers = a; runs = replies-are_run old new (lines a.input) (a.texts ++ a.last ∷ []) a.replies }

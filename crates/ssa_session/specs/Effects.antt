@@ -1,15 +1,40 @@
--- What stands in a bench after a session: the commands in effect, carried out on the first state.
-use Rattle.std.specs.Prelude.{◌≡◌, [], take, Ok}
-use Rattle.ssa_model.specs.History.{Timeline, present}
-use Rattle.ssa_model.specs.Effect.{IsHistory, all_carried_out}
+-- What stands in a bench after a session: the commands that its lines gave, carried out one after the other.
+use Rattle.std.specs.Prelude.{◌≡◌, ℕ, List, ◌∷◌, [], ◌++◌, Option, Ok}
+use Rattle.ssa_model.specs.History.{Bench, present}
+use Rattle.ssa_model.specs.Answers.{Command, run}
+use Rattle.ssa_model.specs.Commands.{session_rules}
+use Rattle.ssa_model.specs.Effect.{IsHistory, all_carried_out, in_effect}
+use Rattle.ssa_model.specs.Headline.{IsAlone, KeepsRun}
+use Rattle.ssa_model.specs.Session.{given_commands}
+use Rattle.ssa_json.specs.Readings.{readings}
+use Rattle.ssa_session.specs.BenchLines.{line_reply, bench_after}
+use Rattle.ssa_session.specs.Lines.{lines, whole_lines}
+use Rattle.ssa_session.specs.Outcome.{AnswersAll, AnswersWhole, AnswersPartly}
 
--- The first state is the old one's. Each state after it is an accepted command, carried out on the state before,
--- and the state at the place is those up to it, carried out one after the other.
-pub record IsCarriedOut (old new : Timeline) : Type 0 where
-  pub first : new.first ≡ old.first
-  pub history : IsHistory new
-  pub state : all_carried_out new.first (take new.place history.deeds) ≡ Ok (present new)
+-- the commands that lines gave, by the replies to them
+abbrev pub commands_of : List (List ℕ) → List (List ℕ) → List Command
+commands_of = given_commands readings session_rules
 
--- the timeline has one state
-abbrev pub IsAlone : Timeline → Type 0
-IsAlone t = (t.later ≡ []) × (t.place ≡ 0)
+-- The bench is that of the run of the commands. On a bench of one state, as a new one is, the state at the place is
+-- the commands in effect, carried out on that state. On a bench whose states are made by deeds, each state is a deed
+-- carried out on the one before it: those of before, and the accepted commands'.
+pub record IsRunOf (old new : Bench) (cs : List Command) : Type 0 where
+  pub run_is : new ≡ (run old cs).1
+  pub in_effect : IsAlone old.timeline → all_carried_out old.timeline.first (in_effect old cs) ≡ Ok (present new.timeline)
+  pub history : (before : IsHistory old.timeline) → KeepsRun old before.deeds cs
+
+module _ (left left_after written written_after : Option (List ℕ)) (old new : Bench) where
+  -- every line that was read was answered, and the bench is that of its commands
+  pub record RunsAll : Type 0 where
+    pub answers : AnswersAll line_reply bench_after left left_after written written_after old new
+    pub runs : IsRunOf old new (commands_of (lines answers.input) answers.texts)
+
+  -- the same of every whole line
+  pub record RunsWhole : Type 0 where
+    pub answers : AnswersWhole line_reply bench_after left left_after written written_after old new
+    pub runs : IsRunOf old new (commands_of (whole_lines answers.input) answers.texts)
+
+  -- the same where of the last reply only a beginning was written
+  pub record RunsPartly : Type 0 where
+    pub answers : AnswersPartly line_reply bench_after left left_after written written_after old new
+    pub runs : IsRunOf old new (commands_of (lines answers.input) (answers.texts ++ answers.last ∷ []))

@@ -3,27 +3,26 @@ use Rattle.std.specs.Prelude.{◌≡◌, ℕ, List, [], ◌∷◌, ◌++◌, Opt
 use Rattle.std.specs.Io.KnownBytes.{Appends}
 use Rattle.ssa_model.specs.History.{Bench}
 use Rattle.ssa_model.specs.Files.{FileFault, file_fault_text}
+use Rattle.ssa_model.specs.Headline.{IsAlone}
+use Rattle.ssa_model.specs.Session.{out_of_memory_text}
 use Rattle.ssa_json.specs.Devices.{AppendsPart}
 use Rattle.ssa_json.specs.declared.source.DeviceFault.{DeviceFault}
 use Rattle.ssa_session.specs.Files.{IsTold}
 use Rattle.ssa_session.specs.declared.files.FileFault as files
-use Rattle.ssa_session.specs.BenchLines.{line_reply, bench_after}
-use Rattle.ssa_session.specs.Effects.{IsCarriedOut}
+use Rattle.ssa_session.specs.Effects.{RunsAll, RunsWhole, RunsPartly}
 use Rattle.ssa_session.specs.Lines.{line_feed}
-use Rattle.ssa_session.specs.Outcome.{AnswersAll, AnswersWhole, AnswersPartly}
-use Rattle.ssa_session.specs.Session.{out_of_memory_text}
 use Rattle.ssa_session.specs.declared.engine.SessionFault.{SessionFault}
 use Rattle.ssa_session.specs.declared.engine.SessionFault.TheVariants.{Reader, Writer}
 use Rattle.ssa_session.specs.declared.files.Ending.{Ending}
 use Rattle.ssa_session.specs.declared.files.Ending.TheVariants.{Done, Refused, OutOfMemory}
 
--- the file makes a bench, on which such a session was held; the commands in effect were carried out on its state
+-- the file makes a bench, of one state, on which such a session was held
 pub record IsSessionOn (made : Result Bench FileFault) (Answered : Bench → Bench → Type 0) : Type 0 where
   pub bench : Bench
   pub is_made : made ≡ Ok bench
+  pub is_new : IsAlone bench.timeline
   pub after : Bench
   pub answered : Answered bench after
-  pub effect : IsCarriedOut bench.timeline after.timeline
 
 -- the file is refused, and so much is written of the line that tells its fault
 pub record IsRefusal (made : Result Bench FileFault) (Writes : List ℕ → Type 0) : Type 0 where
@@ -37,12 +36,12 @@ TellsWant Writes = Writes (out_of_memory_text ++ line_feed ∷ [])
 
 module _ (made : Result Bench FileFault) (left left_after written written_after : Option (List ℕ)) where
   abbrev pub IsHeld : Result Ending SessionFault → Type 0
-  IsHeld (Ok Done) = IsSessionOn made (λ old new. AnswersAll line_reply bench_after left left_after written written_after old new)
+  IsHeld (Ok Done) = IsSessionOn made (RunsAll left left_after written written_after)
   IsHeld (Ok Refused) = IsRefusal made (Appends written written_after)
   IsHeld (Ok OutOfMemory) = TellsWant (Appends written written_after)
-  IsHeld (Err Reader) = IsSessionOn made (λ old new. AnswersWhole line_reply bench_after left left_after written written_after old new)
+  IsHeld (Err Reader) = IsSessionOn made (RunsWhole left left_after written written_after)
   IsHeld (Err Writer) =
-      IsSessionOn made (λ old new. AnswersPartly line_reply bench_after left left_after written written_after old new)
+      IsSessionOn made (RunsPartly left left_after written written_after)
       ⊎ (IsRefusal made (AppendsPart written written_after) ⊎ TellsWant (AppendsPart written written_after))
 
 -- What telling a fault writes: its line, where it refuses, or the line of want of memory; where the device fails, a beginning of one of them.

@@ -8,14 +8,13 @@ use Rattle.ssa_model.specs.Operations.{conflict}
 use Rattle.ssa_model.specs.GivenEntries as entries
 use Rattle.ssa_model.specs.Readings.{not_json, null_value, number_outside}
 use Rattle.ssa_model.specs.Replies.{list_json, clash_json, entry_fault_json, refusal_json, with_fault}
-use Rattle.ssa_model.specs.Session.{unread, bad_moment, command_shape, of_element, line_fault_json}
+use Rattle.ssa_model.specs.Session.{unread, bad_moment, command_shape, of_element, line_fault_json, out_of_memory_text}
 use Rattle.ssa_model.specs.ElementTexts.{bad_element, index_element, not_canonical}
 use Rattle.ssa_schema.specs.Finds.{Told}
 use Rattle.ssa_merge.specs.Managers.{clashes_view}
 use Rattle.ssa_merge.specs.declared.manager.ManagerKey.{ManagerKey}
 use Rattle.ssa_merge.specs.declared.entry_fault.EntryFault.{EntryFault}
 use Rattle.ssa_merge.specs.declared.entry_fault.EntryFault.TheVariants as fault
-use Rattle.ssa_session.specs.Session.{out_of_memory_text}
 use Rattle.ssa_session.specs.declared.read_command.LineFault.{LineFault}
 use Rattle.ssa_session.specs.declared.read_command.LineFault.TheVariants.{NotJson, NullValue, NumberOutside, BadMoment, CommandShape, BadElement, IndexElement, NotCanonical, OutOfMemory}
 

@@ -1,16 +1,7 @@
 -- What a session answers: a reply for each line, in order, each ended by a line feed.
-use Rattle.std.specs.Prelude.{◌≡◌, ℕ, List, [], ◌∷◌, ◌++◌, length, codes, nat_lt, if◌then◌else◌, ◌⊎◌}
-use Rattle.ssa_model.specs.Json.{compact}
-use Rattle.ssa_model.specs.Replies.{fault_json}
+use Rattle.std.specs.Prelude.{◌≡◌, ℕ, List, [], ◌∷◌, ◌++◌, length, nat_lt, if◌then◌else◌, ◌⊎◌}
+use Rattle.ssa_model.specs.Session.{out_of_memory_text, too_long_text}
 use Rattle.ssa_model.specs.Limits.{most_line_bytes}
-
--- the reply to a line over the limit
-abbrev pub too_long_text : List ℕ
-too_long_text = compact (fault_json 4 (codes "TooLong"))
-
--- the reply where a growth was refused
-abbrev pub out_of_memory_text : List ℕ
-out_of_memory_text = compact (fault_json 5 (codes "OutOfMemory"))
 
 -- A machine of type M, which answers reply m line and goes on as after m line.
 module _ {M : Type 0} (reply : M → List ℕ → List ℕ) (after : M → List ℕ → M) where

@@ -1,16 +1,14 @@
 //! A session on a bench.
 ghost use Rattle.std.specs.Prelude.{◌≡◌, true, OnOk, OnSome, Err};
 ghost use Rattle.std.specs.Io.KnownBytes.{IsAtEnd};
-ghost use Rattle.ssa_session.specs.Outcome.{AnswersAll, AnswersWhole, AnswersPartly};
-ghost use Rattle.ssa_session.specs.BenchLines.{line_reply, bench_after};
-ghost use Rattle.ssa_session.specs.Effects.{IsAlone, IsCarriedOut};
-ghost use Rattle.ssa_model.specs.Effect.{IsHistory};
+ghost use Rattle.ssa_session.specs.Effects.{RunsAll, RunsWhole, RunsPartly};
 
 use crate::engine;
 use crate::engine::SessionFault;
 use ssa_bench::bench::Bench;
 use ssa_json::sink::Sink;
 use ssa_json::source::Source;
+use ssa_model::headline_holds;
 use std::alloc::Global;
 
 /// Answers each line of the input by what the bench answers, and writes the replies, each ended by a line feed.
@@ -21,26 +19,23 @@ pub fn session<R: Source, W: Sink>(
     writer: &mut W,
     bench: &mut Bench,
 ) -> Result<(), SessionFault>
-    // All lines that were read are answered, and the input has ended.
-    ensures ok { OnOk result (AnswersAll line_reply bench_after (R.remaining reader.old) (R.remaining reader.new)
+    // All lines that were read are answered, and the input has ended. The bench is that of the commands
+    // that the lines gave.
+    ensures ok { OnOk result (RunsAll (R.remaining reader.old) (R.remaining reader.new)
         (W.contents writer.old) (W.contents writer.new) bench.old bench.new) }
     ensures at_end { OnOk result (OnSome (R.remaining reader.old) (IsAtEnd (R.remaining reader.new))) }
     ensures met_end { OnOk result (R.has_met_end reader.new ≡ true) }
 
-    // The reader failed: the whole lines that were read are answered.
-    ensures reader { result ≡ Err SessionFault.Reader → AnswersWhole line_reply bench_after (R.remaining reader.old) (R.remaining reader.new)
+    // The reader failed: the same of the whole lines that were read.
+    ensures reader { result ≡ Err SessionFault.Reader → RunsWhole (R.remaining reader.old) (R.remaining reader.new)
         (W.contents writer.old) (W.contents writer.new) bench.old bench.new }
     ensures reader_failed { result ≡ Err SessionFault.Reader → R.has_failed reader.new ≡ true }
 
-    // The writer failed: of the last reply a beginning is written.
-    ensures writer { result ≡ Err SessionFault.Writer → AnswersPartly line_reply bench_after (R.remaining reader.old) (R.remaining reader.new)
+    // The writer failed: the same, and of the last reply a beginning is written.
+    ensures writer { result ≡ Err SessionFault.Writer → RunsPartly (R.remaining reader.old) (R.remaining reader.new)
         (W.contents writer.old) (W.contents writer.new) bench.old bench.new }
     ensures writer_failed { result ≡ Err SessionFault.Writer → W.has_failed writer.new ≡ true }
-
-    // However it ends, the state at the place is the commands in effect, carried out on the first state:
-    // of a bench of one state, as a new one is, and of one with such a history.
-    ensures effect_on_new { IsAlone bench.old.timeline → IsCarriedOut bench.old.timeline bench.new.timeline }
-    ensures effect { IsHistory bench.old.timeline → IsCarriedOut bench.old.timeline bench.new.timeline }
 {
+    headline_holds();
     engine::session(alloc, reader, writer, bench)
 }

@@ -1,12 +1,14 @@
-use Rattle.ssa_session.proofs.Effects.{alone-history, by-end, replies-carried}
+use Rattle.std.proofs.lemmas.Result.{on_ok_weaker}
+use Rattle.ssa_session.proofs.Effects.{Laws, runs-all, runs-whole, runs-partly}
 use Rattle.ssa_session.proofs.bench_session.session.Goals as goal
 
-pub returns-clause-effect : goal.returns-clause-effect
-returns-clause-effect g c =
-    let old = c.args.bench.now in
-    let new = c.session.new.machine in
-    λ h. by-end c.session.result _ _ _ _ c.session.ensures.ok c.session.ensures.reader c.session.ensures.writer
-    (λ ends. replies-carried old new _ _ ends.replies h) (λ breaks. replies-carried old new _ _ breaks.replies h) (λ stops. replies-carried old new _ _ stops.replies h)
+pub returns-clause-ok : goal.returns-clause-ok
+returns-clause-ok g c = on_ok_weaker c.session.result (runs-all (record { told = c.headline_holds.ensures.told; runs = c.headline_holds.ensures.runs; effect = c.headline_holds.ensures.effect; history = c.headline_holds.ensures.history }) _ _ _ _ c.args.bench.now c.session.new.machine) c.session.ensures.ok
 
-pub returns-clause-effect_on_new : goal.returns-clause-effect_on_new
-returns-clause-effect_on_new g c = λ alone. returns-clause-effect g c (alone-history c.args.bench.now.timeline alone)
+pub returns-clause-reader : goal.returns-clause-reader
+returns-clause-reader g c =
+    λ h. runs-whole (record { told = c.headline_holds.ensures.told; runs = c.headline_holds.ensures.runs; effect = c.headline_holds.ensures.effect; history = c.headline_holds.ensures.history }) _ _ _ _ c.args.bench.now c.session.new.machine (c.session.ensures.reader h)
+
+pub returns-clause-writer : goal.returns-clause-writer
+returns-clause-writer g c =
+    λ h. runs-partly (record { told = c.headline_holds.ensures.told; runs = c.headline_holds.ensures.runs; effect = c.headline_holds.ensures.effect; history = c.headline_holds.ensures.history }) _ _ _ _ c.args.bench.now c.session.new.machine (c.session.ensures.writer h)

@@ -1,0 +1,273 @@
+-- The headline's laws, from the answer to one command to lists of them.
+use Rattle.std.proofs.Common.{◌≡◌, ◌⊎◌, inl, inr, ℕ, ◌+◌, ◌-◌, ◌<◌, ◌≤◌, ◌==◌, List, [], ◌∷◌, ◌++◌, length, take, Bool, true, false, not, ◌||◌, refl, sym, ap, subst, ◌∙◌, arith, nat_le, nat_lt}
+use Rattle.std.proofs.lemmas.Bool.Decides.{nat_tests}
+use Rattle.std.specs.Prelude.{Result, Ok, Err, if◌then◌else◌, codes}
+use Rattle.ssa_model.specs.Json.{Text, Json, object, list, scalar}
+use Rattle.ssa_model.specs.Path.{Path}
+use Rattle.ssa_model.specs.Kind.{BodyFault, faults}
+use Rattle.ssa_model.specs.Objects.{body_value}
+use Rattle.ssa_model.specs.Body.{Body, flat, modified}
+use Rattle.ssa_model.specs.PathMap.{PathSet, size}
+use Rattle.ssa_model.specs.Table.{applies, ManagerKey}
+use Rattle.ssa_model.specs.Operations as operations
+use Rattle.ssa_model.specs.Operations.{State, Refusal, clashes, conflict, too_many_paths, pruned, if_seated, is_none}
+use Rattle.ssa_model.specs.History.{Label, stripped, Bench, Timeline, past_len, future_len, present, appended, moved_to, with_timeline, is_manager_name}
+use Rattle.ssa_model.specs.Answers.{Answer, Command, Fault, apply, update, strip, undo, redo, show, owners, log, fault, moved, refused, body_fault, identity_fault, managed_fields_given, nothing_to_undo, nothing_to_redo, history_full, manager_name, answer, accept, accept_or_refuse, with_body, apply_answer, command_body, run}
+use Rattle.ssa_model.specs.Effect.{all_carried_out, deeds_of_run, is_accepted, Deed, AreSteps, IsHistory}
+use Rattle.ssa_model.specs.Headline.{IsAlone, RunsGoOn, RunIsInEffect, RunKeepsHistory, IsRestored, UndoRestoresAll, RedoRestoresAll, RefusalsChangeNothing, IsConflictOf, ConflictsListClashes}
+use Rattle.ssa_model.proofs.Effect.{histories_are_carried_out}
+use Rattle.ssa_model.proofs.Tables.{undo_restores, take_first}
+
+-- ---- lists of commands
+
+pub runs_go_on : RunsGoOn
+runs_go_on bench [] ds = refl
+runs_go_on bench (c ∷ cs) ds = ap (λ r. ((answer bench c).0 ∷ r.0, r.1)) (runs_go_on (answer bench c).1 cs ds)
+
+abbrev FromRun : Bench → List Deed → List Command → Type 0
+FromRun bench before cs = (history : IsHistory (run bench cs).1.timeline) × ((run bench cs).1.timeline.first ≡ bench.timeline.first) × (history.deeds ≡ deeds_of_run bench before cs)
+
+from-run : (bench : Bench) (cs : List Command) (h : IsHistory bench.timeline) → FromRun bench h.deeds cs
+from-run bench [] h = (h, refl, refl)
+from-run bench (c ∷ cs) h =
+    let kept = histories_are_carried_out.0 bench c h in
+    let rest = from-run (answer bench c).1 cs kept.history in
+    (rest.0, rest.1 ∙ kept.first, rest.2 ∙ ap (λ ds. deeds_of_run (answer bench c).1 ds cs) kept.deeds)
+
+pub run_keeps_history : RunKeepsHistory
+run_keeps_history bench cs before =
+    let made = from-run bench cs before in
+    let last = (run bench cs).1.timeline in
+    record {
+      first = made.1;
+      history = made.0;
+      deeds = made.2;
+      state = ap (λ s. all_carried_out s (take last.place made.0.deeds)) (sym made.1) ∙ histories_are_carried_out.1 last made.0;
+    }
+
+abbrev alone-history : (t : Timeline) → IsAlone t → IsHistory t
+alone-history t h =
+    let none : t.place ≡ 0 = h.1 in
+    record { deeds = []; steps = subst (AreSteps t.first []) (sym h.0) tt; place = omega (arith, none) }
+
+pub run_is_in_effect : RunIsInEffect
+run_is_in_effect bench cs alone =
+    let kept = run_keeps_history bench cs (alone-history bench.timeline alone) in
+    let last = (run bench cs).1.timeline in
+    ap (λ ds. all_carried_out bench.timeline.first (take last.place ds)) (sym kept.deeds) ∙ kept.state
+
+-- ---- what holds of an answer, by the tests that it goes through
+
+-- a fault of the tests before a command is carried out
+abbrev IsTested : Bench → Json → Fault → Type 0
+IsTested bench v f = (f ≡ history_full) ⊎ ((f ≡ manager_name) ⊎ (command_body bench v ≡ Err f))
+
+module _ (bench : Bench) (P : Answer → Type 0) where
+  one_of : (b : Bool) (x y : Answer) → P x → P y → P (if b then x else y)
+  one_of true x y p q = p
+  one_of false x y p q = q
+
+  of_body : (r : Result Body Fault) (go : Body → Answer) → ((f : Fault) → r ≡ Err f → P (fault f, bench)) → ((body : Body) → r ≡ Ok body → P (go body)) → P (elim r [ Ok body ↦ go body | Err f ↦ (fault f, bench) ])
+  of_body (Ok body) go p q = q body refl
+  of_body (Err f) go p q = p f refl
+
+  -- a command of an object: refused by a test, or answered with the object's body
+  by_body : (who : Text) (v : Json) (go : Body → Answer) → ((f : Fault) → IsTested bench v f → P (fault f, bench)) → ((body : Body) → command_body bench v ≡ Ok body → P (go body)) → P (with_body bench who v go)
+  by_body who v go p q =
+      one_of (nat_le 1000 (past_len bench.timeline)) _ _ (p history_full (inl refl))
+      (one_of (not (is_manager_name who)) _ _ (p manager_name (inr (inl refl))) (of_body (command_body bench v) go (λ f e. p f (inr (inr e))) q))
+
+  by_result : (word : Text) (label : Label) (r : Result State Refusal) → ((s : State) → P (accept bench word label s)) → ((f : Refusal) → r ≡ Err f → P (fault (refused f), bench)) → P (accept_or_refuse bench word label r)
+  by_result word label (Ok s) p q = p s
+  by_result word label (Err f) p q = q f refl
+
+-- ---- refusals
+
+module _ (bench : Bench) where
+  abbrev Leaves : Answer → Type 0
+  Leaves a = (f : Fault) → a.0 ≡ fault f → a.1 ≡ bench
+
+  leaves-refused : (f : Fault) → Leaves (fault f, bench)
+  leaves-refused f g h = refl
+
+  leaves-accepted : (word : Text) (label : Label) (s : State) → Leaves (accept bench word label s)
+  leaves-accepted word label s g h = cc
+
+  leaves-moved : (word : Text) (past future n : ℕ) → Leaves (moved word past future, with_timeline bench (moved_to bench.timeline n))
+  leaves-moved word past future n g h = cc
+
+  leaves-made : (word : Text) (label : Label) (r : Result State Refusal) → Leaves (accept_or_refuse bench word label r)
+  leaves-made word label r = by_result bench Leaves word label r (leaves-accepted word label) (λ f _. leaves-refused (refused f))
+
+  leaves : (c : Command) → Leaves (answer bench c)
+  leaves (apply who force at v) = by_body bench Leaves who v _ (λ f _. leaves-refused f) (λ body _. leaves-made _ _ _)
+  leaves (update who at v) = by_body bench Leaves who v _ (λ f _. leaves-refused f) (λ body _. leaves-made _ _ _)
+  leaves strip = one_of bench Leaves (nat_le 1000 (past_len bench.timeline)) _ _ (leaves-refused history_full) (leaves-accepted (codes "strip") stripped (operations.strip (present bench.timeline)))
+  leaves undo = one_of bench Leaves (past_len bench.timeline == 0) _ _ (leaves-refused nothing_to_undo) (leaves-moved (codes "undo") (past_len bench.timeline - 1) (future_len bench.timeline + 1) (bench.timeline.place - 1))
+  leaves redo = one_of bench Leaves (future_len bench.timeline == 0) _ _ (leaves-refused nothing_to_redo) (leaves-moved (codes "redo") (past_len bench.timeline + 1) (future_len bench.timeline - 1) (bench.timeline.place + 1))
+  leaves (show managed) = λ f h. refl
+  leaves (owners p) = λ f h. refl
+  leaves log = λ f h. refl
+
+pub refusals_change_nothing : RefusalsChangeNothing
+refusals_change_nothing bench c = leaves bench c
+
+-- ---- undo
+
+module _ (bench : Bench) where
+  -- an accepted command puts its state behind the present one
+  abbrev Appends : Answer → Type 0
+  Appends a = is_accepted a.0 ≡ true → (label : Label) × (s : State) × (a.1 ≡ with_timeline bench (appended bench.timeline label s))
+
+  appends-refused : (f : Fault) → Appends (fault f, bench)
+  appends-refused f h = cc
+
+  appends-accepted : (word : Text) (label : Label) (s : State) → Appends (accept bench word label s)
+  appends-accepted word label s h = (label, s, refl)
+
+  appends-moved : (word : Text) (past future n : ℕ) → Appends (moved word past future, with_timeline bench (moved_to bench.timeline n))
+  appends-moved word past future n h = cc
+
+  appends-made : (word : Text) (label : Label) (r : Result State Refusal) → Appends (accept_or_refuse bench word label r)
+  appends-made word label r = by_result bench Appends word label r (appends-accepted word label) (λ f _. appends-refused (refused f))
+
+  appends : (c : Command) → Appends (answer bench c)
+  appends (apply who force at v) = by_body bench Appends who v _ (λ f _. appends-refused f) (λ body _. appends-made _ _ _)
+  appends (update who at v) = by_body bench Appends who v _ (λ f _. appends-refused f) (λ body _. appends-made _ _ _)
+  appends strip = one_of bench Appends (nat_le 1000 (past_len bench.timeline)) _ _ (appends-refused history_full) (appends-accepted (codes "strip") stripped (operations.strip (present bench.timeline)))
+  appends undo = one_of bench Appends (past_len bench.timeline == 0) _ _ (appends-refused nothing_to_undo) (appends-moved (codes "undo") (past_len bench.timeline - 1) (future_len bench.timeline + 1) (bench.timeline.place - 1))
+  appends redo = one_of bench Appends (future_len bench.timeline == 0) _ _ (appends-refused nothing_to_redo) (appends-moved (codes "redo") (past_len bench.timeline + 1) (future_len bench.timeline - 1) (bench.timeline.place + 1))
+  appends (show managed) = λ h. cc
+  appends (owners p) = λ h. cc
+  appends log = λ h. cc
+
+undone : (bench : Bench) → (past_len bench.timeline == 0) ≡ false
+    → answer bench undo ≡ (moved (codes "undo") (past_len bench.timeline - 1) (future_len bench.timeline + 1), with_timeline bench (moved_to bench.timeline (bench.timeline.place - 1)))
+undone bench h = ap (λ b. if b then (fault nothing_to_undo, bench) else (moved (codes "undo") (past_len bench.timeline - 1) (future_len bench.timeline + 1), with_timeline bench (moved_to bench.timeline (bench.timeline.place - 1)))) h
+
+redone : (bench : Bench) → (future_len bench.timeline == 0) ≡ false
+    → answer bench redo ≡ (moved (codes "redo") (past_len bench.timeline + 1) (future_len bench.timeline - 1), with_timeline bench (moved_to bench.timeline (bench.timeline.place + 1)))
+redone bench h = ap (λ b. if b then (fault nothing_to_redo, bench) else (moved (codes "redo") (past_len bench.timeline + 1) (future_len bench.timeline - 1), with_timeline bench (moved_to bench.timeline (bench.timeline.place + 1)))) h
+
+some : (n : ℕ) → (n + 1 == 0) ≡ false
+some n = grind (arith, nat_tests)
+
+one_less : (n : ℕ) → (n + 1) - 1 ≡ n
+one_less n = omega arith
+
+one_more : (n : ℕ) → 0 < n → (n - 1) + 1 ≡ n
+one_more n h = omega (arith, h)
+
+positive : (n : ℕ) → 0 < n → (n == 0) ≡ false
+positive n h = grind (arith, nat_tests)
+
+ahead : (n m : ℕ) → 0 < n → n ≤ m → (m - (n - 1) == 0) ≡ false
+ahead n m h le = grind (arith, nat_tests)
+
+one_ahead : (n m : ℕ) → (m - n) ≡ 1 → (m - (n + 1)) + 1 ≡ 1
+one_ahead n m h = omega (arith, h)
+
+-- undo of the bench with one more state
+undone-appended : (bench : Bench) (label : Label) (s : State) → bench.timeline.place ≤ length bench.timeline.later → IsRestored bench (answer (with_timeline bench (appended bench.timeline label s)) undo)
+undone-appended bench label s h =
+    let t = bench.timeline in
+    let after = with_timeline bench (appended t label s) in
+    let back = undo_restores t label s h in
+    let e = undone after (some t.place) in
+    let restored : Answer → Type 0 = IsRestored bench in
+    subst restored (sym e) (record {
+      reply = λ i. moved (codes "undo") (one_less t.place i) (one_ahead t.place (length (take t.place t.later ++ record { label = label; state = s } ∷ [])) back.1 i);
+      schema = refl;
+      identity = refl;
+      first = refl;
+      past = take_first t.place t.later (record { label = label; state = s }) h;
+      place = one_less t.place;
+      state = ap (λ n. present (moved_to (appended t label s) n)) (one_less t.place) ∙ back.0;
+      future = ap (λ n. future_len (moved_to (appended t label s) n)) (one_less t.place) ∙ back.1;
+    })
+
+pub undo_restores_all : UndoRestoresAll
+undo_restores_all bench c h accepted =
+    let made = appends bench c accepted in
+    subst (λ b. IsRestored bench (answer b undo)) (sym made.2) (undone-appended bench made.0 made.1 h)
+
+pub redo_restores_all : RedoRestoresAll
+redo_restores_all bench some_past h =
+    let t = bench.timeline in
+    let back = with_timeline bench (moved_to t (t.place - 1)) in
+    ap (λ a. (answer a.1 redo).1) (undone bench (positive t.place some_past))
+    ∙ ap (λ a. a.1) (redone back (ahead t.place (length t.later) some_past h))
+    ∙ ap (λ n. with_timeline bench (moved_to t n)) (one_more t.place some_past)
+
+-- ---- conflicts
+
+-- the tests before a command know no conflict
+
+abbrev Clashes : Type 0
+Clashes = List (ManagerKey × PathSet)
+
+if_fits : (cs : Clashes) (b : Bool) (body : Body) → ◌≡◌ {A = Result Body Fault} (if b then Err (refused too_many_paths) else Ok body) (Err (refused (conflict cs))) → ⊥
+if_fits cs true body h = absurd cc
+if_fits cs false body h = absurd cc
+
+if_faultless : (cs : Clashes) (fs : List (BodyFault × Path)) (b : Bool) (body : Body)
+    → ◌≡◌ {A = Result Body Fault} (elim fs [ [] ↦ if b then Err (refused too_many_paths) else Ok body | f ∷ rest ↦ Err (body_fault f.0 f.1) ]) (Err (refused (conflict cs))) → ⊥
+if_faultless cs [] b body h = if_fits cs b body h
+if_faultless cs (f ∷ fs) b body h = absurd cc
+
+if_named : (cs : Clashes) (a b : Bool) (r : Result Body Fault) → (if a then Err identity_fault else (if b then Err managed_fields_given else r)) ≡ Err (refused (conflict cs)) → r ≡ Err (refused (conflict cs))
+if_named cs true b r h = cc
+if_named cs false true r h = cc
+if_named cs false false r h = h
+
+no-conflict : (bench : Bench) (v : Json) (cs : Clashes) → command_body bench v ≡ Err (refused (conflict cs)) → ⊥
+no-conflict bench (object ms) cs h =
+    let kind = bench.schema.1 in
+    let value = body_value (object ms) in
+    if_faultless cs (faults kind value []) (nat_lt 20001 (size (flat kind value))) (flat kind value) (if_named cs _ _ _ h)
+no-conflict bench (list vs) cs h = absurd cc
+no-conflict bench (scalar s) cs h = absurd cc
+
+tested-no_conflict : (bench : Bench) (v : Json) (cs : Clashes) (f : Fault) → IsTested bench v f → f ≡ refused (conflict cs) → ⊥
+tested-no_conflict bench v cs f (inl full) h = absurd cc
+tested-no_conflict bench v cs f (inr (inl named)) h = absurd cc
+tested-no_conflict bench v cs f (inr (inr e)) h = no-conflict bench v cs (e ∙ ap Err h)
+
+module _ (bench : Bench) (who : Text) (force : Bool) (v : Json) where
+  abbrev Lists : Answer → Type 0
+  Lists a = (cs : List (ManagerKey × PathSet)) → a.0 ≡ fault (refused (conflict cs)) → IsConflictOf bench who force v cs
+
+  unforced : (f n : Bool) → not (f || n) ≡ true → f ≡ false
+  unforced true n h = cc
+  unforced false n h = refl
+
+  decided : (b few : Bool) (clash cs : List (ManagerKey × PathSet)) (s : State)
+      → (if b then Err (conflict clash) else (if few then Err too_many_paths else if_seated s)) ≡ Err (conflict cs) → (b ≡ true) × (cs ≡ clash)
+  decided true few clash cs s h = (refl, cc)
+  decided false true clash cs s h = cc
+  decided false false clash cs s h = seated (nat_lt 64 (length s.table)) h
+    where
+      seated : (b : Bool) → (if b then Err operations.too_many_managers else Ok s) ≡ Err (conflict cs) → (false ≡ true) × (cs ≡ clash)
+      seated true h = cc
+      seated false h = cc
+
+  lists-config : (at : Text) (config : Body) → command_body bench v ≡ Ok config → Lists (apply_answer bench who force at config)
+  lists-config at config is =
+      let a : ManagerKey = record { name = who; operation = applies } in
+      let now = present bench.timeline in
+      by_result bench Lists _ _ (operations.apply now a config force at)
+      (λ s cs h. cc)
+      (λ f e cs h.
+      let same : f ≡ conflict cs = cc in
+      let clash = clashes a (modified now.body (pruned now a config)) now.table in
+      let found = decided (not (force || is_none clash)) (nat_lt 20001 (size (pruned now a config))) clash cs _ (e ∙ ap Err same) in
+      record { config = config; body = is; unforced = unforced force (is_none clash) found.0; listed = found.1 })
+
+  lists : (at : Text) → Lists (answer bench (apply who force at v))
+  lists at = by_body bench Lists who v (apply_answer bench who force at) other (lists-config at)
+    where
+      other : (f : Fault) → IsTested bench v f → Lists (fault f, bench)
+      other f tested cs h = let same : f ≡ refused (conflict cs) = cc in absurd (tested-no_conflict bench v cs f tested same)
+
+pub conflicts_list_clashes : ConflictsListClashes
+conflicts_list_clashes bench who force at v = lists bench who force v at
