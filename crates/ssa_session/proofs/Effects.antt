@@ -1,12 +1,12 @@
 -- The bench after the replies to lines is that of the commands that the lines gave.
 use Rattle.std.proofs.Common.{◌≡◌, ℕ, List, [], ◌∷◌, ◌++◌, ◌⊎◌, inl, inr, Bool, true, false, Option, Result, Ok, Err, refl, sym, ap, ◌∙◌, subst}
-use Rattle.std.specs.Prelude.{OnOk, if◌then◌else◌, nat_lt, length}
+use Rattle.std.specs.Prelude.{if◌then◌else◌, nat_lt, length}
 use Rattle.ssa_model.specs.Json.{same_text}
 use Rattle.ssa_model.specs.Limits.{most_line_bytes}
 use Rattle.ssa_model.specs.Commands.{session_rules}
 use Rattle.ssa_model.specs.History.{Bench}
 use Rattle.ssa_model.specs.Answers.{Command, run}
-use Rattle.ssa_model.specs.Session.{LineFault, answer_read, command_in, given_commands, line_answer, out_of_memory_text, read_line, too_long_text}
+use Rattle.ssa_model.specs.Session.{LineFault, answer_read, command_in, out_of_memory_text, read_line, too_long_text}
 use Rattle.ssa_model.specs.Headline.{AnswersAreTold, RunIsInEffect, RunKeepsHistory, RunsGoOn}
 use Rattle.ssa_json.specs.Readings.{readings}
 use Rattle.ssa_session.specs.BenchLines.{line_reply, bench_after}

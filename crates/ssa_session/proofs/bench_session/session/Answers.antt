@@ -1,5 +1,5 @@
 use Rattle.std.proofs.lemmas.Result.{on_ok_weaker}
-use Rattle.ssa_session.proofs.Effects.{Laws, runs-all, runs-whole, runs-partly}
+use Rattle.ssa_session.proofs.Effects.{runs-all, runs-whole, runs-partly}
 use Rattle.ssa_session.proofs.bench_session.session.Goals as goal
 
 pub returns-clause-ok : goal.returns-clause-ok

@@ -1,0 +1,84 @@
+-- Faults of files, from the faults of their parts.
+use Rattle.std.proofs.Common.{◌≡◌, List, Bool, true, false, refl, ap, ◌∙◌, subst}
+use Rattle.std.specs.Prelude.{Result, Ok, Err, if◌then◌else◌, Option}
+use Rattle.ssa_model.specs.Json.{Text, Json, object, list, scalar}
+use Rattle.ssa_model.specs.Kind.{Kind}
+use Rattle.ssa_model.specs.Schema as schemas
+use Rattle.ssa_model.specs.Schema.{read_schema, whole_profile, schema_keyword, schema_shape, schema_keys, schema_depth}
+use Rattle.ssa_model.specs.Operations.{State}
+use Rattle.ssa_model.specs.History.{Schema, Bench}
+use Rattle.ssa_model.specs.Answers as answers
+use Rattle.ssa_model.specs.Files as model
+use Rattle.ssa_model.specs.Files.{bench_of_file, bench_or_fault, of_object, of_schema, schema_of, schema_of_file, value_of_file}
+use Rattle.ssa_model.specs.Headline.{IsAlone}
+use Rattle.ssa_json.specs.Readings.{readings}
+use Rattle.ssa_schema.specs.Schemas.{Faults}
+use Rattle.ssa_schema.specs.declared.fault.SchemaFault.{SchemaFault}
+use Rattle.ssa_schema.specs.declared.fault.SchemaFault.TheVariants as schema
+use Rattle.ssa_bench.specs.Faults.{IsGiven}
+use Rattle.ssa_bench.specs.declared.fault.Fault as engine
+use Rattle.ssa_bench.specs.declared.fault.Fault.TheVariants as bench
+use Rattle.ssa_session.specs.Files.{IsGivenFile, object_fault, schema_fault}
+
+-- ---- a schema file
+
+abbrev kind_or_fault : Json → Result Kind schemas.SchemaFault → Result Schema model.FileFault
+kind_or_fault v r = elim r [ Ok kind ↦ Ok (v, kind) | Err f ↦ Err (of_schema f) ]
+
+by-value : (bytes : Text) (v : Json) (r : Result Kind schemas.SchemaFault) → value_of_file readings bytes ≡ Ok v → read_schema whole_profile v ≡ r → schema_of_file readings bytes ≡ kind_or_fault v r
+by-value bytes v r is e = ap (λ x. elim x [ Ok w ↦ schema_of w | Err f ↦ Err f ]) is ∙ ap (kind_or_fault v) e
+
+pub schema-refused : (f : SchemaFault) (bytes : Text) (v : Json) → value_of_file readings bytes ≡ Ok v → Faults f (read_schema whole_profile v) → IsGivenFile {A = Schema} (Err (schema_fault f)) (schema_of_file readings bytes)
+schema-refused schema.SchemaKeyword bytes v is h = (of_schema schema_keyword, by-value bytes v _ is h, refl)
+schema-refused schema.SchemaShape bytes v is h = (of_schema schema_shape, by-value bytes v _ is h, refl)
+schema-refused schema.SchemaKeys bytes v is h = (of_schema schema_keys, by-value bytes v _ is h, refl)
+schema-refused schema.SchemaDepth bytes v is h = (of_schema schema_depth, by-value bytes v _ is h, refl)
+schema-refused schema.OutOfMemory bytes v is h = tt
+
+-- ---- an object file
+
+by-object : (s : Schema) (bytes : Text) (v : Json) (r : Result Bench answers.Fault) → value_of_file readings bytes ≡ Ok v → answers.bench_of readings s v ≡ r → bench_of_file readings s bytes ≡ bench_or_fault r
+by-object s bytes v r is e = ap (λ x. elim x [ Ok w ↦ bench_or_fault (answers.bench_of readings s w) | Err f ↦ Err f ]) is ∙ ap bench_or_fault e
+
+pub object-refused : (f : engine.Fault) (s : Schema) (bytes : Text) (v : Json) → value_of_file readings bytes ≡ Ok v → IsGiven {A = Bench} (Err f) (answers.bench_of readings s v)
+    → IsGivenFile {A = Bench} (Err (object_fault f)) (bench_of_file readings s bytes)
+object-refused (bench.Body b) s bytes v is h = (of_object h.0, by-object s bytes v _ is h.1, (h.0, refl, h.2))
+object-refused bench.TooManyPaths s bytes v is h = (of_object h.0, by-object s bytes v _ is h.1, (h.0, refl, h.2))
+object-refused bench.Identity s bytes v is h = (of_object h.0, by-object s bytes v _ is h.1, (h.0, refl, h.2))
+object-refused bench.ManagedFieldsGiven s bytes v is h = (of_object h.0, by-object s bytes v _ is h.1, (h.0, refl, h.2))
+object-refused (bench.Entry f) s bytes v is h = (of_object h.0, by-object s bytes v _ is h.1, (h.0, refl, h.2))
+object-refused bench.ManagerName s bytes v is h = (of_object h.0, by-object s bytes v _ is h.1, (h.0, refl, h.2))
+object-refused bench.HistoryFull s bytes v is h = (of_object h.0, by-object s bytes v _ is h.1, (h.0, refl, h.2))
+object-refused bench.NothingToUndo s bytes v is h = (of_object h.0, by-object s bytes v _ is h.1, (h.0, refl, h.2))
+object-refused bench.NothingToRedo s bytes v is h = (of_object h.0, by-object s bytes v _ is h.1, (h.0, refl, h.2))
+object-refused (bench.Conflict cs) s bytes v is h = (of_object h.0, by-object s bytes v _ is h.1, (h.0, refl, h.2))
+object-refused bench.TooManyManagers s bytes v is h = (of_object h.0, by-object s bytes v _ is h.1, (h.0, refl, h.2))
+object-refused bench.OutOfMemory s bytes v is h = tt
+
+-- ---- a bench that is made has one state
+
+by-state : (s : Schema) (i : List (Option Json)) (r : Result State answers.Fault) (b : Bench) → answers.with_lone_state s i r ≡ Ok b → IsAlone b.timeline
+by-state s i (Ok state) b is =
+    let made : answers.lone_bench s i state ≡ b = cc in
+    subst (λ x. IsAlone x.timeline) made (refl, refl)
+by-state s i (Err f) b is = absurd cc
+
+by-name : (named : Bool) (s : Schema) (i : List (Option Json)) (r : Result State answers.Fault) (b : Bench) → (if named then Err answers.identity_fault else answers.with_lone_state s i r) ≡ Ok b → IsAlone b.timeline
+by-name true s i r b is = absurd cc
+by-name false s i r b is = by-state s i r b is
+
+made-alone : (s : Schema) (v : Json) (b : Bench) → answers.bench_of readings s v ≡ Ok b → IsAlone b.timeline
+made-alone s (object ms) b is = by-name _ s _ _ b is
+made-alone s (list vs) b is = absurd cc
+made-alone s (scalar x) b is = absurd cc
+
+or-fault : (s : Schema) (v : Json) (r : Result Bench answers.Fault) (b : Bench) → answers.bench_of readings s v ≡ r → bench_or_fault r ≡ Ok b → IsAlone b.timeline
+or-fault s v (Ok made) b e is = let same : made ≡ b = cc in made-alone s v b (e ∙ ap Ok same)
+or-fault s v (Err f) b e is = absurd cc
+
+pub file-alone : (s : Schema) (bytes : Text) (b : Bench) → bench_of_file readings s bytes ≡ Ok b → IsAlone b.timeline
+file-alone s bytes b is = by (value_of_file readings bytes) is
+  where
+    by : (r : Result Json model.FileFault) → ◌≡◌ {A = Result Bench model.FileFault} (elim r [ Ok w ↦ bench_or_fault (answers.bench_of readings s w) | Err f ↦ Err f ]) (Ok b) → IsAlone b.timeline
+    by (Ok v) h = or-fault s v (answers.bench_of readings s v) b refl h
+    by (Err f) h = absurd cc

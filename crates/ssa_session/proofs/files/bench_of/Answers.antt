@@ -1,0 +1,16 @@
+use Rattle.std.proofs.Common.{Err, sym, subst}
+use Rattle.ssa_model.specs.Files.{bench_of_file}
+use Rattle.ssa_model.specs.History.{Bench}
+use Rattle.ssa_json.specs.Readings.{readings}
+use Rattle.ssa_json.specs.View.{view}
+use Rattle.ssa_session.specs.Files.{IsGivenFile}
+use Rattle.ssa_session.specs.declared.files.FileFault.{FileFault}
+use Rattle.ssa_session.proofs.FileFacts.{object-refused}
+use Rattle.ssa_session.proofs.files.bench_of.Goals as goal
+
+pub returns-in-Err-new : goal.returns-in-Err-new
+returns-in-Err-new c =
+    let schema = c.args.schema in
+    let bytes = c.args.bytes.now in
+    let given : FileFault → Type 0 = λ f. IsGivenFile {A = Bench} (Err f) (bench_of_file readings schema bytes) in
+    subst given (sym c.from.ensures) (object-refused c.in-Err-new.fault schema bytes (view c.in-Ok.value) c.in-Ok.ensures c.in-Err-new.ensures)
