@@ -11,8 +11,6 @@ pub mod reader;
 pub mod same;
 pub mod sink;
 pub mod source;
-#[cfg(test)]
-mod tests;
 pub mod text;
 pub mod value;
 pub mod write;

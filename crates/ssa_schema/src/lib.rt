@@ -3,11 +3,7 @@
 
 pub mod body_fault;
 pub mod fault;
-#[cfg(test)]
-mod fault_tests;
 mod fit;
 pub mod kind;
 mod read;
 pub mod schema;
-#[cfg(test)]
-mod tests;

@@ -1,5 +1,4 @@
 pub mod Alike
-pub mod AlikeTrees
 pub mod AnyTree
 pub mod BodyFits
 pub mod Building

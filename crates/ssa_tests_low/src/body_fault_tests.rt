@@ -1,0 +1,108 @@
+//! Tests of the faults of values under schemas.
+use crate::samples::SPEC;
+use crate::support::{are_told, schema, value};
+use ssa_schema::body_fault::BodyFault;
+use std::alloc::Global;
+use std::test::Fail;
+
+// A fault's name and its path, or that there is none.
+fn told(alloc: Global, fault: Option<BodyFault>) -> Result<String, Fail> {
+    let (name, path) = match fault {
+        None => return Ok(String::from_str(alloc, "fits")?),
+        Some(BodyFault::UnknownField(path)) => ("UnknownField", path),
+        Some(BodyFault::WrongType(path)) => ("WrongType", path),
+        Some(BodyFault::MissingKey(path)) => ("MissingKey", path),
+        Some(BodyFault::DuplicateItem(path)) => ("DuplicateItem", path),
+    };
+    let mut text = String::from_str(alloc, name)?;
+    for element in &path {
+        text.push_str(" ")?;
+        text.push_str(element.as_str())?;
+    }
+    Ok(text)
+}
+
+// What is told of a value under a schema.
+fn fault_under(alloc: Global, schema_text: &str, body: &str) -> Result<String, Fail> {
+    let schema = schema(alloc, schema_text)?;
+    let body = value(alloc, body)?;
+    told(alloc, schema.first_fault(alloc, &body)?)
+}
+
+// What is told of a value of the field `spec` of the sample.
+fn fault_of_spec(alloc: Global, spec: &str) -> Result<String, Fail> {
+    let body = [r#"{"spec":"#, spec, "}"].concat(alloc)?;
+    fault_under(alloc, SPEC, &body)
+}
+
+const SPECS: [(&str, &str); 24] = [
+    (r#"{"image":"a","replicas":3}"#, "fits"),
+    (r#"{"image":1,"zzz":1}"#, "WrongType f:spec f:image"),
+    (r#"{"aaa":1,"image":1}"#, "UnknownField f:spec f:aaa"),
+    (r#"{"size":1}"#, "UnknownField f:spec f:size"),
+    (r#"{"replicas":"3"}"#, "WrongType f:spec f:replicas"),
+    (r#"{"env":{"a":"x","b":1}}"#, "WrongType f:spec f:env f:b"),
+    (r#"{"env":[]}"#, "WrongType f:spec f:env"),
+    ("1", "WrongType f:spec"),
+    (r#"{"hosts":["x","y"]}"#, "fits"),
+    (
+        r#"{"hosts":["x","x"]}"#,
+        r#"DuplicateItem f:spec f:hosts v:"x""#,
+    ),
+    (r#"{"hosts":["x",1]}"#, "WrongType f:spec f:hosts"),
+    (r#"{"hosts":{}}"#, "WrongType f:spec f:hosts"),
+    (r#"{"ports":[{"name":"a","port":1},{"name":"b"}]}"#, "fits"),
+    (
+        r#"{"ports":[{"name":"a","port":"x"},{"name":"a"}]}"#,
+        r#"WrongType f:spec f:ports k:{"name":"a"} f:port"#,
+    ),
+    (
+        r#"{"ports":[{"name":"a","port":1},{"name":"a"}]}"#,
+        r#"DuplicateItem f:spec f:ports k:{"name":"a"}"#,
+    ),
+    (r#"{"ports":[{"port":1}]}"#, "MissingKey f:spec f:ports"),
+    (r#"{"ports":[{"name":1}]}"#, "WrongType f:spec f:ports"),
+    (r#"{"ports":[1]}"#, "WrongType f:spec f:ports"),
+    (
+        r#"{"routes":[{"name":"x","port":1,"zzz":1}]}"#,
+        r#"UnknownField f:spec f:routes k:{"name":"x","port":1} f:zzz"#,
+    ),
+    (r#"{"limits":{"cpu":2}}"#, "fits"),
+    (r#"{"limits":{"cpu":"2"}}"#, "WrongType f:spec f:limits"),
+    (r#"{"args":["a","a"]}"#, "fits"),
+    (r#"{"args":["a",1]}"#, "WrongType f:spec f:args"),
+    (r#"{"args":"a"}"#, "WrongType f:spec f:args"),
+];
+
+#[test]
+fn first_faults_are_told(rt: HostRuntime) -> Result<(), Fail> {
+    are_told(rt.alloc(), &SPECS, fault_of_spec)
+}
+
+// An atomic record with one field.
+const ATOMIC: &str =
+    r#"{"properties":{"p":{"properties":{"a":{"type":"string"}},"type":"object","x-kubernetes-map-type":"atomic"}},"type":"object"}"#;
+
+#[test]
+fn unknown_fields_of_atomic_values_are_told(rt: HostRuntime) -> Result<(), Fail> {
+    let fault = fault_under(rt.alloc(), ATOMIC, r#"{"p":{"b":1}}"#)?;
+    assert_eq!(rt; fault.as_str(), "UnknownField f:p");
+    Ok(())
+}
+
+const METADATA: [(&str, &str); 2] = [
+    (r#"{"metadata":{"labels":{"a":"b"}}}"#, "fits"),
+    (
+        r#"{"metadata":{"name":"a"}}"#,
+        "UnknownField f:metadata f:name",
+    ),
+];
+
+#[test]
+fn faults_of_metadata_are_told(rt: HostRuntime) -> Result<(), Fail> {
+    are_told(
+        rt.alloc(),
+        &METADATA,
+        |alloc, body| fault_under(alloc, r#"{"type":"object"}"#, body),
+    )
+}

@@ -1,0 +1,27 @@
+//! Tests of values, schemas, sets of paths and bodies.
+#![tactic(auto)]
+
+#[cfg(test)]
+mod body_fault_tests;
+#[cfg(test)]
+mod body_tests;
+#[cfg(test)]
+mod device_tests;
+#[cfg(test)]
+mod element_tests;
+#[cfg(test)]
+mod fields_tests;
+#[cfg(test)]
+mod json_tests;
+#[cfg(test)]
+mod merge_tests;
+#[cfg(test)]
+mod samples;
+#[cfg(test)]
+mod schema_tests;
+#[cfg(test)]
+mod set_tests;
+#[cfg(test)]
+mod sorted_set_tests;
+#[cfg(test)]
+mod support;

@@ -1,0 +1,324 @@
+//! Tests of the reading of schemas.
+use crate::samples::SPEC;
+use crate::support::{are_told, schema, value};
+use ssa_json::value::Scalar;
+use ssa_schema::fault::SchemaFault;
+use ssa_schema::kind::{Kind, ScalarKind, Shape, find_field, find_shape};
+use ssa_schema::schema::Schema;
+use std::alloc::Global;
+use std::collections::BTreeMap;
+use std::test::Fail;
+
+// What reading a schema says.
+fn answer(alloc: Global, text: &str) -> Result<String, Fail> {
+    let told = match Schema::read(alloc, value(alloc, text)?) {
+        Ok(_) => "accepted",
+        Err(SchemaFault::SchemaKeyword) => "SchemaKeyword",
+        Err(SchemaFault::SchemaShape) => "SchemaShape",
+        Err(SchemaFault::SchemaKeys) => "SchemaKeys",
+        Err(SchemaFault::SchemaDepth) => "SchemaDepth",
+        Err(SchemaFault::OutOfMemory) => "OutOfMemory",
+    };
+    Ok(String::from_str(alloc, told)?)
+}
+
+const ROOTS: [(&str, &str); 20] = [
+    (SPEC, "accepted"),
+    (r#"{"type":"object"}"#, "accepted"),
+    (r#"{"description":"x","type":"object"}"#, "accepted"),
+    (r#"{"default":{},"type":"object"}"#, "SchemaKeyword"),
+    (r#"{"default":{}}"#, "SchemaKeyword"),
+    ("[]", "SchemaShape"),
+    (r#""object""#, "SchemaShape"),
+    ("{}", "SchemaShape"),
+    (r#"{"type":"number"}"#, "SchemaShape"),
+    (r#"{"type":1}"#, "SchemaShape"),
+    (r#"{"description":1,"type":"object"}"#, "SchemaShape"),
+    (r#"{"type":"string"}"#, "SchemaShape"),
+    (
+        r#"{"additionalProperties":{"type":"string"},"type":"object"}"#,
+        "SchemaShape",
+    ),
+    (
+        r#"{"type":"object","x-kubernetes-map-type":"atomic"}"#,
+        "SchemaShape",
+    ),
+    (r#"{"properties":1,"type":"object"}"#, "SchemaShape"),
+    (
+        r#"{"properties":{"kind":{"type":"string"}},"type":"object"}"#,
+        "SchemaShape",
+    ),
+    (
+        r#"{"properties":{"metadata":{"type":"object"}},"type":"object"}"#,
+        "SchemaShape",
+    ),
+    (
+        r#"{"properties":{"apiVersion":{"type":"string"}},"type":"object"}"#,
+        "SchemaShape",
+    ),
+    (
+        r#"{"properties":{"a":{"type":"x"},"b":{"default":1}},"type":"object"}"#,
+        "SchemaShape",
+    ),
+    (
+        r#"{"properties":{"b":{"type":"x"},"a":{"default":1}},"type":"object"}"#,
+        "SchemaKeyword",
+    ),
+];
+
+#[test]
+fn roots_are_read(rt: HostRuntime) -> Result<(), Fail> {
+    are_told(rt.alloc(), &ROOTS, answer)
+}
+
+// What reading a schema says, one of whose fields has this schema.
+fn answer_of_field(alloc: Global, field: &str) -> Result<String, Fail> {
+    let parts = [r#"{"properties":{"p":"#, field, r#"},"type":"object"}"#];
+    answer(alloc, &parts.concat(alloc)?)
+}
+
+const FIELDS: [(&str, &str); 18] = [
+    (r#"{"properties":{},"type":"string"}"#, "SchemaShape"),
+    (
+        r#"{"items":{"type":"string"},"type":"object"}"#,
+        "SchemaShape",
+    ),
+    (
+        r#"{"type":"object","x-kubernetes-list-type":"set"}"#,
+        "SchemaShape",
+    ),
+    (
+        r#"{"type":"object","x-kubernetes-list-map-keys":["k"]}"#,
+        "SchemaShape",
+    ),
+    (
+        r#"{"additionalProperties":{"type":"string"},"properties":{},"type":"object"}"#,
+        "SchemaShape",
+    ),
+    (
+        r#"{"type":"object","x-kubernetes-map-type":"x"}"#,
+        "SchemaShape",
+    ),
+    (
+        r#"{"type":"object","x-kubernetes-map-type":"granular"}"#,
+        "accepted",
+    ),
+    (
+        r#"{"type":"object","x-kubernetes-map-type":"atomic"}"#,
+        "accepted",
+    ),
+    (
+        r#"{"additionalProperties":true,"type":"object"}"#,
+        "SchemaShape",
+    ),
+    (
+        r#"{"properties":{"q":{"type":"object","x-kubernetes-map-type":"granular"}},"type":"object","x-kubernetes-map-type":"atomic"}"#,
+        "SchemaShape",
+    ),
+    (
+        r#"{"properties":{"metadata":{"type":"string"}},"type":"object"}"#,
+        "accepted",
+    ),
+    (r#"{"type":"array"}"#, "SchemaShape"),
+    (r#"{"items":true,"type":"array"}"#, "SchemaShape"),
+    (
+        r#"{"items":{"default":1,"type":"object"},"type":"array","x-kubernetes-list-type":"set"}"#,
+        "SchemaKeyword",
+    ),
+    (
+        r#"{"items":{"default":1,"type":"object"},"type":"array","x-kubernetes-list-type":"map"}"#,
+        "SchemaKeys",
+    ),
+    (
+        r#"{"items":{"additionalProperties":{"type":"string"},"type":"object"},"type":"array","x-kubernetes-list-map-keys":["k"],"x-kubernetes-list-type":"map"}"#,
+        "SchemaShape",
+    ),
+    (
+        r#"{"items":{"properties":{"k":{"type":"string"}},"type":"object","x-kubernetes-map-type":"atomic"},"type":"array","x-kubernetes-list-map-keys":["k"],"x-kubernetes-list-type":"map"}"#,
+        "SchemaShape",
+    ),
+    (
+        r#"{"items":{"items":{"type":"string"},"type":"array","x-kubernetes-list-map-keys":["k"]},"type":"array"}"#,
+        "SchemaShape",
+    ),
+];
+
+#[test]
+fn fields_are_read(rt: HostRuntime) -> Result<(), Fail> {
+    are_told(rt.alloc(), &FIELDS, answer_of_field)
+}
+
+// What reading a schema says, one of whose fields is a list of records with these members more.
+fn answer_of_list(alloc: Global, more: &str) -> Result<String, Fail> {
+    let items = r#"{"properties":{"k":{"type":"string"},"o":{"type":"object"}},"type":"object"}"#;
+    let parts = [r#"{"items":"#, items, r#","type":"array""#, more, "}"];
+    answer_of_field(alloc, &parts.concat(alloc)?)
+}
+
+const LISTS: [(&str, &str); 16] = [
+    ("", "accepted"),
+    (r#","x-kubernetes-list-type":"bag""#, "SchemaShape"),
+    (r#","properties":{}"#, "SchemaShape"),
+    (
+        r#","additionalProperties":{"type":"string"}"#,
+        "SchemaShape",
+    ),
+    (r#","x-kubernetes-map-type":"atomic""#, "SchemaShape"),
+    (r#","x-kubernetes-list-map-keys":["k"]"#, "SchemaKeys"),
+    (
+        r#","x-kubernetes-list-map-keys":["k"],"x-kubernetes-list-type":"set""#,
+        "SchemaKeys",
+    ),
+    (
+        r#","x-kubernetes-list-map-keys":["k"],"x-kubernetes-list-type":"map""#,
+        "accepted",
+    ),
+    (
+        r#","x-kubernetes-list-map-keys":["z"],"x-kubernetes-list-type":"map""#,
+        "SchemaKeys",
+    ),
+    (
+        r#","x-kubernetes-list-map-keys":["o"],"x-kubernetes-list-type":"map""#,
+        "SchemaKeys",
+    ),
+    (
+        r#","x-kubernetes-list-map-keys":[],"x-kubernetes-list-type":"map""#,
+        "SchemaKeys",
+    ),
+    (
+        r#","x-kubernetes-list-map-keys":["k","k"],"x-kubernetes-list-type":"map""#,
+        "SchemaKeys",
+    ),
+    (
+        r#","x-kubernetes-list-map-keys":["k",1],"x-kubernetes-list-type":"map""#,
+        "SchemaKeys",
+    ),
+    (
+        r#","x-kubernetes-list-map-keys":"k","x-kubernetes-list-type":"map""#,
+        "SchemaKeys",
+    ),
+    (r#","x-kubernetes-list-type":"map""#, "SchemaKeys"),
+    (r#","x-kubernetes-list-type":"set""#, "SchemaShape"),
+];
+
+#[test]
+fn lists_are_read(rt: HostRuntime) -> Result<(), Fail> {
+    are_told(rt.alloc(), &LISTS, answer_of_list)
+}
+
+// Objects in objects, so many deep.
+fn nested(alloc: Global, depth: usize) -> Result<String, Fail> {
+    let mut text = String::from_str(alloc, r#"{"type":"object"}"#)?;
+    for _ in 1..depth {
+        let parts = [
+            r#"{"properties":{"a":"#,
+            text.as_str(),
+            r#"},"type":"object"}"#,
+        ];
+        text = parts.concat(alloc)?;
+    }
+    Ok(text)
+}
+
+#[test]
+fn schemas_nest_32_deep(rt: HostRuntime) -> Result<(), Fail> {
+    let alloc = rt.alloc();
+    assert_eq!(rt; answer(alloc, &nested(alloc, 32)?)?.as_str(), "accepted");
+    assert_eq!(rt; answer(alloc, &nested(alloc, 33)?)?.as_str(), "SchemaDepth");
+    Ok(())
+}
+
+// The name of a shape.
+fn shape_name(shape: Option<&Shape>) -> &'static str {
+    match shape {
+        None => "none",
+        Some(Shape::Scalar(_)) => "atomic scalar",
+        Some(Shape::Record(_)) => "atomic record",
+        Some(Shape::Dict(_)) => "atomic dict",
+        Some(Shape::List(_)) => "atomic list",
+    }
+}
+
+// The name of a map list by its keys.
+fn items_name(keys: &[String]) -> &'static str {
+    match keys {
+        [only] if only.as_str() == "name" => "items by name",
+        [first, second] if first.as_str() == "name" && second.as_str() == "port" => {
+            "items by name and port"
+        }
+        _ => "items by other keys",
+    }
+}
+
+// The name of a kind.
+fn kind_name(kind: Option<&Kind>) -> &'static str {
+    match kind {
+        None => "none",
+        Some(Kind::Scalar(ScalarKind::Text)) => "text",
+        Some(Kind::Scalar(ScalarKind::Whole)) => "whole",
+        Some(Kind::Scalar(ScalarKind::Truth)) => "truth",
+        Some(Kind::AtomicOf(shape)) => shape_name(Some(shape)),
+        Some(Kind::Record(_)) => "record",
+        Some(Kind::Dict(_)) => "dict",
+        Some(Kind::SetOf(_)) => "set",
+        Some(Kind::ItemsOf { keys, .. }) => items_name(keys),
+    }
+}
+
+const KINDS: [(&str, &str); 14] = [
+    ("metadata annotations", "dict"),
+    ("metadata finalizers", "set"),
+    ("metadata labels", "dict"),
+    ("metadata name", "none"),
+    ("spec args", "atomic list"),
+    ("spec env", "dict"),
+    ("spec hosts", "set"),
+    ("spec image", "text"),
+    ("spec limits", "atomic dict"),
+    ("spec paused", "truth"),
+    ("spec ports", "items by name"),
+    ("spec replicas", "whole"),
+    ("spec routes", "items by name and port"),
+    ("spec zzz", "none"),
+];
+
+// The kind of a field of a field of the root.
+fn told_kind(alloc: Global, names: &str) -> Result<String, Fail> {
+    let schema = schema(alloc, SPEC)?;
+    let mut kind = Some(schema.kind());
+    for name in names.split_whitespace() {
+        kind = match kind {
+            Some(Kind::Record(fields)) => find_field(fields, name),
+            _ => None,
+        };
+    }
+    Ok(String::from_str(alloc, kind_name(kind))?)
+}
+
+#[test]
+fn fields_have_their_kinds(rt: HostRuntime) -> Result<(), Fail> {
+    are_told(rt.alloc(), &KINDS, told_kind)
+}
+
+#[test]
+fn schemas_keep_what_was_read(rt: HostRuntime) -> Result<(), Fail> {
+    let schema = schema(rt.alloc(), SPEC)?;
+    assert!(rt; schema.json().same(&value(rt.alloc(), SPEC)?));
+    Ok(())
+}
+
+#[test]
+fn shapes_are_found_by_their_names(rt: HostRuntime) -> Result<(), Fail> {
+    let mut shapes = BTreeMap::new(rt.alloc());
+    let name = String::from_str(rt.alloc(), "a")?;
+    drop(shapes.insert(name, Shape::Scalar(ScalarKind::Truth))?);
+    assert_eq!(rt; shape_name(find_shape(&shapes, "a")), "atomic scalar");
+    assert_eq!(rt; shape_name(find_shape(&shapes, "b")), "none");
+    Ok(())
+}
+
+#[test]
+fn scalars_are_of_their_kinds(rt: HostRuntime) {
+    assert!(rt; ScalarKind::Whole.has(&Scalar::Int(1)));
+    assert!(rt; !ScalarKind::Truth.has(&Scalar::Int(1)));
+}

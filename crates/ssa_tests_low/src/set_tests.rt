@@ -1,0 +1,116 @@
+//! Tests of sets of paths by hand: an object with a list of ports, each under its number.
+use crate::support::{are_told, listed, path, set};
+use ssa_path::field_set::FieldSet;
+use ssa_path::trie::Trie;
+use std::alloc::Global;
+use std::test::Fail;
+
+// The paths of a set, put in from the last to the first.
+const OWNED: &str =
+    r#"f:status f:spec/f:replicas f:spec/f:ports/k:{"port":80}/f:port f:spec/f:ports/k:{"port":80}/f:name f:spec/f:ports/k:{"port":80} f:spec /"#;
+
+// What stays of a set beside another: of the two, which `beside` puts together.
+const UNDER: [((&str, &str), &str); 4] = [
+    (
+        (OWNED, "f:spec/f:ports f:status/f:phase"),
+        "/ f:spec f:spec/f:replicas f:status",
+    ),
+    (
+        ("/ f:spec f:spec/f:replicas f:status", "f:metadata f:status"),
+        "/ f:spec f:spec/f:replicas",
+    ),
+    (("/ f:spec", "/"), ""),
+    (("/ f:spec", ""), "/ f:spec"),
+];
+
+#[test]
+fn paths_under_others_go(rt: HostRuntime) -> Result<(), Fail> {
+    are_told(rt.alloc(), &UNDER, |alloc, (own, gone)| {
+        listed(
+            alloc,
+            &set(alloc, own)?.without_under(alloc, &set(alloc, gone)?)?,
+        )
+    })
+}
+
+const APART: &str = r#"f:spec/f:ports/k:{"port":80}/f:name f:spec/f:replicas f:status"#;
+
+const OVER: [((&str, &str), &str); 3] = [
+    ((OWNED, r#"f:spec/f:ports/k:{"port":80}/f:port"#), APART),
+    (
+        (APART, "/ f:spec f:status"),
+        r#"f:spec/f:ports/k:{"port":80}/f:name f:spec/f:replicas"#,
+    ),
+    ((APART, ""), APART),
+];
+
+#[test]
+fn paths_over_others_go(rt: HostRuntime) -> Result<(), Fail> {
+    are_told(rt.alloc(), &OVER, |alloc, (own, held)| {
+        listed(
+            alloc,
+            &set(alloc, own)?.without_over(alloc, &set(alloc, held)?)?,
+        )
+    })
+}
+
+const KEYLESS: [(&str, &str); 2] = [
+    (
+        OWNED,
+        r#"/ f:spec f:spec/f:ports/k:{"port":80} f:spec/f:ports/k:{"port":80}/f:name f:spec/f:replicas f:status"#,
+    ),
+    (
+        r#"f:port f:port/f:protocol k:{"port":80,"protocol":"TCP"}/f:port k:{"port":80,"protocol":"TCP"}/f:port/f:protocol k:{"port":80,"protocol":"TCP"}/f:protocol k:{"port":80,"protocol":"TCP"}/k:{"port":80}/f:port k:{"port":80,"protocol":"TCP"}/k:{"port":80}/f:protocol"#,
+        r#"f:port f:port/f:protocol k:{"port":80,"protocol":"TCP"}/f:port/f:protocol k:{"port":80,"protocol":"TCP"}/k:{"port":80}/f:protocol"#,
+    ),
+];
+
+#[test]
+fn key_fields_are_told_by_the_element_before(rt: HostRuntime) -> Result<(), Fail> {
+    are_told(rt.alloc(), &KEYLESS, |alloc, own| {
+        listed(alloc, &set(alloc, own)?.without_key_fields(alloc)?)
+    })
+}
+
+const SAME: [((&str, &str), &str); 6] = [
+    ((OWNED, OWNED), "same"),
+    (("", ""), "same"),
+    (("/ f:a f:b", "f:a f:b"), "other"),
+    (("f:a f:b", "/ f:a f:b"), "other"),
+    (("f:a", "f:b"), "other"),
+    (("f:a", "f:a/f:b"), "other"),
+];
+
+// Whether two sets are the same.
+fn compared(alloc: Global, own: &str, other: &str) -> Result<String, Fail> {
+    let is_same = set(alloc, own)?.is_same(&set(alloc, other)?);
+    let told = if is_same { "same" } else { "other" };
+    Ok(String::from_str(alloc, told)?)
+}
+
+#[test]
+fn sets_are_the_same_by_their_paths(rt: HostRuntime) -> Result<(), Fail> {
+    are_told(
+        rt.alloc(),
+        &SAME,
+        |alloc, (own, other)| compared(alloc, own, other),
+    )
+}
+
+#[test]
+fn copies_have_the_same_paths_and_grow_by_themselves(rt: HostRuntime) -> Result<(), Fail> {
+    let own = set(rt.alloc(), "/ f:a/f:b f:c")?;
+    let mut copy = own.copy(rt.alloc())?;
+    copy.insert(rt.alloc(), &path(rt.alloc(), "f:data")?)?;
+    assert_eq!(rt; listed(rt.alloc(), &copy)?.as_str(), "/ f:a/f:b f:c f:data");
+    assert_eq!(rt; listed(rt.alloc(), &own)?.as_str(), "/ f:a/f:b f:c");
+    Ok(())
+}
+
+#[test]
+fn one_path_is_a_trie(rt: HostRuntime) -> Result<(), Fail> {
+    let path = path(rt.alloc(), "f:a/v:10")?;
+    let set = FieldSet::from_root(Trie::of_path(rt.alloc(), path.elements())?);
+    assert_eq!(rt; listed(rt.alloc(), &set)?.as_str(), "f:a/v:10");
+    Ok(())
+}

@@ -1,0 +1,112 @@
+//! What the tests share: values, schemas, paths and sets by their texts, and tables of cases.
+use ssa_json::value::Json;
+use ssa_path::element::Elem;
+use ssa_path::field_set::FieldSet;
+use ssa_path::path::Path;
+use ssa_schema::schema::Schema;
+use ssa_typed::body::Body;
+use ssa_typed::node::Look;
+use std::alloc::{AllocError, Global};
+use std::fmt::Debug;
+use std::test::Fail;
+
+/// The value of a JSON text.
+pub fn value(alloc: Global, text: &str) -> Result<Json, Fail> {
+    Ok(Json::read(alloc, text.as_bytes(), text.len())?)
+}
+
+/// The compact text of a value.
+pub fn printed(alloc: Global, value: &Json) -> Result<String, Fail> {
+    Ok(value.to_string(alloc)?)
+}
+
+/// The schema of a JSON text.
+pub fn schema(alloc: Global, text: &str) -> Result<Schema, Fail> {
+    Ok(Schema::read(alloc, value(alloc, text)?)?)
+}
+
+/// The path whose elements have these texts, with `/` between them. The root is `/`.
+pub fn path(alloc: Global, text: &str) -> Result<Path, Fail> {
+    let mut elements = Vec::new(alloc);
+    for part in text.split('/') {
+        if !part.is_empty() {
+            elements.push(Elem::read(alloc, part)?)?;
+        }
+    }
+    Ok(Path::new(elements))
+}
+
+/// The set of the paths of these texts, with blanks between them.
+pub fn set(alloc: Global, text: &str) -> Result<FieldSet, Fail> {
+    let mut set = FieldSet::new(alloc);
+    for part in text.split_whitespace() {
+        set.insert(alloc, &path(alloc, part)?)?;
+    }
+    Ok(set)
+}
+
+// Adds the text of a path.
+fn push_path(alloc: Global, text: &mut Vec<u8>, path: &Path) -> Result<(), AllocError> {
+    if path.elements().is_empty() {
+        text.push(b'/')?;
+    }
+    for (i, element) in path.elements().iter().enumerate() {
+        if i > 0 {
+            text.push(b'/')?;
+        }
+        text.extend_from_slice(&element.text(alloc)?)?;
+    }
+    Ok(())
+}
+
+/// The texts of the set's paths in their order, with blanks between them.
+pub fn listed(alloc: Global, set: &FieldSet) -> Result<String, Fail> {
+    let mut text = Vec::new(alloc);
+    for path in &set.paths(alloc)? {
+        if !text.is_empty() {
+            text.push(b' ')?;
+        }
+        push_path(alloc, &mut text, path)?;
+    }
+    Ok(String::from_utf8(text)?)
+}
+
+/// The body of a JSON text under the schema of another.
+pub fn body(alloc: Global, schema_text: &str, text: &str) -> Result<Body, Fail> {
+    let schema = schema(alloc, schema_text)?;
+    Ok(Body::from_json(alloc, &schema, value(alloc, text)?)?)
+}
+
+/// The compact text of the value that the body is of.
+pub fn shown(alloc: Global, body: &Body) -> Result<String, Fail> {
+    printed(alloc, &body.to_json(alloc)?)
+}
+
+/// What stands at the path of a text, with the number of its children.
+pub fn look_at(alloc: Global, body: &Body, place: &str) -> Result<String, Fail> {
+    let (sort, children) = match body.get(&path(alloc, place)?) {
+        None => ("nothing", 0),
+        Some(Look::Leaf(_)) => ("leaf", 0),
+        Some(Look::Branch(children)) => ("record", children),
+        Some(Look::Dict(children)) => ("Dict", children),
+        Some(Look::List(children)) => ("list", children),
+    };
+    Ok(format!(in alloc; "{sort} {children}")?)
+}
+
+/// Fails at the first case that is not told as wanted.
+pub fn are_told<C: Copy + Debug + Drop, F: Fn(Global, C) -> Result<String, Fail>>(
+    alloc: Global,
+    cases: &[(C, &str)],
+    tell: F,
+) -> Result<(), Fail>
+    requires { F.IsAlwaysCallable tell }
+{
+    for (case, want) in cases {
+        let told = tell(alloc, *case)?;
+        if told.as_str() != *want {
+            return Err(Fail::new(format_args!("at {case:?}: {told}")));
+        }
+    }
+    Ok(())
+}
