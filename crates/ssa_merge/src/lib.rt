@@ -4,8 +4,6 @@
 pub mod entries;
 pub mod entries_back;
 pub mod entries_read;
-#[cfg(test)]
-mod entries_tests;
 pub mod entry_fault;
 mod entry_members;
 mod entry_read;
@@ -19,5 +17,3 @@ pub mod plan;
 pub mod seat;
 pub mod shared_set;
 pub mod state;
-#[cfg(test)]
-mod tests;

@@ -1,2 +1,21 @@
-//! Tests of plans, benches and sessions.
+//! Tests of plans, benches, bench files and sessions: of what no contract says.
 #![tactic(auto)]
+
+#[cfg(test)]
+mod bench_tests;
+#[cfg(test)]
+mod devices;
+#[cfg(test)]
+mod limit_tests;
+#[cfg(test)]
+mod object_file_tests;
+#[cfg(test)]
+mod plan_tests;
+#[cfg(test)]
+mod sample;
+#[cfg(test)]
+mod saving_tests;
+#[cfg(test)]
+mod session_tests;
+#[cfg(test)]
+mod story;

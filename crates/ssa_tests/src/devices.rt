@@ -1,0 +1,105 @@
+//! Devices that fail, that take one byte at a time, and that tell when they are flushed.
+ghost use Rattle.std.specs.Prelude.{◌≡◌, length, None, false, IsTrue, IsErr};
+ghost use Rattle.ssa_json.specs.Devices.{is_fault};
+
+use ssa_json::sink::Sink;
+use ssa_json::source::{DeviceFault, Source};
+use std::alloc::Global;
+
+/// Lends two bytes at a time, and fails in place of its end.
+#[derive(Drop)]
+pub struct Breaks<'a> {
+    rest: &'a [u8],
+    has_failed: bool,
+}
+
+impl<'a> Breaks<'a> {
+    pub fn new(rest: &'a [u8]) -> Breaks<'a> {
+        Breaks {
+            rest,
+            has_failed: false,
+        }
+    }
+}
+
+impl<'a> Source for Breaks<'a> {
+    ghost remaining = { λ _. None };
+
+    ghost consumable_len = { λ _. None };
+
+    ghost has_met_end = { λ _. false };
+
+    ghost has_failed = { λ s. s.has_failed };
+
+    ghost turns_left = { λ s. length s.rest.now };
+
+    fn fill(&mut self) -> Result<&[u8], DeviceFault> {
+        if self.has_failed || self.rest.is_empty() {
+            self.has_failed = true;
+            return Err(DeviceFault);
+        }
+        Ok(&self.rest[..self.rest.len().min(2)])
+    }
+
+    fn consume(&mut self, amount: usize) {
+        self.rest = &self.rest[amount.min(self.rest.len())..];
+    }
+}
+
+/// Takes one byte at a time, and marks each flush by a bar.
+#[derive(Drop)]
+pub struct Marks {
+    bytes: Vec<u8>,
+    has_failed: bool,
+}
+
+impl Marks {
+    pub fn new(alloc: Global) -> Marks {
+        Marks {
+            bytes: Vec::new(alloc),
+            has_failed: false,
+        }
+    }
+
+    /// What was written, with a bar for each flush.
+    pub fn bytes(&self) -> &[u8] {
+        self.bytes.as_slice()
+    }
+
+    // Takes a byte, unless it has failed.
+    fn take(&mut self, byte: u8) -> Result<(), DeviceFault>
+        ensures failed { self.new.has_failed ≡ is_fault result }
+        ensures stays_failed { IsTrue self.old.has_failed → IsErr result }
+    {
+        if self.has_failed {
+            return Err(DeviceFault);
+        }
+        if self.bytes.push(byte).is_err() {
+            self.has_failed = true;
+            return Err(DeviceFault);
+        }
+        Ok(())
+    }
+}
+
+impl Sink for Marks {
+    ghost contents = { λ _. None };
+
+    ghost has_failed = { λ s. s.has_failed };
+
+    fn write(&mut self, bytes: &[u8]) -> Result<usize, DeviceFault> {
+        let Some(first) = bytes.first() else {
+            return if self.has_failed {
+                Err(DeviceFault)
+            } else {
+                Ok(0)
+            };
+        };
+        self.take(*first)?;
+        Ok(1)
+    }
+
+    fn flush(&mut self) -> Result<(), DeviceFault> {
+        self.take(b'|')
+    }
+}

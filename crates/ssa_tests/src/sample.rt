@@ -1,0 +1,94 @@
+//! The sample schema, objects of it, and their benches.
+
+use ssa_bench::bench::Bench;
+use ssa_bench::fault::Fault;
+use ssa_json::moment::Moment;
+use ssa_json::reader::OfReader;
+use ssa_json::sink::OfWriter;
+use ssa_json::value::Json;
+use ssa_schema::schema::Schema;
+use ssa_session::bench_session::session;
+use ssa_session::fault_text::fault_text;
+use std::alloc::{AllocError, Global};
+use std::test::Fail;
+
+/// A schema with a scalar, a set, a map list, a map, and two atomic values.
+pub const SCHEMA: &str =
+    "{\"properties\":{\"spec\":{\"properties\":{\"args\":{\"items\":{\"type\":\"string\"},\"type\":\"array\"},\"env\":{\"additionalProperties\":{\"type\":\"string\"},\"type\":\"object\"},\"hosts\":{\"items\":{\"type\":\"string\"},\"type\":\"array\",\"x-kubernetes-list-type\":\"set\"},\"image\":{\"type\":\"string\"},\"limits\":{\"additionalProperties\":{\"type\":\"integer\"},\"type\":\"object\",\"x-kubernetes-map-type\":\"atomic\"},\"ports\":{\"items\":{\"properties\":{\"name\":{\"type\":\"string\"},\"port\":{\"type\":\"integer\"}},\"type\":\"object\"},\"type\":\"array\",\"x-kubernetes-list-map-keys\":[\"name\"],\"x-kubernetes-list-type\":\"map\"},\"replicas\":{\"type\":\"integer\"}},\"type\":\"object\"}},\"type\":\"object\"}";
+
+/// The object `web` in `shop` with these members before its name, each with a comma behind it, and
+/// these behind its metadata, each with a comma before it.
+pub fn web(alloc: Global, metadata: &str, members: &str) -> Result<String, AllocError> {
+    [
+        "{\"apiVersion\":\"example.com/v1\",\"kind\":\"App\",\"metadata\":{",
+        metadata,
+        "\"name\":\"web\",\"namespace\":\"shop\"}",
+        members,
+        "}",
+    ]
+    .concat(alloc)
+}
+
+/// The line of an apply or an update with an object.
+pub fn line(alloc: Global, word: &str, who: &str, object: &str) -> Result<String, AllocError> {
+    [
+        "{\"at\":\"2024-05-01T10:00:01Z\",\"do\":\"",
+        word,
+        "\",\"manager\":\"",
+        who,
+        "\",\"object\":",
+        object,
+        "}",
+    ]
+    .concat(alloc)
+}
+
+/// The value that a text is.
+pub fn json(alloc: Global, text: &str) -> Result<Json, Fail> {
+    Ok(Json::read(alloc, text.as_bytes(), text.len())?)
+}
+
+/// The sample schema.
+pub fn schema(alloc: Global) -> Result<Schema, Fail> {
+    Ok(Schema::read(alloc, json(alloc, SCHEMA)?)?)
+}
+
+/// The moment of all the lines and commands.
+pub fn moment() -> Result<Moment, Fail> {
+    match Moment::read("2024-05-01T10:00:01Z") {
+        Ok(at) => Ok(at),
+        Err(_) => Err(Fail::new("no moment")),
+    }
+}
+
+// What the object file makes.
+fn made(alloc: Global, object: &str) -> Result<Result<Bench, Fault>, Fail> {
+    Ok(Bench::new(alloc, schema(alloc)?, json(alloc, object)?))
+}
+
+/// The bench of the object without further members.
+pub fn bench(alloc: Global) -> Result<Bench, Fail> {
+    let object = web(alloc, "", "")?;
+    match made(alloc, object.as_str())? {
+        Ok(bench) => Ok(bench),
+        Err(_) => Err(Fail::new("the object is refused")),
+    }
+}
+
+/// What the bench answers to the lines.
+pub fn answers(alloc: Global, bench: &mut Bench, lines: &str) -> Result<Vec<u8>, Fail> {
+    let mut reader = OfReader::new(lines.as_bytes());
+    let mut writer = OfWriter::new(Vec::new(alloc));
+    match session(alloc, &mut reader, &mut writer, bench) {
+        Ok(()) => Ok(writer.into_inner()),
+        Err(_) => Err(Fail::new("the session broke off")),
+    }
+}
+
+/// What the bench of an object file answers to the lines; where there is none, the fault line.
+pub fn replies(alloc: Global, object: &str, lines: &str) -> Result<Vec<u8>, Fail> {
+    match made(alloc, object)? {
+        Ok(mut bench) => answers(alloc, &mut bench, lines),
+        Err(fault) => Ok(fault_text(alloc, &fault)?),
+    }
+}

@@ -1,0 +1,79 @@
+//! Sessions over fakes: what is answered, written and flushed, and what a device's fault leaves.
+ghost use Rattle.std.specs.Prelude.{ℕ, List};
+
+use crate::devices::{Breaks, Marks};
+use ssa_json::reader::OfReader;
+use ssa_json::sink::OfWriter;
+use ssa_session::engine::{SessionFault, session};
+use ssa_session::machine::Machine;
+use std::alloc::{AllocError, Global};
+use std::test::Fail;
+
+// Answers a line by itself, and has no memory for lines that begin with `x`.
+#[derive(Drop)]
+struct Echo;
+
+impl Machine for Echo {
+    ghost reply = { λ _ line. line };
+
+    ghost after = { λ m _. m };
+
+    fn answer(&mut self, alloc: Global, line: &[u8]) -> Result<Vec<u8>, AllocError> {
+        if line.starts_with(b"x") {
+            return Err(AllocError);
+        }
+        line.to_vec(alloc)
+    }
+}
+
+// Inputs, and what is written.
+const ANSWERED: [(&str, &str); 5] = [
+    ("", ""),
+    ("\n", "\n"),
+    ("ab\ncd\n", "ab\ncd\n"),
+    ("ab\n\ncd", "ab\n\ncd\n"),
+    ("x\n", "{\"fault\":5,\"name\":\"OutOfMemory\"}\n"),
+];
+
+// Whether a session on the input comes to its end, and writes this.
+fn is_answered(alloc: Global, input: &str, wanted: &str) -> bool {
+    let mut reader = OfReader::new(input.as_bytes());
+    let mut writer = OfWriter::new(Vec::new(alloc));
+    session(alloc, &mut reader, &mut writer, &mut Echo).is_ok()
+        && writer.into_inner().as_slice() == wanted.as_bytes()
+}
+
+#[test]
+fn each_line_is_answered(rt: HostRuntime) {
+    for (input, wanted) in &ANSWERED {
+        assert!(rt; is_answered(rt.alloc(), input, wanted), "at {input:?}");
+    }
+}
+
+#[test]
+fn an_unfinished_line_before_a_fault_is_not_answered(rt: HostRuntime) {
+    let mut reader = Breaks::new(b"abc\nde\nfg");
+    let mut writer = OfWriter::new(Vec::new(rt.alloc()));
+    let done = session(rt.alloc(), &mut reader, &mut writer, &mut Echo);
+    assert_eq!(rt; done, Err(SessionFault::Reader));
+    assert_eq!(rt; writer.into_inner().as_slice(), b"abc\nde\n".as_slice());
+}
+
+#[test]
+fn each_reply_is_flushed(rt: HostRuntime) {
+    let mut reader = OfReader::new(b"ab\n\ncd".as_slice());
+    let mut writer = Marks::new(rt.alloc());
+    let done = session(rt.alloc(), &mut reader, &mut writer, &mut Echo);
+    assert_eq!(rt; done, Ok(()));
+    assert_eq!(rt; writer.bytes(), b"ab\n|\n|cd\n|".as_slice());
+}
+
+#[test]
+fn a_full_device_has_a_beginning(rt: HostRuntime) {
+    let mut room = [0u8; 4];
+    let mut reader = OfReader::new(b"ab\ncd\nef\n".as_slice());
+    let mut writer = OfWriter::new(&mut room[..]);
+    let done = session(rt.alloc(), &mut reader, &mut writer, &mut Echo);
+    assert_eq!(rt; done, Err(SessionFault::Writer));
+    assert_eq!(rt; room.as_slice(), b"ab\nc".as_slice());
+}
