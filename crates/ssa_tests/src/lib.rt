@@ -6,6 +6,8 @@ mod bench_tests;
 #[cfg(test)]
 mod devices;
 #[cfg(test)]
+mod file_tests;
+#[cfg(test)]
 mod limit_tests;
 #[cfg(test)]
 mod object_file_tests;
