@@ -24,8 +24,8 @@ pub struct History {
 /// Who acts, and when.
 #[derive(Drop)]
 pub struct Act {
-    pub name: Text,
-    pub moment: Text,
+    pub name: String,
+    pub moment: String,
 }
 
 // What has changed from one state to the next.
@@ -108,10 +108,17 @@ impl History {
             return refusal(alloc, "HistoryFull");
         }
         let manager = Manager {
-            name: act.name.to_vec(alloc)?,
+            name: act.name.as_bytes().to_vec(alloc)?,
             applies: true,
         };
-        let outcome = apply(alloc, &self.present, &manager, config, force, &act.moment)?;
+        let outcome = apply(
+            alloc,
+            &self.present,
+            &manager,
+            config,
+            force,
+            act.moment.as_bytes(),
+        )?;
         self.follow(alloc, outcome)
     }
 
@@ -121,10 +128,16 @@ impl History {
             return refusal(alloc, "HistoryFull");
         }
         let manager = Manager {
-            name: act.name.to_vec(alloc)?,
+            name: act.name.as_bytes().to_vec(alloc)?,
             applies: false,
         };
-        let outcome = update(alloc, &self.present, &manager, object, &act.moment)?;
+        let outcome = update(
+            alloc,
+            &self.present,
+            &manager,
+            object,
+            act.moment.as_bytes(),
+        )?;
         self.follow(alloc, outcome)
     }
 

@@ -23,6 +23,20 @@ pub fn add_number(
     reply.extend_from_slice(digits.as_bytes())
 }
 
+/// Adds a comma, a name and a number.
+pub fn add_count(
+    alloc: Global,
+    text: &mut Text,
+    name: &str,
+    number: usize,
+) -> Result<(), AllocError> {
+    let digits = format!(in alloc; "{number}")?;
+    text.extend_from_slice(b", ")?;
+    text.extend_from_slice(name.as_bytes())?;
+    text.push(b' ')?;
+    text.extend_from_slice(digits.as_bytes())
+}
+
 /// Adds the elements of a path, each behind a stroke.
 pub fn add_path(reply: &mut Text, path: &[Text]) -> Result<(), AllocError> {
     reply.push(b' ')?;
@@ -62,6 +76,27 @@ pub fn conflict(alloc: Global, clashes: &[(Manager, Vec<Path>)]) -> Result<Text,
         add_paths(&mut reply, "fields", fields)?;
     }
     Ok(reply)
+}
+
+/// What a command is refused by.
+const REFUSALS: [&str; 6] = [
+    "Conflict",
+    "HistoryFull",
+    "NothingToRedo",
+    "NothingToUndo",
+    "TooManyManagers",
+    "TooManyPaths",
+];
+
+/// What the command was refused by, where the reply is a refusal.
+pub fn refusal_name(reply: &[u8]) -> Option<&'static str> {
+    let line = reply.strip_prefix(b"\n")?;
+    for name in REFUSALS {
+        if line.starts_with(name.as_bytes()) {
+            return Some(name);
+        }
+    }
+    None
 }
 
 /// The reply to a command that is refused without more to tell.

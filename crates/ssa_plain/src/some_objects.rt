@@ -1,10 +1,10 @@
 //! Objects of a schema with every kind, drawn by dice.
 ghost use Rattle.std.specs.Prelude.{◌<◌};
 
+use crate::stop::Stop;
 use ssa_json::value::Json;
 use ssa_schema::schema::Schema;
 use std::alloc::{AllocError, Global};
-use std::test::Fail;
 
 const HEAD: &str =
     "{\"type\":\"object\",\"properties\":{\"args\":{\"type\":\"array\",\"items\":{\"type\":\"string\"}}";
@@ -33,7 +33,7 @@ const SPEC: &str =
     ",\"spec\":{\"type\":\"object\",\"properties\":{\"image\":{\"type\":\"string\"},\"on\":{\"type\":\"boolean\"},\"size\":{\"type\":\"integer\"}}}}}";
 
 /// The schema of all that is drawn.
-pub fn schema(alloc: Global) -> Result<Schema, Fail> {
+pub fn schema(alloc: Global) -> Result<Schema, Stop> {
     let mut text = Vec::new(alloc);
     for part in [HEAD, LIMITS, ENV, HOSTS, NUMBERS, PARTS, PORTS, PORT, SPEC] {
         text.extend_from_slice(part.as_bytes())?;
@@ -309,7 +309,7 @@ fn add_value(
 }
 
 /// An object that has each of its fields one time in three.
-pub fn some_object(alloc: Global, state: &mut u64) -> Result<Json, Fail> {
+pub fn some_object(alloc: Global, state: &mut u64) -> Result<Json, Stop> {
     let mut text = Vec::new(alloc);
     add(&mut text, "{\"apiVersion\":\"v1\",\"kind\":\"K\"")?;
     add_metadata(alloc, &mut text, state)?;
@@ -321,6 +321,6 @@ pub fn some_object(alloc: Global, state: &mut u64) -> Result<Json, Fail> {
             add_value(alloc, &mut text, state, name)?;
         }
     }
-    text.push(b'}')?;
+    add(&mut text, "}")?;
     Ok(Json::read(alloc, &text, text.len())?)
 }
