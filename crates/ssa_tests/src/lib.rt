@@ -1,4 +1,4 @@
-//! Tests of plans, benches, bench files and sessions: of what no contract says.
+//! Tests of benches, bench files and sessions: of what no contract says.
 #![tactic(auto)]
 
 #[cfg(test)]
@@ -11,8 +11,6 @@ mod file_tests;
 mod limit_tests;
 #[cfg(test)]
 mod object_file_tests;
-#[cfg(test)]
-mod plan_tests;
 #[cfg(test)]
 mod sample;
 #[cfg(test)]

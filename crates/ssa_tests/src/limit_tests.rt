@@ -12,9 +12,15 @@ const NOTHING_CHANGED: &str =
 const MODIFIED: &str =
     "{\"added\":[],\"done\":\"apply\",\"managers\":1,\"modified\":[[\"f:spec\",\"f:replicas\"]],\"removed\":[]}";
 
+// A number in decimal.
+fn digits(alloc: Global, number: usize) -> Result<String, AllocError> {
+    format!(in alloc; "{number}")
+}
+
 // The object with so many replicas.
 fn scaled(alloc: Global, replicas: usize) -> Result<String, AllocError> {
-    let spec = format!(in alloc; ",\"spec\":{{\"replicas\":{replicas}}}")?;
+    let replicas = digits(alloc, replicas)?;
+    let spec = [",\"spec\":{\"replicas\":", replicas.as_str(), "}"].concat(alloc)?;
     web(alloc, "", spec.as_str())
 }
 
@@ -40,8 +46,8 @@ fn look(alloc: Global, story: &mut Story, replicas: usize) -> Result<(), AllocEr
 
 // The reply to a move.
 fn moved(alloc: Global, word: &str, past: usize, future: usize) -> Result<String, AllocError> {
-    let future = format!(in alloc; "{future}")?;
-    let past = format!(in alloc; "{past}")?;
+    let future = digits(alloc, future)?;
+    let past = digits(alloc, past)?;
     [
         "{\"done\":\"",
         word,
@@ -115,7 +121,7 @@ fn a_full_history_takes_no_command(rt: HostRuntime) -> Result<(), Fail> {
 
 // Adds an apply of a manager's own label, and that it is added.
 fn add_label(alloc: Global, story: &mut Story, number: usize) -> Result<(), AllocError> {
-    let number = format!(in alloc; "{number}")?;
+    let number = digits(alloc, number)?;
     let labels = ["\"labels\":{\"l", number.as_str(), "\":\"x\"},"].concat(alloc)?;
     let object = web(alloc, labels.as_str(), "")?;
     let reply = [
@@ -159,7 +165,7 @@ fn push_entry(
     version: &str,
     number: usize,
 ) -> Result<(), AllocError> {
-    let name = format!(in alloc; "{number}")?;
+    let name = digits(alloc, number)?;
     let entry = [
         if number == 0 { "" } else { "," },
         "{\"apiVersion\":\"example.com/",
@@ -206,7 +212,7 @@ fn a_file_has_64_entries(rt: HostRuntime) -> Result<(), Fail> {
 fn numbered(alloc: Global, before: &str, count: usize, after: &str) -> Result<String, AllocError> {
     let mut all = String::new(alloc);
     for number in 10_000..10_000 + count.min(90_000) {
-        let digits = format!(in alloc; "{number}")?;
+        let digits = digits(alloc, number)?;
         let comma = if number == 10_000 { "" } else { "," };
         let item = [comma, before, digits.as_str(), after].concat(alloc)?;
         all.push_str(item.as_str())?;

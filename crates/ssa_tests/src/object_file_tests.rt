@@ -243,7 +243,7 @@ fn files_are_shown_again(rt: HostRuntime) -> Result<(), Fail> {
 }
 
 // The managers of the file meet others' commands.
-const OWNED: [(&str, &str); 3] = [
+const OWNED: [(&str, &str); 4] = [
     (
         "{\"do\":\"owners\",\"path\":[\"f:spec\",\"f:replicas\"]}",
         "{\"done\":\"owners\",\"owners\":[{\"manager\":\"m1\",\"operation\":\"Apply\"}]}",
@@ -255,6 +255,10 @@ const OWNED: [(&str, &str); 3] = [
     (
         "{\"at\":\"2024-05-01T10:00:03Z\",\"do\":\"apply\",\"manager\":\"m1\",\"object\":{\"apiVersion\":\"example.com/v1\",\"kind\":\"App\",\"metadata\":{\"name\":\"web\"},\"spec\":{\"replicas\":5}}}",
         "{\"added\":[],\"done\":\"apply\",\"managers\":2,\"modified\":[[\"f:spec\",\"f:replicas\"]],\"removed\":[]}",
+    ),
+    (
+        "{\"at\":\"2024-05-01T10:00:04Z\",\"do\":\"update\",\"manager\":\"m2\",\"object\":{\"apiVersion\":\"example.com/v1\",\"kind\":\"App\",\"metadata\":{\"name\":\"web\"},\"spec\":{\"image\":\"b:1\",\"replicas\":5}}}",
+        "{\"added\":[],\"done\":\"update\",\"managers\":2,\"modified\":[[\"f:spec\",\"f:image\"]],\"removed\":[]}",
     ),
 ];
 

@@ -1,7 +1,6 @@
 //! The sample schema, objects of it, and their benches.
 
 use ssa_bench::bench::Bench;
-use ssa_bench::fault::Fault;
 use ssa_json::moment::Moment;
 use ssa_json::reader::OfReader;
 use ssa_json::sink::OfWriter;
@@ -61,15 +60,10 @@ pub fn moment() -> Result<Moment, Fail> {
     }
 }
 
-// What the object file makes.
-fn made(alloc: Global, object: &str) -> Result<Result<Bench, Fault>, Fail> {
-    Ok(Bench::new(alloc, schema(alloc)?, json(alloc, object)?))
-}
-
 /// The bench of the object without further members.
 pub fn bench(alloc: Global) -> Result<Bench, Fail> {
-    let object = web(alloc, "", "")?;
-    match made(alloc, object.as_str())? {
+    let object = json(alloc, web(alloc, "", "")?.as_str())?;
+    match Bench::new(alloc, schema(alloc)?, object) {
         Ok(bench) => Ok(bench),
         Err(_) => Err(Fail::new("the object is refused")),
     }
@@ -87,7 +81,8 @@ pub fn answers(alloc: Global, bench: &mut Bench, lines: &str) -> Result<Vec<u8>,
 
 /// What the bench of an object file answers to the lines; where there is none, the fault line.
 pub fn replies(alloc: Global, object: &str, lines: &str) -> Result<Vec<u8>, Fail> {
-    match made(alloc, object)? {
+    let object = json(alloc, object)?;
+    match Bench::new(alloc, schema(alloc)?, object) {
         Ok(mut bench) => answers(alloc, &mut bench, lines),
         Err(fault) => Ok(fault_text(alloc, &fault)?),
     }

@@ -13,16 +13,7 @@ const IMAGE: &str = ",\"spec\":{\"image\":\"a\"}";
 const ENTRY: &str =
     "\"managedFields\":[{\"apiVersion\":\"example.com/v1\",\"fieldsType\":\"FieldsV1\",\"fieldsV1\":{\"f:spec\":{\"f:image\":{}}},\"manager\":\"kubectl\",\"operation\":\"Apply\",\"time\":\"2024-05-01T10:00:01Z\"}],";
 
-// The bench of a bare object on which an image was applied.
-fn applied(alloc: Global) -> Result<Bench, Fail> {
-    let object = web(alloc, "", IMAGE)?;
-    let line = line(alloc, "apply", "kubectl", object.as_str())?;
-    let mut bench = bench(alloc)?;
-    drop(answers(alloc, &mut bench, line.as_str())?);
-    Ok(bench)
-}
-
-// The file of that bench, flushed once at its end.
+// The file of the bench on which an image was applied, flushed once at its end.
 fn file(alloc: Global) -> Result<String, AllocError> {
     let first = web(alloc, "", "")?;
     let second = web(alloc, ENTRY, IMAGE)?;
@@ -39,8 +30,11 @@ fn file(alloc: Global) -> Result<String, AllocError> {
     Ok(text)
 }
 
-// What stands in a device on which the bench is saved.
-fn saved(alloc: Global, bench: &Bench) -> Result<Marks, Fail> {
+// Applies an image, and saves the bench: what then stands in the device.
+fn apply_and_save(alloc: Global, bench: &mut Bench) -> Result<Marks, Fail> {
+    let object = web(alloc, "", IMAGE)?;
+    let line = line(alloc, "apply", "kubectl", object.as_str())?;
+    drop(answers(alloc, bench, line.as_str())?);
     let mut sink = Marks::new(alloc);
     match bench.save(alloc, &mut sink) {
         Ok(()) => Ok(sink),
@@ -50,10 +44,10 @@ fn saved(alloc: Global, bench: &Bench) -> Result<Marks, Fail> {
 
 #[test]
 fn a_saved_bench_is_flushed(rt: HostRuntime) -> Result<(), Fail> {
-    let alloc = rt.alloc();
-    let bench = applied(alloc)?;
-    let device = saved(alloc, &bench)?;
-    assert!(rt; device.bytes() == file(alloc)?.as_bytes());
+    let mut bench = bench(rt.alloc())?;
+    let device = apply_and_save(rt.alloc(), &mut bench);
+    drop(bench);
+    assert!(rt; device?.bytes() == file(rt.alloc())?.as_bytes());
     Ok(())
 }
 
@@ -65,10 +59,11 @@ fn fails(alloc: Global, bench: &Bench, room: &mut [u8]) -> bool {
 
 #[test]
 fn a_full_device_is_told(rt: HostRuntime) -> Result<(), Fail> {
-    let alloc = rt.alloc();
-    let bench = applied(alloc)?;
     let mut room = [0u8; 9];
-    assert!(rt; fails(alloc, &bench, &mut room[..]));
+    let bench = bench(rt.alloc())?;
+    let has_failed = fails(rt.alloc(), &bench, &mut room[..]);
+    drop(bench);
+    assert!(rt; has_failed);
     assert_eq!(rt; room, *b"{\"format\"");
     Ok(())
 }
