@@ -14,6 +14,8 @@ mod fields_tests;
 #[cfg(test)]
 mod json_tests;
 #[cfg(test)]
+mod kind_tests;
+#[cfg(test)]
 mod merge_tests;
 #[cfg(test)]
 mod samples;
