@@ -2,14 +2,15 @@
 use Rattle.std.proofs.Common.{◌≡◌, ℕ, ◌<◌, arith, Bool, true, false, not, length, refl, sym, ap, subst, ◌∙◌}
 use Rattle.std.proofs.lemmas.Bool.Decides.{nat_tests}
 use Rattle.std.specs.Prelude.{Result, Ok, Err, if◌then◌else◌, nat_le, codes}
-use Rattle.ssa_model.specs.Json.{Text, Json}
-use Rattle.ssa_model.specs.Body.{Body}
-use Rattle.ssa_model.specs.Operations.{State, Refusal, clashes, strip}
-use Rattle.ssa_model.specs.History.{Bench, appended, is_manager_name, past_len, present, with_timeline}
-use Rattle.ssa_model.specs.History as history
-use Rattle.ssa_model.specs.Answers as model
-use Rattle.ssa_model.specs.Answers.{Answer, fault, refused, history_full, manager_name, comparison, accept, accept_or_refuse, command_body, with_body}
-use Rattle.ssa_model.specs.Valid.{IsValidState}
+use Rattle.ssa_model.specs.definitions.Limits.{most_past}
+use Rattle.ssa_model.specs.definitions.Json.{Text, Json}
+use Rattle.ssa_model.specs.definitions.Body.{Body}
+use Rattle.ssa_model.specs.definitions.Operations.{State, Refusal, clashes, strip}
+use Rattle.ssa_model.specs.definitions.History.{Bench, appended, is_manager_name, past_len, present, with_timeline}
+use Rattle.ssa_model.specs.definitions.History as history
+use Rattle.ssa_model.specs.definitions.Answers as model
+use Rattle.ssa_model.specs.definitions.Answers.{Answer, fault, refused, history_full, manager_name, comparison, accept, accept_or_refuse, command_body, with_body}
+use Rattle.ssa_model.specs.definitions.Valid.{IsValidState}
 use Rattle.ssa_merge.specs.Plans.{IsPlan, IsPlanned}
 use Rattle.ssa_merge.specs.States.{state_view}
 use Rattle.ssa_merge.specs.declared.plan.Plan.{Plan}
@@ -72,19 +73,19 @@ module _ (bench : Bench) (who : Text) (v : Json) (go : Body → Answer) where
 
   -- the tests come first
   pub with_body-tested : (r : Result Body model.Fault) → tested_body bench who v ≡ r → with_body bench who v go ≡ answered r
-  with_body-tested r e = in_order (nat_le 1000 (past_len bench.timeline)) (is_manager_name who) (command_body bench v) ∙ ap answered e
+  with_body-tested r e = in_order (nat_le most_past (past_len bench.timeline)) (is_manager_name who) (command_body bench v) ∙ ap answered e
 
 -- ---- what was planned
 
 module _ (bench : Bench) (word : Text) (label : Label) where
   -- a plan that is kept to is the answer
-  planned : (plan : Plan) (p : Prepared) (after : State) → p.step.label ≡ label → p.step.state ≡ plan.target → changed_view p.changed ≡ changed_by plan → IsPlan (present bench.timeline) plan after → IsValidState bench.schema.1 (state_view plan.target)
+  planned : (plan : Plan) (p : Prepared) (after : State) → p.step.label ≡ label → p.step.state ≡ plan.target → changed_view p.changed ≡ changed_by plan → IsPlan (present bench.timeline) plan after → IsValidState bench.schema.kind (state_view plan.target)
       → IsAccepted bench p (accept bench word (label_view label) after) word
   planned plan p after l s c is valid =
       let target : state_view p.step.state ≡ after = ap state_view s ∙ is.target_is in
       let compared : comparison (present bench.timeline) after ≡ changed_by plan =
       λ i. record { added = sym is.comparison_is.added_are i; modified = sym is.comparison_is.modified_are i; removed = sym is.comparison_is.removed_are i; managers = length (sym is.target_is i).table } in
-      let is_valid : states.State → Type 0 = λ t. IsValidState bench.schema.1 (state_view t) in
+      let is_valid : states.State → Type 0 = λ t. IsValidState bench.schema.kind (state_view t) in
       record {
         reply = ap (model.changed word) (compared ∙ sym c);
         next = λ i. with_timeline bench (appended bench.timeline (label_view (sym l i)) (sym target i));
@@ -92,7 +93,7 @@ module _ (bench : Bench) (word : Text) (label : Label) where
       }
 
   pub accepted : (plan : Plan) (p : Prepared) (given : Result State Refusal) → p.step.label ≡ label → p.step.state ≡ plan.target → changed_view p.changed ≡ changed_by plan
-      → IsPlanned (present bench.timeline) (Ok plan) given → IsValidState bench.schema.1 (state_view plan.target) → IsAccepted bench p (accept_or_refuse bench word (label_view label) given) word
+      → IsPlanned (present bench.timeline) (Ok plan) given → IsValidState bench.schema.kind (state_view plan.target) → IsAccepted bench p (accept_or_refuse bench word (label_view label) given) word
   accepted plan p given l s c is valid =
       let tells : Answer → Type 0 = λ a. IsAccepted bench p a word in
       subst tells (ap (accept_or_refuse bench word (label_view label)) (sym is.1)) (planned plan p is.0 l s c is.2 valid)
@@ -119,11 +120,11 @@ planned-at to r now present name who n w h =
 not_full : (most n : ℕ) → n < most → nat_le most n ≡ false
 not_full most n h = grind (arith, nat_tests)
 
-pub stripped-accepted : (bench : Bench) (plan : Plan) (p : Prepared) (past : ℕ) → past ≡ past_len bench.timeline → past < 1000 → p.step.label ≡ Strip → p.step.state ≡ plan.target → changed_view p.changed ≡ changed_by plan
-    → IsPlan (present bench.timeline) plan (strip (present bench.timeline)) → IsValidState bench.schema.1 (state_view plan.target)
-    → IsAccepted bench p (if nat_le 1000 (past_len bench.timeline) then (fault history_full, bench) else accept bench (codes "strip") history.stripped (strip (present bench.timeline))) (codes "strip")
+pub stripped-accepted : (bench : Bench) (plan : Plan) (p : Prepared) (past : ℕ) → past ≡ past_len bench.timeline → past < most_past → p.step.label ≡ Strip → p.step.state ≡ plan.target → changed_view p.changed ≡ changed_by plan
+    → IsPlan (present bench.timeline) plan (strip (present bench.timeline)) → IsValidState bench.schema.kind (state_view plan.target)
+    → IsAccepted bench p (if nat_le most_past (past_len bench.timeline) then (fault history_full, bench) else accept bench (codes "strip") history.stripped (strip (present bench.timeline))) (codes "strip")
 stripped-accepted bench plan p past count few l s c is valid =
     let answer = accept bench (codes "strip") history.stripped (strip (present bench.timeline)) in
     let tells : Answer → Type 0 = λ a. IsAccepted bench p a (codes "strip") in
-    subst tells (ap (λ b. if b then (fault history_full, bench) else answer) (sym (ap (nat_le 1000) (sym count) ∙ not_full 1000 past few)))
+    subst tells (ap (λ b. if b then (fault history_full, bench) else answer) (sym (ap (nat_le most_past) (sym count) ∙ not_full most_past past few)))
     (planned bench (codes "strip") Strip plan p (strip (present bench.timeline)) l s c is valid)

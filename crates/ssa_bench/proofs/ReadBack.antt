@@ -2,32 +2,30 @@
 use Rattle.std.proofs.Common.{◌≡◌, List, [], ◌∷◌, true}
 use Rattle.std.specs.List.{All}
 use Rattle.std.proofs.lemmas.List.Elements.{All-head, All-tail, All-nil, All-cons}
-use Rattle.ssa_model.specs.History as model
-use Rattle.ssa_model.specs.Lawful.{is_lawful}
-use Rattle.ssa_model.specs.Objects.{is_identity}
-use Rattle.ssa_model.specs.ShownObjects.{leaves_identity}
+use Rattle.ssa_model.specs.definitions.History as model
+use Rattle.ssa_model.specs.definitions.Lawful.{IsSchemaKind}
+use Rattle.ssa_model.specs.definitions.Objects.{is_identity}
 use Rattle.ssa_model.proofs.ShownStates.{shown_state_is_taken}
 use Rattle.ssa_json.specs.Readings.{readings}
 use Rattle.ssa_turn.specs.TablesBack.{MakesTableBack, AllTablesBack}
 use Rattle.ssa_bench.specs.ReadBack.{MakesTakenBack, AllTakenBack}
-use Rattle.ssa_model.specs.ValidTimelines.{MakesValid, AllValid}
+use Rattle.ssa_model.specs.definitions.Valid.{MakesValid, AllValid}
 
 -- what the law on shown states asks of a bench
 pub record IsShown (n : model.Bench) : Type 0 where
-  pub lawful : is_lawful n.schema.1 ≡ true
-  pub apart : leaves_identity n.schema.1 ≡ true
+  pub accepted : IsSchemaKind n.schema.kind
   pub named : is_identity n.identity ≡ true
-  pub valid : AllValid n.schema.1 n.timeline
+  pub valid : AllValid n.schema.kind n.timeline
 
 pub all-taken : (n : model.Bench) → IsShown n → AllTablesBack n.timeline → AllTakenBack n
 all-taken n h back = record {
-  first = shown_state_is_taken readings n.schema n.identity n.timeline.first h.named h.lawful h.apart h.valid.first back.first;
+  first = shown_state_is_taken readings n.schema n.identity n.timeline.first h.named h.accepted h.valid.first back.first;
   later = by n.timeline.later h.valid.later back.later;
 }
   where
-    by : (ts : List model.Step) → All (MakesValid n.schema.1) ts → All MakesTableBack ts → All (MakesTakenBack n) ts
+    by : (ts : List model.Step) → All (MakesValid n.schema.kind) ts → All MakesTableBack ts → All (MakesTakenBack n) ts
     by [] valid read = All-nil (MakesTakenBack n)
     by (t ∷ ts) valid read =
         All-cons (MakesTakenBack n) t ts
-        (shown_state_is_taken readings n.schema n.identity t.state h.named h.lawful h.apart (All-head (MakesValid n.schema.1) t ts valid) (All-head MakesTableBack t ts read))
-        (by ts (All-tail (MakesValid n.schema.1) t ts valid) (All-tail MakesTableBack t ts read))
+        (shown_state_is_taken readings n.schema n.identity t.state h.named h.accepted (All-head (MakesValid n.schema.kind) t ts valid) (All-head MakesTableBack t ts read))
+        (by ts (All-tail (MakesValid n.schema.kind) t ts valid) (All-tail MakesTableBack t ts read))

@@ -1,18 +1,20 @@
 -- Taking the body of a command's object, test by test.
 use Rattle.std.proofs.Common.{List, [], ◌∷◌, Option, Some, None, ◌≡◌, Bool, true, false, not, ◌&&◌, refl, sym, ap, ◌∙◌, true≢false}
 use Rattle.std.specs.Prelude.{if◌then◌else◌, Ok, Err, Result, is_some, unwrap_or, option_map}
-use Rattle.ssa_model.specs.Json.{Json, scalar, list, object, is_object}
-use Rattle.ssa_model.specs.History.{Schema, Bench}
-use Rattle.ssa_model.specs.Body as bodies
-use Rattle.ssa_model.specs.Kind as kinds
-use Rattle.ssa_model.specs.Kind.{Kind, faults, wrong_type}
-use Rattle.ssa_model.specs.Body.{flat}
-use Rattle.ssa_model.specs.Objects.{identity_of, body_value, file_value}
-use Rattle.ssa_model.specs.GivenEntries as entries
-use Rattle.ssa_model.specs.Table.{Table}
-use Rattle.ssa_model.specs.Operations.{State}
-use Rattle.ssa_model.specs.Answers as model
-use Rattle.ssa_model.specs.Answers.{body_fault, refused, identity_fault, managed_fields_given, has_identity, gives_managed_fields, names_itself, body_or_fault, command_body, bench_of, given_table, with_lone_state, with_table, file_state}
+use Rattle.ssa_model.specs.definitions.Json.{Json, scalar, list, object, is_object}
+use Rattle.ssa_model.specs.definitions.Schema.{Schema}
+use Rattle.ssa_model.specs.definitions.History.{Bench}
+use Rattle.ssa_model.specs.definitions.Body as bodies
+use Rattle.ssa_model.specs.definitions.Kind as kinds
+use Rattle.ssa_model.specs.definitions.Kind.{Kind, faults, wrong_type}
+use Rattle.ssa_model.specs.definitions.Body.{flat}
+use Rattle.ssa_model.specs.definitions.Objects as objects
+use Rattle.ssa_model.specs.definitions.Objects.{identity_of, body_value, file_value}
+use Rattle.ssa_model.specs.definitions.GivenEntries as entries
+use Rattle.ssa_model.specs.definitions.Table.{Table}
+use Rattle.ssa_model.specs.definitions.Operations.{State}
+use Rattle.ssa_model.specs.definitions.Answers as model
+use Rattle.ssa_model.specs.definitions.Answers.{body_fault, refused, identity_fault, managed_fields_given, has_identity, gives_managed_fields, names_itself, body_or_fault, command_body, bench_of, given_table, with_lone_state, with_table, file_state}
 use Rattle.ssa_model.proofs.GivenBodies.{by_faults}
 use Rattle.ssa_schema.specs.Finds.{Told, told, told_view}
 use Rattle.ssa_schema.specs.Refusals.{first_of}
@@ -58,10 +60,10 @@ passed-on OutOfMemory r s go h = tt
 
 -- ---- the body of a value
 
-first-told : (kind : Kind) (v : Json) (f : BodyFault) (fs : List kinds.Fault) → ◌≡◌ {A = Option Told} (Some (told_view f)) (option_map told (first_of fs))
+first-told : (kind : Kind) (v : Json) (f : BodyFault) (fs : List kinds.FaultAt) → ◌≡◌ {A = Option Told} (Some (told_view f)) (option_map told (first_of fs))
     → (g : model.Fault) × (by_faults kind v fs ≡ Err g) × IsFault (Body f) g
 first-told kind v f [] h = absurd (true≢false (ap is_some h))
-first-told kind v f (m ∷ ms) h = (body_fault m.0 m.1, refl, (m, refl, ap (λ o. unwrap_or {T = Told} o (told_view f)) h))
+first-told kind v f (m ∷ ms) h = (body_fault m.fault m.path, refl, (m, refl, ap (λ o. unwrap_or {T = Told} o (told_view f)) h))
 
 pub body_or_fault-first : (kind : Kind) (v : Json) (f : BodyFault) → ◌≡◌ {A = Option Told} (Some (told_view f)) (option_map told (first_of (faults kind v []))) → IsGiven (Err (Body f)) (body_or_fault kind v)
 body_or_fault-first kind v f h = first-told kind v f (faults kind v []) h
@@ -69,7 +71,7 @@ body_or_fault-first kind v f h = first-told kind v f (faults kind v []) h
 -- ---- a command's object
 
 abbrev tested : Bench → Json → Bool → Bool → Result bodies.Body model.Fault
-tested bench v identity managed = if not identity then Err identity_fault else (if managed then Err managed_fields_given else body_or_fault bench.schema.1 (body_value v))
+tested bench v identity managed = if not identity then Err identity_fault else (if managed then Err managed_fields_given else body_or_fault bench.schema.kind (body_value v))
 
 -- the tests in their order, once the value is an object
 pub command_body-tested : (bench : Bench) (v : Json) → is_object v ≡ true → command_body bench v ≡ tested bench v (has_identity bench v) (gives_managed_fields v)
@@ -77,7 +79,7 @@ command_body-tested bench (object ms) h = refl
 command_body-tested bench (list vs) h = absurd (true≢false (sym h))
 command_body-tested bench (scalar s) h = absurd (true≢false (sym h))
 
-pub command_body-taken : (bench : Bench) (v : Json) → is_object v ≡ true → has_identity bench v ≡ true → gives_managed_fields v ≡ false → command_body bench v ≡ body_or_fault bench.schema.1 (body_value v)
+pub command_body-taken : (bench : Bench) (v : Json) → is_object v ≡ true → has_identity bench v ≡ true → gives_managed_fields v ≡ false → command_body bench v ≡ body_or_fault bench.schema.kind (body_value v)
 command_body-taken bench v o i m = command_body-tested bench v o ∙ (λ k. tested bench v (i k) (m k))
 
 pub regrouped : (a b c : Bool) → (a && b) ≡ true → c ≡ true → (a && (b && c)) ≡ true
@@ -108,7 +110,7 @@ file_state-body kind v body r e h = ap (and_table v) e ∙ with_table-or_fault b
 abbrev made : Schema → Json → Bool → Result State model.Fault → Result Bench model.Fault
 made schema v identity r = if not identity then Err identity_fault else with_lone_state schema (identity_of v) r
 
-bench_of-tested : (schema : Schema) (v : Json) → is_object v ≡ true → bench_of readings schema v ≡ made schema v (names_itself v) (file_state readings schema.1 v)
+bench_of-tested : (schema : Schema) (v : Json) → is_object v ≡ true → bench_of readings schema v ≡ made schema v (names_itself v) (file_state readings schema.kind v)
 bench_of-tested schema (object ms) h = refl
 bench_of-tested schema (list vs) h = absurd (true≢false (sym h))
 bench_of-tested schema (scalar s) h = absurd (true≢false (sym h))
@@ -118,26 +120,26 @@ bench_of-no_object schema (object ms) h = absurd (true≢false h)
 bench_of-no_object schema (list vs) h = refl
 bench_of-no_object schema (scalar s) h = refl
 
-abbrev shown_identity : Json → Bool → Option (List (Option Json))
+abbrev shown_identity : Json → Bool → Option objects.Identity
 shown_identity v b = if b then Some (identity_of v) else None
 
-named : (v : Json) (b : Bool) (i : List (Option Json)) → ◌≡◌ {A = Option (List (Option Json))} (Some i) (shown_identity v b) → (b ≡ true) × (i ≡ identity_of v)
-named v true i h = (refl, ap (λ o. unwrap_or {T = List (Option Json)} o i) h)
+named : (v : Json) (b : Bool) (i : objects.Identity) → ◌≡◌ {A = Option objects.Identity} (Some i) (shown_identity v b) → (b ≡ true) × (i ≡ identity_of v)
+named v true i h = (refl, ap (λ o. unwrap_or {T = objects.Identity} o i) h)
 named v false i h = absurd (true≢false (ap is_some h))
 
-unnamed : (v : Json) (b : Bool) → ◌≡◌ {A = Option (List (Option Json))} None (shown_identity v b) → b ≡ false
+unnamed : (v : Json) (b : Bool) → ◌≡◌ {A = Option objects.Identity} None (shown_identity v b) → b ≡ false
 unnamed v true h = absurd (true≢false (ap is_some (sym h)))
 unnamed v false h = refl
 
 -- the identity that was found is the object's
-pub identity-found : (v : Json) (i : List (Option Json)) → ◌≡◌ {A = Option (List (Option Json))} (Some i) (identity_in v) → i ≡ identity_of v
+pub identity-found : (v : Json) (i : objects.Identity) → ◌≡◌ {A = Option objects.Identity} (Some i) (identity_in v) → i ≡ identity_of v
 identity-found v i h = (named v (names_itself v) i h).1
 
-pub bench_of-nameless : (schema : Schema) (v : Json) → is_object v ≡ true → ◌≡◌ {A = Option (List (Option Json))} None (identity_in v) → bench_of readings schema v ≡ Err identity_fault
-bench_of-nameless schema v o h = bench_of-tested schema v o ∙ ap (λ b. made schema v b (file_state readings schema.1 v)) (unnamed v (names_itself v) h)
+pub bench_of-nameless : (schema : Schema) (v : Json) → is_object v ≡ true → ◌≡◌ {A = Option objects.Identity} None (identity_in v) → bench_of readings schema v ≡ Err identity_fault
+bench_of-nameless schema v o h = bench_of-tested schema v o ∙ ap (λ b. made schema v b (file_state readings schema.kind v)) (unnamed v (names_itself v) h)
 
-pub bench_of-state : (schema : Schema) (v : Json) (i : List (Option Json)) (r : Result State model.Fault) → is_object v ≡ true → ◌≡◌ {A = Option (List (Option Json))} (Some i) (identity_in v)
-    → file_state readings schema.1 v ≡ r → bench_of readings schema v ≡ with_lone_state schema i r
+pub bench_of-state : (schema : Schema) (v : Json) (i : objects.Identity) (r : Result State model.Fault) → is_object v ≡ true → ◌≡◌ {A = Option objects.Identity} (Some i) (identity_in v)
+    → file_state readings schema.kind v ≡ r → bench_of readings schema v ≡ with_lone_state schema i r
 bench_of-state schema v i r o h e =
     let found = named v (names_itself v) i h in
     bench_of-tested schema v o ∙ (λ k. made schema v (found.0 k) (e k)) ∙ (λ k. with_lone_state schema (sym found.1 k) r)

@@ -1,23 +1,25 @@
 -- What commands on a bench answer, and how the bench goes on.
-use Rattle.std.specs.Prelude.{◌≡◌, List, [], Option, None, Some, Result, Ok, Err, if◌then◌else◌, not, nat_le, length, codes}
-use Rattle.ssa_model.specs.Json.{Text, Json}
-use Rattle.ssa_model.specs.Body.{Body}
-use Rattle.ssa_model.specs.Table.{Table}
-use Rattle.ssa_model.specs.GivenEntries.{EntryFault, table_of}
-use Rattle.ssa_model.specs.History as model
-use Rattle.ssa_model.specs.History.{appended, is_manager_name, past_len, present, with_timeline}
-use Rattle.ssa_model.specs.Operations as operations
-use Rattle.ssa_model.specs.Operations.{update}
-use Rattle.ssa_model.specs.Answers as answers
-use Rattle.ssa_model.specs.Answers.{Answer}
-use Rattle.ssa_model.specs.Valid.{IsValidState}
+use Rattle.std.specs.Prelude.{◌≡◌, List, [], ◌∷◌, Option, None, Some, Result, Ok, Err, if◌then◌else◌, not, nat_le, length, codes}
+use Rattle.ssa_model.specs.definitions.Limits.{most_past}
+use Rattle.ssa_model.specs.definitions.Objects.{value_at}
+use Rattle.ssa_model.specs.definitions.Commands.{text_in}
+use Rattle.ssa_model.specs.definitions.Json.{Text, Json}
+use Rattle.ssa_model.specs.definitions.Body.{Body}
+use Rattle.ssa_model.specs.definitions.Table.{Table}
+use Rattle.ssa_model.specs.definitions.GivenEntries.{EntryFault, table_of}
+use Rattle.ssa_model.specs.definitions.History as model
+use Rattle.ssa_model.specs.definitions.History.{appended, is_manager_name, past_len, present, with_timeline}
+use Rattle.ssa_model.specs.definitions.Operations as operations
+use Rattle.ssa_model.specs.definitions.Operations.{update}
+use Rattle.ssa_model.specs.definitions.Answers as answers
+use Rattle.ssa_model.specs.definitions.Answers.{Answer}
+use Rattle.ssa_model.specs.definitions.Valid.{IsValidState}
 use Rattle.ssa_json.specs.Readings.{readings}
 use Rattle.ssa_merge.specs.States.{state_view, updater}
 use Rattle.ssa_merge.specs.declared.plan.Plan.{Plan}
 use Rattle.ssa_merge.specs.declared.state.State.{State}
 use Rattle.ssa_bench.specs.Faults.{IsFault, IsGiven}
 use Rattle.ssa_turn.specs.Histories.{label_view}
-use Rattle.ssa_object.specs.Identities.{version_of}
 use Rattle.ssa_bench.specs.declared.fault.Fault.{Fault}
 use Rattle.ssa_bench.specs.declared.fault.Fault.TheVariants.{OutOfMemory}
 use Rattle.ssa_bench.specs.declared.prepared.Changed.{Changed}
@@ -36,9 +38,13 @@ abbrev pub table_or_fault : Result Table EntryFault → Result Table answers.Fau
 table_or_fault (Ok table) = Ok table
 table_or_fault (Err f) = Err (answers.entry_fault f)
 
--- the table that these entries give under the version of the identity; no entries are an empty table
-abbrev pub table_of_entries : Body → List (Option Json) → Option Json → Result Table EntryFault
-table_of_entries body identity given = elim given [ None ↦ Ok [] | Some entries ↦ table_of readings body (version_of identity) entries ]
+-- the table that these entries give under a version; no entries are an empty table
+abbrev pub table_of_entries : Body → Text → Option Json → Result Table EntryFault
+table_of_entries body version given = elim given [ None ↦ Ok [] | Some entries ↦ table_of readings body version entries ]
+
+-- the version that an object says
+abbrev pub version_in : Json → Text
+version_in v = text_in (value_at (codes "apiVersion" ∷ []) v)
 
 -- the state is the given one, or the fault is
 abbrev pub IsGivenState : Result State Fault → Result operations.State answers.Fault → Type 0
@@ -48,8 +54,8 @@ IsGivenState (Err f) given = IsGiven {A = operations.State} (Err f) given
 -- ---- commands that make a state
 
 -- the new state is valid
-abbrev pub CanCommit : model.Bench → Prepared → Type 0
-CanCommit bench p = IsValidState bench.schema.1 (state_view p.step.state)
+abbrev pub LeadsToValid : model.Bench → Prepared → Type 0
+LeadsToValid bench p = IsValidState bench.schema.kind (state_view p.step.state)
 
 -- the bench with the prepared state behind its present one
 abbrev pub next_bench : model.Bench → Prepared → model.Bench
@@ -62,7 +68,7 @@ changed_by p = record { added = p.comparison.added; modified = p.comparison.modi
 -- the body of an Apply's or an Update's object, or the command's first fault
 abbrev pub tested_body : model.Bench → Text → Json → Result Body answers.Fault
 tested_body bench who v =
-    if nat_le 1000 (past_len bench.timeline) then Err answers.history_full
+    if nat_le most_past (past_len bench.timeline) then Err answers.history_full
     else (if not (is_manager_name who) then Err answers.manager_name else answers.command_body bench v)
 
 -- the answer to an Update to a body
@@ -80,7 +86,11 @@ pub record IsRefused (bench : model.Bench) (f : Fault) (given : Answer) : Type 0
 pub record IsAccepted (bench : model.Bench) (p : Prepared) (given : Answer) (word : Text) : Type 0 where
   pub reply : given.0 ≡ answers.changed word (changed_view p.changed)
   pub next : given.1 ≡ next_bench bench p
-  pub valid : CanCommit bench p
+  pub valid : LeadsToValid bench p
+
+-- the answer to a command on this bench, as it is now, tells what is prepared
+abbrev pub IsPreparedOn : model.Bench → Prepared → Type 0
+IsPreparedOn bench p = (c : answers.Command) × (word : Text) × IsAccepted bench p (answers.answer bench c) word
 
 -- What is prepared is the given answer; of want of memory nothing is said.
 abbrev pub IsPrepared : model.Bench → Result Prepared Fault → Answer → Text → Type 0

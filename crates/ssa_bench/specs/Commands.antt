@@ -1,7 +1,7 @@
 -- What commands are.
 use Rattle.std.specs.Prelude.{codes, string_bytes}
-use Rattle.ssa_model.specs.Json.{Text}
-use Rattle.ssa_model.specs.Answers as model
+use Rattle.ssa_model.specs.definitions.Json.{Text}
+use Rattle.ssa_model.specs.definitions.Answers as model
 use Rattle.ssa_json.specs.View.{view}
 use Rattle.ssa_bench.specs.declared.command.Command.{Command}
 use Rattle.ssa_bench.specs.declared.command.Command.TheVariants.{Apply, Update, Strip}

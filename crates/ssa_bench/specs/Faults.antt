@@ -1,9 +1,9 @@
 -- Which fault is told, and results that may be refused.
 use Rattle.std.specs.Prelude.{◌≡◌, Result, Ok, Err}
-use Rattle.ssa_model.specs.Kind as kinds
-use Rattle.ssa_model.specs.Operations as operations
-use Rattle.ssa_model.specs.GivenEntries as entries
-use Rattle.ssa_model.specs.Answers as model
+use Rattle.ssa_model.specs.definitions.Kind as kinds
+use Rattle.ssa_model.specs.definitions.Operations as operations
+use Rattle.ssa_model.specs.definitions.GivenEntries as entries
+use Rattle.ssa_model.specs.definitions.Answers as model
 use Rattle.ssa_schema.specs.Finds.{told, told_view}
 use Rattle.ssa_merge.specs.Managers.{clashes_view}
 use Rattle.ssa_merge.specs.GivenEntries.{IsEntryFault}
@@ -12,7 +12,7 @@ use Rattle.ssa_bench.specs.declared.fault.Fault.TheVariants.{Body, TooManyPaths,
 
 -- The fault is the given one; a body's fault tells its path by the texts of the elements.
 abbrev pub IsFault : Fault → model.Fault → Type 0
-IsFault (Body f) g = (m : kinds.Fault) × (g ≡ model.body_fault m.0 m.1) × (told_view f ≡ told m)
+IsFault (Body f) g = (m : kinds.FaultAt) × (g ≡ model.body_fault m.fault m.path) × (told_view f ≡ told m)
 IsFault TooManyPaths g = g ≡ model.refused operations.too_many_paths
 IsFault Identity g = g ≡ model.identity_fault
 IsFault ManagedFieldsGiven g = g ≡ model.managed_fields_given

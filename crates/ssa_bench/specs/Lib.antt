@@ -4,3 +4,5 @@ pub mod Faults
 pub mod Refusals
 pub mod Benches
 pub mod ReadBack
+pub mod Taking
+pub mod Loading

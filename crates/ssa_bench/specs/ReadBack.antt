@@ -1,10 +1,10 @@
 -- Histories whose states are read back from what they are shown as.
 use Rattle.std.specs.Prelude.{◌≡◌, Ok}
 use Rattle.std.specs.List.{All}
-use Rattle.ssa_model.specs.Answers.{bench_of, lone_bench}
-use Rattle.ssa_model.specs.BenchText.{whole_object}
-use Rattle.ssa_model.specs.History.{Bench, Step}
-use Rattle.ssa_model.specs.Operations.{State}
+use Rattle.ssa_model.specs.definitions.Answers.{bench_of, lone_bench}
+use Rattle.ssa_model.specs.definitions.BenchText.{whole_object}
+use Rattle.ssa_model.specs.definitions.History.{Bench, Step}
+use Rattle.ssa_model.specs.definitions.Operations.{State}
 use Rattle.ssa_json.specs.Readings.{readings}
 
 -- the object that is shown of the state with the managers' entries is taken as the state by an object file

@@ -1,35 +1,46 @@
 //! The bench: an object, its managers, and the history of commands on it.
-ghost use Rattle.std.specs.Prelude.{◌≡◌, [], Ok, ◌≤◌, ◌<◌, ◌-◌, ◌^◌, ◌||◌, nat_le, length, IfErr, IfOk, OnOk, OnErr, false, true, option_map, codes, string_bytes};
-ghost use Rattle.ssa_model.specs.Answers.{answer, apply, update, strip, undo, redo, log, logged, apply_answer, bench_of, body_or_fault, command_body, owners_of, file_state, lone_bench};
-ghost use Rattle.ssa_model.specs.Entries.{object_of_state};
-ghost use Rattle.ssa_model.specs.History.{is_manager_name, past_len, future_len, present};
-ghost use Rattle.ssa_model.specs.BenchText.{bench_text};
-ghost use Rattle.ssa_model.specs.Objects.{identity_of};
-ghost use Rattle.ssa_model.specs.PathMap.{size};
-ghost use Rattle.ssa_model.specs.Valid.{IsTable, IsValidState};
+ghost use Rattle.std.specs.Prelude.{◌≡◌, [], Ok, ◌&&◌, ◌≤◌, ◌<◌, ◌-◌, ◌^◌, ◌||◌, nat_le, length, IfErr, IfOk, OnOk, OnErr, false, true, option_map, codes, string_bytes};
+ghost use Rattle.ssa_model.specs.definitions.Limits.{most_bench_bytes};
+ghost use Rattle.ssa_model.specs.definitions.Answers.{answer, apply, update, strip, undo, redo, log, logged, apply_answer, bench_of, body_or_fault, command_body, owners_of, file_state, lone_bench, lone_state};
+ghost use Rattle.ssa_model.specs.definitions.Entries.{object_of_state};
+ghost use Rattle.ssa_model.specs.definitions.History.{is_manager_name, past_len, future_len, present};
+ghost use Rattle.ssa_model.specs.definitions.BenchText.{bench_text};
+ghost use Rattle.ssa_model.specs.definitions.PathMap.{size};
+ghost use Rattle.ssa_model.specs.definitions.Valid.{IsTable, IsValidState, IsValidBody, IsValidHistory};
 ghost use Rattle.ssa_json.specs.Readings.{readings};
 ghost use Rattle.ssa_json.specs.View.{view};
 ghost use Rattle.ssa_merge.specs.Managers.{lent_keys};
 ghost use Rattle.ssa_merge.specs.States.{state_view};
-ghost use Rattle.ssa_bench.specs.Benches.{next_bench, table_or_fault, CanCommit, IsExecuted, IsGivenState, IsMade, IsMoved, IsPrepared, table_of_entries, tested_body, update_answer};
+ghost use Rattle.ssa_bench.specs.Benches.{next_bench, table_or_fault, IsPreparedOn, IsExecuted, IsGivenState, IsMade, IsMoved, IsPrepared, table_of_entries, tested_body, update_answer, version_in};
 ghost use Rattle.ssa_bench.specs.Faults.{IsGiven};
 ghost use Rattle.ssa_bench.specs.Commands.{command_view, command_word};
 ghost use Rattle.ssa_turn.specs.Histories.{lent_labels};
 ghost use Rattle.std.specs.Io.KnownBytes.{Appends};
 ghost use Rattle.ssa_file.specs.Saving.{NotSaved};
 ghost use Rattle.ssa_bench.specs.ReadBack.{AllTakenBack};
-ghost use Rattle.ssa_model.specs.ValidTimelines.{AllValid, IsValidBody};
+ghost use Rattle.ssa_model.specs.definitions.Limits.{most_past};
+ghost use Rattle.ssa_model.specs.definitions.Json.{compact, same_text};
+ghost use Rattle.ssa_model.specs.definitions.BenchText.{first_json, step_json};
+ghost use Rattle.ssa_model.specs.laws.BenchFiles.{keeps_order, lone_in, with_steps};
+ghost use Rattle.ssa_turn.specs.Histories.{step_view};
+ghost use Rattle.ssa_file.specs.Heads.{head_view};
+ghost use Rattle.ssa_bench.specs.Taking.{GoesOn, IsTaken, TakesStep};
 
 use crate::command::Command;
 use crate::fault::Fault;
 use crate::prepared::{Changed, Counts, Prepared, accepted};
+use crate::taking::{label_in, load_fault, object_in, state_in};
+use ssa_file::head::Head;
+use ssa_file::loading::{FileLine, LoadFault};
 use ssa_file::saving::{SaveFault, bench_text, write_text};
+use ssa_file::written::{is_first, is_step};
 use ssa_json::moment::Moment;
 use ssa_json::sink::Sink;
 use ssa_json::value::Json;
 use ssa_merge::manager::ManagerKey;
 use ssa_merge::managers::Managers;
 use ssa_merge::names::is_manager_name;
+use ssa_merge::order::keeps_order;
 use ssa_merge::owned::owners;
 use ssa_merge::plan::{plan_apply, plan_strip, plan_update};
 use ssa_merge::state::State;
@@ -40,7 +51,7 @@ use ssa_path::path::Path;
 use ssa_schema::body_fault::BodyFault;
 use ssa_schema::schema::Schema;
 use ssa_turn::label::Label;
-use ssa_turn::timeline::{Log, Timeline, labels};
+use ssa_turn::timeline::{Log, Step, Timeline, labels};
 use ssa_typed::body::Body;
 use ssa_typed::fault::TypedFault;
 use std::alloc::{AllocError, Global};
@@ -58,8 +69,8 @@ pub struct Bench {
 }
 
 impl Model for Bench {
-    ghost use Rattle.ssa_model.specs.History as model;
-    ghost use Rattle.ssa_model.specs.BenchCodes.{coded_bench};
+    ghost use Rattle.ssa_model.specs.definitions.History as model;
+    ghost use Rattle.ssa_model.specs.codes.BenchCodes.{coded_bench};
 
     ghost Value = { model.Bench };
 
@@ -74,8 +85,8 @@ impl Model for Bench {
 
 // The body that the value is, or its first fault.
 fn body_or_fault(alloc: Global, schema: &Schema, value: Json) -> Result<Body, Fault>
-    ensures given { IsGiven result (body_or_fault schema.now.1 (view value)) }
-    ensures valid { IfOk result (λ b. IsValidBody schema.now.1 b) }
+    ensures given { IsGiven result (body_or_fault schema.now.kind (view value)) }
+    ensures valid { IfOk result (λ b. IsValidBody schema.now.kind b) }
 {
     match Body::from_json(alloc, schema, value) {
         Ok(body) => Ok(body),
@@ -89,35 +100,35 @@ fn body_or_fault(alloc: Global, schema: &Schema, value: Json) -> Result<Body, Fa
 fn given_managers(
     alloc: Global,
     entries: Option<Json>,
-    identity: &Identity,
+    version: &str,
     body: &Body,
 ) -> Result<Managers, Fault>
-    ensures given { IsGiven result (table_or_fault (table_of_entries body.now identity.now (option_map view entries))) }
+    ensures given { IsGiven result (table_or_fault (table_of_entries body.now version.now (option_map view entries))) }
     ensures valid { IfOk result (λ m. IsTable body.now m) }
 {
     let Some(entries) = entries else {
         return Ok(Managers::new(alloc));
     };
-    match Managers::from_entries(alloc, &entries, body, identity.version()) {
+    match Managers::from_entries(alloc, &entries, body, version) {
         Ok(managers) => Ok(managers),
         Err(fault) => Err(Fault::from(fault)),
     }
 }
 
 // The state that an object file gives, or its first fault.
-fn file_state(
+pub(crate) fn file_state(
     alloc: Global,
     schema: &Schema,
     object: Json,
-    identity: &Identity,
+    version: &str,
 ) -> Result<State, Fault>
-    requires { identity.now ≡ identity_of (view object) }
-    ensures given { IsGivenState result (file_state readings schema.now.1 (view object)) }
-    ensures valid { IfOk result (λ s. IsValidState schema.now.1 (state_view s)) }
+    requires { version.now ≡ version_in (view object) }
+    ensures given { IsGivenState result (file_state readings schema.now.kind (view object)) }
+    ensures valid { IfOk result (λ s. IsValidState schema.now.kind (state_view s)) }
 {
     let (value, entries) = file_parts(object);
     match body_or_fault(alloc, schema, value) {
-        Ok(body) => match given_managers(alloc, entries, identity, &body) {
+        Ok(body) => match given_managers(alloc, entries, version, &body) {
             Ok(managers) => Ok(State { body, managers }),
             Err(fault) => Err(fault),
         },
@@ -128,7 +139,7 @@ fn file_state(
 impl Bench {
     // The bench of one state.
     fn with_lone_state(alloc: Global, schema: Schema, identity: Identity, first: State) -> Bench
-        requires { IsValidState schema.1 (state_view first) }
+        requires { IsValidState schema.kind (state_view first) }
         ensures { result ≡ lone_bench schema identity (state_view first) }
     {
         Bench {
@@ -154,7 +165,7 @@ impl Bench {
         let Some(identity) = Identity::of_object(alloc, &object)? else {
             return Err(Fault::Identity);
         };
-        match file_state(alloc, &schema, object, &identity) {
+        match file_state(alloc, &schema, object, identity.version()) {
             Ok(state) => Ok(Bench::with_lone_state(alloc, schema, identity, state)),
             Err(fault) => Err(fault),
         }
@@ -163,7 +174,7 @@ impl Bench {
     // The body of a command's object, or its first fault.
     fn command_body(&self, alloc: Global, object: Json) -> Result<Body, Fault>
         ensures given { IsGiven result (command_body self.now (view object)) }
-        ensures valid { IfOk result (λ b. IsValidBody self.now.schema.1 b) }
+        ensures valid { IfOk result (λ b. IsValidBody self.now.schema.kind b) }
     {
         if !object.is_object() {
             return Err(Fault::Body(BodyFault::WrongType(Vec::new(alloc))));
@@ -180,7 +191,7 @@ impl Bench {
     // The body of an Apply's or an Update's object, or the first fault of the command.
     fn tested_body(&self, alloc: Global, who: &str, object: Json) -> Result<Body, Fault>
         ensures given { IsGiven result (tested_body self.now who.now (view object)) }
-        ensures valid { IfOk result (λ b. IsValidBody self.now.schema.1 b) }
+        ensures valid { IfOk result (λ b. IsValidBody self.now.schema.kind b) }
         ensures named { IfOk result (λ b. is_manager_name who.now ≡ true) }
     {
         if self.timeline.past_len() >= MOST_PAST {
@@ -201,7 +212,7 @@ impl Bench {
         at: Moment,
         config: Body,
     ) -> Result<Prepared, Fault>
-        requires valid { IsValidBody self.now.schema.1 config }
+        requires valid { IsValidBody self.now.schema.kind config }
         requires named { is_manager_name (string_bytes who) ≡ true }
         ensures { IsPrepared self.now result (apply_answer self.now (string_bytes who) force at config) (codes "apply") }
     {
@@ -237,7 +248,7 @@ impl Bench {
         at: Moment,
         body: Body,
     ) -> Result<Prepared, Fault>
-        requires valid { IsValidBody self.now.schema.1 body }
+        requires valid { IsValidBody self.now.schema.kind body }
         requires named { is_manager_name (string_bytes who) ≡ true }
         ensures { IsPrepared self.now result (update_answer self.now (string_bytes who) at body) (codes "update") }
     {
@@ -296,13 +307,14 @@ impl Bench {
         }
     }
 
-    /// Carries out a command that was prepared on this bench as it is now.
+    /// Carries out a command that [`prepare`](Bench::prepare) answered on this bench as it is now.
     pub fn commit(&mut self, prepared: Prepared) -> Result<Changed, AllocError>
-        requires { CanCommit self.old prepared }
+        requires { IsPreparedOn self.old prepared }
         ensures ok { OnOk result (self.new ≡ next_bench self.old prepared) }
         ensures changed { IfOk result (λ c. c ≡ prepared.changed) }
         ensures err { OnErr result (self.new ≡ self.old) }
     {
+        self.timeline.place_is_within();
         let Prepared { changed, step } = prepared;
         self.timeline.append(step)?;
         Ok(changed)
@@ -351,10 +363,11 @@ impl Bench {
         Ok(counts)
     }
 
-    /// Each state of the history is valid: its body is one of the schema's kind, and its table is one
-    /// of the body.
-    pub fn states_are_valid(&self)
-        ensures { AllValid self.now.schema.1 self.now.timeline }
+    /// The history is one as commands make it: each state's body is one of the schema's kind and its
+    /// table one of the body, the managers that neighbouring states share stand in one order, each
+    /// label has a manager's name, and there are no more commands than can be undone.
+    pub fn history_is_valid(&self)
+        ensures { IsValidHistory self.now.schema.kind self.now.timeline }
     {
         let _ = &self.timeline;
     }
@@ -362,8 +375,8 @@ impl Bench {
     /// The object that is shown without the managers' entries is taken as the present body: by a
     /// command, and by an object file, which makes a bench without managers and history.
     pub fn shown_is_taken(&self)
-        ensures command { command_body self.now (object_of_state self.now.identity self.now.schema.1 false (present self.now.timeline)) ≡ Ok (present self.now.timeline).body }
-        ensures file { bench_of readings self.now.schema (object_of_state self.now.identity self.now.schema.1 false (present self.now.timeline))
+        ensures command { command_body self.now (object_of_state self.now.identity self.now.schema.kind false (present self.now.timeline)) ≡ Ok (present self.now.timeline).body }
+        ensures file { bench_of readings self.now.schema (object_of_state self.now.identity self.now.schema.kind false (present self.now.timeline))
             ≡ Ok (lone_bench self.now.schema self.now.identity (record { body = (present self.now.timeline).body; table = [] })) }
     {
         let _kind = self.schema.kind();
@@ -375,7 +388,7 @@ impl Bench {
     ///
     /// Looks at the numbers of the managers' sets, and changes nothing. Takes no memory.
     pub fn shown_state_is_taken(&self)
-        ensures { bench_of readings self.now.schema (object_of_state self.now.identity self.now.schema.1 true (present self.now.timeline))
+        ensures { bench_of readings self.now.schema (object_of_state self.now.identity self.now.schema.kind true (present self.now.timeline))
             ≡ Ok (lone_bench self.now.schema self.now.identity (present self.now.timeline)) }
     {
         let _kind = self.schema.kind();
@@ -414,7 +427,7 @@ impl Bench {
     /// The object of the present state; with `managed`, its metadata has the managers' entries as
     /// `managedFields`, where there are some.
     pub fn show(&self, alloc: Global, managed: bool) -> Result<Json, AllocError>
-        ensures { IfOk result (λ v. view v ≡ object_of_state self.now.identity self.now.schema.1 managed (present self.now.timeline)) }
+        ensures { IfOk result (λ v. view v ≡ object_of_state self.now.identity self.now.schema.kind managed (present self.now.timeline)) }
     {
         let now = self.timeline.present();
         object_of_state(alloc, &self.identity, &self.schema, managed, now)
@@ -454,11 +467,110 @@ impl Bench {
     /// stands in memory.
     pub fn save<S: Sink>(&self, alloc: Global, sink: &mut S) -> Result<(), SaveFault>
         ensures ok { OnOk result (Appends (S.contents sink.old) (S.contents sink.new) (bench_text self.now)) }
-        ensures fits { OnOk result (length (bench_text self.now) ≤ 67108864) }
+        ensures fits { OnOk result (length (bench_text self.now) ≤ most_bench_bytes) }
         ensures refused { IfErr result (NotSaved S.contents S.has_failed sink.old sink.new (bench_text self.now)) }
     {
         let text = bench_text(alloc, &self.schema, &self.identity, &self.timeline)?;
         write_text(sink, &text)?;
         Ok(())
+    }
+
+    // Whether the text is that of the first state's line.
+    fn is_first_line(&self, alloc: Global, text: &[u8]) -> Result<bool, AllocError>
+        ensures { IfOk result (λ same. same ≡ same_text (compact (first_json self.now)) text.now) }
+    {
+        is_first(
+            alloc,
+            &self.schema,
+            &self.identity,
+            self.timeline.first(),
+            text,
+        )
+    }
+
+    // The bench of the first state that a line tells.
+    pub(crate) fn of_first_line(
+        alloc: Global,
+        schema: Schema,
+        line: FileLine,
+    ) -> Result<Bench, LoadFault>
+        requires { line.text.items ≡ compact (view line.value) }
+        ensures taken { IsTaken result (lone_in readings schema (view line.value)) }
+        ensures lone { IfOk result (λ b. b.timeline ≡ lone_state b.timeline.first) }
+    {
+        let FileLine { value, text } = line;
+        match Bench::new(alloc, schema, object_in(alloc, value)) {
+            Ok(bench) => {
+                if bench.is_first_line(alloc, &text)? {
+                    Ok(bench)
+                } else {
+                    Err(LoadFault::BenchText)
+                }
+            }
+            Err(fault) => Err(load_fault(fault)),
+        }
+    }
+
+    // Whether the step is told by the text, and keeps the order of the present state's managers.
+    fn is_next_line(&self, alloc: Global, step: &Step, text: &[u8]) -> Result<bool, AllocError>
+        requires { IsValidState self.now.schema.kind (state_view step.now.state) }
+        ensures { IfOk result (λ is. is ≡ (same_text (compact (step_json self.now (step_view step.now))) text.now && keeps_order (present self.now.timeline).table (state_view step.now.state).table)) }
+    {
+        if !is_step(alloc, &self.schema, &self.identity, step, text)? {
+            return Ok(false);
+        }
+        let before = self.timeline.present();
+        keeps_order(
+            alloc,
+            before.managers.entries(),
+            step.state.managers.entries(),
+        )
+    }
+
+    // The step that a line tells, behind the present state.
+    fn step_of_line(&self, alloc: Global, line: FileLine) -> Result<Step, LoadFault>
+        requires { line.text.items ≡ compact (view line.value) }
+        ensures taken { TakesStep self.now result (view line.value) }
+        ensures valid { IfOk result (λ s. IsValidState self.now.schema.kind (state_view s.state)) }
+    {
+        let Some(label) = label_in(alloc, &line.value)? else {
+            return Err(LoadFault::BenchText);
+        };
+        let FileLine { value, text } = line;
+        match state_in(alloc, &self.schema, object_in(alloc, value)) {
+            Ok(state) => {
+                let step = Step { label, state };
+                if self.is_next_line(alloc, &step, &text)? {
+                    Ok(step)
+                } else {
+                    Err(LoadFault::BenchText)
+                }
+            }
+            Err(fault) => Err(load_fault(fault)),
+        }
+    }
+
+    // Goes on by the step that a line tells.
+    pub(crate) fn take_line(&mut self, alloc: Global, line: FileLine) -> Result<(), LoadFault>
+        requires spelled { line.text.items ≡ compact (view line.value) }
+        requires few { past_len self.old.timeline < most_past }
+        ensures { GoesOn self.old self.new result (view line.value) }
+    {
+        self.timeline.place_is_within();
+        let step = self.step_of_line(alloc, line)?;
+        self.timeline.append(step)?;
+        Ok(())
+    }
+
+    // Goes to the place of a head that counts the states.
+    pub(crate) fn at_head(mut self, head: Head) -> Result<Bench, LoadFault>
+        ensures { IsTaken result (with_steps (head_view head) self self.timeline.later) }
+    {
+        let later_len = self.timeline.later().len();
+        if head.states != later_len + 1 || head.place > later_len {
+            return Err(LoadFault::BenchText);
+        }
+        self.timeline.go_to(head.place);
+        Ok(self)
     }
 }

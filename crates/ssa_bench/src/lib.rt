@@ -4,4 +4,6 @@
 pub mod bench;
 pub mod command;
 pub mod fault;
+pub mod load;
 pub mod prepared;
+mod taking;

@@ -1,1 +1,4 @@
 pub mod SavingFacts
+pub mod LoadingFacts
+pub mod ReadingFacts
+pub mod DeviceFacts

@@ -6,15 +6,17 @@ use Rattle.std.proofs.lemmas.List.{flat_map_more, get_or-map, length-map, take_m
 use Rattle.std.proofs.lemmas.List.Elements.{All-get_or}
 use Rattle.std.proofs.lemmas.List.Folds.{flat_map-map, length-flat_map-take}
 use Rattle.std.proofs.lemmas.Result.{err_from_is_err_and}
-use Rattle.ssa_model.specs.Json.{Text, Json}
-use Rattle.ssa_model.specs.BenchText.{bench_text, head_json, line}
-use Rattle.ssa_model.specs.History.{Schema, Timeline}
-use Rattle.ssa_model.specs.Kind.{Kind}
-use Rattle.ssa_model.specs.Fitting.{IsBodyOf}
+use Rattle.ssa_model.specs.definitions.Objects.{Identity}
+use Rattle.ssa_model.specs.definitions.Json.{Text, Json}
+use Rattle.ssa_model.specs.definitions.BenchText.{bench_text, head_json, head_of, line}
+use Rattle.ssa_model.specs.definitions.Schema.{Schema}
+use Rattle.ssa_model.specs.definitions.History.{Timeline, past_len}
+use Rattle.ssa_model.specs.definitions.Kind.{Kind}
+use Rattle.ssa_model.specs.definitions.Fitting.{IsBodyOf}
 use Rattle.ssa_merge.specs.States.{state_view}
 use Rattle.ssa_turn.specs.Histories.{step_view, steps_view}
 use Rattle.ssa_file.specs.Saving.{CannotHold, bench_with, first_value, step_line, step_value}
-use Rattle.ssa_model.specs.ValidTimelines.{MakesValid}
+use Rattle.ssa_model.specs.definitions.Valid.{MakesValid}
 use Rattle.ssa_file.specs.declared.saving.SaveFault.{SaveFault}
 use Rattle.ssa_file.specs.declared.saving.SaveFault.TheVariants.{BenchTooLong, Io, OutOfMemory}
 use Rattle.ssa_turn.specs.declared.timeline.Step.{Step}
@@ -54,18 +56,24 @@ handed-on r f P h p =
     let e = err_from_is_err_and r h in
     rw e.1 (subst P (sym e.2) p)
 
+-- the head counts the states
+pub head-is : (t : Timeline) (place : ℕ) (ss : List Step) → place ≡ past_len t → steps_view ss ≡ t.later → head_of place (length ss + 1) ≡ head_json t
+head-is t place ss place-is later-is =
+    let counted : length ss ≡ length t.later = sym (length-map ss step_view) ∙ ap length later-is in
+    λ i. head_of (place-is i) (counted i + 1)
+
 joined : (none t u v a b c d : Text) → none ≡ [] → t ≡ none ++ a → u ≡ t ++ b → v ≡ u ++ c → v ++ d ≡ a ++ (b ++ (c ++ d))
 joined none t u v a b c d none-is t-is u-is v-is =
     ap (λ x. x ++ d) (v-is ∙ ap (λ x. x ++ c) (u-is ∙ ap (λ x. x ++ b) (t-is ∙ ap (λ x. x ++ a) none-is)))
     ∙ append_assoc (a ++ b) c d ∙ append_assoc a b (c ++ d)
 
 -- the lines, one after the other, are the text
-pub lines-are_text : (schema : Schema) (identity : List (Option Json)) (t : Timeline) (none head_text schema_text first_text : Text) (h s f : Json)
+pub lines-are_text : (schema : Schema) (identity : Identity) (t : Timeline) (none head_text schema_text first_text : Text) (h s f : Json)
     → none ≡ [] → head_text ≡ none ++ line h → schema_text ≡ head_text ++ line s → first_text ≡ schema_text ++ line f
-    → h ≡ head_json t → s ≡ schema.0 → f ≡ first_value schema identity t.first
+    → h ≡ head_json t → s ≡ schema.source → f ≡ first_value schema identity t.first
     → first_text ++ flat_map (step_line schema identity) t.later ≡ bench_text (bench_with schema identity t)
 lines-are_text schema identity t none head_text schema_text first_text h s f none-is head-is schema-is first-is h-is s-is f-is =
     let lines = flat_map (step_line schema identity) t.later in
     joined none head_text schema_text first_text (line h) (line s) (line f) lines none-is head-is schema-is first-is
     ∙ (λ i. line (h-is i) ++ (line (s-is i) ++ (line (f-is i) ++ lines)))
-    ∙ ap (λ x. line (head_json t) ++ (line schema.0 ++ (line (first_value schema identity t.first) ++ x))) (sym (flat_map-map line (step_value schema identity) t.later))
+    ∙ ap (λ x. line (head_json t) ++ (line schema.source ++ (line (first_value schema identity t.first) ++ x))) (sym (flat_map-map line (step_value schema identity) t.later))

@@ -1,1 +1,5 @@
 pub mod Saving
+pub mod Held
+pub mod Reading
+pub mod Loading
+pub mod Heads

@@ -2,16 +2,17 @@
 ghost use Rattle.std.specs.Prelude.{◌≡◌, ◌≤◌, ◌<◌, ◌^◌, ◌++◌, IfErr, IfOk, OnErr, OnOk, flat_map, length, true};
 ghost use Rattle.std.specs.Io.KnownBytes.{Appends};
 ghost use Rattle.std.specs.List.{All};
-ghost use Rattle.ssa_model.specs.BenchText.{bench_text, head_json, line, state_json};
-ghost use Rattle.ssa_model.specs.Fitting.{IsBodyOf};
-ghost use Rattle.ssa_model.specs.Objects.{with_member};
-ghost use Rattle.ssa_model.specs.Replies.{number_json};
+ghost use Rattle.ssa_model.specs.definitions.Limits.{most_bench_bytes};
+ghost use Rattle.ssa_model.specs.definitions.BenchText.{bench_text, head_of, line, state_json};
+ghost use Rattle.ssa_model.specs.definitions.Fitting.{IsBodyOf};
+ghost use Rattle.ssa_model.specs.definitions.Objects.{with_member};
+ghost use Rattle.ssa_model.specs.definitions.Replies.{number_json};
 ghost use Rattle.ssa_json.specs.Devices.{AppendsPart};
 ghost use Rattle.ssa_json.specs.View.{view, members_view};
 ghost use Rattle.ssa_merge.specs.States.{state_view};
 ghost use Rattle.ssa_turn.specs.Histories.{step_view, steps_view};
 ghost use Rattle.ssa_file.specs.Saving.{CannotHold, bench_with, first_value, step_line, step_value};
-ghost use Rattle.ssa_model.specs.ValidTimelines.{AllValid, MakesValid};
+ghost use Rattle.ssa_model.specs.definitions.Valid.{AllValid, MakesValid};
 ghost use Rattle.ssa_file.specs.declared.saving.SaveFault.TheVariants.{Io, OutOfMemory};
 
 use ssa_json::members::put_member;
@@ -70,13 +71,15 @@ fn put_number(
     put_member(alloc, members, name, value)
 }
 
-// The value of the first line.
-fn head_value(alloc: Global, timeline: &Timeline) -> Result<Json, AllocError>
-    ensures { IfOk result (λ v. view v ≡ head_json timeline.now) }
+/// The value of the first line: the place, and how many states there are.
+pub fn head_value(alloc: Global, place: usize, states: usize) -> Result<Json, AllocError>
+    requires place { place < 2 ^ 63 }
+    requires states { states < 2 ^ 63 }
+    ensures { IfOk result (λ v. view v ≡ head_of place states) }
 {
     let mut members = BTreeMap::new(alloc);
-    put_number(alloc, &mut members, "states", timeline.later().len() + 1)?;
-    put_number(alloc, &mut members, "place", timeline.past_len())?;
+    put_number(alloc, &mut members, "states", states)?;
+    put_number(alloc, &mut members, "place", place)?;
     put_number(alloc, &mut members, "format", 1)?;
     Ok(Json::Object(members))
 }
@@ -91,26 +94,28 @@ fn state_value(alloc: Global, command: Json, object: Json) -> Result<Json, Alloc
     Ok(Json::Object(members))
 }
 
-fn first_value(
+/// The value of the first state's line.
+pub fn first_value(
     alloc: Global,
     schema: &Schema,
     identity: &Identity,
     first: &State,
 ) -> Result<Json, AllocError>
-    requires { IsBodyOf schema.now.1 (state_view first.now).body }
+    requires { IsBodyOf schema.now.kind (state_view first.now).body }
     ensures { IfOk result (λ v. view v ≡ first_value schema.now identity.now (state_view first.now)) }
 {
     let object = object_of_state(alloc, identity, schema, true, first)?;
     state_value(alloc, Json::Object(BTreeMap::new(alloc)), object)
 }
 
-fn step_value(
+/// The value of a later state's line.
+pub fn step_value(
     alloc: Global,
     schema: &Schema,
     identity: &Identity,
     step: &Step,
 ) -> Result<Json, AllocError>
-    requires { IsBodyOf schema.now.1 (state_view step.now.state).body }
+    requires { IsBodyOf schema.now.kind (state_view step.now.state).body }
     ensures { IfOk result (λ v. view v ≡ step_value schema.now identity.now (step_view step.now)) }
 {
     let object = object_of_state(alloc, identity, schema, true, &step.state)?;
@@ -119,9 +124,9 @@ fn step_value(
 
 // Appends a value's line, where the text then has no more bytes than a file may have.
 fn push_line(alloc: Global, text: &mut Vec<u8>, value: &Json) -> Result<(), SaveFault>
-    requires { length text.old.items ≤ 67108864 }
+    requires { length text.old.items ≤ most_bench_bytes }
     ensures ok { OnOk result (text.new.items ≡ text.old.items ++ line (view value.now)) }
-    ensures fits { OnOk result (length text.new.items ≤ 67108864) }
+    ensures fits { OnOk result (length text.new.items ≤ most_bench_bytes) }
     ensures refused { IfErr result (λ f. CannotHold f (text.old.items ++ line (view value.now))) }
 {
     let bytes = value.to_text(alloc)?;
@@ -141,10 +146,10 @@ fn push_steps(
     identity: &Identity,
     steps: &[Step],
 ) -> Result<(), SaveFault>
-    requires few { length text.old.items ≤ 67108864 }
-    requires valid { All (MakesValid schema.now.1) (steps_view steps.now) }
+    requires few { length text.old.items ≤ most_bench_bytes }
+    requires valid { All (MakesValid schema.now.kind) (steps_view steps.now) }
     ensures ok { OnOk result (text.new.items ≡ text.old.items ++ flat_map (step_line schema.now identity.now) (steps_view steps.now)) }
-    ensures fits { OnOk result (length text.new.items ≤ 67108864) }
+    ensures fits { OnOk result (length text.new.items ≤ most_bench_bytes) }
     ensures refused { IfErr result (λ f. CannotHold f (text.old.items ++ flat_map (step_line schema.now identity.now) (steps_view steps.now))) }
 {
     for step in steps {
@@ -161,12 +166,12 @@ pub fn bench_text(
     identity: &Identity,
     timeline: &Timeline,
 ) -> Result<Vec<u8>, SaveFault>
-    requires { AllValid schema.now.1 timeline.now }
+    requires { AllValid schema.now.kind timeline.now }
     ensures ok { IfOk result (λ t. t.items ≡ bench_text (bench_with schema.now identity.now timeline.now)) }
-    ensures fits { IfOk result (λ t. length t.items ≤ 67108864) }
+    ensures fits { IfOk result (λ t. length t.items ≤ most_bench_bytes) }
     ensures refused { IfErr result (λ f. CannotHold f (bench_text (bench_with schema.now identity.now timeline.now))) }
 {
-    let head = head_value(alloc, timeline)?;
+    let head = head_value(alloc, timeline.past_len(), timeline.later().len() + 1)?;
     let first = first_value(alloc, schema, identity, timeline.first())?;
     let mut text = Vec::new(alloc);
     push_line(alloc, &mut text, &head)?;

@@ -5,10 +5,10 @@ use Rattle.std.specs.Str.{is_utf8}
 use Rattle.std.proofs.lemmas.Str.{IsUtf8-from_is_utf8, is_utf8-from_IsUtf8}
 use Rattle.serde_json.specs.Data as json
 use Rattle.serde_json.specs.Read.{read}
-use Rattle.ssa_model.specs.Json.{Items, no_items, item, Members, no_members, member}
-use Rattle.ssa_model.specs.Json as model
+use Rattle.ssa_model.specs.definitions.Json.{Items, no_items, item, Members, no_members, member}
+use Rattle.ssa_model.specs.definitions.Json as model
 use Rattle.ssa_json.specs.View.{view, items_of, members_view}
-use Rattle.ssa_model.specs.Readings.{ReadFault, not_json, null_value, number_outside}
+use Rattle.ssa_model.specs.definitions.Readings.{ReadFault, not_json, null_value, number_outside}
 use Rattle.ssa_json.specs.Reading.{◌>>=◌, value_of, items_value, members_value, data_value, json_reading, Refuses, Converts, Answers}
 use Rattle.ssa_json.specs.declared.value.Json.{Json}
 use Rattle.ssa_json.proofs.Ordered.{names}

@@ -7,7 +7,7 @@ use Rattle.std.specs.Cmp.{Equal-is, tied_itself}
 use Rattle.std.specs.Cmp.Lexicographic.{slice_cmp, nat_list_cmp_total}
 use Rattle.std.specs.Ordering.{is_eq, nat_cmp}
 use Rattle.std.specs.FinMap.{slice_cmp-IsAntisymmetric, nat_cmp-IsAntisymmetric}
-use Rattle.ssa_model.specs.Json.{Text, Scalar, text, whole, truth, Json, scalar, list, object, Items, no_items, item, Members, no_members, member, same_text, same_truth, same_scalar, same_json, same_items, same_members}
+use Rattle.ssa_model.specs.definitions.Json.{Text, Scalar, text, whole, truth, Json, scalar, list, object, Items, no_items, item, Members, no_members, member, same_text, same_truth, same_scalar, same_json, same_items, same_members}
 use Rattle.ssa_model.proofs.Scalars.{same_scalar-true}
 
 -- ---- a test that holds is an equation

@@ -9,8 +9,8 @@ use Rattle.json.specs.Print as print
 use Rattle.serde_json.specs.Data as json
 use Rattle.serde_json.specs.View as json_view
 use Rattle.serde_json.specs.Written as written
-use Rattle.ssa_model.specs.Json.{Text, Scalar, text, whole, truth, Items, no_items, item, Members, no_members, member, scalar, list, object, escaped_byte, escaped, quoted, digits_before, decimal, whole_text, scalar_text, comma_if, compact, compact_items, compact_members}
-use Rattle.ssa_model.specs.Json as model
+use Rattle.ssa_model.specs.definitions.Json.{Text, Scalar, text, whole, truth, Items, no_items, item, Members, no_members, member, scalar, list, object, escaped_byte, escaped, quoted, digits_before, decimal, whole_text, scalar_text, comma_if, compact, compact_items, compact_members}
+use Rattle.ssa_model.specs.definitions.Json as model
 use Rattle.ssa_json.specs.View.{view, items_view, members_view}
 use Rattle.ssa_json.specs.Written.{scalar_data, data_of, items_data, members_data, is_narrow_whole, is_narrow_scalar, is_narrow, items_narrow, members_narrow}
 use Rattle.ssa_json.specs.declared.value.Json.{Json}

@@ -4,8 +4,8 @@ use Rattle.std.specs.Ordering.{match_ordering}
 use Rattle.std.specs.Cmp.Lexicographic.{slice_cmp}
 use Rattle.std.specs.FinMap.{slice_cmp-IsAntisymmetric, nat_cmp-IsAntisymmetric}
 use Rattle.std.specs.BTreeMap.{insert_entry}
-use Rattle.ssa_model.specs.Json.{member}
-use Rattle.ssa_model.specs.Objects.{with_member}
+use Rattle.ssa_model.specs.definitions.Json.{member}
+use Rattle.ssa_model.specs.definitions.Objects.{with_member}
 use Rattle.ssa_json.specs.View.{view, members_view}
 use Rattle.ssa_json.specs.declared.value.Json.{Json}
 use Rattle.ssa_json.proofs.Converting.{Found}

@@ -18,8 +18,8 @@ use Rattle.serde_json.specs.Read.{read, of_json, of_items, of_members, max_depth
 use Rattle.serde_json.specs.Written.{outline, items_outline, members_outline}
 use Rattle.serde_json.proofs.Numbers.{number_of-decimal, number_of-negative}
 use Rattle.serde_json.proofs.Texts.{print-outline}
-use Rattle.ssa_model.specs.Json.{Text, Scalar, text, whole, truth, Items, no_items, item, Members, no_members, member, scalar, list, object, quoted, whole_text, scalar_text, comma_if, compact, compact_items, compact_members}
-use Rattle.ssa_model.specs.Json as model
+use Rattle.ssa_model.specs.definitions.Json.{Text, Scalar, text, whole, truth, Items, no_items, item, Members, no_members, member, scalar, list, object, quoted, whole_text, scalar_text, comma_if, compact, compact_items, compact_members}
+use Rattle.ssa_model.specs.definitions.Json as model
 use Rattle.ssa_json.specs.Reading.{value_of, items_value, members_value, json_reading}
 use Rattle.ssa_json.specs.Written.{scalar_data, data_of, items_data, members_data, is_narrow_whole, is_narrow_scalar, is_narrow, items_narrow, members_narrow}
 use Rattle.ssa_json.specs.Writable.{is_utf8_scalar, has_utf8, items_have_utf8, members_have_utf8, is_below, has_rising_names, items_have_rising_names, members_rise, depth, items_depth, members_depth, IsWritable}

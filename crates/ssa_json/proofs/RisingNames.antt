@@ -5,8 +5,8 @@ use Rattle.std.specs.Prelude.{⊤}
 use Rattle.std.specs.Cmp.Lexicographic.{slice_cmp}
 use Rattle.std.specs.Ordering.{ordering_reverse}
 use Rattle.serde_json.specs.Data.{Data, Members, no_members, member, put}
-use Rattle.ssa_model.specs.Json as model
-use Rattle.ssa_model.specs.Json.{Text}
+use Rattle.ssa_model.specs.definitions.Json as model
+use Rattle.ssa_model.specs.definitions.Json.{Text}
 use Rattle.ssa_json.specs.Writable.{is_below}
 
 -- the members, and then the others

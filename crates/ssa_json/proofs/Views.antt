@@ -5,12 +5,12 @@ use Rattle.std.specs.Borrow.{Bor}
 use Rattle.std.specs.Map.{lookup}
 use Rattle.std.specs.BTreeMap.{is_at}
 use Rattle.std.specs.Cmp.Lexicographic.{slice_cmp}
-use Rattle.ssa_model.specs.Json.{Text, Members, scalar, list, object, member_of}
+use Rattle.ssa_model.specs.definitions.Json.{Text, Members, scalar, list, object, member_of}
 use Rattle.ssa_json.specs.View.{view, scalar_view, items_view, members_view}
 use Rattle.ssa_json.specs.declared.value.Json.{Json, Scalar as scalar_json, List as list_json, Object, the_lemmas}
 use Rattle.ssa_json.specs.declared.value.Scalar.{Scalar}
 
-one_more : (b : Bool) (v : Json) (rest : Option Json) (r : Option Rattle.ssa_model.specs.Json.Json) → option_map view rest ≡ r → option_map view (cond b (Some v) rest) ≡ cond b (Some (view v)) r
+one_more : (b : Bool) (v : Json) (rest : Option Json) (r : Option Rattle.ssa_model.specs.definitions.Json.Json) → option_map view rest ≡ r → option_map view (cond b (Some v) rest) ≡ cond b (Some (view v)) r
 one_more true v rest r e = refl
 one_more false v rest r e = e
 

@@ -4,8 +4,8 @@ use Rattle.std.specs.Str.{is_utf8}
 use Rattle.serde_json.specs.Data as json
 use Rattle.serde_json.specs.Find.{as_i64}
 use Rattle.serde_json.specs.Read.{read}
-use Rattle.ssa_model.specs.Json as model
-use Rattle.ssa_model.specs.Readings.{ReadFault, not_json, null_value, number_outside}
+use Rattle.ssa_model.specs.definitions.Json as model
+use Rattle.ssa_model.specs.definitions.Readings.{ReadFault, not_json, null_value, number_outside}
 use Rattle.ssa_json.specs.View.{view}
 use Rattle.ssa_json.specs.declared.value.Json.{Json}
 use Rattle.ssa_json.specs.declared.fault.JsonFault.{JsonFault}

@@ -1,5 +1,5 @@
 -- Which bytes are JSON values, and which texts are moments.
-use Rattle.ssa_model.specs.Readings.{Readings}
+use Rattle.ssa_model.specs.definitions.Readings.{Readings}
 use Rattle.ssa_json.specs.Moment.{is_moment}
 use Rattle.ssa_json.specs.Reading.{json_reading}
 

@@ -1,7 +1,7 @@
 -- What a value of the program is.
 use Rattle.std.specs.Prelude.{List, [], ◌∷◌, map, Option, Some, None, String, string_bytes}
 use Rattle.std.specs.declared.alloc.Global.{Global}
-use Rattle.ssa_model.specs.Json as model
+use Rattle.ssa_model.specs.definitions.Json as model
 use Rattle.ssa_json.specs.declared.value.Scalar.{Scalar}
 use Rattle.ssa_json.specs.declared.value.Scalar.TheVariants.{Text, Int, Bool}
 use Rattle.ssa_json.specs.declared.value.Json.{Json, fold-Json}

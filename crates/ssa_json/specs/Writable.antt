@@ -2,8 +2,8 @@
 use Rattle.std.specs.Prelude.{◌≡◌, ◌≤◌, ℕ, suc, max, Bool, true, ◌&&◌, Ok}
 use Rattle.std.specs.Str.{is_utf8}
 pub use Rattle.serde_json.specs.Read.{max_depth}
-pub use Rattle.ssa_model.specs.RisingNames.{is_below, has_rising_names, items_have_rising_names, members_rise}
-use Rattle.ssa_model.specs.Json.{Scalar, text, whole, truth, Json, scalar, list, object, Items, no_items, item, Members, no_members, member, compact}
+pub use Rattle.ssa_model.specs.definitions.MemberNames.{is_below, has_rising_names, items_have_rising_names, members_rise}
+use Rattle.ssa_model.specs.definitions.Json.{Scalar, text, whole, truth, Json, scalar, list, object, Items, no_items, item, Members, no_members, member, compact}
 use Rattle.ssa_json.specs.Reading.{json_reading}
 use Rattle.ssa_json.specs.Written.{is_narrow}
 

@@ -2,7 +2,7 @@
 use Rattle.std.specs.Prelude.{ℤ, pos, negsuc, ◌^◌, Bool, true, ◌&&◌, nat_lt}
 use Rattle.serde_json.specs.Data as json
 use Rattle.serde_json.specs.Find.{of_integer}
-use Rattle.ssa_model.specs.Json as model
+use Rattle.ssa_model.specs.definitions.Json as model
 
 -- the value as any JSON data
 abbrev pub scalar_data : model.Scalar → json.Data

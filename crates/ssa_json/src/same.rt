@@ -1,6 +1,6 @@
 //! Equality of JSON values, without memory.
 ghost use Rattle.std.specs.Prelude.{◌≡◌, ◌↔◌, IsTrue};
-ghost use Rattle.ssa_model.specs.Json.{same_text, same_scalar, same_json, same_items, same_members};
+ghost use Rattle.ssa_model.specs.definitions.Json.{same_text, same_scalar, same_json, same_items, same_members};
 ghost use Rattle.ssa_json.specs.View.{view, items_view, members_view, scalar_view};
 
 use crate::value::{Json, Scalar};

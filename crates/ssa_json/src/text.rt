@@ -1,6 +1,6 @@
 //! Texts by their bytes.
 ghost use Rattle.std.specs.Prelude.{◌≡◌};
-ghost use Rattle.ssa_model.specs.Json.{same_text};
+ghost use Rattle.ssa_model.specs.definitions.Json.{same_text};
 
 /// Whether both texts have the same bytes.
 pub fn is_same_text(text: &str, other: &str) -> bool

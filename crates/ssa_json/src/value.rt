@@ -1,7 +1,7 @@
 //! JSON values: what RFC 8259 has, but for nulls and for numbers that are not whole numbers of 64 bits.
 ghost use Rattle.std.specs.Prelude.{◌≡◌, Some, None, option_map};
 ghost use Rattle.ssa_json.specs.View.{view, members_view, as_object};
-ghost use Rattle.ssa_model.specs.Json.{is_object, as_text, member_at};
+ghost use Rattle.ssa_model.specs.definitions.Json.{is_object, as_text, member_at};
 
 use std::collections::BTreeMap;
 

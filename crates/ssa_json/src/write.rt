@@ -1,7 +1,7 @@
 //! Prints JSON values.
 ghost use Rattle.std.specs.Prelude.{◌≡◌, ◌≤◌, Ok, IfOk, OnOk, string_bytes, true};
 ghost use Rattle.serde_json.specs.View.{view as data_view, items_view as data_items, members_view as data_members};
-ghost use Rattle.ssa_model.specs.Json.{compact};
+ghost use Rattle.ssa_model.specs.definitions.Json.{compact};
 ghost use Rattle.ssa_json.specs.Reading.{json_reading};
 ghost use Rattle.ssa_json.specs.View.{view, items_view, members_view};
 ghost use Rattle.ssa_json.specs.Writable.{CompactIsRead, IsOfProgram, depth, has_rising_names, has_utf8, items_have_rising_names, items_have_utf8, max_depth, members_have_utf8, members_rise};

@@ -3,13 +3,14 @@ use Rattle.std.proofs.Common.{◌≡◌, ℕ, ◌<◌, ◌≤◌, List, length, 
 use Rattle.std.proofs.Math.Nat.{min-le_left, min-eq_left, min-eq_right}
 use Rattle.std.proofs.lemmas.Bool.Decides.{nat_tests}
 use Rattle.std.specs.Prelude.{Result, Ok, Err, if◌then◌else◌}
-use Rattle.ssa_model.specs.Json.{Text}
-use Rattle.ssa_model.specs.PathMap.{PathSet, size}
-use Rattle.ssa_model.specs.Body as bodies
-use Rattle.ssa_model.specs.Body.{points, modified}
-use Rattle.ssa_model.specs.Table.{ManagerKey, Table, seat}
-use Rattle.ssa_model.specs.Operations as model
-use Rattle.ssa_model.specs.Operations.{State, conflict, too_many_paths, too_many_managers, is_none, if_seated, pruned, clashes}
+use Rattle.ssa_model.specs.definitions.Limits.{most_places, most_managers}
+use Rattle.ssa_model.specs.definitions.Json.{Text}
+use Rattle.ssa_model.specs.definitions.PathMap.{PathSet, size}
+use Rattle.ssa_model.specs.definitions.Body as bodies
+use Rattle.ssa_model.specs.definitions.Body.{points, modified}
+use Rattle.ssa_model.specs.definitions.Table.{ManagerKey, Table, seat}
+use Rattle.ssa_model.specs.definitions.Operations as model
+use Rattle.ssa_model.specs.definitions.Operations.{State, Clash, decided, conflict, too_many_paths, too_many_managers, is_none, if_seated, pruned, clashes}
 use Rattle.ssa_typed.specs.Differences.{IsComparison}
 use Rattle.ssa_merge.specs.States.{state_view}
 use Rattle.ssa_merge.specs.Tables.{IsSeated}
@@ -24,74 +25,74 @@ at_most m n h = grind (arith, nat_tests)
 more : (m n : ℕ) → m < n → nat_lt m n ≡ true
 more m n h = grind (arith, nat_tests)
 
--- what is decided of the clashes, the count of places, the body and the table
-abbrev pub decided : Bool → List (ManagerKey × PathSet) → ℕ → bodies.Body → Table → Result State model.Refusal
-decided force clash places body table =
+-- the decision, where the places are counted
+abbrev pub counted : Bool → List Clash → ℕ → bodies.Body → Table → Result State model.Refusal
+counted force clash places body table =
     if not (force || is_none clash) then Err (conflict clash)
-    else (if nat_lt 20001 places then Err too_many_paths else if_seated (record { body = body; table = table }))
+    else (if nat_lt most_places places then Err too_many_paths else if_seated (record { body = body; table = table }))
 
 module _ (state : State) (a : ManagerKey) (config : bodies.Body) (force : Bool) (at : Text) where
   abbrev given : bodies.Body → Result State model.Refusal
   given body =
       let changed = modified state.body body in
-      decided force (clashes a changed state.table) (size body) body (seat state.table a (points config) changed changed at)
+      decided force (clashes a changed state.table) (record { body = body; table = seat state.table a (points config) changed changed at })
 
-  pub apply-decided : (body : bodies.Body) (clash : List (ManagerKey × PathSet)) (places : ℕ) (table : Table)
+  pub apply-decided : (body : bodies.Body) (clash : List Clash) (places : ℕ) (table : Table)
       → body ≡ pruned state a config
       → clash ≡ clashes a (modified state.body body) state.table
       → places ≡ size body
       → table ≡ seat state.table a (points config) (modified state.body body) (modified state.body body) at
-      → model.apply state a config force at ≡ decided force clash places body table
-  apply-decided body clash places table b c n t = ap given (sym b) ∙ (λ i. decided force (sym c i) (sym n i) body (sym t i))
+      → model.apply state a config force at ≡ counted force clash places body table
+  apply-decided body clash places table b c n t = ap given (sym b) ∙ (λ i. counted force (sym c i) (sym n i) body (sym t i))
 
-pub decided-conflict : (force : Bool) (clash : List (ManagerKey × PathSet)) (places : ℕ) (body : bodies.Body) (table : Table) → not (force || is_none clash) ≡ true → decided force clash places body table ≡ Err (conflict clash)
+pub decided-conflict : (force : Bool) (clash : List Clash) (places : ℕ) (body : bodies.Body) (table : Table) → not (force || is_none clash) ≡ true → counted force clash places body table ≡ Err (conflict clash)
 decided-conflict force clash places body table h =
-    ap (λ b. if b then Err (conflict clash) else (if nat_lt 20001 places then Err too_many_paths else if_seated (record { body = body; table = table }))) h
+    ap (λ b. if b then Err (conflict clash) else (if nat_lt most_places places then Err too_many_paths else if_seated (record { body = body; table = table }))) h
 
 abbrev below : ℕ → bodies.Body → Table → Result State model.Refusal
-below places body table = if nat_lt 20001 places then Err too_many_paths else if_seated (record { body = body; table = table })
+below places body table = if nat_lt most_places places then Err too_many_paths else if_seated (record { body = body; table = table })
 
-quiet : (force : Bool) (clash : List (ManagerKey × PathSet)) (places : ℕ) (body : bodies.Body) (table : Table) → not (force || is_none clash) ≡ false → decided force clash places body table ≡ below places body table
+quiet : (force : Bool) (clash : List Clash) (places : ℕ) (body : bodies.Body) (table : Table) → not (force || is_none clash) ≡ false → counted force clash places body table ≡ below places body table
 quiet force clash places body table h = ap (λ b. if b then Err (conflict clash) else below places body table) h
 
-pub decided-paths : (force : Bool) (clash : List (ManagerKey × PathSet)) (places : ℕ) (body : bodies.Body) (table : Table)
-    → not (force || is_none clash) ≡ false → 20001 < places → decided force clash places body table ≡ Err too_many_paths
+pub decided-paths : (force : Bool) (clash : List Clash) (places : ℕ) (body : bodies.Body) (table : Table)
+    → not (force || is_none clash) ≡ false → most_places < places → counted force clash places body table ≡ Err too_many_paths
 decided-paths force clash places body table h over =
-    quiet force clash places body table h ∙ ap (λ b. if b then Err too_many_paths else if_seated (record { body = body; table = table })) (more 20001 places over)
+    quiet force clash places body table h ∙ ap (λ b. if b then Err too_many_paths else if_seated (record { body = body; table = table })) (more most_places places over)
 
-few : (places : ℕ) (body : bodies.Body) (table : Table) → places ≤ 20001 → below places body table ≡ if_seated (record { body = body; table = table })
-few places body table h = ap (λ b. if b then Err too_many_paths else if_seated (record { body = body; table = table })) (at_most 20001 places h)
+few : (places : ℕ) (body : bodies.Body) (table : Table) → places ≤ most_places → below places body table ≡ if_seated (record { body = body; table = table })
+few places body table h = ap (λ b. if b then Err too_many_paths else if_seated (record { body = body; table = table })) (at_most most_places places h)
 
-pub decided-managers : (force : Bool) (clash : List (ManagerKey × PathSet)) (places : ℕ) (body : bodies.Body) (table : Table)
-    → not (force || is_none clash) ≡ false → places ≤ 20001 → 64 < length table → decided force clash places body table ≡ Err too_many_managers
+pub decided-managers : (force : Bool) (clash : List Clash) (places : ℕ) (body : bodies.Body) (table : Table)
+    → not (force || is_none clash) ≡ false → places ≤ most_places → most_managers < length table → counted force clash places body table ≡ Err too_many_managers
 decided-managers force clash places body table h n over =
-    quiet force clash places body table h ∙ few places body table n ∙ ap (λ b. if b then Err too_many_managers else Ok (record { body = body; table = table })) (more 64 (length table) over)
+    quiet force clash places body table h ∙ few places body table n ∙ ap (λ b. if b then Err too_many_managers else Ok (record { body = body; table = table })) (more most_managers (length table) over)
 
-pub decided-state : (force : Bool) (clash : List (ManagerKey × PathSet)) (places : ℕ) (body : bodies.Body) (table : Table)
-    → not (force || is_none clash) ≡ false → places ≤ 20001 → length table ≤ 64 → decided force clash places body table ≡ Ok (record { body = body; table = table })
+pub decided-state : (force : Bool) (clash : List Clash) (places : ℕ) (body : bodies.Body) (table : Table)
+    → not (force || is_none clash) ≡ false → places ≤ most_places → length table ≤ most_managers → counted force clash places body table ≡ Ok (record { body = body; table = table })
 decided-state force clash places body table h n fits =
-    quiet force clash places body table h ∙ few places body table n ∙ ap (λ b. if b then Err too_many_managers else Ok (record { body = body; table = table })) (at_most 64 (length table) fits)
+    quiet force clash places body table h ∙ few places body table n ∙ ap (λ b. if b then Err too_many_managers else Ok (record { body = body; table = table })) (at_most most_managers (length table) fits)
 
 -- ---- places, counted up to the largest number
 
-pub more_places : (n m : ℕ) → n ≡ min m (2 ^ 64 - 1) → 20001 < n → 20001 < m
+pub more_places : (n m : ℕ) → n ≡ min m (2 ^ 64 - 1) → most_places < n → most_places < m
 more_places n m is h = grind (arith, min-le_left m (2 ^ 64 - 1))
 
-pub few_places : (n m : ℕ) → n ≡ min m (2 ^ 64 - 1) → n ≤ 20001 → m ≤ 20001
+pub few_places : (n m : ℕ) → n ≡ min m (2 ^ 64 - 1) → n ≤ most_places → m ≤ most_places
 few_places n m is h = grind (arith, min-eq_left, min-eq_right)
 
 -- ---- the table
 
-pub seated : (before : State) (force : Bool) (clash : List (ManagerKey × PathSet)) (places : ℕ) (plan : Plan) (table : Table)
-    → not (force || is_none clash) ≡ false → places ≤ 20001 → IsSeated (Ok plan.target.managers) table → IsComparison before.body plan.target.body plan.comparison
-    → IsPlanned before (Ok plan) (decided force clash places plan.target.body table)
+pub seated : (before : State) (force : Bool) (clash : List Clash) (places : ℕ) (plan : Plan) (table : Table)
+    → not (force || is_none clash) ≡ false → places ≤ most_places → IsSeated (Ok plan.target.managers) table → IsComparison before.body plan.target.body plan.comparison
+    → IsPlanned before (Ok plan) (counted force clash places plan.target.body table)
 seated before force clash places plan table h n seated_is compared =
     let body = plan.target.body in
     let managers : ◌≡◌ {A = Result State model.Refusal} (Ok (record { body = body; table = table })) (Ok (state_view plan.target)) = λ i. Ok (record { body = body; table = sym seated_is.0 i }) in
     (state_view plan.target, decided-state force clash places body table h n seated_is.1 ∙ managers, record { target_is = refl; comparison_is = compared })
 
-pub unseated : (before : State) (force : Bool) (clash : List (ManagerKey × PathSet)) (places : ℕ) (body : bodies.Body) (table : Table) (f : Refusal)
-    → not (force || is_none clash) ≡ false → places ≤ 20001 → IsSeated (Err f) table → IsPlanned before (Err f) (decided force clash places body table)
+pub unseated : (before : State) (force : Bool) (clash : List Clash) (places : ℕ) (body : bodies.Body) (table : Table) (f : Refusal)
+    → not (force || is_none clash) ≡ false → places ≤ most_places → IsSeated (Err f) table → IsPlanned before (Err f) (counted force clash places body table)
 unseated before force clash places body table (Conflict clashes) h n given = absurd given
 unseated before force clash places body table TooManyPaths h n given = absurd given
 unseated before force clash places body table TooManyManagers h n given = (model.too_many_managers, decided-managers force clash places body table h n given, refl)
@@ -105,7 +106,7 @@ placed before plan table seated_is compared =
     let body = plan.target.body in
     let managers : ◌≡◌ {A = Result State model.Refusal} (Ok (record { body = body; table = table })) (Ok (state_view plan.target)) = λ i. Ok (record { body = body; table = sym seated_is.0 i }) in (
       state_view plan.target,
-      ap (λ b. if b then Err too_many_managers else Ok (record { body = body; table = table })) (at_most 64 (length table) seated_is.1) ∙ managers,
+      ap (λ b. if b then Err too_many_managers else Ok (record { body = body; table = table })) (at_most most_managers (length table) seated_is.1) ∙ managers,
       record { target_is = refl; comparison_is = compared },
     )
 
@@ -113,5 +114,5 @@ pub unplaced : (before : State) (body : bodies.Body) (table : Table) (f : Refusa
 unplaced before body table (Conflict clashes) given = absurd given
 unplaced before body table TooManyPaths given = absurd given
 unplaced before body table TooManyManagers given =
-    (model.too_many_managers, ap (λ b. if b then Err too_many_managers else Ok (record { body = body; table = table })) (more 64 (length table) given), refl)
+    (model.too_many_managers, ap (λ b. if b then Err too_many_managers else Ok (record { body = body; table = table })) (more most_managers (length table) given), refl)
 unplaced before body table OutOfMemory given = tt

@@ -1,8 +1,8 @@
 -- The entries of a table that are read back, one behind the other.
 use Rattle.std.proofs.Common.{◌≡◌, ℕ, ◌+◌, ◌<◌, List, [], ◌∷◌, ◌++◌, length, get_or, take, sym, ap, subst, ◌∙◌}
 use Rattle.std.proofs.lemmas.List.{take_more}
-use Rattle.ssa_model.specs.ShownStates.{IsReadBack}
-use Rattle.ssa_model.specs.Valid.{AllEntries}
+use Rattle.ssa_model.specs.definitions.BenchFile.{IsReadBack}
+use Rattle.ssa_model.specs.definitions.Valid.{AllEntries}
 use Rattle.ssa_json.specs.Readings.{readings}
 use Rattle.ssa_merge.specs.Managers.{entry_view, table_view}
 use Rattle.ssa_merge.specs.declared.managers.Entry.{Entry}

@@ -1,8 +1,8 @@
 -- The entries of a table, one after the other.
 use Rattle.std.proofs.Common.{◌≡◌, [], ◌∷◌, map, refl, ap}
-use Rattle.ssa_model.specs.Entries.{entry_items, entry_json}
-use Rattle.ssa_model.specs.Json.{Json, item}
-use Rattle.ssa_model.specs.Table.{Table}
+use Rattle.ssa_model.specs.definitions.Entries.{entry_items, entry_json}
+use Rattle.ssa_model.specs.definitions.Json.{Json, item}
+use Rattle.ssa_model.specs.definitions.Table.{Table}
 use Rattle.ssa_json.specs.View.{items_of}
 
 pub entry_items-map : (version : Json) (table : Table) → items_of (map (entry_json version) table) ≡ entry_items version table

@@ -1,12 +1,12 @@
 -- The bodies of states that are planned are of the kind of those that they are made of.
 use Rattle.std.proofs.Common.{◌≡◌, Bool, sym, subst}
 use Rattle.std.specs.Prelude.{Result, Ok, Err, IfOk}
-use Rattle.ssa_model.specs.Json.{Text}
-use Rattle.ssa_model.specs.Kind.{Kind}
-use Rattle.ssa_model.specs.Fitting.{IsBodyOf}
-use Rattle.ssa_model.specs.Body.{Body}
-use Rattle.ssa_model.specs.Table.{ManagerKey}
-use Rattle.ssa_model.specs.Operations.{State, apply, update}
+use Rattle.ssa_model.specs.definitions.Json.{Text}
+use Rattle.ssa_model.specs.definitions.Kind.{Kind}
+use Rattle.ssa_model.specs.definitions.Fitting.{IsBodyOf}
+use Rattle.ssa_model.specs.definitions.Body.{Body}
+use Rattle.ssa_model.specs.definitions.Table.{ManagerKey}
+use Rattle.ssa_model.specs.definitions.Operations.{State, apply, update}
 use Rattle.ssa_model.proofs.Accepted.{applied_is, updated_is}
 use Rattle.ssa_model.proofs.Pruned.{pruned_fits}
 use Rattle.ssa_merge.specs.Plans.{IsPlanned}

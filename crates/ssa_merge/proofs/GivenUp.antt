@@ -3,11 +3,11 @@ use Rattle.std.proofs.Common.{◌≡◌, List, [], ◌∷◌, map, Bool, true, f
 use Rattle.std.specs.Prelude.{Option, Some, None, if◌then◌else◌}
 use Rattle.std.specs.Cmp.{first_so, second_so}
 use Rattle.std.specs.Cmp.Lexicographic.{pointwise}
-use Rattle.ssa_model.specs.Path.{Path, is_key_field, is_root, same_path}
-use Rattle.ssa_model.specs.PathMap.{PathSet, empty, has, has_at_or_above, has_at_or_below, insert, is_empty, paths, same_set, set_of, minus, union}
-use Rattle.ssa_model.specs.Body as model
-use Rattle.ssa_model.specs.Table.{ManagerKey, Entry, Table, same_manager, owned_by, owned_by_others}
-use Rattle.ssa_model.specs.Operations.{State, dropped, kept, pruned}
+use Rattle.ssa_model.specs.definitions.Path.{Path, is_key_field, is_root, same_path}
+use Rattle.ssa_model.specs.definitions.PathMap.{PathSet, empty, has, has_at_or_above, has_at_or_below, insert, is_empty, paths, same_set, set_of, minus, union}
+use Rattle.ssa_model.specs.definitions.Body as model
+use Rattle.ssa_model.specs.definitions.Table.{ManagerKey, Entry, Table, same_manager, owned_by, owned_by_others}
+use Rattle.ssa_model.specs.definitions.Operations.{State, dropped, kept, pruned}
 use Rattle.ssa_model.proofs.PathMaps.{has-insert, has-minus, has-paths, has-set_of, has-union, same_path-true, same_sets, is_one_of}
 use Rattle.ssa_model.proofs.Tables.{true_or}
 use Rattle.ssa_path.specs.Meet.{meet}

@@ -1,14 +1,14 @@
 -- The paths of a set that nobody can own in a body.
 use Rattle.std.proofs.Common.{◌≡◌, ◌≤◌, arith, length, get_or, List, [], ◌∷◌, map, Bool, true, false, not, ◌&&◌, ◌||◌, refl, sym, ap, ◌∙◌, true≢false}
 use Rattle.std.specs.Prelude.{Some, None}
-use Rattle.ssa_model.specs.Path.{Path, same_path}
-use Rattle.ssa_model.specs.PathMap.{PathSet, empty, has, insert, is_empty, paths, set_of, union}
-use Rattle.ssa_model.specs.Body.{Body, is_ownable}
-use Rattle.ssa_model.specs.Valid.{metadata_path}
+use Rattle.ssa_model.specs.definitions.Path.{Path, same_path}
+use Rattle.ssa_model.specs.definitions.PathMap.{PathSet, empty, has, insert, is_empty, paths, set_of, union}
+use Rattle.ssa_model.specs.definitions.Body.{Body, is_ownable}
+use Rattle.ssa_model.specs.definitions.Valid.{metadata_path}
 use Rattle.ssa_model.proofs.Ownable.{is_never, ownable-is}
 use Rattle.ssa_model.proofs.PathMaps.{has-insert, has-paths, has-set_of, has-union, paths-tested, same_sets}
 use Rattle.ssa_path.specs.Meet.{meet}
-use Rattle.ssa_model.specs.GivenEntries.{not_ownable}
+use Rattle.ssa_model.specs.definitions.GivenEntries.{not_ownable}
 use Rattle.ssa_merge.specs.EntryReading.{first_of}
 
 -- ---- those that nobody can own

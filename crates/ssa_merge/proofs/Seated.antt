@@ -2,8 +2,8 @@
 use Rattle.std.proofs.Common.{◌≡◌, ℕ, ◌+◌, ◌<◌, ◌≤◌, ◌==◌, List, [], ◌∷◌, ◌++◌, length, true, false, sym, ap, subst, ◌∙◌, arith}
 use Rattle.std.proofs.lemmas.Bool.Decides.{nat_tests}
 use Rattle.std.proofs.lemmas.List.{length-map, length-append}
-use Rattle.ssa_model.specs.Table as model
-use Rattle.ssa_model.specs.Table.{Table}
+use Rattle.ssa_model.specs.definitions.Table as model
+use Rattle.ssa_model.specs.definitions.Table.{Table}
 use Rattle.ssa_merge.specs.Managers.{entry_view, table_view}
 use Rattle.ssa_merge.specs.declared.managers.Entry.{Entry}
 

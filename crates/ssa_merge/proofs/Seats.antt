@@ -3,9 +3,9 @@ use Rattle.std.proofs.Common.{◌≡◌, [], ◌∷◌, ◌++◌, map, Bool, tru
 use Rattle.std.specs.Prelude.{filter, if◌then◌else◌}
 use Rattle.std.proofs.lemmas.List.{map-append, append-nil}
 use Rattle.std.proofs.lemmas.List.Elements.{filter-append}
-use Rattle.ssa_model.specs.Json.{Text}
-use Rattle.ssa_model.specs.PathMap.{PathSet, empty, is_empty, same_set, minus}
-use Rattle.ssa_model.specs.Table.{ManagerKey, Entry, Table, same_manager, is_in_table, reseated, seat}
+use Rattle.ssa_model.specs.definitions.Json.{Text}
+use Rattle.ssa_model.specs.definitions.PathMap.{PathSet, empty, is_empty, same_set, minus}
+use Rattle.ssa_model.specs.definitions.Table.{ManagerKey, Entry, Table, same_manager, is_in_table, reseated, seat}
 use Rattle.ssa_model.proofs.Tables.{manager-itself}
 use Rattle.ssa_merge.specs.Tables.{owns}
 

@@ -1,15 +1,16 @@
 -- Plans on valid states lead to valid states, and keep the managers' order.
 use Rattle.std.proofs.Common.{◌≡◌, ◌≤◌, List, [], ◌∷◌, Bool, true, refl, sym, subst}
 use Rattle.std.specs.Prelude.{Result, Ok, Err, IfOk, filter, map}
-use Rattle.ssa_model.specs.Json.{Text}
-use Rattle.ssa_model.specs.Kind.{Kind}
-use Rattle.ssa_model.specs.Fitting.{IsBodyOf}
-use Rattle.ssa_model.specs.PathMap.{size, minus, union}
-use Rattle.ssa_model.specs.Body.{Body, points, added, modified, removed}
-use Rattle.ssa_model.specs.History.{is_manager_name}
-use Rattle.ssa_model.specs.Table.{ManagerKey, is_in_table, owned_by}
-use Rattle.ssa_model.specs.Operations.{State, pruned, apply, update, strip}
-use Rattle.ssa_model.specs.Valid.{IsRooted, IsValidState, KeepsOrder}
+use Rattle.ssa_model.specs.definitions.Limits.{most_places}
+use Rattle.ssa_model.specs.definitions.Json.{Text}
+use Rattle.ssa_model.specs.definitions.Kind.{Kind}
+use Rattle.ssa_model.specs.definitions.Fitting.{IsBodyOf}
+use Rattle.ssa_model.specs.definitions.PathMap.{size, minus, union}
+use Rattle.ssa_model.specs.definitions.Body.{Body, points, added, modified, removed}
+use Rattle.ssa_model.specs.definitions.History.{is_manager_name}
+use Rattle.ssa_model.specs.definitions.Table.{ManagerKey, is_in_table, owned_by}
+use Rattle.ssa_model.specs.definitions.Operations.{State, pruned, apply, update, strip}
+use Rattle.ssa_model.specs.definitions.Valid.{IsRooted, IsValidState, KeepsOrder}
 use Rattle.ssa_model.proofs.Accepted.{applied_is, updated_is}
 use Rattle.ssa_model.proofs.SharedManagers.{operations_keep_order}
 use Rattle.ssa_model.proofs.ValidStates.{apply_keeps_valid, update_keeps_valid, strip_keeps_valid}
@@ -24,7 +25,7 @@ applied_valid state a config force at (Ok p) h = λ kind valid fits rooted name.
 applied_valid state a config force at (Err f) h = tt
 
 pub updated_valid : (state : State) (u : ManagerKey) (object : Body) (at : Text) (r : Result Plan Refusal) → IsPlanned state r (update state u object at)
-    → IfOk r (λ p. (kind : Kind) → IsValidState kind state → IsBodyOf kind object → IsRooted object → size object ≤ 20001 → is_manager_name u.name ≡ true → IsValidState kind (state_view p.target))
+    → IfOk r (λ p. (kind : Kind) → IsValidState kind state → IsBodyOf kind object → IsRooted object → size object ≤ most_places → is_manager_name u.name ≡ true → IsValidState kind (state_view p.target))
 updated_valid state u object at (Ok p) h = λ kind valid fits rooted few name. subst (IsValidState kind) (sym h.2.target_is) (update_keeps_valid kind state h.0 u object at valid fits rooted few name h.1)
 updated_valid state u object at (Err f) h = tt
 

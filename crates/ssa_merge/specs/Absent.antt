@@ -1,9 +1,9 @@
 -- What a manager owns and its configuration leaves out.
 use Rattle.std.specs.Prelude.{not}
-use Rattle.ssa_model.specs.PathMap.{PathSet, has, paths, set_of}
-use Rattle.ssa_model.specs.Body as model
-use Rattle.ssa_model.specs.Table.{ManagerKey, owned_by}
-use Rattle.ssa_model.specs.Operations.{State}
+use Rattle.ssa_model.specs.definitions.PathMap.{PathSet, has, paths, set_of}
+use Rattle.ssa_model.specs.definitions.Body as model
+use Rattle.ssa_model.specs.definitions.Table.{ManagerKey, owned_by}
+use Rattle.ssa_model.specs.definitions.Operations.{State}
 
 -- the paths of the manager's at which the configuration has nothing
 abbrev pub absent : State → ManagerKey → model.Body → PathSet

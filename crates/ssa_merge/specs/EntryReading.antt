@@ -2,14 +2,14 @@
 use Rattle.std.specs.Prelude.{◌≡◌, List, [], ◌∷◌, true, false, Option, Some, None, Result, Ok, Err, codes}
 use Rattle.arrayvec.specs.ArrayVec.{ArrayVec}
 use Rattle.ssa_json.specs.View.{view}
-use Rattle.ssa_model.specs.Json.{Text, Json, scalar, list, object, Members, no_members, member}
-use Rattle.ssa_model.specs.Path.{Path}
-use Rattle.ssa_model.specs.PathMap.{PathSet}
-use Rattle.ssa_model.specs.Entries.{operation_text, text_json}
-use Rattle.ssa_model.specs.GivenEntries as model
-use Rattle.ssa_model.specs.GivenEntries.{is_entry, text_at, fields_in, operation_of}
-use Rattle.ssa_model.specs.Table as table
-use Rattle.ssa_model.specs.Table.{ManagerKey, Table}
+use Rattle.ssa_model.specs.definitions.Json.{Text, Json, scalar, list, object, Members, no_members, member}
+use Rattle.ssa_model.specs.definitions.Path.{Path}
+use Rattle.ssa_model.specs.definitions.PathMap.{PathSet}
+use Rattle.ssa_model.specs.definitions.Entries.{operation_text, text_json}
+use Rattle.ssa_model.specs.definitions.GivenEntries as model
+use Rattle.ssa_model.specs.definitions.GivenEntries.{is_entry, text_at, fields_in, operation_of}
+use Rattle.ssa_model.specs.definitions.Table as table
+use Rattle.ssa_model.specs.definitions.Table.{ManagerKey, Table}
 use Rattle.ssa_path.specs.declared.fields_fault.FieldsFault.{FieldsFault}
 use Rattle.ssa_path.specs.declared.fields_fault.FieldsFault.TheVariants as fields
 use Rattle.ssa_merge.specs.declared.entry_fault.EntryFault.{EntryFault}

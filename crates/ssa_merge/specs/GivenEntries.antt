@@ -1,7 +1,7 @@
 -- What reading managers' entries answers.
 use Rattle.std.specs.Prelude.{◌≡◌, Result, Ok, Err}
-use Rattle.ssa_model.specs.ElementTexts as texts
-use Rattle.ssa_model.specs.GivenEntries as model
+use Rattle.ssa_model.specs.definitions.ElementTexts as texts
+use Rattle.ssa_model.specs.definitions.GivenEntries as model
 use Rattle.ssa_merge.specs.declared.entry_fault.EntryFault.{EntryFault}
 use Rattle.ssa_merge.specs.declared.entry_fault.EntryFault.TheVariants.{TooManyManagers, BadEntry, ManagerName, OtherVersion, BadMoment, BadElement, IndexElement, NotCanonical, EmptyEntry, AbsentPath, DuplicateManager, OutOfMemory}
 

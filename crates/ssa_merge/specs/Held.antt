@@ -1,5 +1,5 @@
 -- What a shared set holds.
-use Rattle.ssa_model.specs.PathMap.{PathSet}
+use Rattle.ssa_model.specs.definitions.PathMap.{PathSet}
 use Rattle.ssa_merge.specs.declared.shared_set.Held.{Held}
 use Rattle.ssa_merge.specs.declared.shared_set.Held.TheVariants.{Own, Shared}
 

@@ -1,8 +1,9 @@
 -- What managers and their entries are.
 use Rattle.std.specs.Prelude.{List, map, string_bytes}
 use Rattle.std.specs.Borrow.{Bor}
-use Rattle.ssa_model.specs.PathMap.{PathSet}
-use Rattle.ssa_model.specs.Table as model
+use Rattle.ssa_model.specs.definitions.PathMap.{PathSet}
+use Rattle.ssa_model.specs.definitions.Table as model
+use Rattle.ssa_model.specs.definitions.Operations.{Clash}
 use Rattle.ssa_merge.specs.declared.manager.Operation.{Operation}
 use Rattle.ssa_merge.specs.declared.manager.Operation.TheVariants.{Apply, Update}
 use Rattle.ssa_merge.specs.declared.manager.ManagerKey.{ManagerKey}
@@ -25,8 +26,8 @@ entry_view e = record { manager = key_view e.key; owned = e.set; moment = e.at }
 abbrev pub table_view : List Entry → model.Table
 table_view = map entry_view
 
-abbrev pub clash_view : ManagerKey × PathSet → model.ManagerKey × PathSet
-clash_view c = (key_view c.0, c.1)
+abbrev pub clash_view : ManagerKey × PathSet → Clash
+clash_view c = record { manager = key_view c.0; fields = c.1 }
 
-abbrev pub clashes_view : List (ManagerKey × PathSet) → List (model.ManagerKey × PathSet)
+abbrev pub clashes_view : List (ManagerKey × PathSet) → List Clash
 clashes_view = map clash_view

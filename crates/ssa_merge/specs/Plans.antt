@@ -1,7 +1,7 @@
 -- What a plan says.
 use Rattle.std.specs.Prelude.{◌≡◌, true, Result, Ok, Err}
-use Rattle.ssa_model.specs.Operations as model
-use Rattle.ssa_model.specs.Valid.{has_distinct_keys, KeepsOrder}
+use Rattle.ssa_model.specs.definitions.Operations as model
+use Rattle.ssa_model.specs.definitions.Valid.{has_distinct_keys, KeepsOrder}
 use Rattle.ssa_typed.specs.Differences.{IsComparison}
 use Rattle.ssa_merge.specs.Managers.{clashes_view}
 use Rattle.ssa_merge.specs.States.{state_view}

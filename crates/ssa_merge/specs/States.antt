@@ -1,7 +1,7 @@
 -- What states and acting managers are.
-use Rattle.ssa_model.specs.Json.{Text}
-use Rattle.ssa_model.specs.Operations as model
-use Rattle.ssa_model.specs.Table.{ManagerKey, applies, updates}
+use Rattle.ssa_model.specs.definitions.Json.{Text}
+use Rattle.ssa_model.specs.definitions.Operations as model
+use Rattle.ssa_model.specs.definitions.Table.{ManagerKey, applies, updates}
 use Rattle.ssa_merge.specs.declared.state.State.{State}
 
 abbrev pub state_view : State → model.State

@@ -1,7 +1,8 @@
 -- Entries of a table.
 use Rattle.std.specs.Prelude.{◌≡◌, ◌<◌, ◌≤◌, [], ◌∷◌, Bool, not, length, Option, Some, None, Result, Ok, Err, if◌then◌else◌}
-use Rattle.ssa_model.specs.PathMap.{is_empty}
-use Rattle.ssa_model.specs.Table.{ManagerKey, Entry, Table, same_manager}
+use Rattle.ssa_model.specs.definitions.Limits.{most_managers}
+use Rattle.ssa_model.specs.definitions.PathMap.{is_empty}
+use Rattle.ssa_model.specs.definitions.Table.{ManagerKey, Entry, Table, same_manager}
 use Rattle.ssa_merge.specs.declared.plan.Refusal.{Refusal}
 use Rattle.ssa_merge.specs.declared.plan.Refusal.TheVariants.{Conflict, TooManyPaths, TooManyManagers, OutOfMemory}
 
@@ -15,8 +16,8 @@ owns e = not (is_empty e.owned)
 
 -- The table is the given one, or that has too many managers; of want of memory nothing is said.
 abbrev pub IsSeated : Result Table Refusal → Table → Type 0
-IsSeated (Ok table) given = (table ≡ given) × (length given ≤ 64)
+IsSeated (Ok table) given = (table ≡ given) × (length given ≤ most_managers)
 IsSeated (Err (Conflict clashes)) given = ⊥
 IsSeated (Err TooManyPaths) given = ⊥
-IsSeated (Err TooManyManagers) given = 64 < length given
+IsSeated (Err TooManyManagers) given = most_managers < length given
 IsSeated (Err OutOfMemory) given = Unit {0}

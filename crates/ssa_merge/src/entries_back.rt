@@ -1,6 +1,6 @@
 //! Tables of managers read back from the entries that they are written as.
-ghost use Rattle.ssa_model.specs.ShownStates.{IsReadBack};
-ghost use Rattle.ssa_model.specs.Valid.{AllEntries};
+ghost use Rattle.ssa_model.specs.definitions.BenchFile.{IsReadBack};
+ghost use Rattle.ssa_model.specs.definitions.Valid.{AllEntries};
 ghost use Rattle.ssa_json.specs.Readings.{readings};
 ghost use Rattle.ssa_merge.specs.EntriesBack.{IsTableBack};
 ghost use Rattle.ssa_merge.specs.Managers.{entry_view, table_view};

@@ -1,9 +1,9 @@
 //! What an applier gives up, and what stays of the merged body.
 ghost use Rattle.std.specs.Prelude.{◌≡◌, not, ◌&&◌, IfOk};
-ghost use Rattle.ssa_model.specs.PathMap.{has_at_or_above, has_at_or_below, paths, set_of, union};
-ghost use Rattle.ssa_model.specs.Path.{is_key_field, is_root};
-ghost use Rattle.ssa_model.specs.Body.{points};
-ghost use Rattle.ssa_model.specs.Operations.{pruned};
+ghost use Rattle.ssa_model.specs.definitions.PathMap.{has_at_or_above, has_at_or_below, paths, set_of, union};
+ghost use Rattle.ssa_model.specs.definitions.Path.{is_key_field, is_root};
+ghost use Rattle.ssa_model.specs.definitions.Body.{points};
+ghost use Rattle.ssa_model.specs.definitions.Operations.{pruned};
 ghost use Rattle.ssa_typed.specs.Alike.{AreAlike};
 ghost use Rattle.ssa_merge.specs.Absent.{absent};
 ghost use Rattle.ssa_merge.specs.Managers.{key_view};

@@ -11,6 +11,7 @@ pub mod given_up;
 pub mod manager;
 pub mod managers;
 pub mod names;
+pub mod order;
 mod ownable;
 pub mod owned;
 pub mod plan;

@@ -1,7 +1,7 @@
 //! Managers of fields: a name, and the operation by which it came to own them.
 ghost use Rattle.std.specs.Prelude.{◌≡◌, IfOk};
-ghost use Rattle.ssa_model.specs.Entries.{operation_text};
-ghost use Rattle.ssa_model.specs.Table.{same_operation, same_manager};
+ghost use Rattle.ssa_model.specs.definitions.Entries.{operation_text};
+ghost use Rattle.ssa_model.specs.definitions.Table.{same_operation, same_manager};
 ghost use Rattle.ssa_merge.specs.Managers.{operation_view, key_view};
 
 use ssa_json::text::is_same_text;

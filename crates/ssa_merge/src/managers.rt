@@ -1,8 +1,9 @@
 //! The table of managers: who owns which paths, and since when.
 ghost use Rattle.std.specs.Prelude.{◌≡◌, ◌≤◌, [], length, option_map, not, IfOk};
-ghost use Rattle.ssa_model.specs.PathMap.{union};
-ghost use Rattle.ssa_model.specs.Table.{is_in_table, owned_by, owned_by_others};
-ghost use Rattle.ssa_model.specs.Operations.{clashes};
+ghost use Rattle.ssa_model.specs.definitions.Limits.{most_managers};
+ghost use Rattle.ssa_model.specs.definitions.PathMap.{union};
+ghost use Rattle.ssa_model.specs.definitions.Table.{is_in_table, owned_by, owned_by_others};
+ghost use Rattle.ssa_model.specs.definitions.Operations.{clashes};
 ghost use Rattle.ssa_merge.specs.Managers.{key_view, entry_view, table_view, clashes_view};
 ghost use Rattle.ssa_merge.specs.Tables.{entry_of};
 
@@ -62,8 +63,8 @@ pub struct Managers {
 }
 
 impl Model for Managers {
-    ghost use Rattle.ssa_model.specs.Table.{Table};
-    ghost use Rattle.ssa_model.specs.Codes.{coded_entry};
+    ghost use Rattle.ssa_model.specs.definitions.Table.{Table};
+    ghost use Rattle.ssa_model.specs.codes.Codes.{coded_entry};
     ghost use Rattle.std.specs.Coded.{coded_list};
 
     ghost Value = { Table };
@@ -95,7 +96,7 @@ impl Managers {
     /// The entries, in table order.
     pub fn entries(&self) -> &[Entry]
         ensures same { table_view result.now ≡ self.now }
-        ensures few { length result.now ≤ 64 }
+        ensures few { length result.now ≤ most_managers }
     {
         self.entries.as_slice()
     }
@@ -128,7 +129,7 @@ fn copy_entries(
     alloc: Global,
     entries: &[Entry],
 ) -> Result<ArrayVec<Entry, MOST_MANAGERS, Global>, AllocError>
-    requires { length entries.now ≤ 64 }
+    requires { length entries.now ≤ most_managers }
     ensures { IfOk result (λ copied. table_view copied.items ≡ table_view entries.now) }
 {
     let mut copied = ArrayVec::new_in(alloc);

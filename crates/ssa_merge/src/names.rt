@@ -1,7 +1,7 @@
 //! Names of managers.
 ghost use Rattle.std.specs.Prelude.{◌≡◌, ◌&&◌};
 ghost use Rattle.std.specs.List.{list_all};
-ghost use Rattle.ssa_model.specs.History.{is_name_byte, is_manager_name};
+ghost use Rattle.ssa_model.specs.definitions.History.{is_name_byte, is_manager_name};
 
 // Whether all bytes are printable ASCII.
 fn are_name_bytes(bytes: &[u8]) -> bool

@@ -1,9 +1,9 @@
 //! Which paths of a set nobody can own in a body.
 ghost use Rattle.std.specs.Prelude.{◌≡◌, [], not, IfOk};
-ghost use Rattle.ssa_model.specs.Body.{is_ownable};
-ghost use Rattle.ssa_model.specs.GivenEntries.{not_ownable};
-ghost use Rattle.ssa_model.specs.PathMap.{empty, insert, paths, set_of};
-ghost use Rattle.ssa_model.specs.Valid.{metadata_path};
+ghost use Rattle.ssa_model.specs.definitions.Body.{is_ownable};
+ghost use Rattle.ssa_model.specs.definitions.GivenEntries.{not_ownable};
+ghost use Rattle.ssa_model.specs.definitions.PathMap.{empty, insert, paths, set_of};
+ghost use Rattle.ssa_model.specs.definitions.Valid.{metadata_path};
 ghost use Rattle.ssa_merge.specs.EntryReading.{first_of};
 
 use ssa_path::element::Elem;

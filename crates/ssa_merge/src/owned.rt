@@ -1,8 +1,8 @@
 //! Who owns a path, what the others own, and whom a change clashes with.
 ghost use Rattle.std.specs.Prelude.{◌≡◌, map, IfOk};
-ghost use Rattle.ssa_model.specs.Answers.{owners_of};
-ghost use Rattle.ssa_model.specs.Table.{owned_by_others};
-ghost use Rattle.ssa_model.specs.Operations.{clashes};
+ghost use Rattle.ssa_model.specs.definitions.Answers.{owners_of};
+ghost use Rattle.ssa_model.specs.definitions.Table.{owned_by_others};
+ghost use Rattle.ssa_model.specs.definitions.Operations.{clashes};
 ghost use Rattle.ssa_merge.specs.Managers.{key_view, lent_keys, table_view, clashes_view};
 
 use crate::manager::ManagerKey;

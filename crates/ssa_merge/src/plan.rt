@@ -1,12 +1,13 @@
 //! What a command makes of a state, before it is carried out.
 ghost use Rattle.std.specs.Prelude.{◌≡◌, ◌≤◌, ◌||◌, length, not, true, IfOk};
-ghost use Rattle.ssa_model.specs.Fitting.{IsBodyOf};
-ghost use Rattle.ssa_model.specs.History.{is_manager_name};
-ghost use Rattle.ssa_model.specs.Kind.{Kind};
-ghost use Rattle.ssa_model.specs.PathMap.{minus, size, union};
-ghost use Rattle.ssa_model.specs.Table.{owned_by};
-ghost use Rattle.ssa_model.specs.Operations.{apply, update, strip, is_none};
-ghost use Rattle.ssa_model.specs.Valid.{IsRooted, IsValidState};
+ghost use Rattle.ssa_model.specs.definitions.Limits.{most_places};
+ghost use Rattle.ssa_model.specs.definitions.Fitting.{IsBodyOf};
+ghost use Rattle.ssa_model.specs.definitions.History.{is_manager_name};
+ghost use Rattle.ssa_model.specs.definitions.Kind.{Kind};
+ghost use Rattle.ssa_model.specs.definitions.PathMap.{minus, size, union};
+ghost use Rattle.ssa_model.specs.definitions.Table.{owned_by};
+ghost use Rattle.ssa_model.specs.definitions.Operations.{apply, update, strip, is_none};
+ghost use Rattle.ssa_model.specs.definitions.Valid.{IsRooted, IsValidState};
 ghost use Rattle.ssa_typed.specs.Alike.{AreAlike};
 ghost use Rattle.ssa_merge.specs.Managers.{clashes_view, key_view, operation_view};
 ghost use Rattle.ssa_merge.specs.States.{state_view, applier, updater};
@@ -21,12 +22,9 @@ use crate::seat::seat;
 use crate::state::State;
 use ssa_json::moment::Moment;
 use ssa_path::field_set::FieldSet;
-use ssa_typed::body::Body;
+use ssa_typed::body::{Body, MOST_PLACES};
 use ssa_typed::compare::Comparison;
 use std::alloc::{AllocError, Global};
-
-/// The most places of a body, the root among them.
-pub const MOST_PLACES: usize = 20_001;
 
 /// The state that a command leads to, and how its body differs from the one before.
 #[derive(Drop)]
@@ -213,7 +211,7 @@ pub fn plan_update(
 ) -> Result<Plan, Refusal>
     ensures plan { IsPlanned (state_view state.now) result (update (state_view state.now) (updater who.now) object at) }
     ensures fits { IfOk result (λ p. (kind : Kind) → IsBodyOf kind object → IsBodyOf kind p.target.body) }
-    ensures valid { IfOk result (λ p. (kind : Kind) → IsValidState kind (state_view state.now) → IsBodyOf kind object → IsRooted object → size object ≤ 20001 → is_manager_name who.now ≡ true → IsValidState kind (state_view p.target)) }
+    ensures valid { IfOk result (λ p. (kind : Kind) → IsValidState kind (state_view state.now) → IsBodyOf kind object → IsRooted object → size object ≤ most_places → is_manager_name who.now ≡ true → IsValidState kind (state_view p.target)) }
     ensures order { IfOk result (StandInOrder (state_view state.now)) }
 {
     let key = key_of(alloc, who, Operation::Update)?;

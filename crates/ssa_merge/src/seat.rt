@@ -1,7 +1,8 @@
 //! The table after a command.
 ghost use Rattle.std.specs.Prelude.{◌≡◌, ◌<◌, ◌≤◌, filter, map, length, not, Err, IfOk};
-ghost use Rattle.ssa_model.specs.PathMap.{is_empty, minus};
-ghost use Rattle.ssa_model.specs.Table.{is_in_table, reseated, seat};
+ghost use Rattle.ssa_model.specs.definitions.Limits.{most_managers};
+ghost use Rattle.ssa_model.specs.definitions.PathMap.{is_empty, minus};
+ghost use Rattle.ssa_model.specs.definitions.Table.{is_in_table, reseated, seat};
 ghost use Rattle.ssa_merge.specs.Managers.{key_view, entry_view, table_view};
 ghost use Rattle.ssa_merge.specs.Tables.{owns, IsSeated};
 
@@ -92,9 +93,9 @@ fn reseated_entries(
     changed: bool,
     at: Moment,
 ) -> Result<ArrayVec<Entry, MOST_MANAGERS, Global>, AllocError>
-    requires { length table.now ≤ 64 }
+    requires { length table.now ≤ most_managers }
     ensures made { IfOk result (λ made. table_view made.items ≡ filter owns (map (reseated (key_view key.now) owned.now lost.now changed at) (table_view table.now))) }
-    ensures few { IfOk result (λ made. length made.items ≤ 64) }
+    ensures few { IfOk result (λ made. length made.items ≤ most_managers) }
 {
     let mut made = ArrayVec::new_in(alloc);
     for entry in table {

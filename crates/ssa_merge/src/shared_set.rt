@@ -1,6 +1,6 @@
 //! Field sets that the tables of a timeline share.
 ghost use Rattle.std.specs.Prelude.{◌≡◌, IfOk};
-ghost use Rattle.ssa_model.specs.PathMap.{empty};
+ghost use Rattle.ssa_model.specs.definitions.PathMap.{empty};
 
 use ssa_path::field_set::FieldSet;
 use std::alloc::{AllocError, Global};
@@ -22,8 +22,8 @@ pub struct SharedSet {
 }
 
 impl Model for SharedSet {
-    ghost use Rattle.ssa_model.specs.PathMap.{PathSet};
-    ghost use Rattle.ssa_model.specs.Codes.{coded_set};
+    ghost use Rattle.ssa_model.specs.definitions.PathMap.{PathSet};
+    ghost use Rattle.ssa_model.specs.codes.Codes.{coded_set};
 
     ghost Value = { PathSet };
 

@@ -5,7 +5,7 @@ use Rattle.std.proofs.lemmas.Str.Ascii.{IsAscii-nil, IsAscii-cons}
 use Rattle.std.proofs.lemmas.Str.{IsUtf8-from_ascii, is_utf8-from_IsUtf8}
 use Rattle.std.specs.Prelude.{Bool, nat_lt}
 use Rattle.std.specs.Str.{IsAscii, is_utf8}
-use Rattle.ssa_model.specs.Json.{Text}
+use Rattle.ssa_model.specs.definitions.Json.{Text}
 
 abbrev pub are_small : Text → Bool
 are_small [] = true

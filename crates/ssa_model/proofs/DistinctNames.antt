@@ -6,17 +6,18 @@ use Rattle.std.specs.List.{list_any, cons_option, AllByRecursion}
 use Rattle.std.specs.Ordering.{is_eq}
 use Rattle.std.specs.Cmp.{first_so, second_so}
 use Rattle.std.specs.FinMap.Entries.{is_sorted, below_all}
-use Rattle.ssa_model.specs.Json.{Text, Scalar, Json, scalar, list, object, Items, no_items, item, Members, no_members, member, member_of, same_text}
-use Rattle.ssa_model.specs.Path.{Element, field, key, value, Path, path_cmp, same_element}
-use Rattle.ssa_model.specs.PathMap.{get, has, paths}
-use Rattle.ssa_model.specs.Schema.{are_distinct_texts}
-use Rattle.ssa_model.specs.Kind as kinds
-use Rattle.ssa_model.specs.Kind.{Kind, ScalarKind, Shape, Fields, scalar_kind, atomic_of, record_of, dict_of, items_of, no_fields, kind_field, kind_of, is_among, item_key}
-use Rattle.ssa_model.specs.Body.{Content, leaf, atom, Body, order_at, value_order, without_empty_metadata}
-use Rattle.ssa_model.specs.Fitting.{Place, of_kind, item_of, value_of, place_below, place_at, content_fits, IsBodyOf}
-use Rattle.ssa_model.specs.Lawful.{is_before_all, are_ordered, is_ordered, is_keyed, is_root_kind, is_record}
-use Rattle.ssa_model.specs.Objects.{is_missing, shown, shown_fields, entry_members, shown_items, names_below, content_value}
-use Rattle.ssa_model.specs.FlatBodies.{has_distinct_names, items_have_distinct_names, are_distinct_members, HasDistinctAtoms, ShownIsDistinct, FlatHasDistinctAtoms}
+use Rattle.ssa_model.specs.definitions.Json.{Text, Scalar, Json, scalar, list, object, Items, no_items, item, Members, no_members, member, member_of, same_text}
+use Rattle.ssa_model.specs.definitions.Path.{Element, field, key, value, Path, path_cmp, same_element}
+use Rattle.ssa_model.specs.definitions.PathMap.{get, has, paths}
+use Rattle.ssa_model.specs.definitions.Schema.{are_distinct_texts}
+use Rattle.ssa_model.specs.definitions.Kind as kinds
+use Rattle.ssa_model.specs.definitions.Kind.{Kind, ScalarKind, Shape, Fields, scalar_kind, atomic_of, record_of, dict_of, items_of, no_fields, kind_field, kind_of, is_among, item_key}
+use Rattle.ssa_model.specs.definitions.Body.{Content, leaf, atom, Body, order_at, value_order, without_empty_metadata}
+use Rattle.ssa_model.specs.definitions.Fitting.{Place, of_kind, item_of, value_of, place_below, place_at, content_fits, IsBodyOf}
+use Rattle.ssa_model.specs.definitions.Lawful.{is_before_all, are_ordered, is_ordered, is_keyed, is_root_kind, is_record}
+use Rattle.ssa_model.specs.definitions.Objects.{is_missing, shown, shown_fields, entry_members, shown_items, names_below, content_value}
+use Rattle.ssa_model.specs.definitions.MemberNames.{has_distinct_names, items_have_distinct_names, are_distinct_members}
+use Rattle.ssa_model.specs.laws.FlatBodies.{HasDistinctAtoms, ShownIsDistinct, FlatHasDistinctAtoms}
 use Rattle.ssa_model.proofs.Faults.{cons≢nil}
 use Rattle.ssa_model.proofs.FlatFits.{left-distinct, flat-tells}
 use Rattle.ssa_model.proofs.KindParts.{EachField, each_field, OfEach, OfParts, each_kind, none-before}

@@ -2,12 +2,13 @@
 use Rattle.std.proofs.Common.{◌≡◌, ℕ, suc, zero, ◌+◌, ◌-◌, ◌≤◌, ◌==◌, List, [], ◌∷◌, ◌++◌, length, take, Bool, true, false, not, refl, ap, ◌∙◌, arith, length-append, length-take, nat_le, sym}
 use Rattle.std.proofs.lemmas.Bool.Decides.{nat_tests}
 use Rattle.std.specs.Prelude.{Result, Ok, Err, if◌then◌else◌, codes, None, Some, option_map}
-use Rattle.ssa_model.specs.Json.{Text, Json}
-use Rattle.ssa_model.specs.Body.{Body}
-use Rattle.ssa_model.specs.Operations.{State, Refusal}
-use Rattle.ssa_model.specs.History.{Step, Bench, present, past_len, future_len, last_state, moved_to, with_timeline, is_manager_name}
-use Rattle.ssa_model.specs.Answers.{Answer, Reply, moved, shown, owned_by, logged, refused, history_full, manager_name, nothing_to_undo, nothing_to_redo, Fault, fault, Command, apply, update, strip, undo, redo, show, owners, log, answer, accept, accept_or_refuse, with_body, apply_answer, command_body}
-use Rattle.ssa_model.specs.Effect.{is_accepted, body_in, deed_of, Deed, applying, updating, stripping, label_of, carried_out, and_then, all_carried_out, AreSteps, IsHistory, KeepsHistory, PresentIsCarriedOut, HistoriesAreCarriedOut}
+use Rattle.ssa_model.specs.definitions.Limits.{most_past}
+use Rattle.ssa_model.specs.definitions.Json.{Text, Json}
+use Rattle.ssa_model.specs.definitions.Body.{Body}
+use Rattle.ssa_model.specs.definitions.Operations.{State, Refusal}
+use Rattle.ssa_model.specs.definitions.History.{Step, Bench, present, past_len, future_len, last_state, moved_to, with_timeline, is_manager_name}
+use Rattle.ssa_model.specs.definitions.Answers.{Answer, Reply, moved, shown, owned_by, logged, refused, history_full, manager_name, nothing_to_undo, nothing_to_redo, Fault, fault, Command, apply, update, strip, undo, redo, show, owners, log, answer, accept, accept_or_refuse, with_body, apply_answer, command_body}
+use Rattle.ssa_model.specs.definitions.Effect.{is_accepted, body_in, deed_of, Deed, applying, updating, stripping, label_of, carried_out, and_then, all_carried_out, AreSteps, IsHistory, KeepsHistory, PresentIsCarriedOut, HistoriesAreCarriedOut}
 
 steps-take : (n : ℕ) (s : State) (ds : List Deed) (ts : List Step) → AreSteps s ds ts → AreSteps s (take n ds) (take n ts)
 steps-take zero s ds ts h = tt
@@ -73,7 +74,7 @@ module _ (bench : Bench) (h : IsHistory bench.timeline) where
 
   with_body-keeps : (c : Command) (who : Text) (v : Json) (go : Body → Answer) → ((body : Body) → command_body bench v ≡ Ok body → Keeps c (go body)) → Keeps c (with_body bench who v go)
   with_body-keeps c who v go p =
-      one_of c (nat_le 1000 (past_len bench.timeline)) _ _ (same c (fault history_full) refl)
+      one_of c (nat_le most_past (past_len bench.timeline)) _ _ (same c (fault history_full) refl)
       (one_of c (not (is_manager_name who)) _ _ (same c (fault manager_name) refl) (of_body c (command_body bench v) go p))
 
   goes : (c : Command) (word : Text) (past future n : ℕ) → n ≤ length bench.timeline.later → Keeps c (moved word past future, with_timeline bench (moved_to bench.timeline n))
@@ -96,7 +97,7 @@ module _ (bench : Bench) (h : IsHistory bench.timeline) where
   keeps (update who at v) =
       with_body-keeps (update who at v) who v _
       (λ body e. given (update who at v) (codes "update") (updating who at body) _ (ap (λ r. option_map (updating who at) (body_in r)) e) refl)
-  keeps strip = one_of strip (nat_le 1000 (past_len bench.timeline)) _ _ (same strip (fault history_full) refl) (accepted strip (codes "strip") stripping _ refl refl)
+  keeps strip = one_of strip (nat_le most_past (past_len bench.timeline)) _ _ (same strip (fault history_full) refl) (accepted strip (codes "strip") stripping _ refl refl)
   keeps undo = one_of undo (past_len bench.timeline == 0) _ _ (same undo (fault nothing_to_undo) refl) (goes undo (codes "undo") _ _ (bench.timeline.place - 1) (back bench.timeline.place (length bench.timeline.later) h.place))
   keeps redo =
       unless redo (future_len bench.timeline == 0) _ _ (same redo (fault nothing_to_redo) refl) (λ e. goes redo (codes "redo") _ _ (bench.timeline.place + 1) (forth bench.timeline.place (length bench.timeline.later) e))

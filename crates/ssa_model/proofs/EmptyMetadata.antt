@@ -4,15 +4,15 @@ use Rattle.std.proofs.lemmas.Option.{same_Some, none-some}
 use Rattle.std.specs.Prelude.{if◌then◌else◌, codes}
 use Rattle.std.specs.List.{list_any}
 use Rattle.std.specs.Cmp.{first_so, second_so}
-use Rattle.ssa_model.specs.Json.{Text, Json, object, Members, no_members, member, member_of, same_text}
-use Rattle.ssa_model.specs.Path.{field, Path, under, is_item, parent}
-use Rattle.ssa_model.specs.PathMap.{get, has, paths}
-use Rattle.ssa_model.specs.Kind.{Kind, Fields, record_of, no_fields, kind_field, kind_of}
-use Rattle.ssa_model.specs.Body.{Body, is_empty_object, without_empty_metadata, is_leaf, is_dict, is_bare, is_point, points, strictly_under}
-use Rattle.ssa_model.specs.Fitting.{of_kind, place_at, IsBodyOf}
-use Rattle.ssa_model.specs.Lawful.{are_ordered, has_metadata, is_some_record}
-use Rattle.ssa_model.specs.Objects.{shown, shown_fields}
-use Rattle.ssa_model.specs.Valid.{IsRooted, metadata_path}
+use Rattle.ssa_model.specs.definitions.Json.{Text, Json, object, Members, no_members, member, member_of, same_text}
+use Rattle.ssa_model.specs.definitions.Path.{field, Path, under, is_item, parent}
+use Rattle.ssa_model.specs.definitions.PathMap.{get, has, paths}
+use Rattle.ssa_model.specs.definitions.Kind.{Kind, Fields, record_of, no_fields, kind_field, kind_of}
+use Rattle.ssa_model.specs.definitions.Body.{Body, is_empty_object, without_empty_metadata, is_leaf, is_dict, is_bare, is_point, points, strictly_under}
+use Rattle.ssa_model.specs.definitions.Fitting.{of_kind, place_at, IsBodyOf}
+use Rattle.ssa_model.specs.definitions.Lawful.{are_ordered, has_metadata, is_some_record}
+use Rattle.ssa_model.specs.definitions.Objects.{shown, shown_fields}
+use Rattle.ssa_model.specs.definitions.Valid.{IsRooted, metadata_path}
 use Rattle.ssa_model.proofs.KindParts.{EachField, each_field}
 use Rattle.ssa_model.proofs.PathMaps.{has-paths, has-points}
 use Rattle.ssa_model.proofs.Places.{below, record-place}

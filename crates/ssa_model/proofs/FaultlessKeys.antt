@@ -2,11 +2,11 @@
 use Rattle.std.proofs.Common.{◌≡◌, List, [], ◌∷◌, Bool, true, false, refl, sym, ap, ◌∙◌}
 use Rattle.std.proofs.lemmas.Option.{same_Some, none-some}
 use Rattle.std.specs.Prelude.{Option, None, Some, if◌then◌else◌}
-use Rattle.ssa_model.specs.Json.{Text, Scalar, Json, scalar, list, object, Items, Members, member_of, same_text}
-use Rattle.ssa_model.specs.Kind as kinds
-use Rattle.ssa_model.specs.Kind.{Kind, Fields, kind_of, key_scalars, cons_scalar, key_faults, key_field_fault, is_of, wrong_type}
-use Rattle.ssa_model.specs.Path.{Path}
-use Rattle.ssa_model.specs.Fitting.{are_keys, is_key_of, scalar_of}
+use Rattle.ssa_model.specs.definitions.Json.{Text, Scalar, Json, scalar, list, object, Items, Members, member_of, same_text}
+use Rattle.ssa_model.specs.definitions.Kind as kinds
+use Rattle.ssa_model.specs.definitions.Kind.{Kind, Fields, kind_of, key_scalars, cons_scalar, key_faults, key_field_fault, is_of, wrong_type}
+use Rattle.ssa_model.specs.definitions.Path.{Path}
+use Rattle.ssa_model.specs.definitions.Fitting.{are_keys, is_key_of, scalar_of}
 use Rattle.ssa_model.proofs.Faults.{cons≢nil, nil_first, nil_second, unless-true}
 use Rattle.ssa_model.proofs.FaultlessParts.{both-true}
 use Rattle.ssa_model.proofs.Tables.{same_text-true, text-itself}

@@ -3,12 +3,12 @@ use Rattle.std.proofs.Common.{◌≡◌, List, [], ◌∷◌, ◌++◌, Bool, tr
 use Rattle.std.specs.Prelude.{Option, None, Some, if◌then◌else◌}
 use Rattle.std.specs.Cmp.{first_so, second_so}
 use Rattle.std.specs.List.{list_any}
-use Rattle.ssa_model.specs.Json.{Text, Scalar, Json, scalar, list, object, Items, no_items, item, Members, member}
-use Rattle.ssa_model.specs.Path.{Element, field, value, Path, same_element}
-use Rattle.ssa_model.specs.Kind.{ScalarKind, Kind, Fields, Fault, faults, field_faults, entry_faults, value_faults, item_faults, key_faults, item_key, kind_of, or_else, fault_unless, is_of, is_among, unknown_field, duplicate_item, wrong_type}
-use Rattle.ssa_model.specs.Body.{value_order, key_order}
-use Rattle.ssa_model.specs.Fitting.{are_distinct}
-use Rattle.ssa_model.specs.Faultless.{Fits, FieldsFit, KeysFit, EntriesFit, MemberFits, ItemFits, ValuesFit, ItemsFit, IsScalar}
+use Rattle.ssa_model.specs.definitions.Json.{Text, Scalar, Json, scalar, list, object, Items, no_items, item, Members, member}
+use Rattle.ssa_model.specs.definitions.Path.{Element, field, value, Path, same_element}
+use Rattle.ssa_model.specs.definitions.Kind.{ScalarKind, Kind, Fields, FaultAt, faults, field_faults, entry_faults, value_faults, item_faults, key_faults, item_key, kind_of, or_else, fault_unless, is_of, is_among, unknown_field, duplicate_item, wrong_type, fault_at}
+use Rattle.ssa_model.specs.definitions.Body.{value_order, key_order}
+use Rattle.ssa_model.specs.definitions.Fitting.{are_distinct}
+use Rattle.ssa_model.specs.laws.Faultless.{Fits, FieldsFit, KeysFit, EntriesFit, MemberFits, ItemFits, ValuesFit, ItemsFit, IsScalar}
 use Rattle.ssa_model.proofs.Faults.{cons≢nil, nil_first, nil_second, unless-true}
 use Rattle.ssa_model.proofs.Fitting.{same_element-true}
 use Rattle.ssa_model.proofs.Tables.{no, or_true, element-itself}
@@ -18,11 +18,11 @@ both-true a b e f = λ i. e i && f i
 
 -- ---- members
 
-member_test : Text → Json → Path → Option Kind → List Fault
-member_test n v p None = (unknown_field, p ++ field n ∷ []) ∷ []
+member_test : Text → Json → Path → Option Kind → List FaultAt
+member_test n v p None = fault_at unknown_field (p ++ field n ∷ []) ∷ []
 member_test n v p (Some k) = faults k v (p ++ field n ∷ [])
 
-member_test-is : (n : Text) (v : Json) (p : Path) (o : Option Kind) → ◌≡◌ {A = List Fault} (elim o [ None ↦ (unknown_field, p ++ field n ∷ []) ∷ [] | Some k ↦ faults k v (p ++ field n ∷ []) ]) (member_test n v p o)
+member_test-is : (n : Text) (v : Json) (p : Path) (o : Option Kind) → ◌≡◌ {A = List FaultAt} (elim o [ None ↦ fault_at unknown_field (p ++ field n ∷ []) ∷ [] | Some k ↦ faults k v (p ++ field n ∷ []) ]) (member_test n v p o)
 unfolding member_test
 member_test-is n v p None = refl
 member_test-is n v p (Some k) = refl
@@ -69,7 +69,7 @@ or-first (x ∷ xs) ys e = absurd (cons≢nil e)
 abbrev pub ValuesFitAfter : ScalarKind → Items → Type 0
 ValuesFitAfter k vs = (earlier : List Element) × ((p : Path) × (value_faults k earlier vs p ≡ []))
 
-value_test : ScalarKind → List Element → Scalar → Path → List Fault
+value_test : ScalarKind → List Element → Scalar → Path → List FaultAt
 value_test k earlier s p = or_else (fault_unless (is_of k s) wrong_type p) (fault_unless (not (is_among (value s) earlier)) duplicate_item (p ++ value s ∷ []))
 
 pub value-first : (k : ScalarKind) (v : Json) (vs : Items) → ValuesFitAfter k (item v vs) → IsScalar v
@@ -97,13 +97,13 @@ or-second : {X : Type 0} (xs ys : List X) → or_else xs ys ≡ [] → ys ≡ []
 or-second [] ys e = e
 or-second (x ∷ xs) ys e = absurd (cons≢nil e)
 
-new-item : (b : Bool) (f : Fault) (fs : List Fault) → (if b then f ∷ [] else fs) ≡ [] → (b ≡ false) × (fs ≡ [])
+new-item : (b : Bool) (f : FaultAt) (fs : List FaultAt) → (if b then f ∷ [] else fs) ≡ [] → (b ≡ false) × (fs ≡ [])
 new-item true f fs e = absurd (cons≢nil e)
 new-item false f fs e = (refl, e)
 
-item_test : List Text → Fields → List Element → Members → Path → List Fault
+item_test : List Text → Fields → List Element → Members → Path → List FaultAt
 item_test ns fs earlier ms p =
-    or_else (key_faults ns fs ms p) (if is_among (item_key ns ms) earlier then (duplicate_item, p ++ item_key ns ms ∷ []) ∷ [] else field_faults fs ms (p ++ item_key ns ms ∷ []))
+    or_else (key_faults ns fs ms p) (if is_among (item_key ns ms) earlier then fault_at duplicate_item (p ++ item_key ns ms ∷ []) ∷ [] else field_faults fs ms (p ++ item_key ns ms ∷ []))
 
 item-now : (ns : List Text) (fs : Fields) (earlier : List Element) (ms : Members) (vs : Items) (p : Path) → item_faults ns fs earlier (item (object ms) vs) p ≡ [] → item_test ns fs earlier ms p ≡ []
 unfolding item_test

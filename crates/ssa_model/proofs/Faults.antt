@@ -1,10 +1,10 @@
 -- Lists of faults, and that an atomic value that fits its shape at a path fits it at any.
 use Rattle.std.proofs.Common.{◌≡◌, List, [], ◌∷◌, ◌++◌, Bool, true, false, Option, Some, None, refl, sym, ap, ◌∙◌, true≢false}
-use Rattle.ssa_model.specs.Json.{Text, Json, scalar, list, object, Items, no_items, item, Members, no_members, member}
-use Rattle.ssa_model.specs.Path.{Path}
-use Rattle.ssa_model.specs.Kind as kinds
-use Rattle.ssa_model.specs.Kind.{Shape, ShapeFields, shape_of, is_of, shape_faults, shape_field_faults, shape_entry_faults, shape_item_faults, fault_unless, unknown_field, wrong_type, Fault}
-use Rattle.ssa_model.specs.Operations.{is_none}
+use Rattle.ssa_model.specs.definitions.Json.{Text, Json, scalar, list, object, Items, no_items, item, Members, no_members, member}
+use Rattle.ssa_model.specs.definitions.Path.{Path}
+use Rattle.ssa_model.specs.definitions.Kind as kinds
+use Rattle.ssa_model.specs.definitions.Kind.{Shape, ShapeFields, shape_of, is_of, shape_faults, shape_field_faults, shape_entry_faults, shape_item_faults, fault_unless, unknown_field, wrong_type, FaultAt, fault_at}
+use Rattle.ssa_model.specs.definitions.Operations.{is_none}
 
 -- ---- lists of faults
 
@@ -28,17 +28,17 @@ pub unless-true : (b : Bool) (f : kinds.BodyFault) (p : Path) → fault_unless b
 unless-true true f p e = refl
 unless-true false f p e = absurd (cons≢nil e)
 
-pub none-found : (fs : List Fault) → is_none fs ≡ true → fs ≡ []
+pub none-found : (fs : List FaultAt) → is_none fs ≡ true → fs ≡ []
 none-found [] h = refl
 none-found (f ∷ fs) h = absurd (true≢false (sym h))
 
 -- ---- atomic values
 
-abbrev shape_test : Json → Path → Option Shape → List Fault
-shape_test v p None = (unknown_field, p) ∷ []
+abbrev shape_test : Json → Path → Option Shape → List FaultAt
+shape_test v p None = fault_at unknown_field p ∷ []
 shape_test v p (Some s) = shape_faults s v p
 
-shape_test-is : (v : Json) (p : Path) (o : Option Shape) → ◌≡◌ {A = List Fault} (elim o [ None ↦ (unknown_field, p) ∷ [] | Some s ↦ shape_faults s v p ]) (shape_test v p o)
+shape_test-is : (v : Json) (p : Path) (o : Option Shape) → ◌≡◌ {A = List FaultAt} (elim o [ None ↦ fault_at unknown_field p ∷ [] | Some s ↦ shape_faults s v p ]) (shape_test v p o)
 shape_test-is v p None = refl
 shape_test-is v p (Some s) = refl
 

@@ -3,15 +3,16 @@ use Rattle.std.proofs.Common.{◌≡◌, List, [], ◌∷◌, ◌++◌, Bool, tr
 use Rattle.std.proofs.lemmas.Option.{same_Some, none-some}
 use Rattle.std.specs.Prelude.{is_some, if◌then◌else◌, option_and_then, codes}
 use Rattle.std.specs.Cmp.{first_so, second_so}
-use Rattle.ssa_model.specs.Json.{Text, Scalar, Json, scalar, list, object, Members, no_members, member, member_of, same_text}
-use Rattle.ssa_model.specs.Path.{Element, field, key, Path, is_item_element}
-use Rattle.ssa_model.specs.PathMap.{get, has}
-use Rattle.ssa_model.specs.Kind.{Kind, Fields, record_of, is_among, field_faults}
-use Rattle.ssa_model.specs.Body.{Content, leaf, Body, order_at, places, is_empty_object, without_empty_metadata, flat}
-use Rattle.ssa_model.specs.Fitting.{Place, of_kind, content_fits, IsAt, are_distinct, scalar_of, IsBodyOf}
-use Rattle.ssa_model.specs.Objects.{is_missing}
-use Rattle.ssa_model.specs.Faultless.{Fits, FieldsFit}
-use Rattle.ssa_model.specs.FlatBodies.{has_distinct_names, are_distinct_members, FlatFits}
+use Rattle.ssa_model.specs.definitions.Json.{Text, Scalar, Json, scalar, list, object, Members, no_members, member, member_of, same_text}
+use Rattle.ssa_model.specs.definitions.Path.{Element, field, key, Path, is_item_element}
+use Rattle.ssa_model.specs.definitions.PathMap.{get, has}
+use Rattle.ssa_model.specs.definitions.Kind.{Kind, Fields, record_of, is_among, field_faults}
+use Rattle.ssa_model.specs.definitions.Body.{Content, leaf, Body, order_at, places, is_empty_object, without_empty_metadata, flat}
+use Rattle.ssa_model.specs.definitions.Fitting.{Place, of_kind, content_fits, IsAt, are_distinct, scalar_of, IsBodyOf}
+use Rattle.ssa_model.specs.definitions.Objects.{is_missing}
+use Rattle.ssa_model.specs.laws.Faultless.{Fits, FieldsFit}
+use Rattle.ssa_model.specs.definitions.MemberNames.{has_distinct_names, are_distinct_members}
+use Rattle.ssa_model.specs.laws.FlatBodies.{FlatFits}
 use Rattle.ssa_model.proofs.Faults.{cons≢nil}
 use Rattle.ssa_model.proofs.FaultlessParts.{member-join}
 use Rattle.ssa_model.proofs.PathMaps.{get-from_entries}

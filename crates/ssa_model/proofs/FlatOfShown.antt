@@ -4,16 +4,16 @@ use Rattle.std.proofs.lemmas.Option.{none-some}
 use Rattle.std.specs.Prelude.{if◌then◌else◌}
 use Rattle.std.specs.List.{list_any, AllByRecursion}
 use Rattle.std.specs.Cmp.{first_so, second_so}
-use Rattle.ssa_model.specs.Json.{Text, object, Items, item, member, same_text}
-use Rattle.ssa_model.specs.Path.{Element, field, Path, same_element, is_item_element}
-use Rattle.ssa_model.specs.PathMap.{get, has, from_entries}
-use Rattle.ssa_model.specs.Kind as kinds
-use Rattle.ssa_model.specs.Kind.{Kind, ScalarKind, Shape, Fields, scalar_kind, atomic_of, record_of, dict_of, items_of, no_fields, kind_field, kind_of, is_among, item_key}
-use Rattle.ssa_model.specs.Body.{Content, leaf, atom, record_branch, dict_branch, list_branch, Body, order_at, places, field_places, entry_places, value_places, item_places, value_order, key_order}
-use Rattle.ssa_model.specs.Fitting.{Place, of_kind, item_of, value_of, place_below, place_at, content_fits, IsBodyOf}
-use Rattle.ssa_model.specs.Lawful.{are_key_names, are_ordered, is_ordered, is_keyed, is_root_kind, is_record, has_metadata}
-use Rattle.ssa_model.specs.Objects.{shown, shown_fields, entry_members, shown_items, names_below, content_value}
-use Rattle.ssa_model.specs.ShownBodies.{FlatOfShown}
+use Rattle.ssa_model.specs.definitions.Json.{Text, object, Items, item, member, same_text}
+use Rattle.ssa_model.specs.definitions.Path.{Element, field, Path, same_element, is_item_element}
+use Rattle.ssa_model.specs.definitions.PathMap.{get, has, from_entries}
+use Rattle.ssa_model.specs.definitions.Kind as kinds
+use Rattle.ssa_model.specs.definitions.Kind.{Kind, ScalarKind, Shape, Fields, scalar_kind, atomic_of, record_of, dict_of, items_of, no_fields, kind_field, kind_of, is_among}
+use Rattle.ssa_model.specs.definitions.Body.{Content, leaf, atom, record_branch, dict_branch, list_branch, Body, order_at, places, field_places, entry_places, value_places, item_places, value_order, key_order}
+use Rattle.ssa_model.specs.definitions.Fitting.{Place, of_kind, item_of, value_of, place_below, place_at, content_fits, IsBodyOf}
+use Rattle.ssa_model.specs.definitions.Lawful.{are_key_names, are_ordered, is_ordered, is_keyed, is_root_kind, is_record, has_metadata}
+use Rattle.ssa_model.specs.definitions.Objects.{shown, shown_fields, entry_members, shown_items, names_below, content_value}
+use Rattle.ssa_model.specs.laws.ShownBodies.{FlatOfShown}
 use Rattle.ssa_model.proofs.EmptyMetadata.{metadata_stays}
 use Rattle.ssa_model.proofs.KindParts.{EachField, each_field, OfEach, OfParts, each_kind}
 use Rattle.ssa_model.proofs.PathMaps.{same_map, get-from_entries}

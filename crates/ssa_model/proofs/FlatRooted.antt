@@ -4,17 +4,18 @@ use Rattle.std.proofs.lemmas.Option.{same_Some, none-some}
 use Rattle.std.specs.Prelude.{is_some, if◌then◌else◌, option_and_then, codes}
 use Rattle.std.specs.List.{list_any}
 use Rattle.std.specs.Cmp.{first_so, second_so}
-use Rattle.ssa_model.specs.Json.{Text, Json, scalar, list, object, Members, no_members, member, member_of, same_text}
-use Rattle.ssa_model.specs.Path.{field, Path}
-use Rattle.ssa_model.specs.PathMap.{get, has, paths}
-use Rattle.ssa_model.specs.Kind.{Kind, Fields, record_of, kind_of}
-use Rattle.ssa_model.specs.Body.{Body, Content, record_branch, is_empty_object, without_empty_metadata, is_leaf, is_dict, is_point, points, strictly_under, flat}
-use Rattle.ssa_model.specs.Fitting.{of_kind}
-use Rattle.ssa_model.specs.Lawful.{is_root_kind, is_ordered, has_metadata}
-use Rattle.ssa_model.specs.Objects.{is_missing}
-use Rattle.ssa_model.specs.Valid.{IsRooted, metadata_path}
-use Rattle.ssa_model.specs.Faultless.{Fits, FieldsFit}
-use Rattle.ssa_model.specs.FlatBodies.{has_distinct_names, are_distinct_members, FlatIsRooted}
+use Rattle.ssa_model.specs.definitions.Json.{Text, Json, scalar, list, object, Members, no_members, member, member_of, same_text}
+use Rattle.ssa_model.specs.definitions.Path.{field, Path}
+use Rattle.ssa_model.specs.definitions.PathMap.{get, has, paths}
+use Rattle.ssa_model.specs.definitions.Kind.{Kind, Fields, record_of, kind_of}
+use Rattle.ssa_model.specs.definitions.Body.{Body, Content, record_branch, is_empty_object, without_empty_metadata, is_leaf, is_dict, is_point, points, strictly_under, flat}
+use Rattle.ssa_model.specs.definitions.Fitting.{of_kind}
+use Rattle.ssa_model.specs.definitions.Lawful.{is_root_kind, is_ordered, has_metadata}
+use Rattle.ssa_model.specs.definitions.Objects.{is_missing}
+use Rattle.ssa_model.specs.definitions.Valid.{IsRooted, metadata_path}
+use Rattle.ssa_model.specs.laws.Faultless.{Fits, FieldsFit}
+use Rattle.ssa_model.specs.definitions.MemberNames.{has_distinct_names, are_distinct_members}
+use Rattle.ssa_model.specs.laws.FlatBodies.{FlatIsRooted}
 use Rattle.ssa_model.proofs.EmptyMetadata.{record-in}
 use Rattle.ssa_model.proofs.Faults.{cons≢nil}
 use Rattle.ssa_model.proofs.FaultlessParts.{member-first}

@@ -2,16 +2,17 @@
 use Rattle.std.proofs.Common.{◌≡◌, ◌≤◌, List, [], ◌∷◌, ◌++◌, Bool, true, false, not, ◌&&◌, length, filter, refl, sym, ap, subst, ◌∙◌, arith, length-append}
 use Rattle.std.proofs.lemmas.Bool.Decides.{nat_tests}
 use Rattle.std.specs.Prelude.{Option, Some, None, Result, Ok, Err, nat_le, if◌then◌else◌}
-use Rattle.ssa_model.specs.Json.{Text, Json, scalar, list, object, Items, no_items, item, Members}
-use Rattle.ssa_model.specs.Path.{Path}
-use Rattle.ssa_model.specs.PathMap.{is_empty, paths}
-use Rattle.ssa_model.specs.Body.{Body, is_ownable}
-use Rattle.ssa_model.specs.Table.{Entry, Table, is_in_table}
-use Rattle.ssa_model.specs.Readings.{Readings}
-use Rattle.ssa_model.specs.ElementTexts.{ElementFault}
-use Rattle.ssa_model.specs.GivenEntries.{EntryFault, too_many_managers, bad_entry, manager_name, other_version, bad_moment, of_fields, empty_entry, absent_path, duplicate_manager, is_entry, not_ownable, said_entry, owned_fault, entry_fault, value_entry, next_entry, table_behind}
-use Rattle.ssa_model.specs.History.{is_manager_name}
-use Rattle.ssa_model.specs.Valid.{OwnsOwnable, IsTable}
+use Rattle.ssa_model.specs.definitions.Limits.{most_managers}
+use Rattle.ssa_model.specs.definitions.Json.{Text, Json, scalar, list, object, Items, no_items, item, Members}
+use Rattle.ssa_model.specs.definitions.Path.{Path}
+use Rattle.ssa_model.specs.definitions.PathMap.{is_empty, paths}
+use Rattle.ssa_model.specs.definitions.Body.{Body, is_ownable}
+use Rattle.ssa_model.specs.definitions.Table.{Entry, Table, is_in_table}
+use Rattle.ssa_model.specs.definitions.Readings.{Readings}
+use Rattle.ssa_model.specs.definitions.ElementTexts.{ElementFault}
+use Rattle.ssa_model.specs.definitions.GivenEntries.{EntryFault, too_many_managers, bad_entry, manager_name, other_version, bad_moment, of_fields, empty_entry, absent_path, duplicate_manager, is_entry, not_ownable, said_entry, owned_fault, entry_fault, value_entry, next_entry, table_behind}
+use Rattle.ssa_model.specs.definitions.History.{is_manager_name}
+use Rattle.ssa_model.specs.definitions.Valid.{OwnsOwnable, IsTable}
 use Rattle.ssa_model.proofs.Lists.{is_one_of-filter}
 use Rattle.ssa_model.proofs.PathMaps.{has-paths, is_one_of}
 use Rattle.ssa_model.proofs.Tables.{distinct-push, all-push}
@@ -57,12 +58,12 @@ said true None e given h = (refl, cc)
 same-table : (a b : Table) → ◌≡◌ {A = Result Table EntryFault} (Ok a) (Ok b) → a ≡ b
 same-table a b h = cc
 
-few-more : (table : Table) (e : Entry) → nat_le 64 (length table) ≡ false → length (table ++ e ∷ []) ≤ 64
+few-more : (table : Table) (e : Entry) → nat_le most_managers (length table) ≡ false → length (table ++ e ∷ []) ≤ most_managers
 few-more table e h = grind (arith, nat_tests, length-append)
 
 module _ (readings : Readings) (body : Body) (version : Text) where
   -- one entry more
-  next-table : (before : Table) (e : Entry) → nat_le 64 (length before) ≡ false → is_manager_name e.manager.name ≡ true → owned_fault body before e ≡ None → IsTable body before → IsTable body (before ++ e ∷ [])
+  next-table : (before : Table) (e : Entry) → nat_le most_managers (length before) ≡ false → is_manager_name e.manager.name ≡ true → owned_fault body before e ≡ None → IsTable body before → IsTable body (before ++ e ∷ [])
   next-table before e room name none table =
       let parts = no-fault (is_empty e.owned) (not_ownable body e.owned) (is_in_table before e.manager) none in
       record {
@@ -73,7 +74,7 @@ module _ (readings : Readings) (body : Body) (version : Text) where
         ownable = all-push (OwnsOwnable body) before e table.ownable (all-ownable body e parts.1);
       }
 
-  next-members : (before : Table) (ms : Members) (e : Entry) → nat_le 64 (length before) ≡ false
+  next-members : (before : Table) (ms : Members) (e : Entry) → nat_le most_managers (length before) ≡ false
       → ◌≡◌ {A = Result Entry EntryFault} (if not (is_entry ms) then Err bad_entry else (elim (entry_fault readings body version before ms) [ Some f ↦ Err f | None ↦ Ok (said_entry readings ms) ])) (Ok e)
       → IsTable body before → IsTable body (before ++ e ∷ [])
   next-members before ms e room one table =
@@ -81,7 +82,7 @@ module _ (readings : Readings) (body : Body) (version : Text) where
       let none = no-fault-before _ _ _ _ _ own.0 in
       subst (λ x. IsTable body (before ++ x ∷ [])) own.1 (next-table before (said_entry readings ms) room none.0 none.1 table)
 
-  next-value : (full : Bool) (before : Table) (v : Json) (e : Entry) → nat_le 64 (length before) ≡ full
+  next-value : (full : Bool) (before : Table) (v : Json) (e : Entry) → nat_le most_managers (length before) ≡ full
       → ◌≡◌ {A = Result Entry EntryFault} (if full then Err too_many_managers else value_entry readings body version before v) (Ok e)
       → IsTable body before → IsTable body (before ++ e ∷ [])
   next-value true before v e room one table = cc
@@ -95,7 +96,7 @@ module _ (readings : Readings) (body : Body) (version : Text) where
   given_table (item v vs) before table h is =
       elim (next_entry readings body version before v) as (λ r. next_entry readings body version before v ≡ r → ◌≡◌ {A = Result Table EntryFault} (elim r [ Ok e ↦ table_behind readings body version (before ++ e ∷ []) vs | Err f ↦ Err f ]) (Ok table) → IsTable body table) [
         | Err f ↦ λ _ none. absurd (by f none)
-        | Ok e ↦ λ one rest. given_table vs (before ++ e ∷ []) table (next-value (nat_le 64 (length before)) before v e refl one h) rest
+        | Ok e ↦ λ one rest. given_table vs (before ++ e ∷ []) table (next-value (nat_le most_managers (length before)) before v e refl one h) rest
       ] refl is
     where
       by : (f : EntryFault) → ◌≡◌ {A = Result Table EntryFault} (Err f) (Ok table) → ⊥

@@ -2,19 +2,19 @@
 use Rattle.std.proofs.Common.{◌≡◌, ◌⊎◌, inl, inr, ℕ, ◌+◌, ◌-◌, ◌<◌, ◌≤◌, ◌==◌, List, [], ◌∷◌, ◌++◌, length, take, Bool, true, false, not, ◌||◌, refl, sym, ap, subst, ◌∙◌, arith, nat_le, nat_lt}
 use Rattle.std.proofs.lemmas.Bool.Decides.{nat_tests}
 use Rattle.std.specs.Prelude.{Result, Ok, Err, if◌then◌else◌, codes}
-use Rattle.ssa_model.specs.Json.{Text, Json, object, list, scalar}
-use Rattle.ssa_model.specs.Path.{Path}
-use Rattle.ssa_model.specs.Kind.{BodyFault, faults}
-use Rattle.ssa_model.specs.Objects.{body_value}
-use Rattle.ssa_model.specs.Body.{Body, flat, modified}
-use Rattle.ssa_model.specs.PathMap.{PathSet, size}
-use Rattle.ssa_model.specs.Table.{applies, ManagerKey}
-use Rattle.ssa_model.specs.Operations as operations
-use Rattle.ssa_model.specs.Operations.{State, Refusal, clashes, conflict, too_many_paths, pruned, if_seated, is_none}
-use Rattle.ssa_model.specs.History.{Label, stripped, Bench, Timeline, past_len, future_len, present, appended, moved_to, with_timeline, is_manager_name}
-use Rattle.ssa_model.specs.Answers.{Answer, Command, Fault, apply, update, strip, undo, redo, show, owners, log, fault, moved, refused, body_fault, identity_fault, managed_fields_given, nothing_to_undo, nothing_to_redo, history_full, manager_name, answer, accept, accept_or_refuse, with_body, apply_answer, command_body, run}
-use Rattle.ssa_model.specs.Effect.{all_carried_out, deeds_of_run, is_accepted, Deed, AreSteps, IsHistory}
-use Rattle.ssa_model.specs.Headline.{IsAlone, RunsGoOn, RunIsInEffect, RunKeepsHistory, IsRestored, UndoRestoresAll, RedoRestoresAll, RefusalsChangeNothing, IsConflictOf, ConflictsListClashes}
+use Rattle.ssa_model.specs.definitions.Limits.{most_places, most_managers, most_past}
+use Rattle.ssa_model.specs.definitions.Json.{Text, Json, object, list, scalar}
+use Rattle.ssa_model.specs.definitions.Kind.{FaultAt, faults}
+use Rattle.ssa_model.specs.definitions.Objects.{body_value}
+use Rattle.ssa_model.specs.definitions.Body.{Body, flat, modified}
+use Rattle.ssa_model.specs.definitions.PathMap.{size}
+use Rattle.ssa_model.specs.definitions.Table.{applies, ManagerKey}
+use Rattle.ssa_model.specs.definitions.Operations as operations
+use Rattle.ssa_model.specs.definitions.Operations.{Clash, State, Refusal, clashes, conflict, too_many_paths, pruned, if_seated, is_none}
+use Rattle.ssa_model.specs.definitions.History.{Label, stripped, Bench, Timeline, past_len, future_len, present, appended, moved_to, with_timeline, is_manager_name}
+use Rattle.ssa_model.specs.definitions.Answers.{Answer, Command, Fault, apply, update, strip, undo, redo, show, owners, log, fault, moved, refused, body_fault, identity_fault, managed_fields_given, nothing_to_undo, nothing_to_redo, history_full, manager_name, answer, accept, accept_or_refuse, with_body, apply_answer, command_body, run}
+use Rattle.ssa_model.specs.definitions.Effect.{all_carried_out, deeds_of_run, is_accepted, Deed, AreSteps, IsHistory}
+use Rattle.ssa_model.specs.laws.Headline.{IsAlone, RunsGoOn, RunIsInEffect, RunKeepsHistory, IsRestored, UndoRestoresAll, RedoRestoresAll, RefusalsChangeNothing, IsConflictOf, ConflictsListClashes}
 use Rattle.ssa_model.proofs.Effect.{histories_are_carried_out}
 use Rattle.ssa_model.proofs.Tables.{undo_restores, take_first}
 
@@ -74,7 +74,7 @@ module _ (bench : Bench) (P : Answer → Type 0) where
   -- a command of an object: refused by a test, or answered with the object's body
   by_body : (who : Text) (v : Json) (go : Body → Answer) → ((f : Fault) → IsTested bench v f → P (fault f, bench)) → ((body : Body) → command_body bench v ≡ Ok body → P (go body)) → P (with_body bench who v go)
   by_body who v go p q =
-      one_of (nat_le 1000 (past_len bench.timeline)) _ _ (p history_full (inl refl))
+      one_of (nat_le most_past (past_len bench.timeline)) _ _ (p history_full (inl refl))
       (one_of (not (is_manager_name who)) _ _ (p manager_name (inr (inl refl))) (of_body (command_body bench v) go (λ f e. p f (inr (inr e))) q))
 
   by_result : (word : Text) (label : Label) (r : Result State Refusal) → ((s : State) → P (accept bench word label s)) → ((f : Refusal) → r ≡ Err f → P (fault (refused f), bench)) → P (accept_or_refuse bench word label r)
@@ -102,7 +102,7 @@ module _ (bench : Bench) where
   leaves : (c : Command) → Leaves (answer bench c)
   leaves (apply who force at v) = by_body bench Leaves who v _ (λ f _. leaves-refused f) (λ body _. leaves-made _ _ _)
   leaves (update who at v) = by_body bench Leaves who v _ (λ f _. leaves-refused f) (λ body _. leaves-made _ _ _)
-  leaves strip = one_of bench Leaves (nat_le 1000 (past_len bench.timeline)) _ _ (leaves-refused history_full) (leaves-accepted (codes "strip") stripped (operations.strip (present bench.timeline)))
+  leaves strip = one_of bench Leaves (nat_le most_past (past_len bench.timeline)) _ _ (leaves-refused history_full) (leaves-accepted (codes "strip") stripped (operations.strip (present bench.timeline)))
   leaves undo = one_of bench Leaves (past_len bench.timeline == 0) _ _ (leaves-refused nothing_to_undo) (leaves-moved (codes "undo") (past_len bench.timeline - 1) (future_len bench.timeline + 1) (bench.timeline.place - 1))
   leaves redo = one_of bench Leaves (future_len bench.timeline == 0) _ _ (leaves-refused nothing_to_redo) (leaves-moved (codes "redo") (past_len bench.timeline + 1) (future_len bench.timeline - 1) (bench.timeline.place + 1))
   leaves (show managed) = λ f h. refl
@@ -134,7 +134,7 @@ module _ (bench : Bench) where
   appends : (c : Command) → Appends (answer bench c)
   appends (apply who force at v) = by_body bench Appends who v _ (λ f _. appends-refused f) (λ body _. appends-made _ _ _)
   appends (update who at v) = by_body bench Appends who v _ (λ f _. appends-refused f) (λ body _. appends-made _ _ _)
-  appends strip = one_of bench Appends (nat_le 1000 (past_len bench.timeline)) _ _ (appends-refused history_full) (appends-accepted (codes "strip") stripped (operations.strip (present bench.timeline)))
+  appends strip = one_of bench Appends (nat_le most_past (past_len bench.timeline)) _ _ (appends-refused history_full) (appends-accepted (codes "strip") stripped (operations.strip (present bench.timeline)))
   appends undo = one_of bench Appends (past_len bench.timeline == 0) _ _ (appends-refused nothing_to_undo) (appends-moved (codes "undo") (past_len bench.timeline - 1) (future_len bench.timeline + 1) (bench.timeline.place - 1))
   appends redo = one_of bench Appends (future_len bench.timeline == 0) _ _ (appends-refused nothing_to_redo) (appends-moved (codes "redo") (past_len bench.timeline + 1) (future_len bench.timeline - 1) (bench.timeline.place + 1))
   appends (show managed) = λ h. cc
@@ -203,49 +203,46 @@ redo_restores_all bench some_past h =
 
 -- the tests before a command know no conflict
 
-abbrev Clashes : Type 0
-Clashes = List (ManagerKey × PathSet)
-
-if_fits : (cs : Clashes) (b : Bool) (body : Body) → ◌≡◌ {A = Result Body Fault} (if b then Err (refused too_many_paths) else Ok body) (Err (refused (conflict cs))) → ⊥
+if_fits : (cs : List Clash) (b : Bool) (body : Body) → ◌≡◌ {A = Result Body Fault} (if b then Err (refused too_many_paths) else Ok body) (Err (refused (conflict cs))) → ⊥
 if_fits cs true body h = absurd cc
 if_fits cs false body h = absurd cc
 
-if_faultless : (cs : Clashes) (fs : List (BodyFault × Path)) (b : Bool) (body : Body)
-    → ◌≡◌ {A = Result Body Fault} (elim fs [ [] ↦ if b then Err (refused too_many_paths) else Ok body | f ∷ rest ↦ Err (body_fault f.0 f.1) ]) (Err (refused (conflict cs))) → ⊥
+if_faultless : (cs : List Clash) (fs : List FaultAt) (b : Bool) (body : Body)
+    → ◌≡◌ {A = Result Body Fault} (elim fs [ [] ↦ if b then Err (refused too_many_paths) else Ok body | f ∷ rest ↦ Err (body_fault f.fault f.path) ]) (Err (refused (conflict cs))) → ⊥
 if_faultless cs [] b body h = if_fits cs b body h
 if_faultless cs (f ∷ fs) b body h = absurd cc
 
-if_named : (cs : Clashes) (a b : Bool) (r : Result Body Fault) → (if a then Err identity_fault else (if b then Err managed_fields_given else r)) ≡ Err (refused (conflict cs)) → r ≡ Err (refused (conflict cs))
+if_named : (cs : List Clash) (a b : Bool) (r : Result Body Fault) → (if a then Err identity_fault else (if b then Err managed_fields_given else r)) ≡ Err (refused (conflict cs)) → r ≡ Err (refused (conflict cs))
 if_named cs true b r h = cc
 if_named cs false true r h = cc
 if_named cs false false r h = h
 
-no-conflict : (bench : Bench) (v : Json) (cs : Clashes) → command_body bench v ≡ Err (refused (conflict cs)) → ⊥
+no-conflict : (bench : Bench) (v : Json) (cs : List Clash) → command_body bench v ≡ Err (refused (conflict cs)) → ⊥
 no-conflict bench (object ms) cs h =
-    let kind = bench.schema.1 in
+    let kind = bench.schema.kind in
     let value = body_value (object ms) in
-    if_faultless cs (faults kind value []) (nat_lt 20001 (size (flat kind value))) (flat kind value) (if_named cs _ _ _ h)
+    if_faultless cs (faults kind value []) (nat_lt most_places (size (flat kind value))) (flat kind value) (if_named cs _ _ _ h)
 no-conflict bench (list vs) cs h = absurd cc
 no-conflict bench (scalar s) cs h = absurd cc
 
-tested-no_conflict : (bench : Bench) (v : Json) (cs : Clashes) (f : Fault) → IsTested bench v f → f ≡ refused (conflict cs) → ⊥
+tested-no_conflict : (bench : Bench) (v : Json) (cs : List Clash) (f : Fault) → IsTested bench v f → f ≡ refused (conflict cs) → ⊥
 tested-no_conflict bench v cs f (inl full) h = absurd cc
 tested-no_conflict bench v cs f (inr (inl named)) h = absurd cc
 tested-no_conflict bench v cs f (inr (inr e)) h = no-conflict bench v cs (e ∙ ap Err h)
 
 module _ (bench : Bench) (who : Text) (force : Bool) (v : Json) where
   abbrev Lists : Answer → Type 0
-  Lists a = (cs : List (ManagerKey × PathSet)) → a.0 ≡ fault (refused (conflict cs)) → IsConflictOf bench who force v cs
+  Lists a = (cs : List Clash) → a.0 ≡ fault (refused (conflict cs)) → IsConflictOf bench who force v cs
 
   unforced : (f n : Bool) → not (f || n) ≡ true → f ≡ false
   unforced true n h = cc
   unforced false n h = refl
 
-  decided : (b few : Bool) (clash cs : List (ManagerKey × PathSet)) (s : State)
+  refused_by : (b few : Bool) (clash cs : List Clash) (s : State)
       → (if b then Err (conflict clash) else (if few then Err too_many_paths else if_seated s)) ≡ Err (conflict cs) → (b ≡ true) × (cs ≡ clash)
-  decided true few clash cs s h = (refl, cc)
-  decided false true clash cs s h = cc
-  decided false false clash cs s h = seated (nat_lt 64 (length s.table)) h
+  refused_by true few clash cs s h = (refl, cc)
+  refused_by false true clash cs s h = cc
+  refused_by false false clash cs s h = seated (nat_lt most_managers (length s.table)) h
     where
       seated : (b : Bool) → (if b then Err operations.too_many_managers else Ok s) ≡ Err (conflict cs) → (false ≡ true) × (cs ≡ clash)
       seated true h = cc
@@ -260,7 +257,7 @@ module _ (bench : Bench) (who : Text) (force : Bool) (v : Json) where
       (λ f e cs h.
       let same : f ≡ conflict cs = cc in
       let clash = clashes a (modified now.body (pruned now a config)) now.table in
-      let found = decided (not (force || is_none clash)) (nat_lt 20001 (size (pruned now a config))) clash cs _ (e ∙ ap Err same) in
+      let found = refused_by (not (force || is_none clash)) (nat_lt most_places (size (pruned now a config))) clash cs _ (e ∙ ap Err same) in
       record { config = config; body = is; unforced = unforced force (is_none clash) found.0; listed = found.1 })
 
   lists : (at : Text) → Lists (answer bench (apply who force at v))

@@ -5,10 +5,10 @@ use Rattle.std.specs.Prelude.{if◌then◌else◌}
 use Rattle.std.specs.Ordering.{is_lt, nat_cmp}
 use Rattle.std.specs.Cmp.{first_so, second_so}
 use Rattle.std.specs.Cmp.Lexicographic.{slice_cmp}
-use Rattle.ssa_model.specs.Json.{Text, same_text}
-use Rattle.ssa_model.specs.Kind as kinds
-use Rattle.ssa_model.specs.Kind.{Kind, ScalarKind, Shape, Fields, scalar_kind, atomic_of, record_of, dict_of, items_of, no_fields, kind_field, kind_of}
-use Rattle.ssa_model.specs.Lawful.{are_key_names, is_keyed, are_keyed, is_before_all, is_ordered, are_ordered}
+use Rattle.ssa_model.specs.definitions.Json.{Text, same_text}
+use Rattle.ssa_model.specs.definitions.Kind as kinds
+use Rattle.ssa_model.specs.definitions.Kind.{Kind, ScalarKind, Shape, Fields, scalar_kind, atomic_of, record_of, dict_of, items_of, no_fields, kind_field, kind_of}
+use Rattle.ssa_model.specs.definitions.Lawful.{are_key_names, is_keyed, are_keyed, is_before_all, is_ordered, are_ordered}
 use Rattle.ssa_model.proofs.RisingNames.{apart-less}
 use Rattle.ssa_model.proofs.Tables.{same_text-true, text-itself}
 

@@ -5,12 +5,12 @@ use Rattle.std.specs.Cmp.{first_so, second_so}
 use Rattle.std.specs.Cmp.Lexicographic.{slice_cmp, nat_list_cmp_total}
 use Rattle.std.specs.FinMap.{nat_cmp-IsAntisymmetric, slice_cmp-IsAntisymmetric}
 use Rattle.std.specs.Ordering.{is_lt, nat_cmp, ordering_reverse}
-use Rattle.ssa_model.specs.Json.{Text, Json, scalar, list, object, Members, no_members, member, member_of, same_text}
-use Rattle.ssa_model.specs.Path.{Element, field, Path, element_text}
-use Rattle.ssa_model.specs.FieldsV1.{IsElementText, value_below, says, dot_alone, IsCanonical, AreCanonical}
-use Rattle.ssa_model.specs.OneWriting.{OneWriting, SetHasOneWriting, WritingIsMet, two_fields, OrderTells}
-use Rattle.ssa_model.specs.RisingNames.{is_below, has_rising_names, members_rise}
-use Rattle.ssa_model.specs.Rows.{written}
+use Rattle.ssa_model.specs.definitions.Json.{Text, Json, scalar, list, object, Members, no_members, member, member_of, same_text}
+use Rattle.ssa_model.specs.definitions.Path.{Element, field, Path, element_text}
+use Rattle.ssa_model.specs.definitions.FieldsV1.{IsElementText, value_below, says, dot_alone, IsCanonical, AreCanonical}
+use Rattle.ssa_model.specs.laws.OneWriting.{OneWriting, SetHasOneWriting, WritingIsMet, two_fields, OrderTells}
+use Rattle.ssa_model.specs.definitions.MemberNames.{is_below, has_rising_names, members_rise}
+use Rattle.ssa_model.specs.examples.Rows.{written}
 use Rattle.ssa_model.proofs.Ascii.{ascii-is-utf8}
 use Rattle.ssa_model.proofs.RisingNames.{apart-less, before, lower}
 use Rattle.ssa_model.proofs.SaidSets.{other-way, no-dot, is_said, value_in, said_set_says}

@@ -5,10 +5,10 @@ use Rattle.std.specs.declared.cmp.Ordering.{Ordering}
 use Rattle.std.specs.declared.cmp.Ordering.TheVariants.{Less, Equal, Greater}
 use Rattle.std.specs.Ordering.{is_eq, nat_cmp, ordering_then}
 use Rattle.std.specs.Cmp.Lexicographic.{slice_cmp}
-use Rattle.ssa_model.specs.Path.{Path, field, key, value, same_path}
-use Rattle.ssa_model.specs.PathMap.{has}
-use Rattle.ssa_model.specs.Body.{Body, is_ownable}
-use Rattle.ssa_model.specs.Valid.{metadata_path}
+use Rattle.ssa_model.specs.definitions.Path.{Path, field, key, value, same_path}
+use Rattle.ssa_model.specs.definitions.PathMap.{has}
+use Rattle.ssa_model.specs.definitions.Body.{Body, is_ownable}
+use Rattle.ssa_model.specs.definitions.Valid.{metadata_path}
 
 abbrev pub is_never : Path → Bool
 is_never p = same_path p metadata_path || (same_path p [] || false)

@@ -3,13 +3,13 @@ use Rattle.std.proofs.Common.{◌≡◌, List, [], ◌∷◌, ◌++◌, Bool, tr
 use Rattle.std.proofs.lemmas.Option.{same_Some, none-some}
 use Rattle.std.specs.Prelude.{if◌then◌else◌, is_some, option_map}
 use Rattle.std.specs.Cmp.{second_so}
-use Rattle.ssa_model.specs.Json.{Text, Scalar}
-use Rattle.ssa_model.specs.Path.{Element, field, key, value, Path, is_item_element}
-use Rattle.ssa_model.specs.PathMap.{get, has}
-use Rattle.ssa_model.specs.Kind as kinds
-use Rattle.ssa_model.specs.Kind.{Kind, ScalarKind, Fields, scalar_kind, atomic_of, record_of, dict_of, items_of, kind_of, is_of, is_among}
-use Rattle.ssa_model.specs.Body.{Content, leaf, atom, record_branch, dict_branch, list_branch, Body, order_at}
-use Rattle.ssa_model.specs.Fitting.{Place, of_kind, item_of, value_of, place_below, place_at, content_fits, are_keys, IsBodyOf}
+use Rattle.ssa_model.specs.definitions.Json.{Text, Scalar}
+use Rattle.ssa_model.specs.definitions.Path.{Element, field, key, value, Path, is_item_element}
+use Rattle.ssa_model.specs.definitions.PathMap.{get, has}
+use Rattle.ssa_model.specs.definitions.Kind as kinds
+use Rattle.ssa_model.specs.definitions.Kind.{Kind, ScalarKind, Fields, record_of, dict_of, items_of, kind_of, is_of, is_among}
+use Rattle.ssa_model.specs.definitions.Body.{Content, leaf, atom, record_branch, dict_branch, list_branch, Body, order_at}
+use Rattle.ssa_model.specs.definitions.Fitting.{Place, of_kind, item_of, value_of, place_below, place_at, content_fits, are_keys, IsBodyOf}
 use Rattle.ssa_model.proofs.Scalars.{same_scalar-true}
 
 -- ---- places, one element further

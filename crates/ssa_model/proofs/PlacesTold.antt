@@ -4,11 +4,11 @@ use Rattle.std.specs.Prelude.{is_some}
 use Rattle.std.specs.Option.{option_or}
 use Rattle.std.specs.List.{list_any}
 use Rattle.std.specs.FinMap.Entries.{find}
-use Rattle.ssa_model.specs.Path.{Element, Path, path_cmp, same_path, same_element, under}
-use Rattle.ssa_model.specs.PathMap.{get, has}
-use Rattle.ssa_model.specs.Kind.{Kind, is_among}
-use Rattle.ssa_model.specs.Body.{Content, Body}
-use Rattle.ssa_model.specs.Fitting.{Place, of_kind, place_below, place_at, IsBodyOf}
+use Rattle.ssa_model.specs.definitions.Path.{Element, Path, path_cmp, same_path, same_element, under}
+use Rattle.ssa_model.specs.definitions.PathMap.{get, has}
+use Rattle.ssa_model.specs.definitions.Kind.{Kind, is_among}
+use Rattle.ssa_model.specs.definitions.Body.{Content, Body}
+use Rattle.ssa_model.specs.definitions.Fitting.{Place, of_kind, place_below, place_at, IsBodyOf}
 use Rattle.ssa_model.proofs.Fitting.{same_element-true}
 use Rattle.ssa_model.proofs.PathMaps.{same_path-true, same_path-itself}
 use Rattle.ssa_model.proofs.Places.{below}

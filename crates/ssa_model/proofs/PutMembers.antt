@@ -6,8 +6,8 @@ use Rattle.std.specs.List.{list_any}
 use Rattle.std.specs.Ordering.{is_eq, is_lt, nat_cmp, ordering_reverse}
 use Rattle.std.specs.Cmp.{first_so, second_so, tied_itself}
 use Rattle.std.specs.Cmp.Lexicographic.{slice_cmp, nat_list_cmp_total}
-use Rattle.ssa_model.specs.Json.{Text, Json, object, Members, no_members, member, member_of, same_text}
-use Rattle.ssa_model.specs.Objects.{with_member, without, without_names, without_in_metadata}
+use Rattle.ssa_model.specs.definitions.Json.{Text, Json, object, Members, no_members, member, member_of, same_text}
+use Rattle.ssa_model.specs.definitions.Objects.{with_member, without, without_names, without_in_metadata}
 use Rattle.ssa_model.proofs.RisingNames.{lower, before}
 use Rattle.ssa_model.proofs.Tables.{same_text-true, no, yes_no}
 

@@ -2,14 +2,14 @@
 use Rattle.std.proofs.Common.{◌≡◌, List, [], ◌∷◌, Bool, true, false, ◌&&◌, ◌||◌, Some, None, option_map, refl, sym, ap, subst, ◌∙◌}
 use Rattle.std.proofs.lemmas.Option.{same_Some, none-some}
 use Rattle.std.specs.Prelude.{if◌then◌else◌, is_some, option_and_then}
-use Rattle.ssa_model.specs.Json.{Text, Scalar, Json, scalar, list, object, Items, no_items, item, Members}
-use Rattle.ssa_model.specs.Path.{Element, field, key, value, Path, same_element, is_item_element}
-use Rattle.ssa_model.specs.Kind as kinds
-use Rattle.ssa_model.specs.Kind.{Kind, ScalarKind, Fields, scalar_kind, atomic_of, record_of, dict_of, items_of, kind_of, is_of, is_among, item_key, key_scalars, wrong_type}
-use Rattle.ssa_model.specs.Operations.{is_none}
-use Rattle.ssa_model.specs.Body.{Content, leaf, atom, record_branch, dict_branch, list_branch, order_at, value_order, key_order}
-use Rattle.ssa_model.specs.Fitting.{Place, of_kind, item_of, value_of, place_at, content_fits, are_keys, are_distinct, scalar_of}
-use Rattle.ssa_model.specs.Faultless.{KeysFit}
+use Rattle.ssa_model.specs.definitions.Json.{Text, Scalar, Json, scalar, list, object, Items, no_items, item, Members}
+use Rattle.ssa_model.specs.definitions.Path.{Element, field, key, value, Path, same_element, is_item_element}
+use Rattle.ssa_model.specs.definitions.Kind as kinds
+use Rattle.ssa_model.specs.definitions.Kind.{ScalarKind, Fields, scalar_kind, atomic_of, record_of, dict_of, items_of, is_of, is_among, item_key, wrong_type}
+use Rattle.ssa_model.specs.definitions.Operations.{is_none}
+use Rattle.ssa_model.specs.definitions.Body.{Content, leaf, atom, record_branch, dict_branch, list_branch, order_at, value_order, key_order}
+use Rattle.ssa_model.specs.definitions.Fitting.{Place, of_kind, item_of, value_of, place_at, content_fits, are_keys, are_distinct, scalar_of}
+use Rattle.ssa_model.specs.laws.Faultless.{KeysFit}
 use Rattle.ssa_model.proofs.Faults.{cons≢nil, unless-true, shape-anywhere}
 use Rattle.ssa_model.proofs.FaultlessParts.{values-distinct, items-distinct}
 use Rattle.ssa_model.proofs.FaultlessKeys.{keys-fit, key-member}

@@ -4,15 +4,15 @@ use Rattle.std.specs.Prelude.{if◌then◌else◌, option_and_then}
 use Rattle.std.specs.Cmp.{first_so, second_so}
 use Rattle.std.specs.FinMap.Entries.{find}
 use Rattle.std.specs.Option.{option_or}
-use Rattle.ssa_model.specs.Json.{Text, Scalar, Json, scalar, list, object, Items, no_items, item, Members, no_members, member, member_of, same_text}
-use Rattle.ssa_model.specs.Path.{Element, field, key, value, Path, element_cmp, path_cmp, same_element, same_path}
-use Rattle.ssa_model.specs.Kind as kinds
-use Rattle.ssa_model.specs.Kind.{Kind, Fields, scalar_kind, atomic_of, record_of, dict_of, items_of, kind_of, is_among, item_key}
-use Rattle.ssa_model.specs.Body.{Content, leaf, atom, record_branch, dict_branch, list_branch, places, field_places, entry_places, value_places, item_places, value_order, key_order}
-use Rattle.ssa_model.specs.Fitting.{Place, of_kind, item_of, value_of, are_distinct}
-use Rattle.ssa_model.specs.Objects.{is_missing}
-use Rattle.ssa_model.specs.Faultless.{Fits, FieldsFit, EntriesFit}
-use Rattle.ssa_model.specs.FlatBodies.{has_distinct_names, items_have_distinct_names, are_distinct_members}
+use Rattle.ssa_model.specs.definitions.Json.{Text, Scalar, Json, scalar, list, object, Items, no_items, item, Members, no_members, member, member_of, same_text}
+use Rattle.ssa_model.specs.definitions.Path.{Element, field, key, value, Path, element_cmp, path_cmp, same_element, same_path}
+use Rattle.ssa_model.specs.definitions.Kind as kinds
+use Rattle.ssa_model.specs.definitions.Kind.{Kind, Fields, scalar_kind, atomic_of, record_of, dict_of, items_of, kind_of, is_among, item_key}
+use Rattle.ssa_model.specs.definitions.Body.{Content, leaf, atom, record_branch, dict_branch, list_branch, places, field_places, entry_places, value_places, item_places, value_order, key_order}
+use Rattle.ssa_model.specs.definitions.Fitting.{Place, of_kind, item_of, value_of, are_distinct}
+use Rattle.ssa_model.specs.definitions.Objects.{is_missing}
+use Rattle.ssa_model.specs.laws.Faultless.{Fits, FieldsFit, EntriesFit}
+use Rattle.ssa_model.specs.definitions.MemberNames.{has_distinct_names, items_have_distinct_names, are_distinct_members}
 use Rattle.ssa_model.proofs.Faults.{cons≢nil}
 use Rattle.ssa_model.proofs.FaultlessParts.{member-first, member-rest, entry-first, entry-rest, ValuesFitAfter, value-rest, ItemsFitAfter, item-parts, item-rest, values-distinct, items-distinct}
 use Rattle.ssa_model.proofs.Fitting.{same_element-true}

@@ -2,14 +2,14 @@
 use Rattle.std.proofs.Common.{◌≡◌, List, [], ◌∷◌, ◌++◌, true, false, Option, Some, None, option_map, refl, sym, ap, subst, ◌∙◌, true≢false}
 use Rattle.std.proofs.lemmas.Option.{same_Some, none-some}
 use Rattle.std.specs.Prelude.{if◌then◌else◌, option_and_then}
-use Rattle.ssa_model.specs.Json.{Text, Scalar, Json, scalar, list, object, Items, no_items, item, Members, no_members, member, member_of, same_text}
-use Rattle.ssa_model.specs.Path.{Element, field, key, value, Path, same_element}
-use Rattle.ssa_model.specs.Kind as kinds
-use Rattle.ssa_model.specs.Kind.{Kind, ScalarKind, Fields, scalar_kind, atomic_of, record_of, dict_of, items_of, kind_of, is_of, is_among, item_key, key_scalars, wrong_type}
-use Rattle.ssa_model.specs.Body.{Content, leaf, atom, record_branch, dict_branch, list_branch, value_order, key_order}
-use Rattle.ssa_model.specs.Fitting.{Place, of_kind, item_of, value_of, place_below}
-use Rattle.ssa_model.specs.Faultless.{Fits, FieldsFit, EntriesFit, KeysFit, MemberFits, ItemFits}
-use Rattle.ssa_model.specs.Objects.{members_of_value}
+use Rattle.ssa_model.specs.definitions.Json.{Text, Scalar, Json, scalar, list, object, Items, no_items, item, Members, no_members, member, member_of, same_text}
+use Rattle.ssa_model.specs.definitions.Path.{Element, field, key, value, Path, same_element}
+use Rattle.ssa_model.specs.definitions.Kind as kinds
+use Rattle.ssa_model.specs.definitions.Kind.{Kind, ScalarKind, Fields, scalar_kind, atomic_of, record_of, dict_of, items_of, kind_of, is_of, is_among, item_key, key_scalars}
+use Rattle.ssa_model.specs.definitions.Body.{Content, leaf, atom, record_branch, dict_branch, list_branch, value_order, key_order}
+use Rattle.ssa_model.specs.definitions.Fitting.{Place, of_kind, item_of, value_of, place_below}
+use Rattle.ssa_model.specs.laws.Faultless.{Fits, FieldsFit, EntriesFit, KeysFit, MemberFits, ItemFits}
+use Rattle.ssa_model.specs.definitions.Objects.{members_of_value}
 use Rattle.ssa_model.proofs.FaultlessParts.{member-first, member-rest, entry-first, entry-rest, ValuesFitAfter, value-is_of, value-rest, ItemsFitAfter, item-first, item-rest}
 use Rattle.ssa_model.proofs.Fitting.{same_element-true}
 use Rattle.ssa_model.proofs.Tables.{same_text-true, either}

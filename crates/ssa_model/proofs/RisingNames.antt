@@ -3,8 +3,8 @@ use Rattle.std.proofs.Common.{◌≡◌, List, [], ◌∷◌, Bool, true, false,
 use Rattle.std.specs.Ordering.{is_lt, nat_cmp}
 use Rattle.std.specs.Cmp.{first_so, second_so, tied_itself}
 use Rattle.std.specs.Cmp.Lexicographic.{slice_cmp, nat_list_cmp_total}
-use Rattle.ssa_model.specs.Json.{Text, same_text}
-use Rattle.ssa_model.specs.Lawful.{are_key_names, names_rise_after}
+use Rattle.ssa_model.specs.definitions.Json.{Text, same_text}
+use Rattle.ssa_model.specs.definitions.Lawful.{are_key_names, names_rise_after}
 use Rattle.ssa_model.proofs.Tables.{same_text-true}
 
 pub lower : (o : Ordering) → is_lt o ≡ true → o ≡ Less

@@ -4,14 +4,14 @@ use Rattle.std.proofs.lemmas.List.Folds.{list_any-append}
 use Rattle.std.specs.Prelude.{codes, is_some}
 use Rattle.std.specs.Cmp.{first_so, second_so}
 use Rattle.std.specs.Ordering.{is_eq}
-use Rattle.ssa_model.specs.Json.{Text, Json, scalar, list, object, Members, no_members, member, member_of, same_text, same_json}
-use Rattle.ssa_model.specs.Path.{Element, field, key, value, Path, element_text, element_cmp, path_cmp, same_element}
-use Rattle.ssa_model.specs.Readings.{ReadFault}
-use Rattle.ssa_model.specs.ElementTexts.{ElementFault, bad_element, index_element, not_canonical, element_of, is_index, spelled_element}
-use Rattle.ssa_model.specs.FieldsV1.{value_below, is_no_object, has_dot, says, dot_alone}
-use Rattle.ssa_model.specs.FieldsFaults.{is_nothing_inside, fields_faults, member_faults, said_paths, member_paths, SaidSetSays}
-use Rattle.ssa_model.specs.FlatBodies.{has_distinct_names, are_distinct_members}
-use Rattle.ssa_model.specs.Objects.{is_missing}
+use Rattle.ssa_model.specs.definitions.Json.{Text, Json, scalar, list, object, Members, no_members, member, member_of, same_text, same_json}
+use Rattle.ssa_model.specs.definitions.Path.{Element, field, key, value, Path, element_text, element_cmp, path_cmp, same_element}
+use Rattle.ssa_model.specs.definitions.Readings.{ReadFault}
+use Rattle.ssa_model.specs.definitions.ElementTexts.{ElementFault, bad_element, index_element, not_canonical, element_of, is_index, spelled_element}
+use Rattle.ssa_model.specs.definitions.FieldsV1.{value_below, is_no_object, has_dot, says, dot_alone, is_nothing_inside, fields_faults, member_faults, said_paths, member_paths}
+use Rattle.ssa_model.specs.laws.OneWriting.{SaidSetSays}
+use Rattle.ssa_model.specs.definitions.MemberNames.{has_distinct_names, are_distinct_members}
+use Rattle.ssa_model.specs.definitions.Objects.{is_missing}
 use Rattle.ssa_model.proofs.Faults.{cons≢nil, nil_first, nil_second}
 use Rattle.ssa_model.proofs.Lists.{has-listed}
 use Rattle.ssa_model.proofs.PathMaps.{is_one_of}

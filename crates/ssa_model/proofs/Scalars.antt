@@ -2,7 +2,7 @@
 use Rattle.std.proofs.Common.{◌≡◌, ℕ, ℤ, pos, negsuc, Bool, true, false, refl, sym, ap, arith, true≢false}
 use Rattle.std.specs.Prelude.{◌==◌}
 use Rattle.std.proofs.lemmas.Bool.Decides.{nat_tests}
-use Rattle.ssa_model.specs.Json.{Scalar, text, whole, truth, same_whole, same_truth, same_scalar}
+use Rattle.ssa_model.specs.definitions.Json.{Scalar, text, whole, truth, same_whole, same_truth, same_scalar}
 use Rattle.ssa_model.proofs.Tables.{same_text-true, text-itself}
 
 same_nat-true : (a b : ℕ) → (a == b) ≡ true → a ≡ b

@@ -2,10 +2,11 @@
 use Rattle.std.proofs.Common.{◌≡◌, List, [], ◌∷◌, ◌++◌, Bool, true, false, cond, not, ◌||◌, map, refl, sym, ap, ◌∙◌}
 use Rattle.std.specs.Prelude.{filter, if◌then◌else◌}
 use Rattle.std.specs.Cmp.{first_so, second_so}
-use Rattle.ssa_model.specs.Json.{Text}
-use Rattle.ssa_model.specs.PathMap.{empty, is_empty}
-use Rattle.ssa_model.specs.Table.{ManagerKey, Entry, Table, same_manager, is_in_table, with_manager, reseated, seat}
-use Rattle.ssa_model.specs.Valid.{has_distinct_keys, OperationsKeepOrder}
+use Rattle.ssa_model.specs.definitions.Json.{Text}
+use Rattle.ssa_model.specs.definitions.PathMap.{empty, is_empty}
+use Rattle.ssa_model.specs.definitions.Table.{ManagerKey, Entry, Table, same_manager, is_in_table, with_manager, reseated, seat}
+use Rattle.ssa_model.specs.definitions.Valid.{has_distinct_keys}
+use Rattle.ssa_model.specs.laws.KeepsValid.{OperationsKeepOrder}
 use Rattle.ssa_model.proofs.Tables.{KeepsKeys, manager-itself, apart-back, first_false, second_false, no, true_or, or_true, is_in_table-map, is_in_table-filter, with_manager-distinct}
 
 abbrev managers : Table → List ManagerKey

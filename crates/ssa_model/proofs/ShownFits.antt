@@ -3,15 +3,15 @@ use Rattle.std.proofs.Common.{◌≡◌, List, [], ◌∷◌, ◌++◌, true, fa
 use Rattle.std.specs.Prelude.{if◌then◌else◌}
 use Rattle.std.specs.List.{AllByRecursion}
 use Rattle.std.specs.Cmp.{first_so, second_so}
-use Rattle.ssa_model.specs.Json.{Text, Json, object, item, Members, member, same_text}
-use Rattle.ssa_model.specs.Path.{Element, field, value, Path, same_element}
-use Rattle.ssa_model.specs.PathMap.{get, has}
-use Rattle.ssa_model.specs.Kind.{Kind, ScalarKind, Shape, Fields, scalar_kind, atomic_of, record_of, dict_of, no_fields, kind_field, kind_of, is_among, faults, field_faults, entry_faults, value_faults, item_faults, item_key, shape_faults, fault_unless, or_else, wrong_type, duplicate_item, unknown_field}
-use Rattle.ssa_model.specs.Body.{Content, leaf, atom, Body, order_at}
-use Rattle.ssa_model.specs.Fitting.{Place, of_kind, item_of, place_below, place_at, content_fits, are_distinct, IsBodyOf}
-use Rattle.ssa_model.specs.Lawful.{are_ordered, is_ordered, is_keyed, is_root_kind, is_record}
-use Rattle.ssa_model.specs.Objects.{shown, shown_fields, entry_members, shown_items, names_below, content_value}
-use Rattle.ssa_model.specs.ShownBodies.{ShownFits}
+use Rattle.ssa_model.specs.definitions.Json.{Text, Json, object, item, Members, member, same_text}
+use Rattle.ssa_model.specs.definitions.Path.{Element, field, value, Path, same_element}
+use Rattle.ssa_model.specs.definitions.PathMap.{get, has}
+use Rattle.ssa_model.specs.definitions.Kind.{Kind, ScalarKind, Shape, Fields, scalar_kind, atomic_of, record_of, dict_of, no_fields, kind_field, kind_of, is_among, faults, field_faults, entry_faults, value_faults, item_faults, item_key, shape_faults, fault_unless, or_else, wrong_type, duplicate_item, unknown_field, fault_at}
+use Rattle.ssa_model.specs.definitions.Body.{Content, leaf, atom, Body, order_at}
+use Rattle.ssa_model.specs.definitions.Fitting.{Place, of_kind, item_of, place_below, place_at, content_fits, are_distinct, IsBodyOf}
+use Rattle.ssa_model.specs.definitions.Lawful.{are_ordered, is_ordered, is_keyed, is_root_kind, is_record}
+use Rattle.ssa_model.specs.definitions.Objects.{shown, shown_fields, entry_members, shown_items, names_below, content_value}
+use Rattle.ssa_model.specs.laws.ShownBodies.{ShownFits}
 use Rattle.ssa_model.proofs.Faults.{none-found, shape-anywhere}
 use Rattle.ssa_model.proofs.Fitting.{same_element-true}
 use Rattle.ssa_model.proofs.KindParts.{EachField, each_field, OfEach, OfParts, each_kind}
@@ -30,7 +30,7 @@ scalar-fits k _ q h = absurd (true≢false (sym h))
 
 member-joins : (fs : Fields) (n : Text) (k : Kind) (v : Json) (ms : Members) (q : Path) → kind_of n fs ≡ Some k → faults k v (q ++ field n ∷ []) ≡ [] → field_faults fs ms q ≡ [] → field_faults fs (member n v ms) q ≡ []
 member-joins fs n k v ms q is first rest =
-    ap (λ o. elim o [ None ↦ (unknown_field, q ++ field n ∷ []) ∷ [] | Some j ↦ faults j v (q ++ field n ∷ []) ] ++ field_faults fs ms q) is
+    ap (λ o. elim o [ None ↦ fault_at unknown_field (q ++ field n ∷ []) ∷ [] | Some j ↦ faults j v (q ++ field n ∷ []) ] ++ field_faults fs ms q) is
     ∙ (λ i. first i ++ rest i)
 
 module _ (b : Body) (p : Path) where
@@ -91,7 +91,7 @@ module _ (kind : Kind) (b : Body) (p : Path) where
         let fresh : is_among (item_key ns ms) earlier ≡ false = ap (λ x. is_among x earlier) h.0.own_key ∙ first-new e es earlier new in
         let rest : item_faults ns fs (item_key ns ms ∷ earlier) items q ≡ [] = ap (λ x. item_faults ns fs (x ∷ earlier) items q) h.0.own_key
         ∙ items-fit es (e ∷ earlier) q h.1 fits.1 (second_so (not (is_among e es)) _ apart) (rest-new e es earlier apart new) in
-        λ i. or_else (h.0.keys q i) (if fresh i then (duplicate_item, q ++ item_key ns ms ∷ []) ∷ [] else fits.0 (q ++ item_key ns ms ∷ []) i) ++ rest i
+        λ i. or_else (h.0.keys q i) (if fresh i then fault_at duplicate_item (q ++ item_key ns ms ∷ []) ∷ [] else fits.0 (q ++ item_key ns ms ∷ []) i) ++ rest i
 
 -- ---- any kind
 

@@ -4,15 +4,15 @@ use Rattle.std.proofs.lemmas.Option.{none-some}
 use Rattle.std.specs.Prelude.{if◌then◌else◌, is_some}
 use Rattle.std.specs.List.{list_any, AllByRecursion}
 use Rattle.std.specs.Cmp.{first_so, second_so}
-use Rattle.ssa_model.specs.Json.{Text, Scalar, scalar, Members, member_of, same_text}
-use Rattle.ssa_model.specs.Path.{Element, field, key, value, Path}
-use Rattle.ssa_model.specs.PathMap.{get, has}
-use Rattle.ssa_model.specs.Kind as kinds
-use Rattle.ssa_model.specs.Kind.{Kind, ScalarKind, Fields, scalar_kind, items_of, kind_of, is_of, is_among, key_scalars, cons_scalar, item_key, key_faults, key_field_fault, fault_unless, wrong_type}
-use Rattle.ssa_model.specs.Body.{leaf, Body, order_at}
-use Rattle.ssa_model.specs.Fitting.{of_kind, item_of, place_at, content_fits, are_keys, is_key_of, scalar_of, IsBodyOf}
-use Rattle.ssa_model.specs.Lawful.{are_key_names, names_rise_after}
-use Rattle.ssa_model.specs.Objects.{shown, shown_fields, content_value}
+use Rattle.ssa_model.specs.definitions.Json.{Text, Scalar, scalar, Members, member_of, same_text}
+use Rattle.ssa_model.specs.definitions.Path.{Element, field, key, value, Path}
+use Rattle.ssa_model.specs.definitions.PathMap.{get, has}
+use Rattle.ssa_model.specs.definitions.Kind as kinds
+use Rattle.ssa_model.specs.definitions.Kind.{Kind, ScalarKind, Fields, scalar_kind, items_of, kind_of, is_of, is_among, key_scalars, cons_scalar, item_key, key_faults, key_field_fault, fault_unless, wrong_type}
+use Rattle.ssa_model.specs.definitions.Body.{leaf, Body, order_at}
+use Rattle.ssa_model.specs.definitions.Fitting.{of_kind, item_of, place_at, content_fits, are_keys, is_key_of, scalar_of, IsBodyOf}
+use Rattle.ssa_model.specs.definitions.Lawful.{are_key_names, names_rise_after}
+use Rattle.ssa_model.specs.definitions.Objects.{shown, shown_fields, content_value}
 use Rattle.ssa_model.proofs.RisingNames.{apart-less, before, rise-on, do_rise, rest-rise, key-names-rise}
 use Rattle.ssa_model.proofs.Places.{below, listed, stands, value-leaf, set-place, list-place}
 use Rattle.ssa_model.proofs.ShownNames.{member_of-fields}

@@ -5,12 +5,12 @@ use Rattle.std.specs.List.{list_any, cons_option}
 use Rattle.std.specs.Ordering.{is_eq, ordering_then}
 use Rattle.std.specs.Cmp.{tied_itself}
 use Rattle.std.specs.Cmp.Lexicographic.{nat_list_cmp_total}
-use Rattle.ssa_model.specs.Json.{Text, Json, Members, member, member_of, same_text}
-use Rattle.ssa_model.specs.Path.{Element, field, key, value, Path, element_cmp, path_cmp, same_element, same_path, parent}
-use Rattle.ssa_model.specs.PathMap.{has, paths}
-use Rattle.ssa_model.specs.Kind.{Kind, Fields, no_fields, kind_field, kind_of}
-use Rattle.ssa_model.specs.Body.{Body}
-use Rattle.ssa_model.specs.Objects.{shown, shown_fields, name_below, names_below}
+use Rattle.ssa_model.specs.definitions.Json.{Text, Json, Members, member, member_of, same_text}
+use Rattle.ssa_model.specs.definitions.Path.{Element, field, key, value, Path, element_cmp, path_cmp, same_element, same_path, parent}
+use Rattle.ssa_model.specs.definitions.PathMap.{has, paths}
+use Rattle.ssa_model.specs.definitions.Kind.{Kind, Fields, no_fields, kind_field, kind_of}
+use Rattle.ssa_model.specs.definitions.Body.{Body}
+use Rattle.ssa_model.specs.definitions.Objects.{shown, shown_fields, name_below, names_below}
 use Rattle.ssa_model.proofs.Fitting.{same_element-true}
 use Rattle.ssa_model.proofs.PathMaps.{has-paths, same_path-true}
 use Rattle.ssa_model.proofs.Tables.{same_text-true, element-itself}

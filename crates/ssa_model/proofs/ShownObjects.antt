@@ -7,21 +7,22 @@ use Rattle.std.specs.Ordering.{is_eq, is_lt, nat_cmp}
 use Rattle.std.specs.Cmp.{first_so, second_so}
 use Rattle.std.specs.Cmp.Lexicographic.{slice_cmp}
 use Rattle.std.specs.declared.cmp.Ordering.TheVariants.{Less, Equal, Greater}
-use Rattle.ssa_model.specs.Json.{Text, text, Json, scalar, object, Members, no_members, member, member_of, same_text}
-use Rattle.ssa_model.specs.Path.{field, Path}
-use Rattle.ssa_model.specs.PathMap.{has, from_entries}
-use Rattle.ssa_model.specs.Kind as kinds
-use Rattle.ssa_model.specs.Kind.{Kind, Fields, record_of, no_fields, kind_field, kind_of, unknown_field, faults, field_faults}
-use Rattle.ssa_model.specs.Body.{Body, flat, places, without_empty_metadata, is_empty_object}
-use Rattle.ssa_model.specs.Lawful.{is_root_kind, is_ordered, are_ordered, is_before_all, has_metadata}
-use Rattle.ssa_model.specs.Objects.{value_at, identity_of, is_named_text, is_missing, is_some_object, is_identity, same_value, same_identity, without, without_in_metadata, value_without, identity_names, file_names, body_value, shown, shown_fields, with_member, with_given, members_in, with_identity, object_of_body}
-use Rattle.ssa_model.specs.Commands.{text_in}
-use Rattle.ssa_model.specs.GivenEntries.{table_of}
-use Rattle.ssa_model.specs.Readings.{Readings}
-use Rattle.ssa_model.specs.History.{Schema, Bench}
-use Rattle.ssa_model.specs.Answers.{identity_fault, managed_fields_given, has_identity, gives_managed_fields, body_or_fault, command_body, names_itself, with_lone_state, with_table, given_table, file_state, bench_of, lone_state}
-use Rattle.ssa_model.specs.ShownObjects.{names_none, fields_in, IsShownBody, ShownMakesBench, ShownIsCommands}
-use Rattle.ssa_model.specs.Valid.{metadata_path}
+use Rattle.ssa_model.specs.definitions.Json.{Text, text, Json, scalar, object, Members, no_members, member, member_of, same_text}
+use Rattle.ssa_model.specs.definitions.Path.{field, Path}
+use Rattle.ssa_model.specs.definitions.PathMap.{has, from_entries}
+use Rattle.ssa_model.specs.definitions.Kind as kinds
+use Rattle.ssa_model.specs.definitions.Kind.{Kind, Fields, record_of, no_fields, kind_field, kind_of, unknown_field, faults, field_faults, fault_at}
+use Rattle.ssa_model.specs.definitions.Body.{Body, flat, places, without_empty_metadata, is_empty_object}
+use Rattle.ssa_model.specs.definitions.Lawful.{is_root_kind, is_ordered, are_ordered, is_before_all, has_metadata, names_none, fields_in}
+use Rattle.ssa_model.specs.definitions.Objects.{Identity, value_at, identity_of, is_named_text, is_missing, is_some_object, is_identity, same_value, same_identity, without, without_in_metadata, value_without, identity_names, file_names, body_value, shown, shown_fields, with_member, with_given, members_in, with_identity, object_of_body}
+use Rattle.ssa_model.specs.definitions.Commands.{text_in}
+use Rattle.ssa_model.specs.definitions.GivenEntries.{table_of}
+use Rattle.ssa_model.specs.definitions.Readings.{Readings}
+use Rattle.ssa_model.specs.definitions.Schema.{Schema}
+use Rattle.ssa_model.specs.definitions.History.{Bench}
+use Rattle.ssa_model.specs.definitions.Answers.{identity_fault, managed_fields_given, has_identity, gives_managed_fields, body_or_fault, command_body, names_itself, with_lone_state, with_table, given_table, file_state, bench_of, lone_state}
+use Rattle.ssa_model.specs.laws.ShownObjects.{IsShownBody, ShownMakesBench, ShownIsCommands}
+use Rattle.ssa_model.specs.definitions.Valid.{metadata_path}
 use Rattle.ssa_model.proofs.EmptyMetadata.{record-in, metadata_stays}
 use Rattle.ssa_model.proofs.FaultlessParts.{member-join}
 use Rattle.ssa_model.proofs.FlatOfShown.{flat_of_shown}
@@ -64,10 +65,10 @@ named : (o : Option Json) → is_named_text o ≡ true → (t : Text) × (o ≡ 
 named (Some (scalar (text (b ∷ bs)))) h = (b ∷ bs, refl)
 named _ h = absurd (true≢false (sym h))
 
-abbrev pub parts : Text → Text → Text → Option Json → List (Option Json)
-parts v k n ns = Some (scalar (text v)) ∷ Some (scalar (text k)) ∷ Some (scalar (text n)) ∷ ns ∷ []
+abbrev pub parts : Text → Text → Text → Option Json → Identity
+parts v k n ns = record { version = Some (scalar (text v)); kind = Some (scalar (text k)); name = Some (scalar (text n)); namespace = ns }
 
-pub record IsParts (i : List (Option Json)) : Type 0 where
+pub record IsParts (i : Identity) : Type 0 where
   pub version : Text
   pub kind : Text
   pub name : Text
@@ -75,15 +76,21 @@ pub record IsParts (i : List (Option Json)) : Type 0 where
   pub is : i ≡ parts version kind name namespace
   pub fits : (is_missing namespace || is_named_text namespace) ≡ true
 
-pub identity-parts : (i : List (Option Json)) → is_identity i ≡ true → IsParts i
-identity-parts (v ∷ k ∷ n ∷ ns ∷ []) h =
-    let later = second_so (is_named_text v) _ h in
-    let last = second_so (is_named_text k) _ later in
-    let a = named v (first_so (is_named_text v) _ h) in
-    let b = named k (first_so (is_named_text k) _ later) in
-    let c = named n (first_so (is_named_text n) _ last) in
-    record { version = a.0; kind = b.0; name = c.0; namespace = ns; is = (λ i. a.1 i ∷ b.1 i ∷ c.1 i ∷ ns ∷ []); fits = second_so (is_named_text n) _ last }
-identity-parts _ h = absurd (true≢false (sym h))
+pub identity-parts : (i : Identity) → is_identity i ≡ true → IsParts i
+identity-parts i h =
+    let later = second_so (is_named_text i.version) _ h in
+    let last = second_so (is_named_text i.kind) _ later in
+    let a = named i.version (first_so (is_named_text i.version) _ h) in
+    let b = named i.kind (first_so (is_named_text i.kind) _ later) in
+    let c = named i.name (first_so (is_named_text i.name) _ last) in
+    record {
+      version = a.0;
+      kind = b.0;
+      name = c.0;
+      namespace = i.namespace;
+      is = (λ x. record { version = a.1 x; kind = b.1 x; name = c.1 x; namespace = i.namespace });
+      fits = second_so (is_named_text i.name) _ last;
+    }
 
 namespace-itself : (ns : Option Json) → (is_missing ns || is_named_text ns) ≡ true → same_value ns ns ≡ true
 namespace-itself None h = refl
@@ -91,7 +98,7 @@ namespace-itself (Some (scalar (text t))) h = text-itself t
 namespace-itself (Some v) h = absurd (true≢false (sym h))
 
 pub parts-itself : (v k n : Text) (ns : Option Json) → (is_missing ns || is_named_text ns) ≡ true → same_identity (parts v k n ns) (parts v k n ns) ≡ true
-parts-itself v k n ns h = λ i. text-itself v i && (text-itself k i && (text-itself n i && (namespace-itself ns h i && true)))
+parts-itself v k n ns h = λ i. text-itself v i && (text-itself k i && (text-itself n i && namespace-itself ns h i))
 
 -- ---- the value without the identity
 
@@ -165,7 +172,7 @@ empty-put (member m w ms) h =
 module _ (fs hs : Fields) (is : kind_of metadata fs ≡ Some (record_of hs)) (p : Path) where
   put-first : (ns : Members) → field_faults fs ns p ≡ [] → field_faults fs (member metadata (object no_members) ns) p ≡ []
   put-first ns h =
-      ap (λ o. elim o [ None ↦ (unknown_field, p ++ field metadata ∷ []) ∷ [] | Some k ↦ faults k (object no_members) (p ++ field metadata ∷ []) ] ++ field_faults fs ns p) is ∙ h
+      ap (λ o. elim o [ None ↦ fault_at unknown_field (p ++ field metadata ∷ []) ∷ [] | Some k ↦ faults k (object no_members) (p ++ field metadata ∷ []) ] ++ field_faults fs ns p) is ∙ h
 
   put-fits : (ns : Members) → field_faults fs ns p ≡ [] → field_faults fs (with_member metadata (object no_members) ns) p ≡ []
   put-fits no_members h = put-first no_members refl
@@ -185,7 +192,7 @@ module _ (fs : Fields) (b : Body) (s : IsShownBody (record_of fs) b) where
   kind = record_of fs
 
   pub later : (is_ordered kind && has_metadata kind) ≡ true
-  later = second_so (is_root_kind kind) _ s.lawful
+  later = second_so (is_root_kind kind) _ s.accepted.lawful
 
   pub ordered : are_ordered fs ≡ true
   ordered = first_so (is_ordered kind) _ later
@@ -200,16 +207,16 @@ module _ (fs : Fields) (b : Body) (s : IsShownBody (record_of fs) b) where
   hs = of_metadata.0
 
   pub apart-root : names_none root_names fs ≡ true
-  apart-root = first_so (names_none root_names fs) _ s.apart
+  apart-root = first_so (names_none root_names fs) _ s.accepted.apart
 
   pub apart-file : names_none file_names hs ≡ true
-  apart-file = ap (λ o. names_none file_names (fields_in o)) (sym of_metadata.1) ∙ second_so (names_none root_names fs) _ s.apart
+  apart-file = ap (λ o. names_none file_names (fields_in o)) (sym of_metadata.1) ∙ second_so (names_none root_names fs) _ s.accepted.apart
 
   abbrev pub fields : Members
   fields = shown_fields fs b []
 
   none-shown : faults kind (object fields) [] ≡ []
-  none-shown = shown_fits kind b s.lawful s.fits
+  none-shown = shown_fits kind b s.accepted.lawful s.fits
 
   put-is : (o : Option Json) → member_of metadata fields ≡ o → (t : Bool) → o ≡ cond t (Some (object (shown_fields hs b metadata_path))) None
       → (faults kind (object (with_member metadata (object (members_in o)) fields)) [] ≡ []) × (flat kind (object (with_member metadata (object (members_in o)) fields)) ≡ b)
@@ -217,7 +224,7 @@ module _ (fs : Fields) (b : Body) (s : IsShownBody (record_of fs) b) where
       let same : with_member metadata (object (members_in o)) fields ≡ fields =
       put-again metadata (object (members_in o)) fields (shown-rise b [] fs ordered) (found ∙ is ∙ ap (λ x. Some (object (members_in x))) (sym is)) in (
         ap (λ x. faults kind (object x) []) same ∙ none-shown,
-        ap (λ x. flat kind (object x)) same ∙ flat_of_shown kind b s.lawful s.fits s.rooted,
+        ap (λ x. flat kind (object x)) same ∙ flat_of_shown kind b s.accepted.lawful s.fits s.rooted,
       )
   put-is o found false is =
       let bare : with_member metadata (object (members_in o)) fields ≡ with_member metadata (object no_members) fields = ap (λ x. with_member metadata (object (members_in x)) fields) is in
@@ -225,7 +232,7 @@ module _ (fs : Fields) (b : Body) (s : IsShownBody (record_of fs) b) where
         ap (λ x. faults kind (object x) []) bare ∙ put-fits fs hs of_metadata.1 [] fields none-shown,
         ap (λ x. flat kind (object x)) bare
             ∙ ap (λ x. from_entries (places kind (object x) [])) (empty-put fields (found ∙ is) ∙ sym stays)
-            ∙ flat_of_shown kind b s.lawful s.fits s.rooted,
+            ∙ flat_of_shown kind b s.accepted.lawful s.fits s.rooted,
       )
 
   -- the value without anything of the identity
@@ -326,19 +333,19 @@ module _ (fs : Fields) (b : Body) (s : IsShownBody (record_of fs) b) (v k n : Te
       let c = ap (option_and_then (value_at [])) kind-there in
       let d = in-it (codes "name") ∙ name-there in
       let e = in-it (codes "namespace") ∙ namespace-there in
-      (λ i. a i ∷ c i ∷ d i ∷ e i ∷ [])
+      (λ i. record { version = a i; kind = c i; name = d i; namespace = e i })
 
   pub is-object : is_some_object (value_at (codes "metadata" ∷ []) (object members)) ≡ true
   is-object = ap (λ o. is_some_object (option_and_then (value_at []) o)) metadata-there
 
 -- ---- the laws
 
-abbrev Makes : Readings → Schema → Body → List (Option Json) → Type 0
+abbrev Makes : Readings → Schema → Body → Identity → Type 0
 Makes readings schema body i =
-    bench_of readings schema (object_of_body i schema.1 body) ≡ Ok (record { schema = schema; identity = i; timeline = lone_state (record { body = body; table = [] }) })
+    bench_of readings schema (object_of_body i schema.kind body) ≡ Ok (record { schema = schema; identity = i; timeline = lone_state (record { body = body; table = [] }) })
 
 makes-record : (readings : Readings) (value : Json) (fs : Fields) (body : Body) → IsShownBody (record_of fs) body → (v k n : Text) (ns : Option Json) → is_identity (parts v k n ns) ≡ true
-    → Makes readings (value, record_of fs) body (parts v k n ns)
+    → Makes readings (record { source = value; kind = record_of fs }) body (parts v k n ns)
 makes-record readings value fs body s v k n ns h =
     let obj = object (members fs body s v k n ns) in
     let identity = identity-is fs body s v k n ns in
@@ -346,16 +353,19 @@ makes-record readings value fs body s v k n ns h =
     let state : file_state readings (record_of fs) obj ≡ Ok (record { body = body; table = [] }) =
     ap (λ r. elim r [ Ok c ↦ with_table c (given_table readings c obj) | Err f ↦ Err f ]) (taken fs body s file_names v k n ns file_out (apart-file fs body s))
     ∙ ap (λ o. with_table body (elim o [ None ↦ Ok [] | Some entries ↦ table_of readings body (text_in (value_at (codes "apiVersion" ∷ []) obj)) entries ])) (no-entries fs body s v k n ns) in
-    ap (λ t. if not t then Err identity_fault else with_lone_state (value, record_of fs) (identity_of obj) (file_state readings (record_of fs) obj)) named
-    ∙ (λ i. with_lone_state (value, record_of fs) (identity i) (state i))
+    ap (λ t. if not t then Err identity_fault else with_lone_state (record { source = value; kind = record_of fs }) (identity_of obj) (file_state readings (record_of fs) obj)) named
+    ∙ (λ i. with_lone_state (record { source = value; kind = record_of fs }) (identity i) (state i))
+
+makes-any : (readings : Readings) (value : Json) (kd : Kind) (identity : Identity) (body : Body) → is_identity identity ≡ true → IsShownBody kd body → Makes readings (record { source = value; kind = kd }) body identity
+makes-any readings value (kinds.record_of fs) identity body h s =
+    let p = identity-parts identity h in
+    subst (Makes readings (record { source = value; kind = record_of fs }) body) (sym p.is) (makes-record readings value fs body s p.version p.kind p.name p.namespace (ap is_identity (sym p.is) ∙ h))
+makes-any readings value _ identity body h s = absurd (true≢false (sym s.accepted.lawful))
 
 pub shown_makes_bench : ShownMakesBench
-shown_makes_bench readings (value, kinds.record_of fs) identity body h s =
-    let p = identity-parts identity h in
-    subst (Makes readings (value, record_of fs) body) (sym p.is) (makes-record readings value fs body s p.version p.kind p.name p.namespace (ap is_identity (sym p.is) ∙ h))
-shown_makes_bench readings (value, _) identity body h s = absurd (true≢false (sym s.lawful))
+shown_makes_bench readings schema identity body h s = makes-any readings schema.source schema.kind identity body h s
 
-takes-record : (bench : Bench) (fs : Fields) (body : Body) → bench.schema.1 ≡ record_of fs → IsShownBody (record_of fs) body → (v k n : Text) (ns : Option Json) → is_identity (parts v k n ns) ≡ true
+takes-record : (bench : Bench) (fs : Fields) (body : Body) → bench.schema.kind ≡ record_of fs → IsShownBody (record_of fs) body → (v k n : Text) (ns : Option Json) → is_identity (parts v k n ns) ≡ true
     → same_identity (parts v k n ns) bench.identity ≡ true → command_body bench (object_of_body (parts v k n ns) (record_of fs) body) ≡ Ok body
 takes-record bench fs body is s v k n ns h same =
     let obj = object (members fs body s v k n ns) in
@@ -363,19 +373,19 @@ takes-record bench fs body is s v k n ns h same =
     let own : has_identity bench obj ≡ true =
     (λ i. is-object fs body s v k n ns i && (is_identity (identity i) && same_identity (identity i) bench.identity)) ∙ (λ i. h i && same i) in
     let bare : gives_managed_fields obj ≡ false = ap (λ o. not (is_missing o)) (no-entries fs body s v k n ns) in
-    ap (λ t. if not t then Err identity_fault else (if gives_managed_fields obj then Err managed_fields_given else body_or_fault bench.schema.1 (body_value obj))) own
-    ∙ ap (λ t. if t then Err managed_fields_given else body_or_fault bench.schema.1 (body_value obj)) bare
+    ap (λ t. if not t then Err identity_fault else (if gives_managed_fields obj then Err managed_fields_given else body_or_fault bench.schema.kind (body_value obj))) own
+    ∙ ap (λ t. if t then Err managed_fields_given else body_or_fault bench.schema.kind (body_value obj)) bare
     ∙ ap (λ kd. body_or_fault kd (body_value obj)) is
     ∙ taken fs body s identity_names v k n ns identity_out (fewer-none (hs fs body s) (apart-file fs body s))
 
-takes-any : (bench : Bench) (kd : Kind) (body : Body) → bench.schema.1 ≡ kd → is_identity bench.identity ≡ true → IsShownBody kd body → command_body bench (object_of_body bench.identity kd body) ≡ Ok body
+takes-any : (bench : Bench) (kd : Kind) (body : Body) → bench.schema.kind ≡ kd → is_identity bench.identity ≡ true → IsShownBody kd body → command_body bench (object_of_body bench.identity kd body) ≡ Ok body
 takes-any bench (kinds.record_of fs) body is h s =
     let p = identity-parts bench.identity h in
     let whole_same : same_identity (parts p.version p.kind p.name p.namespace) bench.identity ≡ true =
     ap (same_identity (parts p.version p.kind p.name p.namespace)) p.is ∙ parts-itself p.version p.kind p.name p.namespace p.fits in
     ap (λ i. command_body bench (object_of_body i (record_of fs) body)) p.is
     ∙ takes-record bench fs body is s p.version p.kind p.name p.namespace (ap is_identity (sym p.is) ∙ h) whole_same
-takes-any bench _ body is h s = absurd (true≢false (sym s.lawful))
+takes-any bench _ body is h s = absurd (true≢false (sym s.accepted.lawful))
 
 pub shown_is_commands : ShownIsCommands
-shown_is_commands bench body h s = takes-any bench bench.schema.1 body refl h s
+shown_is_commands bench body h s = takes-any bench bench.schema.kind body refl h s

@@ -1,23 +1,24 @@
 -- The object that is shown of a state, with its managers' entries, is taken as that state.
-use Rattle.std.proofs.Common.{◌≡◌, List, [], ◌∷◌, true, not, ◌&&◌, Option, Some, None, option_and_then, refl, sym, ap, ◌∙◌, subst, true≢false}
+use Rattle.std.proofs.Common.{◌≡◌, [], ◌∷◌, true, not, ◌&&◌, Option, Some, None, option_and_then, refl, sym, ap, ◌∙◌, subst, true≢false}
 use Rattle.std.specs.Prelude.{if◌then◌else◌, codes, Ok, Err}
-use Rattle.ssa_model.specs.Json.{Text, text, Json, scalar, list, object, Members, member_of}
-use Rattle.ssa_model.specs.Kind as kinds
-use Rattle.ssa_model.specs.Kind.{Kind, Fields, record_of}
-use Rattle.ssa_model.specs.Body.{Body}
-use Rattle.ssa_model.specs.Commands.{text_in}
-use Rattle.ssa_model.specs.Entries.{text_json, entry_items, version_in, with_managed_fields, object_of_state}
-use Rattle.ssa_model.specs.GivenEntries.{table_of}
-use Rattle.ssa_model.specs.Lawful.{is_lawful}
-use Rattle.ssa_model.specs.Objects.{value_at, identity_of, is_some_object, is_identity, file_names, without_in_metadata, file_value, with_member, members_in, shown_fields}
-use Rattle.ssa_model.specs.Operations.{State}
-use Rattle.ssa_model.specs.Readings.{Readings}
-use Rattle.ssa_model.specs.Table.{Entry, Table}
-use Rattle.ssa_model.specs.History.{Schema}
-use Rattle.ssa_model.specs.Answers.{identity_fault, body_or_fault, names_itself, with_lone_state, with_table, given_table, file_state, bench_of, lone_state}
-use Rattle.ssa_model.specs.ShownObjects.{leaves_identity, IsShownBody}
-use Rattle.ssa_model.specs.ShownStates.{IsReadBack, ShownStateIsTaken}
-use Rattle.ssa_model.specs.Valid.{AllEntries, IsTable, IsValidState}
+use Rattle.ssa_model.specs.definitions.Json.{Text, text, Json, scalar, list, object, Members, member_of}
+use Rattle.ssa_model.specs.definitions.Kind as kinds
+use Rattle.ssa_model.specs.definitions.Kind.{Kind, Fields, record_of}
+use Rattle.ssa_model.specs.definitions.Body.{Body}
+use Rattle.ssa_model.specs.definitions.Commands.{text_in}
+use Rattle.ssa_model.specs.definitions.Entries.{text_json, entry_items, version_in, with_managed_fields, object_of_state}
+use Rattle.ssa_model.specs.definitions.GivenEntries.{table_of}
+use Rattle.ssa_model.specs.definitions.Lawful.{IsSchemaKind}
+use Rattle.ssa_model.specs.definitions.Objects.{Identity, value_at, identity_of, is_some_object, is_identity, file_names, without_in_metadata, file_value, with_member, members_in, shown_fields}
+use Rattle.ssa_model.specs.definitions.Operations.{State}
+use Rattle.ssa_model.specs.definitions.Readings.{Readings}
+use Rattle.ssa_model.specs.definitions.Table.{Entry, Table}
+use Rattle.ssa_model.specs.definitions.Schema.{Schema}
+use Rattle.ssa_model.specs.definitions.Answers.{identity_fault, body_or_fault, names_itself, with_lone_state, with_table, given_table, file_state, bench_of, lone_state}
+use Rattle.ssa_model.specs.laws.ShownObjects.{IsShownBody}
+use Rattle.ssa_model.specs.definitions.BenchFile.{IsReadBack}
+use Rattle.ssa_model.specs.laws.ShownStates.{ShownStateIsTaken}
+use Rattle.ssa_model.specs.definitions.Valid.{AllEntries, IsTable, IsValidState}
 use Rattle.ssa_model.proofs.PutMembers.{metadata, rise, put-found, put-other, put-twice, without-put, without-keeps, rise-put, in-metadata}
 use Rattle.ssa_model.proofs.ShownObjects.{root_names, parts, file_out, identity-parts, shown-rise, of_metadata, hs, ordered, apart-root, apart-file, members, inside, with_kind, bare-is, stripped-is, bare_value, bare-taken, version-there, kind-there, metadata-there, name-there, namespace-there, itself, shown_makes_bench}
 use Rattle.ssa_model.proofs.TablesBack.{table-back}
@@ -70,7 +71,7 @@ module _ (fs : Fields) (b : Body) (s : IsShownBody (record_of fs) b) (v k n : Te
       let c = ap (option_and_then (value_at [])) full-kind in
       let d = inside-it (codes "name") ∙ put-other (codes "name") (codes "managedFields") entries (inside fs b s v k n ns) refl ∙ name-there fs b s v k n ns in
       let e = inside-it (codes "namespace") ∙ put-other (codes "namespace") (codes "managedFields") entries (inside fs b s v k n ns) refl ∙ namespace-there fs b s v k n ns in
-      (λ i. a i ∷ c i ∷ d i ∷ e i ∷ [])
+      (λ i. record { version = a i; kind = c i; name = d i; namespace = e i })
 
   full-object : is_some_object (value_at (codes "metadata" ∷ []) (object full)) ≡ true
   full-object = ap (λ o. is_some_object (option_and_then (value_at []) o)) full-metadata
@@ -101,34 +102,38 @@ module _ (fs : Fields) (b : Body) (s : IsShownBody (record_of fs) b) (v k n : Te
       ∙ ap (with_table b) (table-back readings b v (e ∷ es) t back)
 
   bench-is : (readings : Readings) (value : Json) → IsTable b (e ∷ es) → AllEntries (IsReadBack readings) (e ∷ es) → is_identity (parts v k n ns) ≡ true
-      → bench_of readings (value, record_of fs) (object_of_state (parts v k n ns) (record_of fs) true (record { body = b; table = e ∷ es }))
-      ≡ Ok (record { schema = (value, record_of fs); identity = parts v k n ns; timeline = lone_state (record { body = b; table = e ∷ es }) })
+      → bench_of readings (record { source = value; kind = record_of fs }) (object_of_state (parts v k n ns) (record_of fs) true (record { body = b; table = e ∷ es }))
+      ≡ Ok (record { schema = record { source = value; kind = record_of fs }; identity = parts v k n ns; timeline = lone_state (record { body = b; table = e ∷ es }) })
   bench-is readings value t back h =
       let obj = object (full fs b s v k n ns written) in
       let identity = full-identity fs b s v k n ns written in
       let named : names_itself obj ≡ true = (λ i. full-object fs b s v k n ns written i && is_identity (identity i)) ∙ h in
-      ap (bench_of readings (value, record_of fs)) shown-is
-      ∙ ap (λ t. if not t then Err identity_fault else with_lone_state (value, record_of fs) (identity_of obj) (file_state readings (record_of fs) obj)) named
-      ∙ (λ i. with_lone_state (value, record_of fs) (identity i) (state-is readings t back i))
+      ap (bench_of readings (record { source = value; kind = record_of fs })) shown-is
+      ∙ ap (λ t. if not t then Err identity_fault else with_lone_state (record { source = value; kind = record_of fs }) (identity_of obj) (file_state readings (record_of fs) obj)) named
+      ∙ (λ i. with_lone_state (record { source = value; kind = record_of fs }) (identity i) (state-is readings t back i))
 
 -- ---- the law
 
-abbrev Taken : Readings → Schema → State → List (Option Json) → Type 0
-Taken readings schema state i = bench_of readings schema (object_of_state i schema.1 true state) ≡ Ok (record { schema = schema; identity = i; timeline = lone_state state })
+abbrev Taken : Readings → Schema → State → Identity → Type 0
+Taken readings schema state i = bench_of readings schema (object_of_state i schema.kind true state) ≡ Ok (record { schema = schema; identity = i; timeline = lone_state state })
 
-body-of : (kind : Kind) (state : State) → is_lawful kind ≡ true → leaves_identity kind ≡ true → IsValidState kind state → IsShownBody kind state.body
-body-of kind state lawful apart valid = record { lawful = lawful; apart = apart; fits = valid.fits; rooted = valid.rooted; few = valid.few }
+body-of : (kind : Kind) (state : State) → IsSchemaKind kind → IsValidState kind state → IsShownBody kind state.body
+body-of kind state accepted valid = record { accepted = accepted; fits = valid.fits; rooted = valid.rooted; few = valid.few }
 
-by-table : (readings : Readings) (value : Json) (fs : Fields) (identity : List (Option Json)) (body : Body) (table : Table)
+by-table : (readings : Readings) (value : Json) (fs : Fields) (identity : Identity) (body : Body) (table : Table)
     → is_identity identity ≡ true → IsShownBody (record_of fs) body → IsTable body table → AllEntries (IsReadBack readings) table
-    → Taken readings (value, record_of fs) (record { body = body; table = table }) identity
-by-table readings value fs identity body [] h s t back = shown_makes_bench readings (value, record_of fs) identity body h s
+    → Taken readings (record { source = value; kind = record_of fs }) (record { body = body; table = table }) identity
+by-table readings value fs identity body [] h s t back = shown_makes_bench readings (record { source = value; kind = record_of fs }) identity body h s
 by-table readings value fs identity body (e ∷ es) h s t back =
     let p = identity-parts identity h in
-    subst (Taken readings (value, record_of fs) (record { body = body; table = e ∷ es })) (sym p.is)
+    subst (Taken readings (record { source = value; kind = record_of fs }) (record { body = body; table = e ∷ es })) (sym p.is)
     (bench-is fs body s p.version p.kind p.name p.namespace e es readings value t back (ap is_identity (sym p.is) ∙ h))
 
+by-kind : (readings : Readings) (value : Json) (kind : Kind) (identity : Identity) (state : State) → is_identity identity ≡ true → IsSchemaKind kind → IsValidState kind state → AllEntries (IsReadBack readings) state.table
+    → Taken readings (record { source = value; kind = kind }) state identity
+by-kind readings value (kinds.record_of fs) identity state h accepted valid back =
+    by-table readings value fs identity state.body state.table h (body-of (record_of fs) state accepted valid) valid.table back
+by-kind readings value _ identity state h accepted valid back = absurd (true≢false (sym accepted.lawful))
+
 pub shown_state_is_taken : ShownStateIsTaken
-shown_state_is_taken readings (value, kinds.record_of fs) identity state h lawful apart valid back =
-    by-table readings value fs identity state.body state.table h (body-of (record_of fs) state lawful apart valid) valid.table back
-shown_state_is_taken readings (value, _) identity state h lawful apart valid back = absurd (true≢false (sym lawful))
+shown_state_is_taken readings schema = by-kind readings schema.source schema.kind

@@ -3,18 +3,19 @@ use Rattle.std.proofs.Common.{◌≡◌, ◌≤◌, ◌<◌, ℕ, suc, arith, le
 use Rattle.std.proofs.lemmas.Bool.Decides.{nat_tests}
 use Rattle.std.specs.Prelude.{if◌then◌else◌, codes, nat_le, Ok, Err}
 use Rattle.std.specs.Cmp.{first_so, second_so}
-use Rattle.ssa_model.specs.Json.{Text, Json, Members, no_members, member, same_text}
-use Rattle.ssa_model.specs.Path.{Path}
-use Rattle.ssa_model.specs.PathMap.{paths, is_empty}
-use Rattle.ssa_model.specs.Body.{Body, is_ownable}
-use Rattle.ssa_model.specs.Table.{Operation, applies, updates, ManagerKey, Entry, Table, same_manager, is_in_table}
-use Rattle.ssa_model.specs.Readings.{Readings}
-use Rattle.ssa_model.specs.Entries.{fields_json, operation_text, text_json, entry_json, entry_items}
-use Rattle.ssa_model.specs.FieldsFaults.{fields_faults}
-use Rattle.ssa_model.specs.GivenEntries.{EntryFault, too_many_managers, bad_entry, manager_name, other_version, bad_moment, of_fields, empty_entry, absent_path, duplicate_manager, is_entry, operation_of, not_ownable, owned_fault, said_entry, entry_fault, members_entry, next_entry, table_behind}
-use Rattle.ssa_model.specs.History.{is_manager_name}
-use Rattle.ssa_model.specs.ShownStates.{IsReadBack}
-use Rattle.ssa_model.specs.Valid.{has_distinct_keys, OwnsOwnable, AllEntries, IsTable}
+use Rattle.ssa_model.specs.definitions.Limits.{most_managers}
+use Rattle.ssa_model.specs.definitions.Json.{Text, Json, Members, no_members, member, same_text}
+use Rattle.ssa_model.specs.definitions.Path.{Path}
+use Rattle.ssa_model.specs.definitions.PathMap.{paths, is_empty}
+use Rattle.ssa_model.specs.definitions.Body.{Body, is_ownable}
+use Rattle.ssa_model.specs.definitions.Table.{Operation, applies, updates, ManagerKey, Entry, Table, same_manager, is_in_table}
+use Rattle.ssa_model.specs.definitions.Readings.{Readings}
+use Rattle.ssa_model.specs.definitions.FieldsV1.{fields_json, fields_faults}
+use Rattle.ssa_model.specs.definitions.Entries.{operation_text, text_json, entry_json, entry_items}
+use Rattle.ssa_model.specs.definitions.GivenEntries.{EntryFault, too_many_managers, bad_entry, manager_name, other_version, bad_moment, of_fields, empty_entry, absent_path, duplicate_manager, is_entry, operation_of, not_ownable, owned_fault, said_entry, entry_fault, members_entry, next_entry, table_behind}
+use Rattle.ssa_model.specs.definitions.History.{is_manager_name}
+use Rattle.ssa_model.specs.definitions.BenchFile.{IsReadBack}
+use Rattle.ssa_model.specs.definitions.Valid.{has_distinct_keys, OwnsOwnable, AllEntries, IsTable}
 use Rattle.ssa_model.proofs.PathMaps.{is_one_of, has-paths, same_path-itself}
 use Rattle.ssa_model.proofs.Tables.{text-itself, apart-back, first_false, second_false, no, or_true, true_or}
 
@@ -74,10 +75,10 @@ module _ (readings : Readings) (body : Body) (version : Text) where
       ∙ ap (λ fs. elim fs [ f ∷ rest ↦ Some (of_fields f) | [] ↦ owned_fault body before (said_entry readings (entry_members e)) ]) g.back.no_fault
       ∙ ap (owned_fault body before) (said-is e g) ∙ no-owned-fault before e g new
 
-  few : (m : ℕ) → m < 64 → nat_le 64 m ≡ false
+  few : (m : ℕ) → m < most_managers → nat_le 64 m ≡ false
   few m h = grind (arith, nat_tests)
 
-  entry-back : (before : Table) (e : Entry) → IsGood e → is_in_table before e.manager ≡ false → length before < 64 → next_entry readings body version before (entry_json (text_json version) e) ≡ Ok e
+  entry-back : (before : Table) (e : Entry) → IsGood e → is_in_table before e.manager ≡ false → length before < most_managers → next_entry readings body version before (entry_json (text_json version) e) ≡ Ok e
   entry-back before e g new short =
       ap (λ t. if t then Err too_many_managers else members_entry readings body version before (entry_members e)) (few (length before) short)
       ∙ ap (λ t. if not t then Err bad_entry else (elim (entry_fault readings body version before (entry_members e)) [ Some f ↦ Err f | None ↦ Ok (said_entry readings (entry_members e)) ]))
@@ -98,7 +99,7 @@ module _ (readings : Readings) (body : Body) (version : Text) where
       let rest = not-before xs e es (second_so (not (is_in_table (xs ++ e ∷ es) x.manager)) _ h) in
       λ i. other i || rest i
 
-  shorter : (before : Table) (e : Entry) (es : Table) → length (before ++ e ∷ es) ≤ 64 → length before < 64
+  shorter : (before : Table) (e : Entry) (es : Table) → length (before ++ e ∷ es) ≤ most_managers → length before < most_managers
   shorter [] e es h = omega arith
   shorter (x ∷ xs) e es h = by xs e es h
     where
@@ -106,17 +107,17 @@ module _ (readings : Readings) (body : Body) (version : Text) where
       longer [] e es = omega arith
       longer (y ∷ ys) e es = let r = longer ys e es in omega arith
 
-      by : (xs : Table) (e : Entry) (es : Table) → suc (length (xs ++ e ∷ es)) ≤ 64 → suc (length xs) < 64
+      by : (xs : Table) (e : Entry) (es : Table) → suc (length (xs ++ e ∷ es)) ≤ most_managers → suc (length xs) < most_managers
       by xs e es h = let r = longer xs e es in omega arith
 
-  pub entries-back : (before es : Table) → has_distinct_keys (before ++ es) ≡ true → length (before ++ es) ≤ 64 → AllEntries IsGood es
+  pub entries-back : (before es : Table) → has_distinct_keys (before ++ es) ≡ true → length (before ++ es) ≤ most_managers → AllEntries IsGood es
       → table_behind readings body version before (entry_items (text_json version) es) ≡ Ok (before ++ es)
   entries-back before [] distinct short all = ap Ok (sym (append-nil before))
   entries-back before (e ∷ es) distinct short all =
       let moved : (before ++ e ∷ []) ++ es ≡ before ++ e ∷ es = append_assoc before (e ∷ []) es in
       ap (λ r. elim r [ Ok x ↦ table_behind readings body version (before ++ x ∷ []) (entry_items (text_json version) es) | Err f ↦ Err f ])
       (entry-back before e all.0 (not-before before e es distinct) (shorter before e es short))
-      ∙ entries-back (before ++ e ∷ []) es (ap has_distinct_keys moved ∙ distinct) (subst (λ t. length t ≤ 64) (sym moved) short) all.1
+      ∙ entries-back (before ++ e ∷ []) es (ap has_distinct_keys moved ∙ distinct) (subst (λ t. length t ≤ most_managers) (sym moved) short) all.1
       ∙ ap Ok moved
 
   join : (es : Table) → AllEntries (λ e. is_manager_name e.manager.name ≡ true) es → AllEntries (λ e. is_empty e.owned ≡ false) es → AllEntries (OwnsOwnable body) es → AllEntries (IsReadBack readings) es → AllEntries IsGood es

@@ -1,19 +1,18 @@
 -- No answer to a line is the line of want of memory: the texts differ in what they begin with.
-use Rattle.std.proofs.Common.{◌≡◌, List, false, refl}
+use Rattle.std.proofs.Common.{◌≡◌, false, refl}
 use Rattle.std.specs.Prelude.{Result, Ok, Err}
-use Rattle.ssa_model.specs.Json.{Text, compact, same_text}
-use Rattle.ssa_model.specs.Path.{Path}
-use Rattle.ssa_model.specs.Kind.{BodyFault, unknown_field, wrong_type, missing_key, duplicate_item}
-use Rattle.ssa_model.specs.Operations.{Refusal, conflict, too_many_paths, too_many_managers}
-use Rattle.ssa_model.specs.ElementTexts.{ElementFault, bad_element, index_element, not_canonical}
-use Rattle.ssa_model.specs.GivenEntries as entries
-use Rattle.ssa_model.specs.Readings.{Readings, ReadFault, not_json, null_value, number_outside}
-use Rattle.ssa_model.specs.History.{Bench}
-use Rattle.ssa_model.specs.Commands.{CommandRule}
-use Rattle.ssa_model.specs.Answers.{Command, Fault, Reply, answer, body_fault, identity_fault, managed_fields_given, entry_fault, manager_name, history_full, nothing_to_undo, nothing_to_redo, refused, changed, moved, shown, owned_by, logged, fault}
-use Rattle.ssa_model.specs.Replies.{body_fault_json, element_fault_json, entry_fault_json, fault_reply, read_fault_json, refusal_json, reply_text}
-use Rattle.ssa_model.specs.Session.{LineFault, unread, bad_moment, command_shape, of_element, answer_read, line_fault_json, out_of_memory_text, read_line}
-use Rattle.ssa_model.specs.Headline.{AnswersAreTold}
+use Rattle.ssa_model.specs.definitions.Json.{Text, compact, same_text}
+use Rattle.ssa_model.specs.definitions.Path.{Path}
+use Rattle.ssa_model.specs.definitions.Kind.{BodyFault, unknown_field, wrong_type, missing_key, duplicate_item}
+use Rattle.ssa_model.specs.definitions.Operations.{Refusal, conflict, too_many_paths, too_many_managers}
+use Rattle.ssa_model.specs.definitions.ElementTexts.{ElementFault, bad_element, index_element, not_canonical}
+use Rattle.ssa_model.specs.definitions.GivenEntries as entries
+use Rattle.ssa_model.specs.definitions.Readings.{Readings, ReadFault, not_json, null_value, number_outside}
+use Rattle.ssa_model.specs.definitions.History.{Bench}
+use Rattle.ssa_model.specs.definitions.Answers.{Command, Fault, Reply, answer, body_fault, identity_fault, managed_fields_given, entry_fault, manager_name, history_full, nothing_to_undo, nothing_to_redo, refused, changed, moved, shown, owned_by, logged, fault}
+use Rattle.ssa_model.specs.definitions.Replies.{body_fault_json, element_fault_json, entry_fault_json, fault_reply, read_fault_json, refusal_json, reply_text}
+use Rattle.ssa_model.specs.definitions.Session.{LineFault, unread, bad_moment, command_shape, of_element, answer_read, line_fault_json, out_of_memory_text, read_line}
+use Rattle.ssa_model.specs.laws.Headline.{AnswersAreTold}
 
 abbrev IsOther : Text → Type 0
 IsOther t = same_text t out_of_memory_text ≡ false
@@ -75,9 +74,9 @@ line_fault bad_moment = refl
 line_fault command_shape = refl
 line_fault (of_element f) = element f
 
-read : (readings : Readings) (rules : List CommandRule) (bench : Bench) (r : Result Command LineFault) → IsOther (answer_read readings rules bench r).0
-read readings rules bench (Ok c) = reply (answer bench c).0
-read readings rules bench (Err f) = line_fault f
+read : (readings : Readings) (bench : Bench) (r : Result Command LineFault) → IsOther (answer_read readings bench r).0
+read readings bench (Ok c) = reply (answer bench c).0
+read readings bench (Err f) = line_fault f
 
 pub answers_are_told : AnswersAreTold
-answers_are_told = (refl, λ readings rules bench line. read readings rules bench (read_line readings rules line))
+answers_are_told = (refl, λ readings bench line. read readings bench (read_line readings line))

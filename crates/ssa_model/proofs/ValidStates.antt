@@ -3,15 +3,17 @@ use Rattle.std.proofs.Common.{◌≡◌, ◌≤◌, [], ◌∷◌, Bool, true, f
 use Rattle.std.specs.Prelude.{Option, Some, if◌then◌else◌, codes}
 use Rattle.std.specs.List.{list_any}
 use Rattle.std.specs.Cmp.{first_so, second_so}
-use Rattle.ssa_model.specs.Path.{Path, field, same_element, is_root, under}
-use Rattle.ssa_model.specs.PathMap.{PathSet, get, has, paths, union, has_at_or_below, has_at_or_above, size}
-use Rattle.ssa_model.specs.Kind as kinds
-use Rattle.ssa_model.specs.Kind.{Kind, scalar_kind, atomic_of, record_of, dict_of, items_of}
-use Rattle.ssa_model.specs.Body.{Content, leaf, atom, record_branch, dict_branch, list_branch, Body, is_leaf, is_dict, is_bare, is_point, points, over, strictly_under}
-use Rattle.ssa_model.specs.Table.{ManagerKey, Table, same_manager, owned_by_others}
-use Rattle.ssa_model.specs.Operations.{State, kept, pruned, dropped}
-use Rattle.ssa_model.specs.Fitting.{Place, of_kind, item_of, value_of, content_fits, IsBodyOf}
-use Rattle.ssa_model.specs.Valid.{OwnedOwnable, OwnsOwnable, AllEntries, IsRooted, metadata_path, IsValidState, ApplyKeepsValid, UpdateKeepsValid, StripKeepsValid}
+use Rattle.ssa_model.specs.definitions.Limits.{most_places}
+use Rattle.ssa_model.specs.definitions.Path.{Path, field, same_element, is_root, under}
+use Rattle.ssa_model.specs.definitions.PathMap.{PathSet, get, has, paths, union, has_at_or_below, has_at_or_above, size}
+use Rattle.ssa_model.specs.definitions.Kind as kinds
+use Rattle.ssa_model.specs.definitions.Kind.{Kind, scalar_kind, atomic_of, record_of, dict_of, items_of}
+use Rattle.ssa_model.specs.definitions.Body.{Content, leaf, atom, record_branch, dict_branch, list_branch, Body, is_leaf, is_dict, is_bare, is_point, points, over, strictly_under}
+use Rattle.ssa_model.specs.definitions.Table.{ManagerKey, Table, same_manager, owned_by_others}
+use Rattle.ssa_model.specs.definitions.Operations.{State, kept, pruned, dropped}
+use Rattle.ssa_model.specs.definitions.Fitting.{Place, of_kind, item_of, value_of, content_fits, IsBodyOf}
+use Rattle.ssa_model.specs.definitions.Valid.{OwnedOwnable, OwnsOwnable, AllEntries, IsRooted, metadata_path, IsValidState}
+use Rattle.ssa_model.specs.laws.KeepsValid.{ApplyKeepsValid, UpdateKeepsValid, StripKeepsValid}
 use Rattle.ssa_model.proofs.Accepted.{applied_is, updated_is}
 use Rattle.ssa_model.proofs.PathMaps.{has-set_of, has-union, has-points, has-paths, is_one_of}
 use Rattle.ssa_model.proofs.Tables.{apart_by, first_false, second_false, or_true, true_or, yes_no, either, ownable-has, leaf-point, leaf-has, has-over, has-restricted, kept-stays, spared, apply_keeps, update_keeps, strip_keeps}
@@ -204,7 +206,7 @@ apply_keeps_valid kind state next a config force at valid fits rooted name ok =
     record {
       fits = subst (IsBodyOf kind) is (after_fits kind state a config valid fits rooted);
       rooted = subst IsRooted is (after_rooted kind state a config valid fits rooted);
-      few = subst (λ b. size b ≤ 20001) is made.2;
+      few = subst (λ b. size b ≤ most_places) is made.2;
       table = apply_keeps state next a config force at valid.table valid.rooted rooted name ok;
     }
 
@@ -214,7 +216,7 @@ update_keeps_valid kind state next u object at valid fits rooted few name ok =
     record {
       fits = subst (IsBodyOf kind) is fits;
       rooted = subst IsRooted is rooted;
-      few = subst (λ b. size b ≤ 20001) is few;
+      few = subst (λ b. size b ≤ most_places) is few;
       table = update_keeps state next u object at valid.table valid.rooted rooted name ok;
     }
 

@@ -2,12 +2,11 @@
 use Rattle.std.proofs.Common.{List, [], ◌∷◌, take}
 use Rattle.std.specs.List.{All}
 use Rattle.std.proofs.lemmas.List.Elements.{All-head, All-tail, All-take, All-push, All-nil}
-use Rattle.ssa_model.specs.Kind.{Kind}
-use Rattle.ssa_model.specs.Operations.{State}
-use Rattle.ssa_model.specs.History.{Label, Step, Timeline, last_state, present, appended}
-use Rattle.ssa_model.specs.Answers.{lone_state}
-use Rattle.ssa_model.specs.Valid.{IsValidState}
-use Rattle.ssa_model.specs.ValidTimelines.{MakesValid, AllValid}
+use Rattle.ssa_model.specs.definitions.Kind.{Kind}
+use Rattle.ssa_model.specs.definitions.Operations.{State}
+use Rattle.ssa_model.specs.definitions.History.{Label, Step, Timeline, last_state, present, appended}
+use Rattle.ssa_model.specs.definitions.Answers.{lone_state}
+use Rattle.ssa_model.specs.definitions.Valid.{IsValidState, MakesValid, AllValid}
 
 last_valid : (kind : Kind) (s : State) (ts : List Step) → IsValidState kind s → All (MakesValid kind) ts → IsValidState kind (last_state s ts)
 last_valid kind s [] h all = h

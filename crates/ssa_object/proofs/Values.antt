@@ -7,8 +7,8 @@ use Rattle.std.specs.List.{list_any, AllByRecursion}
 use Rattle.std.specs.List.Sorted.{IsStrictlySortedBy}
 use Rattle.std.specs.Map.{keys_of, lookup, remove_entry, set_value}
 use Rattle.std.specs.BTreeMap.{is_at}
-use Rattle.ssa_model.specs.Json.{Text, Json, scalar, list, object, same_text, Members, no_members, member, member_of}
-use Rattle.ssa_model.specs.Objects.{value_at, without, without_names, without_in_metadata, file_names, file_value}
+use Rattle.ssa_model.specs.definitions.Json.{Text, Json, scalar, list, object, same_text, Members, no_members, member, member_of}
+use Rattle.ssa_model.specs.definitions.Objects.{value_at, without, without_names, without_in_metadata, file_names, file_value}
 use Rattle.ssa_json.specs.View.{view, members_view}
 use Rattle.ssa_json.specs.declared.value.Json as values
 use Rattle.ssa_json.proofs.Converting.{Found}

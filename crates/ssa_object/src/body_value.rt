@@ -3,8 +3,8 @@
 //! The object is taken whole, and what stays of it is moved: nothing is copied, and no memory is
 //! asked for.
 ghost use Rattle.std.specs.Prelude.{◌≡◌, ◌∷◌, [], codes, map, option_map};
-ghost use Rattle.ssa_model.specs.Json.{object};
-ghost use Rattle.ssa_model.specs.Objects.{value_at, without, without_names, without_in_metadata, body_value, file_value, value_without};
+ghost use Rattle.ssa_model.specs.definitions.Json.{object};
+ghost use Rattle.ssa_model.specs.definitions.Objects.{value_at, without, without_names, without_in_metadata, body_value, file_value, value_without};
 ghost use Rattle.ssa_json.specs.View.{view, members_view};
 
 use ssa_json::value::{Json, Scalar};

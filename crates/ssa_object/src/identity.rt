@@ -1,6 +1,6 @@
 //! The identity of an object: its version, kind, name and namespace.
 ghost use Rattle.std.specs.Prelude.{true, ◌≡◌, ◌∷◌, [], IfOk, codes, not, ◌&&◌, ◌||◌, Some, None, option_map};
-ghost use Rattle.ssa_model.specs.Objects.{value_at, identity_of, is_named_text, is_some_object, is_identity, same_value, same_identity, is_missing};
+ghost use Rattle.ssa_model.specs.definitions.Objects.{value_at, identity_of, is_named_text, is_some_object, is_identity, same_value, same_identity, is_missing};
 ghost use Rattle.ssa_json.specs.View.{view};
 ghost use Rattle.ssa_object.specs.Identities.{identity_in, HasVersion};
 
@@ -18,11 +18,10 @@ pub struct Identity {
 }
 
 impl Model for Identity {
-    ghost use Rattle.std.specs.Prelude.{List, Option};
-    ghost use Rattle.ssa_model.specs.Json.{Json};
-    ghost use Rattle.ssa_model.specs.BenchCodes.{coded_identity};
+    ghost use Rattle.ssa_model.specs.definitions.Objects as model;
+    ghost use Rattle.ssa_model.specs.codes.BenchCodes.{coded_identity};
 
-    ghost Value = { List (Option Json) };
+    ghost Value = { model.Identity };
 
     ghost coded = { coded_identity };
 
@@ -145,7 +144,7 @@ fn copy_optional(alloc: Global, value: Option<&Json>) -> Result<Option<Json>, Al
 impl Identity {
     /// The version, kind, name and namespace.
     pub fn parts(&self) -> (&Json, &Json, &Json, Option<&Json>)
-        ensures { self.now ≡ Some (view result.0.now) ∷ Some (view result.1.now) ∷ Some (view result.2.now) ∷ option_map (λ v. view v.now) result.3 ∷ [] }
+        ensures { self.now ≡ record { version = Some (view result.0.now); kind = Some (view result.1.now); name = Some (view result.2.now); namespace = option_map (λ v. view v.now) result.3 } }
     {
         (
             &self.version,

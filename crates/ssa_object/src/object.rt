@@ -1,9 +1,9 @@
 //! The object of an identity and a state.
 ghost use Rattle.std.specs.Prelude.{◌≡◌, IfOk, OnOk, option_map, codes};
-ghost use Rattle.ssa_model.specs.Json.{member_of};
-ghost use Rattle.ssa_model.specs.Fitting.{IsBodyOf};
-ghost use Rattle.ssa_model.specs.Objects.{object_of_body, with_member, with_given, with_identity, members_in, members_of_value};
-ghost use Rattle.ssa_model.specs.Entries.{object_of_state, with_entries};
+ghost use Rattle.ssa_model.specs.definitions.Json.{member_of};
+ghost use Rattle.ssa_model.specs.definitions.Fitting.{IsBodyOf};
+ghost use Rattle.ssa_model.specs.definitions.Objects.{object_of_body, with_member, with_given, with_identity, members_in, members_of_value};
+ghost use Rattle.ssa_model.specs.definitions.Entries.{object_of_state, with_entries};
 ghost use Rattle.ssa_json.specs.View.{view, members_view};
 ghost use Rattle.ssa_merge.specs.States.{state_view};
 
@@ -23,8 +23,8 @@ fn object_of_body(
     schema: &Schema,
     body: &Body,
 ) -> Result<Json, AllocError>
-    requires { IsBodyOf schema.now.1 body.now }
-    ensures { IfOk result (λ v. view v ≡ object_of_body identity.now schema.now.1 body.now) }
+    requires { IsBodyOf schema.now.kind body.now }
+    ensures { IfOk result (λ v. view v ≡ object_of_body identity.now schema.now.kind body.now) }
 {
     // The value of a body is said for kinds whose fields rise, as this one's do.
     let _kind = schema.kind();
@@ -54,8 +54,8 @@ pub fn object_of_state(
     managed: bool,
     state: &State,
 ) -> Result<Json, AllocError>
-    requires { IsBodyOf schema.now.1 (state_view state.now).body }
-    ensures { IfOk result (λ v. view v ≡ object_of_state identity.now schema.now.1 managed (state_view state.now)) }
+    requires { IsBodyOf schema.now.kind (state_view state.now).body }
+    ensures { IfOk result (λ v. view v ≡ object_of_state identity.now schema.now.kind managed (state_view state.now)) }
 {
     let shown = object_of_body(alloc, identity, schema, &state.body)?;
     if !managed || state.managers.len() == 0 {

@@ -3,7 +3,7 @@ use Rattle.std.proofs.Common.{◌≡◌, ℕ, ◌+◌, ◌<◌, List, [], ◌∷
 use Rattle.std.specs.Bool.{MatchBool}
 use Rattle.std.specs.Ordering.{is_lt, is_eq, ordering_reverse}
 use Rattle.std.specs.List.{list_any}
-use Rattle.ssa_model.specs.Path.{Element, Path, element_cmp, same_element, same_path, under}
+use Rattle.ssa_model.specs.definitions.Path.{Element, Path, element_cmp, same_element, same_path, under}
 use Rattle.ssa_path.specs.declared.combine.Combination.{Combination}
 use Rattle.ssa_path.specs.declared.combine.Combination.TheVariants.{Union, Minus, Meet, WithoutUnder, WithoutOver}
 use Rattle.ssa_path.specs.declared.element.Elem.{Elem}

@@ -4,8 +4,8 @@ use Rattle.std.proofs.lemmas.List.{drop_all}
 use Rattle.std.specs.Option.{MatchOption, is_some}
 use mathlib.Core.Bool.{beq}
 use Rattle.std.specs.Cmp.Lexicographic.{pointwise}
-use Rattle.ssa_model.specs.Path.{Element, Path, same_element, same_path}
-use Rattle.ssa_model.specs.PathMap.{same_set, listed}
+use Rattle.ssa_model.specs.definitions.Path.{Element, Path, same_element, same_path}
+use Rattle.ssa_model.specs.definitions.PathMap.{same_set, listed}
 use Rattle.ssa_path.specs.Children.{elements, is_below, rises}
 use Rattle.ssa_path.specs.View.{element_view}
 use Rattle.ssa_path.specs.Trie.{are_filled_tries, has_some, here_path, is_filled, is_trie, paths, paths_after, paths_below}

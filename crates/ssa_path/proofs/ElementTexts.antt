@@ -4,10 +4,10 @@ use Rattle.std.specs.Prelude.{Result, codes, if◌then◌else◌}
 use Rattle.std.specs.Str.{is_utf8}
 use Rattle.std.proofs.lemmas.Str.Ascii.{IsAscii-nil, IsAscii-cons}
 use Rattle.std.proofs.lemmas.Str.{IsUtf8-append, IsUtf8-from_ascii, IsUtf8-from_is_utf8, is_utf8-from_IsUtf8}
-use Rattle.ssa_model.specs.Json.{Text, Json, object, same_text, compact, scalar_text}
-use Rattle.ssa_model.specs.Path.{Element, field, key, value, key_members, element_text}
-use Rattle.ssa_model.specs.Readings.{ReadFault, not_json}
-use Rattle.ssa_model.specs.ElementTexts.{ElementFault, bad_element, not_canonical, element_of, key_element, value_element}
+use Rattle.ssa_model.specs.definitions.Json.{Text, Json, object, same_text, compact, scalar_text}
+use Rattle.ssa_model.specs.definitions.Path.{Element, field, key, value, key_members, element_text}
+use Rattle.ssa_model.specs.definitions.Readings.{ReadFault, not_json}
+use Rattle.ssa_model.specs.definitions.ElementTexts.{ElementFault, bad_element, not_canonical, element_of, key_element, value_element}
 use Rattle.ssa_json.specs.Reading.{json_reading}
 use Rattle.ssa_json.specs.Writable.{has_utf8}
 use Rattle.ssa_json.proofs.Converting.{json_reading-none}

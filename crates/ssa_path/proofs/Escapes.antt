@@ -7,11 +7,10 @@ use Rattle.std.proofs.lemmas.List.{drop_more, drop_all}
 use Rattle.std.specs.Prelude.{◌==◌, nat_lt, if◌then◌else◌}
 use Rattle.std.specs.Ordering.{ordering_then}
 use Rattle.std.specs.FinMap.{slice_cmp-IsAntisymmetric, nat_cmp-IsAntisymmetric}
-use Rattle.ssa_model.specs.Json.{hex_digit, escaped_byte, escaped, quoted}
+use Rattle.ssa_model.specs.definitions.Json.{hex_digit, escaped_byte, escaped, quoted, text}
 use Rattle.std.specs.Cmp.{tied_itself}
 use Rattle.std.specs.Cmp.Lexicographic.{nat_list_cmp_total}
-use Rattle.ssa_model.specs.Json.{text}
-use Rattle.ssa_model.specs.Path.{Element, value}
+use Rattle.ssa_model.specs.definitions.Path.{Element, value}
 use Rattle.ssa_model.proofs.Texts.{element_text-injective}
 use Rattle.ssa_path.specs.Order.{first, mark}
 use Rattle.ssa_path.proofs.Parts.{text_cmp, AreWords, cmp-words, tails}

@@ -1,12 +1,10 @@
 -- The object that a trie's paths are written as is read back as these paths.
 use Rattle.std.proofs.Common.{codes, ◌≡◌, ◌≢◌, ℕ, ◌+◌, ◌<◌, List, [], ◌∷◌, ◌++◌, length, get_or, take, Bool, true, false, ◌&&◌, cond, Some, refl, sym, ap, subst, ◌∙◌, inl, inr, Ok}
-use Rattle.ssa_model.specs.Json.{Json, scalar, list, object, Members, no_members, member, same_text}
-use Rattle.ssa_model.specs.Path.{Path, element_text}
-use Rattle.ssa_model.specs.ElementTexts.{element_of}
-use Rattle.ssa_model.specs.PathMap.{PathSet, listed}
-use Rattle.ssa_model.specs.Entries.{is_place_alone, nothing_written}
-use Rattle.ssa_model.specs.FieldsV1.{dot_alone, is_no_object, IsCanonical, AreCanonical}
-use Rattle.ssa_model.specs.FieldsFaults.{is_nothing_inside, fields_faults, member_faults, said_paths, member_paths, said_set}
+use Rattle.ssa_model.specs.definitions.Json.{Json, scalar, list, object, Members, no_members, member, same_text}
+use Rattle.ssa_model.specs.definitions.Path.{Path, element_text}
+use Rattle.ssa_model.specs.definitions.ElementTexts.{element_of}
+use Rattle.ssa_model.specs.definitions.PathMap.{PathSet, listed}
+use Rattle.ssa_model.specs.definitions.FieldsV1.{is_place_alone, nothing_written, dot_alone, is_no_object, IsCanonical, AreCanonical, is_nothing_inside, fields_faults, member_faults, said_paths, member_paths, said_set}
 use Rattle.ssa_model.proofs.SaidSets.{no-dot}
 use Rattle.ssa_json.specs.Reading.{json_reading}
 use Rattle.ssa_path.specs.FieldsBack.{AreReadBack, IsReadBack}

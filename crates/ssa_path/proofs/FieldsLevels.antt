@@ -2,9 +2,9 @@
 use Rattle.std.proofs.Common.{◌≡◌, ℕ, zero, suc, ◌≤◌, List, [], ◌∷◌, ◌++◌, Bool, true, false, cond, refl, sym, ap, ◌∙◌, ◌&&◌, append-nil, arith}
 use Rattle.std.specs.Prelude.{codes}
 use Rattle.std.specs.List.{list_any}
-use Rattle.ssa_model.specs.Json.{Json, object, Members, no_members, member}
-use Rattle.ssa_model.specs.Path.{Element, Path, element_text, same_element, is_root}
-use Rattle.ssa_model.specs.Entries.{with_head, heads, tails, is_place_alone, nothing_written, field_members, written_paths, longest}
+use Rattle.ssa_model.specs.definitions.Json.{Json, object, Members, no_members, member}
+use Rattle.ssa_model.specs.definitions.Path.{Element, Path, element_text, same_element, is_root}
+use Rattle.ssa_model.specs.definitions.FieldsV1.{with_head, heads, tails, is_place_alone, nothing_written, field_members, written_paths, longest}
 use Rattle.ssa_path.specs.Children.{elements, is_below, rises}
 use Rattle.ssa_path.specs.View.{element_view}
 use Rattle.ssa_path.specs.FieldsWriting.{paths_json, below_json}

@@ -3,10 +3,9 @@ use Rattle.std.proofs.Common.{◌≡◌, ◌≢◌, ℕ, ◌+◌, ◌<◌, List,
 use Rattle.std.specs.Prelude.{codes, not, ◌==◌, vec_len}
 use Rattle.std.specs.Ordering.{is_lt, ordering_reverse}
 use Rattle.std.specs.Cmp.Lexicographic.{slice_cmp}
-use Rattle.ssa_model.specs.Json.{Text, Json, object, Members, no_members, member}
-use Rattle.ssa_model.specs.Path.{Path, Element, field, key, value, element_cmp, element_text}
-use Rattle.ssa_model.specs.Entries.{is_place_alone, nothing_written}
-use Rattle.ssa_model.specs.FieldsV1.{IsCanonical, AreCanonical, IsElementText, dot_alone}
+use Rattle.ssa_model.specs.definitions.Json.{Text, Json, object, Members, no_members, member}
+use Rattle.ssa_model.specs.definitions.Path.{Path, Element, field, key, value, element_cmp, element_text}
+use Rattle.ssa_model.specs.definitions.FieldsV1.{is_place_alone, nothing_written, IsCanonical, AreCanonical, IsElementText, dot_alone}
 use Rattle.ssa_model.proofs.RisingNames.{lower}
 use Rattle.ssa_json.specs.View.{view, members_view}
 use Rattle.ssa_json.specs.declared.value.Json as json

@@ -6,12 +6,10 @@ use Rattle.std.specs.Cmp.Lexicographic.{slice_cmp}
 use Rattle.std.specs.List.{AllByRecursion}
 use Rattle.std.specs.List.Sorted.{IsStrictlySortedBy}
 use Rattle.std.specs.Map.{keys_of}
-use Rattle.ssa_model.specs.Json.{Text, Json, scalar, list, object, Members, no_members, member, same_text, same_json}
-use Rattle.ssa_model.specs.Path.{Element, field, key, value, element_text}
-use Rattle.ssa_model.specs.Entries.{nothing_written}
-use Rattle.ssa_model.specs.ElementTexts.{ElementFault, bad_element, not_canonical, element_of}
-use Rattle.ssa_model.specs.FieldsV1.{AreCanonical, dot_alone}
-use Rattle.ssa_model.specs.FieldsFaults.{is_nothing_inside, fields_faults, member_faults, member_paths, said_paths}
+use Rattle.ssa_model.specs.definitions.Json.{Text, Json, scalar, list, object, Members, no_members, member, same_text, same_json}
+use Rattle.ssa_model.specs.definitions.Path.{Element, field, key, value, element_text}
+use Rattle.ssa_model.specs.definitions.FieldsV1.{nothing_written, AreCanonical, dot_alone, is_nothing_inside, fields_faults, member_faults, member_paths, said_paths}
+use Rattle.ssa_model.specs.definitions.ElementTexts.{ElementFault, bad_element, not_canonical, element_of}
 use Rattle.ssa_json.specs.Reading.{json_reading}
 use Rattle.ssa_json.specs.View.{view, members_view}
 use Rattle.ssa_json.proofs.Equality.{same_json-true, same_text-true}

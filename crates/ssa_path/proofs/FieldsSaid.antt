@@ -1,10 +1,10 @@
 -- The paths that the members of an object say, one member after another.
 use Rattle.std.proofs.Common.{◌≡◌, List, [], ◌∷◌, ◌++◌, map, Bool, true, false, cond, Ok, Err, string_bytes, refl, sym, ap, ◌∙◌, append_assoc, append-nil}
 use Rattle.std.specs.Prelude.{codes}
-use Rattle.ssa_model.specs.Json.{Text, Json, Members, no_members, member, same_text}
-use Rattle.ssa_model.specs.Path.{Element, Path}
-use Rattle.ssa_model.specs.ElementTexts.{element_of}
-use Rattle.ssa_model.specs.FieldsFaults.{member_paths}
+use Rattle.ssa_model.specs.definitions.Json.{Text, Json, Members, no_members, member, same_text}
+use Rattle.ssa_model.specs.definitions.Path.{Element, Path}
+use Rattle.ssa_model.specs.definitions.ElementTexts.{element_of}
+use Rattle.ssa_model.specs.definitions.FieldsV1.{member_paths}
 use Rattle.ssa_json.specs.Reading.{json_reading}
 use Rattle.ssa_json.specs.View.{view, members_view}
 use Rattle.ssa_path.specs.FieldsReading.{said_below}

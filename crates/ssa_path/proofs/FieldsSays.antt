@@ -2,11 +2,10 @@
 use Rattle.std.proofs.Common.{◌≡◌, List, [], ◌∷◌, Bool, true, false, ◌&&◌, ◌||◌, cond, Option, Some, None, refl, sym, ap, subst, ◌∙◌, true≢false}
 use Rattle.std.specs.Prelude.{codes, is_some}
 use Rattle.std.specs.List.{list_any}
-use Rattle.ssa_model.specs.Json.{Json, object, Members, member_of, member_at}
-use Rattle.ssa_model.specs.Path.{Element, field, key, value, Path, element_text, same_element, same_path, is_root}
-use Rattle.ssa_model.specs.PathMap.{PathSet, has, listed}
-use Rattle.ssa_model.specs.Entries.{with_head, heads, tails, nothing_written, field_members, fields_json}
-use Rattle.ssa_model.specs.FieldsV1.{value_below, is_no_object, has_dot, says, IsCanonical, IsWritten}
+use Rattle.ssa_model.specs.definitions.Json.{Json, object, Members, member_of, member_at}
+use Rattle.ssa_model.specs.definitions.Path.{Element, field, key, value, Path, element_text, same_element, same_path, is_root}
+use Rattle.ssa_model.specs.definitions.PathMap.{PathSet, has, listed}
+use Rattle.ssa_model.specs.definitions.FieldsV1.{with_head, heads, tails, nothing_written, field_members, fields_json, value_below, is_no_object, has_dot, says, IsCanonical, IsWritten}
 use Rattle.ssa_path.specs.FieldsWriting.{paths_json, below_json}
 use Rattle.ssa_path.specs.Trie.{has_some, is_one_of, is_trie, paths}
 use Rattle.ssa_path.specs.declared.trie.Trie.{Trie}

@@ -4,8 +4,8 @@ use Rattle.std.proofs.lemmas.List.{take_more, take_all}
 use Rattle.std.specs.Cmp.{tied_itself}
 use Rattle.std.specs.Ordering.{is_lt, ordering_then}
 use Rattle.std.specs.FinMap.Entries.{put, by_order}
-use Rattle.ssa_model.specs.Path.{Element, Path, element_cmp, path_cmp}
-use Rattle.ssa_model.specs.PathMap.{paths as set_paths, size, listed, marked}
+use Rattle.ssa_model.specs.definitions.Path.{Element, Path, element_cmp, path_cmp}
+use Rattle.ssa_model.specs.definitions.PathMap.{paths as set_paths, size, listed, marked}
 use Rattle.ssa_path.specs.Children.{elements, is_below, rises}
 use Rattle.ssa_path.specs.View.{element_view}
 use Rattle.ssa_path.specs.Listing.{behind, stands_before, paths_rise, IsListed}

@@ -3,7 +3,7 @@ use Rattle.std.proofs.Common.{◌≡◌, ℕ, ◌+◌, ◌<◌, ◌≤◌, List,
 use Rattle.std.proofs.lemmas.List.{drop_all}
 use Rattle.std.specs.Bool.{MatchBool}
 use Rattle.std.specs.Ordering.{is_lt}
-use Rattle.ssa_model.specs.Path.{Element, Path, field, key, value, element_cmp, is_key_field, names_key, same_element, same_path}
+use Rattle.ssa_model.specs.definitions.Path.{Element, Path, field, key, value, element_cmp, is_key_field, names_key, same_element, same_path}
 use Rattle.ssa_path.specs.Children.{elements, is_below, rises}
 use Rattle.ssa_path.specs.Combine.{IsGrown}
 use Rattle.ssa_path.specs.KeyFields.{keys_in, IsWithoutKeyFields}

@@ -2,7 +2,7 @@
 use Rattle.std.proofs.Common.{◌≡◌, ℕ, ◌+◌, ◌<◌, List, [], ◌∷◌, ◌++◌, length, get_or, take, drop, map, Bool, true, false, ◌&&◌, ◌||◌, refl, sym, ap, ◌∙◌, append_assoc, arith, set, length-set, get_or-set_same}
 use Rattle.std.proofs.lemmas.List.{drop_more, take-append-drop, take-set, drop-set-lt}
 use Rattle.std.proofs.lemmas.List.Folds.{list_any-append}
-use Rattle.ssa_model.specs.Path.{Element, Path, same_path}
+use Rattle.ssa_model.specs.definitions.Path.{Element, Path, same_path}
 use Rattle.ssa_path.specs.declared.element.Elem.{Elem}
 use Rattle.ssa_path.specs.declared.trie.Trie.{Trie}
 use Rattle.ssa_path.specs.declared.trie.Trie.TheOpen.{Trie-F}

@@ -5,8 +5,8 @@ use Rattle.std.specs.Prelude.{nat_lt}
 use Rattle.std.specs.Ordering.{nat_cmp, ordering_then, is_ne}
 use Rattle.std.proofs.lemmas.Bool.Decides.{nat_tests}
 use Rattle.std.specs.FinMap.{slice_cmp-IsAntisymmetric, nat_cmp-IsAntisymmetric}
-use Rattle.ssa_model.specs.Json.{Text, Scalar, quoted, scalar_text, compact_members}
-use Rattle.ssa_model.specs.Path.{key_members}
+use Rattle.ssa_model.specs.definitions.Json.{Text, Scalar, quoted, scalar_text, compact_members}
+use Rattle.ssa_model.specs.definitions.Path.{key_members}
 use Rattle.ssa_json.specs.declared.value.Scalar as json
 use Rattle.ssa_json.specs.View.{scalar_view}
 use Rattle.ssa_path.specs.Keys.{Members, members_view}

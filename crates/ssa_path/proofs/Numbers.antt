@@ -4,7 +4,7 @@ use Rattle.std.proofs.lemmas.Int.{to_z-of_z}
 use Rattle.std.specs.Prelude.{◌==◌, nat_lt, if◌then◌else◌}
 use Rattle.std.proofs.lemmas.Bool.Decides.{nat_tests}
 use Rattle.std.specs.Fmt.{signed_decimal}
-use Rattle.ssa_model.specs.Json.{Scalar, text, whole, truth, digits_before, decimal, whole_text, scalar_text, escaped, quoted}
+use Rattle.ssa_model.specs.definitions.Json.{Scalar, text, whole, truth, digits_before, decimal, whole_text, scalar_text, escaped, quoted}
 use Rattle.ssa_json.proofs.Printing.{decimal-is}
 use Rattle.ssa_path.proofs.Parts.{text_cmp, AreWords, cmp-words}
 use Rattle.std.specs.Ordering.{ordering_then}

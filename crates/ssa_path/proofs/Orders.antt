@@ -3,7 +3,7 @@ use Rattle.std.proofs.Common.{◌≡◌, Bool, true, false, ◌&&◌, ◌||◌, 
 use Rattle.std.specs.Cmp.{Equal-is, tied_itself, on_total, IsTotalOrder}
 use Rattle.std.specs.Cmp.Lexicographic.{nat_list_cmp_total}
 use Rattle.std.specs.Ordering.{is_eq, is_lt, ordering_reverse}
-use Rattle.ssa_model.specs.Path.{Element, element_text, element_cmp, same_element}
+use Rattle.ssa_model.specs.definitions.Path.{Element, element_text, element_cmp, same_element}
 use Rattle.ssa_model.proofs.Texts.{same_element_same}
 
 pub element_cmp_total : IsTotalOrder element_cmp

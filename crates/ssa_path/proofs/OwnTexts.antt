@@ -5,11 +5,10 @@ use Rattle.std.specs.Str.{is_utf8}
 use Rattle.std.proofs.lemmas.List.{take_more}
 use Rattle.std.specs.Cmp.Lexicographic.{slice_cmp}
 use Rattle.std.specs.Prelude.{◌≢◌, option_map, Err}
-use Rattle.ssa_model.specs.Ranges.{is_in_range, are_in_range}
-use Rattle.ssa_model.specs.Json.{Text, Scalar, text, whole, truth, scalar, object, compact, scalar_text}
-use Rattle.ssa_model.specs.Path.{Element, field, key, value, key_members, element_text}
-use Rattle.ssa_model.specs.FieldsV1.{names_rise, is_element}
-use Rattle.ssa_model.specs.ElementTexts.{key_of, value_element, key_element, is_index, ElementFault, element_of, spelled_element}
+use Rattle.ssa_model.specs.definitions.FieldsV1.{is_in_range, are_in_range, names_rise, is_element}
+use Rattle.ssa_model.specs.definitions.Json.{Text, Scalar, text, whole, truth, scalar, object, compact, scalar_text}
+use Rattle.ssa_model.specs.definitions.Path.{Element, field, key, value, key_members, element_text}
+use Rattle.ssa_model.specs.definitions.ElementTexts.{key_of, value_element, key_element, is_index, ElementFault, element_of, spelled_element}
 use Rattle.ssa_json.specs.Reading.{json_reading}
 use Rattle.ssa_json.specs.View.{scalar_view}
 use Rattle.ssa_json.specs.Written.{is_narrow_scalar, members_narrow}

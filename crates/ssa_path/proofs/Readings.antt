@@ -10,10 +10,10 @@ use Rattle.std.specs.List.Sorted.{IsStrictlySortedBy}
 use Rattle.std.specs.Map as maps
 use Rattle.std.proofs.lemmas.Bool.{eqb-true, and_from}
 use Rattle.std.proofs.lemmas.Bool.Decides.{nat_tests}
-use Rattle.ssa_model.specs.Json as model
-use Rattle.ssa_model.specs.Json.{Text, scalar, list, object, no_members, member}
-use Rattle.ssa_model.specs.Path.{key}
-use Rattle.ssa_model.specs.ElementTexts.{after_beginning, add_key, key_of, key_element}
+use Rattle.ssa_model.specs.definitions.Json as model
+use Rattle.ssa_model.specs.definitions.Json.{Text, scalar, list, object, no_members, member}
+use Rattle.ssa_model.specs.definitions.Path.{key}
+use Rattle.ssa_model.specs.definitions.ElementTexts.{after_beginning, add_key, key_of, key_element}
 use Rattle.ssa_json.specs.View.{view, members_view}
 use Rattle.ssa_json.specs.declared.value.Json.{Json}
 use Rattle.ssa_path.specs.Keys.{Members, names_rise_after, are_keys, keys_of}

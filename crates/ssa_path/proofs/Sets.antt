@@ -3,8 +3,8 @@ use Rattle.std.proofs.Common.{◌≡◌, List, [], ◌∷◌, map, Bool, true, f
 use Rattle.std.specs.Prelude.{is_some}
 use Rattle.std.specs.List.{list_any}
 use Rattle.std.specs.FinMap.Entries.{find, put, by_order}
-use Rattle.ssa_model.specs.Path.{Path, path_cmp, same_path, under}
-use Rattle.ssa_model.specs.PathMap.{PathSet, has, has_at_or_above, has_at_or_below, insert, is_empty, set_of, paths as set_paths, listed, marked}
+use Rattle.ssa_model.specs.definitions.Path.{Path, path_cmp, same_path, under}
+use Rattle.ssa_model.specs.definitions.PathMap.{PathSet, has, has_at_or_above, has_at_or_below, insert, is_empty, set_of, paths as set_paths, listed, marked}
 use Rattle.ssa_model.proofs.PathMaps.{get-from_entries, has-insert, has-minus, has-paths, has-set_of, has-union, same_sets}
 use Rattle.ssa_model.proofs.Texts.{same_path_same}
 use Rattle.ssa_path.specs.Combine.{concerns, is_concerned, keeps, IsCombination}

@@ -1,7 +1,7 @@
 -- The texts of key fields, member by member.
 use Rattle.std.proofs.Common.{◌≡◌, ℕ, ◌+◌, ◌<◌, ◌≤◌, List, [], ◌∷◌, ◌++◌, Bool, true, drop, length, get_or, String, Global, string_bytes, sym, ap, ◌∙◌, append_assoc}
 use Rattle.std.proofs.lemmas.List.{drop_all, map-append}
-use Rattle.ssa_model.specs.Json.{Text, comma_if, quoted, scalar_text}
+use Rattle.ssa_model.specs.definitions.Json.{Text, comma_if, quoted, scalar_text}
 use Rattle.ssa_json.specs.declared.value.Scalar.{Scalar}
 use Rattle.ssa_json.specs.View.{scalar_view}
 use Rattle.ssa_path.specs.Keys.{members_view}

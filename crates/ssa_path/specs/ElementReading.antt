@@ -1,7 +1,7 @@
 -- What reading an element's text answers.
 use Rattle.std.specs.Prelude.{◌≡◌, Option, Some, None, Result, Ok, Err}
-use Rattle.ssa_model.specs.Json.{Text, Scalar, Json, scalar}
-use Rattle.ssa_model.specs.ElementTexts.{element_of, bad_element, index_element, not_canonical}
+use Rattle.ssa_model.specs.definitions.Json.{Text, Scalar, Json, scalar}
+use Rattle.ssa_model.specs.definitions.ElementTexts.{element_of, bad_element, index_element, not_canonical}
 use Rattle.ssa_json.specs.Reading.{json_reading}
 use Rattle.ssa_path.specs.View.{element_view}
 use Rattle.ssa_path.specs.declared.element.Elem.{Elem}

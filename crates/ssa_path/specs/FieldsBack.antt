@@ -1,11 +1,9 @@
 -- That what a set is written as is read back as the set.
 use Rattle.std.specs.Prelude.{◌≡◌, List, []}
-use Rattle.ssa_model.specs.FieldsFaults.{fields_faults, said_paths, said_set}
-use Rattle.ssa_model.specs.Entries.{fields_json}
-use Rattle.ssa_model.specs.FieldsV1.{IsCanonical}
-use Rattle.ssa_model.specs.Json.{Json}
-use Rattle.ssa_model.specs.Path.{Path}
-use Rattle.ssa_model.specs.PathMap.{PathSet}
+use Rattle.ssa_model.specs.definitions.FieldsV1.{fields_faults, said_paths, said_set, fields_json, IsCanonical}
+use Rattle.ssa_model.specs.definitions.Json.{Json}
+use Rattle.ssa_model.specs.definitions.Path.{Path}
+use Rattle.ssa_model.specs.definitions.PathMap.{PathSet}
 use Rattle.ssa_json.specs.Reading.{json_reading}
 use Rattle.ssa_path.specs.FieldsWriting.{paths_json}
 

@@ -1,10 +1,9 @@
 -- What reading FieldsV1 answers.
 use Rattle.std.specs.Prelude.{◌≡◌, List, [], ◌∷◌, Option, Some, None, Result, Ok, Err, true, if◌then◌else◌}
-use Rattle.ssa_model.specs.Json.{Text, Json, same_json}
-use Rattle.ssa_model.specs.ElementTexts.{ElementFault, bad_element, index_element, not_canonical, element_of}
-use Rattle.ssa_model.specs.FieldsV1.{dot_alone, IsCanonical}
-use Rattle.ssa_model.specs.Path.{Path}
-use Rattle.ssa_model.specs.FieldsFaults.{fields_faults, is_nothing_inside, said_paths}
+use Rattle.ssa_model.specs.definitions.Json.{Text, Json, same_json}
+use Rattle.ssa_model.specs.definitions.ElementTexts.{ElementFault, bad_element, index_element, not_canonical, element_of}
+use Rattle.ssa_model.specs.definitions.FieldsV1.{dot_alone, IsCanonical, fields_faults, is_nothing_inside, said_paths}
+use Rattle.ssa_model.specs.definitions.Path.{Path}
 use Rattle.ssa_json.specs.Reading.{json_reading}
 use Rattle.ssa_path.specs.FieldsWriting.{paths_json, IsWrittenBelow}
 use Rattle.ssa_path.specs.OwnText.{IsOwnText}

@@ -1,9 +1,8 @@
 -- What lists of paths are written as, on the way down.
 use Rattle.std.specs.Prelude.{◌≡◌, ◌≢◌, List, Bool, true, false, codes, if◌then◌else◌}
-use Rattle.ssa_model.specs.Json.{Json, Members, no_members, member}
-use Rattle.ssa_model.specs.Path.{Path}
-use Rattle.ssa_model.specs.Entries.{is_place_alone, longest, nothing_written, written_paths}
-use Rattle.ssa_model.specs.FieldsV1.{dot_alone, IsCanonical}
+use Rattle.ssa_model.specs.definitions.Json.{Json, Members, no_members, member}
+use Rattle.ssa_model.specs.definitions.Path.{Path}
+use Rattle.ssa_model.specs.definitions.FieldsV1.{is_place_alone, longest, nothing_written, written_paths, dot_alone, IsCanonical}
 
 -- the object of the paths
 abbrev pub paths_json : List Path → Json

@@ -1,6 +1,6 @@
 -- The paths that are no key fields of items, walked to from the element above each.
 use Rattle.std.specs.Prelude.{◌≡◌, [], ◌∷◌, Bool, true, not, ◌&&◌}
-use Rattle.ssa_model.specs.Path.{Element, Path, field, key, value, is_key_field}
+use Rattle.ssa_model.specs.definitions.Path.{Element, Path, field, key, value, is_key_field}
 use Rattle.ssa_path.specs.Keys.{Members}
 use Rattle.ssa_path.specs.Trie.{is_one_of, is_trie, paths}
 use Rattle.ssa_path.specs.declared.trie.Trie.{Trie}

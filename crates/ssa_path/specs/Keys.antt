@@ -4,8 +4,8 @@ use Rattle.std.specs.declared.alloc.Global.{Global}
 use Rattle.std.specs.Coded.{Coded, coded×, coded_list}
 use Rattle.std.specs.Ordering.{is_lt, nat_cmp}
 use Rattle.std.specs.Cmp.Lexicographic.{slice_cmp}
-use Rattle.ssa_model.specs.Json as model
-use Rattle.ssa_model.specs.Codes.{coded_text, coded_scalar}
+use Rattle.ssa_model.specs.definitions.Json as model
+use Rattle.ssa_model.specs.codes.Codes.{coded_text, coded_scalar}
 use Rattle.ssa_json.specs.View.{scalar_view}
 use Rattle.ssa_json.specs.declared.value.Scalar.{Scalar}
 

@@ -1,7 +1,7 @@
 -- Paths in their order.
 use Rattle.std.specs.Prelude.{◌≡◌, List, [], ◌∷◌, ◌++◌, Bool, true, ◌&&◌}
 use Rattle.std.specs.Ordering.{is_lt}
-use Rattle.ssa_model.specs.Path.{Path, path_cmp}
+use Rattle.ssa_model.specs.definitions.Path.{Path, path_cmp}
 use Rattle.ssa_path.specs.declared.trie.Trie.{Trie}
 use Rattle.ssa_path.specs.Trie.{paths}
 

@@ -1,6 +1,6 @@
 -- The paths that combinations keep, beside the definitions' union and minus.
 use Rattle.std.specs.Prelude.{not}
-use Rattle.ssa_model.specs.PathMap.{PathSet, has, has_at_or_above, has_at_or_below, paths, set_of, minus, union}
+use Rattle.ssa_model.specs.definitions.PathMap.{PathSet, has, has_at_or_above, has_at_or_below, paths, set_of, minus, union}
 use Rattle.ssa_path.specs.declared.combine.Combination.{Combination}
 use Rattle.ssa_path.specs.declared.combine.Combination.TheVariants.{Union, Minus, Meet, WithoutUnder, WithoutOver}
 

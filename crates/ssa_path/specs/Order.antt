@@ -1,6 +1,6 @@
 -- The order of elements' texts, part by part.
 use Rattle.std.specs.Prelude.{ℕ, List, [], ◌∷◌, ◌++◌, Option, Some, None}
-use Rattle.ssa_model.specs.Json.{escaped_byte, quoted, scalar_text}
+use Rattle.ssa_model.specs.definitions.Json.{escaped_byte, quoted, scalar_text}
 use Rattle.ssa_path.specs.Keys.{Members}
 
 abbrev pub first : List ℕ → Option ℕ

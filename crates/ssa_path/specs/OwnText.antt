@@ -1,9 +1,9 @@
 -- The elements whose own texts are read.
 use Rattle.std.specs.Prelude.{◌≡◌, ◌≢◌, true, Ok}
-use Rattle.ssa_model.specs.Json.{Text, Json, scalar, object, text}
-use Rattle.ssa_model.specs.Path.{Element, field, key, value, key_members, element_text}
-use Rattle.ssa_model.specs.FieldsV1.{is_element}
-use Rattle.ssa_model.specs.ElementTexts.{element_of}
+use Rattle.ssa_model.specs.definitions.Json.{Text, Json, scalar, object, text}
+use Rattle.ssa_model.specs.definitions.Path.{Element, field, key, value, key_members, element_text}
+use Rattle.ssa_model.specs.definitions.FieldsV1.{is_element}
+use Rattle.ssa_model.specs.definitions.ElementTexts.{element_of}
 use Rattle.ssa_json.specs.Reading.{json_reading}
 use Rattle.ssa_json.specs.Written.{is_narrow}
 use Rattle.ssa_json.specs.Writable.{has_utf8}

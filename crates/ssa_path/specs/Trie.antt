@@ -1,7 +1,7 @@
 -- The paths that a trie holds.
 use Rattle.std.specs.Prelude.{◌≡◌, List, [], ◌∷◌, ◌++◌, map, Bool, true, false, ◌&&◌, ◌||◌}
 use Rattle.std.specs.List.{list_any}
-use Rattle.ssa_model.specs.Path.{Element, Path, same_path, under}
+use Rattle.ssa_model.specs.definitions.Path.{Element, Path, same_path, under}
 use Rattle.ssa_path.specs.Children.{elements, rises}
 use Rattle.ssa_path.specs.View.{element_view}
 use Rattle.ssa_path.specs.declared.element.Elem.{Elem}

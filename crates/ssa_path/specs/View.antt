@@ -1,6 +1,6 @@
 -- What elements of the program are.
 use Rattle.std.specs.Prelude.{List, map, string_bytes}
-use Rattle.ssa_model.specs.Path as model
+use Rattle.ssa_model.specs.definitions.Path as model
 use Rattle.ssa_json.specs.View.{scalar_view}
 use Rattle.ssa_path.specs.declared.element.Elem.{Elem}
 use Rattle.ssa_path.specs.declared.element.Elem.TheVariants.{Field, Key, Value}

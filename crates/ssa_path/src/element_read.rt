@@ -1,9 +1,9 @@
 //! The element of a text.
 ghost use Rattle.std.specs.Prelude.{◌≡◌, Ok, IfOk, IfErr, OnOk, option_map};
 ghost use Rattle.std.specs.Result.{result_ok};
-ghost use Rattle.ssa_model.specs.Json.{object, same_text};
-ghost use Rattle.ssa_model.specs.Path.{element_text, key};
-ghost use Rattle.ssa_model.specs.ElementTexts.{after_beginning, key_element, value_element, spelled_element};
+ghost use Rattle.ssa_model.specs.definitions.Json.{object, same_text};
+ghost use Rattle.ssa_model.specs.definitions.Path.{element_text, key};
+ghost use Rattle.ssa_model.specs.definitions.ElementTexts.{after_beginning, key_element, value_element, spelled_element};
 ghost use Rattle.ssa_json.specs.Reading.{json_reading};
 ghost use Rattle.ssa_json.specs.View.{view, members_view, scalar_view};
 ghost use Rattle.ssa_path.specs.ElementReading.{ReadsElement, as_scalar};

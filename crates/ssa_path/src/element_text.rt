@@ -1,8 +1,8 @@
 //! The text of an element.
 ghost use Rattle.std.specs.Prelude.{◌≡◌, ◌∷◌, ◌++◌, Ok, IfOk, OnOk, true, false, string_bytes};
-ghost use Rattle.ssa_model.specs.Json.{comma_if, compact_members, quoted, scalar_text};
-ghost use Rattle.ssa_model.specs.Path.{element_text, key_members};
-ghost use Rattle.ssa_model.specs.ElementTexts.{element_of};
+ghost use Rattle.ssa_model.specs.definitions.Json.{comma_if, compact_members, quoted, scalar_text};
+ghost use Rattle.ssa_model.specs.definitions.Path.{element_text, key_members};
+ghost use Rattle.ssa_model.specs.definitions.ElementTexts.{element_of};
 ghost use Rattle.ssa_json.specs.Reading.{json_reading};
 ghost use Rattle.ssa_json.specs.View.{scalar_view};
 ghost use Rattle.ssa_json.specs.Written.{is_narrow_scalar, members_narrow};

@@ -1,8 +1,8 @@
 // Sets of paths.
 ghost use Rattle.std.specs.Prelude.{◌≡◌, ◌-◌, ◌^◌, true, not, min, IfOk, OnOk, OnErr};
-ghost use Rattle.ssa_model.specs.Path.{is_key_field};
-ghost use Rattle.ssa_model.specs.PathMap.{empty, has, has_at_or_above, has_at_or_below, insert, is_empty, minus, same_set, set_of, size, union, listed};
-ghost use Rattle.ssa_model.specs.PathMap as set;
+ghost use Rattle.ssa_model.specs.definitions.Path.{is_key_field};
+ghost use Rattle.ssa_model.specs.definitions.PathMap.{empty, has, has_at_or_above, has_at_or_below, insert, is_empty, minus, same_set, set_of, size, union, listed};
+ghost use Rattle.ssa_model.specs.definitions.PathMap as set;
 ghost use Rattle.ssa_path.specs.Meet.{meet, combined};
 ghost use Rattle.ssa_path.specs.Trie.{is_trie, paths};
 
@@ -25,8 +25,8 @@ pub struct FieldSet {
 
 impl Model for FieldSet {
     ghost use Rattle.std.specs.Prelude.{◌≡◌, true};
-    ghost use Rattle.ssa_model.specs.PathMap.{PathSet, listed};
-    ghost use Rattle.ssa_model.specs.Codes.{coded_set};
+    ghost use Rattle.ssa_model.specs.definitions.PathMap.{PathSet, listed};
+    ghost use Rattle.ssa_model.specs.codes.Codes.{coded_set};
 
     ghost Value = { PathSet };
 

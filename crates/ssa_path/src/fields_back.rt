@@ -1,6 +1,6 @@
 // Sets of paths read back from what they are written as.
 ghost use Rattle.std.specs.Prelude.{◌≡◌, true};
-ghost use Rattle.ssa_model.specs.Path.{key_members};
+ghost use Rattle.ssa_model.specs.definitions.Path.{key_members};
 ghost use Rattle.ssa_json.specs.View.{scalar_view};
 ghost use Rattle.ssa_json.specs.Written.{is_narrow_scalar, members_narrow};
 ghost use Rattle.ssa_path.specs.FieldsBack.{AreReadBack, CanonicalIsRead, IsReadBack};

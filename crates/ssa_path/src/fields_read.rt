@@ -1,9 +1,7 @@
 // Sets of paths read from FieldsV1.
 ghost use Rattle.std.specs.Prelude.{◌≡◌, IfOk, codes};
-ghost use Rattle.ssa_model.specs.Entries.{fields_json};
-ghost use Rattle.ssa_model.specs.FieldsFaults.{is_nothing_inside, member_faults, said_set};
-ghost use Rattle.ssa_model.specs.FieldsV1.{IsWritten};
-ghost use Rattle.ssa_model.specs.Json.{object, same_text};
+ghost use Rattle.ssa_model.specs.definitions.FieldsV1.{fields_json, is_nothing_inside, member_faults, said_set, IsWritten};
+ghost use Rattle.ssa_model.specs.definitions.Json.{object, same_text};
 ghost use Rattle.ssa_json.specs.Reading.{json_reading};
 ghost use Rattle.ssa_json.specs.View.{view, members_view};
 ghost use Rattle.ssa_path.specs.FieldsReading.{below_faults, child_faults, IsChildOf, IsPlaceBelow, IsPlaceOf, ReadsFields, TellsFirst};

@@ -1,8 +1,7 @@
 // Sets of paths written as FieldsV1.
 ghost use Rattle.std.specs.Prelude.{◌≡◌, true, IfOk, OnOk};
-ghost use Rattle.ssa_model.specs.Entries.{fields_json};
-ghost use Rattle.ssa_model.specs.FieldsV1.{AreCanonical, IsWritten};
-ghost use Rattle.ssa_model.specs.Json.{object};
+ghost use Rattle.ssa_model.specs.definitions.FieldsV1.{fields_json, AreCanonical, IsWritten};
+ghost use Rattle.ssa_model.specs.definitions.Json.{object};
 ghost use Rattle.ssa_json.specs.View.{view, members_view};
 ghost use Rattle.ssa_path.specs.FieldsBack.{AreReadBack, IsReadBack};
 ghost use Rattle.ssa_path.specs.FieldsWriting.{dot_members, paths_json, IsWrittenBelow};

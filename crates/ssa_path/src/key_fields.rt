@@ -1,6 +1,6 @@
 // The paths of a trie that are no key fields of items.
 ghost use Rattle.std.specs.Prelude.{◌≡◌, [], ◌&&◌, true, not, IfOk};
-ghost use Rattle.ssa_model.specs.Path.{field, key, names_key};
+ghost use Rattle.ssa_model.specs.definitions.Path.{field, key, names_key};
 ghost use Rattle.ssa_path.specs.KeyFields.{keys_in, IsWithoutKeyFields};
 ghost use Rattle.ssa_path.specs.Keys.{members_view};
 ghost use Rattle.ssa_path.specs.Trie.{is_one_of, is_trie, paths};

@@ -2,8 +2,8 @@
 ghost use Rattle.std.specs.Prelude.{◌≡◌, ◌≤◌, ◌<◌, ◌+◌, ◌++◌, [], ◌∷◌, false, length, take, drop, IfSome};
 ghost use Rattle.std.specs.Ordering.{nat_cmp};
 ghost use Rattle.std.specs.Cmp.Lexicographic.{slice_cmp};
-ghost use Rattle.ssa_model.specs.Json.{compact_members, hex_digit, quoted, scalar_text, whole_text};
-ghost use Rattle.ssa_model.specs.Path.{key_members};
+ghost use Rattle.ssa_model.specs.definitions.Json.{compact_members, hex_digit, quoted, scalar_text, whole_text};
+ghost use Rattle.ssa_model.specs.definitions.Path.{key_members};
 ghost use Rattle.ssa_json.specs.View.{scalar_view};
 ghost use Rattle.ssa_path.specs.Keys.{members_view};
 ghost use Rattle.ssa_path.specs.Order.{mark, member_text, key_end};

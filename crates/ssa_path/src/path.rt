@@ -1,6 +1,6 @@
 // Paths, ordered element by element.
 ghost use Rattle.std.specs.Prelude.{◌≡◌, IfOk};
-ghost use Rattle.ssa_model.specs.Path.{path_cmp};
+ghost use Rattle.ssa_model.specs.definitions.Path.{path_cmp};
 ghost use Rattle.ssa_path.specs.View.{path_view};
 
 use crate::element::Elem;
@@ -15,8 +15,8 @@ pub struct Path {
 }
 
 impl Model for Path {
-    ghost use Rattle.ssa_model.specs.Path as model;
-    ghost use Rattle.ssa_model.specs.Codes.{coded_path};
+    ghost use Rattle.ssa_model.specs.definitions.Path as model;
+    ghost use Rattle.ssa_model.specs.codes.Codes.{coded_path};
 
     ghost Value = { model.Path };
 

@@ -1,7 +1,7 @@
 // Whether two tries have the same paths.
 ghost use Rattle.std.specs.Prelude.{◌≡◌, true};
 ghost use Rattle.std.specs.Cmp.Lexicographic.{pointwise};
-ghost use Rattle.ssa_model.specs.Path.{same_path};
+ghost use Rattle.ssa_model.specs.definitions.Path.{same_path};
 ghost use Rattle.ssa_path.specs.Trie.{is_trie, paths};
 
 use crate::trie::Trie;

@@ -1,7 +1,7 @@
 // A set of paths as a tree: each place says whether the path to it is in the set.
 ghost use Rattle.std.specs.Prelude.{◌≡◌, true, false, None, IfOk, OnOk, OnErr, IfNone, IfSome};
 ghost use Rattle.std.specs.List.{list_any};
-ghost use Rattle.ssa_model.specs.Path.{under};
+ghost use Rattle.ssa_model.specs.definitions.Path.{under};
 ghost use Rattle.ssa_path.specs.Children.{child_at, elements, rises, IsGapFor};
 ghost use Rattle.ssa_path.specs.View.{element_view, path_view};
 ghost use Rattle.ssa_path.specs.Trie.{is_one_of, paths, shape, is_trie, is_filled, are_filled_tries, IsCopy, IsGathered, IsInserted, IsOnly, IsPlace};

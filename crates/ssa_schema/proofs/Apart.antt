@@ -6,11 +6,12 @@ use Rattle.std.specs.Ordering.{nat_cmp}
 use Rattle.std.specs.Cmp.{first_so, second_so}
 use Rattle.std.specs.Cmp.Lexicographic.{slice_cmp}
 use Rattle.std.specs.List.{list_any}
-use Rattle.ssa_model.specs.Json.{Text, Json, scalar, list, object, Members, no_members, member, same_text}
-use Rattle.ssa_model.specs.Kind.{Kind, Fields, scalar_kind, atomic_of, record_of, dict_of, set_of, items_of, no_fields, kind_field}
-use Rattle.ssa_model.specs.Objects.{file_names}
-use Rattle.ssa_model.specs.Schema.{with_field, with_metadata, read_schema, schema_faults, kind_of_schema, kind_fields, whole_profile, most_levels, at_root, names, is_one_of_texts, reserved_names, property_members}
-use Rattle.ssa_model.specs.ShownObjects.{names_none, fields_in, leaves_identity}
+use Rattle.ssa_model.specs.definitions.Json.{Text, Json, scalar, list, object, Members, no_members, member, same_text}
+use Rattle.ssa_model.specs.definitions.Kind.{Kind, Fields, scalar_kind, atomic_of, record_of, dict_of, set_of, items_of, no_fields, kind_field}
+use Rattle.ssa_model.specs.definitions.Objects.{file_names}
+use Rattle.ssa_model.specs.definitions.Schema.{with_field, with_metadata, read_schema, schema_faults, kind_of_schema, kind_fields, at_root, names, is_one_of_texts, reserved_names, property_members, metadata_fields}
+use Rattle.ssa_model.specs.definitions.Limits.{most_levels}
+use Rattle.ssa_model.specs.definitions.Lawful.{names_none, fields_in, leaves_identity}
 use Rattle.ssa_model.proofs.Faults.{cons≢nil}
 use Rattle.ssa_model.proofs.Tables.{first_false, second_false}
 use Rattle.ssa_schema.proofs.Lawful.{root-is, told-kind}
@@ -37,7 +38,7 @@ unreserved read (member n v ms) h =
     let rest = unreserved read ms (second_false (is_one_of_texts n reserved_names) _ h) in
     λ i. not (first i) && rest i
 
-root-bare : (n : ℕ) (v : Json) → schema_faults whole_profile (suc n) at_root v ≡ [] → is_bare (kind_of_schema (suc n) v) ≡ true
+root-bare : (n : ℕ) (v : Json) → schema_faults (suc n) at_root v ≡ [] → is_bare (kind_of_schema (suc n) v) ≡ true
 root-bare n (scalar t) e = absurd (cons≢nil e)
 root-bare n (list vs) e = absurd (cons≢nil e)
 root-bare n (object ms) e = let is = root-is n ms e in ap is_bare is.0 ∙ unreserved (kind_of_schema n) (property_members ms) is.1
@@ -66,7 +67,7 @@ with_metadata-leaves hs (dict_of k) own h = absurd (true≢false (sym h))
 with_metadata-leaves hs (set_of k) own h = absurd (true≢false (sym h))
 with_metadata-leaves hs (items_of ns gs) own h = absurd (true≢false (sym h))
 
-pub read-leaves : (v : Json) (k : Kind) → read_schema whole_profile v ≡ Ok k → leaves_identity k ≡ true
+pub read-leaves : (v : Json) (k : Kind) → read_schema v ≡ Ok k → leaves_identity k ≡ true
 read-leaves v k e =
-    told-kind leaves_identity (schema_faults whole_profile most_levels at_root v) _ k
-    (λ none. with_metadata-leaves whole_profile.metadata (kind_of_schema most_levels v) refl (root-bare 31 v none)) e
+    told-kind leaves_identity (schema_faults most_levels at_root v) _ k
+    (λ none. with_metadata-leaves metadata_fields (kind_of_schema most_levels v) refl (root-bare 31 v none)) e

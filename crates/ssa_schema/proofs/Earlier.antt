@@ -7,10 +7,10 @@ use Rattle.std.specs.BTreeMap.{is_at}
 use Rattle.std.specs.BTreeSet.{insert_key}
 use Rattle.std.specs.Cmp.Lexicographic.{slice_cmp}
 use Rattle.std.specs.FinMap.{slice_cmp-IsAntisymmetric, nat_cmp-IsAntisymmetric}
-use Rattle.ssa_model.specs.Json.{Text, same_text}
-use Rattle.ssa_model.specs.Path.{Element, element_text}
-use Rattle.ssa_model.specs.Kind.{is_among}
-use Rattle.ssa_model.specs.Schema.{is_one_of_texts}
+use Rattle.ssa_model.specs.definitions.Json.{Text, same_text}
+use Rattle.ssa_model.specs.definitions.Path.{Element, element_text}
+use Rattle.ssa_model.specs.definitions.Kind.{is_among}
+use Rattle.ssa_model.specs.definitions.Schema.{is_one_of_texts}
 use Rattle.ssa_schema.specs.Kinds.{names_view}
 
 -- the set has these texts and no others

@@ -5,12 +5,12 @@ use Rattle.std.specs.Borrow.{Bor}
 use Rattle.std.specs.declared.cmp.Ordering.{Ordering}
 use Rattle.std.specs.Ordering.{match_ordering}
 use Rattle.std.specs.FinMap.{slice_cmp-IsAntisymmetric, nat_cmp-IsAntisymmetric}
-use Rattle.ssa_model.specs.Schema.{with_field}
+use Rattle.ssa_model.specs.definitions.Schema.{with_field}
 use Rattle.std.specs.Map.{lookup}
 use Rattle.std.specs.BTreeMap.{is_at, insert_entry}
 use Rattle.std.specs.Cmp.Lexicographic.{slice_cmp}
-use Rattle.ssa_model.specs.Json.{Text}
-use Rattle.ssa_model.specs.Kind as model
+use Rattle.ssa_model.specs.definitions.Json.{Text}
+use Rattle.ssa_model.specs.definitions.Kind as model
 use Rattle.ssa_schema.specs.Kinds.{kind_view, fields_view, shape_view, shape_fields_view}
 use Rattle.ssa_schema.specs.declared.kind.Kind.{Kind}
 use Rattle.ssa_schema.specs.declared.kind.Shape.{Shape}

@@ -1,8 +1,8 @@
 -- The first of the faults.
 use Rattle.std.proofs.Common.{◌≡◌, ℕ, zero, suc, List, [], ◌∷◌, ◌++◌, refl, sym, ap, ◌∙◌, append_assoc}
 use Rattle.std.specs.Prelude.{Option, None, Some}
-use Rattle.ssa_model.specs.Json.{Json, scalar, Scalar, list, Items, object, Members}
-use Rattle.ssa_model.specs.Schema as model
+use Rattle.ssa_model.specs.definitions.Json.{Json, scalar, Scalar, list, Items, object, Members}
+use Rattle.ssa_model.specs.definitions.Schema as model
 use Rattle.ssa_schema.specs.Refusals.{first_of, or_next, object_faults, faults_at}
 
 pub first_of_append : {X : Type 0} (xs ys : List X) → first_of (xs ++ ys) ≡ or_next (first_of xs) (first_of ys)
@@ -36,6 +36,6 @@ pub faults_at_object : (n : ℕ) (s : model.Standing) (ms : Members) → first_o
 unfolding faults_at
 faults_at_object n s ms =
     ap first_of
-    (regrouped (model.fault_if (model.has_unknown_keyword model.whole_profile ms) model.schema_keyword) (model.fault_if (model.has_wrong_type model.whole_profile ms) model.schema_shape)
+    (regrouped (model.fault_if (model.has_unknown_keyword ms) model.schema_keyword) (model.fault_if (model.has_wrong_type ms) model.schema_shape)
     (model.fault_if (model.has_wrong_shape s ms) model.schema_shape) (model.fault_if (model.has_wrong_keys ms) model.schema_keys)
     (model.child_faults (faults_at n (model.standing_inside s ms)) ms ++ model.item_faults ms))

@@ -1,9 +1,9 @@
 -- The faults of a list's items, one item after another.
 use Rattle.std.proofs.Common.{◌≡◌, ℕ, ◌+◌, ◌<◌, length, get_or, drop, List, [], ◌∷◌, ◌++◌, Bool, true, false, not, refl, sym, ap, ◌∙◌, true≢false, rules, BTreeMap, String, Global}
 use Rattle.std.specs.Prelude.{Option, None, Some, is_some, if◌then◌else◌}
-use Rattle.ssa_model.specs.Json.{Text, Json, scalar, list, object, Scalar, Items, item, Members}
-use Rattle.ssa_model.specs.Path.{Path, Element, value}
-use Rattle.ssa_model.specs.Kind.{Fault, ScalarKind, Fields, is_of, is_among, wrong_type, duplicate_item, item_key, fault_unless, or_else, key_faults, field_faults, value_faults, item_faults}
+use Rattle.ssa_model.specs.definitions.Json.{Text, Json, scalar, list, object, Scalar, Items, item, Members}
+use Rattle.ssa_model.specs.definitions.Path.{Path, Element, value}
+use Rattle.ssa_model.specs.definitions.Kind.{FaultAt, ScalarKind, Fields, is_of, is_among, wrong_type, duplicate_item, item_key, fault_unless, or_else, key_faults, field_faults, value_faults, item_faults, fault_at}
 use Rattle.ssa_json.specs.declared.value.Json as json
 use Rattle.ssa_json.specs.View.{view, items_view, members_view, as_object}
 use Rattle.ssa_json.proofs.Views.{view-Object}
@@ -33,7 +33,7 @@ value_split k earlier (object ms) s rest p e = absurd (some≢none s (sym e))
 
 -- an item that is there already
 pub value_twice : (k : ScalarKind) (earlier : List Element) (v : Json) (s : Scalar) (rest : Items) (p : Path) → scalar_of k v ≡ Some s → false ≡ not (is_among (value s) earlier)
-    → first_of (value_faults k earlier (item v rest) p) ≡ Some (duplicate_item, p ++ value s ∷ [])
+    → first_of (value_faults k earlier (item v rest) p) ≡ Some (fault_at duplicate_item (p ++ value s ∷ []))
 value_twice k earlier v s rest p is known =
     ap first_of (value_split k earlier v s rest p is) ∙ ap (λ b. first_of (fault_unless b duplicate_item (p ++ value s ∷ []) ++ value_faults k (value s ∷ earlier) rest p)) (sym known)
 
@@ -46,7 +46,7 @@ value_next k earlier v s rest p is new =
 -- ---- map lists
 
 -- an item that is no object
-pub item_wrong : (names : List Text) (fs : Fields) (earlier : List Element) (v : Json) (rest : Items) (p : Path) → None ≡ as_object v → first_of (item_faults names fs earlier (item v rest) p) ≡ Some (wrong_type, p)
+pub item_wrong : (names : List Text) (fs : Fields) (earlier : List Element) (v : Json) (rest : Items) (p : Path) → None ≡ as_object v → first_of (item_faults names fs earlier (item v rest) p) ≡ Some (fault_at wrong_type p)
 item_wrong names fs earlier (scalar s) rest p e = refl
 item_wrong names fs earlier (list vs) rest p e = refl
 item_wrong names fs earlier (object ms) rest p e = absurd (some≢none ms (sym e))
@@ -61,21 +61,21 @@ object_split names fs earlier xs i x m p within is here =
     ap (λ es. item_faults names fs earlier (items_view es) p) (item_split xs i x within is)
     ∙ ap (λ v. item_faults names fs earlier (item v (items_view (drop (i + 1) xs))) p) (ap view here ∙ view-Object m)
 
-keys_first : (xs ys rest : List Fault) (f : Fault) → Some f ≡ first_of xs → Some f ≡ first_of (or_else xs ys ++ rest)
+keys_first : (xs ys rest : List FaultAt) (f : FaultAt) → Some f ≡ first_of xs → Some f ≡ first_of (or_else xs ys ++ rest)
 keys_first [] ys rest f e = absurd (some≢none f e)
 keys_first (x ∷ xs) ys rest f e = e
 
-keys_right : (xs ys : List Fault) → None ≡ first_of xs → or_else xs ys ≡ ys
+keys_right : (xs ys : List FaultAt) → None ≡ first_of xs → or_else xs ys ≡ ys
 keys_right [] ys e = refl
 keys_right (x ∷ xs) ys e = absurd (some≢none x (sym e))
 
 -- an item with a wrong key
-pub item_key_wrong : (names : List Text) (fs : Fields) (earlier : List Element) (ms : Members) (rest : Items) (p : Path) (f : Fault) → Some f ≡ first_of (key_faults names fs ms p)
+pub item_key_wrong : (names : List Text) (fs : Fields) (earlier : List Element) (ms : Members) (rest : Items) (p : Path) (f : FaultAt) → Some f ≡ first_of (key_faults names fs ms p)
     → Some f ≡ first_of (item_faults names fs earlier (item (object ms) rest) p)
 item_key_wrong names fs earlier ms rest p f e = keys_first (key_faults names fs ms p) _ _ f e
 
 keyed : (is_known : Bool) (names : List Text) (fs : Fields) (ms : Members) (p : Path)
-    → (if is_known then (duplicate_item, p ++ item_key names ms ∷ []) ∷ [] else field_faults fs ms (p ++ item_key names ms ∷ [])) ≡ keyed_faults (not is_known) names fs ms p
+    → (if is_known then fault_at duplicate_item (p ++ item_key names ms ∷ []) ∷ [] else field_faults fs ms (p ++ item_key names ms ∷ [])) ≡ keyed_faults (not is_known) names fs ms p
 keyed true names fs ms p = refl
 keyed false names fs ms p = refl
 

@@ -1,9 +1,9 @@
 -- Laws of building kinds.
 use Rattle.std.proofs.Common.{◌≡◌, ℕ, zero, suc, List, [], ◌∷◌, map, String, Global, Vec, BTreeMap, string_bytes, refl, ap, true, false, ◌∙◌, rules}
 use Rattle.std.specs.Prelude.{if◌then◌else◌}
-use Rattle.ssa_model.specs.Json.{Text, Json, scalar, list, object, Scalar, Items, Members}
-use Rattle.ssa_model.specs.Kind as model
-use Rattle.ssa_model.specs.Schema.{kind_fields, is_atomic, shape_of_schema}
+use Rattle.ssa_model.specs.definitions.Json.{Text, Json, scalar, list, object, Scalar, Items, Members}
+use Rattle.ssa_model.specs.definitions.Kind as model
+use Rattle.ssa_model.specs.definitions.Schema.{kind_fields, is_atomic, shape_of_schema}
 use Rattle.ssa_json.specs.View.{view, members_view}
 use Rattle.ssa_json.proofs.Converting.{Found}
 use Rattle.ssa_schema.specs.Kinds.{shape_view, kind_view, fields_view, names_view}

@@ -7,11 +7,12 @@ use Rattle.std.specs.declared.cmp.Ordering.TheVariants.{Less, Equal, Greater}
 use Rattle.std.specs.Ordering.{is_lt, is_eq, nat_cmp}
 use Rattle.std.specs.Cmp.Lexicographic.{slice_cmp}
 use Rattle.std.proofs.lemmas.Cmp.{nat_list_cmp_total}
-use Rattle.ssa_model.specs.Json.{Text, Json, scalar, list, object, Members, no_members, member, member_of, same_text, as_text}
-use Rattle.ssa_model.specs.Kind as kinds
+use Rattle.ssa_model.specs.definitions.Limits.{most_levels}
+use Rattle.ssa_model.specs.definitions.Json.{Text, Json, scalar, list, object, Members, no_members, member, member_of, same_text, as_text}
+use Rattle.ssa_model.specs.definitions.Kind as kinds
 use Rattle.ssa_json.proofs.Equality.{same_text-true}
-use Rattle.ssa_model.specs.Schema as model
-use Rattle.ssa_model.specs.Lawful.{names_rise_after, are_key_names, is_keyed, are_keyed, is_record, is_root_kind}
+use Rattle.ssa_model.specs.definitions.Schema as model
+use Rattle.ssa_model.specs.definitions.Lawful.{names_rise_after, are_key_names, is_keyed, are_keyed, is_record, is_root_kind}
 
 -- ---- lists of faults
 
@@ -186,9 +187,9 @@ list_types = codes "atomic" ∷ codes "set" ∷ codes "map" ∷ []
 map-type : (o : Option Json) → is_some o ≡ true → model.if_given (model.is_text_among list_types) o ≡ true → is_it (codes "atomic") o ≡ false → is_it (codes "set") o ≡ false → is_it (codes "map") o ≡ true
 unfolding is_it list_types
 map-type None some among a s = absurd (true≢false (sym some))
-map-type (Some (scalar (Rattle.ssa_model.specs.Json.text u))) some among a s = third (codes "atomic") (codes "set") (codes "map") u among a s
-map-type (Some (scalar (Rattle.ssa_model.specs.Json.whole z))) some among a s = absurd (true≢false (sym among))
-map-type (Some (scalar (Rattle.ssa_model.specs.Json.truth b))) some among a s = absurd (true≢false (sym among))
+map-type (Some (scalar (Rattle.ssa_model.specs.definitions.Json.text u))) some among a s = third (codes "atomic") (codes "set") (codes "map") u among a s
+map-type (Some (scalar (Rattle.ssa_model.specs.definitions.Json.whole z))) some among a s = absurd (true≢false (sym among))
+map-type (Some (scalar (Rattle.ssa_model.specs.definitions.Json.truth b))) some among a s = absurd (true≢false (sym among))
 map-type (Some (list vs)) some among a s = absurd (true≢false (sym among))
 map-type (Some (object ms)) some among a s = absurd (true≢false (sym among))
 
@@ -242,15 +243,15 @@ module _ (s : model.Standing) (ms : Members) (no_shape : model.has_wrong_shape s
 record IsClean (n : ℕ) (s : model.Standing) (ms : Members) : Type 0 where
   no_shape : model.has_wrong_shape s ms ≡ false
   no_keys : model.has_wrong_keys ms ≡ false
-  properties : model.property_faults (model.schema_faults model.whole_profile n (model.standing_inside s ms)) (model.property_members ms) ≡ []
-  others : model.optional_faults (model.schema_faults model.whole_profile n (model.standing_inside s ms)) (member_of (codes "additionalProperties") ms) ≡ []
-  items : model.optional_faults (model.schema_faults model.whole_profile n (model.standing_inside s ms)) (member_of (codes "items") ms) ≡ []
+  properties : model.property_faults (model.schema_faults n (model.standing_inside s ms)) (model.property_members ms) ≡ []
+  others : model.optional_faults (model.schema_faults n (model.standing_inside s ms)) (member_of (codes "additionalProperties") ms) ≡ []
+  items : model.optional_faults (model.schema_faults n (model.standing_inside s ms)) (member_of (codes "items") ms) ≡ []
 
-is-clean : (n : ℕ) (s : model.Standing) (ms : Members) → model.schema_faults model.whole_profile (suc n) s (object ms) ≡ [] → IsClean n s ms
+is-clean : (n : ℕ) (s : model.Standing) (ms : Members) → model.schema_faults (suc n) s (object ms) ≡ [] → IsClean n s ms
 is-clean n s ms e =
-    let read = model.schema_faults model.whole_profile n (model.standing_inside s ms) in
-    let typed = nil_second (model.fault_if (model.has_unknown_keyword model.whole_profile ms) model.schema_keyword) _ e in
-    let shaped = nil_second (model.fault_if (model.has_wrong_type model.whole_profile ms) model.schema_shape) _ typed in
+    let read = model.schema_faults n (model.standing_inside s ms) in
+    let typed = nil_second (model.fault_if (model.has_unknown_keyword ms) model.schema_keyword) _ e in
+    let shaped = nil_second (model.fault_if (model.has_wrong_type ms) model.schema_shape) _ typed in
     let keyed = nil_second (model.fault_if (model.has_wrong_shape s ms) model.schema_shape) _ shaped in
     let inside = nil_second (model.fault_if (model.has_wrong_keys ms) model.schema_keys) _ keyed in
     let children = nil_first (model.child_faults read ms) (model.item_faults ms) inside in
@@ -291,11 +292,11 @@ keyed-if true j k h i = h refl
 keyed-if false j k h i = i refl
 
 object-keyed : (n m : ℕ) (s : model.Standing) (ms : Members) → IsClean n s ms
-    → Keeps (model.schema_faults model.whole_profile n (model.standing_inside s ms)) (model.kind_of_schema m)
-    → ((v : Json) → model.schema_faults model.whole_profile n (model.standing_inside s ms) v ≡ [] → are_keyed (model.kind_fields (model.kind_of_schema m) (model.property_members (members_inside v))) ≡ true)
+    → Keeps (model.schema_faults n (model.standing_inside s ms)) (model.kind_of_schema m)
+    → ((v : Json) → model.schema_faults n (model.standing_inside s ms) v ≡ [] → are_keyed (model.kind_fields (model.kind_of_schema m) (model.property_members (members_inside v))) ≡ true)
     → is_keyed (model.kind_of_schema (suc m) (object ms)) ≡ true
 object-keyed n m s ms clean keeps inside =
-    let read = model.schema_faults model.whole_profile n (model.standing_inside s ms) in
+    let read = model.schema_faults n (model.standing_inside s ms) in
     let kind = model.kind_of_schema m in
     keyed-if (model.is_atomic ms) (kinds.atomic_of (model.shape_of_schema (suc m) (object ms))) _ (λ atomic. refl) (λ kept.
     keyed-if (model.is_array_type ms) _ _ (λ array. keyed-if (model.list_type_is (codes "set") ms) (kinds.set_of (model.scalar_kind_of (model.item_members ms))) _ (λ is_set. refl)
@@ -320,7 +321,7 @@ above-none zero = refl
 above-none (suc n) = ap suc (above-none n)
 
 -- Of a schema without faults at so many levels: its kind where more levels are left, and the kinds of its properties.
-levels-keyed : (n d : ℕ) (s : model.Standing) (v : Json) → model.schema_faults model.whole_profile n s v ≡ []
+levels-keyed : (n d : ℕ) (s : model.Standing) (v : Json) → model.schema_faults n s v ≡ []
     → (is_keyed (model.kind_of_schema (above n d) v) ≡ true) × (are_keyed (model.kind_fields (model.kind_of_schema (above n d)) (model.property_members (members_inside v))) ≡ true)
 unfolding above
 levels-keyed zero d s v e = absurd (cons≢nil e)
@@ -330,7 +331,7 @@ levels-keyed (suc n) d s (object ms) e =
     let clean = is-clean n s ms e in
     let inner = model.standing_inside s ms in (
       object-keyed n (above n d) s ms clean (λ v h. (levels-keyed n d inner v h).0) (λ v h. (levels-keyed n d inner v h).1),
-      fields-keyed (model.schema_faults model.whole_profile n inner) (model.kind_of_schema (suc (above n d)))
+      fields-keyed (model.schema_faults n inner) (model.kind_of_schema (suc (above n d)))
           (λ v h. ap (λ m. is_keyed (model.kind_of_schema m v)) (sym (above-suc n d)) ∙ (levels-keyed n (suc d) inner v h).0) (model.property_members ms) clean.properties,
     )
 
@@ -379,9 +380,9 @@ with_metadata-root fs (kinds.items_of ns gs) own r h = absurd (true≢false (sym
 one-type : (o : Option Json) → is_it (codes "object") o ≡ true → is_it (codes "array") o ≡ false
 unfolding is_it
 one-type None h = refl
-one-type (Some (scalar (Rattle.ssa_model.specs.Json.text u))) h = ap (same_text (codes "array")) (sym (same_text-true (codes "object") u h))
-one-type (Some (scalar (Rattle.ssa_model.specs.Json.whole z))) h = refl
-one-type (Some (scalar (Rattle.ssa_model.specs.Json.truth b))) h = refl
+one-type (Some (scalar (Rattle.ssa_model.specs.definitions.Json.text u))) h = ap (same_text (codes "array")) (sym (same_text-true (codes "object") u h))
+one-type (Some (scalar (Rattle.ssa_model.specs.definitions.Json.whole z))) h = refl
+one-type (Some (scalar (Rattle.ssa_model.specs.definitions.Json.truth b))) h = refl
 one-type (Some (list vs)) h = refl
 one-type (Some (object ms)) h = refl
 
@@ -396,7 +397,7 @@ if-true : (b : Bool) (j k : kinds.Kind) → b ≡ true → (if b then j else k) 
 if-true b j k e = ap (λ t. if t then j else k) e
 
 -- what a root without faults is: an object with the fields of its properties, of which none has a reserved name
-pub root-is : (n : ℕ) (ms : Members) → model.schema_faults model.whole_profile (suc n) model.at_root (object ms) ≡ []
+pub root-is : (n : ℕ) (ms : Members) → model.schema_faults (suc n) model.at_root (object ms) ≡ []
     → (model.kind_of_schema (suc n) (object ms) ≡ kinds.record_of (model.kind_fields (model.kind_of_schema n) (model.property_members ms)))
     × (list_any (λ n. model.is_one_of_texts n model.reserved_names) (model.names (model.property_members ms)) ≡ false)
 unfolding is_it
@@ -412,7 +413,7 @@ root-is n ms e =
       or_second (model.is_atomic ms) _ last,
     )
 
-pub root-record : (n : ℕ) (v : Json) → model.schema_faults model.whole_profile (suc n) model.at_root v ≡ [] → is_record (model.kind_of_schema (suc n) v) ≡ true
+pub root-record : (n : ℕ) (v : Json) → model.schema_faults (suc n) model.at_root v ≡ [] → is_record (model.kind_of_schema (suc n) v) ≡ true
 root-record n (scalar t) e = absurd (cons≢nil e)
 root-record n (list vs) e = absurd (cons≢nil e)
 root-record n (object ms) e = ap is_record (root-is n ms e).0
@@ -432,9 +433,9 @@ told-kind test [] j k h e = ap (passes test) (sym e) ∙ h refl
 told-kind test (f ∷ fs) j k h e = absurd (true≢false (ap is_refused e))
 
 -- the kind of a schema that is accepted
-pub read-root : (v : Json) (k : kinds.Kind) → model.read_schema model.whole_profile v ≡ Ok k → is_root_kind k ≡ true
+pub read-root : (v : Json) (k : kinds.Kind) → model.read_schema v ≡ Ok k → is_root_kind k ≡ true
 read-root v k e =
-    told-kind is_root_kind (model.schema_faults model.whole_profile model.most_levels model.at_root v) _ k
-    (λ none. with_metadata-root model.whole_profile.metadata (model.kind_of_schema model.most_levels v) refl (root-record 31 v none)
-    (ap (λ m. is_keyed (model.kind_of_schema m v)) (sym (above-none model.most_levels)) ∙ (levels-keyed model.most_levels zero model.at_root v none).0))
+    told-kind is_root_kind (model.schema_faults most_levels model.at_root v) _ k
+    (λ none. with_metadata-root model.metadata_fields (model.kind_of_schema most_levels v) refl (root-record 31 v none)
+    (ap (λ m. is_keyed (model.kind_of_schema m v)) (sym (above-none most_levels)) ∙ (levels-keyed most_levels zero model.at_root v none).0))
     e

@@ -4,7 +4,7 @@ use Rattle.std.proofs.lemmas.List.{map-append}
 use Rattle.std.specs.BTreeMap.{insert_entry}
 use Rattle.std.specs.List.Sorted.{IsStrictlySortedBy}
 use Rattle.std.specs.Map.{keys_of}
-use Rattle.ssa_model.specs.Json.{Text, Json}
+use Rattle.ssa_model.specs.definitions.Json.{Text, Json}
 use Rattle.ssa_json.specs.View.{view}
 use Rattle.ssa_json.proofs.Converting.{Found}
 use Rattle.ssa_json.proofs.Ordered.{names, inserted-last}

@@ -4,10 +4,11 @@ use Rattle.std.specs.Prelude.{None, Some, Ok, codes, if◌then◌else◌}
 use Rattle.std.specs.declared.cmp.Ordering.TheVariants.{Less, Equal, Greater}
 use Rattle.std.specs.Ordering.{is_eq, nat_cmp}
 use Rattle.std.specs.Cmp.Lexicographic.{slice_cmp}
-use Rattle.ssa_model.specs.Json.{Text, Json}
-use Rattle.ssa_model.specs.Kind.{Kind, Fields, scalar_kind, atomic_of, record_of, dict_of, set_of, items_of, no_fields, kind_field, kind_of}
-use Rattle.ssa_model.specs.Schema.{with_field, with_metadata, read_schema, schema_faults, kind_of_schema, whole_profile, most_levels, at_root}
-use Rattle.ssa_model.specs.Lawful.{is_record, is_some_record, has_metadata}
+use Rattle.ssa_model.specs.definitions.Json.{Text, Json}
+use Rattle.ssa_model.specs.definitions.Kind.{Kind, Fields, scalar_kind, atomic_of, record_of, dict_of, set_of, items_of, no_fields, kind_field, kind_of}
+use Rattle.ssa_model.specs.definitions.Schema.{with_field, with_metadata, read_schema, schema_faults, kind_of_schema, at_root, metadata_fields}
+use Rattle.ssa_model.specs.definitions.Limits.{most_levels}
+use Rattle.ssa_model.specs.definitions.Lawful.{is_record, is_some_record, has_metadata}
 use Rattle.ssa_json.proofs.Equality.{same_text-itself}
 use Rattle.ssa_schema.proofs.Lawful.{root-record, told-kind}
 
@@ -29,6 +30,6 @@ with_metadata-has fs (dict_of k) h = absurd (true≢false (sym h))
 with_metadata-has fs (set_of k) h = absurd (true≢false (sym h))
 with_metadata-has fs (items_of ns gs) h = absurd (true≢false (sym h))
 
-pub read-metadata : (v : Json) (k : Kind) → read_schema whole_profile v ≡ Ok k → has_metadata k ≡ true
+pub read-metadata : (v : Json) (k : Kind) → read_schema v ≡ Ok k → has_metadata k ≡ true
 read-metadata v k e =
-    told-kind has_metadata (schema_faults whole_profile most_levels at_root v) _ k (λ none. with_metadata-has whole_profile.metadata (kind_of_schema most_levels v) (root-record 31 v none)) e
+    told-kind has_metadata (schema_faults most_levels at_root v) _ k (λ none. with_metadata-has metadata_fields (kind_of_schema most_levels v) (root-record 31 v none)) e

@@ -8,7 +8,7 @@ use Rattle.std.specs.List.Sorted.{IsStrictlySortedBy}
 use Rattle.std.specs.Map.{keys_of}
 use Rattle.std.specs.BTreeMap.{insert_entry}
 use Rattle.ssa_schema.specs.Kinds.{kind_view, fields_view}
-use Rattle.ssa_model.specs.Lawful.{is_before_all, is_ordered, are_ordered}
+use Rattle.ssa_model.specs.definitions.Lawful.{is_before_all, is_ordered, are_ordered}
 use Rattle.ssa_schema.specs.declared.kind.Kind.{Kind}
 use Rattle.ssa_schema.proofs.Lawful.{both, and_first, and_second}
 

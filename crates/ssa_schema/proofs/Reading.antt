@@ -1,9 +1,10 @@
 -- A schema's kind, or its first fault.
 use Rattle.std.proofs.Common.{◌≡◌, List, [], ◌∷◌, Result, Ok, Err, refl, sym, ap, ◌∙◌, true≢false}
 use Rattle.std.specs.Prelude.{Option, None, Some, is_some}
-use Rattle.ssa_model.specs.Json.{Json}
-use Rattle.ssa_model.specs.Kind as kinds
-use Rattle.ssa_model.specs.Schema as model
+use Rattle.ssa_model.specs.definitions.Limits.{most_levels}
+use Rattle.ssa_model.specs.definitions.Json.{Json}
+use Rattle.ssa_model.specs.definitions.Kind as kinds
+use Rattle.ssa_model.specs.definitions.Schema as model
 use Rattle.ssa_schema.specs.Refusals.{refusal_view, first_of, faults_at}
 use Rattle.ssa_schema.specs.Builds.{kind_at}
 use Rattle.ssa_schema.specs.Schemas.{schema_reading, Faults, fault_of}
@@ -29,21 +30,21 @@ unfolding told
 told_by [] k = refl
 told_by (g ∷ gs) k = refl
 
-reading : (v : Json) → schema_reading v ≡ told (faults_at model.most_levels model.at_root v) (model.with_metadata model.whole_profile.metadata (kind_at model.most_levels v))
+reading : (v : Json) → schema_reading v ≡ told (faults_at most_levels model.at_root v) (model.with_metadata model.metadata_fields (kind_at most_levels v))
 unfolding schema_reading faults_at kind_at
-reading v = told_by (model.schema_faults model.whole_profile model.most_levels model.at_root v) (model.with_metadata model.whole_profile.metadata (model.kind_of_schema model.most_levels v))
+reading v = told_by (model.schema_faults most_levels model.at_root v) (model.with_metadata model.metadata_fields (model.kind_of_schema most_levels v))
 
-pub reading_is : (v : Json) → model.read_schema model.whole_profile v ≡ schema_reading v
+pub reading_is : (v : Json) → model.read_schema v ≡ schema_reading v
 unfolding schema_reading
 reading_is v = refl
 
-pub reading-none : (v : Json) → None ≡ first_of (faults_at model.most_levels model.at_root v) → schema_reading v ≡ Ok (model.with_metadata model.whole_profile.metadata (kind_at model.most_levels v))
-reading-none v e = reading v ∙ told_none (faults_at model.most_levels model.at_root v) _ e
+pub reading-none : (v : Json) → None ≡ first_of (faults_at most_levels model.at_root v) → schema_reading v ≡ Ok (model.with_metadata model.metadata_fields (kind_at most_levels v))
+reading-none v e = reading v ∙ told_none (faults_at most_levels model.at_root v) _ e
 
-pub reading-first : (v : Json) (f : model.SchemaFault) → Some f ≡ first_of (faults_at model.most_levels model.at_root v) → schema_reading v ≡ Err f
-reading-first v f e = reading v ∙ told_first (faults_at model.most_levels model.at_root v) _ f e
+pub reading-first : (v : Json) (f : model.SchemaFault) → Some f ≡ first_of (faults_at most_levels model.at_root v) → schema_reading v ≡ Err f
+reading-first v f e = reading v ∙ told_first (faults_at most_levels model.at_root v) _ f e
 
-pub Faults-refusal : (r : Refusal) (v : Json) → Some (refusal_view r) ≡ first_of (faults_at model.most_levels model.at_root v) → Faults (fault_of r) (schema_reading v)
+pub Faults-refusal : (r : Refusal) (v : Json) → Some (refusal_view r) ≡ first_of (faults_at most_levels model.at_root v) → Faults (fault_of r) (schema_reading v)
 Faults-refusal Keyword v e = reading-first v model.schema_keyword e
 Faults-refusal Shape v e = reading-first v model.schema_shape e
 Faults-refusal Keys v e = reading-first v model.schema_keys e

@@ -1,8 +1,8 @@
 -- Laws of building shapes.
 use Rattle.std.proofs.Common.{◌≡◌, ℕ, zero, suc, List, [], ◌∷◌, map, String, Global, BTreeMap, string_bytes, refl, ap, ◌∙◌, rules}
-use Rattle.ssa_model.specs.Json.{Text, Json, scalar, list, object, Scalar, Items, Members}
-use Rattle.ssa_model.specs.Kind as model
-use Rattle.ssa_model.specs.Schema.{shape_fields}
+use Rattle.ssa_model.specs.definitions.Json.{Text, Json, scalar, list, object, Scalar, Items, Members}
+use Rattle.ssa_model.specs.definitions.Kind as model
+use Rattle.ssa_model.specs.definitions.Schema.{shape_fields}
 use Rattle.ssa_json.specs.View.{view, members_view}
 use Rattle.ssa_json.proofs.Converting.{Found}
 use Rattle.ssa_schema.specs.Kinds.{shape_view, shape_fields_view}

@@ -1,8 +1,8 @@
 -- The shapes and kinds of schemas, level by level.
 use Rattle.std.specs.Prelude.{ℕ, List, [], None, Some, codes, if◌then◌else◌}
-use Rattle.ssa_model.specs.Json.{Text, Json, Items, no_items, item, Members, member_of, as_text}
-use Rattle.ssa_model.specs.Kind.{Shape, scalar_shape, record_shape, dict_shape, list_shape, no_shape_fields, Kind, scalar_kind, record_of, dict_of, set_of, items_of}
-use Rattle.ssa_model.specs.Schema.{is_array_type, is_object_type, list_type_is, scalar_kind_of, shape_fields, kind_fields, property_members, item_members, key_names, sorted_texts, with_text, shape_of_schema, kind_of_schema}
+use Rattle.ssa_model.specs.definitions.Json.{Text, Json, Items, no_items, item, Members, member_of, as_text}
+use Rattle.ssa_model.specs.definitions.Kind.{Shape, scalar_shape, record_shape, dict_shape, list_shape, no_shape_fields, Kind, scalar_kind, record_of, dict_of, set_of, items_of}
+use Rattle.ssa_model.specs.definitions.Schema.{is_array_type, is_object_type, list_type_is, scalar_kind_of, shape_fields, kind_fields, property_members, item_members, key_names, sorted_texts, with_text, shape_of_schema, kind_of_schema}
 
 -- where so many levels are left
 unfoldable pub shape_at : ℕ → Json → Shape

@@ -1,7 +1,7 @@
 -- What kinds are.
 use Rattle.std.specs.Prelude.{ℕ, List, [], ◌∷◌, map, String, string_bytes}
 use Rattle.std.specs.declared.alloc.Global.{Global}
-use Rattle.ssa_model.specs.Kind as model
+use Rattle.ssa_model.specs.definitions.Kind as model
 use Rattle.ssa_schema.specs.declared.kind.ScalarKind.{ScalarKind}
 use Rattle.ssa_schema.specs.declared.kind.ScalarKind.TheVariants.{Text, Whole, Truth}
 use Rattle.ssa_schema.specs.declared.kind.Shape.{Shape, fold-Shape}

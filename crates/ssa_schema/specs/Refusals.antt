@@ -1,7 +1,7 @@
 -- The first fault of a schema.
 use Rattle.std.specs.Prelude.{ℕ, List, [], ◌∷◌, ◌++◌, Option, None, Some}
-use Rattle.ssa_model.specs.Json.{Json, Members}
-use Rattle.ssa_model.specs.Schema as model
+use Rattle.ssa_model.specs.definitions.Json.{Json, Members}
+use Rattle.ssa_model.specs.definitions.Schema as model
 use Rattle.ssa_schema.specs.declared.read.refusal.Refusal.{Refusal}
 use Rattle.ssa_schema.specs.declared.read.refusal.Refusal.TheVariants.{Keyword, Shape, Keys, Depth}
 
@@ -23,14 +23,14 @@ or_next (Some x) y = Some x
 -- the faults of a schema itself, without those of the schemas inside
 abbrev pub own_faults : model.Standing → Members → List model.SchemaFault
 own_faults s ms =
-    model.fault_if (model.has_unknown_keyword model.whole_profile ms) model.schema_keyword
-    ++ (model.fault_if (model.has_wrong_type model.whole_profile ms) model.schema_shape
+    model.fault_if (model.has_unknown_keyword ms) model.schema_keyword
+    ++ (model.fault_if (model.has_wrong_type ms) model.schema_shape
     ++ (model.fault_if (model.has_wrong_shape s ms) model.schema_shape
     ++ model.fault_if (model.has_wrong_keys ms) model.schema_keys))
 
 -- the faults where so many levels are left
 unfoldable pub faults_at : ℕ → model.Standing → Json → List model.SchemaFault
-faults_at = model.schema_faults model.whole_profile
+faults_at = model.schema_faults
 
 -- the faults of a schema that is an object, where so many levels are left below it
 abbrev pub object_faults : ℕ → model.Standing → Members → List model.SchemaFault

@@ -1,8 +1,8 @@
 -- What reading a schema answers.
 use Rattle.std.specs.Prelude.{◌≡◌, Result, Ok, Err}
-use Rattle.ssa_model.specs.Json.{Json}
-use Rattle.ssa_model.specs.Kind as kinds
-use Rattle.ssa_model.specs.Schema as model
+use Rattle.ssa_model.specs.definitions.Json.{Json}
+use Rattle.ssa_model.specs.definitions.Kind as kinds
+use Rattle.ssa_model.specs.definitions.Schema as model
 use Rattle.ssa_schema.specs.Kinds.{kind_view}
 use Rattle.ssa_schema.specs.declared.kind.Kind.{Kind}
 use Rattle.ssa_schema.specs.declared.fault.SchemaFault.{SchemaFault}
@@ -12,7 +12,7 @@ use Rattle.ssa_schema.specs.declared.read.refusal.Refusal.TheVariants.{Keyword, 
 
 -- the kind of the root, or the first fault
 unfoldable pub schema_reading : Json → Result kinds.Kind model.SchemaFault
-schema_reading = model.read_schema model.whole_profile
+schema_reading = model.read_schema
 
 -- the fault is the one that is told; want of memory says nothing
 abbrev pub Faults : {A : Type 0} → SchemaFault → Result A model.SchemaFault → Type 0
@@ -34,6 +34,6 @@ ReadsKind (Ok k) r = r ≡ Ok (kind_view k)
 ReadsKind (Err fault) r = Faults fault r
 
 -- the schema is what was given, with the kind that is read
-abbrev pub ReadsSchema : Result (Json × kinds.Kind) SchemaFault → Json → Result kinds.Kind model.SchemaFault → Type 0
-ReadsSchema (Ok s) v r = (s.0 ≡ v) × (r ≡ Ok s.1)
+abbrev pub ReadsSchema : Result model.Schema SchemaFault → Json → Result kinds.Kind model.SchemaFault → Type 0
+ReadsSchema (Ok s) v r = (s.source ≡ v) × (r ≡ Ok s.kind)
 ReadsSchema (Err fault) v r = Faults fault r

@@ -1,5 +1,5 @@
 -- Where schemas stand.
-use Rattle.ssa_model.specs.Schema as model
+use Rattle.ssa_model.specs.definitions.Schema as model
 use Rattle.ssa_schema.specs.declared.read.standing.Standing.{Standing}
 use Rattle.ssa_schema.specs.declared.read.standing.Standing.TheVariants.{Root, Below, InAtomic}
 

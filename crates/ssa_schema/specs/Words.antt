@@ -1,7 +1,7 @@
 -- Words about the members of a schema.
 use Rattle.std.specs.Prelude.{List, Bool, true, false, not, ◌&&◌, Option, None, Some, is_some, codes}
-use Rattle.ssa_model.specs.Json.{Text, Json, scalar, list, object, Items, no_items, item, Members, no_members, member_of, same_text, as_text}
-use Rattle.ssa_model.specs.Schema.{is_text_among, is_key_list, is_scalar_type, are_distinct_texts, if_given, texts_of, whole_profile}
+use Rattle.ssa_model.specs.definitions.Json.{Text, Json, scalar, list, object, Items, no_items, item, Members, no_members, member_of, same_text, as_text}
+use Rattle.ssa_model.specs.definitions.Schema.{is_text_among, is_key_list, is_scalar_type, are_distinct_texts, if_given, texts_of, schema_types}
 
 -- the value is the text
 abbrev pub value_is : Text → Json → Bool
@@ -9,7 +9,7 @@ value_is t v = elim (as_text v) [ None ↦ false | Some u ↦ same_text t u ]
 
 -- the type is missing or none that is read here
 abbrev pub lacks_type : Members → Bool
-lacks_type ms = elim (member_of (codes "type") ms) [ None ↦ true | Some v ↦ not (is_text_among whole_profile.types v) ]
+lacks_type ms = elim (member_of (codes "type") ms) [ None ↦ true | Some v ↦ not (is_text_among schema_types v) ]
 
 -- the member is absent, or passes the test
 abbrev pub if_member : (Json → Bool) → Text → Members → Bool

@@ -1,6 +1,6 @@
 //! What a schema says of each place of a value.
 ghost use Rattle.std.specs.Prelude.{◌≡◌, option_map};
-ghost use Rattle.ssa_model.specs.Kind.{kind_of, shape_of, is_of};
+ghost use Rattle.ssa_model.specs.definitions.Kind.{kind_of, shape_of, is_of};
 ghost use Rattle.ssa_json.specs.View.{scalar_view};
 ghost use Rattle.ssa_schema.specs.Kinds.{scalar_kind_view, shape_view, shape_fields_view, kind_view, fields_view};
 

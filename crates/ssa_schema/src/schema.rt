@@ -1,11 +1,10 @@
 //! Structural schemas, read from JSON.
 ghost use Rattle.std.specs.Prelude.{true, ◌≡◌, [], IfOk, option_map};
-ghost use Rattle.ssa_model.specs.Kind.{faults};
-ghost use Rattle.ssa_model.specs.Schema.{read_schema, whole_profile};
+ghost use Rattle.ssa_model.specs.definitions.Kind.{faults};
+ghost use Rattle.ssa_model.specs.definitions.Schema.{read_schema};
 ghost use Rattle.ssa_json.specs.View.{view};
 ghost use Rattle.ssa_schema.specs.Kinds.{kind_view};
-ghost use Rattle.ssa_model.specs.Lawful.{has_metadata, is_ordered, is_root_kind};
-ghost use Rattle.ssa_model.specs.ShownObjects.{leaves_identity};
+ghost use Rattle.ssa_model.specs.definitions.Lawful.{is_ordered, IsSchemaKind};
 ghost use Rattle.ssa_schema.specs.Refusals.{first_of};
 ghost use Rattle.ssa_schema.specs.Finds.{told, told_view};
 ghost use Rattle.ssa_schema.specs.Schemas.{schema_reading, fault_of, ReadsKind, ReadsSchema};
@@ -34,26 +33,22 @@ pub struct Schema {
 }
 
 impl Model for Schema {
-    ghost use Rattle.ssa_model.specs.Json as json_model;
-    ghost use Rattle.ssa_model.specs.Kind as kind_model;
-    ghost use Rattle.std.specs.Coded.{coded×};
-    ghost use Rattle.ssa_model.specs.Codes.{coded_json};
-    ghost use Rattle.ssa_model.specs.BenchCodes.{coded_kind};
+    ghost use Rattle.ssa_model.specs.definitions.Schema as model;
+    ghost use Rattle.ssa_model.specs.codes.BenchCodes.{coded_schema};
 
-    ghost Value = { json_model.Json × kind_model.Kind };
+    ghost Value = { model.Schema };
 
-    ghost coded = { coded× coded_json coded_kind };
+    ghost coded = { coded_schema };
 
     ghost use Rattle.ssa_json.specs.View as json_view;
     ghost use Rattle.ssa_schema.specs.Kinds as kinds;
 
-    ghost view = { λ s. (json_view.view s.json, kinds.kind_view s.kind) };
+    ghost view = { λ s. record { source = json_view.view s.json; kind = kinds.kind_view s.kind } };
 
-    ghost use Rattle.std.specs.Prelude.{◌≡◌, true};
-    ghost use Rattle.ssa_model.specs.Lawful.{has_metadata, is_ordered, is_root_kind};
-    ghost use Rattle.ssa_model.specs.ShownObjects.{leaves_identity};
+    ghost use Rattle.std.specs.Prelude.{◌≡◌, Ok};
+    ghost use Rattle.ssa_model.specs.definitions.Lawful.{IsSchemaKind};
 
-    ghost invariant = { λ s. (is_root_kind (kinds.kind_view s.kind) ≡ true) × (is_ordered (kinds.kind_view s.kind) ≡ true) × (has_metadata (kinds.kind_view s.kind) ≡ true) × (leaves_identity (kinds.kind_view s.kind) ≡ true) };
+    ghost invariant = { λ s. IsSchemaKind (kinds.kind_view s.kind) × (model.read_schema (json_view.view s.json) ≡ Ok (kinds.kind_view s.kind)) };
 }
 
 // The fault that a refusal is.
@@ -88,7 +83,7 @@ impl Schema {
     /// `apiVersion`, `kind` and `metadata` are not the schema's to give, and `metadata` may hold
     /// `annotations`, `finalizers` and `labels`.
     pub fn read(alloc: Global, schema: Json) -> Result<Schema, SchemaFault>
-        ensures { ReadsSchema result (view schema) (read_schema whole_profile (view schema)) }
+        ensures { ReadsSchema result (view schema) (read_schema (view schema)) }
     {
         match read_kind(alloc, &schema) {
             Ok(kind) => Ok(Schema { json: schema, kind }),
@@ -98,7 +93,7 @@ impl Schema {
 
     /// What was read.
     pub fn json(&self) -> &Json
-        ensures { view result.now ≡ self.now.0 }
+        ensures { view result.now ≡ self.now.source }
     {
         &self.json
     }
@@ -107,12 +102,11 @@ impl Schema {
     /// an object with fields, whose names rise at each level, and each map list in it has key
     /// fields. Its field `metadata` is an object with fields. No field of the root is named as a part
     /// of the identity, and none of `metadata` as what an object file's metadata has beside the body.
+    /// It is the one that is read from the schema's value, whatever way the schema was made.
     pub fn kind(&self) -> &Kind
-        ensures same { kind_view result.now ≡ self.now.1 }
-        ensures root { is_root_kind self.now.1 ≡ true }
-        ensures ordered { is_ordered self.now.1 ≡ true }
-        ensures metadata { has_metadata self.now.1 ≡ true }
-        ensures apart { leaves_identity self.now.1 ≡ true }
+        ensures same { kind_view result.now ≡ self.now.kind }
+        ensures accepted { IsSchemaKind self.now.kind }
+        ensures read { read_schema self.now.source ≡ Ok self.now.kind }
     {
         &self.kind
     }
@@ -124,7 +118,7 @@ impl Schema {
     /// their values are, and items of a map list where their key fields are. A list of `n` items
     /// costs about `n log n` comparisons of texts.
     pub fn first_fault(&self, alloc: Global, body: &Json) -> Result<Option<BodyFault>, AllocError>
-        ensures { IfOk result (λ f. option_map told_view f ≡ option_map told (first_of (faults self.now.1 (view body.now) []))) }
+        ensures { IfOk result (λ f. option_map told_view f ≡ option_map told (first_of (faults self.now.kind (view body.now) []))) }
     {
         match value_fault(alloc, body, &self.kind)? {
             Some(found) => Ok(Some(found.into_fault())),

@@ -1,7 +1,7 @@
 -- Laws of the answers to lines.
 use Rattle.std.proofs.Common.{◌≡◌, ℕ, ◌<◌, List, [], ◌∷◌, ◌++◌, length, inl, inr, refl, lt-ltb}
-use Rattle.ssa_model.specs.Limits.{most_line_bytes}
-use Rattle.ssa_model.specs.Session.{too_long_text, out_of_memory_text}
+use Rattle.ssa_model.specs.definitions.Limits.{most_line_bytes}
+use Rattle.ssa_model.specs.definitions.Session.{too_long_text, out_of_memory_text}
 use Rattle.ssa_session.specs.Session.{AnswersLine}
 
 module _ {M : Type 0} (reply : M → List ℕ → List ℕ) (after : M → List ℕ → M) where

@@ -7,13 +7,13 @@ use Rattle.std.proofs.lemmas.Map.Text.{btree_map_updates_text}
 use Rattle.std.specs.BTreeMap.{UpdatesBy, get_by_text}
 use Rattle.std.specs.Cmp.Lexicographic.{slice_cmp}
 use Rattle.std.specs.Str.{bytes_eq}
-use Rattle.ssa_model.specs.Json.{Text, text, whole, truth, Json, scalar, list, object, Items, Members, no_members, member, member_of, same_text, as_text}
-use Rattle.ssa_model.specs.Schema.{has_member, is_text, list_of_texts, texts_of}
-use Rattle.ssa_model.specs.Commands as given
-use Rattle.ssa_model.specs.Commands.{MemberRule, CommandRule, rule_of, word_of, session_rules, is_known_member, are_known_members, follows_rule, truth_in, text_in, texts_in, value_in, command_with}
-use Rattle.ssa_model.specs.Answers as answers
-use Rattle.ssa_model.specs.Session.{LineFault, bad_moment, command_shape, has_moment, owners_command, with_path, read_command}
-use Rattle.ssa_model.specs.ElementTexts.{path_of}
+use Rattle.ssa_model.specs.definitions.Json.{Text, text, whole, truth, Json, scalar, list, object, Items, Members, no_members, member, member_of, same_text, as_text}
+use Rattle.ssa_model.specs.definitions.Schema.{has_member, is_text, list_of_texts, texts_of}
+use Rattle.ssa_model.specs.definitions.Commands as given
+use Rattle.ssa_model.specs.definitions.Commands.{MemberRule, CommandRule, rule_of, word_of, is_known_member, are_known_members, follows_rule, truth_in, text_in, texts_in, value_in, command_with}
+use Rattle.ssa_model.specs.definitions.Answers as answers
+use Rattle.ssa_model.specs.definitions.Session.{LineFault, bad_moment, command_shape, has_moment, owners_command, with_path, read_command}
+use Rattle.ssa_model.specs.definitions.ElementTexts.{path_of}
 use Rattle.ssa_json.specs.Moment.{is_moment}
 use Rattle.ssa_json.specs.Reading.{json_reading}
 use Rattle.ssa_json.specs.View.{view, members_view}
@@ -28,30 +28,30 @@ use Rattle.ssa_session.specs.Commands.{word_text, member_rules, rule_at, HasRequ
 
 -- what a value is read as
 abbrev pub meaning : Json → Result answers.Command LineFault
-meaning = read_command readings session_rules
+meaning = read_command readings
 
 abbrev by_rule : Members → Text → Option CommandRule → Option given.Command
 by_rule ms word r = elim r [ None ↦ None | Some rule ↦ (if follows_rule ms rule then Some (command_with word ms) else None) ]
 
 abbrev by_word : Members → Option Text → Option given.Command
-by_word ms w = elim w [ None ↦ None | Some word ↦ by_rule ms word (rule_of session_rules word) ]
+by_word ms w = elim w [ None ↦ None | Some word ↦ by_rule ms word (rule_of word) ]
 
 abbrev pub told : Option given.Command → Result answers.Command LineFault
 told o = elim o [
   | None ↦ Err command_shape
-  | Some c ↦ (if has_moment readings session_rules c then with_path readings session_rules c else Err bad_moment)
+  | Some c ↦ (if has_moment readings c then with_path readings c else Err bad_moment)
 ]
 
 -- ---- by the word
 
-no_word : (ms : Members) (w : Option Text) → option_and_then (rule_of session_rules) w ≡ None → by_word ms w ≡ None
+no_word : (ms : Members) (w : Option Text) → option_and_then (rule_of) w ≡ None → by_word ms w ≡ None
 no_word ms None none = refl
 no_word ms (Some word) none = ap (by_rule ms word) none
 
-pub meaning-no_word : (ms : Members) → option_and_then (rule_of session_rules) (word_of ms) ≡ None → meaning (object ms) ≡ Err command_shape
+pub meaning-no_word : (ms : Members) → option_and_then (rule_of) (word_of ms) ≡ None → meaning (object ms) ≡ Err command_shape
 meaning-no_word ms none = ap told (no_word ms (word_of ms) none)
 
-rule_of-word : (word : Word) → rule_of session_rules (word_text word) ≡ Some (rule_at word)
+rule_of-word : (word : Word) → rule_of (word_text word) ≡ Some (rule_at word)
 rule_of-word Apply = refl
 rule_of-word Update = refl
 rule_of-word Strip = refl
@@ -82,7 +82,7 @@ pub meaning-show : (ms : Members) → word_of ms ≡ Some (codes "show") → fol
 meaning-show ms is follows = meaning-word ms Show true is follows
 
 pub rule_of-other : (t : Text) → same_text t (codes "apply") ≡ false → same_text t (codes "update") ≡ false → same_text t (codes "strip") ≡ false → same_text t (codes "undo") ≡ false → same_text t (codes "redo") ≡ false
-    → same_text t (codes "show") ≡ false → same_text t (codes "owners") ≡ false → same_text t (codes "log") ≡ false → rule_of session_rules t ≡ None
+    → same_text t (codes "show") ≡ false → same_text t (codes "owners") ≡ false → same_text t (codes "log") ≡ false → rule_of t ≡ None
 rule_of-other t not_apply not_update not_strip not_undo not_redo not_show not_owners not_log = rw (not_apply, not_update, not_strip, not_undo, not_redo, not_show, not_owners, not_log) refl
 
 -- ---- the members of an apply command and of an update command

@@ -1,17 +1,16 @@
 -- The bench after the replies to lines is that of the commands that the lines gave.
 use Rattle.std.proofs.Common.{◌≡◌, ℕ, List, [], ◌∷◌, ◌++◌, ◌⊎◌, inl, inr, Bool, true, false, Option, Result, Ok, Err, refl, sym, ap, ◌∙◌, subst}
 use Rattle.std.specs.Prelude.{if◌then◌else◌, nat_lt, length}
-use Rattle.ssa_model.specs.Json.{same_text}
-use Rattle.ssa_model.specs.Limits.{most_line_bytes}
-use Rattle.ssa_model.specs.Commands.{session_rules}
-use Rattle.ssa_model.specs.History.{Bench}
-use Rattle.ssa_model.specs.Answers.{Command, run}
-use Rattle.ssa_model.specs.Session.{LineFault, answer_read, command_in, out_of_memory_text, read_line, too_long_text}
-use Rattle.ssa_model.specs.Headline.{AnswersAreTold, RunIsInEffect, RunKeepsHistory, RunsGoOn}
+use Rattle.ssa_model.specs.definitions.Json.{same_text}
+use Rattle.ssa_model.specs.definitions.Limits.{most_line_bytes}
+use Rattle.ssa_model.specs.definitions.History.{Bench}
+use Rattle.ssa_model.specs.definitions.Answers.{Command, run}
+use Rattle.ssa_model.specs.definitions.Session.{LineFault, answer_read, command_in, out_of_memory_text, read_line, too_long_text}
+use Rattle.ssa_model.specs.laws.Headline.{AnswersAreTold, RunIsInEffect, RunKeepsHistory, RunsGoOn}
 use Rattle.ssa_json.specs.Readings.{readings}
 use Rattle.ssa_session.specs.BenchLines.{line_reply, bench_after}
 use Rattle.ssa_session.specs.Effects.{IsRunOf, RunsAll, RunsWhole, RunsPartly, commands_of}
-use Rattle.ssa_session.specs.Lines.{lines, whole_lines}
+use Rattle.ssa_model.specs.definitions.Lines.{lines, whole_lines}
 use Rattle.ssa_session.specs.Outcome.{AnswersAll, AnswersWhole, AnswersPartly}
 use Rattle.ssa_session.specs.Session.{Replies, IsAnswer, IsRefused}
 
@@ -21,26 +20,26 @@ Bytes = List ℕ
 -- ---- one line
 
 -- the bench after a line that was read
-after-read : (old : Bench) (r : Result Command LineFault) → (answer_read readings session_rules old r).1 ≡ (run old (elim r [ Ok c ↦ c ∷ [] | Err f ↦ [] ])).1
+after-read : (old : Bench) (r : Result Command LineFault) → (answer_read readings old r).1 ≡ (run old (elim r [ Ok c ↦ c ∷ [] | Err f ↦ [] ])).1
 after-read old (Ok c) = refl
 after-read old (Err f) = refl
 
 -- the command of a line over the limit, and of another
 command_by : Bool → Bytes → List Command
-command_by long line = if long then [] else elim (read_line readings session_rules line) [ Ok c ↦ c ∷ [] | Err f ↦ [] ]
+command_by long line = if long then [] else elim (read_line readings line) [ Ok c ↦ c ∷ [] | Err f ↦ [] ]
 
 after-line : (long : Bool) (old : Bench) (line : Bytes) → (if long then old else bench_after old line) ≡ (run old (command_by long line)).1
 unfolding command_by
 after-line true old line = refl
-after-line false old line = after-read old (read_line readings session_rules line)
+after-line false old line = after-read old (read_line readings line)
 
 told-by : AnswersAreTold → (long : Bool) (old : Bench) (line : Bytes) → same_text (if long then too_long_text else line_reply old line) out_of_memory_text ≡ false
 told-by laws true old line = laws.0
-told-by laws false old line = laws.1 readings session_rules old line
+told-by laws false old line = laws.1 readings old line
 
 -- the commands of a line with this reply
 abbrev given_by : Bytes → Bytes → List Command
-given_by line text = if same_text text out_of_memory_text then [] else command_in readings session_rules line
+given_by line text = if same_text text out_of_memory_text then [] else command_in readings line
 
 unless-want : (b : Bool) (cs : List Command) → b ≡ false → (if b then [] else cs) ≡ cs
 unless-want true cs h = cc
@@ -55,10 +54,10 @@ unfolding command_by
 answered laws old new line text (inl a) =
     let long = nat_lt most_line_bytes (length line) in
     let told : same_text text out_of_memory_text ≡ false = ap (λ t. same_text t out_of_memory_text) a.0 ∙ told-by laws long old line in
-    a.1 ∙ after-line long old line ∙ ap (λ cs. (run old cs).1) (sym (unless-want (same_text text out_of_memory_text) (command_in readings session_rules line) told))
+    a.1 ∙ after-line long old line ∙ ap (λ cs. (run old cs).1) (sym (unless-want (same_text text out_of_memory_text) (command_in readings line) told))
 answered laws old new line text (inr r) =
     let told : same_text text out_of_memory_text ≡ true = ap (λ t. same_text t out_of_memory_text) r.0 in
-    r.1 ∙ ap (λ cs. (run old cs).1) (sym (if-want (same_text text out_of_memory_text) (command_in readings session_rules line) told))
+    r.1 ∙ ap (λ cs. (run old cs).1) (sym (if-want (same_text text out_of_memory_text) (command_in readings line) told))
 
 -- ---- all lines
 

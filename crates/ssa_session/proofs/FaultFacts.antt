@@ -1,15 +1,15 @@
 -- The texts of faults.
 use Rattle.std.proofs.Common.{◌≡◌, ℕ, ◌++◌, map, refl, sym, ap, ◌∙◌}
 use Rattle.std.specs.Prelude.{Result, Ok, Err, IfOk, OnOk, is_ok, if◌then◌else◌, codes}
-use Rattle.ssa_model.specs.Json.{Text, list, object, no_members, member, compact}
-use Rattle.ssa_model.specs.Path.{Path, element_text}
-use Rattle.ssa_model.specs.Kind as kinds
-use Rattle.ssa_model.specs.Kind.{unknown_field, wrong_type, missing_key, duplicate_item}
-use Rattle.ssa_model.specs.Entries.{text_json}
-use Rattle.ssa_model.specs.History.{Bench, past_len, future_len}
-use Rattle.ssa_model.specs.Answers.{Fault, body_fault, nothing_to_undo, nothing_to_redo, Reply, fault, answer, undo, redo}
-use Rattle.ssa_model.specs.GivenEntries as entries
-use Rattle.ssa_model.specs.Replies.{with_fault, entry_fault_json, fault_at, fault_reply, reply_text}
+use Rattle.ssa_model.specs.definitions.Json.{Text, list, object, no_members, member, compact}
+use Rattle.ssa_model.specs.definitions.Path.{Path, element_text}
+use Rattle.ssa_model.specs.definitions.Kind as kinds
+use Rattle.ssa_model.specs.definitions.Kind.{unknown_field, wrong_type, missing_key, duplicate_item}
+use Rattle.ssa_model.specs.definitions.Entries.{text_json}
+use Rattle.ssa_model.specs.definitions.History.{Bench, past_len, future_len}
+use Rattle.ssa_model.specs.definitions.Answers.{Fault, body_fault, nothing_to_undo, nothing_to_redo, Reply, fault, answer, undo, redo}
+use Rattle.ssa_model.specs.definitions.GivenEntries as entries
+use Rattle.ssa_model.specs.definitions.Replies.{with_fault, entry_fault_json, fault_json_at, fault_reply, reply_text}
 use Rattle.ssa_schema.specs.Finds.{told, told_view}
 use Rattle.ssa_schema.specs.declared.body_fault.BodyFault.{BodyFault}
 use Rattle.ssa_bench.specs.Faults.{IsFault}
@@ -22,10 +22,10 @@ use Rattle.ssa_session.proofs.ReplyFacts.{items_json-map}
 
 -- ---- a fault with its path
 
-at_path : (number : ℕ) (name : Text) (p : Path) → object (with_fault number name (member (codes "path") (names_json (map element_text p)) no_members)) ≡ fault_at number name p
+at_path : (number : ℕ) (name : Text) (p : Path) → object (with_fault number name (member (codes "path") (names_json (map element_text p)) no_members)) ≡ fault_json_at number name p
 at_path number name p = ap (λ vs. object (with_fault number name (member (codes "path") (list vs) no_members))) (sym (items_json-map text_json element_text p))
 
-told_json-told : (f : kinds.BodyFault) (p : Path) → told_json (told (f, p)) ≡ fault_reply (body_fault f p)
+told_json-told : (f : kinds.BodyFault) (p : Path) → told_json (told (kinds.fault_at f p)) ≡ fault_reply (body_fault f p)
 told_json-told unknown_field p = at_path 20 (codes "UnknownField") p
 told_json-told wrong_type p = at_path 21 (codes "WrongType") p
 told_json-told missing_key p = at_path 22 (codes "MissingKey") p
@@ -34,7 +34,7 @@ told_json-told duplicate_item p = at_path 23 (codes "DuplicateItem") p
 pub body_fault-written : {T E : Type 0} (r : Result T E) (old new : Text) (f : BodyFault) (IsTold : Fault → Type 0) → ((g : Fault) → IsTold g → IsFault (Body f) g)
     → OnOk r (new ≡ old ++ compact (told_json (told_view f))) → OnOk r ((g : Fault) → IsTold g → new ≡ old ++ compact (fault_reply g))
 body_fault-written (Ok x) old new f IsTold is_told is =
-    λ g h. let t = is_told g h in is ∙ ap (λ v. old ++ compact v) (ap told_json t.2 ∙ told_json-told t.0.0 t.0.1 ∙ ap fault_reply (sym t.1))
+    λ g h. let t = is_told g h in is ∙ ap (λ v. old ++ compact v) (ap told_json t.2 ∙ told_json-told t.0.fault t.0.path ∙ ap fault_reply (sym t.1))
 body_fault-written (Err e) old new f IsTold is_told is = tt
 
 -- ---- faults of entries

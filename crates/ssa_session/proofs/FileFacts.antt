@@ -1,16 +1,17 @@
 -- Faults of files, from the faults of their parts.
 use Rattle.std.proofs.Common.{◌≡◌, List, Bool, true, false, refl, ap, ◌∙◌, subst}
 use Rattle.std.specs.Prelude.{Result, Ok, Err, if◌then◌else◌, Option}
-use Rattle.ssa_model.specs.Json.{Text, Json, object, list, scalar}
-use Rattle.ssa_model.specs.Kind.{Kind}
-use Rattle.ssa_model.specs.Schema as schemas
-use Rattle.ssa_model.specs.Schema.{read_schema, whole_profile, schema_keyword, schema_shape, schema_keys, schema_depth}
-use Rattle.ssa_model.specs.Operations.{State}
-use Rattle.ssa_model.specs.History.{Schema, Bench}
-use Rattle.ssa_model.specs.Answers as answers
-use Rattle.ssa_model.specs.Files as model
-use Rattle.ssa_model.specs.Files.{bench_of_file, bench_or_fault, of_object, of_schema, schema_of, schema_of_file, value_of_file}
-use Rattle.ssa_model.specs.Headline.{IsAlone}
+use Rattle.ssa_model.specs.definitions.Objects.{Identity}
+use Rattle.ssa_model.specs.definitions.Json.{Text, Json, object, list, scalar}
+use Rattle.ssa_model.specs.definitions.Kind.{Kind}
+use Rattle.ssa_model.specs.definitions.Schema as schemas
+use Rattle.ssa_model.specs.definitions.Schema.{read_schema, schema_keyword, schema_shape, schema_keys, schema_depth, Schema}
+use Rattle.ssa_model.specs.definitions.Operations.{State}
+use Rattle.ssa_model.specs.definitions.History.{Bench}
+use Rattle.ssa_model.specs.definitions.Answers as answers
+use Rattle.ssa_model.specs.definitions.Files as model
+use Rattle.ssa_model.specs.definitions.Files.{bench_of_file, bench_or_fault, of_object, of_schema, schema_of, schema_of_file, value_of_file}
+use Rattle.ssa_model.specs.laws.Headline.{IsAlone}
 use Rattle.ssa_json.specs.Readings.{readings}
 use Rattle.ssa_schema.specs.Schemas.{Faults}
 use Rattle.ssa_schema.specs.declared.fault.SchemaFault.{SchemaFault}
@@ -23,12 +24,12 @@ use Rattle.ssa_session.specs.Files.{IsGivenFile, object_fault, schema_fault}
 -- ---- a schema file
 
 abbrev kind_or_fault : Json → Result Kind schemas.SchemaFault → Result Schema model.FileFault
-kind_or_fault v r = elim r [ Ok kind ↦ Ok (v, kind) | Err f ↦ Err (of_schema f) ]
+kind_or_fault v r = elim r [ Ok kind ↦ Ok (record { source = v; kind = kind }) | Err f ↦ Err (of_schema f) ]
 
-by-value : (bytes : Text) (v : Json) (r : Result Kind schemas.SchemaFault) → value_of_file readings bytes ≡ Ok v → read_schema whole_profile v ≡ r → schema_of_file readings bytes ≡ kind_or_fault v r
+by-value : (bytes : Text) (v : Json) (r : Result Kind schemas.SchemaFault) → value_of_file readings bytes ≡ Ok v → read_schema v ≡ r → schema_of_file readings bytes ≡ kind_or_fault v r
 by-value bytes v r is e = ap (λ x. elim x [ Ok w ↦ schema_of w | Err f ↦ Err f ]) is ∙ ap (kind_or_fault v) e
 
-pub schema-refused : (f : SchemaFault) (bytes : Text) (v : Json) → value_of_file readings bytes ≡ Ok v → Faults f (read_schema whole_profile v) → IsGivenFile {A = Schema} (Err (schema_fault f)) (schema_of_file readings bytes)
+pub schema-refused : (f : SchemaFault) (bytes : Text) (v : Json) → value_of_file readings bytes ≡ Ok v → Faults f (read_schema v) → IsGivenFile {A = Schema} (Err (schema_fault f)) (schema_of_file readings bytes)
 schema-refused schema.SchemaKeyword bytes v is h = (of_schema schema_keyword, by-value bytes v _ is h, refl)
 schema-refused schema.SchemaShape bytes v is h = (of_schema schema_shape, by-value bytes v _ is h, refl)
 schema-refused schema.SchemaKeys bytes v is h = (of_schema schema_keys, by-value bytes v _ is h, refl)
@@ -57,13 +58,13 @@ object-refused bench.OutOfMemory s bytes v is h = tt
 
 -- ---- a bench that is made has one state
 
-by-state : (s : Schema) (i : List (Option Json)) (r : Result State answers.Fault) (b : Bench) → answers.with_lone_state s i r ≡ Ok b → IsAlone b.timeline
+by-state : (s : Schema) (i : Identity) (r : Result State answers.Fault) (b : Bench) → answers.with_lone_state s i r ≡ Ok b → IsAlone b.timeline
 by-state s i (Ok state) b is =
     let made : answers.lone_bench s i state ≡ b = cc in
     subst (λ x. IsAlone x.timeline) made (refl, refl)
 by-state s i (Err f) b is = absurd cc
 
-by-name : (named : Bool) (s : Schema) (i : List (Option Json)) (r : Result State answers.Fault) (b : Bench) → (if named then Err answers.identity_fault else answers.with_lone_state s i r) ≡ Ok b → IsAlone b.timeline
+by-name : (named : Bool) (s : Schema) (i : Identity) (r : Result State answers.Fault) (b : Bench) → (if named then Err answers.identity_fault else answers.with_lone_state s i r) ≡ Ok b → IsAlone b.timeline
 by-name true s i r b is = absurd cc
 by-name false s i r b is = by-state s i r b is
 

@@ -1,10 +1,11 @@
 -- How a session on a file ends, from how its parts end.
 use Rattle.std.proofs.Common.{◌≡◌, ℕ, List, [], ◌∷◌, ◌++◌, inl, inr, Option, Result, Ok, Err, refl, subst}
 use Rattle.std.specs.Io.KnownBytes.{Appends}
-use Rattle.ssa_model.specs.Json.{Text}
-use Rattle.ssa_model.specs.History.{Bench, Schema}
-use Rattle.ssa_model.specs.Files as model
-use Rattle.ssa_model.specs.Files.{bench_of_file}
+use Rattle.ssa_model.specs.definitions.Json.{Text}
+use Rattle.ssa_model.specs.definitions.History.{Bench}
+use Rattle.ssa_model.specs.definitions.Schema.{Schema}
+use Rattle.ssa_model.specs.definitions.Files as model
+use Rattle.ssa_model.specs.definitions.Files.{bench_of_file}
 use Rattle.ssa_json.specs.Devices.{AppendsPart}
 use Rattle.ssa_json.specs.Readings.{readings}
 use Rattle.ssa_json.specs.declared.fault.JsonFault.TheVariants as json
@@ -14,7 +15,7 @@ use Rattle.ssa_bench.specs.declared.fault.Fault.TheVariants as bench
 use Rattle.ssa_session.specs.Effects.{RunsWhole, RunsPartly}
 use Rattle.ssa_session.specs.Files.{IsFileFault, IsGivenFile, IsTold}
 use Rattle.ssa_session.specs.FileSessions.{IsHeld, IsRefusal, IsSessionOn, IsTelling}
-use Rattle.ssa_session.specs.Lines.{line_feed}
+use Rattle.ssa_model.specs.definitions.Lines.{line_feed}
 use Rattle.ssa_session.specs.declared.engine.SessionFault.{SessionFault}
 use Rattle.ssa_session.specs.declared.engine.SessionFault.TheVariants.{Reader, Writer}
 use Rattle.ssa_session.specs.declared.files.Ending.{Ending}

@@ -2,8 +2,8 @@
 use Rattle.std.proofs.Common.{◌≡◌, ℕ, ◌+◌, ◌<◌, ◌≤◌, List, [], ◌∷◌, ◌++◌, Bool, true, map, drop, length, get_or, refl, sym, ap, ◌∙◌, append_assoc}
 use Rattle.std.specs.Prelude.{Result, Ok, Err, OnOk, is_ok, if◌then◌else◌}
 use Rattle.std.proofs.lemmas.List.{drop_more, drop_all}
-use Rattle.ssa_model.specs.Json.{Text, Json, item, comma_if, compact, compact_items}
-use Rattle.ssa_model.specs.Replies.{items_json}
+use Rattle.ssa_model.specs.definitions.Json.{Text, Json, item, comma_if, compact, compact_items}
+use Rattle.ssa_model.specs.definitions.Replies.{items_json}
 
 module _ {X : Type 0} (f : X → Json) where
   -- the text of the items from the i-th on, with the closing bracket

@@ -4,13 +4,14 @@ use Rattle.std.proofs.lemmas.List.{append-nil}
 use Rattle.std.proofs.lemmas.Grind.{flat_map-append}
 use Rattle.std.proofs.KnownBytes.{Consumes-nil, Consumes-trans, Appends-nil, Appends-trans}
 use Rattle.std.specs.Io.KnownBytes.{Consumes, Appends, IsAtEnd}
-use Rattle.ssa_session.specs.declared.line.Line.{Line}
-use Rattle.ssa_session.specs.Lines.{line_feed, split_lines, whole_lines, unfinished_line, last_line, lines, ended, HasNoLineFeed}
-use Rattle.ssa_session.specs.Reading.{TakesLine}
+use Rattle.ssa_file.specs.declared.line.Line.{Line}
+use Rattle.ssa_model.specs.definitions.Limits.{most_line_bytes}
+use Rattle.ssa_model.specs.definitions.Lines.{line_feed, split_lines, whole_lines, unfinished_line, last_line, lines, ended, HasNoLineFeed}
+use Rattle.ssa_file.specs.Reading.{TakesLine}
 use Rattle.ssa_json.specs.Devices.{AppendsPart}
 use Rattle.ssa_session.specs.Session.{IsAnswer, IsRefused, AnswersLine, Replies}
 use Rattle.ssa_session.specs.Outcome.{AnswersAll, AnswersWhole, AnswersPartly}
-use Rattle.ssa_session.proofs.LinesFacts.{split_lines-whole, split_lines-unfinished}
+use Rattle.ssa_model.proofs.LinesFacts.{split_lines-whole, split_lines-unfinished}
 
 last_line-of_some : (text : List ℕ) → text ≢ [] → last_line text ≡ text ∷ []
 last_line-of_some [] some = absurd (some refl)
@@ -47,7 +48,7 @@ module _ {M : Type 0} (reply : M → List ℕ → List ℕ) (after : M → List 
   SoFar-none left written old = record { input = []; whole = refl; read = Consumes-nil left; texts = []; replies = refl; writes = Appends-nil written }
 
   module _ (a b c w v u : Option (List ℕ)) (old mid new : M) (held : Line) (so_far : SoFar a b w v old mid) where
-    pub SoFar-more : (line : TakesLine b c held (line_feed ∷ [])) → AnswersLine reply after mid new line.text (Appends v u) → SoFar a c w u old new
+    pub SoFar-more : (line : TakesLine most_line_bytes b c held (line_feed ∷ [])) → AnswersLine reply after mid new line.text (Appends v u) → SoFar a c w u old new
     SoFar-more line answer =
         let split = split_lines-whole so_far.input line.text so_far.whole line.plain in
         record {
@@ -60,7 +61,7 @@ module _ {M : Type 0} (reply : M → List ℕ → List ℕ) (after : M → List 
         }
 
     -- the reader failed in a line
-    pub AnswersWhole-fault : TakesLine b c held [] → AnswersWhole reply after a c w v old mid
+    pub AnswersWhole-fault : TakesLine most_line_bytes b c held [] → AnswersWhole reply after a c w v old mid
     AnswersWhole-fault line =
         let split = split_lines-unfinished so_far.input line.text so_far.whole line.plain in
         record {
@@ -72,7 +73,7 @@ module _ {M : Type 0} (reply : M → List ℕ → List ℕ) (after : M → List 
         }
 
     -- the input ended, and no line was begun
-    pub AnswersAll-none : (line : TakesLine b c held []) → line.text ≡ [] → AnswersAll reply after a c w v old mid
+    pub AnswersAll-none : (line : TakesLine most_line_bytes b c held []) → line.text ≡ [] → AnswersAll reply after a c w v old mid
     AnswersAll-none line none =
         record {
           input = so_far.input ++ line.text;
@@ -83,7 +84,7 @@ module _ {M : Type 0} (reply : M → List ℕ → List ℕ) (after : M → List 
         }
 
     -- the input ended in a line
-    pub AnswersAll-last : (line : TakesLine b c held []) → line.text ≢ [] → AnswersLine reply after mid new line.text (Appends v u) → AnswersAll reply after a c w u old new
+    pub AnswersAll-last : (line : TakesLine most_line_bytes b c held []) → line.text ≢ [] → AnswersLine reply after mid new line.text (Appends v u) → AnswersAll reply after a c w u old new
     AnswersAll-last line some answer =
         record {
           input = so_far.input ++ line.text;
@@ -94,7 +95,7 @@ module _ {M : Type 0} (reply : M → List ℕ → List ℕ) (after : M → List 
         }
 
     -- the writer failed at a whole line
-    pub AnswersPartly-whole : (line : TakesLine b c held (line_feed ∷ [])) → AnswersLine reply after mid new line.text (AppendsPart v u) → AnswersPartly reply after a c w u old new
+    pub AnswersPartly-whole : (line : TakesLine most_line_bytes b c held (line_feed ∷ [])) → AnswersLine reply after mid new line.text (AppendsPart v u) → AnswersPartly reply after a c w u old new
     AnswersPartly-whole line answer =
         let split = split_lines-whole so_far.input line.text so_far.whole line.plain in
         record {
@@ -110,7 +111,7 @@ module _ {M : Type 0} (reply : M → List ℕ → List ℕ) (after : M → List 
         }
 
     -- the writer failed at the last line
-    pub AnswersPartly-last : (line : TakesLine b c held []) → line.text ≢ [] → OnSome a (IsAtEnd c) → AnswersLine reply after mid new line.text (AppendsPart v u) → AnswersPartly reply after a c w u old new
+    pub AnswersPartly-last : (line : TakesLine most_line_bytes b c held []) → line.text ≢ [] → OnSome a (IsAtEnd c) → AnswersLine reply after mid new line.text (AppendsPart v u) → AnswersPartly reply after a c w u old new
     AnswersPartly-last line some end answer =
         record {
           input = so_far.input ++ line.text;

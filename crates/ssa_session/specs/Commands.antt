@@ -1,12 +1,12 @@
 -- Which lines are which commands, and why the others are none.
 use Rattle.std.specs.Prelude.{◌≡◌, List, [], ◌∷◌, false, true, Option, Some, None, Result, Ok, Err, codes, string_bytes, is_some, option_and_then}
-use Rattle.ssa_model.specs.Json.{Text, Members, member_of, as_text}
-use Rattle.ssa_model.specs.Readings.{not_json, null_value, number_outside}
-use Rattle.ssa_model.specs.Commands.{MemberRule, text_member, truth_member, texts_member, any_member, needs, may_have, CommandRule, text_in, value_in}
-use Rattle.ssa_model.specs.Answers as answers
-use Rattle.ssa_model.specs.Session as session
-use Rattle.ssa_model.specs.Session.{unread, bad_moment, command_shape, of_element}
-use Rattle.ssa_model.specs.ElementTexts.{bad_element, index_element, not_canonical}
+use Rattle.ssa_model.specs.definitions.Json.{Text, Members, member_of, as_text}
+use Rattle.ssa_model.specs.definitions.Readings.{not_json, null_value, number_outside}
+use Rattle.ssa_model.specs.definitions.Commands.{MemberRule, text_member, truth_member, texts_member, any_member, needs, may_have, CommandRule, text_in, value_in}
+use Rattle.ssa_model.specs.definitions.Answers as answers
+use Rattle.ssa_model.specs.definitions.Session as session
+use Rattle.ssa_model.specs.definitions.Session.{unread, bad_moment, command_shape, of_element}
+use Rattle.ssa_model.specs.definitions.ElementTexts.{bad_element, index_element, not_canonical}
 use Rattle.ssa_json.specs.Moment.{is_moment}
 use Rattle.ssa_json.specs.View.{view}
 use Rattle.ssa_bench.specs.Commands as changes

@@ -1,19 +1,18 @@
 -- What stands in a bench after a session: the commands that its lines gave, carried out one after the other.
 use Rattle.std.specs.Prelude.{◌≡◌, ℕ, List, ◌∷◌, [], ◌++◌, Option, Ok}
-use Rattle.ssa_model.specs.History.{Bench, present}
-use Rattle.ssa_model.specs.Answers.{Command, run}
-use Rattle.ssa_model.specs.Commands.{session_rules}
-use Rattle.ssa_model.specs.Effect.{IsHistory, all_carried_out, in_effect}
-use Rattle.ssa_model.specs.Headline.{IsAlone, KeepsRun}
-use Rattle.ssa_model.specs.Session.{given_commands}
+use Rattle.ssa_model.specs.definitions.History.{Bench, present}
+use Rattle.ssa_model.specs.definitions.Answers.{Command, run}
+use Rattle.ssa_model.specs.definitions.Effect.{IsHistory, all_carried_out, in_effect}
+use Rattle.ssa_model.specs.laws.Headline.{IsAlone, KeepsRun}
+use Rattle.ssa_model.specs.definitions.Session.{given_commands}
 use Rattle.ssa_json.specs.Readings.{readings}
 use Rattle.ssa_session.specs.BenchLines.{line_reply, bench_after}
-use Rattle.ssa_session.specs.Lines.{lines, whole_lines}
+use Rattle.ssa_model.specs.definitions.Lines.{lines, whole_lines}
 use Rattle.ssa_session.specs.Outcome.{AnswersAll, AnswersWhole, AnswersPartly}
 
 -- the commands that lines gave, by the replies to them
 abbrev pub commands_of : List (List ℕ) → List (List ℕ) → List Command
-commands_of = given_commands readings session_rules
+commands_of = given_commands readings
 
 -- The bench is that of the run of the commands. On a bench of one state, as a new one is, the state at the place is
 -- the commands in effect, carried out on that state. On a bench whose states are made by deeds, each state is a deed

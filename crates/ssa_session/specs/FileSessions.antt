@@ -1,16 +1,16 @@
 -- A session on the bench of an object file: what it has read, answered and written at its end.
 use Rattle.std.specs.Prelude.{◌≡◌, ℕ, List, [], ◌∷◌, ◌++◌, Option, Result, Ok, Err, ◌⊎◌}
 use Rattle.std.specs.Io.KnownBytes.{Appends}
-use Rattle.ssa_model.specs.History.{Bench}
-use Rattle.ssa_model.specs.Files.{FileFault, file_fault_text}
-use Rattle.ssa_model.specs.Headline.{IsAlone}
-use Rattle.ssa_model.specs.Session.{out_of_memory_text}
+use Rattle.ssa_model.specs.definitions.History.{Bench}
+use Rattle.ssa_model.specs.definitions.Files.{FileFault, file_fault_text}
+use Rattle.ssa_model.specs.laws.Headline.{IsAlone}
+use Rattle.ssa_model.specs.definitions.Session.{out_of_memory_text}
 use Rattle.ssa_json.specs.Devices.{AppendsPart}
 use Rattle.ssa_json.specs.declared.source.DeviceFault.{DeviceFault}
 use Rattle.ssa_session.specs.Files.{IsTold}
 use Rattle.ssa_session.specs.declared.files.FileFault as files
 use Rattle.ssa_session.specs.Effects.{RunsAll, RunsWhole, RunsPartly}
-use Rattle.ssa_session.specs.Lines.{line_feed}
+use Rattle.ssa_model.specs.definitions.Lines.{line_feed}
 use Rattle.ssa_session.specs.declared.engine.SessionFault.{SessionFault}
 use Rattle.ssa_session.specs.declared.engine.SessionFault.TheVariants.{Reader, Writer}
 use Rattle.ssa_session.specs.declared.files.Ending.{Ending}

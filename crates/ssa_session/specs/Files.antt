@@ -1,12 +1,12 @@
 -- Which fault of a file is told, and results that a file's fault may refuse.
 use Rattle.std.specs.Prelude.{◌≡◌, Result, Ok, Err}
-use Rattle.ssa_model.specs.Json as json_model
-use Rattle.ssa_model.specs.Json.{Text}
-use Rattle.ssa_model.specs.Readings.{not_json, null_value, number_outside}
-use Rattle.ssa_model.specs.Schema.{schema_keyword, schema_shape, schema_keys, schema_depth}
-use Rattle.ssa_model.specs.Answers as answers
-use Rattle.ssa_model.specs.Files as model
-use Rattle.ssa_model.specs.Files.{too_long, unread, of_schema, of_object, file_fault_text}
+use Rattle.ssa_model.specs.definitions.Json as json_model
+use Rattle.ssa_model.specs.definitions.Json.{Text}
+use Rattle.ssa_model.specs.definitions.Readings.{not_json, null_value, number_outside}
+use Rattle.ssa_model.specs.definitions.Schema.{schema_keyword, schema_shape, schema_keys, schema_depth}
+use Rattle.ssa_model.specs.definitions.Answers as answers
+use Rattle.ssa_model.specs.definitions.Files as model
+use Rattle.ssa_model.specs.definitions.Files.{too_long, unread, of_schema, of_object, file_fault_text}
 use Rattle.ssa_json.specs.View.{view}
 use Rattle.ssa_json.specs.declared.value.Json as values
 use Rattle.ssa_json.specs.declared.fault.JsonFault.{JsonFault}

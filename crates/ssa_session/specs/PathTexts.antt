@@ -1,9 +1,9 @@
 -- What reading a path from its elements' texts answers.
 use Rattle.std.specs.Prelude.{◌≡◌, List, [], Option, Some, None, Result, Ok, Err}
-use Rattle.ssa_model.specs.Json.{Text, Json, list, Items}
-use Rattle.ssa_model.specs.Schema.{texts_of}
-use Rattle.ssa_model.specs.Path as model
-use Rattle.ssa_model.specs.ElementTexts.{ElementFault, bad_element, index_element, not_canonical, path_of}
+use Rattle.ssa_model.specs.definitions.Json.{Text, Json, list, Items}
+use Rattle.ssa_model.specs.definitions.Schema.{texts_of}
+use Rattle.ssa_model.specs.definitions.Path as model
+use Rattle.ssa_model.specs.definitions.ElementTexts.{ElementFault, bad_element, index_element, not_canonical, path_of}
 use Rattle.ssa_json.specs.Reading.{json_reading}
 use Rattle.ssa_path.specs.declared.element_fault.ElemFault.{ElemFault}
 use Rattle.ssa_path.specs.declared.element_fault.ElemFault.TheVariants.{BadElement, IndexElement, NotCanonical, OutOfMemory}

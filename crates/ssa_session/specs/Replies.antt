@@ -1,15 +1,15 @@
 -- Parts of replies as JSON values, and the replies to lines that are no commands.
 use Rattle.std.specs.Prelude.{ℕ, List, codes}
-use Rattle.ssa_model.specs.Json.{Text, Json, object, member, no_members, compact}
-use Rattle.ssa_model.specs.Kind.{BodyFault, unknown_field, wrong_type, missing_key, duplicate_item}
-use Rattle.ssa_model.specs.PathMap.{PathSet}
-use Rattle.ssa_model.specs.Entries.{text_json}
-use Rattle.ssa_model.specs.Operations.{conflict}
-use Rattle.ssa_model.specs.GivenEntries as entries
-use Rattle.ssa_model.specs.Readings.{not_json, null_value, number_outside}
-use Rattle.ssa_model.specs.Replies.{list_json, clash_json, entry_fault_json, refusal_json, with_fault}
-use Rattle.ssa_model.specs.Session.{unread, bad_moment, command_shape, of_element, line_fault_json, out_of_memory_text}
-use Rattle.ssa_model.specs.ElementTexts.{bad_element, index_element, not_canonical}
+use Rattle.ssa_model.specs.definitions.Json.{Text, Json, object, member, no_members, compact}
+use Rattle.ssa_model.specs.definitions.Kind.{BodyFault, unknown_field, wrong_type, missing_key, duplicate_item}
+use Rattle.ssa_model.specs.definitions.PathMap.{PathSet}
+use Rattle.ssa_model.specs.definitions.Entries.{text_json}
+use Rattle.ssa_model.specs.definitions.Operations.{conflict}
+use Rattle.ssa_model.specs.definitions.GivenEntries as entries
+use Rattle.ssa_model.specs.definitions.Readings.{not_json, null_value, number_outside}
+use Rattle.ssa_model.specs.definitions.Replies.{list_json, clash_json, entry_fault_json, refusal_json, with_fault}
+use Rattle.ssa_model.specs.definitions.Session.{unread, bad_moment, command_shape, of_element, line_fault_json, out_of_memory_text}
+use Rattle.ssa_model.specs.definitions.ElementTexts.{bad_element, index_element, not_canonical}
 use Rattle.ssa_schema.specs.Finds.{Told}
 use Rattle.ssa_merge.specs.Managers.{clashes_view}
 use Rattle.ssa_merge.specs.declared.manager.ManagerKey.{ManagerKey}

@@ -1,7 +1,7 @@
 -- What a session answers: a reply for each line, in order, each ended by a line feed.
 use Rattle.std.specs.Prelude.{◌≡◌, ℕ, List, [], ◌∷◌, ◌++◌, length, nat_lt, if◌then◌else◌, ◌⊎◌}
-use Rattle.ssa_model.specs.Session.{out_of_memory_text, too_long_text}
-use Rattle.ssa_model.specs.Limits.{most_line_bytes}
+use Rattle.ssa_model.specs.definitions.Session.{out_of_memory_text, too_long_text}
+use Rattle.ssa_model.specs.definitions.Limits.{most_line_bytes}
 
 -- A machine of type M, which answers reply m line and goes on as after m line.
 module _ {M : Type 0} (reply : M → List ℕ → List ℕ) (after : M → List ℕ → M) where

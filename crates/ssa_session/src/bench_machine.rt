@@ -1,8 +1,8 @@
 //! A bench as the machine of a session.
 ghost use Rattle.std.specs.Prelude.{◌≡◌, IfOk, OnErr, false};
-ghost use Rattle.ssa_model.specs.Answers as model;
-ghost use Rattle.ssa_model.specs.Answers.{answer};
-ghost use Rattle.ssa_model.specs.Replies.{reply_text};
+ghost use Rattle.ssa_model.specs.definitions.Answers as model;
+ghost use Rattle.ssa_model.specs.definitions.Answers.{answer};
+ghost use Rattle.ssa_model.specs.definitions.Replies.{reply_text};
 ghost use Rattle.ssa_bench.specs.Commands as changes;
 ghost use Rattle.ssa_session.specs.Commands.{command_view};
 

@@ -2,9 +2,9 @@
 ghost use Rattle.std.specs.Prelude.{◌≡◌, ◌||◌, not, Some, None, MatchOption, is_some, option_map, option_and_then};
 ghost use Rattle.std.specs.List.{list_all};
 ghost use Rattle.ssa_json.specs.View.{view, items_view, members_view};
-ghost use Rattle.ssa_model.specs.Json.{same_text, as_text, member_of};
-ghost use Rattle.ssa_model.specs.Schema.{has_member, is_text, list_of_texts, texts_of};
-ghost use Rattle.ssa_model.specs.Commands.{rule_of, word_of, session_rules, is_truth, is_known_member, are_known_members, follows_rule};
+ghost use Rattle.ssa_model.specs.definitions.Json.{same_text, as_text, member_of};
+ghost use Rattle.ssa_model.specs.definitions.Schema.{has_member, is_text, list_of_texts, texts_of};
+ghost use Rattle.ssa_model.specs.definitions.Commands.{rule_of, word_of, is_truth, is_known_member, are_known_members, follows_rule};
 ghost use Rattle.ssa_session.specs.PathTexts.{as_list};
 ghost use Rattle.ssa_session.specs.Commands.{word_text, member_rules, rule_at};
 
@@ -27,7 +27,7 @@ pub enum Word {
 }
 
 fn word_of_text(text: &str) -> Option<Word>
-    ensures { MatchOption result (rule_of session_rules text.now ≡ None) (λ word. text.now ≡ word_text word) }
+    ensures { MatchOption result (rule_of text.now ≡ None) (λ word. text.now ≡ word_text word) }
 {
     if is_same_text(text, "apply") {
         Some(Word::Apply)
@@ -76,7 +76,7 @@ pub fn list_of<'a>(members: &'a BTreeMap<String, Json>, name: &str) -> Option<&'
 
 /// The word of a command, where it is one.
 pub fn word_of(members: &BTreeMap<String, Json>) -> Option<Word>
-    ensures { MatchOption result (option_and_then (rule_of session_rules) (word_of (members_view members.now.entries)) ≡ None)
+    ensures { MatchOption result (option_and_then (rule_of) (word_of (members_view members.now.entries)) ≡ None)
         (λ word. word_of (members_view members.now.entries) ≡ Some (word_text word)) }
 {
     word_of_text(text_of(members, "do")?)

@@ -2,14 +2,15 @@
 ghost use Rattle.std.specs.Prelude.{◌≡◌, ℕ, List, true, OnOk, OnErr, OnSome, Err};
 ghost use Rattle.std.specs.Io.KnownBytes.{IsAtEnd, Appends};
 ghost use Rattle.ssa_json.specs.Devices.{AppendsPart};
-ghost use Rattle.ssa_session.specs.Held.{Holds};
+ghost use Rattle.ssa_model.specs.definitions.Limits.{most_line_bytes};
+ghost use Rattle.ssa_file.specs.Held.{Holds};
 ghost use Rattle.ssa_session.specs.Session.{AnswersLine};
 ghost use Rattle.ssa_session.specs.Outcome.{AnswersAll, AnswersWhole, AnswersPartly};
 
-use crate::line::Line;
 use crate::machine::Machine;
-use crate::read_line::{LineEnd, read_line};
 use crate::write_line::write_line;
+use ssa_file::line::Line;
+use ssa_file::read_line::{LineEnd, read_line};
 use ssa_json::sink::Sink;
 use ssa_json::source::{DeviceFault, Source};
 use std::alloc::Global;
@@ -22,6 +23,9 @@ pub enum SessionFault {
     /// The one that replies are written to.
     Writer,
 }
+
+/// The most bytes of a line, without its line feed.
+pub const LINE_LIMIT: usize = 1_048_576;
 
 /// The reply to a line that is too long.
 pub const TOO_LONG: &[u8] = b"{\"fault\":4,\"name\":\"TooLong\"}";
@@ -55,7 +59,7 @@ pub fn session<R: Source, W: Sink, M: Machine>(
 {
     let mut line = Line::new(alloc);
     loop {
-        let Ok(end) = read_line(alloc, reader, &mut line) else {
+        let Ok(end) = read_line(alloc, reader, &mut line, LINE_LIMIT) else {
             return Err(SessionFault::Reader);
         };
         match end {
@@ -84,9 +88,9 @@ fn answer_line<W: Sink, M: Machine>(
     machine: &mut M,
     line: &Line,
 ) -> Result<(), DeviceFault>
-    ensures ok { OnOk result ((text : List ℕ) → Holds line.now text
+    ensures ok { OnOk result ((text : List ℕ) → Holds most_line_bytes line.now text
         → AnswersLine M.reply M.after machine.old machine.new text (Appends (W.contents writer.old) (W.contents writer.new))) }
-    ensures err { OnErr result ((text : List ℕ) → Holds line.now text
+    ensures err { OnErr result ((text : List ℕ) → Holds most_line_bytes line.now text
         → AnswersLine M.reply M.after machine.old machine.new text (AppendsPart (W.contents writer.old) (W.contents writer.new))) }
     ensures failed { OnErr result (W.has_failed writer.new ≡ true) }
 {

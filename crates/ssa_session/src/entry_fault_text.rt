@@ -1,8 +1,8 @@
 // The texts of the faults of managers' entries.
 ghost use Rattle.std.specs.Prelude.{◌≡◌, ◌++◌, OnOk};
-ghost use Rattle.ssa_model.specs.Json.{compact};
-ghost use Rattle.ssa_model.specs.GivenEntries.{absent_path};
-ghost use Rattle.ssa_model.specs.Replies.{entry_fault_json};
+ghost use Rattle.ssa_model.specs.definitions.Json.{compact};
+ghost use Rattle.ssa_model.specs.definitions.GivenEntries.{absent_path};
+ghost use Rattle.ssa_model.specs.definitions.Replies.{entry_fault_json};
 ghost use Rattle.ssa_session.specs.Replies.{entry_fault_text};
 
 use crate::engine::OUT_OF_MEMORY;

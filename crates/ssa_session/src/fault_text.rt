@@ -1,8 +1,8 @@
 // The texts of faults.
 ghost use Rattle.std.specs.Prelude.{◌≡◌, ◌++◌, IfOk, OnOk, codes};
-ghost use Rattle.ssa_model.specs.Json.{compact};
-ghost use Rattle.ssa_model.specs.Answers as model;
-ghost use Rattle.ssa_model.specs.Replies.{clash_json, fault_reply};
+ghost use Rattle.ssa_model.specs.definitions.Json.{compact};
+ghost use Rattle.ssa_model.specs.definitions.Answers as model;
+ghost use Rattle.ssa_model.specs.definitions.Replies.{clash_json, fault_reply};
 ghost use Rattle.ssa_merge.specs.Managers.{key_view};
 ghost use Rattle.ssa_schema.specs.Finds.{told_view};
 ghost use Rattle.ssa_schema.specs.Kinds.{names_view};
@@ -53,7 +53,7 @@ fn push_clash(
     manager: &ManagerKey,
     fields: &FieldSet,
 ) -> Result<(), AllocError>
-    ensures { OnOk result (text.new.items ≡ text.old.items ++ compact (clash_json (key_view manager.now, fields.now))) }
+    ensures { OnOk result (text.new.items ≡ text.old.items ++ compact (clash_json (record { manager = key_view manager.now; fields = fields.now }))) }
 {
     text.extend_from_slice(b"{\"fields\":")?;
     push_paths(alloc, text, fields)?;

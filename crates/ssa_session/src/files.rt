@@ -1,8 +1,8 @@
 //! A bench from a schema file and an object file, and a session on it.
 ghost use Rattle.std.specs.Prelude.{◌≡◌, ◌++◌, ◌∷◌, [], ◌⊎◌, Ok, Err, IfOk, OnErr, OnOk, OnSome, true};
 ghost use Rattle.std.specs.Io.KnownBytes.{Appends, IsAtEnd};
-ghost use Rattle.ssa_model.specs.Files as model;
-ghost use Rattle.ssa_model.specs.Files.{bench_of_file, file_fault_text, schema_of_file, value_of_file};
+ghost use Rattle.ssa_model.specs.definitions.Files as model;
+ghost use Rattle.ssa_model.specs.definitions.Files.{bench_of_file, file_fault_text, schema_of_file, value_of_file};
 ghost use Rattle.ssa_json.specs.Devices.{AppendsPart};
 ghost use Rattle.ssa_json.specs.Readings.{readings};
 ghost use Rattle.ssa_json.specs.View.{view};

@@ -1,10 +1,10 @@
 // Appends JSON text, piece by piece.
 ghost use Rattle.std.specs.Prelude.{◌≡◌, ◌++◌, OnOk};
-ghost use Rattle.ssa_model.specs.Json.{compact, comma_if};
-ghost use Rattle.ssa_model.specs.Entries.{text_json};
-ghost use Rattle.ssa_model.specs.Replies.{number_json, path_json, paths_json};
+ghost use Rattle.ssa_model.specs.definitions.Json.{compact, comma_if};
+ghost use Rattle.ssa_model.specs.definitions.Entries.{text_json};
+ghost use Rattle.ssa_model.specs.definitions.Replies.{number_json, path_json, paths_json};
 ghost use Rattle.ssa_json.specs.View.{view};
-ghost use Rattle.ssa_model.specs.Path.{element_text};
+ghost use Rattle.ssa_model.specs.definitions.Path.{element_text};
 ghost use Rattle.ssa_path.specs.View.{element_view};
 ghost use Rattle.ssa_schema.specs.Kinds.{names_view};
 ghost use Rattle.ssa_session.specs.Replies.{names_json};

@@ -1,8 +1,8 @@
 //! The reply that tells the commands of the history.
 ghost use Rattle.std.specs.Prelude.{◌≡◌, ◌++◌, IfOk, OnOk};
-ghost use Rattle.ssa_model.specs.Json.{compact};
-ghost use Rattle.ssa_model.specs.Answers.{logged};
-ghost use Rattle.ssa_model.specs.Replies.{label_json, list_json, reply_json, reply_text};
+ghost use Rattle.ssa_model.specs.definitions.Json.{compact};
+ghost use Rattle.ssa_model.specs.definitions.Answers.{logged};
+ghost use Rattle.ssa_model.specs.definitions.Replies.{label_json, list_json, reply_json, reply_text};
 ghost use Rattle.ssa_turn.specs.Histories.{lent_labels};
 
 use crate::json_text::{push_comma, push_value};

@@ -1,7 +1,7 @@
 //! Paths that are given by their elements' texts.
 ghost use Rattle.std.specs.Prelude.{◌≡◌, true, is_some};
 ghost use Rattle.ssa_json.specs.View.{items_view};
-ghost use Rattle.ssa_model.specs.Schema.{texts_of};
+ghost use Rattle.ssa_model.specs.definitions.Schema.{texts_of};
 ghost use Rattle.ssa_session.specs.PathTexts.{ReadsPath};
 
 use ssa_json::value::Json;

@@ -1,9 +1,9 @@
 //! Reads a line as a command.
 ghost use Rattle.std.specs.Prelude.{◌≡◌, IsTrue, Some, option_map, option_and_then, string_bytes};
 ghost use Rattle.ssa_json.specs.View.{view, members_view};
-ghost use Rattle.ssa_model.specs.Json.{object, as_text, member_of};
-ghost use Rattle.ssa_model.specs.Session.{read_command, read_line};
-ghost use Rattle.ssa_model.specs.Commands.{session_rules, word_of, follows_rule, truth_in};
+ghost use Rattle.ssa_model.specs.definitions.Json.{object, as_text, member_of};
+ghost use Rattle.ssa_model.specs.definitions.Session.{read_command, read_line};
+ghost use Rattle.ssa_model.specs.definitions.Commands.{word_of, follows_rule, truth_in};
 ghost use Rattle.ssa_json.specs.Readings.{readings};
 ghost use Rattle.ssa_session.specs.Commands.{word_text, rule_at, HasRequest, ReadsCommand, Requests};
 ghost use Rattle.ssa_session.specs.declared.read_command.LineFault.TheVariants.{OutOfMemory};
@@ -72,7 +72,7 @@ impl<T: Drop> From<AllocFailed<T>> for LineFault {
 
 /// Reads the line as one JSON text, and its value as a command.
 pub fn read_command(alloc: Global, line: &[u8]) -> Result<Command, LineFault>
-    ensures { ReadsCommand result (read_line readings session_rules line.now) }
+    ensures { ReadsCommand result (read_line readings line.now) }
 {
     match Json::read(alloc, line, line.len()) {
         Ok(value) => command_of(alloc, value),
@@ -86,7 +86,7 @@ pub fn read_command(alloc: Global, line: &[u8]) -> Result<Command, LineFault>
 
 // The command that a value is.
 fn command_of(alloc: Global, value: Json) -> Result<Command, LineFault>
-    ensures { ReadsCommand result (read_command readings session_rules (view value)) }
+    ensures { ReadsCommand result (read_command readings (view value)) }
 {
     let Json::Object(members) = value else {
         return Err(LineFault::CommandShape);
@@ -141,7 +141,7 @@ fn take_request(members: &mut BTreeMap<String, Json>) -> Option<Request>
 fn apply_command(mut members: BTreeMap<String, Json>) -> Result<Command, LineFault>
     requires word { word_of (members_view members.entries) ≡ Some (word_text Word.Apply) }
     requires shape { IsTrue (follows_rule (members_view members.entries) (rule_at Word.Apply)) }
-    ensures { ReadsCommand result (read_command readings session_rules (object (members_view members.entries))) }
+    ensures { ReadsCommand result (read_command readings (object (members_view members.entries))) }
 {
     let force = truth_of(&members, "force");
     let Some(Request { who, at, object }) = take_request(&mut members) else {
@@ -159,7 +159,7 @@ fn apply_command(mut members: BTreeMap<String, Json>) -> Result<Command, LineFau
 fn update_command(mut members: BTreeMap<String, Json>) -> Result<Command, LineFault>
     requires word { word_of (members_view members.entries) ≡ Some (word_text Word.Update) }
     requires shape { IsTrue (follows_rule (members_view members.entries) (rule_at Word.Update)) }
-    ensures { ReadsCommand result (read_command readings session_rules (object (members_view members.entries))) }
+    ensures { ReadsCommand result (read_command readings (object (members_view members.entries))) }
 {
     let Some(Request { who, at, object }) = take_request(&mut members) else {
         return Err(LineFault::BadMoment);
@@ -171,7 +171,7 @@ fn update_command(mut members: BTreeMap<String, Json>) -> Result<Command, LineFa
 fn owners_command(alloc: Global, members: &BTreeMap<String, Json>) -> Result<Command, LineFault>
     requires word { word_of (members_view members.now.entries) ≡ Some (word_text Word.Owners) }
     requires shape { IsTrue (follows_rule (members_view members.now.entries) (rule_at Word.Owners)) }
-    ensures { ReadsCommand result (read_command readings session_rules (object (members_view members.now.entries))) }
+    ensures { ReadsCommand result (read_command readings (object (members_view members.now.entries))) }
 {
     let Some(texts) = list_of(members, "path") else {
         unreachable!("the shape has a list of texts");

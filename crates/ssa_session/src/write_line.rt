@@ -2,7 +2,7 @@
 ghost use Rattle.std.specs.Prelude.{◌≡◌, ◌++◌, ◌∷◌, [], OnOk, OnErr, true};
 ghost use Rattle.std.specs.Io.KnownBytes.{Appends};
 ghost use Rattle.ssa_json.specs.Devices.{AppendsPart};
-ghost use Rattle.ssa_session.specs.Lines.{line_feed};
+ghost use Rattle.ssa_model.specs.definitions.Lines.{line_feed};
 
 use ssa_json::sink::{Sink, write_all};
 use ssa_json::source::DeviceFault;

@@ -1,9 +1,9 @@
 -- States in a row.
 use Rattle.std.proofs.Common.{◌≡◌, ℕ, ◌+◌, ◌-◌, ◌<◌, List, [], ◌∷◌, ◌++◌, take, length, get_or, refl, ap, ◌∙◌, arith}
 use Rattle.std.proofs.lemmas.List.{take_more, get_or-map, length-map}
-use Rattle.ssa_model.specs.Operations as model
-use Rattle.ssa_model.specs.History as history
-use Rattle.ssa_model.specs.History.{last_state}
+use Rattle.ssa_model.specs.definitions.Operations as model
+use Rattle.ssa_model.specs.definitions.History as history
+use Rattle.ssa_model.specs.definitions.History.{last_state}
 use Rattle.ssa_turn.specs.Histories.{step_view, steps_view}
 use Rattle.ssa_merge.specs.States.{state_view}
 use Rattle.ssa_turn.specs.declared.timeline.Step.{Step}

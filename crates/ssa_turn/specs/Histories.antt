@@ -1,7 +1,7 @@
 -- What timelines are, and of which kind their bodies.
 use Rattle.std.specs.Prelude.{List, map, length, ◌≤◌, string_bytes}
 use Rattle.std.specs.Borrow.{Bor}
-use Rattle.ssa_model.specs.History as model
+use Rattle.ssa_model.specs.definitions.History as model
 use Rattle.ssa_merge.specs.States.{state_view}
 use Rattle.ssa_turn.specs.declared.label.Label.{Label}
 use Rattle.ssa_turn.specs.declared.label.Label.TheVariants.{Apply, Update, Strip}

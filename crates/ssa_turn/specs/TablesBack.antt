@@ -1,9 +1,9 @@
 -- Histories whose managers' sets are read back from what they are written as.
 use Rattle.std.specs.List.{All}
-use Rattle.ssa_model.specs.History.{Step, Timeline}
-use Rattle.ssa_model.specs.Operations.{State}
-use Rattle.ssa_model.specs.ShownStates.{IsReadBack}
-use Rattle.ssa_model.specs.Valid.{AllEntries}
+use Rattle.ssa_model.specs.definitions.History.{Step, Timeline}
+use Rattle.ssa_model.specs.definitions.Operations.{State}
+use Rattle.ssa_model.specs.definitions.BenchFile.{IsReadBack}
+use Rattle.ssa_model.specs.definitions.Valid.{AllEntries}
 use Rattle.ssa_json.specs.Readings.{readings}
 
 -- the sets of the state's table are read from what they are written as

@@ -1,7 +1,7 @@
 //! The commands that made the states of a history, and how they are told.
 ghost use Rattle.std.specs.Prelude.{◌≡◌, IfOk};
-ghost use Rattle.ssa_model.specs.History.{applied, stripped, updated};
-ghost use Rattle.ssa_model.specs.Replies.{label_json};
+ghost use Rattle.ssa_model.specs.definitions.History.{applied, stripped, updated};
+ghost use Rattle.ssa_model.specs.definitions.Replies.{label_json};
 ghost use Rattle.ssa_json.specs.View.{view};
 ghost use Rattle.ssa_turn.specs.Histories.{label_view};
 

@@ -3,4 +3,5 @@
 #![tactic(auto)]
 
 pub mod label;
+pub mod label_read;
 pub mod timeline;

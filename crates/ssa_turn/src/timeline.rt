@@ -1,7 +1,7 @@
 //! The history of a bench: all its states in a row, and a place among them.
 ghost use Rattle.std.specs.Prelude.{◌≡◌, [], OnOk, OnErr, IfOk, ◌≤◌, ◌+◌, ◌-◌, ◌<◌, ◌^◌, length, map, take, drop, ◌++◌, ◌∷◌};
-ghost use Rattle.ssa_model.specs.History as model;
-ghost use Rattle.ssa_model.specs.History.{present, past_len, future_len, appended, moved_to};
+ghost use Rattle.ssa_model.specs.definitions.History as model;
+ghost use Rattle.ssa_model.specs.definitions.History.{present, past_len, future_len, appended, moved_to};
 ghost use Rattle.ssa_turn.specs.Histories.{label_view, lent_labels, steps_view};
 ghost use Rattle.std.specs.List.{All};
 ghost use Rattle.ssa_turn.specs.TablesBack.{AllTablesBack, MakesTableBack};
@@ -36,8 +36,8 @@ pub struct Timeline {
 }
 
 impl Model for Timeline {
-    ghost use Rattle.ssa_model.specs.History as model;
-    ghost use Rattle.ssa_model.specs.BenchCodes.{coded_timeline};
+    ghost use Rattle.ssa_model.specs.definitions.History as model;
+    ghost use Rattle.ssa_model.specs.codes.BenchCodes.{coded_timeline};
 
     ghost Value = { model.Timeline };
 
@@ -95,6 +95,13 @@ impl Timeline {
             later: Vec::new(alloc),
             place: 0,
         }
+    }
+
+    /// The place is that of one of the states.
+    pub fn place_is_within(&self)
+        ensures { self.now.place ≤ length self.now.later }
+    {
+        let _ = &self.place;
     }
 
     /// The sets of each state's managers are read from what they are written as.
@@ -186,5 +193,13 @@ impl Timeline {
         ensures { self.new ≡ moved_to self.old (past_len self.old + 1) }
     {
         self.place += 1;
+    }
+
+    /// Goes to a place: that many states stand before the one there.
+    pub fn go_to(&mut self, place: usize)
+        requires { place ≤ length self.old.later }
+        ensures { self.new ≡ moved_to self.old place }
+    {
+        self.place = place;
     }
 }

@@ -1,11 +1,11 @@
 -- Bodies of one kind are alike.
 use Rattle.std.proofs.Common.{◌≡◌, true, false, Option, Some, None, refl, sym, ap, ◌∙◌, true≢false}
-use Rattle.ssa_model.specs.Body.{Content, leaf, atom, record_branch, dict_branch, list_branch, Body}
-use Rattle.ssa_model.specs.Fitting.{Place, of_kind, item_of, value_of, content_fits, IsAt, IsBodyOf}
-use Rattle.ssa_model.specs.Kind as kinds
-use Rattle.ssa_model.specs.Kind.{Kind, scalar_kind, atomic_of, record_of, dict_of, items_of}
-use Rattle.ssa_model.specs.Path.{Path}
-use Rattle.ssa_model.specs.PathMap.{get}
+use Rattle.ssa_model.specs.definitions.Body.{Content, leaf, atom, record_branch, dict_branch, list_branch, Body}
+use Rattle.ssa_model.specs.definitions.Fitting.{Place, of_kind, item_of, value_of, content_fits, IsAt, IsBodyOf}
+use Rattle.ssa_model.specs.definitions.Kind as kinds
+use Rattle.ssa_model.specs.definitions.Kind.{Kind, scalar_kind, atomic_of, record_of, dict_of, items_of}
+use Rattle.ssa_model.specs.definitions.Path.{Path}
+use Rattle.ssa_model.specs.definitions.PathMap.{get}
 use Rattle.ssa_typed.specs.Alike.{are_alike, AreAlike}
 use Rattle.ssa_typed.proofs.Laws.{some-same}
 

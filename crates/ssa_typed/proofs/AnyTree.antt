@@ -1,11 +1,11 @@
 -- What holds of the body of each tree, whatever its kind.
 use Rattle.std.proofs.Common.{◌≡◌, List, [], ◌∷◌, ◌++◌, Bool, true, false, not, ◌&&◌, ◌||◌, Option, Some, None, refl, sym, ap, subst, ◌∙◌, true≢false, append-nil, rules}
 use Rattle.std.specs.Prelude.{is_some}
-use Rattle.ssa_model.specs.Path.{Element, Path, same_element, is_item_element}
-use Rattle.ssa_model.specs.PathMap.{get, has}
-use Rattle.ssa_model.specs.Kind.{is_among}
-use Rattle.ssa_model.specs.Body.{order_at}
-use Rattle.ssa_model.specs.Fitting.{are_distinct}
+use Rattle.ssa_model.specs.definitions.Path.{Element, Path, same_element, is_item_element}
+use Rattle.ssa_model.specs.definitions.PathMap.{get, has}
+use Rattle.ssa_model.specs.definitions.Kind.{is_among}
+use Rattle.ssa_model.specs.definitions.Body.{order_at}
+use Rattle.ssa_model.specs.definitions.Fitting.{are_distinct}
 use Rattle.ssa_path.specs.Children.{child_at, elements}
 use Rattle.ssa_path.proofs.Orders.{same_element-true, both_first, both_second}
 use Rattle.ssa_typed.specs.Rows.{rows, below, body_of, leaf_content, own_content, content_at, is_tree, are_apart, are_items, are_fields}

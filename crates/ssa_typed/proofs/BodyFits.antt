@@ -1,14 +1,14 @@
 -- The body of a fitting value is a body of its kind.
 use Rattle.std.proofs.Common.{◌≡◌, [], ◌∷◌, ◌++◌, true, Option, Some, None, refl, sym, ap, subst, ◌∙◌, true≢false}
 use Rattle.std.specs.Prelude.{is_some}
-use Rattle.ssa_model.specs.Json.{Text, Scalar, Json}
-use Rattle.ssa_model.specs.Path.{field, key, Path}
-use Rattle.ssa_model.specs.PathMap.{get}
-use Rattle.ssa_model.specs.Kind.{Kind}
-use Rattle.ssa_model.specs.Body.{Content, leaf, places}
-use Rattle.ssa_model.specs.Fitting.{IsBodyOf, scalar_of}
+use Rattle.ssa_model.specs.definitions.Json.{Text, Scalar, Json}
+use Rattle.ssa_model.specs.definitions.Path.{field, key, Path}
+use Rattle.ssa_model.specs.definitions.PathMap.{get}
+use Rattle.ssa_model.specs.definitions.Kind.{Kind}
+use Rattle.ssa_model.specs.definitions.Body.{Content, leaf, places}
+use Rattle.ssa_model.specs.definitions.Fitting.{IsBodyOf, scalar_of}
 use Rattle.ssa_typed.specs.Rows.{rows, body_of}
-use Rattle.ssa_model.specs.Faultless.{Fits}
+use Rattle.ssa_model.specs.laws.Faultless.{Fits}
 use Rattle.ssa_typed.specs.Flats.{IsTreeOf}
 use Rattle.ssa_typed.specs.declared.node.Node.{Node}
 use Rattle.ssa_typed.proofs.AnyTree.{tree-root, tree-closed, tree-once, tree-items}

@@ -5,8 +5,8 @@ use Rattle.std.specs.List.{AllByRecursion}
 use Rattle.std.specs.List.Sorted.{IsStrictlySortedBy}
 use Rattle.std.specs.Map.{keys_of}
 use Rattle.std.specs.Ordering.{is_lt}
-use Rattle.ssa_model.specs.Json.{Text}
-use Rattle.ssa_model.specs.Path.{Element, field, Path, is_item_element}
+use Rattle.ssa_model.specs.definitions.Json.{Text}
+use Rattle.ssa_model.specs.definitions.Path.{Element, field, Path, is_item_element}
 use Rattle.ssa_json.proofs.Ordered.{Named, names}
 use Rattle.ssa_path.specs.Children.{elements, is_below, rises}
 use Rattle.ssa_path.specs.declared.element.Elem.{Elem}

@@ -1,8 +1,8 @@
 -- The walk that collects points, or all places, of a tree.
 use Rattle.std.proofs.Common.{◌≡◌, ℕ, ◌+◌, ◌<◌, List, [], ◌∷◌, length, get_or, drop, Bool, true, false, Some, None, refl, sym, ap, subst, ◌∙◌}
 use Rattle.std.specs.Prelude.{is_some}
-use Rattle.ssa_model.specs.Path.{Element, Path, same_path, is_item, is_item_element, parent}
-use Rattle.ssa_model.specs.Body.{is_dict, points}
+use Rattle.ssa_model.specs.definitions.Path.{Element, Path, same_path, is_item, is_item_element, parent}
+use Rattle.ssa_model.specs.definitions.Body.{is_dict, points}
 use Rattle.ssa_model.proofs.PathMaps.{same_sets}
 use Rattle.ssa_path.specs.Children.{child_at}
 use Rattle.ssa_path.specs.Combine.{IsGrown}
@@ -10,7 +10,7 @@ use Rattle.ssa_path.specs.declared.element.Elem.{Elem}
 use Rattle.ssa_path.specs.declared.trie.Trie.{Trie}
 use Rattle.ssa_path.specs.declared.trie.Trie.TheOpen.{Trie-F}
 use Rattle.ssa_path.specs.declared.trie.Trie.TheViews.{roll-Trie}
-use Rattle.ssa_model.specs.PathMap.{listed}
+use Rattle.ssa_model.specs.definitions.PathMap.{listed}
 use Rattle.ssa_path.specs.Trie.{is_one_of, paths}
 use Rattle.ssa_path.specs.View.{element_view}
 use Rattle.ssa_path.proofs.Levels.{any-made, is_trie-made, one-made-root, same_path-reading}

@@ -1,7 +1,7 @@
 -- Copies of trees, level by level.
 use Rattle.std.proofs.Common.{◌≡◌, List, [], ◌∷◌, ◌++◌, Bool, true, false, ◌&&◌, cond, Option, Some, None, refl, sym, ap, ◌∙◌, rules}
-use Rattle.ssa_model.specs.Body.{Content, list_branch}
-use Rattle.ssa_model.specs.Path.{Element, Path, same_element}
+use Rattle.ssa_model.specs.definitions.Body.{Content, list_branch}
+use Rattle.ssa_model.specs.definitions.Path.{Element, Path, same_element}
 use Rattle.ssa_path.specs.Children.{child_at, elements, rises}
 use Rattle.ssa_path.specs.View.{element_view}
 use Rattle.ssa_typed.specs.Copies.{kept, kept_below}

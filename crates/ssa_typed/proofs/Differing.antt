@@ -1,9 +1,9 @@
 -- The walk over two trees that tells how they differ.
 use Rattle.std.proofs.Common.{◌≡◌, ℕ, ◌+◌, ◌<◌, List, [], ◌∷◌, length, get_or, drop, Bool, true, false, not, ◌&&◌, Option, Some, None, Ordering, Less, Equal, Greater, refl, sym, ap, subst, ◌∙◌}
 use Rattle.std.specs.Prelude.{is_some}
-use Rattle.ssa_model.specs.Path.{Element, Path, same_path}
-use Rattle.ssa_model.specs.PathMap.{PathSet, get, has, paths as set_paths, listed}
-use Rattle.ssa_model.specs.Body.{Body, Content, leaf, atom, record_branch, dict_branch, list_branch, is_other_leaf, points, added, modified, removed}
+use Rattle.ssa_model.specs.definitions.Path.{Element, Path, same_path}
+use Rattle.ssa_model.specs.definitions.PathMap.{PathSet, get, has, paths as set_paths, listed}
+use Rattle.ssa_model.specs.definitions.Body.{Body, Content, leaf, atom, record_branch, dict_branch, list_branch, is_other_leaf, points, added, modified, removed}
 use Rattle.ssa_model.proofs.PathMaps.{has-paths, has-set_of, same_sets}
 use Rattle.ssa_path.specs.Children.{child_at, heads_order}
 use Rattle.ssa_path.specs.Combine.{IsGrown}

@@ -9,8 +9,8 @@ use Rattle.std.specs.BTreeMap.{is_at}
 use Rattle.std.specs.Ordering.{is_eq, ordering_reverse}
 use Rattle.std.specs.Cmp.Lexicographic.{slice_cmp}
 use Rattle.std.proofs.lemmas.Cmp.{nat_list_cmp_total}
-use Rattle.ssa_model.specs.Json.{Text, member, member_of, same_text}
-use Rattle.ssa_model.specs.Body.{is_empty_object, without_empty_metadata}
+use Rattle.ssa_model.specs.definitions.Json.{Text, member, member_of, same_text}
+use Rattle.ssa_model.specs.definitions.Body.{is_empty_object, without_empty_metadata}
 use Rattle.ssa_json.specs.View.{view, members_view}
 use Rattle.ssa_json.proofs.Converting.{Found}
 use Rattle.ssa_json.proofs.Equality.{same_text-true}

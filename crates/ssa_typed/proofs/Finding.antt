@@ -4,7 +4,7 @@ use Rattle.std.specs.Ordering.{ordering_index}
 use Rattle.std.specs.Result.{MatchResult}
 use Rattle.std.specs.List.Sorted.{IsBinarySearchResult}
 use Rattle.std.specs.declared.cmp.Ordering.{Ordering}
-use Rattle.ssa_model.specs.Path.{Element}
+use Rattle.ssa_model.specs.definitions.Path.{Element}
 use Rattle.ssa_path.specs.Children.{elements, rises, child_at, IsSearchResult}
 use Rattle.ssa_path.specs.declared.element.Elem.{Elem}
 use Rattle.ssa_path.proofs.Searching.{compared, search-result, child-found, child-absent}

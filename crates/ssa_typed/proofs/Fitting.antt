@@ -3,12 +3,12 @@ use Rattle.std.proofs.Common.{◌≡◌, List, [], ◌∷◌, Bool, true, false,
 use Rattle.std.specs.Prelude.{Option, None, Some, option_map}
 use Rattle.ssa_schema.specs.Finds.{told}
 use Rattle.ssa_schema.specs.Refusals.{first_of}
-use Rattle.ssa_model.specs.Json.{Text, Items}
-use Rattle.ssa_model.specs.Path.{Element}
-use Rattle.ssa_model.specs.Kind.{ScalarKind, Fields, Fault, is_among}
-use Rattle.ssa_model.specs.Body.{value_order, key_order}
-use Rattle.ssa_model.specs.Faultless.{ValuesFit, ItemsFit}
-use Rattle.ssa_model.specs.Fitting.{are_distinct}
+use Rattle.ssa_model.specs.definitions.Json.{Text, Items}
+use Rattle.ssa_model.specs.definitions.Path.{Element}
+use Rattle.ssa_model.specs.definitions.Kind.{ScalarKind, Fields, FaultAt, is_among}
+use Rattle.ssa_model.specs.definitions.Body.{value_order, key_order}
+use Rattle.ssa_model.specs.laws.Faultless.{ValuesFit, ItemsFit}
+use Rattle.ssa_model.specs.definitions.Fitting.{are_distinct}
 use Rattle.ssa_model.proofs.FaultlessParts.{values-distinct, items-distinct}
 use Rattle.ssa_typed.specs.Rows.{are_apart}
 
@@ -30,7 +30,7 @@ is_there : {A : Type 0} → Option A → Bool
 is_there None = false
 is_there (Some x) = true
 
-pub no-first : (fs : List Fault) → None ≡ option_map told (first_of fs) → fs ≡ []
+pub no-first : (fs : List FaultAt) → None ≡ option_map told (first_of fs) → fs ≡ []
 unfolding is_there
 no-first [] e = refl
 no-first (f ∷ fs) e = absurd (true≢false (sym (ap is_there e)))

@@ -1,13 +1,13 @@
 -- The key fields of items that have them.
 use Rattle.std.proofs.Common.{◌≡◌, List, [], ◌∷◌, map, Bool, true, false, ◌&&◌, refl, sym, ap, ◌∙◌, true≢false}
 use Rattle.std.specs.Prelude.{Option, None, Some, if◌then◌else◌}
-use Rattle.ssa_model.specs.Json.{Text, Json, Members, member_of}
-use Rattle.ssa_model.specs.Kind.{Kind, Fields, kind_of, key_scalars, cons_scalar, key_faults, key_field_fault}
-use Rattle.ssa_model.specs.Path.{Path}
+use Rattle.ssa_model.specs.definitions.Json.{Text, Json, Members, member_of}
+use Rattle.ssa_model.specs.definitions.Kind.{Kind, Fields, kind_of, key_scalars, cons_scalar, key_faults, key_field_fault}
+use Rattle.ssa_model.specs.definitions.Path.{Path}
 use Rattle.ssa_model.proofs.Faults.{nil_first, nil_second}
 use Rattle.ssa_model.proofs.FaultlessKeys.{key-field}
 use Rattle.ssa_path.specs.Keys as keys
-use Rattle.ssa_model.specs.Lawful.{are_key_names, names_rise_after}
+use Rattle.ssa_model.specs.definitions.Lawful.{are_key_names, names_rise_after}
 
 abbrev first_names : keys.Members → List Text
 first_names = map (λ k. k.0)

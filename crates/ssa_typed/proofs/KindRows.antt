@@ -2,18 +2,18 @@
 use Rattle.std.proofs.Common.{◌≡◌, List, [], ◌∷◌, ◌++◌, inl, inr, Bool, true, false, Some, None, refl, sym, ap, subst, ◌∙◌}
 use Rattle.std.specs.Prelude.{if◌then◌else◌, option_map}
 use Rattle.std.specs.List.{AllByRecursion}
-use Rattle.ssa_model.specs.Json.{Text, Scalar, Json, scalar, list, object, Items, no_items, item, Members, no_members, member, member_of, same_text}
-use Rattle.ssa_model.specs.Path.{Element, field, key, value, Path}
-use Rattle.ssa_model.specs.Kind as kinds
-use Rattle.ssa_model.specs.Kind.{Kind, ScalarKind, Fields, scalar_kind, atomic_of, record_of, dict_of, items_of, kind_of, is_of, item_key, key_scalars, wrong_type}
-use Rattle.ssa_model.specs.Body.{Content, leaf, atom, record_branch, dict_branch, list_branch, places, field_places, entry_places, value_places, item_places, value_order, key_order}
-use Rattle.ssa_model.specs.Fitting.{Place, of_kind, item_of, value_of, place_below, place_at, content_fits, IsAt, scalar_of}
-use Rattle.ssa_model.specs.Operations.{is_none}
+use Rattle.ssa_model.specs.definitions.Json.{Text, Scalar, Json, scalar, list, object, Items, no_items, item, Members, no_members, member, member_of, same_text}
+use Rattle.ssa_model.specs.definitions.Path.{Element, field, key, value, Path}
+use Rattle.ssa_model.specs.definitions.Kind as kinds
+use Rattle.ssa_model.specs.definitions.Kind.{Kind, ScalarKind, Fields, scalar_kind, atomic_of, record_of, dict_of, items_of, kind_of, is_of, item_key, key_scalars, wrong_type}
+use Rattle.ssa_model.specs.definitions.Body.{Content, leaf, atom, record_branch, dict_branch, list_branch, places, field_places, entry_places, value_places, item_places, value_order, key_order}
+use Rattle.ssa_model.specs.definitions.Fitting.{Place, of_kind, item_of, value_of, place_below, place_at, content_fits, IsAt, scalar_of}
+use Rattle.ssa_model.specs.definitions.Operations.{is_none}
 use Rattle.ssa_model.proofs.Faults.{unless-true, shape-anywhere}
 use Rattle.ssa_model.proofs.Places.{place-push}
 use Rattle.ssa_json.proofs.Equality.{same_text-true, same_scalar-itself}
 use Rattle.ssa_typed.specs.Rows.{Row}
-use Rattle.ssa_model.specs.Faultless.{Fits, FieldsFit, EntriesFit, KeysFit}
+use Rattle.ssa_model.specs.laws.Faultless.{Fits, FieldsFit, EntriesFit, KeysFit}
 use Rattle.ssa_typed.specs.Flats.{member_places}
 use Rattle.ssa_model.proofs.FaultlessParts.{ValuesFitAfter, ItemsFitAfter, member-first, member-rest, entry-first, entry-rest, value-is_of, value-rest, item-parts, item-rest}
 use Rattle.ssa_model.proofs.FaultlessKeys.{keys-fit, key-member}

@@ -1,8 +1,8 @@
 -- What a tree lacks of the paths of a trie, level by level.
 use Rattle.std.proofs.Common.{◌≡◌, ℕ, zero, suc, ◌+◌, ◌<◌, List, [], ◌∷◌, length, get_or, drop, true, false, not, ◌&&◌, Some, None, refl, sym, ap, subst, ◌∙◌, arith}
 use Rattle.std.specs.Prelude.{is_some}
-use Rattle.ssa_model.specs.Path.{Path, same_path}
-use Rattle.ssa_model.specs.PathMap.{has, set_of, paths as set_paths, listed}
+use Rattle.ssa_model.specs.definitions.Path.{Path, same_path}
+use Rattle.ssa_model.specs.definitions.PathMap.{has, set_of, paths as set_paths, listed}
 use Rattle.ssa_model.proofs.PathMaps.{has-paths, has-set_of, same_sets}
 use Rattle.ssa_path.specs.Children.{child_at, elements, rises}
 use Rattle.ssa_path.specs.Combine.{IsGrown}

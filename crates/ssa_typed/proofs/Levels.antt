@@ -2,9 +2,9 @@
 use Rattle.std.proofs.Common.{◌≡◌, List, [], ◌∷◌, ◌⊎◌, inl, inr, Vec, Global, map, suc, length, subst, Bool, true, false, not, ◌&&◌, ◌||◌, refl, ap, sym, ◌∙◌, rules}
 use Rattle.std.specs.List.{list_any}
 use Rattle.std.specs.Ordering.{is_lt}
-use Rattle.ssa_model.specs.Path.{Element, element_cmp, same_element}
-use Rattle.ssa_model.specs.Body.{Content, record_branch, dict_branch, list_branch}
-use Rattle.ssa_model.specs.Fitting.{are_distinct}
+use Rattle.ssa_model.specs.definitions.Path.{Element, element_cmp, same_element}
+use Rattle.ssa_model.specs.definitions.Body.{Content, record_branch, dict_branch, list_branch}
+use Rattle.ssa_model.specs.definitions.Fitting.{are_distinct}
 use Rattle.ssa_path.specs.Children.{elements, is_below, rises}
 use Rattle.ssa_path.specs.declared.element.Elem.{Elem}
 use Rattle.ssa_path.proofs.Orders.{both, both_first, both_second, not_tied}

@@ -5,9 +5,9 @@ use Rattle.std.specs.List.{list_any}
 use Rattle.std.specs.Ordering.{is_eq, ordering_then}
 use Rattle.std.specs.Cmp.{tied_itself}
 use Rattle.std.specs.FinMap.Entries.{find, length-put}
-use Rattle.ssa_model.specs.Path.{Element, Path, element_cmp, path_cmp, path_cmp_total, same_element, same_path}
-use Rattle.ssa_model.specs.PathMap.{from_entries, get, has, paths, size}
-use Rattle.ssa_model.specs.Body.{Content}
+use Rattle.ssa_model.specs.definitions.Path.{Element, Path, element_cmp, path_cmp, path_cmp_total, same_element, same_path}
+use Rattle.ssa_model.specs.definitions.PathMap.{from_entries, get, has, paths, size}
+use Rattle.ssa_model.specs.definitions.Body.{Content}
 use Rattle.ssa_model.proofs.PathMaps.{get-from_entries, has-paths, has-set_of, same_sets, same_path-true}
 use Rattle.ssa_model.proofs.ShownNames.{then_equal}
 use Rattle.ssa_path.specs.declared.element.Elem.{Elem}

@@ -2,8 +2,8 @@
 use Rattle.std.proofs.Common.{◌≡◌, ℕ, ◌+◌, ◌<◌, List, [], ◌∷◌, ◌++◌, length, get_or, drop, Bool, true, false, not, cond, Option, Some, None, Ordering, Less, Equal, Greater, refl, sym, ap, ◌∙◌}
 use Rattle.std.specs.Ordering.{eq_by_cmp, is_eq, ordering_then}
 use Rattle.std.specs.List.{list_any}
-use Rattle.ssa_model.specs.Body.{Content}
-use Rattle.ssa_model.specs.Path.{Element, Path, element_cmp, path_cmp, same_element}
+use Rattle.ssa_model.specs.definitions.Body.{Content}
+use Rattle.ssa_model.specs.definitions.Path.{Element, Path, element_cmp, path_cmp, same_element}
 use Rattle.ssa_path.specs.Children.{child_at, elements}
 use Rattle.ssa_path.specs.declared.element.Elem.{Elem}
 use Rattle.ssa_path.specs.View.{element_view, path_view}

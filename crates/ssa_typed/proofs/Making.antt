@@ -2,7 +2,7 @@
 use Rattle.std.proofs.Common.{◌≡◌, List, [], ◌∷◌, ◌++◌, Bool, true, false, ◌&&◌, ◌||◌, cond, Option, Some, None, Less, Equal, Greater, refl, sym, ap, subst, ◌∙◌, append_assoc, append-nil}
 use Rattle.std.specs.Bool.{MatchBool}
 use Rattle.std.specs.Ordering.{is_lt}
-use Rattle.ssa_model.specs.Path.{Element, Path, element_cmp, same_element}
+use Rattle.ssa_model.specs.definitions.Path.{Element, Path, element_cmp, same_element}
 use Rattle.ssa_path.specs.Children.{child_at, elements, is_below, rises, heads_order}
 use Rattle.ssa_path.specs.Combine.{IsGrown}
 use Rattle.ssa_path.specs.declared.element.Elem.{Elem}

@@ -2,7 +2,7 @@
 use Rattle.std.proofs.Common.{◌≡◌, ℕ, ◌<◌, List, [], ◌∷◌, map, length, get_or, true, Option, Some, None, ◌⊎◌, inl, inr, Vec, Global, refl, sym, ap, ◌∙◌, arith}
 use Rattle.std.proofs.lemmas.List.{get_or-map, length-map}
 use Rattle.std.specs.Map.{values_of}
-use Rattle.ssa_model.specs.Body.{joined}
+use Rattle.ssa_model.specs.definitions.Body.{joined}
 use Rattle.ssa_model.proofs.Fitting.{distinct-joined}
 use Rattle.ssa_path.specs.Children.{child_at, elements}
 use Rattle.ssa_path.specs.View.{element_view}

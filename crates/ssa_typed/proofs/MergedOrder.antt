@@ -6,8 +6,8 @@ use Rattle.std.specs.Prelude.{filter}
 use Rattle.std.specs.Map.{lookup}
 use Rattle.std.proofs.lemmas.List.Elements.{filter-append}
 use Rattle.indexmap.specs.IndexMap.{insert_entry}
-use Rattle.ssa_model.specs.Json.{Text}
-use Rattle.ssa_model.specs.Path.{Element, element_text, same_element}
+use Rattle.ssa_model.specs.definitions.Json.{Text}
+use Rattle.ssa_model.specs.definitions.Path.{Element, element_text, same_element}
 use Rattle.ssa_path.specs.Children.{child_at, elements}
 use Rattle.ssa_path.specs.View.{element_view}
 use Rattle.ssa_path.proofs.Orders.{same_element-true, same_element-itself, same_either_way, both_first, both_second}

@@ -2,9 +2,9 @@
 use Rattle.std.proofs.Common.{◌≡◌, List, [], ◌∷◌, ◌++◌, Bool, true, false, not, ◌&&◌, cond, Option, Some, refl, sym, ap, ◌∙◌, true≢false, rules}
 use Rattle.std.specs.Prelude.{filter}
 use Rattle.std.specs.List.{list_any}
-use Rattle.ssa_model.specs.Body.{Content, leaf, atom, record_branch, dict_branch, list_branch, joined, over_content, over, is_leaf, order_at}
-use Rattle.ssa_model.specs.Kind.{is_among}
-use Rattle.ssa_model.specs.Path.{Element, same_element, is_item_element}
+use Rattle.ssa_model.specs.definitions.Body.{Content, leaf, atom, record_branch, dict_branch, list_branch, joined, over_content, over, is_leaf, order_at}
+use Rattle.ssa_model.specs.definitions.Kind.{is_among}
+use Rattle.ssa_model.specs.definitions.Path.{Element, same_element, is_item_element}
 use Rattle.ssa_model.proofs.PathMaps.{same_map, get-over}
 use Rattle.ssa_path.specs.Children.{child_at, elements, rises}
 use Rattle.ssa_path.specs.View.{element_view}

@@ -3,9 +3,9 @@ use Rattle.std.proofs.Common.{◌≡◌, ℕ, zero, suc, arith, ◌+◌, ◌<◌
 use Rattle.std.proofs.lemmas.List.{take_more, map-append}
 use Rattle.std.specs.Prelude.{filter}
 use Rattle.std.specs.List.{list_any}
-use Rattle.ssa_model.specs.Body.{Content, leaf, atom, record_branch, dict_branch, list_branch, joined, over_content}
-use Rattle.ssa_model.specs.Kind.{is_among}
-use Rattle.ssa_model.specs.Path.{Element, Path, same_element}
+use Rattle.ssa_model.specs.definitions.Body.{Content, leaf, atom, record_branch, dict_branch, list_branch, joined, over_content}
+use Rattle.ssa_model.specs.definitions.Kind.{is_among}
+use Rattle.ssa_model.specs.definitions.Path.{Element, Path, same_element}
 use Rattle.ssa_model.proofs.Fitting.{distinct-joined}
 use Rattle.ssa_path.specs.Children.{child_at, elements}
 use Rattle.ssa_path.specs.declared.element.Elem.{Elem}

@@ -1,10 +1,10 @@
 -- Each place of a body but its root is at or above one of its points, so a set with the points keeps it whole.
 use Rattle.std.proofs.Common.{◌≡◌, ℕ, zero, suc, ◌+◌, ◌<◌, ◌≤◌, List, [], ◌∷◌, ◌++◌, length, Bool, true, false, not, ◌||◌, cond, Option, Some, None, refl, sym, ap, ◌∙◌, true≢false, arith}
 use Rattle.std.specs.Prelude.{filter, option_map, is_some, if◌then◌else◌}
-use Rattle.ssa_model.specs.Path.{Element, Path, is_item, is_item_element, is_root, parent, same_element, same_path, under}
-use Rattle.ssa_model.specs.PathMap.{PathSet, get, has, has_at_or_below, paths}
-use Rattle.ssa_model.specs.Kind.{is_among}
-use Rattle.ssa_model.specs.Body.{Body, Content, leaf, atom, record_branch, dict_branch, list_branch, is_bare, is_dict, is_leaf, is_point, order_at, points, restricted, restricted_content, strictly_under}
+use Rattle.ssa_model.specs.definitions.Path.{Element, Path, is_item, is_item_element, is_root, parent, same_element, same_path, under}
+use Rattle.ssa_model.specs.definitions.PathMap.{PathSet, get, has, has_at_or_below, paths}
+use Rattle.ssa_model.specs.definitions.Kind.{is_among}
+use Rattle.ssa_model.specs.definitions.Body.{Body, Content, leaf, atom, record_branch, dict_branch, list_branch, is_bare, is_dict, is_leaf, is_point, order_at, points, restricted, restricted_content, strictly_under}
 use Rattle.ssa_model.proofs.PathMaps.{get-restricted, has-paths, has-points, is_one_of, same_map, same_path-true}
 use Rattle.ssa_model.proofs.Pruned.{from_one, some_one, under-rest, under-trans}
 use Rattle.ssa_model.proofs.Tables.{either, here_below, or_true, true_or}

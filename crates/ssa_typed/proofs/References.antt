@@ -1,6 +1,6 @@
 -- References to the children of a node, in the order of their elements.
 use Rattle.std.proofs.Common.{◌≡◌, ℕ, zero, suc, ◌+◌, ◌<◌, List, [], ◌∷◌, length, get_or, drop, Some, refl, sym, ap, subst, ◌∙◌, arith, Bor}
-use Rattle.ssa_model.specs.Path.{same_element}
+use Rattle.ssa_model.specs.definitions.Path.{same_element}
 use Rattle.ssa_path.specs.Children.{child_at}
 use Rattle.ssa_path.specs.declared.element.Elem.{Elem}
 use Rattle.ssa_path.specs.View.{element_view}

@@ -3,9 +3,9 @@ use Rattle.std.proofs.Common.{◌≡◌, suc, ◌+◌, ◌*◌, ◌<◌, ◌≤�
 use Rattle.std.specs.Prelude.{filter, option_map, if◌then◌else◌}
 use Rattle.std.specs.List.{list_any}
 use Rattle.std.specs.Ordering.{is_lt}
-use Rattle.ssa_model.specs.Body.{Content, leaf, atom, record_branch, dict_branch, list_branch, restricted, restricted_content}
-use Rattle.ssa_model.specs.Path.{Element, Path, element_cmp, is_item_element, is_root, same_element, under}
-use Rattle.ssa_model.specs.PathMap.{has_at_or_below, listed}
+use Rattle.ssa_model.specs.definitions.Body.{Content, leaf, atom, record_branch, dict_branch, list_branch, restricted, restricted_content}
+use Rattle.ssa_model.specs.definitions.Path.{Element, Path, element_cmp, is_item_element, is_root, same_element, under}
+use Rattle.ssa_model.specs.definitions.PathMap.{has_at_or_below, listed}
 use Rattle.ssa_model.proofs.Fitting.{distinct-filter}
 use Rattle.ssa_model.proofs.PathMaps.{get-restricted, same_map}
 use Rattle.ssa_path.specs.Children.{child_at, elements, is_below, rises}

@@ -2,15 +2,15 @@
 use Rattle.std.proofs.Common.{◌≡◌, List, [], ◌∷◌, ◌++◌, inl, inr, Bool, true, false, not, ◌&&◌, ◌||◌, Option, Some, None, refl, sym, ap, subst, ◌∙◌, true≢false}
 use Rattle.std.specs.Prelude.{is_some, option_map, if◌then◌else◌, codes}
 use Rattle.std.specs.List.{AllByRecursion, list_any}
-use Rattle.ssa_model.specs.Json.{Text, Json, scalar, list, object, Items, no_items, item, Members, no_members, member, member_of, same_text}
-use Rattle.ssa_model.specs.Path.{Element, field, Path, same_element}
-use Rattle.ssa_model.specs.PathMap.{get, has, paths}
-use Rattle.ssa_model.specs.Kind as kinds
-use Rattle.ssa_model.specs.Kind.{Kind, Fields, scalar_kind, atomic_of, record_of, dict_of, items_of, kind_of, item_key}
-use Rattle.ssa_model.specs.Body.{Body, Content, leaf, atom, record_branch, dict_branch, list_branch, is_leaf, is_dict, is_point, points, is_empty_object, strictly_under, places, field_places, entry_places, value_places, item_places, value_order, key_order}
-use Rattle.ssa_model.specs.Fitting.{of_kind, content_fits}
-use Rattle.ssa_model.specs.Lawful.{has_metadata}
-use Rattle.ssa_model.specs.Valid.{IsRooted, metadata_path}
+use Rattle.ssa_model.specs.definitions.Json.{Text, Json, scalar, list, object, Items, no_items, item, Members, no_members, member, member_of, same_text}
+use Rattle.ssa_model.specs.definitions.Path.{Element, field, Path, same_element}
+use Rattle.ssa_model.specs.definitions.PathMap.{get, has, paths}
+use Rattle.ssa_model.specs.definitions.Kind as kinds
+use Rattle.ssa_model.specs.definitions.Kind.{Kind, Fields, scalar_kind, atomic_of, record_of, dict_of, items_of, kind_of, item_key}
+use Rattle.ssa_model.specs.definitions.Body.{Body, Content, leaf, atom, record_branch, dict_branch, list_branch, is_leaf, is_dict, is_point, points, is_empty_object, strictly_under, places, field_places, entry_places, value_places, item_places, value_order, key_order}
+use Rattle.ssa_model.specs.definitions.Fitting.{of_kind, content_fits}
+use Rattle.ssa_model.specs.definitions.Lawful.{has_metadata}
+use Rattle.ssa_model.specs.definitions.Valid.{IsRooted, metadata_path}
 use Rattle.ssa_model.proofs.EmptyMetadata.{record-in}
 use Rattle.ssa_model.proofs.Reaching.{found-field}
 use Rattle.ssa_model.proofs.PathMaps.{has-paths, has-points}
@@ -23,7 +23,7 @@ use Rattle.ssa_json.proofs.Equality.{same_text-itself}
 use Rattle.ssa_path.proofs.Orders.{same_element-true, same_element-itself}
 use Rattle.ssa_model.proofs.Faults.{cons≢nil}
 use Rattle.ssa_model.proofs.Places.{place-push}
-use Rattle.ssa_model.specs.Faultless.{Fits, FieldsFit}
+use Rattle.ssa_model.specs.laws.Faultless.{Fits, FieldsFit}
 use Rattle.ssa_typed.specs.Flats.{member_places, IsTreeOf}
 use Rattle.ssa_typed.specs.Reads.{is_empty_member, has_empty_metadata}
 use Rattle.ssa_typed.specs.Rows.{Row, rows, body_of, content_at}

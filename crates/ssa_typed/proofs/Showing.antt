@@ -2,19 +2,19 @@
 use Rattle.std.proofs.Common.{◌≡◌, List, [], ◌∷◌, ◌++◌, Bool, true, false, cond, Option, Some, None, option_map, refl, sym, ap, subst, ◌∙◌, append_assoc, append-nil, true≢false}
 use Rattle.std.specs.Prelude.{is_some, if◌then◌else◌}
 use Rattle.std.specs.List.{AllByRecursion}
-use Rattle.ssa_model.specs.Json.{Text, Json, scalar, list, object, item, same_text}
-use Rattle.ssa_model.specs.Path.{Element, field, Path, same_element}
-use Rattle.ssa_model.specs.PathMap.{get, has}
-use Rattle.ssa_model.specs.Kind as kinds
-use Rattle.ssa_model.specs.Kind.{Kind, ScalarKind, Fields, scalar_kind, atomic_of, record_of, dict_of, items_of, no_fields, kind_field, kind_of, is_of}
-use Rattle.ssa_model.specs.Body.{Body, Content, leaf, atom, record_branch, dict_branch, list_branch, is_leaf, order_at}
-use Rattle.ssa_model.specs.Fitting.{Place, of_kind, item_of, place_below, place_at, content_fits, IsBodyOf}
-use Rattle.ssa_model.specs.Objects.{shown, shown_fields, shown_items, entry_members, names_below, content_value}
+use Rattle.ssa_model.specs.definitions.Json.{Text, Json, scalar, list, object, item, same_text}
+use Rattle.ssa_model.specs.definitions.Path.{Element, field, Path, same_element}
+use Rattle.ssa_model.specs.definitions.PathMap.{get, has}
+use Rattle.ssa_model.specs.definitions.Kind as kinds
+use Rattle.ssa_model.specs.definitions.Kind.{Kind, ScalarKind, Fields, scalar_kind, atomic_of, record_of, dict_of, items_of, no_fields, kind_field, kind_of, is_of}
+use Rattle.ssa_model.specs.definitions.Body.{Body, Content, leaf, atom, record_branch, dict_branch, list_branch, is_leaf, order_at}
+use Rattle.ssa_model.specs.definitions.Fitting.{Place, of_kind, item_of, place_below, place_at, content_fits, IsBodyOf}
+use Rattle.ssa_model.specs.definitions.Objects.{shown, shown_fields, shown_items, entry_members, names_below, content_value}
 use Rattle.ssa_model.proofs.Places.{record-branch, item-branch, dict-branch, set-branch, list-branch, value-leaf, set-place, list-place, kind-placed}
 use Rattle.ssa_path.specs.Children.{child_at, elements, rises}
 use Rattle.ssa_path.specs.View.{element_view}
 use Rattle.ssa_path.proofs.Orders.{both_first, both_second, same_element-itself}
-use Rattle.ssa_model.specs.Lawful.{is_before_all, is_ordered, are_ordered}
+use Rattle.ssa_model.specs.definitions.Lawful.{is_before_all, is_ordered, are_ordered}
 use Rattle.ssa_typed.specs.Points.{content_in}
 use Rattle.ssa_typed.specs.Rows.{rows, below, below_of, body_of, content_at, content_of, own_content, leaf_content, is_tree, are_apart}
 use Rattle.ssa_typed.specs.Values as values

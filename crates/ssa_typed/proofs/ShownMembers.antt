@@ -5,18 +5,18 @@ use Rattle.std.specs.List.{list_any, cons_option}
 use Rattle.std.specs.Ordering.{is_lt, ordering_then}
 use Rattle.std.specs.Cmp.{tied_itself}
 use Rattle.std.specs.FinMap.Entries.{is_sorted, below_all}
-use Rattle.ssa_model.specs.Json.{Text, Json, Members, member, member_of, same_text}
-use Rattle.ssa_model.specs.Path.{Element, field, key, value, Path, element_cmp, path_cmp, same_element}
-use Rattle.ssa_model.specs.PathMap.{has}
-use Rattle.ssa_model.specs.Kind.{Fields, no_fields, kind_field}
-use Rattle.ssa_model.specs.Body.{Body, Content}
-use Rattle.ssa_model.specs.Objects.{shown, shown_fields, entry_members, names_below}
+use Rattle.ssa_model.specs.definitions.Json.{Text, Json, Members, member, member_of, same_text}
+use Rattle.ssa_model.specs.definitions.Path.{Element, field, key, value, Path, element_cmp, path_cmp, same_element}
+use Rattle.ssa_model.specs.definitions.PathMap.{has}
+use Rattle.ssa_model.specs.definitions.Kind.{Fields, no_fields, kind_field}
+use Rattle.ssa_model.specs.definitions.Body.{Body, Content}
+use Rattle.ssa_model.specs.definitions.Objects.{shown, shown_fields, entry_members, names_below}
 use Rattle.ssa_model.proofs.ShownNames.{name_of, names-there, name-is}
 use Rattle.ssa_json.proofs.Equality.{same_text-true}
 use Rattle.ssa_path.specs.Children.{child_at, elements, is_below, rises}
 use Rattle.ssa_path.specs.View.{element_view}
 use Rattle.ssa_path.proofs.Orders.{element_cmp_total, both, both_first, both_second}
-use Rattle.ssa_model.specs.Lawful.{is_before_all, is_ordered, are_ordered}
+use Rattle.ssa_model.specs.definitions.Lawful.{is_before_all, is_ordered, are_ordered}
 use Rattle.ssa_typed.specs.Values.{members_of, member_under, value_of, values_of}
 use Rattle.ssa_typed.specs.declared.node.Node.{Node}
 use Rattle.ssa_typed.proofs.Building.{Child}

@@ -4,9 +4,9 @@ use Rattle.std.proofs.lemmas.List.{take_more}
 use Rattle.std.specs.Prelude.{is_some}
 use Rattle.std.specs.List.{list_any}
 use Rattle.std.specs.FinMap.Entries.{length-put}
-use Rattle.ssa_model.specs.Path.{Element, Path, path_cmp, path_cmp_total, same_element}
-use Rattle.ssa_model.specs.PathMap.{from_entries, has, size}
-use Rattle.ssa_model.specs.Body.{Content}
+use Rattle.ssa_model.specs.definitions.Path.{Element, Path, path_cmp, path_cmp_total, same_element}
+use Rattle.ssa_model.specs.definitions.PathMap.{from_entries, has, size}
+use Rattle.ssa_model.specs.definitions.Body.{Content}
 use Rattle.ssa_model.proofs.PathMaps.{get-from_entries}
 use Rattle.ssa_path.specs.Children.{elements, child_at}
 use Rattle.ssa_path.specs.declared.element.Elem.{Elem}

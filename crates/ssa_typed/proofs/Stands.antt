@@ -2,9 +2,9 @@
 use Rattle.std.proofs.Common.{◌≡◌, List, [], ◌∷◌, ◌++◌, Bool, true, false, not, ◌&&◌, ◌||◌, cond, Option, Some, None, refl, sym, ap, ◌∙◌}
 use Rattle.std.specs.Prelude.{is_some}
 use Rattle.std.specs.List.{list_any}
-use Rattle.ssa_model.specs.Path.{Element, Path, same_element, is_item, parent, under}
-use Rattle.ssa_model.specs.PathMap.{from_entries, has, paths}
-use Rattle.ssa_model.specs.Body.{is_leaf, is_dict, strictly_under, points}
+use Rattle.ssa_model.specs.definitions.Path.{Element, Path, same_element, is_item, parent, under}
+use Rattle.ssa_model.specs.definitions.PathMap.{from_entries, has, paths}
+use Rattle.ssa_model.specs.definitions.Body.{is_leaf, is_dict, strictly_under, points}
 use Rattle.ssa_model.proofs.Lists.{any-from_entries, keys}
 use Rattle.ssa_model.proofs.PathMaps.{has-points}
 use Rattle.ssa_path.specs.Children.{child_at, elements}

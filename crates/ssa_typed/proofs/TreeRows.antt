@@ -1,8 +1,8 @@
 -- Each row of a tree is what its path finds.
 use Rattle.std.proofs.Common.{◌≡◌, List, [], ◌∷◌, ◌++◌, ◌⊎◌, inl, inr, Bool, true, false, cond, Some, refl, sym, ap, subst, ◌∙◌}
 use Rattle.std.specs.List.{AllByRecursion}
-use Rattle.ssa_model.specs.Path.{Element, Path, same_element, same_path}
-use Rattle.ssa_model.specs.Body.{Content}
+use Rattle.ssa_model.specs.definitions.Path.{Element, Path, same_element, same_path}
+use Rattle.ssa_model.specs.definitions.Body.{Content}
 use Rattle.ssa_model.proofs.PathMaps.{same_path-true}
 use Rattle.ssa_path.specs.Children.{child_at, elements}
 use Rattle.ssa_path.specs.declared.element.Elem.{Elem}

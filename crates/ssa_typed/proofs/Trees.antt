@@ -6,19 +6,19 @@ use Rattle.std.specs.Map.{lookup}
 use Rattle.std.specs.BTreeMap.{is_at}
 use Rattle.std.specs.Cmp.Lexicographic.{slice_cmp}
 use Rattle.ssa_schema.proofs.Fields.{view_of_ref, fields-lookup}
-use Rattle.ssa_model.specs.Json.{Text, Json, object, list, Items, Members, same_text}
-use Rattle.ssa_model.specs.Path.{field, Path}
-use Rattle.ssa_model.specs.PathMap.{from_entries}
-use Rattle.ssa_model.specs.Kind as model
-use Rattle.ssa_model.specs.Body.{Content, record_branch, dict_branch, list_branch, flat, without_empty_metadata, places, field_places, entry_places, value_places, item_places, value_order, key_order}
+use Rattle.ssa_model.specs.definitions.Json.{Text, Json, object, list, Items, Members, same_text}
+use Rattle.ssa_model.specs.definitions.Path.{field, Path}
+use Rattle.ssa_model.specs.definitions.PathMap.{from_entries}
+use Rattle.ssa_model.specs.definitions.Kind as model
+use Rattle.ssa_model.specs.definitions.Body.{Content, record_branch, dict_branch, list_branch, flat, without_empty_metadata, places, field_places, entry_places, value_places, item_places, value_order, key_order}
 use Rattle.ssa_schema.specs.Kinds.{kind_view, fields_view, names_view, scalar_kind_view}
-use Rattle.ssa_model.specs.Lawful.{is_keyed, are_keyed}
+use Rattle.ssa_model.specs.definitions.Lawful.{is_keyed, are_keyed}
 use Rattle.ssa_schema.specs.declared.kind.Kind as kind
 use Rattle.ssa_schema.specs.declared.kind.ScalarKind.{ScalarKind}
 use Rattle.ssa_path.specs.Children.{elements}
 use Rattle.ssa_path.proofs.Orders.{both, both_first, both_second}
 use Rattle.ssa_typed.specs.Rows.{Row, body_of, rows, rows_below, is_tree, are_apart}
-use Rattle.ssa_model.specs.Faultless.{ValuesFit, ItemsFit}
+use Rattle.ssa_model.specs.laws.Faultless.{ValuesFit, ItemsFit}
 use Rattle.ssa_typed.specs.Flats.{rows_at, member_places, AreListed, AreNamed, IsTreeOf}
 use Rattle.ssa_typed.specs.declared.node.Node.{Node, Branch, Dict, List as ListOf}
 use Rattle.ssa_typed.proofs.Building.{Child}
@@ -100,7 +100,7 @@ module _ (cs : Children) where
   dict-tree : (rows_from : Path → List Row) → AreNamed rows_from cs.items → is_tree (Dict cs) ≡ true
   dict-tree rows_from h = tree-Dict cs ∙ both _ _ (both _ _ h.risen h.fields) h.trees
 
-  list-tree : (order : List Rattle.ssa_model.specs.Path.Element) (rows_from : Path → List Row) → are_apart order ≡ true → AreListed order rows_from cs.items → is_tree (ListOf cs) ≡ true
+  list-tree : (order : List Rattle.ssa_model.specs.definitions.Path.Element) (rows_from : Path → List Row) → are_apart order ≡ true → AreListed order rows_from cs.items → is_tree (ListOf cs) ≡ true
   list-tree order rows_from apart h = tree-List cs ∙ both _ _ (both _ _ (ap are_apart h.order_is ∙ apart) h.items) h.trees
 
   pub record-made : (k : model.Kind) (v : Json) (fs : model.Fields) (ms : Members) → model.record_of fs ≡ k → object ms ≡ v → AreNamed (field_places fs ms) cs.items → IsTreeOf k v (Branch cs)

@@ -1,8 +1,8 @@
 -- Trees of which nothing is told.
 use Rattle.std.proofs.Common.{◌≡◌, ℕ, ◌+◌, ◌<◌, List, [], ◌∷◌, ◌++◌, length, get_or, take, Bool, true, false, not, ◌&&◌, cond, Option, Some, refl, sym, ap, subst₂, ◌∙◌}
 use Rattle.std.specs.Prelude.{is_some}
-use Rattle.ssa_model.specs.Path.{Element, Path, same_element}
-use Rattle.ssa_model.specs.Body.{Content, is_other_leaf}
+use Rattle.ssa_model.specs.definitions.Path.{Element, Path, same_element}
+use Rattle.ssa_model.specs.definitions.Body.{Content, is_other_leaf}
 use Rattle.ssa_path.specs.Children.{child_at, elements}
 use Rattle.ssa_path.specs.declared.trie.Trie.{Trie}
 use Rattle.ssa_path.specs.View.{element_view}

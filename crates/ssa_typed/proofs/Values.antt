@@ -5,9 +5,9 @@ use Rattle.std.specs.Cmp.Lexicographic.{slice_cmp, nat_list_cmp_total}
 use Rattle.std.specs.FinMap.{slice_cmp-IsAntisymmetric, nat_cmp-IsAntisymmetric}
 use Rattle.std.specs.BTreeMap.{insert_entry}
 use Rattle.std.specs.Ordering.{is_lt, ordering_reverse, match_ordering}
-use Rattle.ssa_model.specs.Json.{Json, list, object, Items, no_items, item, Members, member}
-use Rattle.ssa_model.specs.Path.{Element, field, key, value, element_cmp}
-use Rattle.ssa_model.specs.Objects.{with_member}
+use Rattle.ssa_model.specs.definitions.Json.{Json, list, object, Items, no_items, item, Members, member}
+use Rattle.ssa_model.specs.definitions.Path.{Element, field, key, value, element_cmp}
+use Rattle.ssa_model.specs.definitions.Objects.{with_member}
 use Rattle.ssa_json.specs.View.{view, items_view, members_view}
 use Rattle.ssa_json.proofs.Converting.{Found}
 use Rattle.ssa_json.specs.declared.value.Json as program

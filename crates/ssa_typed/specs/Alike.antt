@@ -1,8 +1,8 @@
 -- Bodies one of which may be put over the other.
 use Rattle.std.specs.Prelude.{◌≡◌, Bool, true, false, Option, None, Some}
-use Rattle.ssa_model.specs.Path.{Path}
-use Rattle.ssa_model.specs.PathMap.{get}
-use Rattle.ssa_model.specs.Body.{Content, leaf, atom, record_branch, dict_branch, list_branch, Body, is_leaf}
+use Rattle.ssa_model.specs.definitions.Path.{Path}
+use Rattle.ssa_model.specs.definitions.PathMap.{get}
+use Rattle.ssa_model.specs.definitions.Body.{Content, leaf, atom, record_branch, dict_branch, list_branch, Body, is_leaf}
 
 -- both have the same sort of content, or one has none: a leaf or an atomic value, a record, a Dict or a list
 abbrev pub are_alike : Option Content → Option Content → Bool

@@ -1,6 +1,6 @@
 -- What a copy of a tree keeps.
 use Rattle.std.specs.Prelude.{List, map, Bool}
-use Rattle.ssa_model.specs.Path.{Element}
+use Rattle.ssa_model.specs.definitions.Path.{Element}
 use Rattle.ssa_path.specs.declared.element.Elem.{Elem}
 use Rattle.ssa_path.specs.View.{element_view}
 use Rattle.ssa_typed.specs.Rows.{Row, rows, is_tree}

@@ -1,7 +1,7 @@
 -- What one body has otherwise than another that comes before it, told by their trees.
 use Rattle.std.specs.Prelude.{◌≡◌, List, [], ◌∷◌, Bool, true, false, ◌&&◌, not, is_some, Option, Some, None}
-use Rattle.ssa_model.specs.Path.{Element, Path}
-use Rattle.ssa_model.specs.Body.{Body, Content, is_other_leaf, added, modified, removed}
+use Rattle.ssa_model.specs.definitions.Path.{Element, Path}
+use Rattle.ssa_model.specs.definitions.Body.{Body, Content, is_other_leaf, added, modified, removed}
 use Rattle.ssa_path.specs.Children.{child_at, elements, rises}
 use Rattle.ssa_path.specs.Combine.{IsGrown}
 use Rattle.ssa_path.specs.Trie.{paths, paths_below, is_one_of, is_trie, are_filled_tries}

@@ -1,9 +1,9 @@
 -- Trees of fitting values.
 use Rattle.std.specs.Prelude.{◌≡◌, List, [], ◌∷◌, ◌++◌, map, true, Option, Some, None}
-use Rattle.ssa_model.specs.Json.{Text, Scalar, Json, scalar, list, object, Items, Members}
-use Rattle.ssa_model.specs.Path.{Element, value, Path}
-use Rattle.ssa_model.specs.Kind.{Kind, Fields, faults, item_key, kind_of}
-use Rattle.ssa_model.specs.Body.{Body, flat, leaf, record_branch, places, field_places}
+use Rattle.ssa_model.specs.definitions.Json.{Text, Scalar, Json, scalar, list, object, Items, Members}
+use Rattle.ssa_model.specs.definitions.Path.{Element, value, Path}
+use Rattle.ssa_model.specs.definitions.Kind.{Kind, Fields, faults, item_key, kind_of}
+use Rattle.ssa_model.specs.definitions.Body.{Body, flat, leaf, record_branch, places, field_places}
 use Rattle.ssa_path.specs.Children.{elements, rises}
 use Rattle.ssa_path.specs.View.{element_view}
 use Rattle.ssa_path.specs.declared.element.Elem.{Elem}

@@ -1,7 +1,7 @@
 -- Children in the order of their elements.
 use Rattle.std.specs.Prelude.{◌≡◌, List, map, true}
 use Rattle.std.specs.Borrow.{Bor}
-use Rattle.ssa_model.specs.Path.{Element}
+use Rattle.ssa_model.specs.definitions.Path.{Element}
 use Rattle.ssa_path.specs.Children.{child_at, elements, rises}
 use Rattle.ssa_path.specs.declared.element.Elem.{Elem}
 use Rattle.ssa_typed.specs.declared.node.Node.{Node}

@@ -1,6 +1,6 @@
 -- What a tree lacks of the paths of a trie.
 use Rattle.std.specs.Prelude.{◌≡◌, List, ◌∷◌, true, not, ◌&&◌, is_some}
-use Rattle.ssa_model.specs.Path.{Element, Path}
+use Rattle.ssa_model.specs.definitions.Path.{Element, Path}
 use Rattle.ssa_path.specs.Children.{elements, rises}
 use Rattle.ssa_path.specs.Trie.{paths, paths_below, is_one_of, is_trie, are_filled_tries}
 use Rattle.ssa_path.specs.declared.element.Elem.{Elem}

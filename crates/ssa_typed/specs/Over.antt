@@ -1,7 +1,7 @@
 -- One tree over another.
 use Rattle.std.specs.Prelude.{◌≡◌, List, [], ◌∷◌, ◌++◌, true}
-use Rattle.ssa_model.specs.Body.{joined, over_content}
-use Rattle.ssa_model.specs.Path.{Element, Path}
+use Rattle.ssa_model.specs.definitions.Body.{joined, over_content}
+use Rattle.ssa_model.specs.definitions.Path.{Element, Path}
 use Rattle.ssa_path.specs.Children.{child_at, elements}
 use Rattle.ssa_path.specs.declared.element.Elem.{Elem}
 use Rattle.ssa_path.specs.View.{element_view}

@@ -1,7 +1,7 @@
 -- The points of a tree, told by its rows, and what a walk over a tree collects.
 use Rattle.std.specs.Prelude.{◌≡◌, List, [], ◌∷◌, Bool, true, false, ◌||◌, ◌&&◌, not, is_some, Option, Some, None}
-use Rattle.ssa_model.specs.Path.{Element, Path, is_item_element, is_item, parent}
-use Rattle.ssa_model.specs.Body.{Content, is_leaf, is_dict, strictly_under}
+use Rattle.ssa_model.specs.definitions.Path.{Element, Path, is_item_element, is_item, parent}
+use Rattle.ssa_model.specs.definitions.Body.{Content, is_leaf, is_dict, strictly_under}
 use Rattle.ssa_path.specs.Children.{child_at, elements, rises}
 use Rattle.ssa_path.specs.Trie.{paths, paths_below, is_one_of, is_trie, are_filled_tries}
 use Rattle.ssa_path.specs.declared.element.Elem.{Elem}

@@ -1,8 +1,8 @@
 -- Each place of a body but its root is at or above one of its points.
 use Rattle.std.specs.Prelude.{◌≡◌, true, ◌||◌}
-use Rattle.ssa_model.specs.Path.{Path, is_root}
-use Rattle.ssa_model.specs.PathMap.{PathSet, has, has_at_or_below}
-use Rattle.ssa_model.specs.Body.{Body, points, restricted}
+use Rattle.ssa_model.specs.definitions.Path.{Path, is_root}
+use Rattle.ssa_model.specs.definitions.PathMap.{PathSet, has, has_at_or_below}
+use Rattle.ssa_model.specs.definitions.Body.{Body, points, restricted}
 
 -- the points tell all the places
 abbrev pub PointsTellPlaces : Body → Type 0

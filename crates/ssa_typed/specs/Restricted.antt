@@ -1,8 +1,8 @@
 -- The part of a tree that stays.
 use Rattle.std.specs.Prelude.{◌≡◌, List, [], ◌∷◌, Bool, true, ◌||◌, filter, Option, None, option_map, if◌then◌else◌}
 use Rattle.std.specs.List.{list_any}
-use Rattle.ssa_model.specs.Body.{Content, restricted_content}
-use Rattle.ssa_model.specs.Path.{Element, Path, is_root, under}
+use Rattle.ssa_model.specs.definitions.Body.{Content, restricted_content}
+use Rattle.ssa_model.specs.definitions.Path.{Element, Path, is_root, under}
 use Rattle.ssa_path.specs.Children.{child_at, elements}
 use Rattle.ssa_path.specs.declared.element.Elem.{Elem}
 use Rattle.ssa_typed.specs.Points.{content_in}

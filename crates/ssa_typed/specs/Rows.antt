@@ -2,9 +2,9 @@
 use Rattle.std.specs.Prelude.{List, [], ◌∷◌, ◌++◌, map, Option, Bool, true, not, ◌&&◌}
 use Rattle.std.specs.List.{list_any}
 use Rattle.std.specs.FinMap.Entries.{find}
-use Rattle.ssa_model.specs.Path.{Element, Path, path_cmp, same_element, is_item_element}
-use Rattle.ssa_model.specs.PathMap.{from_entries}
-use Rattle.ssa_model.specs.Body.{Content, leaf, atom, record_branch, dict_branch, list_branch, Body}
+use Rattle.ssa_model.specs.definitions.Path.{Element, Path, path_cmp, same_element, is_item_element}
+use Rattle.ssa_model.specs.definitions.PathMap.{from_entries}
+use Rattle.ssa_model.specs.definitions.Body.{Content, leaf, atom, record_branch, dict_branch, list_branch, Body}
 use Rattle.ssa_json.specs.View.{scalar_view, view}
 use Rattle.ssa_path.specs.declared.element.Elem.{Elem}
 use Rattle.ssa_path.specs.Children.{elements, rises}

@@ -1,8 +1,8 @@
 -- The values of trees.
 use Rattle.std.specs.Prelude.{List, [], ◌∷◌, map}
-use Rattle.ssa_model.specs.Json.{Json, scalar, list, object, Items, no_items, item, Members, no_members, member}
-use Rattle.ssa_model.specs.Path.{Element, field, key, value}
-use Rattle.ssa_model.specs.Objects.{with_member}
+use Rattle.ssa_model.specs.definitions.Json.{Json, scalar, list, object, Items, no_items, item, Members, no_members, member}
+use Rattle.ssa_model.specs.definitions.Path.{Element, field, key, value}
+use Rattle.ssa_model.specs.definitions.Objects.{with_member}
 use Rattle.ssa_json.specs.View.{scalar_view, view}
 use Rattle.ssa_path.specs.declared.element.Elem.{Elem}
 use Rattle.ssa_path.specs.View.{element_view}

@@ -1,14 +1,14 @@
 //! Bodies, seen as finite maps from whole paths to contents.
 ghost use Rattle.std.specs.Prelude.{◌≡◌, [], ◌∷◌, ◌-◌, ◌^◌, ◌||◌, true, not, min, option_map, IfOk};
-ghost use Rattle.ssa_model.specs.Body.{over, points, record_branch, restricted};
-ghost use Rattle.ssa_model.specs.Fitting.{IsBodyOf};
-ghost use Rattle.ssa_model.specs.Kind.{Kind};
-ghost use Rattle.ssa_model.specs.Objects.{shown};
-ghost use Rattle.ssa_model.specs.Path.{is_root};
-ghost use Rattle.ssa_model.specs.PathMap.{from_entries, has, has_at_or_below, paths, set_of, size};
+ghost use Rattle.ssa_model.specs.definitions.Body.{over, points, record_branch, restricted};
+ghost use Rattle.ssa_model.specs.definitions.Fitting.{IsBodyOf};
+ghost use Rattle.ssa_model.specs.definitions.Kind.{Kind};
+ghost use Rattle.ssa_model.specs.definitions.Objects.{shown};
+ghost use Rattle.ssa_model.specs.definitions.Path.{is_root};
+ghost use Rattle.ssa_model.specs.definitions.PathMap.{from_entries, has, has_at_or_below, paths, set_of, size};
 ghost use Rattle.ssa_json.specs.View.{view};
-ghost use Rattle.ssa_model.specs.Lawful.{is_lawful, is_ordered};
-ghost use Rattle.ssa_model.specs.Valid.{IsRooted};
+ghost use Rattle.ssa_model.specs.definitions.Lawful.{is_lawful, is_ordered};
+ghost use Rattle.ssa_model.specs.definitions.Valid.{IsRooted};
 ghost use Rattle.ssa_typed.specs.Alike.{AreAlike};
 ghost use Rattle.ssa_typed.specs.Differences.{IsComparison};
 ghost use Rattle.ssa_typed.specs.Look.{look_of, look_at};
@@ -28,6 +28,9 @@ use std::alloc::{AllocError, Global};
 use std::marker::Model;
 use std::mem;
 
+/// How many places a body may have, the root among them: 20,000 paths.
+pub const MOST_PLACES: usize = 20_001;
+
 /// An object without its identity.
 ///
 /// Two bodies are equal in every contract where they have the same contents at the same paths, with
@@ -39,8 +42,8 @@ pub struct Body {
 
 impl Model for Body {
     ghost use Rattle.std.specs.Prelude.{◌≡◌, true};
-    ghost use Rattle.ssa_model.specs.Body as model;
-    ghost use Rattle.ssa_model.specs.Codes.{coded_body};
+    ghost use Rattle.ssa_model.specs.definitions.Body as model;
+    ghost use Rattle.ssa_model.specs.codes.Codes.{coded_body};
     ghost use Rattle.ssa_typed.specs.Rows.{body_of, is_tree};
 
     ghost Value = { model.Body };

@@ -1,11 +1,11 @@
 //! The tree of a fitting value.
 ghost use Rattle.std.specs.Prelude.{◌≡◌, true, IfOk, string_bytes};
-ghost use Rattle.ssa_model.specs.Path.{field};
-ghost use Rattle.ssa_model.specs.Body.{field_places, entry_places, value_places, item_places, value_order, key_order};
+ghost use Rattle.ssa_model.specs.definitions.Path.{field};
+ghost use Rattle.ssa_model.specs.definitions.Body.{field_places, entry_places, value_places, item_places, value_order, key_order};
 ghost use Rattle.ssa_json.specs.View.{view, items_view, members_view};
 ghost use Rattle.ssa_schema.specs.Kinds.{kind_view, fields_view, names_view, scalar_kind_view};
-ghost use Rattle.ssa_model.specs.Lawful.{are_key_names, are_keyed, is_keyed};
-ghost use Rattle.ssa_model.specs.Faultless.{EntriesFit, FieldsFit, Fits, IsScalar, ItemFits, ItemsFit, MemberFits, ValuesFit};
+ghost use Rattle.ssa_model.specs.definitions.Lawful.{are_key_names, are_keyed, is_keyed};
+ghost use Rattle.ssa_model.specs.laws.Faultless.{EntriesFit, FieldsFit, Fits, IsScalar, ItemFits, ItemsFit, MemberFits, ValuesFit};
 ghost use Rattle.ssa_typed.specs.Flats.{member_places, AreListed, AreNamed, IsChild, IsItem, IsTreeOf, IsValue};
 
 use crate::item_keys::keys_of;

@@ -1,6 +1,6 @@
 //! What one body has otherwise than another that comes before it.
 ghost use Rattle.std.specs.Prelude.{◌≡◌, true, drop, Some, IfOk, OnOk};
-ghost use Rattle.ssa_model.specs.Body.{is_other_leaf};
+ghost use Rattle.ssa_model.specs.definitions.Body.{is_other_leaf};
 ghost use Rattle.ssa_path.specs.Children.{heads_order};
 ghost use Rattle.ssa_typed.specs.Differences.{AreDifferences, AreDiffering, AreUnchanged, IsToldAlone, TellsNothing};
 ghost use Rattle.ssa_typed.specs.InOrder.{referred};

@@ -1,12 +1,12 @@
 //! The key fields of the items of map lists.
 ghost use Rattle.std.specs.Prelude.{◌≡◌, true, IfOk, option_map};
-ghost use Rattle.ssa_model.specs.Json.{member_of};
-ghost use Rattle.ssa_model.specs.Kind.{key_scalars};
+ghost use Rattle.ssa_model.specs.definitions.Json.{member_of};
+ghost use Rattle.ssa_model.specs.definitions.Kind.{key_scalars};
 ghost use Rattle.ssa_json.specs.View.{members_view, scalar_view};
 ghost use Rattle.ssa_path.specs.Keys as keys;
 ghost use Rattle.ssa_schema.specs.Kinds.{fields_view, names_view};
-ghost use Rattle.ssa_model.specs.Lawful.{are_key_names};
-ghost use Rattle.ssa_model.specs.Faultless.{KeysFit};
+ghost use Rattle.ssa_model.specs.definitions.Lawful.{are_key_names};
+ghost use Rattle.ssa_model.specs.laws.Faultless.{KeysFit};
 ghost use Rattle.ssa_typed.specs.Flats.{scalar_in};
 
 use ssa_json::value::{Json, Scalar};

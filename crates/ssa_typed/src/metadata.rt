@@ -1,7 +1,7 @@
 //! An empty `metadata`, which no body has.
 ghost use Rattle.std.specs.Prelude.{◌≡◌, false, string_cmp};
 ghost use Rattle.std.specs.BTreeMap.{IsOrdered};
-ghost use Rattle.ssa_model.specs.Body.{is_empty_object, without_empty_metadata};
+ghost use Rattle.ssa_model.specs.definitions.Body.{is_empty_object, without_empty_metadata};
 ghost use Rattle.ssa_json.specs.View.{view, members_view};
 ghost use Rattle.ssa_typed.specs.Reads.{has_empty_metadata};
 

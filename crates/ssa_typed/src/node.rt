@@ -1,8 +1,8 @@
 //! The tree of a body.
 ghost use Rattle.std.specs.Prelude.{◌≡◌, [], ◌∷◌, ◌++◌, ◌-◌, ◌^◌, true, length, min, None, Some, IfNone, IfSome};
 ghost use Rattle.std.specs.Option.{option_copied};
-ghost use Rattle.ssa_model.specs.Body.{is_dict};
-ghost use Rattle.ssa_model.specs.Path as model;
+ghost use Rattle.ssa_model.specs.definitions.Body.{is_dict};
+ghost use Rattle.ssa_model.specs.definitions.Path as model;
 ghost use Rattle.ssa_path.specs.Children.{child_at, elements};
 ghost use Rattle.ssa_path.specs.View.{element_view, path_view};
 ghost use Rattle.ssa_typed.specs.Look.{look_of, shown};

@@ -1,8 +1,8 @@
 //! What a value is made of, where its sort is known.
 ghost use Rattle.std.specs.Prelude.{◌≡◌};
-ghost use Rattle.ssa_model.specs.Json as values;
+ghost use Rattle.ssa_model.specs.definitions.Json as values;
 ghost use Rattle.ssa_json.specs.View.{view, items_view, members_view, scalar_view};
-ghost use Rattle.ssa_model.specs.Faultless.{IsScalar};
+ghost use Rattle.ssa_model.specs.laws.Faultless.{IsScalar};
 ghost use Rattle.ssa_typed.specs.Flats.{IsList, IsObject};
 
 use ssa_json::value::{Json, Scalar};

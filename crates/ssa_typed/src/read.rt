@@ -1,15 +1,15 @@
 //! Bodies of values.
 ghost use Rattle.std.specs.Prelude.{◌≡◌, true, IfOk};
-ghost use Rattle.ssa_model.specs.Body.{flat};
-ghost use Rattle.ssa_model.specs.Fitting.{IsBodyOf};
+ghost use Rattle.ssa_model.specs.definitions.Body.{flat};
+ghost use Rattle.ssa_model.specs.definitions.Fitting.{IsBodyOf};
 ghost use Rattle.ssa_json.specs.View.{view};
 ghost use Rattle.ssa_schema.specs.Kinds.{kind_view};
-ghost use Rattle.ssa_model.specs.Lawful.{has_metadata, is_root_kind};
-ghost use Rattle.ssa_model.specs.Valid.{IsRooted};
-ghost use Rattle.ssa_model.specs.Faultless.{Fits};
+ghost use Rattle.ssa_model.specs.definitions.Lawful.{has_metadata, is_root_kind};
+ghost use Rattle.ssa_model.specs.definitions.Valid.{IsRooted};
+ghost use Rattle.ssa_model.specs.laws.Faultless.{Fits};
 ghost use Rattle.ssa_typed.specs.Reads.{ReadsBody};
 
-use crate::body::Body;
+use crate::body::{Body, MOST_PLACES};
 use crate::build::field_children;
 use crate::fault::TypedFault;
 use crate::metadata::without_empty_metadata;
@@ -19,9 +19,6 @@ use ssa_json::value::Json;
 use ssa_schema::kind::Kind;
 use ssa_schema::schema::Schema;
 use std::alloc::{AllocError, Global};
-
-/// How many places a body may have, the root among them.
-const MOST_PLACES: usize = 20_001;
 
 // The body of a value that fits a root's kind.
 fn body_of(alloc: Global, kind: &Kind, value: Json) -> Result<Body, AllocError>
@@ -49,8 +46,8 @@ impl Body {
     /// Refused are a value that does not fit the schema, with its first fault, and then one with
     /// more than 20,000 places beside the root.
     pub fn from_json(alloc: Global, schema: &Schema, value: Json) -> Result<Body, TypedFault>
-        ensures read { ReadsBody result schema.now.1 (view value) }
-        ensures fits { IfOk result (λ b. IsBodyOf schema.now.1 b) }
+        ensures read { ReadsBody result schema.now.kind (view value) }
+        ensures fits { IfOk result (λ b. IsBodyOf schema.now.kind b) }
         ensures rooted { IfOk result (λ b. IsRooted b) }
     {
         if let Some(fault) = schema.first_fault(alloc, &value)? {

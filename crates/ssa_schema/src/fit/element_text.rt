@@ -1,8 +1,8 @@
 //! The texts of the elements that lead down a value.
 ghost use Rattle.std.specs.Prelude.{◌≡◌, ◌∷◌, ◌++◌, IfOk, OnOk, string_bytes};
-ghost use Rattle.ssa_model.specs.Json.{comma_if, quoted, scalar_text};
-ghost use Rattle.ssa_model.specs.Path.{element_text, field, value};
-ghost use Rattle.ssa_model.specs.Kind.{item_key};
+ghost use Rattle.ssa_model.specs.definitions.Json.{comma_if, quoted, scalar_text};
+ghost use Rattle.ssa_model.specs.definitions.Path.{element_text, field, value};
+ghost use Rattle.ssa_model.specs.definitions.Kind.{item_key};
 ghost use Rattle.ssa_json.specs.View.{members_view, scalar_view};
 ghost use Rattle.ssa_schema.specs.Kinds.{names_view};
 

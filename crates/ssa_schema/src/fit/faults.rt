@@ -1,6 +1,6 @@
 //! The first fault of a value under a kind.
 ghost use Rattle.std.specs.Prelude.{◌≡◌, [], IfOk, option_map};
-ghost use Rattle.ssa_model.specs.Kind.{faults, field_faults, entry_faults, value_faults, item_faults};
+ghost use Rattle.ssa_model.specs.definitions.Kind.{faults, field_faults, entry_faults, value_faults, item_faults};
 ghost use Rattle.ssa_json.specs.View.{view, items_view, members_view, scalar_view};
 ghost use Rattle.ssa_schema.specs.Kinds.{scalar_kind_view, kind_view, fields_view, names_view};
 ghost use Rattle.ssa_schema.specs.Finds.{Finds, scalar_of, keyed_faults};

@@ -1,7 +1,7 @@
 //! What the walk of a value finds.
 ghost use Rattle.std.specs.Prelude.{◌≡◌, List, [], ◌∷◌, ◌++◌, IfOk};
-ghost use Rattle.ssa_model.specs.Path.{Path};
-ghost use Rattle.ssa_model.specs.Kind.{Fault};
+ghost use Rattle.ssa_model.specs.definitions.Path.{Path};
+ghost use Rattle.ssa_model.specs.definitions.Kind.{FaultAt};
 ghost use Rattle.ssa_schema.specs.Finds.{Finds, Breaks, found_at, told_view};
 
 use crate::body_fault::BodyFault;
@@ -38,7 +38,7 @@ impl Found {
 
     /// What is wrong at the place itself, where something is.
     pub fn at_place(alloc: Global, misfit: Option<Misfit>) -> Option<Found>
-        ensures { (faults : Path → List Fault) → Breaks misfit faults → Finds result faults }
+        ensures { (faults : Path → List FaultAt) → Breaks misfit faults → Finds result faults }
     {
         match misfit {
             Some(misfit) => Some(Found::here(alloc, misfit)),

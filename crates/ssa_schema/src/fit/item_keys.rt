@@ -1,6 +1,6 @@
 //! What is wrong with the keys of a map list's items.
 ghost use Rattle.std.specs.Prelude.{option_map};
-ghost use Rattle.ssa_model.specs.Kind.{key_field_fault, key_faults};
+ghost use Rattle.ssa_model.specs.definitions.Kind.{key_field_fault, key_faults};
 ghost use Rattle.ssa_json.specs.View.{view, members_view};
 ghost use Rattle.ssa_schema.specs.Kinds.{kind_view, fields_view, names_view};
 ghost use Rattle.ssa_schema.specs.Finds.{Breaks};

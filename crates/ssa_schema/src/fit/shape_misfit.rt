@@ -1,5 +1,5 @@
 //! What is wrong inside an atomic value: all of it is told at the atomic value's own path.
-ghost use Rattle.ssa_model.specs.Kind.{wrong_type, is_of, fault_unless, shape_faults, shape_field_faults, shape_entry_faults, shape_item_faults};
+ghost use Rattle.ssa_model.specs.definitions.Kind.{wrong_type, is_of, fault_unless, shape_faults, shape_field_faults, shape_entry_faults, shape_item_faults};
 ghost use Rattle.ssa_json.specs.View.{view, items_view, members_view, scalar_view};
 ghost use Rattle.ssa_schema.specs.Kinds.{scalar_kind_view, shape_view, shape_fields_view};
 ghost use Rattle.ssa_schema.specs.Finds.{Breaks};

@@ -1,9 +1,9 @@
 //! The kinds of schemas.
 ghost use Rattle.std.specs.Prelude.{◌≡◌, true, IfOk};
-ghost use Rattle.ssa_model.specs.Schema.{scalar_kind_of, kind_fields, property_members, item_members};
+ghost use Rattle.ssa_model.specs.definitions.Schema.{scalar_kind_of, kind_fields, property_members, item_members};
 ghost use Rattle.ssa_json.specs.View.{view, members_view};
 ghost use Rattle.ssa_schema.specs.Kinds.{scalar_kind_view, kind_view, fields_view};
-ghost use Rattle.ssa_model.specs.Lawful.{is_ordered, are_ordered};
+ghost use Rattle.ssa_model.specs.definitions.Lawful.{is_ordered, are_ordered};
 ghost use Rattle.ssa_schema.specs.Builds.{kind_at, merged_kind, list_kind_at, fields_kind_at};
 
 use crate::kind::{Kind, ScalarKind};

@@ -1,7 +1,7 @@
 //! The names of a map list's keys, in order.
 ghost use Rattle.std.specs.Prelude.{◌≡◌, IfOk};
 ghost use Rattle.ssa_json.specs.View.{members_view, items_view};
-ghost use Rattle.ssa_model.specs.Schema.{key_names, sorted_texts};
+ghost use Rattle.ssa_model.specs.definitions.Schema.{key_names, sorted_texts};
 ghost use Rattle.ssa_schema.specs.Kinds.{names_view};
 ghost use Rattle.ssa_schema.specs.Builds.{sorted_items};
 

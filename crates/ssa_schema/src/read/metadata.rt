@@ -1,9 +1,9 @@
 //! The fields that each object has beside those of its schema.
 ghost use Rattle.std.specs.Prelude.{◌≡◌, true, IfOk};
-ghost use Rattle.ssa_model.specs.Kind as model;
-ghost use Rattle.ssa_model.specs.Schema.{with_field, with_metadata, whole_profile};
+ghost use Rattle.ssa_model.specs.definitions.Kind as model;
+ghost use Rattle.ssa_model.specs.definitions.Schema.{with_field, with_metadata, metadata_fields};
 ghost use Rattle.ssa_schema.specs.Kinds.{kind_view, fields_view};
-ghost use Rattle.ssa_model.specs.Lawful.{is_ordered, are_ordered};
+ghost use Rattle.ssa_model.specs.definitions.Lawful.{is_ordered, are_ordered};
 
 use crate::kind::{Kind, ScalarKind};
 use std::alloc::{AllocError, Global};
@@ -34,7 +34,7 @@ fn with_field(
 
 // What `metadata` may hold beside the identity.
 fn metadata_fields(alloc: Global) -> Result<BTreeMap<String, Kind>, AllocError>
-    ensures { IfOk result (λ m. fields_view m.entries ≡ whole_profile.metadata) }
+    ensures { IfOk result (λ m. fields_view m.entries ≡ metadata_fields) }
 {
     let none = BTreeMap::new(alloc);
     let labelled = with_field(alloc, none, "labels", text_dict(alloc)?)?;
@@ -45,7 +45,7 @@ fn metadata_fields(alloc: Global) -> Result<BTreeMap<String, Kind>, AllocError>
 
 /// The kind of the root, with the field `metadata` where it is an object with fields.
 pub fn with_metadata(alloc: Global, kind: Kind) -> Result<Kind, AllocError>
-    ensures kind { IfOk result (λ k. kind_view k ≡ with_metadata whole_profile.metadata (kind_view kind)) }
+    ensures kind { IfOk result (λ k. kind_view k ≡ with_metadata metadata_fields (kind_view kind)) }
     ensures ordered { IfOk result (λ k. is_ordered (kind_view kind) ≡ true → is_ordered (kind_view k) ≡ true) }
 {
     match kind {

@@ -2,8 +2,8 @@
 //! Kubernetes documentation gives for custom resources.
 ghost use Rattle.std.specs.Prelude.{◌≡◌, option_map, map};
 ghost use Rattle.std.specs.List.{list_all, list_any};
-ghost use Rattle.ssa_model.specs.Schema.{has_unknown_keyword, has_wrong_type, is_wrong_scalar, is_wrong_object, is_wrong_array, is_wrong_root, has_wrong_shape, is_one_of_texts, names, property_members, item_members, whole_profile, is_text, is_text_among, reserved_names};
-ghost use Rattle.ssa_model.specs.Json.{is_object};
+ghost use Rattle.ssa_model.specs.definitions.Schema.{has_unknown_keyword, has_wrong_type, is_wrong_scalar, is_wrong_object, is_wrong_array, is_wrong_root, has_wrong_shape, is_one_of_texts, names, property_members, item_members, is_text, is_text_among, reserved_names};
+ghost use Rattle.ssa_model.specs.definitions.Json.{is_object};
 ghost use Rattle.ssa_json.specs.View.{members_view};
 ghost use Rattle.ssa_schema.specs.Words.{members_found, members_under, lacks_type, if_member};
 ghost use Rattle.ssa_schema.specs.Standings.{standing_view};
@@ -43,7 +43,7 @@ fn some_name_is_among(members: &BTreeMap<String, Json>, words: &[&str]) -> bool
 
 /// Whether there is a keyword that is not read here.
 pub fn has_unknown_keyword(members: &BTreeMap<String, Json>) -> bool
-    ensures { result ≡ has_unknown_keyword whole_profile (members_view members.now.entries) }
+    ensures { result ≡ has_unknown_keyword (members_view members.now.entries) }
 {
     !names_are_among(
         members,
@@ -104,7 +104,7 @@ fn is_among_if_given(members: &BTreeMap<String, Json>, name: &str, words: &[&str
 
 /// Whether the type is none that is read here, or the description is no text.
 pub fn has_wrong_type(members: &BTreeMap<String, Json>) -> bool
-    ensures { result ≡ has_wrong_type whole_profile (members_view members.now.entries) }
+    ensures { result ≡ has_wrong_type (members_view members.now.entries) }
 {
     lacks_type(members) || !is_text_if_given(members, "description")
 }

@@ -1,6 +1,6 @@
 //! The shapes of atomic values' schemas.
 ghost use Rattle.std.specs.Prelude.{◌≡◌, IfOk};
-ghost use Rattle.ssa_model.specs.Schema.{scalar_kind_of, shape_fields, property_members};
+ghost use Rattle.ssa_model.specs.definitions.Schema.{scalar_kind_of, shape_fields, property_members};
 ghost use Rattle.ssa_json.specs.View.{view, members_view};
 ghost use Rattle.ssa_schema.specs.Kinds.{scalar_kind_view, shape_view, shape_fields_view};
 ghost use Rattle.ssa_schema.specs.Builds.{shape_at, object_shape, list_shape_at, fields_shape_at};

@@ -1,6 +1,6 @@
 //! Where a schema stands.
 ghost use Rattle.std.specs.Prelude.{◌≡◌};
-ghost use Rattle.ssa_model.specs.Schema.{is_at_root, is_in_atomic, standing_inside};
+ghost use Rattle.ssa_model.specs.definitions.Schema.{is_at_root, is_in_atomic, standing_inside};
 ghost use Rattle.ssa_json.specs.View.{members_view};
 ghost use Rattle.ssa_schema.specs.Standings.{standing_view};
 

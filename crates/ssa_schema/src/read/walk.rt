@@ -1,7 +1,7 @@
 //! The first fault of a schema.
 ghost use Rattle.std.specs.Prelude.{◌≡◌, option_map, IfOk};
-ghost use Rattle.ssa_model.specs.Json.{member_of};
-ghost use Rattle.ssa_model.specs.Schema.{child_faults, property_faults, optional_faults, property_members};
+ghost use Rattle.ssa_model.specs.definitions.Json.{member_of};
+ghost use Rattle.ssa_model.specs.definitions.Schema.{child_faults, property_faults, optional_faults, property_members};
 ghost use Rattle.ssa_json.specs.View.{view, members_view};
 ghost use Rattle.ssa_schema.specs.Standings.{standing_view};
 ghost use Rattle.ssa_schema.specs.Refusals.{refusal_view, first_of, own_faults, object_faults, faults_at};

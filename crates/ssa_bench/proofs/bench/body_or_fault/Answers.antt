@@ -8,6 +8,6 @@ use Rattle.ssa_bench.proofs.bench.body_or_fault.Goals as goal
 
 pub returns-in-Err-Body-clause-given : goal.returns-in-Err-Body-clause-given
 returns-in-Err-Body-clause-given c =
-    let kind = c.args.schema.now.1 in
+    let kind = c.args.schema.now.kind in
     let of_fault : TypedFault → Type 0 = λ f. ReadsBody (Err f) kind (view c.args.value) in
     body_or_fault-first kind (view c.args.value) c.in-Err-Body.fault (subst of_fault c.in-Err-Body.field-0-is c.in-Err-Body.ensures.read)

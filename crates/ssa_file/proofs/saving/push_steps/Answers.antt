@@ -1,8 +1,8 @@
 use Rattle.std.proofs.Common.{◌++◌, flat_map, ap, sym, ◌∙◌, subst}
 use Rattle.std.proofs.lemmas.List.{take_all}
 use Rattle.std.proofs.lemmas.List.Folds.{flat_map-map}
-use Rattle.ssa_model.specs.Json.{Text, Json}
-use Rattle.ssa_model.specs.BenchText.{line}
+use Rattle.ssa_model.specs.definitions.Json.{Text, Json}
+use Rattle.ssa_model.specs.definitions.BenchText.{line}
 use Rattle.ssa_turn.specs.Histories.{step_view}
 use Rattle.ssa_file.specs.Saving.{CannotHold, step_line}
 use Rattle.ssa_file.proofs.SavingFacts.{step-fits, lines-more, lines-refused, handed-on}
@@ -10,7 +10,7 @@ use Rattle.ssa_turn.specs.declared.timeline.Step.{Step}
 use Rattle.ssa_file.proofs.saving.push_steps.Goals as goal
 
 pub step_value-requires : goal.step_value-requires
-step_value-requires c = step-fits c.args.schema.now.1 c.args.steps.now c.loop-step.step-index c.step-item.result c.loop-step-test.true c.step-item.is c.requires.valid
+step_value-requires c = step-fits c.args.schema.now.kind c.args.steps.now c.loop-step.step-index c.step-item.result c.loop-step-test.true c.step-item.is c.requires.valid
 
 pub returns-in_err-push_line-clause-refused : goal.returns-in_err-push_line-clause-refused
 returns-in_err-push_line-clause-refused c =

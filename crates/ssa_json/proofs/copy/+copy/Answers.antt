@@ -2,7 +2,7 @@ use Rattle.std.proofs.Common.{◌≡◌, [], ◌∷◌, ◌++◌, map, string_by
 use Rattle.std.proofs.lemmas.List.{map-append}
 use Rattle.std.specs.List.Sorted.{IsStrictlySortedBy}
 use Rattle.std.specs.Map.{keys_of}
-use Rattle.ssa_model.specs.Json.{no_members}
+use Rattle.ssa_model.specs.definitions.Json.{no_members}
 use Rattle.ssa_json.proofs.Converting.{Found, named, members_after, members_after-none, same_names}
 use Rattle.ssa_json.proofs.Ordered.{inserted-last}
 use Rattle.ssa_json.proofs.copy.+copy.Goals as goal

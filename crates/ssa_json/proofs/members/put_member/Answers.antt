@@ -1,5 +1,5 @@
 use Rattle.std.proofs.Common.{ap, ◌∙◌}
-use Rattle.ssa_model.specs.Objects.{with_member}
+use Rattle.ssa_model.specs.definitions.Objects.{with_member}
 use Rattle.ssa_json.specs.View.{view, members_view}
 use Rattle.ssa_json.proofs.PutMembers.{inserted}
 use Rattle.ssa_json.proofs.members.put_member.Goals as goal

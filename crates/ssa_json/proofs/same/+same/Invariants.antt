@@ -1,5 +1,5 @@
 use Rattle.std.proofs.Common.{◌≡◌, drop}
-use Rattle.ssa_model.specs.Json.{same_items, same_members}
+use Rattle.ssa_model.specs.definitions.Json.{same_items, same_members}
 use Rattle.ssa_json.specs.View.{items_view, members_view}
 use Rattle.ssa_json.proofs.same.+same.Given as goal
 

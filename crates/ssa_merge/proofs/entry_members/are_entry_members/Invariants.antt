@@ -1,5 +1,5 @@
 use Rattle.std.proofs.Common.{◌≡◌}
-use Rattle.ssa_model.specs.GivenEntries.{are_entry_members}
+use Rattle.ssa_model.specs.definitions.GivenEntries.{are_entry_members}
 use Rattle.ssa_json.specs.View.{members_view}
 use Rattle.ssa_merge.proofs.entry_members.are_entry_members.Given as goal
 

@@ -1,8 +1,8 @@
 use Rattle.std.proofs.Common.{◌&&◌, option_map, is_some, codes, ap, sym, ◌∙◌}
 use Rattle.ssa_json.specs.View.{view, members_view}
-use Rattle.ssa_model.specs.Commands.{value_in}
-use Rattle.ssa_model.specs.Json.{same_text}
-use Rattle.ssa_model.specs.GivenEntries.{operation_of}
+use Rattle.ssa_model.specs.definitions.Commands.{value_in}
+use Rattle.ssa_model.specs.definitions.Json.{same_text}
+use Rattle.ssa_model.specs.definitions.GivenEntries.{operation_of}
 use Rattle.ssa_merge.specs.EntryReading.{members_saying}
 use Rattle.ssa_merge.specs.Managers.{operation_view}
 use Rattle.ssa_merge.proofs.EntryMembers.{members-whole}

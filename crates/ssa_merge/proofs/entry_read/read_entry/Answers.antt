@@ -1,6 +1,6 @@
 use Rattle.std.proofs.Common.{Ok, ap, string_bytes, refl, sym, ◌∙◌}
 use Rattle.std.proofs.lemmas.Result.{err_from_is_err_and}
-use Rattle.ssa_model.specs.Entries.{fields_json}
+use Rattle.ssa_model.specs.definitions.FieldsV1.{fields_json}
 use Rattle.ssa_json.specs.View.{view}
 use Rattle.ssa_json.proofs.Equality.{same_text-true}
 use Rattle.ssa_merge.specs.Managers.{operation_view, table_view}

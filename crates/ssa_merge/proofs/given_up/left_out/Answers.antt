@@ -1,6 +1,6 @@
 use Rattle.std.proofs.Common.{ap, ◌∙◌, not, Some, None}
-use Rattle.ssa_model.specs.Path.{is_root}
-use Rattle.ssa_model.specs.PathMap.{has_at_or_below, paths, set_of}
+use Rattle.ssa_model.specs.definitions.Path.{is_root}
+use Rattle.ssa_model.specs.definitions.PathMap.{has_at_or_below, paths, set_of}
 use Rattle.ssa_merge.specs.Managers.{key_view, entry_view}
 use Rattle.ssa_merge.specs.States.{state_view}
 use Rattle.ssa_merge.proofs.GivenUp.{absent-of, unreached}

@@ -1,8 +1,8 @@
 use Rattle.std.proofs.Common.{ap, sym, ◌∙◌, ◌||◌, not}
-use Rattle.ssa_model.specs.Path.{is_root}
-use Rattle.ssa_model.specs.PathMap.{paths, set_of, union, has_at_or_above, has_at_or_below}
-use Rattle.ssa_model.specs.Body.{points, restricted}
-use Rattle.ssa_model.specs.Table.{owned_by_others}
+use Rattle.ssa_model.specs.definitions.Path.{is_root}
+use Rattle.ssa_model.specs.definitions.PathMap.{paths, set_of, union, has_at_or_above, has_at_or_below}
+use Rattle.ssa_model.specs.definitions.Body.{points, restricted}
+use Rattle.ssa_model.specs.definitions.Table.{owned_by_others}
 use Rattle.ssa_merge.specs.Managers.{key_view}
 use Rattle.ssa_merge.specs.States.{state_view}
 use Rattle.ssa_merge.proofs.GivenUp.{all-stays, dropped-absent}

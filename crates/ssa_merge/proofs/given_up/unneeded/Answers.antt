@@ -1,6 +1,6 @@
 use Rattle.std.proofs.Common.{ap, ◌∙◌, not}
-use Rattle.ssa_model.specs.Path.{is_key_field}
-use Rattle.ssa_model.specs.PathMap.{has_at_or_below, paths, set_of}
+use Rattle.ssa_model.specs.definitions.Path.{is_key_field}
+use Rattle.ssa_model.specs.definitions.PathMap.{has_at_or_below, paths, set_of}
 use Rattle.ssa_merge.proofs.GivenUp.{twice}
 use Rattle.ssa_merge.proofs.given_up.unneeded.Goals as goal
 

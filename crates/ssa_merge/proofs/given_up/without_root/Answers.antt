@@ -1,5 +1,5 @@
 use Rattle.std.proofs.Common.{ap, ◌∙◌}
-use Rattle.ssa_model.specs.PathMap.{insert}
+use Rattle.ssa_model.specs.definitions.PathMap.{insert}
 use Rattle.ssa_path.specs.View.{path_view}
 use Rattle.ssa_merge.proofs.GivenUp.{no-root}
 use Rattle.ssa_merge.proofs.given_up.without_root.Goals as goal

@@ -1,6 +1,6 @@
 use Rattle.std.proofs.Common.{◌≡◌, take, true}
 use Rattle.std.specs.List.{list_all}
-use Rattle.ssa_model.specs.History.{is_name_byte}
+use Rattle.ssa_model.specs.definitions.History.{is_name_byte}
 use Rattle.ssa_merge.proofs.names.are_name_bytes.Given as goal
 
 abbrev pub invariant-loop-byte : goal.invariant-loop-byte

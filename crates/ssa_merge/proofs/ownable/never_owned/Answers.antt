@@ -1,6 +1,6 @@
 use Rattle.std.proofs.Common.{[], ◌∷◌, ◌++◌, ap, ap₂, ◌∙◌}
-use Rattle.ssa_model.specs.Path.{Path, field}
-use Rattle.ssa_model.specs.PathMap.{PathSet, insert}
+use Rattle.ssa_model.specs.definitions.Path.{Path, field}
+use Rattle.ssa_model.specs.definitions.PathMap.{PathSet, insert}
 use Rattle.ssa_path.specs.View.{path_view}
 use Rattle.ssa_path.specs.declared.element.Elem.TheVariants.{Field}
 use Rattle.ssa_merge.proofs.ownable.never_owned.Goals as goal

@@ -1,5 +1,5 @@
 use Rattle.std.proofs.Common.{ap, ap₂, ◌∙◌}
-use Rattle.ssa_model.specs.PathMap.{union}
+use Rattle.ssa_model.specs.definitions.PathMap.{union}
 use Rattle.ssa_path.specs.Meet.{meet}
 use Rattle.ssa_merge.proofs.NotOwnable.{not_ownable-is}
 use Rattle.ssa_merge.proofs.ownable.not_ownable.Goals as goal

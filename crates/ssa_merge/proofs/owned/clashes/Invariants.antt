@@ -1,5 +1,5 @@
 use Rattle.std.proofs.Common.{◌≡◌, ◌++◌, drop}
-use Rattle.ssa_model.specs.Operations.{clashes}
+use Rattle.ssa_model.specs.definitions.Operations.{clashes}
 use Rattle.ssa_merge.specs.Managers.{key_view, table_view, clashes_view}
 use Rattle.ssa_merge.proofs.owned.clashes.Given as goal
 

@@ -1,5 +1,5 @@
 use Rattle.std.proofs.Common.{◌≡◌, take}
-use Rattle.ssa_model.specs.Answers.{owners_of}
+use Rattle.ssa_model.specs.definitions.Answers.{owners_of}
 use Rattle.ssa_merge.specs.Managers.{lent_keys, table_view}
 use Rattle.ssa_merge.proofs.owned.owners.Given as goal
 

@@ -1,10 +1,10 @@
 use Rattle.std.proofs.Common.{◌≡◌, ap, ◌∙◌, sym, subst, refl, not, ◌||◌}
 use Rattle.std.specs.Prelude.{Result, Ok, Err}
-use Rattle.ssa_model.specs.PathMap.{size}
-use Rattle.ssa_model.specs.Body.{points, modified}
-use Rattle.ssa_model.specs.Table.{Table, seat}
-use Rattle.ssa_model.specs.Operations as model
-use Rattle.ssa_model.specs.Operations.{State, clashes, conflict, too_many_paths, is_none}
+use Rattle.ssa_model.specs.definitions.PathMap.{size}
+use Rattle.ssa_model.specs.definitions.Body.{points, modified}
+use Rattle.ssa_model.specs.definitions.Table.{Table, seat}
+use Rattle.ssa_model.specs.definitions.Operations as model
+use Rattle.ssa_model.specs.definitions.Operations.{State, clashes, conflict, too_many_paths, is_none}
 use Rattle.ssa_merge.specs.Managers.{key_view, clashes_view}
 use Rattle.ssa_merge.specs.States.{state_view}
 use Rattle.ssa_merge.specs.Tables.{IsSeated}

@@ -1,6 +1,6 @@
 use Rattle.std.proofs.Common.{ap, ◌∙◌, sym}
 use Rattle.std.specs.Prelude.{Some, None}
-use Rattle.ssa_model.specs.PathMap.{minus, union}
+use Rattle.ssa_model.specs.definitions.PathMap.{minus, union}
 use Rattle.ssa_merge.specs.Managers.{key_view, entry_view}
 use Rattle.ssa_merge.proofs.GivenUp.{empty_union, owned-after}
 use Rattle.ssa_merge.proofs.plan.owned_after_update.Goals as goal

@@ -1,7 +1,7 @@
 use Rattle.std.proofs.Common.{sym, subst}
 use Rattle.ssa_typed.specs.Differences.{IsComparison}
-use Rattle.ssa_model.specs.Body.{Body}
-use Rattle.ssa_model.specs.Fitting.{IsBodyOf}
+use Rattle.ssa_model.specs.definitions.Body.{Body}
+use Rattle.ssa_model.specs.definitions.Fitting.{IsBodyOf}
 use Rattle.ssa_merge.specs.States.{state_view}
 use Rattle.ssa_merge.specs.declared.plan.Plan.{Plan}
 use Rattle.ssa_merge.proofs.Valid.{stripped_valid, stripped_order}

@@ -1,6 +1,6 @@
 use Rattle.std.proofs.Common.{subst}
-use Rattle.ssa_model.specs.Table.{ManagerKey}
-use Rattle.ssa_model.specs.Operations.{update}
+use Rattle.ssa_model.specs.definitions.Table.{ManagerKey}
+use Rattle.ssa_model.specs.definitions.Operations.{update}
 use Rattle.ssa_merge.specs.Managers.{key_view}
 use Rattle.ssa_merge.specs.States.{state_view, updater}
 use Rattle.ssa_merge.specs.Plans.{IsPlanned}

@@ -1,8 +1,8 @@
 use Rattle.std.proofs.Common.{◌≡◌, ◌∙◌, subst}
 use Rattle.std.specs.Prelude.{Ok, Err}
-use Rattle.ssa_model.specs.PathMap.{minus, union}
-use Rattle.ssa_model.specs.Body.{added, modified, removed}
-use Rattle.ssa_model.specs.Table.{Table, owned_by, seat}
+use Rattle.ssa_model.specs.definitions.PathMap.{minus, union}
+use Rattle.ssa_model.specs.definitions.Body.{added, modified, removed}
+use Rattle.ssa_model.specs.definitions.Table.{Table, owned_by, seat}
 use Rattle.ssa_merge.specs.Managers.{key_view}
 use Rattle.ssa_merge.specs.States.{state_view}
 use Rattle.ssa_merge.specs.Tables.{IsSeated}

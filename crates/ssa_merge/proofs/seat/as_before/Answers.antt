@@ -1,5 +1,5 @@
 use Rattle.std.proofs.Common.{ap, ◌∙◌, sym}
-use Rattle.ssa_model.specs.PathMap.{same_set}
+use Rattle.ssa_model.specs.definitions.PathMap.{same_set}
 use Rattle.ssa_merge.proofs.GivenUp.{same_set-true}
 use Rattle.ssa_merge.proofs.seat.as_before.Goals as goal
 

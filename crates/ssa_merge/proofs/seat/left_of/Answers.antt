@@ -1,5 +1,5 @@
 use Rattle.std.proofs.Common.{ap, ◌∙◌, sym}
-use Rattle.ssa_model.specs.PathMap.{is_empty, minus}
+use Rattle.ssa_model.specs.definitions.PathMap.{is_empty, minus}
 use Rattle.ssa_path.specs.Meet.{meet}
 use Rattle.ssa_merge.proofs.GivenUp.{minus-none}
 use Rattle.ssa_merge.proofs.seat.left_of.Goals as goal

@@ -1,6 +1,6 @@
 use Rattle.std.proofs.Common.{◌≡◌, ◌≤◌, map, take, filter}
 use Rattle.arrayvec.specs.ArrayVec.{array_vec_len}
-use Rattle.ssa_model.specs.Table.{reseated}
+use Rattle.ssa_model.specs.definitions.Table.{reseated}
 use Rattle.ssa_merge.specs.Managers.{key_view, table_view}
 use Rattle.ssa_merge.specs.Tables.{owns}
 use Rattle.ssa_merge.proofs.seat.reseated_entries.Given as goal

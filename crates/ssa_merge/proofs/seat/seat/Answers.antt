@@ -1,7 +1,7 @@
 use Rattle.std.proofs.Common.{◌∷◌, [], ◌++◌, not, filter, map, ap, ◌∙◌, sym}
 use Rattle.std.proofs.lemmas.List.{map-append}
-use Rattle.ssa_model.specs.Table as model
-use Rattle.ssa_model.specs.Table.{is_in_table, reseated}
+use Rattle.ssa_model.specs.definitions.Table as model
+use Rattle.ssa_model.specs.definitions.Table.{is_in_table, reseated}
 use Rattle.ssa_merge.specs.Managers.{key_view, entry_view, table_view}
 use Rattle.ssa_merge.specs.Tables.{owns}
 use Rattle.ssa_merge.proofs.Seats.{seat-known, seat-nobody, seat-newcomer}

@@ -1,6 +1,6 @@
 use Rattle.std.proofs.Common.{ap, sym, ◌∙◌}
-use Rattle.ssa_model.specs.Objects.{file_value}
-use Rattle.ssa_model.specs.Json.{object}
+use Rattle.ssa_model.specs.definitions.Objects.{file_value}
+use Rattle.ssa_model.specs.definitions.Json.{object}
 use Rattle.ssa_json.specs.View.{view, members_view}
 use Rattle.ssa_json.proofs.Views.{view-Object}
 use Rattle.ssa_object.proofs.Values.{without_entries}

@@ -1,6 +1,6 @@
 use Rattle.std.proofs.Common.{sym, ◌∙◌, map, drop, ◌+◌}
 use Rattle.std.proofs.lemmas.List.{at_drop_more, at_drop_all}
-use Rattle.ssa_model.specs.Objects.{without}
+use Rattle.ssa_model.specs.definitions.Objects.{without}
 use Rattle.ssa_json.specs.View.{members_view}
 use Rattle.ssa_object.proofs.Values.{removed-next, without-none}
 use Rattle.ssa_object.proofs.body_value.remove_members.Goals as goal

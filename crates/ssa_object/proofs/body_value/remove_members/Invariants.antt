@@ -1,5 +1,5 @@
 use Rattle.std.proofs.Common.{◌≡◌, map, drop}
-use Rattle.ssa_model.specs.Objects.{without}
+use Rattle.ssa_model.specs.definitions.Objects.{without}
 use Rattle.ssa_json.specs.View.{members_view}
 use Rattle.ssa_object.proofs.body_value.remove_members.Given as goal
 

@@ -1,5 +1,5 @@
 use Rattle.std.proofs.Common.{map, ap, sym, ◌∙◌}
-use Rattle.ssa_model.specs.Objects.{without_names}
+use Rattle.ssa_model.specs.definitions.Objects.{without_names}
 use Rattle.ssa_json.specs.View.{view, members_view}
 use Rattle.ssa_object.proofs.Values.{no_metadata, written}
 use Rattle.ssa_object.proofs.body_value.strip_metadata.Goals as goal

@@ -1,6 +1,6 @@
 use Rattle.std.proofs.Common.{[], ◌∷◌, option_map, ap, sym, ◌∙◌}
 use Rattle.std.specs.Prelude.{codes, option_and_then}
-use Rattle.ssa_model.specs.Objects.{value_at, without_names}
+use Rattle.ssa_model.specs.definitions.Objects.{value_at, without_names}
 use Rattle.ssa_json.specs.View.{view, members_view}
 use Rattle.ssa_json.proofs.Views.{view-lookup}
 use Rattle.ssa_object.proofs.Values.{no_metadata, written}

@@ -1,6 +1,6 @@
 use Rattle.std.proofs.Common.{[], ◌∷◌, option_map, ap, sym, ◌∙◌}
-use Rattle.ssa_model.specs.Json.{object}
-use Rattle.ssa_model.specs.Objects.{value_at, without_names}
+use Rattle.ssa_model.specs.definitions.Json.{object}
+use Rattle.ssa_model.specs.definitions.Objects.{value_at, without_names}
 use Rattle.ssa_json.specs.View.{view, members_view}
 use Rattle.ssa_json.proofs.Views.{view-lookup, view-Object}
 use Rattle.ssa_object.proofs.Values.{value_at-one, without-removed}

@@ -1,5 +1,5 @@
 use Rattle.std.proofs.Common.{sym, ◌∙◌}
-use Rattle.ssa_model.specs.Json.{same_text}
+use Rattle.ssa_model.specs.definitions.Json.{same_text}
 use Rattle.std.proofs.lemmas.Map.Text.{is_eq-slice_cmp}
 use Rattle.ssa_path.proofs.element_read.has_text.Goals as goal
 

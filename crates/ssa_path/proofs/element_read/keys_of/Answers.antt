@@ -1,6 +1,6 @@
 use Rattle.std.proofs.Common.{◌≡◌, Some, string_bytes, option_map, sym, ap, ◌∙◌}
-use Rattle.ssa_model.specs.Path.{key}
-use Rattle.ssa_model.specs.ElementTexts.{key_of}
+use Rattle.ssa_model.specs.definitions.Path.{key}
+use Rattle.ssa_model.specs.definitions.ElementTexts.{key_of}
 use Rattle.ssa_json.specs.View.{view, scalar_view, members_view as json_members}
 use Rattle.ssa_path.specs.Keys.{members_view}
 use Rattle.ssa_path.specs.ElementReading.{as_scalar}

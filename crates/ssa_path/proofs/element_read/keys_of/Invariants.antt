@@ -1,5 +1,5 @@
 use Rattle.std.proofs.Common.{◌≡◌}
-use Rattle.ssa_model.specs.ElementTexts.{key_of}
+use Rattle.ssa_model.specs.definitions.ElementTexts.{key_of}
 use Rattle.ssa_json.specs.View.{members_view as json_members}
 use Rattle.ssa_path.specs.Keys.{members_view}
 use Rattle.ssa_path.proofs.Readings.{with_keys}

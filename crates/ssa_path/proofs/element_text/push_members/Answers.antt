@@ -1,5 +1,5 @@
 use Rattle.std.proofs.Common.{◌∷◌, ◌++◌, take_all, sym, ap, arith, ◌∙◌}
-use Rattle.ssa_model.specs.Json.{comma_if, quoted, scalar_text}
+use Rattle.ssa_model.specs.definitions.Json.{comma_if, quoted, scalar_text}
 use Rattle.ssa_json.specs.View.{scalar_view}
 use Rattle.ssa_path.proofs.OwnTexts.{are_narrow, are_narrow-more}
 use Rattle.ssa_path.proofs.Texts.{member-written}

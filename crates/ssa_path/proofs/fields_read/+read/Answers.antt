@@ -1,7 +1,7 @@
 use Rattle.std.proofs.Common.{◌≡◌, [], ◌∷◌, ◌++◌, true, false, refl, sym, ap, subst, ◌∙◌}
 use Rattle.std.proofs.lemmas.Result.{err_from_is_err_and}
 use Rattle.std.specs.Prelude.{codes, not}
-use Rattle.ssa_model.specs.Json.{same_text}
+use Rattle.ssa_model.specs.definitions.Json.{same_text}
 use Rattle.ssa_json.specs.View.{view}
 use Rattle.ssa_path.proofs.FieldsMembers.{Found, below-some}
 use Rattle.ssa_path.proofs.FieldsReadings.{IsReading, reading-none, child-first, child-more, dot-more, reading-all, dot-refused, alone-read, place-read}

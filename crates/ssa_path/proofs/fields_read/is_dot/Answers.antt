@@ -1,6 +1,6 @@
 use Rattle.std.proofs.Common.{sym, ◌∙◌}
 use Rattle.std.proofs.lemmas.Map.Text.{is_eq-slice_cmp}
-use Rattle.ssa_model.specs.Json.{same_text}
+use Rattle.ssa_model.specs.definitions.Json.{same_text}
 use Rattle.ssa_path.proofs.fields_read.is_dot.Goals as goal
 
 pub returns : goal.returns

@@ -1,5 +1,5 @@
 use Rattle.std.proofs.Common.{ap, sym, ◌∙◌}
-use Rattle.ssa_model.specs.FieldsFaults.{is_nothing_inside}
+use Rattle.ssa_model.specs.definitions.FieldsV1.{is_nothing_inside}
 use Rattle.ssa_json.specs.View.{view}
 use Rattle.ssa_json.proofs.Views.{view-Object}
 use Rattle.ssa_path.proofs.FieldsReadings.{none-inside}

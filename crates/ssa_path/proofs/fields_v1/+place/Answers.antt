@@ -1,6 +1,6 @@
 use Rattle.std.proofs.Common.{◌≡◌, ◌+◌, drop, take, take_all, true, false, not, string_bytes, sym, ap, subst, ◌∙◌, arith, rules}
-use Rattle.ssa_model.specs.Json.{object}
-use Rattle.ssa_model.specs.FieldsV1.{AreCanonical, IsCanonical}
+use Rattle.ssa_model.specs.definitions.Json.{object}
+use Rattle.ssa_model.specs.definitions.FieldsV1.{AreCanonical, IsCanonical}
 use Rattle.ssa_json.specs.View.{members_view}
 use Rattle.ssa_json.proofs.Ordered.{insert_entry-last}
 use Rattle.ssa_json.proofs.Views.{view-Object}

@@ -1,5 +1,5 @@
 use Rattle.std.proofs.Common.{◌≡◌, take}
-use Rattle.ssa_model.specs.FieldsV1.{AreCanonical}
+use Rattle.ssa_model.specs.definitions.FieldsV1.{AreCanonical}
 use Rattle.ssa_json.specs.View.{members_view}
 use Rattle.ssa_path.specs.declared.trie.Trie.TheViews.{out-Trie}
 use Rattle.ssa_path.proofs.FieldsBack.{AreBackChildren}

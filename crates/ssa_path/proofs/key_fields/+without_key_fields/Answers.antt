@@ -1,5 +1,5 @@
 use Rattle.std.proofs.Common.{◌∷◌, not, sym, subst, arith, rules}
-use Rattle.ssa_model.specs.Path.{key, is_key_field}
+use Rattle.ssa_model.specs.definitions.Path.{key, is_key_field}
 use Rattle.ssa_path.specs.Keys.{members_view}
 use Rattle.ssa_path.specs.KeyFields.{keys_in, IsWithoutKeyFields}
 use Rattle.ssa_path.specs.View.{element_view}

@@ -1,5 +1,5 @@
 use Rattle.std.proofs.Common.{drop, ◌∷◌, not}
-use Rattle.ssa_model.specs.Path.{key, is_key_field}
+use Rattle.ssa_model.specs.definitions.Path.{key, is_key_field}
 use Rattle.ssa_path.specs.Keys.{members_view}
 use Rattle.ssa_path.proofs.KeyFields.{IsLeaving}
 use Rattle.ssa_path.proofs.key_fields.+without_key_fields.Given as goal

@@ -1,5 +1,5 @@
 use Rattle.std.proofs.Common.{◌≡◌, drop}
-use Rattle.ssa_model.specs.Path.{field, key, names_key}
+use Rattle.ssa_model.specs.definitions.Path.{field, key, names_key}
 use Rattle.ssa_path.specs.Keys.{members_view}
 use Rattle.ssa_path.proofs.key_fields.have_name.Given as goal
 

@@ -1,5 +1,5 @@
 use Rattle.std.proofs.Common.{◌&&◌, not, ap, sym, ◌∙◌}
-use Rattle.ssa_model.specs.Path.{key, names_key}
+use Rattle.ssa_model.specs.definitions.Path.{key, names_key}
 use Rattle.ssa_path.specs.Keys.{members_view}
 use Rattle.ssa_path.specs.View.{element_view}
 use Rattle.ssa_path.proofs.Levels.{one-level-root}

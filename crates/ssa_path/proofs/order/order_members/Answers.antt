@@ -1,6 +1,6 @@
 use Rattle.std.proofs.Common.{◌+◌, ◌++◌, ◌∙◌, ap, sym, drop}
 use Rattle.std.specs.Ordering.{ordering_then}
-use Rattle.ssa_model.specs.Json.{quoted, scalar_text}
+use Rattle.ssa_model.specs.definitions.Json.{quoted, scalar_text}
 use Rattle.ssa_json.specs.View.{scalar_view}
 use Rattle.ssa_path.specs.Keys.{members_view}
 use Rattle.ssa_path.specs.Order.{key_end}

@@ -1,5 +1,5 @@
 use Rattle.std.proofs.Common.{◌≡◌, ◌-◌, length, drop}
-use Rattle.ssa_model.specs.Json.{quoted}
+use Rattle.ssa_model.specs.definitions.Json.{quoted}
 use Rattle.ssa_path.proofs.Parts.{text_cmp}
 use Rattle.ssa_path.proofs.Escapes.{quoted_end}
 use Rattle.ssa_path.proofs.order.order_quoted.Given as goal

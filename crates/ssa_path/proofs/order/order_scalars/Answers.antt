@@ -1,6 +1,6 @@
 use Rattle.std.proofs.Common.{◌++◌, ◌∙◌, sym, string_bytes}
 use Rattle.std.specs.Ordering.{ordering_then}
-use Rattle.ssa_model.specs.Json.{text, scalar_text}
+use Rattle.ssa_model.specs.definitions.Json.{text, scalar_text}
 use Rattle.ssa_json.specs.View.{scalar_view}
 use Rattle.ssa_path.proofs.Parts.{text_cmp}
 use Rattle.ssa_path.proofs.Members.{then_found}

@@ -1,6 +1,6 @@
 use Rattle.std.proofs.Common.{sym, ap, ◌∙◌, subst, Ok}
 use Rattle.std.specs.Prelude.{option_map}
-use Rattle.ssa_model.specs.Schema.{with_metadata, whole_profile}
+use Rattle.ssa_model.specs.definitions.Schema.{with_metadata, metadata_fields}
 use Rattle.ssa_json.specs.View.{view}
 use Rattle.ssa_schema.specs.Refusals.{refusal_view}
 use Rattle.ssa_schema.specs.Schemas.{schema_reading, Faults}
@@ -15,5 +15,5 @@ returns-in-Some-clause-kind c =
 pub returns-clause-kind : goal.returns-clause-kind
 returns-clause-kind c =
     reading-none (view c.args.schema.now) (ap (option_map refusal_view) (sym c.in_default.is) ∙ c.in_ok-refusal.ensures)
-    ∙ ap (λ k. Ok (with_metadata whole_profile.metadata k)) (sym c.in_ok-kind.ensures.kind)
+    ∙ ap (λ k. Ok (with_metadata metadata_fields k)) (sym c.in_ok-kind.ensures.kind)
     ∙ ap Ok (sym c.in_ok-with_metadata.ensures.kind)

@@ -1,5 +1,5 @@
 use Rattle.std.proofs.Common.{◌∙◌, sym}
-use Rattle.ssa_model.specs.Answers.{nothing_to_undo}
+use Rattle.ssa_model.specs.definitions.Answers.{nothing_to_undo}
 use Rattle.ssa_session.proofs.FaultFacts.{move-refused, undo-refused}
 use Rattle.ssa_session.proofs.bench_machine.answer_undo.Goals as goal
 

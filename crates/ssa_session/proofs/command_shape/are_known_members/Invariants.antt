@@ -1,5 +1,5 @@
 use Rattle.std.proofs.Common.{◌≡◌}
-use Rattle.ssa_model.specs.Commands.{are_known_members}
+use Rattle.ssa_model.specs.definitions.Commands.{are_known_members}
 use Rattle.ssa_json.specs.View.{members_view}
 use Rattle.ssa_session.specs.Commands.{member_rules}
 use Rattle.ssa_session.proofs.command_shape.are_known_members.Given as goal

@@ -1,5 +1,6 @@
 use Rattle.std.proofs.Common.{◌≢◌, [], true≢false, Ok, ap, sym, ◌∙◌}
-use Rattle.ssa_session.proofs.DeviceFacts.{IsAtEnd-consumed}
+use Rattle.ssa_model.specs.definitions.Limits.{most_line_bytes}
+use Rattle.ssa_file.proofs.DeviceFacts.{IsAtEnd-consumed}
 use Rattle.ssa_session.proofs.SessionFacts.{SoFar-none, SoFar-more, AnswersWhole-fault, AnswersAll-last, AnswersPartly-whole, AnswersPartly-last}
 use Rattle.ssa_session.proofs.engine.session.Goals as goal
 
@@ -23,11 +24,11 @@ pub returns-in_default-answer_line-2-clause-writer : goal.returns-in_default-ans
 returns-in_default-answer_line-2-clause-writer g c =
     let taken = rw c.in-EndOfInput.is at c.in-Ok.ensures.takes in
     let end = IsAtEnd-consumed _ _ _ _ c.loop-end.invariant.read (c.in-Ok.ensures.end (ap Ok c.in-EndOfInput.is)) in
-    let some : taken.text ≢ [] = λ none. true≢false (sym ((c.is_empty.ensures taken.text taken.held).1 none) ∙ c.if-is_empty.false) in
+    let some : taken.text ≢ [] = λ none. true≢false (sym ((c.is_empty.ensures most_line_bytes taken.text taken.held).1 none) ∙ c.if-is_empty.false) in
     λ _. AnswersPartly-last _ _ _ _ _ _ _ _ _ _ _ _ c.loop-end.invariant taken some end (c.in_default-answer_line-2.ensures.err taken.text taken.held)
 
 pub returns-in-EndOfInput-clause-ok : goal.returns-in-EndOfInput-clause-ok
 returns-in-EndOfInput-clause-ok g c =
     let taken = rw c.in-EndOfInput.is at c.in-Ok.ensures.takes in
-    let some : taken.text ≢ [] = λ none. true≢false (sym ((c.is_empty.ensures taken.text taken.held).1 none) ∙ c.if-is_empty.false) in
+    let some : taken.text ≢ [] = λ none. true≢false (sym ((c.is_empty.ensures most_line_bytes taken.text taken.held).1 none) ∙ c.if-is_empty.false) in
     AnswersAll-last _ _ _ _ _ _ _ _ _ _ _ _ c.loop-end.invariant taken some (c.in-Ok-answer_line-2.ensures.ok taken.text taken.held)

@@ -1,6 +1,6 @@
 use Rattle.std.proofs.Common.{codes}
-use Rattle.ssa_model.specs.Json.{compact}
-use Rattle.ssa_model.specs.Replies.{path_json}
+use Rattle.ssa_model.specs.definitions.Json.{compact}
+use Rattle.ssa_model.specs.definitions.Replies.{path_json}
 use Rattle.ssa_session.proofs.ReplyFacts.{joined}
 use Rattle.ssa_session.proofs.entry_fault_text.push_absent_path.Goals as goal
 

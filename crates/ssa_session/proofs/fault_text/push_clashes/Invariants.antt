@@ -1,5 +1,5 @@
 use Rattle.std.proofs.Common.{◌≡◌, ◌∷◌, ◌++◌, false}
-use Rattle.ssa_model.specs.Replies.{clash_json}
+use Rattle.ssa_model.specs.definitions.Replies.{clash_json}
 use Rattle.ssa_merge.specs.Managers.{clash_view}
 use Rattle.ssa_session.proofs.ReplyFacts.{rest_text}
 use Rattle.ssa_session.proofs.fault_text.push_clashes.Given as goal

@@ -1,6 +1,6 @@
 use Rattle.std.proofs.Common.{refl, subst}
-use Rattle.ssa_model.specs.Answers.{refused, identity_fault, managed_fields_given, manager_name, history_full, nothing_to_undo, nothing_to_redo}
-use Rattle.ssa_model.specs.Operations.{too_many_paths, too_many_managers}
+use Rattle.ssa_model.specs.definitions.Answers.{refused, identity_fault, managed_fields_given, manager_name, history_full, nothing_to_undo, nothing_to_redo}
+use Rattle.ssa_model.specs.definitions.Operations.{too_many_paths, too_many_managers}
 use Rattle.ssa_bench.specs.Faults.{IsFault}
 use Rattle.ssa_session.proofs.FaultFacts.{body_fault-written, entry_fault-written, fault-written}
 use Rattle.ssa_session.proofs.fault_text.push_fault.Goals as goal

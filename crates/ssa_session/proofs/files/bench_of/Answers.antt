@@ -1,6 +1,6 @@
 use Rattle.std.proofs.Common.{Err, sym, subst}
-use Rattle.ssa_model.specs.Files.{bench_of_file}
-use Rattle.ssa_model.specs.History.{Bench}
+use Rattle.ssa_model.specs.definitions.Files.{bench_of_file}
+use Rattle.ssa_model.specs.definitions.History.{Bench}
 use Rattle.ssa_json.specs.Readings.{readings}
 use Rattle.ssa_json.specs.View.{view}
 use Rattle.ssa_session.specs.Files.{IsGivenFile}

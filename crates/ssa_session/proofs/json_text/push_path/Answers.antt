@@ -1,8 +1,8 @@
 use Rattle.std.proofs.Common.{◌++◌, ap, ◌∙◌}
-use Rattle.ssa_model.specs.Json.{compact, list}
-use Rattle.ssa_model.specs.Path.{element_text}
-use Rattle.ssa_model.specs.Entries.{text_json}
-use Rattle.ssa_model.specs.Replies.{path_json}
+use Rattle.ssa_model.specs.definitions.Json.{compact, list}
+use Rattle.ssa_model.specs.definitions.Path.{element_text}
+use Rattle.ssa_model.specs.definitions.Entries.{text_json}
+use Rattle.ssa_model.specs.definitions.Replies.{path_json}
 use Rattle.ssa_path.specs.View.{element_view}
 use Rattle.ssa_session.proofs.ReplyFacts.{list-written, items_json-map}
 use Rattle.ssa_session.proofs.json_text.push_path.Goals as goal

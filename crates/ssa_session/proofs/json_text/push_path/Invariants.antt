@@ -1,6 +1,6 @@
 use Rattle.std.proofs.Common.{◌≡◌, ◌∷◌, ◌++◌, false}
-use Rattle.ssa_model.specs.Entries.{text_json}
-use Rattle.ssa_model.specs.Path.{element_text}
+use Rattle.ssa_model.specs.definitions.Entries.{text_json}
+use Rattle.ssa_model.specs.definitions.Path.{element_text}
 use Rattle.ssa_path.specs.View.{element_view}
 use Rattle.ssa_session.proofs.ReplyFacts.{rest_text}
 use Rattle.ssa_session.proofs.json_text.push_path.Given as goal

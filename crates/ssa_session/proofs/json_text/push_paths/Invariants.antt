@@ -1,5 +1,5 @@
 use Rattle.std.proofs.Common.{◌≡◌, ◌∷◌, ◌++◌, false}
-use Rattle.ssa_model.specs.Replies.{path_json}
+use Rattle.ssa_model.specs.definitions.Replies.{path_json}
 use Rattle.ssa_session.proofs.ReplyFacts.{rest_text}
 use Rattle.ssa_session.proofs.json_text.push_paths.Given as goal
 

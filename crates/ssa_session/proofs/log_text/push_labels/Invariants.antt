@@ -1,5 +1,5 @@
 use Rattle.std.proofs.Common.{◌≡◌, ◌∷◌, ◌++◌, false}
-use Rattle.ssa_model.specs.Replies.{label_json}
+use Rattle.ssa_model.specs.definitions.Replies.{label_json}
 use Rattle.ssa_turn.specs.Histories.{label_view}
 use Rattle.ssa_session.proofs.ReplyFacts.{rest_text}
 use Rattle.ssa_session.proofs.log_text.push_labels.Given as goal

@@ -1,6 +1,6 @@
 use Rattle.std.proofs.Common.{◌∙◌, ap, sym, Some, Ok}
-use Rattle.ssa_model.specs.Answers as answers
-use Rattle.ssa_model.specs.Commands.{follows_rule}
+use Rattle.ssa_model.specs.definitions.Answers as answers
+use Rattle.ssa_model.specs.definitions.Commands.{follows_rule}
 use Rattle.ssa_json.specs.View.{view, members_view}
 use Rattle.ssa_json.proofs.Views.{view-Object}
 use Rattle.ssa_session.specs.Commands.{word_text, rule_at}

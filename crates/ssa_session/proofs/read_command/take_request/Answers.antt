@@ -1,6 +1,6 @@
 use Rattle.std.proofs.Common.{◌≡◌, ◌∙◌, ap, sym, refl, option_map, option_and_then, string_bytes, codes, Some}
-use Rattle.ssa_model.specs.Json.{as_text, member_of}
-use Rattle.ssa_model.specs.Commands.{value_in}
+use Rattle.ssa_model.specs.definitions.Json.{as_text, member_of}
+use Rattle.ssa_model.specs.definitions.Commands.{value_in}
 use Rattle.ssa_json.specs.Moment.{is_moment}
 use Rattle.ssa_json.specs.View.{view, members_view}
 use Rattle.ssa_json.proofs.Views.{view-lookup}

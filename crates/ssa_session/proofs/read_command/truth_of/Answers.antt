@@ -1,5 +1,5 @@
 use Rattle.std.proofs.Common.{option_map, ap, ◌∙◌, sym}
-use Rattle.ssa_model.specs.Commands.{truth_in}
+use Rattle.ssa_model.specs.definitions.Commands.{truth_in}
 use Rattle.ssa_json.specs.View.{view}
 use Rattle.ssa_session.proofs.read_command.truth_of.Goals as goal
 

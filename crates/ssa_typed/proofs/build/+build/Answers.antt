@@ -1,20 +1,20 @@
 use Rattle.std.proofs.Common.{◌≡◌, [], ◌∷◌, ◌++◌, Some, option_map, string_bytes, refl, sym, ap, ◌∙◌, subst, subst₂, append_assoc, append-nil, rules}
 use Rattle.std.proofs.lemmas.List.{map-append}
 use Rattle.std.specs.Vec.Iter.{into_iter_items}
-use Rattle.ssa_model.specs.Json as values
-use Rattle.ssa_model.specs.Path.{field}
-use Rattle.ssa_model.specs.Kind as model
-use Rattle.ssa_model.specs.Body.{record_branch, places, field_places, entry_places, item_places, key_order}
+use Rattle.ssa_model.specs.definitions.Json as values
+use Rattle.ssa_model.specs.definitions.Path.{field}
+use Rattle.ssa_model.specs.definitions.Kind as model
+use Rattle.ssa_model.specs.definitions.Body.{record_branch, places, field_places, entry_places, item_places, key_order}
 use Rattle.ssa_json.specs.View.{view, members_view, items_view}
 use Rattle.ssa_json.proofs.Converting.{Found}
 use Rattle.ssa_json.proofs.Ordered.{names}
 use Rattle.ssa_schema.specs.Kinds.{kind_view, fields_view, names_view, scalar_kind_view}
-use Rattle.ssa_model.specs.Lawful.{is_keyed, are_key_names}
+use Rattle.ssa_model.specs.definitions.Lawful.{is_keyed, are_key_names}
 use Rattle.ssa_schema.specs.declared.kind.Kind as kind
 use Rattle.ssa_schema.proofs.Kinding.{kind_view-Record}
 use Rattle.ssa_path.proofs.Orders.{both_first, both_second}
 use Rattle.ssa_path.specs.declared.element.Elem.TheVariants.{Field}
-use Rattle.ssa_model.specs.Faultless.{Fits, EntriesFit, FieldsFit}
+use Rattle.ssa_model.specs.laws.Faultless.{Fits, EntriesFit, FieldsFit}
 use Rattle.ssa_typed.specs.Flats.{member_places}
 use Rattle.ssa_typed.proofs.Building.{listing-step, naming-step, naming-end}
 use Rattle.ssa_model.proofs.FaultlessParts.{ItemsFitAfter, member-first, member-rest, entry-first, entry-rest, item-first, item-rest}
@@ -146,7 +146,7 @@ item_child-returns t c =
       own = ms;
       is_own = c.into_members-members.ensures;
       child = record {
-        element = ap (λ k. Rattle.ssa_model.specs.Path.key k) c.in_ok-key.ensures;
+        element = ap (λ k. Rattle.ssa_model.specs.definitions.Path.key k) c.in_ok-key.ensures;
         placed = record-placed c.in_ok-children.children (field_places fs ms) made;
         tree = record-tree c.in_ok-children.children (field_places fs ms) made;
       };

@@ -1,11 +1,11 @@
 use Rattle.std.proofs.Common.{◌≡◌, List, ◌++◌}
 use Rattle.std.specs.Vec.Iter.{into_iter_items}
-use Rattle.ssa_model.specs.Body.{field_places, entry_places, item_places, key_order}
+use Rattle.ssa_model.specs.definitions.Body.{field_places, entry_places, item_places, key_order}
 use Rattle.ssa_json.specs.View.{items_view, members_view}
 use Rattle.ssa_json.proofs.Converting.{Found}
 use Rattle.ssa_json.proofs.Ordered.{names}
 use Rattle.ssa_schema.specs.Kinds.{kind_view, fields_view, names_view}
-use Rattle.ssa_model.specs.Faultless.{EntriesFit, FieldsFit}
+use Rattle.ssa_model.specs.laws.Faultless.{EntriesFit, FieldsFit}
 use Rattle.ssa_typed.proofs.Building.{IsListing, IsNaming}
 use Rattle.ssa_model.proofs.FaultlessParts.{ItemsFitAfter}
 use Rattle.ssa_typed.proofs.build.+build.Given as goal

@@ -1,8 +1,8 @@
 use Rattle.std.proofs.Common.{◌≡◌, [], ◌∷◌, refl, ap, ◌∙◌, subst}
 use Rattle.std.specs.Vec.Iter.{into_iter_items}
-use Rattle.ssa_model.specs.Json.{item}
-use Rattle.ssa_model.specs.Path.{value}
-use Rattle.ssa_model.specs.Body.{leaf, value_order, value_places}
+use Rattle.ssa_model.specs.definitions.Json.{item}
+use Rattle.ssa_model.specs.definitions.Path.{value}
+use Rattle.ssa_model.specs.definitions.Body.{leaf, value_order, value_places}
 use Rattle.ssa_json.specs.View.{view, items_view}
 use Rattle.ssa_schema.specs.Kinds.{scalar_kind_view}
 use Rattle.ssa_typed.proofs.Building.{listing-step}

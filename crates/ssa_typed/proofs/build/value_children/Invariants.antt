@@ -1,5 +1,5 @@
 use Rattle.std.specs.Vec.Iter.{into_iter_items}
-use Rattle.ssa_model.specs.Body.{value_order, value_places}
+use Rattle.ssa_model.specs.definitions.Body.{value_order, value_places}
 use Rattle.ssa_json.specs.View.{items_view}
 use Rattle.ssa_schema.specs.Kinds.{scalar_kind_view}
 use Rattle.ssa_typed.proofs.Building.{IsListing}

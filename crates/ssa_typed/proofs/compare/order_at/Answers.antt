@@ -1,6 +1,6 @@
 use Rattle.std.proofs.Common.{ap, sym, ◌∙◌, drop, Some, arith, length-drop}
 use Rattle.std.proofs.lemmas.List.{drop_all}
-use Rattle.ssa_model.specs.Path.{element_cmp}
+use Rattle.ssa_model.specs.definitions.Path.{element_cmp}
 use Rattle.ssa_path.specs.Children.{heads_order}
 use Rattle.ssa_path.proofs.Combining.{heads-own, heads-other}
 use Rattle.ssa_typed.specs.InOrder.{referred}

@@ -1,5 +1,5 @@
 use Rattle.std.proofs.Common.{sym, ap, ◌∙◌, arith}
-use Rattle.ssa_model.specs.Path.{same_element}
+use Rattle.ssa_model.specs.definitions.Path.{same_element}
 use Rattle.ssa_path.specs.declared.element.Elem.{Elem}
 use Rattle.ssa_path.specs.View.{element_view}
 use Rattle.ssa_typed.specs.declared.node.Node.{Node}

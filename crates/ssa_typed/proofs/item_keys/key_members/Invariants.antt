@@ -1,5 +1,5 @@
 use Rattle.std.proofs.Common.{◌≡◌, ◌++◌, drop}
-use Rattle.ssa_model.specs.Kind.{key_scalars}
+use Rattle.ssa_model.specs.definitions.Kind.{key_scalars}
 use Rattle.ssa_path.specs.Keys as keys
 use Rattle.ssa_json.specs.View.{members_view}
 use Rattle.ssa_schema.specs.Kinds.{names_view}

@@ -1,17 +1,17 @@
 use Rattle.std.proofs.Common.{◌≡◌, refl, sym, ap, ◌∙◌, subst, subst₂}
-use Rattle.ssa_model.specs.Kind as model
-use Rattle.ssa_model.specs.Json.{object}
-use Rattle.ssa_model.specs.Body.{field_places, flat, without_empty_metadata}
-use Rattle.ssa_model.specs.Fitting.{IsBodyOf}
+use Rattle.ssa_model.specs.definitions.Kind as model
+use Rattle.ssa_model.specs.definitions.Json.{object}
+use Rattle.ssa_model.specs.definitions.Body.{field_places, flat, without_empty_metadata}
+use Rattle.ssa_model.specs.definitions.Fitting.{IsBodyOf}
 use Rattle.ssa_json.specs.View.{members_view}
 use Rattle.ssa_schema.specs.Kinds.{kind_view, fields_view}
 use Rattle.ssa_schema.proofs.Kinding.{kind_view-Record}
-use Rattle.ssa_model.specs.Faultless.{Fits, FieldsFit}
+use Rattle.ssa_model.specs.laws.Faultless.{Fits, FieldsFit}
 use Rattle.ssa_typed.specs.Flats.{AreNamed}
 use Rattle.ssa_typed.specs.declared.node.Node.{Branch}
 use Rattle.ssa_typed.proofs.BodyFits.{body-fits}
-use Rattle.ssa_model.specs.Lawful.{has_metadata}
-use Rattle.ssa_model.specs.Valid.{IsRooted}
+use Rattle.ssa_model.specs.definitions.Lawful.{has_metadata}
+use Rattle.ssa_model.specs.definitions.Valid.{IsRooted}
 use Rattle.ssa_typed.specs.Reads.{has_empty_metadata}
 use Rattle.ssa_model.proofs.FlatFits.{without-fits}
 use Rattle.ssa_typed.proofs.Rooted.{body-rooted}

@@ -1,7 +1,7 @@
 use Rattle.std.proofs.Common.{ap, sym, ◌∙◌, arith, rules}
 use Rattle.ssa_json.specs.View.{view}
 use Rattle.ssa_json.proofs.Views.{view-List, view-Object}
-use Rattle.ssa_model.specs.Json.{list, object}
+use Rattle.ssa_model.specs.definitions.Json.{list, object}
 use Rattle.ssa_path.specs.View.{element_view}
 use Rattle.ssa_path.proofs.Orders.{both_first, both_second}
 use Rattle.ssa_typed.specs.Rows.{is_tree}

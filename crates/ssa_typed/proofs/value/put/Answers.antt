@@ -1,5 +1,5 @@
 use Rattle.std.proofs.Common.{ap, sym, ◌∙◌}
-use Rattle.ssa_model.specs.Objects.{with_member}
+use Rattle.ssa_model.specs.definitions.Objects.{with_member}
 use Rattle.ssa_json.specs.View.{view, members_view}
 use Rattle.ssa_path.specs.View.{element_view}
 use Rattle.ssa_typed.specs.Values.{with_member_under}

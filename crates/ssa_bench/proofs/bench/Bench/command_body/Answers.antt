@@ -1,10 +1,10 @@
 use Rattle.std.proofs.Common.{[], map, string_bytes, refl, ap, sym, subst, ◌∙◌}
 use Rattle.std.specs.Prelude.{Result}
-use Rattle.ssa_model.specs.Body as bodies
-use Rattle.ssa_model.specs.Kind.{wrong_type}
-use Rattle.ssa_model.specs.Objects.{identity_of, same_identity}
-use Rattle.ssa_model.specs.Answers as model
-use Rattle.ssa_model.specs.Answers.{body_or_fault, body_fault}
+use Rattle.ssa_model.specs.definitions.Body as bodies
+use Rattle.ssa_model.specs.definitions.Kind.{wrong_type, fault_at}
+use Rattle.ssa_model.specs.definitions.Objects.{identity_of, same_identity}
+use Rattle.ssa_model.specs.definitions.Answers as model
+use Rattle.ssa_model.specs.definitions.Answers.{body_or_fault, body_fault}
 use Rattle.ssa_json.specs.View.{view}
 use Rattle.ssa_bench.specs.Faults.{IsGiven}
 use Rattle.ssa_bench.proofs.Taken.{command_body-no_object, command_body-taken, regrouped}
@@ -14,7 +14,7 @@ pub returns-then-not-is_object-clause-given : goal.returns-then-not-is_object-cl
 returns-then-not-is_object-clause-given c = (
   body_fault wrong_type [],
   command_body-no_object c.args.self.now (view c.args.object) (sym c.is_object.ensures ∙ c.if-not-is_object.true),
-  ((wrong_type, []), refl, (λ i. (wrong_type, map string_bytes (c.new.ensures.items i)))),
+  (fault_at wrong_type [], refl, (λ i. (wrong_type, map string_bytes (c.new.ensures.items i)))),
 )
 
 pub returns-clause-given : goal.returns-clause-given
@@ -23,7 +23,7 @@ returns-clause-given c =
     let given : Result bodies.Body model.Fault → Type 0 = IsGiven c.body_or_fault.result in
     let same = ap (λ b. same_identity (identity_of v) b.identity) (sym c.self.view_is) ∙ sym c.is_same_as.ensures ∙ c.if-not-is_same_as.false in
     subst given
-    ((λ i. body_or_fault (c.self.view_is i).schema.1 (c.body_value.ensures i))
+    ((λ i. body_or_fault (c.self.view_is i).schema.kind (c.body_value.ensures i))
     ∙ sym (command_body-taken c.args.self.now v (sym c.is_object.ensures ∙ c.if-not-is_object.false) (regrouped _ _ _ (sym c.has_identity.ensures ∙ c.if-not-has_identity.false) same)
     (sym c.gives_managed_fields.ensures ∙ c.if-gives_managed_fields.false)))
     c.body_or_fault.ensures.given

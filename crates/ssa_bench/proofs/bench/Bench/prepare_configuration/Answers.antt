@@ -1,15 +1,14 @@
 use Rattle.std.proofs.Common.{ap, sym, subst, ◌∙◌, string_bytes}
 use Rattle.std.specs.Prelude.{Result, Ok, Err, codes}
-use Rattle.ssa_model.specs.Json.{Text}
-use Rattle.ssa_model.specs.History as model
-use Rattle.ssa_model.specs.History.{is_manager_name, present}
-use Rattle.ssa_model.specs.Operations.{State, Refusal, apply}
-use Rattle.ssa_model.specs.Answers.{apply_answer}
-use Rattle.ssa_model.specs.Valid.{IsValidState}
+use Rattle.ssa_model.specs.definitions.Json.{Text}
+use Rattle.ssa_model.specs.definitions.History as model
+use Rattle.ssa_model.specs.definitions.History.{is_manager_name, present}
+use Rattle.ssa_model.specs.definitions.Operations.{State, Refusal, apply}
+use Rattle.ssa_model.specs.definitions.Answers.{apply_answer}
+use Rattle.ssa_model.specs.definitions.Valid.{IsValidState, IsValidBody}
 use Rattle.ssa_typed.proofs.Alike.{bodies_alike}
 use Rattle.ssa_merge.specs.States.{state_view, applier}
 use Rattle.ssa_bench.specs.Benches.{IsPrepared}
-use Rattle.ssa_model.specs.ValidTimelines.{IsValidBody}
 use Rattle.ssa_bench.specs.declared.fault.Fault.{Fault}
 use Rattle.ssa_turn.specs.declared.label.Label.TheVariants.{Apply}
 use Rattle.ssa_bench.proofs.Planned.{accepted, refused-planned, planned-at}
@@ -19,10 +18,10 @@ use Rattle.ssa_bench.proofs.bench.Bench.prepare_configuration.Goals as goal
 pub plan_apply-requires : goal.plan_apply-requires
 plan_apply-requires c =
     let b = c.self.inside in
-    let valid : model.Bench → Type 0 = λ n. IsValidBody n.schema.1 c.args.config in
-    let live = subst (IsValidState b.schema.1) (sym c.present-now.ensures) (present_valid b.schema.1 b.timeline c.self.invariant) in
+    let valid : model.Bench → Type 0 = λ n. IsValidBody n.schema.kind c.args.config in
+    let live = subst (IsValidState b.schema.kind) (sym c.present-now.ensures) (present_valid b.schema.kind b.timeline c.self.invariant.states) in
     let config = subst valid (sym c.self.view_is) c.requires.valid in
-    bodies_alike b.schema.1 c.present-now.result.now.body c.args.config live.fits config.fits
+    bodies_alike b.schema.kind c.present-now.result.now.body c.args.config live.fits config.fits
 
 pub returns-in-Ok : goal.returns-in-Ok
 returns-in-Ok c =
@@ -30,15 +29,15 @@ returns-in-Ok c =
     let bench = c.args.self.now in
     let who = string_bytes c.args.who in
     let to : State → Text → Result State Refusal = λ s n. apply s (applier n) c.args.config c.args.force c.args.at in
-    let valid : model.Bench → Type 0 = λ n. IsValidBody n.schema.1 c.args.config in
-    let made : model.Bench → Type 0 = λ n. IsValidState n.schema.1 (state_view c.in-Ok.plan.target) in
-    let live = subst (IsValidState b.schema.1) (sym c.present-now.ensures) (present_valid b.schema.1 b.timeline c.self.invariant) in
+    let valid : model.Bench → Type 0 = λ n. IsValidBody n.schema.kind c.args.config in
+    let made : model.Bench → Type 0 = λ n. IsValidState n.schema.kind (state_view c.in-Ok.plan.target) in
+    let live = subst (IsValidState b.schema.kind) (sym c.present-now.ensures) (present_valid b.schema.kind b.timeline c.self.invariant.states) in
     let config = subst valid (sym c.self.view_is) c.requires.valid in
     let named = ap is_manager_name c.as_str.ensures.value ∙ c.requires.named in
     let now_is = c.present-now.ensures ∙ ap (λ n. present n.timeline) c.self.view_is in
     accepted bench (codes "apply") (Apply c.args.at c.args.force c.args.who) c.in-Ok.plan c.accepted.result (to (present bench.timeline) who) c.accepted.ensures.label c.accepted.ensures.state c.accepted.ensures.changed
     (planned-at to (Ok c.in-Ok.plan) (state_view c.present-now.result.now) (present bench.timeline) c.as_str.result.now who now_is c.as_str.ensures.value c.in-Ok.ensures.plan)
-    (subst made c.self.view_is (c.in-Ok.ensures.valid b.schema.1 live config.fits config.rooted named))
+    (subst made c.self.view_is (c.in-Ok.ensures.valid b.schema.kind live config.fits config.rooted named))
 
 pub returns-in-Err : goal.returns-in-Err
 returns-in-Err c =

@@ -1,6 +1,6 @@
 use Rattle.std.proofs.Common.{ap, sym, subst, ◌∙◌, string_bytes}
 use Rattle.std.specs.Prelude.{Ok, Err, codes}
-use Rattle.ssa_model.specs.Answers.{Answer}
+use Rattle.ssa_model.specs.definitions.Answers.{Answer}
 use Rattle.ssa_json.specs.View.{view}
 use Rattle.ssa_bench.specs.Benches.{IsPrepared, tested_body, update_answer}
 use Rattle.ssa_bench.proofs.Planned.{told-first, with_body-tested}

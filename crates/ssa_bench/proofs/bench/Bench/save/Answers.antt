@@ -1,14 +1,15 @@
 use Rattle.std.proofs.Common.{◌≡◌, ◌≤◌, ℕ, Bool, List, Option, length, true, ap, sym, subst, ◌∙◌}
 use Rattle.std.specs.Io.KnownBytes.{Appends}
-use Rattle.ssa_model.specs.Json.{Text}
-use Rattle.ssa_model.specs.BenchText.{bench_text}
+use Rattle.ssa_model.specs.definitions.Limits.{most_bench_bytes}
+use Rattle.ssa_model.specs.definitions.Json.{Text}
+use Rattle.ssa_model.specs.definitions.BenchText.{bench_text}
 use Rattle.ssa_json.specs.Devices.{AppendsPart}
 use Rattle.ssa_file.specs.Saving.{NotSaved}
 use Rattle.ssa_file.specs.declared.saving.SaveFault.TheVariants.{Io}
 use Rattle.ssa_file.proofs.SavingFacts.{handed-on}
 use Rattle.ssa_bench.proofs.bench.Bench.save.Goals as goal
 
-broken_off : {S : Type 0} (contents : S → Option (List ℕ)) (has_failed : S → Bool) (old new : S) (written text : Text) → written ≡ text → length written ≤ 67108864
+broken_off : {S : Type 0} (contents : S → Option (List ℕ)) (has_failed : S → Bool) (old new : S) (written text : Text) → written ≡ text → length written ≤ most_bench_bytes
     → AppendsPart (contents old) (contents new) written → has_failed new ≡ true → NotSaved contents has_failed old new text Io
 broken_off contents has_failed old new written text is fits part failed = subst (λ (t : Text). NotSaved contents has_failed old new t Io) is (part, (fits, failed))
 
@@ -17,7 +18,7 @@ returns-in_err-write_text-clause-refused g c =
     let whole = c.deref.ensures.value ∙ c.in_ok-text.ensures.ok ∙ ap bench_text c.self.view_is in
     handed-on c.from_residual-in_err-write_text.result Io _ c.from_residual-in_err-write_text.ensures.1
     (broken_off g.S.Sink.contents g.S.Sink.has_failed c.args.sink.now c.write_text.new.sink c.deref.result.now (bench_text c.args.self.now) whole
-    (subst (λ (t : Text). length t ≤ 67108864) (sym c.deref.ensures.value) c.in_ok-text.ensures.fits) c.in_err-write_text.ensures.err c.in_err-write_text.ensures.failed)
+    (subst (λ (t : Text). length t ≤ most_bench_bytes) (sym c.deref.ensures.value) c.in_ok-text.ensures.fits) c.in_err-write_text.ensures.err c.in_err-write_text.ensures.failed)
 
 pub returns-clause-ok : goal.returns-clause-ok
 returns-clause-ok g c =

@@ -1,5 +1,5 @@
 use Rattle.std.proofs.Common.{◌≡◌, rules}
-use Rattle.ssa_model.specs.Json.{same_scalar}
+use Rattle.ssa_model.specs.definitions.Json.{same_scalar}
 use Rattle.ssa_json.specs.View.{scalar_view}
 use Rattle.ssa_json.proofs.Equality.{same_scalar-decides}
 use Rattle.ssa_json.proofs.value.Scalar.same.Goals as goal

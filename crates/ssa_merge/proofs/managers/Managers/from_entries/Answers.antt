@@ -1,6 +1,6 @@
 use Rattle.std.proofs.Common.{[], subst, sym}
-use Rattle.ssa_model.specs.Table.{Table}
-use Rattle.ssa_model.specs.Valid.{IsTable}
+use Rattle.ssa_model.specs.definitions.Table.{Table}
+use Rattle.ssa_model.specs.definitions.Valid.{IsTable}
 use Rattle.ssa_model.proofs.GivenTables.{given_table}
 use Rattle.ssa_model.proofs.Tables.{strip_keeps}
 use Rattle.ssa_json.specs.Readings.{readings}

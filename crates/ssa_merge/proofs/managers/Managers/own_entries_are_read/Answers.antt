@@ -1,6 +1,6 @@
 use Rattle.std.proofs.Common.{subst}
-use Rattle.ssa_model.specs.ShownStates.{IsReadBack}
-use Rattle.ssa_model.specs.Valid.{AllEntries}
+use Rattle.ssa_model.specs.definitions.BenchFile.{IsReadBack}
+use Rattle.ssa_model.specs.definitions.Valid.{AllEntries}
 use Rattle.ssa_model.proofs.TablesBack.{table-back}
 use Rattle.ssa_json.specs.Readings.{readings}
 use Rattle.ssa_merge.proofs.managers.Managers.own_entries_are_read.Goals as goal

@@ -1,5 +1,5 @@
 use Rattle.std.proofs.Common.{IsUtf8, ap, subst, sym, ◌∙◌, true≢false}
-use Rattle.ssa_model.specs.ElementTexts.{element_of}
+use Rattle.ssa_model.specs.definitions.ElementTexts.{element_of}
 use Rattle.ssa_json.specs.Reading.{json_reading}
 use Rattle.ssa_path.specs.View.{element_view}
 use Rattle.ssa_path.proofs.ElementTexts.{element_text-is-utf8}

@@ -1,5 +1,5 @@
 use Rattle.std.proofs.Common.{rules, ap, ◌∙◌}
-use Rattle.ssa_model.specs.ElementTexts.{element_of}
+use Rattle.ssa_model.specs.definitions.ElementTexts.{element_of}
 use Rattle.ssa_json.specs.Reading.{json_reading}
 use Rattle.ssa_path.proofs.OwnTexts.{own-text-is-read, field-of-program, key-of-program, value-of-program}
 use Rattle.ssa_path.proofs.element.Elem.text.Goals.{in-Field+in_ok-extend_from_slice-in-Field+in_ok-extend_from_slice-in-Field-2, in-Key+in_ok-extend_from_slice-in-Key+in_ok-push_members-in-Key, in-Value+in_ok-extend_from_slice-in-Value+in_ok-push_scalar-in-Value}

@@ -1,5 +1,5 @@
 use Rattle.std.proofs.Common.{ap, sym, ◌∙◌}
-use Rattle.ssa_model.specs.PathMap.{listed}
+use Rattle.ssa_model.specs.definitions.PathMap.{listed}
 use Rattle.ssa_path.proofs.FieldsSays.{json-of-set, written-set}
 use Rattle.ssa_path.proofs.field_set.FieldSet.from_fields_v1.Goals as goal
 

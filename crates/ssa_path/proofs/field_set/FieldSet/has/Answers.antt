@@ -1,5 +1,5 @@
 use Rattle.std.proofs.Common.{◌∙◌, ap, sym}
-use Rattle.ssa_model.specs.PathMap.{has}
+use Rattle.ssa_model.specs.definitions.PathMap.{has}
 use Rattle.ssa_path.specs.Trie.{is_one_of, paths}
 use Rattle.ssa_path.proofs.Levels.{one-level-root}
 use Rattle.ssa_path.proofs.Sets.{has-listed}

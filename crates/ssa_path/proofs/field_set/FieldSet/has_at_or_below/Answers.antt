@@ -1,7 +1,7 @@
 use Rattle.std.proofs.Common.{◌∙◌, ap, sym}
 use Rattle.std.specs.List.{list_any}
-use Rattle.ssa_model.specs.Path.{under}
-use Rattle.ssa_model.specs.PathMap.{has_at_or_below}
+use Rattle.ssa_model.specs.definitions.Path.{under}
+use Rattle.ssa_model.specs.definitions.PathMap.{has_at_or_below}
 use Rattle.ssa_path.specs.Trie.{paths}
 use Rattle.ssa_path.proofs.Sets.{below-listed}
 use Rattle.ssa_path.proofs.field_set.FieldSet.has_at_or_below.Goals as goal

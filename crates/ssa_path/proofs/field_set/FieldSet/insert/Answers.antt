@@ -1,7 +1,7 @@
 use Rattle.std.proofs.Common.{◌||◌, ap, ◌∙◌}
 use Rattle.std.proofs.lemmas.Result.{on_ok_weaker}
-use Rattle.ssa_model.specs.Path.{same_path}
-use Rattle.ssa_model.specs.PathMap.{insert}
+use Rattle.ssa_model.specs.definitions.Path.{same_path}
+use Rattle.ssa_model.specs.definitions.PathMap.{insert}
 use Rattle.ssa_path.specs.Trie.{is_one_of, paths}
 use Rattle.ssa_path.proofs.Sets.{listed-insert}
 use Rattle.ssa_path.proofs.field_set.FieldSet.insert.Goals as goal

@@ -1,5 +1,5 @@
 use Rattle.std.proofs.Common.{◌∙◌, ap, sym, not}
-use Rattle.ssa_model.specs.PathMap.{is_empty}
+use Rattle.ssa_model.specs.definitions.PathMap.{is_empty}
 use Rattle.ssa_path.specs.Trie.{paths}
 use Rattle.ssa_path.proofs.Sets.{empty-listed}
 use Rattle.ssa_path.proofs.field_set.FieldSet.is_empty.Goals as goal

@@ -1,5 +1,5 @@
 use Rattle.std.proofs.Common.{◌∙◌}
-use Rattle.ssa_model.specs.PathMap.{same_set}
+use Rattle.ssa_model.specs.definitions.PathMap.{same_set}
 use Rattle.ssa_path.proofs.Comparing.{same-listed}
 use Rattle.ssa_path.proofs.field_set.FieldSet.is_same.Goals as goal
 

@@ -1,5 +1,5 @@
 use Rattle.std.proofs.Common.{◌∙◌, ◌-◌, ◌^◌, min, ap, sym}
-use Rattle.ssa_model.specs.PathMap.{size}
+use Rattle.ssa_model.specs.definitions.PathMap.{size}
 use Rattle.ssa_path.specs.Trie.{paths}
 use Rattle.ssa_path.proofs.InOrder.{size-listed}
 use Rattle.ssa_path.proofs.field_set.FieldSet.len.Goals as goal

@@ -1,5 +1,5 @@
 use Rattle.std.proofs.Common.{◌∙◌, ◌++◌, [], ap, sym}
-use Rattle.ssa_model.specs.PathMap as set
+use Rattle.ssa_model.specs.definitions.PathMap as set
 use Rattle.ssa_path.specs.Listing.{behind}
 use Rattle.ssa_path.specs.Trie.{paths}
 use Rattle.ssa_path.proofs.InOrder.{behind-none, paths-listed}

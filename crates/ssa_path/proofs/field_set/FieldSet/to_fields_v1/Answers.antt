@@ -1,5 +1,5 @@
 use Rattle.std.proofs.Common.{sym, subst, ◌∙◌}
-use Rattle.ssa_model.specs.FieldsV1.{IsCanonical}
+use Rattle.ssa_model.specs.definitions.FieldsV1.{IsCanonical}
 use Rattle.ssa_json.proofs.Views.{view-Object}
 use Rattle.ssa_path.proofs.FieldsBack.{set-back}
 use Rattle.ssa_path.proofs.FieldsSays.{json-of-set, written-set}

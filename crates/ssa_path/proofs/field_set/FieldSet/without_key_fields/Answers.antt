@@ -1,6 +1,6 @@
 use Rattle.std.proofs.Common.{◌∙◌, not, ap}
-use Rattle.ssa_model.specs.Path.{is_key_field}
-use Rattle.ssa_model.specs.PathMap.{set_of, paths as set_paths}
+use Rattle.ssa_model.specs.definitions.Path.{is_key_field}
+use Rattle.ssa_model.specs.definitions.PathMap.{set_of, paths as set_paths}
 use Rattle.ssa_path.proofs.KeyFields.{root-left}
 use Rattle.ssa_path.proofs.Sets.{listed-tested}
 use Rattle.ssa_path.proofs.field_set.FieldSet.without_key_fields.Goals as goal

@@ -1,6 +1,6 @@
 use Rattle.std.proofs.Common.{◌+◌, ◌-◌, refl, ap, ◌∙◌, take, drop, length, arith, rules}
 use Rattle.std.proofs.lemmas.Result.{on_ok_weaker, on_err_weaker}
-use Rattle.ssa_model.specs.Path.{same_element}
+use Rattle.ssa_model.specs.definitions.Path.{same_element}
 use Rattle.ssa_path.specs.declared.element.Elem.{Elem}
 use Rattle.ssa_path.specs.declared.trie.Trie.{Trie}
 use Rattle.ssa_path.specs.declared.trie.Trie.TheViews.{out-Trie}

@@ -1,7 +1,7 @@
 use Rattle.std.proofs.Common.{◌≡◌, ◌++◌, drop, string_bytes}
-use Rattle.ssa_model.specs.Json.{compact_members}
-use Rattle.ssa_model.specs.Path.{element_text, key_members}
-use Rattle.ssa_model.specs.Kind.{item_key, key_scalars}
+use Rattle.ssa_model.specs.definitions.Json.{compact_members}
+use Rattle.ssa_model.specs.definitions.Path.{element_text, key_members}
+use Rattle.ssa_model.specs.definitions.Kind.{item_key, key_scalars}
 use Rattle.ssa_json.specs.View.{members_view}
 use Rattle.ssa_schema.specs.Kinds.{names_view}
 use Rattle.ssa_schema.proofs.fit.element_text.key_text.Given as goal

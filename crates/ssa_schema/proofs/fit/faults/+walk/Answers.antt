@@ -2,9 +2,9 @@ use Rattle.std.proofs.Common.{◌≡◌, ◌+◌, ◌++◌, [], ◌∷◌, map, 
 use Rattle.std.proofs.lemmas.Grind.{common_steps}
 use Rattle.std.proofs.lemmas.Result.{IfOk-weaker}
 use Rattle.std.specs.Prelude.{Some, option_map}
-use Rattle.ssa_model.specs.Json.{list}
-use Rattle.ssa_model.specs.Path.{field, element_text}
-use Rattle.ssa_model.specs.Kind.{faults, field_faults, entry_faults, item_faults, unknown_field, items_of, item_key}
+use Rattle.ssa_model.specs.definitions.Json.{list}
+use Rattle.ssa_model.specs.definitions.Path.{field, element_text}
+use Rattle.ssa_model.specs.definitions.Kind.{faults, field_faults, entry_faults, item_faults, unknown_field, items_of, item_key, fault_at}
 use Rattle.ssa_json.specs.View.{view, items_view, members_view}
 use Rattle.ssa_schema.specs.Kinds.{kind_view, fields_view, names_view}
 use Rattle.ssa_schema.specs.Refusals.{first_of}
@@ -51,7 +51,7 @@ fields_fault-returns-in_default t c =
     let fs = fields_view c.args.fields.now.entries in
     let n = string_bytes c.in-Some.name.now in
     let text = c.in_ok-field_text.ensures ∙ ap (λ x. element_text (field x)) c.as_str-in_default.ensures.value in
-    finds_from (Some c.in_ok-below.field-0) (field_faults fs (members_view c.args.members.now.entries)) (λ p. (unknown_field, p ++ field n ∷ []) ∷ [])
+    finds_from (Some c.in_ok-below.field-0) (field_faults fs (members_view c.args.members.now.entries)) (λ p. fault_at unknown_field (p ++ field n ∷ []) ∷ [])
     (λ p. c.loop-name.invariant p ∙ ap (λ es. first_of (field_faults fs (members_view es) p)) c.in-Some.ensures.steps
     ∙ field_unknown fs n c.as_str.result.now (view c.in-Some.member.now) (members_view c.next.new.self) p c.as_str.ensures.value (sym c.in_default.ensures))
     (finds_child c.here-unknown.result c.in_ok-below.field-0 UnknownField (field n) c.in_ok-field_text.field-0 c.here-unknown.ensures.misfit c.here-unknown.ensures.path text c.in_ok-below.ensures.misfit c.in_ok-below.ensures.path)

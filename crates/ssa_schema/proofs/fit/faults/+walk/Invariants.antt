@@ -1,6 +1,6 @@
 use Rattle.std.proofs.Common.{◌≡◌, List, [], map, drop}
-use Rattle.ssa_model.specs.Path.{Path, Element, element_text}
-use Rattle.ssa_model.specs.Kind.{field_faults, entry_faults, item_faults}
+use Rattle.ssa_model.specs.definitions.Path.{Path, Element, element_text}
+use Rattle.ssa_model.specs.definitions.Kind.{field_faults, entry_faults, item_faults}
 use Rattle.ssa_json.specs.View.{items_view, members_view}
 use Rattle.ssa_schema.specs.Kinds.{kind_view, fields_view, names_view}
 use Rattle.ssa_schema.specs.Refusals.{first_of}

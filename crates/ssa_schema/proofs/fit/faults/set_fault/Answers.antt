@@ -1,7 +1,7 @@
 use Rattle.std.proofs.Common.{◌+◌, ◌∷◌, map, drop, sym, ap, ◌∙◌}
 use Rattle.std.specs.Prelude.{option_map}
-use Rattle.ssa_model.specs.Path.{element_text, value}
-use Rattle.ssa_model.specs.Kind.{value_faults}
+use Rattle.ssa_model.specs.definitions.Path.{element_text, value}
+use Rattle.ssa_model.specs.definitions.Kind.{value_faults}
 use Rattle.ssa_json.specs.View.{view, items_view, scalar_view}
 use Rattle.ssa_schema.specs.Kinds.{scalar_kind_view}
 use Rattle.ssa_schema.specs.Refusals.{first_of}

@@ -1,6 +1,6 @@
 use Rattle.std.proofs.Common.{◌≡◌, List, [], map, drop}
-use Rattle.ssa_model.specs.Path.{Path, Element, element_text}
-use Rattle.ssa_model.specs.Kind.{value_faults}
+use Rattle.ssa_model.specs.definitions.Path.{Path, Element, element_text}
+use Rattle.ssa_model.specs.definitions.Kind.{value_faults}
 use Rattle.ssa_json.specs.View.{items_view}
 use Rattle.ssa_schema.specs.Kinds.{scalar_kind_view}
 use Rattle.ssa_schema.specs.Refusals.{first_of}

@@ -1,6 +1,6 @@
 use Rattle.std.proofs.Common.{◌≡◌, drop}
-use Rattle.ssa_model.specs.Path.{Path}
-use Rattle.ssa_model.specs.Kind.{key_faults}
+use Rattle.ssa_model.specs.definitions.Path.{Path}
+use Rattle.ssa_model.specs.definitions.Kind.{key_faults}
 use Rattle.ssa_json.specs.View.{members_view}
 use Rattle.ssa_schema.specs.Kinds.{fields_view, names_view}
 use Rattle.ssa_schema.specs.Refusals.{first_of}

@@ -1,6 +1,6 @@
 use Rattle.std.proofs.Common.{refl, ◌+◌, sym, ap, ◌∙◌, drop, arith, string_bytes}
 use Rattle.std.proofs.lemmas.Grind.{common_steps}
-use Rattle.ssa_model.specs.Kind.{shape_faults, shape_field_faults, shape_entry_faults, shape_item_faults}
+use Rattle.ssa_model.specs.definitions.Kind.{shape_faults, shape_field_faults, shape_entry_faults, shape_item_faults}
 use Rattle.ssa_json.specs.View.{view, items_view, members_view}
 use Rattle.ssa_schema.specs.Kinds.{shape_view, shape_fields_view}
 use Rattle.ssa_schema.specs.Refusals.{first_of}

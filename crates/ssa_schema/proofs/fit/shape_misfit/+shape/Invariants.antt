@@ -1,6 +1,6 @@
 use Rattle.std.proofs.Common.{◌≡◌, drop}
-use Rattle.ssa_model.specs.Path.{Path}
-use Rattle.ssa_model.specs.Kind.{shape_field_faults, shape_entry_faults, shape_item_faults}
+use Rattle.ssa_model.specs.definitions.Path.{Path}
+use Rattle.ssa_model.specs.definitions.Kind.{shape_field_faults, shape_entry_faults, shape_item_faults}
 use Rattle.ssa_json.specs.View.{items_view, members_view}
 use Rattle.ssa_schema.specs.Kinds.{shape_view, shape_fields_view}
 use Rattle.ssa_schema.specs.Refusals.{first_of}

@@ -10,8 +10,8 @@ use Rattle.std.proofs.lemmas.Result.{IfOk-weaker}
 use Rattle.ssa_json.specs.View.{view, members_view, items_view, scalar_view}
 use Rattle.ssa_json.proofs.Views.{view-Object}
 use Rattle.ssa_schema.specs.Builds.{shape_at, kind_at}
-use Rattle.ssa_model.specs.Json.{object}
-use Rattle.ssa_model.specs.Kind.{atomic_of}
+use Rattle.ssa_model.specs.definitions.Json.{object}
+use Rattle.ssa_model.specs.definitions.Kind.{atomic_of}
 use Rattle.ssa_schema.proofs.Distinct.{view-List, view-Scalar}
 use Rattle.ssa_schema.proofs.read.build.+kinds.Goals as goal
 

@@ -1,5 +1,5 @@
 use Rattle.std.proofs.Common.{◌≡◌, ◌∷◌, ◌+◌, ◌-◌, drop, sym, ap, ◌∙◌, arith}
-use Rattle.ssa_model.specs.Schema.{with_text}
+use Rattle.ssa_model.specs.definitions.Schema.{with_text}
 use Rattle.ssa_json.specs.View.{view, items_view}
 use Rattle.ssa_schema.specs.Kinds.{names_view}
 use Rattle.ssa_schema.specs.Builds.{sorted_items}

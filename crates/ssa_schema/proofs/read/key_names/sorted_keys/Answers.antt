@@ -1,6 +1,6 @@
 use Rattle.std.proofs.Common.{◌∙◌}
 use Rattle.std.proofs.lemmas.Result.{IfOk-weaker}
-use Rattle.ssa_model.specs.Schema.{key_names}
+use Rattle.ssa_model.specs.definitions.Schema.{key_names}
 use Rattle.ssa_json.specs.View.{members_view, items_view}
 use Rattle.ssa_schema.proofs.Sorting.{sorted_items-texts}
 use Rattle.ssa_schema.proofs.read.key_names.sorted_keys.Goals as goal

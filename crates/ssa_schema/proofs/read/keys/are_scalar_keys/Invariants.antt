@@ -1,5 +1,5 @@
 use Rattle.std.proofs.Common.{◌≡◌, drop}
-use Rattle.ssa_model.specs.Schema.{is_scalar_property, item_members}
+use Rattle.ssa_model.specs.definitions.Schema.{is_scalar_property, item_members}
 use Rattle.ssa_json.specs.View.{items_view, members_view}
 use Rattle.ssa_schema.specs.Words.{each_text}
 use Rattle.ssa_schema.proofs.read.keys.are_scalar_keys.Given as goal

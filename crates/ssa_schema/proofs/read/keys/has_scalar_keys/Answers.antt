@@ -1,5 +1,5 @@
 use Rattle.std.proofs.Common.{◌∙◌}
-use Rattle.ssa_model.specs.Schema.{is_scalar_property, item_members, key_names}
+use Rattle.ssa_model.specs.definitions.Schema.{is_scalar_property, item_members, key_names}
 use Rattle.ssa_json.specs.View.{members_view, items_view}
 use Rattle.ssa_schema.proofs.Distinct.{each_text-all}
 use Rattle.ssa_schema.proofs.read.keys.has_scalar_keys.Goals as goal

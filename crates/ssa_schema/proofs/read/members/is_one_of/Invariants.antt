@@ -1,5 +1,5 @@
 use Rattle.std.proofs.Common.{◌≡◌, map, drop}
-use Rattle.ssa_model.specs.Schema.{is_one_of_texts}
+use Rattle.ssa_model.specs.definitions.Schema.{is_one_of_texts}
 use Rattle.ssa_schema.proofs.read.members.is_one_of.Given as goal
 
 -- what is left decides

@@ -1,5 +1,5 @@
 use Rattle.std.proofs.Common.{◌≡◌, ap, sym, subst, true, ◌∙◌}
-use Rattle.ssa_model.specs.Schema.{with_field}
+use Rattle.ssa_model.specs.definitions.Schema.{with_field}
 use Rattle.ssa_schema.specs.Kinds.{kind_view, fields_view}
 use Rattle.ssa_schema.proofs.Fields.{fields-insert}
 use Rattle.ssa_schema.proofs.Ordered.{all_ordered, fields-ordered, ordered-inside, ordered-insert}

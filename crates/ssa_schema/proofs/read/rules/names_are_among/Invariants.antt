@@ -1,6 +1,6 @@
 use Rattle.std.proofs.Common.{◌≡◌, map}
 use Rattle.std.specs.List.{list_all}
-use Rattle.ssa_model.specs.Schema.{is_one_of_texts, names}
+use Rattle.ssa_model.specs.definitions.Schema.{is_one_of_texts, names}
 use Rattle.ssa_json.specs.View.{members_view}
 use Rattle.ssa_schema.proofs.read.rules.names_are_among.Given as goal
 

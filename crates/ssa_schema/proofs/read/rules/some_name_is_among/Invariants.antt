@@ -1,6 +1,6 @@
 use Rattle.std.proofs.Common.{◌≡◌, map}
 use Rattle.std.specs.List.{list_any}
-use Rattle.ssa_model.specs.Schema.{is_one_of_texts, names}
+use Rattle.ssa_model.specs.definitions.Schema.{is_one_of_texts, names}
 use Rattle.ssa_json.specs.View.{members_view}
 use Rattle.ssa_schema.proofs.read.rules.some_name_is_among.Given as goal
 

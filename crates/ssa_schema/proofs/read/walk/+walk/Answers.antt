@@ -2,8 +2,8 @@ use Rattle.std.proofs.Common.{◌≡◌, suc, ◌-◌, ◌++◌, sym, ap, ◌∙
 use Rattle.std.proofs.lemmas.Result.{IfOk-weaker}
 use Rattle.ssa_json.specs.View.{view, members_view, items_view, scalar_view}
 use Rattle.ssa_json.proofs.Views.{view-Object}
-use Rattle.ssa_model.specs.Schema.{SchemaFault, child_faults, item_faults, property_faults, property_members, optional_faults, standing_inside}
-use Rattle.ssa_model.specs.Json.{member_of}
+use Rattle.ssa_model.specs.definitions.Schema.{SchemaFault, child_faults, item_faults, property_faults, property_members, optional_faults, standing_inside}
+use Rattle.ssa_model.specs.definitions.Json.{member_of}
 use Rattle.std.specs.Prelude.{Option, option_map, codes}
 use Rattle.ssa_schema.specs.Standings.{standing_view}
 use Rattle.ssa_schema.specs.declared.read.refusal.Refusal.{Refusal}

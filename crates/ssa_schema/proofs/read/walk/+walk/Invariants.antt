@@ -1,5 +1,5 @@
 use Rattle.std.proofs.Common.{◌≡◌, ◌+◌, ◌*◌}
-use Rattle.ssa_model.specs.Schema.{property_faults}
+use Rattle.ssa_model.specs.definitions.Schema.{property_faults}
 use Rattle.ssa_json.specs.View.{members_view}
 use Rattle.ssa_schema.specs.Refusals.{first_of, faults_at}
 use Rattle.ssa_schema.specs.Standings.{standing_view}

@@ -1,4 +1,5 @@
-use Rattle.std.proofs.Common.{refl, sym, ◌∙◌, subst}
+use Rattle.std.proofs.Common.{◌≡◌, true, ◌&&◌, refl, sym, ◌∙◌, subst}
+use Rattle.ssa_model.specs.definitions.Lawful.{is_lawful}
 use Rattle.ssa_json.specs.View.{view}
 use Rattle.ssa_schema.specs.Schemas.{Faults}
 use Rattle.ssa_schema.specs.Kinds.{kind_view}
@@ -17,4 +18,7 @@ returns-in-Err c = subst (λ r. Faults c.in-Err.fault r) (sym (reading_is (view 
 pub invariant_of-result : goal.invariant_of-result
 invariant_of-result c =
     let read = reading_is (view c.args.schema) ∙ c.in-Ok.ensures.kind in
-    (read-root (view c.args.schema) (kind_view c.in-Ok.kind) read, c.in-Ok.ensures.ordered, read-metadata (view c.args.schema) (kind_view c.in-Ok.kind) read, read-leaves (view c.args.schema) (kind_view c.in-Ok.kind) read)
+    let root = read-root (view c.args.schema) (kind_view c.in-Ok.kind) read in
+    let metadata = read-metadata (view c.args.schema) (kind_view c.in-Ok.kind) read in
+    let lawful : is_lawful (kind_view c.in-Ok.kind) ≡ true = λ i. root i && (c.in-Ok.ensures.ordered i && metadata i) in
+    (record { lawful = lawful; apart = read-leaves (view c.args.schema) (kind_view c.in-Ok.kind) read }, read)

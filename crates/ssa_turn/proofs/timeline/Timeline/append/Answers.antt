@@ -1,6 +1,6 @@
 use Rattle.std.proofs.Common.{◌+◌, ◌∷◌, [], ◌++◌, ap, ◌∙◌, sym, take}
 use Rattle.std.proofs.lemmas.List.{map-append, take-map}
-use Rattle.ssa_model.specs.History.{appended}
+use Rattle.ssa_model.specs.definitions.History.{appended}
 use Rattle.ssa_turn.specs.Histories.{label_view, step_view, steps_view}
 use Rattle.ssa_merge.specs.States.{state_view}
 use Rattle.ssa_turn.proofs.timeline.Timeline.append.Goals as goal

@@ -1,6 +1,6 @@
 use Rattle.std.proofs.Common.{◌≡◌, ◌-◌, ℕ, List, sym, ap, ◌∙◌, take, drop, length, arith}
 use Rattle.std.proofs.lemmas.List.{drop-map, length-drop, take_all}
-use Rattle.ssa_model.specs.History.{past_len}
+use Rattle.ssa_model.specs.definitions.History.{past_len}
 use Rattle.ssa_turn.specs.Histories.{step_view, steps_view}
 use Rattle.ssa_turn.proofs.timeline.Timeline.future.Goals as goal
 

@@ -1,6 +1,6 @@
 use Rattle.std.proofs.Common.{sym, ap, ◌∙◌, take}
 use Rattle.std.proofs.lemmas.List.{take-map}
-use Rattle.ssa_model.specs.History.{past_len}
+use Rattle.ssa_model.specs.definitions.History.{past_len}
 use Rattle.ssa_turn.specs.Histories.{step_view, steps_view}
 use Rattle.ssa_turn.proofs.timeline.Timeline.past.Goals as goal
 

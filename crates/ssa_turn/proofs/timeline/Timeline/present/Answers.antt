@@ -1,5 +1,5 @@
 use Rattle.std.proofs.Common.{◌≡◌, ◌-◌, ◌<◌, ◌≤◌, ℕ, ap, ◌∙◌, sym, take, length, arith}
-use Rattle.ssa_model.specs.History.{present, last_state}
+use Rattle.ssa_model.specs.definitions.History.{present, last_state}
 use Rattle.ssa_turn.specs.Histories.{steps_view}
 use Rattle.ssa_merge.specs.States.{state_view}
 use Rattle.ssa_turn.proofs.Histories.{last_state-at, before_after}

@@ -1,5 +1,5 @@
 use Rattle.std.proofs.Common.{◌∙◌}
-use Rattle.ssa_model.specs.Body.{added, modified, removed}
+use Rattle.ssa_model.specs.definitions.Body.{added, modified, removed}
 use Rattle.ssa_typed.specs.Differences.{Added, Modified, Removed}
 use Rattle.ssa_typed.proofs.Differing.{difference-listed}
 use Rattle.ssa_typed.proofs.body.Body.compare.Goals as goal

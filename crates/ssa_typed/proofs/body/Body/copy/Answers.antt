@@ -1,5 +1,5 @@
 use Rattle.std.proofs.Common.{ap, ◌∙◌}
-use Rattle.ssa_model.specs.PathMap.{from_entries}
+use Rattle.ssa_model.specs.definitions.PathMap.{from_entries}
 use Rattle.ssa_typed.proofs.Copying.{kept-rows}
 use Rattle.ssa_typed.proofs.body.Body.copy.Goals as goal
 

@@ -1,5 +1,5 @@
 use Rattle.std.proofs.Common.{not, ◌∙◌}
-use Rattle.ssa_model.specs.PathMap.{has, paths, set_of}
+use Rattle.ssa_model.specs.definitions.PathMap.{has, paths, set_of}
 use Rattle.ssa_typed.proofs.LackingPaths.{lacking-listed}
 use Rattle.ssa_typed.proofs.body.Body.lacking.Goals as goal
 

@@ -1,5 +1,5 @@
 use Rattle.std.proofs.Common.{◌∙◌, sym, subst₂}
-use Rattle.ssa_model.specs.Body.{over}
+use Rattle.ssa_model.specs.definitions.Body.{over}
 use Rattle.ssa_typed.specs.Alike.{AreAlike}
 use Rattle.ssa_typed.proofs.OverNodes.{over-body, alike-bodies}
 use Rattle.ssa_typed.proofs.body.Body.over.Goals as goal

@@ -1,5 +1,5 @@
 use Rattle.std.proofs.Common.{ap, ◌∙◌}
-use Rattle.ssa_model.specs.Body.{points}
+use Rattle.ssa_model.specs.definitions.Body.{points}
 use Rattle.ssa_typed.proofs.Collecting.{points-listed}
 use Rattle.ssa_typed.proofs.body.Body.points.Goals as goal
 

@@ -1,7 +1,7 @@
 use Rattle.std.proofs.Common.{◌||◌, ◌∙◌}
-use Rattle.ssa_model.specs.Body.{restricted}
-use Rattle.ssa_model.specs.Path.{is_root}
-use Rattle.ssa_model.specs.PathMap.{has_at_or_below}
+use Rattle.ssa_model.specs.definitions.Body.{restricted}
+use Rattle.ssa_model.specs.definitions.Path.{is_root}
+use Rattle.ssa_model.specs.definitions.PathMap.{has_at_or_below}
 use Rattle.ssa_typed.proofs.Restricting.{restricted-body}
 use Rattle.ssa_typed.proofs.body.Body.restricted_to.Goals as goal
 

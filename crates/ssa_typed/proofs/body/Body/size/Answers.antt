@@ -1,5 +1,5 @@
 use Rattle.std.proofs.Common.{◌-◌, ◌^◌, min, ap, sym, ◌∙◌}
-use Rattle.ssa_model.specs.PathMap.{size}
+use Rattle.ssa_model.specs.definitions.PathMap.{size}
 use Rattle.ssa_typed.proofs.Sizes.{size-body}
 use Rattle.ssa_typed.proofs.body.Body.size.Goals as goal
 

@@ -1,5 +1,5 @@
 use Rattle.std.proofs.Common.{[], ◌∷◌, ap, ◌∙◌}
-use Rattle.ssa_model.specs.PathMap.{from_entries}
+use Rattle.ssa_model.specs.definitions.PathMap.{from_entries}
 use Rattle.ssa_typed.specs.Rows.{body_of, rows_below}
 use Rattle.ssa_typed.proofs.Levels.{own-Branch, level-Branch}
 use Rattle.ssa_typed.proofs.body.Body.take_root.Goals as goal

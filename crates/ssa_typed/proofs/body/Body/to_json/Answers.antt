@@ -1,10 +1,10 @@
 use Rattle.std.proofs.Common.{[], ap, sym, subst, ◌&&◌, ◌∙◌}
 use Rattle.std.specs.Cmp.{first_so, second_so}
-use Rattle.ssa_model.specs.Body.{flat}
-use Rattle.ssa_model.specs.Fitting.{IsBodyOf}
-use Rattle.ssa_model.specs.Kind.{faults}
-use Rattle.ssa_model.specs.Lawful.{has_metadata, is_ordered, is_root_kind}
-use Rattle.ssa_model.specs.Objects.{shown}
+use Rattle.ssa_model.specs.definitions.Body.{flat}
+use Rattle.ssa_model.specs.definitions.Fitting.{IsBodyOf}
+use Rattle.ssa_model.specs.definitions.Kind.{faults}
+use Rattle.ssa_model.specs.definitions.Lawful.{has_metadata, is_ordered, is_root_kind}
+use Rattle.ssa_model.specs.definitions.Objects.{shown}
 use Rattle.ssa_model.proofs.FlatOfShown.{flat_of_shown}
 use Rattle.ssa_model.proofs.ShownFits.{shown_fits}
 use Rattle.ssa_typed.proofs.Showing.{body-shown}

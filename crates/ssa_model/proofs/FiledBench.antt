@@ -1,0 +1,99 @@
+-- The sample's bench file is one: what is asked of a bench file is met.
+use Rattle.std.proofs.Common.{◌≡◌, ◌≤◌, ℕ, List, [], ◌∷◌, ◌++◌, length, true, false, not, refl, ap, ◌∙◌, arith, nat_lt, nat_le}
+use Rattle.std.proofs.lemmas.Bool.Decides.{nat_tests}
+use Rattle.std.proofs.lemmas.List.Elements.{All-nil, All-cons}
+use Rattle.std.specs.List.{All, list_any}
+use Rattle.std.specs.Prelude.{if◌then◌else◌, codes, Ok, Err}
+use Rattle.ssa_model.specs.definitions.Limits.{most_places, most_managers, most_bench_bytes}
+use Rattle.ssa_model.specs.definitions.Json.{Text, Json, object, no_members, compact, same_text}
+use Rattle.ssa_model.specs.definitions.PathMap.{size}
+use Rattle.ssa_model.specs.definitions.Body.{Body, modified}
+use Rattle.ssa_model.specs.definitions.Table.{ManagerKey}
+use Rattle.ssa_model.specs.definitions.Objects.{body_value}
+use Rattle.ssa_model.specs.definitions.Operations.{State, clashes, conflict, too_many_paths, too_many_managers, is_none, if_seated, apply_target, apply}
+use Rattle.ssa_model.specs.definitions.BenchText.{head_json, first_json, step_json, bench_values, bench_text}
+use Rattle.ssa_model.specs.definitions.Valid.{IsValidState, MakesValid}
+use Rattle.ssa_model.specs.definitions.BenchFile.{IsSpelled, IsStep, IsValidBench}
+use Rattle.ssa_model.specs.examples.Sample.{sample_kind}
+use Rattle.ssa_model.specs.examples.Rows.{new_bench, with_replicas}
+use Rattle.ssa_model.specs.examples.FileRows.{value_among, readings_of, m1_applies, three_replicas, applied_step, filed, BenchFileIsMet}
+use Rattle.ssa_model.proofs.FlatFits.{flat_fits}
+use Rattle.ssa_model.proofs.FlatRooted.{flat_is_rooted}
+use Rattle.ssa_model.proofs.Tables.{text-itself, first_false, second_false, strip_keeps}
+use Rattle.ssa_model.proofs.ValidStates.{apply_keeps_valid}
+
+le-of : (a b : ℕ) → nat_le a b ≡ true → a ≤ b
+le-of a b h = grind (arith, nat_tests)
+
+-- ---- an apply that passes its tests leads to its target
+
+applied-is : (state : State) (a : ManagerKey) (config : Body) (at : Text)
+    → is_none (clashes a (modified state.body (apply_target state a config at).body) state.table) ≡ true
+    → nat_lt most_places (size (apply_target state a config at).body) ≡ false
+    → nat_lt most_managers (length (apply_target state a config at).table) ≡ false
+    → apply state a config false at ≡ Ok (apply_target state a config at)
+applied-is state a config at alone few seated =
+    let next = apply_target state a config at in
+    let clash = clashes a (modified state.body next.body) state.table in
+    ap (λ t. if not t then Err (conflict clash) else (if nat_lt most_places (size next.body) then Err too_many_paths else if_seated next)) alone
+    ∙ ap (λ t. if t then Err too_many_paths else if_seated next) few
+    ∙ ap (λ t. if t then Err too_many_managers else Ok next) seated
+
+first-valid : IsValidState sample_kind new_bench.timeline.first
+first-valid = record {
+  fits = flat_fits sample_kind (object no_members) refl refl refl;
+  rooted = flat_is_rooted sample_kind (object no_members) refl refl refl;
+  few = le-of _ most_places refl;
+  table = strip_keeps new_bench.timeline.first;
+}
+
+applied-valid : IsValidState sample_kind applied_step.state
+applied-valid =
+    let at = codes "2024-05-01T10:00:01Z" in
+    let value = body_value (with_replicas 3) in
+    apply_keeps_valid sample_kind new_bench.timeline.first applied_step.state m1_applies three_replicas false at first-valid
+    (flat_fits sample_kind value refl refl refl) (flat_is_rooted sample_kind value refl refl refl) refl
+    (applied-is new_bench.timeline.first m1_applies three_replicas at refl refl refl)
+
+-- ---- the readings
+
+spelled-in : (before : List Json) (v : Json) (behind : List Json)
+    → list_any (λ w. same_text (compact w) (compact v)) before ≡ false → value_among (before ++ v ∷ behind) (compact v) ≡ Ok v
+spelled-in [] v behind h = ap (λ t. if t then Ok v else value_among behind (compact v)) (text-itself (compact v))
+spelled-in (w ∷ ws) v behind h =
+    ap (λ t. if t then Ok w else value_among (ws ++ v ∷ behind) (compact v)) (first_false (same_text (compact w) (compact v)) _ h)
+    ∙ spelled-in ws v behind (second_false (same_text (compact w) (compact v)) _ h)
+
+values-spelled : All (IsSpelled (readings_of (bench_values filed))) (bench_values filed)
+values-spelled =
+    let readings = readings_of (bench_values filed) in
+    let head = head_json filed.timeline in
+    let source = filed.schema.source in
+    let first = first_json filed in
+    let last = step_json filed applied_step in
+    All-cons (IsSpelled readings) head (source ∷ first ∷ last ∷ []) (spelled-in [] head (source ∷ first ∷ last ∷ []) refl)
+    (All-cons (IsSpelled readings) source (first ∷ last ∷ []) (spelled-in (head ∷ []) source (first ∷ last ∷ []) refl)
+    (All-cons (IsSpelled readings) first (last ∷ []) (spelled-in (head ∷ source ∷ []) first (last ∷ []) refl)
+    (All-cons (IsSpelled readings) last [] (spelled-in (head ∷ source ∷ first ∷ []) last [] refl) (All-nil (IsSpelled readings)))))
+
+-- ---- the bench and its file
+
+step-is : IsStep (readings_of (bench_values filed)) applied_step
+step-is = record { label = (refl, refl); table = (record { no_fault = refl; says = refl; moment = refl }, tt) }
+
+filed-valid : IsValidBench (readings_of (bench_values filed)) filed
+filed-valid = record {
+  read = refl;
+  accepted = record { lawful = refl; apart = refl };
+  named = refl;
+  states = record { first = first-valid; later = All-cons (MakesValid sample_kind) applied_step [] applied-valid (All-nil (MakesValid sample_kind)) };
+  first = tt;
+  steps = All-cons (IsStep (readings_of (bench_values filed))) applied_step [] step-is (All-nil (IsStep (readings_of (bench_values filed))));
+  order = (refl, tt);
+  place = omega arith;
+  few = omega arith;
+}
+
+-- the bench file
+pub bench_file_is_met : BenchFileIsMet
+bench_file_is_met = record { valid = filed-valid; text = refl; fits = le-of (length (bench_text filed)) most_bench_bytes refl; spelled = values-spelled }

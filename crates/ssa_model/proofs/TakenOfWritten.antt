@@ -1,0 +1,180 @@
+-- From the values that are written of a valid bench the bench is taken, and from its file.
+use Rattle.std.proofs.Common.{◌≡◌, ◌≤◌, ℕ, ◌+◌, length, List, [], ◌∷◌, map, true, Option, Some, None, option_map, option_and_then, refl, sym, ap, ◌∙◌, subst, arith}
+use Rattle.std.proofs.lemmas.Bool.{and_from}
+use Rattle.std.proofs.lemmas.Bool.Decides.{nat_tests}
+use Rattle.std.proofs.lemmas.List.Elements.{All-head, All-tail}
+use Rattle.std.specs.Cmp.Lexicographic.{pointwise}
+use Rattle.std.specs.List.{All}
+use Rattle.std.specs.Prelude.{if◌then◌else◌, ◌==◌, nat_le, Result, Ok, Err}
+use Rattle.ssa_model.specs.definitions.Limits.{most_past, most_bench_bytes}
+use Rattle.ssa_model.specs.definitions.Json.{Text, Json, compact}
+use Rattle.ssa_model.specs.definitions.Readings.{Readings}
+use Rattle.ssa_model.specs.definitions.Schema.{Schema, SchemaFault, read_schema}
+use Rattle.ssa_model.specs.definitions.Kind.{Kind}
+use Rattle.ssa_model.specs.definitions.Operations.{State}
+use Rattle.ssa_model.specs.definitions.Replies.{label_json}
+use Rattle.ssa_model.specs.definitions.Table.{ManagerKey, Table, same_manager}
+use Rattle.ssa_model.specs.definitions.History.{Label, applied, updated, stripped, Step, Bench, is_manager_name}
+use Rattle.ssa_model.specs.definitions.Answers.{Fault, lone_bench, file_state, bench_of}
+use Rattle.ssa_model.specs.definitions.BenchText.{head_of, whole_object, first_json, step_json, bench_values, bench_text}
+use Rattle.ssa_model.specs.definitions.Valid.{AllEntries, IsValidState, shared_managers, KeepsOrder, KeepsOrders}
+use Rattle.ssa_model.specs.definitions.BenchFile.{IsReadBack, IsLabel, IsStep, IsSpelled, IsValidBench}
+use Rattle.ssa_model.specs.laws.BenchFiles.{text_lines, spelled_values, given_if, is_written_as, Head, head_in, schema_in, lone_in, said_label, is_label, label_in, keeps_order, step_with, step_in, steps_in, with_steps, values_bench, bench_in, BenchFilesAreTaken}
+use Rattle.ssa_model.proofs.LoneBenches.{lone-parts}
+use Rattle.ssa_model.proofs.ShownStates.{shown_state_is_taken}
+use Rattle.ssa_model.proofs.SpelledValues.{text_lines-of, spelled_values-of}
+use Rattle.ssa_model.proofs.Tables.{manager-itself, text-itself}
+
+-- a value is written as it is written
+written-itself : (v : Json) → is_written_as v v ≡ true
+written-itself v = text-itself (compact v)
+
+-- ---- the head and the schema
+
+head-back : (place states : ℕ) → head_in (head_of place states) ≡ Some (record { place = place; states = states })
+head-back place states = ap (λ b. given_if {X = Head} b (record { place = place; states = states })) (written-itself (head_of place states))
+
+schema-back : (schema : Schema) → read_schema schema.source ≡ Ok schema.kind → schema_in schema.source ≡ Some schema
+schema-back schema h = ap (λ (r : Result Kind SchemaFault). elim r [ Ok kind ↦ Some (record { source = schema.source; kind = kind }) | Err f ↦ None ]) h
+
+-- ---- the states
+
+lone-by : (v : Json) (r : Result Bench Fault) (lone : Bench)
+    → r ≡ Ok lone → first_json lone ≡ v → elim r [ Ok bench ↦ given_if (is_written_as (first_json bench) v) bench | Err f ↦ None ] ≡ Some lone
+lone-by v r lone is same =
+    ap (λ (r : Result Bench Fault). elim r [ Ok bench ↦ given_if (is_written_as (first_json bench) v) bench | Err f ↦ None ]) is
+    ∙ ap (λ b. given_if b lone) (ap (is_written_as (first_json lone)) (sym same) ∙ written-itself (first_json lone))
+
+-- ---- labels and the order of managers
+
+is_label-of : (readings : Readings) (label : Label) → IsLabel readings label → is_label readings label ≡ true
+is_label-of readings (applied who force at) h = and_from (is_manager_name who) (readings.moment at) h.0 h.1
+is_label-of readings (updated who at) h = and_from (is_manager_name who) (readings.moment at) h.0 h.1
+is_label-of readings stripped h = refl
+
+said-back : (label : Label) → said_label (label_json label) ≡ label
+said-back (applied who force at) = refl
+said-back (updated who at) = refl
+said-back stripped = refl
+
+label-back : (readings : Readings) (label : Label) → IsLabel readings label → label_in readings (label_json label) ≡ Some label
+label-back readings label h =
+    ap (λ l. given_if (is_label readings l) l) (said-back label) ∙ ap (λ b. given_if b label) (is_label-of readings label h)
+
+pointwise-itself : (ms : List ManagerKey) → pointwise same_manager ms ms ≡ true
+pointwise-itself [] = refl
+pointwise-itself (m ∷ ms) = and_from (same_manager m m) (pointwise same_manager ms ms) (manager-itself m) (pointwise-itself ms)
+
+keeps_order-of : (before after : Table) → KeepsOrder before after → keeps_order before after ≡ true
+keeps_order-of before after h = ap (pointwise same_manager (shared_managers before after)) (sym h) ∙ pointwise-itself (shared_managers before after)
+
+-- ---- the later states
+
+module _ (readings : Readings) (bench : Bench) where
+  -- a state whose object is taken as the state
+  abbrev IsTaken : State → Type 0
+  IsTaken state = file_state readings bench.schema.kind (whole_object bench state) ≡ Ok state
+
+  abbrev made_of : State → Json → Result State Fault → Label → Option Step
+  made_of before v r label = elim r [ Ok state ↦ step_with bench before v label state | Err f ↦ None ]
+
+  step-back : (before : State) (s : Step)
+      → IsTaken s.state → IsLabel readings s.label → KeepsOrder before.table s.state.table → step_in readings bench before (step_json bench s) ≡ Some s
+  step-back before s taken label kept =
+      let v = step_json bench s in
+      ap (option_and_then (made_of before v (file_state readings bench.schema.kind (whole_object bench s.state)))) (label-back readings s.label label)
+      ∙ ap (λ r. made_of before v r s.label) taken
+      ∙ ap (λ b. given_if b s)
+      (and_from (is_written_as v v) (keeps_order before.table s.state.table) (written-itself v) (keeps_order-of before.table s.state.table kept))
+
+  steps-back : (before : State) (ss : List Step)
+      → All (λ s. IsTaken s.state) ss → All (IsStep readings) ss → KeepsOrders before ss → steps_in readings bench before (map (step_json bench) ss) ≡ Some ss
+  steps-back before [] taken steps kept = refl
+  steps-back before (s ∷ ss) taken steps kept =
+      let here = All-head (IsStep readings) s ss steps in
+      let rest = steps-back s.state ss (All-tail (λ t. IsTaken t.state) s ss taken) (All-tail (IsStep readings) s ss steps) kept.1 in
+      ap (option_and_then (λ t. option_map (λ ts. t ∷ ts) (steps_in readings bench t.state (map (step_json bench) ss))))
+      (step-back before s (All-head (λ t. IsTaken t.state) s ss taken) here.label kept.0)
+      ∙ ap (option_map (λ ts. s ∷ ts)) rest
+
+-- ---- the bench
+
+nat_le-of : (a b : ℕ) → a ≤ b → nat_le a b ≡ true
+nat_le-of a b h = grind (arith, nat_tests)
+
+nat-itself : (a : ℕ) → (a == a) ≡ true
+nat-itself a = grind (arith, nat_tests)
+
+module _ (readings : Readings) (bench : Bench) (valid : IsValidBench readings bench) where
+  abbrev alone : State → Bench
+  alone state = lone_bench bench.schema bench.identity state
+
+  shown-back : (state : State) → IsValidState bench.schema.kind state → AllEntries (IsReadBack readings) state.table
+      → bench_of readings bench.schema (whole_object bench state) ≡ Ok (alone state)
+  shown-back state fits back = shown_state_is_taken readings bench.schema bench.identity state valid.named valid.accepted fits back
+
+  state-back : (state : State) → IsValidState bench.schema.kind state → AllEntries (IsReadBack readings) state.table → IsTaken readings bench state
+  state-back state fits back = (lone-parts readings bench.schema (whole_object bench state) (alone state) (shown-back state fits back)).state_is
+
+  abbrev lone : Bench
+  lone = alone bench.timeline.first
+
+  lone-back : lone_in readings bench.schema (first_json bench) ≡ Some lone
+  lone-back =
+      lone-by (first_json bench) (bench_of readings bench.schema (whole_object bench bench.timeline.first)) lone
+      (shown-back bench.timeline.first valid.states.first valid.first) refl
+
+  later-back : steps_in readings lone bench.timeline.first (map (step_json bench) bench.timeline.later) ≡ Some bench.timeline.later
+  later-back =
+      steps-back readings lone bench.timeline.first bench.timeline.later
+      (λ k d h. state-back _ (valid.states.later k d h) (valid.steps k d h).table) valid.steps valid.order
+
+  abbrev written_head : Head
+  written_head = record { place = bench.timeline.place; states = length bench.timeline.later + 1 }
+
+  steps-are : with_steps written_head lone bench.timeline.later ≡ Some bench
+  steps-are =
+      let count = length bench.timeline.later in
+      ap (λ b. given_if b bench)
+      (and_from (count + 1 == count + 1) _ (nat-itself (count + 1))
+      (and_from (nat_le bench.timeline.place count) (nat_le count most_past)
+      (nat_le-of bench.timeline.place count valid.place) (nat_le-of count most_past valid.few)))
+
+  abbrev of_lone : Bench → Option Bench
+  of_lone l = option_and_then (with_steps written_head l) (steps_in readings l l.timeline.first (map (step_json bench) bench.timeline.later))
+
+  abbrev of_schema : Schema → Option Bench
+  of_schema schema = option_and_then of_lone (lone_in readings schema (first_json bench))
+
+  -- from the values that are written of the bench it is taken
+  pub values-back : values_bench readings (bench_values bench) ≡ Some bench
+  values-back =
+      ap (option_and_then of_head) (head-back bench.timeline.place (length bench.timeline.later + 1))
+      ∙ ap (option_and_then of_schema) (schema-back bench.schema valid.read)
+      ∙ ap (option_and_then of_lone) lone-back
+      ∙ ap (option_and_then (with_steps written_head lone)) later-back
+      ∙ steps-are
+    where
+      of_head : Head → Option Bench
+      of_head h =
+          option_and_then
+          (λ schema. option_and_then
+          (λ l. option_and_then (with_steps h l) (steps_in readings l l.timeline.first (map (step_json bench) bench.timeline.later)))
+          (lone_in readings schema (first_json bench)))
+          (schema_in bench.schema.source)
+
+  text-back : length (bench_text bench) ≤ most_bench_bytes → All (IsSpelled readings) (bench_values bench) → bench_in readings (bench_text bench) ≡ Some bench
+  text-back h spelled =
+      ap (λ b. if b then of_lines (text_lines (bench_text bench)) else None) (nat_le-of (length (bench_text bench)) most_bench_bytes h)
+      ∙ ap of_lines (text_lines-of (bench_values bench))
+      ∙ ap (option_and_then (values_bench readings)) (spelled_values-of readings (bench_values bench) spelled)
+      ∙ values-back
+    where
+      of_lines : Option (List Text) → Option Bench
+      of_lines o = option_and_then (values_bench readings) (option_and_then (spelled_values readings) o)
+
+-- the law
+pub bench_file_is_taken : BenchFilesAreTaken
+bench_file_is_taken readings t bench file =
+    ap (bench_in readings) file.text
+    ∙ text-back readings bench file.valid (subst (λ x. length x ≤ most_bench_bytes) file.text file.fits) file.spelled

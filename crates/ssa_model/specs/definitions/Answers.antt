@@ -1,0 +1,181 @@
+-- The answer to a command, and a run of commands.
+use Rattle.std.specs.Prelude.{ℕ, ◌+◌, ◌-◌, List, [], ◌∷◌, Bool, not, ◌&&◌, ◌==◌, length, Some, None, Result, Ok, Err, if◌then◌else◌, nat_lt, nat_le, codes, map, filter, take, drop}
+use Rattle.ssa_model.specs.definitions.Json.{Text, Json, scalar, list, object}
+use Rattle.ssa_model.specs.definitions.Limits.{most_places, most_past}
+use Rattle.ssa_model.specs.definitions.Schema.{Schema}
+use Rattle.ssa_model.specs.definitions.Path.{Path}
+use Rattle.ssa_model.specs.definitions.PathMap.{PathSet, has, size}
+use Rattle.ssa_model.specs.definitions.Kind.{Kind, BodyFault, wrong_type, faults}
+use Rattle.ssa_model.specs.definitions.Body.{Body, flat, added, modified, removed}
+use Rattle.ssa_model.specs.definitions.Table.{applies, updates, ManagerKey, Table}
+use Rattle.ssa_model.specs.definitions.Operations as operations
+use Rattle.ssa_model.specs.definitions.Operations.{State, Refusal, too_many_paths}
+use Rattle.ssa_model.specs.definitions.Objects.{Identity, value_at, identity_of, is_missing, is_some_object, is_identity, same_identity, body_value, file_value}
+use Rattle.ssa_model.specs.definitions.Readings.{Readings}
+use Rattle.ssa_model.specs.definitions.Commands.{text_in}
+use Rattle.ssa_model.specs.definitions.Entries.{object_of_state}
+use Rattle.ssa_model.specs.definitions.GivenEntries.{EntryFault, table_of}
+use Rattle.ssa_model.specs.definitions.History.{Label, applied, updated, stripped, Timeline, Bench, present, past_len, future_len, appended, moved_to, with_timeline, is_manager_name}
+
+pub data Fault : Type 0 where
+  body_fault : BodyFault → Path → Fault
+  identity_fault : Fault
+  managed_fields_given : Fault
+  entry_fault : EntryFault → Fault
+  manager_name : Fault
+  history_full : Fault
+  nothing_to_undo : Fault
+  nothing_to_redo : Fault
+  refused : Refusal → Fault
+
+-- ---- objects of commands
+
+-- the identity of a command's object is the bench's
+abbrev pub has_identity : Bench → Json → Bool
+has_identity bench v =
+    is_some_object (value_at (codes "metadata" ∷ []) v) && (is_identity (identity_of v) && same_identity (identity_of v) bench.identity)
+
+abbrev pub gives_managed_fields : Json → Bool
+gives_managed_fields v = not (is_missing (value_at (codes "metadata" ∷ codes "managedFields" ∷ []) v))
+
+-- the body of a value that has no faults
+abbrev pub body_or_fault : Kind → Json → Result Body Fault
+body_or_fault kind value =
+    elim (faults kind value []) [
+      | [] ↦ if nat_lt most_places (size (flat kind value)) then Err (refused too_many_paths) else Ok (flat kind value)
+      | f ∷ fs ↦ Err (body_fault f.fault f.path)
+    ]
+
+-- the body of a command's object, or its first fault
+abbrev pub command_body : Bench → Json → Result Body Fault
+command_body bench (object ms) =
+    if not (has_identity bench (object ms)) then Err identity_fault
+    else (if gives_managed_fields (object ms) then Err managed_fields_given
+    else body_or_fault bench.schema.kind (body_value (object ms)))
+command_body bench (list vs) = Err (body_fault wrong_type [])
+command_body bench (scalar s) = Err (body_fault wrong_type [])
+
+-- ---- a new bench
+
+abbrev pub lone_state : State → Timeline
+lone_state state = record { first = state; later = []; place = 0 }
+
+-- the bench of one state
+abbrev pub lone_bench : Schema → Identity → State → Bench
+lone_bench schema identity state = record { schema = schema; identity = identity; timeline = lone_state state }
+
+-- an object file says what the object is called
+abbrev pub names_itself : Json → Bool
+names_itself v = is_some_object (value_at (codes "metadata" ∷ []) v) && is_identity (identity_of v)
+
+abbrev pub with_lone_state : Schema → Identity → Result State Fault → Result Bench Fault
+with_lone_state schema identity (Ok state) = Ok (lone_bench schema identity state)
+with_lone_state schema identity (Err f) = Err f
+
+abbrev pub with_table : Body → Result Table EntryFault → Result State Fault
+with_table body (Ok table) = Ok (record { body = body; table = table })
+with_table body (Err f) = Err (entry_fault f)
+
+module _ (readings : Readings) where
+  -- the table of an object file with this body; no entries are an empty table
+  abbrev pub given_table : Body → Json → Result Table EntryFault
+  given_table body v =
+      elim (value_at (codes "metadata" ∷ codes "managedFields" ∷ []) v) [
+        | None ↦ Ok []
+        | Some entries ↦ table_of readings body (text_in (value_at (codes "apiVersion" ∷ []) v)) entries
+      ]
+
+  -- the state of an object file, or its first fault: the body's come before the entries'
+  abbrev pub file_state : Kind → Json → Result State Fault
+  file_state kind v = elim (body_or_fault kind (file_value v)) [ Ok body ↦ with_table body (given_table body v) | Err f ↦ Err f ]
+
+  -- the bench of an object file, or the file's first fault
+  abbrev pub bench_of : Schema → Json → Result Bench Fault
+  bench_of schema (object ms) =
+      if not (names_itself (object ms)) then Err identity_fault
+      else with_lone_state schema (identity_of (object ms)) (file_state schema.kind (object ms))
+  bench_of schema (list vs) = Err (body_fault wrong_type [])
+  bench_of schema (scalar s) = Err (body_fault wrong_type [])
+
+-- ---- commands on a bench
+
+-- A command whose moment is one, and whose path is read.
+pub data Command : Type 0 where
+  apply : Text → Bool → Text → Json → Command
+  update : Text → Text → Json → Command
+  strip : Command
+  undo : Command
+  redo : Command
+  -- with the managers' entries
+  show : Bool → Command
+  owners : Path → Command
+  log : Command
+
+pub record Changed : Type 0 where
+  pub added : PathSet
+  pub modified : PathSet
+  pub removed : PathSet
+  pub managers : ℕ
+
+pub data Reply : Type 0 where
+  -- the command's word, and what it changed
+  changed : Text → Changed → Reply
+  -- the command's word, and the counts of past and future after the move
+  moved : Text → ℕ → ℕ → Reply
+  shown : Json → Reply
+  owned_by : List ManagerKey → Reply
+  -- past, oldest first, and future, next to be redone first
+  logged : List Label → List Label → Reply
+  fault : Fault → Reply
+
+-- the reply, and the next bench
+abbrev pub Answer : Type 0
+Answer = Reply × Bench
+
+abbrev pub comparison : State → State → Changed
+comparison v w = record { added = added v.body w.body; modified = modified v.body w.body; removed = removed v.body w.body; managers = length w.table }
+
+abbrev pub accept : Bench → Text → Label → State → Answer
+accept bench word label s = (changed word (comparison (present bench.timeline) s), with_timeline bench (appended bench.timeline label s))
+
+abbrev pub accept_or_refuse : Bench → Text → Label → Result State Refusal → Answer
+accept_or_refuse bench word label (Ok s) = accept bench word label s
+accept_or_refuse bench word label (Err r) = (fault (refused r), bench)
+
+-- with the body of the object, or refused before it
+abbrev pub with_body : Bench → Text → Json → (Body → Answer) → Answer
+with_body bench who v go =
+    if nat_le most_past (past_len bench.timeline) then (fault history_full, bench)
+    else (if not (is_manager_name who) then (fault manager_name, bench)
+    else (elim (command_body bench v) [ Ok body ↦ go body | Err f ↦ (fault f, bench) ]))
+
+abbrev pub owners_of : Table → Path → List ManagerKey
+owners_of table p = map (λ e. e.manager) (filter (λ e. has e.owned p) table)
+
+abbrev pub labels_of : Bench → List Label
+labels_of bench = map (λ s. s.label) bench.timeline.later
+
+abbrev pub apply_answer : Bench → Text → Bool → Text → Body → Answer
+apply_answer bench who force at config =
+    accept_or_refuse bench (codes "apply") (applied who force at) (operations.apply (present bench.timeline) (record { name = who; operation = applies }) config force at)
+
+abbrev pub answer : Bench → Command → Answer
+answer bench (apply who force at v) = with_body bench who v (apply_answer bench who force at)
+answer bench (update who at v) =
+    with_body bench who v (λ body. accept_or_refuse bench (codes "update") (updated who at) (operations.update (present bench.timeline) (record { name = who; operation = updates }) body at))
+answer bench strip =
+    if nat_le most_past (past_len bench.timeline) then (fault history_full, bench)
+    else accept bench (codes "strip") stripped (operations.strip (present bench.timeline))
+answer bench undo =
+    if past_len bench.timeline == 0 then (fault nothing_to_undo, bench)
+    else (moved (codes "undo") (past_len bench.timeline - 1) (future_len bench.timeline + 1), with_timeline bench (moved_to bench.timeline (bench.timeline.place - 1)))
+answer bench redo =
+    if future_len bench.timeline == 0 then (fault nothing_to_redo, bench)
+    else (moved (codes "redo") (past_len bench.timeline + 1) (future_len bench.timeline - 1), with_timeline bench (moved_to bench.timeline (bench.timeline.place + 1)))
+answer bench (show managed) = (shown (object_of_state bench.identity bench.schema.kind managed (present bench.timeline)), bench)
+answer bench (owners p) = (owned_by (owners_of (present bench.timeline).table p), bench)
+answer bench log = (logged (take bench.timeline.place (labels_of bench)) (drop bench.timeline.place (labels_of bench)), bench)
+
+abbrev pub run : Bench → List Command → List Reply × Bench
+run bench [] = ([], bench)
+run bench (c ∷ cs) = let first = answer bench c in let rest = run first.1 cs in (first.0 ∷ rest.0, rest.1)

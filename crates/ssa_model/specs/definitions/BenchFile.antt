@@ -1,0 +1,56 @@
+-- Valid benches, and which texts are bench files.
+use Rattle.std.specs.Prelude.{◌≡◌, ◌≤◌, [], true, length, Ok}
+use Rattle.std.specs.List.{All}
+use Rattle.ssa_model.specs.definitions.Limits.{most_past, most_bench_bytes}
+use Rattle.ssa_model.specs.definitions.Json.{Text, Json, compact}
+use Rattle.ssa_model.specs.definitions.Readings.{Readings}
+use Rattle.ssa_model.specs.definitions.FieldsV1.{fields_json, fields_faults, said_set}
+use Rattle.ssa_model.specs.definitions.Schema.{read_schema}
+use Rattle.ssa_model.specs.definitions.Objects.{is_identity}
+use Rattle.ssa_model.specs.definitions.Lawful.{IsSchemaKind}
+use Rattle.ssa_model.specs.definitions.Table.{Entry}
+use Rattle.ssa_model.specs.definitions.History.{Label, applied, updated, stripped, Step, Bench, is_manager_name}
+use Rattle.ssa_model.specs.definitions.BenchText.{bench_values, bench_text}
+use Rattle.ssa_model.specs.definitions.Valid.{AllEntries, KeepsOrders, AllValid}
+
+-- the entry's set is read from its writing, and its moment is one
+pub record IsReadBack (readings : Readings) (e : Entry) : Type 0 where
+  pub no_fault : fields_faults readings.value (fields_json e.owned) ≡ []
+  pub says : said_set readings.value (fields_json e.owned) ≡ e.owned
+  pub moment : readings.moment e.moment ≡ true
+
+-- ---- valid benches
+
+abbrev pub IsLabel : Readings → Label → Type 0
+IsLabel readings (applied who force at) = (is_manager_name who ≡ true) × (readings.moment at ≡ true)
+IsLabel readings (updated who at) = (is_manager_name who ≡ true) × (readings.moment at ≡ true)
+IsLabel readings stripped = Unit {0}
+
+-- what a later state of a bench is, beside being valid
+pub record IsStep (readings : Readings) (s : Step) : Type 0 where
+  pub label : IsLabel readings s.label
+  pub table : AllEntries (IsReadBack readings) s.state.table
+
+-- the value is the one that is read from its text
+abbrev pub IsSpelled : Readings → Json → Type 0
+IsSpelled readings v = readings.value (compact v) ≡ Ok v
+
+pub record IsValidBench (readings : Readings) (bench : Bench) : Type 0 where
+  pub read : read_schema bench.schema.source ≡ Ok bench.schema.kind
+  pub accepted : IsSchemaKind bench.schema.kind
+  pub named : is_identity bench.identity ≡ true
+  pub states : AllValid bench.schema.kind bench.timeline
+  pub first : AllEntries (IsReadBack readings) bench.timeline.first.table
+  pub steps : All (IsStep readings) bench.timeline.later
+  pub order : KeepsOrders bench.timeline.first bench.timeline.later
+  pub place : bench.timeline.place ≤ length bench.timeline.later
+  pub few : length bench.timeline.later ≤ most_past
+
+-- ---- bench files
+
+-- The text is that of the bench, which is valid, and each line's value is the one that is read from it.
+pub record IsBenchFile (readings : Readings) (contents : Text) (bench : Bench) : Type 0 where
+  pub valid : IsValidBench readings bench
+  pub text : contents ≡ bench_text bench
+  pub fits : length contents ≤ most_bench_bytes
+  pub spelled : All (IsSpelled readings) (bench_values bench)

@@ -1,0 +1,106 @@
+-- The commands in effect: each state after the first is its command carried out on the state before it.
+use Rattle.std.specs.Prelude.{◌≡◌, ◌≤◌, List, [], ◌∷◌, Bool, true, false, if◌then◌else◌, length, take, Result, Ok, Err, ◌++◌, Option, Some, None, option_map}
+use Rattle.ssa_model.specs.definitions.Json.{Text}
+use Rattle.ssa_model.specs.definitions.Body.{Body}
+use Rattle.ssa_model.specs.definitions.Table.{applies, updates}
+use Rattle.ssa_model.specs.definitions.Operations as operations
+use Rattle.ssa_model.specs.definitions.Operations.{State, Refusal}
+use Rattle.ssa_model.specs.definitions.History.{Label, applied, updated, stripped, Step, Timeline, Bench, present}
+use Rattle.ssa_model.specs.definitions.Answers.{Command, apply, update, strip, undo, redo, show, owners, log, Fault, command_body, Reply, changed, moved, shown, owned_by, logged, fault, Answer, answer, run}
+
+-- an accepted command, with the body of its object
+pub data Deed : Type 0 where
+  applying : Text → Bool → Text → Body → Deed
+  updating : Text → Text → Body → Deed
+  stripping : Deed
+
+abbrev pub label_of : Deed → Label
+label_of (applying who force at config) = applied who force at
+label_of (updating who at object) = updated who at
+label_of stripping = stripped
+
+abbrev pub body_in : Result Body Fault → Option Body
+body_in (Ok body) = Some body
+body_in (Err f) = None
+
+-- what a command does where it is accepted: with the body of its object
+abbrev pub deed_of : Bench → Command → Option Deed
+deed_of bench (apply who force at v) = option_map (applying who force at) (body_in (command_body bench v))
+deed_of bench (update who at v) = option_map (updating who at) (body_in (command_body bench v))
+deed_of bench strip = Some stripping
+deed_of bench undo = None
+deed_of bench redo = None
+deed_of bench (show managed) = None
+deed_of bench (owners p) = None
+deed_of bench log = None
+
+-- the state that a command makes of a state
+abbrev pub carried_out : State → Deed → Result State Refusal
+carried_out s (applying who force at config) =
+    operations.apply s (record { name = who; operation = applies }) config force at
+carried_out s (updating who at object) = operations.update s (record { name = who; operation = updates }) object at
+carried_out s stripping = Ok (operations.strip s)
+
+abbrev pub and_then : Result State Refusal → (State → Result State Refusal) → Result State Refusal
+and_then (Ok s) go = go s
+and_then (Err r) go = Err r
+
+-- one after the other
+abbrev pub all_carried_out : State → List Deed → Result State Refusal
+all_carried_out s [] = Ok s
+all_carried_out s (d ∷ ds) = and_then (carried_out s d) (λ t. all_carried_out t ds)
+
+-- each step is its deed, carried out on the state before it
+abbrev pub AreSteps : State → List Deed → List Step → Type 0
+AreSteps s [] [] = Unit {0}
+AreSteps s [] (t ∷ ts) = ⊥
+AreSteps s (d ∷ ds) [] = ⊥
+AreSteps s (d ∷ ds) (t ∷ ts) = (t.label ≡ label_of d) × (carried_out s d ≡ Ok t.state) × AreSteps t.state ds ts
+
+pub record IsHistory (t : Timeline) : Type 0 where
+  pub deeds : List Deed
+  pub steps : AreSteps t.first deeds t.later
+  pub place : t.place ≤ length t.later
+
+-- the command was accepted, and made a state
+abbrev pub is_accepted : Reply → Bool
+is_accepted (changed word c) = true
+is_accepted (moved word past future) = false
+is_accepted (shown v) = false
+is_accepted (owned_by ks) = false
+is_accepted (logged past future) = false
+is_accepted (fault f) = false
+
+-- the deeds of a bench whose states are made by these, after a command with this reply: an accepted one is put behind those up to the place
+abbrev pub deeds_with : Bench → List Deed → Command → Reply → List Deed
+deeds_with bench ds c reply =
+    if is_accepted reply then elim (deed_of bench c) [ None ↦ ds | Some d ↦ take bench.timeline.place ds ++ d ∷ [] ]
+    else ds
+
+abbrev pub deeds_after : Bench → List Deed → Command → List Deed
+deeds_after bench ds c = deeds_with bench ds c (answer bench c).0
+
+-- the deeds after a list of commands
+abbrev pub deeds_of_run : Bench → List Deed → List Command → List Deed
+deeds_of_run bench ds [] = ds
+deeds_of_run bench ds (c ∷ cs) = deeds_of_run (answer bench c).1 (deeds_after bench ds c) cs
+
+-- The commands in effect after a list of commands on a bench of one state: those accepted and not undone, in order.
+abbrev pub in_effect : Bench → List Command → List Deed
+in_effect bench cs = take (run bench cs).1.timeline.place (deeds_of_run bench [] cs)
+
+-- An answer leaves a history, from the same first state, of the deeds after the command.
+pub record KeepsHistory (bench : Bench) (c : Command) (old : IsHistory bench.timeline) (given : Answer) : Type 0 where
+  pub first : given.1.timeline.first ≡ bench.timeline.first
+  pub history : IsHistory given.1.timeline
+  pub deeds : history.deeds ≡ deeds_with bench old.deeds c given.0
+
+abbrev pub AnswersKeepHistory : Type 0
+AnswersKeepHistory = (bench : Bench) (c : Command) (old : IsHistory bench.timeline) → KeepsHistory bench c old (answer bench c)
+
+-- the state at the place is the deeds up to it, carried out on the first state
+abbrev pub PresentIsCarriedOut : Type 0
+PresentIsCarriedOut = (t : Timeline) (h : IsHistory t) → all_carried_out t.first (take t.place h.deeds) ≡ Ok (present t)
+
+abbrev pub HistoriesAreCarriedOut : Type 0
+HistoriesAreCarriedOut = AnswersKeepHistory × PresentIsCarriedOut

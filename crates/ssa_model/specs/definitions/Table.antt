@@ -1,0 +1,63 @@
+-- The table of managers: who owns which paths, and since when.
+use Rattle.std.specs.Prelude.{List, [], ◌∷◌, ◌++◌, Bool, true, false, not, ◌&&◌, ◌||◌, map, filter, if◌then◌else◌}
+use Rattle.std.specs.List.{list_any}
+use Rattle.ssa_model.specs.definitions.Json.{Text, same_text}
+use Rattle.ssa_model.specs.definitions.PathMap.{PathSet, empty, is_empty, union, minus, same_set}
+
+pub data Operation : Type 0 where
+  applies : Operation
+  updates : Operation
+
+pub record ManagerKey : Type 0 where
+  pub name : Text
+  pub operation : Operation
+
+-- a manager, the paths that it owns, and its moment
+pub record Entry : Type 0 where
+  pub manager : ManagerKey
+  pub owned : PathSet
+  pub moment : Text
+
+abbrev pub Table : Type 0
+Table = List Entry
+
+abbrev pub same_operation : Operation → Operation → Bool
+same_operation applies applies = true
+same_operation updates updates = true
+same_operation _ _ = false
+
+abbrev pub same_manager : ManagerKey → ManagerKey → Bool
+same_manager a b = same_text a.name b.name && same_operation a.operation b.operation
+
+abbrev pub is_in_table : Table → ManagerKey → Bool
+is_in_table table a = list_any (λ e. same_manager e.manager a) table
+
+-- the paths that a owns
+abbrev pub owned_by : Table → ManagerKey → PathSet
+owned_by [] a = empty
+owned_by (e ∷ es) a = if same_manager e.manager a then e.owned else owned_by es a
+
+-- the paths that the managers other than a own
+abbrev pub owned_by_others : Table → ManagerKey → PathSet
+owned_by_others [] a = empty
+owned_by_others (e ∷ es) a = if same_manager e.manager a then owned_by_others es a else union e.owned (owned_by_others es a)
+
+-- the table with a in it, last if it is new
+abbrev pub with_manager : Table → ManagerKey → Text → Table
+with_manager table a at = if is_in_table table a then table else table ++ record { manager = a; owned = empty; moment = at } ∷ []
+
+-- One entry after a command of a at the moment `at`: a owns `owned`, and the others lose `lost`.
+-- Where a's paths or a field changed, `at` is a's new moment.
+abbrev pub reseated : ManagerKey → PathSet → PathSet → Bool → Text → Entry → Entry
+reseated a owned lost changed at e =
+    let acts = same_manager e.manager a in
+    record {
+      manager = e.manager;
+      owned = if acts then owned else minus e.owned lost;
+      moment = if acts && (changed || not (same_set owned e.owned)) then at else e.moment;
+    }
+
+-- the table after such a command, without those who own nothing
+abbrev pub seat : Table → ManagerKey → PathSet → PathSet → PathSet → Text → Table
+seat table a owned lost modified at =
+    filter (λ e. not (is_empty e.owned)) (map (reseated a owned lost (not (is_empty modified)) at) (with_manager table a at))

@@ -1,0 +1,16 @@
+-- Worked rows, by computation.
+
+-- the sample schema, objects and paths of the rows
+pub mod Sample
+-- applies, conflicts, force, giving up, merging
+pub mod Rows
+-- more of them
+pub mod MoreRows
+-- the texts of the answers to lines
+pub mod LineRows
+-- object files with managers' entries
+pub mod EntryRows
+-- bench files
+pub mod FileRows
+-- shown objects and states, taken again
+pub mod ShownRows

@@ -1,0 +1,20 @@
+-- Laws about the definitions: what makes them believable, each carried by a function of `src/lib.rt`.
+
+-- what stands after any list of commands; undo, redo, refusals
+pub mod Headline
+-- the operations keep what is valid
+pub mod KeepsValid
+-- values without faults and their parts
+pub mod Faultless
+-- the flattening of a value fits its kind and is rooted
+pub mod FlatBodies
+-- the value of a body is without faults, and its flattening is the body
+pub mod ShownBodies
+-- the object that is shown of a body is taken again as that body
+pub mod ShownObjects
+-- the object that is shown of a state is taken again as that state
+pub mod ShownStates
+-- a set has one writing as FieldsV1
+pub mod OneWriting
+-- how a bench file is taken, line by line
+pub mod BenchFiles

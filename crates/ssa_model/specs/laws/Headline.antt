@@ -1,0 +1,78 @@
+-- The headline, law by law: what stands after any list of commands, and what undo, redo and refusals leave.
+use Rattle.std.specs.Prelude.{◌≡◌, ◌<◌, ◌≤◌, List, [], ◌++◌, Bool, false, true, length, take, Ok, codes}
+use Rattle.ssa_model.specs.definitions.Json.{Text, Json, same_text}
+use Rattle.ssa_model.specs.definitions.Body.{Body, modified}
+use Rattle.ssa_model.specs.definitions.Table.{applies, ManagerKey}
+use Rattle.ssa_model.specs.definitions.Operations.{Clash, clashes, conflict, pruned}
+use Rattle.ssa_model.specs.definitions.History.{Bench, Timeline, past_len, future_len, present}
+use Rattle.ssa_model.specs.definitions.Answers.{Answer, Command, Fault, apply, undo, redo, fault, moved, refused, answer, command_body, run}
+use Rattle.ssa_model.specs.definitions.Readings.{Readings}
+use Rattle.ssa_model.specs.definitions.Session.{line_answer, out_of_memory_text, too_long_text}
+use Rattle.ssa_model.specs.definitions.Effect.{Deed, IsHistory, all_carried_out, deeds_of_run, in_effect, is_accepted}
+
+-- the timeline has one state, as that of a bench made from an object file
+abbrev pub IsAlone : Timeline → Type 0
+IsAlone t = (t.later ≡ []) × (t.place ≡ 0)
+
+-- a list of commands is carried out by one part of it after the other
+abbrev pub RunsGoOn : Type 0
+RunsGoOn = (bench : Bench) (cs ds : List Command) → run bench (cs ++ ds) ≡ ((run bench cs).0 ++ (run (run bench cs).1 ds).0, (run (run bench cs).1 ds).1)
+
+-- the state at the place is the commands in effect, carried out one after the other on the state that the bench was made from
+abbrev pub RunIsInEffect : Type 0
+RunIsInEffect = (bench : Bench) (cs : List Command) → IsAlone bench.timeline → all_carried_out bench.timeline.first (in_effect bench cs) ≡ Ok (present (run bench cs).1.timeline)
+
+-- After a list of commands on a bench whose states are made by deeds, so are the states: by these and the accepted commands'.
+pub record KeepsRun (bench : Bench) (before : List Deed) (cs : List Command) : Type 0 where
+  pub first : (run bench cs).1.timeline.first ≡ bench.timeline.first
+  pub history : IsHistory (run bench cs).1.timeline
+  pub deeds : history.deeds ≡ deeds_of_run bench before cs
+  pub state : all_carried_out bench.timeline.first (take (run bench cs).1.timeline.place history.deeds) ≡ Ok (present (run bench cs).1.timeline)
+
+abbrev pub RunKeepsHistory : Type 0
+RunKeepsHistory = (bench : Bench) (cs : List Command) (before : IsHistory bench.timeline) → KeepsRun bench before.deeds cs
+
+-- the bench is as it was up to its place, and one command can be done again
+pub record IsRestored (bench : Bench) (given : Answer) : Type 0 where
+  pub reply : given.0 ≡ moved (codes "undo") (past_len bench.timeline) 1
+  pub schema : given.1.schema ≡ bench.schema
+  pub identity : given.1.identity ≡ bench.identity
+  pub first : given.1.timeline.first ≡ bench.timeline.first
+  pub past : take bench.timeline.place given.1.timeline.later ≡ take bench.timeline.place bench.timeline.later
+  pub place : given.1.timeline.place ≡ bench.timeline.place
+  pub state : present given.1.timeline ≡ present bench.timeline
+  pub future : future_len given.1.timeline ≡ 1
+
+-- undo after an accepted command restores everything; that command alone can then be done again
+abbrev pub UndoRestoresAll : Type 0
+UndoRestoresAll = (bench : Bench) (c : Command) → bench.timeline.place ≤ length bench.timeline.later → is_accepted (answer bench c).0 ≡ true → IsRestored bench (answer (answer bench c).1 undo)
+
+-- redo after undo restores the whole timeline
+abbrev pub RedoRestoresAll : Type 0
+RedoRestoresAll = (bench : Bench) → 0 < past_len bench.timeline → bench.timeline.place ≤ length bench.timeline.later → (answer (answer bench undo).1 redo).1 ≡ bench
+
+-- every refusal changes nothing
+abbrev pub RefusalsChangeNothing : Type 0
+RefusalsChangeNothing = (bench : Bench) (c : Command) (f : Fault) → (answer bench c).0 ≡ fault f → (answer bench c).1 ≡ bench
+
+-- the clashes of an Apply without force of the configuration: the other managers, and exactly their fields that would change
+pub record IsConflictOf (bench : Bench) (who : Text) (force : Bool) (v : Json) (cs : List Clash) : Type 0 where
+  pub config : Body
+  pub body : command_body bench v ≡ Ok config
+  pub unforced : force ≡ false
+  pub listed :
+      let a : ManagerKey = record { name = who; operation = applies } in
+      let now = present bench.timeline in
+      cs ≡ clashes a (modified now.body (pruned now a config)) now.table
+
+-- a conflict lists exactly the managers and fields concerned
+abbrev pub ConflictsListClashes : Type 0
+ConflictsListClashes =
+    (bench : Bench) (who : Text) (force : Bool) (at : Text) (v : Json) (cs : List Clash)
+    → (answer bench (apply who force at v)).0 ≡ fault (refused (conflict cs)) → IsConflictOf bench who force v cs
+
+-- no answer to a line is told as want of memory is
+abbrev pub AnswersAreTold : Type 0
+AnswersAreTold =
+    (same_text too_long_text out_of_memory_text ≡ false)
+    × ((readings : Readings) (bench : Bench) (line : Text) → same_text (line_answer readings bench line).0 out_of_memory_text ≡ false)

@@ -1,0 +1,6 @@
+mod Filled
+mod TableLemmas
+mod Taken
+mod ReadLemmas
+mod TableFacts
+mod ReadUsage

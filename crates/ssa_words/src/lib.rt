@@ -1,0 +1,10 @@
+//! The words of the program, read by `clap`.
+#![tactic(auto)]
+
+pub mod call;
+pub mod rows;
+mod table;
+pub mod usage;
+pub mod words;
+#[cfg(test)]
+mod words_tests;

@@ -1,0 +1,173 @@
+//! The table of words, from which the program's command is built.
+ghost use Rattle.std.specs.Prelude.{[], ◌++◌, IfOk};
+ghost use Rattle.ssa_words.specs.Table as spec;
+
+use clap::{Arg, ArgAction, Command};
+use std::alloc::{AllocError, Global};
+
+// A word that has to stand at its place.
+fn place<'a>(alloc: Global, id: &'a str, help: &'a str) -> Arg<'a>
+    ensures { spec.IsArg (spec.place id.entry.now) result }
+{
+    Arg::new(alloc, id).required(true).help(help)
+}
+
+fn bench<'a>(alloc: Global) -> Arg<'a>
+    ensures { spec.IsArg spec.bench result }
+{
+    place(alloc, "BENCH", "The file of the bench")
+}
+
+fn file<'a>(alloc: Global) -> Arg<'a>
+    ensures { spec.IsArg spec.file result }
+{
+    place(alloc, "FILE", "The file of the object in JSON")
+}
+
+fn at<'a>(alloc: Global) -> Arg<'a>
+    ensures { spec.IsArg spec.at result }
+{
+    Arg::new(alloc, "at")
+        .long("at")
+        .value_name("MOMENT")
+        .required(true)
+        .help("The time of the command, as 2026-01-02T03:04:05Z")
+}
+
+fn field_manager<'a>(alloc: Global) -> Arg<'a>
+    ensures { spec.IsArg spec.field_manager result }
+{
+    Arg::new(alloc, "field-manager")
+        .long("field-manager")
+        .value_name("NAME")
+        .default_value("kubectl")
+        .help("The manager that gives the command")
+}
+
+// `--name`, given or not.
+fn flag<'a>(alloc: Global, name: &'a str, help: &'a str) -> Arg<'a>
+    ensures { spec.IsArg (spec.flag name.entry.now) result }
+{
+    Arg::new(alloc, name)
+        .long(name)
+        .action(ArgAction::SetTrue)
+        .help(help)
+}
+
+fn init<'a>(alloc: Global) -> Result<Command<'a>, AllocError>
+    ensures { IfOk result (spec.IsCommand spec.init) }
+{
+    Command::new(alloc, "init")
+        .about("Makes a bench of a schema and an object")
+        .arg(place(alloc, "SCHEMA", "The file of the schema in JSON"))?
+        .arg(place(alloc, "OBJECT", "The file of the object in JSON"))?
+        .arg(bench(alloc))
+}
+
+// A word with a bench, a file, a moment and a manager.
+fn writing<'a>(alloc: Global, name: &'a str, about: &'a str) -> Result<Command<'a>, AllocError>
+    ensures { IfOk result (spec.IsCommand (spec.writing name.entry.now [])) }
+{
+    Command::new(alloc, name)
+        .about(about)
+        .arg(bench(alloc))?
+        .arg(file(alloc))?
+        .arg(at(alloc))?
+        .arg(field_manager(alloc))
+}
+
+fn apply<'a>(alloc: Global) -> Result<Command<'a>, AllocError>
+    ensures { IfOk result (spec.IsCommand spec.apply) }
+{
+    writing(alloc, "apply", "Applies the object of a file")?.arg(flag(
+        alloc,
+        "force-conflicts",
+        "Takes over what other managers own",
+    ))
+}
+
+fn update<'a>(alloc: Global) -> Result<Command<'a>, AllocError>
+    ensures { IfOk result (spec.IsCommand spec.update) }
+{
+    writing(alloc, "update", "Updates the object to that of a file")
+}
+
+fn show<'a>(alloc: Global) -> Result<Command<'a>, AllocError>
+    ensures { IfOk result (spec.IsCommand spec.show) }
+{
+    Command::new(alloc, "show")
+        .about("Shows the object")
+        .arg(bench(alloc))?
+        .arg(flag(alloc, "show-managed-fields", "Shows the managed fields too"))
+}
+
+fn owners<'a>(alloc: Global) -> Result<Command<'a>, AllocError>
+    ensures { IfOk result (spec.IsCommand spec.owners) }
+{
+    Command::new(alloc, "owners")
+        .about("Tells the owners of a path")
+        .arg(bench(alloc))?
+        .arg(place(
+            alloc,
+            "PATH",
+            "The path: a JSON list of the texts of its elements",
+        ))
+}
+
+// A word with a bench alone.
+fn of_bench<'a>(alloc: Global, name: &'a str, about: &'a str) -> Result<Command<'a>, AllocError>
+    ensures { IfOk result (spec.IsCommand (spec.of_bench name.entry.now)) }
+{
+    Command::new(alloc, name).about(about).arg(bench(alloc))
+}
+
+// The program without its words.
+fn bare<'a>(alloc: Global) -> Result<Command<'a>, AllocError>
+    ensures { IfOk result (spec.IsCommand spec.bare) }
+{
+    Command::new(alloc, "ssabench")
+        .about("A workbench for server-side apply")
+        .version("1.0.0")
+        .no_binary_name(true)
+        .subcommand_required(true)
+        .disable_help_subcommand(true)
+        .bin_name("ssabench")
+}
+
+fn writes<'a>(alloc: Global) -> Result<Command<'a>, AllocError>
+    ensures { IfOk result (spec.IsCommand (spec.with_words spec.writes)) }
+{
+    bare(alloc)?
+        .subcommand(init(alloc)?)?
+        .subcommand(apply(alloc)?)?
+        .subcommand(update(alloc)?)
+}
+
+fn moves<'a>(alloc: Global) -> Result<Command<'a>, AllocError>
+    ensures { IfOk result (spec.IsCommand (spec.with_words (spec.writes ++ spec.moves))) }
+{
+    let strip = of_bench(alloc, "strip", "Strips the object of its managers")?;
+    let undo = of_bench(alloc, "undo", "Takes the last command back")?;
+    let redo = of_bench(alloc, "redo", "Carries out again what was taken back")?;
+    writes(alloc)?
+        .subcommand(strip)?
+        .subcommand(undo)?
+        .subcommand(redo)
+}
+
+/// The program with all its words.
+pub(crate) fn program<'a>(alloc: Global) -> Result<Command<'a>, AllocError>
+    ensures { IfOk result (spec.IsCommand spec.table) }
+{
+    let log = of_bench(alloc, "log", "Tells the commands of the history")?;
+    let session = of_bench(
+        alloc,
+        "session",
+        "Holds a session over standard input and output",
+    )?;
+    moves(alloc)?
+        .subcommand(show(alloc)?)?
+        .subcommand(owners(alloc)?)?
+        .subcommand(log)?
+        .subcommand(session)
+}

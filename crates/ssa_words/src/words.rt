@@ -1,0 +1,147 @@
+//! Reads the words behind the program's own name.
+ghost use Rattle.std.specs.Prelude.{◌≡◌, ◌∷◌, [], MatchResult, Some, codes, is_some, map, true};
+ghost use Rattle.clap.specs.Words.{first_of, found_of, rows_of, subcommand_rows_of};
+ghost use Rattle.ssa_words.specs.Calls.{IsCall, IsCallOf, IsMatched, IsUsage, IsWhole, IsWholeMatch, has_texts, was_given};
+
+use crate::call::Call;
+use crate::table::program;
+use crate::usage::Usage;
+use clap::ArgMatches;
+use clap::parser::ValueSource;
+use std::alloc::Global;
+use std::convert::AsStr;
+
+/// Reads the words behind the program's own name. The texts of the call are lent from them.
+pub fn read_words<'a, S: AsStr>(alloc: Global, words: &'a [S]) -> Result<Call<'a>, Usage>
+    ensures { MatchResult result (IsCall (map S.text words.entry.now))
+        (IsUsage (map S.text words.entry.now)) }
+{
+    match program(alloc)?.try_get_matches_from(words) {
+        Ok(matches) => Ok(call(&matches)),
+        Err(fault) => Err(Usage::of(alloc, fault)),
+    }
+}
+
+// The call that was matched.
+fn call<'a>(matches: &ArgMatches<'a>) -> Call<'a>
+    requires { IsWholeMatch (subcommand_rows_of matches.now) }
+    ensures { IsMatched (subcommand_rows_of matches.now) result }
+{
+    let (name, found) = matches.subcommand().unwrap();
+    call_of(name, found)
+}
+
+fn call_of<'a>(name: &str, found: &ArgMatches<'a>) -> Call<'a>
+    requires { IsWhole name.now (rows_of (found_of found.now)) }
+    ensures { IsCallOf name.now (rows_of (found_of found.now)) result }
+{
+    match name {
+        "init" => init(found),
+        "apply" => apply(found),
+        "update" => update(found),
+        "strip" => Call::Strip {
+            bench: bench(found),
+        },
+        "undo" => Call::Undo {
+            bench: bench(found),
+        },
+        "redo" => Call::Redo {
+            bench: bench(found),
+        },
+        "show" => show(found),
+        "owners" => owners(found),
+        "log" => Call::Log {
+            bench: bench(found),
+        },
+        "session" => Call::Session {
+            bench: bench(found),
+        },
+        _ => unreachable!("the word is one of the table"),
+    }
+}
+
+// The text that was matched for an argument.
+fn text<'a>(found: &ArgMatches<'a>, id: &str) -> &'a str
+    requires { is_some (first_of id.now (rows_of (found_of found.now))) ≡ true }
+    ensures { first_of id.now (rows_of (found_of found.now)) ≡ Some result.now }
+{
+    found.get_str(id).unwrap()
+}
+
+fn bench<'a>(found: &ArgMatches<'a>) -> &'a str
+    requires { has_texts (rows_of (found_of found.now)) (codes "BENCH" ∷ []) ≡ true }
+    ensures { first_of (codes "BENCH") (rows_of (found_of found.now)) ≡ Some result.now }
+{
+    text(found, "BENCH")
+}
+
+// Whether the words have the flag.
+fn is_given(found: &ArgMatches<'_>, name: &str) -> bool
+    ensures { result ≡ was_given name.now (rows_of (found_of found.now)) }
+{
+    match found.value_source(name) {
+        Some(ValueSource::CommandLine) => true,
+        Some(ValueSource::DefaultValue) => false,
+        None => false,
+    }
+}
+
+fn init<'a>(found: &ArgMatches<'a>) -> Call<'a>
+    requires { has_texts (rows_of (found_of found.now))
+        (codes "SCHEMA" ∷ codes "OBJECT" ∷ codes "BENCH" ∷ []) ≡ true }
+    ensures { IsCallOf (codes "init") (rows_of (found_of found.now)) result }
+{
+    Call::Init {
+        schema: text(found, "SCHEMA"),
+        object: text(found, "OBJECT"),
+        bench: text(found, "BENCH"),
+    }
+}
+
+fn apply<'a>(found: &ArgMatches<'a>) -> Call<'a>
+    requires { has_texts (rows_of (found_of found.now))
+        (codes "BENCH" ∷ codes "FILE" ∷ codes "at" ∷ codes "field-manager" ∷ []) ≡ true }
+    ensures { IsCallOf (codes "apply") (rows_of (found_of found.now)) result }
+{
+    Call::Apply {
+        bench: text(found, "BENCH"),
+        file: text(found, "FILE"),
+        at: text(found, "at"),
+        manager: text(found, "field-manager"),
+        force: is_given(found, "force-conflicts"),
+    }
+}
+
+fn update<'a>(found: &ArgMatches<'a>) -> Call<'a>
+    requires { has_texts (rows_of (found_of found.now))
+        (codes "BENCH" ∷ codes "FILE" ∷ codes "at" ∷ codes "field-manager" ∷ []) ≡ true }
+    ensures { IsCallOf (codes "update") (rows_of (found_of found.now)) result }
+{
+    Call::Update {
+        bench: text(found, "BENCH"),
+        file: text(found, "FILE"),
+        at: text(found, "at"),
+        manager: text(found, "field-manager"),
+    }
+}
+
+fn show<'a>(found: &ArgMatches<'a>) -> Call<'a>
+    requires { has_texts (rows_of (found_of found.now)) (codes "BENCH" ∷ []) ≡ true }
+    ensures { IsCallOf (codes "show") (rows_of (found_of found.now)) result }
+{
+    Call::Show {
+        bench: text(found, "BENCH"),
+        managed: is_given(found, "show-managed-fields"),
+    }
+}
+
+fn owners<'a>(found: &ArgMatches<'a>) -> Call<'a>
+    requires { has_texts (rows_of (found_of found.now))
+        (codes "BENCH" ∷ codes "PATH" ∷ []) ≡ true }
+    ensures { IsCallOf (codes "owners") (rows_of (found_of found.now)) result }
+{
+    Call::Owners {
+        bench: text(found, "BENCH"),
+        path: text(found, "PATH"),
+    }
+}
