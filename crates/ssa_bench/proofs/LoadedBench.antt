@@ -42,8 +42,20 @@ parts-of (head ∷ source ∷ first ∷ later) bench is =
     let lone = and_then-back _ (lone_in readings schema.0 first) bench schema.2 in
     let steps = and_then-back (with_steps h.0 lone.0) (steps_in readings lone.0 lone.0.timeline.first later) bench lone.2 in
     record {
-      head = head; source = source; first = first; later = later; values = refl;
-      place = h.0; headed = h.1; schema = schema.0; schemed = schema.1; lone = lone.0; alone = lone.1; steps = steps.0; stepped = steps.1; whole = steps.2;
+      head = head;
+      source = source;
+      first = first;
+      later = later;
+      values = refl;
+      place = h.0;
+      headed = h.1;
+      schema = schema.0;
+      schemed = schema.1;
+      lone = lone.0;
+      alone = lone.1;
+      steps = steps.0;
+      stepped = steps.1;
+      whole = steps.2;
     }
 
 -- from which no bench is taken is no bench's file
