@@ -35,11 +35,7 @@ fn next_line<R: Source>(
 }
 
 // Reads the first line: the place of the present state, and how many states there are.
-fn read_head<R: Source>(
-    alloc: Global,
-    reader: &mut R,
-    room: &mut usize,
-) -> Result<Head, LoadFault>
+fn read_head<R: Source>(alloc: Global, reader: &mut R, room: &mut usize) -> Result<Head, LoadFault>
     ensures read { ReadsPart heads_in (R.remaining reader.old) (R.remaining reader.new) room.old room.new result }
     ensures failed { result ≡ Err LoadFault.Io → R.has_failed reader.new ≡ true }
 {
