@@ -1,18 +1,19 @@
 -- Laws of a bench file's text.
-use Rattle.std.proofs.Common.{◌≡◌, ℕ, ◌+◌, ◌<◌, ◌≤◌, List, [], ◌∷◌, ◌++◌, Option, Result, length, get_or, take, flat_map, ap, sym, subst, ◌∙◌, append_assoc, length-append, arith}
+use Rattle.std.proofs.Common.{◌≡◌, ℕ, ◌+◌, ◌<◌, ◌≤◌, List, [], ◌∷◌, ◌++◌, Option, Result, length, get_or, take, flat_map, map, ap, sym, subst, ◌∙◌, append_assoc, length-append, arith}
 use Rattle.std.specs.List.{All}
 use Rattle.std.specs.Result.{IfErr, IsErrAnd}
 use Rattle.std.proofs.lemmas.List.{flat_map_more, get_or-map, length-map, take_more}
-use Rattle.std.proofs.lemmas.List.Elements.{All-get_or}
+use Rattle.std.proofs.lemmas.List.Elements.{All-cons, All-get_or, All-push}
 use Rattle.std.proofs.lemmas.List.Folds.{flat_map-map, length-flat_map-take}
 use Rattle.std.proofs.lemmas.Result.{err_from_is_err_and}
 use Rattle.ssa_model.specs.definitions.Objects.{Identity}
 use Rattle.ssa_model.specs.definitions.Json.{Text, Json}
-use Rattle.ssa_model.specs.definitions.BenchText.{bench_text, head_json, head_of, line}
+use Rattle.ssa_model.specs.definitions.BenchText.{bench_text, bench_values, head_json, head_of, line}
 use Rattle.ssa_model.specs.definitions.Schema.{Schema}
 use Rattle.ssa_model.specs.definitions.History.{Timeline, past_len}
 use Rattle.ssa_model.specs.definitions.Kind.{Kind}
 use Rattle.ssa_model.specs.definitions.Fitting.{IsBodyOf}
+use Rattle.ssa_json.specs.Writable.{IsOfProgram}
 use Rattle.ssa_merge.specs.States.{state_view}
 use Rattle.ssa_turn.specs.Histories.{step_view, steps_view}
 use Rattle.ssa_file.specs.Saving.{CannotHold, bench_with, first_value, step_line, step_value}
@@ -77,3 +78,21 @@ lines-are_text schema identity t none head_text schema_text first_text h s f non
     joined none head_text schema_text first_text (line h) (line s) (line f) lines none-is head-is schema-is first-is
     ∙ (λ i. line (h-is i) ++ (line (s-is i) ++ (line (f-is i) ++ lines)))
     ∙ ap (λ x. line (head_json t) ++ (line schema.source ++ (line (first_value schema identity t.first) ++ x))) (sym (flat_map-map line (step_value schema identity) t.later))
+
+-- ---- the lines' values are ones that the program makes
+
+abbrev pub IsStepOfProgram : Schema → Identity → Step → Type 0
+IsStepOfProgram schema identity s = IsOfProgram (step_value schema identity (step_view s))
+
+pub steps-of-program-more : (schema : Schema) (identity : Identity) (ss : List Step) (i : ℕ) (s : Step) → i < length ss → s ≡ get_or ss i s
+    → All (IsStepOfProgram schema identity) (take i ss) → IsStepOfProgram schema identity s → All (IsStepOfProgram schema identity) (take (i + 1) ss)
+steps-of-program-more schema identity ss i s within is before here =
+    subst (All (IsStepOfProgram schema identity)) (sym (take_more ss i s within ∙ ap (λ x. take i ss ++ x ∷ []) (sym is))) (All-push (IsStepOfProgram schema identity) (take i ss) s before here)
+
+-- each value of the file, where those of the lines are
+pub all-of-program : (schema : Schema) (identity : Identity) (t : Timeline) (h s f : Json) (ss : List Json)
+    → h ≡ head_json t → s ≡ schema.source → f ≡ first_value schema identity t.first → ss ≡ map (step_value schema identity) t.later
+    → IsOfProgram h → IsOfProgram s → IsOfProgram f → All IsOfProgram ss → All IsOfProgram (bench_values (bench_with schema identity t))
+all-of-program schema identity t h s f ss h-is s-is f-is ss-is head source first later =
+    subst (All IsOfProgram) (λ i. h-is i ∷ s-is i ∷ f-is i ∷ ss-is i)
+    (All-cons IsOfProgram h (s ∷ f ∷ ss) head (All-cons IsOfProgram s (f ∷ ss) source (All-cons IsOfProgram f ss first later)))

@@ -1,14 +1,15 @@
 //! The text of a bench file.
-ghost use Rattle.std.specs.Prelude.{◌≡◌, ◌≤◌, ◌<◌, ◌^◌, ◌++◌, IfErr, IfOk, OnErr, OnOk, flat_map, length, true};
+ghost use Rattle.std.specs.Prelude.{◌≡◌, ◌≤◌, ◌<◌, ◌^◌, ◌++◌, IfErr, IfOk, OnErr, OnOk, flat_map, length, map, true};
 ghost use Rattle.std.specs.Io.KnownBytes.{Appends};
 ghost use Rattle.std.specs.List.{All};
 ghost use Rattle.ssa_model.specs.definitions.Limits.{most_bench_bytes};
-ghost use Rattle.ssa_model.specs.definitions.BenchText.{bench_text, head_of, line, state_json};
+ghost use Rattle.ssa_model.specs.definitions.BenchText.{bench_text, bench_values, head_of, line, state_json};
 ghost use Rattle.ssa_model.specs.definitions.Fitting.{IsBodyOf};
 ghost use Rattle.ssa_model.specs.definitions.Objects.{with_member};
 ghost use Rattle.ssa_model.specs.definitions.Replies.{number_json};
 ghost use Rattle.ssa_json.specs.Devices.{AppendsPart};
 ghost use Rattle.ssa_json.specs.View.{view, members_view};
+ghost use Rattle.ssa_json.specs.Writable.{IsOfProgram};
 ghost use Rattle.ssa_merge.specs.States.{state_view};
 ghost use Rattle.ssa_turn.specs.Histories.{step_view, steps_view};
 ghost use Rattle.ssa_file.specs.Saving.{CannotHold, bench_with, first_value, step_line, step_value};
@@ -127,6 +128,7 @@ fn push_line(alloc: Global, text: &mut Vec<u8>, value: &Json) -> Result<(), Save
     requires { length text.old.items ≤ most_bench_bytes }
     ensures ok { OnOk result (text.new.items ≡ text.old.items ++ line (view value.now)) }
     ensures fits { OnOk result (length text.new.items ≤ most_bench_bytes) }
+    ensures of_program { OnOk result (IsOfProgram (view value.now)) }
     ensures refused { IfErr result (λ f. CannotHold f (text.old.items ++ line (view value.now))) }
 {
     let bytes = value.to_text(alloc)?;
@@ -150,6 +152,7 @@ fn push_steps(
     requires valid { All (MakesValid schema.now.kind) (steps_view steps.now) }
     ensures ok { OnOk result (text.new.items ≡ text.old.items ++ flat_map (step_line schema.now identity.now) (steps_view steps.now)) }
     ensures fits { OnOk result (length text.new.items ≤ most_bench_bytes) }
+    ensures of_program { OnOk result (All IsOfProgram (map (step_value schema.now identity.now) (steps_view steps.now))) }
     ensures refused { IfErr result (λ f. CannotHold f (text.old.items ++ flat_map (step_line schema.now identity.now) (steps_view steps.now))) }
 {
     for step in steps {
@@ -169,6 +172,7 @@ pub fn bench_text(
     requires { AllValid schema.now.kind timeline.now }
     ensures ok { IfOk result (λ t. t.items ≡ bench_text (bench_with schema.now identity.now timeline.now)) }
     ensures fits { IfOk result (λ t. length t.items ≤ most_bench_bytes) }
+    ensures of_program { OnOk result (All IsOfProgram (bench_values (bench_with schema.now identity.now timeline.now))) }
     ensures refused { IfErr result (λ f. CannotHold f (bench_text (bench_with schema.now identity.now timeline.now))) }
 {
     let head = head_value(alloc, timeline.past_len(), timeline.later().len() + 1)?;

@@ -1,11 +1,14 @@
-use Rattle.std.proofs.Common.{◌++◌, flat_map, ap, sym, ◌∙◌, subst}
+use Rattle.std.proofs.Common.{◌++◌, flat_map, map, ap, sym, ◌∙◌, subst}
+use Rattle.std.specs.List.{All}
 use Rattle.std.proofs.lemmas.List.{take_all}
+use Rattle.std.proofs.lemmas.List.Elements.{All-map}
 use Rattle.std.proofs.lemmas.List.Folds.{flat_map-map}
 use Rattle.ssa_model.specs.definitions.Json.{Text, Json}
 use Rattle.ssa_model.specs.definitions.BenchText.{line}
+use Rattle.ssa_json.specs.Writable.{IsOfProgram}
 use Rattle.ssa_turn.specs.Histories.{step_view}
-use Rattle.ssa_file.specs.Saving.{CannotHold, step_line}
-use Rattle.ssa_file.proofs.SavingFacts.{step-fits, lines-more, lines-refused, handed-on}
+use Rattle.ssa_file.specs.Saving.{CannotHold, step_line, step_value}
+use Rattle.ssa_file.proofs.SavingFacts.{IsStepOfProgram, step-fits, lines-more, lines-refused, handed-on, steps-of-program-more}
 use Rattle.ssa_turn.specs.declared.timeline.Step.{Step}
 use Rattle.ssa_file.proofs.saving.push_steps.Goals as goal
 
@@ -30,7 +33,16 @@ loop-step-preserved c =
       made = c.in_ok-push_line.ensures.ok ∙ ap (λ v. made ++ line v) c.in_ok-value.ensures
           ∙ lines-more f c.args.steps.now c.loop-step.step-index c.step-item.result c.args.text.now.items made c.loop-step-test.true c.step-item.is c.loop-step.invariant.made;
       fits = c.in_ok-push_line.ensures.fits;
+      of_program = steps-of-program-more c.args.schema.now c.args.identity.now c.args.steps.now c.loop-step.step-index c.step-item.result c.loop-step-test.true c.step-item.is
+          c.loop-step.invariant.of_program (subst IsOfProgram c.in_ok-value.ensures c.in_ok-push_line.ensures.of_program);
     }
+
+pub returns-clause-of_program : goal.returns-clause-of_program
+returns-clause-of_program c =
+    let made = step_value c.args.schema.now c.args.identity.now in
+    let steps = c.args.steps.now in
+    let all = subst (All (IsStepOfProgram c.args.schema.now c.args.identity.now)) (take_all c.loop-step.step-index steps c.loop-step-test.false) c.loop-step.invariant.of_program in
+    All-map IsOfProgram made (map step_view steps) (All-map (λ s. IsOfProgram (made s)) step_view steps all)
 
 pub returns-clause-ok : goal.returns-clause-ok
 returns-clause-ok c =
