@@ -7,7 +7,7 @@ use Rattle.std.specs.Prelude.{Result, Ok, Err, nat_le, ◌&&◌, ◌==◌, if◌
 use Rattle.ssa_model.specs.definitions.Limits.{most_past, most_bench_bytes}
 use Rattle.ssa_model.specs.definitions.Json.{Json}
 use Rattle.ssa_model.specs.definitions.Schema.{Schema}
-use Rattle.ssa_model.specs.definitions.History.{Bench, Step, with_timeline}
+use Rattle.ssa_model.specs.definitions.History.{Bench, Step}
 use Rattle.ssa_model.specs.definitions.BenchFile.{IsValidBench}
 use Rattle.ssa_model.specs.laws.BenchFiles as laws
 use Rattle.ssa_model.specs.laws.BenchFiles.{bench_in, head_in, lone_in, schema_in, steps_in, values_bench, values_of, with_steps, given_if}

@@ -1,5 +1,5 @@
 -- Laws of loading a bench part by part.
-use Rattle.std.proofs.Common.{◌≡◌, ◌≤◌, ◌<◌, ◌+◌, ℕ, List, [], ◌∷◌, ◌++◌, length, Option, Some, None, option_map, option_and_then, Bool, true, false, ◌⊎◌, inl, inr, refl, sym, ap, subst, ◌∙◌, arith}
+use Rattle.std.proofs.Common.{◌≡◌, ◌≤◌, ◌<◌, ℕ, List, [], ◌∷◌, length, Option, Some, None, option_map, Bool, true, false, ◌⊎◌, inl, inr, sym, ap, subst, ◌∙◌, arith}
 use Rattle.std.proofs.lemmas.Option.{none-some, same_Some}
 use Rattle.std.proofs.lemmas.Bool.{false≢true}
 use Rattle.std.proofs.lemmas.Result.{err_from_is_err_and}
@@ -14,7 +14,7 @@ use Rattle.ssa_json.specs.View.{view}
 use Rattle.ssa_file.specs.declared.loading.FileLine.{FileLine}
 use Rattle.ssa_file.specs.declared.loading.LoadFault.{LoadFault}
 use Rattle.ssa_file.specs.declared.loading.LoadFault.TheVariants.{BenchText, Io, OutOfMemory}
-use Rattle.ssa_bench.specs.Loading.{IsPart, HasNoPart, ReadsPart, ReadsLine}
+use Rattle.ssa_bench.specs.Loading.{ReadsPart, ReadsLine}
 use Rattle.ssa_bench.specs.Taking.{IsTaken}
 
 -- the first of the values

@@ -1,11 +1,11 @@
 -- Laws of taking the states of a bench file from its lines.
-use Rattle.std.proofs.Common.{◌≡◌, List, [], ◌∷◌, Bool, true, false, ◌&&◌, Option, Some, None, option_and_then, option_map, not, refl, sym, ap, subst, ◌∙◌, true≢false}
+use Rattle.std.proofs.Common.{◌≡◌, List, [], ◌∷◌, Bool, true, false, ◌&&◌, Option, Some, None, option_map, not, refl, sym, ap, subst, ◌∙◌, true≢false}
 use Rattle.std.proofs.lemmas.Bool.{and_parts}
 use Rattle.std.proofs.lemmas.Option.{none-some, same_Some}
 use Rattle.std.specs.Result.{result_ok}
 use Rattle.std.specs.Cmp.Lexicographic.{pointwise}
 use Rattle.std.specs.Prelude.{codes, Result, Ok, Err, if◌then◌else◌}
-use Rattle.ssa_model.specs.definitions.Json.{Text, Json, scalar, list, object, member_at, compact, same_text}
+use Rattle.ssa_model.specs.definitions.Json.{Json, scalar, list, object, member_at, same_text}
 use Rattle.ssa_model.specs.definitions.Commands.{value_in}
 use Rattle.ssa_model.specs.definitions.Operations.{State}
 use Rattle.ssa_model.specs.definitions.Schema as schemas
@@ -17,7 +17,7 @@ use Rattle.ssa_model.specs.definitions.Table.{ManagerKey, Operation, applies, up
 use Rattle.ssa_model.specs.definitions.History.{Label, applied, updated, stripped, Step, Bench, is_manager_name}
 use Rattle.ssa_model.specs.definitions.Answers as model
 use Rattle.ssa_model.specs.definitions.Answers.{bench_of, file_state}
-use Rattle.ssa_model.specs.definitions.BenchText.{first_json, step_json}
+use Rattle.ssa_model.specs.definitions.BenchText.{step_json}
 use Rattle.ssa_model.specs.definitions.Valid.{KeepsOrder, is_named, shared_managers}
 use Rattle.ssa_model.specs.laws.BenchFiles as laws
 use Rattle.ssa_model.specs.laws.BenchFiles.{given_if, head_in, schema_in, is_label, is_written_as, keeps_order, label_in, lone_in, object_in, said_label, step_in, step_with}
@@ -30,11 +30,7 @@ use Rattle.ssa_schema.specs.declared.fault.SchemaFault.TheVariants as faults
 use Rattle.ssa_schema.specs.declared.fault.SchemaFault.TheVariants.{SchemaKeyword, SchemaShape, SchemaKeys, SchemaDepth}
 use Rattle.ssa_file.specs.Heads.{head_view}
 use Rattle.ssa_file.specs.declared.head.Head.{Head}
-use Rattle.ssa_file.specs.declared.loading.LoadFault.{LoadFault}
-use Rattle.ssa_bench.specs.Faults.{IsGiven}
-use Rattle.ssa_bench.specs.Taking.{IsTaken, heads_in, load_fault, of_schema_fault}
-use Rattle.ssa_bench.specs.declared.fault.Fault.{Fault}
-use Rattle.ssa_bench.specs.declared.fault.Fault.TheVariants.{Body, TooManyPaths, Identity, ManagedFieldsGiven, Entry, ManagerName, HistoryFull, NothingToUndo, NothingToRedo, Conflict, TooManyManagers, OutOfMemory}
+use Rattle.ssa_bench.specs.Taking.{IsTaken, heads_in, of_schema_fault}
 
 -- ---- the order of managers
 
@@ -95,58 +91,6 @@ module _ (bench : Bench) (before : State) (v : Json) where
   taken-follows s h =
       let said = and_then-back _ (label_in readings (value_in (member_at (codes "command") v))) s h in
       by-state said.0 (file_state readings bench.schema.kind (object_in v)) s (said-named (value_in (member_at (codes "command") v)) said.0 said.1) said.2
-
-  abbrev with_label : Result State model.Fault → Label → Option Step
-  with_label r l = elim r [ Ok state ↦ step_with bench before v l state | Err f ↦ None ]
-
-  abbrev said : Option Label
-  said = label_in readings (value_in (member_at (codes "command") v))
-
-  abbrev shown : Result State model.Fault
-  shown = file_state readings bench.schema.kind (object_in v)
-
-  -- no label is said
-  pub unlabelled : None ≡ said → step_in readings bench before v ≡ None
-  unlabelled none = ap (option_and_then (with_label shown)) (sym none)
-
-  -- a label is said, and a state
-  pub labelled : (s : Step) (t : Text) (b : Bool) → Some s.label ≡ said → shown ≡ Ok s.state → t ≡ compact v
-      → b ≡ (same_text (compact (step_json bench s)) t && keeps_order before.table s.state.table) → step_in readings bench before v ≡ given_if b s
-  labelled s t b label state text is =
-      ap (option_and_then (with_label shown)) (sym label)
-      ∙ ap (λ r. with_label r s.label) state
-      ∙ ap (λ c. given_if c s) (sym (is ∙ ap (λ u. same_text (compact (step_json bench s)) u && keeps_order before.table s.state.table) text))
-
-  -- a label is said, and no state
-  pub unstated : (l : Label) (g : model.Fault) → Some l ≡ said → shown ≡ Err g → step_in readings bench before v ≡ None
-  unstated l g label fault = ap (option_and_then (with_label shown)) (sym label) ∙ ap (λ r. with_label r l) fault
-
--- what is refused is not taken
-pub refused-taken : {A X : Type 0} (f : Fault) (given : Result A model.Fault) (o : Option X) → ((g : model.Fault) → given ≡ Err g → o ≡ None) → IsGiven (Err f) given → IsTaken (Err (load_fault f)) o
-refused-taken (Body b) given o none h = none h.0 h.1
-refused-taken TooManyPaths given o none h = none h.0 h.1
-refused-taken Identity given o none h = none h.0 h.1
-refused-taken ManagedFieldsGiven given o none h = none h.0 h.1
-refused-taken (Entry f) given o none h = none h.0 h.1
-refused-taken ManagerName given o none h = none h.0 h.1
-refused-taken HistoryFull given o none h = none h.0 h.1
-refused-taken NothingToUndo given o none h = none h.0 h.1
-refused-taken NothingToRedo given o none h = none h.0 h.1
-refused-taken (Conflict cs) given o none h = none h.0 h.1
-refused-taken TooManyManagers given o none h = none h.0 h.1
-refused-taken OutOfMemory given o none h = tt
-
--- ---- the first state
-
-abbrev lone_by : Json → Result Bench model.Fault → Option Bench
-lone_by v r = elim r [ Ok bench ↦ given_if (is_written_as (first_json bench) v) bench | Err f ↦ None ]
-
-pub lone-made : (schema : Schema) (v : Json) (bench : Bench) (t : Text) (b : Bool) → bench_of readings schema (object_in v) ≡ Ok bench → t ≡ compact v
-    → b ≡ same_text (compact (first_json bench)) t → lone_in readings schema v ≡ given_if b bench
-lone-made schema v bench t b made text is = ap (lone_by v) made ∙ ap (λ c. given_if c bench) (sym (is ∙ ap (same_text (compact (first_json bench))) text))
-
-pub lone-refused : (schema : Schema) (v : Json) (g : model.Fault) → bench_of readings schema (object_in v) ≡ Err g → lone_in readings schema v ≡ None
-lone-refused schema v g fault = ap (lone_by v) fault
 
 -- ---- the bench of one state
 

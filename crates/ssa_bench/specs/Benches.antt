@@ -1,5 +1,5 @@
 -- What commands on a bench answer, and how the bench goes on.
-use Rattle.std.specs.Prelude.{◌≡◌, List, [], ◌∷◌, Option, None, Some, Result, Ok, Err, if◌then◌else◌, not, nat_le, length, codes}
+use Rattle.std.specs.Prelude.{◌≡◌, [], ◌∷◌, Option, None, Some, Result, Ok, Err, if◌then◌else◌, not, nat_le, length, codes}
 use Rattle.ssa_model.specs.definitions.Limits.{most_past}
 use Rattle.ssa_model.specs.definitions.Objects.{value_at}
 use Rattle.ssa_model.specs.definitions.Commands.{text_in}

@@ -1,18 +1,16 @@
 -- What loading a bench answers.
-use Rattle.std.specs.Prelude.{◌≡◌, ◌≤◌, ◌<◌, ◌+◌, ◌++◌, ℕ, List, [], ◌∷◌, length, Option, Some, None, option_map, option_and_then, Result, Ok, Err}
+use Rattle.std.specs.Prelude.{◌≡◌, ◌≤◌, ◌<◌, ◌+◌, ℕ, List, [], ◌∷◌, length, Option, Some, None, option_map, option_and_then, Result, Ok, Err}
 use Rattle.ssa_model.specs.definitions.Limits.{most_past, most_bench_bytes}
-use Rattle.ssa_model.specs.definitions.Json.{Text, Json, compact}
-use Rattle.ssa_model.specs.definitions.History.{Bench, Step, Timeline, with_timeline}
-use Rattle.ssa_model.specs.definitions.Operations.{State}
+use Rattle.ssa_model.specs.definitions.Json.{Json}
+use Rattle.ssa_model.specs.definitions.History.{Bench, Step, with_timeline}
 use Rattle.ssa_model.specs.definitions.BenchText.{bench_text}
 use Rattle.ssa_model.specs.definitions.BenchFile.{IsBenchFile, IsValidBench}
 use Rattle.ssa_model.specs.laws.BenchFiles.{bench_in, steps_in, values_of}
 use Rattle.ssa_json.specs.Readings.{readings}
-use Rattle.ssa_json.specs.View.{view}
 use Rattle.ssa_file.specs.Loading.{IsFirstLine}
 use Rattle.ssa_file.specs.declared.loading.FileLine.{FileLine}
 use Rattle.ssa_file.specs.declared.loading.LoadFault.{LoadFault}
-use Rattle.ssa_file.specs.declared.loading.LoadFault.TheVariants.{BenchText, Io, OutOfMemory}
+use Rattle.ssa_file.specs.declared.loading.LoadFault.TheVariants.{BenchText}
 
 -- ---- a part of the file
 

@@ -1,12 +1,12 @@
 //! The bench: an object, its managers, and the history of commands on it.
-ghost use Rattle.std.specs.Prelude.{◌≡◌, [], Ok, ◌&&◌, ◌≤◌, ◌<◌, ◌-◌, ◌^◌, ◌||◌, nat_le, length, IfErr, IfOk, OnOk, OnErr, false, true, option_map, codes, string_bytes};
+ghost use Rattle.std.specs.Prelude.{◌≡◌, Ok, ◌≤◌, ◌<◌, ◌-◌, ◌^◌, ◌||◌, length, IfErr, IfOk, OnOk, OnErr, true, option_map, codes, string_bytes};
 ghost use Rattle.ssa_model.specs.definitions.Limits.{most_bench_bytes};
-ghost use Rattle.ssa_model.specs.definitions.Answers.{answer, apply, update, strip, undo, redo, log, logged, apply_answer, bench_of, body_or_fault, command_body, owners_of, file_state, lone_bench, lone_state};
+ghost use Rattle.ssa_model.specs.definitions.Answers.{answer, apply, update, strip, undo, redo, log, logged, apply_answer, bench_of, body_or_fault, command_body, owners_of, file_state, lone_bench};
 ghost use Rattle.ssa_model.specs.definitions.Entries.{object_of_state};
 ghost use Rattle.ssa_model.specs.definitions.History.{is_manager_name, past_len, future_len, present};
 ghost use Rattle.ssa_model.specs.definitions.BenchText.{bench_text};
 ghost use Rattle.ssa_model.specs.definitions.PathMap.{size};
-ghost use Rattle.ssa_model.specs.definitions.Valid.{IsTable, IsValidState, IsValidBody, IsValidHistory};
+ghost use Rattle.ssa_model.specs.definitions.Valid.{IsTable, IsValidState, IsValidBody};
 ghost use Rattle.ssa_json.specs.Readings.{readings};
 ghost use Rattle.ssa_json.specs.View.{view};
 ghost use Rattle.ssa_merge.specs.Managers.{lent_keys};
@@ -17,31 +17,20 @@ ghost use Rattle.ssa_bench.specs.Commands.{command_view, command_word};
 ghost use Rattle.ssa_turn.specs.Histories.{lent_labels};
 ghost use Rattle.std.specs.Io.KnownBytes.{Appends};
 ghost use Rattle.ssa_file.specs.Saving.{NotSaved};
-ghost use Rattle.ssa_bench.specs.ReadBack.{AllTakenBack};
-ghost use Rattle.ssa_model.specs.definitions.Limits.{most_past};
-ghost use Rattle.ssa_model.specs.definitions.Json.{compact, same_text};
-ghost use Rattle.ssa_model.specs.definitions.BenchFile.{IsValidBench};
-ghost use Rattle.ssa_model.specs.definitions.BenchText.{first_json, step_json};
-ghost use Rattle.ssa_model.specs.laws.BenchFiles.{keeps_order, lone_in, with_steps};
-ghost use Rattle.ssa_turn.specs.Histories.{step_view};
-ghost use Rattle.ssa_file.specs.Heads.{head_view};
-ghost use Rattle.ssa_bench.specs.Taking.{GoesOn, IsTaken, TakesStep};
+
+mod laws;
+mod lines;
 
 use crate::command::Command;
 use crate::fault::Fault;
 use crate::prepared::{Changed, Counts, Prepared, accepted};
-use crate::taking::{label_in, load_fault, object_in, state_in};
-use ssa_file::head::Head;
-use ssa_file::loading::{FileLine, LoadFault};
 use ssa_file::saving::{SaveFault, bench_text, write_text};
-use ssa_file::written::{is_first, is_step};
 use ssa_json::moment::Moment;
 use ssa_json::sink::Sink;
 use ssa_json::value::Json;
 use ssa_merge::manager::ManagerKey;
 use ssa_merge::managers::Managers;
 use ssa_merge::names::is_manager_name;
-use ssa_merge::order::keeps_order;
 use ssa_merge::owned::owners;
 use ssa_merge::plan::{plan_apply, plan_strip, plan_update};
 use ssa_merge::state::State;
@@ -52,7 +41,7 @@ use ssa_path::path::Path;
 use ssa_schema::body_fault::BodyFault;
 use ssa_schema::schema::Schema;
 use ssa_turn::label::Label;
-use ssa_turn::timeline::{Log, Step, Timeline, labels};
+use ssa_turn::timeline::{Log, Timeline, labels};
 use ssa_typed::body::Body;
 use ssa_typed::fault::TypedFault;
 use std::alloc::{AllocError, Global};
@@ -364,64 +353,6 @@ impl Bench {
         Ok(counts)
     }
 
-    /// The history is one as commands make it: each state's body is one of the schema's kind and its
-    /// table one of the body, the managers that neighbouring states share stand in one order, each
-    /// label has a manager's name, and there are no more commands than can be undone.
-    pub fn history_is_valid(&self)
-        ensures { IsValidHistory self.now.schema.kind self.now.timeline }
-    {
-        let _ = &self.timeline;
-    }
-
-    /// The bench is valid: all that a bench file tells of it is as the definitions ask.
-    ///
-    /// Looks at the numbers of the managers' sets, and changes nothing. Takes no memory.
-    pub fn is_valid(&self)
-        ensures { IsValidBench readings self.now }
-    {
-        let _kind = self.schema.kind();
-        self.identity.parts_are_named();
-        self.timeline.place_is_within();
-        self.timeline.own_entries_are_read();
-        self.timeline.own_moments_are_read();
-    }
-
-    /// The object that is shown without the managers' entries is taken as the present body: by a
-    /// command, and by an object file, which makes a bench without managers and history.
-    pub fn shown_is_taken(&self)
-        ensures command { command_body self.now (object_of_state self.now.identity self.now.schema.kind false (present self.now.timeline)) ≡ Ok (present self.now.timeline).body }
-        ensures file { bench_of readings self.now.schema (object_of_state self.now.identity self.now.schema.kind false (present self.now.timeline))
-            ≡ Ok (lone_bench self.now.schema self.now.identity (record { body = (present self.now.timeline).body; table = [] })) }
-    {
-        let _kind = self.schema.kind();
-        self.identity.parts_are_named();
-    }
-
-    /// The object that is shown with the managers' entries is taken by an object file as the present
-    /// state, without the history.
-    ///
-    /// Looks at the numbers of the managers' sets, and changes nothing. Takes no memory.
-    pub fn shown_state_is_taken(&self)
-        ensures { bench_of readings self.now.schema (object_of_state self.now.identity self.now.schema.kind true (present self.now.timeline))
-            ≡ Ok (lone_bench self.now.schema self.now.identity (present self.now.timeline)) }
-    {
-        let _kind = self.schema.kind();
-        self.identity.parts_are_named();
-        self.timeline.present().managers.own_entries_are_read();
-    }
-
-    /// The object that is shown of each state of the history, with the managers' entries, is taken by
-    /// an object file as that state: so each is in the bench file.
-    ///
-    /// Looks at the numbers of the managers' sets, and changes nothing. Takes no memory.
-    pub fn shown_states_are_taken(&self)
-        ensures { AllTakenBack self.now }
-    {
-        let _kind = self.schema.kind();
-        self.identity.parts_are_named();
-        self.timeline.own_entries_are_read();
-    }
-
     /// How many commands can be undone.
     pub fn past_len(&self) -> usize
         ensures count { result ≡ past_len self.now.timeline }
@@ -487,104 +418,5 @@ impl Bench {
         let text = bench_text(alloc, &self.schema, &self.identity, &self.timeline)?;
         write_text(sink, &text)?;
         Ok(())
-    }
-
-    // Whether the text is that of the first state's line.
-    fn is_first_line(&self, alloc: Global, text: &[u8]) -> Result<bool, AllocError>
-        ensures { IfOk result (λ same. same ≡ same_text (compact (first_json self.now)) text.now) }
-    {
-        is_first(
-            alloc,
-            &self.schema,
-            &self.identity,
-            self.timeline.first(),
-            text,
-        )
-    }
-
-    // The bench of the first state that a line tells.
-    pub(crate) fn of_first_line(
-        alloc: Global,
-        schema: Schema,
-        line: FileLine,
-    ) -> Result<Bench, LoadFault>
-        requires { line.text.items ≡ compact (view line.value) }
-        ensures taken { IsTaken result (lone_in readings schema (view line.value)) }
-        ensures lone { IfOk result (λ b. b.timeline ≡ lone_state b.timeline.first) }
-    {
-        let FileLine { value, text } = line;
-        match Bench::new(alloc, schema, object_in(alloc, value)) {
-            Ok(bench) => {
-                if bench.is_first_line(alloc, &text)? {
-                    Ok(bench)
-                } else {
-                    Err(LoadFault::BenchText)
-                }
-            }
-            Err(fault) => Err(load_fault(fault)),
-        }
-    }
-
-    // Whether the step is told by the text, and keeps the order of the present state's managers.
-    fn is_next_line(&self, alloc: Global, step: &Step, text: &[u8]) -> Result<bool, AllocError>
-        requires { IsValidState self.now.schema.kind (state_view step.now.state) }
-        ensures { IfOk result (λ is. is ≡ (same_text (compact (step_json self.now (step_view step.now))) text.now && keeps_order (present self.now.timeline).table (state_view step.now.state).table)) }
-    {
-        if !is_step(alloc, &self.schema, &self.identity, step, text)? {
-            return Ok(false);
-        }
-        let before = self.timeline.present();
-        keeps_order(
-            alloc,
-            before.managers.entries(),
-            step.state.managers.entries(),
-        )
-    }
-
-    // The step that a line tells, behind the present state.
-    fn step_of_line(&self, alloc: Global, line: FileLine) -> Result<Step, LoadFault>
-        requires { line.text.items ≡ compact (view line.value) }
-        ensures taken { TakesStep self.now result (view line.value) }
-        ensures valid { IfOk result (λ s. IsValidState self.now.schema.kind (state_view s.state)) }
-    {
-        let Some(label) = label_in(alloc, &line.value)? else {
-            return Err(LoadFault::BenchText);
-        };
-        let FileLine { value, text } = line;
-        match state_in(alloc, &self.schema, object_in(alloc, value)) {
-            Ok(state) => {
-                let step = Step { label, state };
-                if self.is_next_line(alloc, &step, &text)? {
-                    Ok(step)
-                } else {
-                    Err(LoadFault::BenchText)
-                }
-            }
-            Err(fault) => Err(load_fault(fault)),
-        }
-    }
-
-    // Goes on by the step that a line tells.
-    pub(crate) fn take_line(&mut self, alloc: Global, line: FileLine) -> Result<(), LoadFault>
-        requires spelled { line.text.items ≡ compact (view line.value) }
-        requires few { past_len self.old.timeline < most_past }
-        ensures { GoesOn self.old self.new result (view line.value) }
-    {
-        self.timeline.place_is_within();
-        let step = self.step_of_line(alloc, line)?;
-        self.timeline.append(step)?;
-        Ok(())
-    }
-
-    // Goes to the place of a head that counts the states.
-    pub(crate) fn at_head(mut self, head: Head) -> Result<Bench, LoadFault>
-        ensures { IsTaken result (with_steps (head_view head) self self.timeline.later) }
-    {
-        let later_len = self.timeline.later().len();
-        if head.states != later_len + 1 || head.place > later_len {
-            return Err(LoadFault::BenchText);
-        }
-        self.timeline.go_to(head.place);
-        Ok(self)
     }
 }

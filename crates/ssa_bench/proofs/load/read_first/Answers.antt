@@ -1,8 +1,7 @@
 use Rattle.ssa_json.specs.View.{view}
 use Rattle.ssa_json.specs.Readings.{readings}
-use Rattle.ssa_model.specs.laws.BenchFiles.{lone_in, schema_in}
+use Rattle.ssa_model.specs.laws.BenchFiles.{lone_in}
 use Rattle.ssa_bench.specs.Loading.{ReadsPart}
-use Rattle.ssa_bench.specs.Taking.{heads_in}
 use Rattle.ssa_bench.proofs.LoadedParts.{part-read, part-unread, fault-handed, taken-no-io}
 use Rattle.ssa_bench.proofs.load.read_first.Goals as goal
 

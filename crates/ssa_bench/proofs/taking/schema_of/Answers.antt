@@ -1,4 +1,4 @@
-use Rattle.std.proofs.Common.{◌≡◌, sym, subst}
+use Rattle.std.proofs.Common.{sym, subst}
 use Rattle.ssa_json.specs.View.{view}
 use Rattle.ssa_model.specs.laws.BenchFiles.{schema_in}
 use Rattle.ssa_file.specs.declared.loading.LoadFault.{LoadFault}

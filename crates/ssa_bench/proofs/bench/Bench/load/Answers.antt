@@ -1,4 +1,3 @@
-use Rattle.std.proofs.Common.{Option, ℕ, List}
 use Rattle.ssa_bench.specs.Loading.{Loads}
 use Rattle.ssa_bench.proofs.LoadedParts.{fault-handed}
 use Rattle.ssa_bench.proofs.LoadedBench.{begun, first-refused, head-misplaced, head-refused, loaded, schema-refused, steps-refused}

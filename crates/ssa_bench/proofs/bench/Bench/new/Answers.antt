@@ -1,7 +1,6 @@
-use Rattle.std.proofs.Common.{◌≡◌, [], Option, None, Some, List, map, string_bytes, refl, sym, ap, ◌∙◌}
+use Rattle.std.proofs.Common.{◌≡◌, [], Option, None, Some, map, string_bytes, refl, sym, ap, ◌∙◌}
 use Rattle.std.specs.Prelude.{Ok, Err}
 use Rattle.ssa_model.specs.definitions.Objects.{Identity}
-use Rattle.ssa_model.specs.definitions.Json.{Json}
 use Rattle.ssa_model.specs.definitions.Kind.{wrong_type, fault_at}
 use Rattle.ssa_model.specs.definitions.Answers.{body_fault, identity_fault, file_state}
 use Rattle.ssa_json.specs.Readings.{readings}

@@ -1,5 +1,4 @@
 use Rattle.std.proofs.Common.{◌≡◌, true, subst}
-use Rattle.std.specs.Prelude.{Ok}
 use Rattle.ssa_model.specs.definitions.History as model
 use Rattle.ssa_model.specs.definitions.History.{present}
 use Rattle.ssa_model.specs.definitions.Objects.{is_identity}

@@ -1,0 +1,126 @@
+//! The lines of a bench file: each is compared with what is written of what it says.
+ghost use Rattle.std.specs.Prelude.{◌≡◌, Ok, ◌&&◌, ◌<◌, ◌-◌, ◌||◌, IfOk, false};
+ghost use Rattle.ssa_model.specs.definitions.Answers.{lone_state};
+ghost use Rattle.ssa_model.specs.definitions.History.{past_len, present};
+ghost use Rattle.ssa_model.specs.definitions.Valid.{IsValidState};
+ghost use Rattle.ssa_json.specs.Readings.{readings};
+ghost use Rattle.ssa_json.specs.View.{view};
+ghost use Rattle.ssa_merge.specs.States.{state_view};
+ghost use Rattle.ssa_model.specs.definitions.Limits.{most_past};
+ghost use Rattle.ssa_model.specs.definitions.Json.{compact, same_text};
+ghost use Rattle.ssa_model.specs.definitions.BenchText.{first_json, step_json};
+ghost use Rattle.ssa_model.specs.laws.BenchFiles.{keeps_order, lone_in, with_steps};
+ghost use Rattle.ssa_turn.specs.Histories.{step_view};
+ghost use Rattle.ssa_file.specs.Heads.{head_view};
+ghost use Rattle.ssa_bench.specs.Taking.{GoesOn, IsTaken, TakesStep};
+
+use super::Bench;
+use crate::taking::{label_in, load_fault, object_in, state_in};
+use ssa_file::head::Head;
+use ssa_file::loading::{FileLine, LoadFault};
+use ssa_file::written::{is_first, is_step};
+use ssa_merge::order::keeps_order;
+use ssa_schema::schema::Schema;
+use ssa_turn::timeline::Step;
+use std::alloc::{AllocError, Global};
+
+impl Bench {
+    // Whether the text is that of the first state's line.
+    fn is_first_line(&self, alloc: Global, text: &[u8]) -> Result<bool, AllocError>
+        ensures { IfOk result (λ same. same ≡ same_text (compact (first_json self.now)) text.now) }
+    {
+        is_first(
+            alloc,
+            &self.schema,
+            &self.identity,
+            self.timeline.first(),
+            text,
+        )
+    }
+
+    // The bench of the first state that a line tells.
+    pub(crate) fn of_first_line(
+        alloc: Global,
+        schema: Schema,
+        line: FileLine,
+    ) -> Result<Bench, LoadFault>
+        requires { line.text.items ≡ compact (view line.value) }
+        ensures taken { IsTaken result (lone_in readings schema (view line.value)) }
+        ensures lone { IfOk result (λ b. b.timeline ≡ lone_state b.timeline.first) }
+    {
+        let FileLine { value, text } = line;
+        match Bench::new(alloc, schema, object_in(alloc, value)) {
+            Ok(bench) => {
+                if bench.is_first_line(alloc, &text)? {
+                    Ok(bench)
+                } else {
+                    Err(LoadFault::BenchText)
+                }
+            }
+            Err(fault) => Err(load_fault(fault)),
+        }
+    }
+
+    // Whether the step is told by the text, and keeps the order of the present state's managers.
+    fn is_next_line(&self, alloc: Global, step: &Step, text: &[u8]) -> Result<bool, AllocError>
+        requires { IsValidState self.now.schema.kind (state_view step.now.state) }
+        ensures { IfOk result (λ is. is ≡ (same_text (compact (step_json self.now (step_view step.now))) text.now && keeps_order (present self.now.timeline).table (state_view step.now.state).table)) }
+    {
+        if !is_step(alloc, &self.schema, &self.identity, step, text)? {
+            return Ok(false);
+        }
+        let before = self.timeline.present();
+        keeps_order(
+            alloc,
+            before.managers.entries(),
+            step.state.managers.entries(),
+        )
+    }
+
+    // The step that a line tells, behind the present state.
+    fn step_of_line(&self, alloc: Global, line: FileLine) -> Result<Step, LoadFault>
+        requires { line.text.items ≡ compact (view line.value) }
+        ensures taken { TakesStep self.now result (view line.value) }
+        ensures valid { IfOk result (λ s. IsValidState self.now.schema.kind (state_view s.state)) }
+    {
+        let Some(label) = label_in(alloc, &line.value)? else {
+            return Err(LoadFault::BenchText);
+        };
+        let FileLine { value, text } = line;
+        match state_in(alloc, &self.schema, object_in(alloc, value)) {
+            Ok(state) => {
+                let step = Step { label, state };
+                if self.is_next_line(alloc, &step, &text)? {
+                    Ok(step)
+                } else {
+                    Err(LoadFault::BenchText)
+                }
+            }
+            Err(fault) => Err(load_fault(fault)),
+        }
+    }
+
+    // Goes on by the step that a line tells.
+    pub(crate) fn take_line(&mut self, alloc: Global, line: FileLine) -> Result<(), LoadFault>
+        requires spelled { line.text.items ≡ compact (view line.value) }
+        requires few { past_len self.old.timeline < most_past }
+        ensures { GoesOn self.old self.new result (view line.value) }
+    {
+        self.timeline.place_is_within();
+        let step = self.step_of_line(alloc, line)?;
+        self.timeline.append(step)?;
+        Ok(())
+    }
+
+    // Goes to the place of a head that counts the states.
+    pub(crate) fn at_head(mut self, head: Head) -> Result<Bench, LoadFault>
+        ensures { IsTaken result (with_steps (head_view head) self self.timeline.later) }
+    {
+        let later_len = self.timeline.later().len();
+        if head.states != later_len + 1 || head.place > later_len {
+            return Err(LoadFault::BenchText);
+        }
+        self.timeline.go_to(head.place);
+        Ok(self)
+    }
+}
