@@ -412,6 +412,7 @@ impl Bench {
     /// stands in memory.
     pub fn save<S: Sink>(&self, alloc: Global, sink: &mut S) -> Result<(), SaveFault>
         ensures ok { OnOk result (Appends (S.contents sink.old) (S.contents sink.new) (bench_text self.now)) }
+        ensures handed_on { OnOk result (S.is_handed_on sink.new ≡ true) }
         ensures fits { OnOk result (length (bench_text self.now) ≤ most_bench_bytes) }
         ensures refused { IfErr result (NotSaved S.contents S.has_failed sink.old sink.new (bench_text self.now)) }
     {

@@ -188,6 +188,7 @@ pub fn bench_text(
 /// Writes the text of a bench file, and hands it on. A fault leaves a beginning written.
 pub fn write_text<S: Sink>(sink: &mut S, text: &[u8]) -> Result<(), DeviceFault>
     ensures ok { OnOk result (Appends (S.contents sink.old) (S.contents sink.new) text.now) }
+    ensures handed_on { OnOk result (S.is_handed_on sink.new ≡ true) }
     ensures err { OnErr result (AppendsPart (S.contents sink.old) (S.contents sink.new) text.now) }
     ensures failed { OnErr result (S.has_failed sink.new ≡ true) }
 {

@@ -1,5 +1,6 @@
 //! Members of objects.
-ghost use Rattle.std.specs.Prelude.{◌≡◌, OnOk, option_map};
+ghost use Rattle.std.specs.Prelude.{◌≡◌, OnErr, OnOk, option_map};
+ghost use Rattle.std.specs.BTreeMap.{IsUnchanged};
 ghost use Rattle.ssa_model.specs.definitions.Entries.{text_json};
 ghost use Rattle.ssa_model.specs.definitions.Json.{member_of};
 ghost use Rattle.ssa_model.specs.definitions.Objects.{with_member};
@@ -25,13 +26,15 @@ pub fn has_member(members: &BTreeMap<String, Json>, name: &str) -> bool
 }
 
 /// Puts a member in its place among members whose names rise, or in the place of the one of its name.
+/// On `Err` the members are as they were.
 pub fn put_member(
     alloc: Global,
     members: &mut BTreeMap<String, Json>,
     name: &str,
     value: Json,
 ) -> Result<(), AllocError>
-    ensures { OnOk result (members_view members.new.entries ≡ with_member name.now (view value) (members_view members.old.entries)) }
+    ensures ok { OnOk result (members_view members.new.entries ≡ with_member name.now (view value) (members_view members.old.entries)) }
+    ensures err { OnErr result (IsUnchanged members.old members.new) }
 {
     let key = String::from_str(alloc, name)?;
     drop(members.insert(key, value)?);
@@ -39,13 +42,15 @@ pub fn put_member(
 }
 
 /// Puts a text in its place among members whose names rise, or in the place of the one of its name.
+/// On `Err` the members are as they were.
 pub fn put_text(
     alloc: Global,
     members: &mut BTreeMap<String, Json>,
     name: &str,
     text: &str,
 ) -> Result<(), AllocError>
-    ensures { OnOk result (members_view members.new.entries ≡ with_member name.now (text_json text.now) (members_view members.old.entries)) }
+    ensures ok { OnOk result (members_view members.new.entries ≡ with_member name.now (text_json text.now) (members_view members.old.entries)) }
+    ensures err { OnErr result (IsUnchanged members.old members.new) }
 {
     let value = Json::Scalar(Scalar::Text(String::from_str(alloc, text)?));
     put_member(alloc, members, name, value)

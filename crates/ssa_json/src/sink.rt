@@ -14,17 +14,22 @@ pub trait Sink {
     // Whether the device has failed.
     ghost has_failed: { Self → Bool };
 
+    // Whether all that was written is handed on to the device: from a flush on, until more is written.
+    ghost is_handed_on: { Self → Bool };
+
     /// Writes the first bytes, at least one where there is one, and says how many.
     fn write(&mut self, bytes: &[u8]) -> Result<usize, DeviceFault>
         ensures bound { IfOk result (λ n. n ≤ length bytes.now) }
         ensures some { IfOk result (λ n. 0 < length bytes.now → 0 < n) }
         ensures bytes { WriteAppends (contents self.old) (contents self.new) result bytes.now }
+        ensures not_handed_on { IfOk result (λ n. 0 < n → is_handed_on self.new ≡ false) }
         ensures failed { has_failed self.new ≡ is_fault result }
         ensures stays_failed { IsTrue (has_failed self.old) → IsErr result };
 
     /// Hands on what was written.
     fn flush(&mut self) -> Result<(), DeviceFault>
         ensures bytes { Keeps (contents self.old) (contents self.new) }
+        ensures handed_on { OnOk result (is_handed_on self.new ≡ true) }
         ensures failed { has_failed self.new ≡ is_fault result }
         ensures stays_failed { IsTrue (has_failed self.old) → IsErr result };
 }
@@ -48,15 +53,17 @@ pub fn write_all<W: Sink>(writer: &mut W, bytes: &[u8]) -> Result<(), DeviceFaul
 pub struct OfWriter<W> {
     writer: W,
     has_failed: bool,
+    is_handed_on: bool,
 }
 
 impl<W: Write> OfWriter<W> {
     pub fn new(writer: W) -> OfWriter<W>
-        ensures { result ≡ record { writer = writer; has_failed = false } }
+        ensures { result ≡ record { writer = writer; has_failed = false; is_handed_on = true } }
     {
         OfWriter {
             writer,
             has_failed: false,
+            is_handed_on: true,
         }
     }
 
@@ -73,10 +80,13 @@ impl<W: Write> Sink for OfWriter<W> {
 
     ghost has_failed = { λ s. s.has_failed };
 
+    ghost is_handed_on = { λ s. s.is_handed_on };
+
     fn write(&mut self, bytes: &[u8]) -> Result<usize, DeviceFault> {
         if self.has_failed {
             return Err(DeviceFault);
         }
+        self.is_handed_on = false;
         match self.writer.write(bytes) {
             Ok(n) if n > 0 || bytes.is_empty() => Ok(n),
             _ => {
@@ -91,7 +101,10 @@ impl<W: Write> Sink for OfWriter<W> {
             return Err(DeviceFault);
         }
         match self.writer.flush() {
-            Ok(()) => Ok(()),
+            Ok(()) => {
+                self.is_handed_on = true;
+                Ok(())
+            }
             Err(_) => {
                 self.has_failed = true;
                 Err(DeviceFault)

@@ -96,7 +96,7 @@ fn push_copy(
     Ok(())
 }
 
-/// Adds a child behind the others, unless it has no path.
+/// Adds a child behind the others, unless it has no path. On `Err` the others are as they were.
 pub fn push_filled(
     alloc: Global,
     children: &mut Vec<(Elem, Trie)>,
@@ -104,7 +104,8 @@ pub fn push_filled(
     child: Trie,
 ) -> Result<(), AllocError>
     requires { is_trie child ≡ true }
-    ensures { OnOk result (IsGrown (element_view element.now) child children.old.items children.new.items) }
+    ensures ok { OnOk result (IsGrown (element_view element.now) child children.old.items children.new.items) }
+    ensures err { OnErr result (children.new.items ≡ children.old.items) }
 {
     if child.has_paths() {
         let own = element.copy(alloc)?;

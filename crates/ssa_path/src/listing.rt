@@ -35,8 +35,8 @@ fn way_to(alloc: Global, way: &[Elem], element: &Elem) -> Result<Vec<Elem>, Allo
     Ok(longer)
 }
 
-/// Adds the paths of a trie to which this way leads, in path order.
-pub fn list_paths(
+// Adds the paths of a trie to which this way leads, in path order.
+pub(crate) fn list_paths(
     alloc: Global,
     trie: &Trie,
     way: &[Elem],

@@ -26,6 +26,9 @@ pub fn session<R: Source, W: Sink>(
     ensures at_end { OnOk result (OnSome (R.remaining reader.old) (IsAtEnd (R.remaining reader.new))) }
     ensures met_end { OnOk result (R.has_met_end reader.new ≡ true) }
 
+    // All replies are handed on.
+    ensures handed_on { OnOk result (W.is_handed_on writer.old ≡ true → W.is_handed_on writer.new ≡ true) }
+
     // The reader failed: the same of the whole lines that were read.
     ensures reader { result ≡ Err SessionFault.Reader → RunsWhole (R.remaining reader.old) (R.remaining reader.new)
         (W.contents writer.old) (W.contents writer.new) bench.old bench.new }

@@ -47,6 +47,9 @@ pub fn session<R: Source, W: Sink, M: Machine>(
     ensures at_end { OnOk result (OnSome (R.remaining reader.old) (IsAtEnd (R.remaining reader.new))) }
     ensures met_end { OnOk result (R.has_met_end reader.new ≡ true) }
 
+    // All replies are handed on.
+    ensures handed_on { OnOk result (W.is_handed_on writer.old ≡ true → W.is_handed_on writer.new ≡ true) }
+
     // The reader failed: the whole lines that were read are answered.
     ensures reader { result ≡ Err SessionFault.Reader → AnswersWhole M.reply M.after (R.remaining reader.old) (R.remaining reader.new)
         (W.contents writer.old) (W.contents writer.new) machine.old machine.new }
@@ -90,6 +93,7 @@ fn answer_line<W: Sink, M: Machine>(
 ) -> Result<(), DeviceFault>
     ensures ok { OnOk result ((text : List ℕ) → Holds most_line_bytes line.now text
         → AnswersLine M.reply M.after machine.old machine.new text (Appends (W.contents writer.old) (W.contents writer.new))) }
+    ensures handed_on { OnOk result (W.is_handed_on writer.new ≡ true) }
     ensures err { OnErr result ((text : List ℕ) → Holds most_line_bytes line.now text
         → AnswersLine M.reply M.after machine.old machine.new text (AppendsPart (W.contents writer.old) (W.contents writer.new))) }
     ensures failed { OnErr result (W.has_failed writer.new ≡ true) }

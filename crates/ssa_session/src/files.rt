@@ -167,6 +167,7 @@ pub fn tell<W: Sink>(
     fault: &FileFault,
 ) -> Result<Ending, DeviceFault>
     ensures telling { IsTelling fault.now (W.contents writer.old) (W.contents writer.new) result }
+    ensures handed_on { OnOk result (W.is_handed_on writer.new ≡ true) }
     ensures failed { OnErr result (W.has_failed writer.new ≡ true) }
 {
     match told(alloc, fault) {
@@ -192,6 +193,9 @@ pub fn session_on<R: Source, W: Sink>(
 ) -> Result<Ending, SessionFault>
     ensures held { IsHeld (bench_of_file readings schema object.now) (R.remaining reader.old) (R.remaining reader.new)
         (W.contents writer.old) (W.contents writer.new) result }
+
+    // Where no device fails, all that was written is handed on.
+    ensures handed_on { OnOk result (W.is_handed_on writer.old ≡ true → W.is_handed_on writer.new ≡ true) }
 
     // The session is done only at the end of its input, and a device's fault is told only where it failed.
     ensures at_end { result ≡ Ok Ending.Done → OnSome (R.remaining reader.old) (IsAtEnd (R.remaining reader.new)) }

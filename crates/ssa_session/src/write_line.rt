@@ -10,6 +10,7 @@ use ssa_json::source::DeviceFault;
 /// Writes a text and a line feed, and hands them on. A fault leaves a beginning written.
 pub fn write_line<W: Sink>(writer: &mut W, text: &[u8]) -> Result<(), DeviceFault>
     ensures ok { OnOk result (Appends (W.contents writer.old) (W.contents writer.new) (text.now ++ line_feed ∷ [])) }
+    ensures handed_on { OnOk result (W.is_handed_on writer.new ≡ true) }
     ensures err { OnErr result (AppendsPart (W.contents writer.old) (W.contents writer.new) (text.now ++ line_feed ∷ [])) }
     ensures failed { OnErr result (W.has_failed writer.new ≡ true) }
 {

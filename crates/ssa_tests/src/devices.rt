@@ -51,6 +51,7 @@ impl<'a> Source for Breaks<'a> {
 pub struct Marks {
     bytes: Vec<u8>,
     has_failed: bool,
+    is_handed_on: bool,
 }
 
 impl Marks {
@@ -58,6 +59,7 @@ impl Marks {
         Marks {
             bytes: Vec::new(alloc),
             has_failed: false,
+            is_handed_on: true,
         }
     }
 
@@ -87,6 +89,8 @@ impl Sink for Marks {
 
     ghost has_failed = { λ s. s.has_failed };
 
+    ghost is_handed_on = { λ s. s.is_handed_on };
+
     fn write(&mut self, bytes: &[u8]) -> Result<usize, DeviceFault> {
         let Some(first) = bytes.first() else {
             return if self.has_failed {
@@ -96,10 +100,13 @@ impl Sink for Marks {
             };
         };
         self.take(*first)?;
+        self.is_handed_on = false;
         Ok(1)
     }
 
     fn flush(&mut self) -> Result<(), DeviceFault> {
-        self.take(b'|')
+        self.take(b'|')?;
+        self.is_handed_on = true;
+        Ok(())
     }
 }

@@ -58,8 +58,8 @@ pub fn stand_alike(own: &[(Elem, Node)], others: &[(Elem, Node)]) -> bool
     true
 }
 
-/// Puts the children of a record or a Dict in the order of their elements.
-pub fn sort_children(children: &mut Vec<(Elem, Node)>) -> Result<(), AllocError>
+// Puts the children of a record or a Dict in the order of their elements.
+pub(crate) fn sort_children(children: &mut Vec<(Elem, Node)>) -> Result<(), AllocError>
     requires { are_apart (elements children.old.items) ≡ true }
     ensures { OnOk result (IsInOrder children.old.items children.new.items) }
 {

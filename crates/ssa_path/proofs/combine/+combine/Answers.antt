@@ -37,7 +37,7 @@ pub combine_children-loop-order-preserved : goal.combine_children-loop-order-pre
 combine_children-loop-order-preserved t c =
     let heads : heads_order (drop c.loop-order.i c.args.own.now) (drop c.loop-order.j c.args.others.now) ≡ Some Equal = sym c.order_at.ensures ∙ c.in-Some.is ∙ ap Some c.in-Equal.is in
     both-at c.args.how c.args.own.now c.args.others.now c.loop-order.i c.loop-order.j c.index-own-i-in-Equal.result c.index-others-j-in-Equal.result c.loop-order.combined.items c.push_filled.new.children.items c.in_ok-child-in-Equal.child heads c.index-own-i-in-Equal.is c.index-others-j-in-Equal.is
-    c.in_ok-child-in-Equal.ensures c.in_ok-push_filled-in-Equal.ensures c.loop-order.invariant
+    c.in_ok-child-in-Equal.ensures c.in_ok-push_filled-in-Equal.ensures.ok c.loop-order.invariant
 
 pub combine_children-returns : goal.combine_children-returns
 combine_children-returns t c =

@@ -25,7 +25,7 @@ loop-child-preserved t c =
     let left = c.in_ok-left.left in
     let made : IsWithoutKeyFields (keys_in e) child.1 c.stays-child_stays.result left = subst (λ ks. IsWithoutKeyFields ks child.1 c.stays-child_stays.result left) c.keys_in.ensures c.in_ok-left.ensures in
     leaving-more (λ p. not (is_key_field (key keys ∷ p))) c.deref-child-items.result.now c.loop-child.child-index child c.loop-child.below.items c.push_filled.new.children.items left (omega arith) c.child-item.is made.trie
-    (child-left keys e child.1 left c.stays-child_stays.result c.stays-child_stays.ensures made) c.in_ok-push_filled.ensures c.loop-child.invariant
+    (child-left keys e child.1 left c.stays-child_stays.result c.stays-child_stays.ensures made) c.in_ok-push_filled.ensures.ok c.loop-child.invariant
 
 pub returns : goal.returns
 returns t c =

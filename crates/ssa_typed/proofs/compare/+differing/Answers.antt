@@ -96,7 +96,7 @@ differing_below-loop-order-preserved t c =
     past-both c.is_dict-in_dict.result rs ss l.i l.j l.added.items l.modified.items l.removed.items l.invariant r s c.in_ok-child-in-Equal.child
     c.push_filled.new.children.items c.push_filled-in-Equal.new.children.items c.push_filled-in-Equal-2.new.children.items
     heads c.index-mine.ensures c.index-in-Equal.ensures before after c.in_ok-child-in-Equal.ensures
-    c.in_ok-push_filled-in-Equal.ensures c.in_ok-push_filled-in-Equal-2.ensures c.in_ok-push_filled-in-Equal-3.ensures
+    c.in_ok-push_filled-in-Equal.ensures.ok c.in_ok-push_filled-in-Equal-2.ensures.ok c.in_ok-push_filled-in-Equal-3.ensures.ok
 
 pub differing_below-returns : goal.differing_below-returns
 differing_below-returns t c =

@@ -46,12 +46,12 @@ lacking_below-loop-part-preserved t c =
       | lacking_below-in-Some+in_ok-trie-in-Some+in_ok-push_filled-in-Some w ↦
           let there = other-child n c.children.result.now c.in_ok-own.own.items c.deref.result.now e (Some w.in-Some.child.now) c.children.ensures.own c.deref.ensures.value c.in_ok-own.ensures w.in-Some.ensures in
           let trie = w.in_ok-trie-in-Some.trie in
-          rw w.lacking-is (lacking-more n ts i part out w.push_filled.new.children.items trie lt c.part-item.is (part-there n w.in-Some.child.now part trie there w.in_ok-trie-in-Some.ensures) w.in_ok-push_filled-in-Some.ensures c.loop-part.invariant)
+          rw w.lacking-is (lacking-more n ts i part out w.push_filled.new.children.items trie lt c.part-item.is (part-there n w.in-Some.child.now part trie there w.in_ok-trie-in-Some.ensures) w.in_ok-push_filled-in-Some.ensures.ok c.loop-part.invariant)
       | lacking_below-in-None+in_ok-trie-in-None+in_ok-push_filled-in-None w ↦
           let none = other-child n c.children.result.now c.in_ok-own.own.items c.deref.result.now e None c.children.ensures.own c.deref.ensures.value c.in_ok-own.ensures w.in-None.ensures in
           let trie = w.in_ok-trie-in-None.trie in
           let is_trie = trie-at ts i part lt c.part-item.is c.requires.tries in
-          rw w.lacking-is (lacking-more n ts i part out w.push_filled-in-None.new.children.items trie lt c.part-item.is (part-nowhere n part trie none is_trie w.in_ok-trie-in-None.ensures) w.in_ok-push_filled-in-None.ensures c.loop-part.invariant)
+          rw w.lacking-is (lacking-more n ts i part out w.push_filled-in-None.new.children.items trie lt c.part-item.is (part-nowhere n part trie none is_trie w.in_ok-trie-in-None.ensures) w.in_ok-push_filled-in-None.ensures.ok c.loop-part.invariant)
     ]
 
 pub lacking_below-returns : goal.lacking_below-returns

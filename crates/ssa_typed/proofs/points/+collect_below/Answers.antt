@@ -40,7 +40,7 @@ loop-child-preserved t c =
     let within : c.loop-child.child-index < length rs = omega arith in
     let made = child-trie c.args.what c.is_dict-in_dict.result (element_view r.now.0) r.now.1 _ tree c.has_place-here.ensures c.in_ok-below.ensures in
     collecting-more c.args.what c.is_dict-in_dict.result rs c.loop-child.child-index r c.loop-child.collected.items c.push_filled.new.children.items _
-    within c.child-item.is made c.in_ok-push_filled.ensures c.loop-child.invariant
+    within c.child-item.is made c.in_ok-push_filled.ensures.ok c.loop-child.invariant
 
 pub returns : goal.returns
 returns t c =
