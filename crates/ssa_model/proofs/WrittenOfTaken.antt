@@ -2,7 +2,7 @@
 use Rattle.std.proofs.Common.{◌≡◌, ◌+◌, length, List, [], ◌∷◌, map, ◌&&◌, Option, Some, None, option_and_then, sym, ap, ◌∙◌, eqb-true}
 use Rattle.std.proofs.lemmas.Bool.{and_parts}
 use Rattle.std.proofs.lemmas.Option.{same_Some, none-some}
-use Rattle.std.specs.Prelude.{◌==◌, codes, nat_le, flat_map, Result, Ok, Err}
+use Rattle.std.specs.Prelude.{◌==◌, codes, nat_le, Result, Ok, Err}
 use Rattle.ssa_model.specs.definitions.Limits.{most_past, most_bench_bytes}
 use Rattle.ssa_model.specs.definitions.Json.{Json, member_at, compact}
 use Rattle.ssa_model.specs.definitions.Readings.{Readings}
@@ -13,7 +13,7 @@ use Rattle.ssa_model.specs.definitions.Operations.{State}
 use Rattle.ssa_model.specs.definitions.History.{Label, Step, Bench, with_timeline}
 use Rattle.ssa_model.specs.definitions.Answers.{Fault, file_state, bench_of}
 use Rattle.ssa_model.specs.definitions.Lines.{ended}
-use Rattle.ssa_model.specs.definitions.BenchText.{line, head_of, first_json, step_json, bench_values}
+use Rattle.ssa_model.specs.definitions.BenchText.{head_of, first_json, step_json, bench_values}
 use Rattle.ssa_model.specs.laws.BenchFiles.{text_lines, spelled_values, given_if, is_written_as, number_in, Head, head_in, schema_in, object_in, lone_in, keeps_order, step_with, step_in, steps_in, with_steps, values_bench, label_in, TakenIsItsText}
 use Rattle.ssa_model.proofs.Given.{given-back, tested-back, and_then-back, map-back}
 use Rattle.ssa_model.proofs.LoneBenches.{lone-parts}

@@ -18,3 +18,5 @@ pub mod ShownStates
 pub mod OneWriting
 -- how a bench file is taken, line by line
 pub mod BenchFiles
+-- what rising names are
+pub mod MemberNames
