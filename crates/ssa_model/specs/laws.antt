@@ -18,3 +18,5 @@ pub mod ShownStates
 pub mod OneWriting
 -- how a bench file is taken, line by line
 pub mod BenchFiles
+-- how deep the values of a bench file nest
+pub mod BenchDepths
