@@ -6,3 +6,4 @@ pub mod LoadedParts
 pub mod LoadedSteps
 pub mod LoadedBench
 pub mod ValidBench
+pub mod SavedBench

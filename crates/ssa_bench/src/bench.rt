@@ -4,6 +4,7 @@ ghost use Rattle.ssa_model.specs.definitions.Limits.{most_bench_bytes};
 ghost use Rattle.ssa_model.specs.definitions.Answers.{answer, apply, update, strip, undo, redo, log, logged, apply_answer, bench_of, body_or_fault, command_body, owners_of, file_state, lone_bench};
 ghost use Rattle.ssa_model.specs.definitions.Entries.{object_of_state};
 ghost use Rattle.ssa_model.specs.definitions.History.{is_manager_name, past_len, future_len, present};
+ghost use Rattle.ssa_model.specs.definitions.BenchFile.{IsBenchFile};
 ghost use Rattle.ssa_model.specs.definitions.BenchText.{bench_text};
 ghost use Rattle.ssa_model.specs.definitions.PathMap.{size};
 ghost use Rattle.ssa_model.specs.definitions.Valid.{IsTable, IsValidState, IsValidBody};
@@ -28,12 +29,14 @@ use ssa_file::saving::{SaveFault, bench_text, write_text};
 use ssa_json::moment::Moment;
 use ssa_json::sink::Sink;
 use ssa_json::value::Json;
+use ssa_json::write::compact_is_read;
 use ssa_merge::manager::ManagerKey;
 use ssa_merge::managers::Managers;
 use ssa_merge::names::is_manager_name;
 use ssa_merge::owned::owners;
 use ssa_merge::plan::{plan_apply, plan_strip, plan_update};
 use ssa_merge::state::State;
+use ssa_model::{bench_values_are_shallow, rising_names_are_distinct};
 use ssa_object::body_value::{body_value, file_parts};
 use ssa_object::identity::{Identity, gives_managed_fields, has_identity};
 use ssa_object::object::object_of_state;
@@ -414,10 +417,17 @@ impl Bench {
         ensures ok { OnOk result (Appends (S.contents sink.old) (S.contents sink.new) (bench_text self.now)) }
         ensures handed_on { OnOk result (S.is_handed_on sink.new ≡ true) }
         ensures fits { OnOk result (length (bench_text self.now) ≤ most_bench_bytes) }
+
+        // What is written is the bench's file: `load` gives the bench back from it.
+        ensures file { OnOk result (IsBenchFile readings (bench_text self.now) self.now) }
         ensures refused { IfErr result (NotSaved S.contents S.has_failed sink.old sink.new (bench_text self.now)) }
     {
         let text = bench_text(alloc, &self.schema, &self.identity, &self.timeline)?;
         write_text(sink, &text)?;
+        self.is_valid();
+        compact_is_read();
+        rising_names_are_distinct();
+        bench_values_are_shallow();
         Ok(())
     }
 }

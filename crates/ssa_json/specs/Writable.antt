@@ -1,7 +1,8 @@
 -- The values whose compact text is read back.
-use Rattle.std.specs.Prelude.{◌≡◌, ◌≤◌, ℕ, suc, max, Bool, true, ◌&&◌, Ok}
+use Rattle.std.specs.Prelude.{◌≡◌, ◌≤◌, Bool, true, ◌&&◌, Ok}
 use Rattle.std.specs.Str.{is_utf8}
 pub use Rattle.serde_json.specs.Read.{max_depth}
+pub use Rattle.ssa_model.specs.definitions.Json.{depth, items_depth, members_depth}
 pub use Rattle.ssa_model.specs.definitions.MemberNames.{is_below, has_rising_names, items_have_rising_names, members_rise}
 use Rattle.ssa_model.specs.definitions.Json.{Scalar, text, whole, truth, Json, scalar, list, object, Items, no_items, item, Members, no_members, member, compact}
 use Rattle.ssa_json.specs.Reading.{json_reading}
@@ -26,21 +27,6 @@ abbrev mutual
   pub members_have_utf8 : Members → Bool
   members_have_utf8 no_members = true
   members_have_utf8 (member n v ms) = is_utf8 n && (has_utf8 v && members_have_utf8 ms)
-
--- how deep lists and objects nest
-abbrev mutual
-  pub depth : Json → ℕ
-  depth (scalar s) = 0
-  depth (list vs) = suc (items_depth vs)
-  depth (object ms) = suc (members_depth ms)
-
-  pub items_depth : Items → ℕ
-  items_depth no_items = 0
-  items_depth (item v vs) = max (depth v) (items_depth vs)
-
-  pub members_depth : Members → ℕ
-  members_depth no_members = 0
-  members_depth (member n v ms) = max (depth v) (members_depth ms)
 
 -- what each value of the program has
 pub record IsOfProgram (v : Json) : Type 0 where

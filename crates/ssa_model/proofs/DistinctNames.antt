@@ -153,7 +153,7 @@ shown_is_distinct kind body lawful k atoms =
 
 -- ---- what stands in a value whose names differ
 
-member-distinct : (n : Text) (ms : Members) (v : Json) → are_distinct_members ms ≡ true → member_of n ms ≡ Some v → has_distinct_names v ≡ true
+pub member-distinct : (n : Text) (ms : Members) (v : Json) → are_distinct_members ms ≡ true → member_of n ms ≡ Some v → has_distinct_names v ≡ true
 member-distinct n no_members v apart found = absurd (none-some v found)
 member-distinct n (member m w ms) v apart found =
     let later = second_so (is_missing (member_of m ms)) _ apart in

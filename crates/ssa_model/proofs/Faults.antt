@@ -34,7 +34,7 @@ none-found (f ∷ fs) h = absurd (true≢false (sym h))
 
 -- ---- atomic values
 
-abbrev shape_test : Json → Path → Option Shape → List FaultAt
+abbrev pub shape_test : Json → Path → Option Shape → List FaultAt
 shape_test v p None = fault_at unknown_field p ∷ []
 shape_test v p (Some s) = shape_faults s v p
 
@@ -42,7 +42,7 @@ shape_test-is : (v : Json) (p : Path) (o : Option Shape) → ◌≡◌ {A = List
 shape_test-is v p None = refl
 shape_test-is v p (Some s) = refl
 
-shape_member-now : (fs : ShapeFields) (n : Text) (v : Json) (ms : Members) (p : Path) → shape_field_faults fs (member n v ms) p ≡ shape_test v p (shape_of n fs) ++ shape_field_faults fs ms p
+pub shape_member-now : (fs : ShapeFields) (n : Text) (v : Json) (ms : Members) (p : Path) → shape_field_faults fs (member n v ms) p ≡ shape_test v p (shape_of n fs) ++ shape_field_faults fs ms p
 shape_member-now fs n v ms p = ap (λ xs. xs ++ shape_field_faults fs ms p) (shape_test-is v p (shape_of n fs))
 
 shape_member-anywhere : (o : Option Shape) (v : Json) (p q : Path) → ((s : Shape) → shape_faults s v p ≡ [] → shape_faults s v q ≡ []) → shape_test v p o ≡ [] → shape_test v q o ≡ []

@@ -81,7 +81,7 @@ values-spelled =
 step-is : IsStep (readings_of (bench_values filed)) applied_step
 step-is = record { label = (refl, refl); table = (record { no_fault = refl; says = refl; moment = refl }, tt) }
 
-filed-valid : IsValidBench (readings_of (bench_values filed)) filed
+pub filed-valid : IsValidBench (readings_of (bench_values filed)) filed
 filed-valid = record {
   read = refl;
   accepted = record { lawful = refl; apart = refl };

@@ -20,3 +20,5 @@ pub mod OneWriting
 pub mod BenchFiles
 -- what rising names are
 pub mod MemberNames
+-- how deep the values of a bench file nest
+pub mod BenchDepths

@@ -21,6 +21,10 @@ most_name_bytes = 128
 abbrev pub most_levels : ℕ
 most_levels = 32
 
+-- how deep the lists and objects of a JSON text nest
+abbrev pub most_depth : ℕ
+most_depth = 127
+
 -- bytes of a session's line, without its line feed
 abbrev pub most_line_bytes : ℕ
 most_line_bytes = 1048576

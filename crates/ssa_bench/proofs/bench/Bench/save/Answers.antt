@@ -2,11 +2,15 @@ use Rattle.std.proofs.Common.{◌≡◌, ◌≤◌, ℕ, Bool, List, Option, len
 use Rattle.std.specs.Io.KnownBytes.{Appends}
 use Rattle.ssa_model.specs.definitions.Limits.{most_bench_bytes}
 use Rattle.ssa_model.specs.definitions.Json.{Text}
-use Rattle.ssa_model.specs.definitions.BenchText.{bench_text}
+use Rattle.ssa_model.specs.definitions.BenchText.{bench_text, bench_values}
+use Rattle.ssa_model.specs.definitions.History.{Bench}
+use Rattle.std.specs.List.{All}
 use Rattle.ssa_json.specs.Devices.{AppendsPart}
 use Rattle.ssa_file.specs.Saving.{NotSaved}
 use Rattle.ssa_file.specs.declared.saving.SaveFault.TheVariants.{Io}
+use Rattle.ssa_json.specs.Writable.{IsOfProgram}
 use Rattle.ssa_file.proofs.SavingFacts.{handed-on}
+use Rattle.ssa_bench.proofs.SavedBench.{is-file}
 use Rattle.ssa_bench.proofs.bench.Bench.save.Goals as goal
 
 broken_off : {S : Type 0} (contents : S → Option (List ℕ)) (has_failed : S → Bool) (old new : S) (written text : Text) → written ≡ text → length written ≤ most_bench_bytes
@@ -24,3 +28,9 @@ pub returns-clause-ok : goal.returns-clause-ok
 returns-clause-ok g c =
     let whole = c.deref.ensures.value ∙ c.in_ok-text.ensures.ok ∙ ap bench_text c.self.view_is in
     subst (Appends (g.S.Sink.contents c.args.sink.now) (g.S.Sink.contents c.write_text.new.sink)) whole c.in_ok-write_text.ensures.ok
+
+pub returns-clause-file : goal.returns-clause-file
+returns-clause-file g c =
+    is-file c.args.self.now c.compact_is_read.ensures c.rising_names_are_distinct.ensures c.bench_values_are_shallow.ensures.all c.is_valid.ensures
+    (subst (λ (b : Bench). All IsOfProgram (bench_values b)) c.self.view_is c.in_ok-text.ensures.of_program)
+    (subst (λ (b : Bench). length (bench_text b) ≤ most_bench_bytes) c.self.view_is (subst (λ (t : Text). length t ≤ most_bench_bytes) c.in_ok-text.ensures.ok c.in_ok-text.ensures.fits))
