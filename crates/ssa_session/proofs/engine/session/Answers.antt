@@ -8,7 +8,9 @@ pub loop-end-init : goal.loop-end-init
 loop-end-init g c = record { answered = SoFar-none _ _ _ _ _; handed_on = λ h. h }
 
 pub returns-in_default-clause-reader : goal.returns-in_default-clause-reader
-returns-in_default-clause-reader g c = λ _. AnswersWhole-fault _ _ _ _ _ _ _ (g.W.Sink.contents c.loop-end.writer) _ _ c.loop-end.machine _ c.loop-end.invariant.answered (rw c.in_default.is at c.read_line.ensures.takes)
+returns-in_default-clause-reader g c =
+    λ _. AnswersWhole-fault _ _ _ _ _ _ _ (g.W.Sink.contents c.loop-end.writer) _ _ c.loop-end.machine _ c.loop-end.invariant.answered
+    (rw c.in_default.is at c.read_line.ensures.takes)
 
 pub loop-end-preserved : goal.loop-end-preserved
 loop-end-preserved g c =
