@@ -1,5 +1,5 @@
 -- What is saved is the file of the bench.
-use Rattle.std.proofs.Common.{◌≡◌, ◌≤◌, List, [], ◌∷◌, length, true, refl}
+use Rattle.std.proofs.Common.{◌≡◌, ◌≤◌, List, [], ◌∷◌, length, map, true, refl}
 use Rattle.std.specs.List.{All}
 use Rattle.std.proofs.lemmas.List.Elements.{All-head, All-tail, All-nil, All-cons}
 use Rattle.ssa_model.specs.definitions.Limits.{most_bench_bytes}
@@ -24,8 +24,9 @@ all-spelled (v ∷ vs) read made shallow =
 pub is-file : (bench : Bench) → CompactIsRead → RisingIsDistinct → DistinctBenchIsShallow → IsValidBench readings bench → All IsOfProgram (bench_values bench)
     → length (bench_text bench) ≤ most_bench_bytes → IsBenchFile readings (bench_text bench) bench
 is-file bench read distinct shallow valid made fits =
-    let later = All-tail IsOfProgram (head_json bench.timeline) _ made in
-    let source = All-head IsOfProgram bench.schema.source _ later in
+    let states = first_json bench ∷ map (step_json bench) bench.timeline.later in
+    let behind = All-tail IsOfProgram (head_json bench.timeline) (bench.schema.source ∷ states) made in
+    let source = All-head IsOfProgram bench.schema.source states behind in
     record {
       valid = valid;
       text = refl;

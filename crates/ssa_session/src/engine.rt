@@ -8,7 +8,7 @@ ghost use Rattle.ssa_session.specs.Session.{AnswersLine};
 ghost use Rattle.ssa_session.specs.Outcome.{AnswersAll, AnswersWhole, AnswersPartly};
 
 use crate::machine::Machine;
-use crate::write_line::write_line;
+use crate::write_line::{write_line, write_reply};
 use ssa_file::line::Line;
 use ssa_file::read_line::{LineEnd, read_line};
 use ssa_json::sink::Sink;
@@ -102,7 +102,7 @@ fn answer_line<W: Sink, M: Machine>(
         Line::TooLong => write_line(writer, TOO_LONG),
         Line::OutOfMemory => write_line(writer, OUT_OF_MEMORY),
         Line::Kept(bytes) => match machine.answer(alloc, bytes) {
-            Ok(text) => write_line(writer, &text),
+            Ok(text) => write_reply(writer, text),
             Err(_) => write_line(writer, OUT_OF_MEMORY),
         },
     }

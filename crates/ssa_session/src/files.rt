@@ -12,7 +12,7 @@ ghost use Rattle.ssa_session.specs.FileSessions.{IsHeld, IsTelling};
 use crate::bench_session::session;
 use crate::engine::{OUT_OF_MEMORY, SessionFault, TOO_LONG};
 use crate::fault_text::{NOT_JSON, NULL_VALUE, NUMBER_OUTSIDE, fault_text};
-use crate::write_line::write_line;
+use crate::write_line::{write_line, write_reply};
 use ssa_bench::bench::Bench;
 use ssa_bench::fault::Fault;
 use ssa_json::fault::JsonFault;
@@ -172,7 +172,7 @@ pub fn tell<W: Sink>(
 {
     match told(alloc, fault) {
         Ok(text) => {
-            write_line(writer, &text)?;
+            write_reply(writer, text)?;
             Ok(Ending::Refused)
         }
         Err(_) => {
