@@ -5,3 +5,4 @@ pub mod TakenSteps
 pub mod LoadedParts
 pub mod LoadedSteps
 pub mod LoadedBench
+pub mod ValidBench

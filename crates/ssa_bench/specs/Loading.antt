@@ -5,7 +5,7 @@ use Rattle.ssa_model.specs.definitions.Json.{Text, Json, compact}
 use Rattle.ssa_model.specs.definitions.History.{Bench, Step, Timeline, with_timeline}
 use Rattle.ssa_model.specs.definitions.Operations.{State}
 use Rattle.ssa_model.specs.definitions.BenchText.{bench_text}
-use Rattle.ssa_model.specs.definitions.BenchFile.{IsBenchFile}
+use Rattle.ssa_model.specs.definitions.BenchFile.{IsBenchFile, IsValidBench}
 use Rattle.ssa_model.specs.laws.BenchFiles.{bench_in, steps_in, values_of}
 use Rattle.ssa_json.specs.Readings.{readings}
 use Rattle.ssa_json.specs.View.{view}
@@ -69,9 +69,10 @@ TakesSteps (Some xs) after room lone new (Err f) = Unit {0}
 
 -- ---- the bench
 
--- the bytes are the file of the bench, and were taken to their end
+-- the bytes are the file of the bench, which is valid, and were taken to their end
 pub record IsLoaded (xs : List ℕ) (after : Option (List ℕ)) (bench : Bench) : Type 0 where
   pub taken : bench_in readings xs ≡ Some bench
+  pub valid : IsValidBench readings bench
   pub text : xs ≡ bench_text bench
   pub fits : length xs ≤ most_bench_bytes
   pub left : after ≡ Some []

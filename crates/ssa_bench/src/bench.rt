@@ -20,6 +20,7 @@ ghost use Rattle.ssa_file.specs.Saving.{NotSaved};
 ghost use Rattle.ssa_bench.specs.ReadBack.{AllTakenBack};
 ghost use Rattle.ssa_model.specs.definitions.Limits.{most_past};
 ghost use Rattle.ssa_model.specs.definitions.Json.{compact, same_text};
+ghost use Rattle.ssa_model.specs.definitions.BenchFile.{IsValidBench};
 ghost use Rattle.ssa_model.specs.definitions.BenchText.{first_json, step_json};
 ghost use Rattle.ssa_model.specs.laws.BenchFiles.{keeps_order, lone_in, with_steps};
 ghost use Rattle.ssa_turn.specs.Histories.{step_view};
@@ -370,6 +371,19 @@ impl Bench {
         ensures { IsValidHistory self.now.schema.kind self.now.timeline }
     {
         let _ = &self.timeline;
+    }
+
+    /// The bench is valid: all that a bench file tells of it is as the definitions ask.
+    ///
+    /// Looks at the numbers of the managers' sets, and changes nothing. Takes no memory.
+    pub fn is_valid(&self)
+        ensures { IsValidBench readings self.now }
+    {
+        let _kind = self.schema.kind();
+        self.identity.parts_are_named();
+        self.timeline.place_is_within();
+        self.timeline.own_entries_are_read();
+        self.timeline.own_moments_are_read();
     }
 
     /// The object that is shown without the managers' entries is taken as the present body: by a

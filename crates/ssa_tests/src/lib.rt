@@ -10,6 +10,8 @@ mod file_tests;
 #[cfg(test)]
 mod limit_tests;
 #[cfg(test)]
+mod loading_tests;
+#[cfg(test)]
 mod object_file_tests;
 #[cfg(test)]
 mod sample;

@@ -42,6 +42,28 @@ pub fn line(alloc: Global, word: &str, who: &str, object: &str) -> Result<String
     .concat(alloc)
 }
 
+/// An image of the object, as a member behind its metadata.
+pub const IMAGE: &str = ",\"spec\":{\"image\":\"a\"}";
+
+const ENTRY: &str =
+    "\"managedFields\":[{\"apiVersion\":\"example.com/v1\",\"fieldsType\":\"FieldsV1\",\"fieldsV1\":{\"f:spec\":{\"f:image\":{}}},\"manager\":\"kubectl\",\"operation\":\"Apply\",\"time\":\"2024-05-01T10:00:01Z\"}],";
+
+/// The file of the bench on which the image was applied.
+pub fn bench_file(alloc: Global) -> Result<String, AllocError> {
+    let first = web(alloc, "", "")?;
+    let second = web(alloc, ENTRY, IMAGE)?;
+    [
+        "{\"format\":1,\"place\":1,\"states\":2}\n",
+        SCHEMA,
+        "\n{\"command\":{},\"object\":",
+        first.as_str(),
+        "}\n{\"command\":{\"at\":\"2024-05-01T10:00:01Z\",\"do\":\"apply\",\"force\":false,\"manager\":\"kubectl\"},\"object\":",
+        second.as_str(),
+        "}\n",
+    ]
+    .concat(alloc)
+}
+
 /// The value that a text is.
 pub fn json(alloc: Global, text: &str) -> Result<Json, Fail> {
     Ok(Json::read(alloc, text.as_bytes(), text.len())?)

@@ -1,34 +1,12 @@
 //! Bench files: what is written, that it is handed on, and what a full device is left with.
 
 use crate::devices::Marks;
-use crate::sample::{SCHEMA, answers, bench, line, web};
+use crate::sample::{IMAGE, answers, bench, bench_file, line, web};
 use ssa_bench::bench::Bench;
 use ssa_file::saving::SaveFault;
 use ssa_json::sink::OfWriter;
-use std::alloc::{AllocError, Global};
+use std::alloc::Global;
 use std::test::Fail;
-
-const IMAGE: &str = ",\"spec\":{\"image\":\"a\"}";
-
-const ENTRY: &str =
-    "\"managedFields\":[{\"apiVersion\":\"example.com/v1\",\"fieldsType\":\"FieldsV1\",\"fieldsV1\":{\"f:spec\":{\"f:image\":{}}},\"manager\":\"kubectl\",\"operation\":\"Apply\",\"time\":\"2024-05-01T10:00:01Z\"}],";
-
-// The file of the bench on which an image was applied, flushed once at its end.
-fn file(alloc: Global) -> Result<String, AllocError> {
-    let first = web(alloc, "", "")?;
-    let second = web(alloc, ENTRY, IMAGE)?;
-    let text = [
-        "{\"format\":1,\"place\":1,\"states\":2}\n",
-        SCHEMA,
-        "\n{\"command\":{},\"object\":",
-        first.as_str(),
-        "}\n{\"command\":{\"at\":\"2024-05-01T10:00:01Z\",\"do\":\"apply\",\"force\":false,\"manager\":\"kubectl\"},\"object\":",
-        second.as_str(),
-        "}\n|",
-    ]
-    .concat(alloc)?;
-    Ok(text)
-}
 
 // Applies an image, and saves the bench: what then stands in the device.
 fn apply_and_save(alloc: Global, bench: &mut Bench) -> Result<Marks, Fail> {
@@ -47,7 +25,8 @@ fn a_saved_bench_is_flushed(rt: HostRuntime) -> Result<(), Fail> {
     let mut bench = bench(rt.alloc())?;
     let device = apply_and_save(rt.alloc(), &mut bench);
     drop(bench);
-    assert!(rt; device?.bytes() == file(rt.alloc())?.as_bytes());
+    let written = [bench_file(rt.alloc())?.as_str(), "|"].concat(rt.alloc())?;
+    assert!(rt; device?.bytes() == written.as_bytes());
     Ok(())
 }
 

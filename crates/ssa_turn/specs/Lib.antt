@@ -1,3 +1,4 @@
 pub mod Histories
 pub mod TablesBack
 pub mod LabelReading
+pub mod Dated

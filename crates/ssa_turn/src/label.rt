@@ -1,9 +1,10 @@
 //! The commands that made the states of a history, and how they are told.
-ghost use Rattle.std.specs.Prelude.{◌≡◌, IfOk};
+ghost use Rattle.std.specs.Prelude.{◌≡◌, IfOk, true};
 ghost use Rattle.ssa_model.specs.definitions.History.{applied, stripped, updated};
 ghost use Rattle.ssa_model.specs.definitions.Replies.{label_json};
 ghost use Rattle.ssa_json.specs.View.{view};
 ghost use Rattle.ssa_turn.specs.Histories.{label_view};
+ghost use Rattle.ssa_turn.specs.Dated.{is_dated};
 
 use ssa_json::members::{put_member, put_text};
 use ssa_json::moment::Moment;
@@ -68,6 +69,18 @@ impl Label {
             Label::Apply { at, force, who } => applied_json(alloc, at, *force, who.as_str()),
             Label::Update { at, who } => updated_json(alloc, at, who.as_str()),
             Label::Strip => stripped_json(alloc),
+        }
+    }
+
+    /// The label's moment is one, where it has one.
+    pub fn own_moment_is_read(&self)
+        ensures { is_dated (label_view self.now) ≡ true }
+    {
+        match self {
+            Label::Apply { at, .. } | Label::Update { at, .. } => {
+                let _text = at.write();
+            }
+            Label::Strip => {}
         }
     }
 }

@@ -4,6 +4,7 @@ ghost use Rattle.ssa_model.specs.definitions.History as model;
 ghost use Rattle.ssa_model.specs.definitions.History.{present, past_len, future_len, appended, moved_to};
 ghost use Rattle.ssa_turn.specs.Histories.{label_view, lent_labels, steps_view};
 ghost use Rattle.std.specs.List.{All};
+ghost use Rattle.ssa_turn.specs.Dated.{MakesDated};
 ghost use Rattle.ssa_turn.specs.TablesBack.{AllTablesBack, MakesTableBack};
 ghost use Rattle.ssa_merge.specs.States.{state_view};
 
@@ -85,6 +86,15 @@ fn steps_are_read(steps: &[Step])
     }
 }
 
+// The moments of the steps' labels are moments.
+fn steps_are_dated(steps: &[Step])
+    ensures { All MakesDated (steps_view steps.now) }
+{
+    for step in steps {
+        step.label.own_moment_is_read();
+    }
+}
+
 impl Timeline {
     /// A timeline of one state.
     pub fn new(alloc: Global, first: State) -> Timeline
@@ -112,6 +122,13 @@ impl Timeline {
     {
         self.first.managers.own_entries_are_read();
         steps_are_read(&self.later);
+    }
+
+    /// The moments of the commands that made the states are moments. Changes nothing, and takes no memory.
+    pub fn own_moments_are_read(&self)
+        ensures { All MakesDated self.now.later }
+    {
+        steps_are_dated(&self.later);
     }
 
     /// The state at the place.

@@ -11,7 +11,7 @@ loop-step-init c = All-nil IsStepBack
 
 pub loop-step-preserved : goal.loop-step-preserved
 loop-step-preserved c =
-    steps-more c.args.steps.now c.loop-step.step-index c.step-item.result c.loop-step-test.true c.step-item.is c.loop-step.invariant c.own_entries_are_read.ensures.sets
+    steps-more IsStepBack c.args.steps.now c.loop-step.step-index c.step-item.result c.loop-step-test.true c.step-item.is c.loop-step.invariant c.own_entries_are_read.ensures.sets
 
 pub returns : goal.returns
 returns c =

@@ -1,0 +1,112 @@
+//! Bench files that are taken again, and those that are none.
+
+use crate::devices::Breaks;
+use crate::sample::{answers, bench_file};
+use ssa_bench::bench::Bench;
+use ssa_file::loading::LoadFault;
+use ssa_json::reader::OfReader;
+use ssa_json::sink::OfWriter;
+use std::alloc::Global;
+use std::test::Fail;
+
+// The bench of a file.
+fn loaded(alloc: Global, file: &str) -> Result<Bench, LoadFault> {
+    let mut reader = OfReader::new(file.as_bytes());
+    Bench::load(alloc, &mut reader)
+}
+
+// The file of a bench.
+fn saved(alloc: Global, bench: &Bench) -> Result<Vec<u8>, Fail> {
+    let mut sink = OfWriter::new(Vec::new(alloc));
+    match bench.save(alloc, &mut sink) {
+        Ok(()) => Ok(sink.into_inner()),
+        Err(_) => Err(Fail::new("the bench is not saved")),
+    }
+}
+
+// What the bench of a file answers to a line, and its file afterwards.
+fn goes_on(alloc: Global, file: &str, line: &str) -> Result<(Vec<u8>, Vec<u8>), Fail> {
+    let Ok(mut bench) = loaded(alloc, file) else {
+        return Err(Fail::new("the file is refused"));
+    };
+    let reply = answers(alloc, &mut bench, line);
+    let file = saved(alloc, &bench);
+    drop(bench);
+    Ok((reply?, file?))
+}
+
+#[test]
+fn what_is_loaded_is_saved_again(rt: HostRuntime) -> Result<(), Fail> {
+    let file = bench_file(rt.alloc())?;
+    let (_, again) = goes_on(rt.alloc(), file.as_str(), "")?;
+    assert!(rt; again.as_slice() == file.as_bytes());
+    Ok(())
+}
+
+#[test]
+fn a_loaded_command_is_undone(rt: HostRuntime) -> Result<(), Fail> {
+    let alloc = rt.alloc();
+    let file = bench_file(alloc)?;
+    let (reply, undone) = goes_on(alloc, file.as_str(), "{\"do\":\"undo\"}\n")?;
+    assert!(rt; reply.as_slice() == b"{\"done\":\"undo\",\"future\":1,\"past\":0}\n");
+    let first = file.as_str().replacen(alloc, "\"place\":1", "\"place\":0", 1)?;
+    assert!(rt; undone.as_slice() == first.as_bytes());
+    let (reply, redone) = goes_on(alloc, first.as_str(), "{\"do\":\"redo\"}\n")?;
+    assert!(rt; reply.as_slice() == b"{\"done\":\"redo\",\"future\":0,\"past\":1}\n");
+    assert!(rt; redone.as_slice() == file.as_bytes());
+    Ok(())
+}
+
+// Parts of the file, and others in their place, with which it is no bench's.
+const DAMAGES: [(&str, &str); 14] = [
+    ("\"place\":1", "\"place\":2"),
+    ("\"states\":2", "\"states\":3"),
+    ("\"format\":1", "\"format\":2"),
+    ("{\"format\"", "{ \"format\""),
+    ("\"type\":\"object\"}\n", "\"type\":\"strings\"}\n"),
+    ("{\"command\":{},", "{\"command\":{\"do\":\"strip\"},"),
+    ("{\"command\":{},", "{"),
+    ("\"kind\":\"App\"", "\"kind\":\"\""),
+    ("\"force\":false,", ""),
+    ("\"manager\":\"kubectl\"},\"object\"", "\"manager\":\"\"},\"object\""),
+    ("\"at\":\"2024-05-01", "\"at\":\"2024-02-30"),
+    ("\"f:image\":{}", "\"f:replicas\":{}"),
+    ("\"image\":\"a\"", "\"image\":1"),
+    ("\"image\":\"a\"", "\"image\":\"\\u0061\""),
+];
+
+// Whether the text is refused as no bench's.
+fn is_refused(alloc: Global, text: &str) -> bool {
+    matches!(loaded(alloc, text), Err(LoadFault::BenchText))
+}
+
+#[test]
+fn damaged_files_are_refused(rt: HostRuntime) -> Result<(), Fail> {
+    let file = bench_file(rt.alloc())?;
+    for (part, other) in &DAMAGES {
+        let damaged = file.as_str().replacen(rt.alloc(), part, other, 1)?;
+        assert!(rt; damaged.as_str() != file.as_str(), "part {part}");
+        assert!(rt; is_refused(rt.alloc(), damaged.as_str()), "other {other}");
+    }
+    Ok(())
+}
+
+#[test]
+fn files_end_with_their_last_line(rt: HostRuntime) -> Result<(), Fail> {
+    let alloc = rt.alloc();
+    let file = bench_file(alloc)?;
+    let cut = file.as_str().strip_suffix("\n").unwrap_or("");
+    let longer = [file.as_str(), "\n"].concat(alloc)?;
+    assert!(rt; is_refused(alloc, ""));
+    assert!(rt; is_refused(alloc, cut));
+    assert!(rt; is_refused(alloc, longer.as_str()));
+    Ok(())
+}
+
+#[test]
+fn a_failed_reader_is_told(rt: HostRuntime) -> Result<(), Fail> {
+    let file = bench_file(rt.alloc())?;
+    let mut reader = Breaks::new(file.as_bytes());
+    assert!(rt; matches!(Bench::load(rt.alloc(), &mut reader), Err(LoadFault::Io)));
+    Ok(())
+}
