@@ -29,10 +29,9 @@ fn goes_on(alloc: Global, file: &str, line: &str) -> Result<(Vec<u8>, Vec<u8>), 
     let Ok(mut bench) = loaded(alloc, file) else {
         return Err(Fail::new("the file is refused"));
     };
-    let reply = answers(alloc, &mut bench, line);
-    let file = saved(alloc, &bench);
-    drop(bench);
-    Ok((reply?, file?))
+    let reply = answers(alloc, &mut bench, line)?;
+    let file = saved(alloc, &bench)?;
+    Ok((reply, file))
 }
 
 #[test]
@@ -48,11 +47,13 @@ fn a_loaded_command_is_undone(rt: HostRuntime) -> Result<(), Fail> {
     let alloc = rt.alloc();
     let file = bench_file(alloc)?;
     let (reply, undone) = goes_on(alloc, file.as_str(), "{\"do\":\"undo\"}\n")?;
-    assert!(rt; reply.as_slice() == b"{\"done\":\"undo\",\"future\":1,\"past\":0}\n");
-    let first = file.as_str().replacen(alloc, "\"place\":1", "\"place\":0", 1)?;
+    assert!(rt; reply.as_slice() == b"{\"done\":\"undo\",\"future\":1,\"past\":0}\n".as_slice());
+    let first = file
+        .as_str()
+        .replacen(alloc, "\"place\":1", "\"place\":0", 1)?;
     assert!(rt; undone.as_slice() == first.as_bytes());
     let (reply, redone) = goes_on(alloc, first.as_str(), "{\"do\":\"redo\"}\n")?;
-    assert!(rt; reply.as_slice() == b"{\"done\":\"redo\",\"future\":0,\"past\":1}\n");
+    assert!(rt; reply.as_slice() == b"{\"done\":\"redo\",\"future\":0,\"past\":1}\n".as_slice());
     assert!(rt; redone.as_slice() == file.as_bytes());
     Ok(())
 }
@@ -68,7 +69,10 @@ const DAMAGES: [(&str, &str); 14] = [
     ("{\"command\":{},", "{"),
     ("\"kind\":\"App\"", "\"kind\":\"\""),
     ("\"force\":false,", ""),
-    ("\"manager\":\"kubectl\"},\"object\"", "\"manager\":\"\"},\"object\""),
+    (
+        "\"manager\":\"kubectl\"},\"object\"",
+        "\"manager\":\"\"},\"object\"",
+    ),
     ("\"at\":\"2024-05-01", "\"at\":\"2024-02-30"),
     ("\"f:image\":{}", "\"f:replicas\":{}"),
     ("\"image\":\"a\"", "\"image\":1"),

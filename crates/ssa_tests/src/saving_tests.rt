@@ -22,11 +22,11 @@ fn apply_and_save(alloc: Global, bench: &mut Bench) -> Result<Marks, Fail> {
 
 #[test]
 fn a_saved_bench_is_flushed(rt: HostRuntime) -> Result<(), Fail> {
+    let flushed = [bench_file(rt.alloc())?.as_str(), "|"].concat(rt.alloc())?;
     let mut bench = bench(rt.alloc())?;
     let device = apply_and_save(rt.alloc(), &mut bench);
     drop(bench);
-    let written = [bench_file(rt.alloc())?.as_str(), "|"].concat(rt.alloc())?;
-    assert!(rt; device?.bytes() == written.as_bytes());
+    assert!(rt; device?.bytes() == flushed.as_bytes());
     Ok(())
 }
 
