@@ -48,6 +48,8 @@ pub mod Replies
 pub mod Session
 -- what a schema file and an object file say
 pub mod Files
+-- what a subcommand of the program asks of a bench, and its reply
+pub mod Subcommands
 -- the lines of some bytes
 pub mod Lines
 -- the text of a bench file

@@ -14,3 +14,5 @@ pub mod EntryRows
 pub mod FileRows
 -- shown objects and states, taken again
 pub mod ShownRows
+-- the answers to subcommands
+pub mod SubcommandRows

@@ -1,9 +1,12 @@
-//! A bench as the machine of a session.
-ghost use Rattle.std.specs.Prelude.{◌≡◌, IfOk, OnErr, false};
+//! The answers of a bench to commands, and a bench as the machine of a session.
+ghost use Rattle.std.specs.Prelude.{◌≡◌, IfOk, OnErr, false, true};
 ghost use Rattle.ssa_model.specs.definitions.Answers as model;
 ghost use Rattle.ssa_model.specs.definitions.Answers.{answer};
-ghost use Rattle.ssa_model.specs.definitions.Replies.{reply_text};
+ghost use Rattle.ssa_model.specs.definitions.Json.{compact};
+ghost use Rattle.ssa_model.specs.definitions.Replies.{fault_reply, reply_text};
+ghost use Rattle.ssa_model.specs.definitions.Subcommands.{is_accepted};
 ghost use Rattle.ssa_bench.specs.Commands as changes;
+ghost use Rattle.ssa_bench.specs.Faults.{IsFault};
 ghost use Rattle.ssa_session.specs.Commands.{command_view};
 
 use crate::command::Command;
@@ -17,6 +20,38 @@ use ssa_bench::command as bench;
 use ssa_bench::fault::Fault;
 use ssa_path::path::Path;
 use std::alloc::{AllocError, Global};
+
+/// The answer to a command.
+#[derive(Drop)]
+pub struct Answered {
+    /// The reply, without its line feed.
+    pub text: Vec<u8>,
+    /// Whether the reply is that of an accepted command.
+    pub is_accepted: bool,
+}
+
+// The answer that an accepted command has by its reply.
+fn accepted(text: Vec<u8>) -> Answered
+    ensures text { result.text ≡ text }
+    ensures accepted { result.is_accepted ≡ true }
+{
+    Answered {
+        text,
+        is_accepted: true,
+    }
+}
+
+// The answer that tells why a command is refused.
+fn refused(alloc: Global, fault: &Fault) -> Result<Answered, AllocError>
+    ensures text { IfOk result (λ a. (g : model.Fault) → IsFault fault.now g → a.text.items ≡ compact (fault_reply g)) }
+    ensures accepted { IfOk result (λ a. a.is_accepted ≡ false) }
+{
+    let text = fault_text(alloc, fault)?;
+    Ok(Answered {
+        text,
+        is_accepted: false,
+    })
+}
 
 // The word under which the reply tells of a change.
 fn change_word(change: &bench::Command) -> &'static str
@@ -34,8 +69,9 @@ fn answer_change(
     bench: &mut Bench,
     alloc: Global,
     change: bench::Command,
-) -> Result<Vec<u8>, AllocError>
-    ensures reply { IfOk result (λ text. text.items ≡ reply_text (answer bench.old (changes.command_view change)).0) }
+) -> Result<Answered, AllocError>
+    ensures reply { IfOk result (λ a. a.text.items ≡ reply_text (answer bench.old (changes.command_view change)).0) }
+    ensures accepted { IfOk result (λ a. a.is_accepted ≡ is_accepted (answer bench.old (changes.command_view change)).0) }
     ensures after { IfOk result (λ _. bench.new ≡ (answer bench.old (changes.command_view change)).1) }
     ensures err { OnErr result (bench.new ≡ bench.old) }
 {
@@ -44,47 +80,49 @@ fn answer_change(
         Ok(prepared) => {
             let text = changed_text(alloc, word, prepared.changed())?;
             drop(bench.commit(prepared)?);
-            Ok(text)
+            Ok(accepted(text))
         }
         Err(Fault::OutOfMemory) => Err(AllocError),
-        Err(fault) => fault_text(alloc, &fault),
+        Err(fault) => refused(alloc, &fault),
     }
 }
 
 // Goes back by a command. The reply's text is made before.
-fn answer_undo(bench: &mut Bench, alloc: Global) -> Result<Vec<u8>, AllocError>
-    ensures reply { IfOk result (λ text. text.items ≡ reply_text (answer bench.old model.undo).0) }
+fn answer_undo(bench: &mut Bench, alloc: Global) -> Result<Answered, AllocError>
+    ensures reply { IfOk result (λ a. a.text.items ≡ reply_text (answer bench.old model.undo).0) }
+    ensures accepted { IfOk result (λ a. a.is_accepted ≡ is_accepted (answer bench.old model.undo).0) }
     ensures after { IfOk result (λ _. bench.new ≡ (answer bench.old model.undo).1) }
     ensures err { OnErr result (bench.new ≡ bench.old) }
 {
     let past = bench.past_len();
     if past == 0 {
-        return fault_text(alloc, &Fault::NothingToUndo);
+        return refused(alloc, &Fault::NothingToUndo);
     }
     let future = bench.future_len() + 1;
     let text = moved_text(alloc, "undo", past - 1, future)?;
     let Ok(_counts) = bench.undo() else {
         unreachable!("there is a command to undo");
     };
-    Ok(text)
+    Ok(accepted(text))
 }
 
 // Goes on by a command. The reply's text is made before.
-fn answer_redo(bench: &mut Bench, alloc: Global) -> Result<Vec<u8>, AllocError>
-    ensures reply { IfOk result (λ text. text.items ≡ reply_text (answer bench.old model.redo).0) }
+fn answer_redo(bench: &mut Bench, alloc: Global) -> Result<Answered, AllocError>
+    ensures reply { IfOk result (λ a. a.text.items ≡ reply_text (answer bench.old model.redo).0) }
+    ensures accepted { IfOk result (λ a. a.is_accepted ≡ is_accepted (answer bench.old model.redo).0) }
     ensures after { IfOk result (λ _. bench.new ≡ (answer bench.old model.redo).1) }
     ensures err { OnErr result (bench.new ≡ bench.old) }
 {
     let future = bench.future_len();
     if future == 0 {
-        return fault_text(alloc, &Fault::NothingToRedo);
+        return refused(alloc, &Fault::NothingToRedo);
     }
     let past = bench.past_len() + 1;
     let text = moved_text(alloc, "redo", past, future - 1)?;
     let Ok(_counts) = bench.redo() else {
         unreachable!("there is a command to redo");
     };
-    Ok(text)
+    Ok(accepted(text))
 }
 
 // The object of the present state, with the managers' entries where they are asked for.
@@ -113,9 +151,14 @@ fn answer_log(bench: &Bench, alloc: Global) -> Result<Vec<u8>, AllocError>
     Ok(text)
 }
 
-// Answers a command. The reply's text is made before the bench changes.
-fn answer_command(bench: &mut Bench, alloc: Global, command: Command) -> Result<Vec<u8>, AllocError>
-    ensures reply { IfOk result (λ text. text.items ≡ reply_text (answer bench.old (command_view command)).0) }
+/// Answers a command. The reply's text is made before the bench changes, so want of memory changes nothing.
+pub fn answer_command(
+    bench: &mut Bench,
+    alloc: Global,
+    command: Command,
+) -> Result<Answered, AllocError>
+    ensures reply { IfOk result (λ a. a.text.items ≡ reply_text (answer bench.old (command_view command)).0) }
+    ensures accepted { IfOk result (λ a. a.is_accepted ≡ is_accepted (answer bench.old (command_view command)).0) }
     ensures after { IfOk result (λ _. bench.new ≡ (answer bench.old (command_view command)).1) }
     ensures err { OnErr result (bench.new ≡ bench.old) }
 {
@@ -123,9 +166,9 @@ fn answer_command(bench: &mut Bench, alloc: Global, command: Command) -> Result<
         Command::Change(change) => answer_change(bench, alloc, change),
         Command::Undo => answer_undo(bench, alloc),
         Command::Redo => answer_redo(bench, alloc),
-        Command::Show(managed) => answer_show(bench, alloc, managed),
-        Command::Owners(path) => answer_owners(bench, alloc, &path),
-        Command::Log => answer_log(bench, alloc),
+        Command::Show(managed) => Ok(accepted(answer_show(bench, alloc, managed)?)),
+        Command::Owners(path) => Ok(accepted(answer_owners(bench, alloc, &path)?)),
+        Command::Log => Ok(accepted(answer_log(bench, alloc)?)),
     }
 }
 
@@ -139,8 +182,8 @@ impl Machine for Bench {
     fn answer(&mut self, alloc: Global, line: &[u8]) -> Result<Vec<u8>, AllocError> {
         match read_command(alloc, line) {
             Ok(command) => {
-                let text = answer_command(self, alloc, command)?;
-                Ok(text)
+                let answered = answer_command(self, alloc, command)?;
+                Ok(answered.text)
             }
             Err(LineFault::OutOfMemory) => Err(AllocError),
             Err(fault) => {

@@ -1,4 +1,5 @@
 //! Commands of a session.
+ghost use Rattle.std.specs.Prelude.{◌≡◌};
 
 use ssa_bench::command as bench;
 use ssa_path::path::Path;
@@ -16,4 +17,19 @@ pub enum Command {
     Owners(Path),
     /// The commands of the history.
     Log,
+}
+
+impl Command {
+    ghost use Rattle.ssa_model.specs.definitions.Subcommands.{is_change};
+    ghost use Rattle.ssa_session.specs.Commands.{command_view};
+
+    /// Whether the command changes the bench where it is accepted, and does not only look at it.
+    pub fn is_change(&self) -> bool
+        ensures { result ≡ is_change (command_view self.now) }
+    {
+        match self {
+            Command::Change(_) | Command::Undo | Command::Redo => true,
+            Command::Show(_) | Command::Owners(_) | Command::Log => false,
+        }
+    }
 }

@@ -94,8 +94,8 @@ fn is_truth(value: &Json) -> bool
     matches!(value, Json::Scalar(Scalar::Bool(_)))
 }
 
-// Whether all items are texts.
-fn are_texts(items: &[Json]) -> bool
+/// Whether all items are texts.
+pub fn are_texts(items: &[Json]) -> bool
     ensures { result ≡ is_some (texts_of (items_view items.now)) }
 {
     for item in items {

@@ -3,11 +3,13 @@ ghost use Rattle.std.specs.Prelude.{◌≡◌, ◌++◌, IfOk, OnOk, codes};
 ghost use Rattle.ssa_model.specs.definitions.Json.{compact};
 ghost use Rattle.ssa_model.specs.definitions.Answers as model;
 ghost use Rattle.ssa_model.specs.definitions.Replies.{changed_json, key_json, list_json, moved_json, reply_json, reply_text};
+ghost use Rattle.ssa_model.specs.definitions.Subcommands.{init_json, init_text};
 ghost use Rattle.ssa_json.specs.View.{view};
 ghost use Rattle.ssa_merge.specs.Managers.{key_view, lent_keys};
 ghost use Rattle.ssa_bench.specs.Benches.{changed_view};
 
 use crate::json_text::{push_comma, push_number, push_paths, push_string, push_value};
+use ssa_bench::bench::Bench;
 use ssa_bench::prepared::Changed;
 use ssa_json::value::Json;
 use ssa_merge::manager::ManagerKey;
@@ -52,6 +54,27 @@ pub fn owners_text(alloc: Global, owners: &[&ManagerKey]) -> Result<Vec<u8>, All
     let mut text = Vec::new(alloc);
     push_owners(alloc, &mut text, owners)?;
     Ok(text)
+}
+
+/// The reply to the words that made a bench: how many managers it has, and how many paths.
+pub fn init_text(alloc: Global, bench: &Bench) -> Result<Vec<u8>, AllocError>
+    ensures { IfOk result (λ text. text.items ≡ init_text bench.now) }
+{
+    let mut text = Vec::new(alloc);
+    push_init(alloc, &mut text, bench)?;
+    Ok(text)
+}
+
+fn push_init(alloc: Global, text: &mut Vec<u8>, bench: &Bench) -> Result<(), AllocError>
+    ensures { OnOk result (text.new.items ≡ text.old.items ++ compact (init_json bench.now)) }
+{
+    let (managers, paths) = bench.counts();
+    text.extend_from_slice(b"{\"done\":\"init\",\"managers\":")?;
+    push_number(alloc, text, managers)?;
+    text.extend_from_slice(b",\"paths\":")?;
+    push_number(alloc, text, paths)?;
+    text.push(b'}')?;
+    Ok(())
 }
 
 fn push_changed(

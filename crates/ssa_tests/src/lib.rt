@@ -1,4 +1,4 @@
-//! Tests of benches, bench files and sessions: of what no contract says.
+//! Tests of benches, bench files, sessions and the program: of what no contract says.
 #![tactic(auto)]
 
 #[cfg(test)]
@@ -12,7 +12,11 @@ mod limit_tests;
 #[cfg(test)]
 mod loading_tests;
 #[cfg(test)]
+mod memory;
+#[cfg(test)]
 mod object_file_tests;
+#[cfg(test)]
+mod program_tests;
 #[cfg(test)]
 mod sample;
 #[cfg(test)]

@@ -1,12 +1,11 @@
-//! The program: sessions over a bench, one command a line in, one reply a line out.
+//! The program: benches in files, one subcommand a call, or a session over standard input and output.
 #![tactic(auto)]
 
 mod program;
 
-use program::{Status, run};
+use program::run;
 use std::process::ExitCode;
 
 fn main(rt: HostRuntime) -> ExitCode {
-    let status = run(&rt).unwrap_or(Status::Broken);
-    ExitCode::from(status.code())
+    ExitCode::from(run(&rt))
 }

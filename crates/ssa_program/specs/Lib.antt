@@ -1,0 +1,4 @@
+pub mod Asked
+pub mod Status
+pub mod Trouble
+pub mod Usage

@@ -1,0 +1,18 @@
+-- The numbers of the statuses.
+use Rattle.std.specs.Prelude.{ℕ}
+use Rattle.ssa_session.specs.declared.files.Ending.{Ending}
+use Rattle.ssa_session.specs.declared.files.Ending.TheVariants as ending
+use Rattle.ssa_program.specs.declared.status.Status.{Status}
+use Rattle.ssa_program.specs.declared.status.Status.TheVariants.{Done, Refused, Usage, Broken}
+
+abbrev pub status_code : Status → ℕ
+status_code Done = 0
+status_code Refused = 1
+status_code Usage = 2
+status_code Broken = 3
+
+-- want of memory before a session began ends the program as a broken session does
+abbrev pub status_of : Ending → Status
+status_of ending.Done = Done
+status_of ending.Refused = Refused
+status_of ending.OutOfMemory = Broken

@@ -1,0 +1,77 @@
+-- The lines that tell why a call of the program does not come to its reply.
+use Rattle.std.specs.Prelude.{◌≡◌, ◌<◌, ℕ, length, ◌/◌, ◌%◌, [], ◌∷◌, ◌++◌, ◌||◌, ◌==◌, ◌⊎◌, Bool, if◌then◌else◌, nat_lt, flat_map, slice_index, codes}
+use Rattle.ssa_model.specs.definitions.Json.{Text, Json, compact}
+use Rattle.ssa_model.specs.definitions.Limits.{most_bench_bytes}
+use Rattle.ssa_model.specs.definitions.Replies.{fault_json}
+use Rattle.ssa_model.specs.definitions.Session.{out_of_memory_text}
+use Rattle.ssa_file.specs.declared.loading.LoadFault.{LoadFault}
+use Rattle.ssa_file.specs.declared.loading.LoadFault.TheVariants as load
+use Rattle.ssa_session.specs.Files.{IsTold}
+use Rattle.ssa_program.specs.declared.status.Status.{Status}
+use Rattle.ssa_program.specs.declared.status.Status.TheVariants.{Refused, Broken}
+use Rattle.ssa_program.specs.declared.trouble.Trouble.{Trouble}
+use Rattle.ssa_program.specs.declared.trouble.Trouble.TheVariants.{CannotRead, CannotWrite, Load, File, BenchTooLong, OutOfMemory, SessionBroken, CannotPrint}
+
+abbrev pub load_fault_json : LoadFault → Json
+load_fault_json load.BenchText = fault_json 70 (codes "BenchText")
+load_fault_json load.Io = fault_json 72 (codes "Io")
+load_fault_json load.OutOfMemory = fault_json 5 (codes "OutOfMemory")
+
+-- ---- names of files
+
+abbrev pub is_control : ℕ → Bool
+is_control b = nat_lt b 32 || (b == 127)
+
+abbrev pub hex_digit : ℕ → ℕ
+hex_digit n = slice_index (codes "0123456789abcdef") n
+
+-- a control byte as `\xNN`, so that a name takes one line
+abbrev pub escaped_byte : ℕ → Text
+escaped_byte b = if is_control b then codes "\\x" ++ hex_digit (b / 16) ∷ hex_digit (b % 16) ∷ [] else b ∷ []
+
+-- what is told of the file of this name
+abbrev pub named_line : Text → Text → Text
+named_line told name = told ++ flat_map escaped_byte name
+
+-- ---- troubles
+
+abbrev pub too_long_text : Text
+too_long_text = compact (fault_json 73 (codes "BenchTooLong"))
+
+-- What a trouble writes: a line where the replies stand, or one for a person. Where memory runs out while a line is made,
+-- the line of want of memory stands in its place.
+module _ (Replies Person : Text → Type 0) where
+  abbrev pub Tells : Trouble → Type 0
+  Tells (CannotRead name) = Person (named_line (codes "ssabench: cannot read ") name.now) ⊎ Replies out_of_memory_text
+  Tells (CannotWrite name) = Person (named_line (codes "ssabench: cannot write ") name.now) ⊎ Replies out_of_memory_text
+  Tells (Load f) = Replies (compact (load_fault_json f))
+  Tells (File f) = ((line : Text) × IsTold f line × Replies line) ⊎ Replies out_of_memory_text
+  Tells BenchTooLong = Replies too_long_text
+  Tells OutOfMemory = Replies out_of_memory_text
+  Tells SessionBroken = Person (codes "ssabench: session ended unsaved")
+  Tells CannotPrint = Unit {0}
+
+-- the trouble of reading the file of this name
+abbrev pub IsReadTrouble : Text → Trouble → Type 0
+IsReadTrouble name (CannotRead n) = n.now ≡ name
+IsReadTrouble name OutOfMemory = Unit {0}
+IsReadTrouble name _ = ⊥
+
+-- of loading the bench's file
+abbrev pub IsLoadTrouble : Text → Trouble → Type 0
+IsLoadTrouble name (CannotRead n) = n.now ≡ name
+IsLoadTrouble name (Load f) = Unit {0}
+IsLoadTrouble name OutOfMemory = Unit {0}
+IsLoadTrouble name _ = ⊥
+
+-- of saving this text as the bench's file
+abbrev pub IsSaveTrouble : Text → Text → Trouble → Type 0
+IsSaveTrouble name text (CannotWrite n) = n.now ≡ name
+IsSaveTrouble name text BenchTooLong = most_bench_bytes < length text
+IsSaveTrouble name text OutOfMemory = Unit {0}
+IsSaveTrouble name text _ = ⊥
+
+-- a refused file ends the program as a refusal does, if its line is made, and any other trouble as a break
+abbrev pub EndsBy : Trouble → Status → Type 0
+EndsBy (File f) s = (s ≡ Refused) ⊎ (s ≡ Broken)
+EndsBy _ s = s ≡ Broken

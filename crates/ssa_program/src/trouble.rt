@@ -1,0 +1,162 @@
+//! Why a call of the program does not come to its reply, and what is told then.
+ghost use Rattle.std.specs.Prelude.{◌≡◌, ◌++◌, ◌∷◌, ◌⊎◌, [], IfOk, OnOk};
+ghost use Rattle.ssa_model.specs.definitions.Json.{compact};
+ghost use Rattle.ssa_model.specs.definitions.Lines.{line_feed};
+ghost use Rattle.ssa_model.specs.definitions.Session.{out_of_memory_text};
+ghost use Rattle.ssa_json.specs.Devices.{AppendsPart};
+ghost use Rattle.ssa_program.specs.Trouble.{EndsBy, Tells, escaped_byte, load_fault_json, named_line};
+ghost use Rattle.ssa_program.specs.declared.trouble.Trouble.TheVariants.{CannotPrint, File, OutOfMemory};
+
+use crate::status::Status;
+use ssa_file::loading::LoadFault;
+use ssa_json::sink::Sink;
+use ssa_json::source::DeviceFault;
+use ssa_session::engine::OUT_OF_MEMORY;
+use ssa_session::files::{FileFault, tell};
+use ssa_session::write_line::write_line;
+use std::alloc::{AllocError, Global};
+
+/// Why a call of the program does not come to its reply, with the name of the file that it is told of.
+#[derive(Drop)]
+pub enum Trouble<'a> {
+    /// The file cannot be opened or read.
+    CannotRead(&'a str),
+    /// The bench's file cannot be written. It is as it was.
+    CannotWrite(&'a str),
+    /// The bench's file is not taken.
+    Load(LoadFault),
+    /// A schema file or an object file is refused.
+    File(FileFault),
+    /// The bench's text is longer than a file may be. Its file is as it was.
+    BenchTooLong,
+    /// A growth of memory was refused.
+    OutOfMemory,
+    /// The session broke off. The bench's file is as it was.
+    SessionBroken,
+    /// The reply cannot be printed.
+    CannotPrint,
+}
+
+impl From<AllocError> for Trouble<'_> {
+    ghost from_gives = { λ _ e. e ≡ OutOfMemory };
+
+    fn from(_refused: AllocError) -> Self {
+        Trouble::OutOfMemory
+    }
+}
+
+impl From<DeviceFault> for Trouble<'_> {
+    ghost from_gives = { λ _ e. e ≡ CannotPrint };
+
+    fn from(_fault: DeviceFault) -> Self {
+        Trouble::CannotPrint
+    }
+}
+
+impl From<FileFault> for Trouble<'_> {
+    ghost from_gives = { λ f e. e ≡ File f };
+
+    fn from(fault: FileFault) -> Self {
+        Trouble::File(fault)
+    }
+}
+
+/// The line that tells why a bench's file is not taken.
+pub fn load_fault_line(fault: &LoadFault) -> &'static [u8]
+    ensures { result.now ≡ compact (load_fault_json fault.now) }
+{
+    match fault {
+        LoadFault::BenchText => b"{\"fault\":70,\"name\":\"BenchText\"}",
+        LoadFault::Io => b"{\"fault\":72,\"name\":\"Io\"}",
+        LoadFault::OutOfMemory => OUT_OF_MEMORY,
+    }
+}
+
+// The line that tells that the bench's text is longer than a file may be.
+const BENCH_TOO_LONG: &[u8] = b"{\"fault\":73,\"name\":\"BenchTooLong\"}";
+
+const HEX_DIGITS: &[u8; 16] = b"0123456789abcdef";
+
+// Appends a byte of a name, a control byte as `\xNN`.
+fn push_escaped(text: &mut Vec<u8>, byte: u8) -> Result<(), AllocError>
+    ensures { OnOk result (text.new.items ≡ text.old.items ++ escaped_byte byte) }
+{
+    if byte >= 32 && byte != 127 {
+        text.push(byte)?;
+        return Ok(());
+    }
+    text.extend_from_slice(b"\\x")?;
+    text.push(HEX_DIGITS[usize::from(byte / 16)])?;
+    text.push(HEX_DIGITS[usize::from(byte % 16)])?;
+    Ok(())
+}
+
+/// What is told of a file, with its name. A name takes one line, whatever it is.
+pub fn named_line(alloc: Global, told: &str, name: &str) -> Result<Vec<u8>, AllocError>
+    ensures { IfOk result (λ text. text.items ≡ named_line told.now name.now) }
+{
+    let mut text = told.as_bytes().to_vec(alloc)?;
+    for byte in name.as_bytes() {
+        push_escaped(&mut text, *byte)?;
+    }
+    Ok(text)
+}
+
+// Writes a line after which the program can only end, whether the line was taken or not.
+pub(crate) fn end_by<W: Sink>(writer: &mut W, line: &[u8]) -> Status
+    ensures part { AppendsPart (W.contents writer.old) (W.contents writer.new) (line.now ++ line_feed ∷ []) }
+    ensures status { result ≡ Status.Broken }
+{
+    let _told = write_line(writer, line);
+    Status::Broken
+}
+
+// Tells a person of a file by its name.
+fn end_by_name<W: Sink, E: Sink>(
+    alloc: Global,
+    told: &str,
+    name: &str,
+    writer: &mut W,
+    errors: &mut E,
+) -> Status
+    ensures told { (AppendsPart (E.contents errors.old) (E.contents errors.new) (named_line told.now name.now ++ line_feed ∷ []) × (writer.new ≡ writer.old))
+        ⊎ (AppendsPart (W.contents writer.old) (W.contents writer.new) (out_of_memory_text ++ line_feed ∷ []) × (errors.new ≡ errors.old)) }
+    ensures status { result ≡ Status.Broken }
+{
+    match named_line(alloc, told, name) {
+        Ok(line) => end_by(errors, &line),
+        Err(_) => end_by(writer, OUT_OF_MEMORY),
+    }
+}
+
+/// Tells the trouble, and with which status the program ends by it: what has a fault's line to the writer, where the
+/// replies stand, and the others to a person.
+pub fn tell_trouble<W: Sink, E: Sink>(
+    alloc: Global,
+    trouble: &Trouble<'_>,
+    writer: &mut W,
+    errors: &mut E,
+) -> Status
+    // Of the line a beginning is written, or all of it, and nothing to the other device.
+    ensures told { Tells (λ line. AppendsPart (W.contents writer.old) (W.contents writer.new) (line ++ line_feed ∷ []) × (errors.new ≡ errors.old))
+        (λ line. AppendsPart (E.contents errors.old) (E.contents errors.new) (line ++ line_feed ∷ []) × (writer.new ≡ writer.old)) trouble.now }
+    ensures status { EndsBy trouble.now result }
+{
+    match trouble {
+        Trouble::CannotRead(name) => {
+            end_by_name(alloc, "ssabench: cannot read ", name, writer, errors)
+        }
+        Trouble::CannotWrite(name) => {
+            end_by_name(alloc, "ssabench: cannot write ", name, writer, errors)
+        }
+        Trouble::Load(fault) => end_by(writer, load_fault_line(fault)),
+        Trouble::File(fault) => match tell(alloc, writer, fault) {
+            Ok(ending) => Status::from(ending),
+            Err(_) => Status::Broken,
+        },
+        Trouble::BenchTooLong => end_by(writer, BENCH_TOO_LONG),
+        Trouble::OutOfMemory => end_by(writer, OUT_OF_MEMORY),
+        Trouble::SessionBroken => end_by(errors, b"ssabench: session ended unsaved"),
+        Trouble::CannotPrint => Status::Broken,
+    }
+}

@@ -1,0 +1,41 @@
+//! What is told where the words are no call.
+ghost use Rattle.std.specs.Prelude.{◌≡◌};
+ghost use Rattle.ssa_json.specs.Devices.{AppendsPart};
+ghost use Rattle.ssa_program.specs.Usage.{EndsByUsage, TellsUsage};
+
+use crate::status::Status;
+use crate::trouble::end_by;
+use ssa_file::saving::write_text;
+use ssa_json::sink::Sink;
+use ssa_session::engine::OUT_OF_MEMORY;
+use ssa_words::usage::Usage;
+
+/// What is told of a word that is not UTF-8.
+pub const NOT_UTF8: &str =
+    "error: invalid UTF-8 was detected in one or more arguments\n\nUsage: ssabench <COMMAND>\n\nFor more information, try '--help'.\n";
+
+/// Prints the text that the words ask for, or tells a person why they are no call; and gives the status.
+pub fn tell_usage<W: Sink, E: Sink>(usage: &Usage, writer: &mut W, errors: &mut E) -> Status
+    // Of the text a beginning is written, or all of it, and nothing to the other device.
+    ensures told { TellsUsage (λ text. AppendsPart (W.contents writer.old) (W.contents writer.new) text × (errors.new ≡ errors.old))
+        (λ text. AppendsPart (E.contents errors.old) (E.contents errors.new) text × (writer.new ≡ writer.old)) usage.now }
+    ensures status { EndsByUsage usage.now result }
+{
+    match usage {
+        Usage::Asked { text } => match write_text(writer, text.as_bytes()) {
+            Ok(()) => Status::Done,
+            Err(_) => Status::Broken,
+        },
+        Usage::Refused { text } => refuse_words(errors, text.as_str()),
+        Usage::OutOfMemory => end_by(writer, OUT_OF_MEMORY),
+    }
+}
+
+/// Tells a person why the words are no call.
+pub fn refuse_words<E: Sink>(errors: &mut E, text: &str) -> Status
+    ensures told { AppendsPart (E.contents errors.old) (E.contents errors.new) text.now }
+    ensures status { result ≡ Status.Usage }
+{
+    let _told = write_text(errors, text.as_bytes());
+    Status::Usage
+}

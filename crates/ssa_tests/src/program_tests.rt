@@ -1,0 +1,300 @@
+//! The program on a file system in memory: what it prints, what it tells, what stands in the files, and its statuses.
+
+use crate::devices::Breaks;
+use crate::memory::Memory;
+use crate::sample::SCHEMA;
+use ssa_json::reader::OfReader;
+use ssa_json::sink::OfWriter;
+use ssa_json::source::Source;
+use ssa_program::perform::perform;
+use ssa_program::usage::tell_usage;
+use ssa_words::call::Call;
+use ssa_words::words::read_words;
+use std::alloc::Global;
+use std::test::Fail;
+
+const BARE: &str =
+    "{\"apiVersion\":\"example.com/v1\",\"kind\":\"App\",\"metadata\":{\"name\":\"web\"}}";
+
+const THREE: &str =
+    "{\"apiVersion\":\"example.com/v1\",\"kind\":\"App\",\"metadata\":{\"name\":\"web\"},\"spec\":{\"replicas\":3}}";
+
+// The lines of the bench's file after m1 has applied three replicas, behind the schema's.
+const APPLIED: &str =
+    "\n{\"command\":{},\"object\":{\"apiVersion\":\"example.com/v1\",\"kind\":\"App\",\"metadata\":{\"name\":\"web\"}}}\n{\"command\":{\"at\":\"2024-05-01T10:00:01Z\",\"do\":\"apply\",\"force\":false,\"manager\":\"m1\"},\"object\":{\"apiVersion\":\"example.com/v1\",\"kind\":\"App\",\"metadata\":{\"managedFields\":[{\"apiVersion\":\"example.com/v1\",\"fieldsType\":\"FieldsV1\",\"fieldsV1\":{\"f:spec\":{\"f:replicas\":{}}},\"manager\":\"m1\",\"operation\":\"Apply\",\"time\":\"2024-05-01T10:00:01Z\"}],\"name\":\"web\"},\"spec\":{\"replicas\":3}}}\n";
+
+const INIT: &str = "init schema.json bare.json b";
+
+const APPLY: &str = "apply b three.json --at 2024-05-01T10:00:01Z --field-manager m1";
+
+// What a run prints and tells, and its status.
+#[derive(Drop)]
+struct Outcome {
+    printed: Vec<u8>,
+    told: Vec<u8>,
+    status: u8,
+}
+
+// Runs the words with this input.
+fn run_on<R: Source>(memory: &Memory, words: &[&str], reader: &mut R) -> Outcome {
+    let alloc = memory.alloc();
+    let mut writer = OfWriter::new(Vec::new(alloc));
+    let mut errors = OfWriter::new(Vec::new(alloc));
+    let status = match read_words(alloc, words) {
+        Ok(call) => perform(memory, &call, reader, &mut writer, &mut errors),
+        Err(usage) => tell_usage(&usage, &mut writer, &mut errors).code(),
+    };
+    Outcome {
+        printed: writer.into_inner(),
+        told: errors.into_inner(),
+        status,
+    }
+}
+
+// The same of words in one line, and input that comes to its end.
+fn run(memory: &Memory, line: &str, input: &str) -> Result<Outcome, Fail> {
+    let words: Vec<&str> = line.split(' ').collect(memory.alloc())?;
+    let mut reader = OfReader::new(input.as_bytes());
+    Ok(run_on(memory, words.as_slice(), &mut reader))
+}
+
+// A schema file and two object files.
+fn files(alloc: Global) -> Result<Memory, Fail> {
+    let memory = Memory::new(alloc);
+    memory.put("schema.json", SCHEMA)?;
+    memory.put("bare.json", BARE)?;
+    memory.put("three.json", THREE)?;
+    Ok(memory)
+}
+
+// The files, and a bench on which m1 has applied three replicas.
+fn applied(alloc: Global) -> Result<Memory, Fail> {
+    let memory = files(alloc)?;
+    if run(&memory, INIT, "")?.status != 0 || run(&memory, APPLY, "")?.status != 0 {
+        return Err(Fail::new("no bench is made"));
+    }
+    Ok(memory)
+}
+
+// Whether the words end with this status, print this line and tell nothing.
+fn prints(memory: &Memory, words: &str, status: u8, line: &str) -> Result<bool, Fail> {
+    let run = run(memory, words, "")?;
+    let printed = run.printed.strip_suffix(b"\n");
+    Ok(run.status == status && printed == Some(line.as_bytes()) && run.told.is_empty())
+}
+
+// Words one after the other, with the status and the line that each prints.
+const STORY: [(&str, u8, &str); 14] = [
+    (INIT, 0, "{\"done\":\"init\",\"managers\":0,\"paths\":0}"),
+    (
+        APPLY,
+        0,
+        "{\"added\":[[\"f:spec\",\"f:replicas\"]],\"done\":\"apply\",\"managers\":1,\"modified\":[],\"removed\":[]}",
+    ),
+    (
+        "log b",
+        0,
+        "{\"done\":\"log\",\"future\":[],\"past\":[{\"at\":\"2024-05-01T10:00:01Z\",\"do\":\"apply\",\"force\":false,\"manager\":\"m1\"}]}",
+    ),
+    (
+        "owners b [\"f:spec\",\"f:replicas\"]",
+        0,
+        "{\"done\":\"owners\",\"owners\":[{\"manager\":\"m1\",\"operation\":\"Apply\"}]}",
+    ),
+    ("owners b {}", 1, "{\"fault\":66,\"name\":\"CommandShape\"}"),
+    (
+        "owners b [\"x\"]",
+        1,
+        "{\"fault\":30,\"name\":\"BadElement\"}",
+    ),
+    ("undo b", 0, "{\"done\":\"undo\",\"future\":1,\"past\":0}"),
+    ("undo b", 1, "{\"fault\":64,\"name\":\"NothingToUndo\"}"),
+    (
+        "show b",
+        0,
+        "{\"done\":\"show\",\"object\":{\"apiVersion\":\"example.com/v1\",\"kind\":\"App\",\"metadata\":{\"name\":\"web\"}}}",
+    ),
+    ("redo b", 0, "{\"done\":\"redo\",\"future\":0,\"past\":1}"),
+    (
+        "update b bare.json --at 2024-05-01T10:00:02Z",
+        0,
+        "{\"added\":[],\"done\":\"update\",\"managers\":0,\"modified\":[],\"removed\":[[\"f:spec\"],[\"f:spec\",\"f:replicas\"]]}",
+    ),
+    (
+        "strip b",
+        0,
+        "{\"added\":[],\"done\":\"strip\",\"managers\":0,\"modified\":[],\"removed\":[]}",
+    ),
+    (
+        "apply b three.json --at 2024-02-30T00:00:00Z",
+        1,
+        "{\"fault\":6,\"name\":\"BadMoment\"}",
+    ),
+    (
+        "apply b bad.json --at 2024-02-30T00:00:00Z",
+        1,
+        "{\"fault\":1,\"name\":\"NotJson\"}",
+    ),
+];
+
+#[test]
+fn each_call_goes_on_from_the_file(rt: HostRuntime) -> Result<(), Fail> {
+    let memory = files(rt.alloc())?;
+    memory.put("bad.json", "{")?;
+    for (words, status, line) in &STORY {
+        assert!(rt; prints(&memory, words, *status, line)?, "words {words}");
+    }
+    Ok(())
+}
+
+// Whether the file has these bytes.
+fn holds(memory: &Memory, name: &str, text: &str) -> Result<bool, Fail> {
+    Ok(memory.text(name)?.as_slice() == text.as_bytes())
+}
+
+// The bench's file, with this first line.
+fn bench_file(alloc: Global, head: &str) -> Result<String, Fail> {
+    Ok([head, "\n", SCHEMA, APPLIED].concat(alloc)?)
+}
+
+#[test]
+fn the_file_has_the_history(rt: HostRuntime) -> Result<(), Fail> {
+    let memory = applied(rt.alloc())?;
+    let file = bench_file(rt.alloc(), "{\"format\":1,\"place\":1,\"states\":2}")?;
+    assert!(rt; holds(&memory, "b", file.as_str())?);
+    assert!(rt; !memory.has("b.new"));
+    Ok(())
+}
+
+// Words, and what is told to a person; nothing is printed.
+const TOLD: [(&str, u8, &str); 6] = [
+    ("show c", 3, "ssabench: cannot read c\n"),
+    ("session c", 3, "ssabench: cannot read c\n"),
+    (
+        "apply b c --at 2024-05-01T10:00:01Z",
+        3,
+        "ssabench: cannot read c\n",
+    ),
+    ("init c bare.json b", 3, "ssabench: cannot read c\n"),
+    ("init schema.json c b", 3, "ssabench: cannot read c\n"),
+    (
+        "apply b three.json",
+        2,
+        "error: the following required arguments were not provided:\n  --at <MOMENT>\n",
+    ),
+];
+
+// Whether the words end with this status, print nothing and begin to tell this.
+fn tells(memory: &Memory, words: &str, status: u8, told: &str) -> Result<bool, Fail> {
+    let run = run(memory, words, "")?;
+    Ok(run.status == status && run.printed.is_empty() && run.told.starts_with(told.as_bytes()))
+}
+
+#[test]
+fn missing_files_and_words_are_told(rt: HostRuntime) -> Result<(), Fail> {
+    let memory = applied(rt.alloc())?;
+    for (words, status, told) in &TOLD {
+        assert!(rt; tells(&memory, words, *status, told)?, "words {words}");
+    }
+    Ok(())
+}
+
+#[test]
+fn a_name_takes_one_line(rt: HostRuntime) -> Result<(), Fail> {
+    let memory = Memory::new(rt.alloc());
+    let mut reader = OfReader::new(b"".as_slice());
+    let run = run_on(&memory, &["log", "a\n\u{7f}b"], &mut reader);
+    assert_eq!(rt; run.status, 3);
+    assert_eq!(rt;
+        run.told.as_slice(),
+        b"ssabench: cannot read a\\x0a\\x7fb\n".as_slice()
+    );
+    Ok(())
+}
+
+#[test]
+fn a_file_cut_short_is_no_bench(rt: HostRuntime) -> Result<(), Fail> {
+    let memory = applied(rt.alloc())?;
+    let file = bench_file(rt.alloc(), "{\"format\":1,\"place\":1,\"states\":2}")?;
+    memory.put("b", &file.as_str()[..file.len() - 1])?;
+    assert!(rt;
+        prints(
+            &memory,
+            "undo b",
+            3,
+            "{\"fault\":70,\"name\":\"BenchText\"}"
+        )?
+    );
+    assert!(rt;
+        prints(
+            &memory,
+            "session b",
+            3,
+            "{\"fault\":70,\"name\":\"BenchText\"}"
+        )?
+    );
+    assert!(rt; !memory.has("b.new"));
+    Ok(())
+}
+
+#[test]
+fn a_full_device_leaves_the_file(rt: HostRuntime) -> Result<(), Fail> {
+    let memory = applied(rt.alloc())?;
+    memory.leave_room(9);
+    assert!(rt; tells(&memory, "strip b", 3, "ssabench: cannot write b\n")?);
+    assert!(rt; tells(&memory, INIT, 3, "ssabench: cannot write b\n")?);
+    assert!(rt; tells(&memory, "session b", 3, "ssabench: cannot write b\n")?);
+    let file = bench_file(rt.alloc(), "{\"format\":1,\"place\":1,\"states\":2}")?;
+    assert!(rt; holds(&memory, "b", file.as_str())?);
+    assert!(rt; !memory.has("b.new"));
+    Ok(())
+}
+
+#[test]
+fn a_session_is_saved_at_its_end(rt: HostRuntime) -> Result<(), Fail> {
+    let memory = applied(rt.alloc())?;
+    let run = run(&memory, "session b", "{\"do\":\"redo\"}\n{\"do\":\"undo\"}")?;
+    assert_eq!(rt; run.status, 0);
+    assert_eq!(rt;
+        run.printed.as_slice(),
+        b"{\"fault\":65,\"name\":\"NothingToRedo\"}\n{\"done\":\"undo\",\"future\":1,\"past\":0}\n".as_slice()
+    );
+    let file = bench_file(rt.alloc(), "{\"format\":1,\"place\":0,\"states\":2}")?;
+    assert!(rt; holds(&memory, "b", file.as_str())?);
+    Ok(())
+}
+
+#[test]
+fn a_broken_session_is_not_saved(rt: HostRuntime) -> Result<(), Fail> {
+    let memory = applied(rt.alloc())?;
+    let mut reader = Breaks::new(b"{\"do\":\"undo\"}\n{\"do\"");
+    let run = run_on(&memory, &["session", "b"], &mut reader);
+    assert_eq!(rt; run.status, 3);
+    assert_eq!(rt;
+        run.printed.as_slice(),
+        b"{\"done\":\"undo\",\"future\":1,\"past\":0}\n".as_slice()
+    );
+    assert_eq!(rt;
+        run.told.as_slice(),
+        b"ssabench: session ended unsaved\n".as_slice()
+    );
+    let file = bench_file(rt.alloc(), "{\"format\":1,\"place\":1,\"states\":2}")?;
+    assert!(rt; holds(&memory, "b", file.as_str())?);
+    Ok(())
+}
+
+#[test]
+fn a_reply_that_cannot_be_printed_is_told_by_the_status(rt: HostRuntime) -> Result<(), Fail> {
+    let memory = applied(rt.alloc())?;
+    let mut room = [0u8; 4];
+    let mut writer = OfWriter::new(&mut room[..]);
+    let mut errors = OfWriter::new(Vec::new(rt.alloc()));
+    let mut reader = OfReader::new(b"".as_slice());
+    let call = Call::Undo { bench: "b" };
+    let status = perform(&memory, &call, &mut reader, &mut writer, &mut errors);
+    assert_eq!(rt; status, 3);
+    assert_eq!(rt; errors.into_inner().as_slice(), b"".as_slice());
+    let file = bench_file(rt.alloc(), "{\"format\":1,\"place\":0,\"states\":2}")?;
+    assert!(rt; holds(&memory, "b", file.as_str())?);
+    Ok(())
+}
