@@ -1,7 +1,7 @@
 //! Carries out what the words of the program ask for.
 ghost use Rattle.std.specs.Prelude.{◌<◌};
 
-use crate::answer::answer;
+use crate::answer::{Reply, answer};
 use crate::asked::Asked;
 use crate::files::{load_bench, read_file, save_bench};
 use crate::status::Status;
@@ -143,12 +143,16 @@ fn answer_and_save<'a, T: Files + AllocGlobal, W: Sink>(
     bench: &mut Bench,
     asked: Asked<'_>,
 ) -> Result<Status, Trouble<'a>> {
-    let answer = answer(rt.alloc(), bench, asked)?;
-    if answer.is_change {
+    let Reply {
+        text,
+        is_accepted,
+        is_change,
+    } = answer(rt.alloc(), bench, asked)?;
+    if is_change {
         save_bench(rt, name, bench)?;
     }
-    write_reply(writer, answer.text)?;
-    if answer.is_accepted {
+    write_reply(writer, text)?;
+    if is_accepted {
         Ok(Status::Done)
     } else {
         Ok(Status::Refused)
