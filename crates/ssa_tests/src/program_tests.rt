@@ -216,7 +216,7 @@ fn a_name_takes_one_line(rt: HostRuntime) -> Result<(), Fail> {
 fn a_file_cut_short_is_no_bench(rt: HostRuntime) -> Result<(), Fail> {
     let memory = applied(rt.alloc())?;
     let file = bench_file(rt.alloc(), "{\"format\":1,\"place\":1,\"states\":2}")?;
-    memory.put("b", &file.as_str()[..file.len() - 1])?;
+    memory.put("b", file.as_str().strip_suffix("\n").unwrap_or(""))?;
     assert!(rt;
         prints(
             &memory,
