@@ -1,5 +1,5 @@
 -- Subcommands as the code has them: which commands they are, why others are none, and how they are answered.
-use Rattle.std.specs.Prelude.{◌≡◌, List, Bool, true, false, ◌&&◌, Result, Ok, Err, codes}
+use Rattle.std.specs.Prelude.{◌≡◌, Bool, true, false, ◌&&◌, Result, Ok, Err}
 use Rattle.ssa_model.specs.definitions.Json.{Text, Items, list, compact}
 use Rattle.ssa_model.specs.definitions.Json as json
 use Rattle.ssa_model.specs.definitions.Readings.{not_json, null_value, number_outside}

@@ -1,5 +1,5 @@
--- The numbers of the statuses.
-use Rattle.std.specs.Prelude.{ℕ}
+-- The numbers of the statuses, and which call ends by which.
+use Rattle.std.specs.Prelude.{ℕ, Bool, true, false}
 use Rattle.ssa_session.specs.declared.files.Ending.{Ending}
 use Rattle.ssa_session.specs.declared.files.Ending.TheVariants as ending
 use Rattle.ssa_program.specs.declared.status.Status.{Status}
@@ -16,3 +16,8 @@ abbrev pub status_of : Ending → Status
 status_of ending.Done = Done
 status_of ending.Refused = Refused
 status_of ending.OutOfMemory = Broken
+
+-- a call that is answered is done where the command was accepted
+abbrev pub status_for : Bool → Status
+status_for true = Done
+status_for false = Refused

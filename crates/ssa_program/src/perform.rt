@@ -1,5 +1,11 @@
 //! Carries out what the words of the program ask for.
-ghost use Rattle.std.specs.Prelude.{◌<◌};
+ghost use Rattle.std.specs.Prelude.{◌≡◌, ◌++◌, ◌∷◌, ◌<◌, [], IfOk, OnOk};
+ghost use Rattle.std.specs.Io.KnownBytes.{Appends};
+ghost use Rattle.ssa_model.specs.definitions.Lines.{line_feed};
+ghost use Rattle.ssa_model.specs.definitions.Subcommands.{asked_answer};
+ghost use Rattle.ssa_json.specs.Readings.{readings};
+ghost use Rattle.ssa_program.specs.Asked.{asked_view, is_asked_accepted};
+ghost use Rattle.ssa_program.specs.Status.{status_for};
 
 use crate::answer::{Reply, answer};
 use crate::asked::Asked;
@@ -135,6 +141,24 @@ fn ask<'a, T: Files + AllocGlobal, W: Sink>(
     answer_and_save(rt, writer, bench, &mut held, asked)
 }
 
+// Writes a reply, and tells how the call ends by it.
+fn write_answer<'a, W: Sink>(writer: &mut W, reply: Reply) -> Result<Status, Trouble<'a>>
+    ensures reply { OnOk result (Appends (W.contents writer.old) (W.contents writer.new) (reply.text.items ++ line_feed ∷ [])) }
+    ensures ended { IfOk result (λ s. s ≡ status_for reply.is_accepted) }
+{
+    let Reply {
+        text,
+        is_accepted,
+        ..
+    } = reply;
+    write_reply(writer, text)?;
+    if is_accepted {
+        Ok(Status::Done)
+    } else {
+        Ok(Status::Refused)
+    }
+}
+
 // Answers the subcommand, and writes the reply once the bench is saved where it has changed.
 fn answer_and_save<'a, T: Files + AllocGlobal, W: Sink>(
     rt: &T,
@@ -142,21 +166,16 @@ fn answer_and_save<'a, T: Files + AllocGlobal, W: Sink>(
     name: &'a str,
     bench: &mut Bench,
     asked: Asked<'_>,
-) -> Result<Status, Trouble<'a>> {
-    let Reply {
-        text,
-        is_accepted,
-        is_change,
-    } = answer(rt.alloc(), bench, asked)?;
-    if is_change {
+) -> Result<Status, Trouble<'a>>
+    ensures reply { OnOk result (Appends (W.contents writer.old) (W.contents writer.new)
+        ((asked_answer readings bench.old (asked_view asked.entry)).0 ++ line_feed ∷ [])) }
+    ensures ended { IfOk result (λ s. s ≡ status_for (is_asked_accepted bench.old (asked_view asked.entry))) }
+{
+    let reply = answer(rt.alloc(), bench, asked)?;
+    if reply.is_change {
         save_bench(rt, name, bench)?;
     }
-    write_reply(writer, text)?;
-    if is_accepted {
-        Ok(Status::Done)
-    } else {
-        Ok(Status::Refused)
-    }
+    write_answer(writer, reply)
 }
 
 // Holds a session on the bench of a file, and saves it at the end of the input.
