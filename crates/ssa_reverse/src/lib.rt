@@ -1,0 +1,5 @@
+//! Values that are changed in place by a record, which becomes the record that leads back.
+#![tactic(auto)]
+
+pub mod reversible;
+pub mod room;
