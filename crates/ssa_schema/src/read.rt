@@ -5,6 +5,7 @@ pub mod key_names;
 pub mod keys;
 pub mod members;
 pub mod metadata;
+pub mod place;
 pub mod refusal;
 pub mod rules;
 pub mod shapes;

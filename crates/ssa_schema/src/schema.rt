@@ -15,6 +15,7 @@ use crate::fit::faults::value_fault;
 use crate::kind::Kind;
 use crate::read::build::kind_of;
 use crate::read::metadata::with_metadata;
+use crate::read::place;
 use crate::read::refusal::Refusal;
 use crate::read::standing::Standing;
 use crate::read::walk::first_refusal;
@@ -89,6 +90,12 @@ impl Schema {
             Ok(kind) => Ok(Schema { json: schema, kind }),
             Err(fault) => Err(fault),
         }
+    }
+
+    /// Where a value that [`read`](Schema::read) refuses has the fault that it tells: the names of the members that
+    /// lead from the value to it, of a keyword that is not read the keyword too.
+    pub fn fault_place(alloc: Global, schema: &Json) -> Result<Vec<String>, AllocError> {
+        place::fault_place(alloc, schema, LEVELS)
     }
 
     /// What was read.

@@ -41,23 +41,33 @@ fn some_name_is_among(members: &BTreeMap<String, Json>, words: &[&str]) -> bool
     false
 }
 
+// The keywords that are read here.
+const KEYWORDS: [&str; 8] = [
+    "type",
+    "properties",
+    "additionalProperties",
+    "items",
+    "x-kubernetes-list-type",
+    "x-kubernetes-list-map-keys",
+    "x-kubernetes-map-type",
+    "description",
+];
+
 /// Whether there is a keyword that is not read here.
 pub fn has_unknown_keyword(members: &BTreeMap<String, Json>) -> bool
     ensures { result ≡ has_unknown_keyword (members_view members.now.entries) }
 {
-    !names_are_among(
-        members,
-        &[
-            "type",
-            "properties",
-            "additionalProperties",
-            "items",
-            "x-kubernetes-list-type",
-            "x-kubernetes-list-map-keys",
-            "x-kubernetes-map-type",
-            "description",
-        ],
-    )
+    !names_are_among(members, &KEYWORDS)
+}
+
+/// The first keyword that is not read here.
+pub fn unknown_keyword(members: &BTreeMap<String, Json>) -> Option<&str> {
+    for (name, _) in members.iter() {
+        if !is_one_of(name.as_str(), &KEYWORDS) {
+            return Some(name.as_str());
+        }
+    }
+    None
 }
 
 // Whether the type is missing or none that is read here.

@@ -15,8 +15,8 @@ use ssa_json::value::Json;
 use std::alloc::{AllocError, Global};
 use std::collections::BTreeMap;
 
-// The first fault of a schema itself, without those of the schemas inside.
-fn own_refusal(
+/// The first fault of a schema itself, without those of the schemas inside.
+pub fn own_refusal(
     alloc: Global,
     members: &BTreeMap<String, Json>,
     standing: Standing,
