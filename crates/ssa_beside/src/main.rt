@@ -1,23 +1,9 @@
-//! The engine as plain lists of whole paths, short and slow, beside the bench on commands that are
-//! drawn from three seeds.
+//! The plain engine beside the bench, on commands that are drawn from three seeds.
 #![tactic(auto)]
 
-mod apply;
 mod beside;
-mod body;
-mod by_hand;
-mod drawn;
-mod flat;
-mod history;
 mod pair;
-mod path;
 mod program;
-mod reply;
-mod shown_table;
-mod some_objects;
-mod stop;
-mod table;
-mod tally;
 mod told;
 
 use std::process::ExitCode;
@@ -28,7 +14,7 @@ fn main(rt: HostRuntime) -> ExitCode {
         Ok(true) => ExitCode::from(0),
         Ok(false) => ExitCode::from(1),
         Err(stop) => {
-            let _ = eprintln!(rt; "ssa_plain: {}", stop.text());
+            let _ = eprintln!(rt; "ssa_beside: {}", stop.text());
             ExitCode::from(3)
         }
     }

@@ -1,12 +1,12 @@
 //! Replies of a bench, told as those of the plain engine.
 
-use crate::path::Text;
-use crate::reply::{add_manager, add_number, add_word, counts, refusal};
 use ssa_bench::fault::Fault;
 use ssa_bench::prepared::{Changed, Counts};
 use ssa_merge::manager::{ManagerKey, Operation};
 use ssa_path::field_set::FieldSet;
 use ssa_path::path::Path;
+use ssa_plain::path::Text;
+use ssa_plain::reply::{add_manager, add_number, add_word, counts, refusal};
 use std::alloc::{AllocError, Global};
 
 fn add_path(alloc: Global, reply: &mut Text, path: &Path) -> Result<(), AllocError> {

@@ -1,11 +1,11 @@
 //! A run of both engines on commands that are drawn, compared after each.
 
-use crate::drawn::{Deed, Drawn, command_of_crowd, some_command};
 use crate::pair::{Pair, Replies};
-use crate::reply::refusal_name;
-use crate::some_objects::next;
-use crate::stop::Stop;
-use crate::tally::Tally;
+use ssa_plain::drawn::{Deed, Drawn, command_of_crowd, some_command};
+use ssa_plain::reply::refusal_name;
+use ssa_plain::some_objects::next;
+use ssa_plain::stop::Stop;
+use ssa_plain::tally::Tally;
 use std::alloc::Global;
 
 /// How many commands are drawn, undo and redo among them.

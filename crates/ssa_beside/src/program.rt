@@ -1,10 +1,10 @@
 //! The runs of the program, and what it prints of them.
 
 use crate::beside::Beside;
-use crate::by_hand::tell_by_hand;
-use crate::path::Text;
-use crate::reply::add_count;
-use crate::stop::Stop;
+use ssa_plain::by_hand::tell_by_hand;
+use ssa_plain::path::Text;
+use ssa_plain::reply::add_count;
+use ssa_plain::stop::Stop;
 use std::alloc::{AllocError, Global};
 use std::io;
 use std::io::Write;

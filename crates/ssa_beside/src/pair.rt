@@ -1,19 +1,19 @@
 //! A bench and the plain engine, on the same commands.
 
-use crate::body::{Row, get};
-use crate::drawn::{Deed, Drawn};
-use crate::flat::flat;
-use crate::history::History;
-use crate::path::Text;
-use crate::shown_table::shown_table;
-use crate::some_objects::{schema, some_object};
-use crate::stop::Stop;
-use crate::table::Entry;
 use crate::told::{told, told_move};
 use ssa_bench::bench::Bench;
 use ssa_bench::command::Command;
 use ssa_json::moment::Moment;
 use ssa_json::value::Json;
+use ssa_plain::body::{Row, get};
+use ssa_plain::drawn::{Deed, Drawn};
+use ssa_plain::flat::flat;
+use ssa_plain::history::History;
+use ssa_plain::path::Text;
+use ssa_plain::shown_table::shown_table;
+use ssa_plain::some_objects::{schema, some_object};
+use ssa_plain::stop::Stop;
+use ssa_plain::table::Entry;
 use ssa_schema::schema::Schema;
 use std::alloc::{AllocError, Global};
 

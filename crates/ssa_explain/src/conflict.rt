@@ -1,0 +1,133 @@
+//! The fields of a conflict with their two values, and the ways out.
+
+use crate::way::{push_element, push_value};
+use ssa_json::value::{Json, Scalar};
+use ssa_merge::manager::ManagerKey;
+use ssa_path::element::Elem;
+use ssa_path::field_set::FieldSet;
+use ssa_path::keys::Keys;
+use ssa_path::path::Path;
+use std::alloc::{AllocError, Global};
+
+// How many fields of a conflict are told, each with its values.
+const MOST_FIELDS: usize = 20;
+
+// What kubectl tells of a conflict too.
+const WAYS_OUT: &[u8] =
+    b"ssabench: apply again with --force-conflicts to take these fields over, without them to leave them to their managers, or with their live values to own them together\n";
+
+// Whether the item has these key fields.
+fn has_keys(item: &Json, keys: &Keys) -> bool {
+    for (name, value) in keys.members() {
+        match item.member(name.as_str()) {
+            Some(Json::Scalar(found)) => {
+                if !found.same(value) {
+                    return false;
+                }
+            }
+            _ => return false,
+        }
+    }
+    true
+}
+
+// Whether the item is this value.
+fn is_value(item: &Json, value: &Scalar) -> bool {
+    match item {
+        Json::Scalar(found) => found.same(value),
+        _ => false,
+    }
+}
+
+// The part of a value that an element names.
+fn part_at<'a>(value: &'a Json, element: &Elem) -> Option<&'a Json> {
+    match (value, element) {
+        (Json::Object(_), Elem::Field(name)) => value.member(name.as_str()),
+        (Json::List(items), Elem::Key(keys)) => items.iter().find(|item| has_keys(item, keys)),
+        (Json::List(items), Elem::Value(scalar)) => {
+            items.iter().find(|item| is_value(item, scalar))
+        }
+        _ => None,
+    }
+}
+
+// Appends the value at a path of an object.
+fn push_value_at(
+    alloc: Global,
+    text: &mut Vec<u8>,
+    object: &Json,
+    path: &Path,
+) -> Result<(), AllocError> {
+    let mut here = object;
+    for element in path.elements() {
+        let Some(part) = part_at(here, element) else {
+            return text.extend_from_slice(b"missing");
+        };
+        here = part;
+    }
+    push_value(alloc, text, here)
+}
+
+// Appends the line of a field: who owns it, where it is, and both values.
+fn push_field(
+    alloc: Global,
+    text: &mut Vec<u8>,
+    manager: &ManagerKey,
+    path: &Path,
+    live: &Json,
+    configured: &Json,
+) -> Result<(), AllocError> {
+    text.extend_from_slice(b"ssabench: ")?;
+    for element in path.elements() {
+        push_element(alloc, text, element)?;
+    }
+    text.extend_from_slice(b" is ")?;
+    push_value_at(alloc, text, live, path)?;
+    text.extend_from_slice(b" by ")?;
+    text.extend_from_slice(manager.name.as_bytes())?;
+    text.extend_from_slice(b" (")?;
+    text.extend_from_slice(manager.operation.text().as_bytes())?;
+    text.extend_from_slice(b"), configured as ")?;
+    push_value_at(alloc, text, configured, path)?;
+    text.push(b'\n')?;
+    Ok(())
+}
+
+// Appends the lines of one manager's first fields, as many as may be told.
+fn push_clash(
+    alloc: Global,
+    text: &mut Vec<u8>,
+    clash: &(ManagerKey, FieldSet),
+    most: usize,
+    live: &Json,
+    configured: &Json,
+) -> Result<(), AllocError> {
+    let paths = clash.1.paths(alloc)?;
+    for path in paths.iter().take(most) {
+        push_field(alloc, text, &clash.0, path, live, configured)?;
+    }
+    Ok(())
+}
+
+/// Appends lines about a conflict: of each field, at most 20 of them, the live value, the manager and the configured
+/// value; how many fields are not told; and the ways out.
+pub fn push_conflict(
+    alloc: Global,
+    text: &mut Vec<u8>,
+    clashes: &[(ManagerKey, FieldSet)],
+    live: &Json,
+    configured: &Json,
+) -> Result<(), AllocError> {
+    let mut fields: usize = 0;
+    for clash in clashes {
+        let most = MOST_FIELDS.saturating_sub(fields);
+        push_clash(alloc, text, clash, most, live, configured)?;
+        fields = fields.saturating_add(clash.1.len());
+    }
+    let untold = fields.saturating_sub(MOST_FIELDS);
+    if untold > 0 {
+        let line = format!(in alloc; "ssabench: and {untold} fields more\n")?;
+        text.extend_from_slice(line.as_bytes())?;
+    }
+    text.extend_from_slice(WAYS_OUT)
+}
