@@ -1,5 +1,6 @@
 //! Laws of the records of two states: each is the contract of a function that does nothing.
 
+ghost use Rattle.ssa_model.specs.laws.RecordLeads.{SetLeads, TableLeads, CarryAnswers, BodyLeads};
 ghost use Rattle.ssa_model.specs.examples.RecordRows.{FirstApplyRecord, ForcedRecord, GivenUpRecord, RemovedItemRecord, RemovedItemPlace, ReorderRecord, RepeatRecord, StripRecord, SetFilledRecord, SetEmptiedRecord, LiveItemsRecord, LedRecord, ForcedFacts, ReorderFacts, RemovedItemFacts, FirstApplyText, ForcedText, RemovedItemText, ReorderText};
 
 /// The sizes of the records of worked commands, back and forth.
@@ -31,4 +32,16 @@ pub fn record_texts()
     ensures forced { ForcedText }
     ensures removed { RemovedItemText }
     ensures reorder { ReorderText }
+{}
+
+/// The record of two sets, or of two tables whose common managers stand in one order, leads from the first to the second.
+pub fn table_leads()
+    ensures set { SetLeads }
+    ensures table { TableLeads }
+{}
+
+/// The record of two bodies of one kind leads from the first to the second.
+pub fn body_leads()
+    ensures answers { CarryAnswers }
+    ensures leads { BodyLeads }
 {}
