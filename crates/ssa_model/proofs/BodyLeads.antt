@@ -116,9 +116,9 @@ module _ (v w : Body) (a : IsTree v) (b : IsTree w) (alike : AreAlike v w) where
       let order : get (new_orders v w) q ≡ new_order (Some (list_branch es)) (Some (list_branch fs)) =
       get-over_paths v (λ p. new_order (get v p) (get w p)) q ∙ (λ i. cond (is_some (is_v i)) (new_order (is_v i) (is_w i)) None) in
       ap list_branch (by_test (are_in_one_order es fs)
-      (λ t. ap (λ o. carried_order o (refilled d q es)) (order ∙ ap (λ b. if b then None else Some fs) t)
+      (λ t. ap (λ o. carried_order o (refilled d q es)) (order ∙ ap (λ b. if not b then Some fs else None) t)
       ∙ refilled-is v w a b q es fs is_v is_w (pointwise-true same_element same_element-true (common es fs) (common fs es) t))
-      (λ f. ap (λ o. carried_order o (refilled d q es)) (order ∙ ap (λ b. if b then None else Some fs) f)))
+      (λ f. ap (λ o. carried_order o (refilled d q es)) (order ∙ ap (λ b. if not b then Some fs else None) f)))
   content_is q _ _ is_v is_w same = absurd (omega arith)
 
   -- nothing new is at a path where nothing is put

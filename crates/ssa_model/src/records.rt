@@ -1,6 +1,7 @@
 //! Laws of the records of two states: each is the contract of a function that does nothing.
 
-ghost use Rattle.ssa_model.specs.laws.RecordLeads.{SetLeads, TableLeads, CarryAnswers, BodyLeads};
+ghost use Rattle.ssa_model.specs.laws.RecordLeads.{SetLeads, TableLeads, CarryAnswers, BodyLeads, RecordLeads};
+ghost use Rattle.ssa_model.specs.laws.RecordTurns.{BodyTurns, TableTurns, RecordTurns, FixesTarget, FixesRecord, LeadsBack, TurnsTwice, BodyLaws, TableLaws, TakesByParts};
 ghost use Rattle.ssa_model.specs.examples.RecordRows.{FirstApplyRecord, ForcedRecord, GivenUpRecord, RemovedItemRecord, RemovedItemPlace, ReorderRecord, RepeatRecord, StripRecord, SetFilledRecord, SetEmptiedRecord, LiveItemsRecord, LedRecord, ForcedFacts, ReorderFacts, RemovedItemFacts, FirstApplyText, ForcedText, RemovedItemText, ReorderText};
 
 /// The sizes of the records of worked commands, back and forth.
@@ -44,4 +45,28 @@ pub fn table_leads()
 pub fn body_leads()
     ensures answers { CarryAnswers }
     ensures leads { BodyLeads }
+{}
+
+/// The record of two valid states whose common managers stand in one order leads from the first to the second.
+pub fn record_leads()
+    ensures { RecordLeads }
+{}
+
+/// The record of the way back is told by the record of the way there and the state that it leads from.
+pub fn record_turns()
+    ensures body { BodyTurns }
+    ensures table { TableTurns }
+    ensures state { RecordTurns }
+{}
+
+/// Where a record takes one valid state to another: it and the first fix the second, the two fix it, and its turned record takes the second back to the first.
+/// The same holds of bodies and of tables, and a record of states takes them where its parts take theirs.
+pub fn takes_laws()
+    ensures target { FixesTarget }
+    ensures steps { FixesRecord }
+    ensures back { LeadsBack }
+    ensures twice { TurnsTwice }
+    ensures body { BodyLaws }
+    ensures table { TableLaws }
+    ensures parts { TakesByParts }
 {}

@@ -7,7 +7,7 @@ use Rattle.ssa_model.specs.definitions.PathMap.{get, paths, size, minus}
 use Rattle.ssa_model.specs.definitions.Body.{Content, Body, order_at, modified, removed}
 use Rattle.ssa_model.specs.definitions.Table.{Entry, Table, is_in_table, entry_of}
 use Rattle.ssa_model.specs.definitions.Operations.{State}
-use Rattle.ssa_model.specs.definitions.Record.{Change, BodyRecord, TableRecord, Record, new_order}
+use Rattle.ssa_model.specs.definitions.Record.{Change, BodyRecord, TableRecord, Record, is_reordered}
 
 abbrev pub one_if : Bool → ℕ
 one_if b = if b then 1 else 0
@@ -32,7 +32,7 @@ record_size d = body_size d.body + table_size d.table
 
 -- the items of both lists, where the common ones stand in another order
 abbrev pub reordered : Option Content → Option Content → ℕ
-reordered a b = if is_some (new_order a b) then length (order_at a) + length (order_at b) else 0
+reordered a b = if is_reordered a b then length (order_at a) + length (order_at b) else 0
 
 -- the paths that only one of them has, the leaves that differ, and the items of lists in another order
 abbrev pub body_facts : Body → Body → ℕ

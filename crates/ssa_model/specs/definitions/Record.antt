@@ -1,6 +1,6 @@
 -- The record of two states: what has to change in the first to get the second, and nothing else.
 -- Maps and sets of paths stand in path order.
-use Rattle.std.specs.Prelude.{ℕ, ◌+◌, List, [], ◌∷◌, ◌++◌, Bool, not, ◌&&◌, map, filter, filter_map, Option, Some, None, if◌then◌else◌}
+use Rattle.std.specs.Prelude.{ℕ, ◌+◌, List, [], ◌∷◌, ◌++◌, Bool, false, not, ◌&&◌, map, filter, filter_map, Option, Some, None, if◌then◌else◌}
 use Rattle.std.specs.List.{position_from}
 use Rattle.std.specs.Cmp.Lexicographic.{pointwise}
 use Rattle.ssa_model.specs.definitions.Json.{Text, same_text}
@@ -79,9 +79,13 @@ common es fs = filter (λ e. is_among e fs) es
 abbrev pub are_in_one_order : List Element → List Element → Bool
 are_in_one_order es fs = pointwise same_element (common es fs) (common fs es)
 
+-- both are lists, and their common items stand in another order
+abbrev pub is_reordered : Option Content → Option Content → Bool
+is_reordered (Some (list_branch es)) (Some (list_branch fs)) = not (are_in_one_order es fs)
+is_reordered _ _ = false
+
 abbrev pub new_order : Option Content → Option Content → Option (List Element)
-new_order (Some (list_branch es)) (Some (list_branch fs)) = if are_in_one_order es fs then None else Some fs
-new_order _ _ = None
+new_order a b = if is_reordered a b then Some (order_at b) else None
 
 -- the lists of both whose common items stand in another order, with all items in the second's order
 abbrev pub new_orders : Body → Body → PathMap (List Element)
