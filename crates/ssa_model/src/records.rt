@@ -2,6 +2,7 @@
 
 ghost use Rattle.ssa_model.specs.laws.RecordLeads.{SetLeads, TableLeads, CarryAnswers, BodyLeads, RecordLeads};
 ghost use Rattle.ssa_model.specs.laws.RecordTurns.{BodyTurns, TableTurns, RecordTurns, FixesTarget, FixesRecord, LeadsBack, TurnsTwice, BodyLaws, TableLaws, TakesByParts};
+ghost use Rattle.ssa_model.specs.laws.RecordSizes.{BodyBound, TableBound, SizeBound};
 ghost use Rattle.ssa_model.specs.examples.RecordRows.{FirstApplyRecord, ForcedRecord, GivenUpRecord, RemovedItemRecord, RemovedItemPlace, ReorderRecord, RepeatRecord, StripRecord, SetFilledRecord, SetEmptiedRecord, LiveItemsRecord, LedRecord, ForcedFacts, ReorderFacts, RemovedItemFacts, FirstApplyText, ForcedText, RemovedItemText, ReorderText};
 
 /// The sizes of the records of worked commands, back and forth.
@@ -69,4 +70,11 @@ pub fn takes_laws()
     ensures body { BodyLaws }
     ensures table { TableLaws }
     ensures parts { TakesByParts }
+{}
+
+/// A record holds no more than the facts in which its states differ.
+pub fn size_bound()
+    ensures body { BodyBound }
+    ensures table { TableBound }
+    ensures state { SizeBound }
 {}
