@@ -22,7 +22,7 @@ use Rattle.ssa_model.proofs.TableLeads.{among-filter, entry-there, entry-own}
 
 -- ---- leaves and orders
 
-nothing : {X : Type 0} (b : Bool) → ◌≡◌ {A = Option X} (cond b None None) None
+pub nothing : {X : Type 0} (b : Bool) → ◌≡◌ {A = Option X} (cond b None None) None
 nothing true = refl
 nothing false = refl
 

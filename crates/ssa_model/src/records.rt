@@ -2,7 +2,8 @@
 
 ghost use Rattle.ssa_model.specs.laws.RecordLeads.{SetLeads, TableLeads, CarryAnswers, BodyLeads, RecordLeads};
 ghost use Rattle.ssa_model.specs.laws.RecordTurns.{BodyTurns, TableTurns, RecordTurns, FixesTarget, FixesRecord, LeadsBack, TurnsTwice, BodyLaws, TableLaws, TakesByParts};
-ghost use Rattle.ssa_model.specs.laws.RecordSizes.{BodyBound, TableBound, SizeBound};
+ghost use Rattle.ssa_model.specs.laws.RecordSizes.{BodyBound, TableBound, SizeBound, FactsBothWays};
+ghost use Rattle.ssa_model.specs.laws.InPlace.{TableIsInserted, ItemsAreInserted};
 ghost use Rattle.ssa_model.specs.examples.RecordRows.{FirstApplyRecord, ForcedRecord, GivenUpRecord, RemovedItemRecord, RemovedItemPlace, ReorderRecord, RepeatRecord, StripRecord, SetFilledRecord, SetEmptiedRecord, LiveItemsRecord, LedRecord, ForcedFacts, ReorderFacts, RemovedItemFacts, FirstApplyText, ForcedText, RemovedItemText, ReorderText};
 
 /// The sizes of the records of worked commands, back and forth.
@@ -77,4 +78,15 @@ pub fn size_bound()
     ensures body { BodyBound }
     ensures table { TableBound }
     ensures state { SizeBound }
+{}
+
+/// Two states differ in as many facts one way as the other.
+pub fn facts_both_ways()
+    ensures { FactsBothWays }
+{}
+
+/// What goes is taken out, and what comes is inserted at rising places: so a table and a list of items become those of the second state.
+pub fn in_place()
+    ensures table { TableIsInserted }
+    ensures items { ItemsAreInserted }
 {}
