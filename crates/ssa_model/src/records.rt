@@ -4,7 +4,8 @@ ghost use Rattle.ssa_model.specs.laws.RecordLeads.{SetLeads, TableLeads, CarryAn
 ghost use Rattle.ssa_model.specs.laws.RecordTurns.{BodyTurns, TableTurns, RecordTurns, FixesTarget, FixesRecord, LeadsBack, TurnsTwice, BodyLaws, TableLaws, TakesByParts};
 ghost use Rattle.ssa_model.specs.laws.RecordSizes.{BodyBound, TableBound, SizeBound, FactsBothWays};
 ghost use Rattle.ssa_model.specs.laws.InPlace.{TableIsInserted, ItemsAreInserted};
-ghost use Rattle.ssa_model.specs.examples.RecordRows.{FirstApplyRecord, ForcedRecord, GivenUpRecord, RemovedItemRecord, RemovedItemPlace, ReorderRecord, RepeatRecord, StripRecord, SetFilledRecord, SetEmptiedRecord, LiveItemsRecord, LedRecord, ForcedFacts, ReorderFacts, RemovedItemFacts, FirstApplyText, ForcedText, RemovedItemText, ReorderText};
+ghost use Rattle.ssa_model.specs.laws.RecordWalks.{CutsAreFiltered, LeavesAreFiltered, OrdersAreFiltered, PutsAreFiltered, RecordBelow, PartIsValue, TreeLeads, BodiesAreTrees, PartIsTree, CarryBelow};
+ghost use Rattle.ssa_model.specs.examples.RecordRows.{FirstApplyRecord, ForcedRecord, GivenUpRecord, RemovedItemRecord, RemovedItemPlace, ReorderRecord, RepeatRecord, StripRecord, SetFilledRecord, SetEmptiedRecord, LiveItemsRecord, LedRecord, ForcedFacts, ReorderFacts, RemovedItemFacts, FirstApplyText, ForcedText, RemovedItemText, ReorderText, RecordsAreMet};
 
 /// The sizes of the records of worked commands, back and forth.
 pub fn record_sizes()
@@ -89,4 +90,31 @@ pub fn facts_both_ways()
 pub fn in_place()
     ensures table { TableIsInserted }
     ensures items { ItemsAreInserted }
+{}
+
+/// The members of the record of two bodies are filters over the paths of one, in path order. Below a path of both it is the record of what they have there.
+pub fn record_walks()
+    ensures cut { CutsAreFiltered }
+    ensures leaves { LeavesAreFiltered }
+    ensures orders { OrdersAreFiltered }
+    ensures put { PutsAreFiltered }
+    ensures below { RecordBelow }
+{}
+
+/// The value of a part is the value that the body has at the part's path.
+pub fn part_is_value()
+    ensures { PartIsValue }
+{}
+
+/// A record leads from a body to the other without regard to their schema, and so part by part: below a path of both, by what the record has there.
+pub fn carry_walks()
+    ensures leads { TreeLeads }
+    ensures trees { BodiesAreTrees }
+    ensures part { PartIsTree }
+    ensures below { CarryBelow }
+{}
+
+/// The states of a worked example meet what the laws ask of two states.
+pub fn records_are_met()
+    ensures { RecordsAreMet }
 {}
