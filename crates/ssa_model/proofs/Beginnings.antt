@@ -1,11 +1,11 @@
 -- Beginnings of paths, what follows them, and the first beginning that a body has not.
 use Rattle.std.proofs.Common.{◌≡◌, [], ◌∷◌, ◌++◌, Bool, true, false, ◌&&◌, Some, None, refl, sym, ap, ◌∙◌, true≢false}
-use Rattle.std.specs.Prelude.{if◌then◌else◌}
-use Rattle.std.specs.Cmp.{first_so, second_so}
 use Rattle.std.proofs.lemmas.Option.{none-some, same_Some}
+use Rattle.std.specs.Cmp.{first_so, second_so}
+use Rattle.std.specs.Prelude.{if◌then◌else◌}
 use Rattle.ssa_model.specs.definitions.Path.{Element, Path, same_element, under, parent, rest_of, last_element}
-use Rattle.ssa_model.proofs.Tables.{element-itself, yes_no}
 use Rattle.ssa_model.proofs.Fitting.{same_element-true}
+use Rattle.ssa_model.proofs.Tables.{element-itself, yes_no}
 use Rattle.ssa_model.proofs.Tests.{by_test}
 
 -- ---- what follows a beginning

@@ -1,27 +1,27 @@
 -- The record of two states leads from the body of the first to that of the second.
 use Rattle.std.proofs.Common.{◌≡◌, inl, inr, ℕ, List, ◌++◌, true, false, cond, not, ◌&&◌, Some, None, refl, sym, ap, ◌∙◌, true≢false, arith}
 use Rattle.std.proofs.lemmas.List.Folds.{list_any-append}
-use Rattle.std.specs.Prelude.{is_some, if◌then◌else◌}
-use Rattle.std.specs.Option.{unwrap_or}
 use Rattle.std.specs.Cmp.{first_so, second_so}
-use Rattle.ssa_model.specs.definitions.Kind as kinds
+use Rattle.std.specs.Option.{unwrap_or}
+use Rattle.std.specs.Prelude.{is_some, if◌then◌else◌}
 use Rattle.ssa_model.specs.definitions.Json.{Scalar, Json, same_scalar, same_json}
 use Rattle.ssa_model.specs.definitions.Path.{Path, same_element, same_path, under, parent}
 use Rattle.ssa_model.specs.definitions.PathMap.{get, has, paths, has_at_or_above}
+use Rattle.ssa_model.specs.definitions.Kind as kinds
 use Rattle.ssa_model.specs.definitions.Kind.{Kind, scalar_kind, atomic_of, record_of as record_kind, dict_of, items_of}
 use Rattle.ssa_model.specs.definitions.Body.{Content, leaf, atom, record_branch, dict_branch, list_branch, Body}
 use Rattle.ssa_model.specs.definitions.Fitting.{Place, of_kind, item_of, value_of, content_fits, IsAt, IsBodyOf}
 use Rattle.ssa_model.specs.definitions.Record.{Part, is_top, part_at, cuts, puts, new_leaf, common, are_in_one_order, new_order, new_orders, BodyRecord, body_record}
 use Rattle.ssa_model.specs.definitions.Carry.{refilled, put_content, put_paths, carried_order, carried_content, kept_content, or_kept, carried_at, carry_body}
-use Rattle.ssa_model.specs.laws.RecordWalks.{class_of, IsTree, AreAlike, BodiesAreTrees, TreeLeads}
 use Rattle.ssa_model.specs.laws.RecordLeads.{CarryAnswers, BodyLeads}
-use Rattle.ssa_model.proofs.PathMaps.{is_one_of, get-map_of, has-paths, has-set_of, same_map, get-over_paths}
-use Rattle.ssa_model.proofs.Tables.{first_false, second_false, yes_no, no}
+use Rattle.ssa_model.specs.laws.RecordWalks.{class_of, IsTree, AreAlike, BodiesAreTrees, TreeLeads}
 use Rattle.ssa_model.proofs.Fitting.{same_element-true, some_place, some_there, nothing_there}
+use Rattle.ssa_model.proofs.PathMaps.{is_one_of, get-map_of, has-paths, has-set_of, same_map, get-over_paths}
 use Rattle.ssa_model.proofs.Pruned.{some_one, from_one, closed-above}
+use Rattle.ssa_model.proofs.Tables.{first_false, second_false, yes_no, no}
 use Rattle.ssa_model.proofs.Scalars.{same_scalar-true}
-use Rattle.ssa_model.proofs.Tests.{by_test, pointwise-true}
 use Rattle.ssa_model.proofs.SameValues.{same_json-true}
+use Rattle.ssa_model.proofs.Tests.{by_test, pointwise-true}
 use Rattle.ssa_model.proofs.Beginnings.{departs, rest_of-under}
 use Rattle.ssa_model.proofs.PutParts.{all-puts, get-puts, put_case, put_missed, put_nothing}
 use Rattle.ssa_model.proofs.PutItems.{refilled-is}

@@ -8,9 +8,9 @@ use Rattle.ssa_model.specs.definitions.Fitting.{are_distinct}
 use Rattle.ssa_model.specs.definitions.Record.{below}
 use Rattle.ssa_model.specs.definitions.Carry.{carry_body}
 use Rattle.ssa_model.specs.laws.RecordWalks.{AreAlike, PartIsTree, CarryBelow}
-use Rattle.ssa_model.proofs.PutParts.{get-below}
+use Rattle.ssa_model.proofs.PutParts.{get-below, has-part}
 use Rattle.ssa_model.proofs.BodyLeads.{tree_leads}
-use Rattle.ssa_model.proofs.RecordWalks.{has-part, record_below_is}
+use Rattle.ssa_model.proofs.RecordWalks.{record_below_is}
 
 pub part_is_tree : PartIsTree
 part_is_tree v p a there =

@@ -1,5 +1,6 @@
 -- Two states differ as much one way as the other.
 use Rattle.std.proofs.Common.{◌≡◌, ℕ, ◌+◌, List, [], ◌∷◌, length, map, Bool, true, false, cond, not, ◌&&◌, Option, Some, None, refl, sym, ap, ◌∙◌, arith}
+use Rattle.std.proofs.Math.Bool.{and-false}
 use Rattle.std.specs.Prelude.{is_some, if◌then◌else◌, filter}
 use Rattle.ssa_model.specs.definitions.Json.{same_text}
 use Rattle.ssa_model.specs.definitions.Path.{Path}
@@ -7,19 +8,18 @@ use Rattle.ssa_model.specs.definitions.PathMap.{get, has, paths, size, map_of}
 use Rattle.ssa_model.specs.definitions.Body.{Content, Body, order_at, is_other_leaf, modified}
 use Rattle.ssa_model.specs.definitions.Table.{ManagerKey, Entry, Table, is_in_table, entry_of}
 use Rattle.ssa_model.specs.definitions.Valid.{has_distinct_keys, KeepsOrder, AllEntries}
-use Rattle.ssa_model.specs.definitions.Facts.{one_if, reordered, entry_facts}
 use Rattle.ssa_model.specs.definitions.Record.{is_reordered}
+use Rattle.ssa_model.specs.definitions.Facts.{one_if, reordered, entry_facts}
 use Rattle.ssa_model.specs.laws.RecordSizes.{FactsBothWays}
 use Rattle.ssa_model.proofs.PathMaps.{same_map, same_sets, has-set_of, has-paths, get-over_paths}
 use Rattle.ssa_model.proofs.Tables.{same_text-true}
-use Rattle.ssa_model.proofs.Sums.{total, sum-total}
-use Rattle.ssa_model.proofs.Tests.{by_test, symmetric}
 use Rattle.ssa_model.proofs.SharedManagers.{each-in}
+use Rattle.ssa_model.proofs.Tests.{by_test, symmetric}
 use Rattle.ssa_model.proofs.TableLeads.{entry-there, entry-own}
+use Rattle.ssa_model.proofs.Differing.{other_leaves, reordered_lists}
 use Rattle.ssa_model.proofs.RecordTurns.{absent, nothing}
-use Rattle.ssa_model.proofs.Differing.{other_leaf-both, other_leaf-first, reordered-both, reordered-first, reordered-second}
+use Rattle.ssa_model.proofs.Sums.{total, sum-total}
 use Rattle.ssa_model.proofs.MapEntries.{counted, total-map}
-use Rattle.std.proofs.Math.Bool.{and-false}
 
 add-swap : (m n : ℕ) → m + n ≡ n + m
 add-swap m n = omega arith
@@ -32,8 +32,8 @@ where_there there false h = and-false there
 
 leaf-both : (a b : Option Content) → (is_some a && is_other_leaf a b) ≡ (is_some b && is_other_leaf b a)
 leaf-both a b =
-    where_there (is_some a) (is_other_leaf a b) (other_leaf-first a b) ∙ other_leaf-both a b
-    ∙ sym (where_there (is_some b) (is_other_leaf b a) (other_leaf-first b a))
+    where_there (is_some a) (is_other_leaf a b) (other_leaves.first a b) ∙ other_leaves.same a b
+    ∙ sym (where_there (is_some b) (is_other_leaf b a) (other_leaves.first b a))
 
 has-modified : (v w : Body) (p : Path) → has (modified v w) p ≡ (is_some (get v p) && is_other_leaf (get v p) (get w p))
 has-modified v w p = has-set_of (paths v) (λ q. is_other_leaf (get v q) (get w q)) p ∙ ap (λ b. b && is_other_leaf (get v p) (get w p)) (sym (has-paths v p))
@@ -57,8 +57,8 @@ where_both here there false n h t = nothing here ∙ sym (nothing there)
 
 lists-both : (a b : Option Content) → cond (is_some a) (both_lists a b) None ≡ cond (is_some b) (both_lists b a) None
 lists-both a b =
-    where_both (is_some a) (is_some b) (is_reordered a b) (Some (length (order_at a) + length (order_at b))) (reordered-first a b) (reordered-second a b)
-    ∙ (λ i. cond (is_some b) (if reordered-both a b i then Some (add-swap (length (order_at a)) (length (order_at b)) i) else None) None)
+    where_both (is_some a) (is_some b) (is_reordered a b) (Some (length (order_at a) + length (order_at b))) (reordered_lists.first a b) (reordered_lists.second a b)
+    ∙ (λ i. cond (is_some b) (if reordered_lists.same a b i then Some (add-swap (length (order_at a)) (length (order_at b)) i) else None) None)
 
 total-lists : (v w : Body) → total (λ p. reordered (get v p) (get w p)) (paths v) ≡ total (λ e. e.1) (map_of (paths v) (λ p. both_lists (get v p) (get w p))).entries
 total-lists v w = sym (total-map (λ e. e.1) (λ p. both_lists (get v p) (get w p)) v ∙ alike (paths v))

@@ -1,8 +1,8 @@
 -- A list is what its elements at given places and the others, in their order, fill.
 use Rattle.std.proofs.Common.{ℕ, zero, suc, ◌≡◌, ◌+◌, ◌≤◌, ◌<◌, List, [], ◌∷◌, Bool, true, false, cond, not, Option, Some, None, refl, ap, sym, ◌∙◌, arith}
-use Rattle.std.specs.Prelude.{filter, if◌then◌else◌, ◌==◌, map}
 use Rattle.std.proofs.lemmas.Bool.Decides.{nat_tests}
 use Rattle.std.proofs.lemmas.Option.{none-some}
+use Rattle.std.specs.Prelude.{filter, if◌then◌else◌, ◌==◌, map}
 use Rattle.ssa_model.specs.definitions.Record.{placed}
 use Rattle.ssa_model.specs.definitions.Carry.{placed_at, filled, end_of}
 use Rattle.ssa_model.proofs.Tests.{by_test}

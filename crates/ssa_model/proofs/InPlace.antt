@@ -1,24 +1,24 @@
 -- What is inserted at rising places among what stays makes the list.
 use Rattle.std.proofs.Common.{ℕ, zero, suc, ◌≡◌, ◌+◌, ◌≤◌, List, [], ◌∷◌, ◌++◌, length, map, Bool, cond, not, Option, Some, None, refl, ap, sym, ◌∙◌, append_assoc, length-append, arith}
-use Rattle.std.specs.Prelude.{filter, filter_map, is_some, if◌then◌else◌}
-use Rattle.std.specs.List.{insert}
+use Rattle.std.proofs.Math.Bool.{not-not}
 use Rattle.std.proofs.lemmas.Option.{none-some}
+use Rattle.std.specs.List.{insert}
+use Rattle.std.specs.Prelude.{filter, filter_map, is_some, if◌then◌else◌}
+use Rattle.ssa_model.specs.definitions.Path.{same_element}
 use Rattle.ssa_model.specs.definitions.PathMap.{get, has}
 use Rattle.ssa_model.specs.definitions.Kind.{is_among}
 use Rattle.ssa_model.specs.definitions.Body.{list_branch}
 use Rattle.ssa_model.specs.definitions.Table.{is_in_table}
-use Rattle.ssa_model.specs.definitions.Carry.{placed_at, end_of, place_in, put_item}
 use Rattle.ssa_model.specs.definitions.Record.{are_in_one_order, new_order, new_orders, new_in, common, puts, cuts}
+use Rattle.ssa_model.specs.definitions.Carry.{placed_at, end_of, place_in, put_item}
 use Rattle.ssa_model.specs.laws.InPlace.{inserted, TableIsInserted, ItemsAreInserted}
-use Rattle.ssa_model.proofs.Tests.{by_test, pointwise-true}
 use Rattle.ssa_model.proofs.Fitting.{same_element-true}
-use Rattle.ssa_model.specs.definitions.Path.{same_element}
-use Rattle.ssa_model.proofs.FilledLists.{Gives, all_stay, placed_gives, placed_end}
-use Rattle.std.proofs.Math.Bool.{not-not}
-use Rattle.ssa_model.proofs.TableLeads.{stay-are}
 use Rattle.ssa_model.proofs.PathMaps.{get-over_paths}
-use Rattle.ssa_model.proofs.BodyLeads.{bodies_are_trees}
+use Rattle.ssa_model.proofs.Tests.{by_test, pointwise-true}
+use Rattle.ssa_model.proofs.FilledLists.{Gives, all_stay, placed_gives, placed_end}
+use Rattle.ssa_model.proofs.TableLeads.{stay-are}
 use Rattle.ssa_model.proofs.PutItems.{filter-members, item_end, gives, stays}
+use Rattle.ssa_model.proofs.BodyLeads.{bodies_are_trees}
 
 module _ {X : Type 0} where
   insert_at : (xs ys : List X) (n : ℕ) (y : X) → length xs ≡ n → insert (xs ++ ys) n y ≡ (xs ++ (y ∷ [])) ++ ys

@@ -1,16 +1,16 @@
 -- The entries of a map over the paths of another, in path order; and what is counted over them.
 use Rattle.std.proofs.Common.{◌≡◌, ℕ, ◌+◌, List, [], ◌∷◌, map, true, ◌&&◌, Option, Some, None, refl, ap, ◌∙◌, arith}
-use Rattle.std.specs.Prelude.{option_map}
-use Rattle.std.specs.List.{cons_option}
-use Rattle.std.specs.Ordering.{is_lt}
 use Rattle.std.specs.Cmp.{first_so, second_so}
 use Rattle.std.specs.FinMap.Entries.{put, by_order, below_all, is_sorted}
+use Rattle.std.specs.List.{cons_option}
+use Rattle.std.specs.Ordering.{is_lt}
+use Rattle.std.specs.Prelude.{option_map}
 use Rattle.ssa_model.specs.definitions.Path.{Path, path_cmp}
 use Rattle.ssa_model.specs.definitions.PathMap.{PathMap, from_entries, paths, size, map_of}
 use Rattle.ssa_model.specs.laws.RecordWalks.{found}
 use Rattle.ssa_model.proofs.RisingNames.{lower}
-use Rattle.ssa_model.proofs.Sums.{total, length-total}
 use Rattle.ssa_model.proofs.Tests.{holds}
+use Rattle.ssa_model.proofs.Sums.{total, length-total}
 
 module _ {X : Type 0} where
   put-first : (p : Path) (x : X) (es : List (Path × X)) → below_all path_cmp p es ≡ true → put path_cmp p x es ≡ (p, x) ∷ es

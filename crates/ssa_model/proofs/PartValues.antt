@@ -1,16 +1,16 @@
 -- The value of a part of a body is the value that the body has at the part's path.
 use Rattle.std.proofs.Common.{◌≡◌, List, [], ◌∷◌, ◌++◌, map, Bool, true, false, cond, not, ◌&&◌, T, Option, Some, None, refl, sym, ap, subst, ◌∙◌, true≢false, append_assoc, append-nil}
-use Rattle.std.specs.Prelude.{is_some, if◌then◌else◌, filter_map, option_map}
-use Rattle.std.specs.List.{cons_option}
-use Rattle.std.specs.Ordering.{is_lt, is_eq, ordering_then}
+use Rattle.std.proofs.lemmas.Option.{none-some}
 use Rattle.std.specs.Cmp.{first_so, second_so, tied_itself, on_total}
 use Rattle.std.specs.Cmp.Lexicographic.{nat_list_cmp_total}
 use Rattle.std.specs.FinMap.Entries.{below_all, is_sorted, find}
-use Rattle.ssa_model.specs.definitions.Kind as kinds
-use Rattle.std.proofs.lemmas.Option.{none-some}
+use Rattle.std.specs.List.{cons_option}
+use Rattle.std.specs.Ordering.{is_lt, is_eq, ordering_then}
+use Rattle.std.specs.Prelude.{if◌then◌else◌, filter_map, option_map}
 use Rattle.ssa_model.specs.definitions.Json.{Text, Json, object, list, item, member}
 use Rattle.ssa_model.specs.definitions.Path.{Element, field, Path, element_text, element_cmp, path_cmp, same_path, parent, rest_of}
 use Rattle.ssa_model.specs.definitions.PathMap.{get, has}
+use Rattle.ssa_model.specs.definitions.Kind as kinds
 use Rattle.ssa_model.specs.definitions.Kind.{Kind, Fields, scalar_kind, atomic_of, record_of as record_kind, dict_of, items_of, no_fields, kind_field}
 use Rattle.ssa_model.specs.definitions.Body.{Body, order_at}
 use Rattle.ssa_model.specs.definitions.Objects.{content_value, name_below, names_below, entry_members, shown_items, shown, shown_fields}
@@ -18,10 +18,10 @@ use Rattle.ssa_model.specs.definitions.Fitting.{of_kind, item_of, value_of}
 use Rattle.ssa_model.specs.definitions.Record.{below}
 use Rattle.ssa_model.specs.laws.RecordWalks.{PartIsValue}
 use Rattle.ssa_model.proofs.PathMaps.{same_map, same_path-true}
+use Rattle.ssa_model.proofs.ShownNames.{name_of}
 use Rattle.ssa_model.proofs.Tests.{by_test, holds, held}
 use Rattle.ssa_model.proofs.Beginnings.{rest_of-is, rest_of-append}
-use Rattle.ssa_model.proofs.PutParts.{get-below}
-use Rattle.ssa_model.proofs.ShownNames.{name_of}
+use Rattle.ssa_model.proofs.PutParts.{get-below, has-part}
 
 -- ---- order below a path
 
@@ -134,9 +134,6 @@ names-part : (w : Body) (p r : Path) → names_below (below w p) r ≡ names_bel
 names-part w p r = ap (λ b. names_below b r) (below-moved w p) ∙ names-shifted p r w.entries
 
 -- ---- values
-
-has-part : (w : Body) (p r : Path) → has (below w p) r ≡ has w (p ++ r)
-has-part w p r = ap is_some (get-below w p r)
 
 members-alike : (f g : Path → Json) (p q : Path) → ((n : Text) → f (p ++ field n ∷ []) ≡ g (q ++ field n ∷ [])) → (ns : List Text) → entry_members f p ns ≡ entry_members g q ns
 members-alike f g p q alike [] = refl

@@ -1,26 +1,26 @@
 -- The order of a list that both bodies have: the items put stand at their places, the rest keep their order.
 use Rattle.std.proofs.Common.{◌≡◌, ◌⊎◌, inl, inr, ℕ, ◌+◌, ◌≤◌, List, [], ◌∷◌, ◌++◌, length, Bool, true, false, cond, not, ◌&&◌, Option, Some, None, refl, sym, ap, ◌∙◌, true≢false, arith, append_assoc, length-append}
+use Rattle.std.proofs.Math.Bool.{not-not, and-true}
 use Rattle.std.proofs.lemmas.Bool.Decides.{nat_tests}
-use Rattle.std.specs.Prelude.{is_some, if◌then◌else◌, filter, filter_map, ◌==◌}
-use Rattle.std.specs.List.{cons_option, position_from}
+use Rattle.std.proofs.lemmas.Option.{none-some, same_Some}
 use Rattle.std.specs.Cmp.{first_so, second_so}
 use Rattle.std.specs.FinMap.Entries.{find}
-use Rattle.std.proofs.Math.Bool.{not-not, and-true}
-use Rattle.std.proofs.lemmas.Option.{none-some, same_Some}
+use Rattle.std.specs.List.{cons_option, position_from}
+use Rattle.std.specs.Prelude.{is_some, if◌then◌else◌, filter, filter_map, ◌==◌}
 use Rattle.ssa_model.specs.definitions.Path.{Element, Path, path_cmp, same_element, same_path, parent, is_item_element, last_element}
 use Rattle.ssa_model.specs.definitions.PathMap.{get, has, paths}
 use Rattle.ssa_model.specs.definitions.Kind.{is_among}
 use Rattle.ssa_model.specs.definitions.Body.{list_branch, Body, order_at}
 use Rattle.ssa_model.specs.definitions.Fitting.{are_distinct}
-use Rattle.ssa_model.specs.definitions.Carry.{filled, end_of, place_in, is_place, put_item}
 use Rattle.ssa_model.specs.definitions.Record.{Part, is_top, item_place, part_at, cuts, puts, common}
+use Rattle.ssa_model.specs.definitions.Carry.{filled, end_of, place_in, is_place, put_item}
 use Rattle.ssa_model.specs.laws.RecordWalks.{IsTree}
+use Rattle.ssa_model.proofs.Fitting.{same_element-true}
 use Rattle.ssa_model.proofs.PathMaps.{same_path-true, same_path-itself, has-set_of, has-paths}
 use Rattle.ssa_model.proofs.Tables.{or_true, true_or, yes_no, no, element-itself}
-use Rattle.ssa_model.proofs.Fitting.{same_element-true}
 use Rattle.ssa_model.proofs.Tests.{by_test}
-use Rattle.ssa_model.proofs.Beginnings.{parent-push, last-push, parent-last}
 use Rattle.ssa_model.proofs.FilledLists.{Gives, filled_is}
+use Rattle.ssa_model.proofs.Beginnings.{parent-push, last-push, parent-last}
 use Rattle.ssa_model.proofs.PutParts.{AllAt, IsPut, all-puts, get-puts}
 
 -- ---- orders

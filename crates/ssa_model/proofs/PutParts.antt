@@ -1,19 +1,19 @@
 -- What a record puts: its entries, and what they say of a path.
 use Rattle.std.proofs.Common.{◌≡◌, ◌⊎◌, inl, inr, List, [], ◌∷◌, ◌++◌, map, Bool, true, false, cond, Option, Some, None, Less, Equal, Greater, refl, sym, ap, subst, ◌∙◌, true≢false}
-use Rattle.std.specs.Prelude.{if◌then◌else◌, option_map, filter_map}
-use Rattle.std.specs.List.{cons_option}
-use Rattle.std.specs.FinMap.Entries.{put, by_order, find}
 use Rattle.std.proofs.lemmas.Option.{none-some, same_Some}
+use Rattle.std.specs.FinMap.Entries.{put, by_order, find}
+use Rattle.std.specs.List.{cons_option}
+use Rattle.std.specs.Prelude.{is_some, if◌then◌else◌, option_map, filter_map}
 use Rattle.ssa_model.specs.definitions.Path.{Path, path_cmp, same_path, rest_of}
 use Rattle.ssa_model.specs.definitions.PathMap.{from_entries, get, has, paths, map_of}
 use Rattle.ssa_model.specs.definitions.Body.{Content, Body}
 use Rattle.ssa_model.specs.definitions.Record.{Part, is_top, below, part_at, puts}
 use Rattle.ssa_model.specs.definitions.Carry.{put_content, put_paths}
-use Rattle.ssa_model.proofs.Texts.{same_path_same}
+use Rattle.ssa_model.proofs.Fitting.{nothing_there}
 use Rattle.ssa_model.proofs.PathMaps.{is_one_of, get-map_of, has-paths, same_path-true, same_path-itself, get-over_paths}
+use Rattle.ssa_model.proofs.Texts.{same_path_same}
 use Rattle.ssa_model.proofs.Tables.{either, or_true, true_or, yes_no}
 use Rattle.ssa_model.proofs.Tests.{by_test}
-use Rattle.ssa_model.proofs.Fitting.{nothing_there}
 use Rattle.ssa_model.proofs.Beginnings.{rest_of-is, rest_of-append}
 
 -- ---- entries of maps
@@ -74,6 +74,9 @@ get-below w g r =
     get-map_of (filter_map (rest_of g) (paths w)) (λ q. get w (g ++ q)) r
     ∙ where_true (is_one_of (filter_map (rest_of g) (paths w)) r) (get w (g ++ r))
     (λ off. nothing_there (get w (g ++ r)) (by_test (has w (g ++ r)) (λ t. yes_no (is_one_of (filter_map (rest_of g) (paths w)) r) (rests g r (paths w) (sym (has-paths w (g ++ r)) ∙ t)) off) (λ f. f)))
+
+pub has-part : (w : Body) (g r : Path) → has (below w g) r ≡ has w (g ++ r)
+has-part w g r = ap is_some (get-below w g r)
 
 -- ---- the entries of what is put
 

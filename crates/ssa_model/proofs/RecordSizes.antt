@@ -1,9 +1,9 @@
 -- A record holds no more than two states differ.
 use Rattle.std.proofs.Common.{◌≡◌, ◌⊎◌, inl, inr, ℕ, ◌+◌, ◌≤◌, List, [], ◌∷◌, ◌++◌, length, map, Bool, true, false, cond, not, ◌&&◌, Option, Some, None, Less, Equal, Greater, refl, sym, ap, ◌∙◌, true≢false, arith}
-use Rattle.std.specs.Prelude.{is_some, if◌then◌else◌, filter, filter_map, option_map}
-use Rattle.std.specs.List.{cons_option}
 use Rattle.std.specs.Cmp.{first_so, second_so}
 use Rattle.std.specs.FinMap.Entries.{put, by_order}
+use Rattle.std.specs.List.{cons_option}
+use Rattle.std.specs.Prelude.{is_some, if◌then◌else◌, filter, filter_map, option_map}
 use Rattle.ssa_model.specs.definitions.Json.{same_text}
 use Rattle.ssa_model.specs.definitions.Path.{Element, Path, same_element, same_path, path_cmp, parent, under, rest_of}
 use Rattle.ssa_model.specs.definitions.PathMap.{from_entries, get, has, paths, size, minus, same_set}
@@ -14,10 +14,10 @@ use Rattle.ssa_model.specs.definitions.Fitting.{IsBodyOf}
 use Rattle.ssa_model.specs.definitions.Record.{placed, Change, Part, is_top, below, part_at, cuts, puts, new_leaf, new_leaves, is_reordered, new_order, new_orders, new_moment, change_of, changes, new_in}
 use Rattle.ssa_model.specs.definitions.Facts.{one_if, change_size, reordered, entry_facts}
 use Rattle.ssa_model.specs.laws.RecordSizes.{BodyBound, TableBound, SizeBound}
-use Rattle.ssa_model.proofs.PathMaps.{is_one_of, same_path-itself}
-use Rattle.ssa_model.proofs.Tables.{first_false, second_false, yes_no, no, element-itself}
 use Rattle.ssa_model.proofs.Fitting.{same_element-true}
+use Rattle.ssa_model.proofs.PathMaps.{is_one_of, same_path-itself}
 use Rattle.ssa_model.proofs.Pruned.{above}
+use Rattle.ssa_model.proofs.Tables.{first_false, second_false, yes_no, no, element-itself}
 use Rattle.ssa_model.proofs.DistinctNames.{are_distinct_paths, sorted-distinct}
 use Rattle.ssa_model.proofs.Tests.{by_test, holds}
 use Rattle.ssa_model.proofs.Sums.{total, sum-total, total-add, total-le, total-zero, total-if}

@@ -5,9 +5,9 @@ use Rattle.ssa_model.specs.definitions.Carry.{carry_body, carry_table, carry}
 use Rattle.ssa_model.specs.definitions.Takes.{turned_body, turned_table, turned}
 use Rattle.ssa_model.specs.laws.RecordLeads.{RecordLeads}
 use Rattle.ssa_model.specs.laws.RecordTurns.{FixesTarget, FixesRecord, LeadsBack, TurnsTwice, BodyLaws, TableLaws, TakesByParts}
-use Rattle.ssa_model.proofs.RecordTurns.{body_turns, table_turns, record_turns}
-use Rattle.ssa_model.proofs.BodyLeads.{body_leads}
 use Rattle.ssa_model.proofs.TableLeads.{table_leads}
+use Rattle.ssa_model.proofs.BodyLeads.{body_leads}
+use Rattle.ssa_model.proofs.RecordTurns.{body_turns, table_turns, record_turns}
 
 pub record_leads : RecordLeads
 record_leads kind v w a b order =

@@ -1,7 +1,7 @@
 -- The record of the way back is the turned record of the way there.
 use Rattle.std.proofs.Common.{◌≡◌, ℕ, ◌+◌, List, [], ◌∷◌, map, Bool, true, false, cond, not, ◌&&◌, Option, Some, None, refl, sym, ap, ◌∙◌}
-use Rattle.std.specs.Prelude.{is_some, if◌then◌else◌, filter, filter_map, option_map}
 use Rattle.std.specs.List.{cons_option}
+use Rattle.std.specs.Prelude.{is_some, if◌then◌else◌, filter, filter_map, option_map}
 use Rattle.ssa_model.specs.definitions.Json.{Text, same_text}
 use Rattle.ssa_model.specs.definitions.PathMap.{get, has, paths, map_of, listed, minus, same_set}
 use Rattle.ssa_model.specs.definitions.Body.{Content, Body, is_other_leaf, order_at}
@@ -12,13 +12,13 @@ use Rattle.ssa_model.specs.definitions.Carry.{is_key_among}
 use Rattle.ssa_model.specs.definitions.Takes.{moment_or, turned_change}
 use Rattle.ssa_model.specs.laws.RecordTurns.{BodyTurns, TableTurns, RecordTurns}
 use Rattle.ssa_model.proofs.PathMaps.{has-paths, same_map, same_sets, same_set-true, get-over_paths}
-use Rattle.ssa_model.proofs.Lists.{has-listed}
 use Rattle.ssa_model.proofs.Tables.{first_false, second_false, same_text-true}
-use Rattle.ssa_model.proofs.Differing.{other_leaf-both, other_leaf-first, other_leaf-second, reordered-both, reordered-first, reordered-second}
-use Rattle.ssa_model.proofs.Tests.{by_test, symmetric}
-use Rattle.ssa_model.proofs.BodyLeads.{get-cuts}
+use Rattle.ssa_model.proofs.Lists.{has-listed}
 use Rattle.ssa_model.proofs.SharedManagers.{each-more, each-in}
+use Rattle.ssa_model.proofs.Tests.{by_test, symmetric}
 use Rattle.ssa_model.proofs.TableLeads.{among-filter, entry-there, entry-own}
+use Rattle.ssa_model.proofs.BodyLeads.{get-cuts}
+use Rattle.ssa_model.proofs.Differing.{other_leaves, reordered_lists}
 
 -- ---- leaves and orders
 
@@ -37,7 +37,7 @@ turned-when here there false back x y same h t s =
 
 leaf-turned : (a b : Option Content) → cond (is_some b) (new_leaf b a) None ≡ cond (is_some (cond (is_some a) (new_leaf a b) None)) a None
 leaf-turned a b =
-    turned-when (is_some a) (is_some b) (is_other_leaf a b) (is_other_leaf b a) a b (other_leaf-both a b) (other_leaf-first a b) (other_leaf-second a b) (other_leaf-second a b)
+    turned-when (is_some a) (is_some b) (is_other_leaf a b) (is_other_leaf b a) a b (other_leaves.same a b) (other_leaves.first a b) (other_leaves.second a b) (other_leaves.second a b)
 
 leaves_back : (v w : Body) → new_leaves w v ≡ map_of (paths (new_leaves v w)) (get v)
 leaves_back v w =
@@ -49,7 +49,7 @@ leaves_back v w =
 
 order-turned : (a b : Option Content) → cond (is_some b) (new_order b a) None ≡ cond (is_some (cond (is_some a) (new_order a b) None)) (Some (order_at a)) None
 order-turned a b =
-    turned-when (is_some a) (is_some b) (is_reordered a b) (is_reordered b a) (Some (order_at a)) (Some (order_at b)) (reordered-both a b) (reordered-first a b) (reordered-second a b) (λ t. refl)
+    turned-when (is_some a) (is_some b) (is_reordered a b) (is_reordered b a) (Some (order_at a)) (Some (order_at b)) (reordered_lists.same a b) (reordered_lists.first a b) (reordered_lists.second a b) (λ t. refl)
 
 orders_back : (v w : Body) → new_orders w v ≡ map_of (paths (new_orders v w)) (λ p. Some (order_at (get v p)))
 orders_back v w =

@@ -1,17 +1,17 @@
 -- The members of a record as filters, and below a path.
 use Rattle.std.proofs.Common.{◌≡◌, List, [], ◌∷◌, ◌++◌, map, Bool, true, false, cond, not, ◌&&◌, Some, None, refl, sym, ap, ◌∙◌, append_assoc, append-nil}
-use Rattle.std.specs.Prelude.{is_some, if◌then◌else◌, filter, filter_map, option_map}
 use Rattle.std.specs.List.{cons_option, position_from}
+use Rattle.std.specs.Prelude.{is_some, if◌then◌else◌, filter, filter_map, option_map}
 use Rattle.ssa_model.specs.definitions.Path.{Element, Path, same_element, parent, rest_of, last_element}
 use Rattle.ssa_model.specs.definitions.PathMap.{PathMap, get, has, paths}
 use Rattle.ssa_model.specs.definitions.Body.{Body, order_at}
 use Rattle.ssa_model.specs.definitions.Record.{is_top, below, item_place, part_at, cuts, puts, new_leaf, new_leaves, new_order, new_orders}
 use Rattle.ssa_model.specs.laws.RecordWalks.{found, CutsAreFiltered, LeavesAreFiltered, OrdersAreFiltered, PutsAreFiltered, at_and_below, RecordBelow}
+use Rattle.ssa_model.proofs.Fitting.{nothing_there}
 use Rattle.ssa_model.proofs.PathMaps.{is_one_of, get-map_of, has-paths, same_map, same_sets, get-over_paths}
 use Rattle.ssa_model.proofs.Tables.{yes_no}
 use Rattle.ssa_model.proofs.Tests.{by_test}
-use Rattle.ssa_model.proofs.Fitting.{nothing_there}
-use Rattle.ssa_model.proofs.PutParts.{rests, where_true, get-below}
+use Rattle.ssa_model.proofs.PutParts.{rests, where_true, get-below, has-part}
 use Rattle.ssa_model.proofs.BodyLeads.{get-cuts}
 use Rattle.ssa_model.proofs.MapEntries.{map-entries}
 use Rattle.ssa_model.proofs.PartValues.{parent-prefixed}
@@ -45,9 +45,6 @@ get-at_and_below m p r =
     get-map_of (filter_map (rest_of p) (paths m)) (λ q. get m (p ++ q)) r
     ∙ where_true (is_one_of (filter_map (rest_of p) (paths m)) r) (get m (p ++ r))
     (λ off. nothing_there (get m (p ++ r)) (by_test (has m (p ++ r)) (λ t. yes_no (is_one_of (filter_map (rest_of p) (paths m)) r) (rests p r (paths m) (sym (has-paths m (p ++ r)) ∙ t)) off) (λ f. f)))
-
-pub has-part : (w : Body) (p r : Path) → has (below w p) r ≡ has w (p ++ r)
-has-part w p r = ap is_some (get-below w p r)
 
 nothing-top : (h k : Bool) → h ≡ true → (not h && k) ≡ false
 nothing-top h k e = ap (λ b. not b && k) e

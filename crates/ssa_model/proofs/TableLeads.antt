@@ -1,21 +1,21 @@
 -- The record of two states leads from the table of the first to that of the second.
 use Rattle.std.proofs.Common.{◌≡◌, List, [], ◌∷◌, Bool, true, false, cond, not, ◌&&◌, ◌||◌, map, Option, Some, None, refl, sym, ap, ◌∙◌, true≢false, arith}
-use Rattle.std.specs.Prelude.{filter, if◌then◌else◌}
+use Rattle.std.proofs.Math.Bool.{not-not}
+use Rattle.std.proofs.lemmas.Option.{same_Some}
+use Rattle.std.specs.Cmp.{first_so, second_so}
 use Rattle.std.specs.List.{cons_option}
 use Rattle.std.specs.Option.{unwrap_or}
-use Rattle.std.specs.Cmp.{first_so, second_so}
+use Rattle.std.specs.Prelude.{filter, if◌then◌else◌}
 use Rattle.ssa_model.specs.definitions.Json.{Text, same_text}
 use Rattle.ssa_model.specs.definitions.PathMap.{has, minus, same_set}
 use Rattle.ssa_model.specs.definitions.Table.{ManagerKey, Entry, Table, same_manager, is_in_table, entry_of}
 use Rattle.ssa_model.specs.definitions.Valid.{AllEntries, has_distinct_keys, KeepsOrder}
-use Rattle.ssa_model.specs.definitions.Carry.{placed_at, filled, end_of, is_key_among, change_for, changed_entry}
 use Rattle.ssa_model.specs.definitions.Record.{Change, new_moment, change_of, changes, gone_from, new_in}
+use Rattle.ssa_model.specs.definitions.Carry.{placed_at, filled, end_of, is_key_among, change_for, changed_entry}
 use Rattle.ssa_model.specs.laws.RecordLeads.{SetLeads, TableLeads}
-use Rattle.std.proofs.lemmas.Option.{same_Some}
 use Rattle.ssa_model.proofs.PathMaps.{has-union, has-minus, same_sets, same_set-true}
-use Rattle.std.proofs.Math.Bool.{not-not}
-use Rattle.ssa_model.proofs.SharedManagers.{each-more, each-in, each-apart}
 use Rattle.ssa_model.proofs.Tables.{first_false, second_false, manager-itself, same_text-true, no, true_or, same_manager-true}
+use Rattle.ssa_model.proofs.SharedManagers.{each-more, each-in, each-apart}
 use Rattle.ssa_model.proofs.Tests.{by_test}
 use Rattle.ssa_model.proofs.FilledLists.{filled_is, placed_gives, placed_end}
 

@@ -8,6 +8,12 @@ pub by_test : {A : Type 0} (b : Bool) → (b ≡ true → A) → (b ≡ false �
 by_test true t f = t refl
 by_test false t f = f refl
 
+-- tests of which each tells the other answer alike
+pub same_tests : (s t : Bool) → (s ≡ true → t ≡ true) → (t ≡ true → s ≡ true) → s ≡ t
+same_tests true t f g = sym (f refl)
+same_tests false true f g = g refl
+same_tests false false f g = refl
+
 pub holds : (b : Bool) → T b → b ≡ true
 holds true h = refl
 holds false h = absurd h
