@@ -1,6 +1,8 @@
 -- Two states differ as much one way as the other.
-use Rattle.std.proofs.Common.{◌≡◌, ℕ, ◌+◌, List, [], ◌∷◌, length, map, Bool, true, false, cond, not, ◌&&◌, Option, Some, None, refl, sym, ap, ◌∙◌, arith}
+use Rattle.std.proofs.Common.{◌≡◌, ℕ, ◌+◌, List, [], ◌∷◌, length, Bool, true, false, cond, not, ◌&&◌, Option, Some, None, refl, sym, ap, ◌∙◌, arith}
 use Rattle.std.proofs.Math.Bool.{and-false}
+use Rattle.std.proofs.Math.Nat.{add_comm, zero-add}
+use Rattle.std.specs.List.{AllByRecursion}
 use Rattle.std.specs.Prelude.{is_some, if◌then◌else◌, filter}
 use Rattle.ssa_model.specs.definitions.Json.{same_text}
 use Rattle.ssa_model.specs.definitions.Path.{Path}
@@ -13,16 +15,13 @@ use Rattle.ssa_model.specs.definitions.Facts.{one_if, reordered, entry_facts}
 use Rattle.ssa_model.specs.laws.RecordSizes.{FactsBothWays}
 use Rattle.ssa_model.proofs.PathMaps.{same_map, same_sets, has-set_of, has-paths, get-over_paths}
 use Rattle.ssa_model.proofs.Tables.{same_text-true}
-use Rattle.ssa_model.proofs.SharedManagers.{each-in}
-use Rattle.ssa_model.proofs.Tests.{by_test, symmetric}
-use Rattle.ssa_model.proofs.TableLeads.{entry-there, entry-own}
+use Rattle.ssa_model.proofs.SharedManagers.{managers, each-in}
+use Rattle.ssa_model.proofs.Tests.{by_test, symmetric, filter-kept, filter-dropped}
+use Rattle.ssa_model.proofs.ManagerEntries.{entry-there, entry-absent, entry-own, all-passing}
 use Rattle.ssa_model.proofs.Differing.{other_leaves, reordered_lists}
-use Rattle.ssa_model.proofs.RecordTurns.{absent, nothing}
+use Rattle.ssa_model.proofs.RecordTurns.{nothing}
 use Rattle.ssa_model.proofs.Sums.{total, sum-total}
 use Rattle.ssa_model.proofs.MapEntries.{counted, total-map}
-
-add-swap : (m n : ℕ) → m + n ≡ n + m
-add-swap m n = omega arith
 
 -- ---- leaves that differ
 
@@ -58,7 +57,7 @@ where_both here there false n h t = nothing here ∙ sym (nothing there)
 lists-both : (a b : Option Content) → cond (is_some a) (both_lists a b) None ≡ cond (is_some b) (both_lists b a) None
 lists-both a b =
     where_both (is_some a) (is_some b) (is_reordered a b) (Some (length (order_at a) + length (order_at b))) (reordered_lists.first a b) (reordered_lists.second a b)
-    ∙ (λ i. cond (is_some b) (if reordered_lists.same a b i then Some (add-swap (length (order_at a)) (length (order_at b)) i) else None) None)
+    ∙ (λ i. cond (is_some b) (if reordered_lists.same a b i then Some (add_comm (length (order_at a)) (length (order_at b)) i) else None) None)
 
 total-lists : (v w : Body) → total (λ p. reordered (get v p) (get w p)) (paths v) ≡ total (λ e. e.1) (map_of (paths v) (λ p. both_lists (get v p) (get w p))).entries
 total-lists v w = sym (total-map (λ e. e.1) (λ p. both_lists (get v p) (get w p)) v ∙ alike (paths v))
@@ -84,19 +83,19 @@ differing t u k = elim (entry_of t k) [ None ↦ 0 | Some e ↦ entry_facts e (e
 abbrev common_total : Table → Table → ℕ
 common_total t u = total (λ e. entry_facts e (entry_of u e.manager)) t
 
-facts-shared : (t u : Table) (es : Table) → AllEntries (λ e. entry_of t e.manager ≡ Some e) es → total (λ e. entry_facts e (entry_of u e.manager)) es ≡ total (differing t u) (filter (is_in_table u) (map (λ e. e.manager) es))
+facts-shared : (t u : Table) (es : Table) → AllEntries (λ e. entry_of t e.manager ≡ Some e) es
+    → total (λ e. entry_facts e (entry_of u e.manager)) es ≡ total (differing t u) (filter (is_in_table u) (managers es))
 facts-shared t u [] h = refl
 facts-shared t u (e ∷ es) h =
     let rest = facts-shared t u es h.1 in
     by_test (is_in_table u e.manager)
     (λ there.
     (λ i. elim (sym h.0 i) [ None ↦ 0 | Some x ↦ entry_facts x (entry_of u e.manager) ] + rest i)
-    ∙ sym (ap (λ b. total (differing t u) (cond b (e.manager ∷ filter (is_in_table u) (map (λ e. e.manager) es)) (filter (is_in_table u) (map (λ e. e.manager) es)))) there))
+    ∙ sym (ap (total (differing t u)) (filter-kept (is_in_table u) e.manager (managers es) there)))
     (λ off.
-    let none : entry_facts e (entry_of u e.manager) ≡ 0 = ap (entry_facts e) (absent u e.manager off) in
-    let same = ap (λ b. total (differing t u) (cond b (e.manager ∷ filter (is_in_table u) (map (λ e. e.manager) es)) (filter (is_in_table u) (map (λ e. e.manager) es)))) off in
-    (let z : entry_facts e (entry_of u e.manager) + total (λ e. entry_facts e (entry_of u e.manager)) es ≡ total (λ e. entry_facts e (entry_of u e.manager)) es = omega arith in z)
-    ∙ rest ∙ sym same)
+    (λ i. entry_facts e (entry-absent u e.manager off i) + rest i)
+    ∙ zero-add (total (differing t u) (filter (is_in_table u) (managers es)))
+    ∙ sym (ap (total (differing t u)) (filter-dropped (is_in_table u) e.manager (managers es) off)))
 
 entry-facts-both : (e f : Entry) → entry_facts e (Some f) ≡ entry_facts f (Some e)
 entry-facts-both e f =
@@ -109,20 +108,14 @@ differing-both t u k a b =
     let f = entry-there u k b in
     (λ i. elim (e.1 i) [ None ↦ 0 | Some x ↦ entry_facts x (f.1 i) ]) ∙ entry-facts-both e.0 f.0 ∙ sym (λ i. elim (f.1 i) [ None ↦ 0 | Some x ↦ entry_facts x (e.1 i) ])
 
-total_same : (q r : ManagerKey → Bool) (f g : ManagerKey → ℕ) → ((k : ManagerKey) → r k ≡ true → q k ≡ true → f k ≡ g k)
-    → (es : Table) → AllEntries (λ e. r e.manager ≡ true) es → total f (filter q (map (λ e. e.manager) es)) ≡ total g (filter q (map (λ e. e.manager) es))
-total_same q r f g h [] a = refl
-total_same q r f g h (e ∷ es) a =
-    let rest = total_same q r f g h es a.1 in
-    elim (q e.manager) as (λ b. q e.manager ≡ b → total f (cond b (e.manager ∷ filter q (map (λ e. e.manager) es)) (filter q (map (λ e. e.manager) es))) ≡ total g (cond b (e.manager ∷ filter q (map (λ e. e.manager) es)) (filter q (map (λ e. e.manager) es)))) [
-      | true ↦ λ t i. h e.manager a.0 t i + rest i
-      | false ↦ λ t. rest
-    ] refl
+total-alike : (f g : ManagerKey → ℕ) (ks : List ManagerKey) → AllByRecursion (λ k. f k ≡ g k) ks → total f ks ≡ total g ks
+total-alike f g [] h = refl
+total-alike f g (k ∷ ks) h = λ i. h.0 i + total-alike f g ks h.1 i
 
 common-both : (t u : Table) → has_distinct_keys t ≡ true → has_distinct_keys u ≡ true → KeepsOrder t u → common_total t u ≡ common_total u t
 common-both t u a b order =
     facts-shared t u t (entry-own t a)
-    ∙ total_same (is_in_table u) (is_in_table t) (differing t u) (differing u t) (λ k one two. differing-both t u k one two) t (each-in t)
+    ∙ total-alike (differing t u) (differing u t) (filter (is_in_table u) (managers t)) (all-passing (λ k. differing t u k ≡ differing u t k) (is_in_table u) (is_in_table t) (differing-both t u) t (each-in t))
     ∙ ap (total (differing u t)) order
     ∙ sym (facts-shared u t u (entry-own u b))
 

@@ -6,12 +6,12 @@ use Rattle.std.specs.List.{cons_option}
 use Rattle.std.specs.Prelude.{is_some, if◌then◌else◌, filter, filter_map, option_map}
 use Rattle.ssa_model.specs.definitions.Json.{same_text}
 use Rattle.ssa_model.specs.definitions.Path.{Element, Path, same_element, same_path, path_cmp, parent, under, rest_of}
-use Rattle.ssa_model.specs.definitions.PathMap.{from_entries, get, has, paths, size, minus, same_set}
+use Rattle.ssa_model.specs.definitions.PathMap.{from_entries, get, has, paths, size}
 use Rattle.ssa_model.specs.definitions.Kind.{Kind}
 use Rattle.ssa_model.specs.definitions.Body.{Content, Body, order_at, is_other_leaf, modified, removed}
 use Rattle.ssa_model.specs.definitions.Table.{Entry, Table, is_in_table, entry_of}
 use Rattle.ssa_model.specs.definitions.Fitting.{IsBodyOf}
-use Rattle.ssa_model.specs.definitions.Record.{placed, Change, Part, is_top, below, part_at, cuts, puts, new_leaf, new_leaves, is_reordered, new_order, new_orders, new_moment, change_of, changes, new_in}
+use Rattle.ssa_model.specs.definitions.Record.{placed, Change, Part, is_top, below, part_at, cuts, puts, new_leaf, new_leaves, is_reordered, new_order, new_orders, new_moment, is_unchanged, change_to, change_of, changes, new_in}
 use Rattle.ssa_model.specs.definitions.Facts.{one_if, change_size, reordered, entry_facts}
 use Rattle.ssa_model.specs.laws.RecordSizes.{BodyBound, TableBound, SizeBound}
 use Rattle.ssa_model.proofs.Fitting.{same_element-true}
@@ -262,7 +262,7 @@ change-bound : (e : Entry) (o : Option Entry) → counted change_size (change_of
 change-bound e None = omega arith
 change-bound e (Some f) =
     let m = moment-size e f in
-    elim (same_set e.owned f.owned && same_text e.moment f.moment) as (λ b. counted change_size (if b then None else Some (record { manager = e.manager; gain = minus f.owned e.owned; lose = minus e.owned f.owned; moment = new_moment e.moment f.moment })) ≤ entry_facts e (Some f)) [
+    elim (is_unchanged e f) as (λ b. counted change_size (if b then None else Some (change_to e f)) ≤ entry_facts e (Some f)) [
       | true ↦ omega arith
       | false ↦ omega arith
     ]

@@ -1,22 +1,22 @@
 -- The record of the way back is the turned record of the way there.
 use Rattle.std.proofs.Common.{◌≡◌, ℕ, ◌+◌, List, [], ◌∷◌, map, Bool, true, false, cond, not, ◌&&◌, Option, Some, None, refl, sym, ap, ◌∙◌}
-use Rattle.std.specs.List.{cons_option}
+use Rattle.std.specs.List.{cons_option, AllByRecursion}
 use Rattle.std.specs.Prelude.{is_some, if◌then◌else◌, filter, filter_map, option_map}
 use Rattle.ssa_model.specs.definitions.Json.{Text, same_text}
 use Rattle.ssa_model.specs.definitions.PathMap.{get, has, paths, map_of, listed, minus, same_set}
 use Rattle.ssa_model.specs.definitions.Body.{Content, Body, is_other_leaf, order_at}
-use Rattle.ssa_model.specs.definitions.Table.{ManagerKey, Entry, Table, same_manager, is_in_table, entry_of}
+use Rattle.ssa_model.specs.definitions.Table.{ManagerKey, Entry, Table, is_in_table, entry_of}
 use Rattle.ssa_model.specs.definitions.Valid.{KeepsOrder, has_distinct_keys, AllEntries}
-use Rattle.ssa_model.specs.definitions.Record.{placed, Change, is_top, part_at, cuts, puts, new_leaf, new_leaves, is_reordered, new_order, new_orders, new_moment, change_of, changes, gone_from, new_in}
+use Rattle.ssa_model.specs.definitions.Record.{placed, Change, is_top, part_at, cuts, puts, new_leaf, new_leaves, is_reordered, new_order, new_orders, new_moment, is_unchanged, change_to, change_of, changes, gone_from, new_in}
 use Rattle.ssa_model.specs.definitions.Carry.{is_key_among}
 use Rattle.ssa_model.specs.definitions.Takes.{moment_or, turned_change}
 use Rattle.ssa_model.specs.laws.RecordTurns.{BodyTurns, TableTurns, RecordTurns}
 use Rattle.ssa_model.proofs.PathMaps.{has-paths, same_map, same_sets, same_set-true, get-over_paths}
-use Rattle.ssa_model.proofs.Tables.{first_false, second_false, same_text-true}
+use Rattle.ssa_model.proofs.Tables.{same_text-true}
 use Rattle.ssa_model.proofs.Lists.{has-listed}
-use Rattle.ssa_model.proofs.SharedManagers.{each-more, each-in}
-use Rattle.ssa_model.proofs.Tests.{by_test, symmetric}
-use Rattle.ssa_model.proofs.TableLeads.{among-filter, entry-there, entry-own}
+use Rattle.ssa_model.proofs.SharedManagers.{managers, each-more, each-in}
+use Rattle.ssa_model.proofs.Tests.{by_test, symmetric, filter-kept, filter-dropped}
+use Rattle.ssa_model.proofs.ManagerEntries.{among-filter, entry-there, entry-absent, entry-own, all-passing}
 use Rattle.ssa_model.proofs.BodyLeads.{get-cuts}
 use Rattle.ssa_model.proofs.Differing.{other_leaves, reordered_lists}
 
@@ -89,11 +89,11 @@ puts_back v w =
 
 -- ---- who is gone and who is here
 
-gone_back : (t : Table) (i : ℕ) (u : Table) → filter (λ k. not (is_in_table t k)) (map (λ e. e.manager) u) ≡ map (λ e. e.1.manager) (placed (λ e. not (is_in_table t e.manager)) i u)
+gone_back : (t : Table) (i : ℕ) (u : Table) → filter (λ k. not (is_in_table t k)) (managers u) ≡ map (λ e. e.1.manager) (placed (λ e. not (is_in_table t e.manager)) i u)
 gone_back t i [] = refl
 gone_back t i (e ∷ es) =
     let rest = gone_back t (i + 1) es in
-    elim (not (is_in_table t e.manager)) as (λ b. cond b (e.manager ∷ filter (λ k. not (is_in_table t k)) (map (λ e. e.manager) es)) (filter (λ k. not (is_in_table t k)) (map (λ e. e.manager) es))
+    elim (not (is_in_table t e.manager)) as (λ b. cond b (e.manager ∷ filter (λ k. not (is_in_table t k)) (managers es)) (filter (λ k. not (is_in_table t k)) (managers es))
     ≡ map (λ e. e.1.manager) (if b then (i, e) ∷ placed (λ e. not (is_in_table t e.manager)) (i + 1) es else placed (λ e. not (is_in_table t e.manager)) (i + 1) es)) [
       | true ↦ ap (λ ks. e.manager ∷ ks) rest
       | false ↦ rest
@@ -122,15 +122,8 @@ moment-back a b = ap (λ t. if t then None else Some a) (symmetric same_text sam
     turned_one true = refl
     turned_one false = refl
 
-abbrev same_entry : Entry → Entry → Bool
-same_entry e f = same_set e.owned f.owned && same_text e.moment f.moment
-
-entry-both : (e f : Entry) → same_entry e f ≡ same_entry f e
+entry-both : (e f : Entry) → is_unchanged e f ≡ is_unchanged f e
 entry-both e f = λ i. symmetric same_set same_set-true e.owned f.owned i && symmetric same_text same_text-true e.moment f.moment i
-
--- the change from one entry to another
-abbrev change_to : Entry → Entry → Change
-change_to e f = record { manager = e.manager; gain = minus f.owned e.owned; lose = minus e.owned f.owned; moment = new_moment e.moment f.moment }
 
 change-turned : (t : Table) (e f : Entry) → e.manager ≡ f.manager → entry_of t e.manager ≡ Some e → change_to f e ≡ turned_change t (change_to e f)
 change-turned t e f k own =
@@ -146,7 +139,7 @@ turned-unless false t x y e = ap (λ c. Some c) e
 entry-back : (t : Table) (e f : Entry) → e.manager ≡ f.manager → entry_of t e.manager ≡ Some e → change_of f (Some e) ≡ option_map (turned_change t) (change_of e (Some f))
 entry-back t e f k own =
     ap (λ b. if b then None else Some (change_to f e)) (entry-both f e)
-    ∙ turned-unless (same_entry e f) t (change_to f e) (change_to e f) (change-turned t e f k own)
+    ∙ turned-unless (is_unchanged e f) t (change_to f e) (change_to e f) (change-turned t e f k own)
 
 shared-turned : (t u : Table) (k : ManagerKey) → is_in_table t k ≡ true → is_in_table u k ≡ true → between u t k ≡ option_map (turned_change t) (between t u k)
 shared-turned t u k a b =
@@ -156,24 +149,19 @@ shared-turned t u k a b =
     ∙ entry-back t e.0 f.0 (e.2 ∙ sym f.2) (ap (entry_of t) e.2 ∙ e.1)
     ∙ sym (λ i. option_map (turned_change t) (elim (e.1 i) [ None ↦ None | Some x ↦ change_of x (f.1 i) ]))
 
-pub absent : (u : Table) (k : ManagerKey) → is_in_table u k ≡ false → entry_of u k ≡ None
-absent [] k h = refl
-absent (f ∷ fs) k h =
-    ap (λ b. if b then Some f else entry_of fs k) (first_false (same_manager f.manager k) (is_in_table fs k) h)
-    ∙ absent fs k (second_false (same_manager f.manager k) (is_in_table fs k) h)
-
 -- changes are told of the common managers alone
-changes-shared : (t u : Table) (es : Table) → AllEntries (λ e. entry_of t e.manager ≡ Some e) es → filter_map (λ e. change_of e (entry_of u e.manager)) es ≡ filter_map (between t u) (filter (is_in_table u) (map (λ e. e.manager) es))
+changes-shared : (t u : Table) (es : Table) → AllEntries (λ e. entry_of t e.manager ≡ Some e) es
+    → filter_map (λ e. change_of e (entry_of u e.manager)) es ≡ filter_map (between t u) (filter (is_in_table u) (managers es))
 changes-shared t u [] h = refl
 changes-shared t u (e ∷ es) h =
     let rest = changes-shared t u es h.1 in
     by_test (is_in_table u e.manager)
     (λ there.
     (λ i. cons_option (elim (sym h.0 i) [ None ↦ None | Some x ↦ change_of x (entry_of u e.manager) ]) (rest i))
-    ∙ sym (ap (λ b. filter_map (between t u) (cond b (e.manager ∷ filter (is_in_table u) (map (λ e. e.manager) es)) (filter (is_in_table u) (map (λ e. e.manager) es)))) there))
+    ∙ sym (ap (filter_map (between t u)) (filter-kept (is_in_table u) e.manager (managers es) there)))
     (λ off.
-    (λ i. cons_option (change_of e (absent u e.manager off i)) (rest i))
-    ∙ sym (ap (λ b. filter_map (between t u) (cond b (e.manager ∷ filter (is_in_table u) (map (λ e. e.manager) es)) (filter (is_in_table u) (map (λ e. e.manager) es)))) off))
+    (λ i. cons_option (change_of e (entry-absent u e.manager off i)) (rest i))
+    ∙ sym (ap (filter_map (between t u)) (filter-dropped (is_in_table u) e.manager (managers es) off)))
 
 map-found : {A B C : Type 0} (g : B → C) (f : A → Option B) (xs : List A) → map g (filter_map f xs) ≡ filter_map (λ x. option_map g (f x)) xs
 map-found g f [] = refl
@@ -183,23 +171,17 @@ map-found {A} {B} {C} g f (x ∷ xs) = one (f x) ∙ ap (cons_option (option_map
     one None = refl
     one (Some y) = refl
 
--- answers that are alike on the managers of a table that pass are alike
-found_same : (q r : ManagerKey → Bool) (f g : ManagerKey → Option Change) → ((k : ManagerKey) → r k ≡ true → q k ≡ true → f k ≡ g k)
-    → (es : Table) → AllEntries (λ e. r e.manager ≡ true) es → filter_map f (filter q (map (λ e. e.manager) es)) ≡ filter_map g (filter q (map (λ e. e.manager) es))
-found_same q r f g h [] a = refl
-found_same q r f g h (e ∷ es) a =
-    let rest = found_same q r f g h es a.1 in
-    elim (q e.manager) as (λ b. q e.manager ≡ b → filter_map f (cond b (e.manager ∷ filter q (map (λ e. e.manager) es)) (filter q (map (λ e. e.manager) es))) ≡ filter_map g (cond b (e.manager ∷ filter q (map (λ e. e.manager) es)) (filter q (map (λ e. e.manager) es)))) [
-      | true ↦ λ t i. cons_option (h e.manager a.0 t i) (rest i)
-      | false ↦ λ t. rest
-    ] refl
+found-alike : (f g : ManagerKey → Option Change) (ks : List ManagerKey) → AllByRecursion (λ k. f k ≡ g k) ks → filter_map f ks ≡ filter_map g ks
+found-alike f g [] h = refl
+found-alike f g (k ∷ ks) h = λ i. cons_option (h.0 i) (found-alike f g ks h.1 i)
 
 changes_back : (t u : Table) → has_distinct_keys t ≡ true → has_distinct_keys u ≡ true → KeepsOrder t u → changes u t ≡ map (turned_change t) (changes t u)
 changes_back t u a b order =
+    let back : ManagerKey → Option Change = λ k. option_map (turned_change t) (between t u k) in
     changes-shared u t u (entry-own u b)
     ∙ ap (filter_map (between u t)) (sym order)
-    ∙ found_same (is_in_table u) (is_in_table t) (between u t) (λ k. option_map (turned_change t) (between t u k)) (λ k one two. shared-turned t u k one two) t (each-in t)
-    ∙ sym (map-found (turned_change t) (between t u) (filter (is_in_table u) (map (λ e. e.manager) t)))
+    ∙ found-alike (between u t) back (filter (is_in_table u) (managers t)) (all-passing (λ k. between u t k ≡ back k) (is_in_table u) (is_in_table t) (shared-turned t u) t (each-in t))
+    ∙ sym (map-found (turned_change t) (between t u) (filter (is_in_table u) (managers t)))
     ∙ ap (map (turned_change t)) (sym (changes-shared t u t (entry-own t a)))
 
 pub body_turns : BodyTurns

@@ -9,7 +9,7 @@ use Rattle.ssa_model.specs.definitions.Valid.{has_distinct_keys, AllEntries}
 use Rattle.ssa_model.specs.laws.KeepsValid.{OperationsKeepOrder}
 use Rattle.ssa_model.proofs.Tables.{KeepsKeys, manager-itself, apart-back, first_false, second_false, no, true_or, or_true, is_in_table-map, is_in_table-filter, with_manager-distinct}
 
-abbrev managers : Table → List ManagerKey
+abbrev pub managers : Table → List ManagerKey
 managers t = map (λ e. e.manager) t
 
 abbrev pub Each : (ManagerKey → Type 0) → Table → Type 0

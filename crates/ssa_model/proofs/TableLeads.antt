@@ -1,22 +1,23 @@
 -- The record of two states leads from the table of the first to that of the second.
-use Rattle.std.proofs.Common.{◌≡◌, List, [], ◌∷◌, Bool, true, false, cond, not, ◌&&◌, ◌||◌, map, Option, Some, None, refl, sym, ap, ◌∙◌, true≢false, arith}
+use Rattle.std.proofs.Common.{◌≡◌, List, [], ◌∷◌, Bool, true, false, cond, not, ◌&&◌, ◌||◌, map, Option, Some, None, refl, sym, ap, ◌∙◌, arith}
 use Rattle.std.proofs.Math.Bool.{not-not}
-use Rattle.std.proofs.lemmas.Option.{same_Some}
+use Rattle.std.proofs.lemmas.Option.{same_Some, none-some}
 use Rattle.std.specs.Cmp.{first_so, second_so}
 use Rattle.std.specs.List.{cons_option}
 use Rattle.std.specs.Option.{unwrap_or}
 use Rattle.std.specs.Prelude.{filter, if◌then◌else◌}
 use Rattle.ssa_model.specs.definitions.Json.{Text, same_text}
-use Rattle.ssa_model.specs.definitions.PathMap.{has, minus, same_set}
+use Rattle.ssa_model.specs.definitions.PathMap.{has, minus}
 use Rattle.ssa_model.specs.definitions.Table.{ManagerKey, Entry, Table, same_manager, is_in_table, entry_of}
 use Rattle.ssa_model.specs.definitions.Valid.{AllEntries, has_distinct_keys, KeepsOrder}
-use Rattle.ssa_model.specs.definitions.Record.{Change, new_moment, change_of, changes, gone_from, new_in}
-use Rattle.ssa_model.specs.definitions.Carry.{placed_at, filled, end_of, is_key_among, change_for, changed_entry}
+use Rattle.ssa_model.specs.definitions.Record.{Change, new_moment, is_unchanged, change_to, change_of, changes, gone_from, new_in, table_record}
+use Rattle.ssa_model.specs.definitions.Carry.{placed_at, filled, end_of, is_key_among, change_for, changed_entry, staying}
 use Rattle.ssa_model.specs.laws.RecordLeads.{SetLeads, TableLeads}
 use Rattle.ssa_model.proofs.PathMaps.{has-union, has-minus, same_sets, same_set-true}
-use Rattle.ssa_model.proofs.Tables.{first_false, second_false, manager-itself, same_text-true, no, true_or, same_manager-true}
-use Rattle.ssa_model.proofs.SharedManagers.{each-more, each-in, each-apart}
-use Rattle.ssa_model.proofs.Tests.{by_test}
+use Rattle.ssa_model.proofs.Tables.{first_false, second_false, manager-itself, same_text-true, no}
+use Rattle.ssa_model.proofs.SharedManagers.{managers, Each, each-more, each-in, each-apart}
+use Rattle.ssa_model.proofs.Tests.{by_test, filter-kept, filter-dropped}
+use Rattle.ssa_model.proofs.ManagerEntries.{entry-there, entry-own, among-filter}
 use Rattle.ssa_model.proofs.FilledLists.{filled_is, placed_gives, placed_end}
 
 -- ---- one entry
@@ -45,8 +46,7 @@ moment-leads a b =
 -- the change of an entry to one of the same manager gives that one
 entry-leads : (e f : Entry) → e.manager ≡ f.manager → changed_entry (change_of e (Some f)) e ≡ f
 entry-leads e f k =
-    elim (same_set e.owned f.owned && same_text e.moment f.moment) as (λ t. (same_set e.owned f.owned && same_text e.moment f.moment) ≡ t →
-    changed_entry (if t then None else Some (record { manager = e.manager; gain = minus f.owned e.owned; lose = minus e.owned f.owned; moment = new_moment e.moment f.moment })) e ≡ f) [
+    elim (is_unchanged e f) as (λ t. is_unchanged e f ≡ t → changed_entry (if t then None else Some (change_to e f)) e ≡ f) [
       | true ↦ λ t.
           let owned = same_set-true e.owned f.owned (first_so _ _ t) in
           let moment = same_text-true e.moment f.moment (second_so _ _ t) in
@@ -57,10 +57,10 @@ entry-leads e f k =
 -- ---- the change that is made of an entry
 
 change-manager : (e : Entry) (o : Option Entry) (c : Change) → change_of e o ≡ Some c → c.manager ≡ e.manager
-change-manager e None c h = absurd (let g : ⊥ = cc in g)
+change-manager e None c h = absurd (none-some c h)
 change-manager e (Some f) c h =
-    elim (same_set e.owned f.owned && same_text e.moment f.moment) as (λ t. (if t then None else Some (record { manager = e.manager; gain = minus f.owned e.owned; lose = minus e.owned f.owned; moment = new_moment e.moment f.moment })) ≡ Some c → c.manager ≡ e.manager) [
-      | true ↦ λ g. absurd (let b : ⊥ = cc in b)
+    elim (is_unchanged e f) as (λ t. (if t then None else Some (change_to e f)) ≡ Some c → c.manager ≡ e.manager) [
+      | true ↦ λ g. absurd (none-some c g)
       | false ↦ λ g. sym (ap (λ (d : Change). d.manager) (same_Some _ _ g))
     ] h
 
@@ -93,33 +93,10 @@ change-found u (e ∷ es) h =
       both es (each-apart e.manager es new) rest,
     )
   where
-    both : (fs : Table) → AllEntries (λ f. same_manager e.manager f.manager ≡ false) fs → AllEntries (λ f. change_for (changes es u) f.manager ≡ change_of f (entry_of u f.manager)) fs
+    both : (fs : Table) → Each (λ a. same_manager e.manager a ≡ false) fs → AllEntries (λ f. change_for (changes es u) f.manager ≡ change_of f (entry_of u f.manager)) fs
         → AllEntries (λ f. change_for (changes (e ∷ es) u) f.manager ≡ change_of f (entry_of u f.manager)) fs
     both [] a b = tt
     both (f ∷ fs) a b = (pass_by f.manager e (changes es u) (change_of e (entry_of u e.manager)) a.0 (λ c g. change-manager e (entry_of u e.manager) c g) ∙ b.0, both fs a.1 b.1)
-
--- ---- who is gone
-
--- a manager is among the tested managers of a table exactly where it passes and is in the table
-pub among-filter : (q : ManagerKey → Bool) (t : Table) (k : ManagerKey) → is_key_among (filter q (map (λ e. e.manager) t)) k ≡ (is_in_table t k && q k)
-among-filter q [] k = refl
-among-filter q (e ∷ es) k =
-    let rest = among-filter q es k in
-    by_test (same_manager e.manager k)
-    (λ t.
-    let same : q e.manager ≡ q k = ap q (same_manager-true e.manager k t) in
-    elim (q e.manager) as (λ b. b ≡ q k → is_key_among (cond b (e.manager ∷ filter q (map (λ e. e.manager) es)) (filter q (map (λ e. e.manager) es))) k ≡ ((same_manager e.manager k || is_in_table es k) && q k)) [
-      | true ↦ λ s. true_or _ _ t ∙ sym (λ i. (t i || is_in_table es k) && sym s i)
-      | false ↦ λ s. rest ∙ (λ i. is_in_table es k && sym s i) ∙ no_one (is_in_table es k) ∙ sym (λ i. (t i || is_in_table es k) && sym s i)
-    ] same)
-    (λ f. elim (q e.manager) as (λ b. is_key_among (cond b (e.manager ∷ filter q (map (λ e. e.manager) es)) (filter q (map (λ e. e.manager) es))) k ≡ ((same_manager e.manager k || is_in_table es k) && q k)) [
-      | true ↦ (λ i. f i || rest i) ∙ sym (λ i. (f i || is_in_table es k) && q k)
-      | false ↦ rest ∙ sym (λ i. (f i || is_in_table es k) && q k)
-    ])
-  where
-    no_one : (b : Bool) → (b && false) ≡ false
-    no_one true = refl
-    no_one false = refl
 
 -- ---- the entries of both
 
@@ -127,63 +104,44 @@ among-filter q (e ∷ es) k =
 abbrev entry_or : Entry → Table → ManagerKey → Entry
 entry_or d u k = unwrap_or (entry_of u k) d
 
-pub entry-there : (u : Table) (k : ManagerKey) → is_in_table u k ≡ true → (f : Entry) × (entry_of u k ≡ Some f) × (f.manager ≡ k)
-entry-there [] k h = absurd (true≢false (sym h))
-entry-there (f ∷ fs) k h =
-    by_test (same_manager f.manager k)
-    (λ t. (f, ap (λ b. if b then Some f else entry_of fs k) t, same_manager-true f.manager k t))
-    (λ e.
-    let rest = entry-there fs k (sym (ap (λ b. b || is_in_table fs k) e) ∙ h) in
-    (rest.0, ap (λ b. if b then Some f else entry_of fs k) e ∙ rest.1, rest.2))
-
--- an entry of a table with distinct managers is the entry of its manager
-pub entry-own : (u : Table) → has_distinct_keys u ≡ true → AllEntries (λ e. entry_of u e.manager ≡ Some e) u
-entry-own [] h = tt
-entry-own (e ∷ es) h =
-    let new = no (is_in_table es e.manager) (first_so (not (is_in_table es e.manager)) (has_distinct_keys es) h) in
-    let rest = entry-own es (second_so (not (is_in_table es e.manager)) (has_distinct_keys es) h) in (
-      ap (λ b. if b then Some e else entry_of es e.manager) (manager-itself e.manager),
-      both es (each-apart e.manager es new) rest,
-    )
-  where
-    both : (fs : Table) → AllEntries (λ f. same_manager e.manager f.manager ≡ false) fs → AllEntries (λ f. entry_of es f.manager ≡ Some f) fs → AllEntries (λ f. entry_of (e ∷ es) f.manager ≡ Some f) fs
-    both [] a b = tt
-    both (f ∷ fs) a b = (ap (λ t. if t then Some e else entry_of es f.manager) a.0 ∙ b.0, both fs a.1 b.1)
-
 -- entries that are those of their managers are got from their managers
-from_managers : (d : Entry) (u : Table) (q : ManagerKey → Bool) (es : Table) → AllEntries (λ e. entry_of u e.manager ≡ Some e) es → map (entry_or d u) (filter q (map (λ e. e.manager) es)) ≡ filter (λ e. q e.manager) es
+from_managers : (d : Entry) (u : Table) (q : ManagerKey → Bool) (es : Table) → AllEntries (λ e. entry_of u e.manager ≡ Some e) es
+    → map (entry_or d u) (filter q (managers es)) ≡ filter (λ e. q e.manager) es
 from_managers d u q [] h = refl
 from_managers d u q (e ∷ es) h =
     let rest = from_managers d u q es h.1 in
-    elim (q e.manager) as (λ b. map (entry_or d u) (cond b (e.manager ∷ filter q (map (λ e. e.manager) es)) (filter q (map (λ e. e.manager) es))) ≡ cond b (e ∷ filter (λ e. q e.manager) es) (filter (λ e. q e.manager) es)) [
+    elim (q e.manager) as (λ b. map (entry_or d u) (cond b (e.manager ∷ filter q (managers es)) (filter q (managers es))) ≡ cond b (e ∷ filter (λ e. q e.manager) es) (filter (λ e. q e.manager) es)) [
       | true ↦ (λ i. ap (λ o. unwrap_or o d) h.0 i ∷ rest i)
       | false ↦ rest
     ]
 
 module _ (d : Entry) (t u : Table) where
+  abbrev stays : Entry → Bool
+  stays e = not (is_key_among (gone_from t u) e.manager)
+
+  abbrev changed_one : Entry → Entry
+  changed_one e = changed_entry (change_for (changes t u) e.manager) e
+
   -- the entries that stay, changed, are those of the other table
-  stay-changed : (es : Table) → AllEntries (λ e. change_for (changes t u) e.manager ≡ change_of e (entry_of u e.manager)) es → AllEntries (λ e. is_key_among (gone_from t u) e.manager ≡ not (is_in_table u e.manager)) es
-      → map (λ e. changed_entry (change_for (changes t u) e.manager) e) (filter (λ e. not (is_key_among (gone_from t u) e.manager)) es) ≡ map (entry_or d u) (filter (is_in_table u) (map (λ e. e.manager) es))
+  stay-changed : (es : Table) → AllEntries (λ e. change_for (changes t u) e.manager ≡ change_of e (entry_of u e.manager)) es
+      → AllEntries (λ e. is_key_among (gone_from t u) e.manager ≡ not (is_in_table u e.manager)) es → map changed_one (filter stays es) ≡ map (entry_or d u) (filter (is_in_table u) (managers es))
   stay-changed [] h g = refl
   stay-changed (e ∷ es) h g =
       let rest = stay-changed es h.1 g.1 in
       by_test (is_in_table u e.manager)
       (λ there.
       let f = entry-there u e.manager there in
-      let stays : not (is_key_among (gone_from t u) e.manager) ≡ true = ap not (g.0 ∙ ap not there) in
-      let one : changed_entry (change_for (changes t u) e.manager) e ≡ entry_or d u e.manager =
+      let one : changed_one e ≡ entry_or d u e.manager =
       ap (λ c. changed_entry c e) (h.0 ∙ ap (change_of e) f.1) ∙ entry-leads e f.0 (sym f.2) ∙ sym (ap (λ o. unwrap_or o d) f.1) in
-      ap (λ b. map (λ e. changed_entry (change_for (changes t u) e.manager) e) (cond b (e ∷ filter (λ e. not (is_key_among (gone_from t u) e.manager)) es) (filter (λ e. not (is_key_among (gone_from t u) e.manager)) es))) stays
+      ap (map changed_one) (filter-kept stays e es (ap not (g.0 ∙ ap not there)))
       ∙ (λ i. one i ∷ rest i)
-      ∙ sym (ap (λ b. map (entry_or d u) (cond b (e.manager ∷ filter (is_in_table u) (map (λ e. e.manager) es)) (filter (is_in_table u) (map (λ e. e.manager) es)))) there))
+      ∙ sym (ap (map (entry_or d u)) (filter-kept (is_in_table u) e.manager (managers es) there)))
       (λ off.
-      let stays : not (is_key_among (gone_from t u) e.manager) ≡ false = ap not (g.0 ∙ ap not off) in
-      ap (λ b. map (λ e. changed_entry (change_for (changes t u) e.manager) e) (cond b (e ∷ filter (λ e. not (is_key_among (gone_from t u) e.manager)) es) (filter (λ e. not (is_key_among (gone_from t u) e.manager)) es))) stays
-      ∙ rest
-      ∙ sym (ap (λ b. map (entry_or d u) (cond b (e.manager ∷ filter (is_in_table u) (map (λ e. e.manager) es)) (filter (is_in_table u) (map (λ e. e.manager) es)))) off))
+      ap (map changed_one) (filter-dropped stays e es (ap not (g.0 ∙ ap not off))) ∙ rest
+      ∙ sym (ap (map (entry_or d u)) (filter-dropped (is_in_table u) e.manager (managers es) off)))
 
-pub stay-are : (t u : Table) → has_distinct_keys t ≡ true → has_distinct_keys u ≡ true → KeepsOrder t u
-    → map (λ e. changed_entry (change_for (changes t u) e.manager) e) (filter (λ e. not (is_key_among (gone_from t u) e.manager)) t) ≡ filter (λ e. is_in_table t e.manager) u
+-- those who stay, changed, are the second table's entries of the first one's managers
+pub stay-are : (t u : Table) → has_distinct_keys t ≡ true → has_distinct_keys u ≡ true → KeepsOrder t u → staying (table_record t u) t ≡ filter (λ e. is_in_table t e.manager) u
 stay-are [] u a b k = sym (none u)
   where
     none : (es : Table) → filter (λ e. false) es ≡ []

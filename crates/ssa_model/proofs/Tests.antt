@@ -1,5 +1,6 @@
--- Tests: told by their value, and tests of equality.
-use Rattle.std.proofs.Common.{◌≡◌, List, [], ◌∷◌, Bool, true, false, T, refl, sym, ap, ◌∙◌, true≢false}
+-- Tests: told by their value, tests of equality, and what a filter keeps by a test.
+use Rattle.std.proofs.Common.{◌≡◌, List, [], ◌∷◌, Bool, true, false, cond, T, refl, sym, ap, ◌∙◌, true≢false}
+use Rattle.std.specs.Prelude.{filter}
 use Rattle.std.specs.Cmp.{first_so, second_so}
 use Rattle.std.specs.Cmp.Lexicographic.{pointwise}
 
@@ -36,3 +37,12 @@ module _ {A : Type 0} (same : A → A → Bool) (is : (x y : A) → same x y ≡
   pointwise-true [] (y ∷ ys) h = absurd (true≢false (sym h))
   pointwise-true (x ∷ xs) [] h = absurd (true≢false (sym h))
   pointwise-true (x ∷ xs) (y ∷ ys) h = λ i. is x y (first_so (same x y) (pointwise same xs ys) h) i ∷ pointwise-true xs ys (second_so (same x y) (pointwise same xs ys) h) i
+
+-- ---- what a filter keeps
+
+module _ {A : Type 0} (test : A → Bool) (x : A) (xs : List A) where
+  pub filter-kept : test x ≡ true → filter test (x ∷ xs) ≡ x ∷ filter test xs
+  filter-kept h = ap (λ b. cond b (x ∷ filter test xs) (filter test xs)) h
+
+  pub filter-dropped : test x ≡ false → filter test (x ∷ xs) ≡ filter test xs
+  filter-dropped h = ap (λ b. cond b (x ∷ filter test xs) (filter test xs)) h

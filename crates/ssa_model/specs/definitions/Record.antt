@@ -96,11 +96,16 @@ new_orders v w = map_of (paths v) (λ p. new_order (get v p) (get w p))
 abbrev pub new_moment : Text → Text → Option Text
 new_moment a b = if same_text a b then None else Some b
 
+-- the change from an entry to another one of its manager
+abbrev pub change_to : Entry → Entry → Change
+change_to e f = record { manager = e.manager; gain = minus f.owned e.owned; lose = minus e.owned f.owned; moment = new_moment e.moment f.moment }
+
+abbrev pub is_unchanged : Entry → Entry → Bool
+is_unchanged e f = same_set e.owned f.owned && same_text e.moment f.moment
+
 abbrev pub change_of : Entry → Option Entry → Option Change
 change_of e None = None
-change_of e (Some f) =
-    if same_set e.owned f.owned && same_text e.moment f.moment then None
-    else Some (record { manager = e.manager; gain = minus f.owned e.owned; lose = minus e.owned f.owned; moment = new_moment e.moment f.moment })
+change_of e (Some f) = if is_unchanged e f then None else Some (change_to e f)
 
 -- the managers of both whose set or moment is another, in the order of the first
 abbrev pub changes : Table → Table → List Change
