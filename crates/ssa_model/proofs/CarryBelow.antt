@@ -1,24 +1,23 @@
 -- What is carried below a path.
 use Rattle.std.proofs.Common.{[], ◌∷◌, ◌++◌, ◌&&◌, sym, ap, ◌∙◌, append_assoc, append-nil}
 use Rattle.ssa_model.specs.definitions.Path.{Path, is_item_element}
-use Rattle.ssa_model.specs.definitions.PathMap.{has}
+use Rattle.ssa_model.specs.definitions.PathMap.{has, below}
 use Rattle.ssa_model.specs.definitions.Kind.{is_among}
 use Rattle.ssa_model.specs.definitions.Body.{Body, order_at}
 use Rattle.ssa_model.specs.definitions.Fitting.{are_distinct}
-use Rattle.ssa_model.specs.definitions.Record.{below}
 use Rattle.ssa_model.specs.definitions.Carry.{carry_body}
 use Rattle.ssa_model.specs.laws.RecordWalks.{AreAlike, PartIsTree, CarryBelow}
-use Rattle.ssa_model.proofs.PutParts.{get-below, has-part}
+use Rattle.ssa_model.proofs.PutParts.{get-below, has-below}
 use Rattle.ssa_model.proofs.BodyLeads.{tree_leads}
 use Rattle.ssa_model.proofs.RecordWalks.{record_below_is}
 
 pub part_is_tree : PartIsTree
 part_is_tree v p a there =
     record {
-      root = has-part v p [] ∙ ap (has v) (append-nil p) ∙ there;
-      closed = λ r e one. has-part v p r ∙ a.closed (p ++ r) e (ap (has v) (append_assoc p r (e ∷ [])) ∙ sym (has-part v p (r ++ e ∷ [])) ∙ one);
+      root = has-below v p [] ∙ ap (has v) (append-nil p) ∙ there;
+      closed = λ r e one. has-below v p r ∙ a.closed (p ++ r) e (ap (has v) (append_assoc p r (e ∷ [])) ∙ sym (has-below v p (r ++ e ∷ [])) ∙ one);
       once = λ r. ap (λ o. are_distinct (order_at o)) (get-below v p r) ∙ a.once (p ++ r);
-      items = λ r e. ap (λ o. is_among e (order_at o)) (get-below v p r) ∙ a.items (p ++ r) e ∙ ap (λ b. is_item_element e && b) (ap (has v) (append_assoc p r (e ∷ [])) ∙ sym (has-part v p (r ++ e ∷ [])));
+      items = λ r e. ap (λ o. is_among e (order_at o)) (get-below v p r) ∙ a.items (p ++ r) e ∙ ap (λ b. is_item_element e && b) (ap (has v) (append_assoc p r (e ∷ [])) ∙ sym (has-below v p (r ++ e ∷ [])));
     }
 
 alike-below : (v w : Body) (p : Path) → AreAlike v w → AreAlike (below v p) (below w p)

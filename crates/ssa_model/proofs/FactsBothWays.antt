@@ -47,10 +47,15 @@ abbrev both_lists : Option Content → Option Content → Option ℕ
 both_lists a b = if is_reordered a b then Some (length (order_at a) + length (order_at b)) else None
 
 counted-lists : (a b : Option Content) → counted (λ (n : ℕ). n) (both_lists a b) ≡ reordered a b
-counted-lists a b = elim (is_reordered a b) as (λ t. counted (λ (n : ℕ). n) (if t then Some (length (order_at a) + length (order_at b)) else None) ≡ (if t then length (order_at a) + length (order_at b) else 0)) [ true ↦ refl | false ↦ refl ]
+counted-lists a b = counted-if (is_reordered a b) (length (order_at a) + length (order_at b))
+  where
+    counted-if : (t : Bool) (n : ℕ) → counted (λ (m : ℕ). m) (if t then Some n else None) ≡ (if t then n else 0)
+    counted-if true n = refl
+    counted-if false n = refl
 
 -- where a test passes, both are there
-where_both : (here there test : Bool) (n : Option ℕ) → (test ≡ true → here ≡ true) → (test ≡ true → there ≡ true) → cond here (if test then n else None) None ≡ cond there (if test then n else None) None
+where_both : (here there test : Bool) (n : Option ℕ) → (test ≡ true → here ≡ true) → (test ≡ true → there ≡ true)
+    → cond here (if test then n else None) None ≡ cond there (if test then n else None) None
 where_both here there true n h t = ap (λ b. cond b n None) (h refl ∙ sym (t refl))
 where_both here there false n h t = nothing here ∙ sym (nothing there)
 
@@ -115,7 +120,8 @@ total-alike f g (k ∷ ks) h = λ i. h.0 i + total-alike f g ks h.1 i
 common-both : (t u : Table) → has_distinct_keys t ≡ true → has_distinct_keys u ≡ true → KeepsOrder t u → common_total t u ≡ common_total u t
 common-both t u a b order =
     facts-shared t u t (entry-own t a)
-    ∙ total-alike (differing t u) (differing u t) (filter (is_in_table u) (managers t)) (all-passing (λ k. differing t u k ≡ differing u t k) (is_in_table u) (is_in_table t) (differing-both t u) t (each-in t))
+    ∙ total-alike (differing t u) (differing u t) (filter (is_in_table u) (managers t))
+    (all-passing (λ k. differing t u k ≡ differing u t k) (is_in_table u) (is_in_table t) (differing-both t u) t (each-in t))
     ∙ ap (total (differing u t)) order
     ∙ sym (facts-shared u t u (entry-own u b))
 

@@ -62,7 +62,8 @@ among-filter q (e ∷ es) k =
     ])
 
 -- what holds of the managers of a table that pass a test holds of each of those that pass
-pub all-passing : (P : ManagerKey → Type 0) (q r : ManagerKey → Bool) → ((k : ManagerKey) → r k ≡ true → q k ≡ true → P k) → (es : Table) → Each (λ k. r k ≡ true) es → AllByRecursion P (filter q (managers es))
+pub all-passing : (P : ManagerKey → Type 0) (q r : ManagerKey → Bool) → ((k : ManagerKey) → r k ≡ true → q k ≡ true → P k)
+    → (es : Table) → Each (λ k. r k ≡ true) es → AllByRecursion P (filter q (managers es))
 all-passing P q r h [] a = tt
 all-passing P q r h (e ∷ es) a =
     let rest = all-passing P q r h es a.1 in

@@ -22,11 +22,13 @@ module _ {X : Type 0} where
   sorted-entries (e ∷ es) h = ap (put path_cmp e.0 e.1) (sorted-entries es (second_so _ _ h)) ∙ put-first e.0 e.1 es (first_so _ _ h)
 
 module _ {Y : Type 0} where
-  below-cons : (q p : Path) (o : Option Y) (es : List (Path × Y)) → is_lt (path_cmp q p) ≡ true → below_all path_cmp q es ≡ true → below_all path_cmp q (cons_option (option_map (λ x. (p, x)) o) es) ≡ true
+  below-cons : (q p : Path) (o : Option Y) (es : List (Path × Y)) → is_lt (path_cmp q p) ≡ true → below_all path_cmp q es ≡ true
+      → below_all path_cmp q (cons_option (option_map (λ x. (p, x)) o) es) ≡ true
   below-cons q p None es a h = h
   below-cons q p (Some x) es a h = λ i. a i && h i
 
-  sorted-cons : (p : Path) (o : Option Y) (es : List (Path × Y)) → below_all path_cmp p es ≡ true → is_sorted path_cmp es ≡ true → is_sorted path_cmp (cons_option (option_map (λ x. (p, x)) o) es) ≡ true
+  sorted-cons : (p : Path) (o : Option Y) (es : List (Path × Y)) → below_all path_cmp p es ≡ true → is_sorted path_cmp es ≡ true
+      → is_sorted path_cmp (cons_option (option_map (λ x. (p, x)) o) es) ≡ true
   sorted-cons p None es a h = h
   sorted-cons p (Some x) es a h = λ i. a i && h i
 

@@ -9,19 +9,18 @@ use Rattle.std.specs.Ordering.{is_lt, is_eq, ordering_then}
 use Rattle.std.specs.Prelude.{if◌then◌else◌, filter_map, option_map}
 use Rattle.ssa_model.specs.definitions.Json.{Text, Json, object, list, item, member}
 use Rattle.ssa_model.specs.definitions.Path.{Element, field, Path, element_text, element_cmp, path_cmp, same_path, parent, rest_of}
-use Rattle.ssa_model.specs.definitions.PathMap.{get, has}
+use Rattle.ssa_model.specs.definitions.PathMap.{get, has, below}
 use Rattle.ssa_model.specs.definitions.Kind as kinds
 use Rattle.ssa_model.specs.definitions.Kind.{Kind, Fields, scalar_kind, atomic_of, record_of as record_kind, dict_of, items_of, no_fields, kind_field}
 use Rattle.ssa_model.specs.definitions.Body.{Body, order_at}
 use Rattle.ssa_model.specs.definitions.Objects.{content_value, name_below, names_below, entry_members, shown_items, shown, shown_fields}
 use Rattle.ssa_model.specs.definitions.Fitting.{of_kind, item_of, value_of}
-use Rattle.ssa_model.specs.definitions.Record.{below}
 use Rattle.ssa_model.specs.laws.RecordWalks.{PartIsValue}
 use Rattle.ssa_model.proofs.PathMaps.{same_map, same_path-true}
 use Rattle.ssa_model.proofs.ShownNames.{name_of}
 use Rattle.ssa_model.proofs.Tests.{by_test, holds, held}
 use Rattle.ssa_model.proofs.Beginnings.{rest_of-is, rest_of-append}
-use Rattle.ssa_model.proofs.PutParts.{get-below, has-part}
+use Rattle.ssa_model.proofs.PutParts.{get-below, has-below}
 
 -- ---- order below a path
 
@@ -43,7 +42,8 @@ module _ {X : Type 0} (p : Path) where
   abbrev shifted : List (Path × X) → List (Path × X)
   shifted es = filter_map (λ e. shifted_one (rest_of p e.0) e.1) es
 
-  below-cons : (q : Path) (o : Option Path) (x : X) (es : List (Path × X)) → ((s : Path) → o ≡ Some s → is_lt (path_cmp q s) ≡ true) → below_all path_cmp q es ≡ true → below_all path_cmp q (cons_option (shifted_one o x) es) ≡ true
+  below-cons : (q : Path) (o : Option Path) (x : X) (es : List (Path × X)) → ((s : Path) → o ≡ Some s → is_lt (path_cmp q s) ≡ true) → below_all path_cmp q es ≡ true
+      → below_all path_cmp q (cons_option (shifted_one o x) es) ≡ true
   below-cons q None x es a h = h
   below-cons q (Some s) x es a h = λ i. a s refl i && h i
 
@@ -54,7 +54,8 @@ module _ {X : Type 0} (p : Path) where
       (λ s is. ap is_lt (sym (ap (path_cmp (p ++ q)) (sym (rest_of-is p e.0 s is)) ∙ cmp-below p q s)) ∙ first_so _ _ h)
       (below-shifted q es (second_so _ _ h))
 
-  sorted-cons : (o : Option Path) (x : X) (es : List (Path × X)) → ((s : Path) → o ≡ Some s → below_all path_cmp s es ≡ true) → is_sorted path_cmp es ≡ true → is_sorted path_cmp (cons_option (shifted_one o x) es) ≡ true
+  sorted-cons : (o : Option Path) (x : X) (es : List (Path × X)) → ((s : Path) → o ≡ Some s → below_all path_cmp s es ≡ true) → is_sorted path_cmp es ≡ true
+      → is_sorted path_cmp (cons_option (shifted_one o x) es) ≡ true
   sorted-cons None x es a h = h
   sorted-cons (Some s) x es a h = λ i. a s refl i && h i
 
@@ -168,7 +169,7 @@ module _ (w : Body) (p : Path) where
     fields-part : (fs : Fields) (r : Path) → shown_fields fs (below w p) r ≡ shown_fields fs w (p ++ r)
     fields-part no_fields r = refl
     fields-part (kind_field n k fs) r =
-        λ i. if (has-part w p (r ++ field n ∷ []) ∙ ap (has w) (sym (append_assoc p r (field n ∷ [])))) i
+        λ i. if (has-below w p (r ++ field n ∷ []) ∙ ap (has w) (sym (append_assoc p r (field n ∷ [])))) i
         then member n ((shown-part k (r ++ field n ∷ []) ∙ ap (shown k w) (sym (append_assoc p r (field n ∷ [])))) i) (fields-part fs r i)
         else fields-part fs r i
 

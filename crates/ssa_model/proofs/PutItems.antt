@@ -100,15 +100,20 @@ item_case v w (e ∷ es) q j h =
       | inr one ↦ inr (one.0, off ∙ one.1, one.2, one.3, one.4)
     ])
 
-some-last : (w : Body) (g : Path) (j : ℕ) → item_place w g ≡ Some j → (e : Element) × (last_element g ≡ Some e) × (position_from (same_element e) 0 (order_at (get w (parent g))) ≡ Some j)
+-- the place of an element in the list above a path
+abbrev place_of : Body → Path → Element → Option ℕ
+place_of w g e = position_from (same_element e) 0 (order_at (get w (parent g)))
+
+some-last : (w : Body) (g : Path) (j : ℕ) → item_place w g ≡ Some j → (e : Element) × (last_element g ≡ Some e) × (place_of w g e ≡ Some j)
 some-last w g j h =
-    elim (last_element g) as (λ o. last_element g ≡ o → (elim o [ None ↦ None | Some e ↦ position_from (same_element e) 0 (order_at (get w (parent g))) ]) ≡ Some j → (e : Element) × (last_element g ≡ Some e) × (position_from (same_element e) 0 (order_at (get w (parent g))) ≡ Some j)) [
+    elim (last_element g) as (λ o. last_element g ≡ o → (elim o [ None ↦ None | Some e ↦ place_of w g e ]) ≡ Some j → (e : Element) × (last_element g ≡ Some e) × (place_of w g e ≡ Some j)) [
       | None ↦ λ is k. absurd (none-some j k)
       | Some e ↦ λ is k. (e, is, k)
     ] refl h
 
 -- where no item is put at a place, no entry puts one there
-pub item_missed : (v w : Body) (es : List (Path × Part)) (q : Path) (j : ℕ) → AllAt (IsPut v w) es → (g : Path) (x : Part) → find path_cmp g es ≡ Some x → parent g ≡ q → x.place ≡ Some j → put_item es q j ≡ None → ⊥
+pub item_missed : (v w : Body) (es : List (Path × Part)) (q : Path) (j : ℕ) → AllAt (IsPut v w) es
+    → (g : Path) (x : Part) → find path_cmp g es ≡ Some x → parent g ≡ q → x.place ≡ Some j → put_item es q j ≡ None → ⊥
 item_missed v w [] q j h g x found up place none = none-some x found
 item_missed v w (e ∷ es) q j h g x found up place none =
     by_test (is_place j (place_in q e))

@@ -5,9 +5,9 @@ use Rattle.std.specs.FinMap.Entries.{put, by_order, find}
 use Rattle.std.specs.List.{cons_option}
 use Rattle.std.specs.Prelude.{is_some, if◌then◌else◌, option_map, filter_map}
 use Rattle.ssa_model.specs.definitions.Path.{Path, path_cmp, same_path, rest_of}
-use Rattle.ssa_model.specs.definitions.PathMap.{from_entries, get, has, paths, map_of}
+use Rattle.ssa_model.specs.definitions.PathMap.{PathMap, from_entries, get, has, paths, map_of, below}
 use Rattle.ssa_model.specs.definitions.Body.{Content, Body}
-use Rattle.ssa_model.specs.definitions.Record.{Part, is_top, below, part_at, puts}
+use Rattle.ssa_model.specs.definitions.Record.{Part, is_top, part_at, puts}
 use Rattle.ssa_model.specs.definitions.Carry.{put_content, put_paths}
 use Rattle.ssa_model.proofs.Fitting.{nothing_there}
 use Rattle.ssa_model.proofs.PathMaps.{is_one_of, get-map_of, has-paths, same_path-true, same_path-itself, get-over_paths}
@@ -48,11 +48,11 @@ module _ {X : Type 0} (P : Path → X → Type 0) where
   pub all-map_of : (ps : List Path) (f : Path → Option X) → ((p : Path) (x : X) → f p ≡ Some x → P p x) → AllAt P (map_of ps f).entries
   all-map_of ps f g = all-from_entries (filter_map (λ p. option_map (λ x. (p, x)) (f p)) ps) (all-answers ps f g)
 
-pub where_true : {A : Type 0} (b : Bool) (o : Option A) → (b ≡ false → o ≡ None) → cond b o None ≡ o
+where_true : {A : Type 0} (b : Bool) (o : Option A) → (b ≡ false → o ≡ None) → cond b o None ≡ o
 where_true true o h = refl
 where_true false o h = sym (h refl)
 
--- ---- a part of a body
+-- ---- what a map has below a path
 
 one-cons : (o : Option Path) (ps : List Path) (r : Path) → is_one_of ps r ≡ true → is_one_of (cons_option o ps) r ≡ true
 one-cons None ps r h = h
@@ -62,21 +62,25 @@ one-first : (o : Option Path) (ps : List Path) (r : Path) → o ≡ Some r → i
 one-first None ps r h = absurd (none-some r h)
 one-first (Some p) ps r h = true_or (same_path r p) (is_one_of ps r) (ap (same_path r) (same_Some p r h) ∙ same_path-itself r)
 
-pub rests : (g r : Path) (ps : List Path) → is_one_of ps (g ++ r) ≡ true → is_one_of (filter_map (rest_of g) ps) r ≡ true
+rests : (g r : Path) (ps : List Path) → is_one_of ps (g ++ r) ≡ true → is_one_of (filter_map (rest_of g) ps) r ≡ true
 rests g r [] h = h
 rests g r (p ∷ ps) h =
     either (same_path (g ++ r) p) (is_one_of ps (g ++ r)) h
     (λ same. one-first (rest_of g p) (filter_map (rest_of g) ps) r (ap (rest_of g) (sym (same_path-true (g ++ r) p same)) ∙ rest_of-append g r))
     (λ later. one-cons (rest_of g p) (filter_map (rest_of g) ps) r (rests g r ps later))
 
-pub get-below : (w : Body) (g r : Path) → get (below w g) r ≡ get w (g ++ r)
-get-below w g r =
-    get-map_of (filter_map (rest_of g) (paths w)) (λ q. get w (g ++ q)) r
-    ∙ where_true (is_one_of (filter_map (rest_of g) (paths w)) r) (get w (g ++ r))
-    (λ off. nothing_there (get w (g ++ r)) (by_test (has w (g ++ r)) (λ t. yes_no (is_one_of (filter_map (rest_of g) (paths w)) r) (rests g r (paths w) (sym (has-paths w (g ++ r)) ∙ t)) off) (λ f. f)))
+module _ {X : Type 0} (m : PathMap X) (g r : Path) where
+  abbrev follow : List Path
+  follow = filter_map (rest_of g) (paths m)
 
-pub has-part : (w : Body) (g r : Path) → has (below w g) r ≡ has w (g ++ r)
-has-part w g r = ap is_some (get-below w g r)
+  pub get-below : get (below m g) r ≡ get m (g ++ r)
+  get-below =
+      get-map_of follow (λ q. get m (g ++ q)) r
+      ∙ where_true (is_one_of follow r) (get m (g ++ r))
+      (λ off. nothing_there (get m (g ++ r)) (by_test (has m (g ++ r)) (λ t. yes_no (is_one_of follow r) (rests g r (paths m) (sym (has-paths m (g ++ r)) ∙ t)) off) (λ f. f)))
+
+  pub has-below : has (below m g) r ≡ has m (g ++ r)
+  has-below = ap is_some get-below
 
 -- ---- the entries of what is put
 
@@ -100,20 +104,24 @@ get-puts v w p there top =
 
 -- ---- what is put at a path
 
+-- what a first entry puts, where the path follows it as o says
+abbrev first_put : Option Path → Part → Option (Option Content) → Option (Option Content)
+first_put o x rest = elim o [ Some r ↦ Some (get x.below r) | None ↦ rest ]
+
 -- an entry at or above the path puts what the second body has there
 pub put_case : (v w : Body) (es : List (Path × Part)) (q : Path) → AllAt (IsPut v w) es → (put_content es q ≡ Some (get w q)) ⊎ (put_content es q ≡ None)
 put_case v w [] q h = inr refl
 put_case v w (e ∷ es) q h =
-    elim (rest_of e.0 q) as (λ o. rest_of e.0 q ≡ o → ((elim o [ Some r ↦ Some (get e.1.below r) | None ↦ put_content es q ]) ≡ Some (get w q)) ⊎ ((elim o [ Some r ↦ Some (get e.1.below r) | None ↦ put_content es q ]) ≡ None)) [
+    elim (rest_of e.0 q) as (λ o. rest_of e.0 q ≡ o → (first_put o e.1 (put_content es q) ≡ Some (get w q)) ⊎ (first_put o e.1 (put_content es q) ≡ None)) [
       | Some r ↦ λ is. inl (ap (λ c. Some c) (ap (λ (x : Part). get x.below r) h.0.0 ∙ get-below w e.0 r ∙ ap (get w) (rest_of-is e.0 q r is)))
       | None ↦ λ is. put_case v w es q h.1
     ] refl
 
-content_none : (o : Option Path) (x : Part) (rest : Option (Option Content)) → ◌≡◌ {A = Option (Option Content)} (elim o [ Some r ↦ Some (get x.below r) | None ↦ rest ]) None → rest ≡ None
+content_none : (o : Option Path) (x : Part) (rest : Option (Option Content)) → first_put o x rest ≡ None → rest ≡ None
 content_none (Some r) x rest h = absurd (none-some (get x.below r) (sym h))
 content_none None x rest h = h
 
-content_some : (o : Option Path) (x : Part) (rest : Option (Option Content)) (r : Path) → o ≡ Some r → ◌≡◌ {A = Option (Option Content)} (elim o [ Some r ↦ Some (get x.below r) | None ↦ rest ]) None → ⊥
+content_some : (o : Option Path) (x : Part) (rest : Option (Option Content)) (r : Path) → o ≡ Some r → first_put o x rest ≡ None → ⊥
 content_some (Some s) x rest r is h = none-some (get x.below s) (sym h)
 content_some None x rest r is h = none-some r is
 
@@ -145,7 +153,7 @@ one-later (p ∷ ps) qs q h = or_true (same_path q p) (is_one_of (ps ++ qs) q) (
 pub put_nothing : (es : List (Path × Part)) (q : Path) → is_one_of (put_paths es) q ≡ false → (put_content es q ≡ None) ⊎ (put_content es q ≡ Some None)
 put_nothing [] q off = inl refl
 put_nothing (e ∷ es) q off =
-    elim (rest_of e.0 q) as (λ o. rest_of e.0 q ≡ o → ((elim o [ Some r ↦ Some (get e.1.below r) | None ↦ put_content es q ]) ≡ None) ⊎ ((elim o [ Some r ↦ Some (get e.1.below r) | None ↦ put_content es q ]) ≡ Some None)) [
+    elim (rest_of e.0 q) as (λ o. rest_of e.0 q ≡ o → (first_put o e.1 (put_content es q) ≡ None) ⊎ (first_put o e.1 (put_content es q) ≡ Some None)) [
       | Some r ↦ λ is. inr (ap (λ c. Some c) (nothing_there (get e.1.below r) (by_test (has e.1.below r)
           (λ t.
           let one = prefixed e.0 r (paths e.1.below) (sym (has-paths e.1.below r) ∙ t) in

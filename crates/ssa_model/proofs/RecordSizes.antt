@@ -1,17 +1,17 @@
 -- A record holds no more than two states differ.
-use Rattle.std.proofs.Common.{◌≡◌, ◌⊎◌, inl, inr, ℕ, ◌+◌, ◌≤◌, List, [], ◌∷◌, ◌++◌, length, map, Bool, true, false, cond, not, ◌&&◌, Option, Some, None, Less, Equal, Greater, refl, sym, ap, ◌∙◌, true≢false, arith}
+use Rattle.std.proofs.Common.{◌≡◌, ◌⊎◌, inl, inr, ℕ, ◌+◌, ◌≤◌, List, [], ◌∷◌, ◌++◌, length, Bool, true, false, cond, not, ◌&&◌, Option, Some, None, Less, Equal, Greater, refl, sym, ap, ◌∙◌, true≢false, arith}
 use Rattle.std.specs.Cmp.{first_so, second_so}
 use Rattle.std.specs.FinMap.Entries.{put, by_order}
 use Rattle.std.specs.List.{cons_option}
 use Rattle.std.specs.Prelude.{is_some, if◌then◌else◌, filter, filter_map, option_map}
 use Rattle.ssa_model.specs.definitions.Json.{same_text}
 use Rattle.ssa_model.specs.definitions.Path.{Element, Path, same_element, same_path, path_cmp, parent, under, rest_of}
-use Rattle.ssa_model.specs.definitions.PathMap.{from_entries, get, has, paths, size}
+use Rattle.ssa_model.specs.definitions.PathMap.{from_entries, get, has, paths, size, below}
 use Rattle.ssa_model.specs.definitions.Kind.{Kind}
 use Rattle.ssa_model.specs.definitions.Body.{Content, Body, order_at, is_other_leaf, modified, removed}
-use Rattle.ssa_model.specs.definitions.Table.{Entry, Table, is_in_table, entry_of}
+use Rattle.ssa_model.specs.definitions.Table.{ManagerKey, Entry, Table, is_in_table, entry_of}
 use Rattle.ssa_model.specs.definitions.Fitting.{IsBodyOf}
-use Rattle.ssa_model.specs.definitions.Record.{placed, Change, Part, is_top, below, part_at, cuts, puts, new_leaf, new_leaves, is_reordered, new_order, new_orders, new_moment, is_unchanged, change_to, change_of, changes, new_in}
+use Rattle.ssa_model.specs.definitions.Record.{placed, Change, Part, is_top, part_at, cuts, puts, new_leaf, new_leaves, is_reordered, new_order, new_orders, new_moment, is_unchanged, change_to, change_of, changes, new_in}
 use Rattle.ssa_model.specs.definitions.Facts.{one_if, change_size, reordered, entry_facts}
 use Rattle.ssa_model.specs.laws.RecordSizes.{BodyBound, TableBound, SizeBound}
 use Rattle.ssa_model.proofs.Fitting.{same_element-true}
@@ -19,6 +19,7 @@ use Rattle.ssa_model.proofs.PathMaps.{is_one_of, same_path-itself}
 use Rattle.ssa_model.proofs.Pruned.{above}
 use Rattle.ssa_model.proofs.Tables.{first_false, second_false, yes_no, no, element-itself}
 use Rattle.ssa_model.proofs.DistinctNames.{are_distinct_paths, sorted-distinct}
+use Rattle.ssa_model.proofs.SharedManagers.{managers}
 use Rattle.ssa_model.proofs.Tests.{by_test, holds}
 use Rattle.ssa_model.proofs.Sums.{total, sum-total, total-add, total-le, total-zero, total-if}
 use Rattle.ssa_model.proofs.MapEntries.{counted, total-map, size-map}
@@ -237,11 +238,12 @@ orders-bound v w =
 abbrev lone_total : Table → Table → ℕ
 lone_total t u = total (λ e. if is_in_table u e.manager then 0 else 1 + size e.owned) t
 
-gone-bound : (u t : Table) → length (filter (λ k. not (is_in_table u k)) (map (λ e. e.manager) t)) ≤ lone_total t u
+gone-bound : (u t : Table) → length (filter (λ k. not (is_in_table u k)) (managers t)) ≤ lone_total t u
 gone-bound u [] = omega arith
 gone-bound u (e ∷ es) =
     let rest = gone-bound u es in
-    elim (is_in_table u e.manager) as (λ b. length (cond (not b) (e.manager ∷ filter (λ k. not (is_in_table u k)) (map (λ e. e.manager) es)) (filter (λ k. not (is_in_table u k)) (map (λ e. e.manager) es))) ≤ (if b then 0 else 1 + size e.owned) + lone_total es u) [
+    let gone : List ManagerKey = filter (λ k. not (is_in_table u k)) (managers es) in
+    elim (is_in_table u e.manager) as (λ b. length (cond (not b) (e.manager ∷ gone) gone) ≤ (if b then 0 else 1 + size e.owned) + lone_total es u) [
       | true ↦ omega arith
       | false ↦ omega arith
     ]
@@ -250,7 +252,8 @@ here-size : (t : Table) (i : ℕ) (u : Table) → total (λ e. 1 + size e.1.owne
 here-size t i [] = refl
 here-size t i (e ∷ es) =
     let rest = here-size t (i + 1) es in
-    elim (is_in_table t e.manager) as (λ b. total (λ e. 1 + size e.1.owned) (if not b then (i, e) ∷ placed (λ e. not (is_in_table t e.manager)) (i + 1) es else placed (λ e. not (is_in_table t e.manager)) (i + 1) es) ≡ (if b then 0 else 1 + size e.owned) + lone_total es t) [
+    let later : List (ℕ × Entry) = placed (λ e. not (is_in_table t e.manager)) (i + 1) es in
+    elim (is_in_table t e.manager) as (λ b. total (λ e. 1 + size e.1.owned) (if not b then (i, e) ∷ later else later) ≡ (if b then 0 else 1 + size e.owned) + lone_total es t) [
       | true ↦ omega arith
       | false ↦ omega arith
     ]

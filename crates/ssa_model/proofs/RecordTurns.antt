@@ -27,7 +27,8 @@ nothing true = refl
 nothing false = refl
 
 -- what changes is told of the paths where a change is told: one way by y, the other way by x
-turned-when : {X : Type 0} (here there test back : Bool) (x y : Option X) → test ≡ back → (test ≡ true → here ≡ true) → (test ≡ true → there ≡ true) → (test ≡ true → is_some y ≡ true)
+turned-when : {X : Type 0} (here there test back : Bool) (x y : Option X) → test ≡ back
+    → (test ≡ true → here ≡ true) → (test ≡ true → there ≡ true) → (test ≡ true → is_some y ≡ true)
     → cond there (if back then x else None) None ≡ cond (is_some (cond here (if test then y else None) None)) x None
 turned-when here there true back x y same h t s =
     (λ i. cond (t refl i) (if sym same i then x else None) None)

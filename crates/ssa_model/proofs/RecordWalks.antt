@@ -1,17 +1,14 @@
 -- The members of a record as filters, and below a path.
 use Rattle.std.proofs.Common.{◌≡◌, List, [], ◌∷◌, ◌++◌, map, Bool, true, false, cond, not, ◌&&◌, Some, None, refl, sym, ap, ◌∙◌, append_assoc, append-nil}
 use Rattle.std.specs.List.{cons_option, position_from}
-use Rattle.std.specs.Prelude.{is_some, if◌then◌else◌, filter, filter_map, option_map}
-use Rattle.ssa_model.specs.definitions.Path.{Element, Path, same_element, parent, rest_of, last_element}
-use Rattle.ssa_model.specs.definitions.PathMap.{PathMap, get, has, paths}
+use Rattle.std.specs.Prelude.{is_some, if◌then◌else◌, filter, option_map}
+use Rattle.ssa_model.specs.definitions.Path.{Element, Path, same_element, parent, last_element}
+use Rattle.ssa_model.specs.definitions.PathMap.{get, has, paths, below}
 use Rattle.ssa_model.specs.definitions.Body.{Body, order_at}
-use Rattle.ssa_model.specs.definitions.Record.{is_top, below, item_place, part_at, cuts, puts, new_leaf, new_leaves, new_order, new_orders}
-use Rattle.ssa_model.specs.laws.RecordWalks.{found, CutsAreFiltered, LeavesAreFiltered, OrdersAreFiltered, PutsAreFiltered, at_and_below, RecordBelow}
-use Rattle.ssa_model.proofs.Fitting.{nothing_there}
-use Rattle.ssa_model.proofs.PathMaps.{is_one_of, get-map_of, has-paths, same_map, same_sets, get-over_paths}
-use Rattle.ssa_model.proofs.Tables.{yes_no}
-use Rattle.ssa_model.proofs.Tests.{by_test}
-use Rattle.ssa_model.proofs.PutParts.{rests, where_true, get-below, has-part}
+use Rattle.ssa_model.specs.definitions.Record.{is_top, item_place, part_at, cuts, puts, new_leaf, new_leaves, new_order, new_orders}
+use Rattle.ssa_model.specs.laws.RecordWalks.{found, CutsAreFiltered, LeavesAreFiltered, OrdersAreFiltered, PutsAreFiltered, RecordBelow}
+use Rattle.ssa_model.proofs.PathMaps.{same_map, same_sets, get-over_paths}
+use Rattle.ssa_model.proofs.PutParts.{get-below, has-below}
 use Rattle.ssa_model.proofs.BodyLeads.{get-cuts}
 use Rattle.ssa_model.proofs.MapEntries.{map-entries}
 use Rattle.ssa_model.proofs.PartValues.{parent-prefixed}
@@ -40,12 +37,6 @@ puts_are_filtered v w = map-entries (λ p. if is_top v p then Some (part_at w p)
 
 -- ---- below a path
 
-pub get-at_and_below : {X : Type 0} (m : PathMap X) (p r : Path) → get (at_and_below p m) r ≡ get m (p ++ r)
-get-at_and_below m p r =
-    get-map_of (filter_map (rest_of p) (paths m)) (λ q. get m (p ++ q)) r
-    ∙ where_true (is_one_of (filter_map (rest_of p) (paths m)) r) (get m (p ++ r))
-    (λ off. nothing_there (get m (p ++ r)) (by_test (has m (p ++ r)) (λ t. yes_no (is_one_of (filter_map (rest_of p) (paths m)) r) (rests p r (paths m) (sym (has-paths m (p ++ r)) ∙ t)) off) (λ f. f)))
-
 nothing-top : (h k : Bool) → h ≡ true → (not h && k) ≡ false
 nothing-top h k e = ap (λ b. not b && k) e
 
@@ -54,10 +45,10 @@ at-root v p h = ap (has v) (append-nil p) ∙ h
 
 top-below : (v : Body) (p q : Path) → has v p ≡ true → is_top (below v p) q ≡ is_top v (p ++ q)
 top-below v p [] h =
-    nothing-top (has (below v p) []) (has (below v p) []) (has-part v p [] ∙ at-root v p h)
+    nothing-top (has (below v p) []) (has (below v p) []) (has-below v p [] ∙ at-root v p h)
     ∙ sym (nothing-top (has v (p ++ [])) (has v (parent (p ++ []))) (at-root v p h))
 top-below v p (x ∷ s) h =
-    λ i. not (has-part v p (x ∷ s) i) && (has-part v p (parent (x ∷ s)) ∙ ap (has v) (sym (parent-prefixed p x s))) i
+    λ i. not (has-below v p (x ∷ s) i) && (has-below v p (parent (x ∷ s)) ∙ ap (has v) (sym (parent-prefixed p x s))) i
 
 last-prefixed : (p : Path) (x : Element) (s : Path) → last_element (p ++ x ∷ s) ≡ last_element (x ∷ s)
 last-prefixed [] x s = refl
@@ -78,25 +69,25 @@ part-below w p x s =
 put-below : (v w : Body) (p q : Path) → has v p ≡ true
     → cond (has w (p ++ q)) (if is_top v (p ++ q) then Some (part_at w (p ++ q)) else None) None ≡ cond (has (below w p) q) (if is_top (below v p) q then Some (part_at (below w p) q) else None) None
 put-below v w p [] h =
-    (λ i. cond (sym (has-part w p []) i) (if nothing-top (has v (p ++ [])) (has v (parent (p ++ []))) (at-root v p h) i then Some (part_at w (p ++ [])) else None) None)
-    ∙ sym (λ i. cond (has (below w p) []) (if nothing-top (has (below v p) []) (has (below v p) []) (has-part v p [] ∙ at-root v p h) i then Some (part_at (below w p) []) else None) None)
+    (λ i. cond (sym (has-below w p []) i) (if nothing-top (has v (p ++ [])) (has v (parent (p ++ []))) (at-root v p h) i then Some (part_at w (p ++ [])) else None) None)
+    ∙ sym (λ i. cond (has (below w p) []) (if nothing-top (has (below v p) []) (has (below v p) []) (has-below v p [] ∙ at-root v p h) i then Some (part_at (below w p) []) else None) None)
 put-below v w p (x ∷ s) h =
-    λ i. cond (sym (has-part w p (x ∷ s)) i) (if sym (top-below v p (x ∷ s) h) i then Some (sym (part-below w p x s) i) else None) None
+    λ i. cond (sym (has-below w p (x ∷ s)) i) (if sym (top-below v p (x ∷ s) h) i then Some (sym (part-below w p x s) i) else None) None
 
 pub record_below_is : RecordBelow
 record_below_is v w p a b =
-    let cut = same_sets (at_and_below p (cuts v w)) (cuts (below v p) (below w p)) (λ q.
-    ap is_some (get-at_and_below (cuts v w) p q) ∙ get-cuts v w (p ++ q) ∙ (λ i. sym (has-part v p q) i && sym (top-below w p q b) i) ∙ sym (get-cuts (below v p) (below w p) q)) in
-    let leaves = same_map (at_and_below p (new_leaves v w)) (new_leaves (below v p) (below w p)) (λ q.
-    get-at_and_below (new_leaves v w) p q ∙ get-over_paths v (λ r. new_leaf (get v r) (get w r)) (p ++ q)
+    let cut = same_sets (below (cuts v w) p) (cuts (below v p) (below w p)) (λ q.
+    ap is_some (get-below (cuts v w) p q) ∙ get-cuts v w (p ++ q) ∙ (λ i. sym (has-below v p q) i && sym (top-below w p q b) i) ∙ sym (get-cuts (below v p) (below w p) q)) in
+    let leaves = same_map (below (new_leaves v w) p) (new_leaves (below v p) (below w p)) (λ q.
+    get-below (new_leaves v w) p q ∙ get-over_paths v (λ r. new_leaf (get v r) (get w r)) (p ++ q)
     ∙ (λ i. cond (is_some (sym (get-below v p q) i)) (new_leaf (sym (get-below v p q) i) (sym (get-below w p q) i)) None)
     ∙ sym (get-over_paths (below v p) (λ r. new_leaf (get (below v p) r) (get (below w p) r)) q)) in
-    let order = same_map (at_and_below p (new_orders v w)) (new_orders (below v p) (below w p)) (λ q.
-    get-at_and_below (new_orders v w) p q ∙ get-over_paths v (λ r. new_order (get v r) (get w r)) (p ++ q)
+    let order = same_map (below (new_orders v w) p) (new_orders (below v p) (below w p)) (λ q.
+    get-below (new_orders v w) p q ∙ get-over_paths v (λ r. new_order (get v r) (get w r)) (p ++ q)
     ∙ (λ i. cond (is_some (sym (get-below v p q) i)) (new_order (sym (get-below v p q) i) (sym (get-below w p q) i)) None)
     ∙ sym (get-over_paths (below v p) (λ r. new_order (get (below v p) r) (get (below w p) r)) q)) in
-    let put = same_map (at_and_below p (puts v w)) (puts (below v p) (below w p)) (λ q.
-    get-at_and_below (puts v w) p q ∙ get-over_paths w (λ r. if is_top v r then Some (part_at w r) else None) (p ++ q)
+    let put = same_map (below (puts v w) p) (puts (below v p) (below w p)) (λ q.
+    get-below (puts v w) p q ∙ get-over_paths w (λ r. if is_top v r then Some (part_at w r) else None) (p ++ q)
     ∙ put-below v w p q a
     ∙ sym (get-over_paths (below w p) (λ r. if is_top (below v p) r then Some (part_at (below w p) r) else None) q)) in
     λ i. record { cut = cut i; leaves = leaves i; order = order i; put = put i }

@@ -1,11 +1,11 @@
 -- The record of two states: what has to change in the first to get the second, and nothing else.
 -- Maps and sets of paths stand in path order.
-use Rattle.std.specs.Prelude.{ℕ, ◌+◌, List, [], ◌∷◌, ◌++◌, Bool, false, not, ◌&&◌, map, filter, filter_map, Option, Some, None, if◌then◌else◌}
+use Rattle.std.specs.Prelude.{ℕ, ◌+◌, List, [], ◌∷◌, Bool, false, not, ◌&&◌, map, filter, filter_map, Option, Some, None, if◌then◌else◌}
 use Rattle.std.specs.List.{position_from}
 use Rattle.std.specs.Cmp.Lexicographic.{pointwise}
 use Rattle.ssa_model.specs.definitions.Json.{Text, same_text}
-use Rattle.ssa_model.specs.definitions.Path.{Element, Path, same_element, parent, rest_of, last_element}
-use Rattle.ssa_model.specs.definitions.PathMap.{PathMap, PathSet, get, has, paths, map_of, set_of, minus, same_set}
+use Rattle.ssa_model.specs.definitions.Path.{Element, Path, same_element, parent, last_element}
+use Rattle.ssa_model.specs.definitions.PathMap.{PathMap, PathSet, get, has, paths, map_of, set_of, below, minus, same_set}
 use Rattle.ssa_model.specs.definitions.Kind.{is_among}
 use Rattle.ssa_model.specs.definitions.Body.{Content, list_branch, Body, is_other_leaf, order_at}
 use Rattle.ssa_model.specs.definitions.Table.{ManagerKey, Entry, Table, is_in_table, entry_of}
@@ -45,10 +45,6 @@ pub record Record : Type 0 where
 -- a topmost path of those that the body has not
 abbrev pub is_top : Body → Path → Bool
 is_top v p = not (has v p) && has v (parent p)
-
--- the body's contents at and below p, each at what follows p
-abbrev pub below : Body → Path → Body
-below w p = map_of (filter_map (rest_of p) (paths w)) (λ q. get w (p ++ q))
 
 -- the place of an item in its list
 abbrev pub item_place : Body → Path → Option ℕ

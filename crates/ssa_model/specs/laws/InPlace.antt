@@ -27,4 +27,5 @@ abbrev pub ItemsAreInserted : Type 0
 ItemsAreInserted =
     (kind : Kind) (v w : Body) (p : Path) (es fs : List Element) → IsBodyOf kind v → IsBodyOf kind w
     → get v p ≡ Some (list_branch es) → get w p ≡ Some (list_branch fs)
-    → let d = body_record v w in get d.order p ≡ None → inserted (put_item d.put.entries p) 0 (end_of (filter_map (place_in p) d.put.entries)) (staying_items d p es) ≡ fs
+    → let d = body_record v w in get d.order p ≡ None
+    → inserted (put_item d.put.entries p) 0 (end_of (filter_map (place_in p) d.put.entries)) (staying_items d p es) ≡ fs

@@ -21,4 +21,6 @@ SizeBound = (kind : Kind) (v w : State) → IsBodyOf kind v.body → record_size
 
 -- two states differ in as many facts one way as the other, so the bound holds both ways
 abbrev pub FactsBothWays : Type 0
-FactsBothWays = (v w : State) → has_distinct_keys v.table ≡ true → has_distinct_keys w.table ≡ true → KeepsOrder v.table w.table → facts v w ≡ facts w v
+FactsBothWays =
+    (v w : State) → has_distinct_keys v.table ≡ true → has_distinct_keys w.table ≡ true → KeepsOrder v.table w.table
+    → facts v w ≡ facts w v

@@ -16,7 +16,9 @@ abbrev pub BodyTurns : Type 0
 BodyTurns = (v w : Body) → body_record w v ≡ turned_body (body_record v w) v
 
 abbrev pub TableTurns : Type 0
-TableTurns = (t u : Table) → has_distinct_keys t ≡ true → has_distinct_keys u ≡ true → KeepsOrder t u → table_record u t ≡ turned_table (table_record t u) t
+TableTurns =
+    (t u : Table) → has_distinct_keys t ≡ true → has_distinct_keys u ≡ true → KeepsOrder t u
+    → table_record u t ≡ turned_table (table_record t u) t
 
 abbrev pub RecordTurns : Type 0
 RecordTurns =

@@ -1,11 +1,11 @@
 -- The record of two bodies, member by member along the paths of a body, and below a path that both have.
 use Rattle.std.specs.Prelude.{◌≡◌, ℕ, List, [], ◌∷◌, ◌++◌, true, ◌&&◌, filter, filter_map, Option, Some, None, option_map, if◌then◌else◌}
-use Rattle.ssa_model.specs.definitions.Path.{Element, Path, is_item_element, rest_of}
-use Rattle.ssa_model.specs.definitions.PathMap.{PathMap, get, has, paths, map_of}
+use Rattle.ssa_model.specs.definitions.Path.{Element, Path, is_item_element}
+use Rattle.ssa_model.specs.definitions.PathMap.{get, has, paths, below}
 use Rattle.ssa_model.specs.definitions.Kind.{Kind, is_among}
 use Rattle.ssa_model.specs.definitions.Body.{Content, leaf, atom, record_branch, dict_branch, list_branch, Body, order_at}
 use Rattle.ssa_model.specs.definitions.Fitting.{Place, are_distinct, IsBodyOf}
-use Rattle.ssa_model.specs.definitions.Record.{BodyRecord, is_top, below, part_at, cuts, puts, new_leaf, new_leaves, new_order, new_orders, body_record}
+use Rattle.ssa_model.specs.definitions.Record.{BodyRecord, is_top, part_at, cuts, puts, new_leaf, new_leaves, new_order, new_orders, body_record}
 use Rattle.ssa_model.specs.definitions.Carry.{carry_body}
 use Rattle.ssa_model.specs.definitions.RecordText.{value_at_place}
 
@@ -29,11 +29,8 @@ PutsAreFiltered = (v w : Body) → (puts v w).entries ≡ found (λ p. if is_top
 
 -- ---- below a path
 
-abbrev pub at_and_below : {X : Type 0} → Path → PathMap X → PathMap X
-at_and_below p m = map_of (filter_map (rest_of p) (paths m)) (λ q. get m (p ++ q))
-
 abbrev pub record_below : Path → BodyRecord → BodyRecord
-record_below p d = record { cut = at_and_below p d.cut; leaves = at_and_below p d.leaves; order = at_and_below p d.order; put = at_and_below p d.put }
+record_below p d = record { cut = below d.cut p; leaves = below d.leaves p; order = below d.order p; put = below d.put p }
 
 -- what the record of two bodies has below a path of both is the record of what they have there
 abbrev pub RecordBelow : Type 0
