@@ -1,7 +1,7 @@
 -- Names that differ: in the value that a body shows, and in the atomic values of a flattening.
 use Rattle.std.proofs.Common.{◌≡◌, List, [], ◌∷◌, ◌++◌, map, Bool, true, false, cond, not, ◌&&◌, ◌||◌, Option, Some, None, option_map, refl, sym, ap, ◌∙◌, true≢false}
 use Rattle.std.proofs.lemmas.Option.{same_Some, none-some}
-use Rattle.std.specs.Prelude.{T, if◌then◌else◌, filter_map, option_and_then}
+use Rattle.std.specs.Prelude.{if◌then◌else◌, filter_map, option_and_then}
 use Rattle.std.specs.List.{list_any, cons_option, AllByRecursion}
 use Rattle.std.specs.Ordering.{is_eq}
 use Rattle.std.specs.Cmp.{first_so, second_so}
@@ -28,23 +28,20 @@ use Rattle.ssa_model.proofs.RisingNames.{lower}
 use Rattle.ssa_model.proofs.ShownItems.{each-among, set-item, list-item}
 use Rattle.ssa_model.proofs.ShownNames.{name_of, name-is, among-names, names-there, member_of-fields}
 use Rattle.ssa_model.proofs.Tables.{no, first_false, second_false, yes_no, text-itself, element-itself}
+use Rattle.ssa_model.proofs.Tests.{holds}
 
 -- ---- the names below a path
 
-abbrev are_distinct_paths : List Path → Bool
+abbrev pub are_distinct_paths : List Path → Bool
 are_distinct_paths [] = true
 are_distinct_paths (p ∷ ps) = not (is_one_of ps p) && are_distinct_paths ps
-
-holds : (b : Bool) → T b → b ≡ true
-holds true h = refl
-holds false h = absurd h
 
 module _ {X : Type 0} where
   below-apart : (q : Path) (es : List (Path × X)) → below_all path_cmp q es ≡ true → is_one_of (map (λ e. e.0) es) q ≡ false
   below-apart q [] h = refl
   below-apart q (e ∷ es) h = λ i. is_eq (lower (path_cmp q e.0) (first_so _ _ h) i) || below-apart q es (second_so _ _ h) i
 
-  sorted-distinct : (es : List (Path × X)) → is_sorted path_cmp es ≡ true → are_distinct_paths (map (λ e. e.0) es) ≡ true
+  pub sorted-distinct : (es : List (Path × X)) → is_sorted path_cmp es ≡ true → are_distinct_paths (map (λ e. e.0) es) ≡ true
   sorted-distinct [] h = refl
   sorted-distinct (e ∷ es) h = λ i. not (below-apart e.0 es (first_so _ _ h) i) && sorted-distinct es (second_so _ _ h) i
 

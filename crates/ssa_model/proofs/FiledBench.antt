@@ -39,7 +39,7 @@ applied-is state a config at alone few seated =
     ∙ ap (λ t. if t then Err too_many_paths else if_seated next) few
     ∙ ap (λ t. if t then Err too_many_managers else Ok next) seated
 
-first-valid : IsValidState sample_kind new_bench.timeline.first
+pub first-valid : IsValidState sample_kind new_bench.timeline.first
 first-valid = record {
   fits = flat_fits sample_kind (object no_members) refl refl refl;
   rooted = flat_is_rooted sample_kind (object no_members) refl refl refl;
@@ -47,7 +47,7 @@ first-valid = record {
   table = strip_keeps new_bench.timeline.first;
 }
 
-applied-valid : IsValidState sample_kind applied_step.state
+pub applied-valid : IsValidState sample_kind applied_step.state
 applied-valid =
     let at = codes "2024-05-01T10:00:01Z" in
     let value = body_value (with_replicas 3) in

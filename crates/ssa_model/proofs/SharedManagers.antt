@@ -5,18 +5,17 @@ use Rattle.std.specs.Cmp.{first_so, second_so}
 use Rattle.ssa_model.specs.definitions.Json.{Text}
 use Rattle.ssa_model.specs.definitions.PathMap.{empty, is_empty}
 use Rattle.ssa_model.specs.definitions.Table.{ManagerKey, Entry, Table, same_manager, is_in_table, with_manager, reseated, seat}
-use Rattle.ssa_model.specs.definitions.Valid.{has_distinct_keys}
+use Rattle.ssa_model.specs.definitions.Valid.{has_distinct_keys, AllEntries}
 use Rattle.ssa_model.specs.laws.KeepsValid.{OperationsKeepOrder}
 use Rattle.ssa_model.proofs.Tables.{KeepsKeys, manager-itself, apart-back, first_false, second_false, no, true_or, or_true, is_in_table-map, is_in_table-filter, with_manager-distinct}
 
-abbrev managers : Table → List ManagerKey
+abbrev pub managers : Table → List ManagerKey
 managers t = map (λ e. e.manager) t
 
-abbrev Each : (ManagerKey → Type 0) → Table → Type 0
-Each P [] = Unit {0}
-Each P (e ∷ es) = P e.manager × Each P es
+abbrev pub Each : (ManagerKey → Type 0) → Table → Type 0
+Each P es = AllEntries (λ e. P e.manager) es
 
-each-more : (P Q : ManagerKey → Type 0) → ((a : ManagerKey) → P a → Q a) → (es : Table) → Each P es → Each Q es
+pub each-more : (P Q : ManagerKey → Type 0) → ((a : ManagerKey) → P a → Q a) → (es : Table) → Each P es → Each Q es
 each-more P Q gives [] h = tt
 each-more P Q gives (e ∷ es) h = (gives e.manager h.0, each-more P Q gives es h.1)
 
@@ -45,7 +44,7 @@ filter-swap p q (a ∷ bs) =
     ] refl
 
 -- the managers of a table are in it
-each-in : (es : Table) → Each (λ a. is_in_table es a ≡ true) es
+pub each-in : (es : Table) → Each (λ a. is_in_table es a ≡ true) es
 each-in [] = tt
 each-in (e ∷ es) = (
   true_or (same_manager e.manager e.manager) (is_in_table es e.manager) (manager-itself e.manager),
@@ -53,7 +52,7 @@ each-in (e ∷ es) = (
 )
 
 -- a manager that is not in a table is none of its managers
-each-apart : (a : ManagerKey) (es : Table) → is_in_table es a ≡ false → Each (λ b. same_manager a b ≡ false) es
+pub each-apart : (a : ManagerKey) (es : Table) → is_in_table es a ≡ false → Each (λ b. same_manager a b ≡ false) es
 each-apart a [] h = tt
 each-apart a (e ∷ es) h = (apart-back e.manager a (first_false (same_manager e.manager a) (is_in_table es a) h), each-apart a es (second_false (same_manager e.manager a) (is_in_table es a) h))
 

@@ -60,3 +60,13 @@ pub mod Fitting
 pub mod Valid
 -- valid benches, and which texts are bench files
 pub mod BenchFile
+-- the record of two states: what changes from the first to the second
+pub mod Record
+-- what a record leads to from a state
+pub mod Carry
+-- which states a record takes one to the other, and the record of the way back
+pub mod Takes
+-- the size of a record, and the facts in which two states differ
+pub mod Facts
+-- a record as JSON
+pub mod RecordText

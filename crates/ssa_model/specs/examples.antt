@@ -16,3 +16,5 @@ pub mod FileRows
 pub mod ShownRows
 -- the answers to subcommands
 pub mod SubcommandRows
+-- the sizes and the texts of records
+pub mod RecordRows

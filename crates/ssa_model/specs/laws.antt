@@ -22,3 +22,13 @@ pub mod BenchFiles
 pub mod MemberNames
 -- how deep the values of a bench file nest
 pub mod BenchDepths
+-- the record of two states leads from the first to the second
+pub mod RecordLeads
+-- the turned record is the record of the way back
+pub mod RecordTurns
+-- a record holds no more than its states differ
+pub mod RecordSizes
+-- a change in place reaches what a record leads to
+pub mod InPlace
+-- the record of two bodies along their paths, and below a path
+pub mod RecordWalks

@@ -1,5 +1,5 @@
 -- Elements and paths of fields, in the order of the elements' texts.
-use Rattle.std.specs.Prelude.{List, [], ◌∷◌, ◌++◌, Bool, true, false, ◌&&◌, codes}
+use Rattle.std.specs.Prelude.{List, [], ◌∷◌, ◌++◌, Bool, true, false, ◌&&◌, codes, Option, Some, None, if◌then◌else◌}
 use Rattle.std.specs.declared.cmp.Ordering.{Ordering}
 use Rattle.std.specs.Ordering.{eq_by_cmp, nat_cmp, on}
 use Rattle.std.specs.List.{list_any}
@@ -53,6 +53,17 @@ abbrev pub parent : Path → Path
 parent [] = []
 parent (e ∷ []) = []
 parent (e ∷ f ∷ p) = e ∷ parent (f ∷ p)
+
+-- what follows p in q
+abbrev pub rest_of : Path → Path → Option Path
+rest_of [] q = Some q
+rest_of (e ∷ p) [] = None
+rest_of (e ∷ p) (f ∷ q) = if same_element e f then rest_of p q else None
+
+abbrev pub last_element : Path → Option Element
+last_element [] = None
+last_element (e ∷ []) = Some e
+last_element (e ∷ f ∷ p) = last_element (f ∷ p)
 
 abbrev pub is_item_element : Element → Bool
 is_item_element (field n) = false

@@ -7,7 +7,7 @@ use lib.Dec.{T_prop}
 use Rattle.std.specs.FinMap.Entries.{find, put, is_sorted, is_sorted-put}
 use Rattle.std.specs.List.{list_any}
 use Rattle.std.specs.Cmp.Lexicographic.{pointwise}
-use Rattle.ssa_model.specs.definitions.Path.{Path, path_cmp, path_cmp_total, same_path, under}
+use Rattle.ssa_model.specs.definitions.Path.{Path, path_cmp, path_cmp_total, same_path, under, rest_of}
 
 pub record PathMap (X : Type 0) : Type 0 where
   pub entries : List (Path × X)
@@ -50,6 +50,10 @@ module _ {X : Type 0} where
 
   abbrev pub map_of : List Path → (Path → Option X) → PathMap X
   map_of ps f = from_entries (filter_map (λ p. option_map (λ x. (p, x)) (f p)) ps)
+
+  -- what the map has at p and below, each at what follows p
+  abbrev pub below : PathMap X → Path → PathMap X
+  below m p = map_of (filter_map (rest_of p) (paths m)) (λ q. get m (p ++ q))
 
 pub same_entries_map : {X : Type 0} (m n : PathMap X) → m.entries ≡ n.entries → m ≡ n
 same_entries_map {X} m n e =

@@ -1,5 +1,5 @@
 -- The table of managers: who owns which paths, and since when.
-use Rattle.std.specs.Prelude.{List, [], ◌∷◌, ◌++◌, Bool, true, false, not, ◌&&◌, ◌||◌, map, filter, if◌then◌else◌}
+use Rattle.std.specs.Prelude.{List, [], ◌∷◌, ◌++◌, Bool, true, false, not, ◌&&◌, ◌||◌, map, filter, Option, Some, None, if◌then◌else◌}
 use Rattle.std.specs.List.{list_any}
 use Rattle.ssa_model.specs.definitions.Json.{Text, same_text}
 use Rattle.ssa_model.specs.definitions.PathMap.{PathSet, empty, is_empty, union, minus, same_set}
@@ -31,6 +31,11 @@ same_manager a b = same_text a.name b.name && same_operation a.operation b.opera
 
 abbrev pub is_in_table : Table → ManagerKey → Bool
 is_in_table table a = list_any (λ e. same_manager e.manager a) table
+
+-- the entry of a
+abbrev pub entry_of : Table → ManagerKey → Option Entry
+entry_of [] a = None
+entry_of (e ∷ es) a = if same_manager e.manager a then Some e else entry_of es a
 
 -- the paths that a owns
 abbrev pub owned_by : Table → ManagerKey → PathSet

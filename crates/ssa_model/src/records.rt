@@ -1,0 +1,120 @@
+//! Laws of the records of two states: each is the contract of a function that does nothing.
+
+ghost use Rattle.ssa_model.specs.laws.RecordLeads.{SetLeads, TableLeads, CarryAnswers, BodyLeads, RecordLeads};
+ghost use Rattle.ssa_model.specs.laws.RecordTurns.{BodyTurns, TableTurns, RecordTurns, FixesTarget, FixesRecord, LeadsBack, TurnsTwice, BodyLaws, TableLaws, TakesByParts};
+ghost use Rattle.ssa_model.specs.laws.RecordSizes.{BodyBound, TableBound, SizeBound, FactsBothWays};
+ghost use Rattle.ssa_model.specs.laws.InPlace.{TableIsInserted, ItemsAreInserted};
+ghost use Rattle.ssa_model.specs.laws.RecordWalks.{CutsAreFiltered, LeavesAreFiltered, OrdersAreFiltered, PutsAreFiltered, RecordBelow, PartIsValue, TreeLeads, BodiesAreTrees, PartIsTree, CarryBelow};
+ghost use Rattle.ssa_model.specs.examples.RecordRows.{FirstApplyRecord, ForcedRecord, GivenUpRecord, RemovedItemRecord, RemovedItemPlace, ReorderRecord, RepeatRecord, StripRecord, SetFilledRecord, SetEmptiedRecord, LiveItemsRecord, LedRecord, ForcedFacts, ReorderFacts, RemovedItemFacts, FirstApplyText, ForcedText, RemovedItemText, ReorderText, RecordsAreMet};
+
+/// The sizes of the records of worked commands, back and forth.
+pub fn record_sizes()
+    ensures first { FirstApplyRecord }
+    ensures forced { ForcedRecord }
+    ensures given_up { GivenUpRecord }
+    ensures removed { RemovedItemRecord }
+    ensures reorder { ReorderRecord }
+    ensures repeat { RepeatRecord }
+    ensures strip { StripRecord }
+    ensures emptied { SetEmptiedRecord }
+    ensures filled { SetFilledRecord }
+    ensures live { LiveItemsRecord }
+    ensures led { LedRecord }
+    ensures place { RemovedItemPlace }
+{}
+
+/// In how many facts the states of worked commands differ.
+pub fn record_facts()
+    ensures forced { ForcedFacts }
+    ensures reorder { ReorderFacts }
+    ensures removed { RemovedItemFacts }
+{}
+
+/// The texts of the records of worked commands.
+pub fn record_texts()
+    ensures first { FirstApplyText }
+    ensures forced { ForcedText }
+    ensures removed { RemovedItemText }
+    ensures reorder { ReorderText }
+{}
+
+/// The record of two sets, or of two tables whose common managers stand in one order, leads from the first to the second.
+pub fn table_leads()
+    ensures set { SetLeads }
+    ensures table { TableLeads }
+{}
+
+/// The record of two bodies of one kind leads from the first to the second.
+pub fn body_leads()
+    ensures answers { CarryAnswers }
+    ensures leads { BodyLeads }
+{}
+
+/// The record of two valid states whose common managers stand in one order leads from the first to the second.
+pub fn record_leads()
+    ensures { RecordLeads }
+{}
+
+/// The record of the way back is told by the record of the way there and the state that it leads from.
+pub fn record_turns()
+    ensures body { BodyTurns }
+    ensures table { TableTurns }
+    ensures state { RecordTurns }
+{}
+
+/// Where a record takes one valid state to another: it and the first fix the second, the two fix it, and its turned record takes the second back to the first.
+/// The same holds of bodies and of tables, and a record of states takes them where its parts take theirs.
+pub fn takes_laws()
+    ensures target { FixesTarget }
+    ensures steps { FixesRecord }
+    ensures back { LeadsBack }
+    ensures twice { TurnsTwice }
+    ensures body { BodyLaws }
+    ensures table { TableLaws }
+    ensures parts { TakesByParts }
+{}
+
+/// A record holds no more than the facts in which its states differ.
+pub fn size_bound()
+    ensures body { BodyBound }
+    ensures table { TableBound }
+    ensures state { SizeBound }
+{}
+
+/// Two states differ in as many facts one way as the other.
+pub fn facts_both_ways()
+    ensures { FactsBothWays }
+{}
+
+/// What goes is taken out, and what comes is inserted at rising places: so a table and a list of items become those of the second state.
+pub fn in_place()
+    ensures table { TableIsInserted }
+    ensures items { ItemsAreInserted }
+{}
+
+/// The members of the record of two bodies are filters over the paths of one, in path order. Below a path of both it is the record of what they have there.
+pub fn record_walks()
+    ensures cut { CutsAreFiltered }
+    ensures leaves { LeavesAreFiltered }
+    ensures orders { OrdersAreFiltered }
+    ensures put { PutsAreFiltered }
+    ensures below { RecordBelow }
+{}
+
+/// The value of a part is the value that the body has at the part's path.
+pub fn part_is_value()
+    ensures { PartIsValue }
+{}
+
+/// A record leads from a body to the other without regard to their schema, and so part by part: below a path of both, by what the record has there.
+pub fn carry_walks()
+    ensures leads { TreeLeads }
+    ensures trees { BodiesAreTrees }
+    ensures part { PartIsTree }
+    ensures below { CarryBelow }
+{}
+
+/// The states of a worked example meet what the laws ask of two states.
+pub fn records_are_met()
+    ensures { RecordsAreMet }
+{}
