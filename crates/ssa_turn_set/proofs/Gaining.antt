@@ -2,6 +2,7 @@
 use Rattle.std.proofs.Common.{◌≡◌, ℕ, ◌+◌, ◌<◌, ◌≤◌, List, [], ◌∷◌, ◌++◌, length, get_or, set, drop, take, Bool, true, false, ◌&&◌, ◌||◌, refl, sym, ap, ◌∙◌, arith, subst}
 use Rattle.std.proofs.lemmas.List.Folds.{list_any-append}
 use Rattle.std.specs.Ordering.{is_lt}
+use Rattle.ssa_model.specs.definitions.FieldsV1.{tails}
 use Rattle.ssa_model.specs.definitions.Path.{Element, Path, same_element, element_cmp, same_path}
 use Rattle.ssa_path.specs.declared.element.Elem.{Elem}
 use Rattle.ssa_path.specs.declared.trie.Trie.{Trie}
@@ -13,13 +14,13 @@ use Rattle.ssa_path.specs.Trie.{is_one_of, paths_after, paths_below, paths, is_t
 use Rattle.ssa_path.proofs.Orders.{both_first, both_second, same_either_way, not_tied, same_element-true}
 use Rattle.ssa_path.proofs.Inserting.{spread}
 use Rattle.ssa_path.proofs.Lists.{paths_below-append, left-at, elements-append, one-between, filled-between, filled-without}
-use Rattle.ssa_path.proofs.Levels.{same_path-reading, any-after, any-level, any-made, one-level-root, one-made-root, one-below-root}
-use Rattle.std.proofs.lemmas.List.{take_all}
+use Rattle.ssa_path.proofs.Levels.{same_path-reading, any-after, any-level, any-made, one-after-root, one-level-root, one-made-root, one-below-root}
+use Rattle.std.proofs.lemmas.List.{take_all, take_more_set}
 use Rattle.ssa_turn_set.specs.declared.room.Room.{Room}
 use Rattle.ssa_turn_set.specs.declared.spare.Spare.{Spare}
-use Rattle.ssa_turn_set.specs.Room.{tails, fresh, freshes, lose_room, gains, loses, gain_one}
+use Rattle.ssa_turn_set.specs.Room.{fresh, freshes, lose_room, gains, loses, gain_one}
 use Rattle.ssa_turn_set.proofs.Rooms.{AreAlike, all-alike, loses-more, gains-some}
-use Rattle.ssa_turn_set.proofs.Places.{taken-any, taken-set, left-set, all-taken, within-both}
+use Rattle.ssa_turn_set.proofs.Places.{taken-any, left-set, all-taken, within-both}
 
 -- The children cs of a set have become `now`: those of `done` are put in, those of `left` are not.
 pub record IsGaining (cs done left : List (Elem × Trie)) (filled rooms : List (Spare × Room)) (now : List (Elem × Trie)) (capacity : ℕ) : Type 0 where
@@ -99,7 +100,7 @@ pub gaining-next : (cs ds : List (Elem × Trie)) (rs : List (Spare × Room)) (no
     → IsGaining cs (take i ds ++ d ∷ []) (drop (i + 1) ds) (take i rs ++ s ∷ []) (drop (i + 1) rs) now capacity → IsGaining cs (take (i + 1) ds) (drop (i + 1) ds) (take (i + 1) (set rs i s)) (drop (i + 1) (set rs i s)) now capacity
 gaining-next cs ds rs now capacity i d s lt is lt2 h =
     subst (λ l. IsGaining cs l (drop (i + 1) ds) (take (i + 1) (set rs i s)) (drop (i + 1) (set rs i s)) now capacity) (sym (taken-any ds i d lt is))
-    (subst (λ l. IsGaining cs (take i ds ++ d ∷ []) (drop (i + 1) ds) l (drop (i + 1) (set rs i s)) now capacity) (sym (taken-set rs i s lt2))
+    (subst (λ l. IsGaining cs (take i ds ++ d ∷ []) (drop (i + 1) ds) l (drop (i + 1) (set rs i s)) now capacity) (sym (take_more_set rs i s lt2))
     (subst (λ l. IsGaining cs (take i ds ++ d ∷ []) (drop (i + 1) ds) (take i rs ++ s ∷ []) l now capacity) (sym (left-set rs i s)) h))
 
 -- after the last
@@ -120,10 +121,6 @@ gained-place x g s here below (e ∷ p) =
 
 -- ---- one child
 
-pub none-after : (e : Element) (ps : List Path) → is_one_of (paths_after e ps) [] ≡ false
-none-after e [] = refl
-none-after e (p ∷ ps) = none-after e ps
-
 -- a child that took more paths, among the others
 pub gathered-child : (cs ds front left : List (Elem × Trie)) (f : Element) (t : Trie) (d : Elem) (c m : Trie) → cs ≡ front ++ (d, c) ∷ left → ds ≡ front ++ (d, m) ∷ left → same_element f (element_view d) ≡ true
     → ((p : Path) → is_one_of (paths m) p ≡ (is_one_of (paths t) p || is_one_of (paths c) p)) → is_trie m ≡ true → is_filled m ≡ true → rises (elements cs) ≡ true → are_filled_tries cs ≡ true → IsGathered cs f t ds
@@ -138,7 +135,7 @@ gathered-child cs ds front left f t d c m old new tie made trie filled risen tri
     }
   where
     held : (p : Path) → is_one_of (paths_below ds) p ≡ (is_one_of (paths_after f (paths t)) p || is_one_of (paths_below cs) p)
-    held [] = one-below-root ds ∙ (λ i. sym (none-after f (paths t)) i || sym (one-below-root cs) i)
+    held [] = one-below-root ds ∙ (λ i. sym (one-after-root f (paths t)) i || sym (one-below-root cs) i)
     held (e ∷ p) =
         ap (λ l. is_one_of (paths_below l) (e ∷ p)) new
         ∙ one-between front left (d, m) (e ∷ p)
@@ -156,7 +153,7 @@ gathered-alike cs ds f t m made h = record {
 }
   where
     after : (p : Path) → is_one_of (paths_after f (paths m)) p ≡ is_one_of (paths_after f (paths t)) p
-    after [] = none-after f (paths m) ∙ sym (none-after f (paths t))
+    after [] = one-after-root f (paths m) ∙ sym (one-after-root f (paths t))
     after (e ∷ p) = any-after same_path same_path-reading e f (paths m) p ∙ ap (λ b. same_element e f && b) (made p) ∙ sym (any-after same_path same_path-reading e f (paths t) p)
 
 pub gaining-fits : (cs done left : List (Elem × Trie)) (filled rooms : List (Spare × Room)) (now : List (Elem × Trie)) (capacity : ℕ) (d : Elem × Trie) (r : Spare × Room) → IsGaining cs done (d ∷ left) filled (r ∷ rooms) now capacity

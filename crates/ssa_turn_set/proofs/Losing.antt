@@ -1,9 +1,11 @@
 -- A set taken out of another, child by child.
 use Rattle.std.proofs.Common.{◌≡◌, ℕ, zero, suc, ◌+◌, ◌<◌, ◌≤◌, List, [], ◌∷◌, ◌++◌, length, get_or, set, drop, take, Bool, true, false, not, ◌&&◌, ◌||◌, refl, sym, ap, ◌∙◌, arith, subst, length-drop, true≢false}
-use Rattle.std.proofs.lemmas.List.{take_all}
+use Rattle.std.proofs.Math.Bool.{and-true}
+use Rattle.std.proofs.lemmas.List.{take_all, take_more_set}
 use Rattle.std.proofs.lemmas.List.Folds.{list_any-append}
 use Rattle.std.specs.Ordering.{is_lt}
 use Rattle.std.specs.Prelude.{vec_capacity}
+use Rattle.ssa_model.specs.definitions.FieldsV1.{heads, tails}
 use Rattle.ssa_model.specs.definitions.Path.{Element, Path, same_element, element_cmp, same_path}
 use Rattle.ssa_path.specs.declared.element.Elem.{Elem}
 use Rattle.ssa_path.specs.declared.trie.Trie.{Trie}
@@ -14,16 +16,16 @@ use Rattle.ssa_path.specs.View.{element_view}
 use Rattle.ssa_path.specs.Trie.{is_one_of, paths_after, paths_below, paths, is_trie, are_filled_tries}
 use Rattle.ssa_path.proofs.Orders.{both, both_first, both_second, not_tied, same_element-itself}
 use Rattle.ssa_path.proofs.Searching.{absent-below, below-middle}
-use Rattle.ssa_path.proofs.Lists.{left-at, elements-append}
-use Rattle.ssa_path.proofs.Levels.{same_path-reading, any-after, any-below, any-level, any-made, found, one-level-root, one-made-root, one-below-root}
+use Rattle.ssa_path.proofs.Lists.{left-at, rises-drop, elements-append}
+use Rattle.ssa_path.proofs.Levels.{same_path-reading, any-after, any-below, any-level, any-made, found, one-after-root, one-level-root, one-made-root, one-below-root}
 use Rattle.ssa_turn_set.specs.declared.room.Room.{Room}
 use Rattle.ssa_turn_set.specs.declared.room.Room.TheOpen.{Room-F}
 use Rattle.ssa_turn_set.specs.declared.room.Room.TheViews.{out-Room, roll-Room, out-roll-Room}
 use Rattle.ssa_turn_set.specs.declared.spare.Spare.{Spare}
-use Rattle.ssa_turn_set.specs.Room.{tails, branches, fresh, freshes, lose_room, gain_room, gains, loses, gain_one}
-use Rattle.ssa_turn_set.proofs.Rooms.{AreAlike, gains-more, loses-some, loses-alike, gains-alike, freshes-alike, holds, lose_room-level}
-use Rattle.ssa_turn_set.proofs.Places.{taken-any, taken-set, all-taken, within-both, gain-made, lose-own, lose-below, roomy}
-use Rattle.ssa_turn_set.proofs.Gaining.{one-more, none-after}
+use Rattle.ssa_turn_set.specs.Room.{fresh, freshes, holds, lose_room, gain_room, gains, loses, gain_one}
+use Rattle.ssa_turn_set.proofs.Rooms.{AreAlike, gains-more, loses-some, loses-alike, gains-alike, freshes-alike, lose_room-level}
+use Rattle.ssa_turn_set.proofs.Places.{taken-any, all-taken, within-both, gain-made, lose-own, lose-below, roomy}
+use Rattle.ssa_turn_set.proofs.Gaining.{one-more}
 
 -- The children cs of a set have become `now`: those of `done` are taken out, those of `left` are not. `old` is the room for `done` as it was, `filled` as it is.
 pub record IsLosing (cs done left : List (Elem × Trie)) (old filled rooms : List (Spare × Room)) (now : List (Elem × Trie)) : Type 0 where
@@ -39,10 +41,6 @@ pub record IsLosing (cs done left : List (Elem × Trie)) (old filled rooms : Lis
   pub left_tries : are_filled_tries left ≡ true
 
 -- ---- the order of elements
-
-rises-behind : (es fs : List Element) → rises (es ++ fs) ≡ true → rises fs ≡ true
-rises-behind [] fs h = h
-rises-behind (e ∷ es) fs h = rises-behind es fs (both_second _ _ h)
 
 below-without : (f d : Element) (es fs : List Element) → is_below f (es ++ d ∷ fs) ≡ true → is_below f (es ++ fs) ≡ true
 below-without f d [] fs h = both_second _ _ h
@@ -81,7 +79,7 @@ not_both false a d = refl
 
 -- what is left is apart from d
 left-apart : (d : Elem × Trie) (left : List (Elem × Trie)) (p : Path) → is_below (element_view d.0) (elements left) ≡ true → rises (elements left) ≡ true → is_one_of (paths_below left) p ≡ true → is_one_of (paths_after (element_view d.0) (paths d.1)) p ≡ false
-left-apart d left [] h risen k = none-after (element_view d.0) (paths d.1)
+left-apart d left [] h risen k = one-after-root (element_view d.0) (paths d.1)
 left-apart d left (e ∷ p) h risen k =
     any-after same_path same_path-reading e (element_view d.0) (paths d.1) p ∙ ap (λ b. b && is_one_of (paths d.1) p) (told (same_element e (element_view d.0)) refl)
   where
@@ -100,7 +98,7 @@ pub losing-more : (cs done left : List (Elem × Trie)) (old filled rooms : List 
     → IsLosing cs (done ++ d ∷ []) left (old ++ r ∷ []) (filled ++ s ∷ []) rooms new
 losing-more cs done left old filled rooms now new d r s h paths_are risen tries apart len room =
     let all : rises (elements done ++ element_view d.0 ∷ elements left) ≡ true = ap rises (sym (elements-append done (d ∷ left))) ∙ h.all_rise in
-    let behind = rises-behind (elements done) (element_view d.0 ∷ elements left) all in
+    let behind = rises-drop (elements done) (element_view d.0 ∷ elements left) all in
     let alike = front-alike done (element_view d.0) (elements left) (paths_below now) (paths_below new) all apart in
     let counted = h.len in
     let more = freshes-more done d (paths_below new) in
@@ -137,7 +135,7 @@ losing-more cs done left old filled rooms now new d r s h paths_are risen tries 
 pub losing-none : (cs ds : List (Elem × Trie)) (rooms : List (Spare × Room)) (ps : List Path) → rises (elements cs) ≡ true → are_filled_tries cs ≡ true → rises (elements ds) ≡ true → are_filled_tries ds ≡ true
     → ((p : Path) → is_one_of (paths_below ds) p ≡ true → is_one_of (paths_below cs) p ≡ true) → loses ds ps rooms ≡ true → IsLosing cs [] ds [] [] rooms cs
 losing-none cs ds rooms ps risen tries left_rise left_tries within form = record {
-  paths_are = λ p. sym (and_true (is_one_of (paths_below cs) p));
+  paths_are = λ p. sym (and-true (is_one_of (paths_below cs) p));
   risen = risen;
   tries = tries;
   len = omega arith;
@@ -148,10 +146,6 @@ losing-none cs ds rooms ps risen tries left_rise left_tries within form = record
   all_rise = left_rise;
   left_tries = left_tries;
 }
-  where
-    and_true : (b : Bool) → (b && true) ≡ b
-    and_true true = refl
-    and_true false = refl
 
 -- ---- in a loop
 
@@ -167,7 +161,7 @@ pub losing-next : (cs ds : List (Elem × Trie)) (rs ns : List (Spare × Room)) (
 losing-next cs ds rs ns now i d r s lt is lt2 is2 lt3 h =
     subst (λ l. IsLosing cs l (drop (i + 1) ds) (take (i + 1) rs) (take (i + 1) (set ns i s)) (drop (i + 1) rs) now) (sym (taken-any ds i d lt is))
     (subst (λ l. IsLosing cs (take i ds ++ d ∷ []) (drop (i + 1) ds) l (take (i + 1) (set ns i s)) (drop (i + 1) rs) now) (sym (taken-any rs i r lt2 is2))
-    (subst (λ l. IsLosing cs (take i ds ++ d ∷ []) (drop (i + 1) ds) (take i rs ++ r ∷ []) l (drop (i + 1) rs) now) (sym (taken-set ns i s lt3)) h))
+    (subst (λ l. IsLosing cs (take i ds ++ d ∷ []) (drop (i + 1) ds) (take i rs ++ r ∷ []) l (drop (i + 1) rs) now) (sym (take_more_set ns i s lt3)) h))
 
 -- what is left over of both lists of rooms is one
 pub same-left : (ns rs : List (Spare × Room)) (i : ℕ) (r : Spare × Room) → drop i ns ≡ drop i rs → i < length ns → r ≡ get_or ns i r → (i < length rs) × (r ≡ get_or rs i r) × (drop (i + 1) ns ≡ drop (i + 1) rs)
@@ -221,7 +215,7 @@ lost-room t x r y h empty fits back k =
 pub start-form : (t : Trie) (ps : List Path) (r : Room) → lose_room t ps r ≡ true → ((out-Room r).children.items ≡ []) × (loses (out-Trie t).below.items ps (out-Room r).below.items ≡ true)
 start-form t ps r h =
     let parts = sym (lose_room-level t ps r) ∙ h in
-    ((roomy (freshes (out-Trie t).below.items ps) (branches ps) r (both_first _ _ parts)).empty, both_second (holds (freshes (out-Trie t).below.items ps) (branches ps) r) _ parts)
+    ((roomy (freshes (out-Trie t).below.items ps) (length (heads ps)) r (both_first _ _ parts)).empty, both_second (holds (freshes (out-Trie t).below.items ps) (length (heads ps)) r) _ parts)
 
 pub start-within : (l s : Trie) → ((p : Path) → is_one_of (paths l) p ≡ true → is_one_of (paths s) p ≡ true) → (p : Path) → is_one_of (paths_below (out-Trie l).below.items) p ≡ true → is_one_of (paths_below (out-Trie s).below.items) p ≡ true
 start-within l s h [] k = absurd (true≢false (sym k ∙ one-below-root (out-Trie l).below.items))

@@ -12,7 +12,8 @@ use Rattle.ssa_path.proofs.Orders.{both_first, both_second}
 use Rattle.ssa_turn_set.specs.declared.room.Room.{Room}
 use Rattle.ssa_turn_set.specs.declared.room.Room.TheViews.{out-Room, roll-Room, out-roll-Room}
 use Rattle.ssa_turn_set.specs.declared.room.Room.TheOpen.{Room-F}
-use Rattle.ssa_turn_set.specs.Room.{tails, fresh, freshes, gain_room, gains}
+use Rattle.ssa_turn_set.specs.Room.{fresh, freshes, gain_room, gains}
+use Rattle.ssa_model.specs.definitions.FieldsV1.{tails}
 use Rattle.ssa_turn_set.proofs.Places.{coming, gain-made, taken-any}
 use Rattle.ssa_turn_set.proofs.Losing.{freshes-more}
 

@@ -1,10 +1,11 @@
 -- One place of a set: what the room says of it, and what is found there.
 use Rattle.std.proofs.Common.{◌≡◌, ℕ, zero, suc, ◌+◌, ◌<◌, ◌≤◌, List, [], ◌∷◌, ◌++◌, length, get_or, set, drop, take, true, false, not, ◌||◌, cond, refl, sym, ap, ◌∙◌, arith, subst, true≢false, length-set, get_or-set_same}
 use Rattle.std.proofs.lemmas.List.{append-nil, drop_all, take_more, take-append-drop, take-set, drop-set-lt, length-drop}
-use Rattle.std.proofs.lemmas.Bool.Decides.{nat_tests}
+use Rattle.std.proofs.lemmas.Bool.{le-leb, leb-true}
 use Rattle.std.specs.Cmp.{tied_itself}
 use Rattle.std.specs.Ordering.{is_eq}
 use Rattle.std.specs.Prelude.{nat_le, vec_capacity}
+use Rattle.ssa_model.specs.definitions.FieldsV1.{heads, tails}
 use Rattle.ssa_model.specs.definitions.Path.{Element, Path, path_cmp_total, same_element}
 use Rattle.ssa_path.specs.declared.element.Elem.{Elem}
 use Rattle.ssa_path.specs.declared.trie.Trie.{Trie}
@@ -19,17 +20,12 @@ use Rattle.ssa_path.proofs.Levels.{paths-level, trie-parts, some-one}
 use Rattle.ssa_turn_set.specs.declared.room.Room.{Room}
 use Rattle.ssa_turn_set.specs.declared.room.Room.TheViews.{out-Room, roll-Room, out-roll-Room}
 use Rattle.ssa_turn_set.specs.declared.room.Room.TheOpen.{Room-F}
-use Rattle.ssa_turn_set.specs.Room.{tails, branches, fresh, freshes, if_any, gain_room, lose_room, gains, loses}
-use Rattle.ssa_turn_set.proofs.Tails.{tails-here, branches-here, branches-below, tails-below, tails-apart, paths_of}
-use Rattle.ssa_turn_set.proofs.Rooms.{holds, gain_room-level, lose_room-level, AreAlike, all-alike, gains-alike, loses-alike, freshes-alike}
+use Rattle.ssa_turn_set.specs.Room.{fresh, freshes, holds, if_any, gain_room, lose_room, gains, loses}
+use Rattle.ssa_turn_set.proofs.Tails.{heads-count, tails-below, tails-apart, paths_of}
+use Rattle.ssa_path.proofs.FieldsLevels.{tails-here}
+use Rattle.ssa_turn_set.proofs.Rooms.{gain_room-level, lose_room-level, AreAlike, all-alike, gains-alike, loses-alike, freshes-alike}
 
 -- ---- what is told of the place's own room
-
-le_true : (a b : ℕ) → nat_le a b ≡ true → a ≤ b
-le_true a b h = grind (arith, nat_tests)
-
-true_le : (a b : ℕ) → a ≤ b → nat_le a b ≡ true
-true_le a b h = grind (arith, nat_tests)
 
 no_items : {A : Type 0} (xs : List A) → not (has_some xs) ≡ true → xs ≡ []
 no_items [] h = refl
@@ -40,11 +36,11 @@ items_none xs e = ap (λ l. not (has_some l)) e
 
 any_fits : (f n c : ℕ) → if_any f (nat_le n c) ≡ true → 0 < f → n ≤ c
 any_fits zero n c h lt = absurd (omega arith)
-any_fits (suc f) n c h lt = le_true n c h
+any_fits (suc f) n c h lt = leb-true n c h
 
 fits_any : (f n c : ℕ) → (0 < f → n ≤ c) → if_any f (nat_le n c) ≡ true
 fits_any zero n c h = refl
-fits_any (suc f) n c h = true_le n c (h (omega arith))
+fits_any (suc f) n c h = le-leb n c (h (omega arith))
 
 -- room for n children, where f come or go
 pub record IsRoomy (f n : ℕ) (r : Room) : Type 0 where
@@ -59,12 +55,12 @@ roomy-holds f n r h = both _ _ (items_none (out-Room r).children.items h.empty) 
 
 -- the paths of a place count as those below it
 pub place-tails : (s : Trie) (e : Element) → tails e (paths s) ≡ tails e (paths_below (out-Trie s).below.items)
-place-tails s e = ap (tails e) (paths-level s) ∙ tails-here (out-Trie s).here e (paths_below (out-Trie s).below.items)
+place-tails s e = ap (tails e) (paths-level s) ∙ tails-here e (out-Trie s).here (paths_below (out-Trie s).below.items)
 
-pub place-branches : (s : Trie) → is_trie s ≡ true → branches (paths s) ≡ length (out-Trie s).below.items
-place-branches s h =
+pub place-heads : (s : Trie) → is_trie s ≡ true → length (heads (paths s)) ≡ length (out-Trie s).below.items
+place-heads s h =
     let parts = trie-parts s _ refl h in
-    ap branches (paths-level s) ∙ branches-here (out-Trie s).here (paths_below (out-Trie s).below.items) ∙ branches-below (out-Trie s).below.items parts.0 parts.1
+    ap (λ ps. length (heads ps)) (paths-level s) ∙ heads-count (out-Trie s).here (out-Trie s).below.items parts.0 parts.1
 
 pub place-alike : (ds : List (Elem × Trie)) (s : Trie) → AreAlike ds (paths s) (paths_below (out-Trie s).below.items)
 place-alike ds s = all-alike ds (paths s) (paths_below (out-Trie s).below.items) (place-tails s)
@@ -76,11 +72,11 @@ coming t s = freshes (out-Trie t).below.items (paths_below (out-Trie s).below.it
 same-coming : (t s : Trie) → freshes (out-Trie t).below.items (paths s) ≡ coming t s
 same-coming t s = freshes-alike (out-Trie t).below.items (paths s) (paths_below (out-Trie s).below.items) (place-alike (out-Trie t).below.items s)
 
-gain-holds : (t s : Trie) (r : Room) → is_trie s ≡ true → holds (freshes (out-Trie t).below.items (paths s)) (branches (paths s) + freshes (out-Trie t).below.items (paths s)) r ≡ holds (coming t s) (length (out-Trie s).below.items + coming t s) r
-gain-holds t s r h = λ i. holds (same-coming t s i) (place-branches s h i + same-coming t s i) r
+gain-holds : (t s : Trie) (r : Room) → is_trie s ≡ true → holds (freshes (out-Trie t).below.items (paths s)) (length (heads (paths s)) + freshes (out-Trie t).below.items (paths s)) r ≡ holds (coming t s) (length (out-Trie s).below.items + coming t s) r
+gain-holds t s r h = λ i. holds (same-coming t s i) (place-heads s h i + same-coming t s i) r
 
-lose-holds : (t s : Trie) (r : Room) → is_trie s ≡ true → holds (freshes (out-Trie t).below.items (paths s)) (branches (paths s)) r ≡ holds (coming t s) (length (out-Trie s).below.items) r
-lose-holds t s r h = λ i. holds (same-coming t s i) (place-branches s h i) r
+lose-holds : (t s : Trie) (r : Room) → is_trie s ≡ true → holds (freshes (out-Trie t).below.items (paths s)) (length (heads (paths s))) r ≡ holds (coming t s) (length (out-Trie s).below.items) r
+lose-holds t s r h = λ i. holds (same-coming t s i) (place-heads s h i) r
 
 pub gain-own : (t s : Trie) (r : Room) → is_trie s ≡ true → gain_room t (paths s) r ≡ true → IsRoomy (coming t s) (length (out-Trie s).below.items + coming t s) r
 gain-own t s r h k = roomy _ _ r (sym (gain-holds t s r h) ∙ both_first _ _ (sym (gain_room-level t (paths s) r) ∙ k))
@@ -88,7 +84,7 @@ gain-own t s r h k = roomy _ _ r (sym (gain-holds t s r h) ∙ both_first _ _ (s
 pub gain-below : (t s : Trie) (r : Room) → gain_room t (paths s) r ≡ true → gains (out-Trie t).below.items (paths_below (out-Trie s).below.items) (out-Room r).below.items ≡ true
 gain-below t s r k =
     let ds = (out-Trie t).below.items in
-    sym (gains-alike ds _ _ _ (place-alike ds s)) ∙ both_second (holds (freshes ds (paths s)) (branches (paths s) + freshes ds (paths s)) r) _ (sym (gain_room-level t (paths s) r) ∙ k)
+    sym (gains-alike ds _ _ _ (place-alike ds s)) ∙ both_second (holds (freshes ds (paths s)) (length (heads (paths s)) + freshes ds (paths s)) r) _ (sym (gain_room-level t (paths s) r) ∙ k)
 
 pub gain-made : (t s : Trie) (r : Room) → is_trie s ≡ true → IsRoomy (coming t s) (length (out-Trie s).below.items + coming t s) r
     → gains (out-Trie t).below.items (paths_below (out-Trie s).below.items) (out-Room r).below.items ≡ true → gain_room t (paths s) r ≡ true
@@ -103,7 +99,7 @@ lose-own t s r h k = roomy _ _ r (sym (lose-holds t s r h) ∙ both_first _ _ (s
 pub lose-below : (t s : Trie) (r : Room) → lose_room t (paths s) r ≡ true → loses (out-Trie t).below.items (paths_below (out-Trie s).below.items) (out-Room r).below.items ≡ true
 lose-below t s r k =
     let ds = (out-Trie t).below.items in
-    sym (loses-alike ds _ _ _ (place-alike ds s)) ∙ both_second (holds (freshes ds (paths s)) (branches (paths s)) r) _ (sym (lose_room-level t (paths s) r) ∙ k)
+    sym (loses-alike ds _ _ _ (place-alike ds s)) ∙ both_second (holds (freshes ds (paths s)) (length (heads (paths s))) r) _ (sym (lose_room-level t (paths s) r) ∙ k)
 
 pub lose-rolled : (t s : Trie) (x : Room-F Room) → is_trie s ≡ true → x.children.items ≡ [] → (0 < coming t s → length (out-Trie s).below.items ≤ vec_capacity x.children) → loses (out-Trie t).below.items (paths_below (out-Trie s).below.items) x.below.items ≡ true → lose_room t (paths s) (roll-Room x) ≡ true
 lose-rolled t s x h empty fits l =
@@ -125,11 +121,6 @@ found-paths e cs i c h lt is same = tails-below e cs h ∙ ap paths_of (child-fo
 pub gap-paths : (e : Element) (cs : List (Elem × Trie)) (i : ℕ) → rises (elements cs) ≡ true → rises (elements (take i cs) ++ e ∷ elements (drop i cs)) ≡ true → tails e (paths_below cs) ≡ []
 gap-paths e cs i h gap = tails-below e cs h ∙ ap paths_of (child-absent e cs i gap)
 
-pub child-filled : (cs : List (Elem × Trie)) (i : ℕ) (c : Elem × Trie) → i < length cs → c ≡ get_or cs i c → are_filled_tries cs ≡ true → is_filled c.1 ≡ true
-child-filled cs i c lt is h =
-    let left : are_filled_tries (c ∷ drop (i + 1) cs) ≡ true = ap are_filled_tries (sym (left-at cs i c lt is)) ∙ filled-drop cs i h in
-    both_second (is_trie c.1) _ (both_first _ _ left)
-
 -- a path of what has some
 pub a_path : (ps : List Path) → has_some ps ≡ true → (p : Path) × (is_one_of ps p ≡ true)
 a_path [] h = absurd (true≢false (sym h))
@@ -142,11 +133,6 @@ filled-more ps qs h k = let one = a_path ps k in some-one qs one.0 (h one.0 one.
 
 pub taken-any : {A : Type 0} (xs : List A) (i : ℕ) (x : A) → i < length xs → x ≡ get_or xs i x → take (i + 1) xs ≡ take i xs ++ x ∷ []
 taken-any xs i x lt is = take_more xs i x lt ∙ ap (λ y. take i xs ++ y ∷ []) (sym is)
-
-pub taken-set : {A : Type 0} (xs : List A) (i : ℕ) (x : A) → i < length xs → take (i + 1) (set xs i x) ≡ take i xs ++ x ∷ []
-taken-set xs i x lt =
-    let long : i < length (set xs i x) = simp length-set lt in
-    taken-any (set xs i x) i x long (sym (get_or-set_same xs i x x lt)) ∙ ap (λ l. l ++ x ∷ []) (take-set xs i x)
 
 pub left-set : {A : Type 0} (xs : List A) (i : ℕ) (x : A) → drop (i + 1) (set xs i x) ≡ drop (i + 1) xs
 left-set xs i x = drop-set-lt (i + 1) xs i x (omega arith)

@@ -1,6 +1,7 @@
 -- The rooms of a set that is put into another or taken out of it.
 use Rattle.std.proofs.Common.{◌≡◌, ℕ, suc, ◌+◌, List, [], ◌∷◌, ◌++◌, length, map, Bool, true, not, ◌&&◌, refl, sym, ap, ◌∙◌, true≢false}
 use Rattle.std.specs.Prelude.{nat_le, vec_capacity}
+use Rattle.ssa_model.specs.definitions.FieldsV1.{heads, tails}
 use Rattle.ssa_model.specs.definitions.Path.{Element, Path}
 use Rattle.ssa_path.specs.declared.element.Elem.{Elem}
 use Rattle.ssa_path.specs.declared.trie.Trie.{Trie}
@@ -12,7 +13,7 @@ use Rattle.ssa_path.proofs.Orders.{both, both_first, both_second}
 use Rattle.ssa_turn_set.specs.declared.room.Room.{Room}
 use Rattle.ssa_turn_set.specs.declared.room.Room.TheViews.{out-Room}
 use Rattle.ssa_turn_set.specs.declared.spare.Spare.{Spare}
-use Rattle.ssa_turn_set.specs.Room.{tails, branches, fresh, freshes, if_any, Need, gain_step, gain_room, lose_step, lose_room, gains, loses, gain_one}
+use Rattle.ssa_turn_set.specs.Room.{fresh, freshes, holds, if_any, Need, gain_step, gain_room, lose_step, lose_room, gains, loses, gain_one}
 
 -- ---- one level
 
@@ -20,19 +21,15 @@ freshes-map : {A B : Type 0} (f : A → B) (ds : List (Elem × A)) (ps : List Pa
 freshes-map f [] ps = refl
 freshes-map f (d ∷ ds) ps = ap (λ n. fresh (tails (element_view d.0) ps) + n) (freshes-map f ds ps)
 
--- the room at a place, its children's left out
-abbrev pub holds : ℕ → ℕ → Room → Bool
-holds f n r = not (has_some {A = Elem × Trie} (out-Room r).children.items) && if_any f (nat_le n (vec_capacity (out-Room r).children))
-
-pub lose_room-level : (t : Trie) (ps : List Path) (r : Room) → lose_room t ps r ≡ (holds (freshes (out-Trie t).below.items ps) (branches ps) r && loses (out-Trie t).below.items ps (out-Room r).below.items)
+pub lose_room-level : (t : Trie) (ps : List Path) (r : Room) → lose_room t ps r ≡ (holds (freshes (out-Trie t).below.items ps) (length (heads ps)) r && loses (out-Trie t).below.items ps (out-Room r).below.items)
 lose_room-level t ps r =
     (λ i. fold_out-Trie Need lose_step t i ps r)
-    ∙ ap (λ n. holds n (branches ps) r && loses (out-Trie t).below.items ps (out-Room r).below.items) (freshes-map lose_room (out-Trie t).below.items ps)
+    ∙ ap (λ n. holds n (length (heads ps)) r && loses (out-Trie t).below.items ps (out-Room r).below.items) (freshes-map lose_room (out-Trie t).below.items ps)
 
-pub gain_room-level : (t : Trie) (ps : List Path) (r : Room) → gain_room t ps r ≡ (holds (freshes (out-Trie t).below.items ps) (branches ps + freshes (out-Trie t).below.items ps) r && gains (out-Trie t).below.items ps (out-Room r).below.items)
+pub gain_room-level : (t : Trie) (ps : List Path) (r : Room) → gain_room t ps r ≡ (holds (freshes (out-Trie t).below.items ps) (length (heads ps) + freshes (out-Trie t).below.items ps) r && gains (out-Trie t).below.items ps (out-Room r).below.items)
 gain_room-level t ps r =
     (λ i. fold_out-Trie Need gain_step t i ps r)
-    ∙ ap (λ n. holds n (branches ps + n) r && gains (out-Trie t).below.items ps (out-Room r).below.items) (freshes-map gain_room (out-Trie t).below.items ps)
+    ∙ ap (λ n. holds n (length (heads ps) + n) r && gains (out-Trie t).below.items ps (out-Room r).below.items) (freshes-map gain_room (out-Trie t).below.items ps)
 
 -- ---- what matters of the paths
 

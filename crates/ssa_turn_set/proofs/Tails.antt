@@ -1,6 +1,7 @@
 -- What is left of paths that begin with an element, in a trie child by child.
-use Rattle.std.proofs.Common.{◌≡◌, ◌+◌, List, [], ◌∷◌, ◌++◌, length, Bool, true, false, cond, Option, Some, None, refl, sym, ap, ◌∙◌, arith, true≢false}
+use Rattle.std.proofs.Common.{◌≡◌, ◌+◌, suc, List, [], ◌∷◌, ◌++◌, length, Bool, true, false, cond, Option, Some, None, refl, sym, ap, ◌∙◌, arith, true≢false}
 use Rattle.std.proofs.lemmas.List.{append-nil}
+use Rattle.ssa_model.specs.definitions.FieldsV1.{heads, tails}
 use Rattle.ssa_model.specs.definitions.Path.{Element, Path, same_element}
 use Rattle.ssa_path.specs.declared.element.Elem.{Elem}
 use Rattle.ssa_path.specs.declared.trie.Trie.{Trie}
@@ -10,18 +11,9 @@ use Rattle.ssa_path.specs.Trie.{here_path, has_some, paths_after, paths_below, p
 use Rattle.ssa_path.proofs.Orders.{both_first, both_second, same_element-itself, not_tied}
 use Rattle.ssa_path.proofs.Searching.{absent-below}
 use Rattle.ssa_path.proofs.Lists.{paths_below-append}
-use Rattle.ssa_turn_set.specs.Room.{tails, starts, branches}
+use Rattle.ssa_path.proofs.FieldsLevels.{heads-below, heads-here, tails-append}
 
--- ---- one after another
-
-chosen : {A : Type 0} (b : Bool) (x : A) (xs ys : List A) → cond b (x ∷ (xs ++ ys)) (xs ++ ys) ≡ cond b (x ∷ xs) xs ++ ys
-chosen true x xs ys = refl
-chosen false x xs ys = refl
-
-pub tails-append : (e : Element) (ps qs : List Path) → tails e (ps ++ qs) ≡ tails e ps ++ tails e qs
-tails-append e [] qs = refl
-tails-append e ([] ∷ ps) qs = tails-append e ps qs
-tails-append e ((f ∷ p) ∷ ps) qs = ap (λ l. cond (same_element e f) (p ∷ l) l) (tails-append e ps qs) ∙ chosen (same_element e f) p (tails e ps) (tails e qs)
+-- ---- the paths of a child
 
 pub tails-after : (e f : Element) (ps : List Path) → tails e (paths_after f ps) ≡ cond (same_element e f) ps []
 tails-after e f ps = after (same_element e f) refl ps
@@ -31,14 +23,6 @@ tails-after e f ps = after (same_element e f) refl ps
     after true s (p ∷ ps) = (λ i. cond (s i) (p ∷ after true s ps i) (after true s ps i)) ∙ ap (λ b. p ∷ cond b ps []) s ∙ sym (ap (λ b. cond b (p ∷ ps) []) s)
     after false s [] = sym (ap (λ (b : Bool). cond b [] []) s)
     after false s (p ∷ ps) = (λ i. cond (s i) (p ∷ after false s ps i) (after false s ps i)) ∙ ap (λ b. cond b ps []) s ∙ sym (ap (λ b. cond b (p ∷ ps) []) s)
-
-pub tails-here : (b : Bool) (e : Element) (ps : List Path) → tails e (here_path b ++ ps) ≡ tails e ps
-tails-here true e ps = refl
-tails-here false e ps = refl
-
-pub branches-here : (b : Bool) (ps : List Path) → branches (here_path b ++ ps) ≡ branches ps
-branches-here true ps = refl
-branches-here false ps = refl
 
 -- ---- child by child
 
@@ -68,28 +52,9 @@ tails-apart e front left d c apart =
 
 -- ---- how many children
 
-one_start : (e : Element) (p : Path) (ps : List Path) (rest : List Path) → starts e (paths_after e (p ∷ ps) ++ rest) ≡ true
-one_start e p ps rest = same_element-itself e
+elements-count : {A : Type 0} (cs : List (Elem × A)) → length (elements cs) ≡ length cs
+elements-count [] = refl
+elements-count (c ∷ cs) = ap suc (elements-count cs)
 
-branch-after : (e : Element) (p : Path) (ps rest : List Path) → starts e rest ≡ false → branches (paths_after e (p ∷ ps) ++ rest) ≡ 1 + branches rest
-branch-after e p [] rest none = ap (λ b. cond b (branches rest) (1 + branches rest)) none
-branch-after e p (q ∷ ps) rest none = ap (λ b. cond b (branches (paths_after e (q ∷ ps) ++ rest)) (1 + branches (paths_after e (q ∷ ps) ++ rest))) (one_start e q ps rest) ∙ branch-after e q ps rest none
-
-starts-some : (e f : Element) (ps : List Path) (rest : List Path) → has_some ps ≡ true → starts e (paths_after f ps ++ rest) ≡ same_element e f
-starts-some e f [] rest h = absurd (true≢false (sym h))
-starts-some e f (p ∷ ps) rest h = refl
-
-starts-below : (e : Element) (cs : List (Elem × Trie)) → is_below e (elements cs) ≡ true → are_filled_tries cs ≡ true → starts e (paths_below cs) ≡ false
-starts-below e [] h f = refl
-starts-below e (c ∷ cs) h f =
-    starts-some e (element_view c.0) (paths c.1) (paths_below cs) (both_second (is_trie c.1) _ (both_first _ _ f)) ∙ not_tied _ (both_first _ _ h)
-
-branch-some : (e : Element) (ps rest : List Path) → has_some ps ≡ true → starts e rest ≡ false → branches (paths_after e ps ++ rest) ≡ 1 + branches rest
-branch-some e [] rest h none = absurd (true≢false (sym h))
-branch-some e (p ∷ ps) rest h none = branch-after e p ps rest none
-
-pub branches-below : (cs : List (Elem × Trie)) → rises (elements cs) ≡ true → are_filled_tries cs ≡ true → branches (paths_below cs) ≡ length cs
-branches-below [] h f = refl
-branches-below (c ∷ cs) h f =
-    branch-some (element_view c.0) (paths c.1) (paths_below cs) (both_second (is_trie c.1) _ (both_first _ _ f)) (starts-below (element_view c.0) cs (both_first _ _ h) (both_second _ _ f))
-    ∙ ap (λ n. 1 + n) (branches-below cs (both_second _ _ h) (both_second _ _ f)) ∙ omega arith
+pub heads-count : (b : Bool) (cs : List (Elem × Trie)) → rises (elements cs) ≡ true → are_filled_tries cs ≡ true → length (heads (here_path b ++ paths_below cs)) ≡ length cs
+heads-count b cs h f = ap length (heads-here b (paths_below cs) ∙ heads-below cs h f) ∙ elements-count cs

@@ -1,5 +1,6 @@
 -- One child of a set whose paths are taken out: it stays with fewer paths, or goes where it has none left.
 use Rattle.std.proofs.Common.{◌≡◌, ℕ, ◌+◌, ◌<◌, List, [], ◌∷◌, ◌++◌, length, get_or, set, drop, take, Bool, true, false, not, ◌&&◌, ◌||◌, cond, Some, None, Greater, refl, sym, ap, ◌∙◌, arith, length-set, get_or-set_same}
+use Rattle.std.proofs.Math.Bool.{and-true}
 use Rattle.std.proofs.lemmas.List.{take-set, drop-set-lt}
 use Rattle.std.specs.Ordering.{is_lt, is_eq, ordering_reverse}
 use Rattle.ssa_model.specs.definitions.Path.{Element, Path, same_element, element_cmp, same_path}
@@ -13,7 +14,7 @@ use Rattle.ssa_path.proofs.Orders.{both_first, both_second, same_element-true, e
 use Rattle.ssa_path.proofs.Searching.{absent-below, apart-before, below-middle, child-found, child-absent}
 use Rattle.ssa_path.proofs.Lists.{parted, parted-set, elements-append, one-between, filled-between, filled-without}
 use Rattle.ssa_path.proofs.Levels.{same_path-reading, any-after, any-below, found, one-below-root}
-use Rattle.ssa_turn_set.specs.Room.{tails}
+use Rattle.ssa_model.specs.definitions.FieldsV1.{tails}
 use Rattle.ssa_turn_set.proofs.Tails.{tails-below, tails-apart, paths_of}
 use Rattle.ssa_turn_set.proofs.Losing.{rises-without}
 
@@ -44,10 +45,6 @@ elsewhere : (e : Element) (p : Path) (front left : List (Elem × Trie)) (c : Ele
 elsewhere e p front left c s =
     one-between front left c (e ∷ p) ∙ ap (λ b. b || is_one_of (paths_below (front ++ left)) (e ∷ p)) (any-after same_path same_path-reading e (element_view c.0) (paths c.1) p ∙ ap (λ b. b && is_one_of (paths c.1) p) s)
 
-kept : (x : Bool) → (x && true) ≡ x
-kept true = refl
-kept false = refl
-
 module _ (cs : List (Elem × Trie)) (i : ℕ) (f : Element) (t : Trie) (c : Elem × Trie) (rise : rises (elements cs) ≡ true) (lt : i < length cs) (is : c ≡ get_or cs i c) (tie : same_element f (element_view c.0) ≡ true) where
   same_f : f ≡ element_view c.0
   same_f = same_element-true f (element_view c.0) tie
@@ -70,7 +67,7 @@ module _ (cs : List (Elem × Trie)) (i : ℕ) (f : Element) (t : Trie) (c : Elem
           ∙ (λ j. sym (found-one e cs i c p rise lt is s) j && not (sym (gone e p true s) j))
       told false s =
           ap (λ l. is_one_of (paths_below l) (e ∷ p)) (parted-set cs i (c.0, m) lt) ∙ elsewhere e p (take i cs) (drop (i + 1) cs) (c.0, m) s
-          ∙ sym (kept _)
+          ∙ sym (and-true _)
           ∙ (λ j. sym (before-elsewhere e p s) j && not (sym (gone e p false s) j))
 
   without-rises : rises (elements (take i cs ++ drop (i + 1) cs)) ≡ true
@@ -88,7 +85,7 @@ module _ (cs : List (Elem × Trie)) (i : ℕ) (f : Element) (t : Trie) (c : Elem
           any-below same_path same_path-reading e (take i cs ++ drop (i + 1) cs) p without-rises ∙ ap (λ x. found same_path x p) absent
           ∙ sym (none p)
           ∙ (λ j. sym (found-one e cs i c p rise lt is s) j && not (sym (gone e p true s) j))
-      told false s = sym (kept _) ∙ (λ j. sym (before-elsewhere e p s) j && not (sym (gone e p false s) j))
+      told false s = sym (and-true _) ∙ (λ j. sym (before-elsewhere e p s) j && not (sym (gone e p false s) j))
 
   pub goes-tails : tails f (paths_below (take i cs ++ drop (i + 1) cs)) ≡ []
   goes-tails = tails-below f (take i cs ++ drop (i + 1) cs) without-rises ∙ ap paths_of (absent-without f (take i cs) (drop (i + 1) cs) c (ap (λ l. rises (elements l)) (sym (parted cs i c lt is)) ∙ rise) tie)

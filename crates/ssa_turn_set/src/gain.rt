@@ -1,12 +1,13 @@
-// A set of paths put into another, in the room for it.
+//! A set of paths put into another, in the room for it.
 ghost use Rattle.std.specs.Prelude.{◌≡◌, ◌≤◌, ◌+◌, ◌||◌, true, false, length, vec_capacity};
 ghost use Rattle.ssa_model.specs.definitions.Path.{Element, Path, same_element};
+ghost use Rattle.ssa_model.specs.definitions.FieldsV1.{tails};
 ghost use Rattle.ssa_path.specs.Children.{elements, rises};
 ghost use Rattle.ssa_path.specs.View.{element_view};
 ghost use Rattle.ssa_path.specs.Trie.{is_one_of, paths, paths_below, is_trie, is_filled, are_filled_tries, IsGathered};
-ghost use Rattle.ssa_turn_set.specs.Room.{tails, fresh, gain_one, gain_room, lose_room};
+ghost use Rattle.ssa_turn_set.specs.Room.{below_child, fresh, gain_one, gain_room, lose_room};
 
-use crate::exchange::exchange_where_fits;
+use crate::filling::exchange_where_fits;
 use crate::room::Room;
 use crate::spare::{Spare, fill};
 use ssa_path::children::search;
@@ -46,13 +47,13 @@ fn gain_child(gained: &(Elem, Trie), below: &mut Vec<(Elem, Trie)>, room: &mut (
     requires tries { are_filled_tries below.old.items ≡ true }
     requires gained { is_trie gained.now.1 ≡ true }
     requires filled { is_filled gained.now.1 ≡ true }
-    requires fits { length below.old.items + fresh (tails (element_view gained.now.0) (paths_below below.old.items)) ≤ vec_capacity below.old }
-    requires room { gain_one gained.now (tails (element_view gained.now.0) (paths_below below.old.items)) room.old ≡ true }
+    requires fits { length below.old.items + fresh (below_child gained.now (paths_below below.old.items)) ≤ vec_capacity below.old }
+    requires room { gain_one gained.now (below_child gained.now (paths_below below.old.items)) room.old ≡ true }
     ensures gathered { IsGathered below.old.items (element_view gained.now.0) gained.now.1 below.new.items }
     ensures apart { (e : Element) → same_element e (element_view gained.now.0) ≡ false → tails e (paths_below below.new.items) ≡ tails e (paths_below below.old.items) }
-    ensures len { length below.new.items ≡ length below.old.items + fresh (tails (element_view gained.now.0) (paths_below below.old.items)) }
+    ensures len { length below.new.items ≡ length below.old.items + fresh (below_child gained.now (paths_below below.old.items)) }
     ensures capacity { vec_capacity below.new ≡ vec_capacity below.old }
-    ensures room { lose_room gained.now.1 (tails (element_view gained.now.0) (paths_below below.old.items)) room.new.1 ≡ true }
+    ensures room { lose_room gained.now.1 (below_child gained.now (paths_below below.old.items)) room.new.1 ≡ true }
 {
     match search(below, &gained.0) {
         Ok(i) => {

@@ -1,12 +1,13 @@
-// A set of paths taken out of another, its places made room for the way back.
+//! A set of paths taken out of another, its places made room for the way back.
 ghost use Rattle.std.specs.Prelude.{◌≡◌, ◌+◌, ◌&&◌, ◌∷◌, List, not, true, false, length, vec_capacity};
 ghost use Rattle.ssa_model.specs.definitions.Path.{Element, Path, same_element};
+ghost use Rattle.ssa_model.specs.definitions.FieldsV1.{tails};
 ghost use Rattle.ssa_path.specs.Children.{elements, rises};
 ghost use Rattle.ssa_path.specs.View.{element_view};
 ghost use Rattle.ssa_path.specs.Trie.{is_one_of, paths, paths_after, paths_below, is_trie, is_filled, are_filled_tries};
-ghost use Rattle.ssa_turn_set.specs.Room.{tails, fresh, gain_one, gain_room, lose_room};
+ghost use Rattle.ssa_turn_set.specs.Room.{below_child, fresh, gain_one, gain_room, lose_room};
 
-use crate::exchange::exchange_where_fits;
+use crate::filling::exchange_where_fits;
 use crate::room::Room;
 use crate::spare::{Spare, empty_element};
 use ssa_path::children::search;
@@ -53,10 +54,10 @@ fn lose_child(lost: &(Elem, Trie), below: &mut Vec<(Elem, Trie)>, room: &mut (Sp
     ensures rise { rises (elements below.new.items) ≡ true }
     ensures tries { are_filled_tries below.new.items ≡ true }
     ensures apart { (e : Element) → same_element e (element_view lost.now.0) ≡ false → tails e (paths_below below.new.items) ≡ tails e (paths_below below.old.items) }
-    ensures len { length below.new.items + fresh (tails (element_view lost.now.0) (paths_below below.new.items)) ≡ length below.old.items }
+    ensures len { length below.new.items + fresh (below_child lost.now (paths_below below.new.items)) ≡ length below.old.items }
     ensures capacity { vec_capacity below.new ≡ vec_capacity below.old }
-    ensures room { lose_room lost.now.1 (tails (element_view lost.now.0) (paths_below below.new.items)) room.old.1 ≡ true
-        → gain_one lost.now (tails (element_view lost.now.0) (paths_below below.new.items)) room.new ≡ true }
+    ensures room { lose_room lost.now.1 (below_child lost.now (paths_below below.new.items)) room.old.1 ≡ true
+        → gain_one lost.now (below_child lost.now (paths_below below.new.items)) room.new ≡ true }
 {
     let Ok(i) = search(below, &lost.0) else {
         unreachable!()

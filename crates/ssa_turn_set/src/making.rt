@@ -1,9 +1,9 @@
-// The record between two sets, with its room.
+//! The record between two sets, with its room.
 ghost use Rattle.std.specs.Prelude.{◌≡◌, ◌≤◌, ◌<◌, [], true, length, vec_capacity, IfOk};
 ghost use Rattle.ssa_path.specs.View.{element_view};
 ghost use Rattle.ssa_path.specs.Children.{elements, rises};
 ghost use Rattle.ssa_path.specs.Trie.{is_trie, paths, paths_below, are_filled_tries};
-ghost use Rattle.ssa_turn_set.specs.Room.{fresh, freshes, gain_one, gain_room, lose_room, tails};
+ghost use Rattle.ssa_turn_set.specs.Room.{below_child, fresh, freshes, gain_one, gain_room, lose_room};
 ghost use Rattle.ssa_turn_set.specs.Spare.{fits, fits_text};
 ghost use Rattle.ssa_turn_set.specs.Turn.{IsBetween};
 
@@ -26,8 +26,8 @@ fn make_text(alloc: Global, text: &str) -> Result<Spare, AllocError>
     Ok(Spare::Text(room))
 }
 
-/// Room for a copy of the element.
-pub fn make_spare(alloc: Global, element: &Elem) -> Result<Spare, AllocError>
+// Room for a copy of the element.
+fn make_spare(alloc: Global, element: &Elem) -> Result<Spare, AllocError>
     ensures { IfOk result (λ s. fits (element_view element.now) s ≡ true) }
 {
     match element {
@@ -46,7 +46,7 @@ pub fn make_spare(alloc: Global, element: &Elem) -> Result<Spare, AllocError>
 fn count_one(child: &(Elem, Trie), without: &[(Elem, Trie)]) -> usize
     requires rise { rises (elements without.now) ≡ true }
     requires tries { are_filled_tries without.now ≡ true }
-    ensures one { result ≡ fresh (tails (element_view child.now.0) (paths_below without.now)) }
+    ensures one { result ≡ fresh (below_child child.now (paths_below without.now)) }
     ensures most { result ≤ 1 }
 {
     match find_child(without, &child.0) {
@@ -105,7 +105,7 @@ fn make_child_gain_room(
     requires gained { is_trie gained.now.1 ≡ true }
     requires rise { rises (elements without.now) ≡ true }
     requires tries { are_filled_tries without.now ≡ true }
-    ensures { IfOk result (λ r. gain_one gained.now (tails (element_view gained.now.0) (paths_below without.now)) r ≡ true) }
+    ensures { IfOk result (λ r. gain_one gained.now (below_child gained.now (paths_below without.now)) r ≡ true) }
 {
     match find_child(without, &gained.0) {
         Some(place) => {
@@ -149,7 +149,7 @@ fn make_child_lose_room(
     requires lost { is_trie lost.now.1 ≡ true }
     requires rise { rises (elements without.now) ≡ true }
     requires tries { are_filled_tries without.now ≡ true }
-    ensures { IfOk result (λ r. lose_room lost.now.1 (tails (element_view lost.now.0) (paths_below without.now)) r.1 ≡ true) }
+    ensures { IfOk result (λ r. lose_room lost.now.1 (below_child lost.now (paths_below without.now)) r.1 ≡ true) }
 {
     match find_child(without, &lost.0) {
         Some(place) => {
@@ -168,6 +168,8 @@ fn make_child_lose_room(
 }
 
 /// The record that leads from one set to another, with room for every turn of it.
+///
+/// All memory that its turns want is taken here; `Err` comes where it is refused.
 pub fn between(alloc: Global, from: &FieldSet, to: &FieldSet) -> Result<SetDelta, AllocError>
     ensures { IfOk result (λ d. IsBetween from.now to.now d) }
 {

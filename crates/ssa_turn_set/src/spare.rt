@@ -1,11 +1,11 @@
-// What is left of an element of a set when its place is taken out.
+//! The room for one element: its texts, emptied when its place goes, filled when it comes.
 ghost use Rattle.std.specs.Prelude.{◌≡◌, true, string_bytes};
 ghost use Rattle.ssa_json.specs.View.{scalar_view};
 ghost use Rattle.ssa_path.specs.Keys.{members_view};
 ghost use Rattle.ssa_path.specs.View.{element_view};
 ghost use Rattle.ssa_turn_set.specs.Spare.{fits, fits_text, fits_keys, holds_members, holds_scalar};
 
-use crate::exchange::copy_text;
+use crate::filling::copy_text;
 use ssa_json::value::Scalar;
 use ssa_path::element::Elem;
 use ssa_path::keys::Keys;
@@ -84,8 +84,8 @@ fn fill_keys(keys: &Keys, spare: Spare) -> Keys
     }
 }
 
-/// A copy of the element, made in the room for it. Takes no memory.
-pub fn fill(element: &Elem, spare: &mut Spare) -> Elem
+// A copy of the element, made in the room for it. Takes no memory.
+pub(crate) fn fill(element: &Elem, spare: &mut Spare) -> Elem
     requires { fits (element_view element.now) spare.old ≡ true }
     ensures { element_view result ≡ element_view element.now }
 {
@@ -122,8 +122,8 @@ fn empty_scalar(scalar: &mut Scalar)
     }
 }
 
-/// Makes the members room for themselves.
-pub fn empty_members(members: &mut [(String, Scalar)])
+// Makes the members room for themselves.
+fn empty_members(members: &mut [(String, Scalar)])
     ensures { holds_members (members_view members.old) members.new ≡ true }
 {
     let Some((first, others)) = members.split_first_mut() else {
@@ -135,7 +135,7 @@ pub fn empty_members(members: &mut [(String, Scalar)])
 }
 
 // The key fields as room for themselves.
-pub fn emptied_keys(keys: Keys) -> Spare
+pub(crate) fn emptied_keys(keys: Keys) -> Spare
     ensures { fits_keys keys result ≡ true }
 {
     let mut rooms = keys.into_members();
@@ -143,8 +143,8 @@ pub fn emptied_keys(keys: Keys) -> Spare
     Spare::Keys(rooms)
 }
 
-/// The element as room for itself. Takes no memory.
-pub fn empty_element(element: Elem) -> Spare
+// The element as room for itself. Takes no memory.
+pub(crate) fn empty_element(element: Elem) -> Spare
     ensures { fits (element_view element) result ≡ true }
 {
     match element {

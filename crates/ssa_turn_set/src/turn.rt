@@ -1,4 +1,4 @@
-// A set of paths and the record of what it gains and loses, turned in place.
+//! A set of paths and the record of what it gains and loses, turned in place.
 ghost use Rattle.std.specs.Prelude.{◌≡◌, true};
 ghost use Rattle.ssa_model.specs.definitions.PathMap.{listed};
 ghost use Rattle.ssa_path.specs.Trie.{is_trie, paths};
@@ -10,14 +10,15 @@ use crate::room::Room;
 use ssa_path::trie::Trie;
 use std::mem;
 
-/// The room for the paths gained and for those lost, all of it empty.
+/// The room for the paths that are gained and for those that are lost, all of it empty.
 #[derive(Drop)]
 pub struct SetRoom {
     pub gain: Room,
     pub lose: Room,
 }
 
-/// The paths that a set gains and loses.
+/// A record of a field set: the paths that it gains and those that it loses, with the room for a
+/// turn, which serves the way back as well.
 #[derive(Drop)]
 pub struct SetDelta {
     pub gain: Trie,
@@ -25,7 +26,7 @@ pub struct SetDelta {
     pub room: SetRoom,
 }
 
-/// Changes the set as the record says and leaves the record of the way back. Takes no memory.
+/// Changes the set as the record says, and leaves the record that leads back. Takes no memory.
 pub fn turn_set(set: &mut Trie, delta: &mut SetDelta)
     requires set { is_trie set.old ≡ true }
     requires gain { is_trie delta.old.gain ≡ true }

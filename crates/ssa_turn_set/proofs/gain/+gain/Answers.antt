@@ -13,8 +13,10 @@ use Rattle.ssa_path.proofs.Levels.{trie-parts, paths-made, is_trie-made}
 use Rattle.ssa_path.proofs.Lists.{child-trie, parted, parted-set}
 use Rattle.ssa_path.proofs.Inserting.{gathered-at}
 use Rattle.ssa_turn_set.specs.Spare.{fits}
-use Rattle.ssa_turn_set.specs.Room.{tails, fresh, gain_room, lose_room}
-use Rattle.ssa_turn_set.proofs.Places.{coming, enough-after, gain-own, gain-below, lose-rolled, found-paths, gap-paths, child-filled, filled-more, fresh-filled, length-between, set-apart, between-apart}
+use Rattle.ssa_turn_set.specs.Room.{fresh, gain_room, lose_room}
+use Rattle.ssa_model.specs.definitions.FieldsV1.{tails}
+use Rattle.ssa_path.proofs.FieldsMembers.{child-filled}
+use Rattle.ssa_turn_set.proofs.Places.{coming, enough-after, gain-own, gain-below, lose-rolled, found-paths, gap-paths, filled-more, fresh-filled, length-between, set-apart, between-apart}
 use Rattle.ssa_turn_set.proofs.Gaining.{gaining-none, gaining-at, gaining-within, gaining-more, gaining-fits, gaining-next, gaining-all, gained-place, gathered-child, gathered-alike}
 use Rattle.ssa_turn_set.proofs.gain.+gain.Goals.{gain-then-gained, gain-else-gained}
 use Rattle.ssa_turn_set.proofs.gain.+gain.Goals as goal

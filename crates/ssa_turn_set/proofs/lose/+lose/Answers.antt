@@ -11,7 +11,8 @@ use Rattle.ssa_path.proofs.Orders.{both, both_first, both_second, same_element-t
 use Rattle.ssa_path.proofs.Levels.{trie-parts, is_trie-made, some-none}
 use Rattle.ssa_path.proofs.Lists.{child-trie}
 use Rattle.ssa_turn_set.specs.Spare.{fits}
-use Rattle.ssa_turn_set.specs.Room.{tails, fresh, gain_room, lose_room, gain_one}
+use Rattle.ssa_turn_set.specs.Room.{fresh, gain_room, lose_room, gain_one}
+use Rattle.ssa_model.specs.definitions.FieldsV1.{tails}
 use Rattle.ssa_turn_set.proofs.Places.{found-paths, fresh-filled, set-apart, left-set, a_path}
 use Rattle.ssa_turn_set.proofs.Losing.{losing-none, losing-at, losing-within, losing-more, losing-next, losing-all, same-left, lost-place, lost-room, start-form, start-within, step-within, same-length}
 use Rattle.ssa_turn_set.proofs.Taking.{found-one, set-rises, set-tries, child-stays, child-goes, goes-tails, goes-apart, goes-rises, goes-tries, without-set, gap-none}

@@ -10,7 +10,8 @@ use Rattle.ssa_path.proofs.Levels.{trie-parts, paths-made}
 use Rattle.ssa_path.proofs.Lists.{child-trie}
 use Rattle.ssa_turn_set.specs.Spare.{fits}
 use Rattle.ssa_turn_set.specs.declared.spare.Spare.TheVariants as spare
-use Rattle.ssa_turn_set.specs.Room.{freshes, gains, gain_one, gain_room, tails}
+use Rattle.ssa_turn_set.specs.Room.{freshes, gains, gain_one, gain_room}
+use Rattle.ssa_model.specs.definitions.FieldsV1.{tails}
 use Rattle.ssa_turn_set.proofs.Tails.{tails-below, paths_of}
 use Rattle.ssa_turn_set.proofs.Rooms.{gains-more}
 use Rattle.ssa_turn_set.proofs.Places.{coming, taken-any}

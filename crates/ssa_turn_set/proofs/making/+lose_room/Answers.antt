@@ -8,7 +8,8 @@ use Rattle.ssa_path.specs.Trie.{paths_below}
 use Rattle.ssa_path.proofs.Orders.{both_first}
 use Rattle.ssa_path.proofs.Levels.{trie-parts, paths-made}
 use Rattle.ssa_path.proofs.Lists.{child-trie}
-use Rattle.ssa_turn_set.specs.Room.{freshes, loses, lose_room, tails}
+use Rattle.ssa_turn_set.specs.Room.{freshes, loses, lose_room}
+use Rattle.ssa_model.specs.definitions.FieldsV1.{tails}
 use Rattle.ssa_turn_set.proofs.Tails.{tails-below, paths_of}
 use Rattle.ssa_turn_set.proofs.Rooms.{loses-more}
 use Rattle.ssa_turn_set.proofs.Places.{coming, taken-any, lose-rolled}

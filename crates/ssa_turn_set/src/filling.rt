@@ -1,10 +1,10 @@
-// Vectors and texts filled within their room.
+//! Vectors and texts filled within their room.
 ghost use Rattle.std.specs.Prelude.{◌≡◌, ◌≤◌, [], length, vec_len, vec_capacity, string_bytes, string_capacity};
 
 use ssa_reverse::room::exchange;
 
-/// Copies a text into an empty one that has room for it.
-pub fn copy_text(room: &mut String, text: &str)
+// Copies a text into an empty one that has room for it.
+pub(crate) fn copy_text(room: &mut String, text: &str)
     requires empty { string_bytes room.old ≡ [] }
     requires fits { length text.now ≤ string_capacity room.old }
     ensures text { string_bytes room.new ≡ text.now }
@@ -16,8 +16,8 @@ pub fn copy_text(room: &mut String, text: &str)
     }
 }
 
-/// Exchanges the vectors where the empty one has room for all elements.
-pub fn exchange_where_fits<X: Drop>(items: &mut Vec<X>, room: &mut Vec<X>)
+// Exchanges the vectors where the empty one has room for all elements, and else does nothing.
+pub(crate) fn exchange_where_fits<X: Drop>(items: &mut Vec<X>, room: &mut Vec<X>)
     requires empty { room.old.items ≡ [] }
     ensures items { items.new.items ≡ items.old.items }
     ensures empty { room.new.items ≡ [] }

@@ -2,7 +2,7 @@ use Rattle.std.proofs.Common.{◌≡◌, ap, sym, ◌∙◌, subst}
 use Rattle.ssa_model.specs.definitions.PathMap.{listed}
 use Rattle.ssa_path.specs.Trie.{paths}
 use Rattle.ssa_turn_set.specs.Turn.{IsLed, set_steps, set_target, set_back, led_back}
-use Rattle.ssa_turn_set.proofs.reversible.turn_field_set.Goals as goal
+use Rattle.ssa_turn_set.proofs.live_set.turn_field_set.Goals as goal
 
 pub returns-clause-back : goal.returns-clause-back
 returns-clause-back c =
