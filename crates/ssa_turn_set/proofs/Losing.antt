@@ -3,10 +3,9 @@ use Rattle.std.proofs.Common.{◌≡◌, ℕ, zero, suc, ◌+◌, ◌<◌, ◌�
 use Rattle.std.proofs.Math.Bool.{and-true}
 use Rattle.std.proofs.lemmas.List.{take_all, take_more_set}
 use Rattle.std.proofs.lemmas.List.Folds.{list_any-append}
-use Rattle.std.specs.Ordering.{is_lt}
 use Rattle.std.specs.Prelude.{vec_capacity}
 use Rattle.ssa_model.specs.definitions.FieldsV1.{heads, tails}
-use Rattle.ssa_model.specs.definitions.Path.{Element, Path, same_element, element_cmp, same_path}
+use Rattle.ssa_model.specs.definitions.Path.{Element, Path, same_element, same_path}
 use Rattle.ssa_path.specs.declared.element.Elem.{Elem}
 use Rattle.ssa_path.specs.declared.trie.Trie.{Trie}
 use Rattle.ssa_path.specs.declared.trie.Trie.TheViews.{out-Trie, roll-Trie, out-roll-Trie}

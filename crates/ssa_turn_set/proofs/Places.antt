@@ -1,6 +1,6 @@
 -- One place of a set: what the room says of it, and what is found there.
-use Rattle.std.proofs.Common.{◌≡◌, ℕ, zero, suc, ◌+◌, ◌<◌, ◌≤◌, List, [], ◌∷◌, ◌++◌, length, get_or, set, drop, take, true, false, not, ◌||◌, cond, refl, sym, ap, ◌∙◌, arith, subst, true≢false, length-set, get_or-set_same}
-use Rattle.std.proofs.lemmas.List.{append-nil, drop_all, take_more, take-append-drop, take-set, drop-set-lt, length-drop}
+use Rattle.std.proofs.Common.{◌≡◌, ℕ, zero, suc, ◌+◌, ◌<◌, ◌≤◌, List, [], ◌∷◌, ◌++◌, length, get_or, set, drop, take, true, false, not, ◌||◌, cond, refl, sym, ap, ◌∙◌, arith, subst, true≢false}
+use Rattle.std.proofs.lemmas.List.{append-nil, drop_all, take_more, take-append-drop, drop-set-lt, length-drop}
 use Rattle.std.proofs.lemmas.Bool.{le-leb, leb-true}
 use Rattle.std.specs.Cmp.{tied_itself}
 use Rattle.std.specs.Ordering.{is_eq}
@@ -12,10 +12,10 @@ use Rattle.ssa_path.specs.declared.trie.Trie.{Trie}
 use Rattle.ssa_path.specs.declared.trie.Trie.TheViews.{out-Trie}
 use Rattle.ssa_path.specs.Children.{elements, rises}
 use Rattle.ssa_path.specs.View.{element_view}
-use Rattle.ssa_path.specs.Trie.{has_some, is_one_of, paths_below, paths, is_trie, is_filled, are_filled_tries}
+use Rattle.ssa_path.specs.Trie.{has_some, is_one_of, paths_below, paths, is_trie}
 use Rattle.ssa_path.proofs.Orders.{both, both_first, both_second, same_element-true}
 use Rattle.ssa_path.proofs.Searching.{child-found, child-absent}
-use Rattle.ssa_path.proofs.Lists.{left-at, filled-drop, parted, parted-set}
+use Rattle.ssa_path.proofs.Lists.{parted, parted-set}
 use Rattle.ssa_path.proofs.Levels.{paths-level, trie-parts, some-one}
 use Rattle.ssa_turn_set.specs.declared.room.Room.{Room}
 use Rattle.ssa_turn_set.specs.declared.room.Room.TheViews.{out-Room, roll-Room, out-roll-Room}

@@ -1,6 +1,5 @@
 -- The rooms of a set that is put into another or taken out of it.
-use Rattle.std.proofs.Common.{◌≡◌, ℕ, suc, ◌+◌, List, [], ◌∷◌, ◌++◌, length, map, Bool, true, not, ◌&&◌, refl, sym, ap, ◌∙◌, true≢false}
-use Rattle.std.specs.Prelude.{nat_le, vec_capacity}
+use Rattle.std.proofs.Common.{◌≡◌, suc, ◌+◌, List, [], ◌∷◌, ◌++◌, length, map, true, ◌&&◌, refl, sym, ap, ◌∙◌, true≢false}
 use Rattle.ssa_model.specs.definitions.FieldsV1.{heads, tails}
 use Rattle.ssa_model.specs.definitions.Path.{Element, Path}
 use Rattle.ssa_path.specs.declared.element.Elem.{Elem}
@@ -8,12 +7,11 @@ use Rattle.ssa_path.specs.declared.trie.Trie.{Trie}
 use Rattle.ssa_path.specs.declared.trie.Trie.TheViews.{out-Trie}
 use Rattle.ssa_path.specs.declared.trie.Trie.TheFolds.{fold_out-Trie}
 use Rattle.ssa_path.specs.View.{element_view}
-use Rattle.ssa_path.specs.Trie.{has_some}
 use Rattle.ssa_path.proofs.Orders.{both, both_first, both_second}
 use Rattle.ssa_turn_set.specs.declared.room.Room.{Room}
 use Rattle.ssa_turn_set.specs.declared.room.Room.TheViews.{out-Room}
 use Rattle.ssa_turn_set.specs.declared.spare.Spare.{Spare}
-use Rattle.ssa_turn_set.specs.Room.{fresh, freshes, holds, if_any, Need, gain_step, gain_room, lose_step, lose_room, gains, loses, gain_one}
+use Rattle.ssa_turn_set.specs.Room.{fresh, freshes, holds, Need, gain_step, gain_room, lose_step, lose_room, gains, loses, gain_one}
 
 -- ---- one level
 

@@ -1,14 +1,14 @@
 -- What is left of paths that begin with an element, in a trie child by child.
-use Rattle.std.proofs.Common.{◌≡◌, ◌+◌, suc, List, [], ◌∷◌, ◌++◌, length, Bool, true, false, cond, Option, Some, None, refl, sym, ap, ◌∙◌, arith, true≢false}
+use Rattle.std.proofs.Common.{◌≡◌, suc, List, [], ◌∷◌, ◌++◌, length, Bool, true, false, cond, Option, Some, None, refl, sym, ap, ◌∙◌}
 use Rattle.std.proofs.lemmas.List.{append-nil}
 use Rattle.ssa_model.specs.definitions.FieldsV1.{heads, tails}
 use Rattle.ssa_model.specs.definitions.Path.{Element, Path, same_element}
 use Rattle.ssa_path.specs.declared.element.Elem.{Elem}
 use Rattle.ssa_path.specs.declared.trie.Trie.{Trie}
-use Rattle.ssa_path.specs.Children.{elements, child_at, is_below, rises}
+use Rattle.ssa_path.specs.Children.{elements, child_at, rises}
 use Rattle.ssa_path.specs.View.{element_view}
-use Rattle.ssa_path.specs.Trie.{here_path, has_some, paths_after, paths_below, paths, is_trie, are_filled_tries}
-use Rattle.ssa_path.proofs.Orders.{both_first, both_second, same_element-itself, not_tied}
+use Rattle.ssa_path.specs.Trie.{here_path, paths_after, paths_below, paths, are_filled_tries}
+use Rattle.ssa_path.proofs.Orders.{both_first, both_second}
 use Rattle.ssa_path.proofs.Searching.{absent-below}
 use Rattle.ssa_path.proofs.Lists.{paths_below-append}
 use Rattle.ssa_path.proofs.FieldsLevels.{heads-below, heads-here, tails-append}

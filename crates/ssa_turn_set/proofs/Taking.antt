@@ -1,16 +1,14 @@
 -- One child of a set whose paths are taken out: it stays with fewer paths, or goes where it has none left.
-use Rattle.std.proofs.Common.{◌≡◌, ℕ, ◌+◌, ◌<◌, List, [], ◌∷◌, ◌++◌, length, get_or, set, drop, take, Bool, true, false, not, ◌&&◌, ◌||◌, cond, Some, None, Greater, refl, sym, ap, ◌∙◌, arith, length-set, get_or-set_same}
+use Rattle.std.proofs.Common.{◌≡◌, ℕ, ◌+◌, ◌<◌, List, [], ◌∷◌, ◌++◌, length, get_or, set, drop, take, Bool, true, false, not, ◌&&◌, ◌||◌, cond, Some, None, refl, sym, ap, ◌∙◌, arith, length-set, get_or-set_same}
 use Rattle.std.proofs.Math.Bool.{and-true}
 use Rattle.std.proofs.lemmas.List.{take-set, drop-set-lt}
-use Rattle.std.specs.Ordering.{is_lt, is_eq, ordering_reverse}
-use Rattle.ssa_model.specs.definitions.Path.{Element, Path, same_element, element_cmp, same_path}
-use Rattle.ssa_model.proofs.RisingNames.{lower}
+use Rattle.ssa_model.specs.definitions.Path.{Element, Path, same_element, same_path}
 use Rattle.ssa_path.specs.declared.element.Elem.{Elem}
 use Rattle.ssa_path.specs.declared.trie.Trie.{Trie}
 use Rattle.ssa_path.specs.Children.{elements, child_at, is_below, rises}
 use Rattle.ssa_path.specs.View.{element_view}
 use Rattle.ssa_path.specs.Trie.{is_one_of, paths_after, paths_below, paths, is_trie, is_filled, are_filled_tries}
-use Rattle.ssa_path.proofs.Orders.{both_first, both_second, same_element-true, element_cmp_total}
+use Rattle.ssa_path.proofs.Orders.{both_first, both_second, same_element-true}
 use Rattle.ssa_path.proofs.Searching.{absent-below, apart-before, below-middle, child-found, child-absent}
 use Rattle.ssa_path.proofs.Lists.{parted, parted-set, elements-append, one-between, filled-between, filled-without}
 use Rattle.ssa_path.proofs.Levels.{same_path-reading, any-after, any-below, found, one-below-root}
