@@ -13,14 +13,14 @@ use Rattle.ssa_path.specs.declared.trie.Trie.TheOpen.{Trie-F}
 use Rattle.ssa_path.specs.Trie.{is_one_of, paths_after, paths_below, paths, is_trie, is_filled, are_filled_tries, IsGathered}
 use Rattle.ssa_path.proofs.Orders.{both_first, both_second, same_either_way, not_tied, same_element-true}
 use Rattle.ssa_path.proofs.Inserting.{spread}
-use Rattle.ssa_path.proofs.Lists.{paths_below-append, left-at, elements-append, one-between, filled-between, filled-without}
+use Rattle.ssa_path.proofs.Lists.{taken-at, paths_below-append, left-at, elements-append, one-between, filled-between, filled-without}
 use Rattle.ssa_path.proofs.Levels.{same_path-reading, any-after, any-level, any-made, one-after-root, one-level-root, one-made-root, one-below-root}
 use Rattle.std.proofs.lemmas.List.{take_all, take_more_set}
 use Rattle.ssa_turn_set.specs.declared.room.Room.{Room}
 use Rattle.ssa_turn_set.specs.declared.spare.Spare.{Spare}
-use Rattle.ssa_turn_set.specs.Room.{fresh, freshes, lose_room, gains, loses, gain_one}
+use Rattle.ssa_turn_set.specs.Room.{fresh, freshes, lose_one, gains, loses, gain_one}
 use Rattle.ssa_turn_set.proofs.Rooms.{AreAlike, all-alike, loses-more, gains-some}
-use Rattle.ssa_turn_set.proofs.Places.{taken-any, left-set, all-taken, within-both}
+use Rattle.ssa_turn_set.proofs.Places.{left-set, all-taken, within-both}
 
 -- The children cs of a set have become `now`: those of `done` are put in, those of `left` are not.
 pub record IsGaining (cs done left : List (Elem × Trie)) (filled rooms : List (Spare × Room)) (now : List (Elem × Trie)) (capacity : ℕ) : Type 0 where
@@ -57,7 +57,7 @@ one-more done d p =
 
 pub gaining-more : (cs done left : List (Elem × Trie)) (filled rooms : List (Spare × Room)) (now new : List (Elem × Trie)) (capacity longer : ℕ) (d : Elem × Trie) (r s : Spare × Room) → IsGaining cs done (d ∷ left) filled (r ∷ rooms) now capacity
     → IsGathered now (element_view d.0) d.1 new → ((e : Element) → same_element e (element_view d.0) ≡ false → tails e (paths_below new) ≡ tails e (paths_below now))
-    → length new ≡ length now + fresh (tails (element_view d.0) (paths_below now)) → longer ≡ capacity → lose_room d.1 (tails (element_view d.0) (paths_below now)) s.1 ≡ true
+    → length new ≡ length now + fresh (tails (element_view d.0) (paths_below now)) → longer ≡ capacity → lose_one d (tails (element_view d.0) (paths_below now)) s ≡ true
     → IsGaining cs (done ++ d ∷ []) left (filled ++ s ∷ []) rooms new longer
 gaining-more cs done left filled rooms now new capacity longer d r s h g apart len same room = record {
   paths_are = λ p. g.paths_are p ∙ ap (λ b. is_one_of (paths_after (element_view d.0) (paths d.1)) p || b) (h.paths_are p) ∙ reorder (is_one_of (paths_after (element_view d.0) (paths d.1)) p) (is_one_of (paths_below done) p) (is_one_of (paths_below cs) p) ∙ ap (λ b. b || is_one_of (paths_below cs) p) (sym (one-more done d p));
@@ -66,7 +66,7 @@ gaining-more cs done left filled rooms now new capacity longer d r s h g apart l
   alike = still-alike (element_view d.0) left (paths_below now) (paths_below new) (paths_below cs) (both_first _ _ h.left_rise) apart h.alike.1;
   fits = let k = len ∙ ap (λ l. length now + fresh l) h.alike.0 in let f = h.fits in omega arith;
   enough = both_second _ _ h.enough;
-  back = loses-more done d (paths_below cs) filled s h.back (ap (λ l. lose_room d.1 l s.1) (sym h.alike.0) ∙ room);
+  back = loses-more done d (paths_below cs) filled s h.back (ap (λ l. lose_one d l s) (sym h.alike.0) ∙ room);
   left_rise = both_second _ _ h.left_rise;
   left_tries = both_second _ _ h.left_tries;
 }
@@ -99,7 +99,7 @@ gaining-within cs ds rs now capacity i lt h = within-both ds rs i lt (gains-some
 pub gaining-next : (cs ds : List (Elem × Trie)) (rs : List (Spare × Room)) (now : List (Elem × Trie)) (capacity i : ℕ) (d : Elem × Trie) (s : Spare × Room) → i < length ds → d ≡ get_or ds i d → i < length rs
     → IsGaining cs (take i ds ++ d ∷ []) (drop (i + 1) ds) (take i rs ++ s ∷ []) (drop (i + 1) rs) now capacity → IsGaining cs (take (i + 1) ds) (drop (i + 1) ds) (take (i + 1) (set rs i s)) (drop (i + 1) (set rs i s)) now capacity
 gaining-next cs ds rs now capacity i d s lt is lt2 h =
-    subst (λ l. IsGaining cs l (drop (i + 1) ds) (take (i + 1) (set rs i s)) (drop (i + 1) (set rs i s)) now capacity) (sym (taken-any ds i d lt is))
+    subst (λ l. IsGaining cs l (drop (i + 1) ds) (take (i + 1) (set rs i s)) (drop (i + 1) (set rs i s)) now capacity) (sym (taken-at ds i d lt is))
     (subst (λ l. IsGaining cs (take i ds ++ d ∷ []) (drop (i + 1) ds) l (drop (i + 1) (set rs i s)) now capacity) (sym (take_more_set rs i s lt2))
     (subst (λ l. IsGaining cs (take i ds ++ d ∷ []) (drop (i + 1) ds) (take i rs ++ s ∷ []) l now capacity) (sym (left-set rs i s)) h))
 

@@ -15,15 +15,15 @@ use Rattle.ssa_path.specs.View.{element_view}
 use Rattle.ssa_path.specs.Trie.{is_one_of, paths_after, paths_below, paths, is_trie, are_filled_tries}
 use Rattle.ssa_path.proofs.Orders.{both, both_first, both_second, not_tied, same_element-itself}
 use Rattle.ssa_path.proofs.Searching.{absent-below, below-middle}
-use Rattle.ssa_path.proofs.Lists.{left-at, rises-drop, elements-append}
+use Rattle.ssa_path.proofs.Lists.{taken-at, left-at, rises-drop, elements-append}
 use Rattle.ssa_path.proofs.Levels.{same_path-reading, any-after, any-below, any-level, any-made, found, one-after-root, one-level-root, one-made-root, one-below-root}
 use Rattle.ssa_turn_set.specs.declared.room.Room.{Room}
 use Rattle.ssa_turn_set.specs.declared.room.Room.TheOpen.{Room-F}
 use Rattle.ssa_turn_set.specs.declared.room.Room.TheViews.{out-Room, roll-Room, out-roll-Room}
 use Rattle.ssa_turn_set.specs.declared.spare.Spare.{Spare}
-use Rattle.ssa_turn_set.specs.Room.{fresh, freshes, holds, lose_room, gain_room, gains, loses, gain_one}
+use Rattle.ssa_turn_set.specs.Room.{fresh, freshes, holds, lose_one, lose_room, gain_room, gains, loses, gain_one}
 use Rattle.ssa_turn_set.proofs.Rooms.{AreAlike, gains-more, loses-some, loses-alike, gains-alike, freshes-alike, lose_room-level}
-use Rattle.ssa_turn_set.proofs.Places.{taken-any, all-taken, within-both, gain-made, lose-own, lose-below, roomy}
+use Rattle.ssa_turn_set.proofs.Places.{all-taken, within-both, gain-made, lose-own, lose-below, roomy}
 use Rattle.ssa_turn_set.proofs.Gaining.{one-more}
 
 -- The children cs of a set have become `now`: those of `done` are taken out, those of `left` are not. `old` is the room for `done` as it was, `filled` as it is.
@@ -56,7 +56,7 @@ front-alike (c ∷ done) d fs ps qs h apart = (apart (element_view c.0) (not_tie
 
 -- ---- the rooms
 
-loses-parts : (ds : List (Elem × Trie)) (d : Elem × Trie) (ps : List Path) (rs : List (Spare × Room)) (r : Spare × Room) → loses (ds ++ d ∷ []) ps (rs ++ r ∷ []) ≡ true → (loses ds ps rs ≡ true) × (lose_room d.1 (tails (element_view d.0) ps) r.1 ≡ true)
+loses-parts : (ds : List (Elem × Trie)) (d : Elem × Trie) (ps : List Path) (rs : List (Spare × Room)) (r : Spare × Room) → loses (ds ++ d ∷ []) ps (rs ++ r ∷ []) ≡ true → (loses ds ps rs ≡ true) × (lose_one d (tails (element_view d.0) ps) r ≡ true)
 loses-parts [] d ps [] r h = (refl, both_first _ _ h)
 loses-parts [] d ps (x ∷ []) r h = absurd (true≢false (sym (both_second _ _ h)))
 loses-parts [] d ps (x ∷ y ∷ rs) r h = absurd (true≢false (sym (both_second _ _ h)))
@@ -93,7 +93,7 @@ pub losing-more : (cs done left : List (Elem × Trie)) (old filled rooms : List 
     → rises (elements new) ≡ true → are_filled_tries new ≡ true
     → ((e : Element) → same_element e (element_view d.0) ≡ false → tails e (paths_below new) ≡ tails e (paths_below now))
     → length new + fresh (tails (element_view d.0) (paths_below new)) ≡ length now
-    → (lose_room d.1 (tails (element_view d.0) (paths_below new)) r.1 ≡ true → gain_one d (tails (element_view d.0) (paths_below new)) s ≡ true)
+    → (lose_one d (tails (element_view d.0) (paths_below new)) r ≡ true → gain_one d (tails (element_view d.0) (paths_below new)) s ≡ true)
     → IsLosing cs (done ++ d ∷ []) left (old ++ r ∷ []) (filled ++ s ∷ []) rooms new
 losing-more cs done left old filled rooms now new d r s h paths_are risen tries apart len room =
     let all : rises (elements done ++ element_view d.0 ∷ elements left) ≡ true = ap rises (sym (elements-append done (d ∷ left))) ∙ h.all_rise in
@@ -158,8 +158,8 @@ losing-within cs ds rs fs now i lt h = within-both ds rs i lt (loses-some (drop 
 pub losing-next : (cs ds : List (Elem × Trie)) (rs ns : List (Spare × Room)) (now : List (Elem × Trie)) (i : ℕ) (d : Elem × Trie) (r s : Spare × Room) → i < length ds → d ≡ get_or ds i d → i < length rs → r ≡ get_or rs i r → i < length ns
     → IsLosing cs (take i ds ++ d ∷ []) (drop (i + 1) ds) (take i rs ++ r ∷ []) (take i ns ++ s ∷ []) (drop (i + 1) rs) now → IsLosing cs (take (i + 1) ds) (drop (i + 1) ds) (take (i + 1) rs) (take (i + 1) (set ns i s)) (drop (i + 1) rs) now
 losing-next cs ds rs ns now i d r s lt is lt2 is2 lt3 h =
-    subst (λ l. IsLosing cs l (drop (i + 1) ds) (take (i + 1) rs) (take (i + 1) (set ns i s)) (drop (i + 1) rs) now) (sym (taken-any ds i d lt is))
-    (subst (λ l. IsLosing cs (take i ds ++ d ∷ []) (drop (i + 1) ds) l (take (i + 1) (set ns i s)) (drop (i + 1) rs) now) (sym (taken-any rs i r lt2 is2))
+    subst (λ l. IsLosing cs l (drop (i + 1) ds) (take (i + 1) rs) (take (i + 1) (set ns i s)) (drop (i + 1) rs) now) (sym (taken-at ds i d lt is))
+    (subst (λ l. IsLosing cs (take i ds ++ d ∷ []) (drop (i + 1) ds) l (take (i + 1) (set ns i s)) (drop (i + 1) rs) now) (sym (taken-at rs i r lt2 is2))
     (subst (λ l. IsLosing cs (take i ds ++ d ∷ []) (drop (i + 1) ds) (take i rs ++ r ∷ []) l (drop (i + 1) rs) now) (sym (take_more_set ns i s lt3)) h))
 
 -- what is left over of both lists of rooms is one

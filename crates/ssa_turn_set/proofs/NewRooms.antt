@@ -9,12 +9,13 @@ use Rattle.ssa_path.specs.Children.{child_at}
 use Rattle.ssa_path.specs.View.{element_view}
 use Rattle.ssa_path.specs.Trie.{paths_below, paths, is_trie, is_filled, are_filled_tries}
 use Rattle.ssa_path.proofs.Orders.{both_first, both_second}
+use Rattle.ssa_path.proofs.Lists.{taken-at}
 use Rattle.ssa_turn_set.specs.declared.room.Room.{Room}
 use Rattle.ssa_turn_set.specs.declared.room.Room.TheViews.{out-Room, roll-Room, out-roll-Room}
 use Rattle.ssa_turn_set.specs.declared.room.Room.TheOpen.{Room-F}
 use Rattle.ssa_turn_set.specs.Room.{fresh, freshes, gain_room, gains}
 use Rattle.ssa_model.specs.definitions.FieldsV1.{tails}
-use Rattle.ssa_turn_set.proofs.Places.{coming, gain-made, taken-any}
+use Rattle.ssa_turn_set.proofs.Places.{coming, gain-made}
 use Rattle.ssa_turn_set.proofs.Losing.{freshes-more}
 
 child-is : (b : Bool) (x c : Trie) (rest : Option Trie) → (is_trie x && is_filled x) ≡ true → (rest ≡ Some c → (is_trie c && is_filled c) ≡ true) → cond b (Some x) rest ≡ Some c → (is_trie c && is_filled c) ≡ true
@@ -45,4 +46,4 @@ gain-rolled t s x h empty fits l =
     (ap (λ y. gains (out-Trie t).below.items (paths_below (out-Trie s).below.items) y.below.items) is ∙ l)
 
 pub counted-more : (cs : List (Elem × Trie)) (ps : List Path) (i count one : ℕ) (c : Elem × Trie) → i < length cs → c ≡ get_or cs i c → count ≡ freshes (take i cs) ps → one ≡ fresh (tails (element_view c.0) ps) → count + one ≡ freshes (take (i + 1) cs) ps
-counted-more cs ps i count one c lt is e f = (λ j. e j + f j) ∙ sym (ap (λ l. freshes l ps) (taken-any cs i c lt is) ∙ freshes-more (take i cs) c ps)
+counted-more cs ps i count one c lt is e f = (λ j. e j + f j) ∙ sym (ap (λ l. freshes l ps) (taken-at cs i c lt is) ∙ freshes-more (take i cs) c ps)

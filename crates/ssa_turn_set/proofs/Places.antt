@@ -1,6 +1,6 @@
 -- One place of a set: what the room says of it, and what is found there.
 use Rattle.std.proofs.Common.{◌≡◌, ℕ, zero, suc, ◌+◌, ◌<◌, ◌≤◌, List, [], ◌∷◌, ◌++◌, length, get_or, set, drop, take, true, false, not, ◌||◌, cond, refl, sym, ap, ◌∙◌, arith, subst, true≢false}
-use Rattle.std.proofs.lemmas.List.{append-nil, drop_all, take_more, take-append-drop, drop-set-lt, length-drop}
+use Rattle.std.proofs.lemmas.List.{append-nil, drop_all, take-append-drop, drop-set-lt, length-drop}
 use Rattle.std.proofs.lemmas.Bool.{le-leb, leb-true}
 use Rattle.std.specs.Cmp.{tied_itself}
 use Rattle.std.specs.Ordering.{is_eq}
@@ -130,9 +130,6 @@ pub filled-more : (ps qs : List Path) → ((p : Path) → is_one_of ps p ≡ tru
 filled-more ps qs h k = let one = a_path ps k in some-one qs one.0 (h one.0 one.1)
 
 -- ---- one step of a loop over two lists
-
-pub taken-any : {A : Type 0} (xs : List A) (i : ℕ) (x : A) → i < length xs → x ≡ get_or xs i x → take (i + 1) xs ≡ take i xs ++ x ∷ []
-taken-any xs i x lt is = take_more xs i x lt ∙ ap (λ y. take i xs ++ y ∷ []) (sym is)
 
 pub left-set : {A : Type 0} (xs : List A) (i : ℕ) (x : A) → drop (i + 1) (set xs i x) ≡ drop (i + 1) xs
 left-set xs i x = drop-set-lt (i + 1) xs i x (omega arith)

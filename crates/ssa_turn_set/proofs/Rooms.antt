@@ -11,7 +11,7 @@ use Rattle.ssa_path.proofs.Orders.{both, both_first, both_second}
 use Rattle.ssa_turn_set.specs.declared.room.Room.{Room}
 use Rattle.ssa_turn_set.specs.declared.room.Room.TheViews.{out-Room}
 use Rattle.ssa_turn_set.specs.declared.spare.Spare.{Spare}
-use Rattle.ssa_turn_set.specs.Room.{fresh, freshes, holds, Need, gain_step, gain_room, lose_step, lose_room, gains, loses, gain_one}
+use Rattle.ssa_turn_set.specs.Room.{fresh, freshes, holds, Need, gain_step, gain_room, lose_step, lose_room, gains, loses, gain_one, lose_one}
 
 -- ---- one level
 
@@ -48,7 +48,7 @@ pub loses-alike : (ds : List (Elem × Trie)) (ps qs : List Path) (rs : List (Spa
 loses-alike [] ps qs [] h = refl
 loses-alike [] ps qs (r ∷ rs) h = refl
 loses-alike (d ∷ ds) ps qs [] h = refl
-loses-alike (d ∷ ds) ps qs (r ∷ rs) h = λ i. lose_room d.1 (h.0 i) r.1 && loses-alike ds ps qs rs h.1 i
+loses-alike (d ∷ ds) ps qs (r ∷ rs) h = λ i. lose_one d (h.0 i) r && loses-alike ds ps qs rs h.1 i
 
 pub gains-alike : (ds : List (Elem × Trie)) (ps qs : List Path) (rs : List (Spare × Room)) → AreAlike ds ps qs → gains ds ps rs ≡ gains ds qs rs
 gains-alike [] ps qs [] h = refl
@@ -58,7 +58,7 @@ gains-alike (d ∷ ds) ps qs (r ∷ rs) h = λ i. gain_one d (h.0 i) r && gains-
 
 -- ---- one more
 
-pub loses-more : (ds : List (Elem × Trie)) (d : Elem × Trie) (ps : List Path) (rs : List (Spare × Room)) (r : Spare × Room) → loses ds ps rs ≡ true → lose_room d.1 (tails (element_view d.0) ps) r.1 ≡ true → loses (ds ++ d ∷ []) ps (rs ++ r ∷ []) ≡ true
+pub loses-more : (ds : List (Elem × Trie)) (d : Elem × Trie) (ps : List Path) (rs : List (Spare × Room)) (r : Spare × Room) → loses ds ps rs ≡ true → lose_one d (tails (element_view d.0) ps) r ≡ true → loses (ds ++ d ∷ []) ps (rs ++ r ∷ []) ≡ true
 loses-more [] d ps [] r h k = both _ _ k refl
 loses-more [] d ps (x ∷ rs) r h k = absurd (true≢false (sym h))
 loses-more (c ∷ ds) d ps [] r h k = absurd (true≢false (sym h))

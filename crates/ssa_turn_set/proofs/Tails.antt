@@ -1,5 +1,5 @@
 -- What is left of paths that begin with an element, in a trie child by child.
-use Rattle.std.proofs.Common.{◌≡◌, suc, List, [], ◌∷◌, ◌++◌, length, Bool, true, false, cond, Option, Some, None, refl, sym, ap, ◌∙◌}
+use Rattle.std.proofs.Common.{◌≡◌, List, [], ◌∷◌, ◌++◌, length, Bool, true, false, cond, Option, Some, None, refl, sym, ap, ◌∙◌}
 use Rattle.std.proofs.lemmas.List.{append-nil}
 use Rattle.ssa_model.specs.definitions.FieldsV1.{heads, tails}
 use Rattle.ssa_model.specs.definitions.Path.{Element, Path, same_element}
@@ -10,7 +10,7 @@ use Rattle.ssa_path.specs.View.{element_view}
 use Rattle.ssa_path.specs.Trie.{here_path, paths_after, paths_below, paths, are_filled_tries}
 use Rattle.ssa_path.proofs.Orders.{both_first, both_second}
 use Rattle.ssa_path.proofs.Searching.{absent-below}
-use Rattle.ssa_path.proofs.Lists.{paths_below-append}
+use Rattle.ssa_path.proofs.Lists.{length-elements, paths_below-append}
 use Rattle.ssa_path.proofs.FieldsLevels.{heads-below, heads-here, tails-append}
 
 -- ---- the paths of a child
@@ -52,9 +52,5 @@ tails-apart e front left d c apart =
 
 -- ---- how many children
 
-elements-count : {A : Type 0} (cs : List (Elem × A)) → length (elements cs) ≡ length cs
-elements-count [] = refl
-elements-count (c ∷ cs) = ap suc (elements-count cs)
-
 pub heads-count : (b : Bool) (cs : List (Elem × Trie)) → rises (elements cs) ≡ true → are_filled_tries cs ≡ true → length (heads (here_path b ++ paths_below cs)) ≡ length cs
-heads-count b cs h f = ap length (heads-here b (paths_below cs) ∙ heads-below cs h f) ∙ elements-count cs
+heads-count b cs h f = ap length (heads-here b (paths_below cs) ∙ heads-below cs h f) ∙ length-elements cs

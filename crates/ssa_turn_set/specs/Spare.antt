@@ -19,15 +19,25 @@ holds_text_in t (scalar.Text s) = holds_text t s
 holds_text_in t (scalar.Int n) = false
 holds_text_in t (scalar.Bool b) = false
 
+abbrev pub has_no_text : Scalar → Bool
+has_no_text (scalar.Text s) = false
+has_no_text (scalar.Int n) = true
+has_no_text (scalar.Bool b) = true
+
 abbrev pub holds_scalar : json.Scalar → Scalar → Bool
 holds_scalar (json.text t) s = holds_text_in t s
-holds_scalar _ s = true
+holds_scalar _ s = has_no_text s
 
 abbrev pub holds_members : Members → List (String Global × Scalar) → Bool
 holds_members [] [] = true
 holds_members [] (r ∷ rs) = false
 holds_members (m ∷ ms) [] = false
 holds_members (m ∷ ms) (r ∷ rs) = (holds_text m.0 r.0 && holds_scalar m.1 r.1) && holds_members ms rs
+
+abbrev pub is_nothing : Spare → Bool
+is_nothing Nothing = true
+is_nothing (Text s) = false
+is_nothing (Keys rs) = false
 
 abbrev pub fits_text : json.Text → Spare → Bool
 fits_text t Nothing = false
@@ -41,7 +51,7 @@ fits_keys ms (Keys rs) = holds_members ms rs.items
 
 abbrev pub fits_scalar : json.Scalar → Spare → Bool
 fits_scalar (json.text t) s = fits_text t s
-fits_scalar _ s = true
+fits_scalar _ s = is_nothing s
 
 -- the room is enough for the element
 abbrev pub fits : Element → Spare → Bool

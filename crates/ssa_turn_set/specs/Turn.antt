@@ -59,7 +59,7 @@ LeadsBack = (d : SetSteps) (s t : PathSet) → SetTakes d s t → SetTakes (set_
 abbrev pub SetsAreLed : Type 0
 SetsAreLed = (s t : PathSet) → SetTakes (set_between s t) s t
 
--- the record's room serves one turn of the set
+-- the record's room, all of it empty, serves one turn of the set
 pub record HasRoom (d : SetDelta) (s : PathSet) : Type 0 where
   pub gain_trie : is_trie d.gain ≡ true
   pub lose_trie : is_trie d.lose ≡ true

@@ -5,7 +5,7 @@ ghost use Rattle.ssa_model.specs.definitions.FieldsV1.{tails};
 ghost use Rattle.ssa_path.specs.Children.{elements, rises};
 ghost use Rattle.ssa_path.specs.View.{element_view};
 ghost use Rattle.ssa_path.specs.Trie.{is_one_of, paths, paths_below, is_trie, is_filled, are_filled_tries, IsGathered};
-ghost use Rattle.ssa_turn_set.specs.Room.{below_child, fresh, gain_one, gain_room, lose_room};
+ghost use Rattle.ssa_turn_set.specs.Room.{below_child, fresh, gain_one, gain_room, lose_one, lose_room};
 
 use crate::filling::exchange_where_fits;
 use crate::room::Room;
@@ -53,7 +53,7 @@ fn gain_child(gained: &(Elem, Trie), below: &mut Vec<(Elem, Trie)>, room: &mut (
     ensures apart { (e : Element) → same_element e (element_view gained.now.0) ≡ false → tails e (paths_below below.new.items) ≡ tails e (paths_below below.old.items) }
     ensures len { length below.new.items ≡ length below.old.items + fresh (below_child gained.now (paths_below below.old.items)) }
     ensures capacity { vec_capacity below.new ≡ vec_capacity below.old }
-    ensures room { lose_room gained.now.1 (below_child gained.now (paths_below below.old.items)) room.new.1 ≡ true }
+    ensures room { lose_one gained.now (below_child gained.now (paths_below below.old.items)) room.new ≡ true }
 {
     match search(below, &gained.0) {
         Ok(i) => {

@@ -5,7 +5,7 @@ ghost use Rattle.ssa_model.specs.definitions.FieldsV1.{tails};
 ghost use Rattle.ssa_path.specs.Children.{elements, rises};
 ghost use Rattle.ssa_path.specs.View.{element_view};
 ghost use Rattle.ssa_path.specs.Trie.{is_one_of, paths, paths_after, paths_below, is_trie, is_filled, are_filled_tries};
-ghost use Rattle.ssa_turn_set.specs.Room.{below_child, fresh, gain_one, gain_room, lose_room};
+ghost use Rattle.ssa_turn_set.specs.Room.{below_child, fresh, gain_one, gain_room, lose_one, lose_room};
 
 use crate::filling::exchange_where_fits;
 use crate::room::Room;
@@ -49,14 +49,14 @@ fn lose_child(lost: &(Elem, Trie), below: &mut Vec<(Elem, Trie)>, room: &mut (Sp
     requires lost { is_trie lost.now.1 ≡ true }
     requires filled { is_filled lost.now.1 ≡ true }
     requires within { (p : Path) → is_one_of (paths lost.now.1) p ≡ true → is_one_of (paths_below below.old.items) (element_view lost.now.0 ∷ p) ≡ true }
-    requires form { (ps : List Path) × (lose_room lost.now.1 ps room.old.1 ≡ true) }
+    requires form { (ps : List Path) × (lose_one lost.now ps room.old ≡ true) }
     ensures paths { (p : Path) → is_one_of (paths_below below.new.items) p ≡ (is_one_of (paths_below below.old.items) p && not (is_one_of (paths_after (element_view lost.now.0) (paths lost.now.1)) p)) }
     ensures rise { rises (elements below.new.items) ≡ true }
     ensures tries { are_filled_tries below.new.items ≡ true }
     ensures apart { (e : Element) → same_element e (element_view lost.now.0) ≡ false → tails e (paths_below below.new.items) ≡ tails e (paths_below below.old.items) }
     ensures len { length below.new.items + fresh (below_child lost.now (paths_below below.new.items)) ≡ length below.old.items }
     ensures capacity { vec_capacity below.new ≡ vec_capacity below.old }
-    ensures room { lose_room lost.now.1 (below_child lost.now (paths_below below.new.items)) room.old.1 ≡ true
+    ensures room { lose_one lost.now (below_child lost.now (paths_below below.new.items)) room.old ≡ true
         → gain_one lost.now (below_child lost.now (paths_below below.new.items)) room.new ≡ true }
 {
     let Ok(i) = search(below, &lost.0) else {

@@ -3,7 +3,7 @@ ghost use Rattle.std.specs.Prelude.{◌≡◌, ◌≤◌, ◌<◌, [], true, len
 ghost use Rattle.ssa_path.specs.View.{element_view};
 ghost use Rattle.ssa_path.specs.Children.{elements, rises};
 ghost use Rattle.ssa_path.specs.Trie.{is_trie, paths, paths_below, are_filled_tries};
-ghost use Rattle.ssa_turn_set.specs.Room.{below_child, fresh, freshes, gain_one, gain_room, lose_room};
+ghost use Rattle.ssa_turn_set.specs.Room.{below_child, fresh, freshes, gain_one, gain_room, lose_one, lose_room};
 ghost use Rattle.ssa_turn_set.specs.Spare.{fits, fits_text};
 ghost use Rattle.ssa_turn_set.specs.Turn.{IsBetween};
 
@@ -149,7 +149,7 @@ fn make_child_lose_room(
     requires lost { is_trie lost.now.1 ≡ true }
     requires rise { rises (elements without.now) ≡ true }
     requires tries { are_filled_tries without.now ≡ true }
-    ensures { IfOk result (λ r. lose_room lost.now.1 (below_child lost.now (paths_below without.now)) r.1 ≡ true) }
+    ensures { IfOk result (λ r. lose_one lost.now (below_child lost.now (paths_below without.now)) r ≡ true) }
 {
     match find_child(without, &lost.0) {
         Some(place) => {

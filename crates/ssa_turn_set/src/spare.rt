@@ -3,7 +3,7 @@ ghost use Rattle.std.specs.Prelude.{◌≡◌, true, string_bytes};
 ghost use Rattle.ssa_json.specs.View.{scalar_view};
 ghost use Rattle.ssa_path.specs.Keys.{members_view};
 ghost use Rattle.ssa_path.specs.View.{element_view};
-ghost use Rattle.ssa_turn_set.specs.Spare.{fits, fits_text, fits_keys, holds_members, holds_scalar};
+ghost use Rattle.ssa_turn_set.specs.Spare.{fits, is_nothing, fits_text, fits_keys, holds_members, holds_scalar};
 
 use crate::filling::copy_text;
 use ssa_json::value::Scalar;
@@ -87,7 +87,8 @@ fn fill_keys(keys: &Keys, spare: Spare) -> Keys
 // A copy of the element, made in the room for it. Takes no memory.
 pub(crate) fn fill(element: &Elem, spare: &mut Spare) -> Elem
     requires { fits (element_view element.now) spare.old ≡ true }
-    ensures { element_view result ≡ element_view element.now }
+    ensures same { element_view result ≡ element_view element.now }
+    ensures left { is_nothing spare.new ≡ true }
 {
     let room = mem::replace(spare, Spare::Nothing);
     match element {

@@ -1,4 +1,4 @@
-use Rattle.std.proofs.Common.{rules, ◌≡◌, ◌+◌, ◌<◌, ◌≤◌, ◌||◌, ap, sym, refl, ◌∙◌, length, take, drop, arith, length-set}
+use Rattle.std.proofs.Common.{rules, ◌≡◌, ◌+◌, ◌<◌, ◌≤◌, ◌||◌, true, cond, ap, sym, refl, ◌∙◌, length, take, drop, arith, length-set}
 use Rattle.std.specs.Prelude.{vec_capacity}
 use Rattle.ssa_model.specs.definitions.Path.{Path, same_element}
 use Rattle.ssa_path.specs.declared.element.Elem.{Elem}
@@ -8,12 +8,12 @@ use Rattle.ssa_turn_set.specs.declared.room.Room.TheViews.{out-Room}
 use Rattle.ssa_path.specs.Children.{elements, IsChildAt, IsGapFor, rises}
 use Rattle.ssa_path.specs.View.{element_view}
 use Rattle.ssa_path.specs.Trie.{paths, paths_below, is_one_of, has_some, are_filled_tries}
-use Rattle.ssa_path.proofs.Orders.{both_first, both_second, or_false}
+use Rattle.ssa_path.proofs.Orders.{both, both_first, both_second, or_false}
 use Rattle.ssa_path.proofs.Levels.{trie-parts, paths-made, is_trie-made}
 use Rattle.ssa_path.proofs.Lists.{child-trie, parted, parted-set}
 use Rattle.ssa_path.proofs.Inserting.{gathered-at}
-use Rattle.ssa_turn_set.specs.Spare.{fits}
-use Rattle.ssa_turn_set.specs.Room.{fresh, gain_room, lose_room}
+use Rattle.ssa_turn_set.specs.Spare.{fits, is_nothing}
+use Rattle.ssa_turn_set.specs.Room.{fresh, gain_room, lose_room, serves}
 use Rattle.ssa_model.specs.definitions.FieldsV1.{tails}
 use Rattle.ssa_path.proofs.FieldsMembers.{child-filled}
 use Rattle.ssa_turn_set.proofs.Places.{coming, enough-after, gain-own, gain-below, lose-rolled, found-paths, gap-paths, filled-more, fresh-filled, length-between, set-apart, between-apart}
@@ -119,7 +119,10 @@ gain_child-returns-in-Ok-clause-room t c =
     let at : IsChildAt e cs c.in-Ok.i = rw c.deref.ensures.value at c.in-Ok.ensures in
     let child = c.index_mut-child.result.now in
     let left = found-paths e cs c.in-Ok.i child c.requires.rise at.within c.index_mut-child.ensures.value (at.same child) in
-    ap (λ l. lose_room c.args.gained.now.1 l c.gain.new.room) left ∙ c.gain.ensures.room
+    let filled = child-filled cs c.in-Ok.i child at.within c.index_mut-child.ensures.value c.requires.tries in
+    let spare = c.args.room.now.0 in
+    let nothing : is_nothing spare ≡ true = ap (λ b. cond b (is_nothing spare) (fits e spare)) (sym (ap has_some left ∙ filled)) ∙ both_first _ _ c.requires.room in
+    both _ _ nothing (ap (λ l. lose_room c.args.gained.now.1 l c.gain.new.room) left ∙ c.gain.ensures.room)
 
 pub gain_child-gain-requires-in-Err : goal.gain_child-gain-requires-in-Err
 gain_child-gain-requires-in-Err t c =
@@ -141,7 +144,7 @@ gain_child-fill-element-requires t c =
     let cs = c.args.below.now.items in
     let gap : IsGapFor e cs c.in-Err.place = rw c.deref.ensures.value at c.in-Err.ensures in
     let left = gap-paths e cs c.in-Err.place c.requires.rise gap.between in
-    ap (λ l. has_some l || fits e c.args.room.now.0) (sym left) ∙ both_first _ _ c.requires.room
+    ap (λ l. serves e l c.args.room.now.0) (sym left) ∙ both_first _ _ c.requires.room
 
 pub gain_child-unreachable-requires : goal.gain_child-unreachable-requires
 gain_child-unreachable-requires t c =
@@ -164,13 +167,13 @@ gain_child-returns-in-Ok-insert-clause-gathered t c =
     let same : (p : Path) → is_one_of (paths child) p ≡ is_one_of (paths c.args.gained.now.1) p = λ p. c.gain-in-Err.ensures.paths p ∙ ap (λ l. is_one_of (paths c.args.gained.now.1) p || is_one_of l p) none ∙ or_false (is_one_of (paths c.args.gained.now.1) p) in
     let filled = filled-more (paths c.args.gained.now.1) (paths child) (λ p k. same p ∙ k) c.requires.filled in
     gathered-alike cs c.insert.new.self.items e c.args.gained.now.1 child same
-    (gathered-at cs c.insert.new.self.items e child c.in-Err.place (c.fill-element.result, child) c.in-Ok-insert.ensures.items c.fill-element.ensures refl gap.between c.gain-in-Err.ensures.trie filled c.requires.tries)
+    (gathered-at cs c.insert.new.self.items e child c.in-Err.place (c.fill-element.result, child) c.in-Ok-insert.ensures.items c.fill-element.ensures.same refl gap.between c.gain-in-Err.ensures.trie filled c.requires.tries)
 
 pub gain_child-returns-in-Ok-insert-clause-apart : goal.gain_child-returns-in-Ok-insert-clause-apart
 gain_child-returns-in-Ok-insert-clause-apart t c f apart =
     let e = element_view c.args.gained.now.0 in
     let cs = c.args.below.now.items in
-    ap (λ l. tails f (paths_below l)) c.in-Ok-insert.ensures.items ∙ between-apart f e cs c.in-Err.place c.fill-element.result c.gain-in-Err.new.set c.fill-element.ensures apart
+    ap (λ l. tails f (paths_below l)) c.in-Ok-insert.ensures.items ∙ between-apart f e cs c.in-Err.place c.fill-element.result c.gain-in-Err.new.set c.fill-element.ensures.same apart
 
 pub gain_child-returns-in-Ok-insert-clause-len : goal.gain_child-returns-in-Ok-insert-clause-len
 gain_child-returns-in-Ok-insert-clause-len t c =
@@ -198,7 +201,7 @@ gain_child-returns-in-Ok-insert-clause-room t c =
     let gap : IsGapFor e cs c.in-Err.place = rw c.deref.ensures.value at c.in-Err.ensures in
     let left = gap-paths e cs c.in-Err.place c.requires.rise gap.between in
     let none = paths-made _ ∙ ap paths_below c.new.ensures.items in
-    ap (λ l. lose_room c.args.gained.now.1 l c.gain-in-Err.new.room) (left ∙ sym none) ∙ c.gain-in-Err.ensures.room
+    both _ _ c.fill-element.ensures.left (ap (λ l. lose_room c.args.gained.now.1 l c.gain-in-Err.new.room) (left ∙ sym none) ∙ c.gain-in-Err.ensures.room)
 
 pub gain-gain_child-requires : goal.gain-gain_child-requires
 gain-gain_child-requires t c =

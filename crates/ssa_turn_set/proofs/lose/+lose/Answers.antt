@@ -1,4 +1,4 @@
-use Rattle.std.proofs.Common.{rules, ◌≡◌, ◌<◌, ◌||◌, ◌&&◌, true, false, not, ap, sym, refl, ◌∙◌, length, set, get_or, arith, length-set, get_or-set_same, true≢false}
+use Rattle.std.proofs.Common.{rules, ◌≡◌, ◌<◌, ◌&&◌, true, false, not, cond, ap, sym, refl, ◌∙◌, length, set, get_or, arith, length-set, get_or-set_same, true≢false}
 use Rattle.ssa_model.specs.definitions.Path.{same_element}
 use Rattle.ssa_path.specs.declared.element.Elem.{Elem}
 use Rattle.ssa_path.specs.declared.trie.Trie.{Trie, the_lemmas}
@@ -6,12 +6,12 @@ use Rattle.ssa_path.specs.declared.trie.Trie.TheViews.{out-Trie}
 use Rattle.ssa_turn_set.specs.declared.room.Room.TheViews.{out-Room}
 use Rattle.ssa_path.specs.Children.{elements, IsChildAt, IsGapFor, rises}
 use Rattle.ssa_path.specs.View.{element_view}
-use Rattle.ssa_path.specs.Trie.{paths, paths_below, is_one_of, is_filled, has_some, are_filled_tries}
+use Rattle.ssa_path.specs.Trie.{paths, paths_below, is_one_of, is_filled, are_filled_tries}
 use Rattle.ssa_path.proofs.Orders.{both, both_first, both_second, same_element-true}
 use Rattle.ssa_path.proofs.Levels.{trie-parts, is_trie-made, some-none}
 use Rattle.ssa_path.proofs.Lists.{child-trie}
-use Rattle.ssa_turn_set.specs.Spare.{fits}
-use Rattle.ssa_turn_set.specs.Room.{fresh, gain_room, lose_room, gain_one}
+use Rattle.ssa_turn_set.specs.Spare.{fits, is_nothing}
+use Rattle.ssa_turn_set.specs.Room.{fresh, gain_room, lose_room, gain_one, serves}
 use Rattle.ssa_model.specs.definitions.FieldsV1.{tails}
 use Rattle.ssa_turn_set.proofs.Places.{found-paths, fresh-filled, set-apart, left-set, a_path}
 use Rattle.ssa_turn_set.proofs.Losing.{losing-none, losing-at, losing-within, losing-more, losing-next, losing-all, same-left, lost-place, lost-room, start-form, start-within, step-within, same-length}
@@ -143,7 +143,7 @@ lose_child-lose-requires t c =
           c.requires.lost,
           (
             λ p k. sym (found-one e cs i child p c.requires.rise at.within c.index_mut-child.ensures.value tie) ∙ c.requires.within p k,
-            c.requires.form,
+            (c.requires.form.0, both_second _ _ c.requires.form.1),
           ),
         ),
       ),
@@ -237,7 +237,7 @@ lose_child-returns-then-not-has_paths-clause-room t c =
     let element = c.remove-element.ensures.value ∙ get_or-set_same cs i (child.0, m) c.remove-element.result at.within in
     let same : element_view c.remove-element.result.0 ≡ e = ap (λ (x : Elem × Trie). element_view x.0) (element ∙ refl) ∙ sym (same_element-true e (element_view child.0) tie) in
     λ k.
-    let back = c.lose.ensures.room (ap (λ l. lose_room c.args.lost.now.1 l c.args.room.now.1) (none ∙ sym left) ∙ k) in
+    let back = c.lose.ensures.room (ap (λ l. lose_room c.args.lost.now.1 l c.args.room.now.1) (none ∙ sym left) ∙ both_second _ _ k) in
     ap (λ l. gain_one c.args.lost.now l (c.empty_element.result, c.lose.new.room)) left
     ∙ both _ _ (ap (λ x. fits x c.empty_element.result) (sym same) ∙ c.empty_element.ensures) (ap (λ l. gain_room c.args.lost.now.1 l c.lose.new.room) (sym none) ∙ back)
 
@@ -324,5 +324,6 @@ lose_child-returns-else-not-has_paths-clause-room t c =
     let long : i < length (set cs i (child.0, m)) = simp length-set at.within in
     let here : (child.0, m) ≡ get_or (set cs i (child.0, m)) i (child.0, m) = sym (get_or-set_same cs i (child.0, m) (child.0, m) at.within) in
     let left = found-paths e (set cs i (child.0, m)) i (child.0, m) (set-rises cs i child m at.within is c.requires.rise) long here (ap (λ (x : Elem × Trie). same_element e (element_view x.0)) (sym here) ∙ tie) in
-    λ k. both _ _ (ap (λ l. has_some l || fits e c.args.room.now.0) left ∙ ap (λ b. b || fits e c.args.room.now.0) filled)
-    (ap (λ l. gain_room c.args.lost.now.1 l c.lose.new.room) left ∙ c.lose.ensures.room (ap (λ l. lose_room c.args.lost.now.1 l c.args.room.now.1) (sym left) ∙ k))
+    let spare = c.args.room.now.0 in
+    λ k. both _ _ (ap (λ l. serves e l spare) left ∙ ap (λ b. cond b (is_nothing spare) (fits e spare)) filled ∙ both_first _ _ k)
+    (ap (λ l. gain_room c.args.lost.now.1 l c.lose.new.room) left ∙ c.lose.ensures.room (ap (λ l. lose_room c.args.lost.now.1 l c.args.room.now.1) (sym left) ∙ both_second _ _ k))

@@ -1,20 +1,20 @@
-use Rattle.std.proofs.Common.{◌≡◌, ◌||◌, ap, sym, ◌∙◌, take, arith, rules}
+use Rattle.std.proofs.Common.{◌≡◌, true, cond, ap, sym, ◌∙◌, take, arith, rules}
 use Rattle.std.proofs.lemmas.List.{take_all}
 use Rattle.std.specs.Option.{option_copied}
 use Rattle.ssa_path.specs.declared.trie.Trie.{the_lemmas}
 use Rattle.ssa_path.specs.declared.trie.Trie.TheViews.{out-Trie}
 use Rattle.ssa_path.specs.View.{element_view}
-use Rattle.ssa_path.specs.Trie.{has_some, paths_below, is_trie}
+use Rattle.ssa_path.specs.Trie.{paths_below, is_trie}
 use Rattle.ssa_path.proofs.Orders.{both, both_first, both_second}
 use Rattle.ssa_path.proofs.Levels.{trie-parts, paths-made}
-use Rattle.ssa_path.proofs.Lists.{child-trie}
+use Rattle.ssa_path.proofs.Lists.{taken-at, child-trie}
 use Rattle.ssa_turn_set.specs.Spare.{fits}
 use Rattle.ssa_turn_set.specs.declared.spare.Spare.TheVariants as spare
-use Rattle.ssa_turn_set.specs.Room.{freshes, gains, gain_one, gain_room}
+use Rattle.ssa_turn_set.specs.Room.{freshes, gains, gain_one, gain_room, serves}
 use Rattle.ssa_model.specs.definitions.FieldsV1.{tails}
 use Rattle.ssa_turn_set.proofs.Tails.{tails-below, paths_of}
 use Rattle.ssa_turn_set.proofs.Rooms.{gains-more}
-use Rattle.ssa_turn_set.proofs.Places.{coming, taken-any}
+use Rattle.ssa_turn_set.proofs.Places.{coming}
 use Rattle.ssa_turn_set.proofs.NewRooms.{found-child, gain-rolled}
 use Rattle.ssa_turn_set.proofs.making.+gain_room.Goals as goal
 
@@ -32,7 +32,7 @@ make_gain_room-loop-child-preserved t c =
     let d = c.child-item.result in
     let r = c.in_ok-make_child_gain_room.field-0 in
     let one = ap (λ l. gain_one d (tails (element_view d.0) (paths_below l)) r) (sym c.deref.ensures.value) ∙ c.in_ok-make_child_gain_room.ensures in
-    (λ j. gains (taken-any cs i d (omega arith) c.child-item.is j) ps (c.in_ok-push.ensures.items j)) ∙ gains-more (take i cs) d ps c.loop-child.below.items r c.loop-child.invariant one
+    (λ j. gains (taken-at cs i d (omega arith) c.child-item.is j) ps (c.in_ok-push.ensures.items j)) ∙ gains-more (take i cs) d ps c.loop-child.below.items r c.loop-child.invariant one
 
 pub make_gain_room-returns : goal.make_gain_room-returns
 make_gain_room-returns t c =
@@ -62,7 +62,7 @@ make_child_gain_room-returns-in_ok-room-in-Some t c =
     let at = sym c.find_child.ensures ∙ ap option_copied c.in-Some.is in
     let child = found-child e c.args.without.now c.in-Some.place.now c.requires.tries at in
     let left = tails-below e c.args.without.now c.requires.rise ∙ ap paths_of at in
-    both _ _ (ap (λ l. has_some l || fits e spare.Nothing) left ∙ ap (λ b. b || fits e spare.Nothing) (both_second (is_trie c.in-Some.place.now) _ child)) (ap (λ l. gain_room c.args.gained.now.1 l c.in_ok-room-in-Some.room) left ∙ c.in_ok-room-in-Some.ensures)
+    both _ _ (ap (λ l. serves e l spare.Nothing) left ∙ ap (λ b. cond b true (fits e spare.Nothing)) (both_second (is_trie c.in-Some.place.now) _ child)) (ap (λ l. gain_room c.args.gained.now.1 l c.in_ok-room-in-Some.room) left ∙ c.in_ok-room-in-Some.ensures)
 
 pub make_child_gain_room-returns-in_ok-spare-in-None : goal.make_child_gain_room-returns-in_ok-spare-in-None
 make_child_gain_room-returns-in_ok-spare-in-None t c =
@@ -70,4 +70,4 @@ make_child_gain_room-returns-in_ok-spare-in-None t c =
     let at = sym c.find_child.ensures ∙ ap option_copied c.in-None.is in
     let left = tails-below e c.args.without.now c.requires.rise ∙ ap paths_of at in
     let none = paths-made _ ∙ ap paths_below c.new.ensures.items in
-    both _ _ (ap (λ l. has_some l || fits e c.in_ok-spare-in-None.spare) left ∙ c.in_ok-spare-in-None.ensures) (ap (λ l. gain_room c.args.gained.now.1 l c.in_ok-room-in-None.room) (left ∙ sym none) ∙ c.in_ok-room-in-None.ensures)
+    both _ _ (ap (λ l. serves e l c.in_ok-spare-in-None.spare) left ∙ c.in_ok-spare-in-None.ensures) (ap (λ l. gain_room c.args.gained.now.1 l c.in_ok-room-in-None.room) (left ∙ sym none) ∙ c.in_ok-room-in-None.ensures)

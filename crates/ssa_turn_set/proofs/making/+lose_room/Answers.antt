@@ -1,18 +1,18 @@
-use Rattle.std.proofs.Common.{◌≡◌, ap, sym, ◌∙◌, take, arith, rules}
+use Rattle.std.proofs.Common.{◌≡◌, ap, sym, refl, ◌∙◌, take, arith, rules}
 use Rattle.std.proofs.lemmas.List.{take_all}
 use Rattle.std.specs.Option.{option_copied}
 use Rattle.ssa_path.specs.declared.trie.Trie.{the_lemmas}
 use Rattle.ssa_path.specs.declared.trie.Trie.TheViews.{out-Trie}
 use Rattle.ssa_path.specs.View.{element_view}
 use Rattle.ssa_path.specs.Trie.{paths_below}
-use Rattle.ssa_path.proofs.Orders.{both_first}
+use Rattle.ssa_path.proofs.Orders.{both, both_first}
 use Rattle.ssa_path.proofs.Levels.{trie-parts, paths-made}
-use Rattle.ssa_path.proofs.Lists.{child-trie}
-use Rattle.ssa_turn_set.specs.Room.{freshes, loses, lose_room}
+use Rattle.ssa_path.proofs.Lists.{taken-at, child-trie}
+use Rattle.ssa_turn_set.specs.Room.{freshes, loses, lose_one, lose_room}
 use Rattle.ssa_model.specs.definitions.FieldsV1.{tails}
 use Rattle.ssa_turn_set.proofs.Tails.{tails-below, paths_of}
 use Rattle.ssa_turn_set.proofs.Rooms.{loses-more}
-use Rattle.ssa_turn_set.proofs.Places.{coming, taken-any, lose-rolled}
+use Rattle.ssa_turn_set.proofs.Places.{coming, lose-rolled}
 use Rattle.ssa_turn_set.proofs.NewRooms.{found-child}
 use Rattle.ssa_turn_set.proofs.making.+lose_room.Goals as goal
 
@@ -29,8 +29,8 @@ make_lose_room-loop-child-preserved t c =
     let ps = paths_below (out-Trie c.args.without.now).below.items in
     let d = c.child-item.result in
     let r = c.in_ok-make_child_lose_room.field-0 in
-    let one = ap (λ l. lose_room d.1 (tails (element_view d.0) (paths_below l)) r.1) (sym c.deref.ensures.value) ∙ c.in_ok-make_child_lose_room.ensures in
-    (λ j. loses (taken-any cs i d (omega arith) c.child-item.is j) ps (c.in_ok-push.ensures.items j)) ∙ loses-more (take i cs) d ps c.loop-child.below.items r c.loop-child.invariant one
+    let one = ap (λ l. lose_one d (tails (element_view d.0) (paths_below l)) r) (sym c.deref.ensures.value) ∙ c.in_ok-make_child_lose_room.ensures in
+    (λ j. loses (taken-at cs i d (omega arith) c.child-item.is j) ps (c.in_ok-push.ensures.items j)) ∙ loses-more (take i cs) d ps c.loop-child.below.items r c.loop-child.invariant one
 
 pub make_lose_room-returns : goal.make_lose_room-returns
 make_lose_room-returns t c =
@@ -60,7 +60,7 @@ make_child_lose_room-returns-in_ok-room-in-Some t c =
     let at = sym c.find_child.ensures ∙ ap option_copied c.in-Some.is in
     let child = found-child e c.args.without.now c.in-Some.place.now c.requires.tries at in
     let left = tails-below e c.args.without.now c.requires.rise ∙ ap paths_of at in
-    ap (λ l. lose_room c.args.lost.now.1 l c.in_ok-room-in-Some.room) left ∙ c.in_ok-room-in-Some.ensures
+    both _ _ refl (ap (λ l. lose_room c.args.lost.now.1 l c.in_ok-room-in-Some.room) left ∙ c.in_ok-room-in-Some.ensures)
 
 pub make_child_lose_room-returns-in_ok-room-in-None : goal.make_child_lose_room-returns-in_ok-room-in-None
 make_child_lose_room-returns-in_ok-room-in-None t c =
@@ -68,4 +68,4 @@ make_child_lose_room-returns-in_ok-room-in-None t c =
     let at = sym c.find_child.ensures ∙ ap option_copied c.in-None.is in
     let left = tails-below e c.args.without.now c.requires.rise ∙ ap paths_of at in
     let none = paths-made _ ∙ ap paths_below c.new.ensures.items in
-    ap (λ l. lose_room c.args.lost.now.1 l c.in_ok-room-in-None.room) (left ∙ sym none) ∙ c.in_ok-room-in-None.ensures
+    both _ _ refl (ap (λ l. lose_room c.args.lost.now.1 l c.in_ok-room-in-None.room) (left ∙ sym none) ∙ c.in_ok-room-in-None.ensures)
