@@ -79,7 +79,7 @@ head-below : (e : Element) (es : List Element) → is_below e es ≡ true → wi
 head-below e [] h = refl
 head-below e (f ∷ es) h = ap (λ b. cond b (f ∷ es) (e ∷ f ∷ es)) (not_tied _ (both_first _ _ h))
 
-heads-below : (cs : List (Elem × Trie)) → rises (elements cs) ≡ true → are_filled_tries cs ≡ true → heads (paths_below cs) ≡ elements cs
+pub heads-below : (cs : List (Elem × Trie)) → rises (elements cs) ≡ true → are_filled_tries cs ≡ true → heads (paths_below cs) ≡ elements cs
 heads-below [] h k = refl
 heads-below (c ∷ cs) h k =
     let e = element_view c.0 in
@@ -88,13 +88,13 @@ heads-below (c ∷ cs) h k =
     heads-first e (paths c.1) (paths_below cs) filled (ap (with_head e) rest ∙ head-below e (elements cs) (both_first _ _ h) ∙ ap (λ es. e ∷ es) (sym rest))
     ∙ ap (λ es. e ∷ es) rest
 
-heads-here : (b : Bool) (ps : List Path) → heads (here_path b ++ ps) ≡ heads ps
+pub heads-here : (b : Bool) (ps : List Path) → heads (here_path b ++ ps) ≡ heads ps
 heads-here true ps = refl
 heads-here false ps = refl
 
 -- ---- what goes on from each of them
 
-tails-append : (e : Element) (ps qs : List Path) → tails e (ps ++ qs) ≡ tails e ps ++ tails e qs
+pub tails-append : (e : Element) (ps qs : List Path) → tails e (ps ++ qs) ≡ tails e ps ++ tails e qs
 tails-append e [] qs = refl
 tails-append e ([] ∷ ps) qs = tails-append e ps qs
 tails-append e ((f ∷ p) ∷ ps) qs =
@@ -115,7 +115,7 @@ tails-none e (c ∷ cs) h =
     tails-append e (paths_after (element_view c.0) (paths c.1)) (paths_below cs)
     ∙ (λ i. tails-other e (element_view c.0) (paths c.1) (not_tied _ (both_first _ _ h)) i ++ tails-none e cs (both_second _ _ h) i)
 
-tails-here : (e : Element) (b : Bool) (ps : List Path) → tails e (here_path b ++ ps) ≡ tails e ps
+pub tails-here : (e : Element) (b : Bool) (ps : List Path) → tails e (here_path b ++ ps) ≡ tails e ps
 tails-here e true ps = refl
 tails-here e false ps = refl
 

@@ -127,7 +127,7 @@ inserted-new n x f rest path u here is only g =
     ∙ ap (λ b. b || is_one_of (paths_below (out-Trie n).below.items) (e ∷ p)) (any-after same_path same_path-reading e f (paths u) p ∙ ap (λ b. same_element e f && b) (only.paths_are p)))
     g.risen g.tries
 
-spread : (e a b r : Bool) → ((e && (a || b)) || r) ≡ ((e && a) || ((e && b) || r))
+pub spread : (e a b r : Bool) → ((e && (a || b)) || r) ≡ ((e && a) || ((e && b) || r))
 spread true true b r = refl
 spread true false b r = refl
 spread false a b r = refl

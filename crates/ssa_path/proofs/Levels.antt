@@ -129,7 +129,7 @@ module _ (R : Path → Path → Bool) (r : IsReading R) where
 
 -- ---- the root of a place
 
-one-after-root : (e : Element) (ps : List Path) → is_one_of (paths_after e ps) [] ≡ false
+pub one-after-root : (e : Element) (ps : List Path) → is_one_of (paths_after e ps) [] ≡ false
 one-after-root e [] = refl
 one-after-root e (p ∷ ps) = one-after-root e ps
 

@@ -1,6 +1,6 @@
 -- Lists of children: one after another, parted at a place, and copied.
-use Rattle.std.proofs.Common.{◌≡◌, ℕ, ◌+◌, ◌<◌, List, [], ◌∷◌, ◌++◌, length, get_or, take, drop, map, Bool, true, false, ◌&&◌, ◌||◌, refl, sym, ap, ◌∙◌, append_assoc, arith, set, length-set, get_or-set_same}
-use Rattle.std.proofs.lemmas.List.{drop_more, take-append-drop, take-set, drop-set-lt}
+use Rattle.std.proofs.Common.{◌≡◌, ℕ, suc, ◌+◌, ◌<◌, List, [], ◌∷◌, ◌++◌, length, get_or, take, drop, map, Bool, true, false, ◌&&◌, ◌||◌, refl, sym, ap, ◌∙◌, append_assoc, arith, set, length-set, get_or-set_same}
+use Rattle.std.proofs.lemmas.List.{drop_more, take_more, take-append-drop, take-set, drop-set-lt}
 use Rattle.std.proofs.lemmas.List.Folds.{list_any-append}
 use Rattle.ssa_model.specs.definitions.Path.{Element, Path, same_path}
 use Rattle.ssa_path.specs.declared.element.Elem.{Elem}
@@ -18,6 +18,10 @@ use Rattle.ssa_path.proofs.Levels.{shape-made, shape-level}
 pub elements-append : {A : Type 0} (cs ds : List (Elem × A)) → elements (cs ++ ds) ≡ elements cs ++ elements ds
 elements-append [] ds = refl
 elements-append (c ∷ cs) ds = ap (λ es. element_view c.0 ∷ es) (elements-append cs ds)
+
+pub length-elements : {A : Type 0} (cs : List (Elem × A)) → length (elements cs) ≡ length cs
+length-elements [] = refl
+length-elements (c ∷ cs) = ap suc (length-elements cs)
 
 pub paths_below-append : (cs ds : List (Elem × Trie)) → paths_below (cs ++ ds) ≡ paths_below cs ++ paths_below ds
 paths_below-append [] ds = refl
@@ -43,6 +47,9 @@ child-trie cs i c lt is h =
 
 pub left-at : {A : Type 0} (cs : List A) (i : ℕ) (c : A) → i < length cs → c ≡ get_or cs i c → drop i cs ≡ c ∷ drop (i + 1) cs
 left-at cs i c lt is = drop_more cs i c lt ∙ ap (λ x. x ∷ drop (i + 1) cs) (sym is)
+
+pub taken-at : {A : Type 0} (cs : List A) (i : ℕ) (c : A) → i < length cs → c ≡ get_or cs i c → take (i + 1) cs ≡ take i cs ++ c ∷ []
+taken-at cs i c lt is = take_more cs i c lt ∙ ap (λ x. take i cs ++ x ∷ []) (sym is)
 
 pub parted : {A : Type 0} (cs : List A) (i : ℕ) (c : A) → i < length cs → c ≡ get_or cs i c → cs ≡ take i cs ++ c ∷ drop (i + 1) cs
 parted cs i c lt is = sym (take-append-drop i cs) ∙ ap (λ l. take i cs ++ l) (left-at cs i c lt is)

@@ -26,7 +26,12 @@ index_up e f g Greater a b =
 tied-other_way : (f e : Element) → element_cmp f e ≡ Equal → same_element e f ≡ true
 tied-other_way f e h = ap is_eq (element_cmp_total.antisymm e f ∙ ap ordering_reverse h)
 
-apart-before : (e f g : Element) → same_element e g ≡ true → is_lt (element_cmp f g) ≡ true → same_element e f ≡ false
+-- what stands before elements, one of them among them, stands before that one
+pub below-middle : (f d : Element) (es fs : List Element) → is_below f (es ++ d ∷ fs) ≡ true → is_lt (element_cmp f d) ≡ true
+below-middle f d [] fs h = both_first _ _ h
+below-middle f d (e ∷ es) fs h = below-middle f d es fs (both_second _ _ h)
+
+pub apart-before : (e f g : Element) → same_element e g ≡ true → is_lt (element_cmp f g) ≡ true → same_element e f ≡ false
 apart-before e f g s h =
     let same : e ≡ g = same_element-true e g s in
     let above : element_cmp g f ≡ Greater = element_cmp_total.antisymm g f ∙ ap ordering_reverse (lower _ h) in
@@ -100,17 +105,11 @@ module _ {A : Type 0} where
       same_here e (element_view d.0) (apart-before e (element_view d.0) (element_at cs i c) s before) d.1 (child_at e cs)
       ∙ child-found e cs i c (both_second _ _ h) (omega arith) s
 
-  below-middle : (f e : Element) (cs : List (Elem × A)) (i : ℕ) → is_below f (elements (take i cs) ++ e ∷ elements (drop i cs)) ≡ true → is_lt (element_cmp f e) ≡ true
-  below-middle f e [] zero h = both_first _ _ h
-  below-middle f e [] (suc i) h = both_first _ _ h
-  below-middle f e (c ∷ cs) zero h = both_first _ _ h
-  below-middle f e (c ∷ cs) (suc i) h = below-middle f e cs i (both_second _ _ h)
-
   pub child-absent : (e : Element) (cs : List (Elem × A)) (i : ℕ) → rises (elements (take i cs) ++ e ∷ elements (drop i cs)) ≡ true → child_at e cs ≡ None
   child-absent e [] i h = refl
   child-absent e (c ∷ cs) zero h = absent-below e e (c ∷ cs) (same_element-itself e) (both_first _ _ h)
   child-absent e (c ∷ cs) (suc i) h =
-      let before = below-middle (element_view c.0) e cs i (both_first _ _ h) in
+      let before = below-middle (element_view c.0) e (elements (take i cs)) (elements (drop i cs)) (both_first _ _ h) in
       same_here e (element_view c.0) (apart-before e (element_view c.0) e (same_element-itself e) before) c.1 (child_at e cs)
       ∙ child-absent e cs i (both_second _ _ h)
 

@@ -14,6 +14,7 @@ use crate::same::same_tries;
 use crate::trie::Trie;
 use std::alloc::{AllocError, Global};
 use std::marker::Model;
+use std::mem;
 
 /// A set of paths.
 ///
@@ -66,6 +67,27 @@ impl FieldSet {
         ensures trie { is_trie result.now ≡ true }
     {
         &self.root
+    }
+
+    /// Takes out the trie of the set's paths, which leaves the empty set. Takes no memory.
+    pub fn take_root(&mut self) -> Trie
+        ensures same { listed (paths result) ≡ self.old }
+        ensures trie { is_trie result ≡ true }
+        ensures left { self.new ≡ empty }
+    {
+        let none = Trie {
+            here: false,
+            below: Vec::new(*self.root.below.allocator()),
+        };
+        mem::replace(&mut self.root, none)
+    }
+
+    /// Makes the set that of a trie's paths. Takes no memory.
+    pub fn set_root(&mut self, root: Trie)
+        requires { is_trie root ≡ true }
+        ensures { self.new ≡ listed (paths root) }
+    {
+        self.root = root;
     }
 
     /// Whether the path is in the set. The beginnings of its paths are not, unless they were put in.

@@ -88,6 +88,13 @@ impl Keys {
         &self.members
     }
 
+    /// The names and values themselves, in the order of the names.
+    pub fn into_members(self) -> Vec<(String, Scalar)>
+        ensures { members_view result.items ≡ self }
+    {
+        self.members
+    }
+
     /// The same key fields, with new memory.
     pub fn copy(&self, alloc: Global) -> Result<Keys, AllocError>
         ensures { IfOk result (λ k. k ≡ self.now) }

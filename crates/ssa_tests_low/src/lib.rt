@@ -1,4 +1,4 @@
-//! Tests of values, schemas, sets of paths and bodies.
+//! Tests of values, schemas, sets of paths, bodies and journals of records.
 #![tactic(auto)]
 
 #[cfg(test)]
@@ -11,6 +11,8 @@ mod device_tests;
 mod element_tests;
 #[cfg(test)]
 mod fields_tests;
+#[cfg(test)]
+mod journal_tests;
 #[cfg(test)]
 mod json_tests;
 #[cfg(test)]

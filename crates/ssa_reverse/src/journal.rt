@@ -1,0 +1,149 @@
+//! The records of a value that is kept elsewhere, for going back and forth along its history.
+ghost use Rattle.std.specs.Prelude.{◌≡◌, ◌+◌, ◌≤◌, ◌<◌, ◌↔◌, ◌++◌, [], length, IsTrue, IsOk, IfOk, OnErr, OnOk, IsSome, IfSome, Some, slice_get, vec_len, vec_capacity};
+
+use crate::reversible::Reversible;
+use crate::room::push_within;
+use std::alloc::{AllocError, Global};
+
+/// The records of a value, each under a label.
+///
+/// Those of the past lead back from the value, those of the future lead forward. The value itself
+/// is kept by the caller, who hands it to each call as the last call left it.
+#[derive(Drop)]
+pub struct Journal<T: Reversible, L: Drop> {
+    // In each the next to be moved stands last.
+    past: Vec<(T::Delta, L)>,
+    future: Vec<(T::Delta, L)>,
+    ghost past_room: { vec_len past + vec_len future ≤ vec_capacity past },
+    ghost future_room: { vec_len past + vec_len future ≤ vec_capacity future },
+}
+
+impl<T: Reversible, L: Drop> Journal<T, L> {
+    ghost use Rattle.ssa_reverse.specs.Timeline.{recorded, undone, redone};
+    ghost use Rattle.ssa_reverse.specs.Journals.{future_of, past_of, timeline_of, GoesWith, HoldsSame};
+
+    /// The journal with no record, which goes with any value. Takes no memory.
+    pub fn new(alloc: Global) -> Self
+        ensures past { past_of result ≡ [] }
+        ensures future { future_of result ≡ [] }
+        ensures whole { (v : T.Meaning) → GoesWith result v }
+    {
+        Journal {
+            past: Vec::new(alloc),
+            future: Vec::new(alloc),
+        }
+    }
+
+    /// How many records lead back.
+    pub fn past_len(&self) -> usize
+        ensures records { result ≡ length (past_of self.now) }
+        ensures steps { (v : T.Meaning) → result ≡ length (timeline_of self.now v).past }
+    {
+        self.past.len()
+    }
+
+    /// How many records lead forward.
+    pub fn future_len(&self) -> usize
+        ensures records { result ≡ length (future_of self.now) }
+        ensures steps { (v : T.Meaning) → result ≡ length (timeline_of self.now v).future }
+    {
+        self.future.len()
+    }
+
+    /// Takes the value to where the record leads, and keeps the record that leads back under the
+    /// label. The records of the future are dropped.
+    ///
+    /// All memory that a later undo or redo wants for the journal itself is taken here. Where it
+    /// is refused, or the turn is, the record is dropped and all else is as it was.
+    pub fn record(&mut self, value: &mut T, mut delta: T::Delta, label: L) -> Result<(), AllocError>
+        requires whole { GoesWith self.old (T.meaning value.old) }
+        requires fits { T.takes (T.steps delta) (T.meaning value.old) (T.target (T.steps delta) (T.meaning value.old)) }
+        requires room { T.has_room delta (T.meaning value.old) }
+        ensures whole { GoesWith self.new (T.meaning value.new) }
+        ensures ok { OnOk result (timeline_of self.new (T.meaning value.new)
+            ≡ recorded (timeline_of self.old (T.meaning value.old)) (T.target (T.steps delta) (T.meaning value.old)) label) }
+        ensures err { OnErr result ((value.new ≡ value.old) × HoldsSame self.new self.old) }
+    {
+        let places = self.past.len() + 1;
+        self.past.reserve(1)?;
+        let waiting = self.future.len();
+        if waiting < places {
+            self.future.reserve(places - waiting)?;
+        }
+        value.turn(&mut delta)?;
+        self.future.clear();
+        push_within(&mut self.past, (delta, label));
+        Ok(())
+    }
+
+    /// Takes the value one record back, and says whether there was one.
+    ///
+    /// On `Err`, which comes only where turns of such values can fail, nothing has moved.
+    pub fn undo(&mut self, value: &mut T) -> Result<bool, AllocError>
+        requires whole { GoesWith self.old (T.meaning value.old) }
+        ensures whole { GoesWith self.new (T.meaning value.new) }
+        ensures moved { IfOk result (λ moved. IsTrue moved ↔ (0 < length (past_of self.old))) }
+        ensures ok { OnOk result (timeline_of self.new (T.meaning value.new) ≡ undone (timeline_of self.old (T.meaning value.old))) }
+        ensures err { OnErr result ((value.new ≡ value.old) × HoldsSame self.new self.old) }
+        ensures sure { IsTrue T.SURE → IsOk result }
+    {
+        let Some((mut delta, label)) = self.past.pop() else {
+            return Ok(false);
+        };
+        match value.turn(&mut delta) {
+            Ok(()) => {
+                push_within(&mut self.future, (delta, label));
+                Ok(true)
+            }
+            Err(error) => {
+                push_within(&mut self.past, (delta, label));
+                Err(error)
+            }
+        }
+    }
+
+    /// Takes the value one record forward, and says whether there was one.
+    ///
+    /// On `Err`, which comes only where turns of such values can fail, nothing has moved.
+    pub fn redo(&mut self, value: &mut T) -> Result<bool, AllocError>
+        requires whole { GoesWith self.old (T.meaning value.old) }
+        ensures whole { GoesWith self.new (T.meaning value.new) }
+        ensures moved { IfOk result (λ moved. IsTrue moved ↔ (0 < length (future_of self.old))) }
+        ensures ok { OnOk result (timeline_of self.new (T.meaning value.new) ≡ redone (timeline_of self.old (T.meaning value.old))) }
+        ensures err { OnErr result ((value.new ≡ value.old) × HoldsSame self.new self.old) }
+        ensures sure { IsTrue T.SURE → IsOk result }
+    {
+        let Some((mut delta, label)) = self.future.pop() else {
+            return Ok(false);
+        };
+        match value.turn(&mut delta) {
+            Ok(()) => {
+                push_within(&mut self.past, (delta, label));
+                Ok(true)
+            }
+            Err(error) => {
+                push_within(&mut self.future, (delta, label));
+                Err(error)
+            }
+        }
+    }
+
+    /// The record at a place with its label: those of the past first, the oldest at 0, then those
+    /// of the future, the next to be redone first.
+    pub fn entry(&self, n: usize) -> Option<(&T::Delta, &L)>
+        ensures within { IsSome result ↔ (n < length (past_of self.now ++ future_of self.now)) }
+        ensures value { IfSome result (λ e. slice_get (past_of self.now ++ future_of self.now) n ≡ Some (e.0.now, e.1.now)) }
+    {
+        let past = self.past.len();
+        let future = self.future.len();
+        if n < past {
+            let entry = &self.past[n];
+            Some((&entry.0, &entry.1))
+        } else if n - past < future {
+            let entry = &self.future[future - 1 - (n - past)];
+            Some((&entry.0, &entry.1))
+        } else {
+            None
+        }
+    }
+}

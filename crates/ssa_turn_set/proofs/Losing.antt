@@ -1,0 +1,231 @@
+-- A set taken out of another, child by child.
+use Rattle.std.proofs.Common.{◌≡◌, ℕ, zero, suc, ◌+◌, ◌<◌, ◌≤◌, List, [], ◌∷◌, ◌++◌, length, get_or, set, drop, take, Bool, true, false, not, ◌&&◌, ◌||◌, refl, sym, ap, ◌∙◌, arith, subst, length-drop, true≢false}
+use Rattle.std.proofs.Math.Bool.{and-true}
+use Rattle.std.proofs.lemmas.List.{take_all, take_more_set}
+use Rattle.std.proofs.lemmas.List.Folds.{list_any-append}
+use Rattle.std.specs.Prelude.{vec_capacity}
+use Rattle.ssa_model.specs.definitions.FieldsV1.{heads, tails}
+use Rattle.ssa_model.specs.definitions.Path.{Element, Path, same_element, same_path}
+use Rattle.ssa_path.specs.declared.element.Elem.{Elem}
+use Rattle.ssa_path.specs.declared.trie.Trie.{Trie}
+use Rattle.ssa_path.specs.declared.trie.Trie.TheViews.{out-Trie, roll-Trie, out-roll-Trie}
+use Rattle.ssa_path.specs.declared.trie.Trie.TheOpen.{Trie-F}
+use Rattle.ssa_path.specs.Children.{elements, is_below, rises}
+use Rattle.ssa_path.specs.View.{element_view}
+use Rattle.ssa_path.specs.Trie.{is_one_of, paths_after, paths_below, paths, is_trie, are_filled_tries}
+use Rattle.ssa_path.proofs.Orders.{both, both_first, both_second, not_tied, same_element-itself}
+use Rattle.ssa_path.proofs.Searching.{absent-below, below-middle}
+use Rattle.ssa_path.proofs.Lists.{taken-at, left-at, rises-drop, elements-append}
+use Rattle.ssa_path.proofs.Levels.{same_path-reading, any-after, any-below, any-level, any-made, found, one-after-root, one-level-root, one-made-root, one-below-root}
+use Rattle.ssa_turn_set.specs.declared.room.Room.{Room}
+use Rattle.ssa_turn_set.specs.declared.room.Room.TheOpen.{Room-F}
+use Rattle.ssa_turn_set.specs.declared.room.Room.TheViews.{out-Room, roll-Room, out-roll-Room}
+use Rattle.ssa_turn_set.specs.declared.spare.Spare.{Spare}
+use Rattle.ssa_turn_set.specs.Room.{fresh, freshes, holds, lose_one, lose_room, gain_room, gains, loses, gain_one}
+use Rattle.ssa_turn_set.proofs.Rooms.{AreAlike, gains-more, loses-some, loses-alike, gains-alike, freshes-alike, lose_room-level}
+use Rattle.ssa_turn_set.proofs.Places.{all-taken, within-both, gain-made, lose-own, lose-below, roomy}
+use Rattle.ssa_turn_set.proofs.Gaining.{one-more}
+
+-- The children cs of a set have become `now`: those of `done` are taken out, those of `left` are not. `old` is the room for `done` as it was, `filled` as it is.
+pub record IsLosing (cs done left : List (Elem × Trie)) (old filled rooms : List (Spare × Room)) (now : List (Elem × Trie)) : Type 0 where
+  pub paths_are : (p : Path) → is_one_of (paths_below now) p ≡ (is_one_of (paths_below cs) p && not (is_one_of (paths_below done) p))
+  pub risen : rises (elements now) ≡ true
+  pub tries : are_filled_tries now ≡ true
+  pub len : length now + freshes done (paths_below now) ≡ length cs
+  pub within : (p : Path) → is_one_of (paths_below left) p ≡ true → is_one_of (paths_below now) p ≡ true
+  pub without : List Path
+  pub form : loses left without rooms ≡ true
+  pub back : loses done (paths_below now) old ≡ true → gains done (paths_below now) filled ≡ true
+  pub all_rise : rises (elements (done ++ left)) ≡ true
+  pub left_tries : are_filled_tries left ≡ true
+
+-- ---- the order of elements
+
+below-without : (f d : Element) (es fs : List Element) → is_below f (es ++ d ∷ fs) ≡ true → is_below f (es ++ fs) ≡ true
+below-without f d [] fs h = both_second _ _ h
+below-without f d (e ∷ es) fs h = both _ _ (both_first _ _ h) (below-without f d es fs (both_second _ _ h))
+
+pub rises-without : (d : Element) (es fs : List Element) → rises (es ++ d ∷ fs) ≡ true → rises (es ++ fs) ≡ true
+rises-without d [] fs h = both_second _ _ h
+rises-without d (e ∷ es) fs h = both _ _ (below-without e d es fs (both_first _ _ h)) (rises-without d es fs (both_second _ _ h))
+
+-- the paths below the children in front of d stay
+front-alike : (done : List (Elem × Trie)) (d : Element) (fs : List Element) (ps qs : List Path) → rises (elements done ++ d ∷ fs) ≡ true → ((e : Element) → same_element e d ≡ false → tails e qs ≡ tails e ps) → AreAlike done qs ps
+front-alike [] d fs ps qs h apart = tt
+front-alike (c ∷ done) d fs ps qs h apart = (apart (element_view c.0) (not_tied _ (below-middle (element_view c.0) d (elements done) fs (both_first _ _ h))), front-alike done d fs ps qs (both_second _ _ h) apart)
+
+-- ---- the rooms
+
+loses-parts : (ds : List (Elem × Trie)) (d : Elem × Trie) (ps : List Path) (rs : List (Spare × Room)) (r : Spare × Room) → loses (ds ++ d ∷ []) ps (rs ++ r ∷ []) ≡ true → (loses ds ps rs ≡ true) × (lose_one d (tails (element_view d.0) ps) r ≡ true)
+loses-parts [] d ps [] r h = (refl, both_first _ _ h)
+loses-parts [] d ps (x ∷ []) r h = absurd (true≢false (sym (both_second _ _ h)))
+loses-parts [] d ps (x ∷ y ∷ rs) r h = absurd (true≢false (sym (both_second _ _ h)))
+loses-parts (c ∷ []) d ps [] r h = absurd (true≢false (sym (both_second _ _ h)))
+loses-parts (c ∷ e ∷ ds) d ps [] r h = absurd (true≢false (sym (both_second _ _ h)))
+loses-parts (c ∷ ds) d ps (x ∷ rs) r h = let rest = loses-parts ds d ps rs r (both_second _ _ h) in (both _ _ (both_first _ _ h) rest.0, rest.1)
+
+pub freshes-more : (ds : List (Elem × Trie)) (d : Elem × Trie) (ps : List Path) → freshes (ds ++ d ∷ []) ps ≡ freshes ds ps + fresh (tails (element_view d.0) ps)
+freshes-more [] d ps = omega arith
+freshes-more (c ∷ ds) d ps = let e = freshes-more ds d ps in omega arith
+
+-- ---- one step
+
+not_both : (c a d : Bool) → ((c && not a) && not d) ≡ (c && not (a || (d || false)))
+not_both true true d = refl
+not_both true false true = refl
+not_both true false false = refl
+not_both false a d = refl
+
+-- what is left is apart from d
+left-apart : (d : Elem × Trie) (left : List (Elem × Trie)) (p : Path) → is_below (element_view d.0) (elements left) ≡ true → rises (elements left) ≡ true → is_one_of (paths_below left) p ≡ true → is_one_of (paths_after (element_view d.0) (paths d.1)) p ≡ false
+left-apart d left [] h risen k = one-after-root (element_view d.0) (paths d.1)
+left-apart d left (e ∷ p) h risen k =
+    any-after same_path same_path-reading e (element_view d.0) (paths d.1) p ∙ ap (λ b. b && is_one_of (paths d.1) p) (told (same_element e (element_view d.0)) refl)
+  where
+    told : (b : Bool) → same_element e (element_view d.0) ≡ b → same_element e (element_view d.0) ≡ false
+    told false s = s
+    told true s =
+        let none = any-below same_path same_path-reading e left p risen ∙ ap (λ x. found same_path x p) (absent-below e (element_view d.0) left s h) in
+        absurd (true≢false (sym k ∙ none))
+
+pub losing-more : (cs done left : List (Elem × Trie)) (old filled rooms : List (Spare × Room)) (now new : List (Elem × Trie)) (d : Elem × Trie) (r s : Spare × Room) → IsLosing cs done (d ∷ left) old filled (r ∷ rooms) now
+    → ((p : Path) → is_one_of (paths_below new) p ≡ (is_one_of (paths_below now) p && not (is_one_of (paths_after (element_view d.0) (paths d.1)) p)))
+    → rises (elements new) ≡ true → are_filled_tries new ≡ true
+    → ((e : Element) → same_element e (element_view d.0) ≡ false → tails e (paths_below new) ≡ tails e (paths_below now))
+    → length new + fresh (tails (element_view d.0) (paths_below new)) ≡ length now
+    → (lose_one d (tails (element_view d.0) (paths_below new)) r ≡ true → gain_one d (tails (element_view d.0) (paths_below new)) s ≡ true)
+    → IsLosing cs (done ++ d ∷ []) left (old ++ r ∷ []) (filled ++ s ∷ []) rooms new
+losing-more cs done left old filled rooms now new d r s h paths_are risen tries apart len room =
+    let all : rises (elements done ++ element_view d.0 ∷ elements left) ≡ true = ap rises (sym (elements-append done (d ∷ left))) ∙ h.all_rise in
+    let behind = rises-drop (elements done) (element_view d.0 ∷ elements left) all in
+    let alike = front-alike done (element_view d.0) (elements left) (paths_below now) (paths_below new) all apart in
+    let counted = h.len in
+    let more = freshes-more done d (paths_below new) in
+    let same = freshes-alike done (paths_below new) (paths_below now) alike in
+    record {
+      paths_are = λ p. paths_are p ∙ ap (λ b. b && not (is_one_of (paths_after (element_view d.0) (paths d.1)) p)) (h.paths_are p)
+          ∙ not_both (is_one_of (paths_below cs) p) (is_one_of (paths_below done) p) (is_one_of (paths_after (element_view d.0) (paths d.1)) p)
+          ∙ ap (λ b. is_one_of (paths_below cs) p && not b) (sym (one-more done d p));
+      risen = risen;
+      tries = tries;
+      len = omega arith;
+      within = λ p k. paths_are p ∙ both _ _ (h.within p (in-rest p k)) (ap not (left-apart d left p (both_first _ _ behind) (both_second _ _ behind) k));
+      without = h.without;
+      form = both_second _ _ h.form;
+      back = λ k.
+          let parts = loses-parts done d (paths_below new) old r k in
+          let first = h.back (sym (loses-alike done (paths_below new) (paths_below now) old alike) ∙ parts.0) in
+          gains-more done d (paths_below new) filled s (gains-alike done (paths_below new) (paths_below now) filled alike ∙ first) (room parts.1);
+      all_rise = ap (λ l. rises (elements l)) (sym (one-by-one done d left)) ∙ h.all_rise;
+      left_tries = both_second _ _ h.left_tries;
+    }
+  where
+    one-by-one : (xs : List (Elem × Trie)) (x : Elem × Trie) (ys : List (Elem × Trie)) → xs ++ x ∷ ys ≡ (xs ++ x ∷ []) ++ ys
+    one-by-one [] x ys = refl
+    one-by-one (y ∷ xs) x ys = ap (λ l. y ∷ l) (one-by-one xs x ys)
+
+    or_true : (b : Bool) → (b || true) ≡ true
+    or_true true = refl
+    or_true false = refl
+
+    in-rest : (p : Path) → is_one_of (paths_below left) p ≡ true → is_one_of (paths_below (d ∷ left)) p ≡ true
+    in-rest p k = list_any-append (same_path p) (paths_after (element_view d.0) (paths d.1)) (paths_below left) ∙ ap (λ b. is_one_of (paths_after (element_view d.0) (paths d.1)) p || b) k ∙ or_true _
+
+pub losing-none : (cs ds : List (Elem × Trie)) (rooms : List (Spare × Room)) (ps : List Path) → rises (elements cs) ≡ true → are_filled_tries cs ≡ true → rises (elements ds) ≡ true → are_filled_tries ds ≡ true
+    → ((p : Path) → is_one_of (paths_below ds) p ≡ true → is_one_of (paths_below cs) p ≡ true) → loses ds ps rooms ≡ true → IsLosing cs [] ds [] [] rooms cs
+losing-none cs ds rooms ps risen tries left_rise left_tries within form = record {
+  paths_are = λ p. sym (and-true (is_one_of (paths_below cs) p));
+  risen = risen;
+  tries = tries;
+  len = omega arith;
+  within = within;
+  without = ps;
+  form = form;
+  back = λ k. refl;
+  all_rise = left_rise;
+  left_tries = left_tries;
+}
+
+-- ---- in a loop
+
+pub losing-at : (cs ds : List (Elem × Trie)) (rs fs : List (Spare × Room)) (now : List (Elem × Trie)) (i : ℕ) (d : Elem × Trie) (r : Spare × Room) → i < length ds → d ≡ get_or ds i d → i < length rs → r ≡ get_or rs i r
+    → IsLosing cs (take i ds) (drop i ds) (take i rs) fs (drop i rs) now → IsLosing cs (take i ds) (d ∷ drop (i + 1) ds) (take i rs) fs (r ∷ drop (i + 1) rs) now
+losing-at cs ds rs fs now i d r lt is lt2 is2 h = subst (λ l. IsLosing cs (take i ds) l (take i rs) fs (r ∷ drop (i + 1) rs) now) (left-at ds i d lt is) (subst (λ l. IsLosing cs (take i ds) (drop i ds) (take i rs) fs l now) (left-at rs i r lt2 is2) h)
+
+pub losing-within : (cs ds : List (Elem × Trie)) (rs fs : List (Spare × Room)) (now : List (Elem × Trie)) (i : ℕ) → i < length ds → IsLosing cs (take i ds) (drop i ds) (take i rs) fs (drop i rs) now → i < length rs
+losing-within cs ds rs fs now i lt h = within-both ds rs i lt (loses-some (drop i ds) h.without (drop i rs) h.form)
+
+pub losing-next : (cs ds : List (Elem × Trie)) (rs ns : List (Spare × Room)) (now : List (Elem × Trie)) (i : ℕ) (d : Elem × Trie) (r s : Spare × Room) → i < length ds → d ≡ get_or ds i d → i < length rs → r ≡ get_or rs i r → i < length ns
+    → IsLosing cs (take i ds ++ d ∷ []) (drop (i + 1) ds) (take i rs ++ r ∷ []) (take i ns ++ s ∷ []) (drop (i + 1) rs) now → IsLosing cs (take (i + 1) ds) (drop (i + 1) ds) (take (i + 1) rs) (take (i + 1) (set ns i s)) (drop (i + 1) rs) now
+losing-next cs ds rs ns now i d r s lt is lt2 is2 lt3 h =
+    subst (λ l. IsLosing cs l (drop (i + 1) ds) (take (i + 1) rs) (take (i + 1) (set ns i s)) (drop (i + 1) rs) now) (sym (taken-at ds i d lt is))
+    (subst (λ l. IsLosing cs (take i ds ++ d ∷ []) (drop (i + 1) ds) l (take (i + 1) (set ns i s)) (drop (i + 1) rs) now) (sym (taken-at rs i r lt2 is2))
+    (subst (λ l. IsLosing cs (take i ds ++ d ∷ []) (drop (i + 1) ds) (take i rs ++ r ∷ []) l (drop (i + 1) rs) now) (sym (take_more_set ns i s lt3)) h))
+
+-- what is left over of both lists of rooms is one
+pub same-left : (ns rs : List (Spare × Room)) (i : ℕ) (r : Spare × Room) → drop i ns ≡ drop i rs → i < length ns → r ≡ get_or ns i r → (i < length rs) × (r ≡ get_or rs i r) × (drop (i + 1) ns ≡ drop (i + 1) rs)
+same-left [] rs i r e lt is = absurd (omega arith)
+same-left (n ∷ ns) [] zero r e lt is = cc
+same-left (n ∷ ns) (x ∷ rs) zero r e lt is = let first : n ≡ x = cc in let rest : ns ≡ rs = cc in (omega arith, is ∙ first, rest)
+same-left (n ∷ ns) [] (suc i) r e lt is = let none = ap length e in let more = length-drop i ns in absurd (omega arith)
+same-left (n ∷ ns) (x ∷ rs) (suc i) r e lt is = let rest = same-left ns rs i r e (omega arith) is in let next : suc i + 1 ≡ suc (i + 1) = omega arith in (let l = rest.0 in omega arith, rest.1, ap (λ k. drop k (n ∷ ns)) next ∙ rest.2 ∙ sym (ap (λ k. drop k (x ∷ rs)) next))
+
+pub losing-all : (cs ds : List (Elem × Trie)) (rs ns : List (Spare × Room)) (now : List (Elem × Trie)) (i : ℕ) → length ds ≤ i → drop i ns ≡ drop i rs → IsLosing cs (take i ds) (drop i ds) (take i rs) (take i ns) (drop i rs) now
+    → ((p : Path) → is_one_of (paths_below now) p ≡ (is_one_of (paths_below cs) p && not (is_one_of (paths_below ds) p))) × (length now + freshes ds (paths_below now) ≡ length cs) × (loses ds (paths_below now) rs ≡ true → gains ds (paths_below now) ns ≡ true)
+losing-all cs ds rs ns now i le e h =
+    let all = take_all i ds le in
+    let some = loses-some (drop i ds) h.without (drop i rs) h.form in
+    let olds = all-taken ds rs i le some in
+    let news = all-taken ds ns i le (some ∙ ap length (sym e)) in (
+      λ p. h.paths_are p ∙ ap (λ l. is_one_of (paths_below cs) p && not (is_one_of (paths_below l) p)) all,
+      ap (λ l. length now + freshes l (paths_below now)) (sym all) ∙ h.len,
+      λ k. (λ j. gains (sym all j) (paths_below now) (sym news j)) ∙ h.back ((λ j. loses (all j) (paths_below now) (olds j)) ∙ k),
+    )
+
+-- ---- the place as a whole
+
+pub lost-place : (x : Trie-F Trie) (l s : Trie) → x.here ≡ ((out-Trie s).here && not (out-Trie l).here) → ((p : Path) → is_one_of (paths_below x.below.items) p ≡ (is_one_of (paths_below (out-Trie s).below.items) p && not (is_one_of (paths_below (out-Trie l).below.items) p)))
+    → (p : Path) → is_one_of (paths (roll-Trie x)) p ≡ (is_one_of (paths s) p && not (is_one_of (paths l) p))
+lost-place x l s here below [] = one-made-root x ∙ here ∙ (λ i. sym (one-level-root s) i && not (sym (one-level-root l) i))
+lost-place x l s here below (e ∷ p) =
+    any-made same_path same_path-reading x e p ∙ below (e ∷ p) ∙ (λ i. sym (any-level same_path same_path-reading s e p) i && not (sym (any-level same_path same_path-reading l e p) i))
+
+pub lost-room : (t : Trie) (x : Trie-F Trie) (r : Room) (y : Room-F Room) → is_trie (roll-Trie x) ≡ true → y.children.items ≡ []
+    → (length x.below.items ≤ vec_capacity (out-Room r).children → length x.below.items + freshes (out-Trie t).below.items (paths_below x.below.items) ≤ vec_capacity y.children)
+    → (loses (out-Trie t).below.items (paths_below x.below.items) (out-Room r).below.items ≡ true → gains (out-Trie t).below.items (paths_below x.below.items) y.below.items ≡ true)
+    → lose_room t (paths (roll-Trie x)) r ≡ true → gain_room t (paths (roll-Trie x)) (roll-Room y) ≡ true
+lost-room t x r y h empty fits back k =
+    let ds = (out-Trie t).below.items in
+    let s = roll-Trie x in
+    let set : out-Trie s ≡ x = out-roll-Trie x in
+    let room : out-Room (roll-Room y) ≡ y = out-roll-Room y in
+    let own : 0 < freshes ds (paths_below x.below.items) → length x.below.items ≤ vec_capacity (out-Room r).children = subst (λ z. 0 < freshes ds (paths_below z.below.items) → length z.below.items ≤ vec_capacity (out-Room r).children) set (lose-own t s r h k).fits in
+    let enough : 0 < freshes ds (paths_below x.below.items) → length x.below.items + freshes ds (paths_below x.below.items) ≤ vec_capacity y.children = λ lt. fits (own lt) in
+    let below = back (subst (λ z. loses ds (paths_below z.below.items) (out-Room r).below.items ≡ true) set (lose-below t s r k)) in
+    gain-made t s (roll-Room y) h
+    (record {
+      empty = ap (λ z. z.children.items) room ∙ empty;
+      fits = subst (λ z. 0 < freshes ds (paths_below z.below.items) → length z.below.items + freshes ds (paths_below z.below.items) ≤ vec_capacity (out-Room (roll-Room y)).children) (sym set) (subst (λ z. 0 < freshes ds (paths_below x.below.items) → length x.below.items + freshes ds (paths_below x.below.items) ≤ vec_capacity z.children) (sym room) enough);
+    })
+    (subst (λ z. gains ds (paths_below z.below.items) (out-Room (roll-Room y)).below.items ≡ true) (sym set) (ap (λ z. gains ds (paths_below x.below.items) z.below.items) room ∙ below))
+
+-- ---- the requirements of a place, told of what is below it
+
+pub start-form : (t : Trie) (ps : List Path) (r : Room) → lose_room t ps r ≡ true → ((out-Room r).children.items ≡ []) × (loses (out-Trie t).below.items ps (out-Room r).below.items ≡ true)
+start-form t ps r h =
+    let parts = sym (lose_room-level t ps r) ∙ h in
+    ((roomy (freshes (out-Trie t).below.items ps) (length (heads ps)) r (both_first _ _ parts)).empty, both_second (holds (freshes (out-Trie t).below.items ps) (length (heads ps)) r) _ parts)
+
+pub start-within : (l s : Trie) → ((p : Path) → is_one_of (paths l) p ≡ true → is_one_of (paths s) p ≡ true) → (p : Path) → is_one_of (paths_below (out-Trie l).below.items) p ≡ true → is_one_of (paths_below (out-Trie s).below.items) p ≡ true
+start-within l s h [] k = absurd (true≢false (sym k ∙ one-below-root (out-Trie l).below.items))
+start-within l s h (e ∷ p) k = sym (any-level same_path same_path-reading s e p) ∙ h (e ∷ p) (any-level same_path same_path-reading l e p ∙ k)
+
+pub step-within : (cs done left : List (Elem × Trie)) (old filled rooms : List (Spare × Room)) (now : List (Elem × Trie)) (d : Elem × Trie) → IsLosing cs done (d ∷ left) old filled rooms now
+    → (p : Path) → is_one_of (paths d.1) p ≡ true → is_one_of (paths_below now) (element_view d.0 ∷ p) ≡ true
+step-within cs done left old filled rooms now d h p k =
+    h.within (element_view d.0 ∷ p)
+    (list_any-append (same_path (element_view d.0 ∷ p)) (paths_after (element_view d.0) (paths d.1)) (paths_below left)
+    ∙ ap (λ b. b || is_one_of (paths_below left) (element_view d.0 ∷ p)) (any-after same_path same_path-reading (element_view d.0) (element_view d.0) (paths d.1) p ∙ both _ _ (same_element-itself (element_view d.0)) k))
+
+pub same-length : (ns rs : List (Spare × Room)) (i : ℕ) → drop i ns ≡ drop i rs → i < length rs → i < length ns
+same-length ns rs i e lt = let a = length-drop i ns in let b = length-drop i rs in let l = ap length e in omega arith

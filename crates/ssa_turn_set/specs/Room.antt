@@ -1,0 +1,93 @@
+-- Room for a set of paths that is put into another, place by place, as the other stands without it.
+use Rattle.std.specs.Prelude.{ℕ, zero, suc, ◌+◌, List, [], ◌∷◌, length, map, Bool, true, false, not, ◌&&◌, if◌then◌else◌, nat_le, vec_capacity}
+use Rattle.ssa_model.specs.definitions.FieldsV1.{heads, tails}
+use Rattle.ssa_model.specs.definitions.Path.{Element, Path}
+use Rattle.ssa_path.specs.declared.element.Elem.{Elem}
+use Rattle.ssa_path.specs.declared.trie.Trie.{Trie}
+use Rattle.ssa_path.specs.declared.trie.Trie.TheOpen.{Trie-F}
+use Rattle.ssa_path.specs.declared.trie.Trie.TheFolds.{fold-Trie}
+use Rattle.ssa_path.specs.View.{element_view}
+use Rattle.ssa_path.specs.Trie.{has_some}
+use Rattle.ssa_turn_set.specs.declared.room.Room.{Room}
+use Rattle.ssa_turn_set.specs.declared.room.Room.TheViews.{out-Room}
+use Rattle.ssa_turn_set.specs.declared.spare.Spare.{Spare}
+use Rattle.ssa_turn_set.specs.Spare.{fits, is_nothing}
+
+-- ---- the children of a place
+
+-- what follows a child's element in the paths that begin with it
+abbrev pub below_child : {A : Type 0} → Elem × A → List Path → List Path
+below_child d ps = tails (element_view d.0) ps
+
+-- 1 where there is no path
+abbrev pub fresh : List Path → ℕ
+fresh ps = if has_some ps then 0 else 1
+
+-- the children with which none of the paths begins
+abbrev pub freshes : {A : Type 0} → List (Elem × A) → List Path → ℕ
+freshes [] ps = 0
+freshes (d ∷ ds) ps = fresh (below_child d ps) + freshes ds ps
+
+-- what is asked for only where a child comes or goes
+abbrev pub if_any : ℕ → Bool → Bool
+if_any zero b = true
+if_any (suc n) b = b
+
+-- the place's own vector is empty, and where some children come or go it has room for so many in all
+abbrev pub holds : ℕ → ℕ → Room → Bool
+holds coming all r = not (has_some {A = Elem × Trie} (out-Room r).children.items) && if_any coming (nat_le all (vec_capacity (out-Room r).children))
+
+-- ---- the places, where these are the paths without the set
+
+abbrev pub Need : Type 0
+Need = List Path → Room → Bool
+
+-- where there is no path the spare is enough for the element, and else there is none
+abbrev pub serves : Element → List Path → Spare → Bool
+serves e ps s = if has_some ps then is_nothing s else fits e s
+
+-- each room is enough for its child, and where the child comes its spare for the child's element
+abbrev pub each_gains : List (Elem × Need) → List Path → List (Spare × Room) → Bool
+each_gains [] ps [] = true
+each_gains [] ps (r ∷ rs) = false
+each_gains (d ∷ ds) ps [] = false
+each_gains (d ∷ ds) ps (r ∷ rs) =
+    let below = below_child d ps in
+    (serves (element_view d.0) below r.0 && d.1 below r.1) && each_gains ds ps rs
+
+abbrev pub gain_step : Trie-F Need → Need
+gain_step x ps r =
+    let coming = freshes x.below.items ps in
+    holds coming (length (heads ps) + coming) r && each_gains x.below.items ps (out-Room r).below.items
+
+-- the room is enough for putting the set in
+abbrev pub gain_room : Trie → Need
+gain_room = fold-Trie Need gain_step
+
+-- each room is enough for its child, and has no spare
+abbrev pub each_loses : List (Elem × Need) → List Path → List (Spare × Room) → Bool
+each_loses [] ps [] = true
+each_loses [] ps (r ∷ rs) = false
+each_loses (d ∷ ds) ps [] = false
+each_loses (d ∷ ds) ps (r ∷ rs) = (is_nothing r.0 && d.1 (below_child d ps) r.1) && each_loses ds ps rs
+
+abbrev pub lose_step : Trie-F Need → Need
+lose_step x ps r = holds (freshes x.below.items ps) (length (heads ps)) r && each_loses x.below.items ps (out-Room r).below.items
+
+-- the room is enough for taking the set out
+abbrev pub lose_room : Trie → Need
+lose_room = fold-Trie Need lose_step
+
+-- ---- of a list of children, and of one
+
+abbrev pub gains : List (Elem × Trie) → List Path → List (Spare × Room) → Bool
+gains ds = each_gains (map (λ d. (d.0, gain_room d.1)) ds)
+
+abbrev pub loses : List (Elem × Trie) → List Path → List (Spare × Room) → Bool
+loses ds = each_loses (map (λ d. (d.0, lose_room d.1)) ds)
+
+abbrev pub gain_one : Elem × Trie → List Path → Spare × Room → Bool
+gain_one d below r = serves (element_view d.0) below r.0 && gain_room d.1 below r.1
+
+abbrev pub lose_one : Elem × Trie → List Path → Spare × Room → Bool
+lose_one d below r = is_nothing r.0 && lose_room d.1 below r.1

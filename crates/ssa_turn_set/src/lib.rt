@@ -1,0 +1,11 @@
+//! Sets of paths that are changed in place by a record, without memory.
+#![tactic(auto)]
+
+pub(crate) mod filling;
+pub mod gain;
+pub mod live_set;
+pub mod lose;
+pub mod making;
+pub mod room;
+pub mod spare;
+pub mod turn;
