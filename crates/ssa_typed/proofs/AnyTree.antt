@@ -22,11 +22,11 @@ use Rattle.ssa_typed.proofs.Lookups.{content-root, content-level, tree-child}
 
 -- ---- the node at a path
 
-abbrev then_on : Option Node → (Node → Option Node) → Option Node
+abbrev pub then_on : Option Node → (Node → Option Node) → Option Node
 then_on None f = None
 then_on (Some c) f = f c
 
-abbrev node_on : Path → Node → Option Node
+abbrev pub node_on : Path → Node → Option Node
 node_on [] n = Some n
 node_on (e ∷ p) n = then_on (child_at e (below n)) (node_on p)
 
@@ -38,7 +38,7 @@ on-child : (c : Option Node) (p q : Path) → ((n : Node) → c ≡ Some n → c
 on-child None p q h = refl
 on-child (Some n) p q h = h n refl
 
-content-on : (p : Path) (n : Node) (q : Path) → is_tree n ≡ true → content_at (rows n) (p ++ q) ≡ content_in (node_on p n) q
+pub content-on : (p : Path) (n : Node) (q : Path) → is_tree n ≡ true → content_at (rows n) (p ++ q) ≡ content_in (node_on p n) q
 content-on [] n q h = refl
 content-on (e ∷ p) n q h = content-level n e (p ++ q) h ∙ on-child (child_at e (below n)) p q (λ c is. content-on p c q (tree-child n e c h is))
 

@@ -1,0 +1,11 @@
+pub mod Descent
+pub mod Marks
+pub mod Woven
+pub mod Edits
+pub mod Changes
+pub mod Steps
+pub mod Turns
+pub mod Bodies
+pub mod Orders
+pub mod Told
+pub mod Inner

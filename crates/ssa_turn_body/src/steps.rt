@@ -1,0 +1,76 @@
+//! Records of changes at many places, which become their inverses.
+ghost use Rattle.std.specs.Prelude.{◌≡◌, reverse, map, true};
+ghost use Rattle.ssa_typed.specs.Rows.{is_tree};
+ghost use Rattle.ssa_model.specs.definitions.Path as model;
+ghost use Rattle.ssa_turn_body.specs.Marks.{marks};
+ghost use Rattle.ssa_turn_body.specs.Steps.{StepFits, StepLeads, StepsFit, StepsLead, step_says};
+
+use crate::change::PlaceChange;
+use crate::descent::change_at;
+use ssa_path::element::Elem;
+use ssa_typed::node::Node;
+
+/// A change of the place at a path.
+#[derive(Drop)]
+pub struct Step {
+    pub path: Vec<Elem>,
+    pub change: PlaceChange,
+}
+
+impl Step {
+    /// Makes the change.
+    pub fn turn(&mut self, node: &mut Node)
+        requires tree { is_tree node.old ≡ true }
+        requires fits { StepFits self.old node.old }
+        ensures { StepLeads self.old node.old self.new node.new }
+    {
+        let path = self.path.as_slice();
+        change_at(node, path, &mut self.change);
+    }
+
+    /// Makes the changes of a list, one after the other.
+    pub fn turn_all(steps: &mut Vec<Step>, node: &mut Node)
+        requires tree { is_tree node.old ≡ true }
+        requires fits { StepsFit steps.old.items node.old }
+        ensures { StepsLead steps.old.items node.old steps.new.items node.new }
+    {
+        for i in 0..steps.len() {
+            let step = &mut steps[i];
+            step.turn(node);
+        }
+    }
+}
+
+/// Changes of places of one tree, in the order in which they are made.
+#[derive(Drop)]
+pub struct BodySteps {
+    pub steps: Vec<Step>,
+}
+
+impl BodySteps {
+    ghost use Rattle.ssa_turn_body.specs.Turns.{IsTurned};
+
+    /// Makes the changes, and then holds those that lead back, the last first.
+    pub fn turn(&mut self, node: &mut Node)
+        requires tree { is_tree node.old ≡ true }
+        requires fits { StepsFit self.old.steps.items node.old }
+        ensures leads { IsTurned self.old node.old self.new node.new }
+        ensures tree { is_tree node.new ≡ true }
+        ensures back { StepsFit self.new.steps.items node.new }
+    {
+        Step::turn_all(&mut self.steps, node);
+        self.steps.reverse();
+    }
+
+    /// A second turn leaves the tree and the record as they were.
+    pub fn there_and_back(&mut self, node: &mut Node)
+        requires tree { is_tree node.old ≡ true }
+        requires fits { StepsFit self.old.steps.items node.old }
+        ensures same { (p : model.Path) → marks node.new p ≡ marks node.old p }
+        ensures tree { is_tree node.new ≡ true }
+        ensures steps { map step_says self.new.steps.items ≡ map step_says self.old.steps.items }
+    {
+        self.turn(node);
+        self.turn(node);
+    }
+}
