@@ -6,30 +6,22 @@ use Rattle.ssa_model.specs.definitions.Path.{Element, Path, same_element, under}
 use Rattle.ssa_model.proofs.Pruned.{under-rest}
 use Rattle.ssa_path.specs.Children.{child_at, elements}
 use Rattle.ssa_path.specs.View.{element_view}
-use Rattle.ssa_path.specs.declared.element.Elem.{Elem}
 use Rattle.ssa_path.proofs.Orders.{same_element-itself, same_either_way, both_first, both_second}
 use Rattle.ssa_typed.specs.Rows.{below, own_content, is_tree, are_apart}
 use Rattle.ssa_typed.specs.declared.node.Node.{Node}
 use Rattle.ssa_typed.proofs.Laws.{not_true}
 use Rattle.ssa_typed.proofs.Levels.{level-below}
 use Rattle.ssa_typed.proofs.Lookups.{tree-child}
-use Rattle.ssa_turn_body.specs.Marks.{Mark, Marks, marks, marks_in, Kids, kids, names, Place, seen}
+use Rattle.ssa_turn_body.specs.Marks.{Child, Mark, Marks, marks, marks_in, Kids, kids, names, Place, seen}
 use Rattle.ssa_turn_body.specs.Told.{named}
 use Rattle.ssa_turn_body.specs.Descent.{node_on, then_on, FitsIn, GivesIn, IsChange}
-use Rattle.ssa_turn_body.proofs.Marking.{told, marks-level}
-
-abbrev pub Child : Type 0
-Child = Elem × Node
+use Rattle.ssa_turn_body.proofs.Marking.{told, marks-level, names-kids}
 
 -- ---- what a place tells
 
 abbrev pub from_place : Place → Marks
 from_place v [] = Some (v.0, names v.1)
 from_place v (e ∷ p) = marks_in (named v.1 e) p
-
-names-kids : (cs : List Child) → elements cs ≡ names (kids cs)
-names-kids [] = refl
-names-kids (c ∷ cs) = ap (λ es. element_view c.0 ∷ es) (names-kids cs)
 
 named-kids : (cs : List Child) (e : Element) → option_map marks (child_at e cs) ≡ named (kids cs) e
 named-kids [] e = refl
@@ -40,7 +32,7 @@ named-kids (c ∷ cs) e =
     ]
 
 told-place : (n : Node) (p : Path) → told (own_content n) (below n) p ≡ from_place (seen n) p
-told-place n [] = ap (λ es. Some (own_content n, es)) (names-kids (below n))
+told-place n [] = ap (λ es. Some (own_content n, es)) (sym (names-kids (below n)))
 told-place n (e ∷ p) = ap (λ o. marks_in o p) (named-kids (below n) e)
 
 -- a place tells all of its tree

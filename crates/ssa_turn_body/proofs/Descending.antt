@@ -17,13 +17,10 @@ use Rattle.ssa_typed.specs.Rows.{below, own_content, is_tree, are_trees, are_apa
 use Rattle.ssa_typed.specs.declared.node.Node.{Node}
 use Rattle.ssa_typed.proofs.Laws.{not_true}
 use Rattle.ssa_typed.proofs.Levels.{Children, level-below}
-use Rattle.ssa_turn_body.specs.Marks.{marks, marks_in}
+use Rattle.ssa_turn_body.specs.Marks.{Child, marks, marks_in}
 use Rattle.ssa_turn_body.proofs.Marking.{marks-level}
 use Rattle.ssa_turn_body.specs.Descent.{node_on, node_in, then_on, in_child, FitsIn, GivesIn, IsChange, IsChildChange}
 use Rattle.ssa_turn_body.proofs.Places.{IsKind}
-
-abbrev pub Child : Type 0
-Child = Elem × Node
 
 -- the child at a place, of this element
 pub record IsHere (e : Element) (cs : List Child) (i : ℕ) : Type 0 where

@@ -1,5 +1,5 @@
 -- A change fits by the content of its place and the elements of its children, which changes elsewhere keep.
-use Rattle.std.proofs.Common.{◌≡◌, ℕ, ◌+◌, ◌≤◌, List, [], ◌∷◌, length, Option, Some, None, option_map, sym, ap, subst, ◌∙◌, append-nil, vec_capacity}
+use Rattle.std.proofs.Common.{◌≡◌, ◌+◌, ◌≤◌, List, [], ◌∷◌, length, Option, Some, None, option_map, sym, ap, subst, ◌∙◌, append-nil, vec_capacity}
 use Rattle.std.proofs.lemmas.List.{length-map}
 use Rattle.std.proofs.lemmas.Option.{none-some, same_Some}
 use Rattle.std.specs.List.Sorted.{SwapsInRange}
@@ -13,20 +13,16 @@ use Rattle.ssa_turn_body.specs.Changes.{ChangeFits}
 use Rattle.ssa_turn_body.specs.Descent.{node_on, FitsIn}
 use Rattle.ssa_turn_body.specs.Inner.{AllFit, AreElsewhere, InnerStepsFit}
 use Rattle.ssa_turn_body.specs.Marks.{Kids, Mark, Marks, marks, marks_in, kids, names, Place, seen, may_stand}
-use Rattle.ssa_turn_body.specs.Orders.{OrderFits, reordered}
 use Rattle.ssa_turn_body.specs.Steps.{StepFits, StepLeads}
-use Rattle.ssa_turn_body.specs.Edits.{EditFits, edited}
-use Rattle.ssa_turn_body.specs.Woven.{ArePlaces, left, woven}
+use Rattle.ssa_turn_body.specs.Edits.{EditFits, edited, going, staying, remade}
+use Rattle.ssa_turn_body.specs.Woven.{ArePlaces}
 use Rattle.ssa_turn_body.specs.declared.change.PlaceChange.{PlaceChange}
-use Rattle.ssa_turn_body.specs.declared.change.PlaceChange.TheVariants.{Leaf, Children, Order}
+use Rattle.ssa_turn_body.specs.declared.change.PlaceChange.TheVariants.{Leaf, Children}
 use Rattle.ssa_turn_body.specs.declared.children.ChildrenEdit.{ChildrenEdit}
-use Rattle.ssa_turn_body.specs.declared.order.OrderChange.{OrderChange}
 use Rattle.ssa_turn_body.specs.declared.steps.Step.{Step}
 use Rattle.ssa_turn_body.proofs.Again.{marks-on}
-use Rattle.ssa_turn_body.proofs.Edits.{names-kids}
-use Rattle.ssa_turn_body.proofs.Marking.{marks-level}
-use Rattle.ssa_turn_body.proofs.Ordering.{map-reordered}
-use Rattle.ssa_turn_body.proofs.Weaving.{map-left, map-woven}
+use Rattle.ssa_turn_body.proofs.Edits.{map-going, map-staying, map-remade}
+use Rattle.ssa_turn_body.proofs.Marking.{marks-level, names-kids}
 
 -- ---- by the content and the elements
 
@@ -36,51 +32,41 @@ Kid = Element × Marks
 name_of : Kid → Element
 name_of k = k.0
 
-names-edited : (s : ChildrenEdit) (ks : Kids) → names (edited s ks) ≡ woven s.come.items 0 (names (kids s.held.items)) (left s.gone.items 0 (names ks))
-names-edited s ks =
-    sym (map-woven (λ (k : Kid). k.0) s.come.items 0 (kids s.held.items) (left s.gone.items 0 ks))
-    ∙ ap (woven s.come.items 0 (names (kids s.held.items))) (sym (map-left (λ (k : Kid). k.0) s.gone.items 0 ks))
+names-edited : (s : ChildrenEdit) (ks : Kids) → names (edited s ks) ≡ remade s (names (kids s.held.items)) (names ks)
+names-edited s ks = sym (map-remade (λ (k : Kid). k.0) s (kids s.held.items) ks)
 
-length-left-names : (ps : List ℕ) (ks : Kids) → length (left ps 0 (names ks)) ≡ length (left ps 0 ks)
-length-left-names ps ks = ap length (map-left (λ (k : Kid). k.0) ps 0 ks) ∙ length-map (left ps 0 ks) (λ (k : Kid). k.0)
+names-going : (s : ChildrenEdit) (ks : Kids) → names (going s ks) ≡ going s (names ks)
+names-going s ks = sym (map-going (λ (k : Kid). k.0) s ks)
+
+names-staying : (s : ChildrenEdit) (ks : Kids) → length (staying s (names ks)) ≡ length (staying s ks)
+names-staying s ks = ap length (map-staying (λ (k : Kid). k.0) s ks) ∙ length-map (staying s ks) (λ (k : Kid). k.0)
 
 same-length : (ks ls : Kids) → names ks ≡ names ls → length ks ≡ length ls
 same-length ks ls e = sym (length-map ks (λ (k : Kid). k.0)) ∙ ap length e ∙ length-map ls (λ (k : Kid). k.0)
 
 edit-by : (s : ChildrenEdit) (v w : Place) → v.0 ≡ w.0 → names v.1 ≡ names w.1 → EditFits s v → EditFits s w
 edit-by s v w own ns h =
-    let left_same : length (left s.gone.items 0 v.1) ≡ length (left s.gone.items 0 w.1) =
-    sym (length-left-names s.gone.items v.1) ∙ ap (λ es. length (left s.gone.items 0 es)) ns ∙ length-left-names s.gone.items w.1 in
+    let staying_same : length (staying s v.1) ≡ length (staying s w.1) = sym (names-staying s v.1) ∙ ap (λ es. length (staying s es)) ns ∙ names-staying s w.1 in
+    let edited_same : names (edited s w.1) ≡ names (edited s v.1) = names-edited s w.1 ∙ ap (remade s (names (kids s.held.items))) (sym ns) ∙ sym (names-edited s v.1) in
     record {
-      gone = subst (λ l. ArePlaces 0 s.gone.items l) (same-length v.1 w.1 ns) h.gone;
-      come = subst (λ l. ArePlaces 0 s.come.items (length s.held.items + l)) left_same h.come;
+      before = subst (λ l. SwapsInRange l s.before.items) (same-length v.1 w.1 ns) h.before;
+      gone = subst (λ l. ArePlaces 0 s.gone.places.items l) (same-length v.1 w.1 ns) h.gone;
+      gone_named = h.gone_named ∙ names-going s v.1 ∙ ap (going s) ns ∙ sym (names-going s w.1);
+      come = subst (λ l. ArePlaces 0 s.come.places.items (length s.held.items + l)) staying_same h.come;
+      come_named = h.come_named;
       held = h.held;
-      stands =
-          (λ i. may_stand (sym own i) (names-edited s w.1 i))
-          ∙ ap (λ es. may_stand v.0 (woven s.come.items 0 (names (kids s.held.items)) (left s.gone.items 0 es))) (sym ns)
-          ∙ ap (may_stand v.0) (sym (names-edited s v.1)) ∙ h.stands;
+      after = subst (λ l. SwapsInRange (length s.held.items + l) s.after.items) staying_same h.after;
+      stands = (λ i. may_stand (sym own i) (edited_same i)) ∙ h.stands;
       trees = h.trees;
       out_empty = h.out_empty;
       out_room = h.out_room;
       room_empty = h.room_empty;
-      room = subst (λ l. length s.held.items + l ≤ vec_capacity s.room) left_same h.room;
-    }
-
-order-by : (s : OrderChange) (v w : Place) → v.0 ≡ w.0 → names v.1 ≡ names w.1 → OrderFits s v → OrderFits s w
-order-by s v w own ns h =
-    let within : SwapsInRange (length w.1) s.swaps.items = subst (λ l. SwapsInRange l s.swaps.items) (same-length v.1 w.1 ns) h.within in
-    record {
-      within = within;
-      stands =
-          (λ i. may_stand (sym own i) (map-reordered (λ (k : Kid). k.0) w.1 s.swaps.items within i))
-          ∙ ap (λ es. may_stand v.0 (reordered es s.swaps.items)) (sym ns)
-          ∙ ap (may_stand v.0) (sym (map-reordered (λ (k : Kid). k.0) v.1 s.swaps.items h.within)) ∙ h.stands;
+      room = subst (λ l. length s.held.items + l ≤ vec_capacity s.room) staying_same h.room;
     }
 
 fits-by : (c : PlaceChange) (v w : Place) → v.0 ≡ w.0 → names v.1 ≡ names w.1 → ChangeFits c v → ChangeFits c w
 fits-by (Leaf s) v w own ns h = ap (λ x. is_leaf (Some x)) (sym own) ∙ h
 fits-by (Children s) v w own ns h = edit-by s v w own ns h
-fits-by (Order s) v w own ns h = order-by s v w own ns h
 
 -- ---- at a path
 

@@ -4,17 +4,13 @@ use Rattle.ssa_model.specs.definitions.Body.{Content, list_branch}
 use Rattle.ssa_model.specs.definitions.Path.{Element, Path, same_element}
 use Rattle.ssa_path.specs.Children.{child_at, elements}
 use Rattle.ssa_path.specs.View.{element_view}
-use Rattle.ssa_path.specs.declared.element.Elem.{Elem}
 use Rattle.ssa_path.proofs.Levels.{elements-map}
 use Rattle.ssa_typed.specs.Rows.{below, below_of, own_content, content_of}
 use Rattle.ssa_typed.specs.declared.node.Node.{Node}
 use Rattle.ssa_typed.specs.declared.node.Node.TheOpen.{Node-F}
 use Rattle.ssa_typed.specs.declared.node.Node.TheViews.{out-Node}
 use Rattle.ssa_typed.specs.declared.node.Node.TheFolds.{fold_out-Node, map-Node}
-use Rattle.ssa_turn_body.specs.Marks.{Marks, marks, marks_in, marks_step}
-
-abbrev Child : Type 0
-Child = Elem × Node
+use Rattle.ssa_turn_body.specs.Marks.{Child, Marks, marks, marks_in, marks_step, kids, names}
 
 -- what a place with this content and these children tells
 abbrev pub told : Content → List Child → Marks
@@ -41,3 +37,7 @@ told-step (Node-F.List v) (e ∷ p) = ap (λ o. marks_in o p) (child_at-map e v.
 
 pub marks-level : (n : Node) (p : Path) → marks n p ≡ told (own_content n) (below n) p
 marks-level n p = ap (λ (f : Marks). f p) (fold_out-Node Marks marks_step n) ∙ told-step (out-Node n) p
+
+pub names-kids : (cs : List Child) → names (kids cs) ≡ elements cs
+names-kids [] = refl
+names-kids (c ∷ cs) = ap (λ es. element_view c.0 ∷ es) (names-kids cs)

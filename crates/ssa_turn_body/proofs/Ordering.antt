@@ -3,24 +3,15 @@ use Rattle.std.proofs.Common.{◌≡◌, ℕ, zero, suc, ◌+◌, ◌<◌, List,
 use Rattle.std.specs.List.{swap}
 use Rattle.std.specs.List.Sorted.{SwapsInRange}
 use Rattle.std.proofs.lemmas.Bool.{eqb-true}
-use Rattle.std.proofs.lemmas.List.{map-set, get_or-map, length-map, reverse-append, reverse-reverse, ext_get_or, get_or-set_other, length-set, take_more}
+use Rattle.std.proofs.lemmas.List.{map-set, reverse-append, ext_get_or, get_or-set_other, length-set, take_more}
 use Rattle.std.proofs.lemmas.Grind.{get_or-set_at}
 use Rattle.ssa_turn_body.proofs.Weaving.{same_number}
 use Rattle.std.proofs.lemmas.List.Edits.{length-swap, swap_is}
-use Rattle.std.proofs.lemmas.Option.{slice_get-get_or}
-use Rattle.ssa_path.specs.Children.{elements}
-use Rattle.ssa_path.specs.View.{element_view}
-use Rattle.ssa_path.specs.declared.element.Elem.{Elem}
-use Rattle.ssa_path.proofs.Orders.{both, both_second}
-use Rattle.ssa_typed.specs.Rows.{own_content, is_tree, are_trees}
-use Rattle.ssa_typed.specs.declared.node.Node.{Node}
-use Rattle.ssa_typed.proofs.Levels.{Children as Vecs}
-use Rattle.ssa_turn_body.specs.Marks.{marks, kids, names, Place, seen, may_stand, with_order}
-use Rattle.ssa_turn_body.specs.Orders.{reordered, OrderFits, OrderGives, OrderFitsIn, OrderGivesIn, order_steps}
-use Rattle.ssa_turn_body.specs.declared.order.OrderChange.{OrderChange}
-use Rattle.ssa_turn_body.proofs.Places.{IsKind}
-use Rattle.ssa_turn_body.proofs.Descending.{trees-set, tree-at}
-use Rattle.ssa_turn_body.proofs.Edits.{length-kids, names-kids, seen-kind, stands-own, stand-with, order-twice}
+use Rattle.ssa_typed.specs.Rows.{is_tree, are_trees}
+use Rattle.ssa_turn_body.specs.Marks.{Child}
+use Rattle.ssa_turn_body.specs.Orders.{reordered}
+use Rattle.ssa_turn_body.proofs.Descending.{trees-set}
+use Rattle.ssa_path.proofs.Orders.{both_first, both_second}
 
 module _ {X : Type 0} where
   some-of : (xs : List X) (i : ℕ) → i < length xs → X
@@ -96,88 +87,39 @@ range-at n (p ∷ ps) (suc i) d lt h = range-at n ps i d (omega arith) h.2
 
 -- ---- what the elements are seen as
 
-pub map-swap : {X Y : Type 0} (f : X → Y) (xs : List X) (i j : ℕ) → i < length xs → j < length xs → map f (swap xs i j) ≡ swap (map f xs) i j
-map-swap f xs i j il jl =
-    let d = some-of xs i il in
-    let long = length-map xs f in
-    ap (map f) (sym (swap_is xs i j d il jl))
-    ∙ map-set f (set xs i (get_or xs j d)) j (get_or xs i d)
-    ∙ ap (λ ys. set ys j (f (get_or xs i d))) (map-set f xs i (get_or xs j d))
-    ∙ (λ t. set (set (map f xs) i (sym (get_or-map f xs j d (f d) jl) t)) j (sym (get_or-map f xs i d (f d) il) t))
-    ∙ swap_is (map f xs) i j (f d) (subst (λ n. i < n) (sym long) il) (subst (λ n. j < n) (sym long) jl)
+get-map : {X Y : Type 0} (f : X → Y) (xs : List X) (i : ℕ) (d : X) → get_or (map f xs) i (f d) ≡ f (get_or xs i d)
+get-map f [] i d = refl
+get-map f (x ∷ xs) zero d = refl
+get-map f (x ∷ xs) (suc i) d = get-map f xs i d
 
-pub map-reordered : {X Y : Type 0} (f : X → Y) (xs : List X) (ps : List (ℕ × ℕ)) → SwapsInRange (length xs) ps → map f (reordered xs ps) ≡ reordered (map f xs) ps
-map-reordered f xs [] h = refl
-map-reordered f xs (p ∷ ps) h =
-    map-reordered f (swap xs p.0 p.1) ps (subst (λ n. SwapsInRange n ps) (sym (length-swap xs p.0 p.1)) h.2)
-    ∙ ap (λ ys. reordered ys ps) (map-swap f xs p.0 p.1 h.0 h.1)
+map-swap : {X Y : Type 0} (f : X → Y) (xs : List X) (i j : ℕ) → map f (swap xs i j) ≡ swap (map f xs) i j
+map-swap f [] i j = refl
+map-swap f (d ∷ xs) i j =
+    map-set f (set (d ∷ xs) i (get_or (d ∷ xs) j d)) j (get_or (d ∷ xs) i d)
+    ∙ ap (λ ys. set ys j (f (get_or (d ∷ xs) i d))) (map-set f (d ∷ xs) i (get_or (d ∷ xs) j d))
+    ∙ (λ t. set (set (map f (d ∷ xs)) i (sym (get-map f (d ∷ xs) j d) t)) j (sym (get-map f (d ∷ xs) i d) t))
 
--- ---- children
+pub map-reordered : {X Y : Type 0} (f : X → Y) (xs : List X) (ps : List (ℕ × ℕ)) → map f (reordered xs ps) ≡ reordered (map f xs) ps
+map-reordered f xs [] = refl
+map-reordered f xs (p ∷ ps) = map-reordered f (swap xs p.0 p.1) ps ∙ ap (λ ys. reordered ys ps) (map-swap f xs p.0 p.1)
 
-abbrev pub Child : Type 0
-Child = Elem × Node
+-- ---- trees
 
-trees-swap : (cs : List Child) (i j : ℕ) → i < length cs → j < length cs → are_trees cs ≡ true → are_trees (swap cs i j) ≡ true
-trees-swap cs i j il jl h =
-    let d = some-of cs i il in
-    let a = tree-at cs i (get_or cs i d) h (slice_get-get_or cs i d il) in
-    let b = tree-at cs j (get_or cs j d) h (slice_get-get_or cs j d jl) in
-    ap are_trees (sym (swap_is cs i j d il jl)) ∙ trees-set (set cs i (get_or cs j d)) j (get_or cs i d) (trees-set cs i (get_or cs j d) h b) a
+tree-or : (cs : List Child) (i : ℕ) (d : Child) → are_trees cs ≡ true → is_tree d.1 ≡ true → is_tree (get_or cs i d).1 ≡ true
+tree-or [] i d h t = t
+tree-or (c ∷ cs) zero d h t = both_first (is_tree c.1) (are_trees cs) h
+tree-or (c ∷ cs) (suc i) d h t = tree-or cs i d (both_second (is_tree c.1) (are_trees cs) h) t
 
-trees-reordered : (cs : List Child) (ps : List (ℕ × ℕ)) → SwapsInRange (length cs) ps → are_trees cs ≡ true → are_trees (reordered cs ps) ≡ true
-trees-reordered cs [] h t = t
-trees-reordered cs (p ∷ ps) h t =
-    trees-reordered (swap cs p.0 p.1) ps (subst (λ n. SwapsInRange n ps) (sym (length-swap cs p.0 p.1)) h.2) (trees-swap cs p.0 p.1 h.0 h.1 t)
+trees-swap : (cs : List Child) (i j : ℕ) → are_trees cs ≡ true → are_trees (swap cs i j) ≡ true
+trees-swap [] i j h = refl
+trees-swap (d ∷ cs) i j h =
+    let first = both_first (is_tree d.1) (are_trees cs) h in
+    trees-set (set (d ∷ cs) i (get_or (d ∷ cs) j d)) j (get_or (d ∷ cs) i d)
+    (trees-set (d ∷ cs) i (get_or (d ∷ cs) j d) h (tree-or (d ∷ cs) j d h first)) (tree-or (d ∷ cs) i d h first)
 
-kids-reordered : (cs : List Child) (ps : List (ℕ × ℕ)) → SwapsInRange (length cs) ps → kids (reordered cs ps) ≡ reordered (kids cs) ps
-kids-reordered cs ps h = map-reordered (λ (c : Child). (element_view c.0, marks c.1)) cs ps h
-
-pub order-enter : (kind : Vecs → Node) (is : IsKind kind) (s : OrderChange) (n : Node) (v : Vecs) → n ≡ kind v → OrderFits s (seen n) → OrderFitsIn s v.items
-order-enter kind is s n v made fits =
-    let h : OrderFits s (own_content (kind v), kids v.items) = subst (OrderFits s) (seen-kind kind is n v made) fits in
-    record { within = subst (λ l. SwapsInRange l s.swaps.items) (length-kids v.items) h.within }
-
-pub order-leave : (kind : Vecs → Node) (is : IsKind kind) (s t : OrderChange) (n m : Node) (v w : Vecs) → n ≡ kind v → m ≡ kind w → is_tree n ≡ true → OrderFits s (seen n) → OrderGivesIn s v.items t w.items → OrderGives s (seen n) t (seen m)
-order-leave kind is s t n m v w made after tree fits given =
-    let within = (order-enter kind is s n v made fits).within in
-    let tree_kind : is_tree (kind v) ≡ true = ap is_tree (sym made) ∙ tree in
-    subst (λ x. OrderGives s x t (seen m)) (sym (seen-kind kind is n v made)) (subst (λ y. OrderGives s (own_content (kind v), kids v.items) t y) (sym (seen-kind kind is m w after)) (record {
-      children = ap kids given.children ∙ kids-reordered v.items s.swaps.items within;
-      own = is.ordered v w ∙ ap (with_order (own_content (kind v))) (sym (names-kids w.items));
-      stood = stands-own kind is v tree_kind;
-      order = ap (with_order (own_content (kind v))) (names-kids v.items) ∙ sym (is.ordered v v);
-      swaps = given.swaps;
-    }))
-
-pub reordered-tree : (kind : Vecs → Node) (is : IsKind kind) (s t : OrderChange) (n m : Node) (v w : Vecs) → n ≡ kind v → m ≡ kind w → is_tree n ≡ true → OrderFits s (seen n) → OrderGivesIn s v.items t w.items → is_tree m ≡ true
-reordered-tree kind is s t n m v w made after tree fits given =
-    let h : OrderFits s (own_content (kind v), kids v.items) = subst (OrderFits s) (seen-kind kind is n v made) fits in
-    let within = (order-enter kind is s n v made fits).within in
-    let tree_kind : is_tree (kind v) ≡ true = ap is_tree (sym made) ∙ tree in
-    let trees : are_trees v.items ≡ true = both_second (is.stands (elements v.items)) _ (sym (is.tree v) ∙ tree_kind) in
-    let stands : is.stands (elements w.items) ≡ true =
-    ap is.stands (sym (names-kids w.items) ∙ ap names (ap kids given.children ∙ kids-reordered v.items s.swaps.items within)) ∙ sym (is.asked v (names (reordered (kids v.items) s.swaps.items))) ∙ h.stands in
-    let trees_after : are_trees w.items ≡ true = ap are_trees given.children ∙ trees-reordered v.items s.swaps.items within trees in
-    ap is_tree after ∙ is.tree w ∙ both _ _ stands trees_after
-
--- ---- the laws
-
-pub order-back : (s t : OrderChange) (v w : Place) → OrderFits s v → OrderGives s v t w → OrderFits t w
-order-back s t v w h g =
-    let long : length w.1 ≡ length v.1 = ap length g.children ∙ length-reordered v.1 s.swaps.items in
-    let whole : reordered w.1 t.swaps.items ≡ v.1 = (λ i. reordered (g.children i) (g.swaps i)) ∙ there-and-back v.1 s.swaps.items h.within in
-    record {
-      within = subst (λ n. SwapsInRange n t.swaps.items) (sym long) (subst (λ ps. SwapsInRange (length v.1) ps) (sym g.swaps) (range-reverse (length v.1) s.swaps.items h.within));
-      stands = ap (λ c. may_stand c (names (reordered w.1 t.swaps.items))) g.own ∙ stand-with v.0 (names w.1) (names (reordered w.1 t.swaps.items)) ∙ ap (λ ks. may_stand v.0 (names ks)) whole ∙ g.stood;
-    }
-
-pub order-again : (s t u : OrderChange) (v w x : Place) → OrderFits s v → OrderGives s v t w → OrderGives t w u x → (x ≡ v) × (order_steps u ≡ order_steps s)
-order-again s t u v w x h g k =
-    let below_is : x.1 ≡ v.1 = k.children ∙ (λ i. reordered (g.children i) (g.swaps i)) ∙ there-and-back v.1 s.swaps.items h.within in
-    let own_is : x.0 ≡ v.0 = k.own ∙ (λ i. with_order (g.own i) (names (below_is i))) ∙ order-twice v.0 (names w.1) (names v.1) ∙ g.order in (
-      (λ i. (own_is i, below_is i)),
-      k.swaps ∙ ap reverse g.swaps ∙ reverse-reverse s.swaps.items,
-    )
+pub trees-reordered : (cs : List Child) (ps : List (ℕ × ℕ)) → are_trees cs ≡ true → are_trees (reordered cs ps) ≡ true
+trees-reordered cs [] t = t
+trees-reordered cs (p ∷ ps) t = trees-reordered (swap cs p.0 p.1) ps (trees-swap cs p.0 p.1 t)
 
 -- ---- the loop
 

@@ -5,46 +5,31 @@ use Rattle.ssa_model.specs.definitions.Path.{Path}
 use Rattle.ssa_path.specs.View.{path_view}
 use Rattle.ssa_typed.specs.Rows.{is_tree}
 use Rattle.ssa_typed.specs.declared.node.Node.{Node}
-use Rattle.ssa_turn_body.specs.Changes.{ChangeFits, ChangeGives, change_steps, leaf_change, children_change, order_change}
+use Rattle.ssa_turn_body.specs.Changes.{ChangeFits, ChangeGives, change_steps, leaf_change, children_change}
 use Rattle.ssa_turn_body.specs.Descent.{node_on, FitsIn, IsChange}
 use Rattle.ssa_turn_body.specs.Marks.{Place, marks, seen}
 use Rattle.ssa_turn_body.specs.Steps.{StepFits, StepLeads, StepsFit, StepsLead, step_says}
 use Rattle.ssa_turn_body.specs.declared.change.PlaceChange.{PlaceChange}
-use Rattle.ssa_turn_body.specs.declared.change.PlaceChange.TheVariants.{Leaf, Children, Order}
+use Rattle.ssa_turn_body.specs.declared.change.PlaceChange.TheVariants.{Leaf, Children}
 use Rattle.ssa_turn_body.specs.declared.steps.Step.{Step}
 use Rattle.ssa_turn_body.proofs.Again.{fits-on, back-on, round-trip, change-on}
 use Rattle.ssa_turn_body.proofs.Edits.{leaf-back, leaf-again, edit-back, edit-again}
-use Rattle.ssa_turn_body.proofs.Ordering.{order-back, order-again}
 
 -- ---- one change
 
 change-back : (s t : PlaceChange) (x y : Place) → ChangeFits s x → ChangeGives s x t y → ChangeFits t y
 change-back (Leaf s) (Leaf t) x y h g = leaf-back s t x y h g
 change-back (Leaf s) (Children t) x y h g = absurd g
-change-back (Leaf s) (Order t) x y h g = absurd g
 change-back (Children s) (Leaf t) x y h g = absurd g
 change-back (Children s) (Children t) x y h g = edit-back s t x y h g
-change-back (Children s) (Order t) x y h g = absurd g
-change-back (Order s) (Leaf t) x y h g = absurd g
-change-back (Order s) (Children t) x y h g = absurd g
-change-back (Order s) (Order t) x y h g = order-back s t x y h g
 
 change-again : (s t u : PlaceChange) (x y z : Place) → ChangeFits s x → ChangeGives s x t y → ChangeGives t y u z → (z ≡ x) × (change_steps u ≡ change_steps s)
 change-again (Leaf s) (Leaf t) (Leaf u) x y z h g k = let a = leaf-again s t u x y z h g k in (a.0, ap leaf_change a.1)
 change-again (Leaf s) (Leaf t) (Children u) x y z h g k = absurd k
-change-again (Leaf s) (Leaf t) (Order u) x y z h g k = absurd k
 change-again (Leaf s) (Children t) u x y z h g k = absurd g
-change-again (Leaf s) (Order t) u x y z h g k = absurd g
 change-again (Children s) (Leaf t) u x y z h g k = absurd g
-change-again (Children s) (Order t) u x y z h g k = absurd g
 change-again (Children s) (Children t) (Leaf u) x y z h g k = absurd k
-change-again (Children s) (Children t) (Order u) x y z h g k = absurd k
 change-again (Children s) (Children t) (Children u) x y z h g k = let a = edit-again s t u x y z h g k in (a.0, ap children_change a.1)
-change-again (Order s) (Leaf t) u x y z h g k = absurd g
-change-again (Order s) (Children t) u x y z h g k = absurd g
-change-again (Order s) (Order t) (Leaf u) x y z h g k = absurd k
-change-again (Order s) (Order t) (Children u) x y z h g k = absurd k
-change-again (Order s) (Order t) (Order u) x y z h g k = let a = order-again s t u x y z h g k in (a.0, ap order_change a.1)
 
 abbrev pub SameMarks : Node → Node → Type 0
 SameMarks n m = (q : Path) → marks n q ≡ marks m q

@@ -9,9 +9,8 @@ use Rattle.ssa_typed.specs.declared.node.Node.{Node}
 use Rattle.ssa_typed.proofs.Looks.{get-body}
 use Rattle.ssa_turn_body.specs.Descent.{node_on, GivesIn, IsChange}
 use Rattle.ssa_turn_body.specs.Marks.{Kids, marks, marks_in, names, Place, seen, with_order}
-use Rattle.ssa_turn_body.specs.Orders.{OrderGives, reordered}
 use Rattle.ssa_turn_body.specs.Edits.{LeafGives, EditGives, edited}
-use Rattle.ssa_turn_body.specs.Told.{content_told, named, MarksTellContents, LeafTurnTold, AreChildrenTold, EditTurnTold, OrderTurnTold}
+use Rattle.ssa_turn_body.specs.Told.{content_told, named, MarksTellContents, LeafTurnTold, AreChildrenTold, EditTurnTold}
 use Rattle.ssa_turn_body.proofs.Again.{from_place, marks-on, marks-place}
 use Rattle.ssa_turn_body.proofs.BodyMarks.{content-marks}
 
@@ -85,6 +84,3 @@ children-told G f below own p v w tree change =
 
 pub edit-told : EditTurnTold
 edit-told s t p v w tree change = children-told (λ x y. EditGives s x t y) (edited s) (λ x y g. g.children) (λ x y g. g.own) p v w tree change
-
-pub order-told : OrderTurnTold
-order-told s t p v w tree change = children-told (λ x y. OrderGives s x t y) (λ ks. reordered ks s.swaps.items) (λ x y g. g.children) (λ x y g. g.own) p v w tree change

@@ -1,4 +1,4 @@
--- What the turn of a body by a record needs and does.
+-- What the turn of a body needs and does.
 use Rattle.std.specs.Prelude.{◌≡◌, true}
 use Rattle.ssa_model.specs.definitions.Body.{Body}
 use Rattle.ssa_typed.specs.Rows.{body_of, is_tree}
@@ -7,7 +7,7 @@ use Rattle.ssa_turn_body.specs.Steps.{StepsFit}
 use Rattle.ssa_turn_body.specs.Turns.{IsTurned}
 use Rattle.ssa_turn_body.specs.declared.steps.BodySteps.{BodySteps}
 
--- the changes of the record fit the tree of the body
+-- the changes fit each tree of the body
 abbrev pub BodyStepsFit : BodySteps → Body → Type 0
 BodyStepsFit r b = (n : Node) → is_tree n ≡ true → body_of n ≡ b → StepsFit r.steps.items n
 

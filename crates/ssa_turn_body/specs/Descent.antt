@@ -2,10 +2,9 @@
 use Rattle.std.specs.Prelude.{◌≡◌, ℕ, List, [], ◌∷◌, Option, Some, None, false, true, set, slice_get}
 use Rattle.ssa_model.specs.definitions.Path.{Path, under}
 use Rattle.ssa_path.specs.Children.{child_at}
-use Rattle.ssa_path.specs.declared.element.Elem.{Elem}
 use Rattle.ssa_typed.specs.Rows.{below, is_tree}
 use Rattle.ssa_typed.specs.declared.node.Node.{Node}
-use Rattle.ssa_turn_body.specs.Marks.{marks}
+use Rattle.ssa_turn_body.specs.Marks.{Child, marks}
 
 abbrev pub then_on : Option Node → (Node → Option Node) → Option Node
 then_on None f = None
@@ -16,12 +15,12 @@ abbrev pub node_on : Path → Node → Option Node
 node_on [] n = Some n
 node_on (e ∷ p) n = then_on (child_at e (below n)) (node_on p)
 
-abbrev pub in_child : Option (Elem × Node) → (Node → Option Node) → Option Node
+abbrev pub in_child : Option Child → (Node → Option Node) → Option Node
 in_child None f = None
 in_child (Some c) f = f c.1
 
 -- the node at a path below the child at a place
-abbrev pub node_in : Path → List (Elem × Node) → ℕ → Option Node
+abbrev pub node_in : Path → List Child → ℕ → Option Node
 node_in p cs i = in_child (slice_get cs i) (node_on p)
 
 -- there is a node, which fits
@@ -42,8 +41,8 @@ pub record IsChange (gives : Node → Node → Type 0) (p : Path) (v w : Node) :
   pub tree : is_tree w ≡ true
 
 -- the second children are the first with a change in the child at the place
-pub record IsChildChange (gives : Node → Node → Type 0) (p : Path) (cs : List (Elem × Node)) (i : ℕ) (ds : List (Elem × Node)) : Type 0 where
-  pub child : Elem × Node
+pub record IsChildChange (gives : Node → Node → Type 0) (p : Path) (cs : List Child) (i : ℕ) (ds : List Child) : Type 0 where
+  pub child : Child
   pub after : Node
   pub here : slice_get cs i ≡ Some child
   pub left : ds ≡ set cs i (child.0, after)

@@ -1,12 +1,15 @@
 -- What the changes of one place need and do.
-use Rattle.std.specs.Prelude.{◌≡◌, ℕ, ◌+◌, ◌≤◌, List, [], true, Some, length, vec_capacity}
+use Rattle.std.specs.Prelude.{◌≡◌, ℕ, ◌+◌, ◌≤◌, List, [], true, Some, length, map, reverse, vec_capacity}
+use Rattle.std.specs.List.Sorted.{SwapsInRange}
 use Rattle.ssa_model.specs.definitions.Body.{Content, is_leaf}
-use Rattle.ssa_path.specs.declared.element.Elem.{Elem}
+use Rattle.ssa_model.specs.definitions.Path.{Element}
+use Rattle.ssa_path.specs.View.{element_view}
 use Rattle.ssa_typed.specs.Rows.{leaf_content, are_trees}
-use Rattle.ssa_typed.specs.declared.node.Node.{Node}
-use Rattle.ssa_turn_body.specs.Marks.{Kids, kids, names, Place, may_stand, with_order}
+use Rattle.ssa_turn_body.specs.Marks.{Child, Kids, kids, names, Place, may_stand, with_order}
+use Rattle.ssa_turn_body.specs.Orders.{reordered}
 use Rattle.ssa_turn_body.specs.Woven.{ArePlaces, taken, left, woven}
 use Rattle.ssa_turn_body.specs.declared.children.LeafSwap.{LeafSwap}
+use Rattle.ssa_turn_body.specs.declared.children.Placed.{Placed}
 use Rattle.ssa_turn_body.specs.declared.children.ChildrenEdit.{ChildrenEdit}
 
 -- ---- a leaf
@@ -24,30 +27,60 @@ pub record LeafGives (s : LeafSwap) (v : Place) (t : LeafSwap) (w : Place) : Typ
   pub none_before : v.1 ≡ []
   pub none_after : w.1 ≡ []
 
--- ---- children that go and come
+-- ---- children that go, come and move
 
--- the room apart, an edit is its places and what is held
-abbrev pub EditSteps : Type 0
-EditSteps = (List ℕ × List ℕ) × Kids
+-- of these children the ones that go
+abbrev pub going : {X : Type 0} → ChildrenEdit → List X → List X
+going s xs = taken s.gone.places.items 0 (reordered xs s.before.items)
 
-abbrev pub edit_steps : ChildrenEdit → EditSteps
-edit_steps s = ((s.gone.items, s.come.items), kids s.held.items)
+-- and the ones that stay
+abbrev pub staying : {X : Type 0} → ChildrenEdit → List X → List X
+staying s xs = left s.gone.places.items 0 (reordered xs s.before.items)
+
+-- those that stay with those that come, all in their order afterwards
+abbrev pub remade : {X : Type 0} → ChildrenEdit → List X → List X → List X
+remade s hs xs = reordered (woven s.come.places.items 0 hs (staying s xs)) s.after.items
 
 -- the children after the edit
 abbrev pub edited : ChildrenEdit → Kids → Kids
-edited s ks = woven s.come.items 0 (kids s.held.items) (left s.gone.items 0 ks)
+edited s ks = remade s (kids s.held.items) ks
 
--- the places are right, what stands afterwards may stand there, what comes is made of trees, and there is room
+-- the elements that are named
+abbrev pub named_in : Placed → List Element
+named_in x = map element_view x.elements.items
+
+-- what an edit says, its room left out
+pub record EditSteps : Type 0 where
+  pub before : List (ℕ × ℕ)
+  pub gone : List ℕ × List Element
+  pub come : List ℕ × List Element
+  pub after : List (ℕ × ℕ)
+  pub held : Kids
+
+abbrev pub edit_steps : ChildrenEdit → EditSteps
+edit_steps s = record {
+  before = s.before.items;
+  gone = (s.gone.places.items, named_in s.gone);
+  come = (s.come.places.items, named_in s.come);
+  after = s.after.items;
+  held = kids s.held.items;
+}
+
+-- the places and names are right, what stands afterwards may stand there, what comes is made of trees, and there is room
 pub record EditFits (s : ChildrenEdit) (v : Place) : Type 0 where
-  pub gone : ArePlaces 0 s.gone.items (length v.1)
-  pub come : ArePlaces 0 s.come.items (length s.held.items + length (left s.gone.items 0 v.1))
-  pub held : length s.held.items ≡ length s.come.items
+  pub before : SwapsInRange (length v.1) s.before.items
+  pub gone : ArePlaces 0 s.gone.places.items (length v.1)
+  pub gone_named : named_in s.gone ≡ names (going s v.1)
+  pub come : ArePlaces 0 s.come.places.items (length s.held.items + length (staying s v.1))
+  pub come_named : named_in s.come ≡ names (kids s.held.items)
+  pub held : length s.held.items ≡ length s.come.places.items
+  pub after : SwapsInRange (length s.held.items + length (staying s v.1)) s.after.items
   pub stands : may_stand v.0 (names (edited s v.1)) ≡ true
   pub trees : are_trees s.held.items ≡ true
   pub out_empty : s.out.items ≡ []
-  pub out_room : length s.gone.items ≤ vec_capacity s.out
+  pub out_room : length s.gone.places.items ≤ vec_capacity s.out
   pub room_empty : s.room.items ≡ []
-  pub room : length s.held.items + length (left s.gone.items 0 v.1) ≤ vec_capacity s.room
+  pub room : length s.held.items + length (staying s v.1) ≤ vec_capacity s.room
 
 -- what the edit leaves, of itself and of the place, which stood well
 pub record EditGives (s : ChildrenEdit) (v : Place) (t : ChildrenEdit) (w : Place) : Type 0 where
@@ -55,10 +88,14 @@ pub record EditGives (s : ChildrenEdit) (v : Place) (t : ChildrenEdit) (w : Plac
   pub own : w.0 ≡ with_order v.0 (names w.1)
   pub stood : may_stand v.0 (names v.1) ≡ true
   pub order : with_order v.0 (names v.1) ≡ v.0
-  pub held : kids t.held.items ≡ taken s.gone.items 0 v.1
+  pub held : kids t.held.items ≡ going s v.1
   pub trees : are_trees t.held.items ≡ true
-  pub gone : t.gone.items ≡ s.come.items
-  pub come : t.come.items ≡ s.gone.items
+  pub before : t.before.items ≡ reverse s.after.items
+  pub gone : t.gone.places.items ≡ s.come.places.items
+  pub gone_named : named_in t.gone ≡ names (kids s.held.items)
+  pub come : t.come.places.items ≡ s.gone.places.items
+  pub come_named : named_in t.come ≡ names (going s v.1)
+  pub after : t.after.items ≡ reverse s.before.items
   pub out_empty : t.out.items ≡ []
   pub out_room : length s.held.items ≤ vec_capacity t.out
   pub room_empty : t.room.items ≡ []
@@ -66,23 +103,26 @@ pub record EditGives (s : ChildrenEdit) (v : Place) (t : ChildrenEdit) (w : Plac
 
 -- ---- the same, of the children themselves
 
-abbrev pub Children : Type 0
-Children = List (Elem × Node)
-
-pub record EditFitsIn (s : ChildrenEdit) (cs : Children) : Type 0 where
-  pub gone : ArePlaces 0 s.gone.items (length cs)
-  pub come : ArePlaces 0 s.come.items (length s.held.items + length (left s.gone.items 0 cs))
-  pub held : length s.held.items ≡ length s.come.items
+pub record EditFitsIn (s : ChildrenEdit) (cs : List Child) : Type 0 where
+  pub before : SwapsInRange (length cs) s.before.items
+  pub gone : ArePlaces 0 s.gone.places.items (length cs)
+  pub come : ArePlaces 0 s.come.places.items (length s.held.items + length (staying s cs))
+  pub held : length s.held.items ≡ length s.come.places.items
+  pub after : SwapsInRange (length s.held.items + length (staying s cs)) s.after.items
   pub out_empty : s.out.items ≡ []
-  pub out_room : length s.gone.items ≤ vec_capacity s.out
+  pub out_room : length s.gone.places.items ≤ vec_capacity s.out
   pub room_empty : s.room.items ≡ []
-  pub room : length s.held.items + length (left s.gone.items 0 cs) ≤ vec_capacity s.room
+  pub room : length s.held.items + length (staying s cs) ≤ vec_capacity s.room
 
-pub record EditGivesIn (s : ChildrenEdit) (cs : Children) (t : ChildrenEdit) (ds : Children) : Type 0 where
-  pub children : ds ≡ woven s.come.items 0 s.held.items (left s.gone.items 0 cs)
-  pub held : t.held.items ≡ taken s.gone.items 0 cs
-  pub gone : t.gone.items ≡ s.come.items
-  pub come : t.come.items ≡ s.gone.items
+pub record EditGivesIn (s : ChildrenEdit) (cs : List Child) (t : ChildrenEdit) (ds : List Child) : Type 0 where
+  pub children : ds ≡ remade s s.held.items cs
+  pub held : t.held.items ≡ going s cs
+  pub before : t.before.items ≡ reverse s.after.items
+  pub gone : t.gone.places.items ≡ s.come.places.items
+  pub gone_named : named_in t.gone ≡ named_in s.come
+  pub come : t.come.places.items ≡ s.gone.places.items
+  pub come_named : named_in t.come ≡ named_in s.gone
+  pub after : t.after.items ≡ reverse s.before.items
   pub out_empty : t.out.items ≡ []
   pub out_room : length s.held.items ≤ vec_capacity t.out
   pub room_empty : t.room.items ≡ []

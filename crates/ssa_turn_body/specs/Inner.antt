@@ -1,4 +1,4 @@
--- Records whose inner places are changed first.
+-- Changes whose inner places come first.
 use Rattle.std.specs.Prelude.{◌≡◌, List, [], ◌∷◌, true, false}
 use Rattle.ssa_model.specs.definitions.Path.{Path, under}
 use Rattle.ssa_path.specs.View.{path_view}

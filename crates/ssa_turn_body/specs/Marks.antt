@@ -26,11 +26,15 @@ marks_step x (e ∷ p) = marks_in (child_at e (below_of x)) p
 abbrev pub marks : Node → Marks
 marks = fold-Node Marks marks_step
 
+-- a child of a place
+abbrev pub Child : Type 0
+Child = Elem × Node
+
 -- children by their elements, each with what it tells
 abbrev pub Kids : Type 0
 Kids = List (Element × Marks)
 
-abbrev pub kids : List (Elem × Node) → Kids
+abbrev pub kids : List Child → Kids
 kids cs = map (λ c. (element_view c.0, marks c.1)) cs
 
 abbrev pub names : Kids → List Element

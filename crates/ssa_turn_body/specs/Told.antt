@@ -7,11 +7,9 @@ use Rattle.ssa_typed.specs.Rows.{body_of, is_tree, leaf_content}
 use Rattle.ssa_typed.specs.declared.node.Node.{Node}
 use Rattle.ssa_turn_body.specs.Descent.{IsChange}
 use Rattle.ssa_turn_body.specs.Marks.{Kids, Mark, Marks, marks, marks_in, names, seen, with_order}
-use Rattle.ssa_turn_body.specs.Orders.{OrderGives, reordered}
 use Rattle.ssa_turn_body.specs.Edits.{LeafGives, EditGives, edited}
 use Rattle.ssa_turn_body.specs.declared.children.ChildrenEdit.{ChildrenEdit}
 use Rattle.ssa_turn_body.specs.declared.children.LeafSwap.{LeafSwap}
-use Rattle.ssa_turn_body.specs.declared.order.OrderChange.{OrderChange}
 
 -- the content in a mark
 abbrev pub content_told : Option Mark → Option Content
@@ -45,6 +43,3 @@ pub record AreChildrenTold (change : Kids → Kids) (p : Path) (b c : Body) : Ty
 
 abbrev pub EditTurnTold : Type 0
 EditTurnTold = (s t : ChildrenEdit) (p : Path) (v w : Node) → is_tree v ≡ true → IsChange (λ n m. EditGives s (seen n) t (seen m)) p v w → AreChildrenTold (edited s) p (body_of v) (body_of w)
-
-abbrev pub OrderTurnTold : Type 0
-OrderTurnTold = (s t : OrderChange) (p : Path) (v w : Node) → is_tree v ≡ true → IsChange (λ n m. OrderGives s (seen n) t (seen m)) p v w → AreChildrenTold (λ ks. reordered ks s.swaps.items) p (body_of v) (body_of w)

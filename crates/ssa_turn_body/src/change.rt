@@ -1,7 +1,6 @@
 //! A change of one place, of any sort.
 use crate::children::{ChildrenEdit, LeafSwap};
 use crate::descent::Change;
-use crate::order::OrderChange;
 use ssa_typed::node::Node;
 
 /// A change of one place.
@@ -9,7 +8,6 @@ use ssa_typed::node::Node;
 pub enum PlaceChange {
     Leaf(LeafSwap),
     Children(ChildrenEdit),
-    Order(OrderChange),
 }
 
 impl Change for PlaceChange {
@@ -23,7 +21,6 @@ impl Change for PlaceChange {
         match self {
             PlaceChange::Leaf(swap) => swap.apply(node),
             PlaceChange::Children(edit) => edit.apply(node),
-            PlaceChange::Order(order) => order.apply(node),
         }
     }
 }

@@ -1,10 +1,7 @@
-//! Changes of one place: another leaf, or children that go and come.
-ghost use Rattle.std.specs.Prelude.{◌≡◌, ◌+◌, ◌≤◌, [], length, vec_len, vec_capacity, true};
-ghost use Rattle.ssa_path.specs.Children.{elements};
-ghost use Rattle.ssa_typed.specs.Rows.{below, are_trees};
-ghost use Rattle.ssa_turn_body.specs.Woven.{ArePlaces, taken, left, woven};
+//! Changes of one place: another leaf, or children that go, come and move.
 
 use crate::descent::Change;
+use crate::reorder::reorder;
 use crate::weave::weave;
 use ssa_path::element::Elem;
 use ssa_typed::node::{Leaf, Node};
@@ -33,16 +30,27 @@ impl Change for LeafSwap {
     }
 }
 
-/// The children of one place that go and come.
+/// Some children of one place: where they stand among its children, and their elements, both in
+/// the children's order. The places rise.
+#[derive(Drop)]
+pub struct Placed {
+    pub places: Vec<usize>,
+    pub elements: Vec<Elem>,
+}
+
+/// What changes among the children of one place: some go, some come, and others move.
 ///
-/// The places `gone` are those of the children that go, among the children before; the places
-/// `come` those of the children that come, among the children afterwards. Both rise. `held` has the
+/// The children are exchanged as `before` says, one pair of places after the other; then those of
+/// `gone` go, and those of `come` come in; then all are exchanged as `after` says. The places of
+/// `gone` are those before the pass and the places of `come` those after it. `held` has the
 /// children that come, in this order. `out` is empty, with room for the children that go, and
 /// `room` is empty, with room for all children afterwards.
 #[derive(Drop)]
 pub struct ChildrenEdit {
-    pub gone: Vec<usize>,
-    pub come: Vec<usize>,
+    pub before: Vec<(usize, usize)>,
+    pub gone: Placed,
+    pub come: Placed,
+    pub after: Vec<(usize, usize)>,
     pub held: Vec<(Elem, Node)>,
     pub out: Vec<(Elem, Node)>,
     pub room: Vec<(Elem, Node)>,
@@ -56,15 +64,20 @@ impl ChildrenEdit {
         requires { EditFitsIn self.old children.old.items }
         ensures { EditGivesIn self.old children.old.items self.new children.new.items }
     {
+        reorder(children, &self.before);
         weave(
             children,
-            &self.gone,
-            &self.come,
+            &self.gone.places,
+            &self.come.places,
             &mut self.held,
             &mut self.out,
             &mut self.room,
         );
+        reorder(children, &self.after);
         mem::swap(&mut self.gone, &mut self.come);
+        mem::swap(&mut self.before, &mut self.after);
+        self.before.reverse();
+        self.after.reverse();
     }
 }
 

@@ -1,11 +1,11 @@
-//! Changes of bodies in place, by records that become their inverses, without memory.
+//! Bodies changed in place by steps that become those that lead back, with no memory taken.
 #![tactic(auto)]
 
 pub mod body;
 pub mod change;
 pub mod children;
 pub mod descent;
-pub mod order;
+pub mod reorder;
 pub mod steps;
 pub mod told;
 pub mod weave;

@@ -1,4 +1,4 @@
-//! Records of changes at many places, which become their inverses.
+//! Changes at many places of a tree, which become those that lead back.
 ghost use Rattle.std.specs.Prelude.{◌≡◌, reverse, map, true};
 ghost use Rattle.ssa_typed.specs.Rows.{is_tree};
 ghost use Rattle.ssa_model.specs.definitions.Path as model;
@@ -18,7 +18,7 @@ pub struct Step {
 }
 
 impl Step {
-    /// Makes the change.
+    /// Makes the change, which becomes the one that leads back. Takes no memory.
     pub fn turn(&mut self, node: &mut Node)
         requires tree { is_tree node.old ≡ true }
         requires fits { StepFits self.old node.old }
@@ -28,7 +28,7 @@ impl Step {
         change_at(node, path, &mut self.change);
     }
 
-    /// Makes the changes of a list, one after the other.
+    /// Makes the changes of a list, one after the other. Each becomes the one that leads back.
     pub fn turn_all(steps: &mut Vec<Step>, node: &mut Node)
         requires tree { is_tree node.old ≡ true }
         requires fits { StepsFit steps.old.items node.old }
@@ -50,7 +50,7 @@ pub struct BodySteps {
 impl BodySteps {
     ghost use Rattle.ssa_turn_body.specs.Turns.{IsTurned};
 
-    /// Makes the changes, and then holds those that lead back, the last first.
+    /// Makes the changes, and then holds those that lead back, the last first. Takes no memory.
     pub fn turn(&mut self, node: &mut Node)
         requires tree { is_tree node.old ≡ true }
         requires fits { StepsFit self.old.steps.items node.old }
@@ -62,7 +62,7 @@ impl BodySteps {
         self.steps.reverse();
     }
 
-    /// A second turn leaves the tree and the record as they were.
+    /// A second turn leaves the tree and the steps as they were.
     pub fn there_and_back(&mut self, node: &mut Node)
         requires tree { is_tree node.old ≡ true }
         requires fits { StepsFit self.old.steps.items node.old }

@@ -1,6 +1,6 @@
 //! What changes of trees are in the words of bodies: laws over definitions.
 ghost use Rattle.ssa_turn_body.specs.Inner.{InnerStepsFit};
-ghost use Rattle.ssa_turn_body.specs.Told.{EditTurnTold, LeafTurnTold, MarksTellContents, OrderTurnTold};
+ghost use Rattle.ssa_turn_body.specs.Told.{EditTurnTold, LeafTurnTold, MarksTellContents};
 
 /// A body has at each path the content that the marks of its tree tell.
 pub fn marks_tell_contents()
@@ -15,11 +15,6 @@ pub fn leaf_turn_told()
 /// An edit of children changes what stands at and below its place alone, as its places say.
 pub fn edit_turn_told()
     ensures { EditTurnTold }
-{}
-
-/// Another order of children changes their order alone.
-pub fn order_turn_told()
-    ensures { OrderTurnTold }
 {}
 
 /// Changes that each fit the tree fit one after the other, where each place has one of them and

@@ -1,6 +1,6 @@
 use Rattle.std.proofs.Common.{◌≡◌, length, take, arith, ap, ◌∙◌}
 use Rattle.ssa_turn_body.proofs.Ordering.{range-at, reorder-step, length-reordered}
-use Rattle.ssa_turn_body.proofs.order.reorder.Goals as goal
+use Rattle.ssa_turn_body.proofs.reorder.reorder.Goals as goal
 
 pub swap-requires-clause-i_in_bounds : goal.swap-requires-clause-i_in_bounds
 swap-requires-clause-i_in_bounds g c =
