@@ -14,7 +14,8 @@ use Rattle.ssa_typed.proofs.Levels.{level-below}
 use Rattle.ssa_typed.proofs.Lookups.{tree-child}
 use Rattle.ssa_turn_body.specs.Marks.{Child, Mark, Marks, marks, marks_in, Kids, kids, names, Place, seen}
 use Rattle.ssa_turn_body.specs.Told.{named}
-use Rattle.ssa_turn_body.specs.Descent.{node_on, then_on, FitsIn, GivesIn, IsChange}
+use Rattle.ssa_typed.specs.Nodes.{node_on, then_on}
+use Rattle.ssa_turn_body.specs.Descent.{FitsIn, GivesIn, IsChange}
 use Rattle.ssa_turn_body.proofs.Marking.{told, marks-level, names-kids}
 
 -- ---- what a place tells

@@ -18,7 +18,7 @@ use Rattle.ssa_typed.specs.declared.node.Leaf.TheVariants.{Scalar, Atomic}
 use Rattle.ssa_typed.specs.declared.node.Node.{Node, Leaf as LeafOf, Branch, Dict, List as ListOf, the_lemmas}
 use Rattle.ssa_typed.specs.declared.node.Node.TheOpen.{Node-F}
 use Rattle.ssa_typed.specs.declared.node.Node.TheViews.{out-Node, roll-Node, roll-out-Node}
-use Rattle.ssa_typed.proofs.Levels.{own-Branch, own-Dict, own-List, tree-Branch, tree-Dict}
+use Rattle.ssa_typed.proofs.Levels.{below-apart, own-Branch, own-Dict, own-List, tree-Branch, tree-Dict}
 use Rattle.ssa_typed.proofs.Looks.{get-body, some-child}
 use Rattle.ssa_typed.proofs.Lookups.{content-root, content-level, tree-child}
 use Rattle.std.proofs.Common.{rules}
@@ -51,13 +51,6 @@ below-any e x (f ∷ fs) h a =
       | false ↦ λ t u. below-any e x fs (both_second (is_lt (element_cmp e f)) _ h) u
     ] refl a
 
-not-itself : (e : Element) (fs : List Element) → is_below e fs ≡ true → list_any (same_element e) fs ≡ false
-not-itself e fs h =
-    elim (list_any (same_element e) fs) as (λ b. list_any (same_element e) fs ≡ b → b ≡ false) [
-      | true ↦ λ t. absurd (true≢false (sym (same_element-itself e) ∙ not_tied (element_cmp e e) (below-any e e fs h t)))
-      | false ↦ λ t. refl
-    ] refl
-
 both-ways : (e f : Element) → is_lt (element_cmp e f) ≡ true → is_lt (element_cmp f e) ≡ true → ⊥
 both-ways e f a b =
     let round : element_cmp e e ≡ Less = element_cmp_total.trans e f e (lower _ a) (lower _ b) in
@@ -86,7 +79,7 @@ rest-same e es fs be bf same x =
     elim (same_element x e) as (λ b. same_element x e ≡ b → (b || list_any (same_element x) es) ≡ (b || list_any (same_element x) fs) → list_any (same_element x) es ≡ list_any (same_element x) fs) [
       | true ↦ λ t u.
           let is : x ≡ e = same_element-true x e t in
-          ap (λ y. list_any (same_element y) es) is ∙ not-itself e es be ∙ sym (not-itself e fs bf) ∙ sym (ap (λ y. list_any (same_element y) fs) is)
+          ap (λ y. list_any (same_element y) es) is ∙ below-apart e es be ∙ sym (below-apart e fs bf) ∙ sym (ap (λ y. list_any (same_element y) fs) is)
       | false ↦ λ t u. u
     ] refl (same x)
 

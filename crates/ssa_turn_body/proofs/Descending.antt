@@ -19,7 +19,8 @@ use Rattle.ssa_typed.proofs.Laws.{not_true}
 use Rattle.ssa_typed.proofs.Levels.{Children, level-below}
 use Rattle.ssa_turn_body.specs.Marks.{Child, marks, marks_in}
 use Rattle.ssa_turn_body.proofs.Marking.{marks-level}
-use Rattle.ssa_turn_body.specs.Descent.{node_on, node_in, then_on, in_child, FitsIn, GivesIn, IsChange, IsChildChange}
+use Rattle.ssa_typed.specs.Nodes.{node_on, then_on}
+use Rattle.ssa_turn_body.specs.Descent.{node_in, in_child, FitsIn, GivesIn, IsChange, IsChildChange}
 use Rattle.ssa_turn_body.proofs.Places.{IsKind}
 
 -- the child at a place, of this element

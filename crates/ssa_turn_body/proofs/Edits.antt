@@ -7,11 +7,10 @@ use Rattle.ssa_model.specs.definitions.Body.{Content, leaf, atom, record_branch,
 use Rattle.ssa_path.specs.Children.{elements}
 use Rattle.ssa_path.specs.View.{element_view}
 use Rattle.ssa_path.proofs.Orders.{both, both_first, both_second}
-use Rattle.ssa_typed.specs.Rows.{own_content, leaf_content, is_tree, are_trees}
-use Rattle.ssa_typed.specs.declared.node.Leaf.{Leaf}
-use Rattle.ssa_typed.specs.declared.node.Leaf.TheVariants.{Scalar, Atomic}
+use Rattle.ssa_typed.specs.Rows.{own_content, is_tree, are_trees}
 use Rattle.ssa_typed.specs.declared.node.Node.{Node}
 use Rattle.ssa_typed.proofs.Levels.{Children as Vecs}
+use Rattle.ssa_typed.proofs.OverNodes.{leaf-there}
 use Rattle.ssa_turn_body.specs.Marks.{Child, marks, kids, names, Place, seen, may_stand, with_order}
 use Rattle.ssa_turn_body.specs.Orders.{reordered}
 use Rattle.ssa_turn_body.specs.Woven.{ArePlaces, taken, left, woven}
@@ -257,12 +256,10 @@ edit-again s t u v w x h g k =
       (λ i. record { before = before_is i; gone = ((k.gone ∙ g.come) i, gone_is i); come = ((k.come ∙ g.gone) i, come_is i); after = after_is i; held = (k.held ∙ r.going_is) i }),
     )
 
-leaf-content : (l : Leaf) → is_leaf (Some (leaf_content l)) ≡ true
-leaf-content (Scalar s) = refl
-leaf-content (Atomic v) = refl
+-- ---- a leaf
 
 pub leaf-back : (s t : LeafSwap) (v w : Place) → LeafFits s v → LeafGives s v t w → LeafFits t w
-leaf-back s t v w h g = ap (λ c. is_leaf (Some c)) g.put ∙ leaf-content s.leaf
+leaf-back s t v w h g = ap (λ c. is_leaf (Some c)) g.put ∙ leaf-there s.leaf
 
 pub leaf-again : (s t u : LeafSwap) (v w x : Place) → LeafFits s v → LeafGives s v t w → LeafGives t w u x → (x ≡ v) × (leaf_steps u ≡ leaf_steps s)
 leaf-again s t u v w x h g k = ((λ i. ((k.put ∙ sym g.taken) i, (k.none_after ∙ sym g.none_before) i)), sym k.taken ∙ g.put)

@@ -10,7 +10,8 @@ use Rattle.ssa_path.specs.View.{path_view}
 use Rattle.ssa_typed.specs.Rows.{below, own_content}
 use Rattle.ssa_typed.specs.declared.node.Node.{Node}
 use Rattle.ssa_turn_body.specs.Changes.{ChangeFits}
-use Rattle.ssa_turn_body.specs.Descent.{node_on, FitsIn}
+use Rattle.ssa_typed.specs.Nodes.{node_on}
+use Rattle.ssa_turn_body.specs.Descent.{FitsIn}
 use Rattle.ssa_turn_body.specs.Inner.{AllFit, AreElsewhere, InnerStepsFit}
 use Rattle.ssa_turn_body.specs.Marks.{Kids, Mark, Marks, marks, marks_in, kids, names, Place, seen, may_stand}
 use Rattle.ssa_turn_body.specs.Steps.{StepFits, StepLeads}

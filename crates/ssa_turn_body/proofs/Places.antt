@@ -1,10 +1,11 @@
 -- The three kinds of places that have children.
-use Rattle.std.proofs.Common.{◌≡◌, List, Bool, ◌&&◌, sym, ap, ◌∙◌, rules}
+use Rattle.std.proofs.Common.{◌≡◌, List, Bool, ◌&&◌, sym, ap, ◌∙◌}
 use Rattle.ssa_model.specs.definitions.Path.{Element}
 use Rattle.ssa_model.specs.definitions.Body.{Content, record_branch, dict_branch, list_branch}
 use Rattle.ssa_path.specs.Children.{elements, rises}
 use Rattle.ssa_typed.specs.Rows.{below, own_content, is_tree, are_trees, are_apart, are_fields, are_items}
-use Rattle.ssa_typed.specs.declared.node.Node.{Node, Branch, Dict, List as ListOf, the_lemmas}
+use Rattle.ssa_typed.specs.declared.node.Node.{Node, Branch, Dict, List as ListOf}
+use Rattle.ssa_typed.proofs.OverNodes.{below-Branch, below-Dict, below-List}
 use Rattle.ssa_turn_body.specs.Marks.{may_stand, with_order}
 use Rattle.ssa_typed.proofs.Levels.{Children, own-Branch, own-Dict, own-List, tree-Branch, tree-Dict, tree-List}
 
@@ -17,15 +18,6 @@ pub record IsKind (kind : Children → Node) : Type 0 where
   pub children : (v : Children) → below (kind v) ≡ v.items
   pub ordered : (v w : Children) → own_content (kind w) ≡ with_order (own_content (kind v)) (elements w.items)
   pub asked : (v : Children) (es : List Element) → may_stand (own_content (kind v)) es ≡ stands es
-
-below-Branch : (v : Children) → below (Branch v) ≡ v.items
-below-Branch v = search (rules, the_lemmas)
-
-below-Dict : (v : Children) → below (Dict v) ≡ v.items
-below-Dict v = search (rules, the_lemmas)
-
-below-List : (v : Children) → below (ListOf v) ≡ v.items
-below-List v = search (rules, the_lemmas)
 
 asked-Branch : (v : Children) (es : List Element) → may_stand (own_content (Branch v)) es ≡ (rises es && are_fields es)
 asked-Branch v es = ap (λ c. may_stand c es) (own-Branch v)

@@ -6,7 +6,8 @@ use Rattle.ssa_path.specs.View.{path_view}
 use Rattle.ssa_typed.specs.Rows.{is_tree}
 use Rattle.ssa_typed.specs.declared.node.Node.{Node}
 use Rattle.ssa_turn_body.specs.Changes.{ChangeFits, ChangeGives, change_steps, leaf_change, children_change}
-use Rattle.ssa_turn_body.specs.Descent.{node_on, FitsIn, IsChange}
+use Rattle.ssa_typed.specs.Nodes.{node_on}
+use Rattle.ssa_turn_body.specs.Descent.{FitsIn, IsChange}
 use Rattle.ssa_turn_body.specs.Marks.{Place, marks, seen}
 use Rattle.ssa_turn_body.specs.Steps.{StepFits, StepLeads, StepsFit, StepsLead, step_says}
 use Rattle.ssa_turn_body.specs.declared.change.PlaceChange.{PlaceChange}

@@ -7,7 +7,8 @@ use Rattle.ssa_model.proofs.Pruned.{under-rest}
 use Rattle.ssa_typed.specs.Rows.{body_of, is_tree}
 use Rattle.ssa_typed.specs.declared.node.Node.{Node}
 use Rattle.ssa_typed.proofs.Looks.{get-body}
-use Rattle.ssa_turn_body.specs.Descent.{node_on, GivesIn, IsChange}
+use Rattle.ssa_typed.specs.Nodes.{node_on}
+use Rattle.ssa_turn_body.specs.Descent.{GivesIn, IsChange}
 use Rattle.ssa_turn_body.specs.Marks.{Kids, marks, marks_in, names, Place, seen, with_order}
 use Rattle.ssa_turn_body.specs.Edits.{LeafGives, EditGives, edited}
 use Rattle.ssa_turn_body.specs.Told.{content_told, named, MarksTellContents, LeafTurnTold, AreChildrenTold, EditTurnTold}

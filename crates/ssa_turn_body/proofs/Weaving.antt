@@ -19,9 +19,6 @@ places-within k (p ∷ ps) n h = let rest = places-within (p + 1) ps n h.1 in le
 pub places-further : (k p : ℕ) (ps : List ℕ) (n : ℕ) → k < p → ArePlaces k (p ∷ ps) n → ArePlaces (k + 1) (p ∷ ps) n
 places-further k p ps n lt h = (omega arith, h.1)
 
-pub none-further : (k n : ℕ) → k < n → ArePlaces k [] n → ArePlaces (k + 1) [] n
-none-further k n lt h = omega arith
-
 pub some-first : (ds : List ℕ) (k : ℕ) → is_first ds k ≡ true → length ds ≡ suc (length (drop 1 ds))
 some-first [] k f = absurd (true≢false (sym f))
 some-first (d ∷ ds) k f = refl

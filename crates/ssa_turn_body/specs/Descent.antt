@@ -1,19 +1,10 @@
 -- The place that a path leads to in a tree, and a change there.
-use Rattle.std.specs.Prelude.{◌≡◌, ℕ, List, [], ◌∷◌, Option, Some, None, false, true, set, slice_get}
+use Rattle.std.specs.Prelude.{◌≡◌, ℕ, List, Option, Some, None, false, true, set, slice_get}
 use Rattle.ssa_model.specs.definitions.Path.{Path, under}
-use Rattle.ssa_path.specs.Children.{child_at}
-use Rattle.ssa_typed.specs.Rows.{below, is_tree}
+use Rattle.ssa_typed.specs.Rows.{is_tree}
 use Rattle.ssa_typed.specs.declared.node.Node.{Node}
+use Rattle.ssa_typed.specs.Nodes.{node_on}
 use Rattle.ssa_turn_body.specs.Marks.{Child, marks}
-
-abbrev pub then_on : Option Node → (Node → Option Node) → Option Node
-then_on None f = None
-then_on (Some c) f = f c
-
--- the node at a path
-abbrev pub node_on : Path → Node → Option Node
-node_on [] n = Some n
-node_on (e ∷ p) n = then_on (child_at e (below n)) (node_on p)
 
 abbrev pub in_child : Option Child → (Node → Option Node) → Option Node
 in_child None f = None

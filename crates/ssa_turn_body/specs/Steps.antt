@@ -4,7 +4,8 @@ use Rattle.ssa_model.specs.definitions.Path.{Path}
 use Rattle.ssa_path.specs.View.{path_view}
 use Rattle.ssa_typed.specs.declared.node.Node.{Node}
 use Rattle.ssa_turn_body.specs.Changes.{ChangeFits, ChangeGives, ChangeSteps, change_steps}
-use Rattle.ssa_turn_body.specs.Descent.{node_on, FitsIn, IsChange}
+use Rattle.ssa_typed.specs.Nodes.{node_on}
+use Rattle.ssa_turn_body.specs.Descent.{FitsIn, IsChange}
 use Rattle.ssa_turn_body.specs.Marks.{seen}
 use Rattle.ssa_turn_body.specs.declared.steps.Step.{Step}
 

@@ -5,7 +5,8 @@ ghost use Rattle.ssa_path.specs.Children.{child_at, elements, rises, IsChildAt};
 ghost use Rattle.ssa_path.specs.View.{element_view, path_view};
 ghost use Rattle.ssa_typed.specs.Rows.{below, is_tree, are_trees};
 ghost use Rattle.ssa_turn_body.specs.Marks.{Place, seen};
-ghost use Rattle.ssa_turn_body.specs.Descent.{node_on, node_in, FitsIn, IsChange, IsChildChange};
+ghost use Rattle.ssa_typed.specs.Nodes.{node_on};
+ghost use Rattle.ssa_turn_body.specs.Descent.{node_in, FitsIn, IsChange, IsChildChange};
 
 use ssa_path::children::search;
 use ssa_path::element::Elem;

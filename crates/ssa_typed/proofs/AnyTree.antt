@@ -9,6 +9,7 @@ use Rattle.ssa_model.specs.definitions.Fitting.{are_distinct}
 use Rattle.ssa_path.specs.Children.{child_at, elements}
 use Rattle.ssa_path.proofs.Orders.{same_element-true, both_first, both_second}
 use Rattle.ssa_typed.specs.Rows.{rows, below, body_of, leaf_content, own_content, content_at, is_tree, are_apart, are_items, are_fields}
+use Rattle.ssa_typed.specs.Nodes.{node_on, then_on}
 use Rattle.ssa_typed.specs.Points.{content_in}
 use Rattle.ssa_typed.specs.declared.node.Leaf.{Leaf}
 use Rattle.ssa_typed.specs.declared.node.Leaf.TheVariants.{Scalar, Atomic}
@@ -22,14 +23,6 @@ use Rattle.ssa_typed.proofs.Lookups.{content-root, content-level, tree-child}
 
 -- ---- the node at a path
 
-abbrev pub then_on : Option Node → (Node → Option Node) → Option Node
-then_on None f = None
-then_on (Some c) f = f c
-
-abbrev pub node_on : Path → Node → Option Node
-node_on [] n = Some n
-node_on (e ∷ p) n = then_on (child_at e (below n)) (node_on p)
-
 abbrev IsTreeIn : Option Node → Type 0
 IsTreeIn None = Unit {0}
 IsTreeIn (Some n) = is_tree n ≡ true
@@ -38,7 +31,7 @@ on-child : (c : Option Node) (p q : Path) → ((n : Node) → c ≡ Some n → c
 on-child None p q h = refl
 on-child (Some n) p q h = h n refl
 
-pub content-on : (p : Path) (n : Node) (q : Path) → is_tree n ≡ true → content_at (rows n) (p ++ q) ≡ content_in (node_on p n) q
+content-on : (p : Path) (n : Node) (q : Path) → is_tree n ≡ true → content_at (rows n) (p ++ q) ≡ content_in (node_on p n) q
 content-on [] n q h = refl
 content-on (e ∷ p) n q h = content-level n e (p ++ q) h ∙ on-child (child_at e (below n)) p q (λ c is. content-on p c q (tree-child n e c h is))
 
