@@ -13,7 +13,7 @@ use Rattle.ssa_typed.proofs.Levels.{Children as Vecs}
 use Rattle.ssa_typed.proofs.OverNodes.{leaf-there}
 use Rattle.ssa_turn_body.specs.Marks.{Child, marks, kids, names, Place, seen, may_stand, with_order}
 use Rattle.ssa_turn_body.specs.Orders.{reordered}
-use Rattle.ssa_turn_body.specs.Woven.{ArePlaces, taken, left, woven}
+use Rattle.ssa_turn_body.specs.Woven.{ArePlaces, taken, left, woven, room_for}
 use Rattle.ssa_turn_body.specs.Edits.{going, staying, remade, edited, named_in, edit_steps, leaf_steps, LeafFits, LeafGives, EditFitsIn, EditGivesIn, EditFits, EditGives}
 use Rattle.ssa_turn_body.specs.declared.children.LeafSwap.{LeafSwap}
 use Rattle.ssa_turn_body.specs.declared.children.ChildrenEdit.{ChildrenEdit}
@@ -119,7 +119,7 @@ edit-enter kind is s n v made fits =
       out_empty = h.out_empty;
       out_room = h.out_room;
       room_empty = h.room_empty;
-      room = subst (λ l. length s.held.items + l ≤ vec_capacity s.room) (staying-kids s v.items) h.room;
+      room = subst (λ l. room_for s.gone.places.items s.come.places.items (length s.held.items + l) ≤ vec_capacity s.room) (staying-kids s v.items) h.room;
     }
 
 stands-own : (kind : Vecs → Node) (is : IsKind kind) (v : Vecs) → is_tree (kind v) ≡ true → may_stand (own_content (kind v)) (names (kids v.items)) ≡ true
@@ -146,7 +146,7 @@ edit-leave kind is s t n m v w made after tree fits given =
       out_empty = given.out_empty;
       out_room = given.out_room;
       room_empty = given.room_empty;
-      room = subst (λ l. l ≤ vec_capacity t.room) (sym (length-kids v.items)) given.room;
+      room = subst (λ l. room_for t.gone.places.items t.come.places.items l ≤ vec_capacity t.room) (sym (length-kids v.items)) given.room;
     }))
 
 pub edited-tree : (kind : Vecs → Node) (is : IsKind kind) (s t : ChildrenEdit) (n m : Node) (v w : Vecs) → n ≡ kind v → m ≡ kind w → is_tree n ≡ true → EditFits s (seen n) → EditGivesIn s v.items t w.items → is_tree m ≡ true
@@ -225,7 +225,6 @@ edit-back s t v w h g =
     let left_long = length-left s.gone.places.items 0 first places in
     let left_same = ap length r.staying_is in
     let total : length v.1 ≡ length t.held.items + length (staying t w.1) = omega arith in
-    let room_before = g.room in
     record {
       before = subst (λ ps. SwapsInRange (length w.1) ps) (sym g.before) (subst (λ m. SwapsInRange m (reverse s.after.items)) (sym r.long) (range-reverse (length s.held.items + length (staying s v.1)) s.after.items h.after));
       gone = subst (λ ps. ArePlaces 0 ps (length w.1)) (sym g.gone) (subst (λ m. ArePlaces 0 s.come.places.items m) (sym r.long) h.come);
@@ -239,7 +238,7 @@ edit-back s t v w h g =
       out_empty = g.out_empty;
       out_room = subst (λ l. l ≤ vec_capacity t.out) (h.held ∙ ap length (sym g.gone)) g.out_room;
       room_empty = g.room_empty;
-      room = omega arith;
+      room = subst (λ l. room_for t.gone.places.items t.come.places.items l ≤ vec_capacity t.room) total g.room;
     }
 
 pub edit-again : (s t u : ChildrenEdit) (v w x : Place) → EditFits s v → EditGives s v t w → EditGives t w u x → (x ≡ v) × (edit_steps u ≡ edit_steps s)

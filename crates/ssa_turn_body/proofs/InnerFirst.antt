@@ -16,7 +16,7 @@ use Rattle.ssa_turn_body.specs.Inner.{AllFit, AreElsewhere, InnerStepsFit}
 use Rattle.ssa_turn_body.specs.Marks.{Kids, Mark, Marks, marks, marks_in, kids, names, Place, seen, may_stand}
 use Rattle.ssa_turn_body.specs.Steps.{StepFits, StepLeads}
 use Rattle.ssa_turn_body.specs.Edits.{EditFits, edited, going, staying, remade}
-use Rattle.ssa_turn_body.specs.Woven.{ArePlaces}
+use Rattle.ssa_turn_body.specs.Woven.{ArePlaces, room_for}
 use Rattle.ssa_turn_body.specs.declared.change.PlaceChange.{PlaceChange}
 use Rattle.ssa_turn_body.specs.declared.change.PlaceChange.TheVariants.{Leaf, Children}
 use Rattle.ssa_turn_body.specs.declared.children.ChildrenEdit.{ChildrenEdit}
@@ -62,7 +62,7 @@ edit-by s v w own ns h =
       out_empty = h.out_empty;
       out_room = h.out_room;
       room_empty = h.room_empty;
-      room = subst (λ l. length s.held.items + l ≤ vec_capacity s.room) staying_same h.room;
+      room = subst (λ l. room_for s.gone.places.items s.come.places.items (length s.held.items + l) ≤ vec_capacity s.room) staying_same h.room;
     }
 
 fits-by : (c : PlaceChange) (v w : Place) → v.0 ≡ w.0 → names v.1 ≡ names w.1 → ChangeFits c v → ChangeFits c w

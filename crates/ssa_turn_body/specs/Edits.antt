@@ -7,7 +7,7 @@ use Rattle.ssa_path.specs.View.{element_view}
 use Rattle.ssa_typed.specs.Rows.{leaf_content, are_trees}
 use Rattle.ssa_turn_body.specs.Marks.{Child, Kids, kids, names, Place, may_stand, with_order}
 use Rattle.ssa_turn_body.specs.Orders.{reordered}
-use Rattle.ssa_turn_body.specs.Woven.{ArePlaces, taken, left, woven}
+use Rattle.ssa_turn_body.specs.Woven.{ArePlaces, taken, left, woven, room_for}
 use Rattle.ssa_turn_body.specs.declared.children.LeafSwap.{LeafSwap}
 use Rattle.ssa_turn_body.specs.declared.children.Placed.{Placed}
 use Rattle.ssa_turn_body.specs.declared.children.ChildrenEdit.{ChildrenEdit}
@@ -80,7 +80,7 @@ pub record EditFits (s : ChildrenEdit) (v : Place) : Type 0 where
   pub out_empty : s.out.items ≡ []
   pub out_room : length s.gone.places.items ≤ vec_capacity s.out
   pub room_empty : s.room.items ≡ []
-  pub room : length s.held.items + length (staying s v.1) ≤ vec_capacity s.room
+  pub room : room_for s.gone.places.items s.come.places.items (length s.held.items + length (staying s v.1)) ≤ vec_capacity s.room
 
 -- what the edit leaves, of itself and of the place, which stood well
 pub record EditGives (s : ChildrenEdit) (v : Place) (t : ChildrenEdit) (w : Place) : Type 0 where
@@ -99,7 +99,7 @@ pub record EditGives (s : ChildrenEdit) (v : Place) (t : ChildrenEdit) (w : Plac
   pub out_empty : t.out.items ≡ []
   pub out_room : length s.held.items ≤ vec_capacity t.out
   pub room_empty : t.room.items ≡ []
-  pub room : length v.1 ≤ vec_capacity t.room
+  pub room : room_for t.gone.places.items t.come.places.items (length v.1) ≤ vec_capacity t.room
 
 -- ---- the same, of the children themselves
 
@@ -112,7 +112,7 @@ pub record EditFitsIn (s : ChildrenEdit) (cs : List Child) : Type 0 where
   pub out_empty : s.out.items ≡ []
   pub out_room : length s.gone.places.items ≤ vec_capacity s.out
   pub room_empty : s.room.items ≡ []
-  pub room : length s.held.items + length (staying s cs) ≤ vec_capacity s.room
+  pub room : room_for s.gone.places.items s.come.places.items (length s.held.items + length (staying s cs)) ≤ vec_capacity s.room
 
 pub record EditGivesIn (s : ChildrenEdit) (cs : List Child) (t : ChildrenEdit) (ds : List Child) : Type 0 where
   pub children : ds ≡ remade s s.held.items cs
@@ -126,4 +126,4 @@ pub record EditGivesIn (s : ChildrenEdit) (cs : List Child) (t : ChildrenEdit) (
   pub out_empty : t.out.items ≡ []
   pub out_room : length s.held.items ≤ vec_capacity t.out
   pub room_empty : t.room.items ≡ []
-  pub room : length cs ≤ vec_capacity t.room
+  pub room : room_for t.gone.places.items t.come.places.items (length cs) ≤ vec_capacity t.room

@@ -44,7 +44,8 @@ pub struct Placed {
 /// `gone` go, and those of `come` come in; then all are exchanged as `after` says. The places of
 /// `gone` are those before the pass and the places of `come` those after it. `held` has the
 /// children that come, in this order. `out` is empty, with room for the children that go, and
-/// `room` is empty, with room for all children afterwards.
+/// `room` is empty, with room for all children afterwards, and with none where no child goes or
+/// comes.
 #[derive(Drop)]
 pub struct ChildrenEdit {
     pub before: Vec<(usize, usize)>,

@@ -1,7 +1,7 @@
 //! Elements that leave a list and come into it at their places.
 ghost use Rattle.std.specs.Prelude.{◌≡◌, ◌+◌, ◌≤◌, ◌++◌, [], length, drop, reverse, vec_len, vec_capacity, IfNone};
 ghost use Rattle.std.specs.Option.{option_to_list};
-ghost use Rattle.ssa_turn_body.specs.Woven.{ArePlaces, taken, left, woven, is_first};
+ghost use Rattle.ssa_turn_body.specs.Woven.{ArePlaces, taken, left, woven, is_first, room_for};
 
 use ssa_reverse::room::push_within;
 use std::mem;
@@ -33,8 +33,8 @@ fn is_next(places: &[usize], i: usize, place: usize) -> bool
 /// Takes out what stands at the places `gone` and puts what is held in, so that it stands at the
 /// places `come`; what was taken out is held then, in its order.
 ///
-/// Each element is moved a fixed number of times. The vectors left in `out` and `room` are the old
-/// ones, emptied.
+/// Each element is moved a fixed number of times, and none where nothing goes and nothing comes,
+/// which needs no room. The vectors left in `out` and `room` are the old ones, emptied.
 pub fn weave<X: Drop>(
     items: &mut Vec<X>,
     gone: &[usize],
@@ -49,14 +49,17 @@ pub fn weave<X: Drop>(
     requires out_empty { out.old.items ≡ [] }
     requires out_room { length gone.now ≤ vec_capacity out.old }
     requires room_empty { room.old.items ≡ [] }
-    requires room { length held.old.items + length (left gone.now 0 items.old.items) ≤ vec_capacity room.old }
+    requires room { room_for gone.now come.now (length held.old.items + length (left gone.now 0 items.old.items)) ≤ vec_capacity room.old }
     ensures items { items.new.items ≡ woven come.now 0 held.old.items (left gone.now 0 items.old.items) }
     ensures held { held.new.items ≡ taken gone.now 0 items.old.items }
     ensures out_empty { out.new.items ≡ [] }
     ensures out_room { length held.old.items ≤ vec_capacity out.new }
     ensures room_empty { room.new.items ≡ [] }
-    ensures room { length items.old.items ≤ vec_capacity room.new }
+    ensures room { room_for come.now gone.now (length items.old.items) ≤ vec_capacity room.new }
 {
+    if gone.is_empty() && come.is_empty() {
+        return;
+    }
     turn_round(items);
     turn_round(held);
     let mut place: usize = 0;

@@ -36,7 +36,7 @@ unreachable-requires-in_default-next g c =
     let long : c.len.result ≡ length v.items = omega (arith, c.len.ensures, v.ok.0) in
     let first : is_first (drop c.loop-room.come_done c.args.come.now) (length v.items) ≡ false = ap (is_first (drop c.loop-room.come_done c.args.come.now)) (sym long) ∙ sym c.if-is_next.ensures in
     let none = c.in_default-next.ensures.none in
-    let empty : c.is_empty.result ≡ true = c.is_empty.ensures ∙ ap (λ n. eqb n 0) (let l : vec_len c.loop-room.items ≡ 0 = omega (arith, ap length none, c.loop-room.items.ok.0) in l) in
+    let empty : c.is_empty-in-loop-room.result ≡ true = c.is_empty-in-loop-room.ensures ∙ ap (λ n. eqb n 0) (let l : vec_len c.loop-room.items ≡ 0 = omega (arith, ap length none, c.loop-room.items.ok.0) in l) in
     let more : c.loop-room.come_done < length c.args.come.now =
     elim c.if-not-is_empty.branch [
       | then-not-is_empty w ↦ absurd (true≢false (sym empty ∙ w.if-not-is_empty.true))

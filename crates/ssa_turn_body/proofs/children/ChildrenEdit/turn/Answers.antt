@@ -3,7 +3,7 @@ use Rattle.std.specs.List.Sorted.{SwapsInRange}
 use Rattle.ssa_turn_body.specs.Edits.{staying, named_in}
 use Rattle.ssa_turn_body.specs.declared.children.Placed.{Placed}
 use Rattle.ssa_turn_body.specs.Orders.{reordered}
-use Rattle.ssa_turn_body.specs.Woven.{ArePlaces, left, taken, woven}
+use Rattle.ssa_turn_body.specs.Woven.{room_for, ArePlaces, left, taken, woven}
 use Rattle.ssa_turn_body.proofs.Edits.{middle-long}
 use Rattle.ssa_turn_body.proofs.Ordering.{length-reordered}
 use Rattle.ssa_turn_body.proofs.children.ChildrenEdit.turn.Goals as goal
@@ -30,6 +30,9 @@ returns c =
     let first : c.reorder.new.items.items ≡ reordered cs s.before.items = c.reorder.ensures ∙ ap (reordered cs) c.deref.ensures.value in
     let middle : c.weave.new.items.items ≡ woven s.come.places.items 0 s.held.items (staying s cs) =
     c.weave.ensures.items ∙ (λ i. woven (c.deref-3.ensures.value i) 0 s.held.items (left (c.deref-2.ensures.value i) 0 (first i))) in
+    let room_after : room_for s.come.places.items s.gone.places.items (length c.reorder.new.items.items) ≤ vec_capacity c.weave.new.room =
+    subst (λ ps. room_for s.come.places.items ps (length c.reorder.new.items.items) ≤ vec_capacity c.weave.new.room) c.deref-2.ensures.value
+    (subst (λ qs. room_for qs c.deref-2.result.now (length c.reorder.new.items.items) ≤ vec_capacity c.weave.new.room) c.deref-3.ensures.value c.weave.ensures.room) in
     record {
       children = c.reorder-2.ensures ∙ (λ i. reordered (middle i) (c.deref-4.ensures.value i));
       held = c.weave.ensures.held ∙ (λ i. taken (c.deref-2.ensures.value i) 0 (first i));
@@ -42,5 +45,8 @@ returns c =
       out_empty = c.weave.ensures.out_empty;
       out_room = c.weave.ensures.out_room;
       room_empty = c.weave.ensures.room_empty;
-      room = subst (λ n. n ≤ vec_capacity c.weave.new.room) (ap length first ∙ length-reordered cs s.before.items) c.weave.ensures.room;
+      room =
+          subst (λ (x : Placed). room_for x.places.items c.swap.new.y.places.items (length cs) ≤ vec_capacity c.weave.new.room) (sym c.swap.ensures.x_after)
+          (subst (λ (x : Placed). room_for s.come.places.items x.places.items (length cs) ≤ vec_capacity c.weave.new.room) (sym c.swap.ensures.y_after)
+          (subst (λ n. room_for s.come.places.items s.gone.places.items n ≤ vec_capacity c.weave.new.room) (ap length first ∙ length-reordered cs s.before.items) room_after));
     }
