@@ -56,7 +56,7 @@ step-again s t u v w w2 k h l tree same again =
 
 -- ---- lists of changes
 
-leads-tree : (ss : List Step) (v : Node) (ts : List Step) (w : Node) → is_tree v ≡ true → StepsLead ss v ts w → is_tree w ≡ true
+pub leads-tree : (ss : List Step) (v : Node) (ts : List Step) (w : Node) → is_tree v ≡ true → StepsLead ss v ts w → is_tree w ≡ true
 leads-tree [] v [] w tree l = ap is_tree l ∙ tree
 leads-tree [] v (t ∷ ts) w tree l = absurd l
 leads-tree (s ∷ ss) v [] w tree l = absurd l

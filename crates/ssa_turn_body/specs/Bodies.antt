@@ -4,7 +4,7 @@ use Rattle.ssa_model.specs.definitions.Body.{Body}
 use Rattle.ssa_typed.specs.Rows.{body_of, is_tree}
 use Rattle.ssa_typed.specs.declared.node.Node.{Node}
 use Rattle.ssa_turn_body.specs.Steps.{StepsFit}
-use Rattle.ssa_turn_body.specs.Turns.{IsTurned}
+use Rattle.ssa_turn_body.specs.Turns.{IsTurned, SameSteps}
 use Rattle.ssa_turn_body.specs.declared.steps.BodySteps.{BodySteps}
 
 -- the changes fit each tree of the body
@@ -20,3 +20,7 @@ pub record IsBodyTurned (r : BodySteps) (b : Body) (s : BodySteps) (c : Body) : 
   pub body_before : body_of before ≡ b
   pub body_after : body_of after ≡ c
   pub turned : IsTurned r before s after
+
+-- a second turn leaves the body and the steps as they were
+abbrev pub TurnsLeadBack : Type 0
+TurnsLeadBack = (s t u : BodySteps) (b c d : Body) → BodyStepsFit s b → IsBodyTurned s b t c → IsBodyTurned t c u d → (d ≡ b) × SameSteps u s

@@ -1,7 +1,5 @@
 //! Bodies, changed in place by steps that become those that lead back.
-ghost use Rattle.std.specs.Prelude.{◌≡◌, map};
 ghost use Rattle.ssa_turn_body.specs.Bodies.{BodyStepsFit, IsBodyTurned};
-ghost use Rattle.ssa_turn_body.specs.Steps.{step_says};
 
 use crate::steps::BodySteps;
 use ssa_json::value::Scalar;
@@ -18,14 +16,4 @@ pub fn turn_body(body: &mut Body, changes: &mut BodySteps)
     body.swap_root(&mut root);
     changes.turn(&mut root);
     body.swap_root(&mut root);
-}
-
-/// A second turn leaves the body and the steps as they were.
-pub fn turn_twice(body: &mut Body, changes: &mut BodySteps)
-    requires { BodyStepsFit changes.old body.old }
-    ensures body { body.new ≡ body.old }
-    ensures steps { map step_says changes.new.steps.items ≡ map step_says changes.old.steps.items }
-{
-    turn_body(body, changes);
-    turn_body(body, changes);
 }

@@ -1,9 +1,7 @@
 //! Changes at many places of a tree, which become those that lead back.
-ghost use Rattle.std.specs.Prelude.{◌≡◌, reverse, map, true};
+ghost use Rattle.std.specs.Prelude.{◌≡◌, true};
 ghost use Rattle.ssa_typed.specs.Rows.{is_tree};
-ghost use Rattle.ssa_model.specs.definitions.Path as model;
-ghost use Rattle.ssa_turn_body.specs.Marks.{marks};
-ghost use Rattle.ssa_turn_body.specs.Steps.{StepFits, StepLeads, StepsFit, StepsLead, step_says};
+ghost use Rattle.ssa_turn_body.specs.Steps.{StepFits, StepLeads, StepsFit, StepsLead};
 
 use crate::change::PlaceChange;
 use crate::descent::change_at;
@@ -60,17 +58,5 @@ impl BodySteps {
     {
         Step::turn_all(&mut self.steps, node);
         self.steps.reverse();
-    }
-
-    /// A second turn leaves the tree and the steps as they were.
-    pub fn there_and_back(&mut self, node: &mut Node)
-        requires tree { is_tree node.old ≡ true }
-        requires fits { StepsFit self.old.steps.items node.old }
-        ensures same { (p : model.Path) → marks node.new p ≡ marks node.old p }
-        ensures tree { is_tree node.new ≡ true }
-        ensures steps { map step_says self.new.steps.items ≡ map step_says self.old.steps.items }
-    {
-        self.turn(node);
-        self.turn(node);
     }
 }

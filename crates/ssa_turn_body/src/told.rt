@@ -1,6 +1,8 @@
-//! What changes of trees are in the words of bodies: laws over definitions.
+//! Laws over definitions: what turns are in the words of bodies, and that a second turn leads back.
+ghost use Rattle.ssa_turn_body.specs.Bodies.{TurnsLeadBack};
 ghost use Rattle.ssa_turn_body.specs.Inner.{InnerStepsFit};
 ghost use Rattle.ssa_turn_body.specs.Told.{EditTurnTold, LeafTurnTold, MarksTellContents};
+ghost use Rattle.ssa_turn_body.specs.Turns.{TreeTurnsLeadBack};
 
 /// A body has at each path the content that the marks of its tree tell.
 pub fn marks_tell_contents()
@@ -21,4 +23,14 @@ pub fn edit_turn_told()
 /// those of inner places stand before those of outer ones.
 pub fn inner_steps_fit()
     ensures { InnerStepsFit }
+{}
+
+/// A second turn of a tree leaves the tree and the steps as they were.
+pub fn tree_turns_lead_back()
+    ensures { TreeTurnsLeadBack }
+{}
+
+/// A second turn of a body leaves the body and the steps as they were.
+pub fn turns_lead_back()
+    ensures { TurnsLeadBack }
 {}
