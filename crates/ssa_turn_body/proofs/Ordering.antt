@@ -4,6 +4,7 @@ use Rattle.std.specs.List.{swap}
 use Rattle.std.specs.List.Sorted.{SwapsInRange}
 use Rattle.std.proofs.lemmas.Bool.{eqb-true}
 use Rattle.std.proofs.lemmas.List.{map-set, reverse-append, ext_get_or, get_or-set_other, length-set, take_more}
+use Rattle.std.proofs.Math.ListN.{get_or-map}
 use Rattle.std.proofs.lemmas.Grind.{get_or-set_at}
 use Rattle.ssa_turn_body.proofs.Weaving.{same_number}
 use Rattle.std.proofs.lemmas.List.Edits.{length-swap, swap_is}
@@ -87,17 +88,12 @@ range-at n (p ∷ ps) (suc i) d lt h = range-at n ps i d (omega arith) h.2
 
 -- ---- what the elements are seen as
 
-get-map : {X Y : Type 0} (f : X → Y) (xs : List X) (i : ℕ) (d : X) → get_or (map f xs) i (f d) ≡ f (get_or xs i d)
-get-map f [] i d = refl
-get-map f (x ∷ xs) zero d = refl
-get-map f (x ∷ xs) (suc i) d = get-map f xs i d
-
 map-swap : {X Y : Type 0} (f : X → Y) (xs : List X) (i j : ℕ) → map f (swap xs i j) ≡ swap (map f xs) i j
 map-swap f [] i j = refl
 map-swap f (d ∷ xs) i j =
     map-set f (set (d ∷ xs) i (get_or (d ∷ xs) j d)) j (get_or (d ∷ xs) i d)
     ∙ ap (λ ys. set ys j (f (get_or (d ∷ xs) i d))) (map-set f (d ∷ xs) i (get_or (d ∷ xs) j d))
-    ∙ (λ t. set (set (map f (d ∷ xs)) i (sym (get-map f (d ∷ xs) j d) t)) j (sym (get-map f (d ∷ xs) i d) t))
+    ∙ (λ t. set (set (map f (d ∷ xs)) i (sym (get_or-map f (d ∷ xs) j d) t)) j (sym (get_or-map f (d ∷ xs) i d) t))
 
 pub map-reordered : {X Y : Type 0} (f : X → Y) (xs : List X) (ps : List (ℕ × ℕ)) → map f (reordered xs ps) ≡ reordered (map f xs) ps
 map-reordered f xs [] = refl

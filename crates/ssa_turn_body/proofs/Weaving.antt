@@ -1,6 +1,7 @@
 -- What is taken out of a list and what is left make the list again; what is woven in can be taken out.
 use Rattle.std.proofs.Common.{◌≡◌, ℕ, zero, suc, ◌+◌, ◌-◌, ◌<◌, ◌≤◌, eqb, List, [], ◌∷◌, ◌++◌, length, take, drop, true, false, cond, refl, sym, ap, subst, ◌∙◌, arith, append_assoc, append-nil, true≢false, map}
-use Rattle.std.proofs.lemmas.List.{map-append}
+use Rattle.std.specs.List.{take-map, drop-map}
+use Rattle.std.proofs.lemmas.List.{map-append, length-append, length-take-le, length-drop, drop-drop}
 use Rattle.std.proofs.lemmas.Bool.{eqb-true}
 use Rattle.std.proofs.lemmas.Bool.Decides.{nat_tests}
 use Rattle.ssa_turn_body.specs.Woven.{ArePlaces, taken, left, woven, is_first}
@@ -25,25 +26,11 @@ some-first (d ∷ ds) k f = refl
 
 -- ---- what is left of a list of places
 
-pub drop-next : {A : Type 0} (i : ℕ) (xs : List A) → drop 1 (drop i xs) ≡ drop (i + 1) xs
-drop-next i xs = let one : suc i ≡ i + 1 = omega arith in from i xs ∙ ap (λ n. drop n xs) one
-  where
-    from : {A : Type 0} (i : ℕ) (xs : List A) → drop 1 (drop i xs) ≡ drop (suc i) xs
-    from zero xs = refl
-    from (suc i) [] = refl
-    from (suc i) (x ∷ xs) = from i xs
-
 pub first-within : (i : ℕ) (ps : List ℕ) (k : ℕ) → is_first (drop i ps) k ≡ true → i + 1 ≤ length ps
 first-within zero [] k f = absurd (true≢false (sym f))
 first-within (suc i) [] k f = absurd (true≢false (sym f))
 first-within zero (p ∷ ps) k f = omega arith
 first-within (suc i) (p ∷ ps) k f = let rest = first-within i ps k f in omega arith
-
-pub drop-all : {A : Type 0} (i : ℕ) (xs : List A) → length xs ≤ i → drop i xs ≡ []
-drop-all zero [] h = refl
-drop-all (suc i) [] h = refl
-drop-all zero (x ∷ xs) h = absurd (omega arith)
-drop-all (suc i) (x ∷ xs) h = drop-all i xs (omega arith)
 
 pub drop-some : {A : Type 0} (i : ℕ) (xs : List A) → i < length xs → 0 < length (drop i xs)
 drop-some i [] h = absurd (omega arith)
@@ -310,7 +297,7 @@ module _ {X : Type 0} where
       → out2 ≡ out ++ x ∷ [] → i2 ≡ i + 1 → room2 ≡ room → IsWeaving gone come hs cs k (drop i gone) es rest held out room → IsWeaving gone come hs cs (k + 1) (drop i2 gone) es rest2 held out2 room2
   after-cut gone come hs cs k i es rest held out room x rest2 out2 room2 i2 f e r i_is room_is w =
       subst (λ rs. IsWeaving gone come hs cs (k + 1) (drop i2 gone) es rest2 held out2 rs) (sym room_is)
-      (subst (λ ds. IsWeaving gone come hs cs (k + 1) ds es rest2 held out2 room) (drop-next i gone ∙ ap (λ n. drop n gone) (sym i_is))
+      (subst (λ ds. IsWeaving gone come hs cs (k + 1) ds es rest2 held out2 room) (drop-drop 1 i gone ∙ ap (λ n. drop n gone) (sym i_is))
       (weaving-cut gone come hs cs k (drop i gone) es rest held out room x rest2 out2 f e r w))
 
   pub after-stay : (gone come : List ℕ) (hs cs : List X) (k i : ℕ) (es : List ℕ) (rest held out room : List X) (x : X) (rest2 out2 room2 : List X) (i2 : ℕ) → is_first (drop i gone) k ≡ false → is_first es (length room) ≡ false → rest ≡ x ∷ rest2
@@ -372,24 +359,10 @@ module _ {X : Type 0} where
       let within = places-within (p + 1) ps n places.1 in
       let le = places.0 in
       let d = p - k in
-      let taken_long : length (take d ys) ≡ d = length-take d ys (omega arith) in
-      let dropped_long : length (drop d ys) + d ≡ length ys = length-drop-some d ys (omega arith) in
+      let taken_long : length (take d ys) ≡ d = length-take-le d ys (omega arith) in
+      let dropped_long : length (drop d ys) ≡ length ys - d = length-drop d ys in
       let rest = length-woven ps (p + 1) hs (drop d ys) n places.1 (omega arith) shorter in
       length-append (take d ys) (h ∷ woven ps (p + 1) hs (drop d ys)) ∙ omega arith
-    where
-      length-take : (d : ℕ) (ys : List X) → d ≤ length ys → length (take d ys) ≡ d
-      length-take zero ys le = refl
-      length-take (suc d) [] le = absurd (omega arith)
-      length-take (suc d) (y ∷ ys) le = ap suc (length-take d ys (omega arith))
-
-      length-drop-some : (d : ℕ) (ys : List X) → d ≤ length ys → length (drop d ys) + d ≡ length ys
-      length-drop-some zero ys le = omega arith
-      length-drop-some (suc d) [] le = absurd (omega arith)
-      length-drop-some (suc d) (y ∷ ys) le = let rest = length-drop-some d ys (omega arith) in omega arith
-
-      length-append : (xs ys : List X) → length (xs ++ ys) ≡ length xs + length ys
-      length-append [] ys = omega arith
-      length-append (x ∷ xs) ys = let rest = length-append xs ys in omega arith
 
   pub length-left : (ps : List ℕ) (k : ℕ) (xs : List X) → ArePlaces k ps (k + length xs) → length (left ps k xs) + length ps ≡ length xs
   length-left [] k xs h = omega arith
@@ -430,20 +403,10 @@ module _ {X Y : Type 0} (f : X → Y) where
         | false ↦ ap (λ ys. f x ∷ ys) (map-left (p ∷ ps) (k + 1) xs)
       ]
 
-  map-take : (d : ℕ) (xs : List X) → take d (map f xs) ≡ map f (take d xs)
-  map-take zero xs = refl
-  map-take (suc d) [] = refl
-  map-take (suc d) (x ∷ xs) = ap (λ ys. f x ∷ ys) (map-take d xs)
-
-  map-drop : (d : ℕ) (xs : List X) → drop d (map f xs) ≡ map f (drop d xs)
-  map-drop zero xs = refl
-  map-drop (suc d) [] = refl
-  map-drop (suc d) (x ∷ xs) = map-drop d xs
-
   pub map-woven : (ps : List ℕ) (k : ℕ) (hs ys : List X) → woven ps k (map f hs) (map f ys) ≡ map f (woven ps k hs ys)
   map-woven [] k hs ys = refl
   map-woven (p ∷ ps) k [] ys = refl
   map-woven (p ∷ ps) k (h ∷ hs) ys =
-      (λ i. map-take (p - k) ys i ++ f h ∷ woven ps (p + 1) (map f hs) (map-drop (p - k) ys i))
+      (λ i. take-map f (p - k) ys i ++ f h ∷ woven ps (p + 1) (map f hs) (drop-map f (p - k) ys i))
       ∙ ap (λ zs. map f (take (p - k) ys) ++ f h ∷ zs) (map-woven ps (p + 1) hs (drop (p - k) ys))
       ∙ sym (map-append f (take (p - k) ys) (h ∷ woven ps (p + 1) hs (drop (p - k) ys)))

@@ -1,8 +1,9 @@
 use Rattle.std.proofs.Common.{◌≡◌, ◌+◌, ◌≤◌, ◌<◌, [], ◌∷◌, length, drop, reverse, refl, sym, ap, subst, ◌∙◌, arith, true, false, true≢false, eqb, ℕ, List, vec_len, vec_capacity, Vec, Global}
 use Rattle.ssa_turn_body.specs.Woven.{left}
+use Rattle.std.proofs.lemmas.List.{drop_all, drop-drop}
 use Rattle.std.proofs.lemmas.Bool.{eqb-true}
 use Rattle.ssa_turn_body.specs.Woven.{is_first}
-use Rattle.ssa_turn_body.proofs.Weaving.{IsWeaving, held-due, weaving-put, after-cut, after-stay, weaving-due, weaving-end, drop-next, first-within, drop-all, drop-some}
+use Rattle.ssa_turn_body.proofs.Weaving.{IsWeaving, held-due, weaving-put, after-cut, after-stay, weaving-due, weaving-end, first-within, drop-some}
 use Rattle.ssa_turn_body.proofs.weave.weave.Goals as goal
 use Rattle.ssa_turn_body.proofs.weave.weave.Goals.{then-not-is_empty, else-not-is_empty+then-come_done-come, then-is_next-2, else-is_next-2}
 
@@ -21,7 +22,7 @@ loop-room-preserved-then-is_next g c =
     let w = weaving-put _ _ _ _ _ _ _ _ (reverse c.loop-room.held.items) _ _ c.in-Some.item (reverse c.next.new.stack.items) c.push_within.new.items.items first c.in-Some.ensures.items c.push_within.ensures.items c.loop-room.invariant.0 in
     let inv = c.loop-room.invariant in (
       subst (λ es. IsWeaving c.args.gone.now c.args.come.now c.args.held.now.items c.args.items.now.items c.loop-room.place (drop c.loop-room.gone_done c.args.gone.now) es (reverse c.loop-room.items.items) (reverse c.next.new.stack.items) c.loop-room.out.items c.push_within.new.items.items)
-          (drop-next c.loop-room.come_done c.args.come.now) w,
+          (drop-drop 1 c.loop-room.come_done c.args.come.now) w,
       inv.1,
       first-within c.loop-room.come_done c.args.come.now (length v.items) first,
       omega (arith, inv.3, c.push_within.ensures.capacity),
@@ -89,11 +90,11 @@ returns-clause-items g c =
     let v = c.loop-room.items in
     let none = none-left (vec_len v) v.items c.if-not-is_empty.ensures (omega (arith, v.ok.0)) in
     ap (λ v. v.items) c.swap.ensures.x_after
-    ∙ (weaving-end _ _ _ _ _ _ _ (reverse v.items) _ _ _ (drop-all c.loop-room.come_done c.args.come.now c.if-come_done-come.false) (ap reverse none) c.loop-room.invariant.0).0
+    ∙ (weaving-end _ _ _ _ _ _ _ (reverse v.items) _ _ _ (drop_all c.loop-room.come_done c.args.come.now c.if-come_done-come.false) (ap reverse none) c.loop-room.invariant.0).0
 
 pub returns-clause-held : goal.returns-clause-held
 returns-clause-held g c =
     let v = c.loop-room.items in
     let none = none-left (vec_len v) v.items c.if-not-is_empty.ensures (omega (arith, v.ok.0)) in
     ap (λ v. v.items) c.swap-2.ensures.x_after
-    ∙ (weaving-end _ _ _ _ _ _ _ (reverse v.items) _ _ _ (drop-all c.loop-room.come_done c.args.come.now c.if-come_done-come.false) (ap reverse none) c.loop-room.invariant.0).1
+    ∙ (weaving-end _ _ _ _ _ _ _ (reverse v.items) _ _ _ (drop_all c.loop-room.come_done c.args.come.now c.if-come_done-come.false) (ap reverse none) c.loop-room.invariant.0).1
