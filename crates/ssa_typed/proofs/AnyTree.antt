@@ -9,6 +9,7 @@ use Rattle.ssa_model.specs.definitions.Fitting.{are_distinct}
 use Rattle.ssa_path.specs.Children.{child_at, elements}
 use Rattle.ssa_path.proofs.Orders.{same_element-true, both_first, both_second}
 use Rattle.ssa_typed.specs.Rows.{rows, below, body_of, leaf_content, own_content, content_at, is_tree, are_apart, are_items, are_fields}
+use Rattle.ssa_typed.specs.Nodes.{node_on, then_on}
 use Rattle.ssa_typed.specs.Points.{content_in}
 use Rattle.ssa_typed.specs.declared.node.Leaf.{Leaf}
 use Rattle.ssa_typed.specs.declared.node.Leaf.TheVariants.{Scalar, Atomic}
@@ -21,14 +22,6 @@ use Rattle.ssa_typed.proofs.Looks.{get-body, some-below}
 use Rattle.ssa_typed.proofs.Lookups.{content-root, content-level, tree-child}
 
 -- ---- the node at a path
-
-abbrev then_on : Option Node → (Node → Option Node) → Option Node
-then_on None f = None
-then_on (Some c) f = f c
-
-abbrev node_on : Path → Node → Option Node
-node_on [] n = Some n
-node_on (e ∷ p) n = then_on (child_at e (below n)) (node_on p)
 
 abbrev IsTreeIn : Option Node → Type 0
 IsTreeIn None = Unit {0}

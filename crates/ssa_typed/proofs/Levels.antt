@@ -23,7 +23,7 @@ length-elements (c ∷ cs) = ap suc (length-elements cs)
 
 -- ---- elements that rise differ
 
-below-apart : (e : Element) (es : List Element) → is_below e es ≡ true → list_any (same_element e) es ≡ false
+pub below-apart : (e : Element) (es : List Element) → is_below e es ≡ true → list_any (same_element e) es ≡ false
 below-apart e [] h = refl
 below-apart e (f ∷ es) h =
     let first : is_lt (element_cmp e f) ≡ true = both_first _ _ h in

@@ -202,7 +202,7 @@ below-Dict v = search (rules, the_lemmas)
 pub below-List : (v : Children) → below (ListOf v) ≡ v.items
 below-List v = search (rules, the_lemmas)
 
-leaf-there : (l : Leaf) → is_leaf (Some (leaf_content l)) ≡ true
+pub leaf-there : (l : Leaf) → is_leaf (Some (leaf_content l)) ≡ true
 leaf-there (Scalar s) = refl
 leaf-there (Atomic v) = refl
 

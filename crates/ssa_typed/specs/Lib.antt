@@ -6,6 +6,7 @@ pub mod InOrder
 pub mod Lacking
 pub mod Look
 pub mod MergedOrder
+pub mod Nodes
 pub mod Over
 pub mod Points
 pub mod Reached

@@ -184,6 +184,16 @@ impl Body {
         mem::replace(&mut self.root, Node::Branch(Vec::new(alloc)))
     }
 
+    /// Exchanges the body's tree for another, which takes no memory.
+    pub fn swap_root(&mut self, root: &mut Node)
+        requires { is_tree root.old ≡ true }
+        ensures seen { body_of root.new ≡ self.old }
+        ensures tree { is_tree root.new ≡ true }
+        ensures put { self.new ≡ body_of root.old }
+    {
+        mem::swap(&mut self.root, root);
+    }
+
     /// Puts a tree in place of the body's.
     pub fn set_root(&mut self, root: Node)
         requires { is_tree root ≡ true }

@@ -1,0 +1,11 @@
+pub mod Bodies
+pub mod Changes
+pub mod Descent
+pub mod Edits
+pub mod Inner
+pub mod Marks
+pub mod Orders
+pub mod Steps
+pub mod Told
+pub mod Turns
+pub mod Woven

@@ -1,0 +1,11 @@
+//! Bodies changed in place by steps that become those that lead back, with no memory taken.
+#![tactic(auto)]
+
+pub mod body;
+pub mod change;
+pub mod children;
+pub mod descent;
+pub mod reorder;
+pub mod steps;
+pub mod told;
+pub mod weave;

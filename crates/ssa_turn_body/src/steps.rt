@@ -1,0 +1,62 @@
+//! Changes at many places of a tree, which become those that lead back.
+ghost use Rattle.std.specs.Prelude.{◌≡◌, true};
+ghost use Rattle.ssa_typed.specs.Rows.{is_tree};
+ghost use Rattle.ssa_turn_body.specs.Steps.{StepFits, StepLeads, StepsFit, StepsLead};
+
+use crate::change::PlaceChange;
+use crate::descent::change_at;
+use ssa_path::element::Elem;
+use ssa_typed::node::Node;
+
+/// A change of the place at a path.
+#[derive(Drop)]
+pub struct Step {
+    pub path: Vec<Elem>,
+    pub change: PlaceChange,
+}
+
+impl Step {
+    /// Makes the change, which becomes the one that leads back. Takes no memory.
+    pub fn turn(&mut self, node: &mut Node)
+        requires tree { is_tree node.old ≡ true }
+        requires fits { StepFits self.old node.old }
+        ensures { StepLeads self.old node.old self.new node.new }
+    {
+        let path = self.path.as_slice();
+        change_at(node, path, &mut self.change);
+    }
+
+    /// Makes the changes of a list, one after the other. Each becomes the one that leads back.
+    pub fn turn_all(steps: &mut Vec<Step>, node: &mut Node)
+        requires tree { is_tree node.old ≡ true }
+        requires fits { StepsFit steps.old.items node.old }
+        ensures { StepsLead steps.old.items node.old steps.new.items node.new }
+    {
+        for i in 0..steps.len() {
+            let step = &mut steps[i];
+            step.turn(node);
+        }
+    }
+}
+
+/// Changes of places of one tree, in the order in which they are made.
+#[derive(Drop)]
+pub struct BodySteps {
+    pub steps: Vec<Step>,
+}
+
+impl BodySteps {
+    ghost use Rattle.ssa_turn_body.specs.Turns.{IsTurned};
+
+    /// Makes the changes, and then holds those that lead back, the last first. Takes no memory.
+    pub fn turn(&mut self, node: &mut Node)
+        requires tree { is_tree node.old ≡ true }
+        requires fits { StepsFit self.old.steps.items node.old }
+        ensures leads { IsTurned self.old node.old self.new node.new }
+        ensures tree { is_tree node.new ≡ true }
+        ensures back { StepsFit self.new.steps.items node.new }
+    {
+        Step::turn_all(&mut self.steps, node);
+        self.steps.reverse();
+    }
+}
