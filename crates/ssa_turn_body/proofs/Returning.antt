@@ -1,6 +1,6 @@
 -- Changes made one after the other, and those that lead back, the last first.
-use Rattle.std.proofs.Common.{◌≡◌, ℕ, ◌+◌, ◌<◌, ◌≤◌, List, [], ◌∷◌, ◌++◌, length, take, drop, get_or, set, map, reverse, true, refl, sym, ap, subst, ◌∙◌, arith}
-use Rattle.std.proofs.lemmas.List.{map-append, reverse-append, reverse-reverse, drop_more, take_more, take_more_set, drop-set-lt, length-set, take_all}
+use Rattle.std.proofs.Common.{◌≡◌, ℕ, ◌+◌, ◌<◌, List, [], ◌∷◌, ◌++◌, length, take, drop, get_or, set, map, reverse, true, refl, sym, ap, subst, ◌∙◌, arith}
+use Rattle.std.proofs.lemmas.List.{map-append, reverse-append, reverse-reverse, drop_more, take_more, take_more_set, drop-set-lt, length-set}
 use Rattle.ssa_model.specs.definitions.Path.{Path}
 use Rattle.ssa_path.specs.View.{path_view}
 use Rattle.ssa_typed.specs.Rows.{is_tree}
@@ -131,9 +131,6 @@ pub record IsTurning (before : List Step) (v : Node) (i : ℕ) (steps : List Ste
   pub long : length steps ≡ length before
   pub tree : is_tree w ≡ true
 
-pub turning-none : (before : List Step) (v : Node) → is_tree v ≡ true → StepsFit before v → IsTurning before v 0 before v
-turning-none before v tree fit = record { leads = refl; rest = refl; fit = fit; long = refl; tree = tree }
-
 module _ (before : List Step) (v : Node) (i : ℕ) (steps : List Step) (w : Node) (s : Step) (lt : i < length steps) (is : s ≡ get_or steps i s) (h : IsTurning before v i steps w) where
   before_long : i < length before
   before_long = let e = h.long in omega arith
@@ -160,9 +157,6 @@ module _ (before : List Step) (v : Node) (i : ℕ) (steps : List Step) (w : Node
   fit_more : StepsFit (s ∷ drop (i + 1) before) w
   fit_more = subst (λ xs. StepsFit xs w) (drop_more before i s before_long ∙ ap (λ x. x ∷ drop (i + 1) before) (sym same_step)) h.fit
 
-  pub turning-fits : StepFits s w
-  turning-fits = fit_more.0
-
   pub turning-step : (t : Step) (x : Node) → StepLeads s w t x → IsTurning before v (i + 1) (set steps i t) x
   turning-step t x l = record {
     leads =
@@ -173,11 +167,6 @@ module _ (before : List Step) (v : Node) (i : ℕ) (steps : List Step) (w : Node
     long = length-set steps i t ∙ h.long;
     tree = l.change.tree;
   }
-
-pub turning-end : (before : List Step) (v : Node) (i : ℕ) (steps : List Step) (w : Node) → length steps ≤ i → IsTurning before v i steps w → StepsLead before v steps w
-turning-end before v i steps w le h =
-    let le_before : length before ≤ i = (let e = h.long in omega arith) in
-    subst (λ xs. StepsLead xs v steps w) (take_all i before le_before) (subst (λ ys. StepsLead (take i before) v ys w) (take_all i steps le) h.leads)
 
 pub leads-reversed : (ss ts rs : List Step) (v w : Node) → rs ≡ reverse ts → is_tree v ≡ true → StepsFit ss v → StepsLead ss v ts w → (StepsLead ss v (reverse rs) w) × (is_tree w ≡ true) × StepsFit rs w
 leads-reversed ss ts rs v w e tree fit l =

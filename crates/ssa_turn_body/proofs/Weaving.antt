@@ -116,14 +116,6 @@ module _ {X : Type 0} where
     pub taken_is : taken gone 0 cs ≡ out ++ taken ds k rest
     pub woven_is : woven come 0 hs (left gone 0 cs) ≡ room ++ woven es (length room) held (left ds k rest)
 
-  pub weaving-none : (gone come : List ℕ) (hs cs : List X) → ArePlaces 0 gone (length cs) → ArePlaces 0 come (length hs + length (left gone 0 cs)) → length hs ≡ length come
-      → IsWeaving gone come hs cs 0 gone come cs hs [] []
-  weaving-none gone come hs cs g c h =
-      let none : (n : ℕ) → n ≡ 0 + n = λ n. omega arith in
-      let m = length hs + length (left gone 0 cs) in
-      let total : m ≡ 0 + length hs + length (left gone 0 cs) = omega arith in
-      record { whole = sym (none (length cs)); gone_left = subst (λ n. ArePlaces 0 gone n) (none (length cs)) g; come_left = subst (λ n. ArePlaces 0 come n) total c; held_left = h; room_total = sym total; out_total = sym (none (length gone)); taken_is = refl; woven_is = refl }
-
   length-push : (xs : List X) (x : X) → length (xs ++ x ∷ []) ≡ length xs + 1
   length-push [] x = refl
   length-push (y ∷ xs) x = let rest = length-push xs x in omega arith
@@ -173,26 +165,6 @@ module _ {X : Type 0} where
 
   pub held-due : (gone come : List ℕ) (hs cs : List X) (k : ℕ) (ds es : List ℕ) (rest held out room : List X) → is_first es (length room) ≡ true → held ≡ [] → IsWeaving gone come hs cs k ds es rest held out room → ⊥
   held-due gone come hs cs k ds es rest held out room f e w = let one = some-first es (length room) f in let long = w.held_left in let none : length held ≡ 0 = ap length e in omega arith
-
-  -- there is room for what comes, for what goes and for what stays
-  pub room-put : (gone come : List ℕ) (hs cs : List X) (k : ℕ) (ds es : List ℕ) (rest held out room : List X) (n : ℕ) → is_first es (length room) ≡ true → length hs + length (left gone 0 cs) ≤ n
-      → IsWeaving gone come hs cs k ds es rest held out room → length room < n
-  room-put gone come hs cs k ds es rest held out room n f le w = let one = some-first es (length room) f in let long = w.held_left in let total = w.room_total in omega arith
-
-  pub out-cut : (gone come : List ℕ) (hs cs : List X) (k : ℕ) (ds es : List ℕ) (rest held out room : List X) (n : ℕ) → is_first ds k ≡ true → length gone ≤ n
-      → IsWeaving gone come hs cs k ds es rest held out room → length out < n
-  out-cut gone come hs cs k ds es rest held out room n f le w = let one = some-first ds k f in let total = w.out_total in omega arith
-
-  left-some : (ds : List ℕ) (k : ℕ) (x : X) (rest : List X) → is_first ds k ≡ false → 0 < length (left ds k (x ∷ rest))
-  left-some [] k x rest f = omega arith
-  left-some (p ∷ ds) k x rest f = subst (λ ys. 0 < length ys) (sym (left-past p k ds x rest f)) (omega arith)
-
-  pub room-stay : (gone come : List ℕ) (hs cs : List X) (k : ℕ) (ds es : List ℕ) (rest held out room : List X) (x : X) (rest2 : List X) (n : ℕ) → is_first ds k ≡ false → rest ≡ x ∷ rest2 → length hs + length (left gone 0 cs) ≤ n
-      → IsWeaving gone come hs cs k ds es rest held out room → length room < n
-  room-stay gone come hs cs k ds es rest held out room x rest2 n f e le w =
-      let some : 0 < length (left ds k rest) = subst (λ xs. 0 < length (left ds k xs)) (sym e) (left-some ds k x rest2 f) in
-      let total = w.room_total in
-      omega arith
 
   pub weaving-cut : (gone come : List ℕ) (hs cs : List X) (k : ℕ) (ds es : List ℕ) (rest held out room : List X) (x : X) (rest2 out2 : List X) → is_first ds k ≡ true → rest ≡ x ∷ rest2 → out2 ≡ out ++ x ∷ []
       → IsWeaving gone come hs cs k ds es rest held out room → IsWeaving gone come hs cs (k + 1) (drop 1 ds) es rest2 held out2 room
