@@ -1,5 +1,5 @@
 -- What is saved is the file of the bench.
-use Rattle.std.proofs.Common.{◌≡◌, ◌≤◌, List, [], ◌∷◌, length, map, true, refl}
+use Rattle.std.proofs.Common.{◌≤◌, List, [], ◌∷◌, length, map, refl}
 use Rattle.std.specs.List.{All}
 use Rattle.std.proofs.lemmas.List.Elements.{All-head, All-tail, All-nil, All-cons}
 use Rattle.ssa_model.specs.definitions.Limits.{most_bench_bytes}

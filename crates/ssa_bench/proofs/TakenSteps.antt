@@ -1,11 +1,10 @@
 -- Laws of taking the states of a bench file from its lines.
-use Rattle.std.proofs.Common.{◌≡◌, List, [], ◌∷◌, Bool, true, false, ◌&&◌, Option, Some, None, option_map, not, refl, sym, ap, subst, ◌∙◌, true≢false}
+use Rattle.std.proofs.Common.{◌≡◌, Bool, true, false, ◌&&◌, Option, Some, None, option_map, not, refl, sym, ap, subst, ◌∙◌}
 use Rattle.std.proofs.lemmas.Bool.{and_parts}
 use Rattle.std.proofs.lemmas.Option.{none-some, same_Some}
 use Rattle.std.specs.Result.{result_ok}
-use Rattle.std.specs.Cmp.Lexicographic.{pointwise}
 use Rattle.std.specs.Prelude.{codes, Result, Ok, Err, if◌then◌else◌}
-use Rattle.ssa_model.specs.definitions.Json.{Json, scalar, list, object, member_at, same_text}
+use Rattle.ssa_model.specs.definitions.Json.{Json, scalar, list, object, member_at}
 use Rattle.ssa_model.specs.definitions.Commands.{value_in}
 use Rattle.ssa_model.specs.definitions.Operations.{State}
 use Rattle.ssa_model.specs.definitions.Schema as schemas
@@ -13,7 +12,7 @@ use Rattle.ssa_model.specs.definitions.Schema.{Schema}
 use Rattle.ssa_model.specs.definitions.Kind.{Kind}
 use Rattle.ssa_model.specs.definitions.Objects as Identities
 use Rattle.ssa_model.specs.definitions.Objects.{identity_of}
-use Rattle.ssa_model.specs.definitions.Table.{ManagerKey, Operation, applies, updates, Table, same_manager, same_operation}
+use Rattle.ssa_model.specs.definitions.Table.{Table, same_manager}
 use Rattle.ssa_model.specs.definitions.History.{Label, applied, updated, stripped, Step, Bench, is_manager_name}
 use Rattle.ssa_model.specs.definitions.Answers as model
 use Rattle.ssa_model.specs.definitions.Answers.{bench_of, file_state}
@@ -22,7 +21,8 @@ use Rattle.ssa_model.specs.definitions.Valid.{KeepsOrder, is_named, shared_manag
 use Rattle.ssa_model.specs.laws.BenchFiles as laws
 use Rattle.ssa_model.specs.laws.BenchFiles.{given_if, head_in, schema_in, is_label, is_written_as, keeps_order, label_in, lone_in, object_in, said_label, step_in, step_with}
 use Rattle.ssa_model.proofs.Given.{given-back, and_then-back}
-use Rattle.ssa_model.proofs.Tables.{same_text-true}
+use Rattle.ssa_model.proofs.Tables.{same_manager-true}
+use Rattle.ssa_model.proofs.Tests.{pointwise-true}
 use Rattle.ssa_json.specs.Readings.{readings}
 use Rattle.ssa_schema.specs.Schemas.{Faults}
 use Rattle.ssa_schema.specs.declared.fault.SchemaFault.{SchemaFault}
@@ -34,29 +34,8 @@ use Rattle.ssa_bench.specs.Taking.{IsTaken, heads_in, of_schema_fault}
 
 -- ---- the order of managers
 
-same_operation-true : (o p : Operation) → same_operation o p ≡ true → o ≡ p
-same_operation-true applies applies e = refl
-same_operation-true updates updates e = refl
-same_operation-true applies updates e = absurd (true≢false (sym e))
-same_operation-true updates applies e = absurd (true≢false (sym e))
-
-same_manager-true : (a b : ManagerKey) → same_manager a b ≡ true → a ≡ b
-same_manager-true a b e =
-    let both = and_parts (same_text a.name b.name) (same_operation a.operation b.operation) e in
-    let name = same_text-true a.name b.name both.0 in
-    let operation = same_operation-true a.operation b.operation both.1 in
-    λ i. record { name = name i; operation = operation i }
-
-same_managers-true : (ms ns : List ManagerKey) → pointwise same_manager ms ns ≡ true → ms ≡ ns
-same_managers-true [] [] h = refl
-same_managers-true [] (n ∷ ns) h = absurd (true≢false (sym h))
-same_managers-true (m ∷ ms) [] h = absurd (true≢false (sym h))
-same_managers-true (m ∷ ms) (n ∷ ns) h =
-    let both = and_parts (same_manager m n) (pointwise same_manager ms ns) h in
-    λ i. same_manager-true m n both.0 i ∷ same_managers-true ms ns both.1 i
-
 keeps_order-true : (before after : Table) → keeps_order before after ≡ true → KeepsOrder before after
-keeps_order-true before after h = same_managers-true (shared_managers before after) (shared_managers after before) h
+keeps_order-true before after h = pointwise-true same_manager same_manager-true (shared_managers before after) (shared_managers after before) h
 
 -- ---- the label
 

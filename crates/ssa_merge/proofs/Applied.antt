@@ -5,7 +5,7 @@ use Rattle.std.proofs.lemmas.Bool.Decides.{nat_tests}
 use Rattle.std.specs.Prelude.{Result, Ok, Err, if◌then◌else◌}
 use Rattle.ssa_model.specs.definitions.Limits.{most_places, most_managers}
 use Rattle.ssa_model.specs.definitions.Json.{Text}
-use Rattle.ssa_model.specs.definitions.PathMap.{PathSet, size}
+use Rattle.ssa_model.specs.definitions.PathMap.{size}
 use Rattle.ssa_model.specs.definitions.Body as bodies
 use Rattle.ssa_model.specs.definitions.Body.{points, modified}
 use Rattle.ssa_model.specs.definitions.Table.{ManagerKey, Table, seat}

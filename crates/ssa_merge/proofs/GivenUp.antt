@@ -1,14 +1,12 @@
 -- What is given up, and sets that lose nothing.
 use Rattle.std.proofs.Common.{◌≡◌, List, [], ◌∷◌, map, Bool, true, false, not, ◌&&◌, ◌||◌, refl, sym, ap, ◌∙◌, true≢false}
 use Rattle.std.specs.Prelude.{Option, Some, None, if◌then◌else◌}
-use Rattle.std.specs.Cmp.{first_so, second_so}
-use Rattle.std.specs.Cmp.Lexicographic.{pointwise}
-use Rattle.ssa_model.specs.definitions.Path.{Path, is_key_field, is_root, same_path}
-use Rattle.ssa_model.specs.definitions.PathMap.{PathSet, empty, has, has_at_or_above, has_at_or_below, insert, is_empty, paths, same_set, set_of, minus, union}
+use Rattle.ssa_model.specs.definitions.Path.{Path, is_key_field, is_root}
+use Rattle.ssa_model.specs.definitions.PathMap.{PathSet, empty, has, has_at_or_above, has_at_or_below, insert, is_empty, paths, set_of, minus, union}
 use Rattle.ssa_model.specs.definitions.Body as model
 use Rattle.ssa_model.specs.definitions.Table.{ManagerKey, Entry, Table, same_manager, owned_by, owned_by_others}
 use Rattle.ssa_model.specs.definitions.Operations.{State, dropped, kept, pruned}
-use Rattle.ssa_model.proofs.PathMaps.{has-insert, has-minus, has-paths, has-set_of, has-union, same_path-true, same_sets, is_one_of}
+use Rattle.ssa_model.proofs.PathMaps.{has-insert, has-minus, has-paths, has-set_of, has-union, same_sets, is_one_of}
 use Rattle.ssa_model.proofs.Tables.{true_or}
 use Rattle.ssa_path.specs.Meet.{meet}
 use Rattle.ssa_typed.specs.Reached.{PointsKeepAll, PointsTellPlaces}
@@ -117,17 +115,6 @@ minus-none s t h =
     same_sets _ _ (λ p.
     let apart = sym (has-set_of (paths s) (has t) p ∙ ap (λ b. b && has t p) (sym (has-paths s p))) ∙ ap (λ m. has m p) (is_empty-true (meet s t) h) in
     sym (has-minus s t p ∙ without_none (has s p) (has t p) apart))
-
--- ---- two sets that are told to be the same
-
-same_lists : (ps qs : List Path) → pointwise same_path ps qs ≡ true → ps ≡ qs
-same_lists [] [] h = refl
-same_lists [] (q ∷ qs) h = absurd (true≢false (sym h))
-same_lists (p ∷ ps) [] h = absurd (true≢false (sym h))
-same_lists (p ∷ ps) (q ∷ qs) h = λ i. same_path-true p q (first_so (same_path p q) (pointwise same_path ps qs) h) i ∷ same_lists ps qs (second_so (same_path p q) (pointwise same_path ps qs) h) i
-
-pub same_set-true : (s t : PathSet) → same_set s t ≡ true → s ≡ t
-same_set-true s t h = same_sets s t (λ p. has-paths s p ∙ ap (λ ps. is_one_of ps p) (same_lists (paths s) (paths t) h) ∙ sym (has-paths t p))
 
 -- ---- what an Update leaves
 

@@ -1,5 +1,5 @@
 -- A tree, level by level.
-use Rattle.std.proofs.Common.{◌≡◌, List, [], ◌∷◌, ◌⊎◌, inl, inr, Vec, Global, map, suc, length, subst, Bool, true, false, not, ◌&&◌, ◌||◌, refl, ap, sym, ◌∙◌, rules}
+use Rattle.std.proofs.Common.{◌≡◌, List, [], ◌∷◌, ◌⊎◌, inl, inr, Vec, Global, map, subst, Bool, true, false, not, ◌&&◌, ◌||◌, refl, ap, sym, ◌∙◌, rules}
 use Rattle.std.specs.List.{list_any}
 use Rattle.std.specs.Ordering.{is_lt}
 use Rattle.ssa_model.specs.definitions.Path.{Element, element_cmp, same_element}
@@ -16,10 +16,6 @@ use Rattle.ssa_typed.specs.declared.node.Node.TheViews.{out-Node, roll-Node, rol
 
 abbrev pub Children : Type 0
 Children = Vec (Elem × Node) Global
-
-pub length-elements : {A : Type 0} (cs : List (Elem × A)) → length (elements cs) ≡ length cs
-length-elements [] = refl
-length-elements (c ∷ cs) = ap suc (length-elements cs)
 
 -- ---- elements that rise differ
 

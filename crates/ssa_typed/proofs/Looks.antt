@@ -17,7 +17,8 @@ use Rattle.ssa_path.proofs.Orders.{element_cmp_total, same_element-true, same_el
 use Rattle.ssa_typed.specs.Rows.{rows, rows_below, under_element, below, content_at, own_content, body_of, are_apart, is_tree}
 use Rattle.ssa_typed.specs.Look.{Shown, shown, look_at, children, is_child}
 use Rattle.ssa_typed.specs.declared.node.Node.{Node}
-use Rattle.ssa_typed.proofs.Levels.{level-below, length-elements}
+use Rattle.ssa_path.proofs.Lists.{length-elements}
+use Rattle.ssa_typed.proofs.Levels.{level-below}
 use Rattle.ssa_typed.proofs.Laws.{and_true, not_true}
 use Rattle.ssa_typed.proofs.Lookups.{or_else, content_at-append, content_at-under, content-root}
 

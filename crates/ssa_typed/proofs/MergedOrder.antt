@@ -10,6 +10,7 @@ use Rattle.ssa_model.specs.definitions.Json.{Text}
 use Rattle.ssa_model.specs.definitions.Path.{Element, element_text, same_element}
 use Rattle.ssa_path.specs.Children.{child_at, elements}
 use Rattle.ssa_path.specs.View.{element_view}
+use Rattle.ssa_path.proofs.Lists.{taken-at}
 use Rattle.ssa_path.proofs.Orders.{same_element-true, same_element-itself, same_either_way, both_first, both_second}
 use Rattle.ssa_typed.specs.MergedOrder.{Merged, is_new, live_child, new_child, merged, merged_view, entries_view, by_texts}
 use Rattle.ssa_typed.specs.Rows.{are_apart}
@@ -17,7 +18,7 @@ use Rattle.ssa_typed.specs.declared.merged_order.MergedChild.{MergedChild}
 use Rattle.ssa_typed.proofs.Building.{Child}
 use Rattle.ssa_typed.proofs.Laws.{not_true, neither_first, neither_second}
 use Rattle.ssa_typed.proofs.Lookups.{child_at-rest}
-use Rattle.ssa_typed.proofs.Overlaying.{child-at-index, some-none, taken-at}
+use Rattle.ssa_typed.proofs.Overlaying.{child-at-index, some-none}
 
 abbrev Key : Type 0
 Key = Vec ℕ Global

@@ -1,6 +1,6 @@
 -- One tree over another, level by level.
 use Rattle.std.proofs.Common.{◌≡◌, ℕ, zero, suc, arith, ◌+◌, ◌<◌, List, [], ◌∷◌, ◌++◌, length, get_or, map, take, Bool, true, false, not, ◌||◌, cond, Option, Some, None, option_map, refl, sym, ap, subst, ◌∙◌}
-use Rattle.std.proofs.lemmas.List.{take_more, map-append}
+use Rattle.std.proofs.lemmas.List.{map-append}
 use Rattle.std.specs.Prelude.{filter}
 use Rattle.std.specs.List.{list_any}
 use Rattle.ssa_model.specs.definitions.Body.{Content, leaf, atom, record_branch, dict_branch, list_branch, joined, over_content}
@@ -10,6 +10,7 @@ use Rattle.ssa_model.proofs.Fitting.{distinct-joined}
 use Rattle.ssa_path.specs.Children.{child_at, elements}
 use Rattle.ssa_path.specs.declared.element.Elem.{Elem}
 use Rattle.ssa_path.specs.View.{element_view}
+use Rattle.ssa_path.proofs.Lists.{taken-at}
 use Rattle.ssa_path.proofs.Orders.{same_element-true, same_element-itself, both, both_second}
 use Rattle.ssa_typed.specs.Alike.{are_alike}
 use Rattle.ssa_typed.specs.Copies.{kept}
@@ -210,9 +211,6 @@ over-level n m made cs live config tree own same h = record { content = at; tree
         ∙ sym (λ i. over_content (content-level n e p live i) (content-level m e p config i))
 
 -- ---- one child more
-
-pub taken-at : {Z : Type 0} (zs : List Z) (i : ℕ) (z : Z) → i < length zs → z ≡ get_or zs i z → take (i + 1) zs ≡ take i zs ++ z ∷ []
-taken-at zs i z lt is = take_more zs i z lt ∙ ap (λ x. take i zs ++ x ∷ []) (sym is)
 
 pub some-none : {A : Type 0} (c : A) → ◌≡◌ {A = Option A} (Some c) None → ⊥
 some-none c e = cc

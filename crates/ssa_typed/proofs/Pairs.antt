@@ -12,8 +12,8 @@ use Rattle.ssa_typed.specs.Over.{AreOver}
 use Rattle.ssa_typed.specs.Rows.{below, are_apart}
 use Rattle.ssa_typed.specs.declared.node.Node.{Node}
 use Rattle.ssa_typed.proofs.Building.{Child}
-use Rattle.ssa_typed.proofs.Levels.{length-elements}
-use Rattle.ssa_typed.proofs.Overlaying.{AreMade, child-at-index, children-over, elements-append, new-elements, taken-at}
+use Rattle.ssa_path.proofs.Lists.{length-elements, taken-at}
+use Rattle.ssa_typed.proofs.Overlaying.{AreMade, child-at-index, children-over, elements-append, new-elements}
 
 elements-taken : (cs : List Child) (i : ℕ) (c : Child) → i < length cs → c ≡ get_or cs i c → elements (take (i + 1) cs) ≡ elements (take i cs) ++ element_view c.0 ∷ []
 elements-taken cs i c lt is = ap elements (taken-at cs i c lt is) ∙ elements-append (take i cs) (c ∷ [])

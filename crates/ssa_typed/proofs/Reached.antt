@@ -5,6 +5,7 @@ use Rattle.ssa_model.specs.definitions.Path.{Element, Path, is_item, is_item_ele
 use Rattle.ssa_model.specs.definitions.PathMap.{PathSet, get, has, has_at_or_below, paths}
 use Rattle.ssa_model.specs.definitions.Kind.{is_among}
 use Rattle.ssa_model.specs.definitions.Body.{Body, Content, leaf, atom, record_branch, dict_branch, list_branch, is_bare, is_dict, is_leaf, is_point, order_at, points, restricted, restricted_content, strictly_under}
+use Rattle.ssa_model.proofs.Tests.{same_tests}
 use Rattle.ssa_model.proofs.PathMaps.{get-restricted, has-paths, has-points, is_one_of, same_map, same_path-true}
 use Rattle.ssa_model.proofs.Pruned.{from_one, some_one, under-rest, under-trans}
 use Rattle.ssa_model.proofs.Tables.{either, here_below, or_true, true_or}
@@ -74,11 +75,6 @@ module _ (b : Body) where
       ] refl
 
 -- ---- the places of a tree
-
-same_tests : (a b : Bool) → (a ≡ true → b ≡ true) → (b ≡ true → a ≡ true) → a ≡ b
-same_tests true b f g = sym (f refl)
-same_tests false true f g = g refl
-same_tests false false f g = refl
 
 module _ (n : Node) (tree : is_tree n ≡ true) where
   at-root : (p : Path) → is_root p ≡ true → has (body_of n) p ≡ true

@@ -1,8 +1,9 @@
 -- Members whose names rise, told by what they have under each name.
-use Rattle.std.proofs.Common.{◌≡◌, List, [], ◌∷◌, Bool, true, false, cond, T, refl, sym, ap, ◌∙◌, nat_cmp, true≢false}
+use Rattle.std.proofs.Common.{◌≡◌, List, [], ◌∷◌, true, cond, refl, sym, ap, ◌∙◌, nat_cmp}
 use Rattle.std.specs.Cmp.Lexicographic.{slice_cmp, nat_list_cmp_total}
 use Rattle.std.specs.FinMap.{slice_cmp-IsAntisymmetric, nat_cmp-IsAntisymmetric}
 use Rattle.std.specs.FinMap.Entries.{find, is_sorted, same_entries}
+use Rattle.ssa_model.proofs.Tests.{held}
 use Rattle.ssa_model.specs.definitions.Json.{Text, Json, Members, no_members, member, member_of, same_text}
 
 abbrev pub Named : Type 0
@@ -28,17 +29,9 @@ find-named : (n : Text) (ms : Members) → find text_cmp n (named ms) ≡ member
 find-named n no_members = refl
 find-named n (member m v ms) = ap (cond (same_text n m) (Rattle.std.specs.Prelude.Some v)) (find-named n ms)
 
-pub so : (b : Bool) → b ≡ true → T b
-so true e = tt
-so false e = absurd (true≢false (sym e))
-
-pub is_true : (b : Bool) → T b → b ≡ true
-is_true true h = refl
-is_true false h = absurd h
-
 -- members whose names rise, and that have the same under each name, are the same
 pub same-members : (ms ns : Members) → is_sorted text_cmp (named ms) ≡ true → is_sorted text_cmp (named ns) ≡ true → ((n : Text) → member_of n ms ≡ member_of n ns) → ms ≡ ns
 same-members ms ns own other alike =
     sym (from-named ms)
-    ∙ ap members_from (same_entries text_cmp nat_list_cmp_total (slice_cmp-IsAntisymmetric nat_cmp-IsAntisymmetric) (named ms) (named ns) (so _ own) (so _ other) (λ n. find-named n ms ∙ alike n ∙ sym (find-named n ns)))
+    ∙ ap members_from (same_entries text_cmp nat_list_cmp_total (slice_cmp-IsAntisymmetric nat_cmp-IsAntisymmetric) (named ms) (named ns) (held _ own) (held _ other) (λ n. find-named n ms ∙ alike n ∙ sym (find-named n ns)))
     ∙ from-named ns

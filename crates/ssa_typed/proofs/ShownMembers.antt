@@ -20,7 +20,8 @@ use Rattle.ssa_model.specs.definitions.Lawful.{is_before_all, is_ordered, are_or
 use Rattle.ssa_typed.specs.Values.{members_of, member_under, value_of, values_of}
 use Rattle.ssa_typed.specs.declared.node.Node.{Node}
 use Rattle.ssa_typed.proofs.Building.{Child}
-use Rattle.ssa_typed.proofs.SameMembers.{named, text_cmp, is_true}
+use Rattle.ssa_typed.proofs.SameMembers.{named, text_cmp}
+use Rattle.ssa_model.proofs.Tests.{holds}
 
 -- ---- the fields that a body shows
 
@@ -127,4 +128,4 @@ module _ (shows : Path → Json) (p : Path) where
   names-rise (e ∷ es) h = rise-one e.0 (name_of p e.0) es refl (both_first _ _ h) (names-rise es (both_second (below_all path_cmp e.0 es) _ h))
 
   pub entries-rise : (b : Body) → is_sorted text_cmp (named (entry_members shows p (names_below b p))) ≡ true
-  entries-rise b = names-rise b.entries (is_true _ b.in_order)
+  entries-rise b = names-rise b.entries (holds _ b.in_order)

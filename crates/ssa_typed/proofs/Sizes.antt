@@ -1,6 +1,5 @@
 -- How many places a tree has: as many as its body has paths, since its rows have each path once.
 use Rattle.std.proofs.Common.{◌≡◌, ℕ, zero, suc, ◌+◌, ◌-◌, ◌^◌, ◌<◌, ◌≤◌, List, [], ◌∷◌, ◌++◌, length, get_or, take, Bool, true, false, not, ◌&&◌, cond, Option, Some, None, refl, sym, ap, ◌∙◌, min, arith, length-append}
-use Rattle.std.proofs.lemmas.List.{take_more}
 use Rattle.std.specs.Prelude.{is_some}
 use Rattle.std.specs.List.{list_any}
 use Rattle.std.specs.FinMap.Entries.{length-put}
@@ -8,6 +7,7 @@ use Rattle.ssa_model.specs.definitions.Path.{Element, Path, path_cmp, path_cmp_t
 use Rattle.ssa_model.specs.definitions.PathMap.{from_entries, has, size}
 use Rattle.ssa_model.specs.definitions.Body.{Content}
 use Rattle.ssa_model.proofs.PathMaps.{get-from_entries}
+use Rattle.ssa_path.proofs.Lists.{taken-at}
 use Rattle.ssa_path.specs.Children.{elements, child_at}
 use Rattle.ssa_path.specs.declared.element.Elem.{Elem}
 use Rattle.ssa_path.specs.View.{element_view}
@@ -50,7 +50,7 @@ pub count-more : (cs : List (Elem × Node)) (i : ℕ) (c : Elem × Node) (count 
     → IsCount (take i cs) count → IsCount (take (i + 1) cs) sum
 count-more cs i c count more sum lt is e s h =
     let longer : length (rows_below (take (i + 1) cs)) ≡ length (rows_below (take i cs)) + length (rows c.1) =
-    ap (λ l. length (rows_below l)) (take_more cs i c lt ∙ ap (λ x. take i cs ++ x ∷ []) (sym is)) ∙ length-push (take i cs) c in
+    ap (λ l. length (rows_below l)) (taken-at cs i c lt is) ∙ length-push (take i cs) c in
     sum-capped count (length (rows_below (take i cs))) more (length (rows c.1)) sum h e s ∙ ap (λ n. min (suc n) (2 ^ 64 - 1)) (sym longer)
 
 -- ---- each path once

@@ -13,7 +13,7 @@ use Rattle.ssa_typed.specs.Rows.{rows, below, own_content, content_at, is_tree}
 use Rattle.ssa_typed.specs.declared.node.Node.{Node}
 use Rattle.ssa_typed.proofs.Building.{Child}
 use Rattle.ssa_typed.proofs.Lookups.{content-level, content-root}
-use Rattle.ssa_typed.proofs.Overlaying.{taken-at}
+use Rattle.ssa_path.proofs.Lists.{taken-at}
 use Rattle.ssa_typed.proofs.Pairs.{same-head, same-tail}
 
 -- ---- children beside each other

@@ -1,6 +1,6 @@
 -- The values of trees, child by child.
 use Rattle.std.proofs.Common.{◌≡◌, ℕ, zero, suc, ◌+◌, ◌<◌, length, take, drop, get_or, List, [], ◌∷◌, ◌++◌, true, Global, String, string_bytes, string_cmp, nat_cmp, Less, Equal, Greater, refl, sym, ap, ◌∙◌, arith, rules}
-use Rattle.std.proofs.lemmas.List.{drop_more, take_more, take-append-drop}
+use Rattle.std.proofs.lemmas.List.{drop_more, take-append-drop}
 use Rattle.std.specs.Cmp.Lexicographic.{slice_cmp, nat_list_cmp_total}
 use Rattle.std.specs.FinMap.{slice_cmp-IsAntisymmetric, nat_cmp-IsAntisymmetric}
 use Rattle.std.specs.BTreeMap.{insert_entry}
@@ -11,6 +11,7 @@ use Rattle.ssa_model.specs.definitions.Objects.{with_member}
 use Rattle.ssa_json.specs.View.{view, items_view, members_view}
 use Rattle.ssa_json.proofs.Converting.{Found}
 use Rattle.ssa_json.specs.declared.value.Json as program
+use Rattle.ssa_path.proofs.Lists.{taken-at}
 use Rattle.ssa_path.specs.Children.{elements, is_below, rises}
 use Rattle.ssa_path.specs.View.{element_view}
 use Rattle.ssa_model.proofs.RisingNames.{lower}
@@ -87,7 +88,7 @@ pub members-more : (cs : List Child) (i : ℕ) (c : Child) → i < length cs →
     → members_of (values_of (take (i + 1) cs)) ≡ with_member_under (element_view c.0) (value_of c.1) (members_of (values_of (take i cs)))
 members-more cs i c lt is rise =
     let split : take i cs ++ c ∷ drop (i + 1) cs ≡ cs = ap (λ xs. take i cs ++ xs) (ap (λ y. y ∷ drop (i + 1) cs) is ∙ sym (drop_more cs i c lt)) ∙ take-append-drop i cs in
-    let one_more : take (i + 1) cs ≡ take i cs ++ c ∷ [] = take_more cs i c lt ∙ ap (λ y. take i cs ++ y ∷ []) (sym is) in
+    let one_more : take (i + 1) cs ≡ take i cs ++ c ∷ [] = taken-at cs i c lt is in
     ap (λ xs. members_of (values_of xs)) one_more ∙ members-last (take i cs) c (drop (i + 1) cs) (ap (λ xs. rises (elements xs)) split ∙ rise)
 
 items-last : (cs : List Child) (c : Child) → items_of (values_of (cs ++ c ∷ [])) ≡ items_after (items_of (values_of cs)) (value_of c.1)
@@ -95,7 +96,7 @@ items-last [] c = refl
 items-last (d ∷ cs) c = ap (item (value_of d.1)) (items-last cs c)
 
 pub items-more : (cs : List Child) (i : ℕ) (c : Child) → i < length cs → c ≡ get_or cs i c → items_of (values_of (take (i + 1) cs)) ≡ items_after (items_of (values_of (take i cs))) (value_of c.1)
-items-more cs i c lt is = ap (λ xs. items_of (values_of xs)) (take_more cs i c lt ∙ ap (λ y. take i cs ++ y ∷ []) (sym is)) ∙ items-last (take i cs) c
+items-more cs i c lt is = ap (λ xs. items_of (values_of xs)) (taken-at cs i c lt is) ∙ items-last (take i cs) c
 
 -- ---- items pushed
 

@@ -1,6 +1,6 @@
 use Rattle.std.proofs.Common.{ap, ◌∙◌, sym}
 use Rattle.ssa_model.specs.definitions.PathMap.{same_set}
-use Rattle.ssa_merge.proofs.GivenUp.{same_set-true}
+use Rattle.ssa_model.proofs.PathMaps.{same_set-true}
 use Rattle.ssa_merge.proofs.seat.as_before.Goals as goal
 
 pub returns-then-is_same : goal.returns-then-is_same
