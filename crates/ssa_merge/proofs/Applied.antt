@@ -12,10 +12,9 @@ use Rattle.ssa_model.specs.definitions.Table.{ManagerKey, Table, seat}
 use Rattle.ssa_model.specs.definitions.Operations as model
 use Rattle.ssa_model.specs.definitions.Operations.{State, Clash, decided, conflict, too_many_paths, too_many_managers, is_none, if_seated, pruned, clashes}
 use Rattle.ssa_typed.specs.Differences.{IsComparison}
-use Rattle.ssa_merge.specs.States.{state_view}
-use Rattle.ssa_merge.specs.Tables.{IsSeated}
-use Rattle.ssa_merge.specs.Plans.{IsPlanned}
-use Rattle.ssa_merge.specs.declared.plan.Plan.{Plan}
+use Rattle.ssa_merge.specs.TableChanges.{IsSeated, LeadsTo}
+use Rattle.ssa_merge.specs.Plans.{IsChanged, body_after}
+use Rattle.ssa_merge.specs.declared.change.Change.{Change}
 use Rattle.ssa_merge.specs.declared.plan.Refusal.{Refusal}
 use Rattle.ssa_merge.specs.declared.plan.Refusal.TheVariants.{Conflict, TooManyPaths, TooManyManagers, OutOfMemory}
 
@@ -81,18 +80,19 @@ more_places n m is h = grind (arith, min-le_left m (2 ^ 64 - 1))
 pub few_places : (n m : ℕ) → n ≡ min m (2 ^ 64 - 1) → n ≤ most_places → m ≤ most_places
 few_places n m is h = grind (arith, min-eq_left, min-eq_right)
 
--- ---- the table
+-- ---- the change
 
-pub seated : (before : State) (force : Bool) (clash : List Clash) (places : ℕ) (plan : Plan) (table : Table)
-    → not (force || is_none clash) ≡ false → places ≤ most_places → IsSeated (Ok plan.target.managers) table → IsComparison before.body plan.target.body plan.comparison
-    → IsPlanned before (Ok plan) (counted force clash places plan.target.body table)
-seated before force clash places plan table h n seated_is compared =
-    let body = plan.target.body in
-    let managers : ◌≡◌ {A = Result State model.Refusal} (Ok (record { body = body; table = table })) (Ok (state_view plan.target)) = λ i. Ok (record { body = body; table = sym seated_is.0 i }) in
-    (state_view plan.target, decided-state force clash places body table h n seated_is.1 ∙ managers, record { target_is = refl; comparison_is = compared })
+pub seated : (before : State) (force : Bool) (clash : List Clash) (places : ℕ) (change : Change) (body : bodies.Body) (table : Table)
+    → not (force || is_none clash) ≡ false → places ≤ most_places → body_after change.body before.body ≡ body → LeadsTo before.table change.table table
+    → IsComparison before.body body change.comparison → IsChanged before (Ok change) (counted force clash places body table)
+seated before force clash places change body table h n is leads compared = (
+  record { body = body; table = table },
+  decided-state force clash places body table h n leads.few,
+  record { body_is = is; table_leads = leads; comparison_is = compared },
+)
 
 pub unseated : (before : State) (force : Bool) (clash : List Clash) (places : ℕ) (body : bodies.Body) (table : Table) (f : Refusal)
-    → not (force || is_none clash) ≡ false → places ≤ most_places → IsSeated (Err f) table → IsPlanned before (Err f) (counted force clash places body table)
+    → not (force || is_none clash) ≡ false → places ≤ most_places → IsSeated before.table (Err f) table → IsChanged before (Err f) (counted force clash places body table)
 unseated before force clash places body table (Conflict clashes) h n given = absurd given
 unseated before force clash places body table TooManyPaths h n given = absurd given
 unseated before force clash places body table TooManyManagers h n given = (model.too_many_managers, decided-managers force clash places body table h n given, refl)
@@ -100,17 +100,15 @@ unseated before force clash places body table OutOfMemory h n given = tt
 
 -- ---- an Update
 
-pub placed : (before : State) (plan : Plan) (table : Table) → IsSeated (Ok plan.target.managers) table → IsComparison before.body plan.target.body plan.comparison
-    → IsPlanned before (Ok plan) (if_seated (record { body = plan.target.body; table = table }))
-placed before plan table seated_is compared =
-    let body = plan.target.body in
-    let managers : ◌≡◌ {A = Result State model.Refusal} (Ok (record { body = body; table = table })) (Ok (state_view plan.target)) = λ i. Ok (record { body = body; table = sym seated_is.0 i }) in (
-      state_view plan.target,
-      ap (λ b. if b then Err too_many_managers else Ok (record { body = body; table = table })) (at_most most_managers (length table) seated_is.1) ∙ managers,
-      record { target_is = refl; comparison_is = compared },
-    )
+pub placed : (before : State) (change : Change) (body : bodies.Body) (table : Table) → body_after change.body before.body ≡ body → LeadsTo before.table change.table table
+    → IsComparison before.body body change.comparison → IsChanged before (Ok change) (if_seated (record { body = body; table = table }))
+placed before change body table is leads compared = (
+  record { body = body; table = table },
+  ap (λ b. if b then Err too_many_managers else Ok (record { body = body; table = table })) (at_most most_managers (length table) leads.few),
+  record { body_is = is; table_leads = leads; comparison_is = compared },
+)
 
-pub unplaced : (before : State) (body : bodies.Body) (table : Table) (f : Refusal) → IsSeated (Err f) table → IsPlanned before (Err f) (if_seated (record { body = body; table = table }))
+pub unplaced : (before : State) (body : bodies.Body) (table : Table) (f : Refusal) → IsSeated before.table (Err f) table → IsChanged before (Err f) (if_seated (record { body = body; table = table }))
 unplaced before body table (Conflict clashes) given = absurd given
 unplaced before body table TooManyPaths given = absurd given
 unplaced before body table TooManyManagers given =

@@ -1,4 +1,5 @@
 pub mod EntryItems
+pub mod TableChanges
 pub mod Seats
 pub mod Seated
 pub mod GivenUp

@@ -9,15 +9,18 @@ use Rattle.ssa_model.specs.definitions.PathMap.{size, minus, union}
 use Rattle.ssa_model.specs.definitions.Body.{Body, points, added, modified, removed}
 use Rattle.ssa_model.specs.definitions.History.{is_manager_name}
 use Rattle.ssa_model.specs.definitions.Table.{ManagerKey, is_in_table, owned_by}
+use Rattle.ssa_model.specs.definitions.Operations as model
 use Rattle.ssa_model.specs.definitions.Operations.{State, pruned, apply, update, strip}
 use Rattle.ssa_model.specs.definitions.Valid.{IsRooted, IsValidState, KeepsOrder}
 use Rattle.ssa_model.proofs.Accepted.{applied_is, updated_is}
 use Rattle.ssa_model.proofs.SharedManagers.{operations_keep_order}
 use Rattle.ssa_model.proofs.ValidStates.{apply_keeps_valid, update_keeps_valid, strip_keeps_valid}
 use Rattle.ssa_merge.specs.States.{state_view}
-use Rattle.ssa_merge.specs.Plans.{IsPlan, IsPlanned, StandInOrder}
+use Rattle.ssa_merge.specs.Plans.{IsChange, IsChanged, IsPlan, IsPlanned, StandInOrder}
+use Rattle.ssa_merge.specs.declared.change.Change.{Change}
 use Rattle.ssa_merge.specs.declared.plan.Plan.{Plan}
 use Rattle.ssa_merge.specs.declared.plan.Refusal.{Refusal}
+use Rattle.ssa_merge.specs.declared.plan.Refusal.TheVariants.{Conflict, TooManyPaths, TooManyManagers, OutOfMemory}
 
 pub applied_valid : (state : State) (a : ManagerKey) (config : Body) (force : Bool) (at : Text) (r : Result Plan Refusal) → IsPlanned state r (apply state a config force at)
     → IfOk r (λ p. (kind : Kind) → IsValidState kind state → IsBodyOf kind config → IsRooted config → is_manager_name a.name ≡ true → IsValidState kind (state_view p.target))
@@ -60,3 +63,15 @@ no_shared (b ∷ bs) = no_shared bs
 
 pub stripped_order : (state : State) (p : Plan) → IsPlan state p (strip state) → StandInOrder state p
 stripped_order state p h distinct = planned_order state (strip state) p h (no_shared (map (λ e. e.manager) state.table))
+
+-- ---- a plan that completes a change
+
+pub completed : (before : State) (change : Change) (plan : Plan) (given : Result State model.Refusal) → IsChanged before (Ok change) given
+    → ((after : State) → IsChange before change after → IsPlan before plan after) → IsPlanned before (Ok plan) given
+completed before change plan given h leads = (h.0, h.1, leads h.0 h.2)
+
+pub refused : (before : State) (r : Refusal) (given : Result State model.Refusal) → IsChanged before (Err r) given → IsPlanned before (Err r) given
+refused before (Conflict clashes) given h = h
+refused before TooManyPaths given h = h
+refused before TooManyManagers given h = h
+refused before OutOfMemory given h = tt

@@ -4,6 +4,7 @@ pub mod EntryReading
 pub mod Held
 pub mod Managers
 pub mod Tables
+pub mod TableChanges
 pub mod States
 pub mod Plans
 pub mod EntriesBack

@@ -1,10 +1,13 @@
--- What a plan says.
-use Rattle.std.specs.Prelude.{◌≡◌, true, Result, Ok, Err}
+-- What plans and changes say.
+use Rattle.std.specs.Prelude.{◌≡◌, true, Option, Some, None, Result, Ok, Err}
+use Rattle.ssa_model.specs.definitions.Body.{Body}
 use Rattle.ssa_model.specs.definitions.Operations as model
 use Rattle.ssa_model.specs.definitions.Valid.{has_distinct_keys, KeepsOrder}
 use Rattle.ssa_typed.specs.Differences.{IsComparison}
 use Rattle.ssa_merge.specs.Managers.{clashes_view}
 use Rattle.ssa_merge.specs.States.{state_view}
+use Rattle.ssa_merge.specs.TableChanges.{LeadsTo}
+use Rattle.ssa_merge.specs.declared.change.Change.{Change}
 use Rattle.ssa_merge.specs.declared.plan.Plan.{Plan}
 use Rattle.ssa_merge.specs.declared.plan.Refusal.{Refusal}
 use Rattle.ssa_merge.specs.declared.plan.Refusal.TheVariants.{Conflict, TooManyPaths, TooManyManagers, OutOfMemory}
@@ -30,3 +33,20 @@ abbrev pub IsPlanned : model.State → Result Plan Refusal → Result model.Stat
 IsPlanned before (Ok plan) given = (after : model.State) × (given ≡ Ok after) × IsPlan before plan after
 IsPlanned before (Err OutOfMemory) given = Unit {0}
 IsPlanned before (Err refusal) given = (r : model.Refusal) × (given ≡ Err r) × IsRefusal refusal r
+
+-- the body after a change
+abbrev pub body_after : Option Body → Body → Body
+body_after None b = b
+body_after (Some c) b = c
+
+-- the change leads from one state to another
+pub record IsChange (before : model.State) (change : Change) (after : model.State) : Type 0 where
+  pub body_is : body_after change.body before.body ≡ after.body
+  pub table_leads : LeadsTo before.table change.table after.table
+  pub comparison_is : IsComparison before.body after.body change.comparison
+
+-- The change leads to the given state, or the refusal is the given one; of want of memory nothing is said.
+abbrev pub IsChanged : model.State → Result Change Refusal → Result model.State model.Refusal → Type 0
+IsChanged before (Ok change) given = (after : model.State) × (given ≡ Ok after) × IsChange before change after
+IsChanged before (Err OutOfMemory) given = Unit {0}
+IsChanged before (Err refusal) given = (r : model.Refusal) × (given ≡ Err r) × IsRefusal refusal r

@@ -1,10 +1,8 @@
 -- Entries of a table.
-use Rattle.std.specs.Prelude.{◌≡◌, ◌<◌, ◌≤◌, [], ◌∷◌, Bool, not, length, Option, Some, None, Result, Ok, Err, if◌then◌else◌}
-use Rattle.ssa_model.specs.definitions.Limits.{most_managers}
-use Rattle.ssa_model.specs.definitions.PathMap.{is_empty}
+use Rattle.std.specs.Prelude.{[], ◌∷◌, Bool, not, ◌||◌, Option, Some, None, if◌then◌else◌}
+use Rattle.ssa_model.specs.definitions.Json.{Text}
+use Rattle.ssa_model.specs.definitions.PathMap.{PathSet, is_empty, minus, same_set}
 use Rattle.ssa_model.specs.definitions.Table.{ManagerKey, Entry, Table, same_manager}
-use Rattle.ssa_merge.specs.declared.plan.Refusal.{Refusal}
-use Rattle.ssa_merge.specs.declared.plan.Refusal.TheVariants.{Conflict, TooManyPaths, TooManyManagers, OutOfMemory}
 
 -- the manager's entry
 abbrev pub entry_of : Table → ManagerKey → Option Entry
@@ -14,10 +12,10 @@ entry_of (e ∷ es) a = if same_manager e.manager a then Some e else entry_of es
 abbrev pub owns : Entry → Bool
 owns e = not (is_empty e.owned)
 
--- The table is the given one, or that has too many managers; of want of memory nothing is said.
-abbrev pub IsSeated : Result Table Refusal → Table → Type 0
-IsSeated (Ok table) given = (table ≡ given) × (length given ≤ most_managers)
-IsSeated (Err (Conflict clashes)) given = ⊥
-IsSeated (Err TooManyPaths) given = ⊥
-IsSeated (Err TooManyManagers) given = most_managers < length given
-IsSeated (Err OutOfMemory) given = Unit {0}
+-- the entry without these paths
+abbrev pub less : Entry → PathSet → Entry
+less e lost = record { manager = e.manager; owned = minus e.owned lost; moment = e.moment }
+
+-- the entry of a manager that owns these paths then; where its paths or a field changed, `at` is its moment
+abbrev pub acted : Entry → PathSet → Bool → Text → Entry
+acted e owned changed at = record { manager = e.manager; owned = owned; moment = if changed || not (same_set owned e.owned) then at else e.moment }

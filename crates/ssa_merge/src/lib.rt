@@ -1,6 +1,7 @@
 //! Managers of fields, and what Apply, Update and Strip make of a state.
 #![tactic(auto)]
 
+pub mod change;
 pub mod entries;
 pub mod entries_back;
 pub mod entries_read;
@@ -18,3 +19,4 @@ pub mod plan;
 pub mod seat;
 pub mod shared_set;
 pub mod state;
+pub mod table_change;

@@ -1,28 +1,23 @@
 //! What a command makes of a state, before it is carried out.
-ghost use Rattle.std.specs.Prelude.{◌≡◌, ◌≤◌, ◌||◌, length, not, true, IfOk};
+ghost use Rattle.std.specs.Prelude.{◌≡◌, ◌≤◌, length, true, IfOk};
 ghost use Rattle.ssa_model.specs.definitions.Limits.{most_places};
 ghost use Rattle.ssa_model.specs.definitions.Fitting.{IsBodyOf};
 ghost use Rattle.ssa_model.specs.definitions.History.{is_manager_name};
 ghost use Rattle.ssa_model.specs.definitions.Kind.{Kind};
-ghost use Rattle.ssa_model.specs.definitions.PathMap.{minus, size, union};
-ghost use Rattle.ssa_model.specs.definitions.Table.{owned_by};
-ghost use Rattle.ssa_model.specs.definitions.Operations.{apply, update, strip, is_none};
+ghost use Rattle.ssa_model.specs.definitions.PathMap.{size};
+ghost use Rattle.ssa_model.specs.definitions.Operations.{apply, update, strip};
 ghost use Rattle.ssa_model.specs.definitions.Valid.{IsRooted, IsValidState};
 ghost use Rattle.ssa_typed.specs.Alike.{AreAlike};
-ghost use Rattle.ssa_merge.specs.Managers.{clashes_view, key_view, operation_view};
 ghost use Rattle.ssa_merge.specs.States.{state_view, applier, updater};
 ghost use Rattle.ssa_merge.specs.Plans.{IsPlan, IsPlanned, StandInOrder};
 ghost use Rattle.ssa_merge.specs.declared.plan.Refusal.TheVariants.{OutOfMemory};
 
-use crate::given_up::pruned;
-use crate::manager::{ManagerKey, Operation};
-use crate::managers::Managers;
-use crate::owned::clashes;
-use crate::seat::seat;
+use crate::change::{change_apply, change_strip, change_update};
+use crate::manager::ManagerKey;
 use crate::state::State;
 use ssa_json::moment::Moment;
 use ssa_path::field_set::FieldSet;
-use ssa_typed::body::{Body, MOST_PLACES};
+use ssa_typed::body::Body;
 use ssa_typed::compare::Comparison;
 use std::alloc::{AllocError, Global};
 
@@ -74,56 +69,6 @@ impl Plan {
     }
 }
 
-// The manager of a name.
-fn key_of(alloc: Global, who: &str, operation: Operation) -> Result<ManagerKey, AllocError>
-    ensures { IfOk result (λ k. key_view k ≡ record { name = who.now; operation = operation_view operation }) }
-{
-    let name = String::from_str(alloc, who)?;
-    Ok(ManagerKey { name, operation })
-}
-
-// Whether there are clashes that are not forced.
-fn has_conflict(force: bool, found: &[(ManagerKey, FieldSet)]) -> bool
-    ensures { result ≡ not (force || is_none (clashes_view found.now)) }
-{
-    match found {
-        [] => false,
-        [_first, ..] => !force,
-    }
-}
-
-// What an Apply of a configuration by a manager leads to.
-fn applied(
-    alloc: Global,
-    state: &State,
-    key: &ManagerKey,
-    config: &Body,
-    force: bool,
-    at: Moment,
-) -> Result<Plan, Refusal>
-    requires { AreAlike state.now.body config.now }
-    ensures { IsPlanned (state_view state.now) result (apply (state_view state.now) (key_view key.now) config.now force at) }
-{
-    let points = config.points(alloc)?;
-    let body = pruned(alloc, state, key, config, &points)?;
-    let comparison = state.body.compare(alloc, &body)?;
-    let changed = &comparison.modified;
-    let found = clashes(alloc, state.managers.entries(), key, changed)?;
-    if has_conflict(force, &found) {
-        return Err(Refusal::Conflict(found));
-    }
-    if body.size() > MOST_PLACES {
-        return Err(Refusal::TooManyPaths);
-    }
-    match seat(alloc, &state.managers, key, &points, changed, changed, at) {
-        Ok(managers) => Ok(Plan {
-            target: State { body, managers },
-            comparison,
-        }),
-        Err(refusal) => Err(refusal),
-    }
-}
-
 /// Plans an Apply of a configuration by a manager.
 ///
 /// The configuration is put over the live body. What the manager owned and the configuration leaves
@@ -146,55 +91,9 @@ pub fn plan_apply(
     ensures valid { IfOk result (λ p. (kind : Kind) → IsValidState kind (state_view state.now) → IsBodyOf kind config → IsRooted config → is_manager_name who.now ≡ true → IsValidState kind (state_view p.target)) }
     ensures order { IfOk result (StandInOrder (state_view state.now)) }
 {
-    let key = key_of(alloc, who, Operation::Apply)?;
-    applied(alloc, state, &key, &config, force, at)
-}
-
-// What a manager owns after an Update: what it owned and is still there, and what was modified or
-// added.
-fn owned_after_update(
-    alloc: Global,
-    state: &State,
-    key: &ManagerKey,
-    comparison: &Comparison,
-) -> Result<FieldSet, AllocError>
-    ensures { IfOk result (λ s. s ≡ union (minus (owned_by (state_view state.now).table (key_view key.now)) comparison.now.removed) (union comparison.now.modified comparison.now.added)) }
-{
-    let gained = comparison.modified.union(alloc, &comparison.added)?;
-    match state.managers.get(key) {
-        Some(entry) => {
-            let stayed = entry.set.get().minus(alloc, &comparison.removed)?;
-            let owned = stayed.union(alloc, &gained)?;
-            Ok(owned)
-        }
-        None => Ok(gained),
-    }
-}
-
-// What an Update to an object by a manager leads to.
-fn updated(
-    alloc: Global,
-    state: &State,
-    key: &ManagerKey,
-    object: Body,
-    at: Moment,
-) -> Result<Plan, Refusal>
-    ensures { IsPlanned (state_view state.now) result (update (state_view state.now) (key_view key.now) object at) }
-{
-    let comparison = state.body.compare(alloc, &object)?;
-    let owned = owned_after_update(alloc, state, key, &comparison)?;
-    let changed = &comparison.modified;
-    let lost = changed.union(alloc, &comparison.removed)?;
-    match seat(alloc, &state.managers, key, &owned, &lost, changed, at) {
-        Ok(managers) => Ok(Plan {
-            target: State {
-                body: object,
-                managers,
-            },
-            comparison,
-        }),
-        Err(refusal) => Err(refusal),
-    }
+    let change = change_apply(alloc, state, &config, who, force, at)?;
+    let plan = change.completed(alloc, state)?;
+    Ok(plan)
 }
 
 /// Plans an Update to an object by a manager.
@@ -214,8 +113,9 @@ pub fn plan_update(
     ensures valid { IfOk result (λ p. (kind : Kind) → IsValidState kind (state_view state.now) → IsBodyOf kind object → IsRooted object → size object ≤ most_places → is_manager_name who.now ≡ true → IsValidState kind (state_view p.target)) }
     ensures order { IfOk result (StandInOrder (state_view state.now)) }
 {
-    let key = key_of(alloc, who, Operation::Update)?;
-    updated(alloc, state, &key, object, at)
+    let change = change_update(alloc, state, object, who, at)?;
+    let plan = change.completed(alloc, state)?;
+    Ok(plan)
 }
 
 /// Plans a Strip: the body stays, and the table is emptied.
@@ -225,13 +125,7 @@ pub fn plan_strip(alloc: Global, state: &State) -> Result<Plan, AllocError>
     ensures valid { IfOk result (λ p. (kind : Kind) → IsValidState kind (state_view state.now) → IsValidState kind (state_view p.target)) }
     ensures order { IfOk result (StandInOrder (state_view state.now)) }
 {
-    let body = state.body.copy(alloc)?;
-    let comparison = state.body.compare(alloc, &body)?;
-    Ok(Plan {
-        target: State {
-            body,
-            managers: Managers::new(alloc),
-        },
-        comparison,
-    })
+    let change = change_strip(alloc, state)?;
+    let plan = change.completed(alloc, state)?;
+    Ok(plan)
 }

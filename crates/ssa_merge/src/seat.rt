@@ -1,16 +1,15 @@
-//! The table after a command.
-ghost use Rattle.std.specs.Prelude.{◌≡◌, ◌<◌, ◌≤◌, filter, map, length, not, Err, IfOk};
-ghost use Rattle.ssa_model.specs.definitions.Limits.{most_managers};
-ghost use Rattle.ssa_model.specs.definitions.PathMap.{is_empty, minus};
+//! What becomes of a table of managers by a command.
+ghost use Rattle.std.specs.Prelude.{◌≡◌, ◌∷◌, [], filter, map, length, IfOk};
 ghost use Rattle.ssa_model.specs.definitions.Table.{is_in_table, reseated, seat};
 ghost use Rattle.ssa_merge.specs.Managers.{key_view, entry_view, table_view};
-ghost use Rattle.ssa_merge.specs.Tables.{owns, IsSeated};
+ghost use Rattle.ssa_merge.specs.TableChanges.{changed_entries, changed_entry, IsSeated, LeadsTo};
+ghost use Rattle.ssa_merge.specs.Tables.{acted, less, owns};
 
 use crate::manager::ManagerKey;
 use crate::managers::{Entry, MOST_MANAGERS, Managers};
 use crate::plan::Refusal;
 use crate::shared_set::SharedSet;
-use arrayvec::ArrayVec;
+use crate::table_change::{EntryChange, TableChange, count_kept};
 use ssa_json::moment::Moment;
 use ssa_path::field_set::FieldSet;
 use std::alloc::{AllocError, Global};
@@ -25,34 +24,50 @@ pub fn is_in_table(table: &[Entry], key: &ManagerKey) -> bool
     }
 }
 
-// What stays of a set that loses these paths: the set itself, shared, where it has none of them.
-fn left_of(alloc: Global, set: &SharedSet, lost: &FieldSet) -> Result<SharedSet, AllocError>
-    ensures { IfOk result (λ left. left ≡ minus set.now lost.now) }
+// What becomes of an entry whose manager loses these paths.
+fn losing(alloc: Global, entry: &Entry, lost: &FieldSet) -> Result<EntryChange, AllocError>
+    ensures { IfOk result (λ c. changed_entry c (entry_view entry.now) ≡ filter owns (less (entry_view entry.now) lost.now ∷ [])) }
 {
-    let taken = set.get().meet(alloc, lost)?;
+    let set = entry.set.get();
+    let taken = set.meet(alloc, lost)?;
     if taken.is_empty() {
-        let whole = set.share(alloc)?;
-        return Ok(whole);
+        if set.is_empty() {
+            return Ok(EntryChange::Leaves);
+        }
+        return Ok(EntryChange::Stays);
     }
-    let rest = set.get().minus(alloc, lost)?;
-    let left = SharedSet::new(alloc, rest)?;
-    Ok(left)
+    let left = set.minus(alloc, lost)?;
+    if left.is_empty() {
+        return Ok(EntryChange::Leaves);
+    }
+    Ok(EntryChange::Owns(left, entry.at))
 }
 
-// The set that a manager owns: the one before, shared, where it has the same paths.
-fn as_before(alloc: Global, owned: &FieldSet, before: &SharedSet) -> Result<SharedSet, AllocError>
-    ensures { IfOk result (λ set. set ≡ owned.now) }
+// What becomes of the entry of a manager that owns these paths then; where its paths or a field
+// changed, its moment is `at`.
+fn acting(
+    alloc: Global,
+    entry: &Entry,
+    owned: &FieldSet,
+    changed: bool,
+    at: Moment,
+) -> Result<EntryChange, AllocError>
+    ensures { IfOk result (λ c. changed_entry c (entry_view entry.now) ≡ filter owns (acted (entry_view entry.now) owned.now changed at ∷ [])) }
 {
-    if owned.is_same(before.get()) {
-        let same = before.share(alloc)?;
-        return Ok(same);
+    if owned.is_empty() {
+        return Ok(EntryChange::Leaves);
     }
-    let copied = owned.copy(alloc)?;
-    let set = SharedSet::new(alloc, copied)?;
-    Ok(set)
+    if !owned.is_same(entry.set.get()) {
+        let set = owned.copy(alloc)?;
+        return Ok(EntryChange::Owns(set, at));
+    }
+    if changed {
+        return Ok(EntryChange::Renewed(at));
+    }
+    Ok(EntryChange::Stays)
 }
 
-// One entry after a command: the manager owns `owned`, the others lose `lost`.
+// What becomes of an entry by a command: the manager owns `owned`, the others lose `lost`.
 fn reseated(
     alloc: Global,
     entry: &Entry,
@@ -61,29 +76,17 @@ fn reseated(
     lost: &FieldSet,
     changed: bool,
     at: Moment,
-) -> Result<Entry, AllocError>
-    ensures { IfOk result (λ e. entry_view e ≡ reseated (key_view key.now) owned.now lost.now changed at (entry_view entry.now)) }
+) -> Result<EntryChange, AllocError>
+    ensures { IfOk result (λ c. changed_entry c (entry_view entry.now)
+        ≡ filter owns (reseated (key_view key.now) owned.now lost.now changed at (entry_view entry.now) ∷ [])) }
 {
-    let name = entry.key.copy(alloc)?;
-    if !entry.key.is_same(key) {
-        let left = left_of(alloc, &entry.set, lost)?;
-        return Ok(Entry {
-            key: name,
-            set: left,
-            at: entry.at,
-        });
+    if entry.key.is_same(key) {
+        return acting(alloc, entry, owned, changed, at);
     }
-    let is_same_set = owned.is_same(entry.set.get());
-    let at = if changed || !is_same_set {
-        at
-    } else {
-        entry.at
-    };
-    let set = as_before(alloc, owned, &entry.set)?;
-    Ok(Entry { key: name, set, at })
+    losing(alloc, entry, lost)
 }
 
-// The entries after a command that own something, of the managers that the table has.
+// What becomes of the entries of the managers that the table has.
 fn reseated_entries(
     alloc: Global,
     table: &[Entry],
@@ -92,24 +95,38 @@ fn reseated_entries(
     lost: &FieldSet,
     changed: bool,
     at: Moment,
-) -> Result<ArrayVec<Entry, MOST_MANAGERS, Global>, AllocError>
-    requires { length table.now ≤ most_managers }
-    ensures made { IfOk result (λ made. table_view made.items ≡ filter owns (map (reseated (key_view key.now) owned.now lost.now changed at) (table_view table.now))) }
-    ensures few { IfOk result (λ made. length made.items ≤ most_managers) }
+) -> Result<Vec<EntryChange>, AllocError>
+    ensures each { IfOk result (λ cs. length cs.items ≡ length table.now) }
+    ensures made { IfOk result (λ cs. changed_entries cs.items (table_view table.now)
+        ≡ filter owns (map (reseated (key_view key.now) owned.now lost.now changed at) (table_view table.now))) }
 {
-    let mut made = ArrayVec::new_in(alloc);
+    let mut changes = Vec::with_capacity(alloc, table.len())?;
     for entry in table {
-        let next = reseated(alloc, entry, key, owned, lost, changed, at)?;
-        if !next.set.get().is_empty() {
-            made.push(next);
-        }
+        changes.push(reseated(alloc, entry, key, owned, lost, changed, at)?)?;
     }
-    Ok(made)
+    Ok(changes)
 }
 
-/// The table after a command: the manager owns `owned`, the others lose `lost`, and who owns nothing
-/// leaves. A new manager stands last. Its moment is `at`, as is an old one's whose set changed or
-/// where something was modified. Refused is a table of more than 64 managers.
+// The entry of a manager that the table has not.
+fn newcomer(
+    alloc: Global,
+    key: &ManagerKey,
+    owned: &FieldSet,
+    at: Moment,
+) -> Result<Entry, AllocError>
+    ensures { IfOk result (λ e. entry_view e ≡ record { manager = key_view key.now; owned = owned.now; moment = at }) }
+{
+    let key = key.copy(alloc)?;
+    let copied = owned.copy(alloc)?;
+    let set = SharedSet::new(alloc, copied)?;
+    Ok(Entry { key, set, at })
+}
+
+/// What becomes of a table by a command: the manager owns `owned`, the others lose `lost`, and who
+/// owns nothing leaves.
+///
+/// A new manager stands last. Its moment is `at`, as is an old one's whose set changed or where
+/// something was modified. Refused is a table of more than 64 managers.
 pub fn seat(
     alloc: Global,
     managers: &Managers,
@@ -118,24 +135,38 @@ pub fn seat(
     lost: &FieldSet,
     modified: &FieldSet,
     at: Moment,
-) -> Result<Managers, Refusal>
-    ensures { IsSeated result (seat managers.now (key_view key.now) owned.now lost.now modified.now at) }
+) -> Result<TableChange, Refusal>
+    ensures { IsSeated managers.now result (seat managers.now (key_view key.now) owned.now lost.now modified.now at) }
 {
     let changed = !modified.is_empty();
     let table = managers.entries();
-    let mut made = reseated_entries(alloc, table, key, owned, lost, changed, at)?;
-    if is_in_table(table, key) {
-        return Ok(Managers::of_entries(made));
+    let entries = reseated_entries(alloc, table, key, owned, lost, changed, at)?;
+    if is_in_table(table, key) || owned.is_empty() {
+        return Ok(TableChange {
+            entries,
+            newcomer: None,
+        });
     }
-    if owned.is_empty() {
-        return Ok(Managers::of_entries(made));
-    }
-    if made.is_full() {
+    if count_kept(&entries) >= MOST_MANAGERS {
         return Err(Refusal::TooManyManagers);
     }
-    let name = key.copy(alloc)?;
-    let copied = owned.copy(alloc)?;
-    let set = SharedSet::new(alloc, copied)?;
-    made.push(Entry { key: name, set, at });
-    Ok(Managers::of_entries(made))
+    let newcomer = newcomer(alloc, key, owned, at)?;
+    Ok(TableChange {
+        entries,
+        newcomer: Some(newcomer),
+    })
+}
+
+/// What becomes of a table when all its managers leave.
+pub fn emptied(alloc: Global, managers: &Managers) -> Result<TableChange, AllocError>
+    ensures { IfOk result (λ c. LeadsTo managers.now c []) }
+{
+    let mut entries = Vec::with_capacity(alloc, managers.len())?;
+    for _ in 0..managers.len() {
+        entries.push(EntryChange::Leaves)?;
+    }
+    Ok(TableChange {
+        entries,
+        newcomer: None,
+    })
 }

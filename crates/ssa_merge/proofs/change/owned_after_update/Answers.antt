@@ -3,7 +3,7 @@ use Rattle.std.specs.Prelude.{Some, None}
 use Rattle.ssa_model.specs.definitions.PathMap.{minus, union}
 use Rattle.ssa_merge.specs.Managers.{key_view, entry_view}
 use Rattle.ssa_merge.proofs.GivenUp.{empty_union, owned-after}
-use Rattle.ssa_merge.proofs.plan.owned_after_update.Goals as goal
+use Rattle.ssa_merge.proofs.change.owned_after_update.Goals as goal
 
 pub returns-in_ok-owned-in-Some : goal.returns-in_ok-owned-in-Some
 returns-in_ok-owned-in-Some c =

@@ -1,14 +1,14 @@
-use Rattle.std.proofs.Common.{◌≡◌, ◌∙◌, subst}
-use Rattle.std.specs.Prelude.{Ok, Err}
+use Rattle.std.proofs.Common.{◌≡◌, ◌∙◌, refl, subst}
+use Rattle.std.specs.Prelude.{Ok, Err, Some}
 use Rattle.ssa_model.specs.definitions.PathMap.{minus, union}
 use Rattle.ssa_model.specs.definitions.Body.{added, modified, removed}
 use Rattle.ssa_model.specs.definitions.Table.{Table, owned_by, seat}
 use Rattle.ssa_merge.specs.Managers.{key_view}
 use Rattle.ssa_merge.specs.States.{state_view}
-use Rattle.ssa_merge.specs.Tables.{IsSeated}
-use Rattle.ssa_merge.specs.declared.plan.Plan.{Plan}
+use Rattle.ssa_merge.specs.TableChanges.{IsSeated}
+use Rattle.ssa_merge.specs.declared.change.Change.{Change}
 use Rattle.ssa_merge.proofs.Applied.{placed, unplaced}
-use Rattle.ssa_merge.proofs.plan.updated.Goals as goal
+use Rattle.ssa_merge.proofs.change.updated.Goals as goal
 
 pub returns-in-Ok : goal.returns-in-Ok
 returns-in-Ok c =
@@ -23,9 +23,9 @@ returns-in-Ok c =
     let owned_is : c.in_ok-owned.owned ≡ owned = c.in_ok-owned.ensures ∙ (λ i. union (minus (owned_by state.table u) (are.removed_are i)) (union (are.modified_are i) (are.added_are i))) in
     let lost_is : c.in_ok-lost.lost ≡ union changed gone = c.in_ok-lost.ensures ∙ (λ i. union (are.modified_are i) (are.removed_are i)) in
     let seats : ◌≡◌ {A = Table} (seat state.table u c.in_ok-owned.owned c.in_ok-lost.lost c.in_ok-comparison.comparison.modified c.args.at) table = λ i. seat state.table u (owned_is i) (lost_is i) (are.modified_are i) c.args.at in
-    let plan : Plan = record { target = record { body = object; managers = c.in-Ok.managers }; comparison = c.in_ok-comparison.comparison } in
-    let is_seated : Table → Type 0 = IsSeated (Ok c.in-Ok.managers) in
-    placed state plan table (subst is_seated seats c.in-Ok.ensures) are
+    let change : Change = record { body = Some object; table = c.in-Ok.table; comparison = c.in_ok-comparison.comparison } in
+    let is_seated : Table → Type 0 = IsSeated state.table (Ok c.in-Ok.table) in
+    placed state change object table refl (subst is_seated seats c.in-Ok.ensures) are
 
 pub returns-in-Err : goal.returns-in-Err
 returns-in-Err c =
@@ -40,5 +40,5 @@ returns-in-Err c =
     let owned_is : c.in_ok-owned.owned ≡ owned = c.in_ok-owned.ensures ∙ (λ i. union (minus (owned_by state.table u) (are.removed_are i)) (union (are.modified_are i) (are.added_are i))) in
     let lost_is : c.in_ok-lost.lost ≡ union changed gone = c.in_ok-lost.ensures ∙ (λ i. union (are.modified_are i) (are.removed_are i)) in
     let seats : ◌≡◌ {A = Table} (seat state.table u c.in_ok-owned.owned c.in_ok-lost.lost c.in_ok-comparison.comparison.modified c.args.at) table = λ i. seat state.table u (owned_is i) (lost_is i) (are.modified_are i) c.args.at in
-    let is_seated : Table → Type 0 = IsSeated (Err c.in-Err.refusal) in
+    let is_seated : Table → Type 0 = IsSeated state.table (Err c.in-Err.refusal) in
     unplaced state object table c.in-Err.refusal (subst is_seated seats c.in-Err.ensures)

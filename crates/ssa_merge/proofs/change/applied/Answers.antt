@@ -1,5 +1,5 @@
 use Rattle.std.proofs.Common.{◌≡◌, ap, ◌∙◌, sym, subst, refl, not, ◌||◌}
-use Rattle.std.specs.Prelude.{Result, Ok, Err}
+use Rattle.std.specs.Prelude.{Result, Ok, Err, Some}
 use Rattle.ssa_model.specs.definitions.PathMap.{size}
 use Rattle.ssa_model.specs.definitions.Body.{points, modified}
 use Rattle.ssa_model.specs.definitions.Table.{Table, seat}
@@ -7,11 +7,11 @@ use Rattle.ssa_model.specs.definitions.Operations as model
 use Rattle.ssa_model.specs.definitions.Operations.{State, clashes, conflict, too_many_paths, is_none}
 use Rattle.ssa_merge.specs.Managers.{key_view, clashes_view}
 use Rattle.ssa_merge.specs.States.{state_view}
-use Rattle.ssa_merge.specs.Tables.{IsSeated}
-use Rattle.ssa_merge.specs.Plans.{IsPlanned}
-use Rattle.ssa_merge.specs.declared.plan.Plan.{Plan}
+use Rattle.ssa_merge.specs.TableChanges.{IsSeated}
+use Rattle.ssa_merge.specs.Plans.{IsChanged}
+use Rattle.ssa_merge.specs.declared.change.Change.{Change}
 use Rattle.ssa_merge.proofs.Applied.{apply-decided, decided-conflict, decided-paths, seated, unseated, more_places, few_places}
-use Rattle.ssa_merge.proofs.plan.applied.Goals as goal
+use Rattle.ssa_merge.proofs.change.applied.Goals as goal
 
 pub returns-then-has_conflict : goal.returns-then-has_conflict
 returns-then-has_conflict c =
@@ -62,10 +62,10 @@ returns-in-Ok c =
     let seats : ◌≡◌ {A = Table} (seat state.table a c.in_ok-points.points c.in_ok-comparison.comparison.modified c.in_ok-comparison.comparison.modified c.args.at) table
     = λ i. seat state.table a (c.in_ok-points.ensures i) (c.in_ok-comparison.ensures.modified_are i) (c.in_ok-comparison.ensures.modified_are i) c.args.at in
     let given = apply-decided state a config c.args.force c.args.at body found (size body) table c.in_ok-body.ensures clash_is refl refl in
-    let plan : Plan = record { target = record { body = body; managers = c.in-Ok.managers }; comparison = c.in_ok-comparison.comparison } in
-    let is_seated : Table → Type 0 = IsSeated (Ok c.in-Ok.managers) in
-    let is_planned : Result State model.Refusal → Type 0 = IsPlanned state (Ok plan) in
-    subst is_planned (sym given) (seated state c.args.force found (size body) plan table quiet few (subst is_seated seats c.in-Ok.ensures) c.in_ok-comparison.ensures)
+    let change : Change = record { body = Some body; table = c.in-Ok.table; comparison = c.in_ok-comparison.comparison } in
+    let is_seated : Table → Type 0 = IsSeated state.table (Ok c.in-Ok.table) in
+    let is_changed : Result State model.Refusal → Type 0 = IsChanged state (Ok change) in
+    subst is_changed (sym given) (seated state c.args.force found (size body) change body table quiet few refl (subst is_seated seats c.in-Ok.ensures) c.in_ok-comparison.ensures)
 
 pub returns : goal.returns
 returns c =
@@ -82,6 +82,6 @@ returns c =
     let seats : ◌≡◌ {A = Table} (seat state.table a c.in_ok-points.points c.in_ok-comparison.comparison.modified c.in_ok-comparison.comparison.modified c.args.at) table
     = λ i. seat state.table a (c.in_ok-points.ensures i) (c.in_ok-comparison.ensures.modified_are i) (c.in_ok-comparison.ensures.modified_are i) c.args.at in
     let given = apply-decided state a config c.args.force c.args.at body found (size body) table c.in_ok-body.ensures clash_is refl refl in
-    let is_seated : Table → Type 0 = IsSeated (Err c.in-Err.refusal) in
-    let is_planned : Result State model.Refusal → Type 0 = IsPlanned state (Err c.in-Err.refusal) in
-    subst is_planned (sym given) (unseated state c.args.force found (size body) body table c.in-Err.refusal quiet few (subst is_seated seats c.in-Err.ensures))
+    let is_seated : Table → Type 0 = IsSeated state.table (Err c.in-Err.refusal) in
+    let is_changed : Result State model.Refusal → Type 0 = IsChanged state (Err c.in-Err.refusal) in
+    subst is_changed (sym given) (unseated state c.args.force found (size body) body table c.in-Err.refusal quiet few (subst is_seated seats c.in-Err.ensures))

@@ -1,0 +1,197 @@
+//! What a command changes of a state, told without what stays.
+ghost use Rattle.std.specs.Prelude.{◌≡◌, ◌||◌, not, IfOk};
+ghost use Rattle.ssa_model.specs.definitions.PathMap.{minus, union};
+ghost use Rattle.ssa_model.specs.definitions.Table.{owned_by};
+ghost use Rattle.ssa_model.specs.definitions.Operations as model;
+ghost use Rattle.ssa_model.specs.definitions.Operations.{apply, update, strip, is_none};
+ghost use Rattle.ssa_typed.specs.Alike.{AreAlike};
+ghost use Rattle.ssa_merge.specs.Managers.{clashes_view, key_view, operation_view};
+ghost use Rattle.ssa_merge.specs.States.{state_view, applier, updater};
+ghost use Rattle.ssa_merge.specs.Plans.{IsChange, IsChanged, IsPlan};
+
+use crate::given_up::pruned;
+use crate::manager::{ManagerKey, Operation};
+use crate::owned::clashes;
+use crate::plan::{Plan, Refusal};
+use crate::seat::{emptied, seat};
+use crate::state::State;
+use crate::table_change::TableChange;
+use ssa_json::moment::Moment;
+use ssa_path::field_set::FieldSet;
+use ssa_typed::body::{Body, MOST_PLACES};
+use ssa_typed::compare::Comparison;
+use std::alloc::{AllocError, Global};
+
+/// What a command changes of a state, and how the body then differs from the one before.
+#[derive(Drop)]
+pub struct Change {
+    /// The body after the command, none where it stays.
+    pub body: Option<Body>,
+    pub table: TableChange,
+    pub comparison: Comparison,
+}
+
+impl Change {
+    /// The whole state to which the change leads, with a body of its own. It shares the sets that
+    /// stay.
+    pub fn completed(self, alloc: Global, state: &State) -> Result<Plan, AllocError>
+        requires { (after : model.State) × IsChange (state_view state.now) self after }
+        ensures { IfOk result (λ p. (after : model.State) → IsChange (state_view state.now) self after → IsPlan (state_view state.now) p after) }
+    {
+        let Change {
+            body,
+            table,
+            comparison,
+        } = self;
+        let managers = table.completed(alloc, &state.managers)?;
+        let body = match body {
+            Some(body) => body,
+            None => state.body.copy(alloc)?,
+        };
+        Ok(Plan {
+            target: State { body, managers },
+            comparison,
+        })
+    }
+}
+
+// The manager of a name.
+fn key_of(alloc: Global, who: &str, operation: Operation) -> Result<ManagerKey, AllocError>
+    ensures { IfOk result (λ k. key_view k ≡ record { name = who.now; operation = operation_view operation }) }
+{
+    let name = String::from_str(alloc, who)?;
+    Ok(ManagerKey { name, operation })
+}
+
+// Whether there are clashes that are not forced.
+fn has_conflict(force: bool, found: &[(ManagerKey, FieldSet)]) -> bool
+    ensures { result ≡ not (force || is_none (clashes_view found.now)) }
+{
+    match found {
+        [] => false,
+        [_first, ..] => !force,
+    }
+}
+
+// What an Apply of a configuration by a manager changes.
+fn applied(
+    alloc: Global,
+    state: &State,
+    key: &ManagerKey,
+    config: &Body,
+    force: bool,
+    at: Moment,
+) -> Result<Change, Refusal>
+    requires { AreAlike state.now.body config.now }
+    ensures { IsChanged (state_view state.now) result (apply (state_view state.now) (key_view key.now) config.now force at) }
+{
+    let points = config.points(alloc)?;
+    let body = pruned(alloc, state, key, config, &points)?;
+    let comparison = state.body.compare(alloc, &body)?;
+    let changed = &comparison.modified;
+    let found = clashes(alloc, state.managers.entries(), key, changed)?;
+    if has_conflict(force, &found) {
+        return Err(Refusal::Conflict(found));
+    }
+    if body.size() > MOST_PLACES {
+        return Err(Refusal::TooManyPaths);
+    }
+    match seat(alloc, &state.managers, key, &points, changed, changed, at) {
+        Ok(table) => Ok(Change {
+            body: Some(body),
+            table,
+            comparison,
+        }),
+        Err(refusal) => Err(refusal),
+    }
+}
+
+/// What an Apply of a configuration by a manager changes, or why it is refused: see
+/// [`plan_apply`](crate::plan::plan_apply).
+pub fn change_apply(
+    alloc: Global,
+    state: &State,
+    config: &Body,
+    who: &str,
+    force: bool,
+    at: Moment,
+) -> Result<Change, Refusal>
+    requires { AreAlike state.now.body config.now }
+    ensures { IsChanged (state_view state.now) result (apply (state_view state.now) (applier who.now) config.now force at) }
+{
+    let key = key_of(alloc, who, Operation::Apply)?;
+    applied(alloc, state, &key, config, force, at)
+}
+
+// What a manager owns after an Update: what it owned and is still there, and what was modified or
+// added.
+fn owned_after_update(
+    alloc: Global,
+    state: &State,
+    key: &ManagerKey,
+    comparison: &Comparison,
+) -> Result<FieldSet, AllocError>
+    ensures { IfOk result (λ s. s ≡ union (minus (owned_by (state_view state.now).table (key_view key.now)) comparison.now.removed) (union comparison.now.modified comparison.now.added)) }
+{
+    let gained = comparison.modified.union(alloc, &comparison.added)?;
+    match state.managers.get(key) {
+        Some(entry) => {
+            let stayed = entry.set.get().minus(alloc, &comparison.removed)?;
+            let owned = stayed.union(alloc, &gained)?;
+            Ok(owned)
+        }
+        None => Ok(gained),
+    }
+}
+
+// What an Update to an object by a manager changes.
+fn updated(
+    alloc: Global,
+    state: &State,
+    key: &ManagerKey,
+    object: Body,
+    at: Moment,
+) -> Result<Change, Refusal>
+    ensures { IsChanged (state_view state.now) result (update (state_view state.now) (key_view key.now) object at) }
+{
+    let comparison = state.body.compare(alloc, &object)?;
+    let owned = owned_after_update(alloc, state, key, &comparison)?;
+    let changed = &comparison.modified;
+    let lost = changed.union(alloc, &comparison.removed)?;
+    match seat(alloc, &state.managers, key, &owned, &lost, changed, at) {
+        Ok(table) => Ok(Change {
+            body: Some(object),
+            table,
+            comparison,
+        }),
+        Err(refusal) => Err(refusal),
+    }
+}
+
+/// What an Update to an object by a manager changes, or why it is refused: see
+/// [`plan_update`](crate::plan::plan_update).
+pub fn change_update(
+    alloc: Global,
+    state: &State,
+    object: Body,
+    who: &str,
+    at: Moment,
+) -> Result<Change, Refusal>
+    ensures { IsChanged (state_view state.now) result (update (state_view state.now) (updater who.now) object at) }
+{
+    let key = key_of(alloc, who, Operation::Update)?;
+    updated(alloc, state, &key, object, at)
+}
+
+/// What a Strip changes: the body stays, and all managers leave.
+pub fn change_strip(alloc: Global, state: &State) -> Result<Change, AllocError>
+    ensures { IfOk result (λ c. IsChange (state_view state.now) c (strip (state_view state.now))) }
+{
+    let table = emptied(alloc, &state.managers)?;
+    let comparison = state.body.compare(alloc, &state.body)?;
+    Ok(Change {
+        body: None,
+        table,
+        comparison,
+    })
+}
