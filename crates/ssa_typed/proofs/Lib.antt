@@ -17,7 +17,6 @@ pub mod Looks
 pub mod Lookups
 pub mod Making
 pub mod MergedChildren
-pub mod MergedOrder
 pub mod OverNodes
 pub mod Overlaying
 pub mod Pairs

@@ -1,12 +1,11 @@
 -- The merged children of two nodes, each with its counterparts.
-use Rattle.std.proofs.Common.{◌≡◌, ℕ, ◌<◌, List, [], ◌∷◌, map, length, get_or, true, Option, Some, None, ◌⊎◌, inl, inr, Vec, Global, refl, sym, ap, ◌∙◌, arith}
+use Rattle.std.proofs.Common.{◌≡◌, ℕ, ◌<◌, List, [], ◌∷◌, map, length, get_or, true, Option, Some, None, ◌⊎◌, inl, inr, refl, sym, ap, ◌∙◌, arith}
 use Rattle.std.proofs.lemmas.List.{get_or-map, length-map}
-use Rattle.std.specs.Map.{values_of}
 use Rattle.ssa_model.specs.definitions.Body.{joined}
 use Rattle.ssa_model.proofs.Fitting.{distinct-joined}
 use Rattle.ssa_path.specs.Children.{child_at, elements}
 use Rattle.ssa_path.specs.View.{element_view}
-use Rattle.ssa_typed.specs.MergedOrder.{Merged, merged, merged_view, entries_view, by_texts}
+use Rattle.ssa_typed.specs.MergedOrder.{Merged, merged, merged_view}
 use Rattle.ssa_typed.specs.Rows.{below, is_tree, are_apart}
 use Rattle.ssa_typed.specs.declared.merged_order.MergedChild.{MergedChild}
 use Rattle.ssa_typed.specs.declared.node.Node.{Node}
@@ -15,20 +14,11 @@ use Rattle.ssa_typed.proofs.Levels.{apart-distinct, level-below}
 use Rattle.ssa_typed.proofs.Lookups.{tree-child}
 use Rattle.ssa_typed.proofs.Overlaying.{child-at-index, found_in, merged-elements, merged-found, some-none}
 
--- ---- the values of a map of merged children
+-- ---- the merged children of two nodes
 
-seen-values : (es : List (Vec ℕ Global × MergedChild)) → map merged_view (values_of es) ≡ map (λ entry. entry.1) (entries_view es)
-seen-values [] = refl
-seen-values (e ∷ es) = ap (λ ps. merged_view e.1 ∷ ps) (seen-values es)
-
-without-texts : (ps : List Merged) → map (λ entry. entry.1) (by_texts ps) ≡ ps
-without-texts [] = refl
-without-texts (p ∷ ps) = ap (λ qs. p ∷ qs) (without-texts ps)
-
-pub values-merged : (n m : Node) (cs ds : List Child) (es : List (Vec ℕ Global × MergedChild)) (vs : List MergedChild) → cs ≡ below n → ds ≡ below m
-    → entries_view es ≡ by_texts (merged cs ds) → vs ≡ values_of es → map merged_view vs ≡ merged (below n) (below m)
-values-merged n m cs ds es vs live config h are =
-    ap (map merged_view) are ∙ seen-values es ∙ ap (map (λ entry. entry.1)) h ∙ without-texts (merged cs ds) ∙ (λ i. merged (live i) (config i))
+pub values-merged : (n m : Node) (cs ds : List Child) (order vs : List MergedChild) → cs ≡ below n → ds ≡ below m
+    → map merged_view order ≡ merged cs ds → vs ≡ order → map merged_view vs ≡ merged (below n) (below m)
+values-merged n m cs ds order vs live config h are = ap (map merged_view) are ∙ h ∙ (λ i. merged (live i) (config i))
 
 -- ---- where a merged child comes from
 

@@ -1,9 +1,6 @@
 -- The merged order of the children of a live place and of the configuration's place.
-use Rattle.std.specs.Prelude.{ℕ, List, ◌++◌, map, filter, Bool, true, false, Option, None, Some, Vec}
+use Rattle.std.specs.Prelude.{List, ◌++◌, map, filter, Bool, true, false, Option, None, Some}
 use Rattle.std.specs.Option.{option_copied}
-use Rattle.std.specs.declared.alloc.Global.{Global}
-use Rattle.ssa_model.specs.definitions.Json.{Text}
-use Rattle.ssa_model.specs.definitions.Path.{element_text}
 use Rattle.ssa_path.specs.Children.{child_at}
 use Rattle.ssa_path.specs.View.{element_view}
 use Rattle.ssa_path.specs.declared.element.Elem.{Elem}
@@ -32,11 +29,3 @@ merged live config = map (live_child config) live ++ map new_child (filter (is_n
 
 abbrev pub merged_view : MergedChild → Merged
 merged_view c = (c.element.now, (c.node.now, option_copied c.over))
-
--- the entries of a map of such children
-abbrev pub entries_view : List (Vec ℕ Global × MergedChild) → List (Text × Merged)
-entries_view = map (λ entry. (entry.0.items, merged_view entry.1))
-
--- each child under its element's text
-abbrev pub by_texts : List Merged → List (Text × Merged)
-by_texts = map (λ child. (element_text (element_view child.0), child))

@@ -1,11 +1,11 @@
 //! The merged order of the children of a live place and of the configuration's place.
-ghost use Rattle.std.specs.Prelude.{◌≡◌, [], true, IfOk};
+ghost use Rattle.std.specs.Prelude.{◌≡◌, map, true, IfOk};
 ghost use Rattle.ssa_path.specs.Children.{elements};
-ghost use Rattle.ssa_typed.specs.MergedOrder.{by_texts, entries_view, merged};
+ghost use Rattle.ssa_typed.specs.MergedOrder.{live_child, merged, merged_view};
 ghost use Rattle.ssa_typed.specs.Rows.{are_apart};
 
+use crate::in_order::{find_in_order, in_order};
 use crate::node::Node;
-use indexmap::IndexMap;
 use ssa_path::element::Elem;
 use std::alloc::{AllocError, Global};
 
@@ -18,56 +18,50 @@ pub(crate) struct MergedChild<'a> {
     pub(crate) over: Option<&'a Node>,
 }
 
-// The live children in their order, by the texts of their elements.
-fn live_order<'a>(
+// The live children in their order, each with the configuration's child of its element.
+fn live_children<'a>(
     alloc: Global,
     live: &'a [(Elem, Node)],
-) -> Result<IndexMap<Vec<u8>, MergedChild<'a>>, AllocError>
-    requires { are_apart (elements live.now) ≡ true }
-    ensures { IfOk result (λ order. entries_view order.entries ≡ by_texts (merged live.now [])) }
+    config: &'a [(Elem, Node)],
+) -> Result<Vec<MergedChild<'a>>, AllocError>
+    requires { are_apart (elements config.now) ≡ true }
+    ensures { IfOk result (λ order. map merged_view order.items ≡ map (live_child config.now) live.now) }
 {
-    let mut order = IndexMap::with_capacity(alloc, live.len())?;
+    let sorted = in_order(alloc, config)?;
+    let mut order = Vec::with_capacity(alloc, live.len())?;
     for child in live {
-        let text = child.0.text(alloc)?;
-        let own = MergedChild {
+        order.push(MergedChild {
             element: &child.0,
             node: &child.1,
-            over: None,
-        };
-        order.insert(text, own)?;
+            over: find_in_order(&sorted, &child.0),
+        })?;
     }
     Ok(order)
 }
 
 /// The live children in their order, and behind them what the configuration alone has in its
-/// order, by the texts of their elements.
+/// order.
 ///
-/// Makes the text of each element once, and looks each up by its hash.
+/// Takes about n log n comparisons of elements, however they are chosen.
 pub(crate) fn merged_order<'a>(
     alloc: Global,
     live: &'a [(Elem, Node)],
     config: &'a [(Elem, Node)],
-) -> Result<IndexMap<Vec<u8>, MergedChild<'a>>, AllocError>
+) -> Result<Vec<MergedChild<'a>>, AllocError>
     requires live { are_apart (elements live.now) ≡ true }
     requires config { are_apart (elements config.now) ≡ true }
-    ensures { IfOk result (λ order. entries_view order.entries ≡ by_texts (merged live.now config.now)) }
+    ensures { IfOk result (λ order. map merged_view order.items ≡ merged live.now config.now) }
 {
-    let mut order = live_order(alloc, live)?;
+    let mut order = live_children(alloc, live, config)?;
+    let sorted = in_order(alloc, live)?;
     for child in config {
-        let text = child.0.text(alloc)?;
-        let merged = match order.get(&text) {
-            Some(held) => MergedChild {
-                element: held.element,
-                node: held.node,
-                over: Some(&child.1),
-            },
-            None => MergedChild {
+        if find_in_order(&sorted, &child.0).is_none() {
+            order.push(MergedChild {
                 element: &child.0,
                 node: &child.1,
                 over: None,
-            },
-        };
-        order.insert(text, merged)?;
+            })?;
+        }
     }
     Ok(order)
 }

@@ -54,7 +54,7 @@ fn over_found(alloc: Global, live: &Node, config: &Node) -> Result<Vec<(Elem, No
 {
     let order = merged_order(alloc, live.children(), config.children())?;
     let mut made = Vec::with_capacity(alloc, order.len())?;
-    for child in order.values().as_slice() {
+    for child in order.as_slice() {
         let node = match child.over {
             Some(other) => over_node(alloc, child.node, other)?,
             None => child.node.copy(alloc)?,

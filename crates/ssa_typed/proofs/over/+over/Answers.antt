@@ -23,7 +23,7 @@ over_found-over_node-requires t c =
     let child = c.child-item.result in
     let e = element_view child.element.now in
     let other = c.in-Some.other.now in
-    let are = values-merged n m c.children.result.now c.children-2.result.now c.in_ok-order.order.entries c.as_slice-child-items.result.now c.children.ensures.own c.children-2.ensures.own c.in_ok-order.ensures (c.as_slice-child-items.ensures ∙ c.values.ensures.rest) in
+    let are = values-merged n m c.children.result.now c.children-2.result.now c.in_ok-order.order.items c.as_slice-child-items.result.now c.children.ensures.own c.children-2.ensures.own c.in_ok-order.ensures c.as_slice-child-items.ensures.value in
     let there = both-there n m c.requires.live c.requires.config c.as_slice-child-items.result.now are c.loop-child.child-index child c.loop-child-test.true c.child-item.is other (ap option_copied c.in-Some.is) in
     let part = smaller n e child.node.now there.0 in
     let small : 3 * length (rows child.node.now) + 2 < 3 * length (rows n) = omega arith in
@@ -36,7 +36,7 @@ over_found-loop-child-preserved t c =
     let child = c.child-item.result in
     let vs = c.as_slice-child-items.result.now in
     let i = c.loop-child.child-index in
-    let are = values-merged n m c.children.result.now c.children-2.result.now c.in_ok-order.order.entries vs c.children.ensures.own c.children-2.ensures.own c.in_ok-order.ensures (c.as_slice-child-items.ensures ∙ c.values.ensures.rest) in
+    let are = values-merged n m c.children.result.now c.children-2.result.now c.in_ok-order.order.items vs c.children.ensures.own c.children-2.ensures.own c.in_ok-order.ensures c.as_slice-child-items.ensures.value in
     elim c.match-child.branch [
       | over_found-in-Some+in_ok-node-in-Some w ↦
           made-over merged_view vs i child c.loop-child.made.items c.push_child.new.children.items c.match-child.node c.loop-child-test.true c.child-item.is c.in_ok-push_child.ensures c.loop-child.invariant
@@ -53,7 +53,7 @@ over_found-returns t c =
     let m = c.args.config.now in
     let vs = c.as_slice-child-items.result.now in
     let made = c.loop-child.made.items in
-    let are = values-merged n m c.children.result.now c.children-2.result.now c.in_ok-order.order.entries vs c.children.ensures.own c.children-2.ensures.own c.in_ok-order.ensures (c.as_slice-child-items.ensures ∙ c.values.ensures.rest) in
+    let are = values-merged n m c.children.result.now c.children-2.result.now c.in_ok-order.order.items vs c.children.ensures.own c.children-2.ensures.own c.in_ok-order.ensures c.as_slice-child-items.ensures.value in
     children-over n m made (subst (λ ps. AreMade ps made) (ap (map merged_view) (take_all c.loop-child.child-index vs c.loop-child-test.false) ∙ are) c.loop-child.invariant)
 
 pub over_node-sort_children-requires : goal.over_node-sort_children-requires
