@@ -4,6 +4,7 @@
 pub mod answer;
 pub mod asked;
 pub mod files;
+pub mod notes;
 pub mod perform;
 pub mod status;
 pub mod trouble;

@@ -10,20 +10,24 @@ ghost use Rattle.ssa_program.specs.Status.{status_for};
 use crate::answer::{Reply, answer};
 use crate::asked::Asked;
 use crate::files::{load_bench, read_file, save_bench};
+use crate::notes::Notes;
 use crate::status::Status;
 use crate::trouble::{Trouble, tell_trouble};
 use ssa_bench::bench::Bench;
 use ssa_json::sink::Sink;
 use ssa_json::source::Source;
+use ssa_schema::schema::Schema;
 use ssa_session::bench_session::session;
 use ssa_session::files::{bench_of, schema_of};
 use ssa_session::reply_text::init_text;
 use ssa_session::write_line::write_reply;
 use ssa_words::call::Call;
+use std::alloc::Global;
 use std::rt::Files;
 
 /// Carries out a call on the files that it names, with these three for standard input, output and error, and gives the
-/// exit status. The bench's file is written before the reply is.
+/// exit status. The bench's file is written before the reply is. Where a refusal is, is told on standard error after its
+/// fault line, but for those of a session.
 pub fn perform<T: Files + AllocGlobal, R: Source, W: Sink, E: Sink>(
     rt: &T,
     call: &Call<'_>,
@@ -33,10 +37,12 @@ pub fn perform<T: Files + AllocGlobal, R: Source, W: Sink, E: Sink>(
 ) -> u8
     ensures { result < 4 }
 {
-    let status = match carry_out(rt, call, reader, writer) {
+    let mut notes = Notes::new(rt.alloc());
+    let status = match carry_out(rt, call, reader, writer, &mut notes) {
         Ok(status) => status,
         Err(trouble) => tell_trouble(rt.alloc(), &trouble, writer, errors),
     };
+    notes.tell(errors);
     status.code()
 }
 
@@ -45,33 +51,68 @@ fn carry_out<'a, T: Files + AllocGlobal, R: Source, W: Sink>(
     call: &Call<'a>,
     reader: &mut R,
     writer: &mut W,
+    notes: &mut Notes,
 ) -> Result<Status, Trouble<'a>> {
     match *call {
         Call::Init {
             schema,
             object,
             bench,
-        } => init(rt, writer, schema, object, bench),
+        } => init(rt, writer, notes, schema, object, bench),
         Call::Apply {
             bench,
             file,
             at,
             manager,
             force,
-        } => apply(rt, writer, bench, file, at, manager, force),
+        } => apply(rt, writer, notes, bench, file, at, manager, force),
         Call::Update {
             bench,
             file,
             at,
             manager,
-        } => update(rt, writer, bench, file, at, manager),
-        Call::Strip { bench } => ask(rt, writer, bench, Asked::Strip),
-        Call::Undo { bench } => ask(rt, writer, bench, Asked::Undo),
-        Call::Redo { bench } => ask(rt, writer, bench, Asked::Redo),
-        Call::Show { bench, managed } => ask(rt, writer, bench, Asked::Show { managed }),
-        Call::Owners { bench, path } => ask(rt, writer, bench, Asked::Owners { path }),
-        Call::Log { bench } => ask(rt, writer, bench, Asked::Log),
+        } => update(rt, writer, notes, bench, file, at, manager),
+        Call::Strip { bench } => ask(rt, writer, notes, bench, Asked::Strip),
+        Call::Undo { bench } => ask(rt, writer, notes, bench, Asked::Undo),
+        Call::Redo { bench } => ask(rt, writer, notes, bench, Asked::Redo),
+        Call::Show { bench, managed } => ask(rt, writer, notes, bench, Asked::Show { managed }),
+        Call::Owners { bench, path } => ask(rt, writer, notes, bench, Asked::Owners { path }),
+        Call::Log { bench } => ask(rt, writer, notes, bench, Asked::Log),
         Call::Session { bench } => hold_session(rt, reader, writer, bench),
+    }
+}
+
+// The schema of the bytes of a file.
+fn made_schema<'a>(
+    alloc: Global,
+    notes: &mut Notes,
+    name: &str,
+    bytes: &[u8],
+) -> Result<Schema, Trouble<'a>> {
+    match schema_of(alloc, bytes) {
+        Ok(schema) => Ok(schema),
+        Err(fault) => {
+            notes.about_schema(alloc, name, bytes, &fault);
+            Err(Trouble::File(fault))
+        }
+    }
+}
+
+// The bench of the bytes of a file, under the schema that these other bytes are.
+fn made_bench<'a>(
+    alloc: Global,
+    notes: &mut Notes,
+    schema: Schema,
+    schema_bytes: &[u8],
+    name: &str,
+    bytes: &[u8],
+) -> Result<Bench, Trouble<'a>> {
+    match bench_of(alloc, schema, bytes) {
+        Ok(bench) => Ok(bench),
+        Err(fault) => {
+            notes.about_object(alloc, name, bytes, schema_bytes, &fault);
+            Err(Trouble::File(fault))
+        }
     }
 }
 
@@ -79,13 +120,16 @@ fn carry_out<'a, T: Files + AllocGlobal, R: Source, W: Sink>(
 fn init<'a, T: Files + AllocGlobal, W: Sink>(
     rt: &T,
     writer: &mut W,
+    notes: &mut Notes,
     schema: &'a str,
     object: &'a str,
     bench: &'a str,
 ) -> Result<Status, Trouble<'a>> {
     let alloc = rt.alloc();
-    let schema = schema_of(alloc, &read_file(rt, schema)?)?;
-    let made = bench_of(alloc, schema, &read_file(rt, object)?)?;
+    let schema_bytes = read_file(rt, schema)?;
+    let read = made_schema(alloc, notes, schema, &schema_bytes)?;
+    let object_bytes = read_file(rt, object)?;
+    let made = made_bench(alloc, notes, read, &schema_bytes, object, &object_bytes)?;
     let reply = init_text(alloc, &made)?;
     save_bench(rt, bench, &made)?;
     write_reply(writer, reply)?;
@@ -95,6 +139,7 @@ fn init<'a, T: Files + AllocGlobal, W: Sink>(
 fn apply<'a, T: Files + AllocGlobal, W: Sink>(
     rt: &T,
     writer: &mut W,
+    notes: &mut Notes,
     bench: &'a str,
     file: &'a str,
     at: &str,
@@ -109,12 +154,13 @@ fn apply<'a, T: Files + AllocGlobal, W: Sink>(
         at,
         object: &object,
     };
-    answer_and_save(rt, writer, bench, &mut held, asked)
+    answer_and_save(rt, writer, notes, bench, file, &mut held, asked)
 }
 
 fn update<'a, T: Files + AllocGlobal, W: Sink>(
     rt: &T,
     writer: &mut W,
+    notes: &mut Notes,
     bench: &'a str,
     file: &'a str,
     at: &str,
@@ -127,18 +173,19 @@ fn update<'a, T: Files + AllocGlobal, W: Sink>(
         at,
         object: &object,
     };
-    answer_and_save(rt, writer, bench, &mut held, asked)
+    answer_and_save(rt, writer, notes, bench, file, &mut held, asked)
 }
 
 // Asks the bench of a file what needs no other file.
 fn ask<'a, T: Files + AllocGlobal, W: Sink>(
     rt: &T,
     writer: &mut W,
+    notes: &mut Notes,
     bench: &'a str,
     asked: Asked<'_>,
 ) -> Result<Status, Trouble<'a>> {
     let mut held = load_bench(rt, bench)?;
-    answer_and_save(rt, writer, bench, &mut held, asked)
+    answer_and_save(rt, writer, notes, bench, "", &mut held, asked)
 }
 
 // Writes a reply, and tells how the call ends by it.
@@ -159,11 +206,14 @@ fn write_answer<'a, W: Sink>(writer: &mut W, reply: Reply) -> Result<Status, Tro
     }
 }
 
-// Answers the subcommand, and writes the reply once the bench is saved where it has changed.
+// Answers the subcommand, and writes the reply once the bench is saved where it has changed. The object is that of the
+// named file, where there is one.
 fn answer_and_save<'a, T: Files + AllocGlobal, W: Sink>(
     rt: &T,
     writer: &mut W,
+    notes: &mut Notes,
     name: &'a str,
+    file: &str,
     bench: &mut Bench,
     asked: Asked<'_>,
 ) -> Result<Status, Trouble<'a>>
@@ -174,6 +224,9 @@ fn answer_and_save<'a, T: Files + AllocGlobal, W: Sink>(
     let reply = answer(rt.alloc(), bench, asked)?;
     if reply.is_change {
         save_bench(rt, name, bench)?;
+    }
+    if !reply.is_accepted {
+        notes.about_command(rt.alloc(), bench, asked, file);
     }
     write_answer(writer, reply)
 }

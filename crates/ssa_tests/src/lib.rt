@@ -14,7 +14,11 @@ mod loading_tests;
 #[cfg(test)]
 mod memory;
 #[cfg(test)]
+mod note_tests;
+#[cfg(test)]
 mod object_file_tests;
+#[cfg(test)]
+mod program;
 #[cfg(test)]
 mod program_tests;
 #[cfg(test)]

@@ -1,0 +1,234 @@
+//! Where a refusal is: lines for people, beside its fault line.
+
+use crate::asked::{Asked, AskedFault, command_of};
+use crate::trouble::named_line;
+use ssa_bench::bench::Bench;
+use ssa_bench::fault::Fault;
+use ssa_explain::conflict::push_conflict;
+use ssa_explain::entry::push_refused_entry;
+use ssa_explain::identity::{push_missing_part, push_other_part};
+use ssa_explain::json::push_unread;
+use ssa_explain::path::push_refused_element;
+use ssa_explain::way::push_member;
+use ssa_file::saving::write_text;
+use ssa_json::sink::Sink;
+use ssa_json::value::Json;
+use ssa_schema::schema::Schema;
+use ssa_session::command::Command;
+use ssa_session::files::{FileFault, MOST_INPUT_BYTES, schema_of};
+use ssa_session::read_command::LineFault;
+use std::alloc::{AllocError, Global};
+
+/// Lines about a refusal. Where memory runs out, they are fewer.
+#[derive(Drop)]
+pub struct Notes {
+    text: Vec<u8>,
+}
+
+impl Notes {
+    /// No lines.
+    pub fn new(alloc: Global) -> Notes {
+        Notes {
+            text: Vec::new(alloc),
+        }
+    }
+
+    /// Tells the lines, where there are some. What the device does not take is lost.
+    pub fn tell<E: Sink>(&self, errors: &mut E) {
+        if !self.text.is_empty() {
+            let _told = write_text(errors, &self.text);
+        }
+    }
+
+    // Keeps whole lines alone.
+    fn keep(&mut self, lines: Result<Vec<u8>, AllocError>) {
+        if let Ok(lines) = lines {
+            let _kept = self.text.extend_from_slice(&lines);
+        }
+    }
+
+    /// Where the bytes of a schema file are refused.
+    pub fn about_schema(&mut self, alloc: Global, name: &str, bytes: &[u8], fault: &FileFault) {
+        self.keep(schema_lines(alloc, name, bytes, fault));
+    }
+
+    /// Where the bytes of an object file are refused, under the schema of these bytes.
+    pub fn about_object(
+        &mut self,
+        alloc: Global,
+        name: &str,
+        bytes: &[u8],
+        schema: &[u8],
+        fault: &FileFault,
+    ) {
+        self.keep(object_lines(alloc, name, bytes, schema, fault));
+    }
+
+    /// Where a subcommand is refused that the bench, which is as it was, has refused. Its object is that of the named
+    /// file.
+    pub fn about_command(&mut self, alloc: Global, bench: &Bench, asked: Asked<'_>, name: &str) {
+        match asked {
+            Asked::Apply { object, .. } | Asked::Update { object, .. } => {
+                self.keep(command_lines(alloc, bench, asked, object, name));
+            }
+            Asked::Owners { path } => self.keep(path_lines(alloc, path.as_bytes())),
+            Asked::Strip | Asked::Undo | Asked::Redo | Asked::Show { .. } | Asked::Log => {}
+        }
+    }
+}
+
+// The beginning of a line about a file.
+fn begun(alloc: Global, name: &str) -> Result<Vec<u8>, AllocError> {
+    let mut text = named_line(alloc, "ssabench: ", name)?;
+    text.extend_from_slice(b": ")?;
+    Ok(text)
+}
+
+// The line, with its end.
+fn ended(mut text: Vec<u8>) -> Result<Vec<u8>, AllocError> {
+    text.push(b'\n')?;
+    Ok(text)
+}
+
+// A line about bytes that are no value, or too many.
+fn unread_line(alloc: Global, name: &str, bytes: &[u8]) -> Result<Vec<u8>, AllocError> {
+    let mut text = begun(alloc, name)?;
+    if bytes.len() > MOST_INPUT_BYTES {
+        text.extend_from_slice(b"more than 1048576 bytes")?;
+    } else {
+        push_unread(alloc, &mut text, bytes)?;
+    }
+    ended(text)
+}
+
+// A line about a value that is no schema.
+fn schema_line(alloc: Global, name: &str, bytes: &[u8]) -> Result<Vec<u8>, AllocError> {
+    let Ok(schema) = Json::read(alloc, bytes, MOST_INPUT_BYTES) else {
+        return Ok(Vec::new(alloc));
+    };
+    let place = Schema::fault_place(alloc, &schema)?;
+    let mut text = begun(alloc, name)?;
+    text.extend_from_slice(b"at ")?;
+    if place.is_empty() {
+        text.extend_from_slice(b"the root")?;
+    }
+    for step in &place {
+        push_member(alloc, &mut text, step.as_str())?;
+    }
+    ended(text)
+}
+
+fn schema_lines(
+    alloc: Global,
+    name: &str,
+    bytes: &[u8],
+    fault: &FileFault,
+) -> Result<Vec<u8>, AllocError> {
+    match fault {
+        FileFault::Json(_) => unread_line(alloc, name, bytes),
+        FileFault::Schema(_) => schema_line(alloc, name, bytes),
+        FileFault::Object(_) | FileFault::OutOfMemory => Ok(Vec::new(alloc)),
+    }
+}
+
+// A line about an object that no bench is made of, where its fault line does not say where.
+fn object_line(
+    alloc: Global,
+    name: &str,
+    bytes: &[u8],
+    schema: &[u8],
+    fault: &Fault,
+) -> Result<Vec<u8>, AllocError> {
+    let Ok(object) = Json::read(alloc, bytes, MOST_INPUT_BYTES) else {
+        return Ok(Vec::new(alloc));
+    };
+    let mut text = begun(alloc, name)?;
+    match fault {
+        Fault::Identity => push_missing_part(alloc, &mut text, &object)?,
+        Fault::Entry(_) => match schema_of(alloc, schema) {
+            Ok(schema) => push_refused_entry(alloc, &mut text, &schema, object)?,
+            Err(_) => return Ok(Vec::new(alloc)),
+        },
+        _ => return Ok(Vec::new(alloc)),
+    }
+    ended(text)
+}
+
+fn object_lines(
+    alloc: Global,
+    name: &str,
+    bytes: &[u8],
+    schema: &[u8],
+    fault: &FileFault,
+) -> Result<Vec<u8>, AllocError> {
+    match fault {
+        FileFault::Json(_) => unread_line(alloc, name, bytes),
+        FileFault::Object(fault) => object_line(alloc, name, bytes, schema, fault),
+        FileFault::Schema(_) | FileFault::OutOfMemory => Ok(Vec::new(alloc)),
+    }
+}
+
+// A line about a path that is not read.
+fn path_lines(alloc: Global, path: &[u8]) -> Result<Vec<u8>, AllocError> {
+    match Json::read(alloc, path, MOST_INPUT_BYTES) {
+        Ok(value) => {
+            let mut text = begun(alloc, "PATH")?;
+            push_refused_element(alloc, &mut text, &value)?;
+            ended(text)
+        }
+        Err(_) => unread_line(alloc, "PATH", path),
+    }
+}
+
+// Lines about an Apply or an Update of these bytes, the named file's, that is refused.
+fn command_lines(
+    alloc: Global,
+    bench: &Bench,
+    asked: Asked<'_>,
+    object: &[u8],
+    name: &str,
+) -> Result<Vec<u8>, AllocError> {
+    match command_of(alloc, asked) {
+        Ok(Command::Change(command)) => match bench.prepare(alloc, command) {
+            Ok(_) => Ok(Vec::new(alloc)),
+            Err(fault) => refusal_lines(alloc, bench, &fault, object, name),
+        },
+        Ok(_) => Ok(Vec::new(alloc)),
+        Err(AskedFault::Line(LineFault::BadMoment)) => {
+            b"ssabench: --at is no moment such as 2024-05-01T10:00:01Z\n".to_vec(alloc)
+        }
+        Err(_) => unread_line(alloc, name, object),
+    }
+}
+
+// Lines about the refusal of a command whose object is these bytes, the named file's.
+fn refusal_lines(
+    alloc: Global,
+    bench: &Bench,
+    fault: &Fault,
+    object: &[u8],
+    name: &str,
+) -> Result<Vec<u8>, AllocError> {
+    if matches!(fault, Fault::ManagerName) {
+        return b"ssabench: --field-manager is not of 1 to 128 printable ASCII characters\n".to_vec(
+            alloc,
+        );
+    }
+    let Ok(object) = Json::read(alloc, object, MOST_INPUT_BYTES) else {
+        return Ok(Vec::new(alloc));
+    };
+    let held = bench.show(alloc, false)?;
+    match fault {
+        Fault::Identity => {
+            let mut text = begun(alloc, name)?;
+            push_other_part(alloc, &mut text, &object, &held)?;
+            ended(text)
+        }
+        Fault::Conflict(clashes) => {
+            let mut text = Vec::new(alloc);
+            push_conflict(alloc, &mut text, clashes, &held, &object)?;
+            Ok(text)
+        }
+        _ => Ok(Vec::new(alloc)),
+    }
+}
