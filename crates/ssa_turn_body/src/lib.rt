@@ -5,6 +5,7 @@ pub mod body;
 pub mod change;
 pub mod children;
 pub mod descent;
+pub mod exchanges;
 pub mod reorder;
 pub mod steps;
 pub mod told;
