@@ -1,7 +1,9 @@
+pub mod Between
 pub mod Bodies
 pub mod Changes
 pub mod Descent
 pub mod Edits
+pub mod Found
 pub mod Inner
 pub mod Marks
 pub mod Orders

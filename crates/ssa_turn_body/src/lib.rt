@@ -6,6 +6,7 @@ pub mod change;
 pub mod children;
 pub mod descent;
 pub mod exchanges;
+pub mod found;
 pub mod reorder;
 pub mod steps;
 pub mod told;
