@@ -5,6 +5,7 @@ pub mod Descent
 pub mod Edits
 pub mod Found
 pub mod Inner
+pub mod Led
 pub mod Marks
 pub mod Orders
 pub mod Steps

@@ -4,7 +4,7 @@ use Rattle.std.specs.List.Sorted.{SwapsInRange}
 use Rattle.ssa_turn_body.specs.Found.{filled, somes, AreMissing}
 use Rattle.ssa_turn_body.specs.Orders.{reordered, AreWithin, AreDistinct}
 use Rattle.ssa_turn_body.specs.Woven.{room_for}
-use Rattle.ssa_turn_body.proofs.Between.{edit-parts}
+use Rattle.ssa_turn_body.proofs.EditParts.{edit-parts}
 use Rattle.ssa_turn_body.proofs.Matching.{found-below, found-differ, found-length, length-filled, wanted-within, wanted-distinct}
 use Rattle.ssa_turn_body.proofs.found.edit_between.Goals as goal
 
