@@ -12,19 +12,15 @@ use Rattle.ssa_typed.specs.declared.node.Node.{Node}
 use Rattle.ssa_typed.proofs.Laws.{not_true}
 use Rattle.ssa_typed.proofs.Levels.{level-below}
 use Rattle.ssa_typed.proofs.Lookups.{tree-child}
-use Rattle.ssa_turn_body.specs.Marks.{Child, Mark, Marks, marks, marks_in, Kids, kids, names, Place, seen}
-use Rattle.ssa_turn_body.specs.Told.{named}
+use Rattle.ssa_turn_body.specs.Marks.{Child, Mark, Marks, marks, marks_in, Kids, kids, Place, seen}
+use Rattle.ssa_turn_body.specs.Told.{from_place, named}
 use Rattle.ssa_typed.specs.Nodes.{node_on, then_on}
 use Rattle.ssa_turn_body.specs.Descent.{FitsIn, GivesIn, IsChange}
 use Rattle.ssa_turn_body.proofs.Marking.{told, marks-level, names-kids}
 
 -- ---- what a place tells
 
-abbrev pub from_place : Place → Marks
-from_place v [] = Some (v.0, names v.1)
-from_place v (e ∷ p) = marks_in (named v.1 e) p
-
-named-kids : (cs : List Child) (e : Element) → option_map marks (child_at e cs) ≡ named (kids cs) e
+pub named-kids : (cs : List Child) (e : Element) → option_map marks (child_at e cs) ≡ named (kids cs) e
 named-kids [] e = refl
 named-kids (c ∷ cs) e =
     elim (same_element e (element_view c.0)) as (λ b. option_map marks (cond b (Some c.1) (child_at e cs)) ≡ cond b (Some (marks c.1)) (named (kids cs) e)) [
@@ -70,7 +66,7 @@ found-more c cs (d ∷ ds) h found =
     or_second true b e = absurd (true≢false e)
     or_second false b e = e
 
-all-found : (cs : List Child) → are_apart (elements cs) ≡ true → AllFound cs cs
+pub all-found : (cs : List Child) → are_apart (elements cs) ≡ true → AllFound cs cs
 all-found [] h = tt
 all-found (c ∷ cs) h = (
   ap (λ b. cond b (Some c.1) (child_at (element_view c.0) cs)) (same_element-itself (element_view c.0)),
@@ -84,7 +80,7 @@ kids-found : (cs ds : List Child) → AllFound cs ds → kids ds ≡ kids_from (
 kids-found cs [] h = refl
 kids-found cs (d ∷ ds) h = λ i. (element_view d.0, λ p. marks_in (option_map marks (sym h.0 i)) p) ∷ kids-found cs ds h.1 i
 
-kids-told : (n : Node) → is_tree n ≡ true → kids (below n) ≡ kids_from (λ e p. marks n (e ∷ p)) (elements (below n))
+pub kids-told : (n : Node) → is_tree n ≡ true → kids (below n) ≡ kids_from (λ e p. marks n (e ∷ p)) (elements (below n))
 kids-told n tree =
     kids-found (below n) (below n) (all-found (below n) ((level-below n).apart tree))
     ∙ ap (λ (f : Element → Marks). kids_from f (elements (below n))) (λ i e p. sym (marks-level n (e ∷ p)) i)
@@ -106,7 +102,7 @@ SameIn (Some n) (Some m) = (is_tree n ≡ true) × (is_tree m ≡ true) × ((p :
 root-told : (n : Node) → marks n [] ≡ None → ⊥
 root-told n h = none-some _ (sym h ∙ marks-level n [])
 
-same-on : (p : Path) (n m : Node) → is_tree n ≡ true → is_tree m ≡ true → ((q : Path) → marks n q ≡ marks m q) → SameIn (node_on p n) (node_on p m)
+pub same-on : (p : Path) (n m : Node) → is_tree n ≡ true → is_tree m ≡ true → ((q : Path) → marks n q ≡ marks m q) → SameIn (node_on p n) (node_on p m)
 same-on [] n m tn tm same = (tn, tm, same)
 same-on (e ∷ p) n m tn tm same =
     in_both (child_at e (below n)) (child_at e (below m)) (λ c is. tree-child n e c tn is) (λ c is. tree-child m e c tm is) (λ q. sym (marks-level n (e ∷ q)) ∙ same (e ∷ q) ∙ marks-level m (e ∷ q)) (same-on p)

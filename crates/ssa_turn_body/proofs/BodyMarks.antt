@@ -96,7 +96,7 @@ rising-same (e ∷ es) (f ∷ fs) re rf same =
 
 -- ---- the content tells the order of the children, or they rise
 
-abbrev Ordered : Content → List Element → Type 0
+abbrev pub Ordered : Content → List Element → Type 0
 Ordered (leaf s) es = rises es ≡ true
 Ordered (atom v) es = rises es ≡ true
 Ordered record_branch es = rises es ≡ true
@@ -124,7 +124,7 @@ ordered-made (Node-F.Branch v) h = ordered-by (Branch v) record_branch (elements
 ordered-made (Node-F.Dict v) h = ordered-by (Dict v) dict_branch (elements v.items) (own-Dict v) (search (rules, the_lemmas)) (both_first _ (are_fields (elements v.items)) (both_first _ (are_trees v.items) (sym (tree-Dict v) ∙ h)))
 ordered-made (Node-F.List v) h = ordered-by (ListOf v) (list_branch (elements v.items)) (elements v.items) (own-List v) (search (rules, the_lemmas)) refl
 
-ordered : (n : Node) → is_tree n ≡ true → Ordered (own_content n) (elements (below n))
+pub ordered : (n : Node) → is_tree n ≡ true → Ordered (own_content n) (elements (below n))
 ordered n h = subst (λ m. is_tree m ≡ true → Ordered (own_content m) (elements (below m))) (roll-out-Node n) (ordered-made (out-Node n)) h
 
 -- ---- a body tells the marks

@@ -11,8 +11,8 @@ use Rattle.ssa_typed.specs.Nodes.{node_on}
 use Rattle.ssa_turn_body.specs.Descent.{GivesIn, IsChange}
 use Rattle.ssa_turn_body.specs.Marks.{Kids, marks, marks_in, names, Place, seen, with_order}
 use Rattle.ssa_turn_body.specs.Edits.{LeafGives, EditGives, edited}
-use Rattle.ssa_turn_body.specs.Told.{content_told, named, MarksTellContents, LeafTurnTold, AreChildrenTold, EditTurnTold}
-use Rattle.ssa_turn_body.proofs.Again.{from_place, marks-on, marks-place}
+use Rattle.ssa_turn_body.specs.Told.{content_told, from_place, named, MarksTellContents, LeafTurnTold, AreChildrenTold, EditTurnTold}
+use Rattle.ssa_turn_body.proofs.Again.{marks-on, marks-place}
 use Rattle.ssa_turn_body.proofs.BodyMarks.{content-marks}
 
 pub marks-tell : MarksTellContents

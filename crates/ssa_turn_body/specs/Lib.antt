@@ -1,8 +1,11 @@
+pub mod Between
 pub mod Bodies
 pub mod Changes
 pub mod Descent
 pub mod Edits
+pub mod Found
 pub mod Inner
+pub mod Led
 pub mod Marks
 pub mod Orders
 pub mod Steps

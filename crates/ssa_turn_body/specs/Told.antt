@@ -6,7 +6,7 @@ use Rattle.ssa_model.specs.definitions.PathMap.{get}
 use Rattle.ssa_typed.specs.Rows.{body_of, is_tree, leaf_content}
 use Rattle.ssa_typed.specs.declared.node.Node.{Node}
 use Rattle.ssa_turn_body.specs.Descent.{IsChange}
-use Rattle.ssa_turn_body.specs.Marks.{Kids, Mark, Marks, marks, marks_in, names, seen, with_order}
+use Rattle.ssa_turn_body.specs.Marks.{Kids, Mark, Marks, marks, marks_in, names, Place, seen, with_order}
 use Rattle.ssa_turn_body.specs.Edits.{LeafGives, EditGives, edited}
 use Rattle.ssa_turn_body.specs.declared.children.ChildrenEdit.{ChildrenEdit}
 use Rattle.ssa_turn_body.specs.declared.children.LeafSwap.{LeafSwap}
@@ -23,6 +23,11 @@ MarksTellContents = (n : Node) (p : Path) → is_tree n ≡ true → get (body_o
 abbrev pub named : Kids → Element → Option Marks
 named [] e = None
 named (k ∷ ks) e = if same_element e k.0 then Some k.1 else named ks e
+
+-- what a place tells
+abbrev pub from_place : Place → Marks
+from_place v [] = Some (v.0, names v.1)
+from_place v (e ∷ p) = marks_in (named v.1 e) p
 
 -- the leaf at the path is exchanged, and nothing else
 pub record IsLeafTold (s : LeafSwap) (t : LeafSwap) (p : Path) (b c : Body) : Type 0 where

@@ -1,11 +1,15 @@
 //! Bodies changed in place by steps that become those that lead back, with no memory taken.
 #![tactic(auto)]
 
+pub mod between;
 pub mod body;
 pub mod change;
 pub mod children;
 pub mod descent;
+pub mod exchanges;
+pub mod found;
 pub mod reorder;
 pub mod steps;
 pub mod told;
+pub mod walk;
 pub mod weave;

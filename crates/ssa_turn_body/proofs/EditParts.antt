@@ -1,0 +1,61 @@
+-- The edit that leads from the children of one place to those of another.
+use Rattle.std.proofs.Common.{◌≡◌, ℕ, ◌+◌, ◌≤◌, List, [], length, get_or, map, Option, None, sym, ap, subst, ◌∙◌, arith, vec_capacity}
+use Rattle.std.specs.List.{range_with_len}
+use Rattle.std.specs.List.Sorted.{SwapsInRange}
+use Rattle.std.proofs.lemmas.List.{length-map}
+use Rattle.ssa_model.specs.definitions.Path.{Element, field}
+use Rattle.ssa_path.specs.Children.{elements}
+use Rattle.ssa_turn_body.specs.Between.{IsEditBetween}
+use Rattle.ssa_turn_body.specs.Edits.{staying}
+use Rattle.ssa_turn_body.specs.Found.{filled, fresh, somes, AreMissing, IsTurnedRound}
+use Rattle.ssa_turn_body.specs.Marks.{Child, Kids, Marks}
+use Rattle.ssa_turn_body.specs.Orders.{reordered}
+use Rattle.ssa_turn_body.specs.Woven.{ArePlaces, room_for, taken, left, woven}
+use Rattle.ssa_turn_body.specs.declared.children.ChildrenEdit.{ChildrenEdit}
+use Rattle.ssa_turn_body.proofs.Matching.{places-nones, gone-fresh, stays-kept, remade-all, length-elements}
+
+abbrev Kid : Type 0
+Kid = Element × Marks
+
+no_kid : Kid
+no_kid = (field [], λ p. None)
+
+-- the parts of an edit make one
+pub record AreParts (cs ds : List Child) (fs back : List (Option ℕ)) (s : ChildrenEdit) : Type 0 where
+  pub turned : IsTurnedRound (length cs) fs back
+  pub gone : AreMissing back cs s.gone
+  pub come : AreMissing fs ds s.come
+  pub range : SwapsInRange (length back) s.before.items
+  pub order : reordered (range_with_len 0 (length back)) s.before.items ≡ filled 0 back (somes fs)
+  pub after : s.after.items ≡ []
+  pub held : s.held.items ≡ []
+  pub out_empty : s.out.items ≡ []
+  pub out_room : length s.gone.places.items ≤ vec_capacity s.out
+  pub room_empty : s.room.items ≡ []
+  pub room : room_for s.gone.places.items s.come.places.items (length ds) ≤ vec_capacity s.room
+
+pub edit-parts : (cs ds : List Child) (fs back : List (Option ℕ)) (s : ChildrenEdit) → AreParts cs ds fs back s → IsEditBetween cs ds fs s
+edit-parts cs ds fs back s h =
+    let t = h.turned in
+    let before = s.before.items in
+    let long : length cs ≡ 0 + length back = let e = t.long in omega arith in
+    let staying_is : (xs : Kids) → length xs ≡ length cs → staying s xs ≡ map (λ k. get_or xs k no_kid) (somes fs) =
+    λ xs l. ap (λ ps. left ps 0 (reordered xs before)) h.gone.places ∙ stays-kept back fs before h.order no_kid xs (l ∙ sym t.long) t.count in
+    record {
+      before = subst (λ n. SwapsInRange n before) t.long h.range;
+      gone = subst (λ ps. ArePlaces 0 ps (length cs)) (sym h.gone.places) (places-nones back 0 (length cs) long);
+      gone_named =
+          h.gone.named ∙ sym (gone-fresh back fs before h.order (field []) (elements cs) (length-elements cs ∙ sym t.long)) ∙ ap (λ ps. taken ps 0 (reordered (elements cs) before)) (sym h.gone.places);
+      come = h.come.places;
+      come_named = h.come.named;
+      after = h.after;
+      stay = λ xs l. ap length (staying_is xs l) ∙ length-map (somes fs) (λ k. get_or xs k no_kid);
+      whole = λ xs ls l led.
+          (λ i. reordered (woven (h.come.places i) 0 (fresh fs ls) (left (h.gone.places i) 0 (reordered xs before))) (h.after i))
+          ∙ remade-all back fs before h.order no_kid xs (l ∙ sym t.long) t.count ls led;
+      held = h.held;
+      out_empty = h.out_empty;
+      out_room = h.out_room;
+      room_empty = h.room_empty;
+      room = h.room;
+    }

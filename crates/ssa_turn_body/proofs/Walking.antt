@@ -1,0 +1,235 @@
+-- The walk over the children of a place: those that were led so far, those that come, and the edit of the place itself.
+use Rattle.std.proofs.Common.{◌≡◌, ℕ, zero, suc, ◌+◌, ◌<◌, ◌≤◌, List, [], ◌∷◌, ◌++◌, length, drop, get_or, Bool, true, false, not, ◌&&◌, ◌||◌, cond, Option, Some, None, option_map, refl, sym, ap, subst, ◌∙◌, arith, append_assoc, append-nil}
+use Rattle.std.specs.List.{list_any}
+use Rattle.std.specs.Prelude.{is_some}
+use Rattle.std.proofs.lemmas.List.{drop_more, length-drop}
+use Rattle.std.proofs.lemmas.Option.{none-some, slice_get-get_or}
+use Rattle.ssa_model.specs.definitions.Body.{Content}
+use Rattle.ssa_model.specs.definitions.Path.{Element, Path, same_element, under}
+use Rattle.ssa_path.specs.Children.{child_at, elements, IsChildAt}
+use Rattle.ssa_path.specs.View.{element_view}
+use Rattle.ssa_path.proofs.Orders.{same_element-true, same_element-itself, same_either_way, both_first, both_second}
+use Rattle.ssa_typed.specs.Rows.{below, own_content, is_tree, are_trees, are_apart}
+use Rattle.ssa_typed.specs.declared.node.Node.{Node}
+use Rattle.ssa_typed.proofs.Laws.{not_true, neither_first, neither_second}
+use Rattle.ssa_turn_body.specs.Found.{AreFound, fresh}
+use Rattle.ssa_turn_body.specs.Led.{AreLeading, AreAlikeBelow, IsAlikeChild, IsChildLed}
+use Rattle.ssa_turn_body.specs.Marks.{Child, Marks, marks, marks_in}
+use Rattle.ssa_turn_body.specs.declared.steps.Step.{Step}
+use Rattle.ssa_turn_body.proofs.Descending.{child-here, found-at}
+use Rattle.ssa_turn_body.proofs.Leading.{led-child, leading-same, leading-then}
+use Rattle.ssa_turn_body.proofs.Marking.{marks-level}
+use Rattle.ssa_turn_body.proofs.Matching.{found-length}
+
+abbrev Found : Type 0
+Found = List (Option ℕ)
+
+-- ---- children of a list
+
+pub child-among : (e : Element) (cs : List Child) → is_some (child_at e cs) ≡ list_any (same_element e) (elements cs)
+child-among e [] = refl
+child-among e (c ∷ cs) =
+    elim (same_element e (element_view c.0)) as (λ b. is_some (cond b (Some c.1) (child_at e cs)) ≡ (b || list_any (same_element e) (elements cs))) [
+      | true ↦ refl
+      | false ↦ child-among e cs
+    ]
+
+any-middle : (x : Element) (done : List Child) (d : Child) (rest : List Child) → list_any (same_element x) (elements (done ++ d ∷ rest)) ≡ false → same_element x (element_view d.0) ≡ false
+any-middle x [] d rest h = neither_first (same_element x (element_view d.0)) _ h
+any-middle x (c ∷ done) d rest h = any-middle x done d rest (neither_second (same_element x (element_view c.0)) _ h)
+
+other-first : (x : Child) (done : List Child) (d : Child) (rest : List Child) → are_apart (elements (x ∷ (done ++ d ∷ rest))) ≡ true → same_element (element_view d.0) (element_view x.0) ≡ false
+other-first x done d rest apart =
+    same_either_way (element_view x.0) (element_view d.0)
+    ∙ any-middle (element_view x.0) done d rest (not_true _ (both_first (not (list_any (same_element (element_view x.0)) (elements (done ++ d ∷ rest)))) _ apart))
+
+middle-found : (done : List Child) (d : Child) (rest : List Child) → are_apart (elements (done ++ d ∷ rest)) ≡ true → child_at (element_view d.0) (done ++ d ∷ rest) ≡ Some d.1
+middle-found [] d rest apart = ap (λ b. cond b (Some d.1) (child_at (element_view d.0) rest)) (same_element-itself (element_view d.0))
+middle-found (x ∷ done) d rest apart =
+    ap (λ b. cond b (Some x.1) (child_at (element_view d.0) (done ++ d ∷ rest))) (other-first x done d rest apart)
+    ∙ middle-found done d rest (both_second (not (list_any (same_element (element_view x.0)) (elements (done ++ d ∷ rest)))) _ apart)
+
+none-before : (done : List Child) (d : Child) (rest : List Child) → are_apart (elements (done ++ d ∷ rest)) ≡ true → child_at (element_view d.0) done ≡ None
+none-before [] d rest apart = refl
+none-before (x ∷ done) d rest apart =
+    ap (λ b. cond b (Some x.1) (child_at (element_view d.0) done)) (other-first x done d rest apart)
+    ∙ none-before done d rest (both_second (not (list_any (same_element (element_view x.0)) (elements (done ++ d ∷ rest)))) _ apart)
+
+push-same : (done : List Child) (d : Child) → child_at (element_view d.0) done ≡ None → child_at (element_view d.0) (done ++ d ∷ []) ≡ Some d.1
+push-same [] d h = ap (λ b. cond b (Some d.1) None) (same_element-itself (element_view d.0))
+push-same (x ∷ done) d h =
+    elim (same_element (element_view d.0) (element_view x.0)) as (λ b. cond b (Some x.1) (child_at (element_view d.0) done) ≡ None → cond b (Some x.1) (child_at (element_view d.0) (done ++ d ∷ [])) ≡ Some d.1) [
+      | true ↦ λ k. absurd (none-some x.1 (sym k))
+      | false ↦ λ k. push-same done d k
+    ] h
+
+push-other : (e : Element) (done : List Child) (d : Child) → same_element e (element_view d.0) ≡ false → child_at e (done ++ d ∷ []) ≡ child_at e done
+push-other e [] d h = ap (λ b. cond b (Some d.1) None) h
+push-other e (x ∷ done) d h =
+    elim (same_element e (element_view x.0)) as (λ b. cond b (Some x.1) (child_at e (done ++ d ∷ [])) ≡ cond b (Some x.1) (child_at e done)) [
+      | true ↦ refl
+      | false ↦ push-other e done d h
+    ]
+
+-- ---- what a place tells where some of its children are led
+
+abbrev pub led_in : Option Node → Option Node → Marks
+led_in None d q = None
+led_in (Some c) None q = marks c q
+led_in (Some c) (Some d) q = marks d q
+
+abbrev pub led : Content → List Child → List Child → Marks
+led o cs ds [] = Some (o, elements cs)
+led o cs ds (e ∷ q) = led_in (child_at e cs) (child_at e ds) q
+
+pub led-start : (v : Node) (q : Path) → marks v q ≡ led (own_content v) (below v) [] q
+led-start v [] = marks-level v []
+led-start v (e ∷ q) = marks-level v (e ∷ q) ∙ by (child_at e (below v))
+  where
+    by : (o : Option Node) → marks_in (option_map marks o) q ≡ led_in o None q
+    by None = refl
+    by (Some c) = refl
+
+-- so far: the children before the rest are led, or held where they come
+pub record IsWalking (p : Path) (o : Content) (cs ds : List Child) (fs : Found) (old : List Step) (i : ℕ) (rest held : List Child) (steps : List Step) : Type 0 where
+  pub done : List Child
+  pub whole : ds ≡ done ++ rest
+  pub count : i + length rest ≡ length ds
+  pub trees : are_trees rest ≡ true
+  pub found : AreFound cs rest (drop i fs)
+  pub held_is : fresh fs ds ≡ held ++ fresh (drop i fs) rest
+  pub leading : AreLeading p (led o cs []) (led o cs done) old steps
+
+pub walking-start : (p : Path) (o : Content) (cs ds : List Child) (fs : Found) (old : List Step) → are_trees ds ≡ true → AreFound cs ds fs → IsWalking p o cs ds fs old 0 ds [] old
+walking-start p o cs ds fs old trees found = record {
+  done = [];
+  whole = refl;
+  count = omega arith;
+  trees = trees;
+  found = found;
+  held_is = refl;
+  leading = leading-same p (led o cs []) (led o cs []) old old refl (λ q. refl);
+}
+
+module _ (p : Path) (o : Content) (cs ds : List Child) (fs : Found) (old : List Step) (i : ℕ) (d : Child) (all rest held : List Child) (steps : List Step) (is : all ≡ d ∷ rest) (apart : are_apart (elements ds) ≡ true)
+    (w : IsWalking p o cs ds fs old i all held steps) where
+  here : IsWalking p o cs ds fs old i (d ∷ rest) held steps
+  here = subst (λ l. IsWalking p o cs ds fs old i l held steps) is w
+
+  pub walking-index : i < length fs
+  walking-index =
+      let long = found-length cs (d ∷ rest) (drop i fs) here.found in
+      let dropped = length-drop i fs in
+      omega arith
+
+  pub walking-count : i + 1 ≤ length ds
+  walking-count = let c = here.count in omega arith
+
+  split : (f : Option ℕ) → get_or fs i None ≡ f → drop i fs ≡ f ∷ drop (i + 1) fs
+  split f e = drop_more fs i None walking-index ∙ ap (λ g. g ∷ drop (i + 1) fs) e
+
+  apart_now : are_apart (elements (here.done ++ d ∷ rest)) ≡ true
+  apart_now = ap (λ l. are_apart (elements l)) (sym here.whole) ∙ apart
+
+  pub walking-tree : is_tree d.1 ≡ true
+  walking-tree = both_first (is_tree d.1) _ here.trees
+
+  found_now : (f : Option ℕ) → get_or fs i None ≡ f → AreFound cs (d ∷ rest) (f ∷ drop (i + 1) fs)
+  found_now f e = subst (AreFound cs (d ∷ rest)) (split f e) here.found
+
+  pub walking-place : (k : ℕ) → get_or fs i None ≡ Some k → IsChildAt (element_view d.0) cs k
+  walking-place k e = (found_now (Some k) e).0
+
+  pub walking-alike : AreAlikeBelow cs ds → IsAlikeChild cs d
+  walking-alike alike c there = alike (element_view d.0) c d.1 there (ap (child_at (element_view d.0)) here.whole ∙ middle-found here.done d rest apart_now)
+
+  whole_after : ds ≡ (here.done ++ d ∷ []) ++ rest
+  whole_after = here.whole ∙ sym (append_assoc here.done (d ∷ []) rest)
+
+  count_after : (i + 1) + length rest ≡ length ds
+  count_after = let c = here.count in omega arith
+
+  led-here : (q : Path) → under (element_view d.0 ∷ []) q ≡ false → led o cs (here.done ++ d ∷ []) q ≡ led o cs here.done q
+  led-here [] u = refl
+  led-here (f ∷ q) u =
+      let other : same_element f (element_view d.0) ≡ false = same_either_way (element_view d.0) f ∙ first (same_element (element_view d.0) f) u in
+      ap (λ x. led_in (child_at f cs) x q) (push-other f here.done d other)
+    where
+      first : (b : Bool) → (b && true) ≡ false → b ≡ false
+      first true e = e
+      first false e = refl
+
+  pub walking-led : (k : ℕ) (steps2 : List Step) → are_apart (elements cs) ≡ true → get_or fs i None ≡ Some k → IsChildLed p cs d steps steps2 → IsWalking p o cs ds fs old (i + 1) rest held steps2
+  walking-led k steps2 own_apart e child =
+      let at = child-here (element_view d.0) cs k (walking-place k e) in
+      let there : child_at (element_view d.0) cs ≡ Some at.child.1 = found-at (element_view d.0) cs k at.child at.here at.same own_apart in
+      let new = none-before here.done d rest apart_now in
+      let one = child at.child.1 there in
+      let step : AreLeading p (led o cs here.done) (led o cs (here.done ++ d ∷ [])) steps steps2 = record {
+        made = one.made;
+        added = one.added;
+        led = led-child p (element_view d.0) (led o cs here.done) (led o cs (here.done ++ d ∷ [])) (marks at.child.1) (marks d.1) one.made
+            (λ q. (λ t. led_in (there t) (new t) q))
+            (λ q. (λ t. led_in (there t) (push-same here.done d new t) q))
+            led-here
+            one.led;
+      } in
+      record {
+        done = here.done ++ d ∷ [];
+        whole = whole_after;
+        count = count_after;
+        trees = both_second (is_tree d.1) _ here.trees;
+        found = (found_now (Some k) e).1;
+        held_is = here.held_is ∙ ap (λ gs. held ++ fresh gs (d ∷ rest)) (split (Some k) e);
+        leading = leading-then p (led o cs []) (led o cs here.done) (led o cs (here.done ++ d ∷ [])) old steps steps2 here.leading step;
+      }
+
+  pub walking-held : (held2 : List Child) → get_or fs i None ≡ None → held2 ≡ held ++ d ∷ [] → IsWalking p o cs ds fs old (i + 1) rest held2 steps
+  walking-held held2 e pushed =
+      let absent : child_at (element_view d.0) cs ≡ None = (found_now None e).0 in
+      let same : (q : Path) → led o cs here.done q ≡ led o cs (here.done ++ d ∷ []) q = same-led absent in
+      record {
+        done = here.done ++ d ∷ [];
+        whole = whole_after;
+        count = count_after;
+        trees = both_second (is_tree d.1) _ here.trees;
+        found = (found_now None e).1;
+        held_is =
+            here.held_is ∙ ap (λ gs. held ++ fresh gs (d ∷ rest)) (split None e) ∙ sym (append_assoc held (d ∷ []) (fresh (drop (i + 1) fs) rest))
+            ∙ ap (λ hs. hs ++ fresh (drop (i + 1) fs) rest) (sym pushed);
+        leading = leading-then p (led o cs []) (led o cs here.done) (led o cs (here.done ++ d ∷ [])) old steps steps here.leading (leading-same p (led o cs here.done) (led o cs (here.done ++ d ∷ [])) steps steps refl same);
+      }
+    where
+      same-led : child_at (element_view d.0) cs ≡ None → (q : Path) → led o cs here.done q ≡ led o cs (here.done ++ d ∷ []) q
+      same-led absent [] = refl
+      same-led absent (f ∷ q) =
+          elim (same_element f (element_view d.0)) as (λ b. same_element f (element_view d.0) ≡ b → led_in (child_at f cs) (child_at f here.done) q ≡ led_in (child_at f cs) (child_at f (here.done ++ d ∷ [])) q) [
+            | true ↦ λ t.
+                let gone : child_at f cs ≡ None = ap (λ x. child_at x cs) (same_element-true f (element_view d.0) t) ∙ absent in
+                ap (λ x. led_in x (child_at f here.done) q) gone ∙ sym (ap (λ x. led_in x (child_at f (here.done ++ d ∷ [])) q) gone)
+            | false ↦ λ t. ap (λ x. led_in (child_at f cs) x q) (sym (push-other f here.done d t))
+          ] refl
+
+nothing-fresh : (gs : Found) → fresh {X = Child} gs [] ≡ []
+nothing-fresh [] = refl
+nothing-fresh (g ∷ gs) = refl
+
+pub walking-end : (p : Path) (o : Content) (cs ds : List Child) (fs : Found) (old : List Step) (i : ℕ) (rest held : List Child) (steps : List Step) → rest ≡ [] → IsWalking p o cs ds fs old i rest held steps
+    → (held ≡ fresh fs ds) × AreLeading p (led o cs []) (led o cs ds) old steps
+walking-end p o cs ds fs old i rest held steps none w = (
+  sym (w.held_is ∙ ap (λ l. held ++ fresh (drop i fs) l) none ∙ ap (λ l. held ++ l) (nothing-fresh (drop i fs)) ∙ append-nil held),
+  subst (λ l. AreLeading p (led o cs []) (led o cs l) old steps) (sym (w.whole ∙ ap (λ l. w.done ++ l) none ∙ append-nil w.done)) w.leading,
+)
+
+-- ---- what is read
+
+pub found-read : (fs : Found) (i : ℕ) (x y : Option ℕ) → i < length fs → x ≡ get_or fs i x → x ≡ y → get_or fs i None ≡ y
+found-read [] i x y lt is e = absurd (omega arith)
+found-read (f ∷ fs) zero x y lt is e = sym is ∙ e
+found-read (f ∷ fs) (suc i) x y lt is e = found-read fs i x y (omega arith) is e
+
+-- the child at the place of an element is the element's
+pub child-there : (e : Element) (cs own : List Child) (k : ℕ) (c : Child) → own ≡ cs → IsChildAt e cs k → c ≡ get_or own k c → are_apart (elements cs) ≡ true → child_at e cs ≡ Some c.1
+child-there e cs own k c lent at is apart =
+    let read : get_or cs k c ≡ c = sym (is ∙ ap (λ l. get_or l k c) lent) in
+    found-at e cs k c (slice_get-get_or cs k c at.within ∙ ap Some read) (ap (λ (x : Child). same_element e (element_view x.0)) (sym read) ∙ at.same c) apart

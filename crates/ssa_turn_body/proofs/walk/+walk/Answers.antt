@@ -1,0 +1,200 @@
+use Rattle.std.proofs.Common.{◌+◌, ◌*◌, ◌<◌, ◌∷◌, [], length, Some, None, Vec, Global, refl, ap, sym, subst, ◌∙◌, arith, rules}
+use Rattle.std.proofs.lemmas.List.{map-append, nil_from_length}
+use Rattle.std.specs.Vec.Iter.{into_iter_items}
+use Rattle.ssa_model.specs.definitions.Body.{is_leaf}
+use Rattle.ssa_path.specs.Children.{elements}
+use Rattle.ssa_path.specs.View.{element_view, path_view}
+use Rattle.ssa_typed.specs.Rows.{are_apart, below, own_content, rows}
+use Rattle.ssa_typed.proofs.Levels.{level-below}
+use Rattle.ssa_typed.proofs.Sizes.{smaller}
+use Rattle.ssa_turn_body.specs.Led.{AreLeading, IsChildLed, MayAdd, is_idle}
+use Rattle.ssa_turn_body.specs.Between.{IsEditBetween}
+use Rattle.ssa_turn_body.specs.Found.{AreFound}
+use Rattle.ssa_turn_body.specs.declared.change.PlaceChange.TheVariants.{Children}
+use Rattle.ssa_turn_body.specs.declared.steps.Step.{Step}
+use Rattle.ssa_path.specs.declared.element.Elem.{Elem}
+use Rattle.ssa_typed.proofs.Lookups.{tree-child}
+use Rattle.std.proofs.lemmas.Option.{same_Some}
+use Rattle.ssa_turn_body.specs.Marks.{Child, marks}
+use Rattle.ssa_turn_body.proofs.Finishing.{finish, kind-trees, kind-stands, kind-alike, kind-told, leading-told, leading-from, no-branch, own-order, stand-apart, branch-Branch, branch-Dict, branch-List}
+use Rattle.ssa_turn_body.proofs.Leading.{leading-then}
+use Rattle.ssa_turn_body.proofs.Places.{kind-Branch, kind-Dict, kind-List}
+use Rattle.ssa_turn_body.proofs.Walking.{IsWalking, child-there, found-read, led, led-start, walking-start, walking-index, walking-tree, walking-place, walking-alike, walking-led, walking-held, walking-end}
+use Rattle.ssa_turn_body.proofs.walk.+walk.Goals as goal
+use Rattle.ssa_turn_body.proofs.walk.+walk.Goals.{walk_children-in-Some-index+in_ok-walk_child-in-Some-index, walk_children-in-None-index+in_ok-push-in-None-index}
+
+-- ---- the children
+
+pub walk_child-steps_below-requires : goal.walk_child-steps_below-requires
+walk_child-steps_below-requires t c =
+    let n = c.args.from.now in
+    let e = element_view c.args.to.0 in
+    let child = c.index-children-place.result in
+    let there = child-there e (below n) c.children.result.now c.args.place child c.children.ensures.own c.requires.place c.index-children-place.is ((level-below n).apart c.requires.from) in
+    let part = smaller n e child.1 there in
+    let small : 3 * length (rows child.1) + 2 < 3 * length (rows n) = omega arith in
+    (search (rules, small), (tree-child n e child.1 c.requires.from there, (c.requires.to, c.requires.alike child.1 there)))
+
+pub walk_child-returns-clause-led : goal.walk_child-returns-clause-led
+walk_child-returns-clause-led t c = λ d is.
+    let n = c.args.from.now in
+    let e = element_view c.args.to.0 in
+    let child = c.index-children-place.result in
+    let there = child-there e (below n) c.children.result.now c.args.place child c.children.ensures.own c.requires.place c.index-children-place.is ((level-below n).apart c.requires.from) in
+    let path = ap path_view c.in_ok-push.ensures.items ∙ map-append element_view c.args.path.now.items (c.args.to.0 ∷ []) in
+    subst (λ p. AreLeading p (marks d) (marks c.args.to.1) c.args.steps.now.items c.steps_below.new.steps.items) path
+    (subst (λ m. AreLeading (path_view c.push.new.self.items) (marks m) (marks c.args.to.1) c.args.steps.now.items c.steps_below.new.steps.items) (same_Some child.1 d (sym there ∙ is)) c.in_ok-steps_below.ensures.led)
+
+pub walk_children-edit_between-requires-clause-apart : goal.walk_children-edit_between-requires-clause-apart
+walk_children-edit_between-requires-clause-apart t c = ap (λ ds. are_apart (elements ds)) c.deref-2.ensures.value ∙ stand-apart (own_content c.args.from.now) (elements c.args.to.items) c.requires.stand
+
+pub walk_children-loop-child-init : goal.walk_children-loop-child-init
+walk_children-loop-child-init t c =
+    let cs = below c.args.from.now in
+    let ds = c.args.to.items in
+    let fs = c.in_ok-found.found.items in
+    let p = path_view c.args.path.now.items in
+    let o = own_content c.args.from.now in
+    let old = c.args.steps.now.items in
+    let found = subst (λ xs. AreFound cs xs fs) c.deref.ensures.value c.in_ok-found.ensures in
+    record {
+      path = refl;
+      walking =
+          subst (λ hs. IsWalking p o cs ds fs old 0 (into_iter_items c.into_iter-child-iterator.result) hs old) (sym c.in_ok-held.ensures.items)
+          (subst (λ rest. IsWalking p o cs ds fs old 0 rest [] old) (sym c.into_iter-child-iterator.ensures.into_iter_gives.0) (walking-start p o cs ds fs old c.requires.to found));
+    }
+
+pub walk_children-walk_child-requires : goal.walk_children-walk_child-requires
+walk_children-walk_child-requires t c =
+    let n = c.args.from.now in
+    let fs = c.in_ok-found.found.items in
+    let w = c.loop-child.invariant.walking in
+    let is = c.in-Some.ensures.steps.0 in
+    let apart = stand-apart (own_content n) (elements c.args.to.items) c.requires.stand in
+    let within = walking-index _ _ _ _ _ _ _ _ _ _ _ _ is apart w in
+    let some = found-read fs c.loop-child.i c.index.result.now (Some c.in-Some-index.place) within c.index.ensures c.in-Some-index.is in
+    let small : 3 * length (rows n) < 3 * length (rows n) + 1 = omega arith in
+    (search (rules, small), (c.requires.from, (walking-tree _ _ _ _ _ _ _ _ _ _ _ _ is apart w, (walking-place _ _ _ _ _ _ _ _ _ _ _ _ is apart w c.in-Some-index.place some, walking-alike _ _ _ _ _ _ _ _ _ _ _ _ is apart w c.requires.alike))))
+
+pub walk_children-loop-child-preserved : goal.walk_children-loop-child-preserved
+walk_children-loop-child-preserved t c =
+    let n = c.args.from.now in
+    let cs = below n in
+    let ds = c.args.to.items in
+    let o = own_content n in
+    let p = path_view c.args.path.now.items in
+    let old = c.args.steps.now.items in
+    let fs = c.in_ok-found.found.items in
+    let i = c.loop-child.i in
+    let rest = into_iter_items c.next.new.self in
+    let w = c.loop-child.invariant.walking in
+    let is = c.in-Some.ensures.steps.0 in
+    let apart = stand-apart o (elements ds) c.requires.stand in
+    let within = walking-index _ _ _ _ _ _ _ _ _ _ _ _ is apart w in
+    let m = c.match-index in
+    elim c.match-index.branch [
+      | walk_children-in-Some-index+in_ok-walk_child-in-Some-index v ↦
+          let k = v.in-Some-index.place in
+          let some = found-read fs i c.index.result.now (Some k) within c.index.ensures v.in-Some-index.is in
+          let given = v.in_ok-walk_child-in-Some-index.ensures in
+          let child = subst (λ q. IsChildLed q cs c.in-Some.child c.loop-child.steps.items v.walk_child.new.steps.items) (ap path_view c.loop-child.invariant.path) given.led in
+          let next = walking-led _ _ _ _ _ _ _ _ _ _ _ _ is apart w k v.walk_child.new.steps.items ((level-below n).apart c.requires.from) some child in
+          record {
+            path = ap (λ (x : Vec Elem Global). x.items) v.path-is ∙ given.path ∙ c.loop-child.invariant.path;
+            walking =
+                subst (λ (x : Vec Child Global). IsWalking p o cs ds fs old (i + 1) rest x.items m.steps.items) (sym v.held-is)
+                (subst (λ (x : Vec Step Global). IsWalking p o cs ds fs old (i + 1) rest c.loop-child.held.items x.items) (sym v.steps-is) next);
+          }
+      | walk_children-in-None-index+in_ok-push-in-None-index v ↦
+          let none = found-read fs i c.index.result.now None within c.index.ensures v.in-None-index.is in
+          let next = walking-held _ _ _ _ _ _ _ _ _ _ _ _ is apart w v.push.new.self.items none v.in_ok-push-in-None-index.ensures.items in
+          record {
+            path = ap (λ (x : Vec Elem Global). x.items) v.path-is ∙ c.loop-child.invariant.path;
+            walking =
+                subst (λ (x : Vec Child Global). IsWalking p o cs ds fs old (i + 1) rest x.items m.steps.items) (sym v.held-is)
+                (subst (λ (x : Vec Step Global). IsWalking p o cs ds fs old (i + 1) rest v.push.new.self.items x.items) (sym v.steps-is) next);
+          }
+    ]
+
+pub walk_children-returns-clause-led : goal.walk_children-returns-clause-led
+walk_children-returns-clause-led t c =
+    let n = c.args.from.now in
+    let cs = below n in
+    let ds = c.args.to.items in
+    let o = own_content n in
+    let p = path_view c.args.path.now.items in
+    let old = c.args.steps.now.items in
+    let fs = c.in_ok-found.found.items in
+    let l = c.loop-child in
+    let s = c.in_ok-edit.edit in
+    let apart = stand-apart o (elements ds) c.requires.stand in
+    let found = subst (λ xs. AreFound cs xs fs) c.deref.ensures.value c.in_ok-found.ensures in
+    let none = nil_from_length (into_iter_items l.child-iterator) (omega (arith, c.in-None.ensures.steps.0, l.child-iterator.rest.ok)) in
+    let end = walking-end p o cs ds fs old l.i (into_iter_items l.child-iterator) l.held.items l.steps.items none l.invariant.walking in
+    let between : IsEditBetween cs ds fs s =
+    subst (λ xs. IsEditBetween xs ds fs s) c.children.ensures.own
+    (subst (λ xs. IsEditBetween c.children.result.now xs fs s) c.deref-2.ensures.value (subst (λ gs. IsEditBetween c.children.result.now c.deref-2.result.now gs s) c.deref-3.ensures.value c.in_ok-edit.ensures)) in
+    let added =
+    subst (λ q. MayAdd (is_idle s) q (Children (record s { held = l.held })) l.steps.items c.push_edit.new.steps.items) (ap path_view (c.deref-4.ensures.value ∙ l.invariant.path)) c.in_ok-push_edit.ensures in
+    let last =
+    finish o cs ds fs s between l.held ((level-below n).apart c.requires.from) apart found end.0 c.requires.to c.requires.stand (own-order n c.requires.from) p l.steps.items c.push_edit.new.steps.items added in
+    leading-from p (marks n) (led o cs []) _ old c.push_edit.new.steps.items (led-start n) (leading-then p (led o cs []) (led o cs ds) _ old l.steps.items c.push_edit.new.steps.items end.1 last)
+
+-- ---- a place
+
+pub steps_below-unreachable-requires : goal.steps_below-unreachable-requires
+steps_below-unreachable-requires t c = no-branch c.args.from.now c.args.to c.in-Leaf.leaf c.in-Leaf.is (ap (λ n. is_leaf (Some (own_content n))) c.in-Branch-from.is ∙ branch-Branch c.in-Branch-from.field-0) c.requires.alike
+
+pub steps_below-unreachable-requires-in-Dict-from : goal.steps_below-unreachable-requires-in-Dict-from
+steps_below-unreachable-requires-in-Dict-from t c = no-branch c.args.from.now c.args.to c.in-Leaf.leaf c.in-Leaf.is (ap (λ n. is_leaf (Some (own_content n))) c.in-Dict-from.is ∙ branch-Dict c.in-Dict-from.field-0) c.requires.alike
+
+pub steps_below-unreachable-requires-in-List-from : goal.steps_below-unreachable-requires-in-List-from
+steps_below-unreachable-requires-in-List-from t c = no-branch c.args.from.now c.args.to c.in-Leaf.leaf c.in-Leaf.is (ap (λ n. is_leaf (Some (own_content n))) c.in-List-from.is ∙ branch-List c.in-List-from.field-0) c.requires.alike
+
+pub steps_below-walk_children-requires : goal.steps_below-walk_children-requires
+steps_below-walk_children-requires t c =
+    let r = c.requires in
+    let to = c.args.to in
+    let from = c.args.from.now in
+    let v = c.in-Branch.children in (
+      search rules,
+      (r.from, (kind-trees _ kind-Branch branch-Branch from to v c.in-Branch.is r.from r.to r.alike, (kind-stands _ kind-Branch branch-Branch from to v c.in-Branch.is r.from r.to r.alike, kind-alike _ kind-Branch branch-Branch from to v c.in-Branch.is r.from r.to r.alike))),
+    )
+
+pub steps_below-walk_children-requires-in-Dict : goal.steps_below-walk_children-requires-in-Dict
+steps_below-walk_children-requires-in-Dict t c =
+    let r = c.requires in
+    let to = c.args.to in
+    let from = c.args.from.now in
+    let v = c.in-Dict.children in (
+      search rules,
+      (r.from, (kind-trees _ kind-Dict branch-Dict from to v c.in-Dict.is r.from r.to r.alike, (kind-stands _ kind-Dict branch-Dict from to v c.in-Dict.is r.from r.to r.alike, kind-alike _ kind-Dict branch-Dict from to v c.in-Dict.is r.from r.to r.alike))),
+    )
+
+pub steps_below-walk_children-requires-in-List : goal.steps_below-walk_children-requires-in-List
+steps_below-walk_children-requires-in-List t c =
+    let r = c.requires in
+    let to = c.args.to in
+    let from = c.args.from.now in
+    let v = c.in-List.children in (
+      search rules,
+      (r.from, (kind-trees _ kind-List branch-List from to v c.in-List.is r.from r.to r.alike, (kind-stands _ kind-List branch-List from to v c.in-List.is r.from r.to r.alike, kind-alike _ kind-List branch-List from to v c.in-List.is r.from r.to r.alike))),
+    )
+
+pub steps_below-returns-in_ok-walk_children-in-Branch-clause-led : goal.steps_below-returns-in_ok-walk_children-in-Branch-clause-led
+steps_below-returns-in_ok-walk_children-in-Branch-clause-led t c =
+    let r = c.requires in
+    leading-told (path_view c.args.path.now.items) (marks c.args.from.now) _ (marks c.args.to) c.args.steps.now.items c.walk_children.new.steps.items
+    (kind-told _ kind-Branch branch-Branch c.args.from.now c.args.to c.in-Branch.children c.in-Branch.is r.from r.to r.alike) c.in_ok-walk_children-in-Branch.ensures.led
+
+pub steps_below-returns-in_ok-walk_children-in-Dict-clause-led : goal.steps_below-returns-in_ok-walk_children-in-Dict-clause-led
+steps_below-returns-in_ok-walk_children-in-Dict-clause-led t c =
+    let r = c.requires in
+    leading-told (path_view c.args.path.now.items) (marks c.args.from.now) _ (marks c.args.to) c.args.steps.now.items c.walk_children-in-Dict.new.steps.items
+    (kind-told _ kind-Dict branch-Dict c.args.from.now c.args.to c.in-Dict.children c.in-Dict.is r.from r.to r.alike) c.in_ok-walk_children-in-Dict.ensures.led
+
+pub steps_below-returns-in_ok-walk_children-in-List-clause-led : goal.steps_below-returns-in_ok-walk_children-in-List-clause-led
+steps_below-returns-in_ok-walk_children-in-List-clause-led t c =
+    let r = c.requires in
+    leading-told (path_view c.args.path.now.items) (marks c.args.from.now) _ (marks c.args.to) c.args.steps.now.items c.walk_children-in-List.new.steps.items
+    (kind-told _ kind-List branch-List c.args.from.now c.args.to c.in-List.children c.in-List.is r.from r.to r.alike) c.in_ok-walk_children-in-List.ensures.led
