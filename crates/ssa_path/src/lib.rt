@@ -15,7 +15,7 @@ mod fields_v1;
 mod key_fields;
 pub mod keys;
 pub mod listing;
-mod order;
+pub mod order;
 pub mod path;
 mod same;
 pub mod trie;

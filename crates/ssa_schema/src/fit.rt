@@ -3,5 +3,8 @@
 pub mod element_text;
 pub mod faults;
 pub mod found;
+pub mod item_key;
 pub mod item_keys;
+pub mod leading;
+pub mod repeated;
 pub mod shape_misfit;
