@@ -6,7 +6,7 @@ pub mod combine;
 pub mod element;
 pub mod element_fault;
 mod element_read;
-mod element_text;
+pub mod element_text;
 pub mod field_set;
 pub mod fields_back;
 pub mod fields_fault;

@@ -15,9 +15,9 @@ use Rattle.ssa_json.specs.declared.value.Json as json
 use Rattle.ssa_json.proofs.Views.{view-Object}
 use Rattle.ssa_path.proofs.Parts.{then_none}
 use Rattle.ssa_path.proofs.Orders.{same_element-true, same_element-itself}
-use Rattle.ssa_schema.specs.Finds.{scalar_of}
+use Rattle.ssa_schema.specs.Finds.{scalar_of, scalar_in}
 use Rattle.ssa_schema.specs.Refusals.{first_of}
-use Rattle.ssa_schema.specs.Repeats.{Row, scalar_cmp, row_cmp, same_row, repeat_from, is_other, value_rows, leading_values, scalar_in, cons_row, key_row, item_rows, leading_keys}
+use Rattle.ssa_schema.specs.Repeats.{Row, scalar_cmp, row_cmp, same_row, repeat_from, is_other, value_rows, leading_values, cons_row, key_row, item_rows, leading_keys}
 use Rattle.ssa_schema.proofs.Finding.{item_split}
 use Rattle.ssa_schema.proofs.Rows.{row_cmp_total, row-exact}
 

@@ -5,12 +5,12 @@ use Rattle.std.specs.List.{list_any}
 use Rattle.std.specs.declared.cmp.Ordering.{Ordering}
 use Rattle.std.specs.Ordering.{eq_by_cmp, nat_cmp, on}
 use Rattle.std.specs.Cmp.Lexicographic.{slice_cmp}
-use Rattle.ssa_model.specs.definitions.Json.{Text, Scalar, scalar_text, Json, scalar, object, Items, no_items, item, Members, member_of}
+use Rattle.ssa_model.specs.definitions.Json.{Text, Scalar, scalar_text, Json, object, Items, no_items, item, Members, member_of}
 use Rattle.ssa_model.specs.definitions.Path.{Element, value}
 use Rattle.ssa_model.specs.definitions.Kind.{ScalarKind, item_key}
 use Rattle.ssa_json.specs.View.{scalar_view}
 use Rattle.ssa_json.specs.declared.value.Scalar as json
-use Rattle.ssa_schema.specs.Finds.{scalar_of}
+use Rattle.ssa_schema.specs.Finds.{scalar_of, scalar_in}
 use Rattle.ssa_schema.specs.declared.fit.item_key.ItemKey.{ItemKey}
 use Rattle.ssa_schema.specs.declared.fit.item_key.ItemKey.TheVariants.{One, Many}
 
@@ -73,10 +73,6 @@ leading_values k no_items = []
 leading_values k (item v vs) = elim (scalar_of k v) [ None ↦ [] | Some s ↦ value s ∷ leading_values k vs ]
 
 -- ---- the items of a map list, as far as they are objects with a scalar under each key's name
-
-abbrev pub scalar_in : Option Json → Option Scalar
-scalar_in (Some (scalar s)) = Some s
-scalar_in _ = None
 
 abbrev pub cons_row : Option Scalar → Option Row → Option Row
 cons_row (Some s) (Some r) = Some (s ∷ r)

@@ -5,10 +5,10 @@ ghost use Rattle.ssa_json.specs.View.{view, items_view, members_view};
 ghost use Rattle.ssa_schema.specs.Kinds.{scalar_kind_view, kind_view, fields_view, names_view};
 ghost use Rattle.ssa_schema.specs.Finds.{Finds, keyed_faults};
 
-use crate::fit::element_text::{field_text, key_text, value_text};
 use crate::fit::found::{Found, Misfit};
 use crate::fit::item_keys::keys_misfit;
 use crate::fit::leading::{repeated_item, repeated_value, scalar_of};
+use crate::fit::names::{field_name, key_name, value_name};
 use crate::fit::repeated::is_other;
 use crate::fit::shape_misfit::{scalar_misfit, shape_misfit};
 use crate::kind::{Kind, ScalarKind, find_field};
@@ -48,10 +48,10 @@ fn fields_fault(
     for (name, member) in members.iter() {
         let Some(kind) = find_field(fields, name.as_str()) else {
             let unknown = Found::here(alloc, Misfit::UnknownField);
-            return Ok(Some(unknown.below(field_text(alloc, name.as_str())?)?));
+            return Ok(Some(unknown.below(field_name(alloc, name.as_str())?)?));
         };
         if let Some(found) = value_fault(alloc, member, kind)? {
-            return Ok(Some(found.below(field_text(alloc, name.as_str())?)?));
+            return Ok(Some(found.below(field_name(alloc, name.as_str())?)?));
         }
     }
     Ok(None)
@@ -68,7 +68,7 @@ fn entries_fault(
 {
     for (name, entry) in members.iter() {
         if let Some(found) = value_fault(alloc, entry, inside)? {
-            return Ok(Some(found.below(field_text(alloc, name.as_str())?)?));
+            return Ok(Some(found.below(field_name(alloc, name.as_str())?)?));
         }
     }
     Ok(None)
@@ -89,7 +89,7 @@ fn set_fault(
         };
         if !is_other(repeated, i) {
             let twice = Found::here(alloc, Misfit::DuplicateItem);
-            return Ok(Some(twice.below(value_text(alloc, scalar)?)?));
+            return Ok(Some(twice.below(value_name(alloc, scalar)?)?));
         }
     }
     Ok(None)
@@ -134,10 +134,10 @@ fn keyed_fault(
 {
     if !is_new {
         let twice = Found::here(alloc, Misfit::DuplicateItem);
-        return Ok(Some(twice.below(key_text(alloc, keys, members)?)?));
+        return Ok(Some(twice.below(key_name(alloc, keys, members)?)?));
     }
     if let Some(found) = fields_fault(alloc, members, fields)? {
-        return Ok(Some(found.below(key_text(alloc, keys, members)?)?));
+        return Ok(Some(found.below(key_name(alloc, keys, members)?)?));
     }
     Ok(None)
 }

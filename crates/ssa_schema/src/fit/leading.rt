@@ -1,16 +1,15 @@
 //! The keys of a list's items, as far as the items have keys.
 ghost use Rattle.std.specs.Prelude.{◌≡◌, [], map, IfOk, option_map};
-ghost use Rattle.ssa_model.specs.definitions.Json.{member_of};
 ghost use Rattle.ssa_model.specs.definitions.Path.{same_element};
 ghost use Rattle.ssa_json.specs.View.{view, items_view, members_view, scalar_view};
 ghost use Rattle.ssa_schema.specs.Kinds.{scalar_kind_view, names_view};
 ghost use Rattle.ssa_schema.specs.Finds.{scalar_of};
-ghost use Rattle.ssa_schema.specs.Repeats.{scalars_view, row_view, repeat_from, value_rows, leading_values, scalar_in, key_row, row_in, item_rows, leading_keys};
+ghost use Rattle.ssa_schema.specs.Repeats.{scalars_view, row_view, repeat_from, value_rows, leading_values, key_row, row_in, item_rows, leading_keys};
 
 use crate::fit::item_key::ItemKey;
 use crate::fit::repeated::first_repeat;
+use crate::key_fields::scalar_member;
 use crate::kind::ScalarKind;
-use ssa_json::members::find_member;
 use ssa_json::value::{Json, Scalar};
 use std::alloc::{AllocError, Global};
 use std::collections::BTreeMap;
@@ -47,18 +46,6 @@ fn value_keys<'a>(
         keys.push(ItemKey::One(scalar))?;
     }
     Ok(keys)
-}
-
-// The scalar under a name, where there is one.
-fn scalar_member<'a>(members: &'a BTreeMap<String, Json>, name: &str) -> Option<&'a Scalar>
-    ensures { option_map (λ s. scalar_view s.now) result ≡ scalar_in (member_of name.now (members_view members.now.entries)) }
-{
-    match find_member(members, name) {
-        Some(Json::Scalar(scalar)) => Some(scalar),
-        Some(Json::List(_)) => None,
-        Some(Json::Object(_)) => None,
-        None => None,
-    }
 }
 
 // The scalars under these names, where there is one under each.

@@ -22,10 +22,10 @@ use Rattle.ssa_schema.proofs.fit.faults.+walk.Goals as goal
 pub entries_fault-returns-in-Some-2 : goal.entries_fault-returns-in-Some-2
 entries_fault-returns-in-Some-2 t c =
     let k = kind_view c.args.inside.now in
-    member_found c.in_ok-found.field-0 c.in-Some-2.found c.in_ok-below.field-0 (string_bytes c.in-Some.name.now) c.as_str.result.now c.in_ok-field_text.field-0
+    member_found c.in_ok-found.field-0 c.in-Some-2.found c.in_ok-below.field-0 (string_bytes c.in-Some.name.now) c.as_str.result.now c.in_ok-field_name.field-0
     (entry_faults k (members_view c.args.members.now.entries)) (faults k (view c.in-Some.entry.now)) (entry_faults k (members_view c.next.new.self))
     (λ p. c.loop-name.invariant p ∙ ap (λ es. first_of (entry_faults k (members_view es) p)) c.in-Some.ensures.steps)
-    c.in-Some-2.is c.in_ok-found.ensures c.as_str.ensures.value c.in_ok-field_text.ensures c.in_ok-below.ensures.misfit c.in_ok-below.ensures.path
+    c.in-Some-2.is c.in_ok-found.ensures c.as_str.ensures.value c.in_ok-field_name.ensures c.in_ok-below.ensures.misfit c.in_ok-below.ensures.path
 
 pub entries_fault-loop-name-preserved : goal.entries_fault-loop-name-preserved
 entries_fault-loop-name-preserved t c =
@@ -51,11 +51,11 @@ pub fields_fault-returns-in_default : goal.fields_fault-returns-in_default
 fields_fault-returns-in_default t c =
     let fs = fields_view c.args.fields.now.entries in
     let n = string_bytes c.in-Some.name.now in
-    let text = c.in_ok-field_text.ensures ∙ ap (λ x. element_text (field x)) c.as_str-in_default.ensures.value in
+    let text = c.in_ok-field_name.ensures ∙ ap (λ x. element_text (field x)) c.as_str-in_default.ensures.value in
     finds_from (Some c.in_ok-below.field-0) (field_faults fs (members_view c.args.members.now.entries)) (λ p. fault_at unknown_field (p ++ field n ∷ []) ∷ [])
     (λ p. c.loop-name.invariant p ∙ ap (λ es. first_of (field_faults fs (members_view es) p)) c.in-Some.ensures.steps
     ∙ field_unknown fs n c.as_str.result.now (view c.in-Some.member.now) (members_view c.next.new.self) p c.as_str.ensures.value (sym c.in_default.ensures))
-    (finds_child c.here-unknown.result c.in_ok-below.field-0 UnknownField (field n) c.in_ok-field_text.field-0 c.here-unknown.ensures.misfit c.here-unknown.ensures.path text c.in_ok-below.ensures.misfit c.in_ok-below.ensures.path)
+    (finds_child c.here-unknown.result c.in_ok-below.field-0 UnknownField (field n) c.in_ok-field_name.field-0 c.here-unknown.ensures.misfit c.here-unknown.ensures.path text c.in_ok-below.ensures.misfit c.in_ok-below.ensures.path)
 
 pub fields_fault-returns-in-Some-2 : goal.fields_fault-returns-in-Some-2
 fields_fault-returns-in-Some-2 t c =
@@ -64,11 +64,11 @@ fields_fault-returns-in-Some-2 t c =
     let n = string_bytes c.in-Some.name.now in
     let v = view c.in-Some.member.now in
     let left = members_view c.next.new.self in
-    member_found c.in_ok-found.field-0 c.in-Some-2.found c.in_ok-below-2.field-0 n c.as_str-in-Some-2.result.now c.in_ok-field_text-2.field-0
+    member_found c.in_ok-found.field-0 c.in-Some-2.found c.in_ok-below-2.field-0 n c.as_str-in-Some-2.result.now c.in_ok-field_name-2.field-0
     (field_faults fs (members_view c.args.members.now.entries)) (faults k v) (field_faults fs left)
     (λ p. c.loop-name.invariant p ∙ ap (λ es. first_of (field_faults fs (members_view es) p)) c.in-Some.ensures.steps
     ∙ ap first_of (field_split fs k n c.as_str.result.now v left p c.as_str.ensures.value (sym c.in-Some-find_field.ensures)))
-    c.in-Some-2.is c.in_ok-found.ensures c.as_str-in-Some-2.ensures.value c.in_ok-field_text-2.ensures c.in_ok-below-2.ensures.misfit c.in_ok-below-2.ensures.path
+    c.in-Some-2.is c.in_ok-found.ensures c.as_str-in-Some-2.ensures.value c.in_ok-field_name-2.ensures c.in_ok-below-2.ensures.misfit c.in_ok-below-2.ensures.path
 
 pub fields_fault-loop-name-preserved : goal.fields_fault-loop-name-preserved
 fields_fault-loop-name-preserved t c =
@@ -157,5 +157,5 @@ keyed_fault-returns-in-Some t c =
     let fs = fields_view c.args.fields.now.entries in
     let ms = members_view c.args.members.now.entries in
     finds_from (Some c.in_ok-below-2.field-0) (keyed_faults c.args.is_new names fs ms) (λ p. field_faults fs ms (p ++ item_key names ms ∷ [])) (λ p. ap (λ b. first_of (keyed_faults b names fs ms p)) c.if-not-is_new.false)
-    (finds_below c.in-Some.found c.in_ok-below-2.field-0 (item_key names ms) c.in_ok-key_text-2.field-0 (field_faults fs ms) c.in_ok-key_text-2.ensures c.in_ok-below-2.ensures.misfit c.in_ok-below-2.ensures.path
+    (finds_below c.in-Some.found c.in_ok-below-2.field-0 (item_key names ms) c.in_ok-key_name-2.field-0 (field_faults fs ms) c.in_ok-key_name-2.ensures c.in_ok-below-2.ensures.misfit c.in_ok-below-2.ensures.path
     (subst (λ o. Finds o (field_faults fs ms)) c.in-Some.is c.in_ok-found.ensures))

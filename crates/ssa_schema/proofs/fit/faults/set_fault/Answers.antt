@@ -23,7 +23,7 @@ returns-then-not-is_other c p =
     let rest = leading_values k (items_view (drop (l.i + 1) xs)) in
     let known = ap (repeat_from same_element l.i l.invariant.before) (sym (lead-value k xs l.i x s c.loop-i-test.true c.index-items-i.is (sym c.in-Some.ensures))) ∙ l.invariant.known in
     let is_new = other-test l.i (value s) l.invariant.before rest c.in_ok-repeated.repeated c.is_other.result known c.is_other.ensures in
-    finds_child c.here-twice.result c.in_ok-below.field-0 DuplicateItem (value s) c.in_ok-value_text.field-0 c.here-twice.ensures.misfit c.here-twice.ensures.path c.in_ok-value_text.ensures c.in_ok-below.ensures.misfit c.in_ok-below.ensures.path p
+    finds_child c.here-twice.result c.in_ok-below.field-0 DuplicateItem (value s) c.in_ok-value_name.field-0 c.here-twice.ensures.misfit c.here-twice.ensures.path c.in_ok-value_name.ensures c.in_ok-below.ensures.misfit c.in_ok-below.ensures.path p
     ∙ ap (option_map told) (sym (
     l.invariant.left p
     ∙ ap (λ es. first_of (value_faults k l.invariant.before (items_view es) p)) (item_split xs l.i x c.loop-i-test.true c.index-items-i.is)
