@@ -27,7 +27,8 @@ abbrev Each : {A : Type 0} → (A → Type 0) → List A → Type 0
 Each P [] = ⊤
 Each P (x ∷ xs) = P x × Each P xs
 
-module _ {A B : Type 0} (f : A → B) (same : A → A → Bool) (alike : B → B → Bool) (P : A → Type 0) (agree : (a b : A) → P a → P b → alike (f a) (f b) ≡ same a b) where
+module _ {A B : Type 0} (f : A → B) (same : A → A → Bool) (alike : B → B → Bool) (P : A → Type 0)
+    (agree : (a b : A) → P a → P b → alike (f a) (f b) ≡ same a b) where
   any-alike : (a : A) (bs : List A) → P a → Each P bs → list_any (alike (f a)) (map f bs) ≡ list_any (same a) bs
   any-alike a [] here all = refl
   any-alike a (b ∷ bs) here all = ap₂ (λ s t. s || t) (agree a b here all.0) (any-alike a bs here all.1)
@@ -48,17 +49,19 @@ single s = s ∷ []
 
 rows-single : (k : ScalarKind) (vs : Items) → value_rows k vs ≡ map single (scalars k vs)
 rows-single k no_items = refl
-rows-single k (item v vs) = elim (scalar_of k v) as (λ (o : Option Scalar). elim o [ None ↦ [] | Some s ↦ single s ∷ value_rows k vs ] ≡ map single (elim o [ None ↦ [] | Some s ↦ s ∷ scalars k vs ])) [
-  | None ↦ refl
-  | Some s ↦ ap (λ rs. single s ∷ rs) (rows-single k vs)
-]
+rows-single k (item v vs) = elim (scalar_of k v) as
+    (λ (o : Option Scalar). elim o [ None ↦ [] | Some s ↦ single s ∷ value_rows k vs ] ≡ map single (elim o [ None ↦ [] | Some s ↦ s ∷ scalars k vs ])) [
+      | None ↦ refl
+      | Some s ↦ ap (λ rs. single s ∷ rs) (rows-single k vs)
+    ]
 
 values-scalars : (k : ScalarKind) (vs : Items) → leading_values k vs ≡ map value (scalars k vs)
 values-scalars k no_items = refl
-values-scalars k (item v vs) = elim (scalar_of k v) as (λ (o : Option Scalar). elim o [ None ↦ [] | Some s ↦ value s ∷ leading_values k vs ] ≡ map value (elim o [ None ↦ [] | Some s ↦ s ∷ scalars k vs ])) [
-  | None ↦ refl
-  | Some s ↦ ap (λ es. value s ∷ es) (values-scalars k vs)
-]
+values-scalars k (item v vs) = elim (scalar_of k v) as
+    (λ (o : Option Scalar). elim o [ None ↦ [] | Some s ↦ value s ∷ leading_values k vs ] ≡ map value (elim o [ None ↦ [] | Some s ↦ s ∷ scalars k vs ])) [
+      | None ↦ refl
+      | Some s ↦ ap (λ es. value s ∷ es) (values-scalars k vs)
+    ]
 
 abbrev same_value : Scalar → Scalar → Bool
 same_value = eq_by_cmp scalar_cmp
@@ -103,7 +106,8 @@ pairs-same [] [] (t ∷ q) f g e = absurd g
 pairs-same [] (s ∷ r) q f g e = absurd f
 pairs-same (n ∷ ns) [] q f g e = absurd f
 pairs-same (n ∷ ns) (s ∷ r) [] f g e = absurd g
-pairs-same (n ∷ ns) (s ∷ r) (t ∷ q) f g e = ap₂ (λ a b. a ∷ b) (first-scalar n s t (pairs ns r) (pairs ns q) e) (pairs-same ns r q f g (other-scalars n s t (pairs ns r) (pairs ns q) e))
+pairs-same (n ∷ ns) (s ∷ r) (t ∷ q) f g e = ap₂ (λ a b. a ∷ b) (first-scalar n s t (pairs ns r) (pairs ns q) e)
+    (pairs-same ns r q f g (other-scalars n s t (pairs ns r) (pairs ns q) e))
 
 abbrev row_key : List Text → Row → Element
 row_key names r = key (pairs names r)
@@ -114,8 +118,10 @@ same-pairs ks ls e = cc
 keys-agree : (names : List Text) (r q : Row) → Fits names r → Fits names q → same_element (row_key names r) (row_key names q) ≡ same_row r q
 keys-agree names r q f g =
     both_ways _ _
-    (λ e. ap (same_row r) (sym (pairs-same names r q f g (same-pairs _ _ (same_element-true (row_key names r) (row_key names q) e)))) ∙ ap is_eq (tied_itself row_cmp_total r))
-    (λ e. ap (λ x. same_element (row_key names r) (row_key names x)) (sym (row-exact r q ((Equal-is (row_cmp r q)).0 e))) ∙ same_element-itself (row_key names r))
+    (λ e. ap (same_row r) (sym (pairs-same names r q f g (same-pairs _ _ (same_element-true (row_key names r) (row_key names q) e))))
+    ∙ ap is_eq (tied_itself row_cmp_total r))
+    (λ e. ap (λ x. same_element (row_key names r) (row_key names x)) (sym (row-exact r q ((Equal-is (row_cmp r q)).0 e)))
+    ∙ same_element-itself (row_key names r))
 
 -- a row of an object has a scalar for each name, and they are its key
 record IsRow (names : List Text) (ms : Members) (r : Row) : Type 0 where
@@ -144,7 +150,11 @@ is-row (n ∷ ns) ms r e =
         | Some q ↦ λ g k.
             let rest = is-row ns ms q g in
             subst (IsRow (n ∷ ns) ms) (some-row (s ∷ q) r k)
-            (record { fits = rest.fits; own = ap (λ o. cons_scalar n o (key_scalars ns ms)) (scalar-there (member_of n ms) s h) ∙ ap (λ ks. (n, s) ∷ ks) rest.own })
+            (record {
+              fits = rest.fits;
+              own = ap (λ o. cons_scalar n o (key_scalars ns ms)) (scalar-there (member_of n ms) s h)
+                  ∙ ap (λ ks. (n, s) ∷ ks) rest.own;
+            })
       ] refl
     ] refl e
 
@@ -163,7 +173,8 @@ are-rows names (item (object ms) vs) =
     elim (key_row names ms) as (λ (o : Option Row). key_row names ms ≡ o → AreRows names (item (object ms) vs)) [
       | None ↦ λ h. record {
         fit = subst (λ (o : Option Row). Each (Fits names) (elim o [ None ↦ [] | Some r ↦ r ∷ item_rows names vs ])) (sym h) tt;
-        own = (λ i. elim (option_map (λ (r : Row). item_key names ms) (h i)) [ None ↦ [] | Some e ↦ e ∷ leading_keys names vs ]) ∙ (λ i. map (row_key names) (elim (sym h i) [ None ↦ [] | Some r ↦ r ∷ item_rows names vs ]));
+        own = (λ i. elim (option_map (λ (r : Row). item_key names ms) (h i)) [ None ↦ [] | Some e ↦ e ∷ leading_keys names vs ])
+            ∙ (λ i. map (row_key names) (elim (sym h i) [ None ↦ [] | Some r ↦ r ∷ item_rows names vs ]));
       }
       | Some q ↦ λ h.
           let is = is-row names ms q h in
@@ -197,16 +208,20 @@ other-later j k before (e ∷ es) h =
       | false ↦ other-later (j + 1) k (e ∷ before) es (omega arith)
     ]
 
-pub other-test : (k : ℕ) (e : Element) (before es : List Element) (found : Option ℕ) (is_new : Bool) → repeat_from same_element k before (e ∷ es) ≡ found → is_new ≡ is_other found k → is_new ≡ not (is_among e before)
+pub other-test : (k : ℕ) (e : Element) (before es : List Element) (found : Option ℕ) (is_new : Bool) → repeat_from same_element k before (e ∷ es) ≡ found
+    → is_new ≡ is_other found k → is_new ≡ not (is_among e before)
 other-test k e before es found is_new is test =
     elim (list_any (same_element e) before) as (λ b. (if b then Some k else repeat_from same_element (k + 1) (e ∷ before) es) ≡ found → is_new ≡ not b) [
       | true ↦ λ h. test ∙ ap (λ o. is_other o k) (sym h) ∙ not-itself k
       | false ↦ λ h. test ∙ ap (λ o. is_other o k) (sym h) ∙ other-later (k + 1) k (e ∷ before) es (omega arith)
     ] is
 
-pub repeat-next : (k : ℕ) (e : Element) (before es : List Element) (found : Option ℕ) → repeat_from same_element k before (e ∷ es) ≡ found → true ≡ not (is_among e before) → repeat_from same_element (k + 1) (e ∷ before) es ≡ found
+pub repeat-next : (k : ℕ) (e : Element) (before es : List Element) (found : Option ℕ) → repeat_from same_element k before (e ∷ es) ≡ found
+    → true ≡ not (is_among e before) → repeat_from same_element (k + 1) (e ∷ before) es ≡ found
 repeat-next k e before es found is new =
-    elim (list_any (same_element e) before) as (λ b. (if b then Some k else repeat_from same_element (k + 1) (e ∷ before) es) ≡ found → true ≡ not b → repeat_from same_element (k + 1) (e ∷ before) es ≡ found) [
+    elim (list_any (same_element e) before) as
+    (λ b. (if b then Some k else repeat_from same_element (k + 1) (e ∷ before) es) ≡ found → true ≡ not b
+    → repeat_from same_element (k + 1) (e ∷ before) es ≡ found) [
       | true ↦ λ h n. absurd (true≢false n)
       | false ↦ λ h n. h
     ] is new
@@ -234,12 +249,13 @@ row-there (n ∷ ns) fs ms p e =
     let rest = row-there ns fs ms p (nil_second (key_field_fault (kind_of n fs) (member_of n ms) p) _ e) in
     (here.own ∷ rest.0, ap₂ cons_row (ap scalar_in here.is_own) rest.1)
 
-pub lead-key : (names : List Text) (fs : Fields) (xs : List json.Json) (i : ℕ) (x : json.Json) (m : BTreeMap (String Global) json.Json) → i < length xs → x ≡ get_or xs i x → x ≡ json.Object m
-    → None ≡ first_of (key_faults names fs (members_view m.entries) [])
+pub lead-key : (names : List Text) (fs : Fields) (xs : List json.Json) (i : ℕ) (x : json.Json) (m : BTreeMap (String Global) json.Json) → i < length xs
+    → x ≡ get_or xs i x → x ≡ json.Object m → None ≡ first_of (key_faults names fs (members_view m.entries) [])
     → leading_keys names (items_view (drop i xs)) ≡ item_key names (members_view m.entries) ∷ leading_keys names (items_view (drop (i + 1) xs))
 lead-key names fs xs i x m within is here right =
     let ms = members_view m.entries in
     let left = leading_keys names (items_view (drop (i + 1) xs)) in
     ap (λ es. leading_keys names (items_view es)) (item_split xs i x within is)
     ∙ ap (λ v. leading_keys names (item v (items_view (drop (i + 1) xs)))) (ap view here ∙ view-Object m)
-    ∙ ap (λ (o : Option Row). elim (option_map (λ (r : Row). item_key names ms) o) [ None ↦ [] | Some e ↦ e ∷ left ]) (row-there names fs ms [] (no-faults _ right)).1
+    ∙ ap (λ (o : Option Row). elim (option_map (λ (r : Row). item_key names ms) o) [ None ↦ [] | Some e ↦ e ∷ left ])
+    (row-there names fs ms [] (no-faults _ right)).1

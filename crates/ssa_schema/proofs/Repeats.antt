@@ -20,15 +20,18 @@ at_most-trans (Some k) m n h le = omega arith
 
 lesser-here : (o : Option ℕ) (n : ℕ) → AtMost (lesser o n) n
 lesser-here None n = omega arith
-lesser-here (Some m) n = elim (nat_lt n m) as (λ b. nat_lt n m ≡ b → AtMost (if b then Some n else Some m) n) [ true ↦ λ h. omega arith | false ↦ λ h. grind (arith, nat_tests) ] refl
+lesser-here (Some m) n = elim (nat_lt n m) as
+    (λ b. nat_lt n m ≡ b → AtMost (if b then Some n else Some m) n) [ true ↦ λ h. omega arith | false ↦ λ h. grind (arith, nat_tests) ] refl
 
 lesser-before : (o : Option ℕ) (n r : ℕ) → AtMost o r → AtMost (lesser o n) r
 lesser-before None n r h = absurd h
-lesser-before (Some m) n r h = elim (nat_lt n m) as (λ b. nat_lt n m ≡ b → AtMost (if b then Some n else Some m) r) [ true ↦ λ e. grind (arith, nat_tests) | false ↦ λ e. h ] refl
+lesser-before (Some m) n r h = elim (nat_lt n m) as
+    (λ b. nat_lt n m ≡ b → AtMost (if b then Some n else Some m) r) [ true ↦ λ e. grind (arith, nat_tests) | false ↦ λ e. h ] refl
 
 lesser-is : (o : Option ℕ) (n r : ℕ) → lesser o n ≡ Some r → (o ≡ Some r) ⊎ (n ≡ r)
 lesser-is None n r e = inr (cc)
-lesser-is (Some m) n r e = elim (nat_lt n m) as (λ b. (if b then Some n else Some m) ≡ Some r → (Some m ≡ Some r) ⊎ (n ≡ r)) [ true ↦ λ h. inr (cc) | false ↦ λ h. inl h ] e
+lesser-is (Some m) n r e = elim (nat_lt n m) as
+    (λ b. (if b then Some n else Some m) ≡ Some r → (Some m ≡ Some r) ⊎ (n ≡ r)) [ true ↦ λ h. inr (cc) | false ↦ λ h. inl h ] e
 
 none-number : (r : ℕ) → ◌≡◌ {A = Option ℕ} None (Some r) → ⊥
 none-number r e = cc
@@ -53,7 +56,8 @@ numbered k (x ∷ xs) = (k, x) ∷ numbered (k + 1) xs
 
 pub numbered-more : {A : Type 0} (k : ℕ) (xs : List A) (x : A) → numbered k xs ++ (k + length xs, x) ∷ [] ≡ numbered k (xs ++ x ∷ [])
 numbered-more k [] x = let here : k + 0 ≡ k = omega arith in ap (λ n. (n, x) ∷ []) here
-numbered-more k (y ∷ xs) x = let next : k + suc (length xs) ≡ (k + 1) + length xs = omega arith in ap (λ n. (k, y) ∷ (numbered (k + 1) xs ++ (n, x) ∷ [])) next ∙ ap (λ zs. (k, y) ∷ zs) (numbered-more (k + 1) xs x)
+numbered-more k (y ∷ xs) x = let next : k + suc (length xs) ≡ (k + 1) + length xs = omega arith in
+    ap (λ n. (k, y) ∷ (numbered (k + 1) xs ++ (n, x) ∷ [])) next ∙ ap (λ zs. (k, y) ∷ zs) (numbered-more (k + 1) xs x)
 
 module _ {P : Type 0} where
   no-pairs : (p : P) (ps : List P) → [] ≡ p ∷ ps → ⊥
@@ -112,7 +116,8 @@ module _ {X K : Type 0} (place : X → ℕ) (key : X → K) (cmp : K → K → O
   module _ (xs ys : List X) (stable : IsStableBy before xs ys) where
     alike_at : (e : K) (x : X) → of_key e x ≡ true → like e ys ≡ like e xs
     alike_at e x h =
-        subst (λ f. like f ys ≡ like f xs) (sym (same-is e (key x) h)) ((λ i. filter (λ y. sym (ties_are x y) i) ys) ∙ stable x ∙ (λ i. filter (λ y. ties_are x y i) xs))
+        subst (λ f. like f ys ≡ like f xs) (sym (same-is e (key x) h))
+        ((λ i. filter (λ y. sym (ties_are x y) i) ys) ∙ stable x ∙ (λ i. filter (λ y. ties_are x y i) xs))
 
     alike : (e : K) → like e ys ≡ like e xs
     alike e =
@@ -132,18 +137,18 @@ module _ {X K : Type 0} (place : X → ℕ) (key : X → K) (cmp : K → K → O
     behind : List X
     split : like e xs ≡ front ++ other ∷ x ∷ behind
 
-  again-cons : (e : K) (y : X) (xs : List X) (x : X) → Again e xs x → Again e (y ∷ xs) x
-  again-cons e y xs x h =
-      elim (of_key e y) as (λ b. of_key e y ≡ b → Again e (y ∷ xs) x) [
-        | true ↦ λ k. record { front = y ∷ h.front; other = h.other; behind = h.behind; split = ap (λ b. cond b (y ∷ like e xs) (like e xs)) k ∙ ap (λ zs. y ∷ zs) h.split }
-        | false ↦ λ k. record { front = h.front; other = h.other; behind = h.behind; split = ap (λ b. cond b (y ∷ like e xs) (like e xs)) k ∙ h.split }
-      ] refl
-
   passes : (e : K) (x : X) (xs : List X) → of_key e x ≡ true → like e (x ∷ xs) ≡ x ∷ like e xs
   passes e x xs h = ap (λ b. cond b (x ∷ like e xs) (like e xs)) h
 
   skips : (e : K) (x : X) (xs : List X) → of_key e x ≡ false → like e (x ∷ xs) ≡ like e xs
   skips e x xs h = ap (λ b. cond b (x ∷ like e xs) (like e xs)) h
+
+  again-cons : (e : K) (y : X) (xs : List X) (x : X) → Again e xs x → Again e (y ∷ xs) x
+  again-cons e y xs x h =
+      elim (of_key e y) as (λ b. of_key e y ≡ b → Again e (y ∷ xs) x) [
+        | true ↦ λ k. record { front = y ∷ h.front; other = h.other; behind = h.behind; split = passes e y xs k ∙ ap (λ zs. y ∷ zs) h.split }
+        | false ↦ λ k. record { front = h.front; other = h.other; behind = h.behind; split = skips e y xs k ∙ h.split }
+      ] refl
 
   -- ---- neighbours in a sorted list
 
@@ -175,14 +180,19 @@ module _ {X K : Type 0} (place : X → ℕ) (key : X → K) (cmp : K → K → O
   neighbours : (x y : X) (ys : List X) → same (key x) (key y) ≡ true → Again (key y) (x ∷ y ∷ ys) y
   neighbours x y ys h =
       let first : of_key (key y) x ≡ true = subst (λ k. same k (key x) ≡ true) (same-is (key x) (key y) h) (same-itself (key x)) in
-      record { front = []; other = x; behind = like (key y) ys; split = passes (key y) x (y ∷ ys) first ∙ ap (λ zs. x ∷ zs) (passes (key y) y ys (same-itself (key y))) }
+      let both = passes (key y) x (y ∷ ys) first ∙ ap (λ zs. x ∷ zs) (passes (key y) y ys (same-itself (key y))) in
+      record { front = []; other = x; behind = like (key y) ys; split = both }
 
   -- the least place is one of a repeated value
   least-placed : (o : Option ℕ) (x : X) (xs : List X) (r : ℕ) → least_from same o (key x) (seen xs) ≡ Some r → Placed o (x ∷ xs) r
   least-placed o x [] r e = inl e
   least-placed o x (y ∷ ys) r e =
-      elim (same (key x) (key y)) as (λ b. same (key x) (key y) ≡ b → least_from same (if b then lesser o (place y) else o) (key y) (seen ys) ≡ Some r → Placed o (x ∷ y ∷ ys) r) [
-        | true ↦ λ h k. placed-cons o (lesser o (place y)) x y ys r (λ is. ⊎_elim (λ a. inl a) (λ b. inr (record { of = (key y); one = y; at = b; again = neighbours x y ys h })) (lesser-is o (place y) r is)) (least-placed (lesser o (place y)) y ys r k)
+      elim (same (key x) (key y)) as (λ b. same (key x) (key y) ≡ b
+      → least_from same (if b then lesser o (place y) else o) (key y) (seen ys) ≡ Some r → Placed o (x ∷ y ∷ ys) r) [
+        | true ↦ λ h k.
+            placed-cons o (lesser o (place y)) x y ys r
+            (λ is. ⊎_elim (λ a. inl a) (λ b. inr (record { of = key y; one = y; at = b; again = neighbours x y ys h })) (lesser-is o (place y) r is))
+            (least-placed (lesser o (place y)) y ys r k)
         | false ↦ λ h k. placed-cons o o x y ys r (λ is. inl is) (least-placed o y ys r k)
       ] refl e
 
@@ -234,7 +244,8 @@ module _ {X K : Type 0} (place : X → ℕ) (key : X → K) (cmp : K → K → O
   one-at-most e x = elim (of_key e x) as (λ b. length (cond b (x ∷ []) []) ≤ 1) [ true ↦ omega arith | false ↦ omega arith ]
 
   -- the next of its like is its neighbour
-  least-next : (o : Option ℕ) (x y : X) (ys : List X) (e : K) (a b : X) (behind : List X) → Far (x ∷ y ∷ ys) → of_key e x ≡ true → x ∷ like e (y ∷ ys) ≡ a ∷ b ∷ behind → AtMost (least_from same o (key x) (seen (y ∷ ys))) (place b)
+  least-next : (o : Option ℕ) (x y : X) (ys : List X) (e : K) (a b : X) (behind : List X) → Far (x ∷ y ∷ ys) → of_key e x ≡ true
+      → x ∷ like e (y ∷ ys) ≡ a ∷ b ∷ behind → AtMost (least_from same o (key x) (seen (y ∷ ys))) (place b)
   least-next o x y ys e a b behind far h is =
       let next : like e (y ∷ ys) ≡ b ∷ behind = cc in
       elim (of_key e y) as (λ t. of_key e y ≡ t → AtMost (least_from same o (key x) (seen (y ∷ ys))) (place b)) [
@@ -252,7 +263,8 @@ module _ {X K : Type 0} (place : X → ℕ) (key : X → K) (cmp : K → K → O
       ] refl
 
   -- a repeated value stands behind its like, and its place bounds the least
-  least-at-most : (o : Option ℕ) (x : X) (xs : List X) (e : K) (front : List X) (a b : X) (behind : List X) → Far (x ∷ xs) → like e (x ∷ xs) ≡ front ++ a ∷ b ∷ behind → AtMost (least_from same o (key x) (seen xs)) (place b)
+  least-at-most : (o : Option ℕ) (x : X) (xs : List X) (e : K) (front : List X) (a b : X) (behind : List X) → Far (x ∷ xs)
+      → like e (x ∷ xs) ≡ front ++ a ∷ b ∷ behind → AtMost (least_from same o (key x) (seen xs)) (place b)
   least-at-most o x [] e front a b behind far is = absurd (no-pair (like e (x ∷ [])) front a b behind (one-at-most e x) is)
   least-at-most o x (y ∷ ys) e front a b behind far is =
       elim (of_key e x) as (λ t. of_key e x ≡ t → AtMost (least_from same o (key x) (seen (y ∷ ys))) (place b)) [
@@ -260,7 +272,8 @@ module _ {X K : Type 0} (place : X → ℕ) (key : X → K) (cmp : K → K → O
           | [] ↦ λ k. least-next o x y ys e a b behind far h k
           | c ∷ f ↦ λ k. least-at-most (if same (key x) (key y) then lesser o (place y) else o) y ys e f a b behind (far-tail x (y ∷ ys) far) (cc)
         ] (sym (passes e x (y ∷ ys) h) ∙ is)
-        | false ↦ λ h. least-at-most (if same (key x) (key y) then lesser o (place y) else o) y ys e front a b behind (far-tail x (y ∷ ys) far) (sym (skips e x (y ∷ ys) h) ∙ is)
+        | false ↦ λ h. least-at-most (if same (key x) (key y) then lesser o (place y) else o) y ys e front a b behind (far-tail x (y ∷ ys) far)
+            (sym (skips e x (y ∷ ys) h) ∙ is)
       ] refl
 
   -- ---- the first that repeats, in a list with its places
@@ -296,29 +309,33 @@ module _ {X K : Type 0} (place : X → ℕ) (key : X → K) (cmp : K → K → O
       ] is
 
   -- one whose like stands before the list
-  known-at-most : (k : ℕ) (earlier : List K) (e : K) (xs : List X) (b : X) (rest : List X) → Numbered k xs → list_any (same e) earlier ≡ true → like e xs ≡ b ∷ rest → AtMost (first_in k earlier xs) (place b)
+  known-at-most : (k : ℕ) (earlier : List K) (e : K) (xs : List X) (b : X) (rest : List X) → Numbered k xs → list_any (same e) earlier ≡ true
+      → like e xs ≡ b ∷ rest → AtMost (first_in k earlier xs) (place b)
   known-at-most k earlier e [] b rest n among is = absurd (none_some b rest is)
   known-at-most k earlier e (x ∷ xs) b rest n among is =
-      elim (list_any (same (key x)) earlier) as (λ t. list_any (same (key x)) earlier ≡ t → AtMost (if t then Some k else first_in (k + 1) ((key x) ∷ earlier) xs) (place b)) [
+      elim (list_any (same (key x)) earlier) as
+      (λ t. list_any (same (key x)) earlier ≡ t → AtMost (if t then Some k else first_in (k + 1) (key x ∷ earlier) xs) (place b)) [
         | true ↦ λ h. place-first k e (x ∷ xs) b rest n is
-        | false ↦ λ h. elim (of_key e x) as (λ t. of_key e x ≡ t → AtMost (first_in (k + 1) ((key x) ∷ earlier) xs) (place b)) [
+        | false ↦ λ h. elim (of_key e x) as (λ t. of_key e x ≡ t → AtMost (first_in (k + 1) (key x ∷ earlier) xs) (place b)) [
           | true ↦ λ g. absurd (true≢false (sym among ∙ ap (λ d. list_any (same d) earlier) (same-is e (key x) g) ∙ h))
-          | false ↦ λ g. known-at-most (k + 1) ((key x) ∷ earlier) e xs b rest n.1 (ap (λ t. t || list_any (same e) earlier) g ∙ among) (sym (skips e x xs g) ∙ is)
+          | false ↦ λ g. known-at-most (k + 1) (key x ∷ earlier) e xs b rest n.1
+              (ap (λ t. t || list_any (same e) earlier) g ∙ among) (sym (skips e x xs g) ∙ is)
         ] refl
       ] refl
 
-  again-at-most : (k : ℕ) (earlier : List K) (e : K) (xs front : List X) (a b : X) (behind : List X) → Numbered k xs → like e xs ≡ front ++ a ∷ b ∷ behind → AtMost (first_in k earlier xs) (place b)
+  again-at-most : (k : ℕ) (earlier : List K) (e : K) (xs front : List X) (a b : X) (behind : List X) → Numbered k xs → like e xs ≡ front ++ a ∷ b ∷ behind
+      → AtMost (first_in k earlier xs) (place b)
   again-at-most k earlier e [] [] a b behind n is = absurd (none_some a (b ∷ behind) is)
   again-at-most k earlier e [] (c ∷ front) a b behind n is = absurd (none_some c (front ++ a ∷ b ∷ behind) is)
   again-at-most k earlier e (x ∷ xs) front a b behind n is =
-      elim (list_any (same (key x)) earlier) as (λ t. AtMost (if t then Some k else first_in (k + 1) ((key x) ∷ earlier) xs) (place b)) [
+      elim (list_any (same (key x)) earlier) as (λ t. AtMost (if t then Some k else first_in (k + 1) (key x ∷ earlier) xs) (place b)) [
         | true ↦ place-pair k e (x ∷ xs) front a b behind n is
-        | false ↦ elim (of_key e x) as (λ t. of_key e x ≡ t → AtMost (first_in (k + 1) ((key x) ∷ earlier) xs) (place b)) [
-          | true ↦ λ g. elim front as (λ f. x ∷ like e xs ≡ f ++ a ∷ b ∷ behind → AtMost (first_in (k + 1) ((key x) ∷ earlier) xs) (place b)) [
-            | [] ↦ λ h. known-at-most (k + 1) ((key x) ∷ earlier) e xs b behind n.1 (ap (λ t. t || list_any (same e) earlier) g) (cc)
-            | c ∷ f ↦ λ h. again-at-most (k + 1) ((key x) ∷ earlier) e xs f a b behind n.1 (cc)
+        | false ↦ elim (of_key e x) as (λ t. of_key e x ≡ t → AtMost (first_in (k + 1) (key x ∷ earlier) xs) (place b)) [
+          | true ↦ λ g. elim front as (λ f. x ∷ like e xs ≡ f ++ a ∷ b ∷ behind → AtMost (first_in (k + 1) (key x ∷ earlier) xs) (place b)) [
+            | [] ↦ λ h. known-at-most (k + 1) (key x ∷ earlier) e xs b behind n.1 (ap (λ t. t || list_any (same e) earlier) g) (cc)
+            | c ∷ f ↦ λ h. again-at-most (k + 1) (key x ∷ earlier) e xs f a b behind n.1 (cc)
           ] (sym (passes e x xs g) ∙ is)
-          | false ↦ λ g. again-at-most (k + 1) ((key x) ∷ earlier) e xs front a b behind n.1 (sym (skips e x xs g) ∙ is)
+          | false ↦ λ g. again-at-most (k + 1) (key x ∷ earlier) e xs front a b behind n.1 (sym (skips e x xs g) ∙ is)
         ] refl
       ]
 
@@ -333,21 +350,26 @@ module _ {X K : Type 0} (place : X → ℕ) (key : X → K) (cmp : K → K → O
   abbrev Known : List K → List X → ℕ → Type 0
   Known earlier xs r = IsFirst earlier xs r ⊎ IsAgain xs r
 
-  known-cons : (earlier : List K) (x : X) (xs : List X) (r : ℕ) → Known ((key x) ∷ earlier) xs r → Known earlier (x ∷ xs) r
+  known-cons : (earlier : List K) (x : X) (xs : List X) (r : ℕ) → Known (key x ∷ earlier) xs r → Known earlier (x ∷ xs) r
   known-cons earlier x xs r (inr h) = inr (is_again-cons x xs r h)
   known-cons earlier x xs r (inl h) =
       let b = h.one in
       elim (of_key (key b) x) as (λ t. of_key (key b) x ≡ t → (t || list_any (same (key b)) earlier) ≡ true → Known earlier (x ∷ xs) r) [
-        | true ↦ λ g among. inr (record { of = (key b); one = b; at = h.at; again = record { front = []; other = x; behind = h.behind; split = passes (key b) x xs g ∙ ap (λ zs. x ∷ zs) h.split } })
+        | true ↦ λ g among.
+            let split = passes (key b) x xs g ∙ ap (λ zs. x ∷ zs) h.split in
+            inr (record { of = key b; one = b; at = h.at; again = record { front = []; other = x; behind = h.behind; split = split } })
         | false ↦ λ g among. inl (record { one = b; behind = h.behind; at = h.at; among = among; split = skips (key b) x xs g ∙ h.split })
       ] refl h.among
 
   first-known : (k : ℕ) (earlier : List K) (xs : List X) (r : ℕ) → Numbered k xs → first_in k earlier xs ≡ Some r → Known earlier xs r
   first-known k earlier [] r n e = absurd (none-number r e)
   first-known k earlier (x ∷ xs) r n e =
-      elim (list_any (same (key x)) earlier) as (λ t. list_any (same (key x)) earlier ≡ t → (if t then Some k else first_in (k + 1) ((key x) ∷ earlier) xs) ≡ Some r → Known earlier (x ∷ xs) r) [
-        | true ↦ λ h g. inl (record { one = x; behind = like (key x) xs; at = n.0 ∙ some-number k r g; among = h; split = passes (key x) x xs (same-itself (key x)) })
-        | false ↦ λ h g. known-cons earlier x xs r (first-known (k + 1) ((key x) ∷ earlier) xs r n.1 g)
+      elim (list_any (same (key x)) earlier) as
+      (λ t. list_any (same (key x)) earlier ≡ t → (if t then Some k else first_in (k + 1) (key x ∷ earlier) xs) ≡ Some r → Known earlier (x ∷ xs) r) [
+        | true ↦ λ h g.
+            let itself = passes (key x) x xs (same-itself (key x)) in
+            inl (record { one = x; behind = like (key x) xs; at = n.0 ∙ some-number k r g; among = h; split = itself })
+        | false ↦ λ h g. known-cons earlier x xs r (first-known (k + 1) (key x ∷ earlier) xs r n.1 g)
       ] refl e
 
   -- ---- both are one
@@ -366,14 +388,18 @@ module _ {X K : Type 0} (place : X → ℕ) (key : X → K) (cmp : K → K → O
   numbered-places : (k : ℕ) (xs : List X) (ks : List K) → seen xs ≡ numbered k ks → Numbered k xs
   numbered-places k [] ks e = tt
   numbered-places k (x ∷ xs) [] e = absurd (no-pairs (place x, key x) (seen xs) (sym e))
-  numbered-places k (x ∷ xs) (d ∷ ks) e = (ap (λ p. p.0) (first-pair (place x, key x) (k, d) (seen xs) (numbered (k + 1) ks) e), numbered-places (k + 1) xs ks (other-pairs (place x, key x) (k, d) (seen xs) (numbered (k + 1) ks) e))
+  numbered-places k (x ∷ xs) (d ∷ ks) e = (
+    ap (λ p. p.0) (first-pair (place x, key x) (k, d) (seen xs) (numbered (k + 1) ks) e),
+    numbered-places (k + 1) xs ks (other-pairs (place x, key x) (k, d) (seen xs) (numbered (k + 1) ks) e),
+  )
 
   numbered-keys : (k : ℕ) (xs : List X) (ks : List K) → seen xs ≡ numbered k ks → keys xs ≡ ks
   numbered-keys k [] [] e = refl
   numbered-keys k [] (d ∷ ks) e = absurd (no-pairs (k, d) (numbered (k + 1) ks) e)
   numbered-keys k (x ∷ xs) [] e = absurd (no-pairs (place x, key x) (seen xs) (sym e))
   numbered-keys k (x ∷ xs) (d ∷ ks) e =
-      ap₂ (λ a bs. a ∷ bs) (ap (λ p. p.1) (first-pair (place x, key x) (k, d) (seen xs) (numbered (k + 1) ks) e)) (numbered-keys (k + 1) xs ks (other-pairs (place x, key x) (k, d) (seen xs) (numbered (k + 1) ks) e))
+      ap₂ (λ a bs. a ∷ bs) (ap (λ p. p.1) (first-pair (place x, key x) (k, d) (seen xs) (numbered (k + 1) ks) e))
+      (numbered-keys (k + 1) xs ks (other-pairs (place x, key x) (k, d) (seen xs) (numbered (k + 1) ks) e))
 
   module _ (xs ys : List X) (ks : List K) (is : seen xs ≡ numbered 0 ks) (stable : IsStableBy before xs ys) (up : IsSortedBy before ys) where
     n : Numbered 0 xs
@@ -388,7 +414,8 @@ module _ {X K : Type 0} (place : X → ℕ) (key : X → K) (cmp : K → K → O
         subst (λ m. AtMost (first_in 0 [] xs) m) h.at (again-at-most 0 [] h.of xs g.front g.other h.one g.behind n g.split)
 
     least-bounds : (r : ℕ) → IsAgain xs r → AtMost (least_repeat same (seen ys)) r
-    least-bounds r h = subst (λ m. AtMost (least_repeat same (seen ys)) m) h.at (again-least None ys h.of h.one far (moved h.of xs ys h.one (alike xs ys stable h.of) h.again))
+    least-bounds r h = subst (λ m. AtMost (least_repeat same (seen ys)) m) h.at
+        (again-least None ys h.of h.one far (moved h.of xs ys h.one (alike xs ys stable h.of) h.again))
 
     pub least-is-first : least_repeat same (seen ys) ≡ repeat_from same 0 [] ks
     least-is-first =

@@ -39,7 +39,8 @@ before p q = is_lt (row_cmp (row_of p) (row_of q))
 length-rows : (ks : List ItemKey) (i : ℕ) → i < length ks → length (map row_view (take i ks)) ≡ i
 length-rows ks i within = length-map (take i ks) row_view ∙ length-take-le i ks (omega arith)
 
-pub placed-more : (ks : List ItemKey) (i : ℕ) (k : ItemKey) (b : Bor ItemKey) (xs now : List Placed) → i < length ks → k ≡ get_or ks i k → b.now ≡ k → placed_view xs ≡ numbered 0 (map row_view (take i ks)) → now ≡ xs ++ (i, b) ∷ []
+pub placed-more : (ks : List ItemKey) (i : ℕ) (k : ItemKey) (b : Bor ItemKey) (xs now : List Placed) → i < length ks → k ≡ get_or ks i k → b.now ≡ k
+    → placed_view xs ≡ numbered 0 (map row_view (take i ks)) → now ≡ xs ++ (i, b) ∷ []
     → placed_view now ≡ numbered 0 (map row_view (take (i + 1) ks))
 placed-more ks i k b xs now within is of made more =
     let rows = map row_view (take i ks) in

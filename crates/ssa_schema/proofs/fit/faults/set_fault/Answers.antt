@@ -21,9 +21,11 @@ returns-then-not-is_other c p =
     let x = c.index-items-i.result in
     let xs = c.args.items.now in
     let rest = leading_values k (items_view (drop (l.i + 1) xs)) in
-    let known = ap (repeat_from same_element l.i l.invariant.before) (sym (lead-value k xs l.i x s c.loop-i-test.true c.index-items-i.is (sym c.in-Some.ensures))) ∙ l.invariant.known in
+    let known = ap (repeat_from same_element l.i l.invariant.before)
+    (sym (lead-value k xs l.i x s c.loop-i-test.true c.index-items-i.is (sym c.in-Some.ensures))) ∙ l.invariant.known in
     let is_new = other-test l.i (value s) l.invariant.before rest c.in_ok-repeated.repeated c.is_other.result known c.is_other.ensures in
-    finds_child c.here-twice.result c.in_ok-below.field-0 DuplicateItem (value s) c.in_ok-value_name.field-0 c.here-twice.ensures.misfit c.here-twice.ensures.path c.in_ok-value_name.ensures c.in_ok-below.ensures.misfit c.in_ok-below.ensures.path p
+    finds_child c.here-twice.result c.in_ok-below.field-0 DuplicateItem (value s) c.in_ok-value_name.field-0 c.here-twice.ensures.misfit
+    c.here-twice.ensures.path c.in_ok-value_name.ensures c.in_ok-below.ensures.misfit c.in_ok-below.ensures.path p
     ∙ ap (option_map told) (sym (
     l.invariant.left p
     ∙ ap (λ es. first_of (value_faults k l.invariant.before (items_view es) p)) (item_split xs l.i x c.loop-i-test.true c.index-items-i.is)
@@ -37,7 +39,8 @@ loop-i-preserved c =
     let x = c.index-items-i.result in
     let xs = c.args.items.now in
     let rest = leading_values k (items_view (drop (l.i + 1) xs)) in
-    let known = ap (repeat_from same_element l.i l.invariant.before) (sym (lead-value k xs l.i x s c.loop-i-test.true c.index-items-i.is (sym c.in-Some.ensures))) ∙ l.invariant.known in
+    let known = ap (repeat_from same_element l.i l.invariant.before)
+    (sym (lead-value k xs l.i x s c.loop-i-test.true c.index-items-i.is (sym c.in-Some.ensures))) ∙ l.invariant.known in
     let is_new = other-test l.i (value s) l.invariant.before rest c.in_ok-repeated.repeated c.is_other.result known c.is_other.ensures in
     record {
       before = value s ∷ l.invariant.before;
@@ -45,5 +48,6 @@ loop-i-preserved c =
       left = λ p.
           l.invariant.left p
           ∙ ap (λ es. first_of (value_faults k l.invariant.before (items_view es) p)) (item_split xs l.i x c.loop-i-test.true c.index-items-i.is)
-          ∙ ap first_of (value_next k l.invariant.before (view x) s (items_view (drop (l.i + 1) xs)) p (sym c.in-Some.ensures) (sym c.if-not-is_other.false ∙ is_new));
+          ∙ ap first_of (value_next k l.invariant.before (view x) s (items_view (drop (l.i + 1) xs)) p (sym c.in-Some.ensures)
+          (sym c.if-not-is_other.false ∙ is_new));
     }

@@ -12,5 +12,6 @@ abbrev pub invariant-loop-i : goal.invariant-loop-i
 invariant-loop-i l = record {
   before : List Element;
   known : repeat_from same_element l.i before (leading_values (scalar_kind_view l.wanted) (items_view (drop l.i l.items))) ≡ l.repeated;
-  left : (p : Path) → first_of (value_faults (scalar_kind_view l.wanted) [] (items_view l.items) p) ≡ first_of (value_faults (scalar_kind_view l.wanted) before (items_view (drop l.i l.items)) p);
+  left : (p : Path) → first_of (value_faults (scalar_kind_view l.wanted) [] (items_view l.items) p)
+      ≡ first_of (value_faults (scalar_kind_view l.wanted) before (items_view (drop l.i l.items)) p);
 }

@@ -6,4 +6,5 @@ use Rattle.ssa_schema.proofs.fit.leading.item_keys.Given as goal
 
 -- with those of the items that are left
 abbrev pub invariant-loop-item : goal.invariant-loop-item
-invariant-loop-item l = map row_view l.keys.items ++ item_rows (names_view l.names) (items_view (drop l.item-index l.items)) ≡ item_rows (names_view l.names) (items_view l.items)
+invariant-loop-item l = map row_view l.keys.items ++ item_rows (names_view l.names) (items_view (drop l.item-index l.items))
+    ≡ item_rows (names_view l.names) (items_view l.items)

@@ -10,4 +10,5 @@ use Rattle.ssa_schema.proofs.fit.leading.repeated_item.Goals as goal
 pub returns : goal.returns
 returns c =
     IfOk-weaker c.first_repeat.result _ _
-    (λ place is. is ∙ ap (λ ks. repeat_from same_row 0 [] (map row_view ks)) c.deref.ensures.value ∙ ap (repeat_from same_row 0 []) c.in_ok-keys.ensures ∙ keys-repeat (names_view c.args.names.now) (items_view c.args.items.now)) c.first_repeat.ensures
+    (λ place is. is ∙ ap (λ ks. repeat_from same_row 0 [] (map row_view ks)) c.deref.ensures.value ∙ ap (repeat_from same_row 0 []) c.in_ok-keys.ensures
+    ∙ keys-repeat (names_view c.args.names.now) (items_view c.args.items.now)) c.first_repeat.ensures

@@ -10,7 +10,8 @@ use Rattle.ssa_schema.proofs.fit.repeated.first_repeat.Goals as goal
 pub loop-place-preserved : goal.loop-place-preserved
 loop-place-preserved c =
     let l = c.loop-place in
-    placed-more c.args.keys.now l.place c.index-keys-place.result _ l.placed.items c.push.new.self.items c.loop-place-test.true c.index-keys-place.is refl l.invariant c.in_ok-push.ensures.items
+    placed-more c.args.keys.now l.place c.index-keys-place.result _ l.placed.items
+    c.push.new.self.items c.loop-place-test.true c.index-keys-place.is refl l.invariant c.in_ok-push.ensures.items
 
 pub returns : goal.returns
 returns c =
