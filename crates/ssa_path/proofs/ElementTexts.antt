@@ -1,17 +1,23 @@
--- The text of an element is UTF-8.
-use Rattle.std.proofs.Common.{◌≡◌, ℕ, ◌<◌, [], ◌∷◌, ◌++◌, arith, true, false, refl, sym, ap, ◌∙◌, true≢false, Ok, Err, Some, None, IsUtf8}
+-- The text of an element is UTF-8, also where the names of its key fields do not rise.
+use Rattle.std.proofs.Common.{◌≡◌, ℕ, ◌<◌, [], ◌∷◌, ◌++◌, arith, Bool, true, false, refl, sym, ap, ◌∙◌, true≢false, Ok, Err, Some, None, IsUtf8}
 use Rattle.std.specs.Prelude.{Result, codes, if◌then◌else◌}
 use Rattle.std.specs.Str.{is_utf8}
+use Rattle.std.proofs.lemmas.Bool.{and_parts}
 use Rattle.std.proofs.lemmas.Str.Ascii.{IsAscii-nil, IsAscii-cons}
 use Rattle.std.proofs.lemmas.Str.{IsUtf8-append, IsUtf8-from_ascii, IsUtf8-from_is_utf8, is_utf8-from_IsUtf8}
-use Rattle.ssa_model.specs.definitions.Json.{Text, Json, object, same_text, compact, scalar_text}
+use Rattle.ssa_model.specs.definitions.Json.{Text, Scalar, text, Json, scalar, object, same_text, comma_if, quoted, compact, compact_members, scalar_text}
 use Rattle.ssa_model.specs.definitions.Path.{Element, field, key, value, key_members, element_text}
 use Rattle.ssa_model.specs.definitions.Readings.{ReadFault, not_json}
 use Rattle.ssa_model.specs.definitions.ElementTexts.{ElementFault, bad_element, not_canonical, element_of, key_element, value_element}
 use Rattle.ssa_json.specs.Reading.{json_reading}
-use Rattle.ssa_json.specs.Writable.{has_utf8}
+use Rattle.ssa_json.specs.Writable.{has_utf8, is_utf8_scalar, members_have_utf8}
+use Rattle.ssa_json.specs.Written.{is_narrow_scalar, members_narrow}
+use Rattle.ssa_json.proofs.ReadingBack.{compact-is-read}
 use Rattle.ssa_json.proofs.Converting.{json_reading-none}
+use Rattle.ssa_path.specs.Keys.{Members, members_view}
 use Rattle.ssa_path.specs.OwnText.{element_json}
+use Rattle.ssa_path.proofs.OwnTexts.{texts-are-utf8}
+use Rattle.ssa_path.proofs.Texts.{Fields}
 
 other_bytes : (u : Text) → is_utf8 u ≡ false → json_reading u ≡ Err not_json
 other_bytes u other = json_reading-none u (λ text. absurd (true≢false (sym (is_utf8-from_IsUtf8 u text) ∙ other)))
@@ -40,3 +46,42 @@ element_text-is-utf8 (value s) texts is =
     let u = scalar_text s in
     IsUtf8-append (codes "v:") u (two_ascii 118 58 (omega arith) (omega arith))
     (IsUtf8-from_is_utf8 u (read_utf8 u (value s) (λ r. elim (value_element r) [ None ↦ Err bad_element | Some e ↦ (if same_text (element_text e) (codes "v:" ++ u) then Ok e else Err not_canonical) ]) refl is))
+
+-- ---- key fields
+
+no_read : {A E : Type 0} (f : E) (v : A) → ◌≡◌ {A = Result A E} (Err f) (Ok v) → ⊥
+no_read f v is = cc
+
+what_is_read : (u : Text) (v : Json) → json_reading u ≡ Ok v → IsUtf8 u
+what_is_read u v is =
+    elim (is_utf8 u) as (λ b. is_utf8 u ≡ b → IsUtf8 u) [
+      | true ↦ λ h. IsUtf8-from_is_utf8 u h
+      | false ↦ λ other. absurd (no_read not_json v (sym (other_bytes u other) ∙ is))
+    ] refl
+
+scalar_is_utf8 : (s : Scalar) → is_narrow_scalar s ≡ true → is_utf8_scalar s ≡ true → IsUtf8 (scalar_text s)
+scalar_is_utf8 s narrow texts =
+    what_is_read (scalar_text s) (scalar s) (compact-is-read (scalar s) (record { of_program = record { narrow = narrow; texts = texts; names = refl }; shallow = omega arith }))
+
+one_ascii : (a : ℕ) → a < 128 → IsUtf8 (a ∷ [])
+one_ascii a small = IsUtf8-from_ascii (a ∷ []) (IsAscii-cons a [] small IsAscii-nil)
+
+comma_is_utf8 : (later : Bool) → IsUtf8 (comma_if later)
+comma_is_utf8 true = one_ascii 44 (omega arith)
+comma_is_utf8 false = IsUtf8-from_ascii [] IsAscii-nil
+
+members_are_utf8 : (later : Bool) (ks : Members) → members_narrow (key_members ks) ≡ true → members_have_utf8 (key_members ks) ≡ true → IsUtf8 (compact_members later (key_members ks))
+members_are_utf8 later [] narrow texts = one_ascii 125 (omega arith)
+members_are_utf8 later (k ∷ ks) narrow texts =
+    let small = and_parts (is_narrow_scalar k.1) (members_narrow (key_members ks)) narrow in
+    let named = and_parts (is_utf8 k.0) _ texts in
+    let rest = and_parts (is_utf8_scalar k.1) (members_have_utf8 (key_members ks)) named.1 in
+    IsUtf8-append (comma_if later) _ (comma_is_utf8 later)
+    (IsUtf8-append (quoted k.0) _ (scalar_is_utf8 (text k.0) refl named.0)
+    (IsUtf8-append (58 ∷ []) _ (one_ascii 58 (omega arith))
+    (IsUtf8-append (scalar_text k.1) _ (scalar_is_utf8 k.1 small.0 rest.0) (members_are_utf8 true ks small.1 rest.1))))
+
+pub key-text-is-utf8 : (ks : Fields) → members_narrow (key_members (members_view ks)) ≡ true → IsUtf8 (element_text (key (members_view ks)))
+key-text-is-utf8 ks narrow =
+    IsUtf8-append (codes "k:") _ (two_ascii 107 58 (omega arith) (omega arith))
+    (IsUtf8-append (codes "{") _ (one_ascii 123 (omega arith)) (members_are_utf8 false (members_view ks) narrow (texts-are-utf8 ks)))

@@ -88,7 +88,7 @@ scalar-is-utf8 (TextOf t) = string_is_utf8 t
 scalar-is-utf8 (Int n) = refl
 scalar-is-utf8 (BoolOf b) = refl
 
-texts-are-utf8 : (ks : Fields) → members_have_utf8 (key_members (members_view ks)) ≡ true
+pub texts-are-utf8 : (ks : Fields) → members_have_utf8 (key_members (members_view ks)) ≡ true
 texts-are-utf8 [] = refl
 texts-are-utf8 (k ∷ ks) =
     and_from (is_utf8 (string_bytes k.0)) _ (string_is_utf8 k.0)

@@ -1,7 +1,7 @@
 //! The text of an element.
 ghost use Rattle.std.specs.Prelude.{◌≡◌, ◌∷◌, ◌++◌, Ok, IfOk, OnOk, true, false, string_bytes};
 ghost use Rattle.ssa_model.specs.definitions.Json.{comma_if, compact_members, quoted, scalar_text};
-ghost use Rattle.ssa_model.specs.definitions.Path.{element_text, key_members};
+ghost use Rattle.ssa_model.specs.definitions.Path.{element_text, key, key_members};
 ghost use Rattle.ssa_model.specs.definitions.ElementTexts.{element_of};
 ghost use Rattle.ssa_json.specs.Reading.{json_reading};
 ghost use Rattle.ssa_json.specs.View.{scalar_view};
@@ -51,6 +51,20 @@ impl Elem {
             Ok(name) => Ok(name),
             Err(_) => unreachable!("the text of an element is UTF-8"),
         }
+    }
+}
+
+/// The text of an element with these key fields, as [`Elem::name`] gives it, whether or not their
+/// names rise.
+pub fn key_name(alloc: Global, members: &[(String, Scalar)]) -> Result<String, AllocError>
+    ensures { IfOk result (λ name. string_bytes name ≡ element_text (key (members_view members.now))) }
+{
+    let mut text = Vec::new(alloc);
+    text.extend_from_slice(b"k:{")?;
+    push_members(alloc, &mut text, members)?;
+    match String::from_utf8(text) {
+        Ok(name) => Ok(name),
+        Err(_) => unreachable!("names and scalars are UTF-8"),
     }
 }
 

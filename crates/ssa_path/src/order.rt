@@ -132,6 +132,13 @@ pub fn order_scalars(scalar: &Scalar, end: &[u8], other: &Scalar, other_end: &[u
     }
 }
 
+/// The order of the scalars' texts.
+pub fn order_values(scalar: &Scalar, other: &Scalar) -> Ordering
+    ensures { result ≡ slice_cmp nat_cmp (scalar_text (scalar_view scalar.now)) (scalar_text (scalar_view other.now)) }
+{
+    order_scalars(scalar, b"", other, b"")
+}
+
 // What stands behind the member at a place of an object.
 fn end_at(keys: &[(String, Scalar)], i: usize) -> &'static [u8]
     requires { i < length keys.now }

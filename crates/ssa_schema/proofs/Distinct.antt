@@ -8,7 +8,7 @@ use Rattle.ssa_json.specs.declared.value.Scalar as value_scalar
 use Rattle.std.specs.Prelude.{Option, None, Some, option_map, option_and_then}
 use Rattle.ssa_model.specs.definitions.Json.{Text, Json, scalar, list, Items, no_items, item, same_text, as_text}
 use Rattle.ssa_model.specs.definitions.Schema.{is_one_of_texts, are_distinct_texts, are_keys, texts_of, is_key_list}
-use Rattle.ssa_json.proofs.Equality.{same_text-true, same_text-itself}
+use Rattle.ssa_schema.proofs.Lawful.{same_turned}
 use Rattle.ssa_schema.specs.Words.{are_distinct_in, each_text}
 use Rattle.std.specs.List.{list_all}
 
@@ -20,14 +20,6 @@ apart before (t ∷ ts) = not (is_one_of_texts t before) && apart (t ∷ before)
 abbrev clear : List Text → List Text → Bool
 clear before ts = list_all (λ t. not (is_one_of_texts t before)) ts
 
-same_text-turned : (t u : Text) → same_text t u ≡ same_text u t
-same_text-turned t u = turned (same_text t u) (same_text u t) (λ e. subst (λ x. same_text u x ≡ true) (sym (same_text-true t u e)) (same_text-itself u)) (λ e. subst (λ x. same_text t x ≡ true) (sym (same_text-true u t e)) (same_text-itself t))
-  where
-    turned : (a b : Bool) → (a ≡ true → b ≡ true) → (b ≡ true → a ≡ true) → a ≡ b
-    turned true b there back = sym (there refl)
-    turned false true there back = back refl
-    turned false false there back = refl
-
 swapped : (s b c e : Bool) → (not (s || b) && (not c && e)) ≡ (not (s || c) && (not b && e))
 swapped true b c e = refl
 swapped false true true e = refl
@@ -38,7 +30,7 @@ swapped false false false e = refl
 clear_more : (t : Text) (before ts : List Text) → clear (t ∷ before) ts ≡ (not (is_one_of_texts t ts) && clear before ts)
 clear_more t before [] = refl
 clear_more t before (u ∷ us) =
-    ap₂ (λ s r. not (s || is_one_of_texts u before) && r) (same_text-turned u t) (clear_more t before us)
+    ap₂ (λ s r. not (s || is_one_of_texts u before) && r) (same_turned u t) (clear_more t before us)
     ∙ swapped (same_text t u) (is_one_of_texts u before) (is_one_of_texts t us) (clear before us)
 
 regrouped : (a n c d : Bool) → (a && ((n && c) && d)) ≡ ((a && c) && (n && d))

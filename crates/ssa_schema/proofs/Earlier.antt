@@ -1,5 +1,5 @@
 -- Texts that were met before, in a set.
-use Rattle.std.proofs.Common.{◌≡◌, List, [], ◌∷◌, map, Bool, true, false, not, ◌||◌, refl, sym, ap, ap₂, ◌∙◌, String, Global, string_bytes, string_cmp, nat_cmp, Less, Equal, Greater}
+use Rattle.std.proofs.Common.{◌≡◌, List, [], ◌∷◌, Bool, true, false, not, ◌||◌, refl, sym, ap, ap₂, ◌∙◌, String, Global, string_bytes, string_cmp, nat_cmp, Less, Equal, Greater}
 use Rattle.std.specs.List.{list_any}
 use Rattle.std.specs.declared.cmp.Ordering.{Ordering}
 use Rattle.std.specs.Ordering.{match_ordering}
@@ -8,8 +8,6 @@ use Rattle.std.specs.BTreeSet.{insert_key}
 use Rattle.std.specs.Cmp.Lexicographic.{slice_cmp}
 use Rattle.std.specs.FinMap.{slice_cmp-IsAntisymmetric, nat_cmp-IsAntisymmetric}
 use Rattle.ssa_model.specs.definitions.Json.{Text, same_text}
-use Rattle.ssa_model.specs.definitions.Path.{Element, element_text}
-use Rattle.ssa_model.specs.definitions.Kind.{is_among}
 use Rattle.ssa_model.specs.definitions.Schema.{is_one_of_texts}
 use Rattle.ssa_schema.specs.Kinds.{names_view}
 
@@ -53,11 +51,3 @@ any_name test (k ∷ ks) = ap (λ b. test (string_bytes k) || b) (any_name test 
 pub holds_test : (ks : List (String Global)) (ts : List Text) (k : String Global) (u : Text) (is_new : Bool) → string_bytes k ≡ u → Holds ks ts → is_new ≡ not (list_any (is_at (string_cmp k)) ks) → is_new ≡ not (is_one_of_texts u ts)
 holds_test ks ts k u is_new is h test =
     test ∙ ap not (any_name (same_text (string_bytes k)) ks ∙ h (string_bytes k) ∙ ap (λ v. is_one_of_texts v ts) is)
-
-among_texts : (e : Element) (es : List Element) → is_one_of_texts (element_text e) (map element_text es) ≡ is_among e es
-among_texts e [] = refl
-among_texts e (f ∷ es) = ap (λ b. same_text (element_text e) (element_text f) || b) (among_texts e es)
-
--- and an element where none of these equals it
-pub element_test : (ks : List (String Global)) (es : List Element) (k : String Global) (e : Element) (is_new : Bool) → string_bytes k ≡ element_text e → Holds ks (map element_text es) → is_new ≡ not (list_any (is_at (string_cmp k)) ks) → is_new ≡ not (is_among e es)
-element_test ks es k e is_new is h test = holds_test ks (map element_text es) k (element_text e) is_new is h test ∙ ap not (among_texts e es)

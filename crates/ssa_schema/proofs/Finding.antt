@@ -1,8 +1,9 @@
 -- Laws of what a walk finds.
-use Rattle.std.proofs.Common.{◌≡◌, ℕ, ◌+◌, ◌<◌, length, get_or, drop, List, [], ◌∷◌, ◌++◌, map, refl, sym, ap, subst, true≢false, ◌∙◌, append_assoc, append-nil, String, Global, string_bytes}
-use Rattle.std.proofs.lemmas.List.{map-append, reverse-append, drop_more}
+use Rattle.std.proofs.Common.{◌≡◌, List, [], ◌∷◌, ◌++◌, map, refl, sym, ap, subst, true≢false, ◌∙◌, append_assoc, append-nil, String, Global, string_bytes}
+use Rattle.std.proofs.lemmas.List.{map-append, reverse-append}
 use Rattle.std.specs.Prelude.{Option, None, Some, is_some, option_map, reverse}
 use Rattle.ssa_model.specs.definitions.Path.{Path, Element, element_text}
+pub use Rattle.ssa_path.proofs.Lists.{left-at as item_split}
 use Rattle.ssa_model.specs.definitions.Kind.{FaultAt, fault_at}
 use Rattle.ssa_schema.specs.Kinds.{names_view}
 use Rattle.ssa_schema.specs.Refusals.{first_of, or_next}
@@ -67,7 +68,3 @@ none_first (x ∷ xs) ys e = absurd (true≢false (sym (ap is_some e)))
 -- where the first have no fault, the others decide
 pub item_fits : (o : Option Found) (inner rest : Path → List FaultAt) → o ≡ None → Finds o inner → (p : Path) → first_of (inner p ++ rest p) ≡ first_of (rest p)
 item_fits o inner rest is h p = none_first (inner p) (rest p) (subst (λ x. Finds x inner) is h p)
-
--- the item at an index, and those after it
-pub item_split : {A : Type 0} (xs : List A) (i : ℕ) (x : A) → i < length xs → x ≡ get_or xs i x → drop i xs ≡ x ∷ drop (i + 1) xs
-item_split xs i x within is = drop_more xs i x within ∙ ap (λ y. y ∷ drop (i + 1) xs) (sym is)

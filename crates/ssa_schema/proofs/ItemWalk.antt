@@ -1,6 +1,6 @@
 -- The faults of a list's items, one item after another.
 use Rattle.std.proofs.Common.{◌≡◌, ℕ, ◌+◌, ◌<◌, length, get_or, drop, List, [], ◌∷◌, ◌++◌, Bool, true, false, not, refl, sym, ap, ◌∙◌, true≢false, rules, BTreeMap, String, Global}
-use Rattle.std.specs.Prelude.{Option, None, Some, is_some, if◌then◌else◌}
+use Rattle.std.specs.Prelude.{Option, None, Some, is_some, option_map, if◌then◌else◌}
 use Rattle.ssa_model.specs.definitions.Json.{Text, Json, scalar, list, object, Scalar, Items, item, Members}
 use Rattle.ssa_model.specs.definitions.Path.{Path, Element, value}
 use Rattle.ssa_model.specs.definitions.Kind.{FaultAt, ScalarKind, Fields, is_of, is_among, wrong_type, duplicate_item, item_key, fault_unless, or_else, key_faults, field_faults, value_faults, item_faults, fault_at}
@@ -8,7 +8,8 @@ use Rattle.ssa_json.specs.declared.value.Json as json
 use Rattle.ssa_json.specs.View.{view, items_view, members_view, as_object}
 use Rattle.ssa_json.proofs.Views.{view-Object}
 use Rattle.ssa_schema.specs.Refusals.{first_of}
-use Rattle.ssa_schema.specs.Finds.{scalar_of, keyed_faults}
+use Rattle.ssa_schema.specs.Finds.{Finds, scalar_of, keyed_faults, found_at}
+use Rattle.ssa_schema.specs.declared.fit.found.Found.{Found}
 use Rattle.ssa_schema.proofs.Finding.{item_split}
 
 -- ---- sets
@@ -85,3 +86,8 @@ pub keyed_split : (names : List Text) (fs : Fields) (earlier : List Element) (ms
 keyed_split names fs earlier ms rest p is_new right test =
     ap (λ xs. xs ++ item_faults names fs (item_key names ms ∷ earlier) rest p)
     (keys_right (key_faults names fs ms p) _ right ∙ keyed (is_among (item_key names ms) earlier) names fs ms p ∙ ap (λ b. keyed_faults b names fs ms p) (sym test))
+
+-- an item that keeps the walk going has keys that none before has
+pub kept-new : (is_new : Bool) (found : Option Found) (names : List Text) (fs : Fields) (ms : Members) → found ≡ None → Finds found (keyed_faults is_new names fs ms) → is_new ≡ true
+kept-new true found names fs ms none h = refl
+kept-new false found names fs ms none h = absurd (some≢none _ (sym (h []) ∙ ap (option_map (found_at [])) none))

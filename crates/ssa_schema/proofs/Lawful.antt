@@ -1,5 +1,5 @@
 -- The kinds of schemas without faults: objects with fields at the root, and key fields in each map list.
-use Rattle.std.proofs.Common.{◌≡◌, ℕ, zero, suc, List, [], ◌∷◌, ◌++◌, Bool, true, false, not, ◌&&◌, ◌||◌, refl, sym, ap, ◌∙◌, true≢false}
+use Rattle.std.proofs.Common.{◌≡◌, ℕ, zero, suc, List, [], ◌∷◌, Bool, true, false, not, ◌&&◌, ◌||◌, refl, sym, ap, ◌∙◌, true≢false}
 use Rattle.std.specs.Prelude.{Option, None, Some, Result, Ok, Err, option_and_then, is_some, codes, if◌then◌else◌}
 use Rattle.std.specs.List.{list_any}
 use Rattle.std.specs.declared.cmp.Ordering.{Ordering}
@@ -10,55 +10,19 @@ use Rattle.std.proofs.lemmas.Cmp.{nat_list_cmp_total}
 use Rattle.ssa_model.specs.definitions.Limits.{most_levels}
 use Rattle.ssa_model.specs.definitions.Json.{Text, Json, scalar, list, object, Members, no_members, member, member_of, same_text, as_text}
 use Rattle.ssa_model.specs.definitions.Kind as kinds
+use Rattle.ssa_model.proofs.Faults.{cons≢nil, nil_first, nil_second}
+use Rattle.ssa_model.proofs.SchemaMembers.{kept as not_false, behind, no-fault}
+use Rattle.ssa_model.proofs.Tables.{first_false, second_false}
 use Rattle.ssa_json.proofs.Equality.{same_text-true}
+use Rattle.ssa_path.proofs.Orders.{both, both_first, both_second}
 use Rattle.ssa_model.specs.definitions.Schema as model
 use Rattle.ssa_model.specs.definitions.Lawful.{names_rise_after, are_key_names, is_keyed, are_keyed, is_record, is_root_kind}
 
--- ---- lists of faults
+-- ---- sorted names rise
 
 is_nil : {X : Type 0} → List X → Bool
 is_nil [] = true
 is_nil (x ∷ xs) = false
-
-cons≢nil : {X : Type 0} {x : X} {xs : List X} → x ∷ xs ≡ [] → ⊥
-unfolding is_nil
-cons≢nil e = true≢false (sym (ap is_nil e))
-
-nil_first : {X : Type 0} (xs ys : List X) → xs ++ ys ≡ [] → xs ≡ []
-nil_first [] ys e = refl
-nil_first (x ∷ xs) ys e = absurd (cons≢nil e)
-
-nil_second : {X : Type 0} (xs ys : List X) → xs ++ ys ≡ [] → ys ≡ []
-nil_second [] ys e = e
-nil_second (x ∷ xs) ys e = absurd (cons≢nil e)
-
-no_fault : (b : Bool) (f : model.SchemaFault) → model.fault_if b f ≡ [] → b ≡ false
-no_fault true f e = absurd (cons≢nil e)
-no_fault false f e = refl
-
--- ---- tests
-
-or_first : (a b : Bool) → (a || b) ≡ false → a ≡ false
-or_first true b e = absurd (true≢false e)
-or_first false b e = refl
-
-or_second : (a b : Bool) → (a || b) ≡ false → b ≡ false
-or_second true b e = absurd (true≢false e)
-or_second false b e = e
-
-and_of_true : (a b : Bool) → a ≡ true → (a && b) ≡ false → b ≡ false
-and_of_true true b t e = e
-and_of_true false b t e = absurd (true≢false (sym t))
-
-pub both : (a b : Bool) → a ≡ true → b ≡ true → (a && b) ≡ true
-both true b t e = e
-both false b t e = absurd (true≢false (sym t))
-
-not_false : (a : Bool) → not a ≡ false → a ≡ true
-not_false true e = refl
-not_false false e = absurd (true≢false e)
-
--- ---- sorted names rise
 
 -- the name is below the first of these, if there is one
 is_below : Text → List Text → Bool
@@ -77,20 +41,12 @@ rises-of n (m ∷ ms) b r = both _ _ b r
 below-of : (n : Text) (ns : List Text) → names_rise_after n ns ≡ true → is_below n ns ≡ true
 unfolding is_below
 below-of n [] h = refl
-below-of n (m ∷ ms) h = both_left _ _ h
-  where
-    both_left : (a b : Bool) → (a && b) ≡ true → a ≡ true
-    both_left true b e = refl
-    both_left false b e = e
-
-pub and_second : (a b : Bool) → (a && b) ≡ true → b ≡ true
-and_second true b e = e
-and_second false b e = absurd (true≢false (sym e))
+below-of n (m ∷ ms) h = both_first _ _ h
 
 rest-rises : (n : Text) (ns : List Text) → names_rise_after n ns ≡ true → rise ns ≡ true
 unfolding rise
 rest-rises n [] h = refl
-rest-rises n (m ∷ ms) h = and_second (is_lt (slice_cmp nat_cmp n m)) _ h
+rest-rises n (m ∷ ms) h = both_second (is_lt (slice_cmp nat_cmp n m)) _ h
 
 lower_of : (o : Ordering) → o ≡ Less → is_lt o ≡ true
 lower_of o e = ap is_lt e
@@ -166,7 +122,7 @@ eq_turned Less = refl
 eq_turned Equal = refl
 eq_turned Greater = refl
 
-same_turned : (t u : Text) → same_text t u ≡ same_text u t
+pub same_turned : (t u : Text) → same_text t u ≡ same_text u t
 same_turned t u = ap is_eq (nat_list_cmp_total.antisymm t u) ∙ eq_turned (slice_cmp nat_cmp u t)
 
 third : (a b c u : Text) → (same_text u a || (same_text u b || (same_text u c || false))) ≡ true → same_text a u ≡ false → same_text b u ≡ false → same_text c u ≡ true
@@ -216,27 +172,27 @@ module _ (s : model.Standing) (ms : Members) (no_shape : model.has_wrong_shape s
   list_type = member_of (codes "x-kubernetes-list-type") ms
 
   right-array : model.is_wrong_array ms ≡ false
-  right-array = or_first _ _ (or_second (model.is_wrong_object ms) _ (or_second (model.is_wrong_scalar ms) _ no_shape))
+  right-array = first_false _ _ (second_false (model.is_wrong_object ms) _ (second_false (model.is_wrong_scalar ms) _ no_shape))
 
   among-types : model.is_array_type ms ≡ true → model.if_given (model.is_text_among list_types) list_type ≡ true
   unfolding list_type list_types
   among-types array =
-      not_false _ (or_second (model.has_member (codes "x-kubernetes-map-type") ms) _ (or_second (model.has_member (codes "additionalProperties") ms) _ (or_second (model.has_member (codes "properties") ms) _
-      (or_second (not (model.has_member (codes "items") ms)) _ (and_of_true (model.is_array_type ms) _ array right-array)))))
+      not_false _ (second_false (model.has_member (codes "x-kubernetes-map-type") ms) _ (second_false (model.has_member (codes "additionalProperties") ms) _ (second_false (model.has_member (codes "properties") ms) _
+      (second_false (not (model.has_member (codes "items") ms)) _ (behind (model.is_array_type ms) _ array right-array)))))
 
   -- a list that is neither atomic nor a set
   is-map : model.is_array_type ms ≡ true → model.is_atomic ms ≡ false → model.list_type_is (codes "set") ms ≡ false → model.list_type_is (codes "map") ms ≡ true
   unfolding list_type is_it
   is-map array kept no_set =
-      let types = and_of_true (model.is_array_type ms) _ array (or_second (model.is_object_type ms && model.member_is (codes "x-kubernetes-map-type") (codes "atomic") ms) _ kept) in
-      map-type list_type (not_false _ (or_first _ _ types)) (among-types array) (or_second (not (model.has_member (codes "x-kubernetes-list-type") ms)) _ types) no_set
+      let types = behind (model.is_array_type ms) _ array (second_false (model.is_object_type ms && model.member_is (codes "x-kubernetes-map-type") (codes "atomic") ms) _ kept) in
+      map-type list_type (not_false _ (first_false _ _ types)) (among-types array) (second_false (not (model.has_member (codes "x-kubernetes-list-type") ms)) _ types) no_set
 
   pub map-keys : model.is_array_type ms ≡ true → model.is_atomic ms ≡ false → model.list_type_is (codes "set") ms ≡ false → are_key_names (model.sorted_texts (model.key_names ms)) ≡ true
   unfolding lacks_keys names_in
   map-keys array kept no_set =
       keys-there (member_of (codes "x-kubernetes-list-map-keys") ms)
-      (and_of_true (model.list_type_is (codes "map") ms) _ (is-map array kept no_set)
-      (or_second (model.has_member (codes "x-kubernetes-list-map-keys") ms && not (model.list_type_is (codes "map") ms)) _ (and_of_true (model.is_array_type ms) _ array no_keys)))
+      (behind (model.list_type_is (codes "map") ms) _ (is-map array kept no_set)
+      (second_false (model.has_member (codes "x-kubernetes-list-map-keys") ms && not (model.list_type_is (codes "map") ms)) _ (behind (model.is_array_type ms) _ array no_keys)))
 
 -- ---- one level of a schema
 
@@ -257,8 +213,8 @@ is-clean n s ms e =
     let children = nil_first (model.child_faults read ms) (model.item_faults ms) inside in
     let later = nil_second (model.property_faults read (model.property_members ms)) _ children in
     record {
-      no_shape = no_fault _ _ (nil_first (model.fault_if (model.has_wrong_shape s ms) model.schema_shape) _ shaped);
-      no_keys = no_fault _ _ (nil_first (model.fault_if (model.has_wrong_keys ms) model.schema_keys) _ keyed);
+      no_shape = no-fault _ _ (nil_first (model.fault_if (model.has_wrong_shape s ms) model.schema_shape) _ shaped);
+      no_keys = no-fault _ _ (nil_first (model.fault_if (model.has_wrong_keys ms) model.schema_keys) _ keyed);
       properties = nil_first (model.property_faults read (model.property_members ms)) _ children;
       others = nil_first (model.optional_faults read (member_of (codes "additionalProperties") ms)) _ later;
       items = nil_second (model.optional_faults read (member_of (codes "additionalProperties") ms)) _ later;
@@ -358,15 +314,11 @@ put_field-keyed fs n k m j Less own other rest more = both _ _ own (both _ _ oth
 put_field-keyed fs n k m j Equal own other rest more = both _ _ own rest
 put_field-keyed fs n k m j Greater own other rest more = both _ _ other more
 
-pub and_first : (a b : Bool) → (a && b) ≡ true → a ≡ true
-and_first true b e = refl
-and_first false b e = e
-
 with_field-keyed : (n : Text) (k : kinds.Kind) (fs : kinds.Fields) → is_keyed k ≡ true → are_keyed fs ≡ true → are_keyed (model.with_field n k fs) ≡ true
 with_field-keyed n k kinds.no_fields own h = both _ _ own refl
 with_field-keyed n k (kinds.kind_field m j fs) own h =
-    let rest = and_second (is_keyed j) _ h in
-    ap are_keyed (put_field-is fs n k m j) ∙ put_field-keyed fs n k m j (slice_cmp nat_cmp n m) own (and_first _ _ h) rest (with_field-keyed n k fs own rest)
+    let rest = both_second (is_keyed j) _ h in
+    ap are_keyed (put_field-is fs n k m j) ∙ put_field-keyed fs n k m j (slice_cmp nat_cmp n m) own (both_first _ _ h) rest (with_field-keyed n k fs own rest)
 
 with_metadata-root : (fs : kinds.Fields) (k : kinds.Kind) → are_keyed fs ≡ true → is_record k ≡ true → is_keyed k ≡ true → is_root_kind (model.with_metadata fs k) ≡ true
 with_metadata-root fs (kinds.record_of gs) own r h = with_field-keyed (codes "metadata") (kinds.record_of fs) gs own h
@@ -403,14 +355,14 @@ pub root-is : (n : ℕ) (ms : Members) → model.schema_faults (suc n) model.at_
 unfolding is_it
 root-is n ms e =
     let clean = is-clean n model.at_root ms e in
-    let right : model.is_wrong_root ms ≡ false = or_second (model.is_in_atomic model.at_root && model.has_marker ms) _ (or_second (model.is_wrong_array ms) _ (or_second (model.is_wrong_object ms) _ (or_second (model.is_wrong_scalar ms) _ clean.no_shape))) in
-    let is_object : model.is_object_type ms ≡ true = not_false _ (or_first _ _ right) in
-    let later = or_second (not (model.is_object_type ms)) _ right in
-    let last = or_second (model.has_member (codes "additionalProperties") ms) _ later in (
-      if-false (model.is_atomic ms) _ _ (or_first _ _ last) ∙ if-false (model.is_array_type ms) _ _ (one-type (member_of (codes "type") ms) is_object)
+    let right : model.is_wrong_root ms ≡ false = second_false (model.is_in_atomic model.at_root && model.has_marker ms) _ (second_false (model.is_wrong_array ms) _ (second_false (model.is_wrong_object ms) _ (second_false (model.is_wrong_scalar ms) _ clean.no_shape))) in
+    let is_object : model.is_object_type ms ≡ true = not_false _ (first_false _ _ right) in
+    let later = second_false (not (model.is_object_type ms)) _ right in
+    let last = second_false (model.has_member (codes "additionalProperties") ms) _ later in (
+      if-false (model.is_atomic ms) _ _ (first_false _ _ last) ∙ if-false (model.is_array_type ms) _ _ (one-type (member_of (codes "type") ms) is_object)
           ∙ if-true (model.is_object_type ms) _ _ is_object
-          ∙ no-other (member_of (codes "additionalProperties") ms) (model.kind_fields (model.kind_of_schema n) (model.property_members ms)) (model.kind_of_schema n) (or_first _ _ later),
-      or_second (model.is_atomic ms) _ last,
+          ∙ no-other (member_of (codes "additionalProperties") ms) (model.kind_fields (model.kind_of_schema n) (model.property_members ms)) (model.kind_of_schema n) (first_false _ _ later),
+      second_false (model.is_atomic ms) _ last,
     )
 
 pub root-record : (n : ℕ) (v : Json) → model.schema_faults (suc n) model.at_root v ≡ [] → is_record (model.kind_of_schema (suc n) v) ≡ true

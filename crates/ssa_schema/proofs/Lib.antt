@@ -6,11 +6,14 @@ pub mod Firsts
 pub mod ItemWalk
 pub mod Kinding
 pub mod Lawful
+pub mod Leading
 pub mod Made
 pub mod MemberWalk
 pub mod Metadata
 pub mod Ordered
 pub mod Reading
+pub mod Repeats
+pub mod Rows
 pub mod Shaping
 pub mod Sorting
 pub mod Apart

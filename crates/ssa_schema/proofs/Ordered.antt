@@ -10,7 +10,7 @@ use Rattle.std.specs.BTreeMap.{insert_entry}
 use Rattle.ssa_schema.specs.Kinds.{kind_view, fields_view}
 use Rattle.ssa_model.specs.definitions.Lawful.{is_before_all, is_ordered, are_ordered}
 use Rattle.ssa_schema.specs.declared.kind.Kind.{Kind}
-use Rattle.ssa_schema.proofs.Lawful.{both, and_first, and_second}
+use Rattle.ssa_path.proofs.Orders.{both, both_first, both_second}
 
 abbrev pub Field : Type 0
 Field = String Global × Kind
@@ -27,13 +27,13 @@ before-all n (f ∷ fs) h = both _ _ (ap is_lt h.0) (before-all n fs h.1)
 pub fields-ordered : (fs : List Field) → IsStrictlySortedBy string_cmp (keys_of fs) → all_ordered fs ≡ true → are_ordered (fields_view fs) ≡ true
 unfolding IsStrictlySortedBy
 fields-ordered [] sorted h = refl
-fields-ordered (f ∷ fs) sorted h = both _ _ (before-all f.0 fs sorted.0) (both _ _ (and_first _ _ h) (fields-ordered fs sorted.1 (and_second (is_ordered (kind_view f.1)) _ h)))
+fields-ordered (f ∷ fs) sorted h = both _ _ (before-all f.0 fs sorted.0) (both _ _ (both_first _ _ h) (fields-ordered fs sorted.1 (both_second (is_ordered (kind_view f.1)) _ h)))
 
 pub ordered-inside : (fs : List Field) → are_ordered (fields_view fs) ≡ true → all_ordered fs ≡ true
 ordered-inside [] h = refl
 ordered-inside (f ∷ fs) h =
-    let rest = and_second (is_before_all (string_bytes f.0) (fields_view fs)) _ h in
-    both _ _ (and_first _ _ rest) (ordered-inside fs (and_second (is_ordered (kind_view f.1)) _ rest))
+    let rest = both_second (is_before_all (string_bytes f.0) (fields_view fs)) _ h in
+    both _ _ (both_first _ _ rest) (ordered-inside fs (both_second (is_ordered (kind_view f.1)) _ rest))
 
 one_put : (n : String Global) (k : Kind) (f : Field) (fs rest : List Field) (o : Ordering) → is_ordered (kind_view k) ≡ true → is_ordered (kind_view f.1) ≡ true → all_ordered fs ≡ true → all_ordered rest ≡ true
     → all_ordered (match_ordering o ((n, k) ∷ f ∷ fs) ((f.0, k) ∷ fs) (f ∷ rest)) ≡ true
@@ -45,5 +45,5 @@ one_put n k f fs rest Greater own first others more = both _ _ first more
 pub ordered-insert : (n : String Global) (k : Kind) (fs : List Field) → is_ordered (kind_view k) ≡ true → all_ordered fs ≡ true → all_ordered (insert_entry string_cmp fs n k) ≡ true
 ordered-insert n k [] own h = both _ _ own refl
 ordered-insert n k (f ∷ fs) own h =
-    let others = and_second (is_ordered (kind_view f.1)) _ h in
-    one_put n k f fs (insert_entry string_cmp fs n k) (slice_cmp nat_cmp (string_bytes n) (string_bytes f.0)) own (and_first _ _ h) others (ordered-insert n k fs own others)
+    let others = both_second (is_ordered (kind_view f.1)) _ h in
+    one_put n k f fs (insert_entry string_cmp fs n k) (slice_cmp nat_cmp (string_bytes n) (string_bytes f.0)) own (both_first _ _ h) others (ordered-insert n k fs own others)

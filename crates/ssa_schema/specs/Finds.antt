@@ -51,6 +51,10 @@ abbrev pub scalar_of : model.ScalarKind → Json → Option Scalar
 scalar_of k (scalar s) = if model.is_of k s then Some s else None
 scalar_of k _ = None
 
+abbrev pub scalar_in : Option Json → Option Scalar
+scalar_in (Some (scalar s)) = Some s
+scalar_in _ = None
+
 -- the faults of an item whose keys are right: an earlier one has them, or its fields have faults
 abbrev pub keyed_faults : Bool → List Text → model.Fields → Members → Path → List model.FaultAt
 keyed_faults is_new names fs ms p =

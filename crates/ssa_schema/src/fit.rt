@@ -1,7 +1,10 @@
 //! The first fault of a value under a kind.
 
-pub mod element_text;
 pub mod faults;
 pub mod found;
+pub mod item_key;
 pub mod item_keys;
+pub mod leading;
+pub mod names;
+pub mod repeated;
 pub mod shape_misfit;

@@ -1,17 +1,18 @@
 -- Trees of values of each kind.
-use Rattle.std.proofs.Common.{◌≡◌, List, [], ◌∷◌, ◌++◌, Bool, true, false, Vec, Box, BTreeMap, String, Global, string_bytes, nat_cmp, refl, sym, ap, ◌∙◌, subst₂, append-nil, true≢false, rules}
+use Rattle.std.proofs.Common.{◌≡◌, List, [], ◌∷◌, ◌++◌, Bool, true, false, Box, String, Global, string_bytes, nat_cmp, refl, sym, ap, ◌∙◌, subst₂, append-nil, true≢false, rules}
 use Rattle.std.specs.Prelude.{Option, None, Some, if◌then◌else◌, option_map}
 use Rattle.std.specs.Borrow.{Bor}
 use Rattle.std.specs.Map.{lookup}
 use Rattle.std.specs.BTreeMap.{is_at}
 use Rattle.std.specs.Cmp.Lexicographic.{slice_cmp}
+pub use Rattle.ssa_schema.proofs.Kinding.{kind_view-ItemsOf}
 use Rattle.ssa_schema.proofs.Fields.{view_of_ref, fields-lookup}
 use Rattle.ssa_model.specs.definitions.Json.{Text, Json, object, list, Items, Members, same_text}
 use Rattle.ssa_model.specs.definitions.Path.{field, Path}
 use Rattle.ssa_model.specs.definitions.PathMap.{from_entries}
 use Rattle.ssa_model.specs.definitions.Kind as model
 use Rattle.ssa_model.specs.definitions.Body.{Content, record_branch, dict_branch, list_branch, flat, without_empty_metadata, places, field_places, entry_places, value_places, item_places, value_order, key_order}
-use Rattle.ssa_schema.specs.Kinds.{kind_view, fields_view, names_view, scalar_kind_view}
+use Rattle.ssa_schema.specs.Kinds.{kind_view, fields_view, scalar_kind_view}
 use Rattle.ssa_model.specs.definitions.Lawful.{is_keyed, are_keyed}
 use Rattle.ssa_schema.specs.declared.kind.Kind as kind
 use Rattle.ssa_schema.specs.declared.kind.ScalarKind.{ScalarKind}
@@ -32,9 +33,6 @@ kind_view-Dict b = search (rules, kind.the_lemmas)
 
 pub kind_view-SetOf : (k : ScalarKind) → kind_view (kind.SetOf k) ≡ model.set_of (scalar_kind_view k)
 kind_view-SetOf k = search (rules, kind.the_lemmas)
-
-pub kind_view-ItemsOf : (keys : Vec (String Global) Global) (fields : BTreeMap (String Global) kind.Kind) → kind_view (kind.ItemsOf keys fields) ≡ model.items_of (names_view keys.items) (fields_view fields.entries)
-kind_view-ItemsOf keys fields = search (rules, kind.the_lemmas)
 
 is_there : {A : Type 0} → Option A → Bool
 is_there None = false

@@ -1,5 +1,5 @@
 -- Trees of fitting values.
-use Rattle.std.specs.Prelude.{◌≡◌, List, [], ◌∷◌, ◌++◌, map, true, Option, Some, None}
+use Rattle.std.specs.Prelude.{◌≡◌, List, [], ◌∷◌, ◌++◌, map, true, Some, None}
 use Rattle.ssa_model.specs.definitions.Json.{Text, Scalar, Json, scalar, list, object, Items, Members}
 use Rattle.ssa_model.specs.definitions.Path.{Element, value, Path}
 use Rattle.ssa_model.specs.definitions.Kind.{Kind, Fields, faults, item_key, kind_of}
@@ -28,10 +28,6 @@ pub record IsFlattening (k : Kind) (v : Json) (b : Body) : Type 0 where
   pub body : flat k v ≡ b
 
 -- ---- what is made of them
-
-abbrev pub scalar_in : Option Json → Option Scalar
-scalar_in (Some (scalar s)) = Some s
-scalar_in _ = None
 
 -- the places of a member at its own path
 abbrev pub member_places : Fields → Text → Json → Path → List Row

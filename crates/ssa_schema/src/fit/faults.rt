@@ -1,18 +1,20 @@
 //! The first fault of a value under a kind.
-ghost use Rattle.std.specs.Prelude.{◌≡◌, [], IfOk, option_map};
+ghost use Rattle.std.specs.Prelude.{[], IfOk};
 ghost use Rattle.ssa_model.specs.definitions.Kind.{faults, field_faults, entry_faults, value_faults, item_faults};
-ghost use Rattle.ssa_json.specs.View.{view, items_view, members_view, scalar_view};
+ghost use Rattle.ssa_json.specs.View.{view, items_view, members_view};
 ghost use Rattle.ssa_schema.specs.Kinds.{scalar_kind_view, kind_view, fields_view, names_view};
-ghost use Rattle.ssa_schema.specs.Finds.{Finds, scalar_of, keyed_faults};
+ghost use Rattle.ssa_schema.specs.Finds.{Finds, keyed_faults};
 
-use crate::fit::element_text::{field_text, key_text, value_text};
 use crate::fit::found::{Found, Misfit};
 use crate::fit::item_keys::keys_misfit;
+use crate::fit::leading::{repeated_item, repeated_value, scalar_of};
+use crate::fit::names::{field_name, key_name, value_name};
+use crate::fit::repeated::is_other;
 use crate::fit::shape_misfit::{scalar_misfit, shape_misfit};
 use crate::kind::{Kind, ScalarKind, find_field};
-use ssa_json::value::{Json, Scalar};
+use ssa_json::value::Json;
 use std::alloc::{AllocError, Global};
-use std::collections::{BTreeMap, BTreeSet};
+use std::collections::BTreeMap;
 
 /// The first fault of a value, in the order of the walk; none where it fits.
 #[cycle(walk)]
@@ -46,10 +48,10 @@ fn fields_fault(
     for (name, member) in members.iter() {
         let Some(kind) = find_field(fields, name.as_str()) else {
             let unknown = Found::here(alloc, Misfit::UnknownField);
-            return Ok(Some(unknown.below(field_text(alloc, name.as_str())?)?));
+            return Ok(Some(unknown.below(field_name(alloc, name.as_str())?)?));
         };
         if let Some(found) = value_fault(alloc, member, kind)? {
-            return Ok(Some(found.below(field_text(alloc, name.as_str())?)?));
+            return Ok(Some(found.below(field_name(alloc, name.as_str())?)?));
         }
     }
     Ok(None)
@@ -66,29 +68,13 @@ fn entries_fault(
 {
     for (name, entry) in members.iter() {
         if let Some(found) = value_fault(alloc, entry, inside)? {
-            return Ok(Some(found.below(field_text(alloc, name.as_str())?)?));
+            return Ok(Some(found.below(field_name(alloc, name.as_str())?)?));
         }
     }
     Ok(None)
 }
 
-// The scalar, where the value is one of the kind.
-fn scalar_of<'a>(value: &'a Json, wanted: &ScalarKind) -> Option<&'a Scalar>
-    ensures { option_map (λ s. scalar_view s.now) result ≡ scalar_of (scalar_kind_view wanted.now) (view value.now) }
-{
-    match value {
-        Json::Scalar(scalar) => {
-            if wanted.has(scalar) {
-                Some(scalar)
-            } else {
-                None
-            }
-        }
-        _ => None,
-    }
-}
-
-// The first fault of the items of a set. The texts of those before tell whether one is there already.
+// The first fault of the items of a set.
 fn set_fault(
     alloc: Global,
     items: &[Json],
@@ -96,22 +82,20 @@ fn set_fault(
 ) -> Result<Option<Found>, AllocError>
     ensures { IfOk result (λ f. Finds f (value_faults (scalar_kind_view wanted.now) [] (items_view items.now))) }
 {
-    let mut earlier = BTreeSet::new(alloc);
-    for item in items {
+    let repeated = repeated_value(alloc, items, wanted)?;
+    for (i, item) in items.iter().enumerate() {
         let Some(scalar) = scalar_of(item, wanted) else {
             return Ok(Found::at_place(alloc, Some(Misfit::WrongType)));
         };
-        let is_new = earlier.insert(value_text(alloc, scalar)?)?;
-        if !is_new {
+        if !is_other(repeated, i) {
             let twice = Found::here(alloc, Misfit::DuplicateItem);
-            return Ok(Some(twice.below(value_text(alloc, scalar)?)?));
+            return Ok(Some(twice.below(value_name(alloc, scalar)?)?));
         }
     }
     Ok(None)
 }
 
-// The first fault of the items of a map list. The texts of the keys before tell whether one is there
-// already.
+// The first fault of the items of a map list.
 #[cycle(walk)]
 fn items_fault(
     alloc: Global,
@@ -121,15 +105,15 @@ fn items_fault(
 ) -> Result<Option<Found>, AllocError>
     ensures { IfOk result (λ f. Finds f (item_faults (names_view keys.now) (fields_view fields.now.entries) [] (items_view items.now))) }
 {
-    let mut earlier = BTreeSet::new(alloc);
-    for item in items {
+    let repeated = repeated_item(alloc, items, keys)?;
+    for (i, item) in items.iter().enumerate() {
         let Json::Object(members) = item else {
             return Ok(Found::at_place(alloc, Some(Misfit::WrongType)));
         };
         if let Some(misfit) = keys_misfit(members, keys, fields) {
             return Ok(Found::at_place(alloc, Some(misfit)));
         }
-        let is_new = earlier.insert(key_text(alloc, keys, members)?)?;
+        let is_new = is_other(repeated, i);
         if let Some(found) = keyed_fault(alloc, members, keys, fields, is_new)? {
             return Ok(Some(found));
         }
@@ -150,10 +134,10 @@ fn keyed_fault(
 {
     if !is_new {
         let twice = Found::here(alloc, Misfit::DuplicateItem);
-        return Ok(Some(twice.below(key_text(alloc, keys, members)?)?));
+        return Ok(Some(twice.below(key_name(alloc, keys, members)?)?));
     }
     if let Some(found) = fields_fault(alloc, members, fields)? {
-        return Ok(Some(found.below(key_text(alloc, keys, members)?)?));
+        return Ok(Some(found.below(key_name(alloc, keys, members)?)?));
     }
     Ok(None)
 }

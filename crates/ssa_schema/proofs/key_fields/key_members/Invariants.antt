@@ -3,7 +3,7 @@ use Rattle.ssa_model.specs.definitions.Kind.{key_scalars}
 use Rattle.ssa_path.specs.Keys as keys
 use Rattle.ssa_json.specs.View.{members_view}
 use Rattle.ssa_schema.specs.Kinds.{names_view}
-use Rattle.ssa_typed.proofs.item_keys.key_members.Given as goal
+use Rattle.ssa_schema.proofs.key_fields.key_members.Given as goal
 
 -- the scalars so far, and those of the names that are left
 abbrev pub invariant-loop-name : goal.invariant-loop-name

@@ -1,0 +1,62 @@
+//! The first item of a list that equals an earlier one.
+ghost use Rattle.std.specs.Prelude.{◌≡◌, [], map, IfOk};
+ghost use Rattle.ssa_schema.specs.Repeats.{row_view, same_row, repeat_from, is_other, lesser, least_repeat, placed_view};
+
+use crate::fit::item_key::ItemKey;
+use std::alloc::{AllocError, Global};
+
+// The lesser of the numbers, where the first is there.
+fn lesser(least: Option<usize>, place: usize) -> Option<usize>
+    ensures { result ≡ lesser least place }
+{
+    match least {
+        None => Some(place),
+        Some(least) => {
+            if place < least {
+                Some(place)
+            } else {
+                Some(least)
+            }
+        }
+    }
+}
+
+// The least place of one that equals the one in front of it.
+fn least_repeat(sorted: &[(usize, &ItemKey)]) -> Option<usize>
+    ensures { result ≡ least_repeat same_row (placed_view sorted.now) }
+{
+    let [first, rest @ ..] = sorted else {
+        return None;
+    };
+    let mut least = None;
+    let mut last = first.1;
+    for next in rest {
+        if last.order(next.1).is_eq() {
+            least = lesser(least, next.0);
+        }
+        last = next.1;
+    }
+    least
+}
+
+/// The place of the first key that equals an earlier one. Takes about n log n comparisons.
+pub fn first_repeat(alloc: Global, keys: &[ItemKey]) -> Result<Option<usize>, AllocError>
+    ensures { IfOk result (λ place. place ≡ repeat_from same_row 0 [] (map row_view keys.now)) }
+{
+    let mut placed = Vec::with_capacity(alloc, keys.len())?;
+    for (place, key) in keys.iter().enumerate() {
+        placed.push((place, key))?;
+    }
+    placed.sort_by(|own, other| own.1.order(other.1))?;
+    Ok(least_repeat(&placed))
+}
+
+/// Whether the one at a place is not the one that was found.
+pub fn is_other(found: Option<usize>, place: usize) -> bool
+    ensures { result ≡ is_other found place }
+{
+    match found {
+        None => true,
+        Some(found) => found != place,
+    }
+}
