@@ -3,4 +3,5 @@
 
 pub mod changing;
 pub mod delta;
+pub mod going;
 pub mod live_entry;
