@@ -1,0 +1,3 @@
+pub mod Tables
+pub mod Changing
+pub mod Going
