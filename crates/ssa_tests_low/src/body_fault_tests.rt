@@ -35,7 +35,7 @@ fn fault_of_spec(alloc: Global, spec: &str) -> Result<String, Fail> {
     fault_under(alloc, SPEC, &body)
 }
 
-const SPECS: [(&str, &str); 24] = [
+const SPECS: [(&str, &str); 29] = [
     (r#"{"image":"a","replicas":3}"#, "fits"),
     (r#"{"image":1,"zzz":1}"#, "WrongType f:spec f:image"),
     (r#"{"aaa":1,"image":1}"#, "UnknownField f:spec f:aaa"),
@@ -49,6 +49,15 @@ const SPECS: [(&str, &str); 24] = [
         r#"{"hosts":["x","x"]}"#,
         r#"DuplicateItem f:spec f:hosts v:"x""#,
     ),
+    (
+        r#"{"hosts":["x","w","v","u","t","s","r","q","p","o","n","m","l","k","j","i","h","g","f","e","d","m","x"]}"#,
+        r#"DuplicateItem f:spec f:hosts v:"m""#,
+    ),
+    (
+        r#"{"hosts":["x","x",1]}"#,
+        r#"DuplicateItem f:spec f:hosts v:"x""#,
+    ),
+    (r#"{"hosts":["x",1,"x"]}"#, "WrongType f:spec f:hosts"),
     (r#"{"hosts":["x",1]}"#, "WrongType f:spec f:hosts"),
     (r#"{"hosts":{}}"#, "WrongType f:spec f:hosts"),
     (r#"{"ports":[{"name":"a","port":1},{"name":"b"}]}"#, "fits"),
@@ -66,6 +75,14 @@ const SPECS: [(&str, &str); 24] = [
     (
         r#"{"routes":[{"name":"x","port":1,"zzz":1}]}"#,
         r#"UnknownField f:spec f:routes k:{"name":"x","port":1} f:zzz"#,
+    ),
+    (
+        r#"{"routes":[{"name":"x","port":1},{"name":"x","port":2}]}"#,
+        "fits",
+    ),
+    (
+        r#"{"routes":[{"name":"x","port":2},{"name":"y","port":1},{"name":"x","port":1},{"name":"y","port":1}]}"#,
+        r#"DuplicateItem f:spec f:routes k:{"name":"y","port":1}"#,
     ),
     (r#"{"limits":{"cpu":2}}"#, "fits"),
     (r#"{"limits":{"cpu":"2"}}"#, "WrongType f:spec f:limits"),
