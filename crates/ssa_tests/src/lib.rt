@@ -29,3 +29,5 @@ mod saving_tests;
 mod session_tests;
 #[cfg(test)]
 mod story;
+#[cfg(test)]
+mod word_tests;

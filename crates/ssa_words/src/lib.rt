@@ -6,5 +6,3 @@ pub mod rows;
 mod table;
 pub mod usage;
 pub mod words;
-#[cfg(test)]
-mod words_tests;

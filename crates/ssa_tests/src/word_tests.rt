@@ -1,7 +1,7 @@
 //! The words of the table by their calls, and what is told of others.
 
-use crate::usage::Usage;
-use crate::words::read_words;
+use ssa_words::usage::Usage;
+use ssa_words::words::read_words;
 use std::alloc::Global;
 use std::test::Fail;
 
