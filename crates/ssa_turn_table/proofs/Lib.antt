@@ -1,3 +1,5 @@
 pub mod Steps
 pub mod Changes
 pub mod Taking
+pub mod Inserting
+pub mod TurnedTables
