@@ -13,7 +13,6 @@ use Rattle.ssa_model.specs.definitions.Valid.{AllEntries, has_distinct_keys, Kee
 use Rattle.ssa_model.specs.definitions.Record.{Change, new_moment, is_unchanged, change_to, change_of, changes, gone_from, new_in, table_record}
 use Rattle.ssa_model.specs.definitions.Carry.{placed_at, filled, end_of, is_key_among, change_for, changed_entry, staying}
 use Rattle.ssa_model.specs.laws.RecordLeads.{SetLeads, TableLeads}
-use Rattle.ssa_model.specs.laws.InPlace.{StayersAreLed}
 use Rattle.ssa_model.proofs.PathMaps.{has-union, has-minus, same_sets, same_set-true}
 use Rattle.ssa_model.proofs.Tables.{first_false, second_false, manager-itself, same_text-true, no}
 use Rattle.ssa_model.proofs.SharedManagers.{managers, Each, each-more, each-in, each-apart}
@@ -141,38 +140,13 @@ module _ (d : Entry) (t u : Table) where
       ap (map changed_one) (filter-dropped stays e es (ap not (g.0 ∙ ap not off))) ∙ rest
       ∙ sym (ap (map (entry_or d u)) (filter-dropped (is_in_table u) e.manager (managers es) off)))
 
--- no entry passes where none is asked for
-none-pass : (es : Table) → filter (λ e. false) es ≡ []
-none-pass [] = refl
-none-pass (e ∷ es) = none-pass es
-
--- the entries of managers of the other table, each led to the other's
-stay-led : (d : Entry) (u es : Table) → map (λ e. changed_entry (change_of e (entry_of u e.manager)) e) (filter (λ e. is_in_table u e.manager) es) ≡ map (entry_or d u) (filter (is_in_table u) (managers es))
-stay-led d u [] = refl
-stay-led d u (e ∷ es) =
-    let led : Entry → Entry = λ e. changed_entry (change_of e (entry_of u e.manager)) e in
-    let rest = stay-led d u es in
-    by_test (is_in_table u e.manager)
-    (λ there.
-    let f = entry-there u e.manager there in
-    let one : led e ≡ entry_or d u e.manager =
-    ap (λ o. changed_entry (change_of e o) e) f.1 ∙ entry-leads e f.0 (sym f.2) ∙ sym (ap (λ o. unwrap_or o d) f.1) in
-    ap (map led) (filter-kept (λ x. is_in_table u x.manager) e es there)
-    ∙ (λ i. one i ∷ rest i)
-    ∙ sym (ap (map (entry_or d u)) (filter-kept (is_in_table u) e.manager (managers es) there)))
-    (λ off.
-    ap (map led) (filter-dropped (λ x. is_in_table u x.manager) e es off) ∙ rest
-    ∙ sym (ap (map (entry_or d u)) (filter-dropped (is_in_table u) e.manager (managers es) off)))
-
-pub stayers_are_led : StayersAreLed
-stayers_are_led [] u a b k = sym (none-pass u)
-stayers_are_led (d ∷ ds) u a b k =
-    let t = d ∷ ds in
-    stay-led d u t ∙ ap (map (entry_or d u)) k ∙ from_managers d u (is_in_table t) u (entry-own u b)
-
 -- those who stay, changed, are the second table's entries of the first one's managers
 pub stay-are : (t u : Table) → has_distinct_keys t ≡ true → has_distinct_keys u ≡ true → KeepsOrder t u → staying (table_record t u) t ≡ filter (λ e. is_in_table t e.manager) u
-stay-are [] u a b k = sym (none-pass u)
+stay-are [] u a b k = sym (none u)
+  where
+    none : (es : Table) → filter (λ e. false) es ≡ []
+    none [] = refl
+    none (e ∷ es) = none es
 stay-are (d ∷ ds) u a b k =
     let t = d ∷ ds in
     stay-changed d t u t (change-found u t a)

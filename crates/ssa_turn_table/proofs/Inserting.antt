@@ -1,26 +1,31 @@
 -- Those who come, put in one after the other at rising places.
-use Rattle.std.proofs.Common.{◌≡◌, ℕ, zero, suc, ◌+◌, ◌<◌, ◌≤◌, List, [], ◌∷◌, ◌++◌, length, map, take, drop, Bool, true, false, not, refl, ap, sym, ◌∙◌, append_assoc, length-append, arith}
-use Rattle.std.proofs.lemmas.List.{map-append, take-map, drop-map}
+use Rattle.std.proofs.Common.{◌≡◌, ℕ, zero, suc, ◌+◌, ◌<◌, ◌≤◌, List, [], ◌∷◌, ◌++◌, length, map, take, drop, Bool, true, false, not, refl, ap, sym, ◌∙◌, append_assoc, length-append, get_or, subst, eqb, arith}
+use Rattle.std.proofs.lemmas.List.{map-append, take-map, drop-map, length-map}
+use Rattle.std.proofs.lemmas.Bool.{eqb-true}
 use Rattle.std.specs.List.{insert, remove}
 use Rattle.std.specs.Prelude.{filter, if◌then◌else◌}
 use Rattle.ssa_model.specs.definitions.Table.{ManagerKey, Entry, Table}
 use Rattle.ssa_model.specs.definitions.Record.{placed}
-use Rattle.ssa_model.proofs.InPlace.{insert_at}
+use Rattle.ssa_turn_table.proofs.Stayers.{insert_at}
 use Rattle.ssa_model.proofs.Tests.{by_test, filter-kept, filter-dropped}
+use Rattle.ssa_merge.specs.Managers.{key_view}
+use Rattle.ssa_merge.specs.declared.manager.ManagerKey.{ManagerKey as Key}
 use Rattle.ssa_turn_table.specs.declared.delta.Here.{Here}
 use Rattle.ssa_turn_table.specs.declared.live_entry.LiveEntry.{LiveEntry}
 use Rattle.ssa_turn_table.specs.Coming.{AreComing}
-use Rattle.ssa_turn_table.specs.Tables.{entry_view, table_view, here_view, heres_view}
+use Rattle.ssa_turn_table.specs.Going.{AllKeysAgree}
+use Rattle.ssa_turn_table.specs.Tables.{entry_view, table_view, keys_view, here_view, heres_view}
 
 heads : {X : Type 0} (x y : X) (xs ys : List X) → x ∷ xs ≡ y ∷ ys → (x ≡ y) × (xs ≡ ys)
 heads x y xs ys e = (cc, cc)
 
 module _ {X : Type 0} (comes : X → Bool) where
-  others : List X → List X
+  -- those who do not come
+  abbrev pub others : List X → List X
   others xs = filter (λ x. not (comes x)) xs
 
   others-fewer : (xs : List X) → length (others xs) ≤ length xs
-  others-fewer [] = arith
+  others-fewer [] = omega arith
   others-fewer (x ∷ xs) =
       let rest = others-fewer xs in
       by_test (comes x)
@@ -126,3 +131,43 @@ pub view-insert : (es : List LiveEntry) (i : ℕ) (e : LiveEntry) → table_view
 view-insert es i e =
     map-append entry_view (take i es) (e ∷ drop i es)
     ∙ (λ j. sym (take-map entry_view i es) j ++ entry_view e ∷ sym (drop-map entry_view i es) j)
+
+pub first-of : {X : Type 0} (xs : List X) (x : X) → 0 < length xs → x ≡ get_or xs 0 x → xs ≡ x ∷ remove xs 0
+first-of [] x lt e = absurd (omega arith)
+first-of (y ∷ ys) x lt e = λ i. sym e i ∷ ys
+
+pub none-left : {X : Type 0} (n : ℕ) (xs : List X) → true ≡ eqb n 0 → n ≡ length xs → xs ≡ []
+none-left n [] e l = refl
+none-left n (x ∷ xs) e l = let zero : n ≡ 0 = eqb-true n 0 (sym e) in absurd (omega (arith, zero, l))
+
+-- the next of those who are here is put in
+pub record IsHereStep (comes : Entry → Bool) (u : Table) (es : List LiveEntry) (hs : List Here) (h : Here) : Type 0 where
+  pub within : h.place ≤ length es
+  pub fewer : length es < length u
+  pub more : IsInserting comes u (table_view (insert es h.place h.entry)) (heres_view (remove hs 0))
+
+pub here_step : (comes : Entry → Bool) (u : Table) (es : List LiveEntry) (hs : List Here) (h : Here) → hs ≡ h ∷ remove hs 0
+    → IsInserting comes u (table_view es) (heres_view hs) → IsHereStep comes u es hs h
+here_step comes u es hs h front was =
+    let step = inserting_step comes u (table_view es) (here_view h) (heres_view (remove hs 0)) (subst (λ ks. IsInserting comes u (table_view es) (heres_view ks)) front was) in
+    let long = length-map es entry_view in
+    let within = step.within in
+    let fewer = step.fewer in
+    record {
+      within = omega arith;
+      fewer = omega arith;
+      more = subst (λ t. IsInserting comes u t (heres_view (remove hs 0))) (sym (view-insert es h.place h.entry)) step.more;
+    }
+
+-- its manager is listed
+pub listed_step : (out : List Key) (hs : List Here) (h : Here) → hs ≡ h ∷ remove hs 0 → AllKeysAgree hs
+    → keys_view (out ++ h.key ∷ []) ++ map (λ g. g.1.manager) (heres_view (remove hs 0)) ≡ keys_view out ++ map (λ g. g.1.manager) (heres_view hs)
+listed_step out hs h front agree =
+    let own : key_view h.key ≡ key_view h.entry.key = (subst AllKeysAgree front agree).0 in
+    (λ j. map-append key_view out (h.key ∷ []) j ++ map (λ g. g.1.manager) (heres_view (remove hs 0)))
+    ∙ append_assoc (keys_view out) (key_view h.key ∷ []) (map (λ g. g.1.manager) (heres_view (remove hs 0)))
+    ∙ (λ j. keys_view out ++ own j ∷ map (λ g. g.1.manager) (heres_view (remove hs 0)))
+    ∙ ap (λ ks. keys_view out ++ map (λ g. g.1.manager) (heres_view ks)) (sym front)
+
+pub agree_step : (hs : List Here) (h : Here) → hs ≡ h ∷ remove hs 0 → AllKeysAgree hs → AllKeysAgree (remove hs 0)
+agree_step hs h front agree = (subst AllKeysAgree front agree).1

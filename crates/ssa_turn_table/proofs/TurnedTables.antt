@@ -8,7 +8,7 @@ use Rattle.ssa_model.specs.definitions.Table.{Entry, Table, is_in_table, entry_o
 use Rattle.ssa_model.specs.definitions.Valid.{AllEntries, has_distinct_keys, KeepsOrder}
 use Rattle.ssa_model.specs.definitions.Record.{Change, TableRecord, change_of, changes, gone_from, new_in, table_record}
 use Rattle.ssa_model.specs.definitions.Takes.{TableTakes, moment_or, turned_change, turned_table}
-use Rattle.ssa_model.specs.laws.InPlace.{StayersAreLed}
+use Rattle.ssa_turn_table.proofs.Stayers.{StayersAreLed}
 use Rattle.ssa_model.specs.laws.RecordTurns.{TableTurns}
 use Rattle.ssa_model.proofs.ManagerEntries.{entry-absent, entry-own}
 use Rattle.ssa_model.proofs.Tables.{is_in_table-filter, no}

@@ -6,4 +6,5 @@ pub mod coming;
 pub mod delta;
 pub mod going;
 pub mod live_entry;
+pub mod live_table;
 pub mod table;

@@ -1,6 +1,5 @@
 use Rattle.ssa_model.proofs.InPlace.{table_is_inserted, items_are_inserted}
-use Rattle.ssa_model.proofs.TableLeads.{stayers_are_led}
 use Rattle.ssa_model.proofs.records.in_place.Goals as goal
 
 pub returns : goal.returns
-returns c = record { stay = stayers_are_led; table = table_is_inserted; items = items_are_inserted }
+returns c = record { table = table_is_inserted; items = items_are_inserted }
