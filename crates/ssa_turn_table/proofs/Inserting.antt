@@ -1,10 +1,10 @@
 -- Those who come, put in one after the other at rising places.
-use Rattle.std.proofs.Common.{◌≡◌, ℕ, zero, suc, ◌+◌, ◌<◌, ◌≤◌, List, [], ◌∷◌, ◌++◌, length, map, take, drop, Bool, true, false, not, refl, ap, sym, ◌∙◌, append_assoc, length-append, get_or, subst, eqb, arith}
+use Rattle.std.proofs.Common.{◌≡◌, ℕ, ◌+◌, ◌<◌, ◌≤◌, List, [], ◌∷◌, ◌++◌, length, map, take, drop, Bool, true, not, refl, ap, sym, ◌∙◌, append_assoc, length-append, get_or, subst, eqb, arith}
 use Rattle.std.proofs.lemmas.List.{map-append, take-map, drop-map, length-map}
 use Rattle.std.proofs.lemmas.Bool.{eqb-true}
 use Rattle.std.specs.List.{insert, remove}
 use Rattle.std.specs.Prelude.{filter, if◌then◌else◌}
-use Rattle.ssa_model.specs.definitions.Table.{ManagerKey, Entry, Table}
+use Rattle.ssa_model.specs.definitions.Table.{Entry, Table}
 use Rattle.ssa_model.specs.definitions.Record.{placed}
 use Rattle.ssa_turn_table.proofs.Stayers.{insert_at}
 use Rattle.ssa_model.proofs.Tests.{by_test, filter-kept, filter-dropped}

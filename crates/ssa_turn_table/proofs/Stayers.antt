@@ -1,13 +1,13 @@
 -- (for development: these stand in ssa_model)
-use Rattle.std.proofs.Common.{ℕ, zero, suc, ◌≡◌, ◌+◌, ◌≤◌, List, [], ◌∷◌, ◌++◌, length, Bool, true, false, cond, not, ◌&&◌, ◌||◌, map, Option, Some, None, refl, sym, ap, ◌∙◌, arith}
+use Rattle.std.proofs.Common.{ℕ, zero, suc, ◌≡◌, List, [], ◌∷◌, ◌++◌, length, Bool, true, false, cond, map, Some, None, refl, sym, ap, ◌∙◌, arith}
 use Rattle.std.specs.Cmp.{first_so, second_so}
 use Rattle.std.specs.List.{insert}
 use Rattle.std.specs.Option.{unwrap_or}
 use Rattle.std.specs.Prelude.{filter, if◌then◌else◌}
 use Rattle.ssa_model.specs.definitions.Json.{Text, same_text}
-use Rattle.ssa_model.specs.definitions.Table.{ManagerKey, Entry, Table, same_manager, is_in_table, entry_of}
+use Rattle.ssa_model.specs.definitions.Table.{ManagerKey, Entry, Table, is_in_table, entry_of}
 use Rattle.ssa_model.specs.definitions.Valid.{AllEntries, has_distinct_keys, KeepsOrder}
-use Rattle.ssa_model.specs.definitions.Record.{Change, new_moment, is_unchanged, change_to, change_of}
+use Rattle.ssa_model.specs.definitions.Record.{new_moment, is_unchanged, change_to, change_of}
 use Rattle.ssa_model.specs.definitions.Carry.{changed_entry}
 use Rattle.ssa_model.proofs.PathMaps.{same_set-true}
 use Rattle.ssa_model.proofs.Tables.{same_text-true}

@@ -1,5 +1,6 @@
 //! Tables of managers, changed in place by a record that becomes the record of the way back.
-ghost use Rattle.std.specs.Prelude.{◌≡◌, map};
+ghost use Rattle.std.specs.Prelude.{◌≡◌, ◌≤◌, length, map};
+ghost use Rattle.ssa_model.specs.definitions.Limits.{most_managers};
 ghost use Rattle.ssa_model.specs.definitions.Table.{Table};
 ghost use Rattle.ssa_model.specs.definitions.Carry.{carry_table};
 ghost use Rattle.ssa_model.specs.definitions.Takes.{TableTakes};
@@ -26,6 +27,13 @@ fn change_table(entries: &mut ArrayVec<LiveEntry, 64, Global>, changed: &mut Vec
     change_entries(entries, changed);
 }
 
+// A table has no more entries than it has places.
+fn are_few(entries: &ArrayVec<LiveEntry, 64, Global>)
+    ensures { length entries.now.items ≤ most_managers }
+{
+    let _ = entries.len();
+}
+
 /// Changes the table as the record says, and leaves the record that leads back. Takes no memory.
 ///
 /// Those who are gone are taken out, those who stay are changed, and those who are here are put in
@@ -37,6 +45,7 @@ pub fn turn_table(entries: &mut ArrayVec<LiveEntry, 64, Global>, delta: &mut Tab
     ensures back { TableTakes (table_steps delta.new) (table_view entries.new.items) (table_view entries.old.items) }
     ensures room { HasTableRoom delta.new (table_view entries.new.items) }
 {
+    are_few(entries);
     take_gone(entries, &mut delta.gone, &mut delta.room.here);
     change_table(entries, &mut delta.changed);
     insert_here(entries, &mut delta.here, &mut delta.room.gone);

@@ -1,4 +1,4 @@
-use Rattle.std.proofs.Common.{◌≡◌, ℕ, ◌+◌, ◌<◌, [], ◌∷◌, ◌++◌, length, map, get_or, vec_len, ap, sym, ◌∙◌, subst, arith}
+use Rattle.std.proofs.Common.{◌<◌, ◌++◌, length, map, vec_len, sym, ◌∙◌, subst, arith}
 use Rattle.ssa_turn_table.specs.Going.{AllKeysAgree}
 use Rattle.ssa_turn_table.specs.Tables.{table_view, keys_view, heres_view}
 use Rattle.ssa_turn_table.proofs.Inserting.{IsInserting, inserting_ends, first-of, none-left, here_step, listed_step, agree_step}
