@@ -1,4 +1,4 @@
--- (for development: these stand in ssa_model)
+-- Those who stay in a table, each led to what the other table has of its manager, are the other table's entries in its order.
 use Rattle.std.proofs.Common.{ℕ, zero, suc, ◌≡◌, List, [], ◌∷◌, ◌++◌, length, Bool, true, false, cond, map, Some, None, refl, sym, ap, ◌∙◌, arith}
 use Rattle.std.specs.Cmp.{first_so, second_so}
 use Rattle.std.specs.List.{insert}
