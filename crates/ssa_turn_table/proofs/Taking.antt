@@ -1,9 +1,9 @@
 -- Those who go, taken out one after the other along the entries.
 use Rattle.std.proofs.Common.{◌≡◌, ℕ, zero, suc, ◌+◌, ◌<◌, ◌≤◌, List, [], ◌∷◌, ◌++◌, length, map, take, drop, Bool, true, false, cond, not, refl, ap, sym, ◌∙◌, true≢false, append_assoc, add-one, get_or, subst, arith}
-use Rattle.std.proofs.lemmas.List.{map-append, append-nil}
+use Rattle.std.proofs.lemmas.List.{map-append}
 use Rattle.std.specs.List.{remove}
 use Rattle.std.specs.Prelude.{filter, if◌then◌else◌}
-use Rattle.ssa_model.specs.definitions.Table.{ManagerKey, Entry, Table, same_manager, is_in_table}
+use Rattle.ssa_model.specs.definitions.Table.{ManagerKey, Entry, Table, is_in_table}
 use Rattle.ssa_model.specs.definitions.Record.{gone_from, new_in, placed}
 use Rattle.ssa_model.proofs.Tables.{manager-itself, same_manager-true}
 use Rattle.ssa_model.proofs.Tests.{by_test, filter-kept, filter-dropped}

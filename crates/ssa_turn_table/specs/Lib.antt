@@ -1,3 +1,5 @@
 pub mod Tables
 pub mod Changing
 pub mod Going
+pub mod Coming
+pub mod Turning

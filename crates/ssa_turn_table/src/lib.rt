@@ -2,6 +2,9 @@
 #![tactic(auto)]
 
 pub mod changing;
+pub mod coming;
 pub mod delta;
 pub mod going;
 pub mod live_entry;
+pub mod live_table;
+pub mod table;

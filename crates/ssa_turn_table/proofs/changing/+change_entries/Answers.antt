@@ -1,4 +1,4 @@
-use Rattle.std.proofs.Common.{◌≡◌, List, [], ◌∷◌, Bool, true, false, Some, None, refl, ap, sym, ◌∙◌, subst, map, rules}
+use Rattle.std.proofs.Common.{◌≡◌, List, ◌∷◌, Bool, true, false, None, refl, ap, sym, ◌∙◌, subst, map, rules}
 use Rattle.std.specs.List.{cons_option}
 use Rattle.std.specs.Prelude.{option_map}
 use Rattle.ssa_model.specs.definitions.Carry.{changed_entry}
@@ -8,8 +8,8 @@ use Rattle.ssa_merge.specs.Managers.{key_view}
 use Rattle.ssa_turn_set.specs.Turn.{HasRoom}
 use Rattle.ssa_turn_table.specs.declared.delta.EntryChange.{EntryChange}
 use Rattle.ssa_turn_table.specs.declared.live_entry.LiveEntry.{LiveEntry}
-use Rattle.ssa_turn_table.specs.Tables.{entry_view, table_view, change_view, changes_view}
-use Rattle.ssa_turn_table.specs.Changing.{AllHaveRoom, AreChanges, changed_back, change_in, changes_back, is_first, led_to}
+use Rattle.ssa_turn_table.specs.Tables.{entry_view, table_view, changes_view}
+use Rattle.ssa_turn_table.specs.Changing.{AreChanges, changed_back, change_in, changes_back, is_first, led_to}
 use Rattle.ssa_turn_table.proofs.Changes.{IsMet, is_met, is_passed, owned-entry}
 use Rattle.ssa_turn_table.proofs.changing.+change_entries.Goals as goal
 

@@ -1,7 +1,6 @@
-use Rattle.std.proofs.Common.{◌≡◌, ap, sym, ◌∙◌}
+use Rattle.std.proofs.Common.{ap, sym, ◌∙◌}
 use Rattle.std.specs.Prelude.{option_map}
 use Rattle.ssa_merge.specs.Managers.{key_view}
-use Rattle.ssa_turn_set.specs.Turn.{SetSteps, set_steps, set_back}
 use Rattle.ssa_turn_table.proofs.Steps.{steps-back}
 use Rattle.ssa_turn_table.proofs.changing.turn_entry.Goals as goal
 

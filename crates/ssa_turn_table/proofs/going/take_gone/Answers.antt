@@ -1,8 +1,7 @@
-use Rattle.std.proofs.Common.{◌≡◌, ℕ, ◌+◌, ◌<◌, [], ◌∷◌, ◌++◌, true, length, get_or, refl, ap, sym, ◌∙◌, subst, arith}
+use Rattle.std.proofs.Common.{◌≡◌, ◌+◌, ◌<◌, true, length, get_or, refl, ap, sym, ◌∙◌, subst, arith}
 use Rattle.std.specs.Prelude.{vec_len}
 use Rattle.ssa_merge.specs.Managers.{key_view}
 use Rattle.ssa_path.proofs.Lists.{left-at, taken-at}
-use Rattle.ssa_turn_table.specs.declared.live_entry.LiveEntry.{LiveEntry}
 use Rattle.ssa_turn_table.specs.Tables.{entry_view, keys_view}
 use Rattle.ssa_turn_table.specs.Going.{AllKeysAgree, is_first_key}
 use Rattle.ssa_turn_table.proofs.Taking.{taking_passes, taking_takes, taking_same, keys-push, first-key, same-at}
