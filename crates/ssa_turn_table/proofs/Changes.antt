@@ -16,7 +16,8 @@ use Rattle.ssa_turn_table.specs.declared.delta.EntryChange.{EntryChange}
 use Rattle.ssa_turn_table.specs.Tables.{change_view, changes_view}
 use Rattle.ssa_turn_table.specs.Changing.{AreChanges, change_in, is_first}
 
-heads : {X : Type 0} (x y : X) (xs ys : List X) → x ∷ xs ≡ y ∷ ys → (x ≡ y) × (xs ≡ ys)
+-- the parts of two equal lists
+pub heads : {X : Type 0} (x y : X) (xs ys : List X) → x ∷ xs ≡ y ∷ ys → (x ≡ y) × (xs ≡ ys)
 heads x y xs ys e = (cc, cc)
 
 -- ---- the change of one entry
@@ -54,7 +55,8 @@ module _ (u : Table) (e : Entry) (es : List Entry) (distinct : has_distinct_keys
       ] refl told
 
 -- where it is not, the entry has none
-pub passed : (u : Table) (e : Entry) (es : List Entry) (ds : List Change) → ds ≡ changes (e ∷ es) u → is_first ds e.manager ≡ false → (change_in u e ≡ None) × (ds ≡ changes es u)
+pub passed : (u : Table) (e : Entry) (es : List Entry) (ds : List Change) → ds ≡ changes (e ∷ es) u → is_first ds e.manager ≡ false
+    → (change_in u e ≡ None) × (ds ≡ changes es u)
 passed u e es ds told first =
     elim (change_in u e) as (λ o. change_in u e ≡ o → ds ≡ cons_option o (changes es u) → (o ≡ None) × (ds ≡ changes es u)) [
       | None ↦ λ q h. (refl, h)
@@ -87,7 +89,8 @@ pub record IsMet (t u : Table) (e : Entry) (es : List Entry) (c : EntryChange) (
   pub room : HasRoom c.set e.owned
   pub rest : AreChanges t u es cs
 
-pub is_met : (t u : Table) (e : Entry) (es : List Entry) (c : EntryChange) (cs : List EntryChange) → AreChanges t u (e ∷ es) (c ∷ cs) → is_first (changes_view (c ∷ cs)) e.manager ≡ true → IsMet t u e es c cs
+pub is_met : (t u : Table) (e : Entry) (es : List Entry) (c : EntryChange) (cs : List EntryChange) → AreChanges t u (e ∷ es) (c ∷ cs)
+    → is_first (changes_view (c ∷ cs)) e.manager ≡ true → IsMet t u e es c cs
 is_met t u e es c cs h first =
     let own = met u e es h.distinct (change_view c) (changes_view cs) h.told first in
     let there = change-there e (entry_of u e.manager) (change_view c) own.0 in
@@ -110,7 +113,8 @@ is_met t u e es c cs h first =
     }
 
 -- the changes of the entries after one that has none
-pub is_passed : (t u : Table) (e : Entry) (es : List Entry) (cs : List EntryChange) → AreChanges t u (e ∷ es) cs → is_first (changes_view cs) e.manager ≡ false → (change_in u e ≡ None) × AreChanges t u es cs
+pub is_passed : (t u : Table) (e : Entry) (es : List Entry) (cs : List EntryChange) → AreChanges t u (e ∷ es) cs
+    → is_first (changes_view cs) e.manager ≡ false → (change_in u e ≡ None) × AreChanges t u es cs
 is_passed t u e es cs h first =
     let own = passed u e es (changes_view cs) h.told first in (
       own.0,

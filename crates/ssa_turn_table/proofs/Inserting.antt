@@ -6,6 +6,7 @@ use Rattle.std.specs.List.{insert, remove}
 use Rattle.std.specs.Prelude.{filter, if◌then◌else◌}
 use Rattle.ssa_model.specs.definitions.Table.{Entry, Table}
 use Rattle.ssa_model.specs.definitions.Record.{placed}
+use Rattle.ssa_turn_table.proofs.Changes.{heads}
 use Rattle.ssa_turn_table.proofs.Stayers.{insert_at}
 use Rattle.ssa_model.proofs.Tests.{by_test, filter-kept, filter-dropped}
 use Rattle.ssa_merge.specs.Managers.{key_view}
@@ -15,9 +16,6 @@ use Rattle.ssa_turn_table.specs.declared.live_entry.LiveEntry.{LiveEntry}
 use Rattle.ssa_turn_table.specs.Coming.{AreComing}
 use Rattle.ssa_turn_table.specs.Going.{AllKeysAgree}
 use Rattle.ssa_turn_table.specs.Tables.{entry_view, table_view, keys_view, here_view, heres_view}
-
-heads : {X : Type 0} (x y : X) (xs ys : List X) → x ∷ xs ≡ y ∷ ys → (x ≡ y) × (xs ≡ ys)
-heads x y xs ys e = (cc, cc)
 
 module _ {X : Type 0} (comes : X → Bool) where
   -- those who do not come

@@ -67,7 +67,8 @@ none-pass [] = refl
 none-pass (e ∷ es) = none-pass es
 
 -- the entries of managers of the other table, each led to the other's
-stay-led : (d : Entry) (u es : Table) → map (λ e. changed_entry (change_of e (entry_of u e.manager)) e) (filter (λ e. is_in_table u e.manager) es) ≡ map (entry_or d u) (filter (is_in_table u) (managers es))
+stay-led : (d : Entry) (u es : Table)
+    → map (λ e. changed_entry (change_of e (entry_of u e.manager)) e) (filter (λ e. is_in_table u e.manager) es) ≡ map (entry_or d u) (filter (is_in_table u) (managers es))
 stay-led d u [] = refl
 stay-led d u (e ∷ es) =
     let led : Entry → Entry = λ e. changed_entry (change_of e (entry_of u e.manager)) e in

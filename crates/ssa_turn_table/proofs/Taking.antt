@@ -47,10 +47,12 @@ not-true true h = absurd (true≢false (sym h))
 not-true false h = refl
 
 -- where the first of those gone is the entry's manager, it goes, and else it stays
-goes : (u : Table) (e : Entry) (es : List Entry) (ks : List ManagerKey) → ks ≡ gone_from (e ∷ es) u → is_first_key ks e.manager ≡ true → is_in_table u e.manager ≡ false
+goes : (u : Table) (e : Entry) (es : List Entry) (ks : List ManagerKey) → ks ≡ gone_from (e ∷ es) u → is_first_key ks e.manager ≡ true
+    → is_in_table u e.manager ≡ false
 goes u e es ks told first = not-true _ (first-passes (λ k. not (is_in_table u k)) e.manager (map (λ x. x.manager) (e ∷ es)) (ap (λ js. is_first_key js e.manager) (sym told) ∙ first))
 
-stays : (u : Table) (e : Entry) (es : List Entry) (ks : List ManagerKey) → ks ≡ gone_from (e ∷ es) u → is_first_key ks e.manager ≡ false → is_in_table u e.manager ≡ true
+stays : (u : Table) (e : Entry) (es : List Entry) (ks : List ManagerKey) → ks ≡ gone_from (e ∷ es) u → is_first_key ks e.manager ≡ false
+    → is_in_table u e.manager ≡ true
 stays u e es ks told first =
     by_test (is_in_table u e.manager)
     (λ t. t)
@@ -66,7 +68,8 @@ pub record IsTaking (u : Table) (all now : List LiveEntry) (gone : List Key) (ou
   pub came : heres_view out ++ placed (is_off u) place (table_view (drop i now)) ≡ new_in u (table_view all)
   pub told : keys_view gone ≡ gone_from (table_view (drop i now)) u
 
-pub taking_begins : (u : Table) (all : List LiveEntry) (gone : List Key) (out : List Here) → out ≡ [] → keys_view gone ≡ gone_from (table_view all) u → IsTaking u all all gone out 0 0
+pub taking_begins : (u : Table) (all : List LiveEntry) (gone : List Key) (out : List Here) → out ≡ [] → keys_view gone ≡ gone_from (table_view all) u
+    → IsTaking u all all gone out 0 0
 taking_begins u all gone out none told = record {
   kept = refl;
   came = ap (λ hs. heres_view hs ++ placed (is_off u) 0 (table_view all)) none;
@@ -139,7 +142,8 @@ first-key (x ∷ xs) g k is h = ap key_view is ∙ same_manager-true (key_view x
 pub same-at : {X : Type 0} (xs : List X) (i : ℕ) (x y : X) → i < length xs → x ≡ get_or xs i x → y ≡ get_or xs i y → x ≡ y
 same-at xs i x y lt a b = let both = sym (left-at xs i x lt a) ∙ left-at xs i y lt b in cc
 
-pub taking_same : (u : Table) (all now after : List LiveEntry) (gone left : List Key) (out more : List Here) (i p q : ℕ) → after ≡ now → left ≡ gone → more ≡ out → q ≡ p
+pub taking_same : (u : Table) (all now after : List LiveEntry) (gone left : List Key) (out more : List Here) (i p q : ℕ) → after ≡ now → left ≡ gone
+    → more ≡ out → q ≡ p
     → IsTaking u all now gone out i p → IsTaking u all after left more i q
 taking_same u all now after gone left out more i p q a b c d =
     subst (λ (t : Type 0). t) (λ j. IsTaking u all (sym a j) (sym b j) (sym c j) i (sym d j))

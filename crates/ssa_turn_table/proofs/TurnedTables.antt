@@ -32,7 +32,8 @@ use Rattle.ssa_turn_table.proofs.Changes.{change-manager, owned-entry}
 -- ---- filters
 
 -- what gives nothing may be left out
-without-none : {Y : Type 0} (f : Entry → Option Y) (q : Entry → Bool) (es : Table) → ((e : Entry) → q e ≡ false → f e ≡ None) → filter_map f (filter q es) ≡ filter_map f es
+without-none : {Y : Type 0} (f : Entry → Option Y) (q : Entry → Bool) (es : Table) → ((e : Entry) → q e ≡ false → f e ≡ None)
+    → filter_map f (filter q es) ≡ filter_map f es
 without-none f q [] h = refl
 without-none f q (e ∷ es) h =
     let rest = without-none f q es h in
@@ -80,7 +81,8 @@ pub distinct_stay : (t u : Table) → has_distinct_keys t ≡ true → has_disti
 distinct_stay t u h = distinct-filter (is_in u) t h
 
 -- the changes of a table are those of the entries that stay
-pub are_changes : (t u : Table) (cs : List EntryChange) → has_distinct_keys t ≡ true → changes_view cs ≡ changes t u → AllHaveRoom t cs → AreChanges t u (filter (is_in u) t) cs
+pub are_changes : (t u : Table) (cs : List EntryChange) → has_distinct_keys t ≡ true → changes_view cs ≡ changes t u → AllHaveRoom t cs
+    → AreChanges t u (filter (is_in u) t) cs
 are_changes t u cs distinct told room = record {
   distinct = distinct_stay t u distinct;
   own = own_sets t u distinct;
