@@ -226,14 +226,16 @@ module _ (n m : Node) (live : is_tree n ≡ true) (config : is_tree m ≡ true) 
       let none_config = leaf-below m l own in
       let none : AreOver (below n) (below m) (below m) = record {
         elements_are = ap elements none_config ∙ (λ i. joined (elements (sym none_live i)) (elements (sym none_config i)));
-        contents = λ e p. ap (λ cs. content_in (child_at e cs) p) none_config ∙ (λ i. over_content (content_in (child_at e (sym none_live i)) p) (content_in (child_at e (sym none_config i)) p));
+        contents = λ e p. ap (λ cs. content_in (child_at e cs) p) none_config
+            ∙ (λ i. over_content (content_in (child_at e (sym none_live i)) p) (content_in (child_at e (sym none_config i)) p));
         trees = ap are_trees none_config;
       } in
       over-level n m m (below m) live config config
       (ap (λ c. Some c) own ∙ sym (ap (λ c. over_content (Some (own_content n)) (Some c)) own ∙ over-leaf (Some (own_content n)) l))
       (λ e. refl) none
 
-  joined-fields : (cs : List Child) → is_listing (own_content n) ≡ false → is_listing (own_content m) ≡ false → AreOver (below n) (below m) cs → all_of is_field (elements cs) ≡ true
+  joined-fields : (cs : List Child) → is_listing (own_content n) ≡ false → is_listing (own_content m) ≡ false → AreOver (below n) (below m) cs
+      → all_of is_field (elements cs) ≡ true
   joined-fields cs a b h =
       let es = elements (below n) in
       let fs = elements (below m) in
@@ -241,7 +243,8 @@ module _ (n m : Node) (live : is_tree n ≡ true) (config : is_tree m ≡ true) 
       ∙ all-joined is_field es fs (sym (fields-all es) ∙ fields-made (out-Node n) (rolled n live) a) (sym (fields-all fs) ∙ fields-made (out-Node m) (rolled m config) b)
 
   -- children of two nodes, put in the order of their elements
-  stand-named : (cs ds : List Child) → is_listing (own_content n) ≡ false → is_listing (own_content m) ≡ false → AreOver (below n) (below m) cs → IsInOrder cs ds → ((rises (elements ds) && are_fields (elements ds)) && are_trees ds) ≡ true
+  stand-named : (cs ds : List Child) → is_listing (own_content n) ≡ false → is_listing (own_content m) ≡ false → AreOver (below n) (below m) cs
+      → IsInOrder cs ds → ((rises (elements ds) && are_fields (elements ds)) && are_trees ds) ≡ true
   stand-named cs ds a b h order =
       both _ _ (both _ _ order.rise (fields-all (elements ds) ∙ order-all cs ds order is_field (joined-fields cs a b h))) (order-trees cs ds order h.trees)
 
@@ -283,7 +286,8 @@ module _ (n m : Node) (live : is_tree n ≡ true) (config : is_tree m ≡ true) 
         let sort = list-alike (own_content n) (elements w.items) (ap (λ c. are_alike (Some (own_content n)) (Some c)) (sym own) ∙ alike-root n m alike) in
         let all_items =
         items-all (elements v.items) ∙ ap (all_of is_item_element) h.elements_are
-        ∙ all-joined is_item_element es fs (sym (items-all es) ∙ items-made (out-Node n) (rolled n live) sort) (sym (items-all fs) ∙ items-made (out-Node m) (rolled m config) (ap is_listing own)) in
+        ∙ all-joined is_item_element es fs (sym (items-all es) ∙ items-made (out-Node n) (rolled n live) sort)
+        (sym (items-all fs) ∙ items-made (out-Node m) (rolled m config) (ap is_listing own)) in
         over-level n m (ListOf v) v.items live config (tree-List v ∙ both _ _ (both _ _ (apart-over v.items h) all_items) h.trees)
         (ap (λ c. Some c) (own-List v ∙ ap list_branch (h.elements_are ∙ (λ i. joined (sym (order-made (out-Node n) sort) i) (items i))))
         ∙ sym (ap (λ c. over_content (Some (own_content n)) (Some c)) own))
@@ -304,7 +308,8 @@ order-live cs bs ds xs e h = subst (λ l. AreOverInOrder l ds xs) e h
 pub left-over : (n m x y : Node) → x ≡ y → IsOver n m y → IsOver n m x
 left-over n m x y e h = subst (IsOver n m) (sym e) h
 
-module _ (n m : Node) (cs ds : List Child) (own : cs ≡ below n) (is : below m ≡ ds) (live : is_tree n ≡ true) (config : is_tree m ≡ true) (alike : AreAlikeTrees n m) where
+module _ (n m : Node) (cs ds : List Child) (own : cs ≡ below n) (is : below m ≡ ds) (live : is_tree n ≡ true) (config : is_tree m ≡ true)
+    (alike : AreAlikeTrees n m) where
   pub live-smaller : 4 * length (rows_below cs) + 2 < 4 * length (rows n)
   live-smaller = let long = length-level n ∙ ap (λ l. suc (length (rows_below l))) (sym own) in omega arith
 

@@ -186,7 +186,8 @@ merged-elements cs ds =
 pub children-over : (cs ds made : List Child) → AreMade (merged cs ds) made → AreOver cs ds made
 children-over cs ds made each = record {
   elements_are = made-elements (merged cs ds) made each ∙ merged-elements cs ds;
-  contents = λ e q. made-content (merged cs ds) made e q each ∙ ap (λ o. merged_content o q) (merged-found cs ds e) ∙ found-content (child_at e cs) (child_at e ds) q;
+  contents = λ e q. made-content (merged cs ds) made e q each ∙ ap (λ o. merged_content o q) (merged-found cs ds e)
+      ∙ found-content (child_at e cs) (child_at e ds) q;
   trees = made-trees (merged cs ds) made each;
 }
 
@@ -233,7 +234,8 @@ module _ (p : Merged) (x : Child) (same : element_view x.0 ≡ element_view p.0)
 -- what the configuration alone has, as it is
 made-new : (ds : List Child) → are_trees ds ≡ true → AreMade (map new_child ds) ds
 made-new [] trees = tt
-made-new (d ∷ ds) trees = (record { element = refl; content = λ q. refl; tree = both_first (is_tree d.1) _ trees }, made-new ds (both_second (is_tree d.1) _ trees))
+made-new (d ∷ ds) trees =
+    (record { element = refl; content = λ q. refl; tree = both_first (is_tree d.1) _ trees }, made-new ds (both_second (is_tree d.1) _ trees))
 
 made-append : (ps qs : List Merged) (xs ys : List Child) → AreMade ps xs → AreMade qs ys → AreMade (ps ++ qs) (xs ++ ys)
 made-append [] qs [] ys h k = k
@@ -251,10 +253,13 @@ new-trees cs (d ∷ ds) h =
     ]
 
 -- the live children are made, and what the configuration alone has stands behind them
-pub made-all : (cs ds made new xs : List Child) → are_trees ds ≡ true → AreMade (map (live_child ds) cs) made → new ≡ filter (is_new cs) ds → xs ≡ made ++ new → AreOver cs ds xs
+pub made-all : (cs ds made new xs : List Child) → are_trees ds ≡ true → AreMade (map (live_child ds) cs) made → new ≡ filter (is_new cs) ds
+    → xs ≡ made ++ new → AreOver cs ds xs
 made-all cs ds made new xs trees each is all =
     subst (AreOver cs ds) (sym (all ∙ ap (λ l. made ++ l) is))
-    (children-over cs ds (made ++ filter (is_new cs) ds) (made-append (map (live_child ds) cs) (map new_child (filter (is_new cs) ds)) made (filter (is_new cs) ds) each (made-new (filter (is_new cs) ds) (new-trees cs ds trees))))
+    (children-over cs ds (made ++ filter (is_new cs) ds)
+    (made-append (map (live_child ds) cs) (map new_child (filter (is_new cs) ds)) made (filter (is_new cs) ds) each
+    (made-new (filter (is_new cs) ds) (new-trees cs ds trees))))
 
 -- ---- the child at an index
 

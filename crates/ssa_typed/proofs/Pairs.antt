@@ -77,7 +77,8 @@ none-new cs ds h =
 
 pub joined-alike : (es fs : List Element) → es ≡ fs → joined es fs ≡ es
 joined-alike es fs h =
-    ap (λ l. es ++ l) (ap (λ l. filter (λ f. not (is_among f es)) l) (sym h) ∙ none-pass (λ f. not (is_among f es)) es (λ e among. ap not among)) ∙ append-nil es
+    ap (λ l. es ++ l) (ap (λ l. filter (λ f. not (is_among f es)) l) (sym h) ∙ none-pass (λ f. not (is_among f es)) es (λ e among. ap not among))
+    ∙ append-nil es
 
 alike-over : (cs ds made : List Child) → AreMade (map (live_child ds) cs) made → elements cs ≡ elements ds → AreOver cs ds made
 alike-over cs ds made each h =
@@ -90,7 +91,8 @@ pub record IsOverlaid (cs ds xs : List Child) (i : ℕ) : Type 0 where
   pub made : AreMade (map (live_child ds) (take i cs)) (take i xs)
   pub left : drop i xs ≡ drop i ds
 
-module _ (cs ds xs : List Child) (i : ℕ) (c : Child) (same : elements cs ≡ elements ds) (live : are_apart (elements cs) ≡ true) (lt : i < length cs) (is : c ≡ get_or cs i c) (h : IsOverlaid cs ds xs i) where
+module _ (cs ds xs : List Child) (i : ℕ) (c : Child) (same : elements cs ≡ elements ds) (live : are_apart (elements cs) ≡ true) (lt : i < length cs)
+    (is : c ≡ get_or cs i c) (h : IsOverlaid cs ds xs i) where
   other_lt : i < length ds
   other_lt = let long = same-length cs ds same in omega arith
 
@@ -118,7 +120,8 @@ module _ (cs ds xs : List Child) (i : ℕ) (c : Child) (same : elements cs ≡ e
           made =
               subst (λ l. AreMade (map (live_child ds) (take (i + 1) cs)) (take (i + 1) l)) (sym put)
               (subst (AreMade (map (live_child ds) (take (i + 1) cs))) (sym (take_more_set xs i x within))
-              (subst (λ ps. AreMade ps (take i xs ++ x ∷ [])) (sym (ap (map (live_child ds)) (taken-at cs i c lt is) ∙ map-append (live_child ds) (take i cs) (c ∷ [])))
+              (subst (λ ps. AreMade ps (take i xs ++ x ∷ []))
+              (sym (ap (map (live_child ds)) (taken-at cs i c lt is) ∙ map-append (live_child ds) (take i cs) (c ∷ [])))
               (made-push (map (live_child ds) (take i cs)) (take i xs) (live_child ds c) x h.made one)));
           left = ap (drop (i + 1)) put ∙ drop-set-lt (i + 1) xs i x (omega arith) ∙ drop_more_same xs ds i h.left;
         }
@@ -128,9 +131,11 @@ overlaid-all cs ds xs i same done h =
     let long = same-length cs ds same in
     let rest : drop i xs ≡ [] = h.left ∙ drop_all i ds (omega arith) in
     let all : take i xs ≡ xs = sym (append-nil (take i xs)) ∙ ap (λ l. take i xs ++ l) (sym rest) ∙ take-append-drop i xs in
-    alike-over cs ds xs (subst (AreMade (map (live_child ds) cs)) all (subst (λ l. AreMade (map (live_child ds) l) (take i xs)) (take_all i cs done) h.made)) same
+    let made = subst (λ l. AreMade (map (live_child ds) l) (take i xs)) (take_all i cs done) h.made in
+    alike-over cs ds xs (subst (AreMade (map (live_child ds) cs)) all made) same
 
 -- children that stand alike are in order where the configuration's are
 pub overlaid-order : (cs ds xs : List Child) → elements cs ≡ elements ds → rises (elements ds) ≡ true → AreOver cs ds xs → AreOverInOrder cs ds xs
 overlaid-order cs ds xs same rise h =
-    record { merged = xs; over = h; order = record { rise = ap rises (h.elements_are ∙ joined-alike (elements cs) (elements ds) same ∙ same) ∙ rise; same = λ e. refl } }
+    let own = h.elements_are ∙ joined-alike (elements cs) (elements ds) same ∙ same in
+    record { merged = xs; over = h; order = record { rise = ap rises own ∙ rise; same = λ e. refl } }

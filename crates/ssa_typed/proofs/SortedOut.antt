@@ -27,7 +27,8 @@ pub places-push : (cs : List Child) (c : Child) → places (cs ++ c ∷ []) ≡ 
 places-push [] c = refl
 places-push (d ∷ cs) c = ap (λ ps. (d.0, 0) ∷ ps) (ap (map next_place) (places-push cs c) ∙ map-append next_place (places cs) ((c.0, length cs) ∷ []))
 
-pub places-more : (cs : List Child) (i : ℕ) (c : Child) (own : Bor Elem) (sorted more : List (Bor Elem × ℕ)) → i < length cs → c ≡ get_or cs i c → own.now ≡ c.0 → map lent_place sorted ≡ places (take i cs)
+pub places-more : (cs : List Child) (i : ℕ) (c : Child) (own : Bor Elem) (sorted more : List (Bor Elem × ℕ)) → i < length cs → c ≡ get_or cs i c
+    → own.now ≡ c.0 → map lent_place sorted ≡ places (take i cs)
     → more ≡ sorted ++ (own, i) ∷ [] → map lent_place more ≡ places (take (i + 1) cs)
 places-more cs i c own sorted more lt is lent h pushed =
     let long : length (take i cs) ≡ i = length-take-le i cs (omega arith) in
@@ -45,7 +46,8 @@ elements-places (c ∷ cs) = ap (λ es. element_view c.0 ∷ es) (elements-next 
 child-next : (e : Element) (ps : List (Elem × ℕ)) → child_at e (map next_place ps) ≡ option_map suc (child_at e ps)
 child-next e [] = refl
 child-next e (p ∷ ps) =
-    elim (same_element e (element_view p.0)) as (λ b. cond b (Some (suc p.1)) (child_at e (map next_place ps)) ≡ option_map suc (cond b (Some p.1) (child_at e ps))) [ true ↦ refl | false ↦ child-next e ps ]
+    elim (same_element e (element_view p.0)) as (λ b. cond b (Some (suc p.1)) (child_at e (map next_place ps))
+    ≡ option_map suc (cond b (Some p.1) (child_at e ps))) [ true ↦ refl | false ↦ child-next e ps ]
 
 -- a place further on
 record IsNext (o : Option ℕ) (i : ℕ) : Type 0 where
@@ -65,12 +67,14 @@ some-number i j h = cc
 pub whole-child : (e : Element) (ds : List Child) → child_at e ds ≡ option_map (λ d. d.1) (whole_child e ds)
 whole-child e [] = refl
 whole-child e (d ∷ ds) =
-    elim (same_element e (element_view d.0)) as (λ b. cond b (Some d.1) (child_at e ds) ≡ option_map (λ x. x.1) (cond b (Some d) (whole_child e ds))) [ true ↦ refl | false ↦ whole-child e ds ]
+    elim (same_element e (element_view d.0)) as (λ b. cond b (Some d.1) (child_at e ds) ≡ option_map (λ x. x.1) (cond b (Some d) (whole_child e ds)))
+    [ true ↦ refl | false ↦ whole-child e ds ]
 
 pub whole-element : (e : Element) (ds : List Child) (d : Child) → whole_child e ds ≡ Some d → element_view d.0 ≡ e
 whole-element e [] d h = cc
 whole-element e (x ∷ ds) d h =
-    elim (same_element e (element_view x.0)) as (λ b. same_element e (element_view x.0) ≡ b → cond b (Some x) (whole_child e ds) ≡ Some d → element_view d.0 ≡ e) [
+    elim (same_element e (element_view x.0)) as (λ b. same_element e (element_view x.0) ≡ b → cond b (Some x) (whole_child e ds) ≡ Some d
+    → element_view d.0 ≡ e) [
       | true ↦ λ s k. let same : x ≡ d = cc in ap (λ (y : Child). element_view y.0) (sym same) ∙ sym (same_element-true e (element_view x.0) s)
       | false ↦ λ s k. whole-element e ds d k
     ] refl h
@@ -80,19 +84,23 @@ whole-push : (e : Element) (ds : List Child) (d : Child) → same_element e (ele
 whole-push e [] d other = ap (λ b. cond b (Some d) None) other
 whole-push e (x ∷ ds) d other = ap (cond (same_element e (element_view x.0)) (Some x)) (whole-push e ds d other)
 
-whole-first : (e : Element) (ds : List Child) (d : Child) → same_element e (element_view d.0) ≡ true → list_any (same_element e) (elements ds) ≡ false → whole_child e (ds ++ d ∷ []) ≡ Some d
+whole-first : (e : Element) (ds : List Child) (d : Child) → same_element e (element_view d.0) ≡ true → list_any (same_element e) (elements ds) ≡ false
+    → whole_child e (ds ++ d ∷ []) ≡ Some d
 whole-first e [] d same none = ap (λ b. cond b (Some d) None) same
 whole-first e (x ∷ ds) d same none =
-    ap (λ b. cond b (Some x) (whole_child e (ds ++ d ∷ []))) (neither_first (same_element e (element_view x.0)) _ none) ∙ whole-first e ds d same (neither_second (same_element e (element_view x.0)) _ none)
+    ap (λ b. cond b (Some x) (whole_child e (ds ++ d ∷ []))) (neither_first (same_element e (element_view x.0)) _ none)
+    ∙ whole-first e ds d same (neither_second (same_element e (element_view x.0)) _ none)
 
 -- where no live child has the element, each keeps what is beside it
-pub beside-apart : (ds cs : List Child) (d : Child) → list_any (same_element (element_view d.0)) (elements cs) ≡ false → map (beside ds) cs ≡ map (beside (ds ++ d ∷ [])) cs
+pub beside-apart : (ds cs : List Child) (d : Child) → list_any (same_element (element_view d.0)) (elements cs) ≡ false
+    → map (beside ds) cs ≡ map (beside (ds ++ d ∷ [])) cs
 beside-apart ds [] d none = refl
 beside-apart ds (c ∷ cs) d none =
     let other = same_either_way (element_view d.0) (element_view c.0) ∙ neither_first (same_element (element_view d.0) (element_view c.0)) _ none in
     λ i. sym (whole-push (element_view c.0) ds d other) i ∷ beside-apart ds cs d (neither_second (same_element (element_view d.0) (element_view c.0)) _ none) i
 
-module _ (ds cs : List Child) (c d : Child) (i : ℕ) (apart : are_apart (elements (c ∷ cs)) ≡ true) (none : list_any (same_element (element_view d.0)) (elements ds) ≡ false)
+module _ (ds cs : List Child) (c d : Child) (i : ℕ) (apart : are_apart (elements (c ∷ cs)) ≡ true)
+    (none : list_any (same_element (element_view d.0)) (elements ds) ≡ false)
     (rest : (k : ℕ) → child_at (element_view d.0) (places cs) ≡ Some k → set (map (beside ds) cs) k (Some d) ≡ map (beside (ds ++ d ∷ [])) cs) where
   abbrev IsPut : ℕ → Type 0
   IsPut j = set (map (beside ds) (c ∷ cs)) j (Some d) ≡ map (beside (ds ++ d ∷ [])) (c ∷ cs)
@@ -111,19 +119,22 @@ module _ (ds cs : List Child) (c d : Child) (i : ℕ) (apart : are_apart (elemen
       let other = whole-push (element_view c.0) ds d (same_either_way (element_view d.0) (element_view c.0) ∙ s) in
       λ j. sym other j ∷ rest k there j
 
-  next-beside : (b : Bool) → same_element (element_view d.0) (element_view c.0) ≡ b → cond b (Some 0) (child_at (element_view d.0) (map next_place (places cs))) ≡ Some i → IsPut i
+  next-beside : (b : Bool) → same_element (element_view d.0) (element_view c.0) ≡ b
+      → cond b (Some 0) (child_at (element_view d.0) (map next_place (places cs))) ≡ Some i → IsPut i
   next-beside true s k = subst IsPut (some-number 0 i k) (put-here s)
   next-beside false s k =
       let n = next-of (child_at (element_view d.0) (places cs)) i (sym (child-next (element_view d.0) (places cs)) ∙ k) in
       subst IsPut (sym n.next) (put-further n.before s n.there)
 
 -- the configuration's next child is put beside the live child of its element
-pub beside-more : (ds cs : List Child) (d : Child) (i : ℕ) → are_apart (elements cs) ≡ true → list_any (same_element (element_view d.0)) (elements ds) ≡ false → child_at (element_view d.0) (places cs) ≡ Some i
+pub beside-more : (ds cs : List Child) (d : Child) (i : ℕ) → are_apart (elements cs) ≡ true
+    → list_any (same_element (element_view d.0)) (elements ds) ≡ false → child_at (element_view d.0) (places cs) ≡ Some i
     → set (map (beside ds) cs) i (Some d) ≡ map (beside (ds ++ d ∷ [])) cs
 beside-more ds [] d i apart none at = cc
 beside-more ds (c ∷ cs) d i apart none at =
     let f = element_view c.0 in
-    next-beside ds cs c d i apart none (λ k. beside-more ds cs d k (both_second (not (list_any (same_element f) (elements cs))) _ apart) none) (same_element (element_view d.0) f) refl at
+    next-beside ds cs c d i apart none (λ k. beside-more ds cs d k (both_second (not (list_any (same_element f) (elements cs))) _ apart) none)
+    (same_element (element_view d.0) f) refl at
 
 -- a place that is found is there
 pub place-within : (e : Element) (cs : List Child) (i : ℕ) → child_at e (places cs) ≡ Some i → i < length cs
@@ -150,7 +161,8 @@ absent-next (Some i) = refl
 new-place : (e : Element) (cs : List Child) → is_absent (child_at e (places cs)) ≡ is_absent (child_at e cs)
 new-place e [] = refl
 new-place e (c ∷ cs) =
-    elim (same_element e (element_view c.0)) as (λ b. is_absent (cond b (Some 0) (child_at e (map next_place (places cs)))) ≡ is_absent (cond b (Some c.1) (child_at e cs))) [
+    elim (same_element e (element_view c.0)) as (λ b. is_absent (cond b (Some 0) (child_at e (map next_place (places cs))))
+    ≡ is_absent (cond b (Some c.1) (child_at e cs))) [
       | true ↦ refl
       | false ↦ ap is_absent (child-next e (places cs)) ∙ absent-next (child_at e (places cs)) ∙ new-place e cs
     ]
@@ -161,7 +173,8 @@ is_new-absent cs d = elim (child_at (element_view d.0) cs) as (λ o. elim o [ No
 none-among : (e : Element) (cs : List Child) → is_absent (child_at e cs) ≡ true → list_any (same_element e) (elements cs) ≡ false
 none-among e [] h = refl
 none-among e (c ∷ cs) h =
-    elim (same_element e (element_view c.0)) as (λ b. is_absent (cond b (Some c.1) (child_at e cs)) ≡ true → (b || list_any (same_element e) (elements cs)) ≡ false) [
+    elim (same_element e (element_view c.0)) as (λ b. is_absent (cond b (Some c.1) (child_at e cs)) ≡ true
+    → (b || list_any (same_element e) (elements cs)) ≡ false) [
       | true ↦ λ k. absurd (true≢false (sym k))
       | false ↦ λ k. none-among e cs k
     ] h
@@ -175,7 +188,8 @@ before-apart (f ∷ es) e fs h =
     λ i. (same_either_way f e ∙ other) i || before-apart es e fs (both_second (not (list_any (same_element f) (es ++ e ∷ fs))) _ h) i
 
 -- what is found among the places put in order and lent
-pub place-found : (e : Element) (cs : List Child) (sorted vs : List (Bor Elem × ℕ)) (o : Option ℕ) → vs ≡ sorted → IsInOrder (places cs) (map lent_place sorted) → o ≡ child_at e (map lent_place vs) → child_at e (places cs) ≡ o
+pub place-found : (e : Element) (cs : List Child) (sorted vs : List (Bor Elem × ℕ)) (o : Option ℕ) → vs ≡ sorted
+    → IsInOrder (places cs) (map lent_place sorted) → o ≡ child_at e (map lent_place vs) → child_at e (places cs) ≡ o
 place-found e cs sorted vs o lent h found = sym (h.same e) ∙ sym (ap (λ l. child_at e (map lent_place l)) lent) ∙ sym found
 
 -- ---- the walk over the configuration's children
@@ -186,14 +200,18 @@ pub record IsSortingOut (cs ds left : List Child) (slots : List (Option Child)) 
   pub slots_are : slots ≡ map (beside done) cs
   pub new_are : new ≡ filter (is_new cs) done
 
-pub sorting-none : (cs ds : List Child) (slots : List (Option Child)) (new : List Child) → slots ≡ map (beside []) cs → new ≡ [] → IsSortingOut cs ds ds slots new
+pub sorting-none : (cs ds : List Child) (slots : List (Option Child)) (new : List Child) → slots ≡ map (beside []) cs → new ≡ []
+    → IsSortingOut cs ds ds slots new
 sorting-none cs ds slots new is none = record { done = []; parted = refl; slots_are = is; new_are = none }
 
-pub sorting-all : (cs ds left : List Child) (slots : List (Option Child)) (new : List Child) → left ≡ [] → IsSortingOut cs ds left slots new → (slots ≡ map (beside ds) cs) × (new ≡ filter (is_new cs) ds)
+pub sorting-all : (cs ds left : List Child) (slots : List (Option Child)) (new : List Child) → left ≡ [] → IsSortingOut cs ds left slots new
+    → (slots ≡ map (beside ds) cs) × (new ≡ filter (is_new cs) ds)
 sorting-all cs ds left slots new none h =
-    let all : h.done ≡ ds = sym (append-nil h.done) ∙ ap (λ l. h.done ++ l) (sym none) ∙ h.parted in (h.slots_are ∙ ap (λ l. map (beside l) cs) all, h.new_are ∙ ap (filter (is_new cs)) all)
+    let all : h.done ≡ ds = sym (append-nil h.done) ∙ ap (λ l. h.done ++ l) (sym none) ∙ h.parted in
+    (h.slots_are ∙ ap (λ l. map (beside l) cs) all, h.new_are ∙ ap (filter (is_new cs)) all)
 
-module _ (cs ds all left : List Child) (slots : List (Option Child)) (new : List Child) (d : Child) (live : are_apart (elements cs) ≡ true) (config : are_apart (elements ds) ≡ true) (is : all ≡ d ∷ left) (h : IsSortingOut cs ds all slots new) where
+module _ (cs ds all left : List Child) (slots : List (Option Child)) (new : List Child) (d : Child) (live : are_apart (elements cs) ≡ true)
+    (config : are_apart (elements ds) ≡ true) (is : all ≡ d ∷ left) (h : IsSortingOut cs ds all slots new) where
   now : h.done ++ d ∷ left ≡ ds
   now = ap (λ l. h.done ++ l) (sym is) ∙ h.parted
 
@@ -201,7 +219,8 @@ module _ (cs ds all left : List Child) (slots : List (Option Child)) (new : List
   next = append_assoc h.done (d ∷ []) left ∙ now
 
   none : list_any (same_element (element_view d.0)) (elements h.done) ≡ false
-  none = before-apart (elements h.done) (element_view d.0) (elements left) (ap are_apart (sym (elements-append h.done (d ∷ left))) ∙ ap (λ l. are_apart (elements l)) now ∙ config)
+  none = before-apart (elements h.done) (element_view d.0) (elements left) (ap are_apart (sym (elements-append h.done (d ∷ left)))
+      ∙ ap (λ l. are_apart (elements l)) now ∙ config)
 
   filtered : (b : Bool) → is_new cs d ≡ b → filter (is_new cs) (h.done ++ d ∷ []) ≡ filter (is_new cs) h.done ++ cond b (d ∷ []) []
   filtered b e = filter-append (is_new cs) h.done (d ∷ []) ∙ ap (λ t. filter (is_new cs) h.done ++ cond t (d ∷ []) []) e
@@ -212,12 +231,14 @@ module _ (cs ds all left : List Child) (slots : List (Option Child)) (new : List
       let long : length slots ≡ length cs = ap length h.slots_are ∙ length-map cs (beside h.done) in
       omega arith
 
-  pub sorting-beside : (i : ℕ) (more : List (Option Child)) → child_at (element_view d.0) (places cs) ≡ Some i → more ≡ set slots i (Some d) → IsSortingOut cs ds left more new
+  pub sorting-beside : (i : ℕ) (more : List (Option Child)) → child_at (element_view d.0) (places cs) ≡ Some i → more ≡ set slots i (Some d)
+      → IsSortingOut cs ds left more new
   sorting-beside i more found put = record {
     done = h.done ++ d ∷ [];
     parted = next;
     slots_are = put ∙ ap (λ l. set l i (Some d)) h.slots_are ∙ beside-more h.done cs d i live none found;
-    new_are = h.new_are ∙ sym (filtered false (is_new-absent cs d ∙ sym (new-place (element_view d.0) cs) ∙ ap is_absent found) ∙ append-nil (filter (is_new cs) h.done));
+    new_are = h.new_are ∙ sym (filtered false (is_new-absent cs d ∙ sym (new-place (element_view d.0) cs) ∙ ap is_absent found)
+        ∙ append-nil (filter (is_new cs) h.done));
   }
 
   pub sorting-new : (more : List Child) → child_at (element_view d.0) (places cs) ≡ None → more ≡ new ++ d ∷ [] → IsSortingOut cs ds left slots more
@@ -242,7 +263,8 @@ first-slot x y xs ys h = cc
 rest-slots : (x y : Option Child) (xs ys : List (Option Child)) → x ∷ xs ≡ y ∷ ys → xs ≡ ys
 rest-slots x y xs ys h = cc
 
-module _ (cs ds : List Child) (slots : List (Option Child)) (xs : List Child) (i : ℕ) (c : Child) (o : Option Child) (live : are_apart (elements cs) ≡ true) (lt : i < length cs) (is : c ≡ get_or cs i c) (h : IsMerging cs ds slots xs i) where
+module _ (cs ds : List Child) (slots : List (Option Child)) (xs : List Child) (i : ℕ) (c : Child) (o : Option Child) (live : are_apart (elements cs) ≡ true)
+    (lt : i < length cs) (is : c ≡ get_or cs i c) (h : IsMerging cs ds slots xs i) where
   pub slot-there : i < length slots
   slot-there =
       let sizes : length slots - i ≡ length cs - i = sym (length-drop i slots) ∙ ap length h.left ∙ length-map (drop i cs) (beside ds) ∙ length-drop i cs in
@@ -261,7 +283,8 @@ module _ (cs ds : List Child) (slots : List (Option Child)) (xs : List Child) (i
     pub config-child : (d : Child) → o ≡ Some d → child_at (element_view c.0) ds ≡ Some d.1
     config-child d found = whole-child (element_view c.0) ds ∙ ap (option_map (λ x. x.1)) (sym slot ∙ found)
 
-    more : (x : Child) (new : List Child) (after : List (Option Child)) → IsMade (live_child ds c) x → new ≡ xs ++ x ∷ [] → after ≡ set slots i None → IsMerging cs ds after new (i + 1)
+    more : (x : Child) (new : List Child) (after : List (Option Child)) → IsMade (live_child ds c) x → new ≡ xs ++ x ∷ [] → after ≡ set slots i None
+        → IsMerging cs ds after new (i + 1)
     more x new after one pushed emptied = record {
       made =
           subst (AreMade (map (live_child ds) (take (i + 1) cs))) (sym pushed)
@@ -270,14 +293,20 @@ module _ (cs ds : List Child) (slots : List (Option Child)) (xs : List Child) (i
       left = ap (drop (i + 1)) emptied ∙ drop-set-lt (i + 1) slots i None (omega arith) ∙ rest-slots _ _ _ _ parts;
     }
 
-    pub merging-own : (d : Child) (n : Node) (new : List Child) (after : List (Option Child)) → o ≡ Some d → IsOver c.1 d.1 n → new ≡ xs ++ (d.0, n) ∷ [] → after ≡ set slots i None → IsMerging cs ds after new (i + 1)
+    pub merging-own : (d : Child) (n : Node) (new : List Child) (after : List (Option Child)) → o ≡ Some d → IsOver c.1 d.1 n → new ≡ xs ++ (d.0, n) ∷ []
+        → after ≡ set slots i None → IsMerging cs ds after new (i + 1)
     merging-own d n new after found over pushed emptied =
-        more (d.0, n) new after (made-over (live_child ds c) (d.0, n) (whole-element (element_view c.0) ds d (sym slot ∙ found)) d.1 (config-child d found) over) pushed emptied
+        more (d.0, n) new after (made-over (live_child ds c) (d.0, n) (whole-element (element_view c.0) ds d (sym slot ∙ found)) d.1
+        (config-child d found) over) pushed emptied
 
-    pub merging-copied : (x : Child) (new : List Child) (after : List (Option Child)) → o ≡ None → is_tree c.1 ≡ true → element_view x.0 ≡ element_view c.0 → kept x.1 ≡ kept c.1 → new ≡ xs ++ x ∷ [] → after ≡ set slots i None
+    pub merging-copied : (x : Child) (new : List Child) (after : List (Option Child)) → o ≡ None → is_tree c.1 ≡ true → element_view x.0 ≡ element_view c.0
+        → kept x.1 ≡ kept c.1 → new ≡ xs ++ x ∷ [] → after ≡ set slots i None
         → IsMerging cs ds after new (i + 1)
     merging-copied x new after none tree same copy pushed emptied =
-        more x new after (made-copied (live_child ds c) x same (whole-child (element_view c.0) ds ∙ ap (option_map (λ d. d.1)) (sym slot ∙ none)) tree copy) pushed emptied
+        more x new after (made-copied (live_child ds c) x same (whole-child (element_view c.0) ds ∙ ap (option_map (λ d. d.1)) (sym slot ∙ none)) tree copy)
+        pushed emptied
 
-pub merging-all : (cs ds : List Child) (slots : List (Option Child)) (xs new ys : List Child) (i : ℕ) → length cs ≤ i → are_trees ds ≡ true → IsMerging cs ds slots xs i → new ≡ filter (is_new cs) ds → ys ≡ xs ++ new → AreOver cs ds ys
-merging-all cs ds slots xs new ys i done trees h is all = made-all cs ds xs new ys trees (subst (λ l. AreMade (map (live_child ds) l) xs) (take_all i cs done) h.made) is all
+pub merging-all : (cs ds : List Child) (slots : List (Option Child)) (xs new ys : List Child) (i : ℕ) → length cs ≤ i → are_trees ds ≡ true
+    → IsMerging cs ds slots xs i → new ≡ filter (is_new cs) ds → ys ≡ xs ++ new → AreOver cs ds ys
+merging-all cs ds slots xs new ys i done trees h is all = made-all cs ds xs new ys trees
+    (subst (λ l. AreMade (map (live_child ds) l) xs) (take_all i cs done) h.made) is all

@@ -160,7 +160,8 @@ module _ {X A : Type 0} (entry : X → Elem × A) where
       record {
         rise =
             ap rises (elements-entries ss)
-            ∙ in_order_rises entry_element ss same_element-itself up (λ e. subst (λ l. length l ≤ 1) (sym (alike entry_element rs ss stable e)) (once entry_element e rs differ));
+            ∙ in_order_rises entry_element ss same_element-itself up (λ e. subst (λ l. length l ≤ 1) (sym (alike entry_element rs ss stable e))
+            (once entry_element e rs differ));
         same = λ e.
             child-first e ss ∙ ap (λ l. option_map (λ x. (entry x).1) (first l)) (alike entry_element rs ss stable e)
             ∙ sym (child-first e rs) ∙ ap (child_at e) is;

@@ -18,7 +18,8 @@ use Rattle.ssa_typed.proofs.over.+over.Goals as goal
 pub over_alike-index_mut-own-requires : goal.over_alike-index_mut-own-requires
 over_alike-index_mut-own-requires t c =
     let v = c.loop-i.config in
-    let there = within c.args.live.now c.args.config.now.items v.items c.loop-i.i c.index-live-i.result c.requires.same c.requires.apart c.loop-i-test.true c.index-live-i.is c.loop-i.invariant in
+    let there = within c.args.live.now c.args.config.now.items v.items c.loop-i.i c.index-live-i.result c.requires.same c.requires.apart c.loop-i-test.true
+    c.index-live-i.is c.loop-i.invariant in
     omega (arith, there, v.ok.0)
 
 pub over_alike-over_node-requires : goal.over_alike-over_node-requires
@@ -29,34 +30,63 @@ over_alike-over_node-requires t c =
     let e = element_view child.0 in
     let d = c.index_mut-own.result.now in
     let own = own-there cs ds c.loop-i.config.items c.loop-i.i child c.requires.same c.requires.apart c.loop-i-test.true c.index-live-i.is c.loop-i.invariant in
-    let other = other-there cs ds c.loop-i.config.items c.loop-i.i child c.requires.same c.requires.apart c.loop-i-test.true c.index-live-i.is c.loop-i.invariant d c.index_mut-own.ensures.value in
+    let other = other-there cs ds c.loop-i.config.items c.loop-i.i child c.requires.same c.requires.apart c.loop-i-test.true c.index-live-i.is
+    c.loop-i.invariant d c.index_mut-own.ensures.value in
     let part = larger-children e cs child.1 own in
-    let small : 4 * length (rows child.1) < 4 * length (rows_below cs) + 1 = omega arith in
-    (search (rules, small), (child-tree e cs child.1 c.requires.live own, (child-tree e ds d.1 c.requires.config other, c.requires.alike e child.1 d.1 own other)))
+    let small : 4 * length (rows child.1) < 4 * length (rows_below cs) + 1 = omega arith in (
+      search (rules, small),
+      (
+        child-tree e cs child.1 c.requires.live own,
+        (
+          child-tree e ds d.1 c.requires.config other,
+          c.requires.alike e child.1 d.1 own
+              other,
+        ),
+      ),
+    )
 
 pub over_alike-loop-i-preserved : goal.over_alike-loop-i-preserved
 over_alike-loop-i-preserved t c =
-    overlaid-more c.args.live.now c.args.config.now.items c.loop-i.config.items c.loop-i.i c.index-live-i.result c.requires.same c.requires.apart c.loop-i-test.true c.index-live-i.is c.loop-i.invariant
+    overlaid-more c.args.live.now c.args.config.now.items c.loop-i.config.items c.loop-i.i c.index-live-i.result c.requires.same c.requires.apart
+    c.loop-i-test.true c.index-live-i.is c.loop-i.invariant
     c.index_mut-own.result.now c.index_mut-own.ensures.value c.over_node.new.config _ c.in_ok-over_node.ensures refl
 
 pub over_alike-returns : goal.over_alike-returns
-over_alike-returns t c = overlaid-all c.args.live.now c.args.config.now.items c.loop-i.config.items c.loop-i.i c.requires.same c.loop-i-test.false c.loop-i.invariant
+over_alike-returns t c = overlaid-all c.args.live.now c.args.config.now.items c.loop-i.config.items c.loop-i.i c.requires.same c.loop-i-test.false
+    c.loop-i.invariant
 
 pub over_fields-returns-then-stand_alike : goal.over_fields-returns-then-stand_alike
 over_fields-returns-then-stand_alike t c =
     let same = c.stand_alike.ensures c.if-stand_alike.true ∙ ap elements c.deref.ensures.value in
-    ok-gives c.over_alike.result c.over_alike.ensures (overlaid-order c.args.live.now c.args.config.now.items c.over_alike.new.config.items same c.requires.rise)
+    ok-gives c.over_alike.result c.over_alike.ensures (overlaid-order c.args.live.now c.args.config.now.items c.over_alike.new.config.items same
+    c.requires.rise)
 
 pub over_fields-over_found-requires : goal.over_fields-over_found-requires
 over_fields-over_found-requires t c =
     let own = ap (λ (v : Children). v.items) c.replace-own.ensures.value in
-    let apart = ap (λ l. are_apart (elements l)) own ∙ rises-apart (elements c.args.config.now.items) c.requires.rise in
-    (search rules, (c.requires.live, (ap are_trees own ∙ c.requires.config, (c.requires.apart, (apart, subst (AreAlikeBelow c.args.live.now) (sym own) c.requires.alike)))))
+    let apart = ap (λ l. are_apart (elements l)) own ∙ rises-apart (elements c.args.config.now.items) c.requires.rise in (
+      search rules,
+      (
+        c.requires.live,
+        (
+          ap are_trees own ∙ c.requires.config,
+          (
+            c.requires.apart,
+            (
+              apart,
+              subst (AreAlikeBelow c.args.live.now) (sym own)
+                  c.requires.alike,
+            ),
+          ),
+        ),
+      ),
+    )
 
 pub over_fields-sort_children-requires : goal.over_fields-sort_children-requires
 over_fields-sort_children-requires t c =
     let own = ap (λ (v : Children). v.items) c.replace-own.ensures.value in
-    over-apart c.args.live.now c.replace-own.result.items c.in_ok-merged.merged.items c.requires.apart (ap (λ l. are_apart (elements l)) own ∙ rises-apart (elements c.args.config.now.items) c.requires.rise) c.in_ok-merged.ensures
+    over-apart c.args.live.now c.replace-own.result.items c.in_ok-merged.merged.items c.requires.apart
+    (ap (λ l. are_apart (elements l)) own ∙ rises-apart (elements c.args.config.now.items) c.requires.rise) c.in_ok-merged.ensures
 
 pub over_found-over_node-requires : goal.over_found-over_node-requires
 over_found-over_node-requires t c =
@@ -69,10 +99,20 @@ over_found-over_node-requires t c =
     let e = element_view child.0 in
     let d : Child = (c.in-Some.element, c.in-Some.node) in
     let own = own-child cs ds slots xs i child c.index_mut.result.now c.requires.apart c.loop-i-test.true c.index-live-i.is c.loop-i.invariant in
-    let other = config-child cs ds slots xs i child c.index_mut.result.now c.requires.apart c.loop-i-test.true c.index-live-i.is c.loop-i.invariant c.index_mut.ensures.value d (sym c.in-Some.ensures.value) in
+    let other = config-child cs ds slots xs i child c.index_mut.result.now c.requires.apart c.loop-i-test.true c.index-live-i.is c.loop-i.invariant
+    c.index_mut.ensures.value d (sym c.in-Some.ensures.value) in
     let part = larger-children e cs child.1 own in
-    let small : 4 * length (rows child.1) < 4 * length (rows_below cs) + 1 = omega arith in
-    (search (rules, small), (child-tree e cs child.1 c.requires.live own, (child-tree e ds d.1 c.requires.config other, c.requires.alike e child.1 d.1 own other)))
+    let small : 4 * length (rows child.1) < 4 * length (rows_below cs) + 1 = omega arith in (
+      search (rules, small),
+      (
+        child-tree e cs child.1 c.requires.live own,
+        (
+          child-tree e ds d.1 c.requires.config other,
+          c.requires.alike e child.1 d.1 own
+              other,
+        ),
+      ),
+    )
 
 pub over_found-loop-i-preserved : goal.over_found-loop-i-preserved
 over_found-loop-i-preserved t c =
@@ -86,25 +126,45 @@ over_found-loop-i-preserved t c =
     let emptied = ap (set slots i) c.replace-own.ensures.after in
     elim c.match-own.branch [
       | over_found-in-Some+in_ok-over_node-in-Some+in_ok-push-in-Some w ↦
-          merging-own cs ds slots xs i child o c.requires.apart c.loop-i-test.true c.index-live-i.is c.loop-i.invariant c.index_mut.ensures.value (w.in-Some.element, w.in-Some.node) w.over_node.new.config c.match-own.merged.items _
-          (sym w.in-Some.ensures.value) w.in_ok-over_node-in-Some.ensures (ap (λ (v : Children). v.items) w.merged-is ∙ w.in_ok-push-in-Some.ensures.items) emptied
+          merging-own cs ds slots xs i child o c.requires.apart c.loop-i-test.true c.index-live-i.is c.loop-i.invariant c.index_mut.ensures.value
+          (w.in-Some.element, w.in-Some.node) w.over_node.new.config c.match-own.merged.items _
+          (sym w.in-Some.ensures.value) w.in_ok-over_node-in-Some.ensures (ap (λ (v : Children). v.items) w.merged-is ∙ w.in_ok-push-in-Some.ensures.items)
+          emptied
       | over_found-in-None+in_ok-element-in-None+in_ok-node-in-None+in_ok-push-in-None w ↦
           let own = own-child cs ds slots xs i child o c.requires.apart c.loop-i-test.true c.index-live-i.is c.loop-i.invariant in
-          merging-copied cs ds slots xs i child o c.requires.apart c.loop-i-test.true c.index-live-i.is c.loop-i.invariant c.index_mut.ensures.value (w.in_ok-element-in-None.element, w.in_ok-node-in-None.node) c.match-own.merged.items _
-          (sym w.in-None.ensures.value) (child-tree (element_view child.0) cs child.1 c.requires.live own) w.in_ok-element-in-None.ensures w.in_ok-node-in-None.ensures
+          merging-copied cs ds slots xs i child o c.requires.apart c.loop-i-test.true c.index-live-i.is c.loop-i.invariant c.index_mut.ensures.value
+          (w.in_ok-element-in-None.element, w.in_ok-node-in-None.node) c.match-own.merged.items _
+          (sym w.in-None.ensures.value) (child-tree (element_view child.0) cs child.1 c.requires.live own) w.in_ok-element-in-None.ensures
+          w.in_ok-node-in-None.ensures
           (ap (λ (v : Children). v.items) w.merged-is ∙ w.in_ok-push-in-None.ensures.items) emptied
     ]
 
 pub over_found-returns : goal.over_found-returns
 over_found-returns t c =
-    merging-all c.args.live.now c.args.config.items c.loop-i.beside.items c.loop-i.merged.items c.in_ok-parts.parts.new.items c.append.new.self.items c.loop-i.i c.loop-i-test.false c.requires.config c.loop-i.invariant
+    merging-all c.args.live.now c.args.config.items c.loop-i.beside.items c.loop-i.merged.items c.in_ok-parts.parts.new.items c.append.new.self.items
+    c.loop-i.i c.loop-i-test.false c.requires.config c.loop-i.invariant
     c.in_ok-parts.ensures.new c.in_ok-append.ensures.items
 
 pub over_items-over_found-requires : goal.over_items-over_found-requires
 over_items-over_found-requires t c =
     let own = ap (λ (v : Children). v.items) c.replace-own.ensures.value in
-    let apart = ap (λ l. are_apart (elements l)) own ∙ c.requires.config_apart in
-    (search rules, (c.requires.live, (ap are_trees own ∙ c.requires.config, (c.requires.apart, (apart, subst (AreAlikeBelow c.args.live.now) (sym own) c.requires.alike)))))
+    let apart = ap (λ l. are_apart (elements l)) own ∙ c.requires.config_apart in (
+      search rules,
+      (
+        c.requires.live,
+        (
+          ap are_trees own ∙ c.requires.config,
+          (
+            c.requires.apart,
+            (
+              apart,
+              subst (AreAlikeBelow c.args.live.now) (sym own)
+                  c.requires.alike,
+            ),
+          ),
+        ),
+      ),
+    )
 
 pub over_node-returns-in-Leaf : goal.over_node-returns-in-Leaf
 over_node-returns-in-Leaf t c = leaf-over c.args.live.now c.args.config.now c.requires.live c.requires.config c.requires.alike _ c.in-Leaf.is
@@ -122,7 +182,14 @@ over_node-over_fields-requires t c =
         c.children.ensures.trees c.requires.live,
         (
           config-trees n m c.children.result.now _ own under c.requires.live c.requires.config c.requires.alike,
-          (c.children.ensures.apart c.requires.live, (record-rises _ _ is c.requires.config, children-alike n m c.children.result.now _ own under c.requires.live c.requires.config c.requires.alike)),
+          (
+            c.children.ensures.apart c.requires.live,
+            (
+              record-rises _ _ is c.requires.config,
+              children-alike n m c.children.result.now _ own under
+                  c.requires.live c.requires.config c.requires.alike,
+            ),
+          ),
         ),
       ),
     )
@@ -149,7 +216,14 @@ over_node-over_fields-requires-in-Dict t c =
         c.children-in-Dict.ensures.trees c.requires.live,
         (
           config-trees n m c.children-in-Dict.result.now _ own under c.requires.live c.requires.config c.requires.alike,
-          (c.children-in-Dict.ensures.apart c.requires.live, (dict-rises _ _ is c.requires.config, children-alike n m c.children-in-Dict.result.now _ own under c.requires.live c.requires.config c.requires.alike)),
+          (
+            c.children-in-Dict.ensures.apart c.requires.live,
+            (
+              dict-rises _ _ is c.requires.config,
+              children-alike n m c.children-in-Dict.result.now _ own
+                  under c.requires.live c.requires.config c.requires.alike,
+            ),
+          ),
         ),
       ),
     )
@@ -161,7 +235,8 @@ over_node-returns-in-Dict t c =
     let is = c.in-Dict.is ∙ ap TheVariants.Dict (sym c.in-Dict.children-is) in
     ok-gives c.over_fields-in-Dict.result c.over_fields-in-Dict.ensures
     (λ h. left-over n m _ (TheVariants.Dict c.over_fields-in-Dict.new.config) (rw (c.in-Dict.is, TheVariants.outs-Dict c.in-Dict.children) refl)
-    (dict-over n m c.requires.live c.requires.config c.requires.alike c.over_fields-in-Dict.new.config _ is (order-live _ _ _ _ c.children-in-Dict.ensures.own h)))
+    (dict-over n m c.requires.live c.requires.config c.requires.alike c.over_fields-in-Dict.new.config _ is
+    (order-live _ _ _ _ c.children-in-Dict.ensures.own h)))
 
 pub over_node-over_items-requires : goal.over_node-over_items-requires
 over_node-over_items-requires t c =
@@ -176,7 +251,14 @@ over_node-over_items-requires t c =
         c.children-in-List.ensures.trees c.requires.live,
         (
           config-trees n m c.children-in-List.result.now _ own under c.requires.live c.requires.config c.requires.alike,
-          (c.children-in-List.ensures.apart c.requires.live, (config-apart n m c.children-in-List.result.now _ own under c.requires.live c.requires.config c.requires.alike, children-alike n m c.children-in-List.result.now _ own under c.requires.live c.requires.config c.requires.alike)),
+          (
+            c.children-in-List.ensures.apart c.requires.live,
+            (
+              config-apart n m c.children-in-List.result.now _ own under c.requires.live c.requires.config
+                  c.requires.alike,
+              children-alike n m c.children-in-List.result.now _ own under c.requires.live c.requires.config c.requires.alike,
+            ),
+          ),
         ),
       ),
     )
