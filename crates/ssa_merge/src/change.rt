@@ -78,12 +78,12 @@ fn applied(
     alloc: Global,
     state: &State,
     key: &ManagerKey,
-    config: &Body,
+    config: Body,
     force: bool,
     at: Moment,
 ) -> Result<Change, Refusal>
-    requires { AreAlike state.now.body config.now }
-    ensures { IsChanged (state_view state.now) result (apply (state_view state.now) (key_view key.now) config.now force at) }
+    requires { AreAlike state.now.body config }
+    ensures { IsChanged (state_view state.now) result (apply (state_view state.now) (key_view key.now) config force at) }
 {
     let points = config.points(alloc)?;
     let body = pruned(alloc, state, key, config, &points)?;
@@ -111,13 +111,13 @@ fn applied(
 pub fn change_apply(
     alloc: Global,
     state: &State,
-    config: &Body,
+    config: Body,
     who: &str,
     force: bool,
     at: Moment,
 ) -> Result<Change, Refusal>
-    requires { AreAlike state.now.body config.now }
-    ensures { IsChanged (state_view state.now) result (apply (state_view state.now) (applier who.now) config.now force at) }
+    requires { AreAlike state.now.body config }
+    ensures { IsChanged (state_view state.now) result (apply (state_view state.now) (applier who.now) config force at) }
 {
     let key = key_of(alloc, who, Operation::Apply)?;
     applied(alloc, state, &key, config, force, at)

@@ -78,19 +78,19 @@ fn kept(
 }
 
 /// The body after an Apply: the configuration over the live body, without what the manager gives up
-/// and nobody else needs.
+/// and nobody else needs. The configuration's memory becomes the body's.
 pub fn pruned(
     alloc: Global,
     state: &State,
     key: &ManagerKey,
-    config: &Body,
+    config: Body,
     config_points: &FieldSet,
 ) -> Result<Body, AllocError>
-    requires alike { AreAlike state.now.body config.now }
-    requires points { config_points.now ≡ points config.now }
-    ensures { IfOk result (λ b. b ≡ pruned (state_view state.now) (key_view key.now) config.now) }
+    requires alike { AreAlike state.now.body config }
+    requires points { config_points.now ≡ points config }
+    ensures { IfOk result (λ b. b ≡ pruned (state_view state.now) (key_view key.now) config) }
 {
-    let absent = left_out(alloc, state, key, config, config_points)?;
+    let absent = left_out(alloc, state, key, &config, config_points)?;
     let merged = state.body.over(alloc, config)?;
     if absent.is_empty() {
         merged.points_keep_all();

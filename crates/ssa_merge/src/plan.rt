@@ -91,7 +91,7 @@ pub fn plan_apply(
     ensures valid { IfOk result (λ p. (kind : Kind) → IsValidState kind (state_view state.now) → IsBodyOf kind config → IsRooted config → is_manager_name who.now ≡ true → IsValidState kind (state_view p.target)) }
     ensures order { IfOk result (StandInOrder (state_view state.now)) }
 {
-    let change = change_apply(alloc, state, &config, who, force, at)?;
+    let change = change_apply(alloc, state, config, who, force, at)?;
     let plan = change.completed(alloc, state)?;
     Ok(plan)
 }

@@ -44,7 +44,7 @@ fn over(alloc: Global, live_text: &str, config_text: &str) -> Result<String, Fai
     let schema = schema(alloc, PLACES)?;
     let live = Body::from_json(alloc, &schema, value(alloc, live_text)?)?;
     let config = Body::from_json(alloc, &schema, value(alloc, config_text)?)?;
-    shown(alloc, &live.over(alloc, &config)?)
+    shown(alloc, &live.over(alloc, config)?)
 }
 
 #[test]

@@ -16,7 +16,6 @@ pub mod Levels
 pub mod Looks
 pub mod Lookups
 pub mod Making
-pub mod MergedChildren
 pub mod OverNodes
 pub mod Overlaying
 pub mod Pairs
@@ -28,6 +27,7 @@ pub mod SameMembers
 pub mod Showing
 pub mod ShownMembers
 pub mod Sizes
+pub mod SortedOut
 pub mod Sorting
 pub mod Stands
 pub mod TreeRows

@@ -1,6 +1,6 @@
 -- A node made of the children of one node over those of another.
-use Rattle.std.proofs.Common.{◌≡◌, List, [], ◌∷◌, ◌++◌, Bool, true, false, not, ◌&&◌, cond, Option, Some, refl, sym, ap, ◌∙◌, true≢false, rules}
-use Rattle.std.specs.Prelude.{filter}
+use Rattle.std.proofs.Common.{◌≡◌, suc, ◌+◌, ◌*◌, ◌<◌, length, List, [], ◌∷◌, ◌++◌, Bool, true, false, not, ◌&&◌, cond, Option, Some, refl, sym, ap, subst, ◌∙◌, true≢false, arith, rules, Result, Ok, Err}
+use Rattle.std.specs.Prelude.{filter, OnOk}
 use Rattle.std.specs.List.{list_any}
 use Rattle.ssa_model.specs.definitions.Body.{Content, leaf, atom, record_branch, dict_branch, list_branch, joined, over_content, over, is_leaf, order_at}
 use Rattle.ssa_model.specs.definitions.Kind.{is_among}
@@ -11,20 +11,20 @@ use Rattle.ssa_path.specs.View.{element_view}
 use Rattle.ssa_path.proofs.Orders.{same_element-true, same_element-itself, both, both_first, both_second}
 use Rattle.ssa_typed.specs.Alike.{are_alike, AreAlike}
 use Rattle.ssa_typed.specs.InOrder.{IsInOrder}
-use Rattle.ssa_typed.specs.Over.{AreAlikeTrees, IsOver, AreOver}
+use Rattle.ssa_typed.specs.Over.{AreAlikeBelow, AreAlikeTrees, IsOver, AreOver, AreOverInOrder}
 use Rattle.ssa_typed.specs.Points.{content_in}
-use Rattle.ssa_typed.specs.Rows.{body_of, below, below_of, content_of, own_content, leaf_content, is_tree, are_trees, are_apart, are_fields, are_items}
+use Rattle.ssa_typed.specs.Rows.{body_of, rows, rows_below, below, below_of, content_of, own_content, leaf_content, is_tree, are_trees, are_apart, are_fields, are_items}
 use Rattle.ssa_typed.specs.declared.node.Leaf.{Leaf}
 use Rattle.ssa_typed.specs.declared.node.Leaf.TheVariants.{Scalar, Atomic}
 use Rattle.ssa_typed.specs.declared.node.Node.{Node, Leaf as LeafOf, Branch, Dict, List as ListOf, the_lemmas}
 use Rattle.ssa_typed.specs.declared.node.Node.TheOpen.{Node-F}
 use Rattle.ssa_typed.specs.declared.node.Node.TheViews.{out-Node, roll-Node, roll-out-Node}
 use Rattle.ssa_typed.proofs.Building.{Child}
-use Rattle.ssa_typed.proofs.Copying.{tree-Leaf}
 use Rattle.ssa_typed.proofs.Levels.{Children, level-below, own-Branch, own-Dict, own-List, tree-Branch, tree-Dict, tree-List, rises-apart}
 use Rattle.ssa_typed.proofs.Looks.{get-body}
 use Rattle.ssa_typed.proofs.Lookups.{child_at-rest, child-tree}
-use Rattle.ssa_typed.proofs.Overlaying.{alike-root, over-apart, over-level, some-none}
+use Rattle.ssa_typed.proofs.Sizes.{length-level}
+use Rattle.ssa_typed.proofs.Overlaying.{alike-below, alike-root, over-apart, over-level, some-none}
 
 -- ---- contents of one sort
 
@@ -219,21 +219,23 @@ module _ (n m : Node) (live : is_tree n ≡ true) (config : is_tree m ≡ true) 
       below-leaf (out-Node n)
       (leaf-alike (own_content n) (own_content m) (alike-root n m alike) (ap (λ x. is_leaf (Some (own_content x))) is ∙ ap (λ c. is_leaf (Some c)) (own-Leaf l) ∙ leaf-there l))
 
-  pub leaf-over : (k l : Leaf) → m ≡ LeafOf l → leaf_content k ≡ leaf_content l → IsOver n m (LeafOf k)
-  leaf-over k l is same =
+  pub leaf-over : (l : Leaf) → m ≡ LeafOf l → IsOver n m m
+  leaf-over l is =
       let none_live = no-children l is in
-      let own_config = ap own_content is ∙ own-Leaf l in
-      let none_config = leaf-below m l own_config in
-      let none : AreOver n m [] = record {
-        elements_are = λ i. joined (elements (sym none_live i)) (elements (sym none_config i));
-        contents = λ e p. λ i. over_content (content_in (child_at e (sym none_live i)) p) (content_in (child_at e (sym none_config i)) p);
-        trees = refl;
+      let own = ap own_content is ∙ own-Leaf l in
+      let none_config = leaf-below m l own in
+      let none : AreOver (below n) (below m) (below m) = record {
+        elements_are = ap elements none_config ∙ (λ i. joined (elements (sym none_live i)) (elements (sym none_config i)));
+        contents = λ e p. ap (λ cs. content_in (child_at e cs) p) none_config
+            ∙ (λ i. over_content (content_in (child_at e (sym none_live i)) p) (content_in (child_at e (sym none_config i)) p));
+        trees = ap are_trees none_config;
       } in
-      over-level n m (LeafOf k) [] live config (tree-Leaf k)
-      (ap (λ c. Some c) (own-Leaf k ∙ same) ∙ sym (ap (λ c. over_content (Some (own_content n)) (Some c)) own_config ∙ over-leaf (Some (own_content n)) l))
-      (λ e. ap (child_at e) (leaf-below (LeafOf k) k (own-Leaf k))) none
+      over-level n m m (below m) live config config
+      (ap (λ c. Some c) own ∙ sym (ap (λ c. over_content (Some (own_content n)) (Some c)) own ∙ over-leaf (Some (own_content n)) l))
+      (λ e. refl) none
 
-  joined-fields : (cs : List Child) → is_listing (own_content n) ≡ false → is_listing (own_content m) ≡ false → AreOver n m cs → all_of is_field (elements cs) ≡ true
+  joined-fields : (cs : List Child) → is_listing (own_content n) ≡ false → is_listing (own_content m) ≡ false → AreOver (below n) (below m) cs
+      → all_of is_field (elements cs) ≡ true
   joined-fields cs a b h =
       let es = elements (below n) in
       let fs = elements (below m) in
@@ -241,47 +243,90 @@ module _ (n m : Node) (live : is_tree n ≡ true) (config : is_tree m ≡ true) 
       ∙ all-joined is_field es fs (sym (fields-all es) ∙ fields-made (out-Node n) (rolled n live) a) (sym (fields-all fs) ∙ fields-made (out-Node m) (rolled m config) b)
 
   -- children of two nodes, put in the order of their elements
-  stand-named : (cs ds : List Child) → is_listing (own_content n) ≡ false → is_listing (own_content m) ≡ false → AreOver n m cs → IsInOrder cs ds → ((rises (elements ds) && are_fields (elements ds)) && are_trees ds) ≡ true
+  stand-named : (cs ds : List Child) → is_listing (own_content n) ≡ false → is_listing (own_content m) ≡ false → AreOver (below n) (below m) cs
+      → IsInOrder cs ds → ((rises (elements ds) && are_fields (elements ds)) && are_trees ds) ≡ true
   stand-named cs ds a b h order =
       both _ _ (both _ _ order.rise (fields-all (elements ds) ∙ order-all cs ds order is_field (joined-fields cs a b h))) (order-trees cs ds order h.trees)
 
-  pub apart-over : (cs : List Child) → AreOver n m cs → are_apart (elements cs) ≡ true
-  apart-over cs h = over-apart n m cs ((level-below n).apart live) ((level-below m).apart config) h
+  apart-over : (cs : List Child) → AreOver (below n) (below m) cs → are_apart (elements cs) ≡ true
+  apart-over cs h = over-apart (below n) (below m) cs ((level-below n).apart live) ((level-below m).apart config) h
 
-  module _ (cs : List Child) (h : AreOver n m cs) where
-    pub record-over : (v w : Children) → m ≡ Branch w → IsInOrder cs v.items → IsOver n m (Branch v)
+  module _ (v w : Children) where
+    pub record-over : m ≡ Branch w → AreOverInOrder (below n) w.items v.items → IsOver n m (Branch v)
     unfolding is_listing
-    record-over v w is order =
+    record-over is put =
         let own = ap own_content is ∙ own-Branch w in
+        let cs = put.merged in
+        let h = subst (λ ds. AreOver (below n) ds cs) (sym (ap below is ∙ below-Branch w)) put.over in
         let sort = record-alike (own_content n) (ap (λ c. are_alike (Some (own_content n)) (Some c)) (sym own) ∙ alike-root n m alike) in
-        over-level n m (Branch v) cs live config (tree-Branch v ∙ stand-named cs v.items sort (ap is_listing own) h order)
+        over-level n m (Branch v) cs live config (tree-Branch v ∙ stand-named cs v.items sort (ap is_listing own) h put.order)
         (ap (λ c. Some c) (own-Branch v) ∙ sym (ap (λ c. over_content (Some (own_content n)) (Some c)) own))
-        (λ e. ap (child_at e) (below-Branch v) ∙ order.same e) h
+        (λ e. ap (child_at e) (below-Branch v) ∙ put.order.same e) h
 
-    pub dict-over : (v w : Children) → m ≡ Dict w → IsInOrder cs v.items → IsOver n m (Dict v)
+    pub dict-over : m ≡ Dict w → AreOverInOrder (below n) w.items v.items → IsOver n m (Dict v)
     unfolding is_listing
-    dict-over v w is order =
+    dict-over is put =
         let own = ap own_content is ∙ own-Dict w in
+        let cs = put.merged in
+        let h = subst (λ ds. AreOver (below n) ds cs) (sym (ap below is ∙ below-Dict w)) put.over in
         let sort = dict-alike (own_content n) (ap (λ c. are_alike (Some (own_content n)) (Some c)) (sym own) ∙ alike-root n m alike) in
-        over-level n m (Dict v) cs live config (tree-Dict v ∙ stand-named cs v.items sort (ap is_listing own) h order)
+        over-level n m (Dict v) cs live config (tree-Dict v ∙ stand-named cs v.items sort (ap is_listing own) h put.order)
         (ap (λ c. Some c) (own-Dict v) ∙ sym (ap (λ c. over_content (Some (own_content n)) (Some c)) own))
-        (λ e. ap (child_at e) (below-Dict v) ∙ order.same e) h
+        (λ e. ap (child_at e) (below-Dict v) ∙ put.order.same e) h
 
-  pub list-over : (v w : Children) → m ≡ ListOf w → AreOver n m v.items → IsOver n m (ListOf v)
-  unfolding is_listing
-  list-over v w is h =
-      let es = elements (below n) in
-      let fs = elements (below m) in
-      let own = ap own_content is ∙ own-List w in
-      let items = ap elements (ap below is ∙ below-List w) in
-      let sort = list-alike (own_content n) (elements w.items) (ap (λ c. are_alike (Some (own_content n)) (Some c)) (sym own) ∙ alike-root n m alike) in
-      let all_items =
-      items-all (elements v.items) ∙ ap (all_of is_item_element) h.elements_are
-      ∙ all-joined is_item_element es fs (sym (items-all es) ∙ items-made (out-Node n) (rolled n live) sort) (sym (items-all fs) ∙ items-made (out-Node m) (rolled m config) (ap is_listing own)) in
-      over-level n m (ListOf v) v.items live config (tree-List v ∙ both _ _ (both _ _ (apart-over v.items h) all_items) h.trees)
-      (ap (λ c. Some c) (own-List v ∙ ap list_branch (h.elements_are ∙ (λ i. joined (sym (order-made (out-Node n) sort) i) (items i))))
-      ∙ sym (ap (λ c. over_content (Some (own_content n)) (Some c)) own))
-      (λ e. ap (child_at e) (below-List v)) h
+    pub list-over : m ≡ ListOf w → AreOver (below n) w.items v.items → IsOver n m (ListOf v)
+    unfolding is_listing
+    list-over is put =
+        let es = elements (below n) in
+        let fs = elements (below m) in
+        let own = ap own_content is ∙ own-List w in
+        let below_is = ap below is ∙ below-List w in
+        let h = subst (λ ds. AreOver (below n) ds v.items) (sym below_is) put in
+        let items = ap elements below_is in
+        let sort = list-alike (own_content n) (elements w.items) (ap (λ c. are_alike (Some (own_content n)) (Some c)) (sym own) ∙ alike-root n m alike) in
+        let all_items =
+        items-all (elements v.items) ∙ ap (all_of is_item_element) h.elements_are
+        ∙ all-joined is_item_element es fs (sym (items-all es) ∙ items-made (out-Node n) (rolled n live) sort)
+        (sym (items-all fs) ∙ items-made (out-Node m) (rolled m config) (ap is_listing own)) in
+        over-level n m (ListOf v) v.items live config (tree-List v ∙ both _ _ (both _ _ (apart-over v.items h) all_items) h.trees)
+        (ap (λ c. Some c) (own-List v ∙ ap list_branch (h.elements_are ∙ (λ i. joined (sym (order-made (out-Node n) sort) i) (items i))))
+        ∙ sym (ap (λ c. over_content (Some (own_content n)) (Some c)) own))
+        (λ e. ap (child_at e) (below-List v)) h
+
+-- ---- going down to the children
+
+pub ok-gives : {A E : Type 0} {P Q : Type 0} (r : Result A E) → OnOk r P → (P → Q) → OnOk r Q
+ok-gives (Ok x) h f = f h
+ok-gives (Err e) h f = tt
+
+pub over-live : (cs bs ds xs : List Child) → cs ≡ bs → AreOver cs ds xs → AreOver bs ds xs
+over-live cs bs ds xs e h = subst (λ l. AreOver l ds xs) e h
+
+pub order-live : (cs bs ds xs : List Child) → cs ≡ bs → AreOverInOrder cs ds xs → AreOverInOrder bs ds xs
+order-live cs bs ds xs e h = subst (λ l. AreOverInOrder l ds xs) e h
+
+pub left-over : (n m x y : Node) → x ≡ y → IsOver n m y → IsOver n m x
+left-over n m x y e h = subst (IsOver n m) (sym e) h
+
+module _ (n m : Node) (cs ds : List Child) (own : cs ≡ below n) (is : below m ≡ ds) (live : is_tree n ≡ true) (config : is_tree m ≡ true)
+    (alike : AreAlikeTrees n m) where
+  pub live-smaller : 4 * length (rows_below cs) + 2 < 4 * length (rows n)
+  live-smaller = let long = length-level n ∙ ap (λ l. suc (length (rows_below l))) (sym own) in omega arith
+
+  pub config-trees : are_trees ds ≡ true
+  config-trees = ap are_trees (sym is) ∙ (level-below m).trees config
+
+  pub config-apart : are_apart (elements ds) ≡ true
+  config-apart = ap (λ l. are_apart (elements l)) (sym is) ∙ (level-below m).apart config
+
+  pub children-alike : AreAlikeBelow cs ds
+  children-alike = subst (AreAlikeBelow cs) is (subst (λ l. AreAlikeBelow l (below m)) (sym own) (alike-below n m live config alike))
+
+pub record-rises : (m : Node) (v : Children) → m ≡ Branch v → is_tree m ≡ true → rises (elements v.items) ≡ true
+record-rises m v is tree = both_first _ (are_fields (elements v.items)) (both_first _ (are_trees v.items) (sym (tree-Branch v) ∙ sym (ap is_tree is) ∙ tree))
+
+pub dict-rises : (m : Node) (v : Children) → m ≡ Dict v → is_tree m ≡ true → rises (elements v.items) ≡ true
+dict-rises m v is tree = both_first _ (are_fields (elements v.items)) (both_first _ (are_trees v.items) (sym (tree-Dict v) ∙ sym (ap is_tree is) ∙ tree))
 
 -- ---- THE BRIDGE: one body over another
 

@@ -1,6 +1,5 @@
 -- One tree over another, level by level.
-use Rattle.std.proofs.Common.{◌≡◌, ℕ, zero, suc, arith, ◌+◌, ◌<◌, List, [], ◌∷◌, ◌++◌, length, get_or, map, take, Bool, true, false, not, ◌||◌, cond, Option, Some, None, option_map, refl, sym, ap, subst, ◌∙◌}
-use Rattle.std.proofs.lemmas.List.{map-append}
+use Rattle.std.proofs.Common.{◌≡◌, ℕ, zero, suc, arith, ◌<◌, List, [], ◌∷◌, ◌++◌, length, get_or, map, Bool, true, false, not, ◌||◌, cond, Option, Some, None, option_map, refl, sym, ap, subst, ◌∙◌}
 use Rattle.std.specs.Prelude.{filter}
 use Rattle.std.specs.List.{list_any}
 use Rattle.ssa_model.specs.definitions.Body.{Content, leaf, atom, record_branch, dict_branch, list_branch, joined, over_content}
@@ -10,13 +9,12 @@ use Rattle.ssa_model.proofs.Fitting.{distinct-joined}
 use Rattle.ssa_path.specs.Children.{child_at, elements}
 use Rattle.ssa_path.specs.declared.element.Elem.{Elem}
 use Rattle.ssa_path.specs.View.{element_view}
-use Rattle.ssa_path.proofs.Lists.{taken-at}
-use Rattle.ssa_path.proofs.Orders.{same_element-true, same_element-itself, both, both_second}
+use Rattle.ssa_path.proofs.Orders.{same_element-true, same_element-itself, both, both_first, both_second}
 use Rattle.ssa_typed.specs.Alike.{are_alike}
 use Rattle.ssa_typed.specs.Copies.{kept}
 use Rattle.ssa_typed.specs.InOrder.{referred, IsInOrder}
 use Rattle.ssa_typed.specs.MergedOrder.{Merged, is_new, live_child, new_child, merged}
-use Rattle.ssa_typed.specs.Over.{AreAlikeTrees, IsOver, AreOver, IsPushed}
+use Rattle.ssa_typed.specs.Over.{AreAlikeBelow, AreAlikeTrees, IsOver, AreOver}
 use Rattle.ssa_typed.specs.Points.{content_in}
 use Rattle.ssa_typed.specs.Rows.{rows, below, own_content, content_at, is_tree, are_trees, are_apart}
 use Rattle.ssa_typed.specs.declared.node.Node.{Node}
@@ -31,6 +29,9 @@ use Rattle.ssa_typed.proofs.Lookups.{content-level, content-root, child_at-rest}
 pub alike-child : (n m : Node) (e : Element) (c d : Node) → is_tree n ≡ true → is_tree m ≡ true → child_at e (below n) ≡ Some c → child_at e (below m) ≡ Some d → AreAlikeTrees n m → AreAlikeTrees c d
 alike-child n m e c d live config is_c is_d h p =
     sym (λ i. are_alike ((content-level n e p live ∙ ap (λ x. content_in x p) is_c) i) ((content-level m e p config ∙ ap (λ x. content_in x p) is_d) i)) ∙ h (e ∷ p)
+
+pub alike-below : (n m : Node) → is_tree n ≡ true → is_tree m ≡ true → AreAlikeTrees n m → AreAlikeBelow (below n) (below m)
+alike-below n m live config h e c d is_c is_d = alike-child n m e c d live config is_c is_d h
 
 pub alike-root : (n m : Node) → AreAlikeTrees n m → are_alike (Some (own_content n)) (Some (own_content m)) ≡ true
 alike-root n m h = sym (λ i. are_alike (content-root n i) (content-root m i)) ∙ h []
@@ -48,7 +49,7 @@ AreMade [] (x ∷ xs) = ⊥
 AreMade (p ∷ ps) [] = ⊥
 AreMade (p ∷ ps) (x ∷ xs) = IsMade p x × AreMade ps xs
 
-made-push : (ps : List Merged) (xs : List Child) (p : Merged) (x : Child) → AreMade ps xs → IsMade p x → AreMade (ps ++ p ∷ []) (xs ++ x ∷ [])
+pub made-push : (ps : List Merged) (xs : List Child) (p : Merged) (x : Child) → AreMade ps xs → IsMade p x → AreMade (ps ++ p ∷ []) (xs ++ x ∷ [])
 made-push [] [] p x h one = (one, tt)
 made-push [] (y ∷ xs) p x h one = absurd h
 made-push (r ∷ ps) [] p x h one = absurd h
@@ -182,26 +183,24 @@ merged-elements cs ds =
     live-elements cs ds (map new_child (filter (is_new cs) ds))
     ∙ ap (λ es. elements cs ++ es) (new_child-elements (filter (is_new cs) ds) ∙ new-elements cs ds)
 
-pub children-over : (n m : Node) (made : List Child) → AreMade (merged (below n) (below m)) made → AreOver n m made
-children-over n m made each =
-    let cs = below n in
-    let ds = below m in
-    record {
-      elements_are = made-elements (merged cs ds) made each ∙ merged-elements cs ds;
-      contents = λ e q. made-content (merged cs ds) made e q each ∙ ap (λ o. merged_content o q) (merged-found cs ds e) ∙ found-content (child_at e cs) (child_at e ds) q;
-      trees = made-trees (merged cs ds) made each;
-    }
+pub children-over : (cs ds made : List Child) → AreMade (merged cs ds) made → AreOver cs ds made
+children-over cs ds made each = record {
+  elements_are = made-elements (merged cs ds) made each ∙ merged-elements cs ds;
+  contents = λ e q. made-content (merged cs ds) made e q each ∙ ap (λ o. merged_content o q) (merged-found cs ds e)
+      ∙ found-content (child_at e cs) (child_at e ds) q;
+  trees = made-trees (merged cs ds) made each;
+}
 
 -- ---- a node of these children
 
-pub over-apart : (n m : Node) (cs : List Child) → are_apart (elements (below n)) ≡ true → are_apart (elements (below m)) ≡ true → AreOver n m cs → are_apart (elements cs) ≡ true
-over-apart n m cs live config h =
-    let es = elements (below n) in
-    let fs = elements (below m) in
+pub over-apart : (cs ds xs : List Child) → are_apart (elements cs) ≡ true → are_apart (elements ds) ≡ true → AreOver cs ds xs → are_apart (elements xs) ≡ true
+over-apart cs ds xs live config h =
+    let es = elements cs in
+    let fs = elements ds in
     ap are_apart h.elements_are ∙ apart-distinct (joined es fs) ∙ distinct-joined es fs (sym (apart-distinct es) ∙ live) (sym (apart-distinct fs) ∙ config)
 
 pub over-level : (n m made : Node) (cs : List Child) → is_tree n ≡ true → is_tree m ≡ true → is_tree made ≡ true → Some (own_content made) ≡ over_content (Some (own_content n)) (Some (own_content m))
-    → ((e : Element) → child_at e (below made) ≡ child_at e cs) → AreOver n m cs → IsOver n m made
+    → ((e : Element) → child_at e (below made) ≡ child_at e cs) → AreOver (below n) (below m) cs → IsOver n m made
 over-level n m made cs live config tree own same h = record { content = at; tree = tree }
   where
     at : (p : Path) → content_at (rows made) p ≡ over_content (content_at (rows n) p) (content_at (rows m) p)
@@ -215,31 +214,52 @@ over-level n m made cs live config tree own same h = record { content = at; tree
 pub some-none : {A : Type 0} (c : A) → ◌≡◌ {A = Option A} (Some c) None → ⊥
 some-none c e = cc
 
-module _ {Z : Type 0} (merged_of : Z → Merged) (zs : List Z) (i : ℕ) (z : Z) (xs new : List Child) (n : Node)
-    (lt : i < length zs) (is : z ≡ get_or zs i z) (pushed : IsPushed (element_view (merged_of z).0) n xs new) (h : AreMade (map merged_of (take i zs)) xs) where
-  made-more : IsMade (merged_of z) (pushed.0, n) → AreMade (map merged_of (take (i + 1) zs)) new
-  made-more one =
-      subst (AreMade (map merged_of (take (i + 1) zs))) (sym pushed.2)
-      (subst (λ ps. AreMade ps (xs ++ (pushed.0, n) ∷ [])) (sym (ap (map merged_of) (taken-at zs i z lt is) ∙ map-append merged_of (take i zs) (z ∷ [])))
-      (made-push (map merged_of (take i zs)) xs (merged_of z) (pushed.0, n) h one))
-
+module _ (p : Merged) (x : Child) (same : element_view x.0 ≡ element_view p.0) where
   -- over what the configuration has
-  pub made-over : (d : Node) → (merged_of z).1.1 ≡ Some d → IsOver (merged_of z).1.0 d n → AreMade (map merged_of (take (i + 1) zs)) new
-  made-over d over made =
-      made-more (record {
-        element = pushed.1;
-        content = λ q. made.content q ∙ ap (λ o. over_content (content_at (rows (merged_of z).1.0) q) (content_in o q)) (sym over);
-        tree = made.tree;
-      })
+  pub made-over : (d : Node) → p.1.1 ≡ Some d → IsOver p.1.0 d x.1 → IsMade p x
+  made-over d over made = record {
+    element = same;
+    content = λ q. made.content q ∙ ap (λ o. over_content (content_at (rows p.1.0) q) (content_in o q)) (sym over);
+    tree = made.tree;
+  }
 
   -- a copy, where the configuration has nothing over it
-  pub made-copied : (merged_of z).1.1 ≡ None → is_tree (merged_of z).1.0 ≡ true → kept n ≡ kept (merged_of z).1.0 → AreMade (map merged_of (take (i + 1) zs)) new
-  made-copied none tree copy =
-      made-more (record {
-        element = pushed.1;
-        content = λ q. ap (λ rs. content_at rs q) (kept-rows n (merged_of z).1.0 copy) ∙ ap (λ o. over_content (content_at (rows (merged_of z).1.0) q) (content_in o q)) (sym none);
-        tree = kept-tree n (merged_of z).1.0 copy ∙ tree;
-      })
+  pub made-copied : p.1.1 ≡ None → is_tree p.1.0 ≡ true → kept x.1 ≡ kept p.1.0 → IsMade p x
+  made-copied none tree copy = record {
+    element = same;
+    content = λ q. ap (λ rs. content_at rs q) (kept-rows x.1 p.1.0 copy) ∙ ap (λ o. over_content (content_at (rows p.1.0) q) (content_in o q)) (sym none);
+    tree = kept-tree x.1 p.1.0 copy ∙ tree;
+  }
+
+-- what the configuration alone has, as it is
+made-new : (ds : List Child) → are_trees ds ≡ true → AreMade (map new_child ds) ds
+made-new [] trees = tt
+made-new (d ∷ ds) trees =
+    (record { element = refl; content = λ q. refl; tree = both_first (is_tree d.1) _ trees }, made-new ds (both_second (is_tree d.1) _ trees))
+
+made-append : (ps qs : List Merged) (xs ys : List Child) → AreMade ps xs → AreMade qs ys → AreMade (ps ++ qs) (xs ++ ys)
+made-append [] qs [] ys h k = k
+made-append [] qs (x ∷ xs) ys h k = absurd h
+made-append (p ∷ ps) qs [] ys h k = absurd h
+made-append (p ∷ ps) qs (x ∷ xs) ys h k = (h.0, made-append ps qs xs ys h.1 k)
+
+new-trees : (cs ds : List Child) → are_trees ds ≡ true → are_trees (filter (is_new cs) ds) ≡ true
+new-trees cs [] h = refl
+new-trees cs (d ∷ ds) h =
+    let rest = new-trees cs ds (both_second (is_tree d.1) _ h) in
+    elim (is_new cs d) as (λ b. are_trees (cond b (d ∷ filter (is_new cs) ds) (filter (is_new cs) ds)) ≡ true) [
+      | true ↦ both _ _ (both_first (is_tree d.1) _ h) rest
+      | false ↦ rest
+    ]
+
+-- the live children are made, and what the configuration alone has stands behind them
+pub made-all : (cs ds made new xs : List Child) → are_trees ds ≡ true → AreMade (map (live_child ds) cs) made → new ≡ filter (is_new cs) ds
+    → xs ≡ made ++ new → AreOver cs ds xs
+made-all cs ds made new xs trees each is all =
+    subst (AreOver cs ds) (sym (all ∙ ap (λ l. made ++ l) is))
+    (children-over cs ds (made ++ filter (is_new cs) ds)
+    (made-append (map (live_child ds) cs) (map new_child (filter (is_new cs) ds)) made (filter (is_new cs) ds) each
+    (made-new (filter (is_new cs) ds) (new-trees cs ds trees))))
 
 -- ---- the child at an index
 

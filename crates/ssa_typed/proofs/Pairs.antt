@@ -1,19 +1,23 @@
 -- Children of the same elements in the same order, side by side.
-use Rattle.std.proofs.Common.{◌≡◌, ℕ, zero, suc, ◌+◌, ◌<◌, List, [], ◌∷◌, ◌++◌, map, length, get_or, take, Bool, true, false, not, cond, Some, refl, sym, ap, subst, ◌∙◌, append-nil, arith}
+use Rattle.std.proofs.Common.{◌≡◌, ℕ, zero, suc, ◌+◌, ◌-◌, ◌<◌, ◌≤◌, List, [], ◌∷◌, ◌++◌, map, length, get_or, set, take, drop, Bool, true, false, not, cond, Some, refl, sym, ap, subst, ◌∙◌, append-nil, arith}
+use Rattle.std.proofs.lemmas.Grind.{drop_more_same}
+use Rattle.std.proofs.lemmas.List.{drop-set-lt, drop_all, drop_more, length-drop, map-append, take-append-drop, take_all, take_more_set}
 use Rattle.std.specs.Prelude.{filter}
+use Rattle.ssa_model.specs.definitions.Body.{joined}
 use Rattle.ssa_model.specs.definitions.Kind.{is_among}
 use Rattle.ssa_model.specs.definitions.Path.{Element, same_element}
 use Rattle.ssa_model.proofs.Tables.{or_true, true_or}
-use Rattle.ssa_path.specs.Children.{child_at, elements}
+use Rattle.ssa_path.specs.Children.{child_at, elements, rises}
 use Rattle.ssa_path.specs.View.{element_view}
 use Rattle.ssa_path.proofs.Orders.{same_element-itself, same_element-true}
 use Rattle.ssa_typed.specs.MergedOrder.{is_new, live_child, new_child}
-use Rattle.ssa_typed.specs.Over.{AreOver}
+use Rattle.ssa_typed.specs.Over.{AreOver, AreOverInOrder, IsOver}
 use Rattle.ssa_typed.specs.Rows.{below, are_apart}
+use Rattle.ssa_typed.specs.declared.node.Node.{Node}
 use Rattle.ssa_typed.specs.declared.node.Node.{Node}
 use Rattle.ssa_typed.proofs.Building.{Child}
 use Rattle.ssa_path.proofs.Lists.{length-elements, taken-at}
-use Rattle.ssa_typed.proofs.Overlaying.{AreMade, child-at-index, children-over, elements-append, new-elements}
+use Rattle.ssa_typed.proofs.Overlaying.{AreMade, child-at-index, children-over, elements-append, made-over, made-push, new-elements}
 
 elements-taken : (cs : List Child) (i : ℕ) (c : Child) → i < length cs → c ≡ get_or cs i c → elements (take (i + 1) cs) ≡ elements (take i cs) ++ element_view c.0 ∷ []
 elements-taken cs i c lt is = ap elements (taken-at cs i c lt is) ∙ elements-append (take i cs) (c ∷ [])
@@ -25,6 +29,9 @@ alike-more cs ds i c d lt other_lt is other_is same h =
 
 pub same-length : (cs ds : List Child) → elements cs ≡ elements ds → length cs ≡ length ds
 same-length cs ds h = sym (length-elements cs) ∙ ap length h ∙ length-elements ds
+
+first-same : (x y : Child) (xs ys : List Child) → x ∷ xs ≡ y ∷ ys → x ≡ y
+first-same x y xs ys h = cc
 
 pub same-head : (e f : Element) (es fs : List Element) → e ∷ es ≡ f ∷ fs → e ≡ f
 same-head e f es fs h = cc
@@ -68,7 +75,67 @@ none-new cs ds h =
     no-elements (filter (is_new cs) ds)
     (new-elements cs ds ∙ (λ i. filter (λ f. not (is_among f (elements cs))) (sym h i)) ∙ none-pass (λ f. not (is_among f (elements cs))) (elements cs) (λ e among. ap not among))
 
-pub alike-over : (n m : Node) (made : List Child) → AreMade (map (live_child (below m)) (below n)) made → elements (below n) ≡ elements (below m) → AreOver n m made
-alike-over n m made each h =
-    let live = map (live_child (below m)) (below n) in
-    children-over n m made (subst (λ ps. AreMade ps made) (sym (append-nil live) ∙ ap (λ news. live ++ map new_child news) (sym (none-new (below n) (below m) h))) each)
+pub joined-alike : (es fs : List Element) → es ≡ fs → joined es fs ≡ es
+joined-alike es fs h =
+    ap (λ l. es ++ l) (ap (λ l. filter (λ f. not (is_among f es)) l) (sym h) ∙ none-pass (λ f. not (is_among f es)) es (λ e among. ap not among))
+    ∙ append-nil es
+
+alike-over : (cs ds made : List Child) → AreMade (map (live_child ds) cs) made → elements cs ≡ elements ds → AreOver cs ds made
+alike-over cs ds made each h =
+    let live = map (live_child ds) cs in
+    children-over cs ds made (subst (λ ps. AreMade ps made) (sym (append-nil live) ∙ ap (λ news. live ++ map new_child news) (sym (none-new cs ds h))) each)
+
+-- ---- each child of the configuration put over the live child beside it
+
+pub record IsOverlaid (cs ds xs : List Child) (i : ℕ) : Type 0 where
+  pub made : AreMade (map (live_child ds) (take i cs)) (take i xs)
+  pub left : drop i xs ≡ drop i ds
+
+module _ (cs ds xs : List Child) (i : ℕ) (c : Child) (same : elements cs ≡ elements ds) (live : are_apart (elements cs) ≡ true) (lt : i < length cs)
+    (is : c ≡ get_or cs i c) (h : IsOverlaid cs ds xs i) where
+  other_lt : i < length ds
+  other_lt = let long = same-length cs ds same in omega arith
+
+  pub within : i < length xs
+  within =
+      let long = other_lt in
+      let sizes : length xs - i ≡ length ds - i = sym (length-drop i xs) ∙ ap length h.left ∙ length-drop i ds in
+      omega arith
+
+  pub own-there : child_at (element_view c.0) cs ≡ Some c.1
+  own-there = child-at-index cs i c lt is live
+
+  module _ (d : Child) (read : d ≡ get_or xs i d) where
+    there : d ≡ get_or ds i d
+    there = read ∙ first-same _ _ _ _ (sym (drop_more xs i d within) ∙ h.left ∙ drop_more ds i d other_lt)
+
+    pub other-there : child_at (element_view c.0) ds ≡ Some d.1
+    other-there = child-beside cs ds i c d lt other_lt is there same (ap are_apart (sym same) ∙ live)
+
+    pub overlaid-more : (n : Node) (new : List Child) → IsOver c.1 d.1 n → new ≡ set xs i (d.0, n) → IsOverlaid cs ds new (i + 1)
+    overlaid-more n new over put =
+        let x : Child = (d.0, n) in
+        let one = made-over (live_child ds c) x (sym (element-beside cs ds i c d lt other_lt is there same)) d.1 other-there over in
+        record {
+          made =
+              subst (λ l. AreMade (map (live_child ds) (take (i + 1) cs)) (take (i + 1) l)) (sym put)
+              (subst (AreMade (map (live_child ds) (take (i + 1) cs))) (sym (take_more_set xs i x within))
+              (subst (λ ps. AreMade ps (take i xs ++ x ∷ []))
+              (sym (ap (map (live_child ds)) (taken-at cs i c lt is) ∙ map-append (live_child ds) (take i cs) (c ∷ [])))
+              (made-push (map (live_child ds) (take i cs)) (take i xs) (live_child ds c) x h.made one)));
+          left = ap (drop (i + 1)) put ∙ drop-set-lt (i + 1) xs i x (omega arith) ∙ drop_more_same xs ds i h.left;
+        }
+
+pub overlaid-all : (cs ds xs : List Child) (i : ℕ) → elements cs ≡ elements ds → length cs ≤ i → IsOverlaid cs ds xs i → AreOver cs ds xs
+overlaid-all cs ds xs i same done h =
+    let long = same-length cs ds same in
+    let rest : drop i xs ≡ [] = h.left ∙ drop_all i ds (omega arith) in
+    let all : take i xs ≡ xs = sym (append-nil (take i xs)) ∙ ap (λ l. take i xs ++ l) (sym rest) ∙ take-append-drop i xs in
+    let made = subst (λ l. AreMade (map (live_child ds) l) (take i xs)) (take_all i cs done) h.made in
+    alike-over cs ds xs (subst (AreMade (map (live_child ds) cs)) all made) same
+
+-- children that stand alike are in order where the configuration's are
+pub overlaid-order : (cs ds xs : List Child) → elements cs ≡ elements ds → rises (elements ds) ≡ true → AreOver cs ds xs → AreOverInOrder cs ds xs
+overlaid-order cs ds xs same rise h =
+    let own = h.elements_are ∙ joined-alike (elements cs) (elements ds) same ∙ same in
+    record { merged = xs; over = h; order = record { rise = ap rises own ∙ rise; same = λ e. refl } }

@@ -120,7 +120,7 @@ size-body n tree = size-apart (rows n) (apart-tree n tree)
 
 -- ---- a tree is larger than what is below it
 
-larger-children : (e : Element) (cs : List (Elem × Node)) (c : Node) → child_at e cs ≡ Some c → length (rows c) ≤ length (rows_below cs)
+pub larger-children : (e : Element) (cs : List (Elem × Node)) (c : Node) → child_at e cs ≡ Some c → length (rows c) ≤ length (rows_below cs)
 larger-children e [] c h = cc
 larger-children e (x ∷ cs) c h =
     let long = length-first x cs in

@@ -11,7 +11,7 @@ use Rattle.ssa_path.specs.Children.{child_at, elements, is_below, rises}
 use Rattle.ssa_path.specs.declared.element.Elem.{Elem}
 use Rattle.ssa_path.specs.View.{element_view}
 use Rattle.ssa_path.proofs.Orders.{element_cmp_total, same_element-true, same_element-itself, both, both_first, both_second}
-use Rattle.ssa_typed.specs.InOrder.{referred, IsInOrder}
+use Rattle.ssa_typed.specs.InOrder.{IsInOrder}
 use Rattle.ssa_typed.specs.Rows.{are_apart}
 use Rattle.ssa_typed.specs.declared.node.Node.{Node}
 use Rattle.ssa_typed.proofs.Laws.{not_true, neither_first, neither_second}
@@ -133,6 +133,40 @@ module _ {X : Type 0} (key : X → Element) where
       next : (k : ℕ) → suc (k + 1) ≡ suc k + 1
       next k = omega arith
 
+-- ---- values that stand for children under elements
+
+module _ {X A : Type 0} (entry : X → Elem × A) where
+  abbrev pub entry_element : X → Element
+  entry_element x = element_view (entry x).0
+
+  elements-entries : (xs : List X) → elements (map entry xs) ≡ map entry_element xs
+  elements-entries [] = refl
+  elements-entries (x ∷ xs) = ap (λ es. entry_element x ∷ es) (elements-entries xs)
+
+  child-first : (e : Element) (xs : List X) → child_at e (map entry xs) ≡ option_map (λ x. (entry x).1) (first (filter (of_element entry_element e) xs))
+  child-first e [] = refl
+  child-first e (x ∷ xs) =
+      elim (of_element entry_element e x) as (λ b. cond b (Some (entry x).1) (child_at e (map entry xs))
+      ≡ option_map (λ y. (entry y).1) (first (cond b (x ∷ filter (of_element entry_element e) xs) (filter (of_element entry_element e) xs)))) [
+        | true ↦ refl
+        | false ↦ child-first e xs
+      ]
+
+  -- what a stable sort of values that stand for the children leaves
+  pub sorted-entries : (cs : List (Elem × A)) (rs ss : List X) → map entry rs ≡ cs → are_apart (elements cs) ≡ true
+      → IsStableBy (before entry_element) rs ss → IsSortedBy (before entry_element) ss → IsInOrder cs (map entry ss)
+  sorted-entries cs rs ss is apart stable up =
+      let differ : are_apart (map entry_element rs) ≡ true = ap are_apart (sym (elements-entries rs)) ∙ ap (λ l. are_apart (elements l)) is ∙ apart in
+      record {
+        rise =
+            ap rises (elements-entries ss)
+            ∙ in_order_rises entry_element ss same_element-itself up (λ e. subst (λ l. length l ≤ 1) (sym (alike entry_element rs ss stable e))
+            (once entry_element e rs differ));
+        same = λ e.
+            child-first e ss ∙ ap (λ l. option_map (λ x. (entry x).1) (first l)) (alike entry_element rs ss stable e)
+            ∙ sym (child-first e rs) ∙ ap (child_at e) is;
+      }
+
 -- ---- references to children
 
 abbrev Reference : Type 0
@@ -141,54 +175,15 @@ Reference = Bor (Elem × Node)
 abbrev pub element_of : Reference → Element
 element_of r = element_view r.now.0
 
-elements-referred : (rs : List Reference) → elements (referred rs) ≡ map element_of rs
-elements-referred [] = refl
-elements-referred (r ∷ rs) = ap (λ es. element_of r ∷ es) (elements-referred rs)
-
-child-first : (e : Element) (rs : List Reference) → child_at e (referred rs) ≡ option_map (λ r. r.now.1) (first (filter (of_element element_of e) rs))
-child-first e [] = refl
-child-first e (r ∷ rs) =
-    elim (of_element element_of e r) as (λ b. cond b (Some r.now.1) (child_at e (referred rs)) ≡ option_map (λ s. s.now.1) (first (cond b (r ∷ filter (of_element element_of e) rs) (filter (of_element element_of e) rs)))) [
-      | true ↦ refl
-      | false ↦ child-first e rs
-    ]
-
--- what a stable sort of references to the children leaves
-pub sorted-children : (cs : List (Elem × Node)) (rs ss : List Reference) → referred rs ≡ cs → are_apart (elements cs) ≡ true
-    → IsStableBy (before element_of) rs ss → IsSortedBy (before element_of) ss → IsInOrder cs (referred ss)
-sorted-children cs rs ss is apart stable up =
-    let differ : are_apart (map element_of rs) ≡ true = ap are_apart (sym (elements-referred rs)) ∙ ap (λ l. are_apart (elements l)) is ∙ apart in
-    record {
-      rise =
-          ap rises (elements-referred ss)
-          ∙ in_order_rises element_of ss same_element-itself up (λ e. subst (λ l. length l ≤ 1) (sym (alike element_of rs ss stable e)) (once element_of e rs differ));
-      same = λ e. child-first e ss ∙ ap (λ l. option_map (λ r. r.now.1) (first l)) (alike element_of rs ss stable e) ∙ sym (child-first e rs) ∙ ap (child_at e) is;
-    }
-
 -- ---- children themselves
 
 abbrev pub own_element : Elem × Node → Element
 own_element c = element_view c.0
 
-elements-own : (cs : List (Elem × Node)) → elements cs ≡ map own_element cs
-elements-own [] = refl
-elements-own (c ∷ cs) = ap (λ es. own_element c ∷ es) (elements-own cs)
-
-own-first : (e : Element) (cs : List (Elem × Node)) → child_at e cs ≡ option_map (λ c. c.1) (first (filter (of_element own_element e) cs))
-own-first e [] = refl
-own-first e (c ∷ cs) =
-    elim (of_element own_element e c) as (λ b. cond b (Some c.1) (child_at e cs) ≡ option_map (λ d. d.1) (first (cond b (c ∷ filter (of_element own_element e) cs) (filter (of_element own_element e) cs)))) [
-      | true ↦ refl
-      | false ↦ own-first e cs
-    ]
+themselves : (cs : List (Elem × Node)) → map (λ c. c) cs ≡ cs
+themselves [] = refl
+themselves (c ∷ cs) = ap (λ ds. c ∷ ds) (themselves cs)
 
 -- what a stable sort of the children leaves
 pub sorted-own : (cs ds : List (Elem × Node)) → are_apart (elements cs) ≡ true → IsStableBy (before own_element) cs ds → IsSortedBy (before own_element) ds → IsInOrder cs ds
-sorted-own cs ds apart stable up =
-    let differ : are_apart (map own_element cs) ≡ true = ap are_apart (sym (elements-own cs)) ∙ apart in
-    record {
-      rise =
-          ap rises (elements-own ds)
-          ∙ in_order_rises own_element ds same_element-itself up (λ e. subst (λ l. length l ≤ 1) (sym (alike own_element cs ds stable e)) (once own_element e cs differ));
-      same = λ e. own-first e ds ∙ ap (λ l. option_map (λ c. c.1) (first l)) (alike own_element cs ds stable e) ∙ sym (own-first e cs);
-    }
+sorted-own cs ds apart stable up = subst (IsInOrder cs) (themselves ds) (sorted-entries (λ (c : Elem × Node). c) cs cs ds (themselves cs) apart stable up)

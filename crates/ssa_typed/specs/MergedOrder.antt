@@ -1,10 +1,10 @@
 -- The merged order of the children of a live place and of the configuration's place.
-use Rattle.std.specs.Prelude.{List, ◌++◌, map, filter, Bool, true, false, Option, None, Some}
-use Rattle.std.specs.Option.{option_copied}
+use Rattle.std.specs.Prelude.{List, [], ◌∷◌, ◌++◌, map, filter, Bool, true, false, Option, None, Some, ℕ, suc, if◌then◌else◌}
+use Rattle.std.specs.Borrow.{Bor}
+use Rattle.ssa_model.specs.definitions.Path.{Element, same_element}
 use Rattle.ssa_path.specs.Children.{child_at}
 use Rattle.ssa_path.specs.View.{element_view}
 use Rattle.ssa_path.specs.declared.element.Elem.{Elem}
-use Rattle.ssa_typed.specs.declared.merged_order.MergedChild.{MergedChild}
 use Rattle.ssa_typed.specs.declared.node.Node.{Node}
 
 -- an element, its node, and what the configuration has over that
@@ -27,5 +27,24 @@ new_child d = (d.0, (d.1, None))
 abbrev pub merged : List (Elem × Node) → List (Elem × Node) → List Merged
 merged live config = map (live_child config) live ++ map new_child (filter (is_new live) config)
 
-abbrev pub merged_view : MergedChild → Merged
-merged_view c = (c.element.now, (c.node.now, option_copied c.over))
+-- the first child of this element, with the element
+abbrev pub whole_child : Element → List (Elem × Node) → Option (Elem × Node)
+whole_child e [] = None
+whole_child e (d ∷ ds) = if same_element e (element_view d.0) then Some d else whole_child e ds
+
+-- the configuration's child of a live child's element
+abbrev pub beside : List (Elem × Node) → Elem × Node → Option (Elem × Node)
+beside config c = whole_child (element_view c.0) config
+
+-- one place further
+abbrev pub next_place : Elem × ℕ → Elem × ℕ
+next_place p = (p.0, suc p.1)
+
+-- the elements of children, each with its place
+abbrev pub places : List (Elem × Node) → List (Elem × ℕ)
+places [] = []
+places (c ∷ cs) = (c.0, 0) ∷ map next_place (places cs)
+
+-- an element that is lent, with its place
+abbrev pub lent_place : Bor Elem × ℕ → Elem × ℕ
+lent_place p = (p.0.now, p.1)

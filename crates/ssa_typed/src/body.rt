@@ -132,12 +132,15 @@ impl Body {
     /// The configuration over this body: its content where it has the place, else this body's.
     ///
     /// Lists keep this body's order, and what the configuration alone has follows in its order.
-    /// Takes about n log n comparisons for n children of a place.
-    pub fn over(&self, alloc: Global, config: &Body) -> Result<Body, AllocError>
-        requires { AreAlike self.now config.now }
-        ensures { IfOk result (λ b. b ≡ over self.now config.now) }
+    /// Takes about n log n comparisons for n children of a place. What the configuration has is moved
+    /// and what it lacks is copied; where both have the same places in the same order, no memory is
+    /// taken.
+    pub fn over(&self, alloc: Global, config: Body) -> Result<Body, AllocError>
+        requires { AreAlike self.now config }
+        ensures { IfOk result (λ b. b ≡ over self.now config) }
     {
-        let root = over_node(alloc, &self.root, &config.root)?;
+        let Body { mut root } = config;
+        over_node(alloc, &self.root, &mut root)?;
         Ok(Body { root })
     }
 

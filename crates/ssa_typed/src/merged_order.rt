@@ -1,67 +1,97 @@
-//! The merged order of the children of a live place and of the configuration's place.
-ghost use Rattle.std.specs.Prelude.{◌≡◌, map, true, IfOk};
-ghost use Rattle.ssa_path.specs.Children.{elements};
-ghost use Rattle.ssa_typed.specs.MergedOrder.{live_child, merged, merged_view};
+//! The children of a configuration's place, sorted out by those of the live place.
+ghost use Rattle.std.specs.Prelude.{◌≡◌, [], map, filter, true, IfOk, Some};
+ghost use Rattle.ssa_path.specs.Children.{child_at, elements, rises};
+ghost use Rattle.ssa_path.specs.View.{element_view};
+ghost use Rattle.ssa_typed.specs.InOrder.{IsInOrder};
+ghost use Rattle.ssa_typed.specs.MergedOrder.{beside, is_new, lent_place, places};
 ghost use Rattle.ssa_typed.specs.Rows.{are_apart};
 
-use crate::in_order::{find_in_order, in_order};
 use crate::node::Node;
 use ssa_path::element::Elem;
 use std::alloc::{AllocError, Global};
 
-/// A child of the merged place: the live one of its element, else the configuration's.
+/// The children of a configuration's place, none of them lost.
 #[derive(Drop)]
-pub(crate) struct MergedChild<'a> {
-    pub(crate) element: &'a Elem,
-    pub(crate) node: &'a Node,
-    /// The configuration's child, where the live place has one too.
-    pub(crate) over: Option<&'a Node>,
+pub(crate) struct SortedOut {
+    /// For each live child the configuration's child of its element, if there is one.
+    pub(crate) beside: Vec<Option<(Elem, Node)>>,
+    /// What the configuration alone has, in its order.
+    pub(crate) new: Vec<(Elem, Node)>,
 }
 
-// The live children in their order, each with the configuration's child of its element.
-fn live_children<'a>(
+// The elements of children in order, each with the child's place.
+fn places_in_order<'a>(
     alloc: Global,
-    live: &'a [(Elem, Node)],
-    config: &'a [(Elem, Node)],
-) -> Result<Vec<MergedChild<'a>>, AllocError>
-    requires { are_apart (elements config.now) ≡ true }
-    ensures { IfOk result (λ order. map merged_view order.items ≡ map (live_child config.now) live.now) }
+    children: &'a [(Elem, Node)],
+) -> Result<Vec<(&'a Elem, usize)>, AllocError>
+    requires { are_apart (elements children.now) ≡ true }
+    ensures { IfOk result (λ v. IsInOrder (places children.now) (map lent_place v.items)) }
 {
-    let sorted = in_order(alloc, config)?;
-    let mut order = Vec::with_capacity(alloc, live.len())?;
-    for child in live {
-        order.push(MergedChild {
-            element: &child.0,
-            node: &child.1,
-            over: find_in_order(&sorted, &child.0),
-        })?;
+    let mut sorted = Vec::with_capacity(alloc, children.len())?;
+    for (i, child) in children.iter().enumerate() {
+        sorted.push((&child.0, i))?;
     }
-    Ok(order)
+    sorted.sort_by(|own, other| own.0.order(other.0))?;
+    Ok(sorted)
 }
 
-/// The live children in their order, and behind them what the configuration alone has in its
-/// order.
+// The place of the child of this element.
+fn find_place(sorted: &[(&Elem, usize)], element: &Elem) -> Option<usize>
+    requires { rises (elements (map lent_place sorted.now)) ≡ true }
+    ensures { result ≡ child_at (element_view element.now) (map lent_place sorted.now) }
+{
+    match sorted.binary_search_by(|entry| entry.0.order(element)) {
+        Ok(i) => {
+            let found = sorted[i];
+            Some(found.1)
+        }
+        Err(_) => None,
+    }
+}
+
+// Nothing beside each live child.
+fn none_beside(
+    alloc: Global,
+    live: &[(Elem, Node)],
+) -> Result<Vec<Option<(Elem, Node)>>, AllocError>
+    ensures { IfOk result (λ v. v.items ≡ map (beside []) live.now) }
+{
+    let mut none = Vec::with_capacity(alloc, live.len())?;
+    for _child in live {
+        none.push(None)?;
+    }
+    Ok(none)
+}
+
+// Puts a child into a place.
+fn put(place: &mut Option<(Elem, Node)>, child: (Elem, Node))
+    ensures { place.new ≡ Some child }
+{
+    *place = Some(child);
+}
+
+/// The configuration's children, each moved beside the live child of its element or among the new
+/// ones.
 ///
 /// Takes about n log n comparisons of elements, however they are chosen.
-pub(crate) fn merged_order<'a>(
+pub(crate) fn sorted_out(
     alloc: Global,
-    live: &'a [(Elem, Node)],
-    config: &'a [(Elem, Node)],
-) -> Result<Vec<MergedChild<'a>>, AllocError>
+    live: &[(Elem, Node)],
+    config: Vec<(Elem, Node)>,
+) -> Result<SortedOut, AllocError>
     requires live { are_apart (elements live.now) ≡ true }
-    requires config { are_apart (elements config.now) ≡ true }
-    ensures { IfOk result (λ order. map merged_view order.items ≡ merged live.now config.now) }
+    requires config { are_apart (elements config.items) ≡ true }
+    ensures beside { IfOk result (λ s. s.beside.items ≡ map (beside config.items) live.now) }
+    ensures new { IfOk result (λ s. s.new.items ≡ filter (is_new live.now) config.items) }
 {
-    let mut order = live_children(alloc, live, config)?;
-    let sorted = in_order(alloc, live)?;
+    let sorted = places_in_order(alloc, live)?;
+    let mut beside = none_beside(alloc, live)?;
+    let mut new = Vec::new(alloc);
     for child in config {
-        if find_in_order(&sorted, &child.0).is_none() {
-            order.push(MergedChild {
-                element: &child.0,
-                node: &child.1,
-                over: None,
-            })?;
+        match find_place(&sorted, &child.0) {
+            Some(place) => put(&mut beside[place], child),
+            None => new.push(child)?,
         }
     }
-    Ok(order)
+    Ok(SortedOut { beside, new })
 }

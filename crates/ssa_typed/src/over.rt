@@ -1,106 +1,136 @@
-//! A configuration over a live tree.
+//! A configuration put over a live tree, in the configuration's own memory.
 ghost use Rattle.std.specs.Prelude.{◌≡◌, true, IfOk, OnOk};
-ghost use Rattle.ssa_path.specs.Children.{elements};
-ghost use Rattle.ssa_path.specs.View.{element_view};
-ghost use Rattle.ssa_typed.specs.Over.{AreAlikeTrees, AreOver, IsOver, IsPushed};
-ghost use Rattle.ssa_typed.specs.Rows.{below, is_tree};
+ghost use Rattle.ssa_path.specs.Children.{elements, rises};
+ghost use Rattle.ssa_typed.specs.Over.{AreAlikeBelow, AreAlikeTrees, AreOver, AreOverInOrder, IsOver};
+ghost use Rattle.ssa_typed.specs.Rows.{are_apart, are_trees, is_tree};
 
 use crate::in_order::{sort_children, stand_alike};
-use crate::merged_order::merged_order;
+use crate::merged_order::{SortedOut, sorted_out};
 use crate::node::Node;
 use ssa_path::element::Elem;
 use std::alloc::{AllocError, Global};
+use std::mem;
 
-// Puts a child under an element behind the others.
-fn push_child(
+// The configuration's children over live children of the same elements in the same order, each at
+// its place.
+#[cycle(over)]
+fn over_alike(
     alloc: Global,
-    children: &mut Vec<(Elem, Node)>,
-    element: &Elem,
-    child: Node,
+    live: &[(Elem, Node)],
+    config: &mut Vec<(Elem, Node)>,
 ) -> Result<(), AllocError>
-    ensures { OnOk result (IsPushed (element_view element.now) child children.old.items children.new.items) }
+    requires live { are_trees live.now ≡ true }
+    requires config { are_trees config.old.items ≡ true }
+    requires apart { are_apart (elements live.now) ≡ true }
+    requires alike { AreAlikeBelow live.now config.old.items }
+    requires same { elements live.now ≡ elements config.old.items }
+    ensures { OnOk result (AreOver live.now config.old.items config.new.items) }
 {
-    let own = element.copy(alloc)?;
-    children.push((own, child))?;
+    for (i, child) in live.iter().enumerate() {
+        let own = &mut config[i];
+        over_node(alloc, &child.1, &mut own.1)?;
+    }
     Ok(())
 }
 
-// The live children, each over the configuration's child at the same place.
+// The live children in their order, each with the configuration's child of its element over it, and
+// behind them what the configuration alone has, in its order. What the configuration has is moved,
+// and what it lacks is copied.
 #[cycle(over)]
-fn over_alike(alloc: Global, live: &Node, config: &Node) -> Result<Vec<(Elem, Node)>, AllocError>
-    requires live { is_tree live.now ≡ true }
-    requires config { is_tree config.now ≡ true }
-    requires alike { AreAlikeTrees live.now config.now }
-    requires same { elements (below live.now) ≡ elements (below config.now) }
-    ensures { IfOk result (λ v. AreOver live.now config.now v.items) }
+fn over_found(
+    alloc: Global,
+    live: &[(Elem, Node)],
+    config: Vec<(Elem, Node)>,
+) -> Result<Vec<(Elem, Node)>, AllocError>
+    requires live { are_trees live.now ≡ true }
+    requires config { are_trees config.items ≡ true }
+    requires apart { are_apart (elements live.now) ≡ true }
+    requires config_apart { are_apart (elements config.items) ≡ true }
+    requires alike { AreAlikeBelow live.now config.items }
+    ensures { IfOk result (λ v. AreOver live.now config.items v.items) }
 {
-    let (own, others) = (live.children(), config.children());
-    let mut made = Vec::with_capacity(alloc, own.len())?;
-    for (i, child) in own.iter().enumerate() {
-        let node = over_node(alloc, &child.1, &others[i].1)?;
-        push_child(alloc, &mut made, &child.0, node)?;
+    let parts = sorted_out(alloc, live, config)?;
+    let mut beside = parts.beside;
+    let mut new = parts.new;
+    let mut merged = Vec::with_capacity(alloc, live.len())?;
+    for (i, child) in live.iter().enumerate() {
+        let own = mem::replace(&mut beside[i], None);
+        match own {
+            Some((element, mut node)) => {
+                over_node(alloc, &child.1, &mut node)?;
+                merged.push((element, node))?;
+            }
+            None => {
+                let element = child.0.copy(alloc)?;
+                let node = child.1.copy(alloc)?;
+                merged.push((element, node))?;
+            }
+        }
     }
-    Ok(made)
+    merged.append(&mut new)?;
+    Ok(merged)
 }
 
-// The live children in their order, each over the configuration's child of its element, and behind
-// them what the configuration alone has, in its order.
+// The items of a list over the live ones. A configuration mostly repeats the live children, so that
+// nothing has to be found.
 #[cycle(over)]
-fn over_found(alloc: Global, live: &Node, config: &Node) -> Result<Vec<(Elem, Node)>, AllocError>
-    requires live { is_tree live.now ≡ true }
-    requires config { is_tree config.now ≡ true }
-    requires alike { AreAlikeTrees live.now config.now }
-    ensures { IfOk result (λ v. AreOver live.now config.now v.items) }
+fn over_items(
+    alloc: Global,
+    live: &[(Elem, Node)],
+    config: &mut Vec<(Elem, Node)>,
+) -> Result<(), AllocError>
+    requires live { are_trees live.now ≡ true }
+    requires config { are_trees config.old.items ≡ true }
+    requires apart { are_apart (elements live.now) ≡ true }
+    requires config_apart { are_apart (elements config.old.items) ≡ true }
+    requires alike { AreAlikeBelow live.now config.old.items }
+    ensures { OnOk result (AreOver live.now config.old.items config.new.items) }
 {
-    let order = merged_order(alloc, live.children(), config.children())?;
-    let mut made = Vec::with_capacity(alloc, order.len())?;
-    for child in order.as_slice() {
-        let node = match child.over {
-            Some(other) => over_node(alloc, child.node, other)?,
-            None => child.node.copy(alloc)?,
-        };
-        push_child(alloc, &mut made, child.element, node)?;
+    if stand_alike(live, config) {
+        return over_alike(alloc, live, config);
     }
-    Ok(made)
+    let own = mem::replace(config, Vec::new(alloc));
+    *config = over_found(alloc, live, own)?;
+    Ok(())
 }
 
-// The children of the one place over those of the other. A configuration mostly repeats the live
-// children, so that nothing has to be found.
+// The fields of a record or the entries of a Dict over the live ones, in the order of their elements.
 #[cycle(over)]
-fn over_children(alloc: Global, live: &Node, config: &Node) -> Result<Vec<(Elem, Node)>, AllocError>
-    requires live { is_tree live.now ≡ true }
-    requires config { is_tree config.now ≡ true }
-    requires alike { AreAlikeTrees live.now config.now }
-    ensures { IfOk result (λ v. AreOver live.now config.now v.items) }
+fn over_fields(
+    alloc: Global,
+    live: &[(Elem, Node)],
+    config: &mut Vec<(Elem, Node)>,
+) -> Result<(), AllocError>
+    requires live { are_trees live.now ≡ true }
+    requires config { are_trees config.old.items ≡ true }
+    requires apart { are_apart (elements live.now) ≡ true }
+    requires rise { rises (elements config.old.items) ≡ true }
+    requires alike { AreAlikeBelow live.now config.old.items }
+    ensures { OnOk result (AreOverInOrder live.now config.old.items config.new.items) }
 {
-    if stand_alike(live.children(), config.children()) {
-        over_alike(alloc, live, config)
-    } else {
-        over_found(alloc, live, config)
+    if stand_alike(live, config) {
+        return over_alike(alloc, live, config);
     }
+    let own = mem::replace(config, Vec::new(alloc));
+    let mut merged = over_found(alloc, live, own)?;
+    sort_children(&mut merged)?;
+    *config = merged;
+    Ok(())
 }
 
-// The configuration's tree over the live one: its content at each place that it has, else the live
-// tree's.
+// Puts the configuration's tree over the live one: its content at each place that it has, else the
+// live tree's. Takes no memory where both have the same places in the same order.
 #[cycle(over)]
-pub(crate) fn over_node(alloc: Global, live: &Node, config: &Node) -> Result<Node, AllocError>
+pub(crate) fn over_node(alloc: Global, live: &Node, config: &mut Node) -> Result<(), AllocError>
     requires live { is_tree live.now ≡ true }
-    requires config { is_tree config.now ≡ true }
-    requires alike { AreAlikeTrees live.now config.now }
-    ensures { IfOk result (λ n. IsOver live.now config.now n) }
+    requires config { is_tree config.old ≡ true }
+    requires alike { AreAlikeTrees live.now config.old }
+    ensures { OnOk result (IsOver live.now config.old config.new) }
 {
     match config {
-        Node::Leaf(leaf) => Ok(Node::Leaf(leaf.copy(alloc)?)),
-        Node::Branch(_) => {
-            let mut children = over_children(alloc, live, config)?;
-            sort_children(&mut children)?;
-            Ok(Node::Branch(children))
-        }
-        Node::Dict(_) => {
-            let mut children = over_children(alloc, live, config)?;
-            sort_children(&mut children)?;
-            Ok(Node::Dict(children))
-        }
-        Node::List(_) => Ok(Node::List(over_children(alloc, live, config)?)),
+        Node::Leaf(_) => Ok(()),
+        Node::Branch(children) => over_fields(alloc, live.children(), children),
+        Node::Dict(children) => over_fields(alloc, live.children(), children),
+        Node::List(children) => over_items(alloc, live.children(), children),
     }
 }

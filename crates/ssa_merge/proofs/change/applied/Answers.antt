@@ -17,7 +17,7 @@ pub returns-then-has_conflict : goal.returns-then-has_conflict
 returns-then-has_conflict c =
     let state = state_view c.args.state.now in
     let a = key_view c.args.key.now in
-    let config = c.args.config.now in
+    let config = c.args.config in
     let body = c.in_ok-body.body in
     let found = clashes_view c.in_ok-found.found.items in
     let changed = modified state.body body in
@@ -34,7 +34,7 @@ pub returns-then-size-gt-MOST_PLACES : goal.returns-then-size-gt-MOST_PLACES
 returns-then-size-gt-MOST_PLACES c =
     let state = state_view c.args.state.now in
     let a = key_view c.args.key.now in
-    let config = c.args.config.now in
+    let config = c.args.config in
     let body = c.in_ok-body.body in
     let found = clashes_view c.in_ok-found.found.items in
     let changed = modified state.body body in
@@ -51,7 +51,7 @@ pub returns-in-Ok : goal.returns-in-Ok
 returns-in-Ok c =
     let state = state_view c.args.state.now in
     let a = key_view c.args.key.now in
-    let config = c.args.config.now in
+    let config = c.args.config in
     let body = c.in_ok-body.body in
     let found = clashes_view c.in_ok-found.found.items in
     let changed = modified state.body body in
@@ -71,7 +71,7 @@ pub returns : goal.returns
 returns c =
     let state = state_view c.args.state.now in
     let a = key_view c.args.key.now in
-    let config = c.args.config.now in
+    let config = c.args.config in
     let body = c.in_ok-body.body in
     let found = clashes_view c.in_ok-found.found.items in
     let changed = modified state.body body in

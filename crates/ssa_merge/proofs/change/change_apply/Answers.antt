@@ -8,5 +8,5 @@ use Rattle.ssa_merge.proofs.change.change_apply.Goals as goal
 pub returns : goal.returns
 returns c =
     let state = state_view c.args.state.now in
-    let changed : ManagerKey → Type 0 = λ a. IsChanged state c.applied.result (apply state a c.args.config.now c.args.force c.args.at) in
+    let changed : ManagerKey → Type 0 = λ a. IsChanged state c.applied.result (apply state a c.args.config c.args.force c.args.at) in
     subst changed c.in_ok-key.ensures c.applied.ensures

@@ -1,23 +1,26 @@
 use Rattle.std.proofs.Common.{Ok, Err, sym, rules, tests}
 use Rattle.std.proofs.lemmas.Fn.{always_returns_same}
 use Rattle.ssa_path.specs.View.{element_view}
-use Rattle.ssa_typed.proofs.Finding.{compared_with, search-found, reference-found, reference-absent}
+use Rattle.ssa_typed.proofs.Finding.{compared_with, search-found, entry-found, entry-absent}
+use Rattle.ssa_typed.proofs.References.{Reference}
 use Rattle.ssa_typed.proofs.in_order.find_in_order.Goals as goal
 
 pub returns-in-Ok : goal.returns-in-Ok
 returns-in-Ok c =
+    let own = λ (r : Reference). r.now in
     let e = element_view c.args.element.now in
     let rs = c.args.sorted.now in
     let i = c.in-Ok.i in
     let compares = always_returns_same _ _ _ (λ a r f k. search (rules, tests)) in
-    let found = search-found e rs (Ok i) c.requires c.in-Ok.ensures.bound (c.in-Ok.ensures.position (compared_with e) compares) in
-    sym (reference-found e rs i c.index-sorted-i.result c.requires found c.in-Ok.ensures.bound c.index-sorted-i.is)
+    let found = search-found own e rs (Ok i) c.requires c.in-Ok.ensures.bound (c.in-Ok.ensures.position (compared_with own e) compares) in
+    sym (entry-found own e rs i c.index-sorted-i.result c.requires found c.in-Ok.ensures.bound c.index-sorted-i.is)
 
 pub returns-in-Err : goal.returns-in-Err
 returns-in-Err c =
+    let own = λ (r : Reference). r.now in
     let e = element_view c.args.element.now in
     let rs = c.args.sorted.now in
     let i = c.in-Err.field-0 in
     let compares = always_returns_same _ _ _ (λ a r f k. search (rules, tests)) in
-    let found = search-found e rs (Err i) c.requires c.in-Err.ensures.bound (c.in-Err.ensures.position (compared_with e) compares) in
-    sym (reference-absent e rs i found)
+    let found = search-found own e rs (Err i) c.requires c.in-Err.ensures.bound (c.in-Err.ensures.position (compared_with own e) compares) in
+    sym (entry-absent own e rs i found)

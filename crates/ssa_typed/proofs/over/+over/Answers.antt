@@ -1,126 +1,273 @@
-use Rattle.std.proofs.Common.{◌<◌, ◌+◌, ◌*◌, length, map, get_or, sym, ap, subst, ◌∙◌, arith, rules}
-use Rattle.std.proofs.lemmas.List.{take_all}
-use Rattle.std.specs.Option.{option_copied}
-use Rattle.ssa_path.specs.Children.{child_at, elements}
+use Rattle.std.proofs.Common.{◌<◌, ◌+◌, ◌*◌, length, refl, set, sym, ap, subst, ◌∙◌, arith, rules}
+use Rattle.ssa_path.specs.Children.{elements}
 use Rattle.ssa_path.specs.View.{element_view}
-use Rattle.ssa_typed.specs.Copies.{kept}
-use Rattle.ssa_typed.specs.MergedOrder.{live_child, merged_view}
-use Rattle.ssa_typed.specs.Over.{IsOver}
-use Rattle.ssa_typed.specs.Rows.{below, rows}
-use Rattle.ssa_typed.proofs.Lookups.{tree-child}
-use Rattle.ssa_typed.proofs.MergedChildren.{values-merged, both-there, one-tree}
-use Rattle.ssa_typed.proofs.OverNodes.{apart-over, leaf-over, record-over, dict-over, list-over}
-use Rattle.ssa_typed.proofs.Overlaying.{AreMade, alike-child, child-at-index, made-over, made-copied, children-over}
-use Rattle.ssa_typed.proofs.Pairs.{same-length, beside, alike-over}
-use Rattle.ssa_typed.proofs.Sizes.{smaller}
-use Rattle.ssa_typed.proofs.over.+over.Goals.{over_found-in-Some+in_ok-node-in-Some, over_found-in-None+in_ok-node-in-None}
+use Rattle.ssa_typed.specs.Over.{AreAlikeBelow}
+use Rattle.ssa_typed.specs.Rows.{are_apart, are_trees, below, rows, rows_below}
+use Rattle.ssa_typed.specs.declared.node.Node.TheVariants
+use Rattle.ssa_typed.proofs.Building.{Child}
+use Rattle.ssa_typed.proofs.Levels.{Children, rises-apart}
+use Rattle.ssa_typed.proofs.Lookups.{child-tree}
+use Rattle.ssa_typed.proofs.OverNodes.{below-Branch, below-Dict, below-List, children-alike, config-apart, config-trees, dict-over, dict-rises, leaf-over, list-over, left-over, live-smaller, ok-gives, order-live, over-live, record-over, record-rises}
+use Rattle.ssa_typed.proofs.Overlaying.{over-apart}
+use Rattle.ssa_typed.proofs.Pairs.{other-there, overlaid-all, overlaid-more, overlaid-order, own-there, within}
+use Rattle.ssa_typed.proofs.Sizes.{larger-children}
+use Rattle.ssa_typed.proofs.SortedOut.{config-child, merging-all, merging-copied, merging-own, own-child}
+use Rattle.ssa_typed.proofs.over.+over.Goals.{over_found-in-Some+in_ok-over_node-in-Some+in_ok-push-in-Some, over_found-in-None+in_ok-element-in-None+in_ok-node-in-None+in_ok-push-in-None}
 use Rattle.ssa_typed.proofs.over.+over.Goals as goal
+
+pub over_alike-index_mut-own-requires : goal.over_alike-index_mut-own-requires
+over_alike-index_mut-own-requires t c =
+    let v = c.loop-i.config in
+    let there = within c.args.live.now c.args.config.now.items v.items c.loop-i.i c.index-live-i.result c.requires.same c.requires.apart c.loop-i-test.true
+    c.index-live-i.is c.loop-i.invariant in
+    omega (arith, there, v.ok.0)
+
+pub over_alike-over_node-requires : goal.over_alike-over_node-requires
+over_alike-over_node-requires t c =
+    let cs = c.args.live.now in
+    let ds = c.args.config.now.items in
+    let child = c.index-live-i.result in
+    let e = element_view child.0 in
+    let d = c.index_mut-own.result.now in
+    let own = own-there cs ds c.loop-i.config.items c.loop-i.i child c.requires.same c.requires.apart c.loop-i-test.true c.index-live-i.is c.loop-i.invariant in
+    let other = other-there cs ds c.loop-i.config.items c.loop-i.i child c.requires.same c.requires.apart c.loop-i-test.true c.index-live-i.is
+    c.loop-i.invariant d c.index_mut-own.ensures.value in
+    let part = larger-children e cs child.1 own in
+    let small : 4 * length (rows child.1) < 4 * length (rows_below cs) + 1 = omega arith in (
+      search (rules, small),
+      (
+        child-tree e cs child.1 c.requires.live own,
+        (
+          child-tree e ds d.1 c.requires.config other,
+          c.requires.alike e child.1 d.1 own
+              other,
+        ),
+      ),
+    )
+
+pub over_alike-loop-i-preserved : goal.over_alike-loop-i-preserved
+over_alike-loop-i-preserved t c =
+    overlaid-more c.args.live.now c.args.config.now.items c.loop-i.config.items c.loop-i.i c.index-live-i.result c.requires.same c.requires.apart
+    c.loop-i-test.true c.index-live-i.is c.loop-i.invariant
+    c.index_mut-own.result.now c.index_mut-own.ensures.value c.over_node.new.config _ c.in_ok-over_node.ensures refl
+
+pub over_alike-returns : goal.over_alike-returns
+over_alike-returns t c = overlaid-all c.args.live.now c.args.config.now.items c.loop-i.config.items c.loop-i.i c.requires.same c.loop-i-test.false
+    c.loop-i.invariant
+
+pub over_fields-returns-then-stand_alike : goal.over_fields-returns-then-stand_alike
+over_fields-returns-then-stand_alike t c =
+    let same = c.stand_alike.ensures c.if-stand_alike.true ∙ ap elements c.deref.ensures.value in
+    ok-gives c.over_alike.result c.over_alike.ensures (overlaid-order c.args.live.now c.args.config.now.items c.over_alike.new.config.items same
+    c.requires.rise)
+
+pub over_fields-over_found-requires : goal.over_fields-over_found-requires
+over_fields-over_found-requires t c =
+    let own = ap (λ (v : Children). v.items) c.replace-own.ensures.value in
+    let apart = ap (λ l. are_apart (elements l)) own ∙ rises-apart (elements c.args.config.now.items) c.requires.rise in (
+      search rules,
+      (
+        c.requires.live,
+        (
+          ap are_trees own ∙ c.requires.config,
+          (
+            c.requires.apart,
+            (
+              apart,
+              subst (AreAlikeBelow c.args.live.now) (sym own)
+                  c.requires.alike,
+            ),
+          ),
+        ),
+      ),
+    )
+
+pub over_fields-sort_children-requires : goal.over_fields-sort_children-requires
+over_fields-sort_children-requires t c =
+    let own = ap (λ (v : Children). v.items) c.replace-own.ensures.value in
+    over-apart c.args.live.now c.replace-own.result.items c.in_ok-merged.merged.items c.requires.apart
+    (ap (λ l. are_apart (elements l)) own ∙ rises-apart (elements c.args.config.now.items) c.requires.rise) c.in_ok-merged.ensures
 
 pub over_found-over_node-requires : goal.over_found-over_node-requires
 over_found-over_node-requires t c =
-    let n = c.args.live.now in
-    let m = c.args.config.now in
-    let child = c.child-item.result in
-    let e = element_view child.element.now in
-    let other = c.in-Some.other.now in
-    let are = values-merged n m c.children.result.now c.children-2.result.now c.in_ok-order.order.items c.as_slice-child-items.result.now c.children.ensures.own c.children-2.ensures.own c.in_ok-order.ensures c.as_slice-child-items.ensures.value in
-    let there = both-there n m c.requires.live c.requires.config c.as_slice-child-items.result.now are c.loop-child.child-index child c.loop-child-test.true c.child-item.is other (ap option_copied c.in-Some.is) in
-    let part = smaller n e child.node.now there.0 in
-    let small : 3 * length (rows child.node.now) + 2 < 3 * length (rows n) = omega arith in
-    (search (rules, small), (tree-child n e child.node.now c.requires.live there.0, (tree-child m e other c.requires.config there.1, alike-child n m e child.node.now other c.requires.live c.requires.config there.0 there.1 c.requires.alike)))
+    let cs = c.args.live.now in
+    let ds = c.args.config.items in
+    let slots = c.loop-i.beside.items in
+    let xs = c.loop-i.merged.items in
+    let i = c.loop-i.i in
+    let child = c.index-live-i.result in
+    let e = element_view child.0 in
+    let d : Child = (c.in-Some.element, c.in-Some.node) in
+    let own = own-child cs ds slots xs i child c.index_mut.result.now c.requires.apart c.loop-i-test.true c.index-live-i.is c.loop-i.invariant in
+    let other = config-child cs ds slots xs i child c.index_mut.result.now c.requires.apart c.loop-i-test.true c.index-live-i.is c.loop-i.invariant
+    c.index_mut.ensures.value d (sym c.in-Some.ensures.value) in
+    let part = larger-children e cs child.1 own in
+    let small : 4 * length (rows child.1) < 4 * length (rows_below cs) + 1 = omega arith in (
+      search (rules, small),
+      (
+        child-tree e cs child.1 c.requires.live own,
+        (
+          child-tree e ds d.1 c.requires.config other,
+          c.requires.alike e child.1 d.1 own
+              other,
+        ),
+      ),
+    )
 
-pub over_found-loop-child-preserved : goal.over_found-loop-child-preserved
-over_found-loop-child-preserved t c =
-    let n = c.args.live.now in
-    let m = c.args.config.now in
-    let child = c.child-item.result in
-    let vs = c.as_slice-child-items.result.now in
-    let i = c.loop-child.child-index in
-    let are = values-merged n m c.children.result.now c.children-2.result.now c.in_ok-order.order.items vs c.children.ensures.own c.children-2.ensures.own c.in_ok-order.ensures c.as_slice-child-items.ensures.value in
-    elim c.match-child.branch [
-      | over_found-in-Some+in_ok-node-in-Some w ↦
-          made-over merged_view vs i child c.loop-child.made.items c.push_child.new.children.items c.match-child.node c.loop-child-test.true c.child-item.is c.in_ok-push_child.ensures c.loop-child.invariant
-          w.in-Some.other.now (ap option_copied w.in-Some.is) (subst (IsOver child.node.now w.in-Some.other.now) (sym w.node-is) w.in_ok-node-in-Some.ensures)
-      | over_found-in-None+in_ok-node-in-None w ↦
-          let none = ap option_copied w.in-None.is in
-          made-copied merged_view vs i child c.loop-child.made.items c.push_child.new.children.items c.match-child.node c.loop-child-test.true c.child-item.is c.in_ok-push_child.ensures c.loop-child.invariant
-          none (one-tree n m c.requires.live c.requires.config vs are i child c.loop-child-test.true c.child-item.is none) (ap kept w.node-is ∙ w.in_ok-node-in-None.ensures)
+pub over_found-loop-i-preserved : goal.over_found-loop-i-preserved
+over_found-loop-i-preserved t c =
+    let cs = c.args.live.now in
+    let ds = c.args.config.items in
+    let slots = c.loop-i.beside.items in
+    let xs = c.loop-i.merged.items in
+    let i = c.loop-i.i in
+    let child = c.index-live-i.result in
+    let o = c.index_mut.result.now in
+    let emptied = ap (set slots i) c.replace-own.ensures.after in
+    elim c.match-own.branch [
+      | over_found-in-Some+in_ok-over_node-in-Some+in_ok-push-in-Some w ↦
+          merging-own cs ds slots xs i child o c.requires.apart c.loop-i-test.true c.index-live-i.is c.loop-i.invariant c.index_mut.ensures.value
+          (w.in-Some.element, w.in-Some.node) w.over_node.new.config c.match-own.merged.items _
+          (sym w.in-Some.ensures.value) w.in_ok-over_node-in-Some.ensures (ap (λ (v : Children). v.items) w.merged-is ∙ w.in_ok-push-in-Some.ensures.items)
+          emptied
+      | over_found-in-None+in_ok-element-in-None+in_ok-node-in-None+in_ok-push-in-None w ↦
+          let own = own-child cs ds slots xs i child o c.requires.apart c.loop-i-test.true c.index-live-i.is c.loop-i.invariant in
+          merging-copied cs ds slots xs i child o c.requires.apart c.loop-i-test.true c.index-live-i.is c.loop-i.invariant c.index_mut.ensures.value
+          (w.in_ok-element-in-None.element, w.in_ok-node-in-None.node) c.match-own.merged.items _
+          (sym w.in-None.ensures.value) (child-tree (element_view child.0) cs child.1 c.requires.live own) w.in_ok-element-in-None.ensures
+          w.in_ok-node-in-None.ensures
+          (ap (λ (v : Children). v.items) w.merged-is ∙ w.in_ok-push-in-None.ensures.items) emptied
     ]
 
 pub over_found-returns : goal.over_found-returns
 over_found-returns t c =
+    merging-all c.args.live.now c.args.config.items c.loop-i.beside.items c.loop-i.merged.items c.in_ok-parts.parts.new.items c.append.new.self.items
+    c.loop-i.i c.loop-i-test.false c.requires.config c.loop-i.invariant
+    c.in_ok-parts.ensures.new c.in_ok-append.ensures.items
+
+pub over_items-over_found-requires : goal.over_items-over_found-requires
+over_items-over_found-requires t c =
+    let own = ap (λ (v : Children). v.items) c.replace-own.ensures.value in
+    let apart = ap (λ l. are_apart (elements l)) own ∙ c.requires.config_apart in (
+      search rules,
+      (
+        c.requires.live,
+        (
+          ap are_trees own ∙ c.requires.config,
+          (
+            c.requires.apart,
+            (
+              apart,
+              subst (AreAlikeBelow c.args.live.now) (sym own)
+                  c.requires.alike,
+            ),
+          ),
+        ),
+      ),
+    )
+
+pub over_node-returns-in-Leaf : goal.over_node-returns-in-Leaf
+over_node-returns-in-Leaf t c = leaf-over c.args.live.now c.args.config.now c.requires.live c.requires.config c.requires.alike _ c.in-Leaf.is
+
+pub over_node-over_fields-requires : goal.over_node-over_fields-requires
+over_node-over_fields-requires t c =
     let n = c.args.live.now in
     let m = c.args.config.now in
-    let vs = c.as_slice-child-items.result.now in
-    let made = c.loop-child.made.items in
-    let are = values-merged n m c.children.result.now c.children-2.result.now c.in_ok-order.order.items vs c.children.ensures.own c.children-2.ensures.own c.in_ok-order.ensures c.as_slice-child-items.ensures.value in
-    children-over n m made (subst (λ ps. AreMade ps made) (ap (map merged_view) (take_all c.loop-child.child-index vs c.loop-child-test.false) ∙ are) c.loop-child.invariant)
+    let is = c.in-Branch.is ∙ ap TheVariants.Branch (sym c.in-Branch.children-is) in
+    let under = ap below is ∙ below-Branch _ in
+    let own = c.children.ensures.own in
+    let small = live-smaller n m c.children.result.now _ own under c.requires.live c.requires.config c.requires.alike in (
+      search (rules, small),
+      (
+        c.children.ensures.trees c.requires.live,
+        (
+          config-trees n m c.children.result.now _ own under c.requires.live c.requires.config c.requires.alike,
+          (
+            c.children.ensures.apart c.requires.live,
+            (
+              record-rises _ _ is c.requires.config,
+              children-alike n m c.children.result.now _ own under
+                  c.requires.live c.requires.config c.requires.alike,
+            ),
+          ),
+        ),
+      ),
+    )
 
-pub over_node-sort_children-requires : goal.over_node-sort_children-requires
-over_node-sort_children-requires t c =
-    apart-over c.args.live.now c.args.config.now c.requires.live c.requires.config c.requires.alike c.in_ok-children-in-Branch.children.items c.in_ok-children-in-Branch.ensures
-
-pub over_node-sort_children-requires-in-Dict : goal.over_node-sort_children-requires-in-Dict
-over_node-sort_children-requires-in-Dict t c =
-    apart-over c.args.live.now c.args.config.now c.requires.live c.requires.config c.requires.alike c.in_ok-children-in-Dict.children.items c.in_ok-children-in-Dict.ensures
-
-pub over_node-returns-in_ok-copy-in-Leaf : goal.over_node-returns-in_ok-copy-in-Leaf
-over_node-returns-in_ok-copy-in-Leaf t c =
-    leaf-over c.args.live.now c.args.config.now c.requires.live c.requires.config c.requires.alike c.in_ok-copy-in-Leaf.field-0 c.in-Leaf.leaf c.in-Leaf.is c.in_ok-copy-in-Leaf.ensures
-
-pub over_node-returns-in_ok-sort_children-in-Branch : goal.over_node-returns-in_ok-sort_children-in-Branch
-over_node-returns-in_ok-sort_children-in-Branch t c =
-    record-over c.args.live.now c.args.config.now c.requires.live c.requires.config c.requires.alike c.in_ok-children-in-Branch.children.items c.in_ok-children-in-Branch.ensures
-    c.sort_children.new.children c.in-Branch.field-0 c.in-Branch.is c.in_ok-sort_children-in-Branch.ensures
-
-pub over_node-returns-in_ok-sort_children-in-Dict : goal.over_node-returns-in_ok-sort_children-in-Dict
-over_node-returns-in_ok-sort_children-in-Dict t c =
-    dict-over c.args.live.now c.args.config.now c.requires.live c.requires.config c.requires.alike c.in_ok-children-in-Dict.children.items c.in_ok-children-in-Dict.ensures
-    c.sort_children-in-Dict.new.children c.in-Dict.field-0 c.in-Dict.is c.in_ok-sort_children-in-Dict.ensures
-
-pub over_node-returns-in_ok-over_children-in-List : goal.over_node-returns-in_ok-over_children-in-List
-over_node-returns-in_ok-over_children-in-List t c =
-    list-over c.args.live.now c.args.config.now c.requires.live c.requires.config c.requires.alike c.in_ok-over_children-in-List.field-0 c.in-List.field-0 c.in-List.is c.in_ok-over_children-in-List.ensures
-
-pub over_alike-bounds-others-i : goal.over_alike-bounds-others-i
-over_alike-bounds-others-i t c =
-    let long = same-length c.children-own.result.now c.children-others.result.now (ap elements c.children-own.ensures.own ∙ c.requires.same ∙ ap elements (sym c.children-others.ensures.own)) in
-    omega arith
-
-pub over_alike-over_node-requires : goal.over_alike-over_node-requires
-over_alike-over_node-requires t c =
+pub over_node-returns-in-Branch : goal.over_node-returns-in-Branch
+over_node-returns-in-Branch t c =
     let n = c.args.live.now in
     let m = c.args.config.now in
-    let child = c.index-own-i.result in
-    let e = element_view child.0 in
-    let cs = c.children-own.result.now in
-    let ds = c.children-others.result.now in
-    let i = c.loop-i.i in
-    let d = get_or ds i c.index-others-i.result in
-    let same = ap elements c.children-own.ensures.own ∙ c.requires.same ∙ ap elements (sym c.children-others.ensures.own) in
-    let own = ap (child_at e) (sym c.children-own.ensures.own) ∙ child-at-index cs i child c.loop-i-test.true c.index-own-i.is (c.children-own.ensures.apart c.requires.live) in
-    let other = beside m cs ds i child c.index-others-i.result c.children-others.ensures.own (c.children-others.ensures.apart c.requires.config) same c.loop-i-test.true c.index-own-i.is c.index-others-i.is in
-    let part = smaller n e child.1 own in
-    let small : 3 * length (rows child.1) + 2 < 3 * length (rows n) = omega arith in
-    (search (rules, small), (tree-child n e child.1 c.requires.live own, (tree-child m e d.1 c.requires.config other, alike-child n m e child.1 d.1 c.requires.live c.requires.config own other c.requires.alike)))
+    let is = c.in-Branch.is ∙ ap TheVariants.Branch (sym c.in-Branch.children-is) in
+    ok-gives c.over_fields.result c.over_fields.ensures
+    (λ h. left-over n m _ (TheVariants.Branch c.over_fields.new.config) (rw (c.in-Branch.is, TheVariants.outs-Branch c.in-Branch.children) refl)
+    (record-over n m c.requires.live c.requires.config c.requires.alike c.over_fields.new.config _ is (order-live _ _ _ _ c.children.ensures.own h)))
 
-pub over_alike-loop-i-preserved : goal.over_alike-loop-i-preserved
-over_alike-loop-i-preserved t c =
-    let m = c.args.config.now in
-    let child = c.index-own-i.result in
-    let e = element_view child.0 in
-    let cs = c.children-own.result.now in
-    let ds = c.children-others.result.now in
-    let i = c.loop-i.i in
-    let d = get_or ds i c.index-others-i.result in
-    let same = ap elements c.children-own.ensures.own ∙ c.requires.same ∙ ap elements (sym c.children-others.ensures.own) in
-    let other = beside m cs ds i child c.index-others-i.result c.children-others.ensures.own (c.children-others.ensures.apart c.requires.config) same c.loop-i-test.true c.index-own-i.is c.index-others-i.is in
-    made-over (live_child (below m)) cs i child c.loop-i.made.items c.push_child.new.children.items c.in_ok-node.node c.loop-i-test.true c.index-own-i.is c.in_ok-push_child.ensures c.loop-i.invariant d.1 other c.in_ok-node.ensures
-
-pub over_alike-returns : goal.over_alike-returns
-over_alike-returns t c =
+pub over_node-over_fields-requires-in-Dict : goal.over_node-over_fields-requires-in-Dict
+over_node-over_fields-requires-in-Dict t c =
     let n = c.args.live.now in
     let m = c.args.config.now in
-    let made = c.loop-i.made.items in
-    let each = subst (λ l. AreMade (map (live_child (below m)) l) made) (take_all c.loop-i.i c.children-own.result.now c.loop-i-test.false ∙ c.children-own.ensures.own) c.loop-i.invariant in
-    alike-over n m made each c.requires.same
+    let is = c.in-Dict.is ∙ ap TheVariants.Dict (sym c.in-Dict.children-is) in
+    let under = ap below is ∙ below-Dict _ in
+    let own = c.children-in-Dict.ensures.own in
+    let small = live-smaller n m c.children-in-Dict.result.now _ own under c.requires.live c.requires.config c.requires.alike in (
+      search (rules, small),
+      (
+        c.children-in-Dict.ensures.trees c.requires.live,
+        (
+          config-trees n m c.children-in-Dict.result.now _ own under c.requires.live c.requires.config c.requires.alike,
+          (
+            c.children-in-Dict.ensures.apart c.requires.live,
+            (
+              dict-rises _ _ is c.requires.config,
+              children-alike n m c.children-in-Dict.result.now _ own
+                  under c.requires.live c.requires.config c.requires.alike,
+            ),
+          ),
+        ),
+      ),
+    )
+
+pub over_node-returns-in-Dict : goal.over_node-returns-in-Dict
+over_node-returns-in-Dict t c =
+    let n = c.args.live.now in
+    let m = c.args.config.now in
+    let is = c.in-Dict.is ∙ ap TheVariants.Dict (sym c.in-Dict.children-is) in
+    ok-gives c.over_fields-in-Dict.result c.over_fields-in-Dict.ensures
+    (λ h. left-over n m _ (TheVariants.Dict c.over_fields-in-Dict.new.config) (rw (c.in-Dict.is, TheVariants.outs-Dict c.in-Dict.children) refl)
+    (dict-over n m c.requires.live c.requires.config c.requires.alike c.over_fields-in-Dict.new.config _ is
+    (order-live _ _ _ _ c.children-in-Dict.ensures.own h)))
+
+pub over_node-over_items-requires : goal.over_node-over_items-requires
+over_node-over_items-requires t c =
+    let n = c.args.live.now in
+    let m = c.args.config.now in
+    let is = c.in-List.is ∙ ap TheVariants.List (sym c.in-List.children-is) in
+    let under = ap below is ∙ below-List _ in
+    let own = c.children-in-List.ensures.own in
+    let small = live-smaller n m c.children-in-List.result.now _ own under c.requires.live c.requires.config c.requires.alike in (
+      search (rules, small),
+      (
+        c.children-in-List.ensures.trees c.requires.live,
+        (
+          config-trees n m c.children-in-List.result.now _ own under c.requires.live c.requires.config c.requires.alike,
+          (
+            c.children-in-List.ensures.apart c.requires.live,
+            (
+              config-apart n m c.children-in-List.result.now _ own under c.requires.live c.requires.config
+                  c.requires.alike,
+              children-alike n m c.children-in-List.result.now _ own under c.requires.live c.requires.config c.requires.alike,
+            ),
+          ),
+        ),
+      ),
+    )
+
+pub over_node-returns-in-List : goal.over_node-returns-in-List
+over_node-returns-in-List t c =
+    let n = c.args.live.now in
+    let m = c.args.config.now in
+    let is = c.in-List.is ∙ ap TheVariants.List (sym c.in-List.children-is) in
+    ok-gives c.over_items.result c.over_items.ensures
+    (λ h. left-over n m _ (TheVariants.List c.over_items.new.config) (rw (c.in-List.is, TheVariants.outs-List c.in-List.children) refl)
+    (list-over n m c.requires.live c.requires.config c.requires.alike c.over_items.new.config _ is (over-live _ _ _ _ c.children-in-List.ensures.own h)))

@@ -1,23 +1,26 @@
-use Rattle.std.proofs.Common.{◌+◌, ◌*◌, length, map, take}
-use Rattle.ssa_typed.specs.MergedOrder.{live_child, merged_view}
-use Rattle.ssa_typed.specs.Rows.{below, rows}
-use Rattle.ssa_typed.proofs.Overlaying.{AreMade}
+use Rattle.std.proofs.Common.{◌+◌, ◌*◌, length}
+use Rattle.ssa_typed.specs.Rows.{rows, rows_below}
+use Rattle.ssa_typed.proofs.Pairs.{IsOverlaid}
+use Rattle.ssa_typed.proofs.SortedOut.{IsMerging}
 use Rattle.ssa_typed.proofs.over.+over.Given as goal
 
 abbrev pub decreases-over_alike : goal.decreases-over_alike
-decreases-over_alike l = 3 * length (rows l.live.now)
+decreases-over_alike l = 4 * length (rows_below l.live.now) + 1
 
 abbrev pub decreases-over_found : goal.decreases-over_found
-decreases-over_found l = 3 * length (rows l.live.now)
+decreases-over_found l = 4 * length (rows_below l.live.now) + 1
 
-abbrev pub decreases-over_children : goal.decreases-over_children
-decreases-over_children l = 3 * length (rows l.live.now) + 1
+abbrev pub decreases-over_items : goal.decreases-over_items
+decreases-over_items l = 4 * length (rows_below l.live.now) + 2
+
+abbrev pub decreases-over_fields : goal.decreases-over_fields
+decreases-over_fields l = 4 * length (rows_below l.live.now) + 2
 
 abbrev pub decreases-over_node : goal.decreases-over_node
-decreases-over_node l = 3 * length (rows l.live.now) + 2
+decreases-over_node l = 4 * length (rows l.live.now)
 
 abbrev pub invariant-over_alike-loop-i : goal.invariant-over_alike-loop-i
-invariant-over_alike-loop-i l = AreMade (map (live_child (below l.config)) (take l.i l.own)) l.made.items
+invariant-over_alike-loop-i l = IsOverlaid l.live l.fn.config.items l.config.items l.i
 
-abbrev pub invariant-over_found-loop-child : goal.invariant-over_found-loop-child
-invariant-over_found-loop-child l = AreMade (map merged_view (take l.child-index l.child-items)) l.made.items
+abbrev pub invariant-over_found-loop-i : goal.invariant-over_found-loop-i
+invariant-over_found-loop-i l = IsMerging l.live l.fn.config.items l.beside.items l.merged.items l.i

@@ -10,4 +10,4 @@ over_node-requires-clause-alike c =
 
 pub returns : goal.returns
 returns c =
-    over-body c.self.inside.root c.config.inside.root c.in_ok-root.root c.in_ok-root.ensures ∙ (λ i. over (c.self.view_is i) (c.config.view_is i))
+    over-body c.self.inside.root c.config.inside.root c.over_node.new.config c.in_ok-over_node.ensures ∙ (λ i. over (c.self.view_is i) (c.config.view_is i))

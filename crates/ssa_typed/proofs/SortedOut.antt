@@ -1,0 +1,312 @@
+-- The configuration's children, sorted out by the live children.
+use Rattle.std.proofs.Common.{◌≡◌, ℕ, suc, ◌+◌, ◌-◌, ◌<◌, ◌≤◌, List, [], ◌∷◌, ◌++◌, map, length, get_or, set, take, drop, Bool, true, false, not, ◌||◌, cond, Option, Some, None, option_map, refl, sym, ap, subst, ◌∙◌, append_assoc, append-nil, arith, true≢false, Bor}
+use Rattle.std.specs.Prelude.{filter}
+use Rattle.std.specs.List.{list_any}
+use Rattle.std.proofs.lemmas.List.{drop-set-lt, drop_more, length-drop, length-map, length-take-le, map-append, take_all}
+use Rattle.std.proofs.lemmas.List.Elements.{filter-append}
+use Rattle.std.proofs.lemmas.List.Folds.{list_any-append}
+use Rattle.ssa_model.specs.definitions.Path.{Element, same_element}
+use Rattle.ssa_path.specs.Children.{child_at, elements}
+use Rattle.ssa_path.specs.declared.element.Elem.{Elem}
+use Rattle.ssa_path.specs.View.{element_view}
+use Rattle.ssa_path.proofs.Lists.{elements-append, left-at, taken-at}
+use Rattle.ssa_path.proofs.Orders.{same_either_way, same_element-true, both_first, both_second}
+use Rattle.ssa_typed.specs.Copies.{kept}
+use Rattle.ssa_typed.specs.InOrder.{IsInOrder}
+use Rattle.ssa_typed.specs.MergedOrder.{beside, is_new, lent_place, live_child, next_place, places, whole_child}
+use Rattle.ssa_typed.specs.Over.{AreOver, IsOver}
+use Rattle.ssa_typed.specs.Rows.{are_apart, are_trees, is_tree}
+use Rattle.ssa_typed.specs.declared.node.Node.{Node}
+use Rattle.ssa_typed.proofs.Building.{Child}
+use Rattle.ssa_typed.proofs.Laws.{not_true, neither_first, neither_second}
+use Rattle.ssa_typed.proofs.Overlaying.{AreMade, IsMade, child-at-index, made-all, made-copied, made-over, made-push}
+
+-- ---- places
+
+pub places-push : (cs : List Child) (c : Child) → places (cs ++ c ∷ []) ≡ places cs ++ (c.0, length cs) ∷ []
+places-push [] c = refl
+places-push (d ∷ cs) c = ap (λ ps. (d.0, 0) ∷ ps) (ap (map next_place) (places-push cs c) ∙ map-append next_place (places cs) ((c.0, length cs) ∷ []))
+
+pub places-more : (cs : List Child) (i : ℕ) (c : Child) (own : Bor Elem) (sorted more : List (Bor Elem × ℕ)) → i < length cs → c ≡ get_or cs i c
+    → own.now ≡ c.0 → map lent_place sorted ≡ places (take i cs)
+    → more ≡ sorted ++ (own, i) ∷ [] → map lent_place more ≡ places (take (i + 1) cs)
+places-more cs i c own sorted more lt is lent h pushed =
+    let long : length (take i cs) ≡ i = length-take-le i cs (omega arith) in
+    ap (map lent_place) pushed ∙ map-append lent_place sorted ((own, i) ∷ []) ∙ (λ j. h j ++ (lent j, sym long j) ∷ [])
+    ∙ sym (ap places (taken-at cs i c lt is) ∙ places-push (take i cs) c)
+
+pub elements-next : (ps : List (Elem × ℕ)) → elements (map next_place ps) ≡ elements ps
+elements-next [] = refl
+elements-next (p ∷ ps) = ap (λ es. element_view p.0 ∷ es) (elements-next ps)
+
+pub elements-places : (cs : List Child) → elements (places cs) ≡ elements cs
+elements-places [] = refl
+elements-places (c ∷ cs) = ap (λ es. element_view c.0 ∷ es) (elements-next (places cs) ∙ elements-places cs)
+
+child-next : (e : Element) (ps : List (Elem × ℕ)) → child_at e (map next_place ps) ≡ option_map suc (child_at e ps)
+child-next e [] = refl
+child-next e (p ∷ ps) =
+    elim (same_element e (element_view p.0)) as (λ b. cond b (Some (suc p.1)) (child_at e (map next_place ps))
+    ≡ option_map suc (cond b (Some p.1) (child_at e ps))) [ true ↦ refl | false ↦ child-next e ps ]
+
+-- a place further on
+record IsNext (o : Option ℕ) (i : ℕ) : Type 0 where
+  before : ℕ
+  there : o ≡ Some before
+  next : i ≡ suc before
+
+next-of : (o : Option ℕ) (i : ℕ) → option_map suc o ≡ Some i → IsNext o i
+next-of None i h = cc
+next-of (Some j) i h = record { before = j; there = refl; next = cc }
+
+some-number : (i j : ℕ) → ◌≡◌ {A = Option ℕ} (Some i) (Some j) → i ≡ j
+some-number i j h = cc
+
+-- ---- the configuration's child beside a live one
+
+pub whole-child : (e : Element) (ds : List Child) → child_at e ds ≡ option_map (λ d. d.1) (whole_child e ds)
+whole-child e [] = refl
+whole-child e (d ∷ ds) =
+    elim (same_element e (element_view d.0)) as (λ b. cond b (Some d.1) (child_at e ds) ≡ option_map (λ x. x.1) (cond b (Some d) (whole_child e ds)))
+    [ true ↦ refl | false ↦ whole-child e ds ]
+
+pub whole-element : (e : Element) (ds : List Child) (d : Child) → whole_child e ds ≡ Some d → element_view d.0 ≡ e
+whole-element e [] d h = cc
+whole-element e (x ∷ ds) d h =
+    elim (same_element e (element_view x.0)) as (λ b. same_element e (element_view x.0) ≡ b → cond b (Some x) (whole_child e ds) ≡ Some d
+    → element_view d.0 ≡ e) [
+      | true ↦ λ s k. let same : x ≡ d = cc in ap (λ (y : Child). element_view y.0) (sym same) ∙ sym (same_element-true e (element_view x.0) s)
+      | false ↦ λ s k. whole-element e ds d k
+    ] refl h
+
+-- one child more
+whole-push : (e : Element) (ds : List Child) (d : Child) → same_element e (element_view d.0) ≡ false → whole_child e (ds ++ d ∷ []) ≡ whole_child e ds
+whole-push e [] d other = ap (λ b. cond b (Some d) None) other
+whole-push e (x ∷ ds) d other = ap (cond (same_element e (element_view x.0)) (Some x)) (whole-push e ds d other)
+
+whole-first : (e : Element) (ds : List Child) (d : Child) → same_element e (element_view d.0) ≡ true → list_any (same_element e) (elements ds) ≡ false
+    → whole_child e (ds ++ d ∷ []) ≡ Some d
+whole-first e [] d same none = ap (λ b. cond b (Some d) None) same
+whole-first e (x ∷ ds) d same none =
+    ap (λ b. cond b (Some x) (whole_child e (ds ++ d ∷ []))) (neither_first (same_element e (element_view x.0)) _ none)
+    ∙ whole-first e ds d same (neither_second (same_element e (element_view x.0)) _ none)
+
+-- where no live child has the element, each keeps what is beside it
+pub beside-apart : (ds cs : List Child) (d : Child) → list_any (same_element (element_view d.0)) (elements cs) ≡ false
+    → map (beside ds) cs ≡ map (beside (ds ++ d ∷ [])) cs
+beside-apart ds [] d none = refl
+beside-apart ds (c ∷ cs) d none =
+    let other = same_either_way (element_view d.0) (element_view c.0) ∙ neither_first (same_element (element_view d.0) (element_view c.0)) _ none in
+    λ i. sym (whole-push (element_view c.0) ds d other) i ∷ beside-apart ds cs d (neither_second (same_element (element_view d.0) (element_view c.0)) _ none) i
+
+module _ (ds cs : List Child) (c d : Child) (i : ℕ) (apart : are_apart (elements (c ∷ cs)) ≡ true)
+    (none : list_any (same_element (element_view d.0)) (elements ds) ≡ false)
+    (rest : (k : ℕ) → child_at (element_view d.0) (places cs) ≡ Some k → set (map (beside ds) cs) k (Some d) ≡ map (beside (ds ++ d ∷ [])) cs) where
+  abbrev IsPut : ℕ → Type 0
+  IsPut j = set (map (beside ds) (c ∷ cs)) j (Some d) ≡ map (beside (ds ++ d ∷ [])) (c ∷ cs)
+
+  put-here : same_element (element_view d.0) (element_view c.0) ≡ true → IsPut 0
+  put-here s =
+      let e = element_view d.0 in
+      let f = element_view c.0 in
+      let is : e ≡ f = same_element-true e f s in
+      let first = whole-first f ds d (same_either_way e f ∙ s) (ap (λ g. list_any (same_element g) (elements ds)) (sym is) ∙ none) in
+      let others = ap (λ g. list_any (same_element g) (elements cs)) is ∙ not_true _ (both_first (not (list_any (same_element f) (elements cs))) _ apart) in
+      λ j. sym first j ∷ beside-apart ds cs d others j
+
+  put-further : (k : ℕ) → same_element (element_view d.0) (element_view c.0) ≡ false → child_at (element_view d.0) (places cs) ≡ Some k → IsPut (suc k)
+  put-further k s there =
+      let other = whole-push (element_view c.0) ds d (same_either_way (element_view d.0) (element_view c.0) ∙ s) in
+      λ j. sym other j ∷ rest k there j
+
+  next-beside : (b : Bool) → same_element (element_view d.0) (element_view c.0) ≡ b
+      → cond b (Some 0) (child_at (element_view d.0) (map next_place (places cs))) ≡ Some i → IsPut i
+  next-beside true s k = subst IsPut (some-number 0 i k) (put-here s)
+  next-beside false s k =
+      let n = next-of (child_at (element_view d.0) (places cs)) i (sym (child-next (element_view d.0) (places cs)) ∙ k) in
+      subst IsPut (sym n.next) (put-further n.before s n.there)
+
+-- the configuration's next child is put beside the live child of its element
+pub beside-more : (ds cs : List Child) (d : Child) (i : ℕ) → are_apart (elements cs) ≡ true
+    → list_any (same_element (element_view d.0)) (elements ds) ≡ false → child_at (element_view d.0) (places cs) ≡ Some i
+    → set (map (beside ds) cs) i (Some d) ≡ map (beside (ds ++ d ∷ [])) cs
+beside-more ds [] d i apart none at = cc
+beside-more ds (c ∷ cs) d i apart none at =
+    let f = element_view c.0 in
+    next-beside ds cs c d i apart none (λ k. beside-more ds cs d k (both_second (not (list_any (same_element f) (elements cs))) _ apart) none)
+    (same_element (element_view d.0) f) refl at
+
+-- a place that is found is there
+pub place-within : (e : Element) (cs : List Child) (i : ℕ) → child_at e (places cs) ≡ Some i → i < length cs
+place-within e [] i h = cc
+place-within e (c ∷ cs) i h =
+    elim (same_element e (element_view c.0)) as (λ b. cond b (Some 0) (child_at e (map next_place (places cs))) ≡ Some i → i < length (c ∷ cs)) [
+      | true ↦ λ k. let first : 0 ≡ i = some-number 0 i k in omega arith
+      | false ↦ λ k.
+          let n = next-of (child_at e (places cs)) i (sym (child-next e (places cs)) ∙ k) in
+          let rest = place-within e cs n.before n.there in
+          let next = n.next in
+          omega arith
+    ] h
+
+-- a live child is found where there is one
+abbrev is_absent : {A : Type 0} → Option A → Bool
+is_absent None = true
+is_absent (Some x) = false
+
+absent-next : (o : Option ℕ) → is_absent (option_map suc o) ≡ is_absent o
+absent-next None = refl
+absent-next (Some i) = refl
+
+new-place : (e : Element) (cs : List Child) → is_absent (child_at e (places cs)) ≡ is_absent (child_at e cs)
+new-place e [] = refl
+new-place e (c ∷ cs) =
+    elim (same_element e (element_view c.0)) as (λ b. is_absent (cond b (Some 0) (child_at e (map next_place (places cs))))
+    ≡ is_absent (cond b (Some c.1) (child_at e cs))) [
+      | true ↦ refl
+      | false ↦ ap is_absent (child-next e (places cs)) ∙ absent-next (child_at e (places cs)) ∙ new-place e cs
+    ]
+
+is_new-absent : (cs : List Child) (d : Child) → is_new cs d ≡ is_absent (child_at (element_view d.0) cs)
+is_new-absent cs d = elim (child_at (element_view d.0) cs) as (λ o. elim o [ None ↦ true | Some c ↦ false ] ≡ is_absent o) [ None ↦ refl | Some c ↦ refl ]
+
+none-among : (e : Element) (cs : List Child) → is_absent (child_at e cs) ≡ true → list_any (same_element e) (elements cs) ≡ false
+none-among e [] h = refl
+none-among e (c ∷ cs) h =
+    elim (same_element e (element_view c.0)) as (λ b. is_absent (cond b (Some c.1) (child_at e cs)) ≡ true
+    → (b || list_any (same_element e) (elements cs)) ≡ false) [
+      | true ↦ λ k. absurd (true≢false (sym k))
+      | false ↦ λ k. none-among e cs k
+    ] h
+
+-- an element is none of those before it
+before-apart : (es : List Element) (e : Element) (fs : List Element) → are_apart (es ++ e ∷ fs) ≡ true → list_any (same_element e) es ≡ false
+before-apart [] e fs h = refl
+before-apart (f ∷ es) e fs h =
+    let others = sym (list_any-append (same_element f) es (e ∷ fs)) ∙ not_true _ (both_first (not (list_any (same_element f) (es ++ e ∷ fs))) _ h) in
+    let other = neither_first (same_element f e) _ (neither_second (list_any (same_element f) es) _ others) in
+    λ i. (same_either_way f e ∙ other) i || before-apart es e fs (both_second (not (list_any (same_element f) (es ++ e ∷ fs))) _ h) i
+
+-- what is found among the places put in order and lent
+pub place-found : (e : Element) (cs : List Child) (sorted vs : List (Bor Elem × ℕ)) (o : Option ℕ) → vs ≡ sorted
+    → IsInOrder (places cs) (map lent_place sorted) → o ≡ child_at e (map lent_place vs) → child_at e (places cs) ≡ o
+place-found e cs sorted vs o lent h found = sym (h.same e) ∙ sym (ap (λ l. child_at e (map lent_place l)) lent) ∙ sym found
+
+-- ---- the walk over the configuration's children
+
+pub record IsSortingOut (cs ds left : List Child) (slots : List (Option Child)) (new : List Child) : Type 0 where
+  pub done : List Child
+  pub parted : done ++ left ≡ ds
+  pub slots_are : slots ≡ map (beside done) cs
+  pub new_are : new ≡ filter (is_new cs) done
+
+pub sorting-none : (cs ds : List Child) (slots : List (Option Child)) (new : List Child) → slots ≡ map (beside []) cs → new ≡ []
+    → IsSortingOut cs ds ds slots new
+sorting-none cs ds slots new is none = record { done = []; parted = refl; slots_are = is; new_are = none }
+
+pub sorting-all : (cs ds left : List Child) (slots : List (Option Child)) (new : List Child) → left ≡ [] → IsSortingOut cs ds left slots new
+    → (slots ≡ map (beside ds) cs) × (new ≡ filter (is_new cs) ds)
+sorting-all cs ds left slots new none h =
+    let all : h.done ≡ ds = sym (append-nil h.done) ∙ ap (λ l. h.done ++ l) (sym none) ∙ h.parted in
+    (h.slots_are ∙ ap (λ l. map (beside l) cs) all, h.new_are ∙ ap (filter (is_new cs)) all)
+
+module _ (cs ds all left : List Child) (slots : List (Option Child)) (new : List Child) (d : Child) (live : are_apart (elements cs) ≡ true)
+    (config : are_apart (elements ds) ≡ true) (is : all ≡ d ∷ left) (h : IsSortingOut cs ds all slots new) where
+  now : h.done ++ d ∷ left ≡ ds
+  now = ap (λ l. h.done ++ l) (sym is) ∙ h.parted
+
+  next : (h.done ++ d ∷ []) ++ left ≡ ds
+  next = append_assoc h.done (d ∷ []) left ∙ now
+
+  none : list_any (same_element (element_view d.0)) (elements h.done) ≡ false
+  none = before-apart (elements h.done) (element_view d.0) (elements left) (ap are_apart (sym (elements-append h.done (d ∷ left)))
+      ∙ ap (λ l. are_apart (elements l)) now ∙ config)
+
+  filtered : (b : Bool) → is_new cs d ≡ b → filter (is_new cs) (h.done ++ d ∷ []) ≡ filter (is_new cs) h.done ++ cond b (d ∷ []) []
+  filtered b e = filter-append (is_new cs) h.done (d ∷ []) ∙ ap (λ t. filter (is_new cs) h.done ++ cond t (d ∷ []) []) e
+
+  pub slot-within : (i : ℕ) → child_at (element_view d.0) (places cs) ≡ Some i → i < length slots
+  slot-within i found =
+      let short = place-within (element_view d.0) cs i found in
+      let long : length slots ≡ length cs = ap length h.slots_are ∙ length-map cs (beside h.done) in
+      omega arith
+
+  pub sorting-beside : (i : ℕ) (more : List (Option Child)) → child_at (element_view d.0) (places cs) ≡ Some i → more ≡ set slots i (Some d)
+      → IsSortingOut cs ds left more new
+  sorting-beside i more found put = record {
+    done = h.done ++ d ∷ [];
+    parted = next;
+    slots_are = put ∙ ap (λ l. set l i (Some d)) h.slots_are ∙ beside-more h.done cs d i live none found;
+    new_are = h.new_are ∙ sym (filtered false (is_new-absent cs d ∙ sym (new-place (element_view d.0) cs) ∙ ap is_absent found)
+        ∙ append-nil (filter (is_new cs) h.done));
+  }
+
+  pub sorting-new : (more : List Child) → child_at (element_view d.0) (places cs) ≡ None → more ≡ new ++ d ∷ [] → IsSortingOut cs ds left slots more
+  sorting-new more none_found put =
+      let absent : is_absent (child_at (element_view d.0) cs) ≡ true = sym (new-place (element_view d.0) cs) ∙ ap is_absent none_found in
+      record {
+        done = h.done ++ d ∷ [];
+        parted = next;
+        slots_are = h.slots_are ∙ beside-apart h.done cs d (none-among (element_view d.0) cs absent);
+        new_are = put ∙ ap (λ l. l ++ d ∷ []) h.new_are ∙ sym (filtered true (is_new-absent cs d ∙ absent));
+      }
+
+-- ---- the walk over the live children
+
+pub record IsMerging (cs ds : List Child) (slots : List (Option Child)) (xs : List Child) (i : ℕ) : Type 0 where
+  pub made : AreMade (map (live_child ds) (take i cs)) xs
+  pub left : drop i slots ≡ map (beside ds) (drop i cs)
+
+first-slot : (x y : Option Child) (xs ys : List (Option Child)) → x ∷ xs ≡ y ∷ ys → x ≡ y
+first-slot x y xs ys h = cc
+
+rest-slots : (x y : Option Child) (xs ys : List (Option Child)) → x ∷ xs ≡ y ∷ ys → xs ≡ ys
+rest-slots x y xs ys h = cc
+
+module _ (cs ds : List Child) (slots : List (Option Child)) (xs : List Child) (i : ℕ) (c : Child) (o : Option Child) (live : are_apart (elements cs) ≡ true)
+    (lt : i < length cs) (is : c ≡ get_or cs i c) (h : IsMerging cs ds slots xs i) where
+  pub slot-there : i < length slots
+  slot-there =
+      let sizes : length slots - i ≡ length cs - i = sym (length-drop i slots) ∙ ap length h.left ∙ length-map (drop i cs) (beside ds) ∙ length-drop i cs in
+      omega arith
+
+  parts : get_or slots i o ∷ drop (i + 1) slots ≡ beside ds c ∷ map (beside ds) (drop (i + 1) cs)
+  parts = sym (drop_more slots i o slot-there) ∙ h.left ∙ ap (map (beside ds)) (left-at cs i c lt is)
+
+  pub own-child : child_at (element_view c.0) cs ≡ Some c.1
+  own-child = child-at-index cs i c lt is live
+
+  module _ (read : o ≡ get_or slots i o) where
+    slot : o ≡ beside ds c
+    slot = read ∙ first-slot _ _ _ _ parts
+
+    pub config-child : (d : Child) → o ≡ Some d → child_at (element_view c.0) ds ≡ Some d.1
+    config-child d found = whole-child (element_view c.0) ds ∙ ap (option_map (λ x. x.1)) (sym slot ∙ found)
+
+    more : (x : Child) (new : List Child) (after : List (Option Child)) → IsMade (live_child ds c) x → new ≡ xs ++ x ∷ [] → after ≡ set slots i None
+        → IsMerging cs ds after new (i + 1)
+    more x new after one pushed emptied = record {
+      made =
+          subst (AreMade (map (live_child ds) (take (i + 1) cs))) (sym pushed)
+          (subst (λ ps. AreMade ps (xs ++ x ∷ [])) (sym (ap (map (live_child ds)) (taken-at cs i c lt is) ∙ map-append (live_child ds) (take i cs) (c ∷ [])))
+          (made-push (map (live_child ds) (take i cs)) xs (live_child ds c) x h.made one));
+      left = ap (drop (i + 1)) emptied ∙ drop-set-lt (i + 1) slots i None (omega arith) ∙ rest-slots _ _ _ _ parts;
+    }
+
+    pub merging-own : (d : Child) (n : Node) (new : List Child) (after : List (Option Child)) → o ≡ Some d → IsOver c.1 d.1 n → new ≡ xs ++ (d.0, n) ∷ []
+        → after ≡ set slots i None → IsMerging cs ds after new (i + 1)
+    merging-own d n new after found over pushed emptied =
+        more (d.0, n) new after (made-over (live_child ds c) (d.0, n) (whole-element (element_view c.0) ds d (sym slot ∙ found)) d.1
+        (config-child d found) over) pushed emptied
+
+    pub merging-copied : (x : Child) (new : List Child) (after : List (Option Child)) → o ≡ None → is_tree c.1 ≡ true → element_view x.0 ≡ element_view c.0
+        → kept x.1 ≡ kept c.1 → new ≡ xs ++ x ∷ [] → after ≡ set slots i None
+        → IsMerging cs ds after new (i + 1)
+    merging-copied x new after none tree same copy pushed emptied =
+        more x new after (made-copied (live_child ds c) x same (whole-child (element_view c.0) ds ∙ ap (option_map (λ d. d.1)) (sym slot ∙ none)) tree copy)
+        pushed emptied
+
+pub merging-all : (cs ds : List Child) (slots : List (Option Child)) (xs new ys : List Child) (i : ℕ) → length cs ≤ i → are_trees ds ≡ true
+    → IsMerging cs ds slots xs i → new ≡ filter (is_new cs) ds → ys ≡ xs ++ new → AreOver cs ds ys
+merging-all cs ds slots xs new ys i done trees h is all = made-all cs ds xs new ys trees
+    (subst (λ l. AreMade (map (live_child ds) l) xs) (take_all i cs done) h.made) is all
