@@ -10,7 +10,7 @@ use Rattle.ssa_path.specs.Children.{child_at, elements, IsChildAt}
 use Rattle.ssa_path.specs.View.{element_view}
 use Rattle.ssa_path.proofs.Orders.{same_element-true, both, both_first, both_second}
 use Rattle.ssa_typed.specs.Alike.{are_alike}
-use Rattle.ssa_typed.specs.Over.{AreAlikeTrees}
+use Rattle.ssa_typed.specs.Over.{AreAlikeBelow, AreAlikeTrees}
 use Rattle.ssa_typed.specs.Rows.{below, own_content, is_tree, are_trees, are_apart, leaf_content}
 use Rattle.ssa_typed.specs.declared.node.Leaf.{Leaf as LeafType}
 use Rattle.ssa_typed.specs.declared.node.Node.{Node, Leaf as LeafOf, Branch, Dict, List as ListOf, the_lemmas}
@@ -22,7 +22,7 @@ use Rattle.ssa_turn_body.specs.Changes.{ChangeFits, ChangeGives}
 use Rattle.ssa_turn_body.specs.Between.{IsEditBetween}
 use Rattle.ssa_turn_body.specs.Edits.{EditFits, edited, going, staying, remade}
 use Rattle.ssa_turn_body.specs.Found.{AreFound, AreLed, fresh, kept, somes}
-use Rattle.ssa_turn_body.specs.Led.{AreAlikeBelow, AreLeading, IsLed, MayAdd, is_idle, is_none}
+use Rattle.ssa_turn_body.specs.Led.{AreLeading, IsLed, MayAdd, is_idle, is_none}
 use Rattle.ssa_turn_body.specs.Marks.{Child, Kids, kids, names, Marks, marks, marks_in, may_stand, with_order, Place}
 use Rattle.ssa_turn_body.specs.Told.{from_place}
 use Rattle.ssa_turn_body.specs.Woven.{ArePlaces, left, woven, room_for}

@@ -13,7 +13,8 @@ use Rattle.ssa_typed.specs.Rows.{below, own_content, is_tree, are_trees, are_apa
 use Rattle.ssa_typed.specs.declared.node.Node.{Node}
 use Rattle.ssa_typed.proofs.Laws.{not_true, neither_first, neither_second}
 use Rattle.ssa_turn_body.specs.Found.{AreFound, fresh}
-use Rattle.ssa_turn_body.specs.Led.{AreLeading, AreAlikeBelow, IsAlikeChild, IsChildLed}
+use Rattle.ssa_typed.specs.Over.{AreAlikeBelow}
+use Rattle.ssa_turn_body.specs.Led.{AreLeading, IsAlikeChild, IsChildLed}
 use Rattle.ssa_turn_body.specs.Marks.{Child, Marks, marks, marks_in}
 use Rattle.ssa_turn_body.specs.declared.steps.Step.{Step}
 use Rattle.ssa_turn_body.proofs.Descending.{child-here, found-at}

@@ -1,6 +1,6 @@
 -- Changes that lead what a tree tells at and below a path to something else, and nothing besides.
 use Rattle.std.specs.Prelude.{◌≡◌, List, [], ◌∷◌, ◌++◌, Bool, true, false, ◌&&◌, Some}
-use Rattle.ssa_model.specs.definitions.Path.{Element, Path, under}
+use Rattle.ssa_model.specs.definitions.Path.{Path, under}
 use Rattle.ssa_path.specs.Children.{child_at}
 use Rattle.ssa_path.specs.View.{element_view, path_view}
 use Rattle.ssa_typed.specs.Over.{AreAlikeTrees}
@@ -40,10 +40,6 @@ is_none (x ∷ xs) = false
 -- no child goes, comes or is exchanged
 abbrev pub is_idle : ChildrenEdit → Bool
 is_idle s = is_none s.before.items && is_none s.gone.places.items && is_none s.come.places.items
-
--- where both have a child, the two are alike
-abbrev pub AreAlikeBelow : List Child → List Child → Type 0
-AreAlikeBelow cs ds = (e : Element) (c d : Node) → child_at e cs ≡ Some c → child_at e ds ≡ Some d → AreAlikeTrees c d
 
 -- the child of this element, if there is one, is alike
 abbrev pub IsAlikeChild : List Child → Child → Type 0

@@ -2,9 +2,9 @@
 ghost use Rattle.std.specs.Prelude.{◌≡◌, [], false, true, OnOk};
 ghost use Rattle.ssa_path.specs.Children.{elements, IsChildAt};
 ghost use Rattle.ssa_path.specs.View.{element_view, path_view};
-ghost use Rattle.ssa_typed.specs.Over.{AreAlikeTrees};
+ghost use Rattle.ssa_typed.specs.Over.{AreAlikeBelow, AreAlikeTrees};
 ghost use Rattle.ssa_typed.specs.Rows.{are_trees, below, is_tree, leaf_content, own_content};
-ghost use Rattle.ssa_turn_body.specs.Led.{is_idle, AreAlikeBelow, AreLeading, IsAlikeChild, IsChildLed, MayAdd};
+ghost use Rattle.ssa_turn_body.specs.Led.{is_idle, AreLeading, IsAlikeChild, IsChildLed, MayAdd};
 ghost use Rattle.ssa_turn_body.specs.Marks.{kids, marks, may_stand, with_order};
 ghost use Rattle.ssa_turn_body.specs.Told.{from_place};
 

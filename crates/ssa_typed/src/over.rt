@@ -5,7 +5,7 @@ ghost use Rattle.ssa_typed.specs.Over.{AreAlikeBelow, AreAlikeTrees, AreOver, Ar
 ghost use Rattle.ssa_typed.specs.Rows.{are_apart, are_trees, is_tree};
 
 use crate::in_order::{sort_children, stand_alike};
-use crate::merged_order::{SortedOut, sorted_out};
+use crate::merged_order::sorted_out;
 use crate::node::Node;
 use ssa_path::element::Elem;
 use std::alloc::{AllocError, Global};
