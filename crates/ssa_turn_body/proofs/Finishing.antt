@@ -16,17 +16,18 @@ use Rattle.ssa_typed.specs.declared.node.Leaf.{Leaf as LeafType}
 use Rattle.ssa_typed.specs.declared.node.Node.{Node, Leaf as LeafOf, Branch, Dict, List as ListOf, the_lemmas}
 use Rattle.ssa_typed.proofs.Levels.{Children as Vecs, own-Branch, own-Dict, own-List, rises-apart}
 use Rattle.ssa_typed.proofs.OverNodes.{leaf-there, own-Leaf}
+use Rattle.ssa_typed.proofs.Laws.{and_true}
 use Rattle.ssa_typed.proofs.Overlaying.{alike-child, alike-root}
 use Rattle.ssa_turn_body.proofs.Places.{IsKind}
 use Rattle.ssa_turn_body.specs.Changes.{ChangeFits, ChangeGives}
 use Rattle.ssa_turn_body.specs.Between.{IsEditBetween}
-use Rattle.ssa_turn_body.specs.Edits.{EditFits, edited, going, staying, remade}
+use Rattle.ssa_turn_body.specs.Edits.{EditFits, edited, going, keeps_places, staying, remade, told_unless}
 use Rattle.ssa_turn_body.specs.Found.{AreFound, AreLed, fresh, kept, somes}
-use Rattle.ssa_turn_body.specs.Led.{AreAlikeBelow, AreLeading, IsLed, MayAdd, is_idle, is_none}
+use Rattle.ssa_turn_body.specs.Led.{AreAlikeBelow, AreLeading, IsLed, MayAdd, is_idle}
 use Rattle.ssa_turn_body.specs.Marks.{Child, Kids, kids, names, Marks, marks, marks_in, may_stand, with_order, Place}
 use Rattle.ssa_turn_body.specs.Told.{from_place}
 use Rattle.ssa_turn_body.specs.Woven.{ArePlaces, left, woven, room_for}
-use Rattle.ssa_turn_body.specs.Orders.{reordered}
+use Rattle.ssa_turn_body.specs.Orders.{reordered, is_none}
 use Rattle.ssa_turn_body.specs.declared.change.PlaceChange.{PlaceChange}
 use Rattle.ssa_turn_body.specs.declared.change.PlaceChange.TheVariants.{Leaf, Children}
 use Rattle.ssa_turn_body.specs.declared.children.ChildrenEdit.{ChildrenEdit}
@@ -137,6 +138,7 @@ module _ (o : Content) (cs ds : List Child) (fs : Found) (s : ChildrenEdit) (bet
   edit-fits trees stand =
       let same = found-length cs ds fs found in
       let all : length h.items + length (staying s (led_kids o cs ds)) ≡ 0 + length fs = total ∙ sym same ∙ omega arith in
+      let keeps : keeps_places s ≡ is_none s.before.items = ap (λ xs. is_none s.before.items && is_none xs) between.after ∙ and_true (is_none s.before.items) in
       record {
         before = subst (λ n. SwapsInRange n s.before.items) (sym long) between.before;
         gone = subst (λ n. ArePlaces 0 s.gone.places.items n) (sym long) between.gone;
@@ -147,6 +149,10 @@ module _ (o : Content) (cs ds : List Child) (fs : Found) (s : ChildrenEdit) (bet
         come_named = between.come_named ∙ sym (fresh-names fs ds) ∙ ap names (sym held-kids);
         held = ap length holds ∙ length-fresh fs 0 ds (sym same) ∙ ap length (sym between.come);
         after = subst (λ ps. SwapsInRange (length h.items + length (staying s (led_kids o cs ds))) ps) (sym between.after) tt;
+        order_before =
+            between.order_before ∙ ap (told_unless (is_none s.before.items)) (sym (names-from (λ e q. led o cs ds (e ∷ q)) (elements cs)))
+            ∙ ap (λ b. told_unless b (names (led_kids o cs ds))) (sym keeps);
+        order_after = between.order_after ∙ ap (told_unless (is_none s.before.items)) (sym (ap names edit-leaves ∙ names-kids ds)) ∙ ap (λ b. told_unless b (names (edited (record s { held = h }) (led_kids o cs ds)))) (sym keeps);
         stands = ap (λ ls. may_stand o (names ls)) edit-leaves ∙ ap (may_stand o) (names-kids ds) ∙ stand;
         trees = ap are_trees holds ∙ fresh-trees fs ds trees;
         out_empty = between.out_empty;

@@ -76,11 +76,11 @@ leading-same p M N xs ys e same = record { made = []; added = e ∙ sym (append-
 
 -- ---- in a child
 
-under-further : (p g q : Path) → under (p ++ g) (p ++ q) ≡ under g q
+pub under-further : (p g q : Path) → under (p ++ g) (p ++ q) ≡ under g q
 under-further [] g q = refl
 under-further (e ∷ p) g q = ap (λ b. b && under (p ++ g) (p ++ q)) (same_element-itself e) ∙ under-further p g q
 
-under-longer : (p g q : Path) → under p q ≡ false → under (p ++ g) q ≡ false
+pub under-longer : (p g q : Path) → under p q ≡ false → under (p ++ g) q ≡ false
 under-longer [] g q h = absurd (true≢false h)
 under-longer (e ∷ p) g [] h = refl
 under-longer (e ∷ p) g (f ∷ q) h =

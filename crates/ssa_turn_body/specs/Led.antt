@@ -7,6 +7,7 @@ use Rattle.ssa_typed.specs.Over.{AreAlikeTrees}
 use Rattle.ssa_typed.specs.Rows.{is_tree}
 use Rattle.ssa_typed.specs.declared.node.Node.{Node}
 use Rattle.ssa_turn_body.specs.Marks.{Child, Marks, marks}
+use Rattle.ssa_turn_body.specs.Orders.{is_none}
 use Rattle.ssa_turn_body.specs.Steps.{StepsFit, StepsLead}
 use Rattle.ssa_turn_body.specs.declared.change.PlaceChange.{PlaceChange}
 use Rattle.ssa_turn_body.specs.declared.children.ChildrenEdit.{ChildrenEdit}
@@ -32,10 +33,6 @@ pub record AreLeading (p : Path) (before after : Marks) (old new : List Step) : 
 abbrev pub MayAdd : Bool → Path → PlaceChange → List Step → List Step → Type 0
 MayAdd true p x old new = new ≡ old
 MayAdd false p x old new = (s : Step) × (path_view s.path.items ≡ p) × (s.change ≡ x) × (new ≡ old ++ s ∷ [])
-
-abbrev pub is_none : {X : Type 0} → List X → Bool
-is_none [] = true
-is_none (x ∷ xs) = false
 
 -- no child goes, comes or is exchanged
 abbrev pub is_idle : ChildrenEdit → Bool

@@ -8,6 +8,8 @@ pub mod Inner
 pub mod Led
 pub mod Marks
 pub mod Orders
+pub mod Records
+pub mod Said
 pub mod Steps
 pub mod Told
 pub mod Turns
