@@ -293,7 +293,7 @@ module _ (e : Element) (m m2 n n2 : Contents) (own : (q : Path) → m (e ∷ q) 
 other-below : (e f : Element) (q : Path) → same_element e f ≡ false → under (e ∷ []) (f ∷ q) ≡ false
 other-below e f q t = ap (λ b. b && true) t
 
-other-around : (m m2 : Contents) (e f : Element) (q : Path) → same_element e f ≡ false → ((r : Path) → under (e ∷ []) r ≡ false → m2 r ≡ m r) → IsAround m m2 (f ∷ q)
+pub other-around : (m m2 : Contents) (e f : Element) (q : Path) → same_element e f ≡ false → ((r : Path) → under (e ∷ []) r ≡ false → m2 r ≡ m r) → IsAround m m2 (f ∷ q)
 other-around m m2 e f [] t others = record { above = sym (others [] refl); from = λ r. sym (others (f ∷ r) (other-below e f r t)) }
 other-around m m2 e f (g ∷ q) t others = record { above = sym (others (f ∷ parent (g ∷ q)) (other-below e f (parent (g ∷ q)) t)); from = λ r. sym (others (f ∷ g ∷ (q ++ r)) (other-below e f (g ∷ (q ++ r)) t)) }
 
