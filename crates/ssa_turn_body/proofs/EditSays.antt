@@ -92,11 +92,11 @@ map-cond : {A B : Type 0} (f : A → B) (b : Bool) (x : A) (o : Option A) → op
 map-cond f true x o = refl
 map-cond f false x o = refl
 
-abbrev head_or : {X : Type 0} → X → List X → X
+abbrev pub head_or : {X : Type 0} → X → List X → X
 head_or d [] = d
 head_or d (x ∷ xs) = x
 
-abbrev rest_after : {X : Type 0} → List X → List X
+abbrev pub rest_after : {X : Type 0} → List X → List X
 rest_after [] = []
 rest_after (x ∷ xs) = xs
 

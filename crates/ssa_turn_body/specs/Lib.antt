@@ -9,6 +9,7 @@ pub mod Led
 pub mod Marks
 pub mod Orders
 pub mod Records
+pub mod Rooms
 pub mod Said
 pub mod Steps
 pub mod Told
