@@ -18,12 +18,12 @@ use Rattle.ssa_typed.specs.declared.node.Leaf.TheVariants.{Scalar, Atomic}
 use Rattle.ssa_typed.specs.declared.node.Node.{Node, Leaf as LeafOf, Branch, Dict, List as ListOf, the_lemmas}
 use Rattle.ssa_typed.specs.declared.node.Node.TheOpen.{Node-F}
 use Rattle.ssa_typed.specs.declared.node.Node.TheViews.{out-Node, roll-Node, roll-out-Node}
-use Rattle.ssa_typed.proofs.Levels.{below-apart, own-Branch, own-Dict, own-List, tree-Branch, tree-Dict}
+use Rattle.ssa_typed.proofs.Levels.{below-apart, own-Branch, own-Dict, own-List, tree-Branch, tree-Dict, tree-List}
 use Rattle.ssa_typed.proofs.Looks.{get-body, some-child}
 use Rattle.ssa_typed.proofs.Lookups.{content-root, content-level, tree-child}
 use Rattle.std.proofs.Common.{rules}
 use Rattle.ssa_turn_body.specs.Told.{content_told}
-use Rattle.ssa_turn_body.specs.Marks.{marks, marks_in}
+use Rattle.ssa_turn_body.specs.Marks.{marks, marks_in, may_stand}
 use Rattle.ssa_turn_body.proofs.Marking.{marks-level}
 use Rattle.ssa_turn_body.proofs.Returning.{SameMarks}
 
@@ -126,6 +126,27 @@ ordered-made (Node-F.List v) h = ordered-by (ListOf v) (list_branch (elements v.
 
 pub ordered : (n : Node) → is_tree n ≡ true → Ordered (own_content n) (elements (below n))
 ordered n h = subst (λ m. is_tree m ≡ true → Ordered (own_content m) (elements (below m))) (roll-out-Node n) (ordered-made (out-Node n)) h
+
+-- the children of a branch may stand there
+leaf-stands : (l : Leaf) (es fs : List Element) → may_stand (leaf_content l) es ≡ true → may_stand (leaf_content l) fs ≡ true
+leaf-stands (Scalar s) es fs h = h
+leaf-stands (Atomic v) es fs h = h
+
+stands-by : (n : Node) (c : Content) (es : List Element) → own_content n ≡ c → elements (below n) ≡ es → may_stand c es ≡ true → may_stand (own_content n) (elements (below n)) ≡ true
+stands-by n c es own is h = (λ i. may_stand (own i) (is i)) ∙ h
+
+stands-made : (x : Node-F Node) (es : List Element) → is_tree (roll-Node x) ≡ true → may_stand (own_content (roll-Node x)) es ≡ true → may_stand (own_content (roll-Node x)) (elements (below (roll-Node x))) ≡ true
+unfolding roll-Node denote.Hole.Carrier.roll
+stands-made (Node-F.Leaf l) es h k =
+    let own : own_content (LeafOf l) ≡ leaf_content l = search (rules, the_lemmas) in
+    ap (λ c. may_stand c (elements (below (LeafOf l)))) own ∙ leaf-stands l es (elements (below (LeafOf l))) (ap (λ c. may_stand c es) (sym own) ∙ k)
+stands-made (Node-F.Branch v) es h k = stands-by (Branch v) record_branch (elements v.items) (own-Branch v) (search (rules, the_lemmas)) (both_first _ (are_trees v.items) (sym (tree-Branch v) ∙ h))
+stands-made (Node-F.Dict v) es h k = stands-by (Dict v) dict_branch (elements v.items) (own-Dict v) (search (rules, the_lemmas)) (both_first _ (are_trees v.items) (sym (tree-Dict v) ∙ h))
+stands-made (Node-F.List v) es h k = stands-by (ListOf v) (list_branch (elements v.items)) (elements v.items) (own-List v) (search (rules, the_lemmas)) (both_first _ (are_trees v.items) (sym (tree-List v) ∙ h))
+
+pub own-stands : (n : Node) (es : List Element) → is_tree n ≡ true → may_stand (own_content n) es ≡ true → may_stand (own_content n) (elements (below n)) ≡ true
+own-stands n es h k =
+    subst (λ m. is_tree m ≡ true → may_stand (own_content m) es ≡ true → may_stand (own_content m) (elements (below m)) ≡ true) (roll-out-Node n) (stands-made (out-Node n) es) h k
 
 -- ---- a body tells the marks
 

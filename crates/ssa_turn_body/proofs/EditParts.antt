@@ -6,12 +6,15 @@ use Rattle.std.proofs.lemmas.List.{length-map}
 use Rattle.ssa_model.specs.definitions.Path.{Element, field}
 use Rattle.ssa_path.specs.Children.{elements}
 use Rattle.ssa_turn_body.specs.Between.{IsEditBetween}
-use Rattle.ssa_turn_body.specs.Edits.{staying}
-use Rattle.ssa_turn_body.specs.Found.{filled, fresh, somes, AreMissing, IsTurnedRound}
+use Rattle.ssa_path.specs.View.{path_view}
+use Rattle.ssa_turn_body.specs.Edits.{staying, told_unless}
+use Rattle.ssa_turn_body.specs.Found.{filled, fresh, somes, AreFound, AreMissing, IsTurnedRound}
 use Rattle.ssa_turn_body.specs.Marks.{Child, Kids, Marks}
-use Rattle.ssa_turn_body.specs.Orders.{reordered}
+use Rattle.ssa_turn_body.specs.Orders.{reordered, is_none}
 use Rattle.ssa_turn_body.specs.Woven.{ArePlaces, room_for, taken, left, woven}
 use Rattle.ssa_turn_body.specs.declared.children.ChildrenEdit.{ChildrenEdit}
+use Rattle.ssa_turn_body.proofs.Knowing.{known-back}
+use Rattle.ssa_turn_body.proofs.OneOrder.{one-order}
 use Rattle.ssa_turn_body.proofs.Matching.{places-nones, gone-fresh, stays-kept, remade-all, length-elements}
 
 abbrev Kid : Type 0
@@ -27,21 +30,30 @@ pub record AreParts (cs ds : List Child) (fs back : List (Option ℕ)) (s : Chil
   pub come : AreMissing fs ds s.come
   pub range : SwapsInRange (length back) s.before.items
   pub order : reordered (range_with_len 0 (length back)) s.before.items ≡ filled 0 back (somes fs)
+  pub exact : filled 0 back (somes fs) ≡ range_with_len 0 (length back) → s.before.items ≡ []
   pub after : s.after.items ≡ []
+  pub order_before : path_view s.order.before.items ≡ told_unless (is_none s.before.items) (elements cs)
+  pub order_after : path_view s.order.after.items ≡ told_unless (is_none s.before.items) (elements ds)
   pub held : s.held.items ≡ []
   pub out_empty : s.out.items ≡ []
   pub out_room : length s.gone.places.items ≤ vec_capacity s.out
   pub room_empty : s.room.items ≡ []
   pub room : room_for s.gone.places.items s.come.places.items (length ds) ≤ vec_capacity s.room
 
-pub edit-parts : (cs ds : List Child) (fs back : List (Option ℕ)) (s : ChildrenEdit) → AreParts cs ds fs back s → IsEditBetween cs ds fs s
-edit-parts cs ds fs back s h =
+pub edit-parts : (cs ds : List Child) (fs back : List (Option ℕ)) (s : ChildrenEdit) → AreFound cs ds fs → AreParts cs ds fs back s → IsEditBetween cs ds fs s
+edit-parts cs ds fs back s found h =
     let t = h.turned in
     let before = s.before.items in
     let long : length cs ≡ 0 + length back = let e = t.long in omega arith in
     let staying_is : (xs : Kids) → length xs ≡ length cs → staying s xs ≡ map (λ k. get_or xs k no_kid) (somes fs) =
     λ xs l. ap (λ ps. left ps 0 (reordered xs before)) h.gone.places ∙ stays-kept back fs before h.order no_kid xs (l ∙ sym t.long) t.count in
     record {
+      back = back;
+      back_known = λ apart. known-back cs ds fs back apart found t;
+      gone_places = h.gone.places;
+      gone_fresh = h.gone.named;
+      going_fresh = λ xs l. ap (λ ps. taken ps 0 (reordered xs before)) h.gone.places ∙ gone-fresh back fs before h.order no_kid xs (l ∙ sym t.long);
+      in_order = λ apart. one-order cs ds fs back before apart found t h.order h.exact;
       before = subst (λ n. SwapsInRange n before) t.long h.range;
       gone = subst (λ ps. ArePlaces 0 ps (length cs)) (sym h.gone.places) (places-nones back 0 (length cs) long);
       gone_named =
@@ -49,6 +61,8 @@ edit-parts cs ds fs back s h =
       come = h.come.places;
       come_named = h.come.named;
       after = h.after;
+      order_before = h.order_before;
+      order_after = h.order_after;
       stay = λ xs l. ap length (staying_is xs l) ∙ length-map (somes fs) (λ k. get_or xs k no_kid);
       whole = λ xs ls l led.
           (λ i. reordered (woven (h.come.places i) 0 (fresh fs ls) (left (h.gone.places i) 0 (reordered xs before))) (h.after i))

@@ -1,7 +1,7 @@
 -- What an edit of children leaves: a tree, and the edit that leads back.
-use Rattle.std.proofs.Common.{◌≡◌, ℕ, zero, suc, ◌+◌, ◌-◌, ◌≤◌, eqb, List, [], ◌∷◌, ◌++◌, length, map, reverse, take, drop, true, false, cond, Some, refl, sym, ap, subst, ◌∙◌, arith, vec_capacity}
+use Rattle.std.proofs.Common.{◌≡◌, ℕ, zero, suc, ◌+◌, ◌-◌, ◌≤◌, eqb, List, [], ◌∷◌, ◌++◌, length, map, reverse, take, drop, Bool, true, false, ◌&&◌, cond, Some, refl, sym, ap, subst, ◌∙◌, arith, vec_capacity}
 use Rattle.std.specs.List.Sorted.{SwapsInRange}
-use Rattle.std.proofs.lemmas.List.{reverse-reverse}
+use Rattle.std.proofs.lemmas.List.{reverse-append, reverse-reverse}
 use Rattle.ssa_model.specs.definitions.Path.{Element}
 use Rattle.ssa_model.specs.definitions.Body.{Content, leaf, atom, record_branch, dict_branch, list_branch, is_leaf}
 use Rattle.ssa_path.specs.Children.{elements}
@@ -12,9 +12,9 @@ use Rattle.ssa_typed.specs.declared.node.Node.{Node}
 use Rattle.ssa_typed.proofs.Levels.{Children as Vecs}
 use Rattle.ssa_typed.proofs.OverNodes.{leaf-there}
 use Rattle.ssa_turn_body.specs.Marks.{Child, marks, kids, names, Place, seen, may_stand, with_order}
-use Rattle.ssa_turn_body.specs.Orders.{reordered}
+use Rattle.ssa_turn_body.specs.Orders.{reordered, is_none}
 use Rattle.ssa_turn_body.specs.Woven.{ArePlaces, taken, left, woven, room_for}
-use Rattle.ssa_turn_body.specs.Edits.{going, staying, remade, edited, named_in, edit_steps, leaf_steps, LeafFits, LeafGives, EditFitsIn, EditGivesIn, EditFits, EditGives}
+use Rattle.ssa_turn_body.specs.Edits.{going, staying, remade, edited, keeps_places, told_unless, named_in, edit_steps, leaf_steps, LeafFits, LeafGives, EditFitsIn, EditGivesIn, EditFits, EditGives}
 use Rattle.ssa_turn_body.specs.declared.children.LeafSwap.{LeafSwap}
 use Rattle.ssa_turn_body.specs.declared.children.ChildrenEdit.{ChildrenEdit}
 use Rattle.ssa_turn_body.proofs.Marking.{names-kids}
@@ -143,6 +143,8 @@ edit-leave kind is s t n m v w made after tree fits given =
       come = given.come;
       come_named = given.come_named ∙ h.gone_named;
       after = given.after;
+      order_before = given.order_before;
+      order_after = given.order_after;
       out_empty = given.out_empty;
       out_room = given.out_room;
       room_empty = given.room_empty;
@@ -214,6 +216,25 @@ returns s t v w h g =
       long = ap length g.children ∙ length-reordered middle s.after.items ∙ middle_long;
     }
 
+none-reversed : {X : Type 0} (xs : List X) → is_none (reverse xs) ≡ is_none xs
+none-reversed [] = refl
+none-reversed (x ∷ xs) = ap is_none (reverse-append (x ∷ []) xs) ∙ last (reverse xs)
+  where
+    last : (ys : List _) → is_none (ys ++ x ∷ []) ≡ false
+    last [] = refl
+    last (y ∷ ys) = refl
+
+either-way : (a b : Bool) → (a && b) ≡ (b && a)
+either-way true true = refl
+either-way true false = refl
+either-way false true = refl
+either-way false false = refl
+
+turned-keeps : (s t : ChildrenEdit) (v w : Place) → EditGives s v t w → keeps_places s ≡ keeps_places t
+turned-keeps s t v w g =
+    either-way (is_none s.before.items) (is_none s.after.items)
+    ∙ (λ i. sym (ap is_none g.before ∙ none-reversed s.after.items) i && sym (ap is_none g.after ∙ none-reversed s.before.items) i)
+
 pub edit-back : (s t : ChildrenEdit) (v w : Place) → EditFits s v → EditGives s v t w → EditFits t w
 edit-back s t v w h g =
     let r = returns s t v w h g in
@@ -225,6 +246,7 @@ edit-back s t v w h g =
     let left_long = length-left s.gone.places.items 0 first places in
     let left_same = ap length r.staying_is in
     let total : length v.1 ≡ length t.held.items + length (staying t w.1) = omega arith in
+    let keeps : keeps_places s ≡ keeps_places t = turned-keeps s t v w g in
     record {
       before = subst (λ ps. SwapsInRange (length w.1) ps) (sym g.before) (subst (λ m. SwapsInRange m (reverse s.after.items)) (sym r.long) (range-reverse (length s.held.items + length (staying s v.1)) s.after.items h.after));
       gone = subst (λ ps. ArePlaces 0 ps (length w.1)) (sym g.gone) (subst (λ m. ArePlaces 0 s.come.places.items m) (sym r.long) h.come);
@@ -233,6 +255,8 @@ edit-back s t v w h g =
       come_named = g.come_named ∙ ap names (sym g.held);
       held = held_long ∙ ap length (sym g.come);
       after = subst (λ ps. SwapsInRange (length t.held.items + length (staying t w.1)) ps) (sym g.after) (subst (λ m. SwapsInRange m (reverse s.before.items)) total (range-reverse (length v.1) s.before.items h.before));
+      order_before = g.order_before ∙ h.order_after ∙ (λ i. told_unless (keeps i) (names (sym g.children i)));
+      order_after = g.order_after ∙ h.order_before ∙ (λ i. told_unless (keeps i) (names (sym r.whole i)));
       stands = ap (λ c. may_stand c (names (edited t w.1))) g.own ∙ stand-with v.0 (names w.1) (names (edited t w.1)) ∙ ap (λ ks. may_stand v.0 (names ks)) r.whole ∙ g.stood;
       trees = g.trees;
       out_empty = g.out_empty;
@@ -250,9 +274,11 @@ edit-again s t u v w x h g k =
     let before_is : u.before.items ≡ s.before.items = k.before ∙ ap reverse g.after ∙ reverse-reverse s.before.items in
     let gone_is : named_in u.gone ≡ named_in s.gone = k.gone_named ∙ ap names g.held ∙ sym h.gone_named in
     let come_is : named_in u.come ≡ named_in s.come = k.come_named ∙ ap names r.going_is ∙ sym h.come_named in
-    let after_is : u.after.items ≡ s.after.items = k.after ∙ ap reverse g.before ∙ reverse-reverse s.after.items in (
+    let after_is : u.after.items ≡ s.after.items = k.after ∙ ap reverse g.before ∙ reverse-reverse s.after.items in
+    let order_before_is = k.order_before ∙ g.order_after in
+    let order_after_is = k.order_after ∙ g.order_before in (
       (λ i. (own_is i, below_is i)),
-      (λ i. record { before = before_is i; gone = ((k.gone ∙ g.come) i, gone_is i); come = ((k.come ∙ g.gone) i, come_is i); after = after_is i; held = (k.held ∙ r.going_is) i }),
+      (λ i. record { before = before_is i; gone = ((k.gone ∙ g.come) i, gone_is i); come = ((k.come ∙ g.gone) i, come_is i); after = after_is i; order_before = order_before_is i; order_after = order_after_is i; held = (k.held ∙ r.going_is) i }),
     )
 
 -- ---- a leaf

@@ -50,6 +50,7 @@ pub record IsExchanging (wanted : List ℕ) (i : ℕ) (order places : List ℕ) 
   pub there : (x : ℕ) → x < length wanted → get_or places x 0 < length wanted
   pub stands : (x : ℕ) → x < length wanted → get_or order (get_or places x 0) 0 ≡ x
   pub done : (k : ℕ) → k < i → get_or order k 0 ≡ get_or wanted k 0
+  pub idle : wanted ≡ range_with_len 0 (length wanted) → swaps ≡ []
 
 pub exchanging-init : (wanted order places : List ℕ) → order ≡ range_with_len 0 (length wanted) → places ≡ range_with_len 0 (length wanted) → IsExchanging wanted 0 order places []
 exchanging-init wanted order places o p =
@@ -65,6 +66,7 @@ exchanging-init wanted order places o p =
       there = λ x lt. subst (λ y. y < n) (sym (at places p x lt)) lt;
       stands = λ x lt. ap (λ k. get_or order k 0) (at places p x lt) ∙ at order o x lt;
       done = λ k lt. absurd (omega arith);
+      idle = λ e. refl;
     }
 
 module _ (wanted : List ℕ) (i : ℕ) (order places : List ℕ) (swaps : List (ℕ × ℕ)) (lt : i < length wanted) (in_range : AreWithin (length wanted) wanted) (h : IsExchanging wanted i order places swaps) where
@@ -85,6 +87,7 @@ module _ (wanted : List ℕ) (i : ℕ) (order places : List ℕ) (swaps : List (
       | true ↦ λ t. let same = eqb-true k i t in ap (λ j. get_or order j 0) (same ∙ sym e) ∙ next-stands ∙ ap (λ j. get_or wanted j 0) (sym same)
       | false ↦ λ t. h.done k (grind (arith, nat_tests))
     ] refl;
+    idle = h.idle;
   }
 
   -- what stands elsewhere is exchanged
@@ -167,6 +170,16 @@ module _ (wanted : List ℕ) (i : ℕ) (order places : List ℕ) (swaps : List (
               ∙ h.done k before
         ] refl
 
+    -- where all is as wanted nothing stands elsewhere
+    never : wanted ≡ range_with_len 0 (length wanted) → ⊥
+    never e =
+        let n = length wanted in
+        let p = get_or places (get_or wanted i 0) 0 in
+        let order_is : order ≡ range_with_len 0 n = h.made ∙ ap (reordered (range_with_len 0 n)) (h.idle e) in
+        let place_is : get_or order p 0 ≡ p = ap (λ ys. get_or ys p 0) order_is ∙ get_or-range_with_len 0 n p 0 place-within ∙ omega arith in
+        let wanted_is : get_or wanted i 0 ≡ i = ap (λ ys. get_or ys i 0) e ∙ get_or-range_with_len 0 n i 0 lt ∙ omega arith in
+        moves (sym place_is ∙ next-stands ∙ wanted_is)
+
     pub exchanging-step : (order2 places2 : List ℕ) (swaps2 : List (ℕ × ℕ)) → order2 ≡ order_after → places2 ≡ places_after → swaps2 ≡ swaps ++ (i, get_or places (get_or wanted i 0) 0) ∷ [] → IsExchanging wanted (i + 1) order2 places2 swaps2
     exchanging-step order2 places2 swaps2 o p s =
         let q = get_or places (get_or wanted i 0) 0 in
@@ -179,6 +192,7 @@ module _ (wanted : List ℕ) (i : ℕ) (order places : List ℕ) (swaps : List (
           there = λ x less. subst (λ y. y < length wanted) (sym (ap (λ xs. get_or xs x 0) p ∙ places-at x)) (both-within _ _ _ _ _ _ lt place-within (h.there x less));
           stands = λ x less. (λ t. get_or (o t) (get_or (p t) x 0) 0) ∙ stands-after x less;
           done = λ k less. ap (λ xs. get_or xs k 0) o ∙ done-after k less;
+          idle = λ e. absurd (never e);
         }
 
 pub exchanging-all : (wanted : List ℕ) (i : ℕ) (order places : List ℕ) (swaps : List (ℕ × ℕ)) → length wanted ≤ i → IsExchanging wanted i order places swaps → reordered (range_with_len 0 (length wanted)) swaps ≡ wanted

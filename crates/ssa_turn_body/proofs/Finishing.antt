@@ -1,5 +1,5 @@
 -- The edit of a place whose common children are led, and what both places are by the kind of one of them.
-use Rattle.std.proofs.Common.{◌≡◌, ℕ, zero, suc, ◌+◌, ◌≤◌, List, [], ◌∷◌, length, Bool, true, false, ◌&&◌, Option, Some, None, option_map, Vec, Global, refl, sym, ap, subst, ◌∙◌, arith, rules, true≢false, vec_capacity}
+use Rattle.std.proofs.Common.{◌≡◌, ℕ, zero, suc, ◌+◌, ◌≤◌, List, [], ◌∷◌, length, true, false, ◌&&◌, Option, Some, None, option_map, Vec, Global, refl, sym, ap, subst, ◌∙◌, arith, rules, true≢false, vec_capacity}
 use Rattle.std.specs.List.Sorted.{SwapsInRange}
 use Rattle.std.specs.Prelude.{slice_get, is_some}
 use Rattle.std.specs.List.{list_any}
@@ -16,17 +16,18 @@ use Rattle.ssa_typed.specs.declared.node.Leaf.{Leaf as LeafType}
 use Rattle.ssa_typed.specs.declared.node.Node.{Node, Leaf as LeafOf, Branch, Dict, List as ListOf, the_lemmas}
 use Rattle.ssa_typed.proofs.Levels.{Children as Vecs, own-Branch, own-Dict, own-List, rises-apart}
 use Rattle.ssa_typed.proofs.OverNodes.{leaf-there, own-Leaf}
+use Rattle.ssa_typed.proofs.Laws.{and_true}
 use Rattle.ssa_typed.proofs.Overlaying.{alike-child, alike-root}
 use Rattle.ssa_turn_body.proofs.Places.{IsKind}
-use Rattle.ssa_turn_body.specs.Changes.{ChangeFits, ChangeGives}
+use Rattle.ssa_turn_body.specs.Changes.{ChangeGives}
 use Rattle.ssa_turn_body.specs.Between.{IsEditBetween}
-use Rattle.ssa_turn_body.specs.Edits.{EditFits, edited, going, staying, remade}
+use Rattle.ssa_turn_body.specs.Edits.{EditFits, edited, going, keeps_places, staying, remade, told_unless}
 use Rattle.ssa_turn_body.specs.Found.{AreFound, AreLed, fresh, kept, somes}
-use Rattle.ssa_turn_body.specs.Led.{AreLeading, IsLed, MayAdd, is_idle, is_none}
+use Rattle.ssa_turn_body.specs.Led.{AreLeading, is_idle}
 use Rattle.ssa_turn_body.specs.Marks.{Child, Kids, kids, names, Marks, marks, marks_in, may_stand, with_order, Place}
 use Rattle.ssa_turn_body.specs.Told.{from_place}
 use Rattle.ssa_turn_body.specs.Woven.{ArePlaces, left, woven, room_for}
-use Rattle.ssa_turn_body.specs.Orders.{reordered}
+use Rattle.ssa_turn_body.specs.Orders.{reordered, is_none}
 use Rattle.ssa_turn_body.specs.declared.change.PlaceChange.{PlaceChange}
 use Rattle.ssa_turn_body.specs.declared.change.PlaceChange.TheVariants.{Leaf, Children}
 use Rattle.ssa_turn_body.specs.declared.children.ChildrenEdit.{ChildrenEdit}
@@ -35,7 +36,6 @@ use Rattle.ssa_turn_body.proofs.Again.{AllFound, all-found, kids_from, marks-pla
 use Rattle.ssa_turn_body.proofs.BodyMarks.{Ordered, ordered}
 use Rattle.ssa_turn_body.proofs.Descending.{child-here, found-at}
 use Rattle.ssa_turn_body.proofs.Edits.{map-going}
-use Rattle.ssa_turn_body.proofs.Leading.{led-own, leading-same}
 use Rattle.ssa_turn_body.proofs.Marking.{names-kids}
 use Rattle.ssa_turn_body.proofs.Matching.{found-length, length-elements, length-fresh, length-kept, places-nones}
 use Rattle.ssa_turn_body.proofs.Walking.{led, led_in, child-among}
@@ -48,7 +48,7 @@ Found = List (Option ℕ)
 abbrev pub led_kids : Content → List Child → List Child → Kids
 led_kids o cs ds = kids_from (λ e q. led o cs ds (e ∷ q)) (elements cs)
 
-names-from : (f : Element → Marks) (es : List Element) → names (kids_from f es) ≡ es
+pub names-from : (f : Element → Marks) (es : List Element) → names (kids_from f es) ≡ es
 names-from f [] = refl
 names-from f (e ∷ es) = ap (λ xs. e ∷ xs) (names-from f es)
 
@@ -86,13 +86,13 @@ fresh-kids (f ∷ fs) [] = refl
 fresh-kids (None ∷ fs) (d ∷ ds) = ap (λ ks. (element_view d.0, marks d.1) ∷ ks) (fresh-kids fs ds)
 fresh-kids (Some k ∷ fs) (d ∷ ds) = fresh-kids fs ds
 
-fresh-names : (fs : Found) (ds : List Child) → names (fresh fs (kids ds)) ≡ fresh fs (elements ds)
+pub fresh-names : (fs : Found) (ds : List Child) → names (fresh fs (kids ds)) ≡ fresh fs (elements ds)
 fresh-names [] ds = refl
 fresh-names (f ∷ fs) [] = refl
 fresh-names (None ∷ fs) (d ∷ ds) = ap (λ es. element_view d.0 ∷ es) (fresh-names fs ds)
 fresh-names (Some k ∷ fs) (d ∷ ds) = fresh-names fs ds
 
-fresh-trees : (fs : Found) (ds : List Child) → are_trees ds ≡ true → are_trees (fresh fs ds) ≡ true
+pub fresh-trees : (fs : Found) (ds : List Child) → are_trees ds ≡ true → are_trees (fresh fs ds) ≡ true
 fresh-trees [] ds h = refl
 fresh-trees (f ∷ fs) [] h = refl
 fresh-trees (None ∷ fs) (d ∷ ds) h = both _ _ (both_first (is_tree d.1) _ h) (fresh-trees fs ds (both_second (is_tree d.1) _ h))
@@ -112,10 +112,10 @@ length-kids (c ∷ cs) = ap suc (length-kids cs)
 
 module _ (o : Content) (cs ds : List Child) (fs : Found) (s : ChildrenEdit) (between : IsEditBetween cs ds fs s) (h : Vec Child Global) (own_apart : are_apart (elements cs) ≡ true) (apart : are_apart (elements ds) ≡ true)
     (found : AreFound cs ds fs) (holds : h.items ≡ fresh fs ds) where
-  long : length (led_kids o cs ds) ≡ length cs
+  pub long : length (led_kids o cs ds) ≡ length cs
   long = length-from (λ e q. led o cs ds (e ∷ q)) (elements cs) ∙ length-elements cs
 
-  held-kids : kids h.items ≡ fresh fs (kids ds)
+  pub held-kids : kids h.items ≡ fresh fs (kids ds)
   held-kids = ap kids holds ∙ fresh-kids fs ds
 
   led-all : AreLed fs (led_kids o cs ds) (kids ds)
@@ -137,6 +137,7 @@ module _ (o : Content) (cs ds : List Child) (fs : Found) (s : ChildrenEdit) (bet
   edit-fits trees stand =
       let same = found-length cs ds fs found in
       let all : length h.items + length (staying s (led_kids o cs ds)) ≡ 0 + length fs = total ∙ sym same ∙ omega arith in
+      let keeps : keeps_places s ≡ is_none s.before.items = ap (λ xs. is_none s.before.items && is_none xs) between.after ∙ and_true (is_none s.before.items) in
       record {
         before = subst (λ n. SwapsInRange n s.before.items) (sym long) between.before;
         gone = subst (λ n. ArePlaces 0 s.gone.places.items n) (sym long) between.gone;
@@ -147,6 +148,10 @@ module _ (o : Content) (cs ds : List Child) (fs : Found) (s : ChildrenEdit) (bet
         come_named = between.come_named ∙ sym (fresh-names fs ds) ∙ ap names (sym held-kids);
         held = ap length holds ∙ length-fresh fs 0 ds (sym same) ∙ ap length (sym between.come);
         after = subst (λ ps. SwapsInRange (length h.items + length (staying s (led_kids o cs ds))) ps) (sym between.after) tt;
+        order_before =
+            between.order_before ∙ ap (told_unless (is_none s.before.items)) (sym (names-from (λ e q. led o cs ds (e ∷ q)) (elements cs)))
+            ∙ ap (λ b. told_unless b (names (led_kids o cs ds))) (sym keeps);
+        order_after = between.order_after ∙ ap (told_unless (is_none s.before.items)) (sym (ap names edit-leaves ∙ names-kids ds)) ∙ ap (λ b. told_unless b (names (edited (record s { held = h }) (led_kids o cs ds)))) (sym keeps);
         stands = ap (λ ls. may_stand o (names ls)) edit-leaves ∙ ap (may_stand o) (names-kids ds) ∙ stand;
         trees = ap are_trees holds ∙ fresh-trees fs ds trees;
         out_empty = between.out_empty;
@@ -169,7 +174,7 @@ module _ (o : Content) (cs ds : List Child) (fs : Found) (s : ChildrenEdit) (bet
       (λ i. reordered (woven (sym c i) 0 (fresh fs (kids ds)) (left (sym g i) 0 (reordered (led_kids o cs ds) (sym b i)))) (sym between.after i))
       ∙ between.whole (led_kids o cs ds) (kids ds) long led-all
 
-  idle-told : with_order o (elements cs) ≡ o → is_idle s ≡ true → (q : Path) → led o cs ds q ≡ from_place (with_order o (elements ds), kids ds) q
+  pub idle-told : with_order o (elements cs) ≡ o → is_idle s ≡ true → (q : Path) → led o cs ds q ≡ from_place (with_order o (elements ds), kids ds) q
   idle-told order idle q = at q
     where
       same_names : elements cs ≡ elements ds
@@ -187,27 +192,11 @@ module _ (o : Content) (cs ds : List Child) (fs : Found) (s : ChildrenEdit) (bet
           by (child_at e cs) (child_at e ds) r (child-among e cs ∙ ap (list_any (same_element e)) same_names ∙ sym (child-among e ds))
           ∙ ap (λ x. marks_in x r) (named-kids ds e)
 
-  put : (t : PlaceChange) (y : Place) → ChangeGives (Children (record s { held = h })) (o, led_kids o cs ds) t y → (q : Path) → from_place y q ≡ from_place (with_order o (elements ds), kids ds) q
+  pub put : (t : PlaceChange) (y : Place) → ChangeGives (Children (record s { held = h })) (o, led_kids o cs ds) t y → (q : Path) → from_place y q ≡ from_place (with_order o (elements ds), kids ds) q
   put (Leaf t) y g q = absurd g
   put (Children t) y g q =
       let is : y.1 ≡ kids ds = g.children ∙ edit-leaves in
       λ i. from_place ((g.own ∙ ap (λ ls. with_order o (names ls)) is ∙ ap (with_order o) (names-kids ds)) i, is i) q
-
-  -- the edit leads from the children that are led so far to the second ones
-  pub finish : are_trees ds ≡ true → may_stand o (elements ds) ≡ true → with_order o (elements cs) ≡ o → (p : Path) (old new : List Step) → MayAdd (is_idle s) p (Children (record s { held = h })) old new
-      → AreLeading p (led o cs ds) (from_place (with_order o (elements ds), kids ds)) old new
-  finish trees stand order p old new added = by (is_idle s) refl added
-    where
-      by : (b : Bool) → is_idle s ≡ b → MayAdd b p (Children (record s { held = h })) old new → AreLeading p (led o cs ds) (from_place (with_order o (elements ds), kids ds)) old new
-      by true e a = leading-same p (led o cs ds) (from_place (with_order o (elements ds), kids ds)) old new a (idle-told order e)
-      by false e a = record {
-        made = a.0 ∷ [];
-        added = a.3;
-        led = subst (λ r. IsLed r (led o cs ds) (from_place (with_order o (elements ds), kids ds)) (a.0 ∷ [])) a.1
-            (led-own a.0 (led o cs ds) (from_place (with_order o (elements ds), kids ds)) o (elements cs) refl
-            (subst (λ x. ChangeFits x (o, led_kids o cs ds)) (sym a.2) (edit-fits trees stand))
-            (λ t y g q. put t y (subst (λ x. ChangeGives x (o, led_kids o cs ds) t y) a.2 g) q));
-      }
 
 -- ---- a place of the first tree and the same place of the second
 

@@ -15,7 +15,7 @@ use Rattle.ssa_turn_body.specs.Descent.{FitsIn}
 use Rattle.ssa_turn_body.specs.Inner.{AllFit, AreElsewhere, InnerStepsFit}
 use Rattle.ssa_turn_body.specs.Marks.{Kids, Mark, Marks, marks, marks_in, kids, names, Place, seen, may_stand}
 use Rattle.ssa_turn_body.specs.Steps.{StepFits, StepLeads}
-use Rattle.ssa_turn_body.specs.Edits.{EditFits, edited, going, staying, remade}
+use Rattle.ssa_turn_body.specs.Edits.{EditFits, edited, going, staying, remade, keeps_places, told_unless}
 use Rattle.ssa_turn_body.specs.Woven.{ArePlaces, room_for}
 use Rattle.ssa_turn_body.specs.declared.change.PlaceChange.{PlaceChange}
 use Rattle.ssa_turn_body.specs.declared.change.PlaceChange.TheVariants.{Leaf, Children}
@@ -57,6 +57,8 @@ edit-by s v w own ns h =
       come_named = h.come_named;
       held = h.held;
       after = subst (λ l. SwapsInRange (length s.held.items + l) s.after.items) staying_same h.after;
+      order_before = h.order_before ∙ ap (told_unless (keeps_places s)) ns;
+      order_after = h.order_after ∙ ap (told_unless (keeps_places s)) (sym edited_same);
       stands = (λ i. may_stand (sym own i) (edited_same i)) ∙ h.stands;
       trees = h.trees;
       out_empty = h.out_empty;

@@ -1,5 +1,5 @@
 -- Changes that lead what a tree tells at a path to something else: one after the other, in a child, at the place itself.
-use Rattle.std.proofs.Common.{◌≡◌, List, [], ◌∷◌, ◌++◌, Bool, true, false, ◌&&◌, Option, Some, None, option_map, refl, sym, ap, subst, ◌∙◌, true≢false, append_assoc, append-nil}
+use Rattle.std.proofs.Common.{◌≡◌, List, [], ◌∷◌, ◌++◌, Bool, true, false, ◌&&◌, Option, Some, None, option_map, refl, sym, ap, subst, ◌∙◌, true≢false, append_assoc}
 use Rattle.std.proofs.lemmas.Option.{none-some, same_Some}
 use Rattle.ssa_model.specs.definitions.Body.{Content}
 use Rattle.ssa_model.specs.definitions.Path.{Element, Path, same_element, under}
@@ -7,19 +7,16 @@ use Rattle.ssa_model.proofs.Pruned.{under-rest}
 use Rattle.ssa_path.specs.Children.{elements}
 use Rattle.ssa_path.specs.View.{path_view}
 use Rattle.ssa_path.proofs.Orders.{same_element-itself}
-use Rattle.ssa_typed.specs.Rows.{below, own_content, is_tree, leaf_content}
-use Rattle.ssa_typed.specs.declared.node.Leaf.{Leaf}
-use Rattle.ssa_typed.proofs.OverNodes.{leaf-there}
+use Rattle.ssa_typed.specs.Rows.{below, own_content, is_tree}
 use Rattle.ssa_typed.specs.declared.node.Node.{Node}
 use Rattle.ssa_typed.specs.Nodes.{node_on}
 use Rattle.ssa_turn_body.specs.Changes.{ChangeFits, ChangeGives}
 use Rattle.ssa_turn_body.specs.Descent.{FitsIn, GivesIn}
-use Rattle.ssa_turn_body.specs.Led.{IsLeft, IsLed, AreLeading, MayAdd}
+use Rattle.ssa_turn_body.specs.Led.{IsLeft, IsLed}
 use Rattle.ssa_turn_body.specs.Marks.{Mark, Marks, marks, marks_in, Place, seen}
 use Rattle.ssa_turn_body.specs.Steps.{StepLeads, StepsFit, StepsLead}
 use Rattle.ssa_turn_body.specs.Told.{from_place}
 use Rattle.ssa_turn_body.specs.declared.change.PlaceChange.{PlaceChange}
-use Rattle.ssa_turn_body.specs.declared.change.PlaceChange.TheVariants.{Leaf as LeafChange, Children as ChildrenChange}
 use Rattle.ssa_turn_body.specs.declared.steps.Step.{Step}
 use Rattle.ssa_turn_body.proofs.Again.{kids_from, kids-told, marks-on, marks-place, same-on, SameIn}
 use Rattle.ssa_turn_body.proofs.Marking.{marks-level}
@@ -40,19 +37,20 @@ fit-both : (xs ys : List Step) (v : Node) → StepsFit xs v → ((zs : List Step
 fit-both [] ys v h f = f [] v refl
 fit-both (x ∷ xs) ys v h f = (h.0, λ t w l. fit-both xs ys w (h.1 t w l) (λ zs z m. f (t ∷ zs) z (w, l, m)))
 
-record IsParted (xs ys : List Step) (v : Node) (us : List Step) (w : Node) : Type 0 where
-  front : List Step
-  back : List Step
-  middle : Node
-  first : StepsLead xs v front middle
-  second : StepsLead ys middle back w
+pub record IsParted (xs ys : List Step) (v : Node) (us : List Step) (w : Node) : Type 0 where
+  pub front : List Step
+  pub back : List Step
+  pub middle : Node
+  pub whole : us ≡ front ++ back
+  pub first : StepsLead xs v front middle
+  pub second : StepsLead ys middle back w
 
-lead-both : (xs ys : List Step) (v : Node) (us : List Step) (w : Node) → StepsLead (xs ++ ys) v us w → IsParted xs ys v us w
-lead-both [] ys v us w l = record { front = []; back = us; middle = v; first = refl; second = l }
+pub lead-both : (xs ys : List Step) (v : Node) (us : List Step) (w : Node) → StepsLead (xs ++ ys) v us w → IsParted xs ys v us w
+lead-both [] ys v us w l = record { front = []; back = us; middle = v; whole = refl; first = refl; second = l }
 lead-both (x ∷ xs) ys v [] w l = absurd l
 lead-both (x ∷ xs) ys v (u ∷ us) w l =
     let rest = lead-both xs ys l.0 us w l.2 in
-    record { front = u ∷ rest.front; back = rest.back; middle = rest.middle; first = (l.0, l.1, rest.first); second = rest.second }
+    record { front = u ∷ rest.front; back = rest.back; middle = rest.middle; whole = ap (λ xs. u ∷ xs) rest.whole; first = (l.0, l.1, rest.first); second = rest.second }
 
 pub led-then : (p : Path) (M N O : Marks) (xs ys : List Step) → IsLed p M N xs → IsLed p N O ys → IsLed p M O (xs ++ ys)
 led-then p M N O xs ys g h = record {
@@ -64,23 +62,13 @@ led-then p M N O xs ys g h = record {
       record { there = second.there; others = λ q u. second.others q u ∙ first.others q u };
 }
 
-pub leading-then : (p : Path) (M N O : Marks) (xs ys zs : List Step) → AreLeading p M N xs ys → AreLeading p N O ys zs → AreLeading p M O xs zs
-leading-then p M N O xs ys zs g h = record {
-  made = g.made ++ h.made;
-  added = h.added ∙ ap (λ us. us ++ h.made) g.added ∙ append_assoc xs g.made h.made;
-  led = led-then p M N O g.made h.made g.led h.led;
-}
-
-pub leading-same : (p : Path) (M N : Marks) (xs ys : List Step) → ys ≡ xs → ((q : Path) → M q ≡ N q) → AreLeading p M N xs ys
-leading-same p M N xs ys e same = record { made = []; added = e ∙ sym (append-nil xs); led = led-same p M N same }
-
 -- ---- in a child
 
-under-further : (p g q : Path) → under (p ++ g) (p ++ q) ≡ under g q
+pub under-further : (p g q : Path) → under (p ++ g) (p ++ q) ≡ under g q
 under-further [] g q = refl
 under-further (e ∷ p) g q = ap (λ b. b && under (p ++ g) (p ++ q)) (same_element-itself e) ∙ under-further p g q
 
-under-longer : (p g q : Path) → under p q ≡ false → under (p ++ g) q ≡ false
+pub under-longer : (p g q : Path) → under p q ≡ false → under (p ++ g) q ≡ false
 under-longer [] g q h = absurd (true≢false h)
 under-longer (e ∷ p) g [] h = refl
 under-longer (e ∷ p) g (f ∷ q) h =
@@ -89,21 +77,21 @@ under-longer (e ∷ p) g (f ∷ q) h =
       | false ↦ λ k. refl
     ] h
 
+pub below-is : (p : Path) (e : Element) (M N : Marks) → ((q : Path) → M (e ∷ q) ≡ N q) → (v : Node) → ((q : Path) → marks v (p ++ q) ≡ M q) → (q : Path) → marks v ((p ++ e ∷ []) ++ q) ≡ N q
+below-is p e M N own v is q = ap (marks v) (append_assoc p (e ∷ []) q) ∙ is (e ∷ q) ∙ own q
+
 pub led-child : (p : Path) (e : Element) (M M2 N N2 : Marks) (ss : List Step) → ((q : Path) → M (e ∷ q) ≡ N q) → ((q : Path) → M2 (e ∷ q) ≡ N2 q) → ((q : Path) → under (e ∷ []) q ≡ false → M2 q ≡ M q)
     → IsLed (p ++ e ∷ []) N N2 ss → IsLed p M M2 ss
 led-child p e M M2 N N2 ss own own2 others h = record {
-  fit = λ v tree is. h.fit v tree (below_is v is);
+  fit = λ v tree is. h.fit v tree (below-is p e M N own v is);
   lead = λ v tree is ts w l.
-      let left = h.lead v tree (below_is v is) ts w l in
+      let left = h.lead v tree (below-is p e M N own v is) ts w l in
       record {
         there = λ q. at v w is left q (under (e ∷ []) q) refl;
         others = λ q u. left.others q (under-longer p (e ∷ []) q u);
       };
 }
   where
-    below_is : (v : Node) → ((q : Path) → marks v (p ++ q) ≡ M q) → (q : Path) → marks v ((p ++ e ∷ []) ++ q) ≡ N q
-    below_is v is q = ap (marks v) (append_assoc p (e ∷ []) q) ∙ is (e ∷ q) ∙ own q
-
     at : (v w : Node) → ((q : Path) → marks v (p ++ q) ≡ M q) → IsLeft (p ++ e ∷ []) N2 v w → (q : Path) (b : Bool) → under (e ∷ []) q ≡ b → marks w (p ++ q) ≡ M2 q
     at v w is left q true u =
         let rest = under-rest (e ∷ []) q u in
@@ -163,17 +151,22 @@ led-own s M N c es root fits gives = record {
           others = step.change.outside;
         }
 
--- another leaf
-pub leading-leaf : (p : Path) (own to : Leaf) (old new : List Step) → MayAdd false p (LeafChange (record { leaf = to })) old new → AreLeading p (from_place (leaf_content own, [])) (from_place (leaf_content to, [])) old new
-leading-leaf p own to old new h = record {
-  made = h.0 ∷ [];
-  added = h.3;
-  led = subst (λ r. IsLed r (from_place (leaf_content own, [])) (from_place (leaf_content to, [])) (h.0 ∷ [])) h.1
-      (led-own h.0 (from_place (leaf_content own, [])) (from_place (leaf_content to, [])) (leaf_content own) [] refl
-      (subst (λ x. ChangeFits x (leaf_content own, [])) (sym h.2) (leaf-there own))
-      (λ t y g q. put t y (subst (λ x. ChangeGives x (leaf_content own, []) t y) h.2 g) q));
-}
+-- what the change becomes, by what it finds at its place
+pub turned-own : (s : Step) (M : Marks) (c : Content) (es : List Element) → M [] ≡ Some (c, es) → (G : List Step → Type 0)
+    → ((t : Step) (y : Place) → t.path.items ≡ s.path.items → ChangeGives s.change (place_of M c es) t.change y → G (t ∷ []))
+    → (v : Node) → is_tree v ≡ true → ((q : Path) → marks v (path_view s.path.items ++ q) ≡ M q) → (ts : List Step) (w : Node) → StepsLead (s ∷ []) v ts w → G ts
+turned-own s M c es root G goal v tree is ts w l = by ts l
   where
-    put : (t : PlaceChange) (y : Place) → ChangeGives (LeafChange (record { leaf = to })) (leaf_content own, []) t y → (q : Path) → from_place y q ≡ from_place (leaf_content to, []) q
-    put (LeafChange t) y g q = λ i. from_place (g.put i, g.none_after i) q
-    put (ChildrenChange t) y g q = absurd g
+    at : IsPlaced (path_view s.path.items) v (place_of M c es)
+    at = placed (path_view s.path.items) v M c es tree is root
+
+    given : (t : Step) (a b : Option Node) → a ≡ Some at.node → t.path.items ≡ s.path.items → GivesIn (λ n m. ChangeGives s.change (seen n) t.change (seen m)) a b → G (t ∷ [])
+    given t a None e same g = absurd (subst (λ o. GivesIn (λ n m. ChangeGives s.change (seen n) t.change (seen m)) o None) e g)
+    given t a (Some m) e same g =
+        let h : ChangeGives s.change (seen at.node) t.change (seen m) = subst (λ o. GivesIn (λ n m. ChangeGives s.change (seen n) t.change (seen m)) o (Some m)) e g in
+        goal t (seen m) same (subst (λ x. ChangeGives s.change x t.change (seen m)) at.same h)
+
+    by : (ts : List Step) → StepsLead (s ∷ []) v ts w → G ts
+    by [] l = absurd l
+    by (t ∷ u ∷ ts) l = absurd l.2
+    by (t ∷ []) l = given t (node_on (path_view s.path.items) v) (node_on (path_view s.path.items) l.0) at.is l.1.path l.1.change.inside

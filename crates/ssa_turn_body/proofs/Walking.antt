@@ -5,7 +5,7 @@ use Rattle.std.specs.Prelude.{is_some}
 use Rattle.std.proofs.lemmas.List.{drop_more, length-drop}
 use Rattle.std.proofs.lemmas.Option.{none-some, slice_get-get_or}
 use Rattle.ssa_model.specs.definitions.Body.{Content}
-use Rattle.ssa_model.specs.definitions.Path.{Element, Path, same_element, under}
+use Rattle.ssa_model.specs.definitions.Path.{Element, Path, same_element, parent, under}
 use Rattle.ssa_path.specs.Children.{child_at, elements, IsChildAt}
 use Rattle.ssa_path.specs.View.{element_view}
 use Rattle.ssa_path.proofs.Orders.{same_element-true, same_element-itself, same_either_way, both_first, both_second}
@@ -16,9 +16,13 @@ use Rattle.ssa_turn_body.specs.Found.{AreFound, fresh}
 use Rattle.ssa_typed.specs.Over.{AreAlikeBelow}
 use Rattle.ssa_turn_body.specs.Led.{AreLeading, IsAlikeChild, IsChildLed}
 use Rattle.ssa_turn_body.specs.Marks.{Child, Marks, marks, marks_in}
+use Rattle.ssa_turn_body.specs.Told.{content_told}
 use Rattle.ssa_turn_body.specs.declared.steps.Step.{Step}
 use Rattle.ssa_turn_body.proofs.Descending.{child-here, found-at}
-use Rattle.ssa_turn_body.proofs.Leading.{led-child, leading-same, leading-then}
+use Rattle.ssa_turn_body.specs.Said.{contents}
+use Rattle.ssa_turn_body.proofs.Leading.{led-child}
+use Rattle.ssa_turn_body.proofs.Recording.{leading-same, leading-then, saying-child}
+use Rattle.ssa_turn_body.proofs.Saying.{IsAround, Joins, joins-first, joins-second, joins-still-first, other-around, still-root}
 use Rattle.ssa_turn_body.proofs.Marking.{marks-level}
 use Rattle.ssa_turn_body.proofs.Matching.{found-length}
 
@@ -91,6 +95,10 @@ led-start v (e ∷ q) = marks-level v (e ∷ q) ∙ by (child_at e (below v))
     by None = refl
     by (Some c) = refl
 
+-- a tree tells a content at its root
+pub root-some : (n : Node) → is_some (contents (marks n) []) ≡ true
+root-some n = ap (λ m. is_some (content_told m)) (marks-level n [])
+
 -- so far: the children before the rest are led, or held where they come
 pub record IsWalking (p : Path) (o : Content) (cs ds : List Child) (fs : Found) (old : List Step) (i : ℕ) (rest held : List Child) (steps : List Step) : Type 0 where
   pub done : List Child
@@ -160,6 +168,23 @@ module _ (p : Path) (o : Content) (cs ds : List Child) (fs : Found) (old : List 
       first true e = e
       first false e = refl
 
+  -- what is said of the children so far, and of this one, is said of both together
+  joins-here : child_at (element_view d.0) here.done ≡ None → (q : Path) → Joins (contents (led o cs [])) (contents (led o cs here.done)) (contents (led o cs (here.done ++ d ∷ []))) q
+  joins-here new [] = joins-still-first (contents (led o cs [])) (contents (led o cs here.done)) (contents (led o cs (here.done ++ d ∷ []))) [] (still-root _ _ _) refl
+  joins-here new (f ∷ q) =
+      elim (same_element (element_view d.0) f) as (λ b. same_element (element_view d.0) f ≡ b → Joins (contents (led o cs [])) (contents (led o cs here.done)) (contents (led o cs (here.done ++ d ∷ []))) (f ∷ q)) [
+        | true ↦ λ t.
+            let is = same_element-true (element_view d.0) f t in
+            joins-first (contents (led o cs [])) (contents (led o cs here.done)) (contents (led o cs (here.done ++ d ∷ []))) (f ∷ q) (not-yet f q (ap (λ e. child_at e here.done) (sym is) ∙ new))
+        | false ↦ λ t.
+            joins-second (contents (led o cs [])) (contents (led o cs here.done)) (contents (led o cs (here.done ++ d ∷ []))) (f ∷ q)
+            (other-around (contents (led o cs here.done)) (contents (led o cs (here.done ++ d ∷ []))) (element_view d.0) f q t (λ r u. ap content_told (led-here r u)))
+      ] refl
+    where
+      not-yet : (f : Element) (q : Path) → child_at f here.done ≡ None → IsAround (contents (led o cs [])) (contents (led o cs here.done)) (f ∷ q)
+      not-yet f [] e = record { above = refl; from = λ r. ap (λ x. content_told (led_in (child_at f cs) x r)) (sym e) }
+      not-yet f (g ∷ q) e = record { above = ap (λ x. content_told (led_in (child_at f cs) x (parent (g ∷ q)))) (sym e); from = λ r. ap (λ x. content_told (led_in (child_at f cs) x (g ∷ (q ++ r)))) (sym e) }
+
   pub walking-led : (k : ℕ) (steps2 : List Step) → are_apart (elements cs) ≡ true → get_or fs i None ≡ Some k → IsChildLed p cs d steps steps2 → IsWalking p o cs ds fs old (i + 1) rest held steps2
   walking-led k steps2 own_apart e child =
       let at = child-here (element_view d.0) cs k (walking-place k e) in
@@ -174,6 +199,11 @@ module _ (p : Path) (o : Content) (cs ds : List Child) (fs : Found) (old : List 
             (λ q. (λ t. led_in (there t) (push-same here.done d new t) q))
             led-here
             one.led;
+        saying = saying-child p (element_view d.0) (led o cs here.done) (led o cs (here.done ++ d ∷ [])) (marks at.child.1) (marks d.1) one.made
+            (λ q. (λ t. led_in (there t) (new t) q))
+            (λ q. (λ t. led_in (there t) (push-same here.done d new t) q))
+            led-here (root-some at.child.1) (root-some d.1)
+            one.saying;
       } in
       record {
         done = here.done ++ d ∷ [];
@@ -182,7 +212,7 @@ module _ (p : Path) (o : Content) (cs ds : List Child) (fs : Found) (old : List 
         trees = both_second (is_tree d.1) _ here.trees;
         found = (found_now (Some k) e).1;
         held_is = here.held_is ∙ ap (λ gs. held ++ fresh gs (d ∷ rest)) (split (Some k) e);
-        leading = leading-then p (led o cs []) (led o cs here.done) (led o cs (here.done ++ d ∷ [])) old steps steps2 here.leading step;
+        leading = leading-then p (led o cs []) (led o cs here.done) (led o cs (here.done ++ d ∷ [])) old steps steps2 (joins-here new) here.leading step;
       }
 
   pub walking-held : (held2 : List Child) → get_or fs i None ≡ None → held2 ≡ held ++ d ∷ [] → IsWalking p o cs ds fs old (i + 1) rest held2 steps
@@ -198,7 +228,9 @@ module _ (p : Path) (o : Content) (cs ds : List Child) (fs : Found) (old : List 
         held_is =
             here.held_is ∙ ap (λ gs. held ++ fresh gs (d ∷ rest)) (split None e) ∙ sym (append_assoc held (d ∷ []) (fresh (drop (i + 1) fs) rest))
             ∙ ap (λ hs. hs ++ fresh (drop (i + 1) fs) rest) (sym pushed);
-        leading = leading-then p (led o cs []) (led o cs here.done) (led o cs (here.done ++ d ∷ [])) old steps steps here.leading (leading-same p (led o cs here.done) (led o cs (here.done ++ d ∷ [])) steps steps refl same);
+        leading = leading-then p (led o cs []) (led o cs here.done) (led o cs (here.done ++ d ∷ [])) old steps steps
+            (λ q. joins-second (contents (led o cs [])) (contents (led o cs here.done)) (contents (led o cs (here.done ++ d ∷ []))) q (record { above = ap content_told (same (parent q)); from = λ r. ap content_told (same (q ++ r)) }))
+            here.leading (leading-same p (led o cs here.done) (led o cs (here.done ++ d ∷ [])) steps steps refl same);
       }
     where
       same-led : child_at (element_view d.0) cs ≡ None → (q : Path) → led o cs here.done q ≡ led o cs (here.done ++ d ∷ []) q

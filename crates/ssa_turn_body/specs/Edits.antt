@@ -1,12 +1,12 @@
 -- What the changes of one place need and do.
-use Rattle.std.specs.Prelude.{◌≡◌, ℕ, ◌+◌, ◌≤◌, List, [], true, Some, length, map, reverse, vec_capacity}
+use Rattle.std.specs.Prelude.{◌≡◌, ℕ, ◌+◌, ◌≤◌, List, [], Bool, true, false, ◌&&◌, Some, length, map, reverse, vec_capacity}
 use Rattle.std.specs.List.Sorted.{SwapsInRange}
 use Rattle.ssa_model.specs.definitions.Body.{Content, is_leaf}
 use Rattle.ssa_model.specs.definitions.Path.{Element}
-use Rattle.ssa_path.specs.View.{element_view}
+use Rattle.ssa_path.specs.View.{element_view, path_view}
 use Rattle.ssa_typed.specs.Rows.{leaf_content, are_trees}
 use Rattle.ssa_turn_body.specs.Marks.{Child, Kids, kids, names, Place, may_stand, with_order}
-use Rattle.ssa_turn_body.specs.Orders.{reordered}
+use Rattle.ssa_turn_body.specs.Orders.{reordered, is_none}
 use Rattle.ssa_turn_body.specs.Woven.{ArePlaces, taken, left, woven, room_for}
 use Rattle.ssa_turn_body.specs.declared.children.LeafSwap.{LeafSwap}
 use Rattle.ssa_turn_body.specs.declared.children.Placed.{Placed}
@@ -45,6 +45,15 @@ remade s hs xs = reordered (woven s.come.places.items 0 hs (staying s xs)) s.aft
 abbrev pub edited : ChildrenEdit → Kids → Kids
 edited s ks = remade s (kids s.held.items) ks
 
+-- no child is exchanged
+abbrev pub keeps_places : ChildrenEdit → Bool
+keeps_places s = is_none s.before.items && is_none s.after.items
+
+-- an order of elements is told, or nothing
+abbrev pub told_unless : Bool → List Element → List Element
+told_unless true es = []
+told_unless false es = es
+
 -- the elements that are named
 abbrev pub named_in : Placed → List Element
 named_in x = map element_view x.elements.items
@@ -55,6 +64,8 @@ pub record EditSteps : Type 0 where
   pub gone : List ℕ × List Element
   pub come : List ℕ × List Element
   pub after : List (ℕ × ℕ)
+  pub order_before : List Element
+  pub order_after : List Element
   pub held : Kids
 
 abbrev pub edit_steps : ChildrenEdit → EditSteps
@@ -63,6 +74,8 @@ edit_steps s = record {
   gone = (s.gone.places.items, named_in s.gone);
   come = (s.come.places.items, named_in s.come);
   after = s.after.items;
+  order_before = path_view s.order.before.items;
+  order_after = path_view s.order.after.items;
   held = kids s.held.items;
 }
 
@@ -75,6 +88,8 @@ pub record EditFits (s : ChildrenEdit) (v : Place) : Type 0 where
   pub come_named : named_in s.come ≡ names (kids s.held.items)
   pub held : length s.held.items ≡ length s.come.places.items
   pub after : SwapsInRange (length s.held.items + length (staying s v.1)) s.after.items
+  pub order_before : path_view s.order.before.items ≡ told_unless (keeps_places s) (names v.1)
+  pub order_after : path_view s.order.after.items ≡ told_unless (keeps_places s) (names (edited s v.1))
   pub stands : may_stand v.0 (names (edited s v.1)) ≡ true
   pub trees : are_trees s.held.items ≡ true
   pub out_empty : s.out.items ≡ []
@@ -96,6 +111,8 @@ pub record EditGives (s : ChildrenEdit) (v : Place) (t : ChildrenEdit) (w : Plac
   pub come : t.come.places.items ≡ s.gone.places.items
   pub come_named : named_in t.come ≡ names (going s v.1)
   pub after : t.after.items ≡ reverse s.before.items
+  pub order_before : path_view t.order.before.items ≡ path_view s.order.after.items
+  pub order_after : path_view t.order.after.items ≡ path_view s.order.before.items
   pub out_empty : t.out.items ≡ []
   pub out_room : length s.held.items ≤ vec_capacity t.out
   pub room_empty : t.room.items ≡ []
@@ -123,6 +140,8 @@ pub record EditGivesIn (s : ChildrenEdit) (cs : List Child) (t : ChildrenEdit) (
   pub come : t.come.places.items ≡ s.gone.places.items
   pub come_named : named_in t.come ≡ named_in s.gone
   pub after : t.after.items ≡ reverse s.before.items
+  pub order_before : path_view t.order.before.items ≡ path_view s.order.after.items
+  pub order_after : path_view t.order.after.items ≡ path_view s.order.before.items
   pub out_empty : t.out.items ≡ []
   pub out_room : length s.held.items ≤ vec_capacity t.out
   pub room_empty : t.room.items ≡ []

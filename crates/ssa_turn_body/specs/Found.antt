@@ -1,6 +1,8 @@
 -- Where the children of one place stand among those of another, and the order in which they shall stand.
 use Rattle.std.specs.Prelude.{◌≡◌, ℕ, zero, suc, ◌+◌, ◌<◌, ◌==◌, List, [], ◌∷◌, length, Bool, true, false, not, ◌&&◌, Option, Some, None, is_some, slice_get}
 use Rattle.std.specs.List.{list_any}
+use Rattle.ssa_model.specs.definitions.Kind.{is_among}
+use Rattle.ssa_model.specs.definitions.Path.{Element}
 use Rattle.ssa_path.specs.Children.{child_at, elements, IsChildAt}
 use Rattle.ssa_path.specs.View.{element_view}
 use Rattle.ssa_turn_body.specs.Edits.{named_in}
@@ -59,6 +61,13 @@ AreLed [] xs (l ∷ ls) = ⊥
 AreLed (f ∷ fs) xs [] = ⊥
 AreLed (None ∷ fs) xs (l ∷ ls) = AreLed fs xs ls
 AreLed (Some k ∷ fs) xs (l ∷ ls) = (slice_get xs k ≡ Some l) × AreLed fs xs ls
+
+-- a place is told just where the element is among the others
+abbrev pub AreKnown : List (Option ℕ) → List Element → List Element → Type 0
+AreKnown [] [] os = Unit {0}
+AreKnown [] (e ∷ es) os = ⊥
+AreKnown (f ∷ fs) [] os = ⊥
+AreKnown (f ∷ fs) (e ∷ es) os = (is_some f ≡ is_among e os) × AreKnown fs es os
 
 -- ---- numbers of a list
 

@@ -1,12 +1,14 @@
 -- Changes that lead what a tree tells at and below a path to something else, and nothing besides.
-use Rattle.std.specs.Prelude.{◌≡◌, List, [], ◌∷◌, ◌++◌, Bool, true, false, ◌&&◌, Some}
-use Rattle.ssa_model.specs.definitions.Path.{Path, under}
+use Rattle.std.specs.Prelude.{◌≡◌, List, [], ◌∷◌, ◌++◌, Bool, true, false, ◌&&◌, Some, reverse}
+use Rattle.ssa_model.specs.definitions.Path.{Element, Path, under}
 use Rattle.ssa_path.specs.Children.{child_at}
 use Rattle.ssa_path.specs.View.{element_view, path_view}
 use Rattle.ssa_typed.specs.Over.{AreAlikeTrees}
 use Rattle.ssa_typed.specs.Rows.{is_tree}
 use Rattle.ssa_typed.specs.declared.node.Node.{Node}
 use Rattle.ssa_turn_body.specs.Marks.{Child, Marks, marks}
+use Rattle.ssa_turn_body.specs.Orders.{is_none}
+use Rattle.ssa_turn_body.specs.Said.{AreTold, contents}
 use Rattle.ssa_turn_body.specs.Steps.{StepsFit, StepsLead}
 use Rattle.ssa_turn_body.specs.declared.change.PlaceChange.{PlaceChange}
 use Rattle.ssa_turn_body.specs.declared.children.ChildrenEdit.{ChildrenEdit}
@@ -22,20 +24,22 @@ pub record IsLed (p : Path) (before after : Marks) (ss : List Step) : Type 0 whe
   pub fit : (v : Node) → is_tree v ≡ true → ((q : Path) → marks v (p ++ q) ≡ before q) → StepsFit ss v
   pub lead : (v : Node) → is_tree v ≡ true → ((q : Path) → marks v (p ++ q) ≡ before q) → (ts : List Step) (w : Node) → StepsLead ss v ts w → IsLeft p after v w
 
+-- the changes say what is other there, and what they become says the same the other way round
+pub record AreSaying (p : Path) (before after : Marks) (ss : List Step) : Type 0 where
+  pub told : AreTold p (contents before) (contents after) ss
+  pub back : (v : Node) → is_tree v ≡ true → ((q : Path) → marks v (p ++ q) ≡ before q) → (ts : List Step) (w : Node) → StepsLead ss v ts w → AreTold p (contents after) (contents before) (reverse ts)
+
 -- such changes are made and stand behind the others
 pub record AreLeading (p : Path) (before after : Marks) (old new : List Step) : Type 0 where
   pub made : List Step
   pub added : new ≡ old ++ made
   pub led : IsLed p before after made
+  pub saying : AreSaying p before after made
 
 -- a change of the path is put behind the others, unless there is nothing to change
 abbrev pub MayAdd : Bool → Path → PlaceChange → List Step → List Step → Type 0
 MayAdd true p x old new = new ≡ old
 MayAdd false p x old new = (s : Step) × (path_view s.path.items ≡ p) × (s.change ≡ x) × (new ≡ old ++ s ∷ [])
-
-abbrev pub is_none : {X : Type 0} → List X → Bool
-is_none [] = true
-is_none (x ∷ xs) = false
 
 -- no child goes, comes or is exchanged
 abbrev pub is_idle : ChildrenEdit → Bool

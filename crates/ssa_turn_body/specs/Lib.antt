@@ -8,6 +8,9 @@ pub mod Inner
 pub mod Led
 pub mod Marks
 pub mod Orders
+pub mod Records
+pub mod Rooms
+pub mod Said
 pub mod Steps
 pub mod Told
 pub mod Turns

@@ -1,11 +1,15 @@
 -- A list in another order, told by exchanges of two elements.
-use Rattle.std.specs.Prelude.{◌≡◌, ℕ, ◌<◌, List, [], ◌∷◌, length, slice_index}
+use Rattle.std.specs.Prelude.{◌≡◌, ℕ, ◌<◌, List, [], ◌∷◌, Bool, true, false, length, slice_index}
 use Rattle.std.specs.List.{swap}
 
 -- the exchanges are made one after the other
 abbrev pub reordered : {X : Type 0} → List X → List (ℕ × ℕ) → List X
 reordered xs [] = xs
 reordered xs (p ∷ ps) = reordered (swap xs p.0 p.1) ps
+
+abbrev pub is_none : {X : Type 0} → List X → Bool
+is_none [] = true
+is_none (x ∷ xs) = false
 
 -- each is below the number
 abbrev pub AreWithin : ℕ → List ℕ → Type 0

@@ -38,12 +38,21 @@ pub struct Placed {
     pub elements: Vec<Elem>,
 }
 
+/// The elements of all children of one place in their order, after an edit and before it. Both are
+/// empty where no child is exchanged.
+#[derive(Drop)]
+pub struct Orders {
+    pub after: Vec<Elem>,
+    pub before: Vec<Elem>,
+}
+
 /// What changes among the children of one place: some go, some come, and others move.
 ///
 /// The children are exchanged as `before` says, one pair of places after the other; then those of
 /// `gone` go, and those of `come` come in; then all are exchanged as `after` says. The places of
-/// `gone` are those before the pass and the places of `come` those after it. `held` has the
-/// children that come, in this order. `out` is empty, with room for the children that go, and
+/// `gone` are those before the pass and the places of `come` those after it. `order` names the
+/// children as they stand before and after all of this. `held` has the children that come, in this
+/// order. `out` is empty, with room for the children that go, and
 /// `room` is empty, with room for all children afterwards, and with none where no child goes or
 /// comes.
 #[derive(Drop)]
@@ -52,6 +61,7 @@ pub struct ChildrenEdit {
     pub gone: Placed,
     pub come: Placed,
     pub after: Vec<(usize, usize)>,
+    pub order: Orders,
     pub held: Vec<(Elem, Node)>,
     pub out: Vec<(Elem, Node)>,
     pub room: Vec<(Elem, Node)>,
@@ -77,6 +87,7 @@ impl ChildrenEdit {
         reorder(children, &self.after);
         mem::swap(&mut self.gone, &mut self.come);
         mem::swap(&mut self.before, &mut self.after);
+        mem::swap(&mut self.order.before, &mut self.order.after);
         self.before.reverse();
         self.after.reverse();
     }

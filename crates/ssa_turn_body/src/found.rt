@@ -1,12 +1,15 @@
 //! Which children of one place another place has, which go and which come.
 ghost use Rattle.std.specs.Prelude.{◌≡◌, ◌+◌, true, length, IfOk};
 ghost use Rattle.ssa_path.specs.Children.{elements};
+ghost use Rattle.ssa_path.specs.View.{path_view};
 ghost use Rattle.ssa_typed.specs.Rows.{are_apart, below, is_tree};
 ghost use Rattle.ssa_turn_body.specs.Between.{IsEditBetween};
+ghost use Rattle.ssa_turn_body.specs.Edits.{told_unless};
 ghost use Rattle.ssa_turn_body.specs.Woven.{room_for};
+ghost use Rattle.ssa_turn_body.specs.Orders.{is_none};
 ghost use Rattle.ssa_turn_body.specs.Found.{all_differ, filled, nothing_told, somes, AreFound, AreBelow, AreMissing, IsTurnedRound};
 
-use crate::children::{ChildrenEdit, Placed};
+use crate::children::{ChildrenEdit, Orders, Placed};
 use crate::descent::place_of;
 use crate::exchanges::exchanges_between;
 use ssa_path::element::Elem;
@@ -130,6 +133,38 @@ fn room_needed(gone: &[usize], come: &[usize], count: usize) -> usize
     }
 }
 
+// The elements of these children, with new memory.
+fn elements_of(alloc: Global, children: &[(Elem, Node)]) -> Result<Vec<Elem>, AllocError>
+    ensures { IfOk result (λ v. path_view v.items ≡ elements children.now) }
+{
+    let mut names = Vec::with_capacity(alloc, children.len())?;
+    for child in children {
+        let element = child.0.copy(alloc)?;
+        names.push(element)?;
+    }
+    Ok(names)
+}
+
+// The orders of the children of two places, told only where some are exchanged.
+fn orders_between(
+    alloc: Global,
+    own: &[(Elem, Node)],
+    others: &[(Elem, Node)],
+    exchanges: &[(usize, usize)],
+) -> Result<Orders, AllocError>
+    ensures before { IfOk result (λ o. path_view o.before.items ≡ told_unless (is_none exchanges.now) (elements own.now)) }
+    ensures after { IfOk result (λ o. path_view o.after.items ≡ told_unless (is_none exchanges.now) (elements others.now)) }
+{
+    if exchanges.is_empty() {
+        let before = Vec::new(alloc);
+        let after = Vec::new(alloc);
+        return Ok(Orders { after, before });
+    }
+    let before = elements_of(alloc, own)?;
+    let after = elements_of(alloc, others)?;
+    Ok(Orders { after, before })
+}
+
 /// The edit that leads from the children of one place to those of another, without what comes:
 /// where they stand and how they are named, and the exchanges that bring what stays into its order.
 pub fn edit_between(
@@ -148,6 +183,7 @@ pub fn edit_between(
     let told = told_places(alloc, found)?;
     let wanted = wanted_order(alloc, &back, &told)?;
     let before = exchanges_between(alloc, &wanted)?;
+    let order = orders_between(alloc, own, others, &before)?;
     let out = Vec::with_capacity(alloc, gone.places.len())?;
     let count = room_needed(&gone.places, &come.places, others.len());
     let room = Vec::with_capacity(alloc, count)?;
@@ -156,6 +192,7 @@ pub fn edit_between(
         gone,
         come,
         after: Vec::new(alloc),
+        order,
         held: Vec::new(alloc),
         out,
         room,

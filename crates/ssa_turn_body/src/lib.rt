@@ -8,6 +8,7 @@ pub mod children;
 pub mod descent;
 pub mod exchanges;
 pub mod found;
+pub mod live_body;
 pub mod reorder;
 pub mod steps;
 pub mod told;

@@ -1,6 +1,7 @@
 //! Laws over definitions: what turns are in the words of bodies, and that a second turn leads back.
 ghost use Rattle.ssa_turn_body.specs.Bodies.{TurnsLeadBack};
 ghost use Rattle.ssa_turn_body.specs.Inner.{InnerStepsFit};
+ghost use Rattle.ssa_turn_body.specs.Rooms.{TurnsKeepRoom};
 ghost use Rattle.ssa_turn_body.specs.Told.{EditTurnTold, LeafTurnTold, MarksTellContents};
 ghost use Rattle.ssa_turn_body.specs.Turns.{TreeTurnsLeadBack};
 
@@ -33,4 +34,9 @@ pub fn tree_turns_lead_back()
 /// A second turn of a body leaves the body and the steps as they were.
 pub fn turns_lead_back()
     ensures { TurnsLeadBack }
+{}
+
+/// A turn of a body leaves steps that serve the way back, and say its record.
+pub fn turns_keep_room()
+    ensures { TurnsKeepRoom }
 {}

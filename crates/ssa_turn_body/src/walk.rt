@@ -1,11 +1,12 @@
 //! The walk over two trees side by side that makes the changes leading from one to the other.
-ghost use Rattle.std.specs.Prelude.{◌≡◌, [], false, true, OnOk};
+ghost use Rattle.std.specs.Prelude.{◌≡◌, [], false, not, true, OnOk};
 ghost use Rattle.ssa_path.specs.Children.{elements, IsChildAt};
 ghost use Rattle.ssa_path.specs.View.{element_view, path_view};
 ghost use Rattle.ssa_typed.specs.Over.{AreAlikeBelow, AreAlikeTrees};
 ghost use Rattle.ssa_typed.specs.Rows.{are_trees, below, is_tree, leaf_content, own_content};
 ghost use Rattle.ssa_turn_body.specs.Led.{is_idle, AreLeading, IsAlikeChild, IsChildLed, MayAdd};
 ghost use Rattle.ssa_turn_body.specs.Marks.{kids, marks, may_stand, with_order};
+ghost use Rattle.ssa_turn_body.specs.Said.{is_swapped};
 ghost use Rattle.ssa_turn_body.specs.Told.{from_place};
 
 use crate::change::PlaceChange;
@@ -19,7 +20,7 @@ use std::alloc::{AllocError, Global};
 
 // Whether both leaves are of one sort and have the same content.
 fn same_leaf(own: &Leaf, other: &Leaf) -> bool
-    ensures { result ≡ true → leaf_content own.now ≡ leaf_content other.now }
+    ensures { is_swapped (leaf_content own.now) (leaf_content other.now) ≡ not result }
 {
     match (own, other) {
         (Leaf::Scalar(own), Leaf::Scalar(other)) => own.same(other),

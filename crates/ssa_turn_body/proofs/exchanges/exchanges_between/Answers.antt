@@ -34,3 +34,6 @@ loop-i-preserved c =
 
 pub returns-clause-order : goal.returns-clause-order
 returns-clause-order c = exchanging-all c.args.wanted.now c.loop-i.i c.loop-i.order.items c.loop-i.places.items c.loop-i.swaps.items c.loop-i-test.false c.loop-i.invariant
+
+pub returns-clause-none : goal.returns-clause-none
+returns-clause-none c = c.loop-i.invariant.idle

@@ -4,20 +4,23 @@ use Rattle.std.specs.Vec.Iter.{into_iter_items}
 use Rattle.ssa_model.specs.definitions.Body.{is_leaf}
 use Rattle.ssa_path.specs.Children.{elements}
 use Rattle.ssa_path.specs.View.{element_view, path_view}
-use Rattle.ssa_typed.specs.Rows.{are_apart, below, own_content, rows}
+use Rattle.ssa_typed.specs.Rows.{are_apart, below, leaf_content, own_content, rows}
 use Rattle.ssa_typed.proofs.Levels.{level-below}
 use Rattle.ssa_typed.proofs.Sizes.{smaller}
 use Rattle.ssa_turn_body.specs.Led.{AreLeading, IsChildLed, MayAdd, is_idle}
 use Rattle.ssa_turn_body.specs.Between.{IsEditBetween}
 use Rattle.ssa_turn_body.specs.Found.{AreFound}
+use Rattle.ssa_turn_body.specs.Told.{from_place}
 use Rattle.ssa_turn_body.specs.declared.change.PlaceChange.TheVariants.{Children}
 use Rattle.ssa_turn_body.specs.declared.steps.Step.{Step}
 use Rattle.ssa_path.specs.declared.element.Elem.{Elem}
 use Rattle.ssa_typed.proofs.Lookups.{tree-child}
 use Rattle.std.proofs.lemmas.Option.{same_Some}
 use Rattle.ssa_turn_body.specs.Marks.{Child, marks}
-use Rattle.ssa_turn_body.proofs.Finishing.{finish, kind-trees, kind-stands, kind-alike, kind-told, leading-told, leading-from, no-branch, own-order, stand-apart, branch-Branch, branch-Dict, branch-List}
-use Rattle.ssa_turn_body.proofs.Leading.{leading-then}
+use Rattle.ssa_turn_body.proofs.Finishing.{kind-trees, kind-stands, kind-alike, kind-told, leading-told, leading-from, leaf-told, no-branch, own-order, stand-apart, branch-Branch, branch-Dict, branch-List}
+use Rattle.ssa_turn_body.proofs.Concluding.{finish, joins-final}
+use Rattle.ssa_turn_body.proofs.BodyMarks.{own-stands}
+use Rattle.ssa_turn_body.proofs.Recording.{leading-then}
 use Rattle.ssa_turn_body.proofs.Places.{kind-Branch, kind-Dict, kind-List}
 use Rattle.ssa_turn_body.proofs.Walking.{IsWalking, child-there, found-read, led, led-start, walking-start, walking-index, walking-tree, walking-place, walking-alike, walking-led, walking-held, walking-end}
 use Rattle.ssa_turn_body.proofs.walk.+walk.Goals as goal
@@ -137,8 +140,9 @@ walk_children-returns-clause-led t c =
     let added =
     subst (λ q. MayAdd (is_idle s) q (Children (record s { held = l.held })) l.steps.items c.push_edit.new.steps.items) (ap path_view (c.deref-4.ensures.value ∙ l.invariant.path)) c.in_ok-push_edit.ensures in
     let last =
-    finish o cs ds fs s between l.held ((level-below n).apart c.requires.from) apart found end.0 c.requires.to c.requires.stand (own-order n c.requires.from) p l.steps.items c.push_edit.new.steps.items added in
-    leading-from p (marks n) (led o cs []) _ old c.push_edit.new.steps.items (led-start n) (leading-then p (led o cs []) (led o cs ds) _ old l.steps.items c.push_edit.new.steps.items end.1 last)
+    finish o cs ds fs s between l.held ((level-below n).apart c.requires.from) apart found end.0 c.requires.to (own-stands n (elements ds) c.requires.from c.requires.stand) c.requires.stand (own-order n c.requires.from) p l.steps.items c.push_edit.new.steps.items
+    added in
+    leading-from p (marks n) (led o cs []) _ old c.push_edit.new.steps.items (led-start n) (leading-then p (led o cs []) (led o cs ds) _ old l.steps.items c.push_edit.new.steps.items (joins-final o cs ds) end.1 last)
 
 -- ---- a place
 
@@ -198,3 +202,16 @@ steps_below-returns-in_ok-walk_children-in-List-clause-led t c =
     let r = c.requires in
     leading-told (path_view c.args.path.now.items) (marks c.args.from.now) _ (marks c.args.to) c.args.steps.now.items c.walk_children-in-List.new.steps.items
     (kind-told _ kind-List branch-List c.args.from.now c.args.to c.in-List.children c.in-List.is r.from r.to r.alike) c.in_ok-walk_children-in-List.ensures.led
+
+pub steps_below-returns-in_ok-push_leaf-in-Leaf-from-clause-led : goal.steps_below-returns-in_ok-push_leaf-in-Leaf-from-clause-led
+steps_below-returns-in_ok-push_leaf-in-Leaf-from-clause-led t c =
+    let p = path_view c.args.path.now.items in
+    let from = c.args.from.now in
+    let to = c.args.to in
+    let before = from_place (leaf_content c.in-Leaf-from.own, []) in
+    let after = from_place (leaf_content c.in-Leaf.leaf, []) in
+    let old = c.args.steps.now.items in
+    let new = c.push_leaf.new.steps.items in
+    let given = subst (λ q. AreLeading (path_view q) before after old new) c.deref.ensures.value c.in_ok-push_leaf-in-Leaf-from.ensures in
+    leading-from p (marks from) before (marks to) old new (leaf-told from c.in-Leaf-from.own c.in-Leaf-from.is)
+    (leading-told p before after (marks to) old new (λ q. sym (leaf-told to c.in-Leaf.leaf c.in-Leaf.is q)) given)

@@ -1,5 +1,7 @@
 use Rattle.std.proofs.Common.{Vec, Global, ◌≡◌, ◌+◌, length, reverse, sym, ap, subst, ◌∙◌, vec_capacity, ◌≤◌}
 use Rattle.std.specs.List.Sorted.{SwapsInRange}
+use Rattle.ssa_path.specs.View.{path_view}
+use Rattle.ssa_path.specs.declared.element.Elem.{Elem}
 use Rattle.ssa_turn_body.specs.Edits.{staying, named_in}
 use Rattle.ssa_turn_body.specs.declared.children.Placed.{Placed}
 use Rattle.ssa_turn_body.specs.Orders.{reordered}
@@ -42,6 +44,8 @@ returns c =
       come = ap (λ (x : Placed). x.places.items) c.swap.ensures.y_after;
       come_named = ap named_in c.swap.ensures.y_after;
       after = c.reverse-2.ensures.items ∙ ap (λ (x : Vec _ Global). reverse x.items) c.swap-2.ensures.y_after;
+      order_before = ap (λ (x : Vec Elem Global). path_view x.items) c.swap-3.ensures.x_after;
+      order_after = ap (λ (x : Vec Elem Global). path_view x.items) c.swap-3.ensures.y_after;
       out_empty = c.weave.ensures.out_empty;
       out_room = c.weave.ensures.out_room;
       room_empty = c.weave.ensures.room_empty;
