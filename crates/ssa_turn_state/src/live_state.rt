@@ -1,0 +1,82 @@
+//! States of a bench, changed in place by a record.
+ghost use Rattle.std.specs.Prelude.{◌≡◌};
+ghost use Rattle.ssa_model.specs.definitions.Carry.{carry};
+ghost use Rattle.ssa_turn_state.specs.States.{HasStateRoom, IsTaken, state_steps, state_view};
+
+use ssa_reverse::reversible::Reversible;
+use ssa_turn_body::live_body::turn_recorded;
+use ssa_turn_body::steps::BodySteps;
+use ssa_turn_table::delta::TableDelta;
+use ssa_turn_table::live_table::LiveTable;
+use ssa_turn_table::table::turn_table;
+use ssa_typed::body::Body;
+use std::alloc::AllocError;
+
+/// A body and the table of its managers, each with a set of its own.
+#[derive(Drop)]
+pub struct LiveState {
+    pub body: Body,
+    pub table: LiveTable,
+}
+
+/// A record of two states: what has to change in the first to get the second, with the room for a
+/// turn, which serves the way back as well.
+#[derive(Drop)]
+pub struct StateDelta {
+    pub body: BodySteps,
+    pub table: TableDelta,
+}
+
+/// Changes the state as the record says, and leaves the record that leads back. Takes no memory.
+pub fn turn_state(state: &mut LiveState, delta: &mut StateDelta)
+    requires fits { IsTaken (state_steps delta.old) (state_view state.old) (carry (state_steps delta.old) (state_view state.old)) }
+    requires room { HasStateRoom delta.old (state_view state.old) }
+    ensures value { state_view state.new ≡ carry (state_steps delta.old) (state_view state.old) }
+    ensures back { IsTaken (state_steps delta.new) (state_view state.new) (state_view state.old) }
+    ensures room { HasStateRoom delta.new (state_view state.new) }
+{
+    turn_recorded(&mut state.body, &mut delta.body);
+    turn_table(&mut state.table.entries, &mut delta.table);
+}
+
+impl Reversible for LiveState {
+    ghost use Rattle.std.specs.Prelude.{◌≡◌, true, Bool};
+    ghost use Rattle.std.proofs.Common.{◌∙◌, sym};
+    ghost use Rattle.ssa_model.specs.definitions.Carry.{carry};
+    ghost use Rattle.ssa_model.specs.definitions.Operations.{State};
+    ghost use Rattle.ssa_model.specs.definitions.Record.{Record};
+    ghost use Rattle.ssa_model.specs.definitions.Takes.{turned};
+    ghost use Rattle.ssa_model.proofs.RecordTakes as laws;
+    ghost use Rattle.ssa_turn_state.specs.States.{HasStateRoom, IsTaken, state_steps, state_view};
+
+    type Delta = StateDelta;
+
+    const SURE: bool = true;
+
+    ghost SURE = { true };
+
+    ghost Meaning = { State };
+
+    ghost meaning = { state_view };
+
+    ghost Steps = { Record };
+
+    ghost steps = { state_steps };
+
+    ghost takes = { IsTaken };
+
+    ghost target = { carry };
+
+    ghost has_room = { HasStateRoom };
+
+    fn turn(&mut self, delta: &mut StateDelta) -> Result<(), AllocError> {
+        turn_state(self, delta);
+        Ok(())
+    }
+
+    ghost fixes_target = { λ d v w h. laws.fixes_target h.0 d v w h.1 };
+
+    ghost fixes_steps = { λ d e v w h k. h.1.is ∙ sym k.1.is };
+
+    ghost leads_back = { λ d v w h. (turned d v, (h.0, laws.leads_back h.0 d v w h.1)) };
+}
