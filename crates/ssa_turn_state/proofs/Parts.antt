@@ -1,9 +1,8 @@
 -- A record takes one state to another by what its parts do with theirs.
-use Rattle.std.proofs.Common.{◌≡◌, ap}
-use Rattle.ssa_model.specs.definitions.Kind.{Kind}
+use Rattle.std.proofs.Common.{ap}
 use Rattle.ssa_model.specs.definitions.Operations.{State}
 use Rattle.ssa_model.specs.definitions.Record.{BodyRecord, TableRecord, Record}
-use Rattle.ssa_model.specs.definitions.Takes.{BodyTakes, TableTakes, Takes}
+use Rattle.ssa_model.specs.definitions.Takes.{TableTakes}
 use Rattle.ssa_model.proofs.RecordTakes.{takes_by_parts}
 use Rattle.ssa_turn_body.specs.Rooms.{IsBodyTaken}
 use Rattle.ssa_turn_state.specs.States.{IsTaken}
