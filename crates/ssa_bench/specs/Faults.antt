@@ -4,9 +4,11 @@ use Rattle.ssa_model.specs.definitions.Kind as kinds
 use Rattle.ssa_model.specs.definitions.Operations as operations
 use Rattle.ssa_model.specs.definitions.GivenEntries as entries
 use Rattle.ssa_model.specs.definitions.Answers as model
+use Rattle.ssa_model.specs.definitions.Faults as code
+use Rattle.ssa_model.specs.definitions.Faults.{Code, body_fault_code}
 use Rattle.ssa_schema.specs.Finds.{told, told_view}
 use Rattle.ssa_merge.specs.Managers.{clashes_view}
-use Rattle.ssa_merge.specs.GivenEntries.{IsEntryFault}
+use Rattle.ssa_merge.specs.GivenEntries.{IsEntryFault, entry_code}
 use Rattle.ssa_bench.specs.declared.fault.Fault.{Fault}
 use Rattle.ssa_bench.specs.declared.fault.Fault.TheVariants.{Body, TooManyPaths, Identity, ManagedFieldsGiven, Entry, ManagerName, HistoryFull, NothingToUndo, NothingToRedo, Conflict, TooManyManagers, OutOfMemory}
 
@@ -24,6 +26,21 @@ IsFault NothingToRedo g = g ≡ model.nothing_to_redo
 IsFault (Conflict cs) g = g ≡ model.refused (operations.conflict (clashes_view cs.items))
 IsFault TooManyManagers g = g ≡ model.refused operations.too_many_managers
 IsFault OutOfMemory g = ⊥
+
+-- how the fault is told
+abbrev pub bench_code : Fault → Code
+bench_code (Body f) = body_fault_code (told_view f).0
+bench_code TooManyPaths = code.too_many_paths
+bench_code Identity = code.identity
+bench_code ManagedFieldsGiven = code.managed_fields_given
+bench_code (Entry f) = entry_code f
+bench_code ManagerName = code.manager_name
+bench_code HistoryFull = code.history_full
+bench_code NothingToUndo = code.nothing_to_undo
+bench_code NothingToRedo = code.nothing_to_redo
+bench_code (Conflict cs) = code.conflict
+bench_code TooManyManagers = code.too_many_managers
+bench_code OutOfMemory = code.out_of_memory
 
 -- The result is the given one; of want of memory nothing is said.
 abbrev pub IsGiven : {A : Type 0} → Result A Fault → Result A model.Fault → Type 0

@@ -1,8 +1,11 @@
 //! Why a command or an object is refused.
 ghost use Rattle.std.specs.Prelude.{◌≡◌};
+ghost use Rattle.ssa_json.specs.FaultCodes.{code_view};
+ghost use Rattle.ssa_bench.specs.Faults.{bench_code};
 ghost use Rattle.ssa_bench.specs.Refusals.{refusal_fault, entry_fault};
 ghost use Rattle.ssa_bench.specs.declared.fault.Fault.TheVariants.{OutOfMemory};
 
+use ssa_json::fault_code::FaultCode;
 use ssa_merge::entry_fault::EntryFault;
 use ssa_merge::manager::ManagerKey;
 use ssa_merge::plan::Refusal;
@@ -35,6 +38,28 @@ pub enum Fault {
     TooManyManagers,
     /// A growth of memory was refused.
     OutOfMemory,
+}
+
+impl Fault {
+    /// The fault as it is told.
+    pub fn code(&self) -> FaultCode
+        ensures { code_view result ≡ bench_code self.now }
+    {
+        match self {
+            Fault::Body(fault) => fault.code(),
+            Fault::TooManyPaths => FaultCode::TooManyPaths,
+            Fault::Identity => FaultCode::Identity,
+            Fault::ManagedFieldsGiven => FaultCode::ManagedFieldsGiven,
+            Fault::Entry(fault) => fault.code(),
+            Fault::ManagerName => FaultCode::ManagerName,
+            Fault::HistoryFull => FaultCode::HistoryFull,
+            Fault::NothingToUndo => FaultCode::NothingToUndo,
+            Fault::NothingToRedo => FaultCode::NothingToRedo,
+            Fault::Conflict(_) => FaultCode::Conflict,
+            Fault::TooManyManagers => FaultCode::TooManyManagers,
+            Fault::OutOfMemory => FaultCode::OutOfMemory,
+        }
+    }
 }
 
 impl From<AllocError> for Fault {

@@ -1,12 +1,20 @@
 -- What reading the lines of a bench file answers.
 use Rattle.std.specs.Prelude.{◌≡◌, ◌⊎◌, ◌<◌, ◌+◌, ℕ, List, [], ◌∷◌, length, Option, Some, None, option_map, Result, Ok, Err}
 use Rattle.ssa_model.specs.definitions.Json.{Text, compact}
+use Rattle.ssa_model.specs.definitions.Faults as code
+use Rattle.ssa_model.specs.definitions.Faults.{Code}
 use Rattle.ssa_model.specs.laws.BenchFiles.{spelled_value, values_of}
 use Rattle.ssa_json.specs.Readings.{readings}
 use Rattle.ssa_json.specs.View.{view}
 use Rattle.ssa_file.specs.declared.loading.FileLine.{FileLine}
 use Rattle.ssa_file.specs.declared.loading.LoadFault.{LoadFault}
 use Rattle.ssa_file.specs.declared.loading.LoadFault.TheVariants.{BenchText, Io, OutOfMemory}
+
+-- how the fault is told
+abbrev pub load_code : LoadFault → Code
+load_code BenchText = code.bench_text
+load_code Io = code.io
+load_code OutOfMemory = code.out_of_memory
 
 -- the text is the compact text of the line's value
 pub record IsSpelledAs (l : FileLine) (text : Text) : Type 0 where

@@ -2,14 +2,16 @@
 ghost use Rattle.std.specs.Prelude.{◌≡◌, ◌≢◌, ◌≤◌, ◌+◌, true, false, Err, IfOk, IfSome, None};
 ghost use Rattle.ssa_model.specs.definitions.Json.{compact, same_text};
 ghost use Rattle.ssa_model.specs.laws.BenchFiles.{spelled_value};
+ghost use Rattle.ssa_json.specs.FaultCodes.{code_view};
 ghost use Rattle.ssa_json.specs.Readings.{readings};
 ghost use Rattle.ssa_json.specs.View.{view};
-ghost use Rattle.ssa_file.specs.Loading.{IsSpelledAs, ReadsValue};
+ghost use Rattle.ssa_file.specs.Loading.{IsSpelledAs, ReadsValue, load_code};
 ghost use Rattle.ssa_file.specs.declared.loading.LoadFault.TheVariants.{Io, OutOfMemory};
 
 use crate::line::Line;
 use crate::read_line::{LineEnd, read_line};
 use ssa_json::fault::JsonFault;
+use ssa_json::fault_code::FaultCode;
 use ssa_json::source::{DeviceFault, Source};
 use ssa_json::value::Json;
 use std::alloc::{AllocError, Global};
@@ -23,6 +25,19 @@ pub enum LoadFault {
     Io,
     /// A growth of memory was refused.
     OutOfMemory,
+}
+
+impl LoadFault {
+    /// The fault as it is told.
+    pub fn code(&self) -> FaultCode
+        ensures { code_view result ≡ load_code self.now }
+    {
+        match self {
+            LoadFault::BenchText => FaultCode::BenchText,
+            LoadFault::Io => FaultCode::Io,
+            LoadFault::OutOfMemory => FaultCode::OutOfMemory,
+        }
+    }
 }
 
 impl From<AllocError> for LoadFault {

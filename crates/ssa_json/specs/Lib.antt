@@ -6,3 +6,4 @@ pub mod Moment
 pub mod Devices
 pub mod Piece
 pub mod Writable
+pub mod FaultCodes

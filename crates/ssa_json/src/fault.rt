@@ -1,7 +1,9 @@
 //! Why JSON text is refused.
 ghost use Rattle.std.specs.Prelude.{◌≡◌};
+ghost use Rattle.ssa_json.specs.FaultCodes.{code_view, json_fault_code};
 ghost use Rattle.ssa_json.specs.declared.fault.JsonFault.TheVariants.{OutOfMemory};
 
+use crate::fault_code::FaultCode;
 use std::alloc::{AllocError, AllocFailed};
 use thiserror::Error;
 
@@ -25,6 +27,21 @@ pub enum JsonFault {
     /// A growth was refused.
     #[error("out of memory")]
     OutOfMemory,
+}
+
+impl JsonFault {
+    /// The fault as it is told.
+    pub fn code(&self) -> FaultCode
+        ensures { code_view result ≡ json_fault_code self.now }
+    {
+        match self {
+            JsonFault::NotJson => FaultCode::NotJson,
+            JsonFault::NullValue => FaultCode::NullValue,
+            JsonFault::NumberOutside => FaultCode::NumberOutside,
+            JsonFault::TooLong => FaultCode::TooLong,
+            JsonFault::OutOfMemory => FaultCode::OutOfMemory,
+        }
+    }
 }
 
 impl From<AllocError> for JsonFault {

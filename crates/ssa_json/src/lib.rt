@@ -3,6 +3,7 @@
 
 pub mod copy;
 pub mod fault;
+pub mod fault_code;
 pub mod members;
 pub mod moment;
 pub mod piece;

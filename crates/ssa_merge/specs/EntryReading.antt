@@ -10,8 +10,8 @@ use Rattle.ssa_model.specs.definitions.GivenEntries as model
 use Rattle.ssa_model.specs.definitions.GivenEntries.{is_entry, text_at, fields_in, operation_of}
 use Rattle.ssa_model.specs.definitions.Table as table
 use Rattle.ssa_model.specs.definitions.Table.{ManagerKey, Table}
-use Rattle.ssa_path.specs.declared.fields_fault.FieldsFault.{FieldsFault}
-use Rattle.ssa_path.specs.declared.fields_fault.FieldsFault.TheVariants as fields
+use Rattle.ssa_path.specs.declared.element_fault.ElemFault.{ElemFault}
+use Rattle.ssa_path.specs.declared.element_fault.ElemFault.TheVariants as fields
 use Rattle.ssa_merge.specs.declared.entry_fault.EntryFault.{EntryFault}
 use Rattle.ssa_merge.specs.declared.entry_fault.EntryFault.TheVariants.{BadElement, IndexElement, NotCanonical, OutOfMemory}
 use Rattle.ssa_merge.specs.declared.entry_members.Said.{Said}
@@ -19,7 +19,7 @@ use Rattle.ssa_merge.specs.declared.managers.Entry.{Entry}
 use Rattle.ssa_merge.specs.GivenEntries.{GivesEntries, IsEntryFault}
 use Rattle.ssa_merge.specs.Managers.{entry_view, operation_view, table_view}
 
-abbrev pub fault_of_fields : FieldsFault → EntryFault
+abbrev pub fault_of_fields : ElemFault → EntryFault
 fault_of_fields fields.BadElement = BadElement
 fault_of_fields fields.IndexElement = IndexElement
 fault_of_fields fields.NotCanonical = NotCanonical

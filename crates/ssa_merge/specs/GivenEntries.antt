@@ -2,6 +2,8 @@
 use Rattle.std.specs.Prelude.{◌≡◌, Result, Ok, Err}
 use Rattle.ssa_model.specs.definitions.ElementTexts as texts
 use Rattle.ssa_model.specs.definitions.GivenEntries as model
+use Rattle.ssa_model.specs.definitions.Faults as code
+use Rattle.ssa_model.specs.definitions.Faults.{Code}
 use Rattle.ssa_merge.specs.declared.entry_fault.EntryFault.{EntryFault}
 use Rattle.ssa_merge.specs.declared.entry_fault.EntryFault.TheVariants.{TooManyManagers, BadEntry, ManagerName, OtherVersion, BadMoment, BadElement, IndexElement, NotCanonical, EmptyEntry, AbsentPath, DuplicateManager, OutOfMemory}
 
@@ -19,6 +21,21 @@ IsEntryFault EmptyEntry g = g ≡ model.empty_entry
 IsEntryFault (AbsentPath p) g = g ≡ model.absent_path p
 IsEntryFault DuplicateManager g = g ≡ model.duplicate_manager
 IsEntryFault OutOfMemory g = ⊥
+
+-- how the fault is told
+abbrev pub entry_code : EntryFault → Code
+entry_code TooManyManagers = code.too_many_managers
+entry_code BadEntry = code.bad_entry
+entry_code ManagerName = code.manager_name
+entry_code OtherVersion = code.other_version
+entry_code BadMoment = code.bad_moment
+entry_code BadElement = code.bad_element
+entry_code IndexElement = code.index_element
+entry_code NotCanonical = code.not_canonical
+entry_code EmptyEntry = code.empty_entry
+entry_code (AbsentPath p) = code.absent_path
+entry_code DuplicateManager = code.duplicate_manager
+entry_code OutOfMemory = code.out_of_memory
 
 -- What is read is the given table or its first fault; of want of memory nothing is said.
 abbrev pub GivesEntries : {A : Type 0} → Result A EntryFault → Result A model.EntryFault → Type 0

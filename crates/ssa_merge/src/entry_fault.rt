@@ -1,9 +1,12 @@
 //! Why a value is no table of managers.
 ghost use Rattle.std.specs.Prelude.{◌≡◌};
+ghost use Rattle.ssa_json.specs.FaultCodes.{code_view};
 ghost use Rattle.ssa_merge.specs.EntryReading.{fault_of_fields};
+ghost use Rattle.ssa_merge.specs.GivenEntries.{entry_code};
 ghost use Rattle.ssa_merge.specs.declared.entry_fault.EntryFault.TheVariants.{OutOfMemory};
 
-use ssa_path::fields_fault::FieldsFault;
+use ssa_json::fault_code::FaultCode;
+use ssa_path::element_fault::ElemFault;
 use ssa_path::path::Path;
 use std::alloc::AllocError;
 
@@ -39,6 +42,28 @@ pub enum EntryFault {
     OutOfMemory,
 }
 
+impl EntryFault {
+    /// The fault as it is told.
+    pub fn code(&self) -> FaultCode
+        ensures { code_view result ≡ entry_code self.now }
+    {
+        match self {
+            EntryFault::TooManyManagers => FaultCode::TooManyManagers,
+            EntryFault::BadEntry => FaultCode::BadEntry,
+            EntryFault::ManagerName => FaultCode::ManagerName,
+            EntryFault::OtherVersion => FaultCode::OtherVersion,
+            EntryFault::BadMoment => FaultCode::BadMoment,
+            EntryFault::BadElement => FaultCode::BadElement,
+            EntryFault::IndexElement => FaultCode::IndexElement,
+            EntryFault::NotCanonical => FaultCode::NotCanonical,
+            EntryFault::EmptyEntry => FaultCode::EmptyEntry,
+            EntryFault::AbsentPath(_) => FaultCode::AbsentPath,
+            EntryFault::DuplicateManager => FaultCode::DuplicateManager,
+            EntryFault::OutOfMemory => FaultCode::OutOfMemory,
+        }
+    }
+}
+
 impl From<AllocError> for EntryFault {
     ghost from_gives = { λ _ e. e ≡ OutOfMemory };
 
@@ -47,15 +72,15 @@ impl From<AllocError> for EntryFault {
     }
 }
 
-impl From<FieldsFault> for EntryFault {
+impl From<ElemFault> for EntryFault {
     ghost from_gives = { λ f e. e ≡ fault_of_fields f };
 
-    fn from(fault: FieldsFault) -> EntryFault {
+    fn from(fault: ElemFault) -> EntryFault {
         match fault {
-            FieldsFault::BadElement => EntryFault::BadElement,
-            FieldsFault::IndexElement => EntryFault::IndexElement,
-            FieldsFault::NotCanonical => EntryFault::NotCanonical,
-            FieldsFault::OutOfMemory => EntryFault::OutOfMemory,
+            ElemFault::BadElement => EntryFault::BadElement,
+            ElemFault::IndexElement => EntryFault::IndexElement,
+            ElemFault::NotCanonical => EntryFault::NotCanonical,
+            ElemFault::OutOfMemory => EntryFault::OutOfMemory,
         }
     }
 }

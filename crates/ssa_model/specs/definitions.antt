@@ -42,6 +42,8 @@ pub mod GivenEntries
 pub mod Answers
 -- the commands in effect: accepted, and not undone
 pub mod Effect
+-- the faults: the number and the name of each
+pub mod Faults
 -- replies and faults as JSON
 pub mod Replies
 -- the answer to a line of a session

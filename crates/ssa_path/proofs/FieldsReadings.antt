@@ -16,15 +16,13 @@ use Rattle.ssa_json.proofs.Equality.{same_json-true, same_text-true}
 use Rattle.ssa_json.proofs.Ordered.{IsAbove, names, above_before}
 use Rattle.ssa_path.specs.Children.{elements, is_below, rises}
 use Rattle.ssa_path.specs.ElementReading.{ReadsElement}
-use Rattle.ssa_path.specs.FieldsReading.{fields_fault, first_fault, IsFirst, below_faults, child_faults, said_below, IsPlaceOf, IsPlaceBelow, IsChildOf}
+use Rattle.ssa_path.specs.FieldsReading.{first_fault, IsFirst, below_faults, child_faults, said_below, IsPlaceOf, IsPlaceBelow, IsChildOf}
 use Rattle.ssa_path.specs.FieldsWriting.{paths_json}
 use Rattle.ssa_path.specs.Trie.{are_filled_tries, has_some, here_path, is_filled, paths, paths_below}
 use Rattle.ssa_path.specs.View.{element_view}
 use Rattle.ssa_path.specs.declared.element.Elem.{Elem}
 use Rattle.ssa_path.specs.declared.element_fault.ElemFault.{ElemFault}
-use Rattle.ssa_path.specs.declared.element_fault.ElemFault.TheVariants as element
-use Rattle.ssa_path.specs.declared.fields_fault.FieldsFault.{FieldsFault}
-use Rattle.ssa_path.specs.declared.fields_fault.FieldsFault.TheVariants.{BadElement, IndexElement, NotCanonical, OutOfMemory}
+use Rattle.ssa_path.specs.declared.element_fault.ElemFault.TheVariants.{BadElement, IndexElement, NotCanonical, OutOfMemory}
 use Rattle.ssa_path.specs.declared.trie.Trie.{Trie}
 use Rattle.ssa_path.specs.declared.trie.Trie.TheOpen.{Trie-F}
 use Rattle.ssa_path.specs.declared.trie.Trie.TheViews.{out-Trie, roll-Trie}
@@ -43,7 +41,7 @@ first-before fault [] gs h = cc
 first-before fault (f ∷ fs) gs h = h
 
 -- the first fault of some is that of all where they stand in front
-pub tells-before : (fault : FieldsFault) (fs gs : List ElementFault) → IsFirst fault fs → IsFirst fault (fs ++ gs)
+pub tells-before : (fault : ElemFault) (fs gs : List ElementFault) → IsFirst fault fs → IsFirst fault (fs ++ gs)
 tells-before BadElement fs gs h = first-before _ fs gs h
 tells-before IndexElement fs gs h = first-before _ fs gs h
 tells-before NotCanonical fs gs h = first-before _ fs gs h
@@ -56,11 +54,11 @@ pub faults-child : (n : Text) (v : Json) (ms : Members) → same_text n (codes "
 faults-child n v ms other = ap (λ b. cond b (cond (is_nothing_inside v) [] (bad_element ∷ [])) (child_faults n v) ++ member_faults json_reading ms) other
 
 -- the fault of an element is the first of its member
-pub element-fault : (f : ElemFault) (n : Text) (v : Json) → ReadsElement (Err f) n → IsFirst (fields_fault f) (child_faults n v)
-element-fault element.BadElement n v h = ap (λ r. first_fault (elim r [ Err f ↦ f ∷ [] | Ok e ↦ below_faults v ])) h
-element-fault element.IndexElement n v h = ap (λ r. first_fault (elim r [ Err f ↦ f ∷ [] | Ok e ↦ below_faults v ])) h
-element-fault element.NotCanonical n v h = ap (λ r. first_fault (elim r [ Err f ↦ f ∷ [] | Ok e ↦ below_faults v ])) h
-element-fault element.OutOfMemory n v h = tt
+pub element-fault : (f : ElemFault) (n : Text) (v : Json) → ReadsElement (Err f) n → IsFirst f (child_faults n v)
+element-fault BadElement n v h = ap (λ r. first_fault (elim r [ Err f ↦ f ∷ [] | Ok e ↦ below_faults v ])) h
+element-fault IndexElement n v h = ap (λ r. first_fault (elim r [ Err f ↦ f ∷ [] | Ok e ↦ below_faults v ])) h
+element-fault NotCanonical n v h = ap (λ r. first_fault (elim r [ Err f ↦ f ∷ [] | Ok e ↦ below_faults v ])) h
+element-fault OutOfMemory n v h = tt
 
 pub element-right : (e : Element) (n : Text) (v : Json) → element_of json_reading n ≡ Ok e → child_faults n v ≡ below_faults v
 element-right e n v h = ap (λ r. elim r [ Err f ↦ f ∷ [] | Ok d ↦ below_faults v ]) h
@@ -83,7 +81,7 @@ below-first fault v h = ap (λ b. first_fault (cond b (not_canonical ∷ []) (fi
     other : v ≢ dot_alone
     other is = let none : None ≡ Some fault = sym (ap (λ w. first_fault (fields_faults json_reading w)) is) ∙ h in cc
 
-pub below-fault : (f : FieldsFault) (v : Json) → IsFirst f (fields_faults json_reading v) → IsFirst f (below_faults v)
+pub below-fault : (f : ElemFault) (v : Json) → IsFirst f (fields_faults json_reading v) → IsFirst f (below_faults v)
 below-fault BadElement v h = below-first _ v h
 below-fault IndexElement v h = below-first _ v h
 below-fault NotCanonical v h = below-first _ v h
@@ -181,7 +179,7 @@ module _ (es : List Found) (here : Bool) (cs : List (Elem × Trie)) (e : Found) 
   faults-now = now.faults ∙ ap (λ l. member_faults json_reading (members_view l)) steps
 
   -- the fault of the next child is the first of all
-  pub child-first : (n : Text) (f : FieldsFault) → n ≡ string_bytes e.0 → same_text n (codes ".") ≡ false → IsFirst f (child_faults n (view e.1)) → IsFirst f (member_faults json_reading (members_view es))
+  pub child-first : (n : Text) (f : ElemFault) → n ≡ string_bytes e.0 → same_text n (codes ".") ≡ false → IsFirst f (child_faults n (view e.1)) → IsFirst f (member_faults json_reading (members_view es))
   child-first n f name other h =
       let n' = string_bytes e.0 in
       subst (IsFirst f) (sym (faults-now ∙ faults-child n' (view e.1) (members_view left) (ap (λ m. same_text m (codes ".")) (sym name) ∙ other)))

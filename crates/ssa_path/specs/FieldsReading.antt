@@ -11,34 +11,26 @@ use Rattle.ssa_path.specs.Trie.{is_filled, is_trie, paths}
 use Rattle.ssa_path.specs.View.{element_view}
 use Rattle.ssa_path.specs.declared.element.Elem.{Elem}
 use Rattle.ssa_path.specs.declared.element_fault.ElemFault.{ElemFault}
-use Rattle.ssa_path.specs.declared.element_fault.ElemFault.TheVariants as element
-use Rattle.ssa_path.specs.declared.fields_fault.FieldsFault.{FieldsFault}
-use Rattle.ssa_path.specs.declared.fields_fault.FieldsFault.TheVariants.{BadElement, IndexElement, NotCanonical, OutOfMemory}
+use Rattle.ssa_path.specs.declared.element_fault.ElemFault.TheVariants.{BadElement, IndexElement, NotCanonical, OutOfMemory}
 use Rattle.ssa_path.specs.declared.trie.Trie.{Trie}
-
-abbrev pub fields_fault : ElemFault → FieldsFault
-fields_fault element.BadElement = BadElement
-fields_fault element.IndexElement = IndexElement
-fields_fault element.NotCanonical = NotCanonical
-fields_fault element.OutOfMemory = OutOfMemory
 
 abbrev pub first_fault : List ElementFault → Option ElementFault
 first_fault [] = None
 first_fault (f ∷ fs) = Some f
 
 -- this is the first of the faults; where memory ran out, nothing is said
-abbrev pub IsFirst : FieldsFault → List ElementFault → Type 0
+abbrev pub IsFirst : ElemFault → List ElementFault → Type 0
 IsFirst BadElement fs = first_fault fs ≡ Some bad_element
 IsFirst IndexElement fs = first_fault fs ≡ Some index_element
 IsFirst NotCanonical fs = first_fault fs ≡ Some not_canonical
 IsFirst OutOfMemory fs = Unit {0}
 
 -- there is no fault, or this is the first
-abbrev pub TellsFirst : {A : Type 0} → Result A FieldsFault → List ElementFault → Type 0
+abbrev pub TellsFirst : {A : Type 0} → Result A ElemFault → List ElementFault → Type 0
 TellsFirst (Ok s) fs = fs ≡ []
 TellsFirst (Err f) fs = IsFirst f fs
 
-abbrev pub ReadsFields : {A : Type 0} → Result A FieldsFault → Json → Type 0
+abbrev pub ReadsFields : {A : Type 0} → Result A ElemFault → Json → Type 0
 ReadsFields r v = TellsFirst r (fields_faults json_reading v)
 
 -- ---- during the walk

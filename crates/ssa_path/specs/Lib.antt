@@ -12,3 +12,4 @@ pub mod OwnText
 pub mod FieldsReading
 pub mod FieldsWriting
 pub mod FieldsBack
+pub mod FaultCodes

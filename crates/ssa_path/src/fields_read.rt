@@ -7,8 +7,8 @@ ghost use Rattle.ssa_json.specs.View.{view, members_view};
 ghost use Rattle.ssa_path.specs.FieldsReading.{below_faults, child_faults, IsChildOf, IsPlaceBelow, IsPlaceOf, ReadsFields, TellsFirst};
 
 use crate::element::Elem;
+use crate::element_fault::ElemFault;
 use crate::field_set::FieldSet;
-use crate::fields_fault::FieldsFault;
 use crate::trie::Trie;
 use ssa_json::value::Json;
 use std::alloc::Global;
@@ -20,7 +20,7 @@ impl FieldSet {
     ///
     /// The fault is the first of them all, members in the order of their names and what is inside
     /// each before the next.
-    pub fn from_fields_v1(alloc: Global, value: &Json) -> Result<FieldSet, FieldsFault>
+    pub fn from_fields_v1(alloc: Global, value: &Json) -> Result<FieldSet, ElemFault>
         ensures answers { ReadsFields result (view value.now) }
         ensures written { IfOk result (λ s. IsWritten s (view value.now)) }
         ensures back { IfOk result (λ s. fields_json s ≡ view value.now) }
@@ -50,19 +50,19 @@ fn is_nothing_inside(value: &Json) -> bool
 
 // The place that a value says.
 #[cycle(read)]
-fn read_place(alloc: Global, value: &Json) -> Result<Trie, FieldsFault>
+fn read_place(alloc: Global, value: &Json) -> Result<Trie, ElemFault>
     ensures answers { ReadsFields result (view value.now) }
     ensures place { IfOk result (λ t. IsPlaceOf (view value.now) t) }
 {
     match value {
         Json::Object(members) => read_members(alloc, members),
-        Json::List(_) | Json::Scalar(_) => Err(FieldsFault::BadElement),
+        Json::List(_) | Json::Scalar(_) => Err(ElemFault::BadElement),
     }
 }
 
 // The place that the members of an object say.
 #[cycle(read)]
-fn read_members(alloc: Global, members: &BTreeMap<String, Json>) -> Result<Trie, FieldsFault>
+fn read_members(alloc: Global, members: &BTreeMap<String, Json>) -> Result<Trie, ElemFault>
     ensures answers { TellsFirst result (member_faults json_reading (members_view members.now.entries)) }
     ensures place { IfOk result (λ t. IsPlaceOf (object (members_view members.now.entries)) t) }
 {
@@ -72,12 +72,12 @@ fn read_members(alloc: Global, members: &BTreeMap<String, Json>) -> Result<Trie,
         if !is_dot(name.as_str()) {
             let child = read_child(alloc, name.as_str(), member)?;
             let Ok(()) = below.push(child) else {
-                return Err(FieldsFault::OutOfMemory);
+                return Err(ElemFault::OutOfMemory);
             };
             continue;
         }
         if !is_nothing_inside(member) {
-            return Err(FieldsFault::BadElement);
+            return Err(ElemFault::BadElement);
         }
         here = true;
     }
@@ -86,7 +86,7 @@ fn read_members(alloc: Global, members: &BTreeMap<String, Json>) -> Result<Trie,
 
 // The child that a member says, where the member is not `.`.
 #[cycle(read)]
-fn read_child(alloc: Global, name: &str, value: &Json) -> Result<(Elem, Trie), FieldsFault>
+fn read_child(alloc: Global, name: &str, value: &Json) -> Result<(Elem, Trie), ElemFault>
     ensures answers { TellsFirst result (child_faults name.now (view value.now)) }
     ensures child { IfOk result (λ c. IsChildOf name.now (view value.now) c) }
 {
@@ -97,7 +97,7 @@ fn read_child(alloc: Global, name: &str, value: &Json) -> Result<(Elem, Trie), F
 
 // The place that a value says under an element, where `{}` says the place alone.
 #[cycle(read)]
-fn read_below(alloc: Global, value: &Json) -> Result<Trie, FieldsFault>
+fn read_below(alloc: Global, value: &Json) -> Result<Trie, ElemFault>
     ensures answers { TellsFirst result (below_faults (view value.now)) }
     ensures place { IfOk result (λ t. IsPlaceBelow (view value.now) t) }
 {
@@ -106,7 +106,7 @@ fn read_below(alloc: Global, value: &Json) -> Result<Trie, FieldsFault>
         return Ok(place);
     }
     if place.here {
-        return Err(FieldsFault::NotCanonical);
+        return Err(ElemFault::NotCanonical);
     }
     Ok(Trie {
         here: true,

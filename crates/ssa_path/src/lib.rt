@@ -9,7 +9,6 @@ mod element_read;
 pub mod element_text;
 pub mod field_set;
 pub mod fields_back;
-pub mod fields_fault;
 mod fields_read;
 mod fields_v1;
 mod key_fields;

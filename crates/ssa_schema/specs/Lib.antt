@@ -6,3 +6,4 @@ pub mod Repeats
 pub mod Schemas
 pub mod Standings
 pub mod Words
+pub mod FaultCodes

@@ -1,5 +1,11 @@
 //! What is wrong with a value.
+ghost use Rattle.std.specs.Prelude.{◌≡◌};
+ghost use Rattle.ssa_model.specs.definitions.Faults.{body_fault_code};
+ghost use Rattle.ssa_json.specs.FaultCodes.{code_view};
+ghost use Rattle.ssa_schema.specs.Finds.{told_view};
+ghost use Rattle.ssa_schema.specs.Kinds.{names_view};
 
+use ssa_json::fault_code::FaultCode;
 use thiserror::Error;
 
 /// Why a value does not fit a schema, with the path of its place: the texts of the elements, as
@@ -23,4 +29,30 @@ pub enum BodyFault {
     /// the item's path.
     #[error("an item that is there already")]
     DuplicateItem(Vec<String>),
+}
+
+impl BodyFault {
+    /// The fault as it is told.
+    pub fn code(&self) -> FaultCode
+        ensures { code_view result ≡ body_fault_code (told_view self.now).0 }
+    {
+        match self {
+            BodyFault::UnknownField(_) => FaultCode::UnknownField,
+            BodyFault::WrongType(_) => FaultCode::WrongType,
+            BodyFault::MissingKey(_) => FaultCode::MissingKey,
+            BodyFault::DuplicateItem(_) => FaultCode::DuplicateItem,
+        }
+    }
+
+    /// The path that is told with it, by the texts of its elements.
+    pub fn path(&self) -> &[String]
+        ensures { names_view result.now ≡ (told_view self.now).1 }
+    {
+        match self {
+            BodyFault::UnknownField(path)
+            | BodyFault::WrongType(path)
+            | BodyFault::MissingKey(path)
+            | BodyFault::DuplicateItem(path) => path,
+        }
+    }
 }

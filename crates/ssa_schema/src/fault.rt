@@ -1,7 +1,10 @@
 //! Why a schema is refused.
 ghost use Rattle.std.specs.Prelude.{◌≡◌};
+ghost use Rattle.ssa_json.specs.FaultCodes.{code_view};
+ghost use Rattle.ssa_schema.specs.FaultCodes.{schema_code};
 ghost use Rattle.ssa_schema.specs.declared.fault.SchemaFault.TheVariants.{OutOfMemory};
 
+use ssa_json::fault_code::FaultCode;
 use std::alloc::{AllocError, AllocFailed};
 use thiserror::Error;
 
@@ -24,6 +27,21 @@ pub enum SchemaFault {
     /// A growth was refused.
     #[error("out of memory")]
     OutOfMemory,
+}
+
+impl SchemaFault {
+    /// The fault as it is told.
+    pub fn code(&self) -> FaultCode
+        ensures { code_view result ≡ schema_code self.now }
+    {
+        match self {
+            SchemaFault::SchemaKeyword => FaultCode::SchemaKeyword,
+            SchemaFault::SchemaShape => FaultCode::SchemaShape,
+            SchemaFault::SchemaKeys => FaultCode::SchemaKeys,
+            SchemaFault::SchemaDepth => FaultCode::SchemaDepth,
+            SchemaFault::OutOfMemory => FaultCode::OutOfMemory,
+        }
+    }
 }
 
 impl From<AllocError> for SchemaFault {

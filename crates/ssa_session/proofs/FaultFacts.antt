@@ -1,70 +1,69 @@
 -- The texts of faults.
-use Rattle.std.proofs.Common.{◌≡◌, ℕ, ◌++◌, map, refl, sym, ap, ◌∙◌}
-use Rattle.std.specs.Prelude.{Result, Ok, Err, IfOk, OnOk, is_ok, if◌then◌else◌, codes}
-use Rattle.ssa_model.specs.definitions.Json.{Text, list, object, no_members, member, compact}
+use Rattle.std.proofs.Common.{◌≡◌, ◌≢◌, [], ◌∷◌, ◌++◌, refl, sym, ap, ◌∙◌}
+use Rattle.std.specs.Prelude.{Result, Ok, Err, IfOk, codes}
+use Rattle.ssa_model.specs.definitions.Json.{Text, Json, list, object, no_members, member, compact}
 use Rattle.ssa_model.specs.definitions.Path.{Path, element_text}
 use Rattle.ssa_model.specs.definitions.Kind as kinds
-use Rattle.ssa_model.specs.definitions.Kind.{unknown_field, wrong_type, missing_key, duplicate_item}
 use Rattle.ssa_model.specs.definitions.Entries.{text_json}
 use Rattle.ssa_model.specs.definitions.History.{Bench, past_len, future_len}
 use Rattle.ssa_model.specs.definitions.Answers.{Fault, body_fault, nothing_to_undo, nothing_to_redo, Reply, fault, answer, undo, redo}
 use Rattle.ssa_model.specs.definitions.GivenEntries as entries
-use Rattle.ssa_model.specs.definitions.Replies.{with_fault, entry_fault_json, fault_json_at, fault_reply, reply_text}
-use Rattle.ssa_schema.specs.Finds.{told, told_view}
+use Rattle.ssa_model.specs.definitions.Faults as code
+use Rattle.ssa_model.specs.definitions.Faults.{Code, number_of, body_fault_code}
+use Rattle.ssa_model.specs.definitions.Replies.{number_json, with_fault, fault_json, entry_fault_json, fault_reply, reply_text}
+use Rattle.ssa_schema.specs.Finds.{told}
 use Rattle.ssa_schema.specs.declared.body_fault.BodyFault.{BodyFault}
-use Rattle.ssa_bench.specs.Faults.{IsFault}
+use Rattle.ssa_bench.specs.Faults.{IsFault, bench_code}
 use Rattle.ssa_merge.specs.GivenEntries.{IsEntryFault}
 use Rattle.ssa_merge.specs.declared.entry_fault.EntryFault.{EntryFault}
 use Rattle.ssa_merge.specs.declared.entry_fault.EntryFault.TheVariants as faults
-use Rattle.ssa_bench.specs.declared.fault.Fault.TheVariants.{Body, Entry}
-use Rattle.ssa_session.specs.Replies.{names_json, told_json, entry_fault_text}
+use Rattle.ssa_bench.specs.declared.fault.Fault as engine
+use Rattle.ssa_bench.specs.declared.fault.Fault.TheVariants.{Body, Conflict, Entry, OutOfMemory}
+use Rattle.ssa_session.specs.Replies.{bench_json, code_members, name_end, told_json, entry_json}
 use Rattle.ssa_session.proofs.ReplyFacts.{items_json-map}
+
+-- ---- a code's text
+
+pub code-text : (c : Code) → 123 ∷ (code_members c ++ 125 ∷ []) ≡ compact (fault_json c)
+code-text code.not_json = refl
+code-text _ = refl
+
+-- the same of a line
+pub code-line : (c : Code) → (codes "{\"fault\":" ++ compact (number_json (number_of c))) ++ name_end c ≡ compact (fault_json c) ++ 10 ∷ []
+code-line code.not_json = refl
+code-line _ = refl
+
+-- and of a fault with a path
+pub code-text-at : (c : Code) (path : Json) → 123 ∷ (code_members c ++ (codes ",\"path\":" ++ (compact path ++ 125 ∷ []))) ≡ compact (object (with_fault c (member (codes "path") path no_members)))
+code-text-at code.not_json path = refl
+code-text-at _ path = refl
 
 -- ---- a fault with its path
 
-at_path : (number : ℕ) (name : Text) (p : Path) → object (with_fault number name (member (codes "path") (names_json (map element_text p)) no_members)) ≡ fault_json_at number name p
-at_path number name p = ap (λ vs. object (with_fault number name (member (codes "path") (list vs) no_members))) (sym (items_json-map text_json element_text p))
-
 told_json-told : (f : kinds.BodyFault) (p : Path) → told_json (told (kinds.fault_at f p)) ≡ fault_reply (body_fault f p)
-told_json-told unknown_field p = at_path 20 (codes "UnknownField") p
-told_json-told wrong_type p = at_path 21 (codes "WrongType") p
-told_json-told missing_key p = at_path 22 (codes "MissingKey") p
-told_json-told duplicate_item p = at_path 23 (codes "DuplicateItem") p
-
-pub body_fault-written : {T E : Type 0} (r : Result T E) (old new : Text) (f : BodyFault) (IsTold : Fault → Type 0) → ((g : Fault) → IsTold g → IsFault (Body f) g)
-    → OnOk r (new ≡ old ++ compact (told_json (told_view f))) → OnOk r ((g : Fault) → IsTold g → new ≡ old ++ compact (fault_reply g))
-body_fault-written (Ok x) old new f IsTold is_told is =
-    λ g h. let t = is_told g h in is ∙ ap (λ v. old ++ compact v) (ap told_json t.2 ∙ told_json-told t.0.fault t.0.path ∙ ap fault_reply (sym t.1))
-body_fault-written (Err e) old new f IsTold is_told is = tt
+told_json-told f p = ap (λ vs. object (with_fault (body_fault_code f) (member (codes "path") (list vs) no_members))) (sym (items_json-map text_json element_text p))
 
 -- ---- faults of entries
 
-entry_fault-text : (f : EntryFault) (h : entries.EntryFault) → IsEntryFault f h → entry_fault_text f ≡ compact (entry_fault_json h)
-entry_fault-text faults.TooManyManagers h is = ap (λ e. compact (entry_fault_json e)) (sym is)
-entry_fault-text faults.BadEntry h is = ap (λ e. compact (entry_fault_json e)) (sym is)
-entry_fault-text faults.ManagerName h is = ap (λ e. compact (entry_fault_json e)) (sym is)
-entry_fault-text faults.OtherVersion h is = ap (λ e. compact (entry_fault_json e)) (sym is)
-entry_fault-text faults.BadMoment h is = ap (λ e. compact (entry_fault_json e)) (sym is)
-entry_fault-text faults.BadElement h is = ap (λ e. compact (entry_fault_json e)) (sym is)
-entry_fault-text faults.IndexElement h is = ap (λ e. compact (entry_fault_json e)) (sym is)
-entry_fault-text faults.NotCanonical h is = ap (λ e. compact (entry_fault_json e)) (sym is)
-entry_fault-text faults.EmptyEntry h is = ap (λ e. compact (entry_fault_json e)) (sym is)
-entry_fault-text (faults.AbsentPath p) h is = ap (λ e. compact (entry_fault_json e)) (sym is)
-entry_fault-text faults.DuplicateManager h is = ap (λ e. compact (entry_fault_json e)) (sym is)
-entry_fault-text faults.OutOfMemory h is = absurd is
+entry_fault-json : (f : EntryFault) (h : entries.EntryFault) → IsEntryFault f h → entry_json f ≡ entry_fault_json h
+entry_fault-json (faults.AbsentPath p) h is = ap entry_fault_json (sym is)
+entry_fault-json faults.OutOfMemory h is = absurd is
+entry_fault-json _ h is = ap entry_fault_json (sym is)
 
-pub entry_fault-written : {T E : Type 0} (r : Result T E) (old new : Text) (f : EntryFault) (IsTold : Fault → Type 0) → ((g : Fault) → IsTold g → IsFault (Entry f) g)
-    → OnOk r (new ≡ old ++ entry_fault_text f) → OnOk r ((g : Fault) → IsTold g → new ≡ old ++ compact (fault_reply g))
-entry_fault-written (Ok x) old new f IsTold is_told is =
-    λ g h. let t = is_told g h in is ∙ ap (λ t. old ++ t) (entry_fault-text f t.0 t.2 ∙ ap (λ k. compact (fault_reply k)) (sym t.1))
-entry_fault-written (Err e) old new f IsTold is_told is = tt
+-- ---- faults of commands and objects
 
--- ---- other faults
+-- told by its number and its name alone
+pub plain-json : (f : engine.Fault) → ((b : BodyFault) → f ≢ Body b) → ((cs : _) → f ≢ Conflict cs) → ((e : EntryFault) → f ≢ Entry e) → fault_json (bench_code f) ≡ bench_json f
+plain-json (Body b) body clashes entry = absurd (body b refl)
+plain-json (Conflict cs) body clashes entry = absurd (clashes cs refl)
+plain-json (Entry e) body clashes entry = absurd (entry e refl)
+plain-json _ body clashes entry = refl
 
-pub fault-written : {T E : Type 0} (r : Result T E) (old new xs : Text) (f : Fault) (IsTold : Fault → Type 0) → ((g : Fault) → IsTold g → g ≡ f) → new ≡ (if is_ok r then old ++ xs else old) → xs ≡ compact (fault_reply f)
-    → OnOk r ((g : Fault) → IsTold g → new ≡ old ++ compact (fault_reply g))
-fault-written (Ok x) old new xs f IsTold is_told is same = λ g h. is ∙ ap (λ t. old ++ t) (same ∙ ap (λ k. compact (fault_reply k)) (sym (is_told g h)))
-fault-written (Err e) old new xs f IsTold is_told is same = tt
+pub bench_json-told : (f : engine.Fault) (g : Fault) → IsFault f g → bench_json f ≡ fault_reply g
+bench_json-told (Body f) g is = ap told_json is.2 ∙ told_json-told is.0.fault is.0.path ∙ ap fault_reply (sym is.1)
+bench_json-told (Entry f) g is = entry_fault-json f is.0 is.2 ∙ ap fault_reply (sym is.1)
+bench_json-told OutOfMemory g is = absurd is
+bench_json-told _ g is = ap fault_reply (sym is)
 
 -- ---- refused moves
 

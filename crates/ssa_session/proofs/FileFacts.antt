@@ -43,18 +43,8 @@ by-object s bytes v r is e = ap (λ x. elim x [ Ok w ↦ bench_or_fault (answers
 
 pub object-refused : (f : engine.Fault) (s : Schema) (bytes : Text) (v : Json) → value_of_file readings bytes ≡ Ok v → IsGiven {A = Bench} (Err f) (answers.bench_of readings s v)
     → IsGivenFile {A = Bench} (Err (object_fault f)) (bench_of_file readings s bytes)
-object-refused (bench.Body b) s bytes v is h = (of_object h.0, by-object s bytes v _ is h.1, (h.0, refl, h.2))
-object-refused bench.TooManyPaths s bytes v is h = (of_object h.0, by-object s bytes v _ is h.1, (h.0, refl, h.2))
-object-refused bench.Identity s bytes v is h = (of_object h.0, by-object s bytes v _ is h.1, (h.0, refl, h.2))
-object-refused bench.ManagedFieldsGiven s bytes v is h = (of_object h.0, by-object s bytes v _ is h.1, (h.0, refl, h.2))
-object-refused (bench.Entry f) s bytes v is h = (of_object h.0, by-object s bytes v _ is h.1, (h.0, refl, h.2))
-object-refused bench.ManagerName s bytes v is h = (of_object h.0, by-object s bytes v _ is h.1, (h.0, refl, h.2))
-object-refused bench.HistoryFull s bytes v is h = (of_object h.0, by-object s bytes v _ is h.1, (h.0, refl, h.2))
-object-refused bench.NothingToUndo s bytes v is h = (of_object h.0, by-object s bytes v _ is h.1, (h.0, refl, h.2))
-object-refused bench.NothingToRedo s bytes v is h = (of_object h.0, by-object s bytes v _ is h.1, (h.0, refl, h.2))
-object-refused (bench.Conflict cs) s bytes v is h = (of_object h.0, by-object s bytes v _ is h.1, (h.0, refl, h.2))
-object-refused bench.TooManyManagers s bytes v is h = (of_object h.0, by-object s bytes v _ is h.1, (h.0, refl, h.2))
 object-refused bench.OutOfMemory s bytes v is h = tt
+object-refused _ s bytes v is h = (of_object h.0, by-object s bytes v _ is h.1, (h.0, refl, h.2))
 
 -- ---- a bench that is made has one state
 

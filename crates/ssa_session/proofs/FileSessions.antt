@@ -34,29 +34,11 @@ module _ (made : Result Bench model.FileFault) (line : Text) (Writes : List ℕ 
   told-by f h told w = record { fault = h.0; is_refused = h.1; writes = subst (λ l. Writes (l ++ line_feed ∷ [])) (told h.0 h.2) w }
 
   refusal : (f : files.FileFault) → IsGivenFile {A = Bench} (Err f) made → IsTold f line → Writes (line ++ line_feed ∷ []) → IsRefusal made Writes
-  refusal (fault.Json json.TooLong) h told w = told-by (fault.Json json.TooLong) h told w
-  refusal (fault.Json json.NotJson) h told w = told-by (fault.Json json.NotJson) h told w
-  refusal (fault.Json json.NullValue) h told w = told-by (fault.Json json.NullValue) h told w
-  refusal (fault.Json json.NumberOutside) h told w = told-by (fault.Json json.NumberOutside) h told w
   refusal (fault.Json json.OutOfMemory) h told w = absurd told
-  refusal (fault.Schema schema.SchemaKeyword) h told w = told-by (fault.Schema schema.SchemaKeyword) h told w
-  refusal (fault.Schema schema.SchemaShape) h told w = told-by (fault.Schema schema.SchemaShape) h told w
-  refusal (fault.Schema schema.SchemaKeys) h told w = told-by (fault.Schema schema.SchemaKeys) h told w
-  refusal (fault.Schema schema.SchemaDepth) h told w = told-by (fault.Schema schema.SchemaDepth) h told w
   refusal (fault.Schema schema.OutOfMemory) h told w = absurd told
-  refusal (fault.Object (bench.Body b)) h told w = told-by (fault.Object (bench.Body b)) h told w
-  refusal (fault.Object bench.TooManyPaths) h told w = told-by (fault.Object bench.TooManyPaths) h told w
-  refusal (fault.Object bench.Identity) h told w = told-by (fault.Object bench.Identity) h told w
-  refusal (fault.Object bench.ManagedFieldsGiven) h told w = told-by (fault.Object bench.ManagedFieldsGiven) h told w
-  refusal (fault.Object (bench.Entry e)) h told w = told-by (fault.Object (bench.Entry e)) h told w
-  refusal (fault.Object bench.ManagerName) h told w = told-by (fault.Object bench.ManagerName) h told w
-  refusal (fault.Object bench.HistoryFull) h told w = told-by (fault.Object bench.HistoryFull) h told w
-  refusal (fault.Object bench.NothingToUndo) h told w = told-by (fault.Object bench.NothingToUndo) h told w
-  refusal (fault.Object bench.NothingToRedo) h told w = told-by (fault.Object bench.NothingToRedo) h told w
-  refusal (fault.Object (bench.Conflict cs)) h told w = told-by (fault.Object (bench.Conflict cs)) h told w
-  refusal (fault.Object bench.TooManyManagers) h told w = told-by (fault.Object bench.TooManyManagers) h told w
   refusal (fault.Object bench.OutOfMemory) h told w = absurd told
   refusal fault.OutOfMemory h told w = absurd told
+  refusal f h told w = told-by f h told w
 
 module _ (made : Result Bench model.FileFault) (f : files.FileFault) (given : IsGivenFile {A = Bench} (Err f) made) (left written written_after : Option (List ℕ)) where
   -- the fault was told

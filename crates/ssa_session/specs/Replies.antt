@@ -1,20 +1,23 @@
--- Parts of replies as JSON values, and the replies to lines that are no commands.
-use Rattle.std.specs.Prelude.{ℕ, List, codes}
+-- Parts of replies as JSON values and as texts, and how faults are told.
+use Rattle.std.specs.Prelude.{List, [], ◌∷◌, ◌++◌, codes}
 use Rattle.ssa_model.specs.definitions.Json.{Text, Json, object, member, no_members, compact}
-use Rattle.ssa_model.specs.definitions.Kind.{BodyFault, unknown_field, wrong_type, missing_key, duplicate_item}
+use Rattle.ssa_model.specs.definitions.Path.{Path}
 use Rattle.ssa_model.specs.definitions.PathMap.{PathSet}
 use Rattle.ssa_model.specs.definitions.Entries.{text_json}
 use Rattle.ssa_model.specs.definitions.Operations.{conflict}
-use Rattle.ssa_model.specs.definitions.GivenEntries as entries
-use Rattle.ssa_model.specs.definitions.Readings.{not_json, null_value, number_outside}
-use Rattle.ssa_model.specs.definitions.Replies.{list_json, clash_json, entry_fault_json, refusal_json, with_fault}
-use Rattle.ssa_model.specs.definitions.Session.{unread, bad_moment, command_shape, of_element, line_fault_json, out_of_memory_text}
-use Rattle.ssa_model.specs.definitions.ElementTexts.{bad_element, index_element, not_canonical}
-use Rattle.ssa_schema.specs.Finds.{Told}
+use Rattle.ssa_model.specs.definitions.Faults as code
+use Rattle.ssa_model.specs.definitions.Faults.{Code, number_of, name_of, body_fault_code}
+use Rattle.ssa_model.specs.definitions.Replies.{number_json, list_json, clash_json, refusal_json, with_fault, fault_json, fault_json_at}
+use Rattle.ssa_model.specs.definitions.Lines.{line_feed}
+use Rattle.ssa_schema.specs.Finds.{Told, told_view}
+use Rattle.ssa_merge.specs.GivenEntries.{entry_code}
 use Rattle.ssa_merge.specs.Managers.{clashes_view}
 use Rattle.ssa_merge.specs.declared.manager.ManagerKey.{ManagerKey}
 use Rattle.ssa_merge.specs.declared.entry_fault.EntryFault.{EntryFault}
-use Rattle.ssa_merge.specs.declared.entry_fault.EntryFault.TheVariants as fault
+use Rattle.ssa_merge.specs.declared.entry_fault.EntryFault.TheVariants.{AbsentPath}
+use Rattle.ssa_bench.specs.Faults.{bench_code}
+use Rattle.ssa_bench.specs.declared.fault.Fault.{Fault}
+use Rattle.ssa_bench.specs.declared.fault.Fault.TheVariants.{Body, Conflict, Entry}
 use Rattle.ssa_session.specs.declared.read_command.LineFault.{LineFault}
 use Rattle.ssa_session.specs.declared.read_command.LineFault.TheVariants.{NotJson, NullValue, NumberOutside, BadMoment, CommandShape, BadElement, IndexElement, NotCanonical, OutOfMemory}
 
@@ -22,21 +25,26 @@ use Rattle.ssa_session.specs.declared.read_command.LineFault.TheVariants.{NotJso
 abbrev pub names_json : List Text → Json
 names_json = list_json text_json
 
-abbrev pub body_fault_number : BodyFault → ℕ
-body_fault_number unknown_field = 20
-body_fault_number wrong_type = 21
-body_fault_number missing_key = 22
-body_fault_number duplicate_item = 23
+-- ---- faults
 
-abbrev pub body_fault_name : BodyFault → Text
-body_fault_name unknown_field = codes "UnknownField"
-body_fault_name wrong_type = codes "WrongType"
-body_fault_name missing_key = codes "MissingKey"
-body_fault_name duplicate_item = codes "DuplicateItem"
+-- the text of the members that a fault has in each reply
+abbrev pub code_members : Code → Text
+code_members c = codes "\"fault\":" ++ (compact (number_json (number_of c)) ++ (codes ",\"name\":\"" ++ (name_of c ++ codes "\"")))
+
+-- the line of a fault, from behind its number on
+abbrev pub name_end : Code → Text
+name_end c = (codes ",\"name\":\"" ++ name_of c) ++ (codes "\"}" ++ line_feed ∷ [])
 
 -- a fault whose path is told by the texts of its elements
+abbrev pub named_fault_json : Code → List Text → Json
+named_fault_json c names = object (with_fault c (member (codes "path") (names_json names) no_members))
+
 abbrev pub told_json : Told → Json
-told_json t = object (with_fault (body_fault_number t.0) (body_fault_name t.0) (member (codes "path") (names_json t.1) no_members))
+told_json t = named_fault_json (body_fault_code t.0) t.1
+
+abbrev pub entry_json : EntryFault → Json
+entry_json (AbsentPath p) = fault_json_at (entry_code (AbsentPath p)) p
+entry_json f = fault_json (entry_code f)
 
 abbrev pub clashes_json : List (ManagerKey × PathSet) → Json
 clashes_json cs = list_json clash_json (clashes_view cs)
@@ -44,27 +52,20 @@ clashes_json cs = list_json clash_json (clashes_view cs)
 abbrev pub conflict_json : List (ManagerKey × PathSet) → Json
 conflict_json cs = refusal_json (conflict (clashes_view cs))
 
-abbrev pub line_fault_text : LineFault → Text
-line_fault_text NotJson = compact (line_fault_json (unread not_json))
-line_fault_text NullValue = compact (line_fault_json (unread null_value))
-line_fault_text NumberOutside = compact (line_fault_json (unread number_outside))
-line_fault_text BadMoment = compact (line_fault_json bad_moment)
-line_fault_text CommandShape = compact (line_fault_json command_shape)
-line_fault_text BadElement = compact (line_fault_json (of_element bad_element))
-line_fault_text IndexElement = compact (line_fault_json (of_element index_element))
-line_fault_text NotCanonical = compact (line_fault_json (of_element not_canonical))
-line_fault_text OutOfMemory = out_of_memory_text
+-- what is told of a refused command, or of an object
+abbrev pub bench_json : Fault → Json
+bench_json (Body f) = told_json (told_view f)
+bench_json (Conflict cs) = conflict_json cs.items
+bench_json (Entry f) = entry_json f
+bench_json f = fault_json (bench_code f)
 
-abbrev pub entry_fault_text : EntryFault → Text
-entry_fault_text fault.TooManyManagers = compact (entry_fault_json entries.too_many_managers)
-entry_fault_text fault.BadEntry = compact (entry_fault_json entries.bad_entry)
-entry_fault_text fault.ManagerName = compact (entry_fault_json entries.manager_name)
-entry_fault_text fault.OtherVersion = compact (entry_fault_json entries.other_version)
-entry_fault_text fault.BadMoment = compact (entry_fault_json entries.bad_moment)
-entry_fault_text fault.BadElement = compact (entry_fault_json (entries.of_fields bad_element))
-entry_fault_text fault.IndexElement = compact (entry_fault_json (entries.of_fields index_element))
-entry_fault_text fault.NotCanonical = compact (entry_fault_json (entries.of_fields not_canonical))
-entry_fault_text fault.EmptyEntry = compact (entry_fault_json entries.empty_entry)
-entry_fault_text (fault.AbsentPath p) = compact (entry_fault_json (entries.absent_path p))
-entry_fault_text fault.DuplicateManager = compact (entry_fault_json entries.duplicate_manager)
-entry_fault_text fault.OutOfMemory = out_of_memory_text
+abbrev pub line_code : LineFault → Code
+line_code NotJson = code.not_json
+line_code NullValue = code.null_value
+line_code NumberOutside = code.number_outside
+line_code BadMoment = code.bad_moment
+line_code CommandShape = code.command_shape
+line_code BadElement = code.bad_element
+line_code IndexElement = code.index_element
+line_code NotCanonical = code.not_canonical
+line_code OutOfMemory = code.out_of_memory

@@ -10,7 +10,8 @@ ghost use Rattle.ssa_bench.specs.Faults.{IsFault};
 ghost use Rattle.ssa_session.specs.Commands.{command_view};
 
 use crate::command::Command;
-use crate::fault_text::{fault_text, line_fault_text};
+use crate::fault_line::code_text;
+use crate::fault_text::fault_text;
 use crate::log_text::log_text;
 use crate::machine::Machine;
 use crate::read_command::{LineFault, read_command};
@@ -187,7 +188,7 @@ impl Machine for Bench {
             }
             Err(LineFault::OutOfMemory) => Err(AllocError),
             Err(fault) => {
-                let text = line_fault_text(alloc, &fault)?;
+                let text = code_text(alloc, fault.code())?;
                 Ok(text)
             }
         }

@@ -7,10 +7,12 @@ ghost use Rattle.ssa_file.specs.Held.{Holds};
 ghost use Rattle.ssa_session.specs.Session.{AnswersLine};
 ghost use Rattle.ssa_session.specs.Outcome.{AnswersAll, AnswersWhole, AnswersPartly};
 
+use crate::fault_line::write_fault;
 use crate::machine::Machine;
-use crate::write_line::{write_line, write_reply};
+use crate::write_line::write_reply;
 use ssa_file::line::Line;
 use ssa_file::read_line::{LineEnd, read_line};
+use ssa_json::fault_code::FaultCode;
 use ssa_json::sink::Sink;
 use ssa_json::source::{DeviceFault, Source};
 use std::alloc::Global;
@@ -26,12 +28,6 @@ pub enum SessionFault {
 
 /// The most bytes of a line, without its line feed.
 pub const LINE_LIMIT: usize = 1_048_576;
-
-/// The reply to a line that is too long.
-pub const TOO_LONG: &[u8] = b"{\"fault\":4,\"name\":\"TooLong\"}";
-
-/// The reply to a line that counts as not given, since a growth was refused.
-pub const OUT_OF_MEMORY: &[u8] = b"{\"fault\":5,\"name\":\"OutOfMemory\"}";
 
 /// Answers each line of the input, and writes the replies, each ended by a line feed and flushed. Bytes
 /// after the last line feed are a line too, once the input has ended. Holds one line at a time.
@@ -99,11 +95,11 @@ fn answer_line<W: Sink, M: Machine>(
     ensures failed { OnErr result (W.has_failed writer.new ≡ true) }
 {
     match line {
-        Line::TooLong => write_line(writer, TOO_LONG),
-        Line::OutOfMemory => write_line(writer, OUT_OF_MEMORY),
+        Line::TooLong => write_fault(writer, FaultCode::TooLong),
+        Line::OutOfMemory => write_fault(writer, FaultCode::OutOfMemory),
         Line::Kept(bytes) => match machine.answer(alloc, bytes) {
             Ok(text) => write_reply(writer, text),
-            Err(_) => write_line(writer, OUT_OF_MEMORY),
+            Err(_) => write_fault(writer, FaultCode::OutOfMemory),
         },
     }
 }

@@ -1,21 +1,22 @@
 //! A bench from a schema file and an object file, and a session on it.
 ghost use Rattle.std.specs.Prelude.{◌≡◌, ◌++◌, ◌∷◌, [], ◌⊎◌, Ok, Err, IfOk, OnErr, OnOk, OnSome, true};
 ghost use Rattle.std.specs.Io.KnownBytes.{Appends, IsAtEnd};
-ghost use Rattle.ssa_model.specs.definitions.Files as model;
-ghost use Rattle.ssa_model.specs.definitions.Files.{bench_of_file, file_fault_text, schema_of_file, value_of_file};
+ghost use Rattle.ssa_model.specs.definitions.Files.{bench_of_file, schema_of_file, value_of_file};
 ghost use Rattle.ssa_json.specs.Devices.{AppendsPart};
 ghost use Rattle.ssa_json.specs.Readings.{readings};
 ghost use Rattle.ssa_json.specs.View.{view};
-ghost use Rattle.ssa_session.specs.Files.{IsFileFault, IsGivenFile, IsGivenValue, IsTold, json_fault, schema_fault, object_fault};
+ghost use Rattle.ssa_session.specs.Files.{IsGivenFile, IsGivenValue, IsTold, json_fault, schema_fault, object_fault};
 ghost use Rattle.ssa_session.specs.FileSessions.{IsHeld, IsTelling};
 
 use crate::bench_session::session;
-use crate::engine::{OUT_OF_MEMORY, SessionFault, TOO_LONG};
-use crate::fault_text::{NOT_JSON, NULL_VALUE, NUMBER_OUTSIDE, fault_text};
-use crate::write_line::{write_line, write_reply};
+use crate::engine::SessionFault;
+use crate::fault_line::{code_text, write_fault};
+use crate::fault_text::fault_text;
+use crate::write_line::write_reply;
 use ssa_bench::bench::Bench;
 use ssa_bench::fault::Fault;
 use ssa_json::fault::JsonFault;
+use ssa_json::fault_code::FaultCode;
 use ssa_json::sink::Sink;
 use ssa_json::source::{DeviceFault, Source};
 use ssa_json::value::Json;
@@ -121,30 +122,6 @@ pub fn bench_of(alloc: Global, schema: Schema, bytes: &[u8]) -> Result<Bench, Fi
     }
 }
 
-fn json_fault_text(fault: &JsonFault) -> &'static [u8]
-    ensures { (g : model.FileFault) → IsFileFault (FileFault.Json fault.now) g → result.now ≡ file_fault_text g }
-{
-    match fault {
-        JsonFault::NotJson => NOT_JSON,
-        JsonFault::NullValue => NULL_VALUE,
-        JsonFault::NumberOutside => NUMBER_OUTSIDE,
-        JsonFault::TooLong => TOO_LONG,
-        JsonFault::OutOfMemory => OUT_OF_MEMORY,
-    }
-}
-
-fn schema_fault_text(fault: &SchemaFault) -> &'static [u8]
-    ensures { (g : model.FileFault) → IsFileFault (FileFault.Schema fault.now) g → result.now ≡ file_fault_text g }
-{
-    match fault {
-        SchemaFault::SchemaKeyword => b"{\"fault\":10,\"name\":\"SchemaKeyword\"}",
-        SchemaFault::SchemaShape => b"{\"fault\":11,\"name\":\"SchemaShape\"}",
-        SchemaFault::SchemaKeys => b"{\"fault\":12,\"name\":\"SchemaKeys\"}",
-        SchemaFault::SchemaDepth => b"{\"fault\":13,\"name\":\"SchemaDepth\"}",
-        SchemaFault::OutOfMemory => OUT_OF_MEMORY,
-    }
-}
-
 // The line of a file's fault; none where memory ran out, now or before.
 fn told(alloc: Global, fault: &FileFault) -> Result<Vec<u8>, AllocError>
     ensures { IfOk result (λ text. IsTold fault.now text.items) }
@@ -154,8 +131,8 @@ fn told(alloc: Global, fault: &FileFault) -> Result<Vec<u8>, AllocError>
         | FileFault::Schema(SchemaFault::OutOfMemory)
         | FileFault::Object(Fault::OutOfMemory)
         | FileFault::OutOfMemory => Err(AllocError),
-        FileFault::Json(fault) => json_fault_text(fault).to_vec(alloc),
-        FileFault::Schema(fault) => schema_fault_text(fault).to_vec(alloc),
+        FileFault::Json(fault) => code_text(alloc, fault.code()),
+        FileFault::Schema(fault) => code_text(alloc, fault.code()),
         FileFault::Object(fault) => fault_text(alloc, fault),
     }
 }
@@ -176,7 +153,7 @@ pub fn tell<W: Sink>(
             Ok(Ending::Refused)
         }
         Err(_) => {
-            write_line(writer, OUT_OF_MEMORY)?;
+            write_fault(writer, FaultCode::OutOfMemory)?;
             Ok(Ending::OutOfMemory)
         }
     }

@@ -7,6 +7,7 @@ pub mod command;
 pub mod command_shape;
 pub mod engine;
 pub mod entry_fault_text;
+pub mod fault_line;
 pub mod fault_text;
 pub mod files;
 pub mod json_text;

@@ -4,8 +4,10 @@ ghost use Rattle.ssa_json.specs.View.{view, members_view};
 ghost use Rattle.ssa_model.specs.definitions.Json.{object, as_text, member_of};
 ghost use Rattle.ssa_model.specs.definitions.Session.{read_command, read_line};
 ghost use Rattle.ssa_model.specs.definitions.Commands.{word_of, follows_rule, truth_in};
+ghost use Rattle.ssa_json.specs.FaultCodes.{code_view};
 ghost use Rattle.ssa_json.specs.Readings.{readings};
 ghost use Rattle.ssa_session.specs.Commands.{word_text, rule_at, HasRequest, ReadsCommand, Requests};
+ghost use Rattle.ssa_session.specs.Replies.{line_code};
 ghost use Rattle.ssa_session.specs.declared.read_command.LineFault.TheVariants.{OutOfMemory};
 
 use crate::command::Command;
@@ -13,6 +15,7 @@ use crate::command_shape::{Word, follows_rule, list_of, text_of, word_of};
 use crate::path_texts::path_of_texts;
 use ssa_bench::command as bench;
 use ssa_json::fault::JsonFault;
+use ssa_json::fault_code::FaultCode;
 use ssa_json::members::find_member;
 use ssa_json::moment::Moment;
 use ssa_json::value::{Json, Scalar};
@@ -52,6 +55,25 @@ pub enum LineFault {
     /// A growth was refused.
     #[error("out of memory")]
     OutOfMemory,
+}
+
+impl LineFault {
+    /// The fault as it is told.
+    pub fn code(&self) -> FaultCode
+        ensures { code_view result ≡ line_code self.now }
+    {
+        match self {
+            LineFault::NotJson => FaultCode::NotJson,
+            LineFault::NullValue => FaultCode::NullValue,
+            LineFault::NumberOutside => FaultCode::NumberOutside,
+            LineFault::BadMoment => FaultCode::BadMoment,
+            LineFault::CommandShape => FaultCode::CommandShape,
+            LineFault::BadElement => FaultCode::BadElement,
+            LineFault::IndexElement => FaultCode::IndexElement,
+            LineFault::NotCanonical => FaultCode::NotCanonical,
+            LineFault::OutOfMemory => FaultCode::OutOfMemory,
+        }
+    }
 }
 
 impl From<AllocError> for LineFault {

@@ -1,8 +1,8 @@
 //! Tests of sets of paths as FieldsV1.
 use crate::support::{are_told, listed, printed, value};
+use ssa_path::element_fault::ElemFault;
 use ssa_path::field_set::FieldSet;
 use ssa_path::fields_back::canonical_is_read;
-use ssa_path::fields_fault::FieldsFault;
 use std::alloc::Global;
 use std::test::Fail;
 
@@ -59,10 +59,10 @@ const REFUSED: [(&str, &str); 8] = [
 fn fault_name(alloc: Global, text: &str) -> Result<String, Fail> {
     let told = match FieldSet::from_fields_v1(alloc, &value(alloc, text)?) {
         Ok(_) => "read",
-        Err(FieldsFault::BadElement) => "BadElement",
-        Err(FieldsFault::IndexElement) => "IndexElement",
-        Err(FieldsFault::NotCanonical) => "NotCanonical",
-        Err(FieldsFault::OutOfMemory) => "OutOfMemory",
+        Err(ElemFault::BadElement) => "BadElement",
+        Err(ElemFault::IndexElement) => "IndexElement",
+        Err(ElemFault::NotCanonical) => "NotCanonical",
+        Err(ElemFault::OutOfMemory) => "OutOfMemory",
     };
     Ok(String::from_str(alloc, told)?)
 }

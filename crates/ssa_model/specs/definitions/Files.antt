@@ -1,12 +1,14 @@
 -- What a schema file and an object file say: a bench, or the first fault.
-use Rattle.std.specs.Prelude.{Result, Ok, Err, if◌then◌else◌, nat_lt, length, codes}
+use Rattle.std.specs.Prelude.{Result, Ok, Err, if◌then◌else◌, nat_lt, length}
 use Rattle.ssa_model.specs.definitions.Json.{Text, Json, compact}
 use Rattle.ssa_model.specs.definitions.Limits.{most_input_bytes}
 use Rattle.ssa_model.specs.definitions.Schema.{SchemaFault, read_schema, Schema}
 use Rattle.ssa_model.specs.definitions.History.{Bench}
 use Rattle.ssa_model.specs.definitions.Readings.{ReadFault, Readings}
 use Rattle.ssa_model.specs.definitions.Answers as answers
-use Rattle.ssa_model.specs.definitions.Replies.{fault_json, fault_reply, read_fault_json, schema_fault_json}
+use Rattle.ssa_model.specs.definitions.Faults as code
+use Rattle.ssa_model.specs.definitions.Faults.{Code, read_fault_code, schema_fault_code, fault_code}
+use Rattle.ssa_model.specs.definitions.Replies.{fault_json, fault_reply}
 
 -- why a file is refused
 pub data FileFault : Type 0 where
@@ -15,11 +17,15 @@ pub data FileFault : Type 0 where
   of_schema : SchemaFault → FileFault
   of_object : answers.Fault → FileFault
 
+abbrev pub file_fault_code : FileFault → Code
+file_fault_code too_long = code.too_long
+file_fault_code (unread f) = read_fault_code f
+file_fault_code (of_schema f) = schema_fault_code f
+file_fault_code (of_object f) = fault_code f
+
 abbrev pub file_fault_json : FileFault → Json
-file_fault_json too_long = fault_json 4 (codes "TooLong")
-file_fault_json (unread f) = read_fault_json f
-file_fault_json (of_schema f) = schema_fault_json f
 file_fault_json (of_object f) = fault_reply f
+file_fault_json f = fault_json (file_fault_code f)
 
 -- the line that tells of the fault, without its line feed
 abbrev pub file_fault_text : FileFault → Text

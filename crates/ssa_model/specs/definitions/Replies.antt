@@ -3,17 +3,13 @@ use Rattle.std.specs.Prelude.{ℕ, List, [], ◌∷◌, codes, pos}
 use Rattle.ssa_model.specs.definitions.Json.{Text, whole, truth, Json, scalar, list, object, Items, no_items, item, Members, no_members, member, compact}
 use Rattle.ssa_model.specs.definitions.Path.{Path, element_text}
 use Rattle.ssa_model.specs.definitions.PathMap.{PathSet, paths}
-use Rattle.ssa_model.specs.definitions.Kind.{BodyFault, unknown_field, wrong_type, missing_key, duplicate_item}
 use Rattle.ssa_model.specs.definitions.Table.{ManagerKey}
-use Rattle.ssa_model.specs.definitions.Operations.{Clash, Refusal, conflict, too_many_paths, too_many_managers}
+use Rattle.ssa_model.specs.definitions.Operations.{Clash, Refusal, conflict}
 use Rattle.ssa_model.specs.definitions.Entries.{operation_text, text_json}
 use Rattle.ssa_model.specs.definitions.History.{Label, applied, updated, stripped}
-use Rattle.ssa_model.specs.definitions.Readings.{ReadFault, not_json, null_value, number_outside}
-use Rattle.ssa_model.specs.definitions.Schema.{SchemaFault, schema_keyword, schema_shape, schema_keys, schema_depth}
-use Rattle.ssa_model.specs.definitions.ElementTexts.{ElementFault, bad_element, index_element, not_canonical}
-use Rattle.ssa_model.specs.definitions.GivenEntries as entries
-use Rattle.ssa_model.specs.definitions.GivenEntries.{EntryFault}
-use Rattle.ssa_model.specs.definitions.Answers.{Fault, body_fault, identity_fault, managed_fields_given, entry_fault, manager_name, history_full, nothing_to_undo, nothing_to_redo, refused, Reply, changed, moved, shown, owned_by, logged, fault, Changed}
+use Rattle.ssa_model.specs.definitions.GivenEntries.{EntryFault, absent_path}
+use Rattle.ssa_model.specs.definitions.Answers.{Fault, body_fault, entry_fault, refused, Reply, changed, moved, shown, owned_by, logged, fault, Changed}
+use Rattle.ssa_model.specs.definitions.Faults.{Code, number_of, name_of, body_fault_code, refusal_code, entry_fault_code, fault_code}
 
 abbrev pub number_json : ℕ → Json
 number_json n = scalar (whole (pos n))
@@ -37,20 +33,14 @@ key_json k = object (member (codes "manager") (text_json k.name) (member (codes 
 
 -- ---- faults
 
-abbrev pub with_fault : ℕ → Text → Members → Members
-with_fault number name rest = member (codes "fault") (number_json number) (member (codes "name") (text_json name) rest)
+abbrev pub with_fault : Code → Members → Members
+with_fault c rest = member (codes "fault") (number_json (number_of c)) (member (codes "name") (text_json (name_of c)) rest)
 
-abbrev pub fault_json : ℕ → Text → Json
-fault_json number name = object (with_fault number name no_members)
+abbrev pub fault_json : Code → Json
+fault_json c = object (with_fault c no_members)
 
-abbrev pub fault_json_at : ℕ → Text → Path → Json
-fault_json_at number name p = object (with_fault number name (member (codes "path") (path_json p) no_members))
-
-abbrev pub body_fault_json : BodyFault → Path → Json
-body_fault_json unknown_field p = fault_json_at 20 (codes "UnknownField") p
-body_fault_json wrong_type p = fault_json_at 21 (codes "WrongType") p
-body_fault_json missing_key p = fault_json_at 22 (codes "MissingKey") p
-body_fault_json duplicate_item p = fault_json_at 23 (codes "DuplicateItem") p
+abbrev pub fault_json_at : Code → Path → Json
+fault_json_at c p = object (with_fault c (member (codes "path") (path_json p) no_members))
 
 abbrev pub clash_json : Clash → Json
 clash_json c =
@@ -58,48 +48,18 @@ clash_json c =
     (member (codes "manager") (text_json c.manager.name) (member (codes "operation") (text_json (operation_text c.manager.operation)) no_members)))
 
 abbrev pub refusal_json : Refusal → Json
-refusal_json (conflict cs) = object (member (codes "conflicts") (list_json clash_json cs) (with_fault 50 (codes "Conflict") no_members))
-refusal_json too_many_paths = fault_json 24 (codes "TooManyPaths")
-refusal_json too_many_managers = fault_json 43 (codes "TooManyManagers")
-
-abbrev pub element_fault_json : ElementFault → Json
-element_fault_json bad_element = fault_json 30 (codes "BadElement")
-element_fault_json index_element = fault_json 31 (codes "IndexElement")
-element_fault_json not_canonical = fault_json 32 (codes "NotCanonical")
+refusal_json (conflict cs) = object (member (codes "conflicts") (list_json clash_json cs) (with_fault (refusal_code (conflict cs)) no_members))
+refusal_json r = fault_json (refusal_code r)
 
 abbrev pub entry_fault_json : EntryFault → Json
-entry_fault_json entries.bad_moment = fault_json 6 (codes "BadMoment")
-entry_fault_json (entries.of_fields f) = element_fault_json f
-entry_fault_json (entries.absent_path p) = fault_json_at 40 (codes "AbsentPath") p
-entry_fault_json entries.duplicate_manager = fault_json 41 (codes "DuplicateManager")
-entry_fault_json entries.empty_entry = fault_json 42 (codes "EmptyEntry")
-entry_fault_json entries.too_many_managers = fault_json 43 (codes "TooManyManagers")
-entry_fault_json entries.other_version = fault_json 44 (codes "OtherVersion")
-entry_fault_json entries.bad_entry = fault_json 45 (codes "BadEntry")
-entry_fault_json entries.manager_name = fault_json 62 (codes "ManagerName")
+entry_fault_json (absent_path p) = fault_json_at (entry_fault_code (absent_path p)) p
+entry_fault_json f = fault_json (entry_fault_code f)
 
 abbrev pub fault_reply : Fault → Json
-fault_reply (body_fault f p) = body_fault_json f p
-fault_reply identity_fault = fault_json 60 (codes "Identity")
-fault_reply managed_fields_given = fault_json 61 (codes "ManagedFieldsGiven")
+fault_reply (body_fault f p) = fault_json_at (body_fault_code f) p
 fault_reply (entry_fault f) = entry_fault_json f
-fault_reply manager_name = fault_json 62 (codes "ManagerName")
-fault_reply history_full = fault_json 63 (codes "HistoryFull")
-fault_reply nothing_to_undo = fault_json 64 (codes "NothingToUndo")
-fault_reply nothing_to_redo = fault_json 65 (codes "NothingToRedo")
 fault_reply (refused r) = refusal_json r
-
--- bytes that are no value
-abbrev pub read_fault_json : ReadFault → Json
-read_fault_json not_json = fault_json 1 (codes "NotJson")
-read_fault_json null_value = fault_json 2 (codes "NullValue")
-read_fault_json number_outside = fault_json 3 (codes "NumberOutside")
-
-abbrev pub schema_fault_json : SchemaFault → Json
-schema_fault_json schema_keyword = fault_json 10 (codes "SchemaKeyword")
-schema_fault_json schema_shape = fault_json 11 (codes "SchemaShape")
-schema_fault_json schema_keys = fault_json 12 (codes "SchemaKeys")
-schema_fault_json schema_depth = fault_json 13 (codes "SchemaDepth")
+fault_reply f = fault_json (fault_code f)
 
 -- ---- replies
 

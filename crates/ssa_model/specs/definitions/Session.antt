@@ -1,5 +1,5 @@
 -- The answer to a line of a session: its reply's text, and the bench after it.
-use Rattle.std.specs.Prelude.{List, [], ◌∷◌, ◌++◌, Bool, true, Some, None, Result, Ok, Err, if◌then◌else◌, nat_lt, length, codes}
+use Rattle.std.specs.Prelude.{List, [], ◌∷◌, ◌++◌, Bool, true, Some, None, Result, Ok, Err, if◌then◌else◌, nat_lt, length}
 use Rattle.ssa_model.specs.definitions.Json.{Text, Json, compact, same_text}
 use Rattle.ssa_model.specs.definitions.Limits.{most_line_bytes}
 use Rattle.ssa_model.specs.definitions.Path.{Path}
@@ -10,7 +10,9 @@ use Rattle.ssa_model.specs.definitions.Commands as given
 use Rattle.ssa_model.specs.definitions.Commands.{command_of, moment_of}
 use Rattle.ssa_model.specs.definitions.Answers as answers
 use Rattle.ssa_model.specs.definitions.Answers.{Command, answer}
-use Rattle.ssa_model.specs.definitions.Replies.{fault_json, element_fault_json, read_fault_json, reply_text}
+use Rattle.ssa_model.specs.definitions.Faults as code
+use Rattle.ssa_model.specs.definitions.Faults.{Code, read_fault_code, element_fault_code}
+use Rattle.ssa_model.specs.definitions.Replies.{fault_json, reply_text}
 
 -- ---- faults of a line
 
@@ -20,19 +22,19 @@ pub data LineFault : Type 0 where
   command_shape : LineFault
   of_element : ElementFault → LineFault
 
-abbrev pub line_fault_json : LineFault → Json
-line_fault_json (unread f) = read_fault_json f
-line_fault_json bad_moment = fault_json 6 (codes "BadMoment")
-line_fault_json (of_element f) = element_fault_json f
-line_fault_json command_shape = fault_json 66 (codes "CommandShape")
+abbrev pub line_fault_code : LineFault → Code
+line_fault_code (unread f) = read_fault_code f
+line_fault_code bad_moment = code.bad_moment
+line_fault_code command_shape = code.command_shape
+line_fault_code (of_element f) = element_fault_code f
 
 -- the reply to a line over the limit
 abbrev pub too_long_text : Text
-too_long_text = compact (fault_json 4 (codes "TooLong"))
+too_long_text = compact (fault_json code.too_long)
 
 -- the reply to a line for which there was no memory, and which counts as not given
 abbrev pub out_of_memory_text : Text
-out_of_memory_text = compact (fault_json 5 (codes "OutOfMemory"))
+out_of_memory_text = compact (fault_json code.out_of_memory)
 
 -- ---- the answer to a line
 
@@ -65,7 +67,7 @@ module _ (readings : Readings) where
   -- the reply's text and the next bench
   abbrev pub answer_read : Bench → Result Command LineFault → Text × Bench
   answer_read bench (Ok c) = (reply_text (answer bench c).0, (answer bench c).1)
-  answer_read bench (Err f) = (compact (line_fault_json f), bench)
+  answer_read bench (Err f) = (compact (fault_json (line_fault_code f)), bench)
 
   abbrev pub line_answer : Bench → Text → Text × Bench
   line_answer bench line = answer_read bench (read_line line)

@@ -10,8 +10,10 @@ use Rattle.ssa_model.specs.definitions.History.{Bench, present}
 use Rattle.ssa_model.specs.definitions.Commands as given
 use Rattle.ssa_model.specs.definitions.Answers as answers
 use Rattle.ssa_model.specs.definitions.Answers.{Command, Reply, answer}
+use Rattle.ssa_model.specs.definitions.Faults as code
+use Rattle.ssa_model.specs.definitions.Faults.{Code}
 use Rattle.ssa_model.specs.definitions.Replies.{fault_json, number_json, reply_text}
-use Rattle.ssa_model.specs.definitions.Session.{LineFault, unread, bad_moment, command_shape, line_fault_json, has_moment, with_path}
+use Rattle.ssa_model.specs.definitions.Session.{LineFault, line_fault_code, unread, bad_moment, command_shape, has_moment, with_path}
 use Rattle.ssa_model.specs.definitions.Entries.{text_json}
 
 -- A subcommand on a bench, with the bytes of the file that it names.
@@ -34,9 +36,9 @@ pub data AskedFault : Type 0 where
   too_long : AskedFault
   of_line : LineFault → AskedFault
 
-abbrev pub asked_fault_json : AskedFault → Json
-asked_fault_json too_long = fault_json 4 (codes "TooLong")
-asked_fault_json (of_line f) = line_fault_json f
+abbrev pub asked_fault_code : AskedFault → Code
+asked_fault_code too_long = code.too_long
+asked_fault_code (of_line f) = line_fault_code f
 
 -- the reply is that of an accepted command
 abbrev pub is_accepted : Reply → Bool
@@ -91,5 +93,5 @@ module _ (readings : Readings) where
   asked_answer bench asked =
       elim (asked_command asked) [
         | Ok c ↦ (reply_text (answer bench c).0, (answer bench c).1)
-        | Err f ↦ (compact (asked_fault_json f), bench)
+        | Err f ↦ (compact (fault_json (asked_fault_code f)), bench)
       ]
