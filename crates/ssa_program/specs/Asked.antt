@@ -1,6 +1,6 @@
 -- Subcommands as the code has them: which commands they are, why others are none, and how they are answered.
 use Rattle.std.specs.Prelude.{◌≡◌, Bool, true, false, ◌&&◌, Result, Ok, Err}
-use Rattle.ssa_model.specs.definitions.Json.{Text, Items, list, compact}
+use Rattle.ssa_model.specs.definitions.Json.{Text, Items, list}
 use Rattle.ssa_model.specs.definitions.Json as json
 use Rattle.ssa_model.specs.definitions.Readings.{not_json, null_value, number_outside}
 use Rattle.ssa_model.specs.definitions.History as model
@@ -8,14 +8,16 @@ use Rattle.ssa_model.specs.definitions.Answers as answers
 use Rattle.ssa_model.specs.definitions.Answers.{answer}
 use Rattle.ssa_model.specs.definitions.ElementTexts.{bad_element, index_element, not_canonical}
 use Rattle.ssa_model.specs.definitions.Session.{unread, bad_moment, command_shape, of_element}
+use Rattle.ssa_model.specs.definitions.Faults as code
+use Rattle.ssa_model.specs.definitions.Faults.{Code}
 use Rattle.ssa_model.specs.definitions.Subcommands as subcommands
-use Rattle.ssa_model.specs.definitions.Subcommands.{asked_command, asked_fault_json, is_accepted, is_change, of_line, owners_of_value, tested_command, too_long}
+use Rattle.ssa_model.specs.definitions.Subcommands.{asked_command, is_accepted, is_change, of_line, owners_of_value, tested_command, too_long}
 use Rattle.ssa_json.specs.Moment.{is_moment}
 use Rattle.ssa_json.specs.Readings.{readings}
 use Rattle.ssa_json.specs.View.{view}
 use Rattle.ssa_json.specs.declared.value.Json.{Json}
 use Rattle.ssa_session.specs.Commands.{command_view}
-use Rattle.ssa_session.specs.Replies.{line_fault_text}
+use Rattle.ssa_session.specs.Replies.{line_code}
 use Rattle.ssa_session.specs.declared.command.Command.{Command}
 use Rattle.ssa_session.specs.declared.read_command.LineFault.TheVariants.{NotJson, NullValue, NumberOutside, BadMoment, CommandShape, BadElement, IndexElement, NotCanonical, OutOfMemory}
 use Rattle.ssa_program.specs.declared.asked.Asked.{Asked}
@@ -65,9 +67,10 @@ IsMoment (Err f) t = (is_moment t ≡ false) × (f ≡ Line BadMoment)
 abbrev pub owners_of_items : Items → Result answers.Command subcommands.AskedFault
 owners_of_items vs = elim (owners_of_value (list vs)) [ Ok c ↦ tested_command readings c | Err f ↦ Err f ]
 
-abbrev pub asked_fault_text : AskedFault → Text
-asked_fault_text TooLong = compact (asked_fault_json too_long)
-asked_fault_text (Line f) = line_fault_text f
+-- how the fault is told
+abbrev pub asked_code : AskedFault → Code
+asked_code TooLong = code.too_long
+asked_code (Line f) = line_code f
 
 -- ---- how a subcommand is answered
 

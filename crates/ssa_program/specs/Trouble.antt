@@ -1,21 +1,16 @@
 -- The lines that tell why a call of the program does not come to its reply.
 use Rattle.std.specs.Prelude.{◌≡◌, ◌<◌, ℕ, length, ◌/◌, ◌%◌, [], ◌∷◌, ◌++◌, ◌||◌, ◌==◌, ◌⊎◌, Bool, if◌then◌else◌, nat_lt, flat_map, slice_index, codes}
-use Rattle.ssa_model.specs.definitions.Json.{Text, Json, compact}
+use Rattle.ssa_model.specs.definitions.Json.{Text, compact}
 use Rattle.ssa_model.specs.definitions.Limits.{most_bench_bytes}
+use Rattle.ssa_model.specs.definitions.Faults.{bench_too_long}
 use Rattle.ssa_model.specs.definitions.Replies.{fault_json}
 use Rattle.ssa_model.specs.definitions.Session.{out_of_memory_text}
-use Rattle.ssa_file.specs.declared.loading.LoadFault.{LoadFault}
-use Rattle.ssa_file.specs.declared.loading.LoadFault.TheVariants as load
+use Rattle.ssa_file.specs.Loading.{load_code}
 use Rattle.ssa_session.specs.Files.{IsTold}
 use Rattle.ssa_program.specs.declared.status.Status.{Status}
 use Rattle.ssa_program.specs.declared.status.Status.TheVariants.{Refused, Broken}
 use Rattle.ssa_program.specs.declared.trouble.Trouble.{Trouble}
 use Rattle.ssa_program.specs.declared.trouble.Trouble.TheVariants.{CannotRead, CannotWrite, Load, File, BenchTooLong, OutOfMemory, SessionBroken, CannotPrint}
-
-abbrev pub load_fault_json : LoadFault → Json
-load_fault_json load.BenchText = fault_json 70 (codes "BenchText")
-load_fault_json load.Io = fault_json 72 (codes "Io")
-load_fault_json load.OutOfMemory = fault_json 5 (codes "OutOfMemory")
 
 -- ---- names of files
 
@@ -35,18 +30,15 @@ named_line told name = told ++ flat_map escaped_byte name
 
 -- ---- troubles
 
-abbrev pub too_long_text : Text
-too_long_text = compact (fault_json 73 (codes "BenchTooLong"))
-
 -- What a trouble writes: a line where the replies stand, or one for a person. Where memory runs out while a line is made,
 -- the line of want of memory stands in its place.
 module _ (Replies Person : Text → Type 0) where
   abbrev pub Tells : Trouble → Type 0
   Tells (CannotRead name) = Person (named_line (codes "ssabench: cannot read ") name.now) ⊎ Replies out_of_memory_text
   Tells (CannotWrite name) = Person (named_line (codes "ssabench: cannot write ") name.now) ⊎ Replies out_of_memory_text
-  Tells (Load f) = Replies (compact (load_fault_json f))
+  Tells (Load f) = Replies (compact (fault_json (load_code f)))
   Tells (File f) = ((line : Text) × IsTold f line × Replies line) ⊎ Replies out_of_memory_text
-  Tells BenchTooLong = Replies too_long_text
+  Tells BenchTooLong = Replies (compact (fault_json bench_too_long))
   Tells OutOfMemory = Replies out_of_memory_text
   Tells SessionBroken = Person (codes "ssabench: session ended unsaved")
   Tells CannotPrint = Unit {0}

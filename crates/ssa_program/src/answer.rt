@@ -4,9 +4,10 @@ ghost use Rattle.ssa_model.specs.definitions.Subcommands.{asked_answer};
 ghost use Rattle.ssa_json.specs.Readings.{readings};
 ghost use Rattle.ssa_program.specs.Asked.{asked_view, is_asked_accepted, is_asked_change};
 
-use crate::asked::{Asked, AskedFault, asked_fault_text, command_of};
+use crate::asked::{Asked, AskedFault, command_of};
 use ssa_bench::bench::Bench;
 use ssa_session::bench_machine::answer_command;
+use ssa_session::fault_line::code_text;
 use ssa_session::read_command::LineFault;
 use std::alloc::{AllocError, Global};
 
@@ -44,7 +45,7 @@ pub fn answer(alloc: Global, bench: &mut Bench, asked: Asked<'_>) -> Result<Repl
         }
         Err(AskedFault::Line(LineFault::OutOfMemory)) => Err(AllocError),
         Err(fault) => {
-            let text = asked_fault_text(alloc, &fault)?;
+            let text = code_text(alloc, fault.code())?;
             Ok(Reply {
                 text,
                 is_accepted: false,

@@ -1,22 +1,22 @@
 //! What a subcommand asks of a bench, and the command that this is.
-ghost use Rattle.std.specs.Prelude.{◌≡◌, IfOk};
+ghost use Rattle.std.specs.Prelude.{◌≡◌};
 ghost use Rattle.ssa_model.specs.definitions.Subcommands as model;
 ghost use Rattle.ssa_model.specs.definitions.Subcommands.{asked_command, asked_value};
+ghost use Rattle.ssa_json.specs.FaultCodes.{code_view};
 ghost use Rattle.ssa_json.specs.Readings.{readings};
 ghost use Rattle.ssa_json.specs.View.{items_view};
-ghost use Rattle.ssa_program.specs.Asked.{IsAskedCommand, IsMoment, IsValueOf, asked_fault_text, asked_view, owners_of_items};
+ghost use Rattle.ssa_program.specs.Asked.{IsAskedCommand, IsMoment, IsValueOf, asked_code, asked_view, owners_of_items};
 ghost use Rattle.ssa_session.specs.declared.read_command.LineFault.TheVariants.{OutOfMemory};
 ghost use Rattle.ssa_program.specs.declared.asked.AskedFault.TheVariants.{Line};
 
 use ssa_bench::command as bench;
 use ssa_json::fault::JsonFault;
+use ssa_json::fault_code::FaultCode;
 use ssa_json::moment::Moment;
 use ssa_json::value::Json;
 use ssa_path::element_fault::ElemFault;
 use ssa_session::command::Command;
 use ssa_session::command_shape::are_texts;
-use ssa_session::engine::TOO_LONG;
-use ssa_session::fault_text::line_fault_text;
 use ssa_session::files::MOST_INPUT_BYTES;
 use ssa_session::path_texts::path_of_texts;
 use ssa_session::read_command::LineFault;
@@ -64,21 +64,23 @@ pub enum AskedFault {
     Line(LineFault),
 }
 
+impl AskedFault {
+    /// The fault as it is told.
+    pub fn code(&self) -> FaultCode
+        ensures { code_view result ≡ asked_code self.now }
+    {
+        match self {
+            AskedFault::TooLong => FaultCode::TooLong,
+            AskedFault::Line(fault) => fault.code(),
+        }
+    }
+}
+
 impl From<AllocError> for AskedFault {
     ghost from_gives = { λ _ e. e ≡ Line OutOfMemory };
 
     fn from(_refused: AllocError) -> AskedFault {
         AskedFault::Line(LineFault::OutOfMemory)
-    }
-}
-
-/// The line that tells of the fault, without its line feed.
-pub fn asked_fault_text(alloc: Global, fault: &AskedFault) -> Result<Vec<u8>, AllocError>
-    ensures { IfOk result (λ text. text.items ≡ asked_fault_text fault.now) }
-{
-    match fault {
-        AskedFault::TooLong => TOO_LONG.to_vec(alloc),
-        AskedFault::Line(fault) => line_fault_text(alloc, fault),
     }
 }
 

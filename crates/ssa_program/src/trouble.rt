@@ -2,16 +2,19 @@
 ghost use Rattle.std.specs.Prelude.{◌≡◌, ◌++◌, ◌∷◌, ◌⊎◌, [], IfOk, OnOk};
 ghost use Rattle.ssa_model.specs.definitions.Json.{compact};
 ghost use Rattle.ssa_model.specs.definitions.Lines.{line_feed};
+ghost use Rattle.ssa_model.specs.definitions.Replies.{fault_json};
 ghost use Rattle.ssa_model.specs.definitions.Session.{out_of_memory_text};
 ghost use Rattle.ssa_json.specs.Devices.{AppendsPart};
-ghost use Rattle.ssa_program.specs.Trouble.{EndsBy, Tells, escaped_byte, load_fault_json, named_line};
+ghost use Rattle.ssa_json.specs.FaultCodes.{code_view};
+ghost use Rattle.ssa_program.specs.Trouble.{EndsBy, Tells, escaped_byte, named_line};
 ghost use Rattle.ssa_program.specs.declared.trouble.Trouble.TheVariants.{CannotPrint, File, OutOfMemory};
 
 use crate::status::Status;
 use ssa_file::loading::LoadFault;
+use ssa_json::fault_code::FaultCode;
 use ssa_json::sink::Sink;
 use ssa_json::source::DeviceFault;
-use ssa_session::engine::OUT_OF_MEMORY;
+use ssa_session::fault_line::write_fault;
 use ssa_session::files::{FileFault, tell};
 use ssa_session::write_line::write_line;
 use std::alloc::{AllocError, Global};
@@ -61,20 +64,6 @@ impl From<FileFault> for Trouble<'_> {
     }
 }
 
-/// The line that tells why a bench's file is not taken.
-pub fn load_fault_line(fault: &LoadFault) -> &'static [u8]
-    ensures { result.now ≡ compact (load_fault_json fault.now) }
-{
-    match fault {
-        LoadFault::BenchText => b"{\"fault\":70,\"name\":\"BenchText\"}",
-        LoadFault::Io => b"{\"fault\":72,\"name\":\"Io\"}",
-        LoadFault::OutOfMemory => OUT_OF_MEMORY,
-    }
-}
-
-// The line that tells that the bench's text is longer than a file may be.
-const BENCH_TOO_LONG: &[u8] = b"{\"fault\":73,\"name\":\"BenchTooLong\"}";
-
 const HEX_DIGITS: &[u8; 16] = b"0123456789abcdef";
 
 // Appends a byte of a name, a control byte as `\xNN`.
@@ -111,6 +100,15 @@ pub(crate) fn end_by<W: Sink>(writer: &mut W, line: &[u8]) -> Status
     Status::Broken
 }
 
+// Writes a fault's line, after which the program can only end, whether the line was taken or not.
+pub(crate) fn end_by_fault<W: Sink>(writer: &mut W, code: FaultCode) -> Status
+    ensures part { AppendsPart (W.contents writer.old) (W.contents writer.new) (compact (fault_json (code_view code)) ++ line_feed ∷ []) }
+    ensures status { result ≡ Status.Broken }
+{
+    let _told = write_fault(writer, code);
+    Status::Broken
+}
+
 // Tells a person of a file by its name.
 fn end_by_name<W: Sink, E: Sink>(
     alloc: Global,
@@ -125,7 +123,7 @@ fn end_by_name<W: Sink, E: Sink>(
 {
     match named_line(alloc, told, name) {
         Ok(line) => end_by(errors, &line),
-        Err(_) => end_by(writer, OUT_OF_MEMORY),
+        Err(_) => end_by_fault(writer, FaultCode::OutOfMemory),
     }
 }
 
@@ -149,13 +147,13 @@ pub fn tell_trouble<W: Sink, E: Sink>(
         Trouble::CannotWrite(name) => {
             end_by_name(alloc, "ssabench: cannot write ", name, writer, errors)
         }
-        Trouble::Load(fault) => end_by(writer, load_fault_line(fault)),
+        Trouble::Load(fault) => end_by_fault(writer, fault.code()),
         Trouble::File(fault) => match tell(alloc, writer, fault) {
             Ok(ending) => Status::from(ending),
             Err(_) => Status::Broken,
         },
-        Trouble::BenchTooLong => end_by(writer, BENCH_TOO_LONG),
-        Trouble::OutOfMemory => end_by(writer, OUT_OF_MEMORY),
+        Trouble::BenchTooLong => end_by_fault(writer, FaultCode::BenchTooLong),
+        Trouble::OutOfMemory => end_by_fault(writer, FaultCode::OutOfMemory),
         Trouble::SessionBroken => end_by(errors, b"ssabench: session ended unsaved"),
         Trouble::CannotPrint => Status::Broken,
     }

@@ -4,10 +4,10 @@ ghost use Rattle.ssa_json.specs.Devices.{AppendsPart};
 ghost use Rattle.ssa_program.specs.Usage.{EndsByUsage, TellsUsage};
 
 use crate::status::Status;
-use crate::trouble::end_by;
+use crate::trouble::end_by_fault;
 use ssa_file::saving::write_text;
+use ssa_json::fault_code::FaultCode;
 use ssa_json::sink::Sink;
-use ssa_session::engine::OUT_OF_MEMORY;
 use ssa_words::usage::Usage;
 
 /// What is told of a word that is not UTF-8.
@@ -27,7 +27,7 @@ pub fn tell_usage<W: Sink, E: Sink>(usage: &Usage, writer: &mut W, errors: &mut 
             Err(_) => Status::Broken,
         },
         Usage::Refused { text } => refuse_words(errors, text.as_str()),
-        Usage::OutOfMemory => end_by(writer, OUT_OF_MEMORY),
+        Usage::OutOfMemory => end_by_fault(writer, FaultCode::OutOfMemory),
     }
 }
 
