@@ -269,7 +269,8 @@ same-child e f cs k g h =
     ∙ sym (same_element-true f (element_view other.child.0) other.same)
 
 -- a place that is told is that of a child
-pub found-in : (cs ds : List Child) (fs : Found) (e : Element) (k : ℕ) → IsChildAt e cs k → AreFound cs ds fs → is_in k (somes fs) ≡ true → list_any (same_element e) (elements ds) ≡ true
+pub found-in : (cs ds : List Child) (fs : Found) (e : Element) (k : ℕ) → IsChildAt e cs k → AreFound cs ds fs → is_in k (somes fs) ≡ true
+    → list_any (same_element e) (elements ds) ≡ true
 found-in cs [] [] e k at h t = absurd (true≢false (sym t))
 found-in cs [] (f ∷ fs) e k at h t = absurd h
 found-in cs (d ∷ ds) [] e k at h t = absurd h
