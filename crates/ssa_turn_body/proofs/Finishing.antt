@@ -37,7 +37,8 @@ use Rattle.ssa_turn_body.proofs.BodyMarks.{Ordered, ordered}
 use Rattle.ssa_turn_body.proofs.Descending.{child-here, found-at}
 use Rattle.ssa_turn_body.proofs.Edits.{map-going}
 use Rattle.ssa_turn_body.proofs.Marking.{names-kids}
-use Rattle.ssa_turn_body.proofs.Matching.{found-length, length-elements, length-fresh, length-kept, places-nones}
+use Rattle.ssa_turn_body.proofs.Matching.{found-length, length-fresh, length-kept, places-nones}
+use Rattle.ssa_turn_body.proofs.Missing.{length-elements}
 use Rattle.ssa_turn_body.proofs.Walking.{led, led_in, child-among}
 
 abbrev Found : Type 0

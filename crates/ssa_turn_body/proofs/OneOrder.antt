@@ -17,7 +17,8 @@ use Rattle.ssa_turn_body.specs.Marks.{Child}
 use Rattle.ssa_turn_body.specs.Orders.{is_none, reordered}
 use Rattle.ssa_turn_body.proofs.Descending.{child-here}
 use Rattle.ssa_turn_body.proofs.Knowing.{kept-known, known-back, known-found}
-use Rattle.ssa_turn_body.proofs.Matching.{found-below, kept-filled, kept-led, length-elements}
+use Rattle.ssa_turn_body.proofs.Matching.{found-below, kept-filled, kept-led}
+use Rattle.ssa_turn_body.proofs.Missing.{length-elements}
 use Rattle.ssa_turn_body.proofs.Saying.{elements-themselves}
 
 abbrev Found : Type 0
