@@ -27,11 +27,14 @@ module _ (v w : Node) (ps : List Elem) (old : List Step) (s : BodySteps) (tree :
   led = subst (λ xs. IsLed [] (marks v) (marks w) xs) (ap (λ xs. xs ++ leading.made) (sym none) ∙ sym leading.added) (subst (λ qs. IsLed (path_view qs) (marks v) (marks w) leading.made) root leading.led)
 
   saying : AreSaying [] (marks v) (marks w) s.steps.items
-  saying = subst (λ xs. AreSaying [] (marks v) (marks w) xs) (ap (λ xs. xs ++ leading.made) (sym none) ∙ sym leading.added) (subst (λ qs. AreSaying (path_view qs) (marks v) (marks w) leading.made) root leading.saying)
+  saying =
+      subst (λ xs. AreSaying [] (marks v) (marks w) xs) (ap (λ xs. xs ++ leading.made) (sym none) ∙ sym leading.added)
+      (subst (λ qs. AreSaying (path_view qs) (marks v) (marks w) leading.made) root leading.saying)
 
   pub between-record : (b c : Body) → body_of v ≡ b → body_of w ≡ c → AreAlike b c → body_told s ≡ body_record b c
   between-record b c is to alike =
-      told-record v w s tree tree_to (subst (λ x. AreAlike (body_of v) x) (sym to) (subst (λ x. AreAlike x c) (sym is) alike)) saying.told ∙ (λ i. body_record (is i) (to i))
+      told-record v w s tree tree_to (subst (λ x. AreAlike (body_of v) x) (sym to) (subst (λ x. AreAlike x c) (sym is) alike)) saying.told
+      ∙ (λ i. body_record (is i) (to i))
 
   pub between-fits : (b : Body) → body_of v ≡ b → BodyStepsFit s b
   between-fits b is n tree_n same = led.fit n tree_n (body-marks n v tree_n tree (same ∙ sym is))
@@ -57,6 +60,8 @@ module _ (v w : Node) (ps : List Elem) (old : List Step) (s : BodySteps) (tree :
           alike = alike_now;
           there = there;
           back = told-record w v t tree_to tree alike_back told ∙ (λ i. body_record (to i) (is i)) ∙ ap (λ x. body_record x b) (sym same);
-          leads = sym (ap (λ r. carry_body r b) there ∙ record-leads turned.before turned.after b d turned.tree_before turned.tree_after turned.body_before turned.body_after alike_now);
+          leads =
+              sym (ap (λ r. carry_body r b) there
+              ∙ record-leads turned.before turned.after b d turned.tree_before turned.tree_after turned.body_before turned.body_after alike_now);
         };
   }

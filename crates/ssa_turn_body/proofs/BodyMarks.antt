@@ -132,21 +132,29 @@ leaf-stands : (l : Leaf) (es fs : List Element) → may_stand (leaf_content l) e
 leaf-stands (Scalar s) es fs h = h
 leaf-stands (Atomic v) es fs h = h
 
-stands-by : (n : Node) (c : Content) (es : List Element) → own_content n ≡ c → elements (below n) ≡ es → may_stand c es ≡ true → may_stand (own_content n) (elements (below n)) ≡ true
+stands-by : (n : Node) (c : Content) (es : List Element) → own_content n ≡ c → elements (below n) ≡ es → may_stand c es ≡ true
+    → may_stand (own_content n) (elements (below n)) ≡ true
 stands-by n c es own is h = (λ i. may_stand (own i) (is i)) ∙ h
 
-stands-made : (x : Node-F Node) (es : List Element) → is_tree (roll-Node x) ≡ true → may_stand (own_content (roll-Node x)) es ≡ true → may_stand (own_content (roll-Node x)) (elements (below (roll-Node x))) ≡ true
+stands-made : (x : Node-F Node) (es : List Element) → is_tree (roll-Node x) ≡ true → may_stand (own_content (roll-Node x)) es ≡ true
+    → may_stand (own_content (roll-Node x)) (elements (below (roll-Node x))) ≡ true
 unfolding roll-Node denote.Hole.Carrier.roll
 stands-made (Node-F.Leaf l) es h k =
     let own : own_content (LeafOf l) ≡ leaf_content l = search (rules, the_lemmas) in
     ap (λ c. may_stand c (elements (below (LeafOf l)))) own ∙ leaf-stands l es (elements (below (LeafOf l))) (ap (λ c. may_stand c es) (sym own) ∙ k)
-stands-made (Node-F.Branch v) es h k = stands-by (Branch v) record_branch (elements v.items) (own-Branch v) (search (rules, the_lemmas)) (both_first _ (are_trees v.items) (sym (tree-Branch v) ∙ h))
-stands-made (Node-F.Dict v) es h k = stands-by (Dict v) dict_branch (elements v.items) (own-Dict v) (search (rules, the_lemmas)) (both_first _ (are_trees v.items) (sym (tree-Dict v) ∙ h))
-stands-made (Node-F.List v) es h k = stands-by (ListOf v) (list_branch (elements v.items)) (elements v.items) (own-List v) (search (rules, the_lemmas)) (both_first _ (are_trees v.items) (sym (tree-List v) ∙ h))
+stands-made (Node-F.Branch v) es h k =
+    stands-by (Branch v) record_branch (elements v.items) (own-Branch v) (search (rules, the_lemmas))
+    (both_first _ (are_trees v.items) (sym (tree-Branch v) ∙ h))
+stands-made (Node-F.Dict v) es h k =
+    stands-by (Dict v) dict_branch (elements v.items) (own-Dict v) (search (rules, the_lemmas)) (both_first _ (are_trees v.items) (sym (tree-Dict v) ∙ h))
+stands-made (Node-F.List v) es h k =
+    stands-by (ListOf v) (list_branch (elements v.items)) (elements v.items) (own-List v) (search (rules, the_lemmas))
+    (both_first _ (are_trees v.items) (sym (tree-List v) ∙ h))
 
 pub own-stands : (n : Node) (es : List Element) → is_tree n ≡ true → may_stand (own_content n) es ≡ true → may_stand (own_content n) (elements (below n)) ≡ true
 own-stands n es h k =
-    subst (λ m. is_tree m ≡ true → may_stand (own_content m) es ≡ true → may_stand (own_content m) (elements (below m)) ≡ true) (roll-out-Node n) (stands-made (out-Node n) es) h k
+    subst (λ m. is_tree m ≡ true → may_stand (own_content m) es ≡ true → may_stand (own_content m) (elements (below m)) ≡ true) (roll-out-Node n)
+    (stands-made (out-Node n) es) h k
 
 -- ---- a body tells the marks
 

@@ -44,22 +44,26 @@ Found = List (Option ℕ)
 named-from : (g : Element → Marks) (es : List Element) (e : Element) → named (kids_from g es) e ≡ (if is_among e es then Some (g e) else None)
 named-from g [] e = refl
 named-from g (x ∷ es) e =
-    elim (same_element e x) as (λ b. same_element e x ≡ b → (if b then Some (g x) else named (kids_from g es) e) ≡ (if b || is_among e es then Some (g e) else None)) [
+    elim (same_element e x) as (λ b. same_element e x ≡ b → (if b then Some (g x) else named (kids_from g es) e)
+    ≡ (if b || is_among e es then Some (g e) else None)) [
       | true ↦ λ t. ap (λ y. Some (g y)) (sym (same_element-true e x t))
       | false ↦ λ t. named-from g es e
     ] refl
 
-named-led : (o : Content) (cs ds : List Child) (e : Element) → named (led_kids o cs ds) e ≡ option_map (λ c q. led_in (Some c) (child_at e ds) q) (child_at e cs)
+named-led : (o : Content) (cs ds : List Child) (e : Element) → named (led_kids o cs ds) e
+    ≡ option_map (λ c q. led_in (Some c) (child_at e ds) q) (child_at e cs)
 named-led o cs ds e =
     named-from (λ f q. led o cs ds (f ∷ q)) (elements cs) e
     ∙ (λ i. if◌then◌else◌ {A = Option Marks} (sym (child-among e cs) i) (Some (λ q. led_in (child_at e cs) (child_at e ds) q)) None)
     ∙ by (child_at e cs)
   where
-    by : (a : Option Node) → (if◌then◌else◌ {A = Option Marks} (is_some a) (Some (λ q. led_in a (child_at e ds) q)) None) ≡ option_map (λ c q. led_in (Some c) (child_at e ds) q) a
+    by : (a : Option Node) → (if◌then◌else◌ {A = Option Marks} (is_some a) (Some (λ q. led_in a (child_at e ds) q)) None)
+        ≡ option_map (λ c q. led_in (Some c) (child_at e ds) q) a
     by None = refl
     by (Some c) = refl
 
-led-place : (o : Content) (cs ds : List Child) → with_order o (elements cs) ≡ o → (q : Path) → from_place (with_order o (names (led_kids o cs ds)), led_kids o cs ds) q ≡ led o cs ds q
+led-place : (o : Content) (cs ds : List Child) → with_order o (elements cs) ≡ o → (q : Path)
+    → from_place (with_order o (names (led_kids o cs ds)), led_kids o cs ds) q ≡ led o cs ds q
 led-place o cs ds order [] =
     let is = names-from (λ e q. led o cs ds (e ∷ q)) (elements cs) in
     λ i. Some ((ap (with_order o) is ∙ order) i, is i)
@@ -69,7 +73,8 @@ led-place o cs ds order (e ∷ q) = ap (λ x. marks_in x q) (named-led o cs ds e
     by None = refl
     by (Some c) = refl
 
-final-place : (o : Content) (ds : List Child) (q : Path) → from_place (with_order o (names (kids ds)), kids ds) q ≡ from_place (with_order o (elements ds), kids ds) q
+final-place : (o : Content) (ds : List Child) (q : Path) → from_place (with_order o (names (kids ds)), kids ds) q
+    ≡ from_place (with_order o (elements ds), kids ds) q
 final-place o ds q = ap (λ es. from_place (with_order o es, kids ds) q) (names-kids ds)
 
 known-over : (fs : Found) (es es2 os os2 : List Element) → es ≡ es2 → os ≡ os2 → AreKnown fs es os → AreKnown fs es2 os2
@@ -107,9 +112,11 @@ module _ (o : Content) (cs ds : List Child) where
   joins-alone : (e : Element) → ((r : Path) → begun (e ∷ r) ≡ now (e ∷ r)) → (q : Path) → Joins (contents begun) (contents now) (contents final) (e ∷ q)
   joins-alone e same [] = joins-first (contents begun) (contents now) (contents final) (e ∷ []) (record { above = refl; from = λ r. ap content_told (same r) })
   joins-alone e same (g ∷ q) =
-      joins-first (contents begun) (contents now) (contents final) (e ∷ g ∷ q) (record { above = ap content_told (same (parent (g ∷ q))); from = λ r. ap content_told (same (g ∷ (q ++ r))) })
+      joins-first (contents begun) (contents now) (contents final) (e ∷ g ∷ q)
+      (record { above = ap content_told (same (parent (g ∷ q))); from = λ r. ap content_told (same (g ∷ (q ++ r))) })
 
-  joins-child : (e : Element) (a b : Option Node) → child_at e cs ≡ a → child_at e ds ≡ b → (q : Path) → Joins (contents begun) (contents now) (contents final) (e ∷ q)
+  joins-child : (e : Element) (a b : Option Node) → child_at e cs ≡ a → child_at e ds ≡ b → (q : Path)
+      → Joins (contents begun) (contents now) (contents final) (e ∷ q)
   joins-child e (Some c) (Some d) is_a is_b q = joins-both e c d is_a is_b q
   joins-child e None b is_a is_b q = joins-alone e (λ r. (λ i. led_in (is_a i) None r) ∙ sym (λ i. led_in (is_a i) (child_at e ds) r)) q
   joins-child e (Some c) None is_a is_b q = joins-alone e (λ r. sym (λ i. led_in (child_at e cs) (is_b i) r)) q
@@ -121,8 +128,10 @@ module _ (o : Content) (cs ds : List Child) where
 one-order-back : (es fs : List Element) → are_in_one_order fs es ≡ are_in_one_order es fs
 one-order-back es fs = symmetric (pointwise same_element) (pointwise-true same_element same_element-true) (common fs es) (common es fs)
 
-module _ (o : Content) (cs ds : List Child) (fs : Found) (s : ChildrenEdit) (between : IsEditBetween cs ds fs s) (h : Vec Child Global) (own_apart : are_apart (elements cs) ≡ true) (apart : are_apart (elements ds) ≡ true)
-    (found : AreFound cs ds fs) (holds : h.items ≡ fresh fs ds) (trees : are_trees ds ≡ true) (own_stand : may_stand o (elements cs) ≡ true) (stand : may_stand o (elements ds) ≡ true) (order : with_order o (elements cs) ≡ o) where
+module _ (o : Content) (cs ds : List Child) (fs : Found) (s : ChildrenEdit) (between : IsEditBetween cs ds fs s) (h : Vec Child Global)
+    (own_apart : are_apart (elements cs) ≡ true) (apart : are_apart (elements ds) ≡ true)
+    (found : AreFound cs ds fs) (holds : h.items ≡ fresh fs ds) (trees : are_trees ds ≡ true) (own_stand : may_stand o (elements cs) ≡ true)
+    (stand : may_stand o (elements ds) ≡ true) (order : with_order o (elements cs) ≡ o) where
   abbrev ks : Kids
   ks = led_kids o cs ds
 
@@ -168,7 +177,8 @@ module _ (o : Content) (cs ds : List Child) (fs : Found) (s : ChildrenEdit) (bet
     order_before = between.order_before ∙ ap (told_unless keeps) (sym names-ks);
     order_after = between.order_after ∙ ap (told_unless keeps) (sym (names-kids ds));
     gone = between.gone_fresh ∙ ap (fresh between.back) (sym names-ks);
-    gone_known = known-over between.back (elements cs) (names ks) (elements ds) (names (kids ds)) (sym names-ks) (sym (names-kids ds)) (between.back_known own_apart);
+    gone_known =
+        known-over between.back (elements cs) (names ks) (elements ds) (names (kids ds)) (sym names-ks) (sym (names-kids ds)) (between.back_known own_apart);
     come = between.come;
     come_known = known-over fs (elements ds) (names (kids ds)) (elements cs) (names ks) (sym (names-kids ds)) (sym names-ks) (known-found cs ds fs found);
     held = held-kids o cs ds fs s between h own_apart apart found holds;
@@ -208,25 +218,31 @@ module _ (o : Content) (cs ds : List Child) (fs : Found) (s : ChildrenEdit) (bet
   told-there : (x : Step) → x.change ≡ Children made → AreTold (path_view x.path.items) (contents led_now) (contents wanted) (x ∷ [])
   told-there x is =
       subst (λ (m : Marks). AreTold (path_view x.path.items) (contents m) (contents wanted) (x ∷ [])) (λ i q. led-place o cs ds order q i)
-      (subst (λ (m : Marks). AreTold (path_view x.path.items) (contents (from_place (with_order o (names ks), ks))) (contents m) (x ∷ [])) (λ i q. final-place o ds q i)
+      (subst (λ (m : Marks). AreTold (path_view x.path.items) (contents (from_place (with_order o (names ks), ks))) (contents m) (x ∷ []))
+      (λ i q. final-place o ds q i)
       (edit-step-told o keeps ks (kids ds) made there x is))
 
-  told-back : (x t : Step) (y : Place) → x.change ≡ Children made → t.path.items ≡ x.path.items → ChangeGives x.change (o, ks) t.change y → AreTold (path_view x.path.items) (contents wanted) (contents led_now) (t ∷ [])
+  told-back : (x t : Step) (y : Place) → x.change ≡ Children made → t.path.items ≡ x.path.items → ChangeGives x.change (o, ks) t.change y
+      → AreTold (path_view x.path.items) (contents wanted) (contents led_now) (t ∷ [])
   told-back x t y is path given = by t.change refl (subst (λ c. ChangeGives c (o, ks) t.change y) is given)
     where
-      by : (c : PlaceChange) → t.change ≡ c → ChangeGives (Children made) (o, ks) c y → AreTold (path_view x.path.items) (contents wanted) (contents led_now) (t ∷ [])
+      by : (c : PlaceChange) → t.change ≡ c → ChangeGives (Children made) (o, ks) c y
+          → AreTold (path_view x.path.items) (contents wanted) (contents led_now) (t ∷ [])
       by (Leaf u) e g = absurd g
       by (Children u) e g =
           subst (λ ps. AreTold (path_view ps) (contents wanted) (contents led_now) (t ∷ [])) path
           (subst (λ (m : Marks). AreTold (path_view t.path.items) (contents wanted) (contents m) (t ∷ [])) (λ i q. led-place o cs ds order q i)
-          (subst (λ (m : Marks). AreTold (path_view t.path.items) (contents m) (contents (from_place (with_order o (names ks), ks))) (t ∷ [])) (λ i q. final-place o ds q i)
+          (subst (λ (m : Marks). AreTold (path_view t.path.items) (contents m) (contents (from_place (with_order o (names ks), ks))) (t ∷ []))
+          (λ i q. final-place o ds q i)
           (edit-step-told o keeps (kids ds) ks u (back-again u y g) t e)))
 
   -- the edit leads from the children that are led so far to the second ones
-  pub finish : (p : Path) (old new : List Step) → MayAdd (is_idle s) p (Children (record s { held = h })) old new → AreLeading p (led o cs ds) (from_place (with_order o (elements ds), kids ds)) old new
+  pub finish : (p : Path) (old new : List Step) → MayAdd (is_idle s) p (Children (record s { held = h })) old new
+      → AreLeading p (led o cs ds) (from_place (with_order o (elements ds), kids ds)) old new
   finish p old new added = by (is_idle s) refl added
     where
-      by : (b : Bool) → is_idle s ≡ b → MayAdd b p (Children (record s { held = h })) old new → AreLeading p (led o cs ds) (from_place (with_order o (elements ds), kids ds)) old new
+      by : (b : Bool) → is_idle s ≡ b → MayAdd b p (Children (record s { held = h })) old new
+          → AreLeading p (led o cs ds) (from_place (with_order o (elements ds), kids ds)) old new
       by true e a = leading-same p led_now wanted old new a (idle-told o cs ds fs s between h own_apart apart found holds order e)
       by false e a = record {
         made = a.0 ∷ [];
@@ -237,6 +253,8 @@ module _ (o : Content) (cs ds : List Child) (fs : Found) (s : ChildrenEdit) (bet
             (λ t y g q. put o cs ds fs s between h own_apart apart found holds t y (subst (λ x. ChangeGives x (o, ks) t y) a.2 g) q));
         saying = subst (λ r. AreSaying r led_now wanted (a.0 ∷ [])) a.1 (record {
           told = told-there a.0 a.2;
-          back = turned-own a.0 led_now o (elements cs) refl (λ ts. AreTold (path_view a.0.path.items) (contents wanted) (contents led_now) (reverse ts)) (λ t y path g. told-back a.0 t y a.2 path g);
+          back =
+              turned-own a.0 led_now o (elements cs) refl (λ ts. AreTold (path_view a.0.path.items) (contents wanted) (contents led_now) (reverse ts))
+              (λ t y path g. told-back a.0 t y a.2 path g);
         });
       }

@@ -38,7 +38,8 @@ child-here e cs i h =
     let d = first-child cs i h.within in
     record { child = get_or cs i d; here = slice_get-get_or cs i d h.within; same = h.same d }
 
-pub any-at : (e : Element) (cs : List Child) (i : ℕ) (c : Child) → slice_get cs i ≡ Some c → same_element e (element_view c.0) ≡ true → list_any (same_element e) (elements cs) ≡ true
+pub any-at : (e : Element) (cs : List Child) (i : ℕ) (c : Child) → slice_get cs i ≡ Some c → same_element e (element_view c.0) ≡ true
+    → list_any (same_element e) (elements cs) ≡ true
 any-at e [] i c g s = absurd (none-some c g)
 any-at e (d ∷ cs) zero c g s = ap (λ b. b || list_any (same_element e) (elements cs)) (ap (λ (x : Child). same_element e (element_view x.0)) (same_Some d c g) ∙ s)
 any-at e (d ∷ cs) (suc i) c g s = ap (λ b. same_element e (element_view d.0) || b) (any-at e cs i c g s) ∙ or_true (same_element e (element_view d.0))
@@ -48,7 +49,8 @@ any-at e (d ∷ cs) (suc i) c g s = ap (λ b. same_element e (element_view d.0) 
     or_true false = refl
 
 -- the elements before a child are others
-pub other-before : (e : Element) (d : Child) (cs : List Child) (i : ℕ) (c : Child) → slice_get cs i ≡ Some c → same_element e (element_view c.0) ≡ true → are_apart (elements (d ∷ cs)) ≡ true → same_element e (element_view d.0) ≡ false
+pub other-before : (e : Element) (d : Child) (cs : List Child) (i : ℕ) (c : Child) → slice_get cs i ≡ Some c → same_element e (element_view c.0) ≡ true
+    → are_apart (elements (d ∷ cs)) ≡ true → same_element e (element_view d.0) ≡ false
 other-before e d cs i c g s apart =
     elim (same_element e (element_view d.0)) as (λ b. same_element e (element_view d.0) ≡ b → b ≡ false) [
       | true ↦ λ t.

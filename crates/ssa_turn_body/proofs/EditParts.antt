@@ -15,7 +15,8 @@ use Rattle.ssa_turn_body.specs.Woven.{ArePlaces, room_for, taken, left, woven}
 use Rattle.ssa_turn_body.specs.declared.children.ChildrenEdit.{ChildrenEdit}
 use Rattle.ssa_turn_body.proofs.Knowing.{known-back}
 use Rattle.ssa_turn_body.proofs.OneOrder.{one-order}
-use Rattle.ssa_turn_body.proofs.Matching.{places-nones, gone-fresh, stays-kept, remade-all, length-elements}
+use Rattle.ssa_turn_body.proofs.Matching.{places-nones, gone-fresh, stays-kept, remade-all}
+use Rattle.ssa_turn_body.proofs.Missing.{length-elements}
 
 abbrev Kid : Type 0
 Kid = Element × Marks

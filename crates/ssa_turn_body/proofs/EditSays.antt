@@ -75,7 +75,9 @@ part-root order (k ∷ ks) (h ∷ hs) = part-root order ks hs
 pub part-deeper : (order : List Element) (ks : List ℕ) (hs : List Child) (e f : Element) (q : Path) → find path_cmp (e ∷ f ∷ q) (parts_of order ks hs) ≡ None
 part-deeper order [] hs e f q = refl
 part-deeper order (k ∷ ks) [] e f q = refl
-part-deeper order (k ∷ ks) (h ∷ hs) e f q = λ i. cond (longer e f (element_view h.0) q i) (Some (record { below = body_of h.1; place = place_after order (element_view h.0) k })) (part-deeper order ks hs e f q i)
+part-deeper order (k ∷ ks) (h ∷ hs) e f q =
+    λ i. cond (longer e f (element_view h.0) q i) (Some (record { below = body_of h.1; place = place_after order (element_view h.0) k }))
+    (part-deeper order ks hs e f q i)
 
 parts-nothing : (order : List Element) (ks : List ℕ) → parts_of order ks [] ≡ []
 parts-nothing order [] = refl
@@ -100,7 +102,8 @@ abbrev pub rest_after : {X : Type 0} → List X → List X
 rest_after [] = []
 rest_after (x ∷ xs) = xs
 
-pub parts-come : (order : List Element) (fs : Found) (j : ℕ) (ks : Kids) (hs : List Child) (e : Element) → kids hs ≡ fresh fs ks → are_trees hs ≡ true → option_map shown (find path_cmp (e ∷ []) (parts_of order (nones j fs) hs)) ≡ come_first order fs j ks e
+pub parts-come : (order : List Element) (fs : Found) (j : ℕ) (ks : Kids) (hs : List Child) (e : Element) → kids hs ≡ fresh fs ks → are_trees hs ≡ true
+    → option_map shown (find path_cmp (e ∷ []) (parts_of order (nones j fs) hs)) ≡ come_first order fs j ks e
 parts-come order [] j ks hs e is trees = refl
 parts-come order (f ∷ fs) j [] [] e is trees = ap (λ ps. option_map shown (find path_cmp (e ∷ []) ps)) (parts-nothing order (nones j (f ∷ fs)))
 parts-come order (f ∷ fs) j [] (h ∷ hs) e is trees = absurd (omega (arith, ap length is))
@@ -109,17 +112,20 @@ parts-come order (None ∷ fs) j (k ∷ ks) (h ∷ hs) e is trees =
     let tree = both_first (is_tree h.1) (are_trees hs) trees in
     let head : (element_view h.0, marks h.1) ≡ k = ap (head_or k) is in
     let rest = parts-come order fs (j + 1) ks hs e (ap rest_after is) (both_second (is_tree h.1) (are_trees hs) trees) in
-    map-cond shown (same_path (e ∷ []) (element_view h.0 ∷ [])) (record { below = body_of h.1; place = place_after order (element_view h.0) j }) (find path_cmp (e ∷ []) (parts_of order (nones (j + 1) fs) hs))
+    map-cond shown (same_path (e ∷ []) (element_view h.0 ∷ [])) (record { below = body_of h.1; place = place_after order (element_view h.0) j })
+    (find path_cmp (e ∷ []) (parts_of order (nones (j + 1) fs) hs))
     ∙ (λ i. cond (same-one e (element_view h.0) i) (Some ((λ q. marks-tell h.1 q tree i), place_after order (element_view h.0) j)) (rest i))
     ∙ ap (λ (x : Element × Marks). cond (same_element e x.0) (Some (contents x.1, place_after order x.0 j)) (come_first order fs (j + 1) ks e)) head
 parts-come order (Some i ∷ fs) j (k ∷ ks) hs e is trees = parts-come order fs (j + 1) ks hs e is trees
 
 -- what both have does not come
-pub come-both : (order : List Element) (fs : Found) (j : ℕ) (ks : Kids) (os : List Element) (e : Element) → AreKnown fs (names ks) os → is_among e os ≡ true → come_first order fs j ks e ≡ None
+pub come-both : (order : List Element) (fs : Found) (j : ℕ) (ks : Kids) (os : List Element) (e : Element) → AreKnown fs (names ks) os → is_among e os ≡ true
+    → come_first order fs j ks e ≡ None
 come-both order [] j ks os e known both = refl
 come-both order (f ∷ fs) j [] os e known both = refl
 come-both order (None ∷ fs) j (k ∷ ks) os e known both =
-    elim (same_element e k.0) as (λ b. same_element e k.0 ≡ b → cond b (Some (contents k.1, place_after order k.0 j)) (come_first order fs (j + 1) ks e) ≡ None) [
+    elim (same_element e k.0) as (λ b. same_element e k.0 ≡ b
+    → cond b (Some (contents k.1, place_after order k.0 j)) (come_first order fs (j + 1) ks e) ≡ None) [
       | true ↦ λ t. absurd (true≢false (sym both ∙ ap (λ x. is_among x os) (same_element-true e k.0 t) ∙ sym known.0))
       | false ↦ λ t. come-both order fs (j + 1) ks os e known.1 both
     ] refl
@@ -130,7 +136,8 @@ pub come-absent : (order : List Element) (fs : Found) (j : ℕ) (ks : Kids) (e :
 come-absent order [] j ks e none = refl
 come-absent order (f ∷ fs) j [] e none = refl
 come-absent order (None ∷ fs) j (k ∷ ks) e none =
-    elim (same_element e k.0) as (λ b. cond b (Some k.1) (named ks e) ≡ None → cond b (Some (contents k.1, place_after order k.0 j)) (come_first order fs (j + 1) ks e) ≡ None) [
+    elim (same_element e k.0) as (λ b. cond b (Some k.1) (named ks e) ≡ None
+    → cond b (Some (contents k.1, place_after order k.0 j)) (come_first order fs (j + 1) ks e) ≡ None) [
       | true ↦ λ t. absurd (none-some k.1 (sym t))
       | false ↦ λ t. come-absent order fs (j + 1) ks e t
     ] none
@@ -141,17 +148,22 @@ come-absent order (Some i ∷ fs) j (k ∷ ks) e none =
     ] none
 
 -- what only the second has comes, to where it stands there
-pub come-new : (order : List Element) (fs : Found) (j : ℕ) (ks : Kids) (os : List Element) (e : Element) (f : Marks) (m : ℕ) → AreKnown fs (names ks) os → is_among e os ≡ false → named ks e ≡ Some f → position_from (same_element e) j (names ks) ≡ Some m
+pub come-new : (order : List Element) (fs : Found) (j : ℕ) (ks : Kids) (os : List Element) (e : Element) (f : Marks) (m : ℕ) → AreKnown fs (names ks) os
+    → is_among e os ≡ false → named ks e ≡ Some f → position_from (same_element e) j (names ks) ≡ Some m
     → come_first order fs j ks e ≡ Some (contents f, place_after order e m)
 come-new order fs j [] os e f m known new is at = absurd (none-some f is)
 come-new order [] j (k ∷ ks) os e f m known new is at = absurd known
 come-new order (None ∷ fs) j (k ∷ ks) os e f m known new is at =
-    elim (same_element e k.0) as (λ b. same_element e k.0 ≡ b → cond b (Some k.1) (named ks e) ≡ Some f → cond b (Some j) (position_from (same_element e) (j + 1) (names ks)) ≡ Some m → cond b (Some (contents k.1, place_after order k.0 j)) (come_first order fs (j + 1) ks e) ≡ Some (contents f, place_after order e m)) [
+    elim (same_element e k.0) as (λ b. same_element e k.0 ≡ b → cond b (Some k.1) (named ks e) ≡ Some f
+    → cond b (Some j) (position_from (same_element e) (j + 1) (names ks)) ≡ Some m
+    → cond b (Some (contents k.1, place_after order k.0 j)) (come_first order fs (j + 1) ks e) ≡ Some (contents f, place_after order e m)) [
       | true ↦ λ t u v i. Some (contents (same_Some k.1 f u i), place_after order (sym (same_element-true e k.0 t) i) (same_Some j m v i))
       | false ↦ λ t u v. come-new order fs (j + 1) ks os e f m known.1 new u v
     ] refl is at
 come-new order (Some n ∷ fs) j (k ∷ ks) os e f m known new is at =
-    elim (same_element e k.0) as (λ b. same_element e k.0 ≡ b → cond b (Some k.1) (named ks e) ≡ Some f → cond b (Some j) (position_from (same_element e) (j + 1) (names ks)) ≡ Some m → come_first order fs (j + 1) ks e ≡ Some (contents f, place_after order e m)) [
+    elim (same_element e k.0) as (λ b. same_element e k.0 ≡ b → cond b (Some k.1) (named ks e) ≡ Some f
+    → cond b (Some j) (position_from (same_element e) (j + 1) (names ks)) ≡ Some m
+    → come_first order fs (j + 1) ks e ≡ Some (contents f, place_after order e m)) [
       | true ↦ λ t u v. absurd (true≢false (known.0 ∙ ap (λ x. is_among x os) (sym (same_element-true e k.0 t)) ∙ new))
       | false ↦ λ t u v. come-new order fs (j + 1) ks os e f m known.1 new u v
     ] refl is at
@@ -188,7 +200,8 @@ order-below before after e q =
     ]
 
 no-order : (before after : List Element) → are_some_items after ≡ false → find path_cmp [] (told_order before after) ≡ None
-no-order before after h = ap (λ b. find path_cmp [] (if b then ([], after) ∷ [] else [])) (ap (λ b. are_some_items before && b) h ∙ and-false (are_some_items before))
+no-order before after h =
+    ap (λ b. find path_cmp [] (if b then ([], after) ∷ [] else [])) (ap (λ b. are_some_items before && b) h ∙ and-false (are_some_items before))
   where
     and-false : (b : Bool) → (b && false) ≡ false
     and-false true = refl
@@ -214,9 +227,11 @@ nothing-common [] = refl
 nothing-common (e ∷ es) = nothing-common es
 
 -- items of lists that are not in one order are there
-both-items : (es fs : List Element) → are_items es ≡ true → are_items fs ≡ true → are_in_one_order es fs ≡ false → (are_some_items es && are_some_items fs) ≡ true
+both-items : (es fs : List Element) → are_items es ≡ true → are_items fs ≡ true → are_in_one_order es fs ≡ false
+    → (are_some_items es && are_some_items fs) ≡ true
 both-items [] fs h k n = absurd (true≢false (sym (ap (λ xs. Rattle.std.specs.Cmp.Lexicographic.pointwise same_element [] xs) (nothing-common fs)) ∙ n))
-both-items (e ∷ es) [] h k n = absurd (true≢false (sym (ap (λ xs. Rattle.std.specs.Cmp.Lexicographic.pointwise same_element xs []) (nothing-common (e ∷ es))) ∙ n))
+both-items (e ∷ es) [] h k n =
+    absurd (true≢false (sym (ap (λ xs. Rattle.std.specs.Cmp.Lexicographic.pointwise same_element xs []) (nothing-common (e ∷ es))) ∙ n))
 both-items (e ∷ es) (f ∷ fs) h k n = λ i. some-items e es h i && some-items f fs k i
 
 list-order : (n : Bool) (es fs : List Element) → are_items es ≡ true → are_items fs ≡ true → n ≡ are_in_one_order es fs
@@ -266,13 +281,17 @@ either-place : (b : Bool) (m : ℕ) (o : Option ℕ) → o ≡ Some m → (if b 
 either-place true m o h = refl
 either-place false m o h = h
 
-list-place : (n : Bool) (es : List Element) (e : Element) (m : ℕ) → are_items es ≡ true → position_from (same_element e) 0 es ≡ Some m → place_after (told_unless n es) e m ≡ Some m
+list-place : (n : Bool) (es : List Element) (e : Element) (m : ℕ) → are_items es ≡ true → position_from (same_element e) 0 es ≡ Some m
+    → place_after (told_unless n es) e m ≡ Some m
 list-place true es e m h at = ap (λ b. if b then Some m else None) (item-among e es m 0 h at)
 list-place false es e m h at =
-    ap (λ b. if b then (if is_none es then Some m else position_from (same_element e) 0 es) else None) (item-among e es m 0 h at) ∙ either-place (is_none es) m (position_from (same_element e) 0 es) at
+    ap (λ b. if b then (if is_none es then Some m else position_from (same_element e) 0 es) else None) (item-among e es m 0 h at)
+    ∙ either-place (is_none es) m (position_from (same_element e) 0 es) at
 
-field-place : (order es : List Element) (e : Element) (m : ℕ) → are_fields es ≡ true → position_from (same_element e) 0 es ≡ Some m → place_after order e m ≡ None
-field-place order es e m h at = ap (λ b. if b then (if is_none order then Some m else position_from (same_element e) 0 order) else None) (field-among e es m 0 h at)
+field-place : (order es : List Element) (e : Element) (m : ℕ) → are_fields es ≡ true → position_from (same_element e) 0 es ≡ Some m
+    → place_after order e m ≡ None
+field-place order es e m h at =
+    ap (λ b. if b then (if is_none order then Some m else position_from (same_element e) 0 order) else None) (field-among e es m 0 h at)
 
 pub place-said : (o : Content) (n : Bool) (es : List Element) (e : Element) (m : ℕ) → may_stand o es ≡ true → position_from (same_element e) 0 es ≡ Some m
     → place_after (told_unless n es) e m ≡ position_from (same_element e) 0 (order_at (Some (with_order o es)))
@@ -307,7 +326,8 @@ abbrev pub told_in : Option Marks → Contents
 told_in x q = content_told (marks_in x q)
 
 -- what is below a child of one of them alone is not told
-pub deep-said : (x y : Option Marks) (g : Element) (q : Path) → ((f h : Marks) → x ≡ Some f → y ≡ Some h → (r : Path) → f r ≡ h r) → between (told_in x) (told_in y) (g ∷ q) ≡ silent
+pub deep-said : (x y : Option Marks) (g : Element) (q : Path) → ((f h : Marks) → x ≡ Some f → y ≡ Some h → (r : Path) → f r ≡ h r)
+    → between (told_in x) (told_in y) (g ∷ q) ≡ silent
 deep-said None None g q same = refl
 deep-said (Some f) (Some h) g q same =
     ap (λ (n : Contents). between (contents f) n (g ∷ q)) (λ i r. content_told (sym (same f h refl refl r) i)) ∙ between-itself (contents f) (g ∷ q)

@@ -60,13 +60,16 @@ module _ (o : Content) (n : Bool) (ks ls : Kids) (x : ChildrenEdit) (h : IsEdit 
   abbrev order : List Element
   order = told_unless n (names ls)
 
-  cut-is : (e : Element) → find path_cmp (e ∷ []) (Rattle.ssa_turn_body.proofs.EditSays.singles (named_in x.gone)) ≡ (if is_some (named ks e) && not (is_some (named ls e)) then Some tt else None)
+  cut-is : (e : Element) → find path_cmp (e ∷ []) (Rattle.ssa_turn_body.proofs.EditSays.singles (named_in x.gone))
+      ≡ (if is_some (named ks e) && not (is_some (named ls e)) then Some tt else None)
   cut-is e =
       cut-found (named_in x.gone) e
       ∙ ap (λ es. if is_among e es then Some tt else None) (h.gone ∙ fresh-known h.back (names ks) (names ls) h.gone_known)
-      ∙ ap (λ b. if b then Some tt else None) (among-filter (λ f. not (is_among f (names ls))) (names ks) e ∙ (λ i. named-among ks e i && not (named-among ls e i)))
+      ∙ ap (λ b. if b then Some tt else None) (among-filter (λ f. not (is_among f (names ls))) (names ks) e
+      ∙ (λ i. named-among ks e i && not (named-among ls e i)))
 
-  put-is : (e : Element) → option_map shown (find path_cmp (e ∷ []) (parts_of (path_view x.order.after.items) x.come.places.items x.held.items)) ≡ come_first order h.found 0 ls e
+  put-is : (e : Element) → option_map shown (find path_cmp (e ∷ []) (parts_of (path_view x.order.after.items) x.come.places.items x.held.items))
+      ≡ come_first order h.found 0 ls e
   put-is e =
       (λ i. option_map shown (find path_cmp (e ∷ []) (parts_of (h.order_after i) (h.come i) x.held.items)))
       ∙ parts-come order h.found 0 ls x.held.items e h.held h.trees
@@ -75,7 +78,12 @@ module _ (o : Content) (n : Bool) (ks ls : Kids) (x : ChildrenEdit) (h : IsEdit 
   among-first e f is = named-among ks e ∙ ap is_some is
 
   child-by : (e : Element) (a b : Option Marks) → named ks e ≡ a → named ls e ≡ b
-      → ◌≡◌ {A = Said} (record { cut = if is_some a && not (is_some b) then Some tt else None; leaf = None; order = None; put = come_first order h.found 0 ls e }) (child_said a b (stands_in second (e ∷ [])))
+      → ◌≡◌ {A = Said} (record {
+        cut = if is_some a && not (is_some b) then Some tt else None;
+        leaf = None;
+        order = None;
+        put = come_first order h.found 0 ls e;
+      }) (child_said a b (stands_in second (e ∷ [])))
   child-by e None None is_a is_b = λ i. record { cut = None; leaf = None; order = None; put = come-absent order h.found 0 ls e is_b i }
   child-by e (Some f) None is_a is_b =
       let root = h.root_before e f is_a in
@@ -111,7 +119,9 @@ module _ (o : Content) (n : Bool) (ks ls : Kids) (x : ChildrenEdit) (h : IsEdit 
 
   pub edit-says : (r : Path) → said_in (Children x) r ≡ between first second r
   edit-says [] =
-      let order_is = (λ i. find path_cmp [] (told_order (h.order_before i) (h.order_after i))) ∙ order-said o n (names ks) (names ls) h.stand_before h.stand_after h.in_order in
+      let order_is =
+      (λ i. find path_cmp [] (told_order (h.order_before i) (h.order_after i)))
+      ∙ order-said o n (names ks) (names ls) h.stand_before h.stand_after h.in_order in
       (λ i. record {
         cut = cut-root (named_in x.gone) i;
         leaf = sym (no-swap o (names ks) (names ls) h.stand_before) i;
@@ -120,7 +130,12 @@ module _ (o : Content) (n : Bool) (ks ls : Kids) (x : ChildrenEdit) (h : IsEdit 
       })
       ∙ sym (root-said first second)
   edit-says (e ∷ []) =
-      (λ i. record { cut = cut-is e i; leaf = None; order = order-below (path_view x.order.before.items) (path_view x.order.after.items) e [] i; put = put-is e i })
+      (λ i. record {
+        cut = cut-is e i;
+        leaf = None;
+        order = order-below (path_view x.order.before.items) (path_view x.order.after.items) e [] i;
+        put = put-is e i;
+      })
       ∙ child-by e (named ks e) (named ls e) refl refl
   edit-says (e ∷ g ∷ q) =
       (λ i. record {

@@ -278,7 +278,15 @@ edit-again s t u v w x h g k =
     let order_before_is = k.order_before ∙ g.order_after in
     let order_after_is = k.order_after ∙ g.order_before in (
       (λ i. (own_is i, below_is i)),
-      (λ i. record { before = before_is i; gone = ((k.gone ∙ g.come) i, gone_is i); come = ((k.come ∙ g.gone) i, come_is i); after = after_is i; order_before = order_before_is i; order_after = order_after_is i; held = (k.held ∙ r.going_is) i }),
+      (λ i. record {
+        before = before_is i;
+        gone = ((k.gone ∙ g.come) i, gone_is i);
+        come = ((k.come ∙ g.gone) i, come_is i);
+        after = after_is i;
+        order_before = order_before_is i;
+        order_after = order_after_is i;
+        held = (k.held ∙ r.going_is) i;
+      }),
     )
 
 -- ---- a leaf

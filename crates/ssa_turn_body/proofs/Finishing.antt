@@ -37,7 +37,8 @@ use Rattle.ssa_turn_body.proofs.BodyMarks.{Ordered, ordered}
 use Rattle.ssa_turn_body.proofs.Descending.{child-here, found-at}
 use Rattle.ssa_turn_body.proofs.Edits.{map-going}
 use Rattle.ssa_turn_body.proofs.Marking.{names-kids}
-use Rattle.ssa_turn_body.proofs.Matching.{found-length, length-elements, length-fresh, length-kept, places-nones}
+use Rattle.ssa_turn_body.proofs.Matching.{found-length, length-fresh, length-kept, places-nones}
+use Rattle.ssa_turn_body.proofs.Missing.{length-elements}
 use Rattle.ssa_turn_body.proofs.Walking.{led, led_in, child-among}
 
 abbrev Found : Type 0
@@ -151,7 +152,9 @@ module _ (o : Content) (cs ds : List Child) (fs : Found) (s : ChildrenEdit) (bet
         order_before =
             between.order_before ∙ ap (told_unless (is_none s.before.items)) (sym (names-from (λ e q. led o cs ds (e ∷ q)) (elements cs)))
             ∙ ap (λ b. told_unless b (names (led_kids o cs ds))) (sym keeps);
-        order_after = between.order_after ∙ ap (told_unless (is_none s.before.items)) (sym (ap names edit-leaves ∙ names-kids ds)) ∙ ap (λ b. told_unless b (names (edited (record s { held = h }) (led_kids o cs ds)))) (sym keeps);
+        order_after =
+            between.order_after ∙ ap (told_unless (is_none s.before.items)) (sym (ap names edit-leaves ∙ names-kids ds))
+            ∙ ap (λ b. told_unless b (names (edited (record s { held = h }) (led_kids o cs ds)))) (sym keeps);
         stands = ap (λ ls. may_stand o (names ls)) edit-leaves ∙ ap (may_stand o) (names-kids ds) ∙ stand;
         trees = ap are_trees holds ∙ fresh-trees fs ds trees;
         out_empty = between.out_empty;
@@ -192,7 +195,8 @@ module _ (o : Content) (cs ds : List Child) (fs : Found) (s : ChildrenEdit) (bet
           by (child_at e cs) (child_at e ds) r (child-among e cs ∙ ap (list_any (same_element e)) same_names ∙ sym (child-among e ds))
           ∙ ap (λ x. marks_in x r) (named-kids ds e)
 
-  pub put : (t : PlaceChange) (y : Place) → ChangeGives (Children (record s { held = h })) (o, led_kids o cs ds) t y → (q : Path) → from_place y q ≡ from_place (with_order o (elements ds), kids ds) q
+  pub put : (t : PlaceChange) (y : Place) → ChangeGives (Children (record s { held = h })) (o, led_kids o cs ds) t y → (q : Path)
+      → from_place y q ≡ from_place (with_order o (elements ds), kids ds) q
   put (Leaf t) y g q = absurd g
   put (Children t) y g q =
       let is : y.1 ≡ kids ds = g.children ∙ edit-leaves in

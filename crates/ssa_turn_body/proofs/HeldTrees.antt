@@ -74,14 +74,16 @@ reverse-hold (s ∷ ss) h = subst AllHoldTrees (sym (reverse-append (s ∷ []) s
 
 -- ---- changes that say the same
 
-parts-alike : (order : List Element) (ks : List ℕ) (hs gs : List Child) → kids hs ≡ kids gs → are_trees hs ≡ true → are_trees gs ≡ true → parts_of order ks hs ≡ parts_of order ks gs
+parts-alike : (order : List Element) (ks : List ℕ) (hs gs : List Child) → kids hs ≡ kids gs → are_trees hs ≡ true → are_trees gs ≡ true
+    → parts_of order ks hs ≡ parts_of order ks gs
 parts-alike order [] hs gs is h g = refl
 parts-alike order (k ∷ ks) [] [] is h g = refl
 parts-alike order (k ∷ ks) [] (y ∷ gs) is h g = absurd (omega (arith, ap length is))
 parts-alike order (k ∷ ks) (x ∷ hs) [] is h g = absurd (omega (arith, ap length is))
 parts-alike order (k ∷ ks) (x ∷ hs) (y ∷ gs) is h g =
     let head : (element_view x.0, marks x.1) ≡ (element_view y.0, marks y.1) = ap (head_or (element_view x.0, marks x.1)) is in
-    let part = body-same x.1 y.1 (both_first (is_tree x.1) (are_trees hs) h) (both_first (is_tree y.1) (are_trees gs) g) (λ q. ap (λ (z : Element × Marks). z.1 q) head) in
+    let part =
+    body-same x.1 y.1 (both_first (is_tree x.1) (are_trees hs) h) (both_first (is_tree y.1) (are_trees gs) g) (λ q. ap (λ (z : Element × Marks). z.1 q) head) in
     λ i. (ap (λ (z : Element × Marks). z.0) head i ∷ [], record { below = part i; place = place_after order (ap (λ (z : Element × Marks). z.0) head i) k })
     ∷ parts-alike order ks hs gs (ap rest_after is) (both_second (is_tree x.1) (are_trees hs) h) (both_second (is_tree y.1) (are_trees gs) g) i
 

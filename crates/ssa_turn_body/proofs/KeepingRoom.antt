@@ -26,7 +26,8 @@ pub alike-back : (b c : Body) → AreAlike b c → AreAlike c b
 alike-back b c h p x y is_x is_y = sym (h p y x is_y is_x)
 
 -- bodies of trees are led by their record
-pub record-leads : (n m : Node) (b c : Body) → is_tree n ≡ true → is_tree m ≡ true → body_of n ≡ b → body_of m ≡ c → AreAlike b c → carry_body (body_record b c) b ≡ c
+pub record-leads : (n m : Node) (b c : Body) → is_tree n ≡ true → is_tree m ≡ true → body_of n ≡ b → body_of m ≡ c → AreAlike b c
+    → carry_body (body_record b c) b ≡ c
 record-leads n m b c tn tm is_b is_c alike = tree_leads b c (subst IsTree is_b (tree-is n tn)) (subst IsTree is_c (tree-is m tm)) alike
 
 pub turns-keep-room : TurnsKeepRoom
@@ -37,14 +38,18 @@ turns-keep-room s t b c room turned fits = record {
       let lead = bodies-back s t u b c d room.fits turned again in
       let same : body_told u ≡ body_told s =
       same-told u s lead.1
-      (subst AllHoldTrees (reverse-reverse u.steps.items) (reverse-hold (reverse u.steps.items) (left-hold t.steps.items again.before (reverse u.steps.items) again.after again.turned)))
-      (fit-hold s.steps.items turned.before (reverse t.steps.items) turned.after (room.fits turned.before turned.tree_before turned.body_before) turned.turned) in
+      (subst AllHoldTrees (reverse-reverse u.steps.items) (reverse-hold (reverse u.steps.items)
+      (left-hold t.steps.items again.before (reverse u.steps.items) again.after again.turned)))
+      (fit-hold s.steps.items turned.before (reverse t.steps.items) turned.after
+      (room.fits turned.before turned.tree_before turned.body_before) turned.turned) in
       let alike : AreAlike c d = subst (AreAlike c) (sym lead.0) (alike-back b c given.alike) in
       let told : body_told t ≡ body_record c d = given.back ∙ ap (body_record c) (sym lead.0) in
       record {
         alike = alike;
         there = told;
         back = same ∙ given.there ∙ ap (λ x. body_record x c) (sym lead.0);
-        leads = sym (ap (λ r. carry_body r c) told ∙ record-leads again.before again.after c d again.tree_before again.tree_after again.body_before again.body_after alike);
+        leads =
+            sym (ap (λ r. carry_body r c) told
+            ∙ record-leads again.before again.after c d again.tree_before again.tree_after again.body_before again.body_after alike);
       };
 }

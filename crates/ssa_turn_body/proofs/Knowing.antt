@@ -35,7 +35,8 @@ known-found cs (d ∷ ds) (Some k ∷ fs) h = (sym (here-among (element_view d.0
 -- ---- the first children among the second
 
 -- an element stands at one place
-same-place : (e : Element) (cs : List Child) (i j : ℕ) (c d : Child) → slice_get cs i ≡ Some c → same_element e (element_view c.0) ≡ true → slice_get cs j ≡ Some d → same_element e (element_view d.0) ≡ true → are_apart (elements cs) ≡ true → i ≡ j
+same-place : (e : Element) (cs : List Child) (i j : ℕ) (c d : Child) → slice_get cs i ≡ Some c → same_element e (element_view c.0) ≡ true
+    → slice_get cs j ≡ Some d → same_element e (element_view d.0) ≡ true → are_apart (elements cs) ≡ true → i ≡ j
 same-place e [] i j c d g s h t apart = absurd (none-some c g)
 same-place e (x ∷ cs) zero zero c d g s h t apart = refl
 same-place e (x ∷ cs) zero (suc j) c d g s h t apart =
@@ -46,21 +47,26 @@ same-place e (x ∷ cs) (suc i) (suc j) c d g s h t apart =
     ap suc (same-place e cs i j c d g s h t (both_second (not (list_any (same_element (element_view x.0)) (elements cs))) _ apart))
 
 -- the place of a child that is there is told
-in-found : (cs ds : List Child) (fs : Found) (e : Element) (x : ℕ) (c : Child) → slice_get cs x ≡ Some c → same_element e (element_view c.0) ≡ true → are_apart (elements cs) ≡ true → AreFound cs ds fs → is_among e (elements ds) ≡ true → is_in x (somes fs) ≡ true
+in-found : (cs ds : List Child) (fs : Found) (e : Element) (x : ℕ) (c : Child) → slice_get cs x ≡ Some c → same_element e (element_view c.0) ≡ true
+    → are_apart (elements cs) ≡ true → AreFound cs ds fs → is_among e (elements ds) ≡ true → is_in x (somes fs) ≡ true
 in-found cs [] fs e x c g s apart h t = absurd (true≢false (sym t))
 in-found cs (d ∷ ds) [] e x c g s apart h t = absurd h
 in-found cs (d ∷ ds) (None ∷ fs) e x c g s apart h t =
-    elim (same_element e (element_view d.0)) as (λ b. same_element e (element_view d.0) ≡ b → (b || is_among e (elements ds)) ≡ true → is_in x (somes fs) ≡ true) [
+    elim (same_element e (element_view d.0)) as (λ b. same_element e (element_view d.0) ≡ b → (b || is_among e (elements ds)) ≡ true
+    → is_in x (somes fs) ≡ true) [
       | true ↦ λ u v.
           let there = found-at e cs x c g s apart in
           absurd (none-some c.1 (sym (ap (λ f. child_at f cs) (same_element-true e (element_view d.0) u) ∙ h.0) ∙ there))
       | false ↦ λ u v. in-found cs ds fs e x c g s apart h.1 v
     ] refl t
 in-found cs (d ∷ ds) (Some j ∷ fs) e x c g s apart h t =
-    elim (same_element e (element_view d.0)) as (λ b. same_element e (element_view d.0) ≡ b → (b || is_among e (elements ds)) ≡ true → (eqb x j || is_in x (somes fs)) ≡ true) [
+    elim (same_element e (element_view d.0)) as (λ b. same_element e (element_view d.0) ≡ b → (b || is_among e (elements ds)) ≡ true
+    → (eqb x j || is_in x (somes fs)) ≡ true) [
       | true ↦ λ u v.
           let at = child-here (element_view d.0) cs j h.0 in
-          let same : x ≡ j = same-place e cs x j c at.child g s at.here (ap (λ f. same_element f (element_view at.child.0)) (same_element-true e (element_view d.0) u) ∙ at.same) apart in
+          let same : x ≡ j =
+          same-place e cs x j c at.child g s at.here (ap (λ f. same_element f (element_view at.child.0)) (same_element-true e (element_view d.0) u)
+          ∙ at.same) apart in
           ap (λ y. eqb x y || is_in x (somes fs)) (sym same) ∙ ap (λ b. b || is_in x (somes fs)) (same_number x)
       | false ↦ λ u v. ap (λ b. eqb x j || b) (in-found cs ds fs e x c g s apart h.1 v) ∙ or_true (eqb x j)
     ] refl t
@@ -77,13 +83,15 @@ at-index (y ∷ cs) zero c g = record {
 }
 at-index (y ∷ cs) (suc x) c g = let rest = at-index cs x c g in let lt = rest.within in record { within = omega arith; same = λ d. rest.same d }
 
-known-from : (bs : Found) (cs : List Child) (os : List Element) → length bs ≡ length cs → ((x : ℕ) (c : Child) → slice_get cs x ≡ Some c → is_told bs x ≡ is_among (element_view c.0) os) → AreKnown bs (elements cs) os
+known-from : (bs : Found) (cs : List Child) (os : List Element) → length bs ≡ length cs
+    → ((x : ℕ) (c : Child) → slice_get cs x ≡ Some c → is_told bs x ≡ is_among (element_view c.0) os) → AreKnown bs (elements cs) os
 known-from [] [] os l h = tt
 known-from [] (c ∷ cs) os l h = absurd (omega (arith, l))
 known-from (b ∷ bs) [] os l h = absurd (omega (arith, l))
 known-from (b ∷ bs) (c ∷ cs) os l h = (h zero c refl, known-from bs cs os (omega (arith, l)) (λ x d g. h (suc x) d g))
 
-pub known-back : (cs ds : List Child) (fs back : Found) → are_apart (elements cs) ≡ true → AreFound cs ds fs → IsTurnedRound (length cs) fs back → AreKnown back (elements cs) (elements ds)
+pub known-back : (cs ds : List Child) (fs back : Found) → are_apart (elements cs) ≡ true → AreFound cs ds fs → IsTurnedRound (length cs) fs back
+    → AreKnown back (elements cs) (elements ds)
 known-back cs ds fs back apart found turned = known-from back cs (elements ds) turned.long (λ x c g.
     turned.there x
     ∙ same_tests (is_in x (somes fs)) (is_among (element_view c.0) (elements ds))
@@ -97,11 +105,14 @@ kept-known [] [] os h = refl
 kept-known [] (e ∷ es) os h = absurd h
 kept-known (f ∷ fs) [] os h = absurd h
 kept-known (None ∷ fs) (e ∷ es) os h = kept-known fs es os h.1 ∙ ap (λ b. cond b (e ∷ filter (λ x. is_among x os) es) (filter (λ x. is_among x os) es)) h.0
-kept-known (Some k ∷ fs) (e ∷ es) os h = ap (λ xs. e ∷ xs) (kept-known fs es os h.1) ∙ ap (λ b. cond b (e ∷ filter (λ x. is_among x os) es) (filter (λ x. is_among x os) es)) h.0
+kept-known (Some k ∷ fs) (e ∷ es) os h =
+    ap (λ xs. e ∷ xs) (kept-known fs es os h.1) ∙ ap (λ b. cond b (e ∷ filter (λ x. is_among x os) es) (filter (λ x. is_among x os) es)) h.0
 
 pub fresh-known : (fs : Found) (es os : List Element) → AreKnown fs es os → fresh fs es ≡ filter (λ e. not (is_among e os)) es
 fresh-known [] [] os h = refl
 fresh-known [] (e ∷ es) os h = absurd h
 fresh-known (f ∷ fs) [] os h = absurd h
-fresh-known (None ∷ fs) (e ∷ es) os h = ap (λ xs. e ∷ xs) (fresh-known fs es os h.1) ∙ ap (λ b. cond (not b) (e ∷ filter (λ x. not (is_among x os)) es) (filter (λ x. not (is_among x os)) es)) h.0
-fresh-known (Some k ∷ fs) (e ∷ es) os h = fresh-known fs es os h.1 ∙ ap (λ b. cond (not b) (e ∷ filter (λ x. not (is_among x os)) es) (filter (λ x. not (is_among x os)) es)) h.0
+fresh-known (None ∷ fs) (e ∷ es) os h =
+    ap (λ xs. e ∷ xs) (fresh-known fs es os h.1) ∙ ap (λ b. cond (not b) (e ∷ filter (λ x. not (is_among x os)) es) (filter (λ x. not (is_among x os)) es)) h.0
+fresh-known (Some k ∷ fs) (e ∷ es) os h =
+    fresh-known fs es os h.1 ∙ ap (λ b. cond (not b) (e ∷ filter (λ x. not (is_among x os)) es) (filter (λ x. not (is_among x os)) es)) h.0

@@ -50,7 +50,14 @@ lead-both [] ys v us w l = record { front = []; back = us; middle = v; whole = r
 lead-both (x ∷ xs) ys v [] w l = absurd l
 lead-both (x ∷ xs) ys v (u ∷ us) w l =
     let rest = lead-both xs ys l.0 us w l.2 in
-    record { front = u ∷ rest.front; back = rest.back; middle = rest.middle; whole = ap (λ xs. u ∷ xs) rest.whole; first = (l.0, l.1, rest.first); second = rest.second }
+    record {
+      front = u ∷ rest.front;
+      back = rest.back;
+      middle = rest.middle;
+      whole = ap (λ xs. u ∷ xs) rest.whole;
+      first = (l.0, l.1, rest.first);
+      second = rest.second;
+    }
 
 pub led-then : (p : Path) (M N O : Marks) (xs ys : List Step) → IsLed p M N xs → IsLed p N O ys → IsLed p M O (xs ++ ys)
 led-then p M N O xs ys g h = record {
@@ -77,7 +84,8 @@ under-longer (e ∷ p) g (f ∷ q) h =
       | false ↦ λ k. refl
     ] h
 
-pub below-is : (p : Path) (e : Element) (M N : Marks) → ((q : Path) → M (e ∷ q) ≡ N q) → (v : Node) → ((q : Path) → marks v (p ++ q) ≡ M q) → (q : Path) → marks v ((p ++ e ∷ []) ++ q) ≡ N q
+pub below-is : (p : Path) (e : Element) (M N : Marks) → ((q : Path) → M (e ∷ q) ≡ N q) → (v : Node) → ((q : Path) → marks v (p ++ q) ≡ M q) → (q : Path)
+    → marks v ((p ++ e ∷ []) ++ q) ≡ N q
 below-is p e M N own v is q = ap (marks v) (append_assoc p (e ∷ []) q) ∙ is (e ∷ q) ∙ own q
 
 pub led-child : (p : Path) (e : Element) (M M2 N N2 : Marks) (ss : List Step) → ((q : Path) → M (e ∷ q) ≡ N q) → ((q : Path) → M2 (e ∷ q) ≡ N2 q) → ((q : Path) → under (e ∷ []) q ≡ false → M2 q ≡ M q)
@@ -154,16 +162,19 @@ led-own s M N c es root fits gives = record {
 -- what the change becomes, by what it finds at its place
 pub turned-own : (s : Step) (M : Marks) (c : Content) (es : List Element) → M [] ≡ Some (c, es) → (G : List Step → Type 0)
     → ((t : Step) (y : Place) → t.path.items ≡ s.path.items → ChangeGives s.change (place_of M c es) t.change y → G (t ∷ []))
-    → (v : Node) → is_tree v ≡ true → ((q : Path) → marks v (path_view s.path.items ++ q) ≡ M q) → (ts : List Step) (w : Node) → StepsLead (s ∷ []) v ts w → G ts
+    → (v : Node) → is_tree v ≡ true → ((q : Path) → marks v (path_view s.path.items ++ q) ≡ M q) → (ts : List Step) (w : Node) → StepsLead (s ∷ []) v ts w
+    → G ts
 turned-own s M c es root G goal v tree is ts w l = by ts l
   where
     at : IsPlaced (path_view s.path.items) v (place_of M c es)
     at = placed (path_view s.path.items) v M c es tree is root
 
-    given : (t : Step) (a b : Option Node) → a ≡ Some at.node → t.path.items ≡ s.path.items → GivesIn (λ n m. ChangeGives s.change (seen n) t.change (seen m)) a b → G (t ∷ [])
+    given : (t : Step) (a b : Option Node) → a ≡ Some at.node → t.path.items ≡ s.path.items
+        → GivesIn (λ n m. ChangeGives s.change (seen n) t.change (seen m)) a b → G (t ∷ [])
     given t a None e same g = absurd (subst (λ o. GivesIn (λ n m. ChangeGives s.change (seen n) t.change (seen m)) o None) e g)
     given t a (Some m) e same g =
-        let h : ChangeGives s.change (seen at.node) t.change (seen m) = subst (λ o. GivesIn (λ n m. ChangeGives s.change (seen n) t.change (seen m)) o (Some m)) e g in
+        let h : ChangeGives s.change (seen at.node) t.change (seen m) =
+        subst (λ o. GivesIn (λ n m. ChangeGives s.change (seen n) t.change (seen m)) o (Some m)) e g in
         goal t (seen m) same (subst (λ x. ChangeGives s.change x t.change (seen m)) at.same h)
 
     by : (ts : List Step) → StepsLead (s ∷ []) v ts w → G ts

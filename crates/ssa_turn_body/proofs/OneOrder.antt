@@ -17,7 +17,8 @@ use Rattle.ssa_turn_body.specs.Marks.{Child}
 use Rattle.ssa_turn_body.specs.Orders.{is_none, reordered}
 use Rattle.ssa_turn_body.proofs.Descending.{child-here}
 use Rattle.ssa_turn_body.proofs.Knowing.{kept-known, known-back, known-found}
-use Rattle.ssa_turn_body.proofs.Matching.{found-below, kept-filled, kept-led, length-elements}
+use Rattle.ssa_turn_body.proofs.Matching.{found-below, kept-filled, kept-led}
+use Rattle.ssa_turn_body.proofs.Missing.{length-elements}
 use Rattle.ssa_turn_body.proofs.Saying.{elements-themselves}
 
 abbrev Found : Type 0
@@ -31,7 +32,8 @@ no_element = field []
 any-there : (es : List Element) (j : ℕ) → j < length es → list_any (same_element (get_or es j no_element)) es ≡ true
 any-there [] j lt = absurd (omega arith)
 any-there (e ∷ es) zero lt = ap (λ b. b || list_any (same_element e) es) (same_element-itself e)
-any-there (e ∷ es) (suc j) lt = ap (λ b. same_element (get_or es j no_element) e || b) (any-there es j (omega arith)) ∙ or_true (same_element (get_or es j no_element) e)
+any-there (e ∷ es) (suc j) lt =
+    ap (λ b. same_element (get_or es j no_element) e || b) (any-there es j (omega arith)) ∙ or_true (same_element (get_or es j no_element) e)
   where
     or_true : (b : Bool) → (b || true) ≡ true
     or_true true = refl
@@ -46,7 +48,8 @@ one-place [] i j il jl apart is = absurd (omega (arith, il))
 one-place (e ∷ es) zero zero il jl apart is = refl
 one-place (e ∷ es) zero (suc j) il jl apart is = absurd (other-later e es j (omega (arith, jl)) apart is)
 one-place (e ∷ es) (suc i) zero il jl apart is = absurd (other-later e es i (omega (arith, il)) apart (sym is))
-one-place (e ∷ es) (suc i) (suc j) il jl apart is = ap suc (one-place es i j (omega (arith, il)) (omega (arith, jl)) (both_second (not (list_any (same_element e) es)) _ apart) is)
+one-place (e ∷ es) (suc i) (suc j) il jl apart is =
+    ap suc (one-place es i j (omega (arith, il)) (omega (arith, jl)) (both_second (not (list_any (same_element e) es)) _ apart) is)
 
 -- ---- what stays in its order stays at its place
 
@@ -54,16 +57,19 @@ abbrev first_or : {X : Type 0} → X → List X → X
 first_or d [] = d
 first_or d (x ∷ xs) = x
 
-filled-range : (g : ℕ → Element) (n k : ℕ) (bs : Found) (xs : List Element) (os : List ℕ) → ((i j : ℕ) → i < n → j < n → g i ≡ g j → i ≡ j) → k + length bs ≡ n → xs ≡ map g (range_with_len k (length bs)) → AreBelow n os → kept bs xs ≡ map g os
+filled-range : (g : ℕ → Element) (n k : ℕ) (bs : Found) (xs : List Element) (os : List ℕ) → ((i j : ℕ) → i < n → j < n → g i ≡ g j → i ≡ j) → k + length bs ≡ n
+    → xs ≡ map g (range_with_len k (length bs)) → AreBelow n os → kept bs xs ≡ map g os
     → filled k bs os ≡ range_with_len k (length bs)
 filled-range g n k [] xs os inj long is below e = refl
 filled-range g n k (None ∷ bs) xs os inj long is below e =
-    ap (λ ys. k ∷ ys) (filled-range g n (k + 1) bs (map g (range_with_len (k + 1) (length bs))) os inj (omega (arith, long)) refl below (ap (kept (None ∷ bs)) (sym is) ∙ e))
+    ap (λ ys. k ∷ ys) (filled-range g n (k + 1) bs (map g (range_with_len (k + 1) (length bs))) os inj (omega (arith, long)) refl below
+    (ap (kept (None ∷ bs)) (sym is) ∙ e))
 filled-range g n k (Some j ∷ bs) xs [] inj long is below e = absurd (omega (arith, ap length (ap (kept (Some j ∷ bs)) (sym is) ∙ e)))
 filled-range g n k (Some j ∷ bs) xs (o ∷ os) inj long is below e =
     let both : (g k ∷ kept bs (map g (range_with_len (k + 1) (length bs)))) ≡ (g o ∷ map g os) = ap (kept (Some j ∷ bs)) (sym is) ∙ e in
     let same : k ≡ o = inj k o (omega (arith, long)) below.0 (ap (first_or (g k)) both) in
-    (λ i. sym same i ∷ filled-range g n (k + 1) bs (map g (range_with_len (k + 1) (length bs))) os inj (omega (arith, long)) refl below.1 (ap (λ ys. drop 1 ys) both) i)
+    (λ i. sym same i ∷ filled-range g n (k + 1) bs (map g (range_with_len (k + 1) (length bs))) os inj (omega (arith, long)) refl below.1
+    (ap (λ ys. drop 1 ys) both) i)
 
 -- ---- the children of both places
 
@@ -81,8 +87,10 @@ led-elements cs (d ∷ ds) (Some k ∷ fs) h =
     let at = child-here (element_view d.0) cs k h.0 in
     (get-elements cs k at.child at.here ∙ ap Some (sym (same_element-true (element_view d.0) (element_view at.child.0) at.same)), led-elements cs ds fs h.1)
 
-module _ (cs ds : List Child) (fs back : Found) (before : List (ℕ × ℕ)) (apart : are_apart (elements cs) ≡ true) (found : AreFound cs ds fs) (turned : IsTurnedRound (length cs) fs back)
-    (order : reordered (range_with_len 0 (length back)) before ≡ filled 0 back (somes fs)) (exact : filled 0 back (somes fs) ≡ range_with_len 0 (length back) → before ≡ []) where
+module _ (cs ds : List Child) (fs back : Found) (before : List (ℕ × ℕ)) (apart : are_apart (elements cs) ≡ true) (found : AreFound cs ds fs)
+    (turned : IsTurnedRound (length cs) fs back)
+    (order : reordered (range_with_len 0 (length back)) before ≡ filled 0 back (somes fs))
+    (exact : filled 0 back (somes fs) ≡ range_with_len 0 (length back) → before ≡ []) where
   abbrev at : ℕ → Element
   at k = get_or (elements cs) k no_element
 
@@ -96,7 +104,8 @@ module _ (cs ds : List Child) (fs back : Found) (before : List (ℕ × ℕ)) (ap
   of-first = kept-known back (elements cs) (elements ds) (known-back cs ds fs back apart found turned)
 
   of-second : map at (somes fs) ≡ common (elements ds) (elements cs)
-  of-second = kept-led fs (elements cs) (elements ds) no_element (led-elements cs ds fs found) ∙ kept-known fs (elements ds) (elements cs) (known-found cs ds fs found)
+  of-second =
+      kept-led fs (elements cs) (elements ds) no_element (led-elements cs ds fs found) ∙ kept-known fs (elements ds) (elements cs) (known-found cs ds fs found)
 
   none-one : before ≡ [] → common (elements cs) (elements ds) ≡ common (elements ds) (elements cs)
   none-one none =
@@ -107,7 +116,8 @@ module _ (cs ds : List Child) (fs back : Found) (before : List (ℕ × ℕ)) (ap
   one-none : common (elements cs) (elements ds) ≡ common (elements ds) (elements cs) → before ≡ []
   one-none same =
       let within : AreBelow (length (elements cs)) (somes fs) = subst (λ n. AreBelow n (somes fs)) (sym (length-elements cs)) (found-below cs ds fs found) in
-      exact (filled-range at (length (elements cs)) 0 back (elements cs) (somes fs) (injective) (omega (arith, long)) all within (of-first ∙ same ∙ sym of-second))
+      exact (filled-range at (length (elements cs)) 0 back (elements cs) (somes fs) (injective) (omega (arith, long)) all within
+      (of-first ∙ same ∙ sym of-second))
     where
       injective : (i j : ℕ) → i < length (elements cs) → j < length (elements cs) → at i ≡ at j → i ≡ j
       injective i j il jl is = one-place (elements cs) i j il jl apart is
@@ -115,7 +125,8 @@ module _ (cs ds : List Child) (fs back : Found) (before : List (ℕ × ℕ)) (ap
   pub one-order : is_none before ≡ are_in_one_order (elements cs) (elements ds)
   one-order =
       same_tests (is_none before) (are_in_one_order (elements cs) (elements ds))
-      (λ t. ap (λ (es : List Element). Rattle.std.specs.Cmp.Lexicographic.pointwise same_element (common (elements cs) (elements ds)) es) (sym (none-one (none-is before t))) ∙ elements-themselves (common (elements cs) (elements ds)))
+      (λ t. ap (λ (es : List Element). Rattle.std.specs.Cmp.Lexicographic.pointwise same_element (common (elements cs) (elements ds)) es)
+      (sym (none-one (none-is before t))) ∙ elements-themselves (common (elements cs) (elements ds)))
       (λ t. ap is_none (one-none (pointwise-true same_element same_element-true (common (elements cs) (elements ds)) (common (elements ds) (elements cs)) t)))
     where
       none-is : {X : Type 0} (xs : List X) → is_none xs ≡ true → xs ≡ []

@@ -47,7 +47,8 @@ leading-same p M N xs ys e same = record { made = []; added = e ∙ sym (append-
 
 -- ---- one after the other
 
-saying-then : (p : Path) (M N O : Marks) (xs ys : List Step) → IsLed p M N xs → AreSaying p M N xs → AreSaying p N O ys → ((q : Path) → Joins (contents M) (contents N) (contents O) q) → AreSaying p M O (xs ++ ys)
+saying-then : (p : Path) (M N O : Marks) (xs ys : List Step) → IsLed p M N xs → AreSaying p M N xs → AreSaying p N O ys
+    → ((q : Path) → Joins (contents M) (contents N) (contents O) q) → AreSaying p M O (xs ++ ys)
 saying-then p M N O xs ys led g h joins = record {
   told = told-then p (contents M) (contents N) (contents O) xs ys g.told h.told (λ q. (joins q).there);
   back = λ v tree is ts w l.
@@ -55,10 +56,12 @@ saying-then p M N O xs ys led g h joins = record {
       let first = led.lead v tree is part.front part.middle part.first in
       let second = h.back part.middle (leads-tree xs v part.front part.middle tree part.first) first.there part.back w part.second in
       subst (AreTold p (contents O) (contents M)) (sym (ap reverse part.whole ∙ reverse-append part.front part.back))
-      (told-then p (contents O) (contents N) (contents M) (reverse part.back) (reverse part.front) second (g.back v tree is part.front part.middle part.first) (λ q. (joins q).back));
+      (told-then p (contents O) (contents N) (contents M) (reverse part.back) (reverse part.front) second (g.back v tree is part.front part.middle part.first)
+      (λ q. (joins q).back));
 }
 
-pub leading-then : (p : Path) (M N O : Marks) (xs ys zs : List Step) → ((q : Path) → Joins (contents M) (contents N) (contents O) q) → AreLeading p M N xs ys → AreLeading p N O ys zs → AreLeading p M O xs zs
+pub leading-then : (p : Path) (M N O : Marks) (xs ys zs : List Step) → ((q : Path) → Joins (contents M) (contents N) (contents O) q) → AreLeading p M N xs ys
+    → AreLeading p N O ys zs → AreLeading p M O xs zs
 leading-then p M N O xs ys zs joins g h = record {
   made = g.made ++ h.made;
   added = h.added ∙ ap (λ us. us ++ h.made) g.added ∙ append_assoc xs g.made h.made;
@@ -68,12 +71,16 @@ leading-then p M N O xs ys zs joins g h = record {
 
 -- ---- in a child
 
-pub saying-child : (p : Path) (e : Element) (M M2 N N2 : Marks) (ss : List Step) → ((q : Path) → M (e ∷ q) ≡ N q) → ((q : Path) → M2 (e ∷ q) ≡ N2 q) → ((q : Path) → under (e ∷ []) q ≡ false → M2 q ≡ M q)
+pub saying-child : (p : Path) (e : Element) (M M2 N N2 : Marks) (ss : List Step) → ((q : Path) → M (e ∷ q) ≡ N q) → ((q : Path) → M2 (e ∷ q) ≡ N2 q)
+    → ((q : Path) → under (e ∷ []) q ≡ false → M2 q ≡ M q)
     → is_some (contents N []) ≡ true → is_some (contents N2 []) ≡ true → AreSaying (p ++ e ∷ []) N N2 ss → AreSaying p M M2 ss
 saying-child p e M M2 N N2 ss own own2 others first second h = record {
-  told = told-child p e (contents M) (contents M2) (contents N) (contents N2) ss (λ q. ap content_told (own q)) (λ q. ap content_told (own2 q)) (λ q u. ap content_told (others q u)) first second h.told;
+  told =
+      told-child p e (contents M) (contents M2) (contents N) (contents N2) ss (λ q. ap content_told (own q)) (λ q. ap content_told (own2 q))
+      (λ q u. ap content_told (others q u)) first second h.told;
   back = λ v tree is ts w l.
-      told-child p e (contents M2) (contents M) (contents N2) (contents N) (reverse ts) (λ q. ap content_told (own2 q)) (λ q. ap content_told (own q)) (λ q u. sym (ap content_told (others q u))) second first
+      told-child p e (contents M2) (contents M) (contents N2) (contents N) (reverse ts) (λ q. ap content_told (own2 q)) (λ q. ap content_told (own q))
+      (λ q u. sym (ap content_told (others q u))) second first
       (h.back v tree (below-is p e M N own v is) ts w l);
 }
 
@@ -103,18 +110,22 @@ leaf-step-told s own l is other = record {
 }
 
 -- the leaf that is taken out is told on the way back
-leaf-step-back : (s t : Step) (own to : Leaf) (y : Place) → s.change ≡ LeafChange (record { leaf = to }) → t.path.items ≡ s.path.items → is_swapped (leaf_content to) (leaf_content own) ≡ true
-    → ChangeGives s.change (leaf_content own, []) t.change y → AreTold (path_view s.path.items) (contents (from_place (leaf_content to, []))) (contents (from_place (leaf_content own, []))) (t ∷ [])
+leaf-step-back : (s t : Step) (own to : Leaf) (y : Place) → s.change ≡ LeafChange (record { leaf = to }) → t.path.items ≡ s.path.items
+    → is_swapped (leaf_content to) (leaf_content own) ≡ true
+    → ChangeGives s.change (leaf_content own, []) t.change y → AreTold (path_view s.path.items) (contents (from_place (leaf_content to, [])))
+    (contents (from_place (leaf_content own, []))) (t ∷ [])
 leaf-step-back s t own to y is path other given = by t.change refl (subst (λ x. ChangeGives x (leaf_content own, []) t.change y) is given)
   where
-    by : (x : PlaceChange) → t.change ≡ x → ChangeGives (LeafChange (record { leaf = to })) (leaf_content own, []) x y → AreTold (path_view s.path.items) (contents (from_place (leaf_content to, []))) (contents (from_place (leaf_content own, []))) (t ∷ [])
+    by : (x : PlaceChange) → t.change ≡ x → ChangeGives (LeafChange (record { leaf = to })) (leaf_content own, []) x y
+        → AreTold (path_view s.path.items) (contents (from_place (leaf_content to, []))) (contents (from_place (leaf_content own, []))) (t ∷ [])
     by (LeafChange u) e g =
         subst (λ ps. AreTold (path_view ps) (contents (from_place (leaf_content to, []))) (contents (from_place (leaf_content own, []))) (t ∷ [])) path
         (subst (λ c. AreTold (path_view t.path.items) (contents (from_place (leaf_content to, []))) (contents (from_place (c, []))) (t ∷ [])) (sym g.taken)
         (leaf-step-told t to u e (ap (is_swapped (leaf_content to)) (sym g.taken) ∙ other)))
     by (ChildrenChange u) e g = absurd g
 
-pub leading-leaf : (p : Path) (own to : Leaf) (old new : List Step) → is_swapped (leaf_content own) (leaf_content to) ≡ true → is_swapped (leaf_content to) (leaf_content own) ≡ true → MayAdd false p (LeafChange (record { leaf = to })) old new
+pub leading-leaf : (p : Path) (own to : Leaf) (old new : List Step) → is_swapped (leaf_content own) (leaf_content to) ≡ true
+    → is_swapped (leaf_content to) (leaf_content own) ≡ true → MayAdd false p (LeafChange (record { leaf = to })) old new
     → AreLeading p (from_place (leaf_content own, [])) (from_place (leaf_content to, [])) old new
 leading-leaf p own to old new other other_back h = record {
   made = h.0 ∷ [];
@@ -125,12 +136,15 @@ leading-leaf p own to old new other other_back h = record {
       (λ t y g q. put t y (subst (λ x. ChangeGives x (leaf_content own, []) t y) h.2 g) q));
   saying = subst (λ r. AreSaying r (from_place (leaf_content own, [])) (from_place (leaf_content to, [])) (h.0 ∷ [])) h.1 (record {
     told = leaf-step-told h.0 own (record { leaf = to }) h.2 other;
-    back = turned-own h.0 (from_place (leaf_content own, [])) (leaf_content own) [] refl (λ ts. AreTold (path_view h.0.path.items) (contents (from_place (leaf_content to, []))) (contents (from_place (leaf_content own, []))) (reverse ts))
+    back =
+        turned-own h.0 (from_place (leaf_content own, [])) (leaf_content own) [] refl
+        (λ ts. AreTold (path_view h.0.path.items) (contents (from_place (leaf_content to, []))) (contents (from_place (leaf_content own, []))) (reverse ts))
         (λ t y path g. leaf-step-back h.0 t own to y h.2 path other_back g);
   });
 }
   where
-    put : (t : PlaceChange) (y : Place) → ChangeGives (LeafChange (record { leaf = to })) (leaf_content own, []) t y → (q : Path) → from_place y q ≡ from_place (leaf_content to, []) q
+    put : (t : PlaceChange) (y : Place) → ChangeGives (LeafChange (record { leaf = to })) (leaf_content own, []) t y → (q : Path)
+        → from_place y q ≡ from_place (leaf_content to, []) q
     put (LeafChange t) y g q = λ i. from_place (g.put i, g.none_after i) q
     put (ChildrenChange t) y g q = absurd g
 

@@ -39,7 +39,8 @@ module _ {X : Type 0} where
   find-both : (xs ys : List (Path × X)) (q : Path) → find path_cmp q (xs ++ ys) ≡ option_or (find path_cmp q xs) (find path_cmp q ys)
   find-both [] ys q = refl
   find-both (e ∷ xs) ys q =
-      elim (same_path q e.0) as (λ t. cond t (Some e.1) (find path_cmp q (xs ++ ys)) ≡ option_or (cond t (Some e.1) (find path_cmp q xs)) (find path_cmp q ys)) [ true ↦ refl | false ↦ find-both xs ys q ]
+      elim (same_path q e.0) as (λ t. cond t (Some e.1) (find path_cmp q (xs ++ ys))
+      ≡ option_or (cond t (Some e.1) (find path_cmp q xs)) (find path_cmp q ys)) [ true ↦ refl | false ↦ find-both xs ys q ]
 
   find-inside : (p r : Path) (es : List (Path × X)) → find path_cmp (p ++ r) (at_place p es) ≡ find path_cmp r es
   find-inside p r [] = refl
@@ -53,17 +54,21 @@ module _ {X : Type 0} where
     told-append : (ss ts : List Step) → told_by f (ss ++ ts) ≡ told_by f ss ++ told_by f ts
     told-append [] ts = refl
     told-append (s ∷ ss) ts =
-        ap (λ es. at_place (path_view s.path.items) (f s.change) ++ es) (told-append ss ts) ∙ sym (append_assoc (at_place (path_view s.path.items) (f s.change)) (told_by f ss) (told_by f ts))
+        ap (λ es. at_place (path_view s.path.items) (f s.change) ++ es) (told-append ss ts)
+        ∙ sym (append_assoc (at_place (path_view s.path.items) (f s.change)) (told_by f ss) (told_by f ts))
 
-    find-told : (ss ts : List Step) (q : Path) → find path_cmp q (told_by f (ss ++ ts)) ≡ option_or (find path_cmp q (told_by f ss)) (find path_cmp q (told_by f ts))
+    find-told : (ss ts : List Step) (q : Path) → find path_cmp q (told_by f (ss ++ ts))
+        ≡ option_or (find path_cmp q (told_by f ss)) (find path_cmp q (told_by f ts))
     find-told ss ts q = ap (find path_cmp q) (told-append ss ts) ∙ find-both (told_by f ss) (told_by f ts) q
 
     one-inside : (s : Step) (r : Path) → find path_cmp (path_view s.path.items ++ r) (told_by f (s ∷ [])) ≡ find path_cmp r (f s.change)
     one-inside s r =
-        ap (find path_cmp (path_view s.path.items ++ r)) (append-nil (at_place (path_view s.path.items) (f s.change))) ∙ find-inside (path_view s.path.items) r (f s.change)
+        ap (find path_cmp (path_view s.path.items ++ r)) (append-nil (at_place (path_view s.path.items) (f s.change)))
+        ∙ find-inside (path_view s.path.items) r (f s.change)
 
     one-outside : (s : Step) (q : Path) → under (path_view s.path.items) q ≡ false → find path_cmp q (told_by f (s ∷ [])) ≡ None
-    one-outside s q u = ap (find path_cmp q) (append-nil (at_place (path_view s.path.items) (f s.change))) ∙ find-outside (path_view s.path.items) q (f s.change) u
+    one-outside s q u =
+        ap (find path_cmp q) (append-nil (at_place (path_view s.path.items) (f s.change))) ∙ find-outside (path_view s.path.items) q (f s.change) u
 
 -- ---- some changes, and then others
 
@@ -86,7 +91,8 @@ says-both ss ts q =
     let cut = find-told cuts_in ss ts q in
     let leaf = find-told leaves_in ss ts q in
     let order = find-told orders_in ss ts q in
-    let put = ap (option_map shown) (find-told parts_in ss ts q) ∙ map-or shown (find path_cmp q (told_by parts_in ss)) (find path_cmp q (told_by parts_in ts)) in
+    let put =
+    ap (option_map shown) (find-told parts_in ss ts q) ∙ map-or shown (find path_cmp q (told_by parts_in ss)) (find path_cmp q (told_by parts_in ts)) in
     λ i. record { cut = cut i; leaf = leaf i; order = order i; put = put i }
 
 -- what one change says of a path from its place on
@@ -100,11 +106,23 @@ said_in x r = record {
 
 pub says-inside : (s : Step) (r : Path) → says (s ∷ []) (path_view s.path.items ++ r) ≡ said_in s.change r
 says-inside s r =
-    λ i. record { cut = one-inside cuts_in s r i; leaf = one-inside leaves_in s r i; order = one-inside orders_in s r i; put = option_map shown (one-inside parts_in s r i) }
+    λ i. record {
+      cut = one-inside cuts_in s r i;
+      leaf = one-inside leaves_in s r i;
+      order = one-inside orders_in s r i;
+      put = option_map shown
+          (one-inside parts_in s r i);
+    }
 
 pub says-outside : (s : Step) (q : Path) → under (path_view s.path.items) q ≡ false → says (s ∷ []) q ≡ silent
 says-outside s q u =
-    λ i. record { cut = one-outside cuts_in s q u i; leaf = one-outside leaves_in s q u i; order = one-outside orders_in s q u i; put = option_map shown (one-outside parts_in s q u i) }
+    λ i. record {
+      cut = one-outside cuts_in s q u i;
+      leaf = one-outside leaves_in s q u i;
+      order = one-outside orders_in s q u i;
+      put = option_map shown
+          (one-outside parts_in s q u i);
+    }
 
 -- ---- what two bodies say of a path of both
 
@@ -133,7 +151,8 @@ there-shut true false c e = absurd (true≢false (sym e))
 there-shut false b c e = refl
 
 pub there-said : (m n : Contents) (p : Path) → is_some (m p) ≡ true → is_some (n p) ≡ true → between m n p ≡ content_said (m p) (n p)
-there-said m n p a b = shut m n p (there-shut (is_some (m p)) (is_some (n p)) (is_some (n (parent p))) b) (there-shut (is_some (n p)) (is_some (m p)) (is_some (m (parent p))) a)
+there-said m n p a b =
+    shut m n p (there-shut (is_some (m p)) (is_some (n p)) (is_some (n (parent p))) b) (there-shut (is_some (n p)) (is_some (m p)) (is_some (m (parent p))) a)
 
 pub swap-itself : (a : Option Content) → swapped a a ≡ None
 swap-itself None = refl
@@ -178,7 +197,9 @@ around-second m n o p h =
       cut = if is_some (m p) && (not (is_some (here i)) && is_some (h.above i)) then Some tt else None;
       leaf = swapped (m p) (here i);
       order = new_order (m p) (here i);
-      put = if is_some (here i) && (not (is_some (m p)) && is_some (m (parent p))) then Some (λ q. h.from q i, elim (last_element p) [ None ↦ None | Some e ↦ position_from (same_element e) 0 (order_at (h.above i)) ]) else None;
+      put =
+          if is_some (here i) && (not (is_some (m p)) && is_some (m (parent p)))
+          then Some (λ q. h.from q i, elim (last_element p) [ None ↦ None | Some e ↦ position_from (same_element e) 0 (order_at (h.above i)) ]) else None;
     }
 
 around-first : (m n o : Contents) (p : Path) → IsAround m n p → between m o p ≡ between n o p
@@ -252,7 +273,8 @@ content-first a b c e = ap (λ x. or_said (content_said a x) (content_said x c))
 
 content-second : (a b c : Option Content) → b ≡ c → or_said (content_said a b) (content_said b c) ≡ content_said a c
 content-second a b c e =
-    ap (λ x. or_said (content_said a b) (content_said b x)) (sym e) ∙ ap (or_said (content_said a b)) (content-itself b) ∙ or-silent (content_said a b) ∙ ap (content_said a) e
+    ap (λ x. or_said (content_said a b) (content_said b x)) (sym e) ∙ ap (or_said (content_said a b)) (content-itself b) ∙ or-silent (content_said a b)
+    ∙ ap (content_said a) e
 
 pub joins-still-first : (m n o : Contents) (p : Path) → AreStill m n o p → m p ≡ n p → Joins m n o p
 joins-still-first m n o p s e = record {
@@ -271,7 +293,8 @@ joins-still-second m n o p s e = record {
 pub told-none : (p : Path) (m : Contents) → AreTold p m m []
 told-none p m = record { inside = λ q. sym (between-itself m q); outside = λ q u. refl }
 
-pub told-then : (p : Path) (m n o : Contents) (xs ys : List Step) → AreTold p m n xs → AreTold p n o ys → ((q : Path) → or_said (between m n q) (between n o q) ≡ between m o q) → AreTold p m o (xs ++ ys)
+pub told-then : (p : Path) (m n o : Contents) (xs ys : List Step) → AreTold p m n xs → AreTold p n o ys
+    → ((q : Path) → or_said (between m n q) (between n o q) ≡ between m o q) → AreTold p m o (xs ++ ys)
 told-then p m n o xs ys g h joins = record {
   inside = λ q. says-both xs ys (p ++ q) ∙ (λ i. or_said (g.inside q i) (h.inside q i)) ∙ joins q;
   outside = λ q u. says-both xs ys q ∙ (λ i. or_said (g.outside q u i) (h.outside q u i));
@@ -279,25 +302,43 @@ told-then p m n o xs ys g h joins = record {
 
 -- ---- in a child
 
-module _ (e : Element) (m m2 n n2 : Contents) (own : (q : Path) → m (e ∷ q) ≡ n q) (own2 : (q : Path) → m2 (e ∷ q) ≡ n2 q) (first : is_some (n []) ≡ true) (second : is_some (n2 []) ≡ true) where
+module _ (e : Element) (m m2 n n2 : Contents) (own : (q : Path) → m (e ∷ q) ≡ n q) (own2 : (q : Path) → m2 (e ∷ q) ≡ n2 q) (first : is_some (n []) ≡ true)
+    (second : is_some (n2 []) ≡ true) where
   between-child : (q : Path) → between n n2 q ≡ between m m2 (e ∷ q)
   between-child [] =
-      root-said n n2 ∙ (λ i. content_said (sym (own []) i) (sym (own2 []) i)) ∙ sym (there-said m m2 (e ∷ []) (ap is_some (own []) ∙ first) (ap is_some (own2 []) ∙ second))
+      root-said n n2 ∙ (λ i. content_said (sym (own []) i) (sym (own2 []) i))
+      ∙ sym (there-said m m2 (e ∷ []) (ap is_some (own []) ∙ first) (ap is_some (own2 []) ∙ second))
   between-child (f ∷ q) = λ i. record {
     cut = if is_some (sym (own (f ∷ q)) i) && (not (is_some (sym (own2 (f ∷ q)) i)) && is_some (sym (own2 (parent (f ∷ q))) i)) then Some tt else None;
     leaf = swapped (sym (own (f ∷ q)) i) (sym (own2 (f ∷ q)) i);
     order = new_order (sym (own (f ∷ q)) i) (sym (own2 (f ∷ q)) i);
-    put = if is_some (sym (own2 (f ∷ q)) i) && (not (is_some (sym (own (f ∷ q)) i)) && is_some (sym (own (parent (f ∷ q))) i)) then Some (λ r. sym (own2 ((f ∷ q) ++ r)) i, elim (last_element (f ∷ q)) [ None ↦ None | Some x ↦ position_from (same_element x) 0 (order_at (sym (own2 (parent (f ∷ q))) i)) ]) else None;
+    put =
+        if is_some (sym (own2 (f ∷ q)) i) && (not (is_some (sym (own (f ∷ q)) i)) && is_some (sym (own (parent (f ∷ q))) i))
+        then Some (
+          λ r. sym (own2 ((f ∷ q) ++ r)) i,
+          elim (last_element (f ∷ q)) [
+            | None ↦ None
+            | Some x ↦ position_from (same_element x) 0
+                (order_at (sym (own2 (parent (f ∷ q))) i))
+          ],
+        ) else None;
   }
 
 other-below : (e f : Element) (q : Path) → same_element e f ≡ false → under (e ∷ []) (f ∷ q) ≡ false
 other-below e f q t = ap (λ b. b && true) t
 
-pub other-around : (m m2 : Contents) (e f : Element) (q : Path) → same_element e f ≡ false → ((r : Path) → under (e ∷ []) r ≡ false → m2 r ≡ m r) → IsAround m m2 (f ∷ q)
+pub other-around : (m m2 : Contents) (e f : Element) (q : Path) → same_element e f ≡ false → ((r : Path) → under (e ∷ []) r ≡ false → m2 r ≡ m r)
+    → IsAround m m2 (f ∷ q)
 other-around m m2 e f [] t others = record { above = sym (others [] refl); from = λ r. sym (others (f ∷ r) (other-below e f r t)) }
-other-around m m2 e f (g ∷ q) t others = record { above = sym (others (f ∷ parent (g ∷ q)) (other-below e f (parent (g ∷ q)) t)); from = λ r. sym (others (f ∷ g ∷ (q ++ r)) (other-below e f (g ∷ (q ++ r)) t)) }
+other-around m m2 e f (g ∷ q) t others =
+    record {
+      above = sym (others (f ∷ parent (g ∷ q)) (other-below e f (parent (g ∷ q)) t));
+      from = λ r. sym
+          (others (f ∷ g ∷ (q ++ r)) (other-below e f (g ∷ (q ++ r)) t));
+    }
 
-pub told-child : (p : Path) (e : Element) (m m2 n n2 : Contents) (ss : List Step) → ((q : Path) → m (e ∷ q) ≡ n q) → ((q : Path) → m2 (e ∷ q) ≡ n2 q) → ((q : Path) → under (e ∷ []) q ≡ false → m2 q ≡ m q)
+pub told-child : (p : Path) (e : Element) (m m2 n n2 : Contents) (ss : List Step) → ((q : Path) → m (e ∷ q) ≡ n q) → ((q : Path) → m2 (e ∷ q) ≡ n2 q)
+    → ((q : Path) → under (e ∷ []) q ≡ false → m2 q ≡ m q)
     → is_some (n []) ≡ true → is_some (n2 []) ≡ true → AreTold (p ++ e ∷ []) n n2 ss → AreTold p m m2 ss
 told-child p e m m2 n n2 ss own own2 others first second h = record {
   inside = at;
@@ -310,7 +351,9 @@ told-child p e m m2 n n2 ss own own2 others first second h = record {
         elim (same_element e f) as (λ b. same_element e f ≡ b → says ss (p ++ f ∷ q) ≡ between m m2 (f ∷ q)) [
           | true ↦ λ t.
               let is = same_element-true e f t in
-              ap (λ x. says ss (p ++ x ∷ q)) (sym is) ∙ ap (says ss) (sym (append_assoc p (e ∷ []) q)) ∙ h.inside q ∙ between-child e m m2 n n2 own own2 first second q ∙ ap (λ x. between m m2 (x ∷ q)) is
+              ap (λ x. says ss (p ++ x ∷ q)) (sym is) ∙ ap (says ss) (sym (append_assoc p (e ∷ []) q)) ∙ h.inside q
+              ∙ between-child e m m2 n n2 own own2 first second q ∙ ap (λ x. between m m2 (x ∷ q)) is
           | false ↦ λ t.
-              h.outside (p ++ f ∷ q) (under-further p (e ∷ []) (f ∷ q) ∙ other-below e f q t) ∙ sym (around-silent m m2 (f ∷ q) (other-around m m2 e f q t others))
+              h.outside (p ++ f ∷ q) (under-further p (e ∷ []) (f ∷ q) ∙ other-below e f q t)
+              ∙ sym (around-silent m m2 (f ∷ q) (other-around m m2 e f q t others))
         ] refl

@@ -169,21 +169,31 @@ module _ (p : Path) (o : Content) (cs ds : List Child) (fs : Found) (old : List 
       first false e = refl
 
   -- what is said of the children so far, and of this one, is said of both together
-  joins-here : child_at (element_view d.0) here.done ≡ None → (q : Path) → Joins (contents (led o cs [])) (contents (led o cs here.done)) (contents (led o cs (here.done ++ d ∷ []))) q
-  joins-here new [] = joins-still-first (contents (led o cs [])) (contents (led o cs here.done)) (contents (led o cs (here.done ++ d ∷ []))) [] (still-root _ _ _) refl
+  joins-here : child_at (element_view d.0) here.done ≡ None → (q : Path)
+      → Joins (contents (led o cs [])) (contents (led o cs here.done)) (contents (led o cs (here.done ++ d ∷ []))) q
+  joins-here new [] =
+      joins-still-first (contents (led o cs [])) (contents (led o cs here.done)) (contents (led o cs (here.done ++ d ∷ []))) [] (still-root _ _ _) refl
   joins-here new (f ∷ q) =
-      elim (same_element (element_view d.0) f) as (λ b. same_element (element_view d.0) f ≡ b → Joins (contents (led o cs [])) (contents (led o cs here.done)) (contents (led o cs (here.done ++ d ∷ []))) (f ∷ q)) [
+      elim (same_element (element_view d.0) f) as (λ b. same_element (element_view d.0) f ≡ b
+      → Joins (contents (led o cs [])) (contents (led o cs here.done)) (contents (led o cs (here.done ++ d ∷ []))) (f ∷ q)) [
         | true ↦ λ t.
             let is = same_element-true (element_view d.0) f t in
-            joins-first (contents (led o cs [])) (contents (led o cs here.done)) (contents (led o cs (here.done ++ d ∷ []))) (f ∷ q) (not-yet f q (ap (λ e. child_at e here.done) (sym is) ∙ new))
+            joins-first (contents (led o cs [])) (contents (led o cs here.done)) (contents (led o cs (here.done ++ d ∷ []))) (f ∷ q)
+            (not-yet f q (ap (λ e. child_at e here.done) (sym is) ∙ new))
         | false ↦ λ t.
             joins-second (contents (led o cs [])) (contents (led o cs here.done)) (contents (led o cs (here.done ++ d ∷ []))) (f ∷ q)
-            (other-around (contents (led o cs here.done)) (contents (led o cs (here.done ++ d ∷ []))) (element_view d.0) f q t (λ r u. ap content_told (led-here r u)))
+            (other-around (contents (led o cs here.done)) (contents (led o cs (here.done ++ d ∷ []))) (element_view d.0) f q t
+            (λ r u. ap content_told (led-here r u)))
       ] refl
     where
       not-yet : (f : Element) (q : Path) → child_at f here.done ≡ None → IsAround (contents (led o cs [])) (contents (led o cs here.done)) (f ∷ q)
       not-yet f [] e = record { above = refl; from = λ r. ap (λ x. content_told (led_in (child_at f cs) x r)) (sym e) }
-      not-yet f (g ∷ q) e = record { above = ap (λ x. content_told (led_in (child_at f cs) x (parent (g ∷ q)))) (sym e); from = λ r. ap (λ x. content_told (led_in (child_at f cs) x (g ∷ (q ++ r)))) (sym e) }
+      not-yet f (g ∷ q) e =
+          record {
+            above = ap (λ x. content_told (led_in (child_at f cs) x (parent (g ∷ q)))) (sym e);
+            from = λ r. ap
+                (λ x. content_told (led_in (child_at f cs) x (g ∷ (q ++ r)))) (sym e);
+          }
 
   pub walking-led : (k : ℕ) (steps2 : List Step) → are_apart (elements cs) ≡ true → get_or fs i None ≡ Some k → IsChildLed p cs d steps steps2 → IsWalking p o cs ds fs old (i + 1) rest held steps2
   walking-led k steps2 own_apart e child =
@@ -229,7 +239,8 @@ module _ (p : Path) (o : Content) (cs ds : List Child) (fs : Found) (old : List 
             here.held_is ∙ ap (λ gs. held ++ fresh gs (d ∷ rest)) (split None e) ∙ sym (append_assoc held (d ∷ []) (fresh (drop (i + 1) fs) rest))
             ∙ ap (λ hs. hs ++ fresh (drop (i + 1) fs) rest) (sym pushed);
         leading = leading-then p (led o cs []) (led o cs here.done) (led o cs (here.done ++ d ∷ [])) old steps steps
-            (λ q. joins-second (contents (led o cs [])) (contents (led o cs here.done)) (contents (led o cs (here.done ++ d ∷ []))) q (record { above = ap content_told (same (parent q)); from = λ r. ap content_told (same (q ++ r)) }))
+            (λ q. joins-second (contents (led o cs [])) (contents (led o cs here.done)) (contents (led o cs (here.done ++ d ∷ []))) q
+            (record { above = ap content_told (same (parent q)); from = λ r. ap content_told (same (q ++ r)) }))
             here.leading (leading-same p (led o cs here.done) (led o cs (here.done ++ d ∷ [])) steps steps refl same);
       }
     where

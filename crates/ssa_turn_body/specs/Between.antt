@@ -13,7 +13,7 @@ use Rattle.ssa_turn_body.specs.Woven.{ArePlaces, room_for}
 use Rattle.ssa_turn_body.specs.declared.children.ChildrenEdit.{ChildrenEdit}
 
 -- an edit of the first children, which holds nothing yet: with what comes it leaves the second, where what stays is as in the second.
--- `back` tells of each of the first its place among the second, if it has one.
+-- `back` tells a place for just those of the first that are among the second.
 pub record IsEditBetween (cs ds : List Child) (fs : List (Option ℕ)) (s : ChildrenEdit) : Type 0 where
   pub back : List (Option ℕ)
   pub before : SwapsInRange (length cs) s.before.items

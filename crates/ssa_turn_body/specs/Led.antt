@@ -27,7 +27,8 @@ pub record IsLed (p : Path) (before after : Marks) (ss : List Step) : Type 0 whe
 -- the changes say what is other there, and what they become says the same the other way round
 pub record AreSaying (p : Path) (before after : Marks) (ss : List Step) : Type 0 where
   pub told : AreTold p (contents before) (contents after) ss
-  pub back : (v : Node) → is_tree v ≡ true → ((q : Path) → marks v (p ++ q) ≡ before q) → (ts : List Step) (w : Node) → StepsLead ss v ts w → AreTold p (contents after) (contents before) (reverse ts)
+  pub back : (v : Node) → is_tree v ≡ true → ((q : Path) → marks v (p ++ q) ≡ before q) → (ts : List Step) (w : Node) → StepsLead ss v ts w
+      → AreTold p (contents after) (contents before) (reverse ts)
 
 -- such changes are made and stand behind the others
 pub record AreLeading (p : Path) (before after : Marks) (old new : List Step) : Type 0 where

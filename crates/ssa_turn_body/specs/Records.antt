@@ -47,7 +47,8 @@ place_after order e k = if is_item_element e then (if is_none order then Some k 
 abbrev pub parts_of : List Element → List ℕ → List Child → List (Path × Part)
 parts_of order [] hs = []
 parts_of order (k ∷ ks) [] = []
-parts_of order (k ∷ ks) (h ∷ hs) = (element_view h.0 ∷ [], record { below = body_of h.1; place = place_after order (element_view h.0) k }) ∷ parts_of order ks hs
+parts_of order (k ∷ ks) (h ∷ hs) =
+    (element_view h.0 ∷ [], record { below = body_of h.1; place = place_after order (element_view h.0) k }) ∷ parts_of order ks hs
 
 -- the children that come
 abbrev pub parts_in : PlaceChange → List (Path × Part)

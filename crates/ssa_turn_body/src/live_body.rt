@@ -10,8 +10,8 @@ use ssa_reverse::reversible::Reversible;
 use ssa_typed::body::Body;
 use std::alloc::AllocError;
 
-/// Changes the body as the record says that its steps tell, and leaves the steps that lead back.
-/// Takes no memory.
+/// Takes the body to where the record that the steps say leads, and leaves the steps that say the
+/// way back. Takes no memory.
 pub fn turn_recorded(body: &mut Body, changes: &mut BodySteps)
     requires fits { IsBodyTaken (body_told changes.old) body.old (carry_body (body_told changes.old) body.old) }
     requires room { HasBodyRoom changes.old body.old }

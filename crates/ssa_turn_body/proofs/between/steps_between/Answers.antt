@@ -20,10 +20,12 @@ returns-clause-leads c =
 
 pub returns-clause-record : goal.returns-clause-record
 returns-clause-record c =
-    between-record c.root.result.now c.take_root-root.result c.new-path.result.items c.new-steps.result.items (record { steps = c.steps_below.new.steps }) c.root.ensures.tree c.take_root-root.ensures.tree c.new-path.ensures.items c.new-steps.ensures.items
+    between-record c.root.result.now c.take_root-root.result c.new-path.result.items c.new-steps.result.items
+    (record { steps = c.steps_below.new.steps }) c.root.ensures.tree c.take_root-root.ensures.tree c.new-path.ensures.items c.new-steps.ensures.items
     c.in_ok-steps_below.ensures.led c.args.from.now c.args.to c.root.ensures.seen c.take_root-root.ensures.seen
 
 pub returns-clause-room : goal.returns-clause-room
 returns-clause-room c =
-    between-room c.root.result.now c.take_root-root.result c.new-path.result.items c.new-steps.result.items (record { steps = c.steps_below.new.steps }) c.root.ensures.tree c.take_root-root.ensures.tree c.new-path.ensures.items c.new-steps.ensures.items
+    between-room c.root.result.now c.take_root-root.result c.new-path.result.items c.new-steps.result.items
+    (record { steps = c.steps_below.new.steps }) c.root.ensures.tree c.take_root-root.ensures.tree c.new-path.ensures.items c.new-steps.ensures.items
     c.in_ok-steps_below.ensures.led c.args.from.now c.args.to c.root.ensures.seen c.take_root-root.ensures.seen

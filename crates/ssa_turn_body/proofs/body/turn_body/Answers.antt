@@ -21,5 +21,6 @@ returns-clause-room c = λ room.
       turned = c.turn.ensures.leads;
     } in
     let fits : BodyStepsFit c.turn.new.self c.swap_root-2.new.self = λ n tree same.
-    steps-fit c.turn.new.self.steps.items c.turn.new.node n c.turn.ensures.tree tree (body-marks c.turn.new.node n c.turn.ensures.tree tree (sym c.swap_root-2.ensures.put ∙ sym same)) c.turn.ensures.back in
+    steps-fit c.turn.new.self.steps.items c.turn.new.node n c.turn.ensures.tree tree
+    (body-marks c.turn.new.node n c.turn.ensures.tree tree (sym c.swap_root-2.ensures.put ∙ sym same)) c.turn.ensures.back in
     turns-keep-room c.args.changes.now c.turn.new.self c.args.body.now c.swap_root-2.new.self room turned fits

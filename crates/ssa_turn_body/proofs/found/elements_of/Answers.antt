@@ -1,13 +1,9 @@
-use Rattle.std.proofs.Common.{◌≡◌, List, [], ◌∷◌, ◌++◌, take, refl, sym, ap, ◌∙◌}
+use Rattle.std.proofs.Common.{[], ◌∷◌, ◌++◌, take, sym, ap, ◌∙◌}
 use Rattle.std.proofs.lemmas.List.{map-append, take_more}
 use Rattle.ssa_path.specs.Children.{elements}
 use Rattle.ssa_path.specs.View.{element_view, path_view}
-use Rattle.ssa_turn_body.specs.Marks.{Child}
+use Rattle.ssa_turn_body.proofs.Missing.{elements-push}
 use Rattle.ssa_turn_body.proofs.found.elements_of.Goals as goal
-
-elements-push : (cs : List Child) (d : Child) → elements (cs ++ d ∷ []) ≡ elements cs ++ element_view d.0 ∷ []
-elements-push [] d = refl
-elements-push (c ∷ cs) d = ap (λ es. element_view c.0 ∷ es) (elements-push cs d)
 
 pub loop-child-preserved : goal.loop-child-preserved
 loop-child-preserved c =

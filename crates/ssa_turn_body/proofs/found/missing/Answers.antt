@@ -2,7 +2,7 @@ use Rattle.std.proofs.Common.{◌<◌, length, get_or, arith, ap, sym, map, ◌�
 use Rattle.std.proofs.lemmas.List.{map-append}
 use Rattle.ssa_path.specs.View.{element_view}
 use Rattle.ssa_turn_body.specs.Marks.{Child}
-use Rattle.ssa_turn_body.proofs.Matching.{missing-place, missing-element, present-place, present-element, child-or, get-again}
+use Rattle.ssa_turn_body.proofs.Missing.{missing-place, missing-element, present-place, present-element, child-or, get-again}
 use Rattle.ssa_turn_body.proofs.found.missing.Goals as goal
 
 pub loop-i-preserved-then-is_some : goal.loop-i-preserved-then-is_some

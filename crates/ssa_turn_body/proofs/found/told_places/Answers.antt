@@ -1,5 +1,6 @@
 use Rattle.std.proofs.Common.{Vec, Global, ℕ, ap, sym, ◌∙◌, ◌++◌, ◌∷◌, []}
-use Rattle.ssa_turn_body.proofs.Matching.{as-some, told-more, told-none}
+use Rattle.ssa_turn_body.proofs.Missing.{as-some}
+use Rattle.ssa_turn_body.proofs.Matching.{told-more, told-none}
 use Rattle.ssa_turn_body.proofs.found.told_places.Goals as goal
 use Rattle.ssa_turn_body.proofs.found.told_places.Goals.{in-Some+in_ok-push-in-Some, in-None}
 

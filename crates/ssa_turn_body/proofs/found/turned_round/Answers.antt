@@ -1,6 +1,7 @@
 use Rattle.std.proofs.Common.{Vec, Global, ℕ, Option, ◌+◌, sym, subst, arith, take}
 use Rattle.ssa_turn_body.specs.Found.{IsTurnedRound}
-use Rattle.ssa_turn_body.proofs.Matching.{as-some, turned-none, turned-more, turned-same, told-below}
+use Rattle.ssa_turn_body.proofs.Missing.{as-some}
+use Rattle.ssa_turn_body.proofs.Matching.{turned-none, turned-more, turned-same, told-below}
 use Rattle.ssa_turn_body.proofs.found.turned_round.Goals as goal
 use Rattle.ssa_turn_body.proofs.found.turned_round.Goals.{in-Some, in-None}
 

@@ -140,9 +140,11 @@ walk_children-returns-clause-led t c =
     let added =
     subst (λ q. MayAdd (is_idle s) q (Children (record s { held = l.held })) l.steps.items c.push_edit.new.steps.items) (ap path_view (c.deref-4.ensures.value ∙ l.invariant.path)) c.in_ok-push_edit.ensures in
     let last =
-    finish o cs ds fs s between l.held ((level-below n).apart c.requires.from) apart found end.0 c.requires.to (own-stands n (elements ds) c.requires.from c.requires.stand) c.requires.stand (own-order n c.requires.from) p l.steps.items c.push_edit.new.steps.items
+    finish o cs ds fs s between l.held ((level-below n).apart c.requires.from) apart found end.0 c.requires.to
+    (own-stands n (elements ds) c.requires.from c.requires.stand) c.requires.stand (own-order n c.requires.from) p l.steps.items c.push_edit.new.steps.items
     added in
-    leading-from p (marks n) (led o cs []) _ old c.push_edit.new.steps.items (led-start n) (leading-then p (led o cs []) (led o cs ds) _ old l.steps.items c.push_edit.new.steps.items (joins-final o cs ds) end.1 last)
+    leading-from p (marks n) (led o cs []) _ old c.push_edit.new.steps.items (led-start n)
+    (leading-then p (led o cs []) (led o cs ds) _ old l.steps.items c.push_edit.new.steps.items (joins-final o cs ds) end.1 last)
 
 -- ---- a place
 
