@@ -21,7 +21,7 @@ use Rattle.ssa_model.proofs.PutItems.{filter-members, item_end, gives, stays}
 use Rattle.ssa_model.proofs.BodyLeads.{bodies_are_trees}
 
 module _ {X : Type 0} where
-  insert_at : (xs ys : List X) (n : ℕ) (y : X) → length xs ≡ n → insert (xs ++ ys) n y ≡ (xs ++ (y ∷ [])) ++ ys
+  pub insert_at : (xs ys : List X) (n : ℕ) (y : X) → length xs ≡ n → insert (xs ++ ys) n y ≡ (xs ++ (y ∷ [])) ++ ys
   insert_at [] ys zero y e = refl
   insert_at [] ys (suc n) y e = absurd (omega arith)
   insert_at (x ∷ xs) ys zero y e = absurd (omega arith)

@@ -44,7 +44,7 @@ moment-leads a b =
     ] refl
 
 -- the change of an entry to one of the same manager gives that one
-entry-leads : (e f : Entry) → e.manager ≡ f.manager → changed_entry (change_of e (Some f)) e ≡ f
+pub entry-leads : (e f : Entry) → e.manager ≡ f.manager → changed_entry (change_of e (Some f)) e ≡ f
 entry-leads e f k =
     elim (is_unchanged e f) as (λ t. is_unchanged e f ≡ t → changed_entry (if t then None else Some (change_to e f)) e ≡ f) [
       | true ↦ λ t.
@@ -101,11 +101,11 @@ change-found u (e ∷ es) h =
 -- ---- the entries of both
 
 -- the entry of a manager, or another one
-abbrev entry_or : Entry → Table → ManagerKey → Entry
+abbrev pub entry_or : Entry → Table → ManagerKey → Entry
 entry_or d u k = unwrap_or (entry_of u k) d
 
 -- entries that are those of their managers are got from their managers
-from_managers : (d : Entry) (u : Table) (q : ManagerKey → Bool) (es : Table) → AllEntries (λ e. entry_of u e.manager ≡ Some e) es
+pub from_managers : (d : Entry) (u : Table) (q : ManagerKey → Bool) (es : Table) → AllEntries (λ e. entry_of u e.manager ≡ Some e) es
     → map (entry_or d u) (filter q (managers es)) ≡ filter (λ e. q e.manager) es
 from_managers d u q [] h = refl
 from_managers d u q (e ∷ es) h =

@@ -3,7 +3,7 @@
 ghost use Rattle.ssa_model.specs.laws.RecordLeads.{SetLeads, TableLeads, CarryAnswers, BodyLeads, RecordLeads};
 ghost use Rattle.ssa_model.specs.laws.RecordTurns.{BodyTurns, TableTurns, RecordTurns, FixesTarget, FixesRecord, LeadsBack, TurnsTwice, BodyLaws, TableLaws, TakesByParts};
 ghost use Rattle.ssa_model.specs.laws.RecordSizes.{BodyBound, TableBound, SizeBound, FactsBothWays};
-ghost use Rattle.ssa_model.specs.laws.InPlace.{TableIsInserted, ItemsAreInserted};
+ghost use Rattle.ssa_model.specs.laws.InPlace.{TableIsInserted, StayersAreLed, ItemsAreInserted};
 ghost use Rattle.ssa_model.specs.laws.RecordWalks.{CutsAreFiltered, LeavesAreFiltered, OrdersAreFiltered, PutsAreFiltered, RecordBelow, PartIsValue, TreeLeads, BodiesAreTrees, PartIsTree, CarryBelow};
 ghost use Rattle.ssa_model.specs.examples.RecordRows.{FirstApplyRecord, ForcedRecord, GivenUpRecord, RemovedItemRecord, RemovedItemPlace, ReorderRecord, RepeatRecord, StripRecord, SetFilledRecord, SetEmptiedRecord, LiveItemsRecord, LedRecord, ForcedFacts, ReorderFacts, RemovedItemFacts, FirstApplyText, ForcedText, RemovedItemText, ReorderText, RecordsAreMet};
 
@@ -89,6 +89,7 @@ pub fn facts_both_ways()
 /// What goes is taken out, and what comes is inserted at rising places: so a table and a list of items become those of the second state.
 pub fn in_place()
     ensures table { TableIsInserted }
+    ensures stayers { StayersAreLed }
     ensures items { ItemsAreInserted }
 {}
 

@@ -7,7 +7,7 @@ use Rattle.std.specs.Prelude.{filter, if◌then◌else◌}
 use Rattle.ssa_model.specs.definitions.Table.{Entry, Table}
 use Rattle.ssa_model.specs.definitions.Record.{placed}
 use Rattle.ssa_turn_table.proofs.Changes.{heads}
-use Rattle.ssa_turn_table.proofs.Stayers.{insert_at}
+use Rattle.ssa_model.proofs.InPlace.{insert_at}
 use Rattle.ssa_model.proofs.Tests.{by_test, filter-kept, filter-dropped}
 use Rattle.ssa_merge.specs.Managers.{key_view}
 use Rattle.ssa_merge.specs.declared.manager.ManagerKey.{ManagerKey as Key}

@@ -1,7 +1,6 @@
 pub mod Steps
 pub mod Changes
 pub mod Taking
-pub mod Stayers
 pub mod Inserting
 pub mod TurnedTables
 pub mod Refilled

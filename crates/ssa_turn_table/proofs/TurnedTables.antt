@@ -9,10 +9,11 @@ use Rattle.ssa_model.specs.definitions.Table.{Entry, Table, is_in_table, entry_o
 use Rattle.ssa_model.specs.definitions.Valid.{AllEntries, has_distinct_keys}
 use Rattle.ssa_model.specs.definitions.Record.{Change, TableRecord, change_of, changes, gone_from, new_in}
 use Rattle.ssa_model.specs.definitions.Takes.{TableTakes, moment_or, turned_change}
-use Rattle.ssa_turn_table.proofs.Stayers.{StayersAreLed, stayers_are_led}
+use Rattle.ssa_model.specs.laws.InPlace.{StayersAreLed}
 use Rattle.ssa_model.specs.laws.RecordTurns.{TableTurns}
 use Rattle.ssa_model.proofs.ManagerEntries.{entry-absent, entry-own}
-use Rattle.ssa_model.proofs.Tables.{is_in_table-filter, no}
+use Rattle.ssa_model.proofs.Stayers.{stayers_are_led}
+use Rattle.ssa_model.proofs.Tables.{distinct-filter, is_in_table-filter, no}
 use Rattle.ssa_model.proofs.Tests.{by_test, filter-kept, filter-dropped}
 use Rattle.ssa_turn_table.specs.Changing.{AllHaveRoom, AreChanges, change_in, changed_back, changes_back, led_to}
 use Rattle.ssa_turn_table.specs.declared.delta.EntryChange.{EntryChange}
@@ -47,17 +48,6 @@ all-filter P q [] h = tt
 all-filter P q (e ∷ es) h =
     let rest = all-filter P q es h.1 in
     elim (q e) as (λ b. AllEntries P (cond b (e ∷ filter q es) (filter q es))) [ true ↦ (h.0, rest) | false ↦ rest ]
-
--- those that pass have managers of their own where all have
-distinct-filter : (q : Entry → Bool) (es : Table) → has_distinct_keys es ≡ true → has_distinct_keys (filter q es) ≡ true
-distinct-filter q [] h = refl
-distinct-filter q (e ∷ es) h =
-    let rest = distinct-filter q es (second_so (not (is_in_table es e.manager)) (has_distinct_keys es) h) in
-    let apart = is_in_table-filter q es e.manager (no (is_in_table es e.manager) (first_so (not (is_in_table es e.manager)) (has_distinct_keys es) h)) in
-    elim (q e) as (λ b. has_distinct_keys (cond b (e ∷ filter q es) (filter q es)) ≡ true) [
-      | true ↦ (λ i. not (apart i) && rest i)
-      | false ↦ rest
-    ]
 
 -- ---- those who stay
 
