@@ -1,6 +1,6 @@
--- Plans on valid states lead to valid states, and keep the managers' order.
-use Rattle.std.proofs.Common.{◌≡◌, ◌≤◌, List, [], ◌∷◌, Bool, true, refl, sym, subst}
-use Rattle.std.specs.Prelude.{Result, Ok, Err, IfOk, filter, map}
+-- Changes of valid states lead to valid states, and keep the managers' order.
+use Rattle.std.proofs.Common.{◌≡◌, ◌≤◌, List, [], ◌∷◌, Bool, true, refl, sym, subst, ◌∙◌}
+use Rattle.std.specs.Prelude.{Result, Ok, Err, None, IfOk, filter, map}
 use Rattle.ssa_model.specs.definitions.Limits.{most_places}
 use Rattle.ssa_model.specs.definitions.Json.{Text}
 use Rattle.ssa_model.specs.definitions.Kind.{Kind}
@@ -11,49 +11,57 @@ use Rattle.ssa_model.specs.definitions.History.{is_manager_name}
 use Rattle.ssa_model.specs.definitions.Table.{ManagerKey, is_in_table, owned_by}
 use Rattle.ssa_model.specs.definitions.Operations as model
 use Rattle.ssa_model.specs.definitions.Operations.{State, pruned, apply, update, strip}
-use Rattle.ssa_model.specs.definitions.Valid.{IsRooted, IsValidState, KeepsOrder}
+use Rattle.ssa_model.specs.definitions.Valid.{IsRooted, IsValidState, KeepsOrder, has_distinct_keys}
 use Rattle.ssa_model.proofs.Accepted.{applied_is, updated_is}
 use Rattle.ssa_model.proofs.SharedManagers.{operations_keep_order}
 use Rattle.ssa_model.proofs.ValidStates.{apply_keeps_valid, update_keeps_valid, strip_keeps_valid}
 use Rattle.ssa_merge.specs.States.{state_view}
-use Rattle.ssa_merge.specs.Plans.{IsChange, IsChanged, IsPlan, IsPlanned, StandInOrder}
+use Rattle.ssa_merge.specs.TableChanges.{changed_table, LeadsTo}
+use Rattle.ssa_merge.specs.Plans.{changed_state, ChangesInOrder, IsChange, IsChanged, IsPlan, IsPlanned}
 use Rattle.ssa_merge.specs.declared.change.Change.{Change}
+use Rattle.ssa_merge.specs.declared.table_change.TableChange.{TableChange}
 use Rattle.ssa_merge.specs.declared.plan.Plan.{Plan}
 use Rattle.ssa_merge.specs.declared.plan.Refusal.{Refusal}
 use Rattle.ssa_merge.specs.declared.plan.Refusal.TheVariants.{Conflict, TooManyPaths, TooManyManagers, OutOfMemory}
 
-pub applied_valid : (state : State) (a : ManagerKey) (config : Body) (force : Bool) (at : Text) (r : Result Plan Refusal) → IsPlanned state r (apply state a config force at)
-    → IfOk r (λ p. (kind : Kind) → IsValidState kind state → IsBodyOf kind config → IsRooted config → is_manager_name a.name ≡ true → IsValidState kind (state_view p.target))
-applied_valid state a config force at (Ok p) h = λ kind valid fits rooted name. subst (IsValidState kind) (sym h.2.target_is) (apply_keeps_valid kind state h.0 a config force at valid fits rooted name h.1)
+-- the state that a change leads to
+same_state : (before : State) (c : Change) (after : State) → IsChange before c after → after ≡ changed_state before c.body c.table
+same_state before c after h = λ i. record { body = sym h.body_is i; table = sym h.table_leads.leads i }
+
+pub applied_valid : (state : State) (a : ManagerKey) (config : Body) (force : Bool) (at : Text) (r : Result Change Refusal) → IsChanged state r (apply state a config force at)
+    → IfOk r (λ c. (kind : Kind) → IsValidState kind state → IsBodyOf kind config → IsRooted config → is_manager_name a.name ≡ true → IsValidState kind (changed_state state c.body c.table))
+applied_valid state a config force at (Ok c) h = λ kind valid fits rooted name.
+    subst (IsValidState kind) (same_state state c h.0 h.2) (apply_keeps_valid kind state h.0 a config force at valid fits rooted name h.1)
 applied_valid state a config force at (Err f) h = tt
 
-pub updated_valid : (state : State) (u : ManagerKey) (object : Body) (at : Text) (r : Result Plan Refusal) → IsPlanned state r (update state u object at)
-    → IfOk r (λ p. (kind : Kind) → IsValidState kind state → IsBodyOf kind object → IsRooted object → size object ≤ most_places → is_manager_name u.name ≡ true → IsValidState kind (state_view p.target))
-updated_valid state u object at (Ok p) h = λ kind valid fits rooted few name. subst (IsValidState kind) (sym h.2.target_is) (update_keeps_valid kind state h.0 u object at valid fits rooted few name h.1)
+pub updated_valid : (state : State) (u : ManagerKey) (object : Body) (at : Text) (r : Result Change Refusal) → IsChanged state r (update state u object at)
+    → IfOk r (λ c. (kind : Kind) → IsValidState kind state → IsBodyOf kind object → IsRooted object → size object ≤ most_places → is_manager_name u.name ≡ true → IsValidState kind (changed_state state c.body c.table))
+updated_valid state u object at (Ok c) h = λ kind valid fits rooted few name.
+    subst (IsValidState kind) (same_state state c h.0 h.2) (update_keeps_valid kind state h.0 u object at valid fits rooted few name h.1)
 updated_valid state u object at (Err f) h = tt
 
-pub stripped_valid : (state : State) (p : Plan) → IsPlan state p (strip state) → (kind : Kind) → IsValidState kind state → IsValidState kind (state_view p.target)
-stripped_valid state p h kind valid = subst (IsValidState kind) (sym h.target_is) (strip_keeps_valid kind state valid)
+pub stripped_valid : (state : State) (c : TableChange) → LeadsTo state.table c [] → (kind : Kind) → IsValidState kind state → IsValidState kind (changed_state state None c)
+stripped_valid state c h kind valid = subst (IsValidState kind) (λ i. record { body = state.body; table = sym h.leads i }) (strip_keeps_valid kind state valid)
 
 -- ---- the managers' order
 
--- from the state that is planned
-planned_order : (before after : State) (p : Plan) → IsPlan before p after → KeepsOrder before.table after.table → KeepsOrder before.table (state_view p.target).table
-planned_order before after p h order = subst (λ s. KeepsOrder before.table s.table) (sym h.target_is) order
+-- from the state that a change leads to
+changed_order : (before after : State) (c : Change) → IsChange before c after → KeepsOrder before.table after.table → KeepsOrder before.table (changed_table c.table before.table)
+changed_order before after c h order = subst (λ s. KeepsOrder before.table s.table) (same_state before c after h) order
 
-pub applied_order : (state : State) (a : ManagerKey) (config : Body) (force : Bool) (at : Text) (r : Result Plan Refusal) → IsPlanned state r (apply state a config force at) → IfOk r (StandInOrder state)
-applied_order state a config force at (Ok p) h = λ distinct.
+pub applied_order : (state : State) (a : ManagerKey) (config : Body) (force : Bool) (at : Text) (r : Result Change Refusal) → IsChanged state r (apply state a config force at) → IfOk r (ChangesInOrder state)
+applied_order state a config force at (Ok c) h = λ distinct.
     let changed = modified state.body (pruned state a config) in
-    planned_order state h.0 p h.2
+    changed_order state h.0 c h.2
     (subst (λ s. KeepsOrder state.table s.table) (applied_is state h.0 a config force at h.1).0 (operations_keep_order state.table a (points config) changed changed at distinct))
 applied_order state a config force at (Err f) h = tt
 
-pub updated_order : (state : State) (u : ManagerKey) (object : Body) (at : Text) (r : Result Plan Refusal) → IsPlanned state r (update state u object at) → IfOk r (StandInOrder state)
-updated_order state u object at (Ok p) h = λ distinct.
+pub updated_order : (state : State) (u : ManagerKey) (object : Body) (at : Text) (r : Result Change Refusal) → IsChanged state r (update state u object at) → IfOk r (ChangesInOrder state)
+updated_order state u object at (Ok c) h = λ distinct.
     let changed = modified state.body object in
     let gone = removed state.body object in
     let owned = union (minus (owned_by state.table u) gone) (union changed (added state.body object)) in
-    planned_order state h.0 p h.2
+    changed_order state h.0 c h.2
     (subst (λ s. KeepsOrder state.table s.table) (updated_is state h.0 u object at h.1).0 (operations_keep_order state.table u owned (union changed gone) changed at distinct))
 updated_order state u object at (Err f) h = tt
 
@@ -61,10 +69,14 @@ no_shared : (bs : List ManagerKey) → filter (is_in_table []) bs ≡ []
 no_shared [] = refl
 no_shared (b ∷ bs) = no_shared bs
 
-pub stripped_order : (state : State) (p : Plan) → IsPlan state p (strip state) → StandInOrder state p
-stripped_order state p h distinct = planned_order state (strip state) p h (no_shared (map (λ e. e.manager) state.table))
+pub stripped_order : (state : State) (c : TableChange) → LeadsTo state.table c [] → has_distinct_keys state.table ≡ true → KeepsOrder state.table (changed_table c state.table)
+stripped_order state c h distinct = subst (KeepsOrder state.table) (sym h.leads) (no_shared (map (λ e. e.manager) state.table))
 
 -- ---- a plan that completes a change
+
+-- its target is the state after the change
+pub target_of : (before : State) (c : Change) (plan : Plan) (after : State) → IsChange before c after → IsPlan before plan after → changed_state before c.body c.table ≡ state_view plan.target
+target_of before c plan after h is = sym (same_state before c after h) ∙ sym is.target_is
 
 pub completed : (before : State) (change : Change) (plan : Plan) (given : Result State model.Refusal) → IsChanged before (Ok change) given
     → ((after : State) → IsChange before change after → IsPlan before plan after) → IsPlanned before (Ok plan) given

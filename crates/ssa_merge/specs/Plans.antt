@@ -6,8 +6,9 @@ use Rattle.ssa_model.specs.definitions.Valid.{has_distinct_keys, KeepsOrder}
 use Rattle.ssa_typed.specs.Differences.{IsComparison}
 use Rattle.ssa_merge.specs.Managers.{clashes_view}
 use Rattle.ssa_merge.specs.States.{state_view}
-use Rattle.ssa_merge.specs.TableChanges.{LeadsTo}
+use Rattle.ssa_merge.specs.TableChanges.{changed_table, LeadsTo}
 use Rattle.ssa_merge.specs.declared.change.Change.{Change}
+use Rattle.ssa_merge.specs.declared.table_change.TableChange.{TableChange}
 use Rattle.ssa_merge.specs.declared.plan.Plan.{Plan}
 use Rattle.ssa_merge.specs.declared.plan.Refusal.{Refusal}
 use Rattle.ssa_merge.specs.declared.plan.Refusal.TheVariants.{Conflict, TooManyPaths, TooManyManagers, OutOfMemory}
@@ -39,11 +40,19 @@ abbrev pub body_after : Option Body → Body → Body
 body_after None b = b
 body_after (Some c) b = c
 
+-- the state after a change
+abbrev pub changed_state : model.State → Option Body → TableChange → model.State
+changed_state before body table = record { body = body_after body before.body; table = changed_table table before.table }
+
 -- the change leads from one state to another
 pub record IsChange (before : model.State) (change : Change) (after : model.State) : Type 0 where
   pub body_is : body_after change.body before.body ≡ after.body
   pub table_leads : LeadsTo before.table change.table after.table
   pub comparison_is : IsComparison before.body after.body change.comparison
+
+-- the managers that are there before and after a change stand in the same order
+abbrev pub ChangesInOrder : model.State → Change → Type 0
+ChangesInOrder before change = has_distinct_keys before.table ≡ true → KeepsOrder before.table (changed_table change.table before.table)
 
 -- The change leads to the given state, or the refusal is the given one; of want of memory nothing is said.
 abbrev pub IsChanged : model.State → Result Change Refusal → Result model.State model.Refusal → Type 0

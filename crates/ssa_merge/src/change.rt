@@ -1,13 +1,18 @@
 //! What a command changes of a state, told without what stays.
-ghost use Rattle.std.specs.Prelude.{◌≡◌, ◌||◌, not, IfOk};
-ghost use Rattle.ssa_model.specs.definitions.PathMap.{minus, union};
+ghost use Rattle.std.specs.Prelude.{◌≡◌, ◌≤◌, ◌||◌, not, true, IfOk};
+ghost use Rattle.ssa_model.specs.definitions.Fitting.{IsBodyOf};
+ghost use Rattle.ssa_model.specs.definitions.History.{is_manager_name};
+ghost use Rattle.ssa_model.specs.definitions.Kind.{Kind};
+ghost use Rattle.ssa_model.specs.definitions.Limits.{most_places};
+ghost use Rattle.ssa_model.specs.definitions.PathMap.{minus, size, union};
 ghost use Rattle.ssa_model.specs.definitions.Table.{owned_by};
 ghost use Rattle.ssa_model.specs.definitions.Operations as model;
 ghost use Rattle.ssa_model.specs.definitions.Operations.{apply, update, strip, is_none};
+ghost use Rattle.ssa_model.specs.definitions.Valid.{IsRooted, IsValidState};
 ghost use Rattle.ssa_typed.specs.Alike.{AreAlike};
 ghost use Rattle.ssa_merge.specs.Managers.{clashes_view, key_view, operation_view};
 ghost use Rattle.ssa_merge.specs.States.{state_view, applier, updater};
-ghost use Rattle.ssa_merge.specs.Plans.{IsChange, IsChanged, IsPlan};
+ghost use Rattle.ssa_merge.specs.Plans.{changed_state, ChangesInOrder, IsChange, IsChanged, IsPlan};
 
 use crate::given_up::pruned;
 use crate::manager::{ManagerKey, Operation};
@@ -117,7 +122,9 @@ pub fn change_apply(
     at: Moment,
 ) -> Result<Change, Refusal>
     requires { AreAlike state.now.body config }
-    ensures { IsChanged (state_view state.now) result (apply (state_view state.now) (applier who.now) config force at) }
+    ensures change { IsChanged (state_view state.now) result (apply (state_view state.now) (applier who.now) config force at) }
+    ensures valid { IfOk result (λ c. (kind : Kind) → IsValidState kind (state_view state.now) → IsBodyOf kind config → IsRooted config → is_manager_name who.now ≡ true → IsValidState kind (changed_state (state_view state.now) c.body c.table)) }
+    ensures order { IfOk result (ChangesInOrder (state_view state.now)) }
 {
     let key = key_of(alloc, who, Operation::Apply)?;
     applied(alloc, state, &key, config, force, at)
@@ -177,7 +184,9 @@ pub fn change_update(
     who: &str,
     at: Moment,
 ) -> Result<Change, Refusal>
-    ensures { IsChanged (state_view state.now) result (update (state_view state.now) (updater who.now) object at) }
+    ensures change { IsChanged (state_view state.now) result (update (state_view state.now) (updater who.now) object at) }
+    ensures valid { IfOk result (λ c. (kind : Kind) → IsValidState kind (state_view state.now) → IsBodyOf kind object → IsRooted object → size object ≤ most_places → is_manager_name who.now ≡ true → IsValidState kind (changed_state (state_view state.now) c.body c.table)) }
+    ensures order { IfOk result (ChangesInOrder (state_view state.now)) }
 {
     let key = key_of(alloc, who, Operation::Update)?;
     updated(alloc, state, &key, object, at)
@@ -185,7 +194,9 @@ pub fn change_update(
 
 /// What a Strip changes: the body stays, and all managers leave.
 pub fn change_strip(alloc: Global, state: &State) -> Result<Change, AllocError>
-    ensures { IfOk result (λ c. IsChange (state_view state.now) c (strip (state_view state.now))) }
+    ensures change { IfOk result (λ c. IsChange (state_view state.now) c (strip (state_view state.now))) }
+    ensures valid { IfOk result (λ c. (kind : Kind) → IsValidState kind (state_view state.now) → IsValidState kind (changed_state (state_view state.now) c.body c.table)) }
+    ensures order { IfOk result (ChangesInOrder (state_view state.now)) }
 {
     let table = emptied(alloc, &state.managers)?;
     let comparison = state.body.compare(alloc, &state.body)?;

@@ -1,5 +1,5 @@
 //! The records of a value that is kept elsewhere, for going back and forth along its history.
-ghost use Rattle.std.specs.Prelude.{◌≡◌, ◌+◌, ◌≤◌, ◌<◌, ◌↔◌, ◌++◌, [], length, IsTrue, IsOk, IfOk, OnErr, OnOk, IsSome, IfSome, Some, slice_get, vec_len, vec_capacity};
+ghost use Rattle.std.specs.Prelude.{◌≡◌, ◌+◌, ◌^◌, ◌≤◌, ◌<◌, ◌↔◌, ◌++◌, [], length, IsTrue, IsOk, IfOk, OnErr, OnOk, IsSome, IfSome, Some, slice_get, vec_len, vec_capacity};
 
 use crate::reversible::Reversible;
 use crate::room::push_within;
@@ -38,6 +38,7 @@ impl<T: Reversible, L: Drop> Journal<T, L> {
     pub fn past_len(&self) -> usize
         ensures records { result ≡ length (past_of self.now) }
         ensures steps { (v : T.Meaning) → result ≡ length (timeline_of self.now v).past }
+        ensures small { result < 2 ^ 63 }
     {
         self.past.len()
     }
@@ -46,6 +47,7 @@ impl<T: Reversible, L: Drop> Journal<T, L> {
     pub fn future_len(&self) -> usize
         ensures records { result ≡ length (future_of self.now) }
         ensures steps { (v : T.Meaning) → result ≡ length (timeline_of self.now v).future }
+        ensures small { result < 2 ^ 63 }
     {
         self.future.len()
     }
