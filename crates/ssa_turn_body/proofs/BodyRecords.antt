@@ -92,9 +92,12 @@ record-says v w alike q =
     let put = ap (option_map shown) (get-over_paths w (λ p. if is_top v p then Some (part_at w p) else None) q) ∙ put-shown (has w q) (is_top v q) w q in
     λ i. record { cut = cut i; leaf = leaf i; order = order i; put = put i }
 
+-- steps that say of each path what two bodies say
+pub told-bodies : (s : BodySteps) (v w : Body) → AreAlike v w → ((q : Path) → says s.steps.items q ≡ between (get v) (get w) q) → body_told s ≡ body_record v w
+told-bodies s v w alike same = records-same (body_told s) (body_record v w) (λ q. told-says s q ∙ same q ∙ sym (record-says v w alike q))
+
 pub told-record : (v w : Node) (s : BodySteps) → is_tree v ≡ true → is_tree w ≡ true → AreAlike (body_of v) (body_of w)
     → AreTold [] (contents (marks v)) (contents (marks w)) s.steps.items → body_told s ≡ body_record (body_of v) (body_of w)
-told-record v w s tree_v tree_w alike told = records-same (body_told s) (body_record (body_of v) (body_of w)) (λ q.
-    told-says s q ∙ told.inside q
-    ∙ (λ i. between (λ p. sym (marks-tell v p tree_v) i) (λ p. sym (marks-tell w p tree_w) i) q)
-    ∙ sym (record-says (body_of v) (body_of w) alike q))
+told-record v w s tree_v tree_w alike told = told-bodies s (body_of v) (body_of w) alike (λ q.
+    told.inside q
+    ∙ (λ i. between (λ p. sym (marks-tell v p tree_v) i) (λ p. sym (marks-tell w p tree_w) i) q))

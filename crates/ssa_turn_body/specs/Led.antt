@@ -1,6 +1,6 @@
 -- Changes that lead what a tree tells at and below a path to something else, and nothing besides.
 use Rattle.std.specs.Prelude.{◌≡◌, List, [], ◌∷◌, ◌++◌, Bool, true, false, ◌&&◌, Some, reverse}
-use Rattle.ssa_model.specs.definitions.Path.{Element, Path, under}
+use Rattle.ssa_model.specs.definitions.Path.{Path, under}
 use Rattle.ssa_path.specs.Children.{child_at}
 use Rattle.ssa_path.specs.View.{element_view, path_view}
 use Rattle.ssa_typed.specs.Over.{AreAlikeTrees}

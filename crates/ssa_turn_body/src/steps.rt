@@ -1,12 +1,17 @@
 //! Changes at many places of a tree, which become those that lead back.
 ghost use Rattle.std.specs.Prelude.{◌≡◌, true};
+ghost use Rattle.ssa_model.specs.definitions.Body.{Body};
+ghost use Rattle.ssa_model.specs.definitions.Record.{body_record};
 ghost use Rattle.ssa_typed.specs.Rows.{is_tree};
+ghost use Rattle.ssa_turn_body.specs.Records.{body_told};
+ghost use Rattle.ssa_turn_body.specs.Rooms.{HasBodyRoom};
 ghost use Rattle.ssa_turn_body.specs.Steps.{StepFits, StepLeads, StepsFit, StepsLead};
 
 use crate::change::PlaceChange;
 use crate::descent::change_at;
 use ssa_path::element::Elem;
 use ssa_typed::node::Node;
+use std::alloc::Global;
 
 /// A change of the place at a path.
 #[derive(Drop)]
@@ -47,6 +52,16 @@ pub struct BodySteps {
 
 impl BodySteps {
     ghost use Rattle.ssa_turn_body.specs.Turns.{IsTurned};
+
+    /// The changes that change nothing. Takes no memory.
+    pub fn none(alloc: Global) -> BodySteps
+        ensures told { (b : Body) → body_told result ≡ body_record b b }
+        ensures room { (b : Body) → HasBodyRoom result b }
+    {
+        BodySteps {
+            steps: Vec::new(alloc),
+        }
+    }
 
     /// Makes the changes, and then holds those that lead back, the last first. Takes no memory.
     pub fn turn(&mut self, node: &mut Node)
