@@ -1,6 +1,7 @@
 //! Sets of paths that are changed in place by a record, without memory.
 #![tactic(auto)]
 
+pub mod copying;
 pub(crate) mod filling;
 pub mod gain;
 pub mod live_set;

@@ -1,0 +1,141 @@
+-- Room that is made as large serves wherever the first does: of texts, of members, of places.
+use Rattle.std.proofs.Common.{◌≡◌, ℕ, ◌<◌, ◌+◌, List, [], ◌∷◌, ◌++◌, length, get_or, take, true, not, ◌&&◌, refl, sym, ap, ◌∙◌, true≢false, subst}
+use Rattle.std.proofs.lemmas.List.Elements.{AllZip-push}
+use Rattle.std.specs.List.{AllZip}
+use Rattle.std.specs.Prelude.{String, Vec, nat_le, string_bytes, string_capacity, vec_capacity}
+use Rattle.std.specs.declared.alloc.Global.{Global}
+use Rattle.ssa_model.specs.definitions.Json as json
+use Rattle.ssa_model.specs.definitions.Path.{Element, Path, field, key, value}
+use Rattle.ssa_json.specs.declared.value.Scalar.{Scalar}
+use Rattle.ssa_path.specs.Keys.{Members}
+use Rattle.ssa_path.specs.Trie.{has_some}
+use Rattle.ssa_path.specs.View.{element_view}
+use Rattle.ssa_path.specs.declared.element.Elem.{Elem}
+use Rattle.ssa_path.specs.declared.trie.Trie.{Trie}
+use Rattle.ssa_path.specs.declared.trie.Trie.TheViews.{out-Trie}
+use Rattle.ssa_path.proofs.Lists.{taken-at}
+use Rattle.ssa_path.proofs.Orders.{both, both_first, both_second}
+use Rattle.ssa_turn_set.specs.Copies.{ChildServes, MemberServes, RoomServes, SpareServes, TextServes}
+use Rattle.ssa_turn_set.specs.Room.{below_child, gains, gain_one, holds, if_any, loses, lose_one, serves}
+use Rattle.ssa_turn_set.specs.Spare.{fits, holds_members, is_nothing}
+use Rattle.ssa_turn_set.specs.declared.room.Room.{Room}
+use Rattle.ssa_turn_set.specs.declared.room.Room.TheOpen.{Room-F}
+use Rattle.ssa_turn_set.specs.declared.room.Room.TheViews.{out-Room, roll-Room, out-roll-Room}
+use Rattle.ssa_turn_set.specs.declared.spare.Spare.{Spare}
+use Rattle.ssa_turn_set.specs.declared.spare.Spare.TheVariants.{Nothing, Text, Keys}
+use Rattle.ssa_turn_set.proofs.Rooms.{gain_room-level, lose_room-level}
+
+-- the room for key fields
+abbrev Rooms : Type 0
+Rooms = Vec (String Global × Scalar) Global
+
+-- ---- one more copy
+
+pub each-pushed : {X : Type 0} (R : X → X → Type 0) (xs : List X) (i : ℕ) (x : X) → i < length xs → x ≡ get_or xs i x
+    → (ys zs : List X) (y : X) → zs ≡ ys ++ y ∷ [] → AllZip R (take i xs) ys → R x y → AllZip R (take (i + 1) xs) zs
+each-pushed R xs i x lt is ys zs y pushed each serve =
+    subst (AllZip R (take (i + 1) xs)) (sym pushed)
+    (subst (λ l. AllZip R l (ys ++ y ∷ [])) (sym (taken-at xs i x lt is)) (AllZip-push R (take i xs) ys x y each serve))
+
+-- ---- texts
+
+pub text-serves : (s c : String Global) → string_bytes c ≡ [] → string_capacity c ≡ string_capacity s → TextServes s c
+text-serves s c empty as_large t h =
+    both _ _ (ap (λ l. not (has_some l)) empty)
+    (ap (nat_le (length t)) as_large ∙ both_second (not (has_some (string_bytes s))) _ h)
+
+-- ---- the room for an element
+
+pub members-serve : (ms : Members) (rs cs : List (String Global × Scalar)) → AllZip MemberServes rs cs → holds_members ms rs ≡ true → holds_members ms cs ≡ true
+members-serve [] [] [] z h = refl
+members-serve [] [] (c ∷ cs) z h = absurd z
+members-serve [] (r ∷ rs) cs z h = absurd (true≢false (sym h))
+members-serve (m ∷ ms) [] cs z h = absurd (true≢false (sym h))
+members-serve (m ∷ ms) (r ∷ rs) [] z h = absurd z
+members-serve (m ∷ ms) (r ∷ rs) (c ∷ cs) z h =
+    let here = both_first _ _ h in
+    both _ _ (both _ _ (z.0.0 m.0 (both_first _ _ here)) (z.0.1 m.1 (both_second _ _ here))) (members-serve ms rs cs z.1 (both_second _ _ h))
+
+pub nothing-serves : SpareServes Nothing Nothing
+nothing-serves = record { nothing = λ h. h; fits = λ e h. h }
+
+pub texts-serve : (s c : String Global) → TextServes s c → SpareServes (Text s) (Text c)
+texts-serve s c serve = record { nothing = λ h. h; fits = fitting }
+  where
+    fitting : (e : Element) → fits e (Text s) ≡ true → fits e (Text c) ≡ true
+    fitting (field n) h = serve n h
+    fitting (key ks) h = h
+    fitting (value (json.text t)) h = serve t h
+    fitting (value (json.whole n)) h = h
+    fitting (value (json.truth b)) h = h
+
+pub keys-serve : (rs cs : Rooms) → AllZip MemberServes rs.items cs.items → SpareServes (Keys rs) (Keys cs)
+keys-serve rs cs z = record { nothing = λ h. h; fits = fitting }
+  where
+    fitting : (e : Element) → fits e (Keys rs) ≡ true → fits e (Keys cs) ≡ true
+    fitting (field n) h = h
+    fitting (key ks) h = members-serve ks rs.items cs.items z h
+    fitting (value (json.text t)) h = h
+    fitting (value (json.whole n)) h = h
+    fitting (value (json.truth b)) h = h
+
+-- ---- the room of a place
+
+spare-serves : (e : Element) (ps : List Path) (s c : Spare) → SpareServes s c → serves e ps s ≡ true → serves e ps c ≡ true
+spare-serves e [] s c serve h = serve.fits e h
+spare-serves e (p ∷ ps) s c serve h = serve.nothing h
+
+gains-serve : (ds : List (Elem × Trie)) (ps : List Path) (rs cs : List (Spare × Room)) → AllZip ChildServes rs cs
+    → gains ds ps rs ≡ true → gains ds ps cs ≡ true
+gains-serve [] ps [] [] z h = refl
+gains-serve [] ps [] (c ∷ cs) z h = absurd z
+gains-serve [] ps (r ∷ rs) cs z h = absurd (true≢false (sym h))
+gains-serve (d ∷ ds) ps [] cs z h = absurd (true≢false (sym h))
+gains-serve (d ∷ ds) ps (r ∷ rs) [] z h = absurd z
+gains-serve (d ∷ ds) ps (r ∷ rs) (c ∷ cs) z h =
+    let below = below_child d ps in
+    let here = both_first (gain_one d below r) _ h in
+    both _ _
+    (both _ _ (spare-serves (element_view d.0) below r.0 c.0 z.0.0 (both_first _ _ here))
+    (z.0.1.gain d.1 below (both_second (serves (element_view d.0) below r.0) _ here)))
+    (gains-serve ds ps rs cs z.1 (both_second (gain_one d below r) _ h))
+
+loses-serve : (ds : List (Elem × Trie)) (ps : List Path) (rs cs : List (Spare × Room)) → AllZip ChildServes rs cs
+    → loses ds ps rs ≡ true → loses ds ps cs ≡ true
+loses-serve [] ps [] [] z h = refl
+loses-serve [] ps [] (c ∷ cs) z h = absurd z
+loses-serve [] ps (r ∷ rs) cs z h = absurd (true≢false (sym h))
+loses-serve (d ∷ ds) ps [] cs z h = absurd (true≢false (sym h))
+loses-serve (d ∷ ds) ps (r ∷ rs) [] z h = absurd z
+loses-serve (d ∷ ds) ps (r ∷ rs) (c ∷ cs) z h =
+    let below = below_child d ps in
+    let here = both_first (lose_one d below r) _ h in
+    both _ _ (both _ _ (z.0.0.nothing (both_first _ _ here)) (z.0.1.lose d.1 below (both_second (is_nothing r.0) _ here)))
+    (loses-serve ds ps rs cs z.1 (both_second (lose_one d below r) _ h))
+
+module _ (r : Room) (x : Room-F Room) (empty : x.children.items ≡ []) (as_large : vec_capacity x.children ≡ vec_capacity (out-Room r).children)
+    (each : AllZip ChildServes (out-Room r).below.items x.below.items) where
+  is : out-Room (roll-Room x) ≡ x
+  is = out-roll-Room x
+
+  own-serves : (f n : ℕ) → holds f n r ≡ true → holds f n (roll-Room x) ≡ true
+  own-serves f n h =
+      ap (λ (y : Room-F Room). not (has_some {A = Elem × Trie} y.children.items) && if_any f (nat_le n (vec_capacity y.children))) is
+      ∙ both _ _ (ap (λ l. not (has_some l)) empty)
+      (ap (λ m. if_any f (nat_le n m)) as_large ∙ both_second (not (has_some {A = Elem × Trie} (out-Room r).children.items)) _ h)
+
+  pub room-serves : RoomServes r (roll-Room x)
+  room-serves = record {
+    gain = λ t ps h.
+        let parts = sym (gain_room-level t ps r) ∙ h in
+        gain_room-level t ps (roll-Room x)
+        ∙ both _ _ (own-serves _ _ (both_first _ _ parts))
+        (ap (λ (y : Room-F Room). gains (out-Trie t).below.items ps y.below.items) is
+        ∙ gains-serve (out-Trie t).below.items ps _ _ each (both_second (holds _ _ r) _ parts));
+    lose = λ t ps h.
+        let parts = sym (lose_room-level t ps r) ∙ h in
+        lose_room-level t ps (roll-Room x)
+        ∙ both _ _ (own-serves _ _ (both_first _ _ parts))
+        (ap (λ (y : Room-F Room). loses (out-Trie t).below.items ps y.below.items) is
+        ∙ loses-serve (out-Trie t).below.items ps _ _ each (both_second (holds _ _ r) _ parts));
+  }
