@@ -25,7 +25,7 @@ use Rattle.ssa_turn_body.proofs.EditSays.{head_or, rest_after}
 
 -- ---- what is held is made of trees
 
-abbrev HoldsTrees : PlaceChange → Type 0
+abbrev pub HoldsTrees : PlaceChange → Type 0
 HoldsTrees (Leaf s) = Unit {0}
 HoldsTrees (Children s) = are_trees s.held.items ≡ true
 
@@ -43,7 +43,7 @@ left-holds (Leaf s) (Children t) v w h = absurd h
 left-holds (Children s) (Leaf t) v w h = absurd h
 left-holds (Children s) (Children t) v w h = h.trees
 
-fit-in : (x : PlaceChange) (o : Option Node) → FitsIn (λ n. ChangeFits x (seen n)) o → HoldsTrees x
+pub fit-in : (x : PlaceChange) (o : Option Node) → FitsIn (λ n. ChangeFits x (seen n)) o → HoldsTrees x
 fit-in x None h = absurd h
 fit-in x (Some n) h = fit-holds x (seen n) h
 

@@ -35,7 +35,8 @@ none-lead (t ∷ ts) v w l = absurd l
 
 none-turned : (s t : BodySteps) (b c : Body) → s.steps.items ≡ [] → IsBodyTurned s b t c → AreRecorded s b t c
 none-turned s t b c none turned =
-    let led = none-lead (reverse t.steps.items) turned.before turned.after (subst (λ xs. StepsLead xs turned.before (reverse t.steps.items) turned.after) none turned.turned) in
+    let led = none-lead (reverse t.steps.items) turned.before turned.after
+    (subst (λ xs. StepsLead xs turned.before (reverse t.steps.items) turned.after) none turned.turned) in
     let same : c ≡ b = sym turned.body_after ∙ ap body_of led.1 ∙ turned.body_before in
     let none_back : t.steps.items ≡ [] = sym (reverse-reverse t.steps.items) ∙ ap reverse led.0 in
     let stays = record-leads turned.before turned.before b b turned.tree_before turned.tree_before turned.body_before turned.body_before (alike-itself b) in

@@ -176,19 +176,20 @@ leads-reversed ss ts rs v w e tree fit l =
       subst (λ xs. StepsFit xs w) (sym e) (lead-back ss v ts w w tree fit l tree_after (λ q. refl)).0,
     )
 
+pub says-reverse : (xs : List Step) → map step_says (reverse xs) ≡ reverse (map step_says xs)
+says-reverse [] = refl
+says-reverse (y ∷ ys) =
+    ap (map step_says) (reverse-append (y ∷ []) ys) ∙ map-append step_says (reverse ys) (y ∷ [])
+    ∙ ap (λ zs. zs ++ step_says y ∷ []) (says-reverse ys) ∙ sym (reverse-append (step_says y ∷ []) (map step_says ys))
+
 -- a second turn
 pub turned-twice : (ss rs us : List Step) (v w w2 x : Node) → is_tree v ≡ true → is_tree w2 ≡ true → SameMarks w w2 → StepsFit ss v → StepsLead ss v (reverse rs) w → StepsLead rs w2 (reverse us) x → SameMarks x v × (map step_says us ≡ map step_says ss)
 turned-twice ss rs us v w w2 x tree tree2 same fit there again =
     let back = lead-back ss v (reverse rs) w w2 tree fit there tree2 same in
     let trip = back.1 (reverse us) x (subst (λ xs. StepsLead xs w2 (reverse us) x) (sym (reverse-reverse rs)) again) in (
       trip.0,
-      ap (map step_says) (sym (reverse-reverse us)) ∙ map-reverse_of (reverse us) ∙ ap reverse trip.1 ∙ reverse-reverse (map step_says ss),
+      ap (map step_says) (sym (reverse-reverse us)) ∙ says-reverse (reverse us) ∙ ap reverse trip.1 ∙ reverse-reverse (map step_says ss),
     )
-  where
-    map-reverse_of : (xs : List Step) → map step_says (reverse xs) ≡ reverse (map step_says xs)
-    map-reverse_of [] = refl
-    map-reverse_of (y ∷ ys) =
-        ap (map step_says) (reverse-append (y ∷ []) ys) ∙ map-append step_says (reverse ys) (y ∷ []) ∙ ap (λ zs. zs ++ step_says y ∷ []) (map-reverse_of ys) ∙ sym (reverse-append (step_says y ∷ []) (map step_says ys))
 
 -- ---- over trees that tell the same
 

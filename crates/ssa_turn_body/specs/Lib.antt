@@ -1,6 +1,7 @@
 pub mod Between
 pub mod Bodies
 pub mod Changes
+pub mod Copies
 pub mod Descent
 pub mod Edits
 pub mod Found

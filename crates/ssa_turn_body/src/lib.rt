@@ -5,6 +5,7 @@ pub mod between;
 pub mod body;
 pub mod change;
 pub mod children;
+pub mod copying;
 pub mod descent;
 pub mod exchanges;
 pub mod found;
