@@ -4,3 +4,4 @@ pub mod Taking
 pub mod Inserting
 pub mod TurnedTables
 pub mod Refilled
+pub mod Compared

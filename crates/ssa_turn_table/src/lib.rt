@@ -1,6 +1,7 @@
 //! The table of managers, changed in place by a record, without memory.
 #![tactic(auto)]
 
+pub mod between;
 pub mod changing;
 pub mod coming;
 pub mod delta;
