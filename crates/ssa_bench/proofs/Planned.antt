@@ -1,25 +1,32 @@
--- The answer to a command, from what was planned.
-use Rattle.std.proofs.Common.{◌≡◌, ℕ, ◌<◌, arith, Bool, true, false, not, length, refl, sym, ap, subst, ◌∙◌}
+-- The answer to a command, from the change that was planned and its record.
+use Rattle.std.proofs.Common.{◌≡◌, ℕ, ◌<◌, arith, List, [], ◌∷◌, take, Bool, true, false, not, length, refl, sym, ap, subst, ◌∙◌}
 use Rattle.std.proofs.lemmas.Bool.Decides.{nat_tests}
 use Rattle.std.specs.Prelude.{Result, Ok, Err, if◌then◌else◌, nat_le, codes}
 use Rattle.ssa_model.specs.definitions.Limits.{most_past}
 use Rattle.ssa_model.specs.definitions.Json.{Text, Json}
 use Rattle.ssa_model.specs.definitions.Body.{Body}
 use Rattle.ssa_model.specs.definitions.Operations.{State, Refusal, clashes, strip}
-use Rattle.ssa_model.specs.definitions.History.{Bench, appended, is_manager_name, past_len, present, with_timeline}
+use Rattle.ssa_model.specs.definitions.History.{Bench, Step, Timeline, appended, is_manager_name, last_state, past_len, present, with_timeline}
 use Rattle.ssa_model.specs.definitions.History as history
 use Rattle.ssa_model.specs.definitions.Answers as model
 use Rattle.ssa_model.specs.definitions.Answers.{Answer, fault, refused, history_full, manager_name, comparison, accept, accept_or_refuse, command_body, with_body}
-use Rattle.ssa_model.specs.definitions.Valid.{IsValidState}
-use Rattle.ssa_merge.specs.Plans.{IsPlan, IsPlanned}
-use Rattle.ssa_merge.specs.States.{state_view}
-use Rattle.ssa_merge.specs.declared.plan.Plan.{Plan}
+use Rattle.ssa_model.specs.definitions.Valid.{IsValidState, KeepsOrder}
+use Rattle.ssa_model.specs.definitions.Carry.{carry}
+use Rattle.ssa_model.specs.definitions.Kind.{Kind}
+use Rattle.ssa_model.specs.definitions.Record.{Record, record_of}
+use Rattle.ssa_model.proofs.RecordTakes.{record_leads}
+use Rattle.ssa_merge.specs.Plans.{changed_state, IsChange, IsChanged}
+use Rattle.ssa_merge.specs.TableChanges.{changed_table, LeadsTo}
+use Rattle.ssa_merge.specs.declared.change.Change.{Change}
 use Rattle.ssa_merge.specs.declared.plan.Refusal as plan
-use Rattle.ssa_merge.specs.declared.state.State as states
 use Rattle.ssa_merge.specs.declared.plan.Refusal.TheVariants as plans
-use Rattle.ssa_bench.specs.Benches.{IsAccepted, IsPrepared, changed_view, changed_by, tested_body}
+use Rattle.ssa_bench.specs.Benches.{IsAccepted, IsPrepared, changed_view, changed_by, led_to, tested_body}
 use Rattle.ssa_bench.specs.Faults.{IsFault, IsGiven}
 use Rattle.ssa_turn.specs.Histories.{label_view}
+use Rattle.ssa_turn.specs.TablesBack.{AllTablesBack, HasTableBack, MakesTableBack}
+use Rattle.ssa_turn_state.specs.States.{HasStateRoom, IsTaken, state_steps}
+use Rattle.std.specs.List.{All}
+use Rattle.std.proofs.lemmas.List.Elements.{All-head, All-tail, All-take}
 use Rattle.ssa_bench.specs.Refusals.{refusal_fault}
 use Rattle.ssa_bench.specs.declared.fault.Fault as engine
 use Rattle.ssa_bench.specs.declared.fault.Fault.TheVariants as faults
@@ -75,31 +82,77 @@ module _ (bench : Bench) (who : Text) (v : Json) (go : Body → Answer) where
   pub with_body-tested : (r : Result Body model.Fault) → tested_body bench who v ≡ r → with_body bench who v go ≡ answered r
   with_body-tested r e = in_order (nat_le most_past (past_len bench.timeline)) (is_manager_name who) (command_body bench v) ∙ ap answered e
 
--- ---- what was planned
+-- ---- what was prepared
+
+-- what is prepared of a change of a state, under a label
+pub record IsRecorded (before : State) (label : Label) (change : Change) (p : Prepared) : Type 0 where
+  pub label_is : p.step.label ≡ label
+  pub record_is : state_steps p.step.delta ≡ record_of before (changed_state before change.body change.table)
+  pub room : HasStateRoom p.step.delta before
+  pub changed_is : changed_view p.changed ≡ changed_by before change
+
+-- the change keeps a state valid, and the order of the managers that stay
+pub record IsKept (kind : Kind) (before : State) (change : Change) : Type 0 where
+  pub valid : IsValidState kind (changed_state before change.body change.table)
+  pub order : KeepsOrder before.table (changed_table change.table before.table)
+  pub back : HasTableBack (changed_state before change.body change.table)
+
+-- a record of two valid states leads from the first to the second
+pub record IsLed (d : Record) (before after : State) : Type 0 where
+  pub led : carry d before ≡ after
+  pub fits : IsTaken d before (carry d before)
+
+pub led-by : (kind : Kind) (d : Record) (before after : State) → d ≡ record_of before after → IsValidState kind before → IsValidState kind after → KeepsOrder before.table after.table → IsLed d before after
+led-by kind d before after is from to order =
+    let led = ap (λ r. carry r before) is ∙ record_leads kind before after from to order in
+    record {
+      led = led;
+      fits = (
+        kind,
+        record {
+          from = from;
+          to = subst (IsValidState kind) (sym led) to;
+          order = subst (λ s. KeepsOrder before.table s.table) (sym led) order;
+          is = is ∙ ap (record_of before) (sym led);
+        },
+      );
+    }
+
+-- a change leads to the table that it makes
+pub leads-itself : {before : State} {change : Change} {after : State} → IsChange before change after → LeadsTo before.table change.table (changed_table change.table before.table)
+leads-itself {before = before} {change = change} is = subst (LeadsTo before.table change.table) (sym is.table_leads.leads) is.table_leads
 
 module _ (bench : Bench) (word : Text) (label : Label) where
-  -- a plan that is kept to is the answer
-  planned : (plan : Plan) (p : Prepared) (after : State) → p.step.label ≡ label → p.step.state ≡ plan.target → changed_view p.changed ≡ changed_by plan → IsPlan (present bench.timeline) plan after → IsValidState bench.schema.kind (state_view plan.target)
+  -- a change that is kept to is the answer
+  planned : (change : Change) (p : Prepared) (after : State) → IsRecorded (present bench.timeline) label change p → IsChange (present bench.timeline) change after
+      → IsValidState bench.schema.kind (present bench.timeline) → IsKept bench.schema.kind (present bench.timeline) change
       → IsAccepted bench p (accept bench word (label_view label) after) word
-  planned plan p after l s c is valid =
-      let target : state_view p.step.state ≡ after = ap state_view s ∙ is.target_is in
-      let compared : comparison (present bench.timeline) after ≡ changed_by plan =
-      λ i. record { added = sym is.comparison_is.added_are i; modified = sym is.comparison_is.modified_are i; removed = sym is.comparison_is.removed_are i; managers = length (sym is.target_is i).table } in
-      let is_valid : states.State → Type 0 = λ t. IsValidState bench.schema.kind (state_view t) in
+  planned change p after made is now kept =
+      let before = present bench.timeline in
+      let kind = bench.schema.kind in
+      let target = changed_state before change.body change.table in
+      let same : target ≡ after = λ i. record { body = is.body_is i; table = is.table_leads.leads i } in
+      let leads = led-by kind (state_steps p.step.delta) before target made.record_is now kept.valid kept.order in
+      let led : led_to bench p ≡ target = leads.led in
+      let compared : comparison before after ≡ changed_by before change =
+      λ i. record { added = sym is.comparison_is.added_are i; modified = sym is.comparison_is.modified_are i; removed = sym is.comparison_is.removed_are i; managers = length (sym is.table_leads.leads i) } in
       record {
-        reply = ap (model.changed word) (compared ∙ sym c);
-        next = λ i. with_timeline bench (appended bench.timeline (label_view (sym l i)) (sym target i));
-        valid = subst is_valid (sym s) valid;
+        reply = ap (model.changed word) (compared ∙ sym made.changed_is);
+        next = λ i. with_timeline bench (appended bench.timeline (label_view (sym made.label_is i)) (sym (led ∙ same) i));
+        valid = subst (IsValidState kind) (sym led) kept.valid;
+        fits = leads.fits;
+        room = made.room;
+        back = subst HasTableBack (sym led) kept.back;
       }
 
-  pub accepted : (plan : Plan) (p : Prepared) (given : Result State Refusal) → p.step.label ≡ label → p.step.state ≡ plan.target → changed_view p.changed ≡ changed_by plan
-      → IsPlanned (present bench.timeline) (Ok plan) given → IsValidState bench.schema.kind (state_view plan.target) → IsAccepted bench p (accept_or_refuse bench word (label_view label) given) word
-  accepted plan p given l s c is valid =
+  pub accepted : (change : Change) (p : Prepared) (given : Result State Refusal) → IsRecorded (present bench.timeline) label change p → IsChanged (present bench.timeline) (Ok change) given
+      → IsValidState bench.schema.kind (present bench.timeline) → IsKept bench.schema.kind (present bench.timeline) change → IsAccepted bench p (accept_or_refuse bench word (label_view label) given) word
+  accepted change p given made is now kept =
       let tells : Answer → Type 0 = λ a. IsAccepted bench p a word in
-      subst tells (ap (accept_or_refuse bench word (label_view label)) (sym is.1)) (planned plan p is.0 l s c is.2 valid)
+      subst tells (ap (accept_or_refuse bench word (label_view label)) (sym is.1)) (planned change p is.0 made is.2 now kept)
 
   -- a refusal that is told is the answer
-  pub refused-planned : (r : plan.Refusal) (given : Result State Refusal) → IsPlanned (present bench.timeline) (Err r) given → IsPrepared bench (Err (refusal_fault r)) (accept_or_refuse bench word (label_view label) given) word
+  pub refused-planned : (r : plan.Refusal) (given : Result State Refusal) → IsChanged (present bench.timeline) (Err r) given → IsPrepared bench (Err (refusal_fault r)) (accept_or_refuse bench word (label_view label) given) word
   refused-planned (plans.Conflict clashes) given h = told bench word (faults.Conflict clashes) (refused h.0) _ (ap (accept_or_refuse bench word (label_view label)) h.1) (ap refused h.2)
   refused-planned plans.TooManyPaths given h = told bench word faults.TooManyPaths (refused h.0) _ (ap (accept_or_refuse bench word (label_view label)) h.1) (ap refused h.2)
   refused-planned plans.TooManyManagers given h = told bench word faults.TooManyManagers (refused h.0) _ (ap (accept_or_refuse bench word (label_view label)) h.1) (ap refused h.2)
@@ -107,24 +160,32 @@ module _ (bench : Bench) (word : Text) (label : Label) where
 
 -- ---- the state that was planned on
 
-abbrev pub Planned : (State → Text → Result State Refusal) → Result Plan plan.Refusal → State → Text → Type 0
-Planned to r now name = IsPlanned now r (to now name)
+abbrev pub Planned : (State → Text → Result State Refusal) → Result Change plan.Refusal → State → Text → Type 0
+Planned to r now name = IsChanged now r (to now name)
 
-pub planned-at : (to : State → Text → Result State Refusal) (r : Result Plan plan.Refusal) (now present : State) (name who : Text) → now ≡ present → name ≡ who → Planned to r now name → Planned to r present who
+pub planned-at : (to : State → Text → Result State Refusal) (r : Result Change plan.Refusal) (now present : State) (name who : Text) → now ≡ present → name ≡ who → Planned to r now name → Planned to r present who
 planned-at to r now present name who n w h =
     let on : State → Type 0 = λ s. Planned to r s who in
     subst on n (subst (Planned to r now) w h)
+
+-- the present state's table is read back where each state's is
+last-back : (s : State) (ts : List Step) → HasTableBack s → All MakesTableBack ts → HasTableBack (last_state s ts)
+last-back s [] h all = h
+last-back s (t ∷ ts) h all = last-back t.state ts (All-head MakesTableBack t ts all) (All-tail MakesTableBack t ts all)
+
+pub present-back : (t : Timeline) → AllTablesBack t → HasTableBack (present t)
+present-back t h = last-back t.first (take t.place t.later) h.first (All-take MakesTableBack t.place t.later h.later)
 
 -- ---- a Strip
 
 not_full : (most n : ℕ) → n < most → nat_le most n ≡ false
 not_full most n h = grind (arith, nat_tests)
 
-pub stripped-accepted : (bench : Bench) (plan : Plan) (p : Prepared) (past : ℕ) → past ≡ past_len bench.timeline → past < most_past → p.step.label ≡ Strip → p.step.state ≡ plan.target → changed_view p.changed ≡ changed_by plan
-    → IsPlan (present bench.timeline) plan (strip (present bench.timeline)) → IsValidState bench.schema.kind (state_view plan.target)
+pub stripped-accepted : (bench : Bench) (change : Change) (p : Prepared) (past : ℕ) → past ≡ past_len bench.timeline → past < most_past → IsRecorded (present bench.timeline) Strip change p
+    → IsChange (present bench.timeline) change (strip (present bench.timeline)) → IsValidState bench.schema.kind (present bench.timeline) → IsKept bench.schema.kind (present bench.timeline) change
     → IsAccepted bench p (if nat_le most_past (past_len bench.timeline) then (fault history_full, bench) else accept bench (codes "strip") history.stripped (strip (present bench.timeline))) (codes "strip")
-stripped-accepted bench plan p past count few l s c is valid =
+stripped-accepted bench change p past count few made is now kept =
     let answer = accept bench (codes "strip") history.stripped (strip (present bench.timeline)) in
     let tells : Answer → Type 0 = λ a. IsAccepted bench p a (codes "strip") in
     subst tells (ap (λ b. if b then (fault history_full, bench) else answer) (sym (ap (nat_le most_past) (sym count) ∙ not_full most_past past few)))
-    (planned bench (codes "strip") Strip plan p (strip (present bench.timeline)) l s c is valid)
+    (planned bench (codes "strip") Strip change p (strip (present bench.timeline)) made is now kept)

@@ -9,6 +9,7 @@ use Rattle.ssa_model.specs.definitions.Table.{Table}
 use Rattle.ssa_model.specs.definitions.GivenEntries.{EntryFault, table_of}
 use Rattle.ssa_model.specs.definitions.History as model
 use Rattle.ssa_model.specs.definitions.History.{appended, is_manager_name, past_len, present, with_timeline}
+use Rattle.ssa_model.specs.definitions.Carry.{carry}
 use Rattle.ssa_model.specs.definitions.Operations as operations
 use Rattle.ssa_model.specs.definitions.Operations.{update}
 use Rattle.ssa_model.specs.definitions.Answers as answers
@@ -16,10 +17,13 @@ use Rattle.ssa_model.specs.definitions.Answers.{Answer}
 use Rattle.ssa_model.specs.definitions.Valid.{IsValidState}
 use Rattle.ssa_json.specs.Readings.{readings}
 use Rattle.ssa_merge.specs.States.{state_view, updater}
-use Rattle.ssa_merge.specs.declared.plan.Plan.{Plan}
+use Rattle.ssa_merge.specs.TableChanges.{changed_table}
+use Rattle.ssa_merge.specs.declared.change.Change.{Change}
 use Rattle.ssa_merge.specs.declared.state.State.{State}
 use Rattle.ssa_bench.specs.Faults.{IsFault, IsGiven}
 use Rattle.ssa_turn.specs.Histories.{label_view}
+use Rattle.ssa_turn.specs.TablesBack.{HasTableBack}
+use Rattle.ssa_turn_state.specs.States.{HasStateRoom, IsTaken, state_steps}
 use Rattle.ssa_bench.specs.declared.fault.Fault.{Fault}
 use Rattle.ssa_bench.specs.declared.fault.Fault.TheVariants.{OutOfMemory}
 use Rattle.ssa_bench.specs.declared.prepared.Changed.{Changed}
@@ -53,17 +57,22 @@ IsGivenState (Err f) given = IsGiven {A = operations.State} (Err f) given
 
 -- ---- commands that make a state
 
+-- the state to which the prepared record leads
+abbrev pub led_to : model.Bench → Prepared → operations.State
+led_to bench p = carry (state_steps p.step.delta) (present bench.timeline)
+
 -- the new state is valid
 abbrev pub LeadsToValid : model.Bench → Prepared → Type 0
-LeadsToValid bench p = IsValidState bench.schema.kind (state_view p.step.state)
+LeadsToValid bench p = IsValidState bench.schema.kind (led_to bench p)
 
--- the bench with the prepared state behind its present one
+-- the bench with the new state behind its present one
 abbrev pub next_bench : model.Bench → Prepared → model.Bench
-next_bench bench p = with_timeline bench (appended bench.timeline (label_view p.step.label) (state_view p.step.state))
+next_bench bench p = with_timeline bench (appended bench.timeline (label_view p.step.label) (led_to bench p))
 
--- what a plan changes
-abbrev pub changed_by : Plan → answers.Changed
-changed_by p = record { added = p.comparison.added; modified = p.comparison.modified; removed = p.comparison.removed; managers = length p.target.managers }
+-- what a change of a state changes
+abbrev pub changed_by : operations.State → Change → answers.Changed
+changed_by before c =
+    record { added = c.comparison.added; modified = c.comparison.modified; removed = c.comparison.removed; managers = length (changed_table c.table before.table) }
 
 -- the body of an Apply's or an Update's object, or the command's first fault
 abbrev pub tested_body : model.Bench → Text → Json → Result Body answers.Fault
@@ -82,11 +91,14 @@ pub record IsRefused (bench : model.Bench) (f : Fault) (given : Answer) : Type 0
   pub told : IsFault f cause
   pub stays : given.1 ≡ bench
 
--- the answer tells what is prepared
+-- the answer tells what is prepared, whose record leads from the present state to a valid one, with room for its turns
 pub record IsAccepted (bench : model.Bench) (p : Prepared) (given : Answer) (word : Text) : Type 0 where
   pub reply : given.0 ≡ answers.changed word (changed_view p.changed)
   pub next : given.1 ≡ next_bench bench p
   pub valid : LeadsToValid bench p
+  pub fits : IsTaken (state_steps p.step.delta) (present bench.timeline) (led_to bench p)
+  pub room : HasStateRoom p.step.delta (present bench.timeline)
+  pub back : HasTableBack (led_to bench p)
 
 -- the answer to a command on this bench, as it is now, tells what is prepared
 abbrev pub IsPreparedOn : model.Bench → Prepared → Type 0

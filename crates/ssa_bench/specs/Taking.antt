@@ -7,8 +7,9 @@ use Rattle.ssa_model.specs.laws.BenchFiles as laws
 use Rattle.ssa_model.specs.laws.BenchFiles.{head_in, step_in}
 use Rattle.ssa_file.specs.declared.head.Head.{Head}
 use Rattle.ssa_json.specs.Readings.{readings}
-use Rattle.ssa_turn.specs.Histories.{step_view}
-use Rattle.ssa_turn.specs.declared.timeline.Step.{Step}
+use Rattle.ssa_merge.specs.States.{state_view}
+use Rattle.ssa_turn.specs.Histories.{label_view}
+use Rattle.ssa_bench.specs.declared.taking.TakenStep.{TakenStep}
 use Rattle.ssa_file.specs.declared.loading.LoadFault.{LoadFault}
 use Rattle.ssa_file.specs.declared.loading.LoadFault.TheVariants.{BenchText, Io}
 use Rattle.ssa_file.specs.declared.loading.LoadFault.TheVariants as load
@@ -29,9 +30,13 @@ IsTaken (Err BenchText) given = given ≡ None
 IsTaken (Err Io) given = ⊥
 IsTaken (Err load.OutOfMemory) given = Unit {0}
 
+-- the step that a line tells
+abbrev pub taken_view : TakenStep → model.Step
+taken_view s = record { label = label_view s.label; state = state_view s.state }
+
 -- the step of a value, after the present state
-abbrev pub TakesStep : model.Bench → Result Step LoadFault → Json → Type 0
-TakesStep bench (Ok s) v = IsTaken (Ok (step_view s)) (step_in readings bench (present bench.timeline) v)
+abbrev pub TakesStep : model.Bench → Result TakenStep LoadFault → Json → Type 0
+TakesStep bench (Ok s) v = IsTaken (Ok (taken_view s)) (step_in readings bench (present bench.timeline) v)
 TakesStep bench (Err f) v = IsTaken {X = model.Step} (Err f) (step_in readings bench (present bench.timeline) v)
 
 -- the bench goes to that step

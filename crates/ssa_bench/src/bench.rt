@@ -5,7 +5,7 @@ ghost use Rattle.ssa_model.specs.definitions.Answers.{answer, apply, update, str
 ghost use Rattle.ssa_model.specs.definitions.Entries.{object_of_state};
 ghost use Rattle.ssa_model.specs.definitions.History.{is_manager_name, past_len, future_len, present};
 ghost use Rattle.ssa_model.specs.definitions.BenchFile.{IsBenchFile};
-ghost use Rattle.ssa_model.specs.definitions.BenchText.{bench_text};
+ghost use Rattle.ssa_model.specs.definitions.BenchText.{bench_text, bench_values};
 ghost use Rattle.ssa_model.specs.definitions.PathMap.{size};
 ghost use Rattle.ssa_model.specs.definitions.Valid.{IsTable, IsValidState, IsValidBody};
 ghost use Rattle.ssa_json.specs.Readings.{readings};
@@ -17,7 +17,9 @@ ghost use Rattle.ssa_bench.specs.Faults.{IsGiven};
 ghost use Rattle.ssa_bench.specs.Commands.{command_view, command_word};
 ghost use Rattle.ssa_turn.specs.Histories.{lent_labels};
 ghost use Rattle.std.specs.Io.KnownBytes.{Appends};
-ghost use Rattle.ssa_file.specs.Saving.{NotSaved};
+ghost use Rattle.std.specs.List.{All};
+ghost use Rattle.ssa_json.specs.Writable.{IsOfProgram};
+ghost use Rattle.ssa_file.specs.Saving.{CannotHold, NotSaved};
 
 mod laws;
 mod lines;
@@ -30,11 +32,11 @@ use ssa_json::moment::Moment;
 use ssa_json::sink::Sink;
 use ssa_json::value::Json;
 use ssa_json::write::compact_is_read;
+use ssa_merge::change::{change_apply, change_strip, change_update};
 use ssa_merge::manager::ManagerKey;
 use ssa_merge::managers::Managers;
 use ssa_merge::names::is_manager_name;
 use ssa_merge::owned::owners;
-use ssa_merge::plan::{plan_apply, plan_strip, plan_update};
 use ssa_merge::state::State;
 use ssa_model::{bench_values_are_shallow, rising_names_are_distinct};
 use ssa_object::body_value::{body_value, file_parts};
@@ -44,7 +46,7 @@ use ssa_path::path::Path;
 use ssa_schema::body_fault::BodyFault;
 use ssa_schema::schema::Schema;
 use ssa_turn::label::Label;
-use ssa_turn::timeline::{Log, Timeline, labels};
+use ssa_turn::timeline::{Log, Timeline};
 use ssa_typed::body::Body;
 use ssa_typed::fault::TypedFault;
 use std::alloc::{AllocError, Global};
@@ -210,8 +212,12 @@ impl Bench {
         ensures { IsPrepared self.now result (apply_answer self.now (string_bytes who) force at config) (codes "apply") }
     {
         let now = self.timeline.present();
-        match plan_apply(alloc, now, config, who.as_str(), force, at) {
-            Ok(plan) => Ok(accepted(Label::Apply { at, force, who }, plan)),
+        self.timeline.own_entries_are_read();
+        match change_apply(alloc, now, config, who.as_str(), force, at) {
+            Ok(change) => {
+                let prepared = accepted(alloc, now, Label::Apply { at, force, who }, change)?;
+                Ok(prepared)
+            }
             Err(refusal) => Err(Fault::from(refusal)),
         }
     }
@@ -246,8 +252,12 @@ impl Bench {
         ensures { IsPrepared self.now result (update_answer self.now (string_bytes who) at body) (codes "update") }
     {
         let now = self.timeline.present();
-        match plan_update(alloc, now, body, who.as_str(), at) {
-            Ok(plan) => Ok(accepted(Label::Update { at, who }, plan)),
+        self.timeline.own_entries_are_read();
+        match change_update(alloc, now, body, who.as_str(), at) {
+            Ok(change) => {
+                let prepared = accepted(alloc, now, Label::Update { at, who }, change)?;
+                Ok(prepared)
+            }
             Err(refusal) => Err(Fault::from(refusal)),
         }
     }
@@ -275,8 +285,11 @@ impl Bench {
         if self.timeline.past_len() >= MOST_PAST {
             return Err(Fault::HistoryFull);
         }
-        let plan = plan_strip(alloc, self.timeline.present())?;
-        Ok(accepted(Label::Strip, plan))
+        let now = self.timeline.present();
+        self.timeline.own_entries_are_read();
+        let change = change_strip(alloc, now)?;
+        let prepared = accepted(alloc, now, Label::Strip, change)?;
+        Ok(prepared)
     }
 
     /// What a command leads to, or why it is refused. The bench is as before.
@@ -405,24 +418,46 @@ impl Bench {
     pub fn log(&self, alloc: Global) -> Result<Log<'_>, AllocError>
         ensures { IfOk result (λ l. answer self.now log ≡ (logged (lent_labels l.past.items) (lent_labels l.future.items), self.now)) }
     {
-        let past = labels(alloc, self.timeline.past())?;
-        let future = labels(alloc, self.timeline.future())?;
-        Ok(Log { past, future })
+        let log = self.timeline.log(alloc)?;
+        Ok(log)
+    }
+
+    // The text of the bench file. The bench goes along its history, and back to where it was.
+    fn text(&mut self, alloc: Global) -> Result<Vec<u8>, SaveFault>
+        ensures same { self.new ≡ self.old }
+        ensures ok { IfOk result (λ t. t.items ≡ bench_text self.old) }
+        ensures fits { IfOk result (λ t. length t.items ≤ most_bench_bytes) }
+        ensures of_program { OnOk result (All IsOfProgram (bench_values self.old)) }
+        ensures refused { IfErr result (λ f. CannotHold f (bench_text self.old)) }
+    {
+        self.timeline.place_is_within();
+        let place = self.timeline.past_len();
+        self.timeline.go_to(0);
+        let text = bench_text(
+            alloc,
+            &self.schema,
+            &self.identity,
+            place,
+            &mut self.timeline,
+        );
+        self.timeline.go_to(place);
+        text
     }
 
     /// Writes the bench as a file, and hands it on. A file has at most
     /// [`MOST_FILE_BYTES`](ssa_file::saving::MOST_FILE_BYTES) bytes; nothing is written before all of it
-    /// stands in memory.
-    pub fn save<S: Sink>(&self, alloc: Global, sink: &mut S) -> Result<(), SaveFault>
-        ensures ok { OnOk result (Appends (S.contents sink.old) (S.contents sink.new) (bench_text self.now)) }
+    /// stands in memory. The bench is gone along for its states, and is as it was, whatever comes.
+    pub fn save<S: Sink>(&mut self, alloc: Global, sink: &mut S) -> Result<(), SaveFault>
+        ensures same { self.new ≡ self.old }
+        ensures ok { OnOk result (Appends (S.contents sink.old) (S.contents sink.new) (bench_text self.old)) }
         ensures handed_on { OnOk result (S.is_handed_on sink.new ≡ true) }
-        ensures fits { OnOk result (length (bench_text self.now) ≤ most_bench_bytes) }
+        ensures fits { OnOk result (length (bench_text self.old) ≤ most_bench_bytes) }
 
         // What is written is the bench's file: `load` gives the bench back from it.
-        ensures file { OnOk result (IsBenchFile readings (bench_text self.now) self.now) }
-        ensures refused { IfErr result (NotSaved S.contents S.has_failed sink.old sink.new (bench_text self.now)) }
+        ensures file { OnOk result (IsBenchFile readings (bench_text self.old) self.old) }
+        ensures refused { IfErr result (NotSaved S.contents S.has_failed sink.old sink.new (bench_text self.old)) }
     {
-        let text = bench_text(alloc, &self.schema, &self.identity, &self.timeline)?;
+        let text = self.text(alloc)?;
         write_text(sink, &text)?;
         self.is_valid();
         compact_is_read();

@@ -1,11 +1,22 @@
 //! What a command changes, before and after it is carried out.
-ghost use Rattle.std.specs.Prelude.{◌≡◌};
+ghost use Rattle.std.specs.Prelude.{◌≡◌, IfOk};
+ghost use Rattle.ssa_model.specs.definitions.Kind.{Kind};
+ghost use Rattle.ssa_model.specs.definitions.Record.{record_of};
+ghost use Rattle.ssa_model.specs.definitions.Valid.{IsValidState, KeepsOrder};
+ghost use Rattle.ssa_merge.specs.Plans.{changed_state};
+ghost use Rattle.ssa_merge.specs.States.{state_view};
+ghost use Rattle.ssa_merge.specs.TableChanges.{changed_table, LeadsTo};
+ghost use Rattle.ssa_turn.specs.TablesBack.{HasTableBack};
+ghost use Rattle.ssa_turn_state.specs.States.{HasStateRoom, state_steps};
 ghost use Rattle.ssa_bench.specs.Benches.{changed_view, changed_by};
 
-use ssa_merge::plan::Plan;
+use ssa_merge::change::Change;
+use ssa_merge::state::State;
 use ssa_path::field_set::FieldSet;
 use ssa_turn::label::Label;
 use ssa_turn::timeline::Step;
+use ssa_turn_state::live_state::StateDelta;
+use std::alloc::{AllocError, Global};
 
 /// What an accepted command changed.
 #[derive(Drop)]
@@ -43,23 +54,38 @@ impl Prepared {
     }
 }
 
-// What a plan changes, and the step to where it leads.
-pub(crate) fn accepted(label: Label, plan: Plan) -> Prepared
-    ensures label { result.step.label ≡ label }
-    ensures state { result.step.state ≡ plan.target }
-    ensures changed { changed_view result.changed ≡ changed_by plan }
+// What is prepared of a change of a state, under the label of the command.
+pub(crate) fn accepted(
+    alloc: Global,
+    state: &State,
+    label: Label,
+    change: Change,
+) -> Result<Prepared, AllocError>
+    requires valid { (kind : Kind) × IsValidState kind (state_view state.now) × IsValidState kind (changed_state (state_view state.now) change.body change.table) }
+    requires leads { LeadsTo (state_view state.now).table change.table (changed_table change.table (state_view state.now).table) }
+    requires order { KeepsOrder (state_view state.now).table (changed_table change.table (state_view state.now).table) }
+    ensures label { IfOk result (λ p. p.step.label ≡ label) }
+    ensures record { IfOk result (λ p. state_steps p.step.delta ≡ record_of (state_view state.now) (changed_state (state_view state.now) change.body change.table)) }
+    ensures room { IfOk result (λ p. HasStateRoom p.step.delta (state_view state.now)) }
+    ensures back { HasTableBack (state_view state.now) → HasTableBack (changed_state (state_view state.now) change.body change.table) }
+    ensures changed { IfOk result (λ p. changed_view p.changed ≡ changed_by (state_view state.now) change) }
 {
-    let managers = plan.managers();
-    let Plan { target, comparison } = plan;
+    let Change {
+        body,
+        table,
+        comparison,
+    } = change;
+    table.new_sets_are_read();
+    let managers = table.managers();
+    let delta = StateDelta::of_change(alloc, state, body, table)?;
     let changed = Changed {
         added: comparison.added,
         modified: comparison.modified,
         removed: comparison.removed,
         managers,
     };
-    let step = Step {
-        label,
-        state: target,
-    };
-    Prepared { changed, step }
+    Ok(Prepared {
+        changed,
+        step: Step { label, delta },
+    })
 }

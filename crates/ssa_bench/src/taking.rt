@@ -24,6 +24,13 @@ use ssa_turn::label::Label;
 use std::alloc::{AllocError, Global};
 use std::collections::BTreeMap;
 
+// The step that a line tells, before its record is made.
+#[derive(Drop)]
+pub(crate) struct TakenStep {
+    pub label: Label,
+    pub state: State,
+}
+
 // Why the text is no bench's, where an object is refused.
 pub(crate) fn load_fault(fault: Fault) -> LoadFault
     ensures { result ≡ load_fault fault }

@@ -2,3 +2,4 @@ pub mod SavingFacts
 pub mod LoadingFacts
 pub mod ReadingFacts
 pub mod DeviceFacts
+pub mod Walking

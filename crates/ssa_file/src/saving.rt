@@ -1,5 +1,5 @@
 //! The text of a bench file.
-ghost use Rattle.std.specs.Prelude.{◌≡◌, ◌≤◌, ◌<◌, ◌^◌, ◌++◌, IfErr, IfOk, OnErr, OnOk, flat_map, length, map, true};
+ghost use Rattle.std.specs.Prelude.{◌≡◌, ◌≤◌, ◌<◌, ◌^◌, ◌-◌, ◌++◌, ℕ, Some, slice_get, IfErr, IfOk, OnErr, OnOk, drop, flat_map, length, map, true};
 ghost use Rattle.std.specs.Io.KnownBytes.{Appends};
 ghost use Rattle.std.specs.List.{All};
 ghost use Rattle.ssa_model.specs.definitions.Limits.{most_bench_bytes};
@@ -11,9 +11,10 @@ ghost use Rattle.ssa_json.specs.Devices.{AppendsPart};
 ghost use Rattle.ssa_json.specs.View.{view, members_view};
 ghost use Rattle.ssa_json.specs.Writable.{IsOfProgram};
 ghost use Rattle.ssa_merge.specs.States.{state_view};
-ghost use Rattle.ssa_turn.specs.Histories.{step_view, steps_view};
+ghost use Rattle.ssa_turn.specs.Histories.{label_view};
+ghost use Rattle.ssa_model.specs.definitions.History.{Step, moved_to, past_len};
 ghost use Rattle.ssa_file.specs.Saving.{CannotHold, bench_with, first_value, step_line, step_value};
-ghost use Rattle.ssa_model.specs.definitions.Valid.{AllValid, MakesValid};
+ghost use Rattle.ssa_model.specs.definitions.Valid.{AllValid, IsValidHistory};
 ghost use Rattle.ssa_file.specs.declared.saving.SaveFault.TheVariants.{Io, OutOfMemory};
 
 use ssa_json::members::put_member;
@@ -24,7 +25,8 @@ use ssa_merge::state::State;
 use ssa_object::identity::Identity;
 use ssa_object::object::object_of_state;
 use ssa_schema::schema::Schema;
-use ssa_turn::timeline::{Step, Timeline};
+use ssa_turn::label::Label;
+use ssa_turn::timeline::Timeline;
 use std::alloc::{AllocError, Global};
 use std::collections::BTreeMap;
 
@@ -109,18 +111,19 @@ pub fn first_value(
     state_value(alloc, Json::Object(BTreeMap::new(alloc)), object)
 }
 
-/// The value of a later state's line.
+/// The value of the line of a later state, and of the label of the command that made it.
 pub fn step_value(
     alloc: Global,
     schema: &Schema,
     identity: &Identity,
-    step: &Step,
+    label: &Label,
+    state: &State,
 ) -> Result<Json, AllocError>
-    requires { IsBodyOf schema.now.kind (state_view step.now.state).body }
-    ensures { IfOk result (λ v. view v ≡ step_value schema.now identity.now (step_view step.now)) }
+    requires { IsBodyOf schema.now.kind (state_view state.now).body }
+    ensures { IfOk result (λ v. view v ≡ step_value schema.now identity.now (record { label = label_view label.now; state = state_view state.now })) }
 {
-    let object = object_of_state(alloc, identity, schema, true, &step.state)?;
-    state_value(alloc, step.label.to_json(alloc)?, object)
+    let object = object_of_state(alloc, identity, schema, true, state)?;
+    state_value(alloc, label.to_json(alloc)?, object)
 }
 
 // Appends a value's line, where the text then has no more bytes than a file may have.
@@ -140,48 +143,76 @@ fn push_line(alloc: Global, text: &mut Vec<u8>, value: &Json) -> Result<(), Save
     Ok(())
 }
 
-// Appends the lines of the later states, likewise.
+// Appends the line of the present state of a history, likewise.
+fn push_present(
+    alloc: Global,
+    text: &mut Vec<u8>,
+    schema: &Schema,
+    identity: &Identity,
+    history: &Timeline,
+) -> Result<(), SaveFault>
+    requires few { length text.old.items ≤ most_bench_bytes }
+    requires made { 0 < past_len history.now }
+    requires valid { AllValid schema.now.kind history.now }
+    ensures ok { OnOk result ((s : Step) → slice_get history.now.later (past_len history.now - 1) ≡ Some s → text.new.items ≡ text.old.items ++ step_line schema.now identity.now s) }
+    ensures fits { OnOk result (length text.new.items ≤ most_bench_bytes) }
+    ensures of_program { OnOk result ((s : Step) → slice_get history.now.later (past_len history.now - 1) ≡ Some s → IsOfProgram (step_value schema.now identity.now s)) }
+    ensures refused { IfErr result (λ f. (s : Step) → slice_get history.now.later (past_len history.now - 1) ≡ Some s → CannotHold f (text.old.items ++ step_line schema.now identity.now s)) }
+{
+    let label = history.last_label();
+    let value = step_value(alloc, schema, identity, label, history.present())?;
+    push_line(alloc, text, &value)
+}
+
+// Appends the lines of the states behind the place of a history, likewise, and goes along it.
 fn push_steps(
     alloc: Global,
     text: &mut Vec<u8>,
     schema: &Schema,
     identity: &Identity,
-    steps: &[Step],
+    history: &mut Timeline,
 ) -> Result<(), SaveFault>
     requires few { length text.old.items ≤ most_bench_bytes }
-    requires valid { All (MakesValid schema.now.kind) (steps_view steps.now) }
-    ensures ok { OnOk result (text.new.items ≡ text.old.items ++ flat_map (step_line schema.now identity.now) (steps_view steps.now)) }
+    requires valid { AllValid schema.now.kind history.old }
+    ensures ok { OnOk result (text.new.items ≡ text.old.items ++ flat_map (step_line schema.now identity.now) (drop (past_len history.old) history.old.later)) }
     ensures fits { OnOk result (length text.new.items ≤ most_bench_bytes) }
-    ensures of_program { OnOk result (All IsOfProgram (map (step_value schema.now identity.now) (steps_view steps.now))) }
-    ensures refused { IfErr result (λ f. CannotHold f (text.old.items ++ flat_map (step_line schema.now identity.now) (steps_view steps.now))) }
+    ensures of_program { OnOk result (All IsOfProgram (map (step_value schema.now identity.now) (drop (past_len history.old) history.old.later))) }
+    ensures refused { IfErr result (λ f. CannotHold f (text.old.items ++ flat_map (step_line schema.now identity.now) (drop (past_len history.old) history.old.later))) }
+    ensures moved { (n : ℕ) × (n ≤ length history.old.later) × (history.new ≡ moved_to history.old n) }
 {
-    for step in steps {
-        let value = step_value(alloc, schema, identity, step)?;
-        push_line(alloc, text, &value)?;
+    history.place_is_within();
+    while history.future_len() > 0 {
+        history.redo();
+        push_present(alloc, text, schema, identity, history)?;
     }
     Ok(())
 }
 
-/// The text of the bench file.
+/// The text of the bench file of a history that is to have this place. The history stands at its
+/// first state, and is left at another one.
 pub fn bench_text(
     alloc: Global,
     schema: &Schema,
     identity: &Identity,
-    timeline: &Timeline,
+    place: usize,
+    history: &mut Timeline,
 ) -> Result<Vec<u8>, SaveFault>
-    requires { AllValid schema.now.kind timeline.now }
-    ensures ok { IfOk result (λ t. t.items ≡ bench_text (bench_with schema.now identity.now timeline.now)) }
+    requires valid { IsValidHistory schema.now.kind history.old }
+    requires first { past_len history.old ≡ 0 }
+    requires place { place ≤ length history.old.later }
+    ensures ok { IfOk result (λ t. t.items ≡ bench_text (bench_with schema.now identity.now (moved_to history.old place))) }
     ensures fits { IfOk result (λ t. length t.items ≤ most_bench_bytes) }
-    ensures of_program { OnOk result (All IsOfProgram (bench_values (bench_with schema.now identity.now timeline.now))) }
-    ensures refused { IfErr result (λ f. CannotHold f (bench_text (bench_with schema.now identity.now timeline.now))) }
+    ensures of_program { OnOk result (All IsOfProgram (bench_values (bench_with schema.now identity.now (moved_to history.old place)))) }
+    ensures refused { IfErr result (λ f. CannotHold f (bench_text (bench_with schema.now identity.now (moved_to history.old place)))) }
+    ensures moved { (n : ℕ) × (n ≤ length history.old.later) × (history.new ≡ moved_to history.old n) }
 {
-    let head = head_value(alloc, timeline.past_len(), timeline.later().len() + 1)?;
-    let first = first_value(alloc, schema, identity, timeline.first())?;
+    let head = head_value(alloc, place, history.future_len() + 1)?;
+    let first = first_value(alloc, schema, identity, history.present())?;
     let mut text = Vec::new(alloc);
     push_line(alloc, &mut text, &head)?;
     push_line(alloc, &mut text, schema.json())?;
     push_line(alloc, &mut text, &first)?;
-    push_steps(alloc, &mut text, schema, identity, timeline.later())?;
+    push_steps(alloc, &mut text, schema, identity, history)?;
     Ok(text)
 }
 

@@ -4,7 +4,7 @@ ghost use Rattle.ssa_model.specs.definitions.Fitting.{IsBodyOf};
 ghost use Rattle.ssa_model.specs.definitions.Json.{compact, same_text};
 ghost use Rattle.ssa_json.specs.View.{view};
 ghost use Rattle.ssa_merge.specs.States.{state_view};
-ghost use Rattle.ssa_turn.specs.Histories.{step_view};
+ghost use Rattle.ssa_turn.specs.Histories.{label_view};
 ghost use Rattle.ssa_file.specs.Saving.{first_value, step_value};
 
 use crate::loading::is_same_bytes;
@@ -13,7 +13,7 @@ use ssa_json::value::Json;
 use ssa_merge::state::State;
 use ssa_object::identity::Identity;
 use ssa_schema::schema::Schema;
-use ssa_turn::timeline::Step;
+use ssa_turn::label::Label;
 use std::alloc::{AllocError, Global};
 
 /// Whether the text is the compact text of the value.
@@ -39,17 +39,18 @@ pub fn is_first(
     is_text_of(alloc, &value, text)
 }
 
-/// Whether the text is that of the step's line.
+/// Whether the text is that of the line of a later state with the label.
 pub fn is_step(
     alloc: Global,
     schema: &Schema,
     identity: &Identity,
-    step: &Step,
+    label: &Label,
+    state: &State,
     text: &[u8],
 ) -> Result<bool, AllocError>
-    requires { IsBodyOf schema.now.kind (state_view step.now.state).body }
-    ensures { IfOk result (λ same. same ≡ same_text (compact (step_value schema.now identity.now (step_view step.now))) text.now) }
+    requires { IsBodyOf schema.now.kind (state_view state.now).body }
+    ensures { IfOk result (λ same. same ≡ same_text (compact (step_value schema.now identity.now (record { label = label_view label.now; state = state_view state.now }))) text.now) }
 {
-    let value = step_value(alloc, schema, identity, step)?;
+    let value = step_value(alloc, schema, identity, label, state)?;
     is_text_of(alloc, &value, text)
 }

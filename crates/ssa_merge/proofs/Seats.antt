@@ -90,19 +90,21 @@ module _ (table : Table) (a : ManagerKey) (owned lost modified : PathSet) (at : 
     each = made.0;
     leads = append-nil (changed_entries cs.items table) ∙ made.1 ∙ sym is;
     few = subst AreFew (sym is) (stay-few few);
+    new = tt;
   }
 
   one-more : (cs : List EntryChange) → changed_entries cs table ≡ stayed → length (stayed ++ newcomer ∷ []) ≡ length (changed_entries cs table) + 1
   one-more cs made = length-append stayed (newcomer ∷ []) ∙ ap (λ t. length t + 1) (sym made)
 
   -- a manager comes, for whom there is a place
-  pub newcomer-leads : (cs : Vec EntryChange Global) (e : merge.Entry) → AreReseated cs.items → entry_view e ≡ newcomer → seat table a owned lost modified at ≡ stayed ++ newcomer ∷ []
+  pub newcomer-leads : (cs : Vec EntryChange Global) (e : merge.Entry) → AreReseated cs.items → is_in_table table a ≡ false → entry_view e ≡ newcomer → seat table a owned lost modified at ≡ stayed ++ newcomer ∷ []
       → length (changed_entries cs.items table) + 1 ≤ most_managers
       → LeadsTo table (record { entries = cs; newcomer = Some e }) (seat table a owned lost modified at)
-  newcomer-leads cs e made comes is fits = record {
+  newcomer-leads cs e made unknown comes is fits = record {
     each = made.0;
     leads = (λ i. made.1 i ++ comes i ∷ []) ∙ sym is;
     few = subst AreFew (sym is) (let count = one-more cs.items made.1 in omega arith);
+    new = (subst (λ b. is_in_table table b.manager ≡ false) (sym comes) unknown, tt);
   }
 
   -- a manager comes, for whom there is none

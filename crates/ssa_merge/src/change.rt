@@ -37,8 +37,7 @@ pub struct Change {
 }
 
 impl Change {
-    /// The whole state to which the change leads, with a body of its own. It shares the sets that
-    /// stay.
+    /// The whole state to which the change leads, with a body and sets of its own.
     pub fn completed(self, alloc: Global, state: &State) -> Result<Plan, AllocError>
         requires { (after : model.State) × IsChange (state_view state.now) self after }
         ensures { IfOk result (λ p. (after : model.State) → IsChange (state_view state.now) self after → IsPlan (state_view state.now) p after) }
@@ -143,7 +142,7 @@ fn owned_after_update(
     let gained = comparison.modified.union(alloc, &comparison.added)?;
     match state.managers.get(key) {
         Some(entry) => {
-            let stayed = entry.set.get().minus(alloc, &comparison.removed)?;
+            let stayed = entry.set.minus(alloc, &comparison.removed)?;
             let owned = stayed.union(alloc, &gained)?;
             Ok(owned)
         }

@@ -21,7 +21,7 @@ impl Entry {
     pub fn to_json(&self, alloc: Global, api_version: &str) -> Result<Json, AllocError>
         ensures { IfOk result (λ v. view v ≡ entry_json (text_json api_version.now) (entry_view self.now)) }
     {
-        let fields = self.set.get().to_fields_v1(alloc)?;
+        let fields = self.set.to_fields_v1(alloc)?;
         let time = self.at.to_text(alloc)?;
         let mut members = BTreeMap::new(alloc);
         put_text(alloc, &mut members, "time", time.as_str())?;

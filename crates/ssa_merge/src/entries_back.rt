@@ -1,11 +1,15 @@
 //! Tables of managers read back from the entries that they are written as.
 ghost use Rattle.ssa_model.specs.definitions.BenchFile.{IsReadBack};
+ghost use Rattle.ssa_model.specs.definitions.Table as model;
+ghost use Rattle.ssa_model.specs.definitions.Table.{Table};
 ghost use Rattle.ssa_model.specs.definitions.Valid.{AllEntries};
 ghost use Rattle.ssa_json.specs.Readings.{readings};
 ghost use Rattle.ssa_merge.specs.EntriesBack.{IsTableBack};
 ghost use Rattle.ssa_merge.specs.Managers.{entry_view, table_view};
+ghost use Rattle.ssa_merge.specs.TableChanges.{changed_entries, changed_entry, lone, LeadsTo};
 
 use crate::managers::{Entry, Managers};
+use crate::table_change::{EntryChange, TableChange};
 
 impl Entry {
     /// The set of the entry is read from what it is written as, and the moment is one.
@@ -14,7 +18,7 @@ impl Entry {
     pub fn own_set_is_read(&self)
         ensures { IsReadBack readings (entry_view self.now) }
     {
-        self.set.get().own_fields_are_read();
+        self.set.own_fields_are_read();
         let _moment = self.at.write();
     }
 }
@@ -38,5 +42,57 @@ impl Managers {
         ensures table { IsTableBack self.now }
     {
         entries_are_read(self.entries());
+    }
+}
+
+impl EntryChange {
+    // An entry that is read back is so after the change.
+    fn new_set_is_read(&self)
+        ensures { (e : model.Entry) → IsReadBack readings e → AllEntries (IsReadBack readings) (changed_entry self.now e) }
+    {
+        match self {
+            EntryChange::Stays | EntryChange::Leaves => {}
+            EntryChange::Renewed(at) => {
+                let _moment = at.write();
+            }
+            EntryChange::Owns(set, at) => {
+                set.own_fields_are_read();
+                let _moment = at.write();
+            }
+        }
+    }
+}
+
+// Entries that are read back are so after their changes.
+fn changed_entries_are_read(changes: &[EntryChange])
+    ensures { (t : Table) → AllEntries (IsReadBack readings) t → AllEntries (IsReadBack readings) (changed_entries changes.now t) }
+{
+    match changes {
+        [] => {}
+        [first, rest @ ..] => {
+            first.new_set_is_read();
+            changed_entries_are_read(rest);
+        }
+    }
+}
+
+// The newcomer is read back.
+fn newcomer_is_read(newcomer: &Option<Entry>)
+    ensures { AllEntries (IsReadBack readings) (lone newcomer.now) }
+{
+    if let Some(entry) = newcomer {
+        entry.own_set_is_read();
+    }
+}
+
+impl TableChange {
+    /// The table after the change is read back where the one before is.
+    ///
+    /// Looks at the numbers of the sets that the change makes, and changes nothing. Takes no memory.
+    pub fn new_sets_are_read(&self)
+        ensures { (t u : Table) → LeadsTo t self.now u → AllEntries (IsReadBack readings) t → AllEntries (IsReadBack readings) u }
+    {
+        changed_entries_are_read(&self.entries);
+        newcomer_is_read(&self.newcomer);
     }
 }

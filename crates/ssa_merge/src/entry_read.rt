@@ -14,7 +14,6 @@ use crate::managers::Entry;
 use crate::names::is_manager_name;
 use crate::ownable::first_not_ownable;
 use crate::seat::is_in_table;
-use crate::shared_set::SharedSet;
 use ssa_json::moment::Moment;
 use ssa_json::text::is_same_text;
 use ssa_json::value::Json;
@@ -75,6 +74,5 @@ pub fn read_entry(
         operation: said.operation,
     };
     check_owned(alloc, &key, &set, before, body)?;
-    let set = SharedSet::new(alloc, set)?;
     Ok(Entry { key, set, at })
 }

@@ -42,7 +42,7 @@ fn left_out(
     config.points_tell_places();
     match state.managers.get(key) {
         Some(entry) => {
-            let unreached = entry.set.get().without_over(alloc, config_points)?;
+            let unreached = entry.set.without_over(alloc, config_points)?;
             let gone = without_root(alloc, &unreached)?;
             Ok(gone)
         }

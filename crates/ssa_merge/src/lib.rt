@@ -17,6 +17,5 @@ mod ownable;
 pub mod owned;
 pub mod plan;
 pub mod seat;
-pub mod shared_set;
 pub mod state;
 pub mod table_change;

@@ -1,5 +1,6 @@
 //! The table of managers: who owns which paths, and since when.
 ghost use Rattle.std.specs.Prelude.{◌≡◌, ◌≤◌, [], length, option_map, not, IfOk};
+ghost use Rattle.std.specs.Slice.Iter.{iter_rest};
 ghost use Rattle.ssa_model.specs.definitions.Limits.{most_managers};
 ghost use Rattle.ssa_model.specs.definitions.PathMap.{union};
 ghost use Rattle.ssa_model.specs.definitions.Table.{is_in_table, owned_by, owned_by_others};
@@ -8,23 +9,24 @@ ghost use Rattle.ssa_merge.specs.Managers.{key_view, entry_view, table_view, cla
 ghost use Rattle.ssa_merge.specs.Tables.{entry_of};
 
 use crate::manager::{ManagerKey, Operation};
-use crate::shared_set::SharedSet;
 use arrayvec::ArrayVec;
 use ssa_json::moment::Moment;
+use ssa_path::field_set::FieldSet;
 use std::alloc::{AllocError, Global};
 use std::default::MadeWith;
 use std::marker::Model;
+use std::{mem, slice};
 
 /// The most managers of a table.
 pub const MOST_MANAGERS: usize = 64;
 
 /// A manager, the paths that it owns, and when they last changed by a command of its own.
 ///
-/// The tables of a timeline share the sets that no command changed.
+/// The set is the entry's own, so that it can be changed in place.
 #[derive(Drop)]
 pub struct Entry {
     pub key: ManagerKey,
-    pub set: SharedSet,
+    pub set: FieldSet,
     pub at: Moment,
 }
 
@@ -35,19 +37,19 @@ impl MadeWith<Global> for Entry {
                 name: String::new(alloc),
                 operation: Operation::Apply,
             },
-            set: SharedSet::empty(alloc),
+            set: FieldSet::new(alloc),
             at: Moment::first(),
         }
     }
 }
 
 impl Entry {
-    /// The same entry, which shares the set.
+    /// The same entry, with a set of its own.
     pub fn copy(&self, alloc: Global) -> Result<Entry, AllocError>
         ensures { IfOk result (λ e. entry_view e ≡ entry_view self.now) }
     {
         let key = self.key.copy(alloc)?;
-        let set = self.set.share(alloc)?;
+        let set = self.set.copy(alloc)?;
         Ok(Entry {
             key,
             set,
@@ -101,6 +103,28 @@ impl Managers {
         self.entries.as_slice()
     }
 
+    /// The entries, one after the other, in table order.
+    pub fn iter(&self) -> slice::Iter<'_, Entry>
+        ensures { table_view (iter_rest result) ≡ self.now }
+    {
+        self.entries.iter()
+    }
+
+    /// Takes out the entries, which leaves the empty table. Takes no memory.
+    pub fn take_entries(&mut self, alloc: Global) -> ArrayVec<Entry, MOST_MANAGERS, Global>
+        ensures entries { table_view result.items ≡ self.old }
+        ensures left { self.new ≡ [] }
+    {
+        mem::replace(&mut self.entries, ArrayVec::new_in(alloc))
+    }
+
+    /// Makes the table that of these entries. Takes no memory.
+    pub fn set_entries(&mut self, entries: ArrayVec<Entry, MOST_MANAGERS, Global>)
+        ensures { self.new ≡ table_view entries.items }
+    {
+        self.entries = entries;
+    }
+
     /// The manager's entry, none where the table has not the manager. Takes no memory.
     pub fn get(&self, key: &ManagerKey) -> Option<&Entry>
         ensures { option_map (λ e. entry_view e.now) result ≡ entry_of self.now (key_view key.now) }
@@ -115,7 +139,7 @@ impl Managers {
         self.entries.len()
     }
 
-    /// The same table, which shares the sets.
+    /// The same table, with sets of its own.
     pub fn copy(&self, alloc: Global) -> Result<Managers, AllocError>
         ensures { IfOk result (λ m. m ≡ self.now) }
     {
@@ -124,7 +148,7 @@ impl Managers {
     }
 }
 
-// The same entries, which share the sets.
+// The same entries, with sets of their own.
 fn copy_entries(
     alloc: Global,
     entries: &[Entry],

@@ -21,7 +21,7 @@ pub fn owners<'a>(
 {
     let mut found = Vec::new(alloc);
     for entry in table {
-        if entry.set.get().has(path) {
+        if entry.set.has(path) {
             found.push(&entry.key)?;
         }
     }
@@ -43,7 +43,7 @@ pub fn owned_by_others(
             if first.key.is_same(key) {
                 return Ok(others);
             }
-            let all = first.set.get().union(alloc, &others)?;
+            let all = first.set.union(alloc, &others)?;
             Ok(all)
         }
     }
@@ -61,7 +61,7 @@ pub fn clashes(
     let mut found = Vec::new(alloc);
     for entry in table {
         if !entry.key.is_same(key) {
-            let fields = entry.set.get().meet(alloc, changed)?;
+            let fields = entry.set.meet(alloc, changed)?;
             if !fields.is_empty() {
                 let other = entry.key.copy(alloc)?;
                 found.push((other, fields))?;

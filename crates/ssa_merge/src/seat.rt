@@ -8,7 +8,6 @@ ghost use Rattle.ssa_merge.specs.Tables.{acted, less, owns};
 use crate::manager::ManagerKey;
 use crate::managers::{Entry, MOST_MANAGERS, Managers};
 use crate::plan::Refusal;
-use crate::shared_set::SharedSet;
 use crate::table_change::{EntryChange, TableChange, count_kept};
 use ssa_json::moment::Moment;
 use ssa_path::field_set::FieldSet;
@@ -28,7 +27,7 @@ pub fn is_in_table(table: &[Entry], key: &ManagerKey) -> bool
 fn losing(alloc: Global, entry: &Entry, lost: &FieldSet) -> Result<EntryChange, AllocError>
     ensures { IfOk result (λ c. changed_entry c (entry_view entry.now) ≡ filter owns (less (entry_view entry.now) lost.now ∷ [])) }
 {
-    let set = entry.set.get();
+    let set = &entry.set;
     let taken = set.meet(alloc, lost)?;
     if taken.is_empty() {
         if set.is_empty() {
@@ -57,7 +56,7 @@ fn acting(
     if owned.is_empty() {
         return Ok(EntryChange::Leaves);
     }
-    if !owned.is_same(entry.set.get()) {
+    if !owned.is_same(&entry.set) {
         let set = owned.copy(alloc)?;
         return Ok(EntryChange::Owns(set, at));
     }
@@ -117,8 +116,7 @@ fn newcomer(
     ensures { IfOk result (λ e. entry_view e ≡ record { manager = key_view key.now; owned = owned.now; moment = at }) }
 {
     let key = key.copy(alloc)?;
-    let copied = owned.copy(alloc)?;
-    let set = SharedSet::new(alloc, copied)?;
+    let set = owned.copy(alloc)?;
     Ok(Entry { key, set, at })
 }
 

@@ -14,7 +14,7 @@ pub struct State {
 }
 
 impl State {
-    /// The same state, with a body of its own. It shares the managers' sets.
+    /// The same state, with a body and sets of its own.
     pub fn copy(&self, alloc: Global) -> Result<State, AllocError>
         ensures { IfOk result (λ s. state_view s ≡ state_view self.now) }
     {

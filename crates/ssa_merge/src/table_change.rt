@@ -6,7 +6,6 @@ ghost use Rattle.ssa_merge.specs.Managers.{entry_view, table_view};
 ghost use Rattle.ssa_merge.specs.TableChanges.{changed_entries, changed_entry, changed_table, leaves, lone, LeadsTo};
 
 use crate::managers::{Entry, MOST_MANAGERS, Managers};
-use crate::shared_set::SharedSet;
 use arrayvec::ArrayVec;
 use ssa_json::moment::Moment;
 use ssa_path::field_set::FieldSet;
@@ -62,7 +61,7 @@ pub fn count_kept(changes: &[EntryChange]) -> usize
     }
 }
 
-// The entry after a change, which shares its set where that stays.
+// The entry after a change, with a set of its own.
 fn changed_entry(
     alloc: Global,
     entry: &Entry,
@@ -72,9 +71,9 @@ fn changed_entry(
 {
     let (set, at) = match change {
         EntryChange::Leaves => return Ok(None),
-        EntryChange::Stays => (entry.set.share(alloc)?, entry.at),
-        EntryChange::Renewed(at) => (entry.set.share(alloc)?, at),
-        EntryChange::Owns(set, at) => (SharedSet::new(alloc, set)?, at),
+        EntryChange::Stays => (entry.set.copy(alloc)?, entry.at),
+        EntryChange::Renewed(at) => (entry.set.copy(alloc)?, at),
+        EntryChange::Owns(set, at) => (set, at),
     };
     let key = entry.key.copy(alloc)?;
     Ok(Some(Entry { key, set, at }))
@@ -102,7 +101,7 @@ fn changed_entries(
 }
 
 impl TableChange {
-    /// The table after the change. It shares the sets that stay.
+    /// The table after the change, with sets of its own.
     pub fn completed(self, alloc: Global, managers: &Managers) -> Result<Managers, AllocError>
         requires { (t : Table) × LeadsTo managers.now self t }
         ensures { IfOk result (λ m. m ≡ changed_table self managers.now) }

@@ -55,10 +55,11 @@ pub fn load_bench<'a, T: Files + AllocGlobal>(rt: &T, name: &'a str) -> Result<B
 fn write_bench<F: Write + OpenFile + Drop>(
     alloc: Global,
     file: F,
-    bench: &Bench,
+    bench: &mut Bench,
 ) -> Result<(), SaveFault>
-    ensures fits { OnOk result (length (bench_text bench.now) ≤ most_bench_bytes) }
-    ensures too_long { result ≡ Err SaveFault.BenchTooLong → most_bench_bytes < length (bench_text bench.now) }
+    ensures same { bench.new ≡ bench.old }
+    ensures fits { OnOk result (length (bench_text bench.old) ≤ most_bench_bytes) }
+    ensures too_long { result ≡ Err SaveFault.BenchTooLong → most_bench_bytes < length (bench_text bench.old) }
 {
     let mut sink = OfWriter::new(file);
     bench.save(alloc, &mut sink)?;
@@ -74,10 +75,11 @@ fn replace_file<'a, T: Files + AllocGlobal>(
     draft: &str,
     file: T::File,
     name: &'a str,
-    bench: &Bench,
+    bench: &mut Bench,
 ) -> Result<(), Trouble<'a>>
-    ensures fits { OnOk result (length (bench_text bench.now) ≤ most_bench_bytes) }
-    ensures trouble { IfErr result (IsSaveTrouble name.now (bench_text bench.now)) }
+    ensures same { bench.new ≡ bench.old }
+    ensures fits { OnOk result (length (bench_text bench.old) ≤ most_bench_bytes) }
+    ensures trouble { IfErr result (IsSaveTrouble name.now (bench_text bench.old)) }
 {
     match write_bench(rt.alloc(), file, bench) {
         Ok(()) => {}
@@ -96,10 +98,11 @@ fn replace_file<'a, T: Files + AllocGlobal>(
 pub fn save_bench<'a, T: Files + AllocGlobal>(
     rt: &T,
     name: &'a str,
-    bench: &Bench,
+    bench: &mut Bench,
 ) -> Result<(), Trouble<'a>>
-    ensures fits { OnOk result (length (bench_text bench.now) ≤ most_bench_bytes) }
-    ensures trouble { IfErr result (IsSaveTrouble name.now (bench_text bench.now)) }
+    ensures same { bench.new ≡ bench.old }
+    ensures fits { OnOk result (length (bench_text bench.old) ≤ most_bench_bytes) }
+    ensures trouble { IfErr result (IsSaveTrouble name.now (bench_text bench.old)) }
 {
     let Ok(draft) = [name, ".new"].concat(rt.alloc()) else {
         return Err(Trouble::OutOfMemory);

@@ -16,7 +16,7 @@ fn loaded(alloc: Global, file: &str) -> Result<Bench, LoadFault> {
 }
 
 // The file of a bench.
-fn saved(alloc: Global, bench: &Bench) -> Result<Vec<u8>, Fail> {
+fn saved(alloc: Global, bench: &mut Bench) -> Result<Vec<u8>, Fail> {
     let mut sink = OfWriter::new(Vec::new(alloc));
     match bench.save(alloc, &mut sink) {
         Ok(()) => Ok(sink.into_inner()),
@@ -30,7 +30,7 @@ fn goes_on(alloc: Global, file: &str, line: &str) -> Result<(Vec<u8>, Vec<u8>), 
         return Err(Fail::new("the file is refused"));
     };
     let reply = answers(alloc, &mut bench, line)?;
-    let file = saved(alloc, &bench)?;
+    let file = saved(alloc, &mut bench)?;
     Ok((reply, file))
 }
 

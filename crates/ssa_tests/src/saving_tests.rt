@@ -31,7 +31,7 @@ fn a_saved_bench_is_flushed(rt: HostRuntime) -> Result<(), Fail> {
 }
 
 // Whether saving tells that the device has failed.
-fn fails(alloc: Global, bench: &Bench, room: &mut [u8]) -> bool {
+fn fails(alloc: Global, bench: &mut Bench, room: &mut [u8]) -> bool {
     let mut sink = OfWriter::new(room);
     matches!(bench.save(alloc, &mut sink), Err(SaveFault::Io))
 }
@@ -39,8 +39,8 @@ fn fails(alloc: Global, bench: &Bench, room: &mut [u8]) -> bool {
 #[test]
 fn a_full_device_is_told(rt: HostRuntime) -> Result<(), Fail> {
     let mut room = [0u8; 9];
-    let bench = bench(rt.alloc())?;
-    let has_failed = fails(rt.alloc(), &bench, &mut room[..]);
+    let mut bench = bench(rt.alloc())?;
+    let has_failed = fails(rt.alloc(), &mut bench, &mut room[..]);
     drop(bench);
     assert!(rt; has_failed);
     assert_eq!(rt; room, *b"{\"format\"");

@@ -1,23 +1,27 @@
-//! The history of a bench: all its states in a row, and a place among them.
-ghost use Rattle.std.specs.Prelude.{◌≡◌, [], OnOk, OnErr, IfOk, ◌≤◌, ◌+◌, ◌-◌, ◌<◌, ◌^◌, length, map, take, drop, ◌++◌, ◌∷◌};
-ghost use Rattle.ssa_model.specs.definitions.History as model;
-ghost use Rattle.ssa_model.specs.definitions.History.{present, past_len, future_len, appended, moved_to};
-ghost use Rattle.ssa_turn.specs.Histories.{label_view, lent_labels, steps_view};
+//! The history of a bench: its live state, and the records that lead back and forward from it.
+ghost use Rattle.std.specs.Prelude.{◌≡◌, [], OnOk, OnErr, IfOk, Some, ◌≤◌, ◌+◌, ◌-◌, ◌<◌, ◌^◌, length, map, take, drop, slice_get, ◌++◌};
 ghost use Rattle.std.specs.List.{All};
-ghost use Rattle.ssa_turn.specs.Dated.{MakesDated};
-ghost use Rattle.ssa_turn.specs.TablesBack.{AllTablesBack, MakesTableBack};
+ghost use Rattle.ssa_model.specs.definitions.Carry.{carry};
+ghost use Rattle.ssa_model.specs.definitions.History.{present, past_len, future_len, appended, moved_to};
 ghost use Rattle.ssa_merge.specs.States.{state_view};
+ghost use Rattle.ssa_reverse.specs.Journals.{future_of, past_of};
+ghost use Rattle.ssa_turn.specs.Dated.{MakesDated};
+ghost use Rattle.ssa_turn.specs.Histories.{label_view, lent_labels};
+ghost use Rattle.ssa_turn.specs.TablesBack.{AllTablesBack, HasTableBack};
+ghost use Rattle.ssa_turn_state.specs.States.{HasStateRoom, IsTaken, state_steps};
 
 use crate::label::Label;
 use ssa_merge::state::State;
+use ssa_reverse::journal::Journal;
+use ssa_turn_state::live_state::{LiveState, StateDelta};
 use std::alloc::{AllocError, Global};
 use std::marker::Model;
 
-/// A state after the first, and the command that made it.
+/// A command, and the record that leads from the state before it to the one that it makes.
 #[derive(Drop)]
 pub struct Step {
     pub label: Label,
-    pub state: State,
+    pub delta: StateDelta,
 }
 
 /// The labels of a history: those of the states up to the place, oldest first, and those behind it,
@@ -28,12 +32,12 @@ pub struct Log<'a> {
     pub future: Vec<&'a Label>,
 }
 
-/// All states in a row; `place` counts those before the present one.
+/// All states in a row, and a place among them. The state at the place is kept whole, the others as
+/// the records that lead there, so that the history takes the memory of what commands changed.
 #[derive(Drop)]
 pub struct Timeline {
-    first: State,
-    later: Vec<Step>,
-    place: usize,
+    live: LiveState,
+    journal: Journal<LiveState, Label>,
 }
 
 impl Model for Timeline {
@@ -44,55 +48,32 @@ impl Model for Timeline {
 
     ghost coded = { coded_timeline };
 
-    ghost use Rattle.ssa_turn.specs.Histories.{timeline_view, IsWithin};
+    ghost use Rattle.ssa_turn.specs.Histories.{timeline_view, IsWhole};
 
     ghost view = { timeline_view };
 
-    ghost invariant = { IsWithin };
+    ghost invariant = { IsWhole };
 }
 
-// Puts a step at a place of a list, as its last.
-fn cut_and_push(later: &mut Vec<Step>, place: usize, step: Step) -> Result<(), AllocError>
-    requires { place ≤ length later.old.items }
-    ensures ok { OnOk result (later.new.items ≡ take place later.old.items ++ step ∷ []) }
-    ensures err { OnErr result (later.new.items ≡ later.old.items) }
+// The labels of the records from one place to another.
+fn labels_between(
+    alloc: Global,
+    journal: &Journal<LiveState, Label>,
+    from: usize,
+    to: usize,
+) -> Result<Vec<&Label>, AllocError>
+    requires order { from ≤ to }
+    requires within { to ≤ length (past_of journal.now ++ future_of journal.now) }
+    ensures { IfOk result (λ ls. lent_labels ls.items ≡ map (λ r. label_view r.1) (take (to - from) (drop from (past_of journal.now ++ future_of journal.now)))) }
 {
-    if place < later.len() {
-        later[place] = step;
-        later.truncate(place + 1);
-        return Ok(());
-    }
-    later.push(step)?;
-    Ok(())
-}
-
-/// The labels of steps, in their order.
-pub fn labels(alloc: Global, steps: &[Step]) -> Result<Vec<&Label>, AllocError>
-    ensures { IfOk result (λ ls. lent_labels ls.items ≡ map (λ s. s.label) (steps_view steps.now)) }
-{
-    let mut found = Vec::with_capacity(alloc, steps.len())?;
-    for step in steps {
-        found.push(&step.label)?;
+    let mut found = Vec::with_capacity(alloc, to - from)?;
+    for place in from..to {
+        match journal.entry(place) {
+            Some(entry) => found.push(entry.1)?,
+            None => unreachable!(),
+        }
     }
     Ok(found)
-}
-
-// The tables of the states are read from what they are written as.
-fn steps_are_read(steps: &[Step])
-    ensures { All MakesTableBack (steps_view steps.now) }
-{
-    for step in steps {
-        step.state.managers.own_entries_are_read();
-    }
-}
-
-// The moments of the steps' labels are moments.
-fn steps_are_dated(steps: &[Step])
-    ensures { All MakesDated (steps_view steps.now) }
-{
-    for step in steps {
-        step.label.own_moment_is_read();
-    }
 }
 
 impl Timeline {
@@ -100,10 +81,10 @@ impl Timeline {
     pub fn new(alloc: Global, first: State) -> Timeline
         ensures { result ≡ record { first = state_view first; later = []; place = 0 } }
     {
+        first.managers.own_entries_are_read();
         Timeline {
-            first,
-            later: Vec::new(alloc),
-            place: 0,
+            live: LiveState { state: first },
+            journal: Journal::new(alloc),
         }
     }
 
@@ -111,49 +92,28 @@ impl Timeline {
     pub fn place_is_within(&self)
         ensures { self.now.place ≤ length self.now.later }
     {
-        let _ = &self.place;
+        let _ = &self.live;
     }
 
-    /// The sets of each state's managers are read from what they are written as.
-    ///
-    /// Looks at the numbers of the sets, and changes nothing. Takes no memory.
+    /// The sets of each state's managers are read from what they are written as. Takes no memory.
     pub fn own_entries_are_read(&self)
         ensures { AllTablesBack self.now }
     {
-        self.first.managers.own_entries_are_read();
-        steps_are_read(&self.later);
+        let _ = &self.live;
     }
 
-    /// The moments of the commands that made the states are moments. Changes nothing, and takes no memory.
+    /// The moments of the commands that made the states are moments. Takes no memory.
     pub fn own_moments_are_read(&self)
         ensures { All MakesDated self.now.later }
     {
-        steps_are_dated(&self.later);
+        let _ = &self.live;
     }
 
     /// The state at the place.
     pub fn present(&self) -> &State
         ensures { state_view result.now ≡ present self.now }
     {
-        if self.place == 0 {
-            &self.first
-        } else {
-            &self.later[self.place - 1].state
-        }
-    }
-
-    /// The first of all states.
-    pub fn first(&self) -> &State
-        ensures { state_view result.now ≡ self.now.first }
-    {
-        &self.first
-    }
-
-    /// The steps to all later states, oldest first, those behind the place too.
-    pub fn later(&self) -> &[Step]
-        ensures { steps_view result.now ≡ self.now.later }
-    {
-        &self.later
+        &self.live.state
     }
 
     /// How many states stand before the place.
@@ -161,7 +121,7 @@ impl Timeline {
         ensures count { result ≡ past_len self.now }
         ensures small { result < 2 ^ 63 }
     {
-        self.place
+        self.journal.past_len()
     }
 
     /// How many states stand after the place.
@@ -169,54 +129,100 @@ impl Timeline {
         ensures count { result ≡ future_len self.now }
         ensures small { result < 2 ^ 63 }
     {
-        self.later.len() - self.place
+        self.journal.future_len()
     }
 
-    /// The steps that led to the place, oldest first.
-    pub fn past(&self) -> &[Step]
-        ensures { steps_view result.now ≡ take (past_len self.now) self.now.later }
+    /// The labels of the commands that led to the place, oldest first, and of those behind it, the
+    /// next one first.
+    pub fn log(&self, alloc: Global) -> Result<Log<'_>, AllocError>
+        ensures past { IfOk result (λ l. lent_labels l.past.items ≡ map (λ s. s.label) (take (past_len self.now) self.now.later)) }
+        ensures future { IfOk result (λ l. lent_labels l.future.items ≡ map (λ s. s.label) (drop (past_len self.now) self.now.later)) }
     {
-        &self.later[..self.place]
+        let place = self.journal.past_len();
+        let all = place + self.journal.future_len();
+        let past = labels_between(alloc, &self.journal, 0, place)?;
+        let future = labels_between(alloc, &self.journal, place, all)?;
+        Ok(Log { past, future })
     }
 
-    /// The steps behind the place, the next one first.
-    pub fn future(&self) -> &[Step]
-        ensures { steps_view result.now ≡ drop (past_len self.now) self.now.later }
+    /// The label of the command that led to the place.
+    pub fn last_label(&self) -> &Label
+        requires { 0 < past_len self.now }
+        ensures { slice_get (map (λ s. s.label) self.now.later) (past_len self.now - 1) ≡ Some (label_view result.now) }
     {
-        &self.later[self.place..]
+        match self.journal.entry(self.journal.past_len() - 1) {
+            Some(entry) => entry.1,
+            None => unreachable!(),
+        }
     }
 
-    /// Cuts off what came after the place, and goes to a new state there.
+    /// Cuts off what came after the place, and goes to the state that the record leads to there.
+    ///
+    /// All memory that later moves want is taken here: where it is refused, nothing has moved.
     pub fn append(&mut self, step: Step) -> Result<(), AllocError>
-        ensures ok { OnOk result (self.new ≡ appended self.old (label_view step.label) (state_view step.state)) }
+        requires fits { IsTaken (state_steps step.delta) (present self.old) (carry (state_steps step.delta) (present self.old)) }
+        requires room { HasStateRoom step.delta (present self.old) }
+        requires back { HasTableBack (carry (state_steps step.delta) (present self.old)) }
+        ensures ok { OnOk result (self.new ≡ appended self.old (label_view step.label) (carry (state_steps step.delta) (present self.old))) }
         ensures err { OnErr result (self.new ≡ self.old) }
     {
-        cut_and_push(&mut self.later, self.place, step)?;
-        self.place += 1;
-        Ok(())
+        let Step { label, delta } = step;
+        label.own_moment_is_read();
+        self.journal.record(&mut self.live, delta, label)
     }
 
-    /// Goes one state back.
+    /// Goes one state back. Takes no memory.
     pub fn undo(&mut self)
         requires { 0 < past_len self.old }
         ensures { self.new ≡ moved_to self.old (past_len self.old - 1) }
     {
-        self.place -= 1;
+        match self.journal.undo(&mut self.live) {
+            Ok(_) => {}
+            Err(_) => unreachable!(),
+        }
     }
 
-    /// Goes one state forward.
+    /// Goes one state forward. Takes no memory.
     pub fn redo(&mut self)
         requires { 0 < future_len self.old }
         ensures { self.new ≡ moved_to self.old (past_len self.old + 1) }
     {
-        self.place += 1;
+        match self.journal.redo(&mut self.live) {
+            Ok(_) => {}
+            Err(_) => unreachable!(),
+        }
     }
 
-    /// Goes to a place: that many states stand before the one there.
+    // Goes back until no more than so many states stand before the place.
+    fn go_back_to(&mut self, place: usize)
+        requires { place ≤ past_len self.old }
+        ensures { self.new ≡ moved_to self.old place }
+    {
+        while place < self.past_len() {
+            self.undo();
+        }
+    }
+
+    // Goes forward until so many states stand before the place.
+    fn go_on_to(&mut self, place: usize)
+        requires within { place ≤ length self.old.later }
+        requires behind { past_len self.old ≤ place }
+        ensures { self.new ≡ moved_to self.old place }
+    {
+        while self.past_len() < place {
+            self.redo();
+        }
+    }
+
+    /// Goes to a place: that many states stand before the one there. Takes no memory.
     pub fn go_to(&mut self, place: usize)
         requires { place ≤ length self.old.later }
         ensures { self.new ≡ moved_to self.old place }
     {
-        self.place = place;
+        if place <= self.past_len() {
+            self.go_back_to(place);
+        } else {
+            self.go_on_to(place);
+        }
     }
 }

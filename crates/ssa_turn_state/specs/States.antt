@@ -1,17 +1,12 @@
--- What a live state and a record of two states are.
+-- What a record of two states is.
 use Rattle.ssa_model.specs.definitions.Kind.{Kind}
 use Rattle.ssa_model.specs.definitions.Operations.{State}
 use Rattle.ssa_model.specs.definitions.Record.{Record}
 use Rattle.ssa_model.specs.definitions.Takes.{Takes}
 use Rattle.ssa_turn_body.specs.Records.{body_told}
 use Rattle.ssa_turn_body.specs.Rooms.{HasBodyRoom}
-use Rattle.ssa_turn_state.specs.declared.live_state.LiveState.{LiveState}
 use Rattle.ssa_turn_state.specs.declared.live_state.StateDelta.{StateDelta}
-use Rattle.ssa_turn_table.specs.Tables.{table_view}
 use Rattle.ssa_turn_table.specs.Turning.{HasTableRoom, table_steps}
-
-abbrev pub state_view : LiveState → State
-state_view s = record { body = s.body; table = table_view s.table.entries.items }
 
 -- what the record says, its room left out
 abbrev pub state_steps : StateDelta → Record

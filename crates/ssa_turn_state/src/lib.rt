@@ -1,4 +1,7 @@
-//! States changed in place by a record that becomes the record of the way back, with no memory taken.
+//! States changed in place by a record that becomes the record of the way back, with no memory taken, and the making of
+//! such a record with all the memory that it will want.
 #![tactic(auto)]
 
+pub mod copying;
 pub mod live_state;
+pub mod making;

@@ -1,22 +1,21 @@
 //! States of a bench, changed in place by a record.
 ghost use Rattle.std.specs.Prelude.{◌≡◌};
 ghost use Rattle.ssa_model.specs.definitions.Carry.{carry};
-ghost use Rattle.ssa_turn_state.specs.States.{HasStateRoom, IsTaken, state_steps, state_view};
+ghost use Rattle.ssa_merge.specs.States.{state_view};
+ghost use Rattle.ssa_turn_state.specs.States.{HasStateRoom, IsTaken, state_steps};
 
+use ssa_merge::state::State;
 use ssa_reverse::reversible::Reversible;
 use ssa_turn_body::live_body::turn_recorded;
 use ssa_turn_body::steps::BodySteps;
 use ssa_turn_table::delta::TableDelta;
-use ssa_turn_table::live_table::LiveTable;
-use ssa_turn_table::table::turn_table;
-use ssa_typed::body::Body;
+use ssa_turn_table::table::turn_managers;
 use std::alloc::AllocError;
 
-/// A body and the table of its managers, each with a set of its own.
+/// A body and the table of its managers, as a value of the trait.
 #[derive(Drop)]
 pub struct LiveState {
-    pub body: Body,
-    pub table: LiveTable,
+    pub state: State,
 }
 
 /// A record of two states: what has to change in the first to get the second, with the room for a
@@ -28,7 +27,7 @@ pub struct StateDelta {
 }
 
 /// Changes the state as the record says, and leaves the record that leads back. Takes no memory.
-pub fn turn_state(state: &mut LiveState, delta: &mut StateDelta)
+pub fn turn_state(state: &mut State, delta: &mut StateDelta)
     requires fits { IsTaken (state_steps delta.old) (state_view state.old) (carry (state_steps delta.old) (state_view state.old)) }
     requires room { HasStateRoom delta.old (state_view state.old) }
     ensures value { state_view state.new ≡ carry (state_steps delta.old) (state_view state.old) }
@@ -36,7 +35,7 @@ pub fn turn_state(state: &mut LiveState, delta: &mut StateDelta)
     ensures room { HasStateRoom delta.new (state_view state.new) }
 {
     turn_recorded(&mut state.body, &mut delta.body);
-    turn_table(&mut state.table.entries, &mut delta.table);
+    turn_managers(&mut state.managers, &mut delta.table);
 }
 
 impl Reversible for LiveState {
@@ -47,7 +46,8 @@ impl Reversible for LiveState {
     ghost use Rattle.ssa_model.specs.definitions.Record.{Record};
     ghost use Rattle.ssa_model.specs.definitions.Takes.{turned};
     ghost use Rattle.ssa_model.proofs.RecordTakes as laws;
-    ghost use Rattle.ssa_turn_state.specs.States.{HasStateRoom, IsTaken, state_steps, state_view};
+    ghost use Rattle.ssa_merge.specs.States.{state_view};
+    ghost use Rattle.ssa_turn_state.specs.States.{HasStateRoom, IsTaken, state_steps};
 
     type Delta = StateDelta;
 
@@ -57,7 +57,7 @@ impl Reversible for LiveState {
 
     ghost Meaning = { State };
 
-    ghost meaning = { state_view };
+    ghost meaning = { λ v. state_view v.state };
 
     ghost Steps = { Record };
 
@@ -70,7 +70,7 @@ impl Reversible for LiveState {
     ghost has_room = { HasStateRoom };
 
     fn turn(&mut self, delta: &mut StateDelta) -> Result<(), AllocError> {
-        turn_state(self, delta);
+        turn_state(&mut self.state, delta);
         Ok(())
     }
 

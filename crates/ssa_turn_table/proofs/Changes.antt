@@ -73,7 +73,7 @@ owned-entry (e ∷ es) k f h =
       | false ↦ λ g. owned-entry es k f g
     ] h
 
-led-steps : (d : SetSteps) (s r : PathSet) → d ≡ set_between s r → IsLed d s (set_target d s)
+pub led-steps : (d : SetSteps) (s r : PathSet) → d ≡ set_between s r → IsLed d s (set_target d s)
 led-steps d s r e = subst (λ x. IsLed x s (set_target x s)) (sym e) (subst (IsLed (set_between s r) s) (sym (led-between s r).leads) (led-between s r))
 
 -- ---- an entry and its change

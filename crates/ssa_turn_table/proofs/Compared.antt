@@ -9,25 +9,25 @@ use Rattle.ssa_model.specs.definitions.Table.{Entry, Table, is_in_table, entry_o
 use Rattle.ssa_model.specs.definitions.Valid.{AllEntries, has_distinct_keys}
 use Rattle.ssa_model.specs.definitions.Record.{change_of, change_to, changes, placed, is_unchanged, new_moment}
 use Rattle.ssa_model.proofs.ManagerEntries.{entry-own}
-use Rattle.ssa_merge.specs.Managers.{key_view}
+use Rattle.ssa_merge.specs.Managers.{entry_view, key_view, table_view}
 use Rattle.ssa_path.proofs.Lists.{taken-at, parted}
 use Rattle.ssa_turn_set.specs.declared.turn.SetDelta.{SetDelta}
 use Rattle.ssa_turn_set.specs.Turn.{HasRoom, IsBetween, set_between, set_steps}
 use Rattle.ssa_turn_table.specs.Changing.{AllHaveRoom, change_in}
 use Rattle.ssa_turn_table.specs.declared.delta.EntryChange.{EntryChange}
 use Rattle.ssa_turn_table.specs.declared.delta.Here.{Here}
-use Rattle.ssa_turn_table.specs.declared.live_entry.LiveEntry.{LiveEntry}
-use Rattle.ssa_turn_table.specs.Tables.{entry_view, table_view, change_view, changes_view, here_view, heres_view}
+use Rattle.ssa_merge.specs.declared.managers.Entry as merge
+use Rattle.ssa_turn_table.specs.Tables.{change_view, changes_view, here_view, heres_view}
 use Rattle.ssa_turn_table.proofs.Changes.{change-manager, owned-entry}
 use Rattle.ssa_turn_table.proofs.Taking.{is_off}
 
 -- ---- one entry more
 
-pub table-more : (es : List LiveEntry) (i : ℕ) (e : LiveEntry) → i < length es → e ≡ get_or es i e
+pub table-more : (es : List merge.Entry) (i : ℕ) (e : merge.Entry) → i < length es → e ≡ get_or es i e
     → table_view (take (i + 1) es) ≡ table_view (take i es) ++ entry_view e ∷ []
 table-more es i e lt is = ap table_view (taken-at es i e lt is) ∙ map-append entry_view (take i es) (e ∷ [])
 
-placed-append : {X : Type 0} (test : X → Bool) (i : ℕ) (xs ys : List X) → placed test i (xs ++ ys) ≡ placed test i xs ++ placed test (i + length xs) ys
+pub placed-append : {X : Type 0} (test : X → Bool) (i : ℕ) (xs ys : List X) → placed test i (xs ++ ys) ≡ placed test i xs ++ placed test (i + length xs) ys
 placed-append test i [] ys = ap (λ n. placed test n ys) (sym (add-zero i))
 placed-append test i (x ∷ xs) ys =
     let far : i + 1 + length xs ≡ i + length (x ∷ xs) = omega arith in
@@ -39,7 +39,7 @@ placed-append test i (x ∷ xs) ys =
     ]
 
 -- what an entry more adds to those that have a place
-pub placed-more : (test : Entry → Bool) (es : List LiveEntry) (i : ℕ) (e : LiveEntry) → i < length es → e ≡ get_or es i e
+pub placed-more : (test : Entry → Bool) (es : List merge.Entry) (i : ℕ) (e : merge.Entry) → i < length es → e ≡ get_or es i e
     → placed test 0 (table_view (take (i + 1) es)) ≡ placed test 0 (table_view (take i es)) ++ placed test i (entry_view e ∷ [])
 placed-more test es i e lt is =
     let count : 0 + length (table_view (take i es)) ≡ i = (let n : 0 + length (table_view (take i es)) ≡ length (table_view (take i es)) = omega arith in n)
@@ -49,7 +49,7 @@ placed-more test es i e lt is =
     ∙ ap (λ n. placed test 0 (table_view (take i es)) ++ placed test n (entry_view e ∷ [])) count
 
 -- an entry that comes, at its place
-pub here-more : (t : Table) (es : List LiveEntry) (i : ℕ) (e : LiveEntry) (hs ks : List Here) (h : Here) → i < length es → e ≡ get_or es i e
+pub here-more : (t : Table) (es : List merge.Entry) (i : ℕ) (e : merge.Entry) (hs ks : List Here) (h : Here) → i < length es → e ≡ get_or es i e
     → is_in_table t (key_view e.key) ≡ false → heres_view hs ≡ placed (is_off t) 0 (table_view (take i es))
     → heres_view (h ∷ []) ≡ (i, entry_view e) ∷ [] → ks ≡ hs ++ h ∷ []
     → heres_view ks ≡ placed (is_off t) 0 (table_view (take (i + 1) es))
@@ -58,7 +58,7 @@ here-more t es i e hs ks h lt is off before one made =
     ∙ ap (λ b. placed (is_off t) 0 (table_view (take i es)) ++ (if not b then (i, entry_view e) ∷ [] else [])) (sym off)
     ∙ sym (placed-more (is_off t) es i e lt is)
 
-pub here-passed : (t : Table) (es : List LiveEntry) (i : ℕ) (e : LiveEntry) (hs ks : List Here) → i < length es → e ≡ get_or es i e
+pub here-passed : (t : Table) (es : List merge.Entry) (i : ℕ) (e : merge.Entry) (hs ks : List Here) → i < length es → e ≡ get_or es i e
     → is_in_table t (key_view e.key) ≡ true → heres_view hs ≡ placed (is_off t) 0 (table_view (take i es)) → ks ≡ hs
     → heres_view ks ≡ placed (is_off t) 0 (table_view (take (i + 1) es))
 here-passed t es i e hs ks lt is there before made =
@@ -79,7 +79,7 @@ change-made e f c differ key steps at =
     ∙ sym (ap (λ b. if b then None else Some (change_to e f)) differ)
 
 -- what an entry more adds to the changes
-pub told-more : (u : Table) (es : List LiveEntry) (i : ℕ) (e : LiveEntry) (cs ds : List EntryChange) (o : Option EntryChange) → i < length es
+pub told-more : (u : Table) (es : List merge.Entry) (i : ℕ) (e : merge.Entry) (cs ds : List EntryChange) (o : Option EntryChange) → i < length es
     → e ≡ get_or es i e → changes_view cs ≡ changes (table_view (take i es)) u
     → option_map change_view o ≡ change_in u (entry_view e) → ds ≡ cs ++ cons_option o []
     → changes_view ds ≡ changes (table_view (take (i + 1) es)) u
@@ -95,7 +95,7 @@ told-more u es i e cs ds o lt is before one made =
 -- ---- the room of changes
 
 -- each entry of a table with distinct managers owns what its manager owns
-pub own-at : (es : List LiveEntry) (i : ℕ) (e : LiveEntry) → has_distinct_keys (table_view es) ≡ true → i < length es → e ≡ get_or es i e
+pub own-at : (es : List merge.Entry) (i : ℕ) (e : merge.Entry) → has_distinct_keys (table_view es) ≡ true → i < length es → e ≡ get_or es i e
     → owned_by (table_view es) (key_view e.key) ≡ e.set
 own-at es i e distinct lt is =
     owned-entry (table_view es) (key_view e.key) (entry_view e)
@@ -116,7 +116,7 @@ room-push t [] c h room = (room, tt)
 room-push t (d ∷ cs) c h room = (h.0, room-push t cs c h.1 room)
 
 -- what an entry more adds has its room
-pub room-more : (t u : Table) (e : LiveEntry) (cs ds : List EntryChange) (o : Option EntryChange) → owned_by t (key_view e.key) ≡ e.set
+pub room-more : (t u : Table) (e : merge.Entry) (cs ds : List EntryChange) (o : Option EntryChange) → owned_by t (key_view e.key) ≡ e.set
     → option_map change_view o ≡ change_in u (entry_view e) → IfSome o (λ d. HasRoom d.set e.set) → AllHaveRoom t cs
     → ds ≡ cs ++ cons_option o [] → AllHaveRoom t ds
 room-more t u e cs ds None own one room h made = subst (AllHaveRoom t) (sym (made ∙ append-nil cs)) h

@@ -9,13 +9,13 @@ use Rattle.ssa_model.specs.definitions.Record.{placed}
 use Rattle.ssa_turn_table.proofs.Changes.{heads}
 use Rattle.ssa_model.proofs.InPlace.{insert_at}
 use Rattle.ssa_model.proofs.Tests.{by_test, filter-kept, filter-dropped}
-use Rattle.ssa_merge.specs.Managers.{key_view}
+use Rattle.ssa_merge.specs.Managers.{key_view, entry_view, table_view}
 use Rattle.ssa_merge.specs.declared.manager.ManagerKey.{ManagerKey as Key}
 use Rattle.ssa_turn_table.specs.declared.delta.Here.{Here}
-use Rattle.ssa_turn_table.specs.declared.live_entry.LiveEntry.{LiveEntry}
+use Rattle.ssa_merge.specs.declared.managers.Entry as merge
 use Rattle.ssa_turn_table.specs.Coming.{AreComing}
 use Rattle.ssa_turn_table.specs.Going.{AllKeysAgree}
-use Rattle.ssa_turn_table.specs.Tables.{entry_view, table_view, keys_view, here_view, heres_view}
+use Rattle.ssa_turn_table.specs.Tables.{keys_view, here_view, heres_view}
 
 module _ {X : Type 0} (comes : X → Bool) where
   -- those who do not come
@@ -125,7 +125,7 @@ pub inserting_begins : (u now : Table) (heres : List (ℕ × Entry)) (h : AreCom
 inserting_begins u now heres h = record { front = []; rest = u; whole = refl; stand = h.stand; told = h.told }
 
 -- what is inserted is inserted in the view
-pub view-insert : (es : List LiveEntry) (i : ℕ) (e : LiveEntry) → table_view (insert es i e) ≡ insert (table_view es) i (entry_view e)
+pub view-insert : (es : List merge.Entry) (i : ℕ) (e : merge.Entry) → table_view (insert es i e) ≡ insert (table_view es) i (entry_view e)
 view-insert es i e =
     map-append entry_view (take i es) (e ∷ drop i es)
     ∙ (λ j. sym (take-map entry_view i es) j ++ entry_view e ∷ sym (drop-map entry_view i es) j)
@@ -139,12 +139,12 @@ none-left n [] e l = refl
 none-left n (x ∷ xs) e l = let zero : n ≡ 0 = eqb-true n 0 (sym e) in absurd (omega (arith, zero, l))
 
 -- the next of those who are here is put in
-pub record IsHereStep (comes : Entry → Bool) (u : Table) (es : List LiveEntry) (hs : List Here) (h : Here) : Type 0 where
+pub record IsHereStep (comes : Entry → Bool) (u : Table) (es : List merge.Entry) (hs : List Here) (h : Here) : Type 0 where
   pub within : h.place ≤ length es
   pub fewer : length es < length u
   pub more : IsInserting comes u (table_view (insert es h.place h.entry)) (heres_view (remove hs 0))
 
-pub here_step : (comes : Entry → Bool) (u : Table) (es : List LiveEntry) (hs : List Here) (h : Here) → hs ≡ h ∷ remove hs 0
+pub here_step : (comes : Entry → Bool) (u : Table) (es : List merge.Entry) (hs : List Here) (h : Here) → hs ≡ h ∷ remove hs 0
     → IsInserting comes u (table_view es) (heres_view hs) → IsHereStep comes u es hs h
 here_step comes u es hs h front was =
     let step = inserting_step comes u (table_view es) (here_view h) (heres_view (remove hs 0)) (subst (λ ks. IsInserting comes u (table_view es) (heres_view ks)) front was) in

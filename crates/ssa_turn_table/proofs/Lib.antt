@@ -5,3 +5,6 @@ pub mod Inserting
 pub mod TurnedTables
 pub mod Refilled
 pub mod Compared
+pub mod LedTables
+pub mod Staying
+pub mod TableCopies

@@ -7,12 +7,12 @@ use Rattle.ssa_model.specs.definitions.Table.{ManagerKey, Entry, Table, is_in_ta
 use Rattle.ssa_model.specs.definitions.Record.{gone_from, new_in, placed}
 use Rattle.ssa_model.proofs.Tables.{manager-itself, same_manager-true}
 use Rattle.ssa_model.proofs.Tests.{by_test, filter-kept, filter-dropped}
-use Rattle.ssa_merge.specs.Managers.{key_view}
+use Rattle.ssa_merge.specs.Managers.{key_view, entry_view, table_view}
 use Rattle.ssa_path.proofs.Lists.{left-at}
 use Rattle.ssa_merge.specs.declared.manager.ManagerKey.{ManagerKey as Key}
 use Rattle.ssa_turn_table.specs.declared.delta.Here.{Here}
-use Rattle.ssa_turn_table.specs.declared.live_entry.LiveEntry.{LiveEntry}
-use Rattle.ssa_turn_table.specs.Tables.{entry_view, table_view, keys_view, here_view, heres_view}
+use Rattle.ssa_merge.specs.declared.managers.Entry as merge
+use Rattle.ssa_turn_table.specs.Tables.{keys_view, here_view, heres_view}
 use Rattle.ssa_turn_table.specs.Going.{AllKeysAgree, is_first_key, is_in}
 
 -- ---- lists
@@ -63,12 +63,12 @@ stays u e es ks told first =
 -- ---- along the entries
 
 -- the entries before i have been looked at; those that are left, looked at from i on, give the rest of what the whole table gives
-pub record IsTaking (u : Table) (all now : List LiveEntry) (gone : List Key) (out : List Here) (i place : ℕ) : Type 0 where
+pub record IsTaking (u : Table) (all now : List merge.Entry) (gone : List Key) (out : List Here) (i place : ℕ) : Type 0 where
   pub kept : table_view (take i now) ++ filter (is_in u) (table_view (drop i now)) ≡ filter (is_in u) (table_view all)
   pub came : heres_view out ++ placed (is_off u) place (table_view (drop i now)) ≡ new_in u (table_view all)
   pub told : keys_view gone ≡ gone_from (table_view (drop i now)) u
 
-pub taking_begins : (u : Table) (all : List LiveEntry) (gone : List Key) (out : List Here) → out ≡ [] → keys_view gone ≡ gone_from (table_view all) u
+pub taking_begins : (u : Table) (all : List merge.Entry) (gone : List Key) (out : List Here) → out ≡ [] → keys_view gone ≡ gone_from (table_view all) u
     → IsTaking u all all gone out 0 0
 taking_begins u all gone out none told = record {
   kept = refl;
@@ -76,7 +76,7 @@ taking_begins u all gone out none told = record {
   told = told;
 }
 
-pub taking_passes : (u : Table) (all now : List LiveEntry) (gone : List Key) (out : List Here) (i place : ℕ) (e : LiveEntry)
+pub taking_passes : (u : Table) (all now : List merge.Entry) (gone : List Key) (out : List Here) (i place : ℕ) (e : merge.Entry)
     → IsTaking u all now gone out i place → take (i + 1) now ≡ take i now ++ e ∷ [] → drop i now ≡ e ∷ drop (i + 1) now
     → is_first_key (keys_view gone) (entry_view e).manager ≡ false → IsTaking u all now gone out (i + 1) (place + 1)
 taking_passes u all now gone out i place e h taken left first =
@@ -102,7 +102,7 @@ keys_left : (gone : List Key) (k : ManagerKey) (ks : List ManagerKey) → keys_v
 keys_left [] k ks h = cc
 keys_left (g ∷ gs) k ks h = cc
 
-pub taking_takes : (u : Table) (all now : List LiveEntry) (gone : List Key) (out : List Here) (i place : ℕ) (e : LiveEntry) (h : Here) → i < length now
+pub taking_takes : (u : Table) (all now : List merge.Entry) (gone : List Key) (out : List Here) (i place : ℕ) (e : merge.Entry) (h : Here) → i < length now
     → IsTaking u all now gone out i place → drop i now ≡ e ∷ drop (i + 1) now → here_view h ≡ (place, entry_view e)
     → is_first_key (keys_view gone) (entry_view e).manager ≡ true → IsTaking u all (remove now i) (remove gone 0) (out ++ h ∷ []) i (place + 1)
 taking_takes u all now gone out i place e h lt was left is first =
@@ -142,7 +142,7 @@ first-key (x ∷ xs) g k is h = ap key_view is ∙ same_manager-true (key_view x
 pub same-at : {X : Type 0} (xs : List X) (i : ℕ) (x y : X) → i < length xs → x ≡ get_or xs i x → y ≡ get_or xs i y → x ≡ y
 same-at xs i x y lt a b = let both = sym (left-at xs i x lt a) ∙ left-at xs i y lt b in cc
 
-pub taking_same : (u : Table) (all now after : List LiveEntry) (gone left : List Key) (out more : List Here) (i p q : ℕ) → after ≡ now → left ≡ gone
+pub taking_same : (u : Table) (all now after : List merge.Entry) (gone left : List Key) (out more : List Here) (i p q : ℕ) → after ≡ now → left ≡ gone
     → more ≡ out → q ≡ p
     → IsTaking u all now gone out i p → IsTaking u all after left more i q
 taking_same u all now after gone left out more i p q a b c d =

@@ -1,8 +1,7 @@
 -- What a table is after each part of a turn, by the record of the two tables.
-use Rattle.std.proofs.Common.{◌≡◌, List, [], ◌∷◌, length, Bool, true, false, not, map, Option, Some, None, option_map, ◌&&◌, ◌≤◌, refl, ap, sym, subst, cond, ◌∙◌}
+use Rattle.std.proofs.Common.{◌≡◌, List, [], ◌∷◌, length, Bool, true, false, not, map, Option, Some, None, option_map, ◌≤◌, refl, ap, sym, subst, cond, ◌∙◌}
 use Rattle.std.proofs.Math.Bool.{not-not}
 use Rattle.std.proofs.lemmas.List.{length-map}
-use Rattle.std.specs.Cmp.{first_so, second_so}
 use Rattle.std.specs.List.{cons_option}
 use Rattle.std.specs.Prelude.{filter, filter_map}
 use Rattle.ssa_model.specs.definitions.Table.{Entry, Table, is_in_table, entry_of, owned_by}
@@ -13,7 +12,7 @@ use Rattle.ssa_model.specs.laws.InPlace.{StayersAreLed}
 use Rattle.ssa_model.specs.laws.RecordTurns.{TableTurns}
 use Rattle.ssa_model.proofs.ManagerEntries.{entry-absent, entry-own}
 use Rattle.ssa_model.proofs.Stayers.{stayers_are_led}
-use Rattle.ssa_model.proofs.Tables.{distinct-filter, is_in_table-filter, no}
+use Rattle.ssa_model.proofs.Tables.{distinct-filter}
 use Rattle.ssa_model.proofs.Tests.{by_test, filter-kept, filter-dropped}
 use Rattle.ssa_turn_table.specs.Changing.{AllHaveRoom, AreChanges, change_in, changed_back, changes_back, led_to}
 use Rattle.ssa_turn_table.specs.declared.delta.EntryChange.{EntryChange}

@@ -1,6 +1,7 @@
 -- What changes of a table say of its entries, one after the other.
 use Rattle.std.specs.Prelude.{◌≡◌, List, [], ◌∷◌, Bool, true, false, Option, option_map, filter_map}
 use Rattle.ssa_model.specs.definitions.Json.{Text}
+use Rattle.ssa_model.specs.definitions.PathMap.{PathSet}
 use Rattle.ssa_model.specs.definitions.Table.{ManagerKey, Entry, Table, same_manager, entry_of, owned_by}
 use Rattle.ssa_model.specs.definitions.Valid.{AllEntries, has_distinct_keys}
 use Rattle.ssa_model.specs.definitions.Record.{Change, change_of, changes}
@@ -14,6 +15,10 @@ use Rattle.ssa_turn_table.specs.Tables.{changes_view}
 abbrev pub is_first : List Change → ManagerKey → Bool
 is_first [] k = false
 is_first (c ∷ cs) k = same_manager c.manager k
+
+-- the entry with these paths and this moment
+abbrev pub owning : Entry → PathSet → Text → Entry
+owning e set at = record { manager = e.manager; owned = set; moment = at }
 
 -- the change that leads an entry to the one of its manager in a table
 abbrev pub change_in : Table → Entry → Option Change

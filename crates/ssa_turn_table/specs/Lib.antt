@@ -3,3 +3,4 @@ pub mod Changing
 pub mod Going
 pub mod Coming
 pub mod Turning
+pub mod Copies

@@ -1,20 +1,13 @@
--- What the entries of a live table and the members of its record are.
+-- What the members of a table's record are.
 use Rattle.std.specs.Prelude.{ℕ, List, map}
 use Rattle.ssa_model.specs.definitions.PathMap.{listed}
 use Rattle.ssa_model.specs.definitions.Table as model
 use Rattle.ssa_model.specs.definitions.Record as record_model
-use Rattle.ssa_merge.specs.Managers.{key_view}
+use Rattle.ssa_merge.specs.Managers.{entry_view, key_view}
 use Rattle.ssa_path.specs.Trie.{paths}
-use Rattle.ssa_turn_table.specs.declared.live_entry.LiveEntry.{LiveEntry}
 use Rattle.ssa_turn_table.specs.declared.delta.EntryChange.{EntryChange}
 use Rattle.ssa_turn_table.specs.declared.delta.Here.{Here}
 use Rattle.ssa_merge.specs.declared.manager.ManagerKey.{ManagerKey}
-
-abbrev pub entry_view : LiveEntry → model.Entry
-entry_view e = record { manager = key_view e.key; owned = e.set; moment = e.at }
-
-abbrev pub table_view : List LiveEntry → model.Table
-table_view = map entry_view
 
 abbrev pub change_view : EntryChange → record_model.Change
 change_view c = record { manager = key_view c.key; gain = listed (paths c.set.gain); lose = listed (paths c.set.lose); moment = c.at }

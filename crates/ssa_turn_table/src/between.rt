@@ -3,24 +3,26 @@ ghost use Rattle.std.specs.Prelude.{◌≡◌, ◌≤◌, ◌∷◌, [], true, l
 ghost use Rattle.ssa_model.specs.definitions.Json.{same_text};
 ghost use Rattle.ssa_model.specs.definitions.Limits.{most_managers};
 ghost use Rattle.ssa_model.specs.definitions.Record.{change_of, changes, gone_from, is_unchanged, new_in, new_moment, table_record};
-ghost use Rattle.ssa_model.specs.definitions.Table.{entry_of, is_in_table};
+ghost use Rattle.ssa_model.specs.definitions.Table.{entry_of};
 ghost use Rattle.ssa_model.specs.definitions.Valid.{has_distinct_keys, KeepsOrder};
-ghost use Rattle.ssa_merge.specs.Managers.{key_view};
+ghost use Rattle.ssa_merge.specs.Managers.{entry_view, key_view, table_view};
 ghost use Rattle.ssa_turn_set.specs.Turn.{HasRoom};
-ghost use Rattle.ssa_turn_table.specs.Changing.{AllHaveRoom, change_in};
+ghost use Rattle.ssa_turn_table.specs.Changing.{AllHaveRoom, change_in, owning};
 ghost use Rattle.ssa_turn_table.specs.Going.{AllKeysAgree};
-ghost use Rattle.ssa_turn_table.specs.Tables.{change_view, changes_view, entry_view, heres_view, keys_view, table_view};
+ghost use Rattle.ssa_turn_table.specs.Tables.{change_view, changes_view, heres_view, keys_view};
 ghost use Rattle.ssa_turn_table.specs.Turning.{HasTableRoom, table_steps};
 
 use crate::delta::{EntryChange, Here, TableDelta, TableRoom};
-use crate::live_entry::LiveEntry;
 use ssa_json::moment::Moment;
 use ssa_merge::manager::ManagerKey;
+use ssa_merge::managers::Entry;
+use ssa_merge::seat::is_in_table;
+use ssa_path::field_set::FieldSet;
 use ssa_turn_set::making::between;
 use std::alloc::{AllocError, Global};
 
 // The manager's entry.
-fn find_entry<'a>(table: &'a [LiveEntry], key: &ManagerKey) -> Option<&'a LiveEntry>
+fn find_entry<'a>(table: &'a [Entry], key: &ManagerKey) -> Option<&'a Entry>
     ensures { option_map (λ e. entry_view e.now) result ≡ entry_of (table_view table.now) (key_view key.now) }
 {
     for entry in table {
@@ -31,25 +33,15 @@ fn find_entry<'a>(table: &'a [LiveEntry], key: &ManagerKey) -> Option<&'a LiveEn
     None
 }
 
-// Whether the table has the manager.
-fn is_in_table(table: &[LiveEntry], key: &ManagerKey) -> bool
-    ensures { result ≡ is_in_table (table_view table.now) (key_view key.now) }
-{
-    match table {
-        [] => false,
-        [first, rest @ ..] => first.key.is_same(key) || is_in_table(rest, key),
-    }
-}
-
 // Whether both are one moment.
-fn is_same_moment(before: Moment, after: Moment) -> bool
+pub(crate) fn is_same_moment(before: Moment, after: Moment) -> bool
     ensures { result ≡ same_text before after }
 {
     before == after
 }
 
 // The moment afterwards, where it is another.
-pub(crate) fn new_moment(before: Moment, after: Moment) -> Option<Moment>
+fn new_moment(before: Moment, after: Moment) -> Option<Moment>
     ensures { result ≡ new_moment before after }
 {
     if is_same_moment(before, after) {
@@ -58,42 +50,46 @@ pub(crate) fn new_moment(before: Moment, after: Moment) -> Option<Moment>
     Some(after)
 }
 
-// Whether the entries have one set and one moment.
-fn is_unchanged(entry: &LiveEntry, other: &LiveEntry) -> bool
-    ensures { result ≡ is_unchanged (entry_view entry.now) (entry_view other.now) }
+// Whether the entry has these paths and this moment.
+fn is_unchanged(entry: &Entry, set: &FieldSet, at: Moment) -> bool
+    ensures { result ≡ is_unchanged (entry_view entry.now) (owning (entry_view entry.now) set.now at) }
 {
-    entry.set.is_same(&other.set) && is_same_moment(entry.at, other.at)
+    entry.set.is_same(set) && is_same_moment(entry.at, at)
 }
 
-// The change of an entry to another one of its manager.
-fn change_to(
+// The change of an entry whose manager owns these paths then, with this moment.
+pub(crate) fn change_to(
     alloc: Global,
-    entry: &LiveEntry,
-    other: &LiveEntry,
+    entry: &Entry,
+    set: &FieldSet,
+    at: Moment,
 ) -> Result<Option<EntryChange>, AllocError>
-    ensures change { IfOk result (λ c. option_map change_view c ≡ change_of (entry_view entry.now) (Some (entry_view other.now))) }
+    ensures change { IfOk result (λ c. option_map change_view c ≡ change_of (entry_view entry.now) (Some (owning (entry_view entry.now) set.now at))) }
     ensures room { IfOk result (λ c. IfSome c (λ d. HasRoom d.set entry.now.set)) }
 {
-    if is_unchanged(entry, other) {
+    if is_unchanged(entry, set, at) {
         return Ok(None);
     }
     let key = entry.key.copy(alloc)?;
-    let set = between(alloc, &entry.set, &other.set)?;
-    let at = new_moment(entry.at, other.at);
-    Ok(Some(EntryChange { key, set, at }))
+    let delta = between(alloc, &entry.set, set)?;
+    Ok(Some(EntryChange {
+        key,
+        set: delta,
+        at: new_moment(entry.at, at),
+    }))
 }
 
 // The change of an entry to the one of its manager in a table.
 fn change_in(
     alloc: Global,
-    entry: &LiveEntry,
-    table: &[LiveEntry],
+    entry: &Entry,
+    table: &[Entry],
 ) -> Result<Option<EntryChange>, AllocError>
     ensures change { IfOk result (λ c. option_map change_view c ≡ change_in (table_view table.now) (entry_view entry.now)) }
     ensures room { IfOk result (λ c. IfSome c (λ d. HasRoom d.set entry.now.set)) }
 {
     match find_entry(table, &entry.key) {
-        Some(other) => change_to(alloc, entry, other),
+        Some(other) => change_to(alloc, entry, &other.set, other.at),
         None => Ok(None),
     }
 }
@@ -101,8 +97,8 @@ fn change_in(
 // The changes of the managers that both tables have.
 fn changes_between(
     alloc: Global,
-    from: &[LiveEntry],
-    to: &[LiveEntry],
+    from: &[Entry],
+    to: &[Entry],
 ) -> Result<Vec<EntryChange>, AllocError>
     requires { has_distinct_keys (table_view from.now) ≡ true }
     ensures changes { IfOk result (λ cs. changes_view cs.items ≡ changes (table_view from.now) (table_view to.now)) }
@@ -118,11 +114,7 @@ fn changes_between(
 }
 
 // The managers of the first table that the second has not.
-fn gone_between(
-    alloc: Global,
-    from: &[LiveEntry],
-    to: &[LiveEntry],
-) -> Result<Vec<ManagerKey>, AllocError>
+fn gone_between(alloc: Global, from: &[Entry], to: &[Entry]) -> Result<Vec<ManagerKey>, AllocError>
     ensures { IfOk result (λ ks. keys_view ks.items ≡ gone_from (table_view from.now) (table_view to.now)) }
 {
     let mut gone = Vec::new(alloc);
@@ -135,7 +127,7 @@ fn gone_between(
 }
 
 // An entry that comes, at its place.
-fn here_at(alloc: Global, place: usize, entry: &LiveEntry) -> Result<Here, AllocError>
+fn here_at(alloc: Global, place: usize, entry: &Entry) -> Result<Here, AllocError>
     ensures here { IfOk result (λ h. heres_view (h ∷ []) ≡ (place, entry_view entry.now) ∷ []) }
     ensures keys { IfOk result (λ h. AllKeysAgree (h ∷ [])) }
 {
@@ -149,11 +141,7 @@ fn here_at(alloc: Global, place: usize, entry: &LiveEntry) -> Result<Here, Alloc
 }
 
 // The entries of the second table whose managers the first has not.
-fn here_between(
-    alloc: Global,
-    from: &[LiveEntry],
-    to: &[LiveEntry],
-) -> Result<Vec<Here>, AllocError>
+fn here_between(alloc: Global, from: &[Entry], to: &[Entry]) -> Result<Vec<Here>, AllocError>
     ensures here { IfOk result (λ hs. heres_view hs.items ≡ new_in (table_view from.now) (table_view to.now)) }
     ensures keys { IfOk result (λ hs. AllKeysAgree hs.items) }
 {
@@ -189,11 +177,7 @@ pub(crate) fn make_table_room(
 ///
 /// All memory that its turns want is taken here; `Err` comes where it is refused. The sets of a
 /// manager of both tables are compared, and those that differ get a record of their own.
-pub fn table_between(
-    alloc: Global,
-    from: &[LiveEntry],
-    to: &[LiveEntry],
-) -> Result<TableDelta, AllocError>
+pub fn table_between(alloc: Global, from: &[Entry], to: &[Entry]) -> Result<TableDelta, AllocError>
     requires from { has_distinct_keys (table_view from.now) ≡ true }
     requires to { has_distinct_keys (table_view to.now) ≡ true }
     requires order { KeepsOrder (table_view from.now) (table_view to.now) }

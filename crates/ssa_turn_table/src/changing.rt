@@ -2,18 +2,18 @@
 ghost use Rattle.std.specs.Prelude.{◌≡◌, map};
 ghost use Rattle.ssa_model.specs.definitions.Carry.{changed_entry};
 ghost use Rattle.ssa_model.specs.definitions.Table.{Table};
-ghost use Rattle.ssa_merge.specs.Managers.{key_view};
+ghost use Rattle.ssa_merge.specs.Managers.{key_view, entry_view, table_view};
 ghost use Rattle.ssa_turn_set.specs.Turn.{HasRoom, IsLed, set_steps, set_target};
-ghost use Rattle.ssa_turn_table.specs.Tables.{entry_view, table_view, change_view, changes_view};
+ghost use Rattle.ssa_turn_table.specs.Tables.{change_view, changes_view};
 ghost use Rattle.ssa_turn_table.specs.Changing.{AllHaveRoom, AreChanges, changed_back, changes_back, is_first, led_to};
 
 use crate::delta::EntryChange;
-use crate::live_entry::LiveEntry;
 use ssa_merge::manager::ManagerKey;
+use ssa_merge::managers::Entry;
 use ssa_turn_set::live_set::turn_field_set;
 
 // Changes one entry, and leaves the change that leads back.
-fn turn_entry(entry: &mut LiveEntry, change: &mut EntryChange)
+fn turn_entry(entry: &mut Entry, change: &mut EntryChange)
     requires fits { IsLed (set_steps change.old.set) entry.old.set (set_target (set_steps change.old.set) entry.old.set) }
     requires room { HasRoom change.old.set entry.old.set }
     ensures entry { entry_view entry.new ≡ changed_entry (Some (change_view change.old)) (entry_view entry.old) }
@@ -42,7 +42,7 @@ fn is_first(changed: &[EntryChange], key: &ManagerKey) -> bool
 
 /// Changes the entries as the record's changes say, which stand in the same order, and leaves the
 /// changes that lead back. Takes no memory.
-pub fn change_entries(entries: &mut [LiveEntry], changed: &mut [EntryChange])
+pub fn change_entries(entries: &mut [Entry], changed: &mut [EntryChange])
     requires { (t : Table) × ((u : Table) × AreChanges t u (table_view entries.old) changed.old) }
     ensures entries { (t u : Table) → AreChanges t u (table_view entries.old) changed.old → table_view entries.new ≡ map (led_to u) (table_view entries.old) }
     ensures changed { (t u : Table) → AreChanges t u (table_view entries.old) changed.old → changes_view changed.new ≡ changes_back u (table_view entries.old) }

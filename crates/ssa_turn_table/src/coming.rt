@@ -1,14 +1,16 @@
 //! The entries that come, put into the table.
 ghost use Rattle.std.specs.Prelude.{◌≡◌, ◌≤◌, [], length, map, vec_len, vec_capacity};
+ghost use Rattle.ssa_model.specs.definitions.Limits.{most_managers};
 ghost use Rattle.ssa_model.specs.definitions.Table.{Table};
+ghost use Rattle.ssa_merge.specs.Managers.{table_view};
 ghost use Rattle.ssa_turn_table.specs.Coming.{AreComing};
 ghost use Rattle.ssa_turn_table.specs.Going.{AllKeysAgree};
-ghost use Rattle.ssa_turn_table.specs.Tables.{table_view, keys_view, heres_view};
+ghost use Rattle.ssa_turn_table.specs.Tables.{keys_view, heres_view};
 
 use crate::delta::Here;
-use crate::live_entry::LiveEntry;
 use arrayvec::ArrayVec;
 use ssa_merge::manager::ManagerKey;
+use ssa_merge::managers::{Entry, MOST_MANAGERS};
 use ssa_reverse::room::push_within;
 use std::alloc::Global;
 
@@ -17,11 +19,11 @@ use std::alloc::Global;
 ///
 /// The list of those who are here is left empty.
 pub fn insert_here(
-    entries: &mut ArrayVec<LiveEntry, 64, Global>,
+    entries: &mut ArrayVec<Entry, MOST_MANAGERS, Global>,
     here: &mut Vec<Here>,
     out: &mut Vec<ManagerKey>,
 )
-    requires told { (u : Table) × AreComing u (table_view entries.old.items) (heres_view here.old.items) × (length u ≤ 64) }
+    requires told { (u : Table) × AreComing u (table_view entries.old.items) (heres_view here.old.items) × (length u ≤ most_managers) }
     requires keys { AllKeysAgree here.old.items }
     requires empty { out.old.items ≡ [] }
     requires room { vec_len here.old ≤ vec_capacity out.old }

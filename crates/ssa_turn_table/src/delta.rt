@@ -1,7 +1,7 @@
 //! The record of two tables of managers.
-use crate::live_entry::LiveEntry;
 use ssa_json::moment::Moment;
 use ssa_merge::manager::ManagerKey;
+use ssa_merge::managers::Entry;
 use ssa_turn_set::turn::SetDelta;
 
 /// A manager of both tables: what becomes of its set, and its moment afterwards where it is another.
@@ -19,7 +19,7 @@ pub struct EntryChange {
 #[derive(Drop)]
 pub struct Here {
     pub place: usize,
-    pub entry: LiveEntry,
+    pub entry: Entry,
     pub key: ManagerKey,
 }
 

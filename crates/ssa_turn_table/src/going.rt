@@ -2,14 +2,14 @@
 ghost use Rattle.std.specs.Prelude.{◌≡◌, ◌+◌, ◌≤◌, [], filter, vec_len, vec_capacity};
 ghost use Rattle.ssa_model.specs.definitions.Record.{gone_from, new_in};
 ghost use Rattle.ssa_model.specs.definitions.Table.{Table};
-ghost use Rattle.ssa_merge.specs.Managers.{key_view};
+ghost use Rattle.ssa_merge.specs.Managers.{key_view, table_view};
 ghost use Rattle.ssa_turn_table.specs.Going.{AllKeysAgree, is_first_key, is_in};
-ghost use Rattle.ssa_turn_table.specs.Tables.{table_view, keys_view, heres_view};
+ghost use Rattle.ssa_turn_table.specs.Tables.{keys_view, heres_view};
 
 use crate::delta::Here;
-use crate::live_entry::LiveEntry;
 use arrayvec::ArrayVec;
 use ssa_merge::manager::ManagerKey;
+use ssa_merge::managers::{Entry, MOST_MANAGERS};
 use ssa_reverse::room::push_within;
 use std::alloc::Global;
 
@@ -28,7 +28,7 @@ fn is_first_gone(gone: &[ManagerKey], key: &ManagerKey) -> bool
 ///
 /// The managers of the list stand in table order. It is left empty.
 pub fn take_gone(
-    entries: &mut ArrayVec<LiveEntry, 64, Global>,
+    entries: &mut ArrayVec<Entry, MOST_MANAGERS, Global>,
     gone: &mut Vec<ManagerKey>,
     out: &mut Vec<Here>,
 )

@@ -4,8 +4,10 @@
 pub mod between;
 pub mod changing;
 pub mod coming;
+pub mod copying;
 pub mod delta;
 pub mod going;
-pub mod live_entry;
 pub mod live_table;
+pub mod size;
 pub mod table;
+pub mod table_delta;

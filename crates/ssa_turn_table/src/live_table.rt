@@ -1,15 +1,14 @@
 //! Tables of managers are values that a record changes in place.
 use crate::delta::TableDelta;
-use crate::live_entry::LiveEntry;
-use crate::table::turn_table;
-use arrayvec::ArrayVec;
+use crate::table::turn_managers;
+use ssa_merge::managers::Managers;
 use ssa_reverse::reversible::Reversible;
-use std::alloc::{AllocError, Global};
+use std::alloc::AllocError;
 
-/// The managers of an object, each with a set of its own, in the order in which they came.
+/// The managers of an object, as a value of the trait.
 #[derive(Drop)]
 pub struct LiveTable {
-    pub entries: ArrayVec<LiveEntry, 64, Global>,
+    pub managers: Managers,
 }
 
 impl Reversible for LiveTable {
@@ -19,7 +18,6 @@ impl Reversible for LiveTable {
     ghost use Rattle.ssa_model.specs.definitions.Table.{Table};
     ghost use Rattle.ssa_model.specs.definitions.Takes.{TableTakes, turned_table};
     ghost use Rattle.ssa_model.proofs.RecordTakes.{table_laws};
-    ghost use Rattle.ssa_turn_table.specs.Tables.{table_view};
     ghost use Rattle.ssa_turn_table.specs.Turning.{HasTableRoom, table_steps};
 
     type Delta = TableDelta;
@@ -30,7 +28,7 @@ impl Reversible for LiveTable {
 
     ghost Meaning = { Table };
 
-    ghost meaning = { λ v. table_view v.entries.items };
+    ghost meaning = { λ v. v.managers };
 
     ghost Steps = { TableRecord };
 
@@ -43,7 +41,7 @@ impl Reversible for LiveTable {
     ghost has_room = { HasTableRoom };
 
     fn turn(&mut self, delta: &mut TableDelta) -> Result<(), AllocError> {
-        turn_table(&mut self.entries, delta);
+        turn_managers(&mut self.managers, delta);
         Ok(())
     }
 

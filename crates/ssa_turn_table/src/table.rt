@@ -4,21 +4,25 @@ ghost use Rattle.ssa_model.specs.definitions.Limits.{most_managers};
 ghost use Rattle.ssa_model.specs.definitions.Table.{Table};
 ghost use Rattle.ssa_model.specs.definitions.Carry.{carry_table};
 ghost use Rattle.ssa_model.specs.definitions.Takes.{TableTakes};
+ghost use Rattle.ssa_merge.specs.Managers.{table_view};
 ghost use Rattle.ssa_turn_table.specs.Changing.{AllHaveRoom, AreChanges, changes_back, led_to};
-ghost use Rattle.ssa_turn_table.specs.Tables.{changes_view, table_view};
+ghost use Rattle.ssa_turn_table.specs.Tables.{changes_view};
 ghost use Rattle.ssa_turn_table.specs.Turning.{HasTableRoom, table_steps};
 
 use crate::changing::change_entries;
 use crate::coming::insert_here;
 use crate::delta::{EntryChange, TableDelta};
 use crate::going::take_gone;
-use crate::live_entry::LiveEntry;
 use arrayvec::ArrayVec;
+use ssa_merge::managers::{Entry, MOST_MANAGERS, Managers};
 use std::alloc::Global;
 use std::mem;
 
 // Changes the entries of those who stay.
-fn change_table(entries: &mut ArrayVec<LiveEntry, 64, Global>, changed: &mut Vec<EntryChange>)
+fn change_table(
+    entries: &mut ArrayVec<Entry, MOST_MANAGERS, Global>,
+    changed: &mut Vec<EntryChange>,
+)
     requires { (t : Table) × ((u : Table) × AreChanges t u (table_view entries.old.items) changed.old.items) }
     ensures entries { (t u : Table) → AreChanges t u (table_view entries.old.items) changed.old.items → table_view entries.new.items ≡ map (led_to u) (table_view entries.old.items) }
     ensures changed { (t u : Table) → AreChanges t u (table_view entries.old.items) changed.old.items → changes_view changed.new.items ≡ changes_back u (table_view entries.old.items) }
@@ -28,17 +32,17 @@ fn change_table(entries: &mut ArrayVec<LiveEntry, 64, Global>, changed: &mut Vec
 }
 
 // A table has no more entries than it has places.
-fn are_few(entries: &ArrayVec<LiveEntry, 64, Global>)
+fn are_few(entries: &ArrayVec<Entry, MOST_MANAGERS, Global>)
     ensures { length entries.now.items ≤ most_managers }
 {
     let _ = entries.len();
 }
 
-/// Changes the table as the record says, and leaves the record that leads back. Takes no memory.
-///
-/// Those who are gone are taken out, those who stay are changed, and those who are here are put in
-/// at their places.
-pub fn turn_table(entries: &mut ArrayVec<LiveEntry, 64, Global>, delta: &mut TableDelta)
+// Changes the entries of a table as the record says, and leaves the record that leads back.
+//
+// Those who are gone are taken out, those who stay are changed, and those who are here are put in
+// at their places.
+fn turn_table(entries: &mut ArrayVec<Entry, MOST_MANAGERS, Global>, delta: &mut TableDelta)
     requires fits { TableTakes (table_steps delta.old) (table_view entries.old.items) (carry_table (table_steps delta.old) (table_view entries.old.items)) }
     requires room { HasTableRoom delta.old (table_view entries.old.items) }
     ensures value { table_view entries.new.items ≡ carry_table (table_steps delta.old) (table_view entries.old.items) }
@@ -51,4 +55,17 @@ pub fn turn_table(entries: &mut ArrayVec<LiveEntry, 64, Global>, delta: &mut Tab
     insert_here(entries, &mut delta.here, &mut delta.room.gone);
     mem::swap(&mut delta.gone, &mut delta.room.gone);
     mem::swap(&mut delta.here, &mut delta.room.here);
+}
+
+/// Changes the table as the record says, and leaves the record that leads back. Takes no memory.
+pub fn turn_managers(managers: &mut Managers, delta: &mut TableDelta)
+    requires fits { TableTakes (table_steps delta.old) managers.old (carry_table (table_steps delta.old) managers.old) }
+    requires room { HasTableRoom delta.old managers.old }
+    ensures value { managers.new ≡ carry_table (table_steps delta.old) managers.old }
+    ensures back { TableTakes (table_steps delta.new) managers.new managers.old }
+    ensures room { HasTableRoom delta.new managers.new }
+{
+    let mut entries = managers.take_entries(*delta.gone.allocator());
+    turn_table(&mut entries, delta);
+    managers.set_entries(entries);
 }

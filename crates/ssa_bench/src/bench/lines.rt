@@ -1,5 +1,5 @@
 //! The lines of a bench file: each is compared with what is written of what it says.
-ghost use Rattle.std.specs.Prelude.{◌≡◌, Ok, ◌&&◌, ◌<◌, ◌-◌, ◌||◌, IfOk, false};
+ghost use Rattle.std.specs.Prelude.{◌≡◌, Ok, ◌&&◌, ◌<◌, ◌-◌, ◌||◌, IfOk, false, length};
 ghost use Rattle.ssa_model.specs.definitions.Answers.{lone_state};
 ghost use Rattle.ssa_model.specs.definitions.History.{past_len, present};
 ghost use Rattle.ssa_model.specs.definitions.Valid.{IsValidState};
@@ -10,32 +10,36 @@ ghost use Rattle.ssa_model.specs.definitions.Limits.{most_past};
 ghost use Rattle.ssa_model.specs.definitions.Json.{compact, same_text};
 ghost use Rattle.ssa_model.specs.definitions.BenchText.{first_json, step_json};
 ghost use Rattle.ssa_model.specs.laws.BenchFiles.{keeps_order, lone_in, with_steps};
-ghost use Rattle.ssa_turn.specs.Histories.{step_view};
 ghost use Rattle.ssa_file.specs.Heads.{head_view};
-ghost use Rattle.ssa_bench.specs.Taking.{GoesOn, IsTaken, TakesStep};
+ghost use Rattle.ssa_bench.specs.Taking.{GoesOn, IsTaken, TakesStep, taken_view};
 
 use super::Bench;
-use crate::taking::{label_in, load_fault, object_in, state_in};
+use crate::taking::{TakenStep, label_in, load_fault, object_in, state_in};
 use ssa_file::head::Head;
 use ssa_file::loading::{FileLine, LoadFault};
 use ssa_file::written::{is_first, is_step};
 use ssa_merge::order::keeps_order;
 use ssa_schema::schema::Schema;
-use ssa_turn::timeline::Step;
+use ssa_turn::timeline::{Step, Timeline};
+use ssa_turn_state::live_state::StateDelta;
 use std::alloc::{AllocError, Global};
 
+// How many states a timeline has after the first.
+fn later_len(timeline: &Timeline) -> usize
+    ensures { result ≡ length timeline.now.later }
+{
+    timeline.place_is_within();
+    timeline.past_len() + timeline.future_len()
+}
+
 impl Bench {
-    // Whether the text is that of the first state's line.
+    // Whether the text is that of the line of the only state.
     fn is_first_line(&self, alloc: Global, text: &[u8]) -> Result<bool, AllocError>
+        requires { self.now.timeline ≡ lone_state self.now.timeline.first }
         ensures { IfOk result (λ same. same ≡ same_text (compact (first_json self.now)) text.now) }
     {
-        is_first(
-            alloc,
-            &self.schema,
-            &self.identity,
-            self.timeline.first(),
-            text,
-        )
+        let first = self.timeline.present();
+        is_first(alloc, &self.schema, &self.identity, first, text)
     }
 
     // The bench of the first state that a line tells.
@@ -62,11 +66,12 @@ impl Bench {
     }
 
     // Whether the step is told by the text, and keeps the order of the present state's managers.
-    fn is_next_line(&self, alloc: Global, step: &Step, text: &[u8]) -> Result<bool, AllocError>
+    fn is_next_line(&self, alloc: Global, step: &TakenStep, text: &[u8]) -> Result<bool, AllocError>
         requires { IsValidState self.now.schema.kind (state_view step.now.state) }
-        ensures { IfOk result (λ is. is ≡ (same_text (compact (step_json self.now (step_view step.now))) text.now && keeps_order (present self.now.timeline).table (state_view step.now.state).table)) }
+        ensures { IfOk result (λ is. is ≡ (same_text (compact (step_json self.now (taken_view step.now))) text.now && keeps_order (present self.now.timeline).table (state_view step.now.state).table)) }
     {
-        if !is_step(alloc, &self.schema, &self.identity, step, text)? {
+        let (label, state) = (&step.label, &step.state);
+        if !is_step(alloc, &self.schema, &self.identity, label, state, text)? {
             return Ok(false);
         }
         let before = self.timeline.present();
@@ -78,7 +83,7 @@ impl Bench {
     }
 
     // The step that a line tells, behind the present state.
-    fn step_of_line(&self, alloc: Global, line: FileLine) -> Result<Step, LoadFault>
+    fn step_of_line(&self, alloc: Global, line: FileLine) -> Result<TakenStep, LoadFault>
         requires { line.text.items ≡ compact (view line.value) }
         ensures taken { TakesStep self.now result (view line.value) }
         ensures valid { IfOk result (λ s. IsValidState self.now.schema.kind (state_view s.state)) }
@@ -89,7 +94,7 @@ impl Bench {
         let FileLine { value, text } = line;
         match state_in(alloc, &self.schema, object_in(alloc, value)) {
             Ok(state) => {
-                let step = Step { label, state };
+                let step = TakenStep { label, state };
                 if self.is_next_line(alloc, &step, &text)? {
                     Ok(step)
                 } else {
@@ -108,7 +113,10 @@ impl Bench {
     {
         self.timeline.place_is_within();
         let step = self.step_of_line(alloc, line)?;
-        self.timeline.append(step)?;
+        let TakenStep { label, state } = step;
+        state.managers.own_entries_are_read();
+        let delta = StateDelta::leading(alloc, self.timeline.present(), state)?;
+        self.timeline.append(Step { label, delta })?;
         Ok(())
     }
 
@@ -116,7 +124,7 @@ impl Bench {
     pub(crate) fn at_head(mut self, head: Head) -> Result<Bench, LoadFault>
         ensures { IsTaken result (with_steps (head_view head) self self.timeline.later) }
     {
-        let later_len = self.timeline.later().len();
+        let later_len = later_len(&self.timeline);
         if head.states != later_len + 1 || head.place > later_len {
             return Err(LoadFault::BenchText);
         }

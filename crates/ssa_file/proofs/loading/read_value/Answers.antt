@@ -1,5 +1,4 @@
-use Rattle.std.proofs.Common.{ap, Ok, [], ◌∷◌, subst, arith}
-use Rattle.ssa_model.specs.definitions.Lines.{line_feed}
+use Rattle.std.proofs.Common.{ap, Ok, subst, arith}
 use Rattle.ssa_file.specs.Reading.{TakesLine, end_bytes}
 use Rattle.ssa_file.specs.declared.read_line.LineEnd.{LineEnd}
 use Rattle.ssa_file.proofs.LoadingFacts.{refused-unended, refused-by, first-line, reads-handed_on}

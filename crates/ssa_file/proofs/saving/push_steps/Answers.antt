@@ -1,53 +1,49 @@
-use Rattle.std.proofs.Common.{◌++◌, flat_map, map, ap, sym, ◌∙◌, subst}
+use Rattle.std.proofs.Common.{◌<◌, List, ◌++◌, drop, flat_map, map, ap, sym, subst, ◌∙◌, append_assoc, refl}
 use Rattle.std.specs.List.{All}
-use Rattle.std.proofs.lemmas.List.{take_all}
-use Rattle.std.proofs.lemmas.List.Elements.{All-map}
-use Rattle.std.proofs.lemmas.List.Folds.{flat_map-map}
-use Rattle.ssa_model.specs.definitions.Json.{Text, Json}
-use Rattle.ssa_model.specs.definitions.BenchText.{line}
+use Rattle.std.proofs.lemmas.List.Elements.{All-cons}
+use Rattle.ssa_model.specs.definitions.History.{Step}
 use Rattle.ssa_json.specs.Writable.{IsOfProgram}
-use Rattle.ssa_turn.specs.Histories.{step_view}
-use Rattle.ssa_file.specs.Saving.{CannotHold, step_line, step_value}
-use Rattle.ssa_file.proofs.SavingFacts.{IsStepOfProgram, step-fits, lines-more, lines-refused, handed-on, steps-of-program-more}
-use Rattle.ssa_turn.specs.declared.timeline.Step.{Step}
+use Rattle.ssa_file.specs.Saving.{step_line, step_value}
+use Rattle.ssa_file.proofs.SavingFacts.{handed-on, lines-refused}
+use Rattle.ssa_file.proofs.Walking.{next-step}
 use Rattle.ssa_file.proofs.saving.push_steps.Goals as goal
 
-pub step_value-requires : goal.step_value-requires
-step_value-requires c = step-fits c.args.schema.now.kind c.args.steps.now c.loop-step.step-index c.step-item.result c.loop-step-test.true c.step-item.is c.requires.valid
+pub loop-alloc-init : goal.loop-alloc-init
+loop-alloc-init c = record { moved = refl; within = c.place_is_within.ensures; made = refl; fits = c.requires.few; of_program = λ h. h }
 
-pub returns-in_err-push_line-clause-refused : goal.returns-in_err-push_line-clause-refused
-returns-in_err-push_line-clause-refused c =
-    let f : Step → Text = λ s. step_line c.args.schema.now c.args.identity.now (step_view s) in
-    let fault = c.in_err-push_line.field-0.0 in
-    let text = c.args.text.now.items in
-    let told : CannotHold fault (c.loop-step.text.items ++ f c.step-item.result) = subst (λ (v : Json). CannotHold fault (c.loop-step.text.items ++ line v)) c.in_ok-value.ensures c.in_err-push_line.ensures.refused in
-    let all : CannotHold fault (text ++ flat_map f c.args.steps.now) = lines-refused fault f c.args.steps.now c.loop-step.step-index c.step-item.result text c.loop-step.text.items c.loop-step-test.true c.step-item.is c.loop-step.invariant.made told in
-    handed-on c.from_residual-in_err-push_line.result fault _ c.from_residual-in_err-push_line.ensures.1
-    (subst (λ (t : Text). CannotHold fault (text ++ t)) (sym (flat_map-map (step_line c.args.schema.now c.args.identity.now) step_view c.args.steps.now)) all)
-
-pub loop-step-preserved : goal.loop-step-preserved
-loop-step-preserved c =
-    let f : Step → Text = λ s. step_line c.args.schema.now c.args.identity.now (step_view s) in
-    let made = c.loop-step.text.items in
+pub loop-alloc-preserved : goal.loop-alloc-preserved
+loop-alloc-preserved c =
+    let line = step_line c.args.schema.now c.args.identity.now in
+    let value = step_value c.args.schema.now c.args.identity.now in
+    let later = c.args.history.now.later in
+    let now = c.loop-alloc.history in
+    let new = c.redo.new.self in
+    let text = c.loop-alloc.text.items in
+    let some = subst (λ n. 0 < n) c.future_len.ensures.count c.loop-alloc-test.true in
+    let next = next-step c.args.history.now now new c.loop-alloc.invariant.moved c.loop-alloc.invariant.within some c.redo.ensures in
+    let rest = flat_map line (drop new.place later) in
+    let all : List Step → Type 0 = λ ss. All IsOfProgram (map value ss) in
     record {
-      made = c.in_ok-push_line.ensures.ok ∙ ap (λ v. made ++ line v) c.in_ok-value.ensures
-          ∙ lines-more f c.args.steps.now c.loop-step.step-index c.step-item.result c.args.text.now.items made c.loop-step-test.true c.step-item.is c.loop-step.invariant.made;
-      fits = c.in_ok-push_line.ensures.fits;
-      of_program = steps-of-program-more c.args.schema.now c.args.identity.now c.args.steps.now c.loop-step.step-index c.step-item.result c.loop-step-test.true c.step-item.is
-          c.loop-step.invariant.of_program (subst IsOfProgram c.in_ok-value.ensures c.in_ok-push_line.ensures.of_program);
+      moved = next.moved;
+      within = next.within;
+      made = ap (λ t. t ++ rest) (c.in_ok-push_present.ensures.ok next.step next.here)
+          ∙ append_assoc text (line next.step) rest
+          ∙ ap (λ ss. text ++ flat_map line ss) (sym next.left)
+          ∙ c.loop-alloc.invariant.made;
+      fits = c.in_ok-push_present.ensures.fits;
+      of_program = λ behind. c.loop-alloc.invariant.of_program
+          (subst all (sym next.left) (All-cons IsOfProgram (value next.step) (map value (drop new.place later)) (c.in_ok-push_present.ensures.of_program next.step next.here) behind));
     }
 
-pub returns-clause-of_program : goal.returns-clause-of_program
-returns-clause-of_program c =
-    let made = step_value c.args.schema.now c.args.identity.now in
-    let steps = c.args.steps.now in
-    let all = subst (All (IsStepOfProgram c.args.schema.now c.args.identity.now)) (take_all c.loop-step.step-index steps c.loop-step-test.false) c.loop-step.invariant.of_program in
-    All-map IsOfProgram made (map step_view steps) (All-map (λ s. IsOfProgram (made s)) step_view steps all)
-
-pub returns-clause-ok : goal.returns-clause-ok
-returns-clause-ok c =
-    let f : Step → Text = λ s. step_line c.args.schema.now c.args.identity.now (step_view s) in
-    let text = c.args.text.now.items in
-    c.loop-step.invariant.made
-    ∙ ap (λ ss. text ++ flat_map f ss) (take_all c.loop-step.step-index c.args.steps.now c.loop-step-test.false)
-    ∙ ap (λ t. text ++ t) (sym (flat_map-map (step_line c.args.schema.now c.args.identity.now) step_view c.args.steps.now))
+pub returns-in_err-push_present-clause-refused : goal.returns-in_err-push_present-clause-refused
+returns-in_err-push_present-clause-refused c =
+    let line = step_line c.args.schema.now c.args.identity.now in
+    let now = c.loop-alloc.history in
+    let new = c.redo.new.self in
+    let text = c.loop-alloc.text.items in
+    let some = subst (λ n. 0 < n) c.future_len.ensures.count c.loop-alloc-test.true in
+    let next = next-step c.args.history.now now new c.loop-alloc.invariant.moved c.loop-alloc.invariant.within some c.redo.ensures in
+    let rest = flat_map line (drop new.place c.args.history.now.later) in
+    let fault = c.in_err-push_present.field-0.0 in
+    handed-on c.from_residual.result fault _ c.from_residual.ensures.1
+    (lines-refused fault text (line next.step) rest _ (ap (λ ss. text ++ flat_map line ss) (sym next.left) ∙ c.loop-alloc.invariant.made) (c.in_err-push_present.ensures.refused next.step next.here))

@@ -1,9 +1,9 @@
-use Rattle.std.proofs.Common.{Ok, ap, string_bytes, refl, sym, ◌∙◌}
+use Rattle.std.proofs.Common.{string_bytes, refl, sym, ◌∙◌}
 use Rattle.std.proofs.lemmas.Result.{err_from_is_err_and}
 use Rattle.ssa_model.specs.definitions.FieldsV1.{fields_json}
 use Rattle.ssa_json.specs.View.{view}
 use Rattle.ssa_json.proofs.Equality.{same_text-true}
-use Rattle.ssa_merge.specs.Managers.{operation_view, table_view}
+use Rattle.ssa_merge.specs.Managers.{table_view}
 use Rattle.ssa_merge.proofs.EntryFaults.{no-fault, owned-fault, passed, whole}
 use Rattle.ssa_merge.proofs.entry_read.read_entry.Goals as goal
 
@@ -33,11 +33,10 @@ returns-clause-answers c =
     let timed = c.in-Ok.ensures.succeeds.0 refl in
     let is = passed body version before v said (string_bytes c.in_ok-name.name) c.in_ok-set.set c.in-Ok.at c.in-Some.ensures named same timed c.in_ok-set.ensures.answers c.in_ok-name.ensures.ok c.in_ok-set.ensures.said c.in-Ok.ensures.value in
     no-fault body version before v _ _ is c.in_ok-check_owned.ensures
-    ∙ (λ i. Ok (record { manager = record { name = string_bytes c.in_ok-name.name; operation = operation_view said.operation }; owned = sym c.in_ok-set-2.ensures i; moment = c.in-Ok.at }))
 
 pub returns-clause-back : goal.returns-clause-back
 returns-clause-back c =
     let said = c.in-Some.said in
     let same = sym c.is_same_text.ensures ∙ c.if-not-is_same_text.false in
-    whole (view c.args.entry.now) said c.args.api_version.now (string_bytes c.in_ok-name.name) (fields_json c.in_ok-set-2.set) c.in-Ok.at c.in-Some.ensures
-    (same_text-true said.version.now c.args.api_version.now same) c.in_ok-name.ensures.ok (ap fields_json c.in_ok-set-2.ensures ∙ c.in_ok-set.ensures.back) c.in-Ok.ensures.value
+    whole (view c.args.entry.now) said c.args.api_version.now (string_bytes c.in_ok-name.name) (fields_json c.in_ok-set.set) c.in-Ok.at c.in-Some.ensures
+    (same_text-true said.version.now c.args.api_version.now same) c.in_ok-name.ensures.ok c.in_ok-set.ensures.back c.in-Ok.ensures.value

@@ -1,15 +1,14 @@
-use Rattle.std.proofs.Common.{ap, ◌∙◌, sym}
-use Rattle.ssa_model.specs.definitions.PathMap.{same_set}
+use Rattle.std.proofs.Common.{◌∙◌, sym}
 use Rattle.ssa_merge.specs.Managers.{entry_view}
 use Rattle.ssa_merge.proofs.TableChanges.{acted-renewed, acted-same}
 use Rattle.ssa_merge.proofs.seat.acting.Goals as goal
 
 pub returns-then-changed : goal.returns-then-changed
 returns-then-changed c =
-    let same = ap (same_set c.args.owned.now) (sym c.get.ensures) ∙ sym c.is_same.ensures ∙ c.if-not-is_same.false in
+    let same = sym c.is_same.ensures ∙ c.if-not-is_same.false in
     acted-renewed (entry_view c.args.entry.now) c.args.owned.now c.args.changed c.args.at (sym c.is_empty.ensures ∙ c.if-is_empty.false) same c.if-changed.true
 
 pub returns : goal.returns
 returns c =
-    let same = ap (same_set c.args.owned.now) (sym c.get.ensures) ∙ sym c.is_same.ensures ∙ c.if-not-is_same.false in
+    let same = sym c.is_same.ensures ∙ c.if-not-is_same.false in
     acted-same (entry_view c.args.entry.now) c.args.owned.now c.args.changed c.args.at (sym c.is_empty.ensures ∙ c.if-is_empty.false) same c.if-changed.false

@@ -10,4 +10,5 @@ returns c = record {
   each = ap length c.loop.invariant ∙ length-replicate c.loop.counter Leaves ∙ (let last : c.loop.counter ≡ c.len-end.result = omega arith in last) ∙ c.len-end.ensures;
   leads = append-nil (changed_entries c.loop.entries.items c.args.managers.now) ∙ ap (λ cs. changed_entries cs c.args.managers.now) c.loop.invariant ∙ all-leave c.loop.counter c.args.managers.now;
   few = omega arith;
+  new = tt;
 }

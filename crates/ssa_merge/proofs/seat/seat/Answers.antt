@@ -54,5 +54,5 @@ returns c =
     let unknown = ap (λ t. is_in_table t a) (sym same) ∙ sym c.is_in_table.ensures ∙ c.if-is_in_table.false in
     let is = seat-newcomer table a c.args.owned.now c.args.lost.now c.args.modified.now c.args.at unknown (sym c.is_empty.ensures ∙ c.if-is_empty.false) in
     let kept = c.count_kept.ensures.count table (ap length c.deref.ensures.value ∙ made.0) ∙ ap (λ ds. length (changed_entries ds table)) c.deref.ensures.value in
-    newcomer-leads table a c.args.owned.now c.args.lost.now c.args.modified.now c.args.at cs c.in_ok-newcomer.newcomer made c.in_ok-newcomer.ensures is
+    newcomer-leads table a c.args.owned.now c.args.lost.now c.args.modified.now c.args.at cs c.in_ok-newcomer.newcomer made unknown c.in_ok-newcomer.ensures is
     (let fits : length (changed_entries cs.items table) + 1 ≤ most_managers = omega arith in fits)

@@ -1,7 +1,7 @@
 use Rattle.std.proofs.Common.{◌≡◌, [], ◌++◌, ap, sym, ◌∙◌}
 use Rattle.std.proofs.lemmas.List.{append-nil}
 use Rattle.std.specs.List.{cons_option}
-use Rattle.ssa_turn_table.specs.Tables.{table_view}
+use Rattle.ssa_merge.specs.Managers.{table_view}
 use Rattle.ssa_turn_table.proofs.Compared.{own-at, told-more, room-more}
 use Rattle.ssa_turn_table.proofs.between.changes_between.Goals as goal
 use Rattle.ssa_turn_table.proofs.between.changes_between.Goals.{in-Some+in_ok-push, in_default}

@@ -1,7 +1,8 @@
 use Rattle.std.proofs.Common.{◌≡◌, take}
 use Rattle.ssa_model.specs.definitions.Record.{changes}
+use Rattle.ssa_merge.specs.Managers.{table_view}
 use Rattle.ssa_turn_table.specs.Changing.{AllHaveRoom}
-use Rattle.ssa_turn_table.specs.Tables.{changes_view, table_view}
+use Rattle.ssa_turn_table.specs.Tables.{changes_view}
 use Rattle.ssa_turn_table.proofs.between.changes_between.Given as goal
 
 abbrev pub invariant-loop-entry : goal.invariant-loop-entry

@@ -1,7 +1,6 @@
 use Rattle.std.proofs.Common.{◌≡◌, drop}
 use Rattle.ssa_model.specs.definitions.Table.{entry_of}
-use Rattle.ssa_merge.specs.Managers.{key_view}
-use Rattle.ssa_turn_table.specs.Tables.{table_view}
+use Rattle.ssa_merge.specs.Managers.{key_view, table_view}
 use Rattle.ssa_turn_table.proofs.between.find_entry.Given as goal
 
 -- the entry is among those that are left

@@ -1,6 +1,6 @@
 use Rattle.std.proofs.Common.{ap, sym, ◌∙◌, subst}
+use Rattle.ssa_merge.specs.Managers.{table_view}
 use Rattle.ssa_turn_table.specs.Going.{AllKeysAgree}
-use Rattle.ssa_turn_table.specs.Tables.{table_view}
 use Rattle.ssa_turn_table.proofs.Taking.{keys-push}
 use Rattle.ssa_turn_table.proofs.Compared.{here-more, here-passed}
 use Rattle.ssa_turn_table.proofs.between.here_between.Goals as goal

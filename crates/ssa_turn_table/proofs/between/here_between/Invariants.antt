@@ -1,7 +1,8 @@
 use Rattle.std.proofs.Common.{◌≡◌, take}
 use Rattle.ssa_model.specs.definitions.Record.{placed}
+use Rattle.ssa_merge.specs.Managers.{table_view}
 use Rattle.ssa_turn_table.specs.Going.{AllKeysAgree}
-use Rattle.ssa_turn_table.specs.Tables.{heres_view, table_view}
+use Rattle.ssa_turn_table.specs.Tables.{heres_view}
 use Rattle.ssa_turn_table.proofs.Taking.{is_off}
 use Rattle.ssa_turn_table.proofs.between.here_between.Given as goal
 

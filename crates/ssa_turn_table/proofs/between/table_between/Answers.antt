@@ -1,11 +1,10 @@
-use Rattle.std.proofs.Common.{◌≡◌, ◌≤◌, length, ap, sym, ◌∙◌, subst, arith}
+use Rattle.std.proofs.Common.{◌≡◌, ◌≤◌, length, arith}
 use Rattle.std.proofs.lemmas.List.{length-map}
-use Rattle.ssa_model.specs.definitions.Carry.{carry_table}
 use Rattle.ssa_model.specs.definitions.Record.{table_record}
-use Rattle.ssa_model.proofs.TableLeads.{table_leads}
+use Rattle.ssa_merge.specs.Managers.{entry_view, table_view}
 use Rattle.ssa_turn_table.specs.declared.delta.TableDelta.{TableDelta}
-use Rattle.ssa_turn_table.specs.Tables.{entry_view, table_view}
 use Rattle.ssa_turn_table.specs.Turning.{table_steps}
+use Rattle.ssa_turn_table.proofs.TurnedTables.{few_led}
 use Rattle.ssa_turn_table.proofs.between.table_between.Goals as goal
 
 pub returns-clause-room : goal.returns-clause-room
@@ -15,11 +14,11 @@ returns-clause-room c =
     let d : TableDelta = record { changed = c.in_ok-changed.changed; gone = c.in_ok-gone.gone; here = c.in_ok-here.here; room = c.in_ok-room.room } in
     let is : table_steps d ≡ table_record t u =
     λ i. record { changed = c.in_ok-changed.ensures.changes i; gone = c.in_ok-gone.ensures i; here = c.in_ok-here.ensures.here i } in
-    let leads : carry_table (table_steps d) t ≡ u = ap (λ r. carry_table r t) is ∙ table_leads t u c.requires.from c.requires.to c.requires.order in
     let long = length-map c.args.to.now entry_view in
-    let few = c.requires.few in
+    let most = c.requires.few in
+    let few : length u ≤ 64 = omega arith in
     record {
-      few = subst (λ v. length v ≤ 64) (sym leads) (omega arith);
+      few = few_led (table_steps d) t u (record { from = c.requires.from; to = c.requires.to; order = c.requires.order; is = is }) few;
       sets = c.in_ok-changed.ensures.room;
       keys = c.in_ok-here.ensures.keys;
       gone_empty = c.in_ok-room.ensures.gone_empty;

@@ -4,28 +4,28 @@ use Rattle.std.specs.Prelude.{option_map}
 use Rattle.ssa_model.specs.definitions.Carry.{changed_entry}
 use Rattle.ssa_model.specs.definitions.Table.{Entry, Table, owned_by}
 use Rattle.ssa_model.specs.definitions.Record.{Change}
-use Rattle.ssa_merge.specs.Managers.{key_view}
+use Rattle.ssa_merge.specs.Managers.{key_view, entry_view, table_view}
 use Rattle.ssa_turn_set.specs.Turn.{HasRoom}
 use Rattle.ssa_turn_table.specs.declared.delta.EntryChange.{EntryChange}
-use Rattle.ssa_turn_table.specs.declared.live_entry.LiveEntry.{LiveEntry}
-use Rattle.ssa_turn_table.specs.Tables.{entry_view, table_view, changes_view}
+use Rattle.ssa_merge.specs.declared.managers.Entry as merge
+use Rattle.ssa_turn_table.specs.Tables.{changes_view}
 use Rattle.ssa_turn_table.specs.Changing.{AreChanges, changed_back, change_in, changes_back, is_first, led_to}
 use Rattle.ssa_turn_table.proofs.Changes.{IsMet, is_met, is_passed, owned-entry}
 use Rattle.ssa_turn_table.proofs.changing.+change_entries.Goals as goal
 
 -- the premise, at the parts of both lists
-at_parts : (t u : Table) (es : List LiveEntry) (e : LiveEntry) (rest : List LiveEntry) (cs : List EntryChange) (ds : List EntryChange) → es ≡ e ∷ rest → cs ≡ ds
+at_parts : (t u : Table) (es : List merge.Entry) (e : merge.Entry) (rest : List merge.Entry) (cs : List EntryChange) (ds : List EntryChange) → es ≡ e ∷ rest → cs ≡ ds
     → AreChanges t u (table_view es) cs → AreChanges t u (entry_view e ∷ table_view rest) ds
 at_parts t u es e rest cs ds is same h = subst (AreChanges t u (entry_view e ∷ table_view rest)) same (subst (λ xs. AreChanges t u (table_view xs) cs) is h)
 
 -- the entry that is met, and its change
-at_met : (t u : Table) (es : List LiveEntry) (e : LiveEntry) (rest : List LiveEntry) (cs : List EntryChange) (d : EntryChange) (ds : List EntryChange) → es ≡ e ∷ rest → cs ≡ d ∷ ds
+at_met : (t u : Table) (es : List merge.Entry) (e : merge.Entry) (rest : List merge.Entry) (cs : List EntryChange) (d : EntryChange) (ds : List EntryChange) → es ≡ e ∷ rest → cs ≡ d ∷ ds
     → (b : Bool) → b ≡ is_first (changes_view cs) (key_view e.key) → b ≡ true → AreChanges t u (table_view es) cs → IsMet t u (entry_view e) (table_view rest) d ds
 at_met t u es e rest cs d ds is same b told first h =
     is_met t u (entry_view e) (table_view rest) d ds (at_parts t u es e rest cs (d ∷ ds) is same h) (ap (λ xs. is_first (changes_view xs) (key_view e.key)) (sym same) ∙ sym told ∙ first)
 
 -- the entry that is passed
-at_passed : (t u : Table) (es : List LiveEntry) (e : LiveEntry) (rest : List LiveEntry) (cs : List EntryChange) → es ≡ e ∷ rest
+at_passed : (t u : Table) (es : List merge.Entry) (e : merge.Entry) (rest : List merge.Entry) (cs : List EntryChange) → es ≡ e ∷ rest
     → (b : Bool) → b ≡ is_first (changes_view cs) (key_view e.key) → b ≡ false → AreChanges t u (table_view es) cs → (change_in u (entry_view e) ≡ None) × AreChanges t u (table_view rest) cs
 at_passed t u es e rest cs is b told first h = is_passed t u (entry_view e) (table_view rest) cs (at_parts t u es e rest cs cs is refl h) (sym told ∙ first)
 

@@ -1,6 +1,7 @@
 use Rattle.std.proofs.Common.{◌<◌, ◌++◌, length, map, vec_len, sym, ◌∙◌, subst, arith}
+use Rattle.ssa_merge.specs.Managers.{table_view}
 use Rattle.ssa_turn_table.specs.Going.{AllKeysAgree}
-use Rattle.ssa_turn_table.specs.Tables.{table_view, keys_view, heres_view}
+use Rattle.ssa_turn_table.specs.Tables.{keys_view, heres_view}
 use Rattle.ssa_turn_table.proofs.Inserting.{IsInserting, inserting_ends, first-of, none-left, here_step, listed_step, agree_step}
 use Rattle.ssa_turn_table.proofs.coming.insert_here.Goals as goal
 

@@ -1,9 +1,10 @@
 use Rattle.std.proofs.Common.{◌≡◌, ◌≤◌, ◌+◌, ◌++◌, length, map}
 use Rattle.std.specs.Prelude.{vec_len, vec_capacity}
 use Rattle.ssa_model.specs.definitions.Table.{Table}
+use Rattle.ssa_merge.specs.Managers.{table_view}
 use Rattle.ssa_turn_table.specs.Coming.{AreComing}
 use Rattle.ssa_turn_table.specs.Going.{AllKeysAgree}
-use Rattle.ssa_turn_table.specs.Tables.{table_view, keys_view, heres_view}
+use Rattle.ssa_turn_table.specs.Tables.{keys_view, heres_view}
 use Rattle.ssa_turn_table.proofs.Inserting.{IsInserting}
 use Rattle.ssa_turn_table.proofs.coming.insert_here.Given as goal
 

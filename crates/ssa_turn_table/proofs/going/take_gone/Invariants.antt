@@ -3,7 +3,8 @@ use Rattle.std.specs.Prelude.{vec_len, vec_capacity}
 use Rattle.arrayvec.specs.ArrayVec.{array_vec_len}
 use Rattle.ssa_model.specs.definitions.Record.{gone_from}
 use Rattle.ssa_model.specs.definitions.Table.{Table}
-use Rattle.ssa_turn_table.specs.Tables.{table_view, keys_view}
+use Rattle.ssa_merge.specs.Managers.{table_view}
+use Rattle.ssa_turn_table.specs.Tables.{keys_view}
 use Rattle.ssa_turn_table.specs.Going.{AllKeysAgree}
 use Rattle.ssa_turn_table.proofs.Taking.{IsTaking}
 use Rattle.ssa_turn_table.proofs.going.take_gone.Given as goal

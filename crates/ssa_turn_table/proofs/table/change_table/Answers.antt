@@ -1,6 +1,7 @@
 use Rattle.std.proofs.Common.{◌≡◌, length, map, sym, ap, ◌∙◌, subst}
+use Rattle.ssa_merge.specs.Managers.{table_view}
 use Rattle.ssa_turn_table.specs.Changing.{AllHaveRoom, AreChanges, changes_back, led_to}
-use Rattle.ssa_turn_table.specs.Tables.{changes_view, table_view}
+use Rattle.ssa_turn_table.specs.Tables.{changes_view}
 use Rattle.ssa_turn_table.proofs.Refilled.{refilled-whole}
 use Rattle.ssa_turn_table.proofs.table.change_table.Goals as goal
 

@@ -3,9 +3,10 @@ use Rattle.std.proofs.lemmas.List.{length-map}
 use Rattle.ssa_model.specs.definitions.Carry.{carry_table}
 use Rattle.ssa_model.specs.definitions.Record.{TableRecord}
 use Rattle.ssa_model.specs.definitions.Takes.{TableTakes}
+use Rattle.ssa_merge.specs.Managers.{entry_view, table_view}
 use Rattle.ssa_turn_table.specs.Changing.{AllHaveRoom, changes_back, led_to}
 use Rattle.ssa_turn_table.specs.Going.{AllKeysAgree}
-use Rattle.ssa_turn_table.specs.Tables.{entry_view, table_view, keys_view, heres_view, changes_view}
+use Rattle.ssa_turn_table.specs.Tables.{keys_view, heres_view, changes_view}
 use Rattle.ssa_turn_table.specs.Turning.{table_steps}
 use Rattle.ssa_turn_table.proofs.TurnedTables.{gone_told, met_of, coming_of, back_of, many_gone, many_here, few_led}
 use Rattle.ssa_turn_table.proofs.table.turn_table.Goals as goal

@@ -1,20 +1,34 @@
 use Rattle.std.proofs.Common.{sym, subst}
 use Rattle.ssa_model.specs.definitions.History as model
 use Rattle.ssa_model.specs.definitions.Valid.{IsNextStep, IsValidHistory}
-use Rattle.ssa_merge.specs.States.{state_view}
 use Rattle.ssa_turn.specs.Histories.{label_view}
 use Rattle.ssa_model.proofs.ValidTimelines.{present_valid}
 use Rattle.ssa_model.proofs.ValidHistories.{accepted_goes_on, next_keeps_history}
-use Rattle.ssa_bench.specs.Benches.{IsPreparedOn}
+use Rattle.ssa_bench.specs.Benches.{IsPreparedOn, led_to}
 use Rattle.ssa_bench.specs.BenchView.{bench_view}
 use Rattle.ssa_bench.proofs.bench.Bench.commit.Goals as goal
+
+pub append-requires-clause-fits : goal.append-requires-clause-fits
+append-requires-clause-fits c =
+    let prepared : IsPreparedOn (bench_view c.self.inside) c.args.prepared = subst (λ n. IsPreparedOn n c.args.prepared) (sym c.self.view_is) c.requires in
+    prepared.2.fits
+
+pub append-requires-clause-room : goal.append-requires-clause-room
+append-requires-clause-room c =
+    let prepared : IsPreparedOn (bench_view c.self.inside) c.args.prepared = subst (λ n. IsPreparedOn n c.args.prepared) (sym c.self.view_is) c.requires in
+    prepared.2.room
+
+pub append-requires-clause-back : goal.append-requires-clause-back
+append-requires-clause-back c =
+    let prepared : IsPreparedOn (bench_view c.self.inside) c.args.prepared = subst (λ n. IsPreparedOn n c.args.prepared) (sym c.self.view_is) c.requires in
+    prepared.2.back
 
 pub invariant_of-self-2 : goal.invariant_of-self-2
 invariant_of-self-2 c =
     let b = c.self.inside in
     let bench : model.Bench = bench_view b in
     let label = label_view c.args.prepared.step.label in
-    let state = state_view c.args.prepared.step.state in
+    let state = led_to bench c.args.prepared in
     let prepared : IsPreparedOn bench c.args.prepared = subst (λ n. IsPreparedOn n c.args.prepared) (sym c.self.view_is) c.requires in
     let distinct = (present_valid b.schema.kind b.timeline c.self.invariant.states).table.distinct in
     let next : IsNextStep b.timeline label state = accepted_goes_on bench prepared.0 prepared.1 _ label state distinct prepared.2.reply prepared.2.next in

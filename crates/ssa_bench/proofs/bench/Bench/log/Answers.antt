@@ -6,7 +6,7 @@ use Rattle.ssa_bench.proofs.bench.Bench.log.Goals as goal
 pub returns : goal.returns
 returns c =
     let t = c.self.inside.timeline in
-    let past = take-map (λ s. s.label) t.place t.later ∙ sym (c.in_ok-past.ensures ∙ ap (map (λ s. s.label)) c.past.ensures) in
-    let future = drop-map (λ s. s.label) t.place t.later ∙ sym (c.in_ok-future.ensures ∙ ap (map (λ s. s.label)) c.future.ensures) in
+    let past = take-map (λ s. s.label) t.place t.later ∙ sym c.in_ok-log.ensures.past in
+    let future = drop-map (λ s. s.label) t.place t.later ∙ sym c.in_ok-log.ensures.future in
     sym (ap (λ b. (logged (take b.timeline.place (labels_of b)) (drop b.timeline.place (labels_of b)), c.args.self.now)) c.self.view_is)
     ∙ (λ i. (logged (past i) (future i), c.args.self.now))

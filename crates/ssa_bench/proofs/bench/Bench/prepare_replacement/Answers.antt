@@ -8,26 +8,57 @@ use Rattle.ssa_model.specs.definitions.Valid.{IsValidState, IsValidBody}
 use Rattle.ssa_merge.specs.States.{state_view, updater}
 use Rattle.ssa_bench.specs.Benches.{IsPrepared, update_answer}
 use Rattle.ssa_bench.specs.declared.fault.Fault.{Fault}
+use Rattle.ssa_turn.specs.TablesBack.{HasTableBack}
 use Rattle.ssa_turn.specs.declared.label.Label.TheVariants.{Update}
-use Rattle.ssa_bench.proofs.Planned.{accepted, refused-planned, planned-at}
+use Rattle.ssa_bench.proofs.Planned.{IsKept, IsRecorded, accepted, leads-itself, planned-at, present-back, refused-planned}
 use Rattle.ssa_model.proofs.ValidTimelines.{present_valid}
 use Rattle.ssa_bench.proofs.bench.Bench.prepare_replacement.Goals as goal
 
-pub returns-in-Ok : goal.returns-in-Ok
-returns-in-Ok c =
+pub accepted-requires-clause-valid : goal.accepted-requires-clause-valid
+accepted-requires-clause-valid c =
     let b = c.self.inside in
+    let kind = b.schema.kind in
+    let valid : model.Bench → Type 0 = λ n. IsValidBody n.schema.kind c.args.body in
+    let live = subst (IsValidState kind) (sym c.present-now.ensures) (present_valid kind b.timeline c.self.invariant.states) in
+    let body = subst valid (sym c.self.view_is) c.requires.valid in
+    let named = ap is_manager_name c.as_str.ensures.value ∙ c.requires.named in
+    (kind, live, c.in-Ok.ensures.valid kind live body.fits body.rooted body.few named)
+
+pub accepted-requires-clause-leads : goal.accepted-requires-clause-leads
+accepted-requires-clause-leads c = leads-itself c.in-Ok.ensures.change.2
+
+pub accepted-requires-clause-order : goal.accepted-requires-clause-order
+accepted-requires-clause-order c =
+    let b = c.self.inside in
+    let live = subst (IsValidState b.schema.kind) (sym c.present-now.ensures) (present_valid b.schema.kind b.timeline c.self.invariant.states) in
+    c.in-Ok.ensures.order live.table.distinct
+
+pub returns-in_ok-prepared-in-Ok : goal.returns-in_ok-prepared-in-Ok
+returns-in_ok-prepared-in-Ok c =
     let bench = c.args.self.now in
     let who = string_bytes c.args.who in
     let to : State → Text → Result State Refusal = λ s n. update s (updater n) c.args.body c.args.at in
+    let b = c.self.inside in
+    let kind = b.schema.kind in
     let valid : model.Bench → Type 0 = λ n. IsValidBody n.schema.kind c.args.body in
-    let made : model.Bench → Type 0 = λ n. IsValidState n.schema.kind (state_view c.in-Ok.plan.target) in
-    let live = subst (IsValidState b.schema.kind) (sym c.present-now.ensures) (present_valid b.schema.kind b.timeline c.self.invariant.states) in
+    let live = subst (IsValidState kind) (sym c.present-now.ensures) (present_valid kind b.timeline c.self.invariant.states) in
     let body = subst valid (sym c.self.view_is) c.requires.valid in
     let named = ap is_manager_name c.as_str.ensures.value ∙ c.requires.named in
+    let before = state_view c.present-now.result.now in
     let now_is = c.present-now.ensures ∙ ap (λ n. present n.timeline) c.self.view_is in
-    accepted bench (codes "update") (Update c.args.at c.args.who) c.in-Ok.plan c.accepted.result (to (present bench.timeline) who) c.accepted.ensures.label c.accepted.ensures.state c.accepted.ensures.changed
-    (planned-at to (Ok c.in-Ok.plan) (state_view c.present-now.result.now) (present bench.timeline) c.as_str.result.now who now_is c.as_str.ensures.value c.in-Ok.ensures.plan)
-    (subst made c.self.view_is (c.in-Ok.ensures.valid b.schema.kind live body.fits body.rooted body.few named))
+    let change = c.in-Ok.change in
+    let p = c.in_ok-prepared-in-Ok.prepared in
+    let label = Update c.args.at c.args.who in
+    let made : IsRecorded before label change p = record { label_is = c.in_ok-prepared-in-Ok.ensures.label; record_is = c.in_ok-prepared-in-Ok.ensures.record; room = c.in_ok-prepared-in-Ok.ensures.room; changed_is = c.in_ok-prepared-in-Ok.ensures.changed } in
+    let back = subst HasTableBack (sym c.present-now.ensures) (present-back b.timeline c.own_entries_are_read.ensures) in
+    let kept : IsKept kind before change = record { valid = c.in-Ok.ensures.valid kind live body.fits body.rooted body.few named; order = c.in-Ok.ensures.order live.table.distinct; back = c.in_ok-prepared-in-Ok.ensures.back back } in
+    let on_kind : model.Bench → Type 0 = λ n. IsKept n.schema.kind (present bench.timeline) change in
+    let now_kind : model.Bench → Type 0 = λ n. IsValidState n.schema.kind (present bench.timeline) in
+    accepted bench (codes "update") label change p (to (present bench.timeline) who)
+    (subst (λ s. IsRecorded s label change p) now_is made)
+    (planned-at to (Ok change) before (present bench.timeline) c.as_str.result.now who now_is c.as_str.ensures.value c.in-Ok.ensures.change)
+    (subst now_kind c.self.view_is (subst (IsValidState kind) now_is live))
+    (subst on_kind c.self.view_is (subst (λ s. IsKept kind s change) now_is kept))
 
 pub returns-in-Err : goal.returns-in-Err
 returns-in-Err c =
@@ -38,4 +69,4 @@ returns-in-Err c =
     let tells : Fault → Type 0 = λ f. IsPrepared bench (Err f) (update_answer bench who c.args.at c.args.body) (codes "update") in
     subst tells (sym c.from.ensures)
     (refused-planned bench (codes "update") (Update c.args.at c.args.who) c.in-Err.refusal (to (present bench.timeline) who)
-    (planned-at to (Err c.in-Err.refusal) (state_view c.present-now.result.now) (present bench.timeline) c.as_str.result.now who now_is c.as_str.ensures.value c.in-Err.ensures.plan))
+    (planned-at to (Err c.in-Err.refusal) (state_view c.present-now.result.now) (present bench.timeline) c.as_str.result.now who now_is c.as_str.ensures.value c.in-Err.ensures.change))

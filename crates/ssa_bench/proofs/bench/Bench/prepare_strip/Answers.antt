@@ -1,22 +1,51 @@
 use Rattle.std.proofs.Common.{ap, sym, subst, ◌∙◌}
 use Rattle.ssa_model.specs.definitions.History as model
-use Rattle.ssa_model.specs.definitions.History.{past_len, present, stripped}
+use Rattle.ssa_model.specs.definitions.History.{past_len, present}
 use Rattle.ssa_model.specs.definitions.Operations.{State, strip}
 use Rattle.ssa_model.specs.definitions.Valid.{IsValidState}
 use Rattle.ssa_merge.specs.States.{state_view}
-use Rattle.ssa_merge.specs.Plans.{IsPlan}
-use Rattle.ssa_bench.proofs.Planned.{stripped-accepted}
+use Rattle.ssa_merge.specs.Plans.{IsChange}
+use Rattle.ssa_turn.specs.TablesBack.{HasTableBack}
+use Rattle.ssa_turn.specs.declared.label.Label.TheVariants.{Strip}
+use Rattle.ssa_bench.proofs.Planned.{IsKept, IsRecorded, leads-itself, present-back, stripped-accepted}
 use Rattle.ssa_model.proofs.ValidTimelines.{present_valid}
 use Rattle.ssa_bench.proofs.bench.Bench.prepare_strip.Goals as goal
+
+pub accepted-requires-clause-valid : goal.accepted-requires-clause-valid
+accepted-requires-clause-valid c =
+    let b = c.self.inside in
+    let kind = b.schema.kind in
+    let live = subst (IsValidState kind) (sym c.present-now.ensures) (present_valid kind b.timeline c.self.invariant.states) in
+    (kind, live, c.in_ok-change.ensures.valid kind live)
+
+pub accepted-requires-clause-leads : goal.accepted-requires-clause-leads
+accepted-requires-clause-leads c = leads-itself c.in_ok-change.ensures.change
+
+pub accepted-requires-clause-order : goal.accepted-requires-clause-order
+accepted-requires-clause-order c =
+    let b = c.self.inside in
+    let live = subst (IsValidState b.schema.kind) (sym c.present-now.ensures) (present_valid b.schema.kind b.timeline c.self.invariant.states) in
+    c.in_ok-change.ensures.order live.table.distinct
 
 pub returns : goal.returns
 returns c =
     let b = c.self.inside in
+    let kind = b.schema.kind in
     let bench = c.args.self.now in
-    let plans : State → Type 0 = λ s. IsPlan s c.in_ok-plan.plan (strip s) in
-    let made : model.Bench → Type 0 = λ n. IsValidState n.schema.kind (state_view c.in_ok-plan.plan.target) in
-    let live = subst (IsValidState b.schema.kind) (sym c.present.ensures) (present_valid b.schema.kind b.timeline c.self.invariant.states) in
-    let now_is = c.present.ensures ∙ ap (λ n. present n.timeline) c.self.view_is in
+    let before = state_view c.present-now.result.now in
+    let change = c.in_ok-change.change in
+    let p = c.in_ok-prepared.prepared in
+    let changes : State → Type 0 = λ s. IsChange s change (strip s) in
+    let live = subst (IsValidState kind) (sym c.present-now.ensures) (present_valid kind b.timeline c.self.invariant.states) in
+    let now_is = c.present-now.ensures ∙ ap (λ n. present n.timeline) c.self.view_is in
     let count = c.past_len.ensures.count ∙ ap (λ n. past_len n.timeline) c.self.view_is in
-    stripped-accepted bench c.in_ok-plan.plan c.accepted.result c.past_len.result count c.if-past_len-ge-MOST_PAST.false c.accepted.ensures.label c.accepted.ensures.state c.accepted.ensures.changed
-    (subst plans now_is c.in_ok-plan.ensures.plan) (subst made c.self.view_is (c.in_ok-plan.ensures.valid b.schema.kind live))
+    let made : IsRecorded before Strip change p = record { label_is = c.in_ok-prepared.ensures.label; record_is = c.in_ok-prepared.ensures.record; room = c.in_ok-prepared.ensures.room; changed_is = c.in_ok-prepared.ensures.changed } in
+    let back = subst HasTableBack (sym c.present-now.ensures) (present-back b.timeline c.own_entries_are_read.ensures) in
+    let kept : IsKept kind before change = record { valid = c.in_ok-change.ensures.valid kind live; order = c.in_ok-change.ensures.order live.table.distinct; back = c.in_ok-prepared.ensures.back back } in
+    let on_kind : model.Bench → Type 0 = λ n. IsKept n.schema.kind (present bench.timeline) change in
+    let now_kind : model.Bench → Type 0 = λ n. IsValidState n.schema.kind (present bench.timeline) in
+    stripped-accepted bench change p c.past_len.result count c.if-past_len-ge-MOST_PAST.false
+    (subst (λ s. IsRecorded s Strip change p) now_is made)
+    (subst changes now_is c.in_ok-change.ensures.change)
+    (subst now_kind c.self.view_is (subst (IsValidState kind) now_is live))
+    (subst on_kind c.self.view_is (subst (λ s. IsKept kind s change) now_is kept))

@@ -1,0 +1,118 @@
+-- A set that stays, and what becomes of its entry.
+use Rattle.std.proofs.Common.{◌≡◌, ◌+◌, List, [], ◌∷◌, ◌++◌, Bool, true, false, not, ◌&&◌, Some, None, refl, ap, sym, ◌∙◌, length}
+use Rattle.std.specs.Cmp.Lexicographic.{pointwise}
+use Rattle.std.specs.Prelude.{if◌then◌else◌, nat_le, vec_capacity}
+use Rattle.ssa_model.specs.definitions.FieldsV1.{heads}
+use Rattle.ssa_model.specs.definitions.Json.{Text, same_text}
+use Rattle.ssa_model.specs.definitions.Path.{Path, same_path}
+use Rattle.ssa_model.specs.definitions.PathMap.{PathSet, has, listed, minus, paths as set_paths}
+use Rattle.ssa_model.specs.definitions.Record.{change_of, change_to, is_unchanged}
+use Rattle.ssa_model.specs.definitions.Table.{Entry}
+use Rattle.ssa_model.proofs.PathMaps.{has-minus, same_path-itself, same_sets}
+use Rattle.ssa_model.proofs.Tables.{manager-itself, text-itself}
+use Rattle.ssa_path.specs.declared.element.Elem.{Elem}
+use Rattle.ssa_path.specs.declared.trie.Trie.{Trie}
+use Rattle.ssa_path.specs.declared.trie.Trie.TheOpen.{Trie-F}
+use Rattle.ssa_path.specs.declared.trie.Trie.TheViews.{out-Trie, roll-Trie, out-roll-Trie}
+use Rattle.ssa_path.specs.Children.{elements, rises}
+use Rattle.ssa_path.specs.Trie.{are_filled_tries, has_some, here_path, is_trie, paths, paths_below}
+use Rattle.ssa_path.proofs.Levels.{is_trie-made, paths-made}
+use Rattle.ssa_path.proofs.Orders.{both}
+use Rattle.ssa_path.proofs.Sets.{has-listed}
+use Rattle.ssa_merge.specs.TableChanges.{changed_entry}
+use Rattle.ssa_merge.specs.declared.table_change.EntryChange.TheVariants.{Stays}
+use Rattle.ssa_turn_set.specs.declared.room.Room.{Room}
+use Rattle.ssa_turn_set.specs.declared.room.Room.TheOpen.{Room-F}
+use Rattle.ssa_turn_set.specs.declared.room.Room.TheViews.{out-Room, roll-Room, out-roll-Room}
+use Rattle.ssa_turn_set.specs.Room.{freshes, gain_room, gains, if_any, lose_room, loses}
+use Rattle.ssa_turn_set.specs.Turn.{IsBetween, SetSteps, set_between, set_target}
+use Rattle.ssa_turn_set.proofs.Rooms.{gain_room-level, lose_room-level}
+use Rattle.ssa_turn_set.proofs.Turning.{led-between}
+use Rattle.ssa_turn_table.specs.Changing.{change_in, owning}
+use Rattle.ssa_turn_table.proofs.Changes.{led-steps}
+
+-- ---- its record
+
+none-left : (b : Bool) → (b && not b) ≡ false
+none-left true = refl
+none-left false = refl
+
+-- a set without itself has no path
+minus-itself : (s : PathSet) → listed [] ≡ minus s s
+minus-itself s = same_sets _ _ (λ p. has-listed [] p ∙ sym (has-minus s s p ∙ none-left (has s p)))
+
+-- a place with nothing at or below it
+pub record IsBare (x : Trie-F Trie) : Type 0 where
+  pub here : x.here ≡ false
+  pub below : x.below.items ≡ []
+
+bare-paths : (x : Trie-F Trie) → IsBare x → paths (roll-Trie x) ≡ []
+bare-paths x h = paths-made x ∙ (λ i. here_path (h.here i) ++ paths_below (h.below i))
+
+bare-trie : (x : Trie-F Trie) → IsBare x → is_trie (roll-Trie x) ≡ true
+bare-trie x h = is_trie-made x (ap (λ cs. rises (elements cs)) h.below) (ap are_filled_tries h.below)
+
+pub record IsEmptyRoom (r : Room-F Room) : Type 0 where
+  pub children : r.children.items ≡ []
+  pub below : r.below.items ≡ []
+
+module _ (x : Trie-F Trie) (bare : IsBare x) (r : Room-F Room) (none : IsEmptyRoom r) (ps : List Path) where
+  no-child : (out-Trie (roll-Trie x)).below.items ≡ []
+  no-child = ap (λ y. y.below.items) (out-roll-Trie x) ∙ bare.below
+
+  own : out-Room (roll-Room r) ≡ r
+  own = out-roll-Room r
+
+  bare-gain : gain_room (roll-Trie x) ps (roll-Room r) ≡ true
+  bare-gain =
+      gain_room-level (roll-Trie x) ps (roll-Room r)
+      ∙ (λ i. (not (has_some {A = Elem × Trie} ((ap (λ y. y.children.items) own ∙ none.children) i))
+      && if_any (freshes (no-child i) ps) (nat_le (length (heads ps) + freshes (no-child i) ps) (vec_capacity (out-Room (roll-Room r)).children)))
+      && gains (no-child i) ps ((ap (λ y. y.below.items) own ∙ none.below) i))
+
+  bare-lose : lose_room (roll-Trie x) ps (roll-Room r) ≡ true
+  bare-lose =
+      lose_room-level (roll-Trie x) ps (roll-Room r)
+      ∙ (λ i. (not (has_some {A = Elem × Trie} ((ap (λ y. y.children.items) own ∙ none.children) i))
+      && if_any (freshes (no-child i) ps) (nat_le (length (heads ps)) (vec_capacity (out-Room (roll-Room r)).children)))
+      && loses (no-child i) ps ((ap (λ y. y.below.items) own ∙ none.below) i))
+
+-- nothing is gained and lost, and no room is needed
+pub stays-between : (x y : Trie-F Trie) (r q : Room-F Room) → IsBare x → IsBare y → IsEmptyRoom r → IsEmptyRoom q
+    → (s : PathSet) → IsBetween s s (record { gain = roll-Trie x; lose = roll-Trie y; room = record { gain = roll-Room r; lose = roll-Room q } })
+stays-between x y r q bare_x bare_y none_r none_q s =
+    let d : SetSteps = record { gain = listed (paths (roll-Trie x)); lose = listed (paths (roll-Trie y)) } in
+    let gained = ap listed (bare-paths x bare_x) ∙ minus-itself s in
+    let lost = ap listed (bare-paths y bare_y) ∙ minus-itself s in
+    let steps : d ≡ set_between s s = λ i. record { gain = gained i; lose = lost i } in
+    let without = set_paths (minus s d.lose) in
+    record {
+      led = led-steps d s s steps;
+      leads = ap (λ (e : SetSteps). set_target e s) steps ∙ (led-between s s).leads;
+      room = record {
+        gain_trie = bare-trie x bare_x;
+        lose_trie = bare-trie y bare_y;
+        room = both _ _ (bare-gain x bare_x r none_r without) (bare-lose y bare_y q none_q without);
+      };
+    }
+
+-- ---- its entry
+
+paths-themselves : (ps : List Path) → pointwise same_path ps ps ≡ true
+paths-themselves [] = refl
+paths-themselves (p ∷ ps) = λ i. same_path-itself p i && paths-themselves ps i
+
+-- of an entry whose set stays the moment alone tells whether it changes
+pub moment-tells : (e : Entry) (at : Text) → is_unchanged e (owning e e.owned at) ≡ same_text e.moment at
+moment-tells e at = ap (λ b. b && same_text e.moment at) (paths-themselves (set_paths e.owned))
+
+pub renewed-none : (e : Entry) (at : Text) → same_text e.moment at ≡ true → None ≡ change_of e (Some (owning e e.owned at))
+renewed-none e at same = sym (ap (λ b. if b then None else Some (change_to e (owning e e.owned at))) (moment-tells e at ∙ same))
+
+-- the entry of a table of one is the one of its manager
+pub lone-owning : (e : Entry) (s : PathSet) (at : Text) → change_in (owning e s at ∷ []) e ≡ change_of e (Some (owning e s at))
+lone-owning e s at = ap (λ b. change_of e (if b then Some (owning e s at) else None)) (manager-itself e.manager)
+
+-- an entry that stays has no change
+pub stays-none : (e : Entry) → None ≡ change_in (changed_entry Stays e) e
+stays-none e = renewed-none e e.moment (text-itself e.moment) ∙ sym (lone-owning e e.owned e.moment)

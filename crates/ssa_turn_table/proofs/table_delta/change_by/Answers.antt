@@ -1,0 +1,25 @@
+use Rattle.std.proofs.Common.{◌≡◌, ap, sym, ◌∙◌, subst}
+use Rattle.std.specs.Prelude.{IfOk, option_map}
+use Rattle.ssa_merge.specs.Managers.{entry_view}
+use Rattle.ssa_merge.specs.TableChanges.{changed_entry}
+use Rattle.ssa_turn_table.specs.Changing.{change_in}
+use Rattle.ssa_turn_table.specs.Tables.{change_view}
+use Rattle.ssa_turn_table.proofs.Staying.{lone-owning, stays-none}
+use Rattle.ssa_turn_table.proofs.table_delta.change_by.Goals as goal
+
+pub returns-in-Stays-clause-change : goal.returns-in-Stays-clause-change
+returns-in-Stays-clause-change c =
+    let e = entry_view c.args.entry.now in
+    stays-none e ∙ ap (λ f. change_in (changed_entry f e) e) (sym c.in-Stays.is)
+
+pub returns-in-Renewed-clause-change : goal.returns-in-Renewed-clause-change
+returns-in-Renewed-clause-change c =
+    let e = entry_view c.args.entry.now in
+    subst (λ o. IfOk c.renewed.result (λ d. option_map change_view d ≡ o))
+    (sym (lone-owning e e.owned c.in-Renewed.at) ∙ ap (λ f. change_in (changed_entry f e) e) (sym c.in-Renewed.is)) c.renewed.ensures.change
+
+pub returns-in-Owns-clause-change : goal.returns-in-Owns-clause-change
+returns-in-Owns-clause-change c =
+    let e = entry_view c.args.entry.now in
+    subst (λ o. IfOk c.change_to.result (λ d. option_map change_view d ≡ o))
+    (sym (lone-owning e c.in-Owns.set c.in-Owns.at) ∙ ap (λ f. change_in (changed_entry f e) e) (sym c.in-Owns.is)) c.change_to.ensures.change

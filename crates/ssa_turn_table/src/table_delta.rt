@@ -1,0 +1,173 @@
+//! The record of what a change makes of a table, in which no set that stays is copied or compared.
+ghost use Rattle.std.specs.Prelude.{◌≡◌, true, length, map, option_map, IfOk, IfSome};
+ghost use Rattle.ssa_model.specs.definitions.PathMap.{PathSet};
+ghost use Rattle.ssa_model.specs.definitions.Record.{change_of, changes, gone_from, table_record};
+ghost use Rattle.ssa_model.specs.definitions.Table.{Table};
+ghost use Rattle.ssa_model.specs.definitions.Valid.{has_distinct_keys, KeepsOrder};
+ghost use Rattle.ssa_merge.specs.Managers.{entry_view, key_view, table_view};
+ghost use Rattle.ssa_merge.specs.TableChanges.{changed_entries, changed_entry, leaves, lone, LeadsTo};
+ghost use Rattle.ssa_turn_set.specs.Turn.{HasRoom, IsBetween};
+ghost use Rattle.ssa_turn_table.specs.Changing.{AllHaveRoom, change_in, owning};
+ghost use Rattle.ssa_turn_table.specs.Going.{AllKeysAgree};
+ghost use Rattle.ssa_turn_table.specs.Tables.{change_view, changes_view, heres_view, keys_view};
+ghost use Rattle.ssa_turn_table.specs.Turning.{HasTableRoom, table_steps};
+
+use crate::between::{change_to, is_same_moment, make_table_room};
+use crate::delta::{EntryChange, Here, TableDelta};
+use ssa_json::moment::Moment;
+use ssa_merge::manager::ManagerKey;
+use ssa_merge::managers::Entry;
+use ssa_merge::table_change::{self, TableChange, count_kept};
+use ssa_path::trie::Trie;
+use ssa_turn_set::room::Room;
+use ssa_turn_set::turn::{SetDelta, SetRoom};
+use std::alloc::{AllocError, Global};
+
+// The record of a set that stays, which needs no room. Takes no memory.
+fn set_stays(alloc: Global) -> SetDelta
+    ensures { (s : PathSet) → IsBetween s s result }
+{
+    SetDelta {
+        gain: Trie {
+            here: false,
+            below: Vec::new(alloc),
+        },
+        lose: Trie {
+            here: false,
+            below: Vec::new(alloc),
+        },
+        room: SetRoom {
+            gain: Room {
+                children: Vec::new(alloc),
+                below: Vec::new(alloc),
+            },
+            lose: Room {
+                children: Vec::new(alloc),
+                below: Vec::new(alloc),
+            },
+        },
+    }
+}
+
+// The change of an entry whose set stays.
+fn renewed(alloc: Global, entry: &Entry, at: Moment) -> Result<Option<EntryChange>, AllocError>
+    ensures change { IfOk result (λ c. option_map change_view c ≡ change_of (entry_view entry.now) (Some (owning (entry_view entry.now) entry.now.set at))) }
+    ensures room { IfOk result (λ c. IfSome c (λ d. HasRoom d.set entry.now.set)) }
+{
+    if is_same_moment(entry.at, at) {
+        return Ok(None);
+    }
+    let key = entry.key.copy(alloc)?;
+    Ok(Some(EntryChange {
+        key,
+        set: set_stays(alloc),
+        at: Some(at),
+    }))
+}
+
+// The change of an entry by what becomes of it.
+fn change_by(
+    alloc: Global,
+    entry: &Entry,
+    change: &table_change::EntryChange,
+) -> Result<Option<EntryChange>, AllocError>
+    ensures change { IfOk result (λ c. option_map change_view c ≡ change_in (changed_entry change.now (entry_view entry.now)) (entry_view entry.now)) }
+    ensures room { IfOk result (λ c. IfSome c (λ d. HasRoom d.set entry.now.set)) }
+{
+    match change {
+        table_change::EntryChange::Stays => Ok(None),
+        table_change::EntryChange::Leaves => Ok(None),
+        table_change::EntryChange::Renewed(at) => renewed(alloc, entry, *at),
+        table_change::EntryChange::Owns(set, at) => change_to(alloc, entry, set, *at),
+    }
+}
+
+// The changes of the managers that stay.
+fn changes_by(
+    alloc: Global,
+    entries: &[Entry],
+    told: &[table_change::EntryChange],
+) -> Result<Vec<EntryChange>, AllocError>
+    requires each { length told.now ≡ length entries.now }
+    requires distinct { has_distinct_keys (table_view entries.now) ≡ true }
+    ensures changes { IfOk result (λ cs. changes_view cs.items ≡ changes (table_view entries.now) (changed_entries told.now (table_view entries.now))) }
+    ensures room { IfOk result (λ cs. AllHaveRoom (table_view entries.now) cs.items) }
+{
+    let mut changed = Vec::new(alloc);
+    for (place, entry) in entries.iter().enumerate() {
+        if let Some(change) = change_by(alloc, entry, &told[place])? {
+            changed.push(change)?;
+        }
+    }
+    Ok(changed)
+}
+
+// Whether the manager leaves.
+fn leaves(change: &table_change::EntryChange) -> bool
+    ensures { result ≡ leaves change.now }
+{
+    matches!(change, table_change::EntryChange::Leaves)
+}
+
+// The managers that leave.
+fn gone_by(
+    alloc: Global,
+    entries: &[Entry],
+    told: &[table_change::EntryChange],
+) -> Result<Vec<ManagerKey>, AllocError>
+    requires each { length told.now ≡ length entries.now }
+    requires distinct { has_distinct_keys (table_view entries.now) ≡ true }
+    ensures { IfOk result (λ ks. keys_view ks.items ≡ gone_from (table_view entries.now) (changed_entries told.now (table_view entries.now))) }
+{
+    let mut gone = Vec::new(alloc);
+    for (place, entry) in entries.iter().enumerate() {
+        if leaves(&told[place]) {
+            gone.push(entry.key.copy(alloc)?)?;
+        }
+    }
+    Ok(gone)
+}
+
+// The manager that comes, at its place.
+fn here_by(alloc: Global, place: usize, newcomer: Option<Entry>) -> Result<Vec<Here>, AllocError>
+    ensures here { IfOk result (λ hs. heres_view hs.items ≡ map (λ e. (place, e)) (lone newcomer)) }
+    ensures keys { IfOk result (λ hs. AllKeysAgree hs.items) }
+{
+    let mut here = Vec::new(alloc);
+    if let Some(entry) = newcomer {
+        let key = entry.key.copy(alloc)?;
+        here.push(Here { place, entry, key })?;
+    }
+    Ok(here)
+}
+
+/// The record that leads from a table to the one that a change makes of it, with room for every
+/// turn of it.
+///
+/// All memory that its turns want is taken here; `Err` comes where it is refused. Of the sets only
+/// those that the change brings are compared with those that they take the place of.
+pub fn table_delta(
+    alloc: Global,
+    entries: &[Entry],
+    change: TableChange,
+) -> Result<TableDelta, AllocError>
+    requires distinct { has_distinct_keys (table_view entries.now) ≡ true }
+    requires leads { (u : Table) × LeadsTo (table_view entries.now) change u × (has_distinct_keys u ≡ true) × KeepsOrder (table_view entries.now) u }
+    ensures record { IfOk result (λ d. (u : Table) → LeadsTo (table_view entries.now) change u → table_steps d ≡ table_record (table_view entries.now) u) }
+    ensures room { IfOk result (λ d. HasTableRoom d (table_view entries.now)) }
+{
+    let TableChange {
+        entries: changes,
+        newcomer,
+    } = change;
+    let changed = changes_by(alloc, entries, &changes)?;
+    let gone = gone_by(alloc, entries, &changes)?;
+    let here = here_by(alloc, count_kept(&changes), newcomer)?;
+    let room = make_table_room(alloc, gone.len(), here.len())?;
+    Ok(TableDelta {
+        changed,
+        gone,
+        here,
+        room,
+    })
+}
