@@ -19,8 +19,10 @@ pub(crate) struct SortedOut {
     pub(crate) new: Vec<(Elem, Node)>,
 }
 
-// The elements of children in order, each with the child's place.
-fn places_in_order<'a>(
+/// The elements of children in order, each with the child's place.
+///
+/// Takes about n log n comparisons.
+pub fn places_in_order<'a>(
     alloc: Global,
     children: &'a [(Elem, Node)],
 ) -> Result<Vec<(&'a Elem, usize)>, AllocError>
@@ -35,8 +37,8 @@ fn places_in_order<'a>(
     Ok(sorted)
 }
 
-// The place of the child of this element.
-fn find_place(sorted: &[(&Elem, usize)], element: &Elem) -> Option<usize>
+/// The place of the child of this element, among elements in order.
+pub fn find_place(sorted: &[(&Elem, usize)], element: &Elem) -> Option<usize>
     requires { rises (elements (map lent_place sorted.now)) ≡ true }
     ensures { result ≡ child_at (element_view element.now) (map lent_place sorted.now) }
 {
