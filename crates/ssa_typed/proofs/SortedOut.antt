@@ -43,23 +43,24 @@ pub elements-places : (cs : List Child) → elements (places cs) ≡ elements cs
 elements-places [] = refl
 elements-places (c ∷ cs) = ap (λ es. element_view c.0 ∷ es) (elements-next (places cs) ∙ elements-places cs)
 
-child-next : (e : Element) (ps : List (Elem × ℕ)) → child_at e (map next_place ps) ≡ option_map suc (child_at e ps)
+-- a place further on is found where the place before it is
+pub child-next : (e : Element) (ps : List (Elem × ℕ)) → child_at e (map next_place ps) ≡ option_map suc (child_at e ps)
 child-next e [] = refl
 child-next e (p ∷ ps) =
     elim (same_element e (element_view p.0)) as (λ b. cond b (Some (suc p.1)) (child_at e (map next_place ps))
     ≡ option_map suc (cond b (Some p.1) (child_at e ps))) [ true ↦ refl | false ↦ child-next e ps ]
 
 -- a place further on
-record IsNext (o : Option ℕ) (i : ℕ) : Type 0 where
-  before : ℕ
-  there : o ≡ Some before
-  next : i ≡ suc before
+pub record IsNext (o : Option ℕ) (i : ℕ) : Type 0 where
+  pub before : ℕ
+  pub there : o ≡ Some before
+  pub next : i ≡ suc before
 
-next-of : (o : Option ℕ) (i : ℕ) → option_map suc o ≡ Some i → IsNext o i
+pub next-of : (o : Option ℕ) (i : ℕ) → option_map suc o ≡ Some i → IsNext o i
 next-of None i h = cc
 next-of (Some j) i h = record { before = j; there = refl; next = cc }
 
-some-number : (i j : ℕ) → ◌≡◌ {A = Option ℕ} (Some i) (Some j) → i ≡ j
+pub some-number : (i j : ℕ) → ◌≡◌ {A = Option ℕ} (Some i) (Some j) → i ≡ j
 some-number i j h = cc
 
 -- ---- the configuration's child beside a live one
