@@ -1,51 +1,57 @@
 //! Whether the managers that two tables share stand in one order.
-ghost use Rattle.std.specs.Prelude.{◌≡◌, IfOk};
+ghost use Rattle.std.specs.Prelude.{◌≡◌, ◌≤◌, true, length};
 ghost use Rattle.std.specs.Cmp.Lexicographic.{pointwise};
 ghost use Rattle.ssa_model.specs.definitions.Table.{same_manager};
 ghost use Rattle.ssa_model.specs.definitions.Valid.{shared_managers};
 ghost use Rattle.ssa_model.specs.laws.BenchFiles.{keeps_order};
-ghost use Rattle.ssa_merge.specs.Managers.{lent_keys, table_view};
+ghost use Rattle.ssa_merge.specs.Managers.{table_view};
+ghost use Rattle.ssa_merge.specs.Tables.{starts_shared};
 
-use crate::manager::ManagerKey;
-use crate::managers::Entry;
+use crate::managers::{Entry, Managers};
 use crate::seat::is_in_table;
-use std::alloc::{AllocError, Global};
 
-/// The managers of a table that another has too, in table order.
-pub fn shared_managers<'a>(
-    alloc: Global,
-    table: &'a [Entry],
-    other: &[Entry],
-) -> Result<Vec<&'a ManagerKey>, AllocError>
-    ensures { IfOk result (λ ks. lent_keys ks.items ≡ shared_managers (table_view table.now) (table_view other.now)) }
+// The entries from the first on whose manager the other table has too.
+fn from_shared<'a>(entries: &'a [Entry], other: &[Entry]) -> &'a [Entry]
+    ensures same { shared_managers (table_view result.now) (table_view other.now) ≡ shared_managers (table_view entries.now) (table_view other.now) }
+    ensures first { starts_shared (table_view result.now) (table_view other.now) ≡ true }
+    ensures no_more { length result.now ≤ length entries.now }
 {
-    let mut found = Vec::new(alloc);
-    for entry in table {
-        if is_in_table(other, &entry.key) {
-            found.push(&entry.key)?;
+    match entries {
+        [] => entries,
+        [first, rest @ ..] => {
+            if is_in_table(other, &first.key) {
+                entries
+            } else {
+                from_shared(rest, other)
+            }
         }
     }
-    Ok(found)
 }
 
-// Whether both have the same managers, one by one.
-fn are_same(keys: &[&ManagerKey], others: &[&ManagerKey]) -> bool
-    ensures { result ≡ pointwise same_manager (lent_keys keys.now) (lent_keys others.now) }
+// Whether the managers of the one part that the second table has are, one by one, those of the
+// other part that the first table has.
+fn are_in_step(own: &[Entry], second: &[Entry], others: &[Entry], first: &[Entry]) -> bool
+    ensures { result ≡ pointwise same_manager (shared_managers (table_view own.now) (table_view second.now)) (shared_managers (table_view others.now) (table_view first.now)) }
 {
-    match keys {
-        [] => others.is_empty(),
-        [key, keys @ ..] => match others {
-            [] => false,
-            [other, others @ ..] => key.is_same(other) && are_same(keys, others),
-        },
+    let own = from_shared(own, second);
+    let others = from_shared(others, first);
+    match (own, others) {
+        ([], []) => true,
+        ([], [_, ..]) => false,
+        ([_, ..], []) => false,
+        ([entry, own @ ..], [other, others @ ..]) => {
+            entry.key.is_same(&other.key) && are_in_step(own, second, others, first)
+        }
     }
 }
 
-/// Whether the managers that both tables have stand in one order in them.
-pub fn keeps_order(alloc: Global, before: &[Entry], after: &[Entry]) -> Result<bool, AllocError>
-    ensures { IfOk result (λ kept. kept ≡ keeps_order (table_view before.now) (table_view after.now)) }
-{
-    let stayed = shared_managers(alloc, before, after)?;
-    let found = shared_managers(alloc, after, before)?;
-    Ok(are_same(&stayed, &found))
+impl Managers {
+    /// Whether the managers that both tables have stand in one order in them. Takes no memory.
+    pub fn same_order(&self, other: &Managers) -> bool
+        ensures { result ≡ keeps_order self.now other.now }
+    {
+        let own = self.entries();
+        let others = other.entries();
+        are_in_step(own, others, others, own)
+    }
 }

@@ -14,7 +14,7 @@ use Rattle.ssa_typed.specs.Over.{AreAlikeBelow, AreAlikeTrees}
 use Rattle.ssa_typed.specs.Rows.{below, own_content, is_tree, are_trees, are_apart, leaf_content}
 use Rattle.ssa_typed.specs.declared.node.Leaf.{Leaf as LeafType}
 use Rattle.ssa_typed.specs.declared.node.Node.{Node, Leaf as LeafOf, Branch, Dict, List as ListOf, the_lemmas}
-use Rattle.ssa_typed.proofs.Levels.{Children as Vecs, own-Branch, own-Dict, own-List, rises-apart}
+use Rattle.ssa_typed.proofs.Levels.{Children as Vecs, level-below, own-Branch, own-Dict, own-List, rises-apart}
 use Rattle.ssa_typed.proofs.OverNodes.{leaf-there, own-Leaf}
 use Rattle.ssa_typed.proofs.Laws.{and_true}
 use Rattle.ssa_typed.proofs.Overlaying.{alike-child, alike-root}
@@ -109,6 +109,23 @@ length-kids : (cs : List Child) → length (kids cs) ≡ length cs
 length-kids [] = refl
 length-kids (c ∷ cs) = ap suc (length-kids cs)
 
+-- where both have the same elements in the same order, the children that are led are the second ones
+pub alike-told : (o : Content) (cs ds : List Child) → elements cs ≡ elements ds → with_order o (elements cs) ≡ o
+    → (q : Path) → led o cs ds q ≡ from_place (with_order o (elements ds), kids ds) q
+alike-told o cs ds same_names order q = at q
+  where
+    by : (a b : Option Node) (r : Path) → is_some a ≡ is_some b → led_in a b r ≡ marks_in (option_map marks b) r
+    by None None r e = refl
+    by None (Some d) r e = absurd (true≢false (sym e))
+    by (Some c) None r e = absurd (true≢false e)
+    by (Some c) (Some d) r e = refl
+
+    at : (q : Path) → led o cs ds q ≡ from_place (with_order o (elements ds), kids ds) q
+    at [] = λ i. Some ((sym order ∙ ap (with_order o) same_names) i, (same_names ∙ sym (names-kids ds)) i)
+    at (e ∷ r) =
+        by (child_at e cs) (child_at e ds) r (child-among e cs ∙ ap (list_any (same_element e)) same_names ∙ sym (child-among e ds))
+        ∙ ap (λ x. marks_in x r) (named-kids ds e)
+
 -- ---- the edit fits and leaves the second children
 
 module _ (o : Content) (cs ds : List Child) (fs : Found) (s : ChildrenEdit) (between : IsEditBetween cs ds fs s) (h : Vec Child Global) (own_apart : are_apart (elements cs) ≡ true) (apart : are_apart (elements ds) ≡ true)
@@ -178,22 +195,7 @@ module _ (o : Content) (cs ds : List Child) (fs : Found) (s : ChildrenEdit) (bet
       ∙ between.whole (led_kids o cs ds) (kids ds) long led-all
 
   pub idle-told : with_order o (elements cs) ≡ o → is_idle s ≡ true → (q : Path) → led o cs ds q ≡ from_place (with_order o (elements ds), kids ds) q
-  idle-told order idle q = at q
-    where
-      same_names : elements cs ≡ elements ds
-      same_names = sym (names-from (λ e q. led o cs ds (e ∷ q)) (elements cs)) ∙ ap names (idle-same idle) ∙ names-kids ds
-
-      by : (a b : Option Node) (r : Path) → is_some a ≡ is_some b → led_in a b r ≡ marks_in (option_map marks b) r
-      by None None r e = refl
-      by None (Some d) r e = absurd (true≢false (sym e))
-      by (Some c) None r e = absurd (true≢false e)
-      by (Some c) (Some d) r e = refl
-
-      at : (q : Path) → led o cs ds q ≡ from_place (with_order o (elements ds), kids ds) q
-      at [] = λ i. Some ((sym order ∙ ap (with_order o) same_names) i, (same_names ∙ sym (names-kids ds)) i)
-      at (e ∷ r) =
-          by (child_at e cs) (child_at e ds) r (child-among e cs ∙ ap (list_any (same_element e)) same_names ∙ sym (child-among e ds))
-          ∙ ap (λ x. marks_in x r) (named-kids ds e)
+  idle-told order idle = alike-told o cs ds (sym (names-from (λ e q. led o cs ds (e ∷ q)) (elements cs)) ∙ ap names (idle-same idle) ∙ names-kids ds) order
 
   pub put : (t : PlaceChange) (y : Place) → ChangeGives (Children (record s { held = h })) (o, led_kids o cs ds) t y → (q : Path)
       → from_place y q ≡ from_place (with_order o (elements ds), kids ds) q
@@ -300,6 +302,10 @@ module _ (kind : Vecs → Node) (is : IsKind kind) (branch : (v : Vecs) → is_l
       ap (λ o. from_place (o, kids v.items) q) (sort.order (elements v.items) ∙ sym (is.ordered v v))
       ∙ ap (λ cs. from_place (own_content (kind v), kids cs) q) (sym (is.children v))
       ∙ sym (marks-place (kind v) q) ∙ ap (λ n. marks n q) (sym made)
+
+-- children with the elements of a tree's children differ in their elements too
+pub alike-apart : (n : Node) (ds : List Child) → is_tree n ≡ true → elements (below n) ≡ elements ds → are_apart (elements ds) ≡ true
+alike-apart n ds tree same = ap are_apart (sym same) ∙ (level-below n).apart tree
 
 pub leading-told : (p : Path) (M N O : Marks) (old new : List Step) → ((q : Path) → N q ≡ O q) → AreLeading p M N old new → AreLeading p M O old new
 leading-told p M N O old new same h = subst (λ (f : Marks). AreLeading p M f old new) (λ i q. same q i) h

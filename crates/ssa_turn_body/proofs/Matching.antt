@@ -1,17 +1,20 @@
 -- Children that stand at both places, that go and that come, told by the places at which they stand.
-use Rattle.std.proofs.Common.{◌≡◌, ℕ, zero, suc, ◌+◌, ◌<◌, ◌≤◌, List, [], ◌∷◌, length, get_or, set, add-one, map, take, ◌++◌, Bool, true, false, not, ◌||◌, eqb, Option, Some, None, refl, sym, ap, subst, ◌∙◌, arith, true≢false}
+use Rattle.std.proofs.Common.{◌≡◌, ℕ, zero, suc, ◌+◌, ◌<◌, ◌≤◌, List, [], ◌∷◌, length, get_or, set, add-one, map, take, ◌++◌, Bool, true, false, not, ◌||◌, eqb, cond, Option, Some, None, option_map, refl, sym, ap, subst, ◌∙◌, append_assoc, arith, true≢false}
 use Rattle.std.specs.List.{list_any, range_with_len}
 use Rattle.std.specs.Prelude.{IfSome, IfNone}
 use Rattle.std.proofs.lemmas.Bool.{eqb-true}
 use Rattle.std.proofs.lemmas.Bool.Decides.{nat_tests}
 use Rattle.std.proofs.lemmas.Option.{get_or_from_slice_get, same_Some}
-use Rattle.std.proofs.lemmas.List.{take_more, length-set}
+use Rattle.std.proofs.lemmas.List.{take_more, length-set, length-append}
+use Rattle.std.proofs.Math.Seq.{get_or-append_seam}
 use Rattle.std.proofs.lemmas.List.FromFn.{fill_by_all}
 use Rattle.ssa_model.specs.definitions.Path.{Element, same_element}
 use Rattle.ssa_path.specs.Children.{child_at, elements, IsChildAt}
 use Rattle.ssa_path.specs.View.{element_view}
 use Rattle.ssa_path.proofs.Orders.{same_element-true, same_element-itself, both, both_first, both_second, or_assoc, or_false}
+use Rattle.ssa_typed.specs.MergedOrder.{next_place, places}
 use Rattle.ssa_typed.specs.Rows.{are_apart}
+use Rattle.ssa_typed.proofs.SortedOut.{child-next}
 use Rattle.ssa_typed.proofs.Laws.{not_true}
 use Rattle.ssa_turn_body.specs.Found.{IsFound, AreFound, AreBelow, all_differ, is_in, is_told, nothing_told, IsTurnedRound, somes, nones, fresh, kept, filled, AreLed}
 use Rattle.ssa_turn_body.specs.Marks.{Child}
@@ -325,6 +328,66 @@ found-push cs [] [] d f h g = (g, tt)
 found-push cs [] (x ∷ fs) d f h g = absurd h
 found-push cs (e ∷ ds) [] d f h g = absurd h
 found-push cs (e ∷ ds) (x ∷ fs) d f h g = (h.0, found-push cs ds fs d f h.1 g)
+
+-- what a search for the place of an element's child answers
+abbrev IsPlace : Element → List Child → Option ℕ → Type 0
+IsPlace e cs o = IfSome o (IsChildAt e cs) × IfNone o (child_at e cs ≡ None)
+
+place-behind : (e : Element) (c : Child) (cs : List Child) (i : ℕ) → IsChildAt e cs i → IsChildAt e (c ∷ cs) (suc i)
+place-behind e c cs i at = let lt = at.within in record { within = omega (arith, lt); same = at.same }
+
+place-first : (e : Element) (c : Child) (cs : List Child) (o : Option ℕ) → o ≡ Some 0 → same_element e (element_view c.0) ≡ true → IsPlace e (c ∷ cs) o
+place-first e c cs o is same = subst (IsPlace e (c ∷ cs)) (sym is) (record { within = omega arith; same = λ d. same }, tt)
+
+place-further : (e : Element) (c : Child) (cs : List Child) (o p : Option ℕ) → o ≡ option_map suc p → same_element e (element_view c.0) ≡ false → IsPlace e cs p → IsPlace e (c ∷ cs) o
+place-further e c cs o None is other rest = subst (IsPlace e (c ∷ cs)) (sym is) (tt, ap (λ b. cond b (Some c.1) (child_at e cs)) other ∙ rest.1)
+place-further e c cs o (Some i) is other rest = subst (IsPlace e (c ∷ cs)) (sym is) (place-behind e c cs i rest.0, tt)
+
+-- what is found among the places of children is the place of the child of the element
+pub place-told : (e : Element) (cs : List Child) (o : Option ℕ) → o ≡ child_at e (places cs) → IsPlace e cs o
+place-told e [] o is = subst (IsPlace e []) (sym is) (tt, refl)
+place-told e (c ∷ cs) o is =
+    let rest = place-told e cs (child_at e (places cs)) refl in
+    elim (same_element e (element_view c.0)) as (λ b. same_element e (element_view c.0) ≡ b → o ≡ cond b (Some 0) (child_at e (map next_place (places cs))) → IsPlace e (c ∷ cs) o) [
+      | true ↦ λ same k. place-first e c cs o k same
+      | false ↦ λ other k. place-further e c cs o (child_at e (places cs)) (k ∙ child-next e (places cs)) other rest
+    ] refl is
+
+-- ---- both have the same elements in the same order: each of the second stands at its own place
+
+-- so many places from one on
+abbrev pub counted : ℕ → ℕ → Found
+counted k zero = []
+counted k (suc n) = Some k ∷ counted (k + 1) n
+
+pub counted-at : (k n i : ℕ) → i < n → get_or (counted k n) i None ≡ Some (k + i)
+counted-at k zero i lt = absurd (omega arith)
+counted-at k (suc n) zero lt = let e : k ≡ k + 0 = omega arith in ap Some e
+counted-at k (suc n) (suc i) lt = let e : k + 1 + i ≡ k + suc i = omega arith in counted-at (k + 1) n i (omega arith) ∙ ap Some e
+
+-- the elements behind the first ones are found at their own places
+found-behind : (done cs ds : List Child) → elements cs ≡ elements ds → AreFound (done ++ cs) ds (counted (length done) (length ds))
+found-behind done [] [] e = tt
+found-behind done [] (d ∷ ds) e = cc
+found-behind done (c ∷ cs) [] e = cc
+found-behind done (c ∷ cs) (d ∷ ds) e =
+    let first : element_view c.0 ≡ element_view d.0 = cc in
+    let rest : elements cs ≡ elements ds = cc in
+    let more = length-append done (c ∷ []) in
+    let long : length (done ++ c ∷ []) ≡ length done + 1 = omega (arith, more) in
+    let all = length-append done (c ∷ cs) in
+    let within : length done < length (done ++ c ∷ cs) = omega (arith, all) in (
+      record {
+        within = within;
+        same = λ x. ap (λ (y : Child). same_element (element_view d.0) (element_view y.0)) (get_or-append_seam done c cs x)
+            ∙ ap (same_element (element_view d.0)) first ∙ same_element-itself (element_view d.0);
+      },
+      subst (λ xs. AreFound xs ds (counted (length done + 1) (length ds))) (append_assoc done (c ∷ []) cs)
+          (subst (λ n. AreFound ((done ++ c ∷ []) ++ cs) ds (counted n (length ds))) long (found-behind (done ++ c ∷ []) cs ds rest)),
+    )
+
+pub found-alike : (cs ds : List Child) → elements cs ≡ elements ds → AreFound cs ds (counted 0 (length ds))
+found-alike = found-behind []
 
 pub place-found : (cs : List Child) (d : Child) (f : Option ℕ) → IfSome f (IsChildAt (element_view d.0) cs) → IfNone f (child_at (element_view d.0) cs ≡ None) → IsFound cs d f
 place-found cs d None s n = n

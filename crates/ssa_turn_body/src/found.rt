@@ -10,13 +10,15 @@ ghost use Rattle.ssa_turn_body.specs.Orders.{is_none};
 ghost use Rattle.ssa_turn_body.specs.Found.{all_differ, filled, nothing_told, somes, AreFound, AreBelow, AreMissing, IsTurnedRound};
 
 use crate::children::{ChildrenEdit, Orders, Placed};
-use crate::descent::place_of;
 use crate::exchanges::exchanges_between;
 use ssa_path::element::Elem;
+use ssa_typed::merged_order::{find_place, places_in_order};
 use ssa_typed::node::Node;
 use std::alloc::{AllocError, Global};
 
 /// Where the child of each of these elements stands at a place, if it has one.
+///
+/// Takes about n log n comparisons of elements, however they are chosen.
 pub fn places_in(
     alloc: Global,
     own: &Node,
@@ -25,9 +27,10 @@ pub fn places_in(
     requires { is_tree own.now ≡ true }
     ensures { IfOk result (λ v. AreFound (below own.now) others.now v.items) }
 {
+    let sorted = places_in_order(alloc, own.children())?;
     let mut found = Vec::with_capacity(alloc, others.len())?;
     for child in others {
-        let place = place_of(own, &child.0);
+        let place = find_place(&sorted, &child.0);
         found.push(place)?;
     }
     Ok(found)

@@ -15,6 +15,7 @@ use crate::found::{edit_between, places_in};
 use crate::steps::Step;
 use ssa_path::element::Elem;
 use ssa_path::path::copy_elements;
+use ssa_typed::in_order::stand_alike;
 use ssa_typed::node::{Leaf, Node};
 use std::alloc::{AllocError, Global};
 
@@ -103,6 +104,31 @@ fn walk_child(
     Ok(())
 }
 
+// The changes that lead from the children of a place to these, which are of the same elements in
+// the same order: those in the children. No place is searched, and none of the places is kept.
+#[cycle(walk)]
+fn walk_alike(
+    alloc: Global,
+    path: &mut Vec<Elem>,
+    from: &Node,
+    to: Vec<(Elem, Node)>,
+    steps: &mut Vec<Step>,
+) -> Result<(), AllocError>
+    requires from { is_tree from.now ≡ true }
+    requires to { are_trees to.items ≡ true }
+    requires same { elements (below from.now) ≡ elements to.items }
+    requires alike { AreAlikeBelow (below from.now) to.items }
+    ensures path { OnOk result (path.new.items ≡ path.old.items) }
+    ensures led { OnOk result (AreLeading (path_view path.old.items) (marks from.now) (from_place (with_order (own_content from.now) (elements to.items), kids to.items)) steps.old.items steps.new.items) }
+{
+    let mut i: usize = 0;
+    for child in to {
+        walk_child(alloc, path, from, i, child, steps)?;
+        i += 1;
+    }
+    Ok(())
+}
+
 // The changes that lead from the children of a place to these, those in the children first.
 #[cycle(walk)]
 fn walk_children(
@@ -119,6 +145,9 @@ fn walk_children(
     ensures path { OnOk result (path.new.items ≡ path.old.items) }
     ensures led { OnOk result (AreLeading (path_view path.old.items) (marks from.now) (from_place (with_order (own_content from.now) (elements to.items), kids to.items)) steps.old.items steps.new.items) }
 {
+    if stand_alike(from.children(), &to) {
+        return walk_alike(alloc, path, from, to, steps);
+    }
     let found = places_in(alloc, from, &to)?;
     let mut edit = edit_between(alloc, from.children(), &to, &found)?;
     let mut held = Vec::with_capacity(alloc, edit.come.places.len())?;

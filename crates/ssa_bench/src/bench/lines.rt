@@ -18,7 +18,6 @@ use crate::taking::{TakenStep, label_in, load_fault, object_in, state_in};
 use ssa_file::head::Head;
 use ssa_file::loading::{FileLine, LoadFault};
 use ssa_file::written::{is_first, is_step};
-use ssa_merge::order::keeps_order;
 use ssa_schema::schema::Schema;
 use ssa_turn::timeline::{Step, Timeline};
 use ssa_turn_state::live_state::StateDelta;
@@ -75,11 +74,7 @@ impl Bench {
             return Ok(false);
         }
         let before = self.timeline.present();
-        keeps_order(
-            alloc,
-            before.managers.entries(),
-            step.state.managers.entries(),
-        )
+        Ok(before.managers.same_order(&step.state.managers))
     }
 
     // The step that a line tells, behind the present state.

@@ -1,4 +1,4 @@
-use Rattle.std.proofs.Common.{◌+◌, ◌*◌, ◌<◌, ◌∷◌, [], length, Some, None, Vec, Global, refl, ap, sym, subst, ◌∙◌, arith, rules}
+use Rattle.std.proofs.Common.{zero-add, ◌+◌, ◌*◌, ◌<◌, ◌∷◌, [], length, Some, None, Vec, Global, refl, ap, sym, subst, ◌∙◌, arith, rules}
 use Rattle.std.proofs.lemmas.List.{map-append, nil_from_length}
 use Rattle.std.specs.Vec.Iter.{into_iter_items}
 use Rattle.ssa_model.specs.definitions.Body.{is_leaf}
@@ -17,12 +17,13 @@ use Rattle.ssa_path.specs.declared.element.Elem.{Elem}
 use Rattle.ssa_typed.proofs.Lookups.{tree-child}
 use Rattle.std.proofs.lemmas.Option.{same_Some}
 use Rattle.ssa_turn_body.specs.Marks.{Child, marks}
-use Rattle.ssa_turn_body.proofs.Finishing.{kind-trees, kind-stands, kind-alike, kind-told, leading-told, leading-from, leaf-told, no-branch, own-order, stand-apart, branch-Branch, branch-Dict, branch-List}
+use Rattle.ssa_turn_body.proofs.Finishing.{alike-apart, alike-told, kind-trees, kind-stands, kind-alike, kind-told, leading-told, leading-from, leaf-told, no-branch, own-order, stand-apart, branch-Branch, branch-Dict, branch-List}
 use Rattle.ssa_turn_body.proofs.Concluding.{finish, joins-final}
+use Rattle.ssa_turn_body.proofs.Matching.{counted, counted-at, found-alike}
 use Rattle.ssa_turn_body.proofs.BodyMarks.{own-stands}
 use Rattle.ssa_turn_body.proofs.Recording.{leading-then}
 use Rattle.ssa_turn_body.proofs.Places.{kind-Branch, kind-Dict, kind-List}
-use Rattle.ssa_turn_body.proofs.Walking.{IsWalking, child-there, found-read, led, led-start, walking-start, walking-index, walking-tree, walking-place, walking-alike, walking-led, walking-held, walking-end}
+use Rattle.ssa_turn_body.proofs.Walking.{IsWalking, child-there, found-read, led, led-start, walking-start, walking-count, walking-index, walking-tree, walking-place, walking-alike, walking-led, walking-held, walking-end}
 use Rattle.ssa_turn_body.proofs.walk.+walk.Goals as goal
 use Rattle.ssa_turn_body.proofs.walk.+walk.Goals.{walk_children-in-Some-index+in_ok-walk_child-in-Some-index, walk_children-in-None-index+in_ok-push-in-None-index}
 
@@ -35,7 +36,7 @@ walk_child-steps_below-requires t c =
     let child = c.index-children-place.result in
     let there = child-there e (below n) c.children.result.now c.args.place child c.children.ensures.own c.requires.place c.index-children-place.is ((level-below n).apart c.requires.from) in
     let part = smaller n e child.1 there in
-    let small : 3 * length (rows child.1) + 2 < 3 * length (rows n) = omega arith in
+    let small : 4 * length (rows child.1) + 3 < 4 * length (rows n) = omega arith in
     (search (rules, small), (tree-child n e child.1 c.requires.from there, (c.requires.to, c.requires.alike child.1 there)))
 
 pub walk_child-returns-clause-led : goal.walk_child-returns-clause-led
@@ -48,8 +49,69 @@ walk_child-returns-clause-led t c = λ d is.
     subst (λ p. AreLeading p (marks d) (marks c.args.to.1) c.args.steps.now.items c.steps_below.new.steps.items) path
     (subst (λ m. AreLeading (path_view c.push.new.self.items) (marks m) (marks c.args.to.1) c.args.steps.now.items c.steps_below.new.steps.items) (same_Some child.1 d (sym there ∙ is)) c.in_ok-steps_below.ensures.led)
 
+-- ---- children that stand alike
+
+pub walk_alike-loop-child-init : goal.walk_alike-loop-child-init
+walk_alike-loop-child-init t c =
+    let cs = below c.args.from.now in
+    let ds = c.args.to.items in
+    let fs = counted 0 (length ds) in
+    let p = path_view c.args.path.now.items in
+    let o = own_content c.args.from.now in
+    let old = c.args.steps.now.items in
+    record {
+      path = refl;
+      walking =
+          subst (λ rest. IsWalking p o cs ds fs old 0 rest [] old) (sym c.into_iter-child-iterator.ensures.into_iter_gives.0)
+          (walking-start p o cs ds fs old c.requires.to (found-alike cs ds c.requires.same));
+    }
+
+pub walk_alike-walk_child-requires : goal.walk_alike-walk_child-requires
+walk_alike-walk_child-requires t c =
+    let n = c.args.from.now in
+    let ds = c.args.to.items in
+    let w = c.loop-child.invariant.walking in
+    let is = c.in-Some.ensures.steps.0 in
+    let apart = alike-apart n ds c.requires.from c.requires.same in
+    let within = walking-count _ _ _ _ _ _ _ _ _ _ _ _ is apart w in
+    let some = counted-at 0 (length ds) c.loop-child.i (omega arith) ∙ ap Some (zero-add c.loop-child.i) in
+    let small : 4 * length (rows n) < 4 * length (rows n) + 1 = omega arith in
+    (search (rules, small), (c.requires.from, (walking-tree _ _ _ _ _ _ _ _ _ _ _ _ is apart w, (walking-place _ _ _ _ _ _ _ _ _ _ _ _ is apart w c.loop-child.i some, walking-alike _ _ _ _ _ _ _ _ _ _ _ _ is apart w c.requires.alike))))
+
+pub walk_alike-loop-child-preserved : goal.walk_alike-loop-child-preserved
+walk_alike-loop-child-preserved t c =
+    let n = c.args.from.now in
+    let cs = below n in
+    let ds = c.args.to.items in
+    let i = c.loop-child.i in
+    let w = c.loop-child.invariant.walking in
+    let is = c.in-Some.ensures.steps.0 in
+    let apart = alike-apart n ds c.requires.from c.requires.same in
+    let within = walking-count _ _ _ _ _ _ _ _ _ _ _ _ is apart w in
+    let some = counted-at 0 (length ds) i (omega arith) ∙ ap Some (zero-add i) in
+    let given = c.in_ok-walk_child.ensures in
+    let child = subst (λ q. IsChildLed q cs c.in-Some.child c.loop-child.steps.items c.walk_child.new.steps.items) (ap path_view c.loop-child.invariant.path) given.led in
+    record {
+      path = given.path ∙ c.loop-child.invariant.path;
+      walking = walking-led _ _ _ _ _ _ _ _ _ _ _ _ is apart w i c.walk_child.new.steps.items ((level-below n).apart c.requires.from) some child;
+    }
+
+pub walk_alike-returns-clause-led : goal.walk_alike-returns-clause-led
+walk_alike-returns-clause-led t c =
+    let n = c.args.from.now in
+    let cs = below n in
+    let ds = c.args.to.items in
+    let o = own_content n in
+    let p = path_view c.args.path.now.items in
+    let old = c.args.steps.now.items in
+    let l = c.loop-child in
+    let none = nil_from_length (into_iter_items l.child-iterator) (omega (arith, c.in-None.ensures.steps.0, l.child-iterator.rest.ok)) in
+    let end = walking-end p o cs ds (counted 0 (length ds)) old l.i (into_iter_items l.child-iterator) [] l.steps.items none l.invariant.walking in
+    leading-from p (marks n) (led o cs []) _ old l.steps.items (led-start n)
+    (leading-told p (led o cs []) (led o cs ds) _ old l.steps.items (alike-told o cs ds c.requires.same (own-order n c.requires.from)) end.1)
+
 pub walk_children-edit_between-requires-clause-apart : goal.walk_children-edit_between-requires-clause-apart
-walk_children-edit_between-requires-clause-apart t c = ap (λ ds. are_apart (elements ds)) c.deref-2.ensures.value ∙ stand-apart (own_content c.args.from.now) (elements c.args.to.items) c.requires.stand
+walk_children-edit_between-requires-clause-apart t c = ap (λ ds. are_apart (elements ds)) c.deref-3.ensures.value ∙ stand-apart (own_content c.args.from.now) (elements c.args.to.items) c.requires.stand
 
 pub walk_children-loop-child-init : goal.walk_children-loop-child-init
 walk_children-loop-child-init t c =
@@ -59,7 +121,7 @@ walk_children-loop-child-init t c =
     let p = path_view c.args.path.now.items in
     let o = own_content c.args.from.now in
     let old = c.args.steps.now.items in
-    let found = subst (λ xs. AreFound cs xs fs) c.deref.ensures.value c.in_ok-found.ensures in
+    let found = subst (λ xs. AreFound cs xs fs) c.deref-2.ensures.value c.in_ok-found.ensures in
     record {
       path = refl;
       walking =
@@ -76,7 +138,7 @@ walk_children-walk_child-requires t c =
     let apart = stand-apart (own_content n) (elements c.args.to.items) c.requires.stand in
     let within = walking-index _ _ _ _ _ _ _ _ _ _ _ _ is apart w in
     let some = found-read fs c.loop-child.i c.index.result.now (Some c.in-Some-index.place) within c.index.ensures c.in-Some-index.is in
-    let small : 3 * length (rows n) < 3 * length (rows n) + 1 = omega arith in
+    let small : 4 * length (rows n) < 4 * length (rows n) + 2 = omega arith in
     (search (rules, small), (c.requires.from, (walking-tree _ _ _ _ _ _ _ _ _ _ _ _ is apart w, (walking-place _ _ _ _ _ _ _ _ _ _ _ _ is apart w c.in-Some-index.place some, walking-alike _ _ _ _ _ _ _ _ _ _ _ _ is apart w c.requires.alike))))
 
 pub walk_children-loop-child-preserved : goal.walk_children-loop-child-preserved
@@ -131,14 +193,14 @@ walk_children-returns-clause-led t c =
     let l = c.loop-child in
     let s = c.in_ok-edit.edit in
     let apart = stand-apart o (elements ds) c.requires.stand in
-    let found = subst (λ xs. AreFound cs xs fs) c.deref.ensures.value c.in_ok-found.ensures in
+    let found = subst (λ xs. AreFound cs xs fs) c.deref-2.ensures.value c.in_ok-found.ensures in
     let none = nil_from_length (into_iter_items l.child-iterator) (omega (arith, c.in-None.ensures.steps.0, l.child-iterator.rest.ok)) in
     let end = walking-end p o cs ds fs old l.i (into_iter_items l.child-iterator) l.held.items l.steps.items none l.invariant.walking in
     let between : IsEditBetween cs ds fs s =
-    subst (λ xs. IsEditBetween xs ds fs s) c.children.ensures.own
-    (subst (λ xs. IsEditBetween c.children.result.now xs fs s) c.deref-2.ensures.value (subst (λ gs. IsEditBetween c.children.result.now c.deref-2.result.now gs s) c.deref-3.ensures.value c.in_ok-edit.ensures)) in
+    subst (λ xs. IsEditBetween xs ds fs s) c.children-2.ensures.own
+    (subst (λ xs. IsEditBetween c.children-2.result.now xs fs s) c.deref-3.ensures.value (subst (λ gs. IsEditBetween c.children-2.result.now c.deref-3.result.now gs s) c.deref-4.ensures.value c.in_ok-edit.ensures)) in
     let added =
-    subst (λ q. MayAdd (is_idle s) q (Children (record s { held = l.held })) l.steps.items c.push_edit.new.steps.items) (ap path_view (c.deref-4.ensures.value ∙ l.invariant.path)) c.in_ok-push_edit.ensures in
+    subst (λ q. MayAdd (is_idle s) q (Children (record s { held = l.held })) l.steps.items c.push_edit.new.steps.items) (ap path_view (c.deref-5.ensures.value ∙ l.invariant.path)) c.in_ok-push_edit.ensures in
     let last =
     finish o cs ds fs s between l.held ((level-below n).apart c.requires.from) apart found end.0 c.requires.to
     (own-stands n (elements ds) c.requires.from c.requires.stand) c.requires.stand (own-order n c.requires.from) p l.steps.items c.push_edit.new.steps.items
