@@ -166,6 +166,20 @@ impl Bench {
         }
     }
 
+    /// The schema, the identity and the history: a bench keeps nothing else. Takes no memory.
+    pub fn into_parts(self) -> (Schema, Identity, Timeline)
+        ensures schema { result.0 ≡ self.schema }
+        ensures identity { result.1 ≡ self.identity }
+        ensures timeline { result.2 ≡ self.timeline }
+    {
+        let Bench {
+            schema,
+            identity,
+            timeline,
+        } = self;
+        (schema, identity, timeline)
+    }
+
     // The body of a command's object, or its first fault.
     fn command_body(&self, alloc: Global, object: Json) -> Result<Body, Fault>
         ensures given { IsGiven result (command_body self.now (view object)) }

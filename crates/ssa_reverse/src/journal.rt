@@ -1,5 +1,5 @@
 //! The records of a value that is kept elsewhere, for going back and forth along its history.
-ghost use Rattle.std.specs.Prelude.{◌≡◌, ◌+◌, ◌^◌, ◌≤◌, ◌<◌, ◌↔◌, ◌++◌, [], length, IsTrue, IsOk, IfOk, OnErr, OnOk, IsSome, IfSome, Some, slice_get, vec_len, vec_capacity};
+ghost use Rattle.std.specs.Prelude.{◌≡◌, ◌+◌, ◌^◌, ◌≤◌, ◌<◌, ◌↔◌, ◌++◌, [], length, IsTrue, IsOk, IfOk, OnErr, OnOk, IsSome, IfSome, Some, slice_get, vec_len, vec_capacity, reverse};
 
 use crate::reversible::Reversible;
 use crate::room::push_within;
@@ -50,6 +50,16 @@ impl<T: Reversible, L: Drop> Journal<T, L> {
         ensures small { result < 2 ^ 63 }
     {
         self.future.len()
+    }
+
+    /// The records that lead back, the next to be undone last, and those that lead forward, the next
+    /// to be redone last, each with its label. A journal keeps nothing else. Takes no memory.
+    pub fn into_parts(self) -> (Vec<(T::Delta, L)>, Vec<(T::Delta, L)>)
+        ensures past { result.0.items ≡ past_of self }
+        ensures future { reverse result.1.items ≡ future_of self }
+    {
+        let Journal { past, future } = self;
+        (past, future)
     }
 
     /// Takes the value to where the record leads, and keeps the record that leads back under the

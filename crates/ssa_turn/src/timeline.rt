@@ -4,9 +4,9 @@ ghost use Rattle.std.specs.List.{All};
 ghost use Rattle.ssa_model.specs.definitions.Carry.{carry};
 ghost use Rattle.ssa_model.specs.definitions.History.{present, past_len, future_len, appended, moved_to};
 ghost use Rattle.ssa_merge.specs.States.{state_view};
-ghost use Rattle.ssa_reverse.specs.Journals.{future_of, past_of};
+ghost use Rattle.ssa_reverse.specs.Journals.{future_of, past_of, timeline_of};
 ghost use Rattle.ssa_turn.specs.Dated.{MakesDated};
-ghost use Rattle.ssa_turn.specs.Histories.{label_view, lent_labels};
+ghost use Rattle.ssa_turn.specs.Histories.{in_a_row, label_view, lent_labels};
 ghost use Rattle.ssa_turn.specs.TablesBack.{AllTablesBack, HasTableBack};
 ghost use Rattle.ssa_turn_state.specs.States.{HasStateRoom, IsTaken, state_steps};
 
@@ -86,6 +86,16 @@ impl Timeline {
             live: LiveState { state: first },
             journal: Journal::new(alloc),
         }
+    }
+
+    /// The state at the place, and the records that lead from it to the others: a timeline keeps nothing
+    /// else. Takes no memory.
+    pub fn into_parts(self) -> (State, Journal<LiveState, Label>)
+        ensures { in_a_row (timeline_of result.1 (state_view result.0)) ≡ self }
+    {
+        let Timeline { live, journal } = self;
+        let LiveState { state } = live;
+        (state, journal)
     }
 
     /// The place is that of one of the states.
