@@ -72,3 +72,5 @@ pub mod Takes
 pub mod Facts
 -- a record as JSON
 pub mod RecordText
+-- how a record is read from JSON
+pub mod RecordReading

@@ -18,3 +18,5 @@ pub mod ShownRows
 pub mod SubcommandRows
 -- the sizes and the texts of records
 pub mod RecordRows
+-- records read from JSON
+pub mod RecordReadingRows
