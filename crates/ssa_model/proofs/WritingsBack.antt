@@ -1,5 +1,5 @@
 -- A set whose paths are read from their texts is read back from its writing as FieldsV1.
-use Rattle.std.proofs.Common.{◌≡◌, ◌≤◌, ℕ, zero, suc, List, [], ◌∷◌, ◌++◌, map, Bool, true, false, not, ◌&&◌, ◌||◌, Result, Ok, Err, length, refl, sym, ap, ◌∙◌, true≢false, arith}
+use Rattle.std.proofs.Common.{◌≡◌, ◌≤◌, ℕ, zero, suc, List, [], ◌∷◌, ◌++◌, map, Bool, true, false, not, ◌&&◌, ◌||◌, Result, Ok, Err, refl, sym, ap, ◌∙◌, true≢false, arith}
 use Rattle.std.proofs.Math.Bool.{and-false}
 use Rattle.std.proofs.Math.Nat.{max-le}
 use Rattle.std.proofs.lemmas.List.Folds.{list_any-append}
@@ -7,23 +7,23 @@ use Rattle.std.specs.Prelude.{if◌then◌else◌, codes}
 use Rattle.std.specs.List.{list_any, AllByRecursion}
 use Rattle.std.specs.Cmp.{first_so, second_so}
 use Rattle.std.specs.FinMap.Entries.{below_all, is_sorted}
-use Rattle.std.specs.Ordering.{is_lt, is_eq}
-use Rattle.ssa_model.specs.definitions.Json.{Text, Json, object, Members, no_members, member, same_text, same_json, same_members}
+use Rattle.std.specs.Ordering.{is_eq}
+use Rattle.ssa_model.specs.definitions.Json.{Json, object, Members, no_members, member, same_text, same_json, same_members}
 use Rattle.ssa_model.specs.definitions.Path.{Element, Path, element_text, element_cmp, path_cmp, same_element, same_path, is_root}
-use Rattle.ssa_model.specs.definitions.PathMap.{PathSet, has, paths, listed}
+use Rattle.ssa_model.specs.definitions.PathMap.{PathSet, has, paths}
 use Rattle.ssa_model.specs.definitions.Kind.{is_among}
-use Rattle.ssa_model.specs.definitions.Readings.{Readings, ReadFault}
+use Rattle.ssa_model.specs.definitions.Readings.{Readings}
 use Rattle.ssa_model.specs.definitions.ElementTexts.{ElementFault, not_canonical, bad_element, element_of}
 use Rattle.ssa_model.specs.definitions.FieldsV1.{with_head, heads, tails, is_place_alone, nothing_written, field_members, written_paths, longest, fields_json, dot_alone, is_nothing_inside, fields_faults, member_faults, said_paths, member_paths, said_set}
 use Rattle.ssa_model.specs.definitions.RecordReading.{IsReadPath}
 use Rattle.ssa_model.proofs.Fitting.{same_element-true}
 use Rattle.ssa_model.proofs.Lists.{keys, or_twice, has-listed}
-use Rattle.ssa_model.proofs.PathMaps.{is_one_of, has-paths, same_path-true, same_path-itself, same_sets}
+use Rattle.ssa_model.proofs.PathMaps.{is_one_of, has-paths, same_path-itself, same_sets}
 use Rattle.ssa_model.proofs.RisingNames.{lower}
 use Rattle.ssa_model.proofs.SaidSets.{behind, no-root, same-behind, other-behind, no-dot}
 use Rattle.ssa_model.proofs.ShownItems.{each-among}
 use Rattle.ssa_model.proofs.ShownNames.{then_both}
-use Rattle.ssa_model.proofs.Tables.{no, or_true, true_or, element-itself, apart_by, yes_no}
+use Rattle.ssa_model.proofs.Tables.{no, true_or, element-itself}
 use Rattle.ssa_model.proofs.Tests.{by_test, holds}
 
 -- ---- the paths that begin with an element, and the first elements
@@ -114,7 +114,7 @@ apart-tail e ((f ∷ p) ∷ ps) h =
     ] refl
 
 module _ {X : Type 0} where
-  none-below : (p : Path) (es : List (Path × X)) → below_all path_cmp p es ≡ true → is_one_of (keys es) p ≡ false
+  pub none-below : (p : Path) (es : List (Path × X)) → below_all path_cmp p es ≡ true → is_one_of (keys es) p ≡ false
   none-below p [] h = refl
   none-below p (e ∷ es) h =
       let other = ap is_eq (lower (path_cmp p e.0) (first_so _ _ h)) in

@@ -5,7 +5,8 @@ ghost use Rattle.ssa_model.specs.laws.RecordTurns.{BodyTurns, TableTurns, Record
 ghost use Rattle.ssa_model.specs.laws.RecordSizes.{BodyBound, TableBound, SizeBound, FactsBothWays};
 ghost use Rattle.ssa_model.specs.laws.InPlace.{TableIsInserted, StayersAreLed, ItemsAreInserted};
 ghost use Rattle.ssa_model.specs.laws.RecordWalks.{CutsAreFiltered, LeavesAreFiltered, OrdersAreFiltered, PutsAreFiltered, RecordBelow, PartIsValue, TreeLeads, BodiesAreTrees, PartIsTree, CarryBelow};
-ghost use Rattle.ssa_model.specs.examples.RecordReadingRows.{RecordsAreRead, ShapesAreTold, OtherShapesAreRefused};
+ghost use Rattle.ssa_model.specs.laws.RecordReading.{RecordTextsHaveShape, RecordTextsAreRead};
+ghost use Rattle.ssa_model.specs.examples.RecordReadingRows.{RecordsAreRead, ShapesAreTold, OtherShapesAreRefused, ReadStatesAreMet};
 ghost use Rattle.ssa_model.specs.examples.RecordRows.{FirstApplyRecord, ForcedRecord, GivenUpRecord, RemovedItemRecord, RemovedItemPlace, ReorderRecord, RepeatRecord, StripRecord, SetFilledRecord, SetEmptiedRecord, LiveItemsRecord, LedRecord, ForcedFacts, ReorderFacts, RemovedItemFacts, FirstApplyText, ForcedText, RemovedItemText, ReorderText, RecordsAreMet};
 
 /// The sizes of the records of worked commands, back and forth.
@@ -121,9 +122,16 @@ pub fn records_are_met()
     ensures { RecordsAreMet }
 {}
 
+/// The value of the record of two states has the shape of a record, and the record is read from it, where the states' paths and moments are read.
+pub fn record_readings()
+    ensures shape { RecordTextsHaveShape }
+    ensures read { RecordTextsAreRead }
+{}
+
 /// The records of worked commands are read from their values. Some values have the shape of a record, and some have not.
 pub fn records_are_read()
     ensures read { RecordsAreRead }
     ensures shapes { ShapesAreTold }
     ensures others { OtherShapesAreRefused }
+    ensures met { ReadStatesAreMet }
 {}

@@ -1,7 +1,7 @@
 -- A record is read from its JSON value: which values have its shape, and what a value of that shape says.
-use Rattle.std.specs.Prelude.{◌≡◌, ℕ, zero, suc, pos, List, [], ◌∷◌, Bool, true, false, not, ◌&&◌, ◌||◌, Option, Some, None, is_some, is_ok, option_and_then, Result, Ok, Err, codes}
+use Rattle.std.specs.Prelude.{◌≡◌, ℕ, zero, suc, pos, List, [], ◌∷◌, Bool, true, false, not, ◌&&◌, ◌||◌, Option, Some, None, is_some, is_ok, option_and_then, Ok, Err, codes}
 use Rattle.std.specs.List.{list_any, list_all}
-use Rattle.ssa_model.specs.definitions.Json.{Text, same_text, Scalar, text, whole, truth, Json, scalar, list, object, Items, no_items, item, Members, no_members, member, member_at, as_text}
+use Rattle.ssa_model.specs.definitions.Json.{Text, same_text, whole, Json, scalar, list, object, Items, no_items, item, Members, no_members, member, member_at, as_text}
 use Rattle.ssa_model.specs.definitions.Path.{Element, Path, element_text}
 use Rattle.ssa_model.specs.definitions.PathMap.{has, empty, from_entries, listed}
 use Rattle.ssa_model.specs.definitions.Kind.{Kind, atomic_of}

@@ -1,15 +1,16 @@
 -- Worked examples: the records of some commands are read from their values, and values that have not the shape of a record.
 use Rattle.std.specs.Prelude.{◌≡◌, List, [], ◌∷◌, ◌++◌, Bool, true, false, ◌&&◌, Ok, if◌then◌else◌, codes}
 use Rattle.std.specs.List.{list_any, list_all}
-use Rattle.ssa_model.specs.definitions.Json.{Text, Json, list, object, Items, no_items, item, Members, no_members, member, compact, same_text}
+use Rattle.ssa_model.specs.definitions.Json.{Text, Json, list, object, no_items, Members, no_members, member, compact, same_text}
 use Rattle.ssa_model.specs.definitions.Readings.{Readings}
 use Rattle.ssa_model.specs.definitions.Operations.{State}
 use Rattle.ssa_model.specs.definitions.Record.{record_of}
 use Rattle.ssa_model.specs.definitions.RecordText.{record_json}
-use Rattle.ssa_model.specs.definitions.RecordReading.{is_record_shape, record_in}
-use Rattle.ssa_model.specs.examples.Sample.{sample_kind, string_json, number_json, port}
+use Rattle.ssa_model.specs.definitions.RecordReading.{is_record_shape, record_in, IsReadState}
+use Rattle.ssa_model.specs.examples.Sample.{sample_kind, string_json, number_json}
 use Rattle.ssa_model.specs.examples.EntryRows.{items_of, fields_at}
-use Rattle.ssa_model.specs.examples.FileRows.{value_among}
+use Rattle.ssa_model.specs.examples.FileRows.{value_among, applied_step}
+use Rattle.ssa_model.specs.examples.Rows.{new_bench}
 use Rattle.ssa_model.specs.examples.RecordRows.{state_after, record_text, first_applied, both_applied, forced, ports_applied, without_b, reorder, four_hosts, hosts_led}
 
 abbrev pub name_key : Text → Json
@@ -107,3 +108,7 @@ OtherShapesAreRefused =
     ∷ put_alone (path_of_texts [] ∷ [])
     ∷ put_alone (path_of_texts [] ∷ number_json 1 ∷ number_json 2 ∷ number_json 3 ∷ [])
     ∷ put_alone (path_of_texts [] ∷ number_json 1 ∷ string_json (codes "2") ∷ []) ∷ []) ≡ false
+
+-- what the laws of reading ask of two states is met by those before and after the first apply
+abbrev pub ReadStatesAreMet : Type 0
+ReadStatesAreMet = IsReadState record_readings new_bench.timeline.first × IsReadState record_readings applied_step.state

@@ -6,7 +6,7 @@ use Rattle.ssa_model.specs.definitions.Lawful.{IsSchemaKind}
 use Rattle.ssa_model.specs.definitions.Operations.{State}
 use Rattle.ssa_model.specs.definitions.Readings.{Readings}
 use Rattle.ssa_model.specs.definitions.Entries.{text_json}
-use Rattle.ssa_model.specs.definitions.Valid.{IsValidState, KeepsOrder}
+use Rattle.ssa_model.specs.definitions.Valid.{IsValidState}
 use Rattle.ssa_model.specs.definitions.Record.{record_of}
 use Rattle.ssa_model.specs.definitions.RecordText.{record_json}
 use Rattle.ssa_model.specs.definitions.RecordReading.{is_record_shape, record_in, IsReadState}
