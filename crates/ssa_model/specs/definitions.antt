@@ -74,3 +74,5 @@ pub mod Facts
 pub mod RecordText
 -- how a record is read from JSON
 pub mod RecordReading
+-- the text of a bench file of records
+pub mod RecordedBench

@@ -34,3 +34,5 @@ pub mod InPlace
 pub mod RecordWalks
 -- a record is read from its JSON
 pub mod RecordReading
+-- how a bench file of records is taken, line by line
+pub mod RecordedBenches
