@@ -20,3 +20,5 @@ pub mod SubcommandRows
 pub mod RecordRows
 -- records read from JSON
 pub mod RecordReadingRows
+-- bench files of records
+pub mod RecordedRows

@@ -6,6 +6,8 @@ ghost use Rattle.ssa_model.specs.laws.RecordSizes.{BodyBound, TableBound, SizeBo
 ghost use Rattle.ssa_model.specs.laws.InPlace.{TableIsInserted, StayersAreLed, ItemsAreInserted};
 ghost use Rattle.ssa_model.specs.laws.RecordWalks.{CutsAreFiltered, LeavesAreFiltered, OrdersAreFiltered, PutsAreFiltered, RecordBelow, PartIsValue, TreeLeads, BodiesAreTrees, PartIsTree, CarryBelow};
 ghost use Rattle.ssa_model.specs.laws.RecordReading.{RecordTextsHaveShape, RecordTextsAreRead};
+ghost use Rattle.ssa_model.specs.laws.RecordedBenches.{RecordedFilesAreTaken, TakenIsRecordedText};
+ghost use Rattle.ssa_model.specs.examples.RecordedRows.{RecordedFilesAreWritten, RecordedValuesAreTaken, DamagedLinesAreTold, OtherFilesAreRefused};
 ghost use Rattle.ssa_model.specs.examples.RecordReadingRows.{RecordsAreRead, ShapesAreTold, OtherShapesAreRefused, ReadStatesAreMet};
 ghost use Rattle.ssa_model.specs.examples.RecordRows.{FirstApplyRecord, ForcedRecord, GivenUpRecord, RemovedItemRecord, RemovedItemPlace, ReorderRecord, RepeatRecord, StripRecord, SetFilledRecord, SetEmptiedRecord, LiveItemsRecord, LedRecord, ForcedFacts, ReorderFacts, RemovedItemFacts, FirstApplyText, ForcedText, RemovedItemText, ReorderText, RecordsAreMet};
 
@@ -134,4 +136,22 @@ pub fn records_are_read()
     ensures shapes { ShapesAreTold }
     ensures others { OtherShapesAreRefused }
     ensures met { ReadStatesAreMet }
+{}
+
+/// The bench file of records of a bench is taken as that bench, and what is taken has the text as its file.
+pub fn recorded_files()
+    ensures taken { RecordedFilesAreTaken }
+    ensures text { TakenIsRecordedText }
+{}
+
+/// Bench files of records are written and taken again, worked by computation.
+pub fn recorded_files_are_worked()
+    ensures written { RecordedFilesAreWritten }
+    ensures taken { RecordedValuesAreTaken }
+{}
+
+/// Damaged lines of a bench file of records have their faults, and other texts are refused.
+pub fn damaged_records_are_told()
+    ensures damaged { DamagedLinesAreTold }
+    ensures others { OtherFilesAreRefused }
 {}

@@ -1,0 +1,6 @@
+use Rattle.ssa_model.proofs.RecordedTaken.{recorded_files_are_taken}
+use Rattle.ssa_model.proofs.RecordedWritten.{taken_is_recorded_text}
+use Rattle.ssa_model.proofs.records.recorded_files.Goals as goal
+
+pub returns : goal.returns
+returns c = record { taken = recorded_files_are_taken; text = taken_is_recorded_text }
