@@ -2,7 +2,6 @@
 use Rattle.std.proofs.Common.{◌≡◌, ◌≤◌, ℕ, zero, suc, ◌+◌, ◌-◌, length, List, [], ◌∷◌, ◌++◌, take, drop, true, Option, Some, None, option_map, option_and_then, refl, sym, ap, ◌∙◌, subst, arith, append_assoc, append-nil, length-append, length-drop}
 use Rattle.std.proofs.Math.Seq.{take-append_seam, drop-append_seam}
 use Rattle.std.proofs.lemmas.Bool.{and_from}
-use Rattle.std.proofs.lemmas.Bool.Decides.{nat_tests}
 use Rattle.std.proofs.lemmas.List.{take-append-drop, length-take-le}
 use Rattle.std.proofs.lemmas.List.Elements.{All-head, All-tail}
 use Rattle.std.specs.List.{All}
@@ -13,7 +12,7 @@ use Rattle.ssa_model.specs.definitions.Readings.{Readings}
 use Rattle.ssa_model.specs.definitions.Schema.{Schema}
 use Rattle.ssa_model.specs.definitions.Objects.{Identity}
 use Rattle.ssa_model.specs.definitions.Operations.{State}
-use Rattle.ssa_model.specs.definitions.Entries.{text_json, version_in}
+use Rattle.ssa_model.specs.definitions.Entries.{version_in}
 use Rattle.ssa_model.specs.definitions.Table.{Table}
 use Rattle.ssa_model.specs.definitions.History.{Label, Step, Bench, last_state, present, with_timeline}
 use Rattle.ssa_model.specs.definitions.Answers.{Fault, lone_bench, file_state, bench_of}
@@ -23,16 +22,15 @@ use Rattle.ssa_model.specs.definitions.BenchFile.{IsReadBack, IsLabel, IsStep, I
 use Rattle.ssa_model.specs.definitions.Record.{Record, record_of}
 use Rattle.ssa_model.specs.definitions.Carry.{carry}
 use Rattle.ssa_model.specs.definitions.RecordText.{record_json}
-use Rattle.ssa_model.specs.definitions.RecordReading.{record_in, HasReadPaths, IsReadState}
+use Rattle.ssa_model.specs.definitions.RecordReading.{record_in, HasReadPaths}
 use Rattle.ssa_model.specs.definitions.RecordedBench.{record_head, record_line, past_lines, future_lines, past_steps, future_steps, recorded_values, recorded_text, HasReadStep, HasReadHistory}
-use Rattle.ssa_model.specs.laws.BenchFiles.{text_lines, spelled_values, given_if, is_written_as, schema_in, label_in, keeps_order}
+use Rattle.ssa_model.specs.laws.BenchFiles.{text_lines, spelled_values, given_if, is_written_as, schema_in, keeps_order}
 use Rattle.ssa_model.specs.laws.RecordedBenches.{Counts, counts_in, present_in, led_state, move_to, move_in, past_in, future_in, with_moves, lines_bench, recorded_bench, recorded_bench_in, RecordedFilesAreTaken}
 use Rattle.ssa_model.proofs.RecordTakes.{record_leads}
 use Rattle.ssa_model.proofs.RecordsBack.{record_texts_are_read}
 use Rattle.ssa_model.proofs.ShownObjects.{identity-parts}
 use Rattle.ssa_model.proofs.SpelledValues.{text_lines-of, spelled_values-of}
 use Rattle.ssa_model.proofs.TakenOfWritten.{written-itself, schema-back, label-back, keeps_order-of, nat_le-of, nat-itself, shown-back, state-back}
-use Rattle.ssa_model.proofs.ValidTimelines.{present_valid}
 
 moments-of : (readings : Readings) (t : Table) → AllEntries (IsReadBack readings) t → AllEntries (λ e. readings.moment e.moment ≡ true) t
 moments-of readings [] h = tt

@@ -1,12 +1,12 @@
 -- The lines of a bench file of records are those written of the bench that is taken from them, and its text is the bench's.
-use Rattle.std.proofs.Common.{◌≡◌, ◌+◌, ◌-◌, ◌≤◌, length, List, [], ◌∷◌, ◌++◌, map, take, drop, ◌&&◌, Option, Some, None, option_map, option_and_then, refl, sym, ap, ◌∙◌, eqb-true, arith, append_assoc, append-nil, length-append, length-drop}
+use Rattle.std.proofs.Common.{◌≡◌, ◌+◌, ◌-◌, ◌≤◌, length, List, [], ◌∷◌, ◌++◌, map, take, drop, ◌&&◌, Option, Some, None, option_and_then, refl, sym, ap, ◌∙◌, eqb-true, arith, append_assoc, append-nil, length-append, length-drop}
 use Rattle.std.proofs.Math.Seq.{take-append_seam, drop-append_seam}
 use Rattle.std.proofs.lemmas.Bool.{and_parts}
 use Rattle.std.proofs.lemmas.List.{map-append, length-map, take-append-drop, length-take-le}
 use Rattle.std.proofs.lemmas.Option.{same_Some, none-some}
 use Rattle.std.specs.Prelude.{◌==◌, codes, nat_le, Result, Ok, Err}
 use Rattle.ssa_model.specs.definitions.Limits.{most_past, most_bench_bytes}
-use Rattle.ssa_model.specs.definitions.Json.{Text, Json, member_at, compact}
+use Rattle.ssa_model.specs.definitions.Json.{Json, member_at, compact}
 use Rattle.ssa_model.specs.definitions.Readings.{Readings}
 use Rattle.ssa_model.specs.definitions.Commands.{value_in}
 use Rattle.ssa_model.specs.definitions.Schema.{Schema, read_schema}

@@ -7,7 +7,7 @@ ghost use Rattle.ssa_model.specs.laws.InPlace.{TableIsInserted, StayersAreLed, I
 ghost use Rattle.ssa_model.specs.laws.RecordWalks.{CutsAreFiltered, LeavesAreFiltered, OrdersAreFiltered, PutsAreFiltered, RecordBelow, PartIsValue, TreeLeads, BodiesAreTrees, PartIsTree, CarryBelow};
 ghost use Rattle.ssa_model.specs.laws.RecordReading.{RecordTextsHaveShape, RecordTextsAreRead};
 ghost use Rattle.ssa_model.specs.laws.RecordedBenches.{RecordedFilesAreTaken, TakenIsRecordedText};
-ghost use Rattle.ssa_model.specs.examples.RecordedRows.{RecordedFilesAreWritten, RecordedValuesAreTaken, DamagedLinesAreTold, OtherFilesAreRefused};
+ghost use Rattle.ssa_model.specs.examples.RecordedRows.{RecordedFilesAreWritten, RecordedValuesAreTaken, RecordedFileIsMet, DamagedLinesAreTold, OtherFilesAreRefused};
 ghost use Rattle.ssa_model.specs.examples.RecordReadingRows.{RecordsAreRead, ShapesAreTold, OtherShapesAreRefused, ReadStatesAreMet};
 ghost use Rattle.ssa_model.specs.examples.RecordRows.{FirstApplyRecord, ForcedRecord, GivenUpRecord, RemovedItemRecord, RemovedItemPlace, ReorderRecord, RepeatRecord, StripRecord, SetFilledRecord, SetEmptiedRecord, LiveItemsRecord, LedRecord, ForcedFacts, ReorderFacts, RemovedItemFacts, FirstApplyText, ForcedText, RemovedItemText, ReorderText, RecordsAreMet};
 
@@ -144,10 +144,11 @@ pub fn recorded_files()
     ensures text { TakenIsRecordedText }
 {}
 
-/// Bench files of records are written and taken again, worked by computation.
+/// Bench files of records are written and taken again, worked by computation. There is such a file.
 pub fn recorded_files_are_worked()
     ensures written { RecordedFilesAreWritten }
     ensures taken { RecordedValuesAreTaken }
+    ensures met { RecordedFileIsMet }
 {}
 
 /// Damaged lines of a bench file of records have their faults, and other texts are refused.

@@ -11,7 +11,7 @@ use Rattle.ssa_model.specs.definitions.History.{Label, Step, Timeline, Bench, pr
 use Rattle.ssa_model.specs.definitions.Replies.{number_json, label_json}
 use Rattle.ssa_model.specs.definitions.BenchText.{line, whole_object}
 use Rattle.ssa_model.specs.definitions.BenchFile.{IsSpelled, IsValidBench}
-use Rattle.ssa_model.specs.definitions.Record.{Record, record_of}
+use Rattle.ssa_model.specs.definitions.Record.{record_of}
 use Rattle.ssa_model.specs.definitions.RecordText.{record_json}
 use Rattle.ssa_model.specs.definitions.RecordReading.{HasReadPaths}
 

@@ -1,6 +1,6 @@
 -- Worked examples: the text of a bench file of records after an apply and after its undo, what is taken from it, and damaged lines with their faults.
-use Rattle.std.specs.Prelude.{◌≡◌, ℕ, List, [], ◌∷◌, ◌++◌, map, flat_map, Bool, true, false, Option, Some, None, option_map, is_some, Ok, if◌then◌else◌, codes}
-use Rattle.ssa_model.specs.definitions.Json.{Text, Json, list, object, no_items, Members, no_members, member, compact, same_text}
+use Rattle.std.specs.Prelude.{◌≡◌, ℕ, List, [], ◌∷◌, ◌++◌, flat_map, Bool, true, false, Option, Some, None, option_map, is_some, Ok, if◌then◌else◌, codes}
+use Rattle.ssa_model.specs.definitions.Json.{Text, Json, object, no_members, member, compact, same_text}
 use Rattle.ssa_model.specs.definitions.Readings.{Readings}
 use Rattle.ssa_model.specs.definitions.Replies.{label_json}
 use Rattle.ssa_model.specs.definitions.History.{Bench, present}
@@ -10,7 +10,7 @@ use Rattle.ssa_model.specs.definitions.RecordedBench.{record_head, recorded_valu
 use Rattle.ssa_model.specs.laws.RecordedBenches.{recorded_bench, recorded_bench_in, move_fault_number, line_fault}
 use Rattle.ssa_model.specs.examples.Sample.{sample_schema, string_json, number_json}
 use Rattle.ssa_model.specs.examples.FileRows.{feed, after, one_apply, file_readings, value_among, readings_of, applied_step, filed}
-use Rattle.ssa_model.specs.examples.RecordReadingRows.{nothing, list_of, path_of_texts, members_with, record_with}
+use Rattle.ssa_model.specs.examples.RecordReadingRows.{nothing, list_of, path_of_texts, record_with}
 
 -- ---- texts
 
