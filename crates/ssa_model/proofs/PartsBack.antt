@@ -45,10 +45,12 @@ field-lawful (kind_field m j fs) n k o y is =
     ] is
 
 lawful-below : (q : Place) (e : Element) (r : Place) → IsLawfulPlace q → place_below q e ≡ Some r → IsLawfulPlace r
-lawful-below (of_kind (record_of fs)) (field n) r h is = let k = kind-placed (kind_of n fs) r is in subst IsLawfulPlace k.1.1 (field-lawful fs n k.0 h.0 h.1 k.1.0)
+lawful-below (of_kind (record_of fs)) (field n) r h is =
+    let k = kind-placed (kind_of n fs) r is in subst IsLawfulPlace k.1.1 (field-lawful fs n k.0 h.0 h.1 k.1.0)
 lawful-below (of_kind (dict_of k)) (field n) r h is = subst IsLawfulPlace (same_Some (of_kind k) r is) h
 lawful-below (of_kind (kinds.set_of k)) (value s) r h is = subst IsLawfulPlace (if-some (is_of k s) (value_of s) r is).1 tt
-lawful-below (of_kind (items_of ns fs)) (key ks) r h is = subst IsLawfulPlace (if-some (are_keys ns fs ks) (item_of ns fs) r is).1 (h.0, second_so (are_key_names ns) (are_keyed fs) h.1)
+lawful-below (of_kind (items_of ns fs)) (key ks) r h is =
+    subst IsLawfulPlace (if-some (are_keys ns fs ks) (item_of ns fs) r is).1 (h.0, second_so (are_key_names ns) (are_keyed fs) h.1)
 lawful-below (item_of ns fs) (field n) r h is = let k = kind-placed (kind_of n fs) r is in subst IsLawfulPlace k.1.1 (field-lawful fs n k.0 h.0 h.1 k.1.0)
 lawful-below _ _ r h is = absurd (none-some r is)
 
@@ -63,7 +65,8 @@ lawful-at (e ∷ p) q r h at =
 -- ---- the value at a place tells what the body has there
 
 module _ (kind : Kind) (b : Body) (k : IsBodyOf kind b) where
-  place-told : (q : Place) (p : Path) → IsLawfulPlace q → place_at (of_kind kind) p ≡ Some q → has b p ≡ true → Tells kind b k p (place_entries q (value_at_place q b p) p)
+  place-told : (q : Place) (p : Path) → IsLawfulPlace q → place_at (of_kind kind) p ≡ Some q → has b p ≡ true
+      → Tells kind b k p (place_entries q (value_at_place q b p) p)
   place-told (of_kind j) p h at one = each_kind (Told kind b k) (all_told kind b k) j h.0 h.1 p at one
   place-told (item_of ns fs) p h at one =
       let c = stands kind b k p (item_of ns fs) at one in
@@ -72,7 +75,8 @@ module _ (kind : Kind) (b : Body) (k : IsBodyOf kind b) where
   place-told (value_of s) p h at one =
       let c = stands kind b k p (value_of s) at one in
       let is = c.is_there ∙ ap Some (value-leaf s c.content c.fits) in
-      subst (Tells kind b k p) (sym (ap (λ o. (p, content_in None (content_value o)) ∷ []) is)) (told-alone kind b k p (value_of s) (leaf s) at (λ e r none. none-some r none) is)
+      subst (Tells kind b k p) (sym (ap (λ o. (p, content_in None (content_value o)) ∷ []) is))
+      (told-alone kind b k p (value_of s) (leaf s) at (λ e r none. none-some r none) is)
 
 -- ---- entries behind a path
 
@@ -105,7 +109,9 @@ mutual
   fields-prefixed : (fs : Fields) (ms : Members) (p q : Path) → field_places fs ms (p ++ q) ≡ prefixed p (field_places fs ms q)
   fields-prefixed fs no_members p q = refl
   fields-prefixed fs (member n v ms) p q =
-      elim (kind_of n fs) as (λ o. elim o [ None ↦ [] | Some k ↦ places k v ((p ++ q) ++ field n ∷ []) ] ++ field_places fs ms (p ++ q) ≡ prefixed p (elim o [ None ↦ [] | Some k ↦ places k v (q ++ field n ∷ []) ] ++ field_places fs ms q)) [
+      elim (kind_of n fs) as
+      (λ o. elim o [ None ↦ [] | Some k ↦ places k v ((p ++ q) ++ field n ∷ []) ] ++ field_places fs ms (p ++ q)
+      ≡ prefixed p (elim o [ None ↦ [] | Some k ↦ places k v (q ++ field n ∷ []) ] ++ field_places fs ms q)) [
         | None ↦ fields-prefixed fs ms p q
         | Some k ↦ (λ i. (ap (places k v) (append_assoc p q (field n ∷ [])) ∙ places-prefixed k v p (q ++ field n ∷ [])) i ++ fields-prefixed fs ms p q i)
             ∙ sym (prefixed-both p (places k v (q ++ field n ∷ [])) (field_places fs ms q))

@@ -12,6 +12,7 @@ use Rattle.ssa_model.specs.definitions.Kind.{Kind, scalar_kind, atomic_of}
 use Rattle.ssa_model.specs.definitions.Schema.{texts_of}
 use Rattle.ssa_model.specs.definitions.Body.{Content, leaf, atom, record_branch, dict_branch, list_branch, Body, order_at, is_leaf, is_other_leaf}
 use Rattle.ssa_model.specs.definitions.Table.{Operation, applies, updates, ManagerKey, Entry, Table, entry_of, is_in_table, same_manager}
+use Rattle.ssa_model.specs.definitions.Operations.{State}
 use Rattle.ssa_model.specs.definitions.Objects.{content_value}
 use Rattle.ssa_model.specs.definitions.Readings.{Readings}
 use Rattle.ssa_model.specs.definitions.ElementTexts.{ElementFault, element_of, next_element, path_of}
@@ -20,10 +21,10 @@ use Rattle.ssa_model.specs.definitions.Entries.{operation_text, text_json, entry
 use Rattle.ssa_model.specs.definitions.Replies.{items_json, path_json}
 use Rattle.ssa_model.specs.definitions.Fitting.{Place, of_kind, value_of, place_at, content_fits, IsBodyOf}
 use Rattle.ssa_model.specs.definitions.Lawful.{is_record, is_root_kind, is_keyed, is_ordered, has_metadata, IsSchemaKind}
-use Rattle.ssa_model.specs.definitions.Valid.{AllEntries, OwnsOwnable}
-use Rattle.ssa_model.specs.definitions.Record.{Change, Part, is_top, part_at, new_leaf, is_reordered, new_order, is_unchanged, change_to, change_of, placed, cuts, puts, new_leaves, new_orders, changes, gone_from, new_in}
-use Rattle.ssa_model.specs.definitions.RecordText.{place_items, time_members, part_value, put_json, change_json, gone_json, here_json, leaf_json, order_json}
-use Rattle.ssa_model.specs.definitions.RecordReading.{Test, all_items, are_members_of, has_members, is_anything, is_operation, is_key, has_items, items_in, item_at, key_in, content_in, part_in, place_given, is_read_path, is_path, is_fields, change_shape, entry_shape, here_shape, is_put, path_in, change_in, here_in, order_in, leaf_in, put_in, IsReadPath, HasReadPaths}
+use Rattle.ssa_model.specs.definitions.Valid.{AllEntries, OwnsOwnable, IsValidState}
+use Rattle.ssa_model.specs.definitions.Record.{Change, Part, is_top, part_at, new_leaf, is_reordered, new_order, is_unchanged, change_to, change_of, placed, cuts, puts, new_leaves, new_orders, changes, gone_from, new_in, record_of}
+use Rattle.ssa_model.specs.definitions.RecordText.{place_items, time_members, part_value, put_json, change_json, gone_json, here_json, leaf_json, order_json, record_json}
+use Rattle.ssa_model.specs.definitions.RecordReading.{Test, all_items, are_members_of, has_members, is_anything, is_operation, is_key, has_items, items_in, item_at, key_in, content_in, part_in, place_given, is_read_path, is_path, is_fields, change_shape, entry_shape, here_shape, is_put, path_in, change_in, here_in, order_in, leaf_in, put_in, IsReadPath, HasReadPaths, is_record_shape, record_in, IsReadState}
 use Rattle.ssa_model.specs.laws.RecordReading.{RecordTextsHaveShape, RecordTextsAreRead}
 use Rattle.ssa_model.proofs.BodyLeads.{get-cuts}
 use Rattle.ssa_model.proofs.Lists.{keys, has-listed}
@@ -56,6 +57,15 @@ module _ {X : Type 0} where
   items-shaped test g [] h = refl
   items-shaped test g (x ∷ xs) h = λ i. h.0 i && items-shaped test g xs h.1 i
 
+  -- of elements of which something is known that suffices
+  each-back : {P : X → Type 0} (f : Json → X) (g : X → Json) → ((x : X) → P x → f (g x) ≡ x) → (xs : List X) → AllByRecursion P xs
+      → items_in f (items_json g xs) ≡ xs
+  each-back {P} f g is xs h = items-back f g xs (each-follows P (λ x. f (g x) ≡ x) is xs h)
+
+  each-shaped : {P : X → Type 0} (test : Test) (g : X → Json) → ((x : X) → P x → test (g x) ≡ true) → (xs : List X) → AllByRecursion P xs
+      → all_items test (items_json g xs) ≡ true
+  each-shaped {P} test g is xs h = items-shaped test g xs (each-follows P (λ x. test (g x) ≡ true) is xs h)
+
 -- ---- maps and sets
 
 module _ {X : Type 0} where
@@ -67,13 +77,16 @@ module _ {X : Type 0} where
   found-own [] h = tt
   found-own (e ∷ es) h = (
     ap (λ b. cond b (Some e.1) (find path_cmp e.0 es)) (same_path-itself e.0),
-    each-follows (λ (f : Path × X). find path_cmp f.0 es ≡ Some f.1) (λ (f : Path × X). find path_cmp f.0 (e ∷ es) ≡ Some f.1) later es (found-own es (second_so _ _ h)),
+    each-follows (λ (f : Path × X). find path_cmp f.0 es ≡ Some f.1) (λ (f : Path × X). find path_cmp f.0 (e ∷ es) ≡ Some f.1)
+        later es (found-own es (second_so _ _ h)),
   )
     where
       later : (f : Path × X) → find path_cmp f.0 es ≡ Some f.1 → find path_cmp f.0 (e ∷ es) ≡ Some f.1
       later f is =
           by_test (same_path f.0 e.0)
-          (λ t. absurd (true≢false (sym (ap is_some is) ∙ is_some-find path_cmp f.0 es ∙ ap (is_one_of (keys es)) (same_path-true f.0 e.0 t) ∙ none-below e.0 es (first_so _ _ h))))
+          (λ t.
+          let one = is_some-find path_cmp f.0 es ∙ ap (is_one_of (keys es)) (same_path-true f.0 e.0 t) ∙ none-below e.0 es (first_so _ _ h) in
+          absurd (true≢false (sym (ap is_some is) ∙ one)))
           (λ t. ap (λ b. cond b (Some e.1) (find path_cmp f.0 es)) t ∙ is)
 
   each-entry : (m : PathMap X) → AllByRecursion (λ (e : Path × X). get m e.0 ≡ Some e.1) m.entries
@@ -149,7 +162,8 @@ module _ (readings : Readings) where
   path-of : (p : Path) → IsReadPath readings p → path_of readings.value (map element_text p) ≡ Ok p
   path-of [] h = refl
   path-of (e ∷ p) h =
-      ap (λ (r : Result Element ElementFault). elim r [ Ok f ↦ next_element f (path_of readings.value (map element_text p)) | Err x ↦ Err x ]) h.0 ∙ ap (next_element e) (path-of p h.1)
+      ap (λ (r : Result Element ElementFault). elim r [ Ok f ↦ next_element f (path_of readings.value (map element_text p)) | Err x ↦ Err x ]) h.0
+      ∙ ap (next_element e) (path-of p h.1)
 
   path-back : (p : Path) → IsReadPath readings p → path_in readings (Some (path_json p)) ≡ p
   path-back p h =
@@ -170,7 +184,8 @@ module _ (readings : Readings) where
   abbrev IsReadEntry : Entry → Type 0
   IsReadEntry e = IsReadSet e.owned × (readings.moment e.moment ≡ true)
 
-  read-entries : (b : Body) → HasReadPaths readings b → (t : Table) → AllEntries (OwnsOwnable b) t → AllEntries (λ e. readings.moment e.moment ≡ true) t → AllEntries IsReadEntry t
+  read-entries : (b : Body) → HasReadPaths readings b → (t : Table) → AllEntries (OwnsOwnable b) t → AllEntries (λ e. readings.moment e.moment ≡ true) t
+      → AllEntries IsReadEntry t
   read-entries b h [] own at = tt
   read-entries b h (e ∷ es) own at = (((λ p one. h p (ownable-has b p (own.0 p one))), at.0), read-entries b h es own.1 at.1)
 
@@ -198,7 +213,8 @@ module _ (readings : Readings) where
     moment = elim (same_text e.moment f.moment) as (λ s. is_given_moment (if s then None else Some f.moment) ≡ true) [ true ↦ refl | false ↦ b.1 ];
   }
 
-  change-read : (e : Entry) (o : Option Entry) (c : Change) → IsReadEntry e → ((f : Entry) → o ≡ Some f → IsReadEntry f) → change_of e o ≡ Some c → IsReadChange c
+  change-read : (e : Entry) (o : Option Entry) (c : Change) → IsReadEntry e → ((f : Entry) → o ≡ Some f → IsReadEntry f) → change_of e o ≡ Some c
+      → IsReadChange c
   change-read e None c a b is = absurd (none-some c is)
   change-read e (Some f) c a b is =
       elim (is_unchanged e f) as (λ s. (if s then None else Some (change_to e f)) ≡ Some c → IsReadChange c) [
@@ -240,16 +256,28 @@ module _ (readings : Readings) where
   all-placed test n [] h = tt
   all-placed test n (e ∷ es) h =
       let rest = all-placed test (n + 1) es h.1 in
-      elim (test e) as (λ b. AllByRecursion (λ (x : ℕ × Entry). IsReadEntry x.1) (if b then (n, e) ∷ placed test (n + 1) es else placed test (n + 1) es)) [ true ↦ (h.0, rest) | false ↦ rest ]
+      elim (test e) as (λ b. AllByRecursion (λ (x : ℕ × Entry). IsReadEntry x.1) (if b then (n, e) ∷ placed test (n + 1) es else placed test (n + 1) es)) [
+        | true ↦ (h.0, rest)
+        | false ↦ rest
+      ]
 
   here-back : (version : Text) (x : ℕ × Entry) → IsReadEntry x.1 → here_in readings (here_json (text_json version) x) ≡ x
   here-back version x h =
-      λ i. (x.0, record { manager = record { name = x.1.manager.name; operation = operation-back x.1.manager.operation i }; owned = set-said readings x.1.owned h.0 i; moment = x.1.moment })
+      λ i. (
+        x.0,
+        record {
+          manager = record { name = x.1.manager.name; operation = operation-back x.1.manager.operation i };
+          owned = set-said readings x.1.owned h.0 i;
+          moment = x.1.moment;
+        },
+      )
 
   here-shaped : (version : Text) (x : ℕ × Entry) → IsReadEntry x.1 → has_members (here_shape readings) (here_json (text_json version) x) ≡ true
   here-shaped version x h =
       let owned = fields-shaped x.1.owned h.0 in
-      let inside : has_members (entry_shape readings) (entry_json (text_json version) x.1) ≡ true = λ i. ((owned i || false) && ((operation-told x.1.manager.operation i || false) && ((h.1 i || false) && true))) && true in
+      let operation = operation-told x.1.manager.operation in
+      let inside : has_members (entry_shape readings) (entry_json (text_json version) x.1) ≡ true =
+      λ i. ((owned i || false) && ((operation i || false) && ((h.1 i || false) && true))) && true in
       λ i. ((inside i || false) && true) && true
 
   -- ---- the members of bodies
@@ -276,7 +304,8 @@ module _ (readings : Readings) where
     leaf-back : (e : Path × Content) → IsReadLeaf e → leaf_in readings kind (leaf_json e) ≡ e
     leaf-back e h =
         let path = path-back e.0 h.path in
-        let content = ap (λ q. content_in q (content_value (Some e.1))) (ap (place_at (of_kind kind)) path ∙ h.there) ∙ content-back h.place e.1 h.fits h.leaf in
+        let there = ap (place_at (of_kind kind)) path ∙ h.there in
+        let content = ap (λ q. content_in q (content_value (Some e.1))) there ∙ content-back h.place e.1 h.fits h.leaf in
         λ i. (path i, content i)
 
     leaf-shaped : (e : Path × Content) → IsReadLeaf e → has_items (is_path readings ∷ is_anything ∷ []) (leaf_json e) ≡ true
@@ -297,9 +326,10 @@ module _ (readings : Readings) where
     each-order : AllByRecursion IsReadOrder (new_orders v w).entries
     each-order =
         each-answer v (λ p. new_order (get v p) (get w p)) IsReadOrder (λ p es one is.
+        let order = order_at (get w p) in
         by_test (is_reordered (get v p) (get w p))
-        (λ t. (a p one, subst (IsReadPath readings) (same_Some (order_at (get w p)) es (sym (ap (λ x. if x then Some (order_at (get w p)) else None) t) ∙ is)) (items-read p)))
-        (λ t. absurd (none-some es (sym (ap (λ x. if x then Some (order_at (get w p)) else None) t) ∙ is))))
+        (λ t. (a p one, subst (IsReadPath readings) (same_Some order es (sym (ap (λ x. if x then Some order else None) t) ∙ is)) (items-read p)))
+        (λ t. absurd (none-some es (sym (ap (λ x. if x then Some order else None) t) ∙ is))))
 
     order-back : (e : Path × List Element) → IsReadOrder e → order_in readings (order_json e) ≡ e
     order-back e h = λ i. (path-back e.0 h.0 i, path-back e.1 h.1 i)
@@ -316,7 +346,8 @@ module _ (readings : Readings) where
       pub is : e.1 ≡ part_at w e.0
 
     content-there : (p : Path) → has w p ≡ true → (c : Content) × (get w p ≡ Some c)
-    content-there p one = elim (get w p) as (λ o. is_some o ≡ true → (c : Content) × (o ≡ Some c)) [ None ↦ λ h. absurd (true≢false (sym h)) | Some c ↦ λ h. (c, refl) ] one
+    content-there p one =
+        elim (get w p) as (λ o. is_some o ≡ true → (c : Content) × (o ≡ Some c)) [ None ↦ λ h. absurd (true≢false (sym h)) | Some c ↦ λ h. (c, refl) ] one
 
     each-put : AllByRecursion IsReadPut (puts v w).entries
     each-put =
@@ -351,24 +382,90 @@ module _ (readings : Readings) where
 
 -- ---- the laws
 
+-- what is known of the two states
+record IsReadPair (readings : Readings) (kind : Kind) (v w : State) : Type 0 where
+  pub before : IsValidState kind v
+  pub after : IsValidState kind w
+  pub reads : IsReadState readings v
+  pub reads_after : IsReadState readings w
+
+module _ (readings : Readings) (version : Text) (kind : Kind) (v w : State) (r : IsReadPair readings kind v w) where
+  abbrev t : Table
+  t = v.table
+
+  abbrev u : Table
+  u = w.table
+
+  abbrev b : Body
+  b = v.body
+
+  abbrev c : Body
+  c = w.body
+
+  from : AllEntries (IsReadEntry readings) t
+  from = read-entries readings v.body r.reads.paths t r.before.table.ownable r.reads.moments
+
+  to : AllEntries (IsReadEntry readings) u
+  to = read-entries readings w.body r.reads_after.paths u r.after.table.ownable r.reads_after.moments
+
+  all-here : AllByRecursion (λ (x : ℕ × Entry). IsReadEntry readings x.1) (new_in t u)
+  all-here = all-placed readings (λ e. not (is_in_table t e.manager)) 0 u to
+
+  all-cut : AllByRecursion (IsReadPath readings) (paths (cuts b c))
+  all-cut = each-cut readings kind b c r.reads.paths r.reads_after.paths r.after.fits
+
+  all-leaves : AllByRecursion (IsReadLeaf readings kind b c r.reads.paths r.reads_after.paths r.after.fits) (new_leaves b c).entries
+  all-leaves = each-leaf readings kind b c r.reads.paths r.reads_after.paths r.after.fits
+
+  all-orders : AllByRecursion (IsReadOrder readings kind b c r.reads.paths r.reads_after.paths r.after.fits) (new_orders b c).entries
+  all-orders = each-order readings kind b c r.reads.paths r.reads_after.paths r.after.fits
+
+  all-put : AllByRecursion (IsReadPut readings kind b c r.reads.paths r.reads_after.paths r.after.fits) (puts b c).entries
+  all-put = each-put readings kind b c r.reads.paths r.reads_after.paths r.after.fits
+
+  record-shaped : is_record_shape readings (record_json (text_json version) kind (record_of v w)) ≡ true
+  record-shaped =
+      let changed = each-shaped (has_members (change_shape readings)) change_json (change-shaped readings) (changes t u) (all-changes readings u to t from) in
+      let cut = each-shaped (is_path readings) path_json (path-shaped readings) (paths (cuts b c)) all-cut in
+      let gone = items-shaped is_key gone_json (gone_from t u) (each (λ k. is_key (gone_json k) ≡ true) key-shaped (gone_from t u)) in
+      let here = each-shaped (has_members (here_shape readings)) (here_json (text_json version)) (here-shaped readings version) (new_in t u) all-here in
+      let leaves =
+      each-shaped (has_items (is_path readings ∷ is_anything ∷ [])) leaf_json (leaf-shaped readings kind b c r.reads.paths r.reads_after.paths r.after.fits)
+      (new_leaves b c).entries all-leaves in
+      let order =
+      each-shaped (has_items (is_path readings ∷ is_path readings ∷ [])) order_json
+      (order-shaped readings kind b c r.reads.paths r.reads_after.paths r.after.fits) (new_orders b c).entries all-orders in
+      let put =
+      each-shaped (is_put readings) (put_json kind) (put-shaped readings kind b c r.reads.paths r.reads_after.paths r.after.fits) (puts b c).entries all-put in
+      λ i. ((changed i || false) && ((cut i || false) && ((gone i || false) && ((here i || false)
+      && ((leaves i || false) && ((order i || false) && ((put i || false) && true))))))) && true
+
+  record-read : IsLawfulPlace (of_kind kind) → record_in readings kind (record_json (text_json version) kind (record_of v w)) ≡ record_of v w
+  record-read lawful =
+      let changed = each-back (change_in readings) change_json (change-back readings) (changes t u) (all-changes readings u to t from) in
+      let cut = ap listed (each-back (λ j. path_in readings (Some j)) path_json (path-back readings) (paths (cuts b c)) all-cut) ∙ set-again (cuts b c) in
+      let gone = items-back key_in gone_json (gone_from t u) (each (λ k. key_in (gone_json k) ≡ k) key-back (gone_from t u)) in
+      let here = each-back (here_in readings) (here_json (text_json version)) (here-back readings version) (new_in t u) all-here in
+      let leaves =
+      ap from_entries (each-back (leaf_in readings kind) leaf_json (leaf-back readings kind b c r.reads.paths r.reads_after.paths r.after.fits)
+      (new_leaves b c).entries all-leaves)
+      ∙ map-again (new_leaves b c) in
+      let order =
+      ap from_entries (each-back (order_in readings) order_json (order-back readings kind b c r.reads.paths r.reads_after.paths r.after.fits)
+      (new_orders b c).entries all-orders)
+      ∙ map-again (new_orders b c) in
+      let put =
+      ap from_entries (each-back (put_in readings kind) (put_json kind) (put-back readings kind b c r.reads.paths r.reads_after.paths r.after.fits lawful)
+      (puts b c).entries all-put)
+      ∙ map-again (puts b c) in
+      λ i. record {
+        body = record { cut = cut i; leaves = leaves i; order = order i; put = put i };
+        table = record { changed = changed i; gone = gone i; here = here i };
+      }
+
 pub record_texts_have_shape : RecordTextsHaveShape
 record_texts_have_shape readings version kind v w a b h k =
-    let from = read-entries readings v.body h.paths v.table a.table.ownable h.moments in
-    let to = read-entries readings w.body k.paths w.table b.table.ownable k.moments in
-    let ts = v.table in
-    let us = w.table in
-    let changed = items-shaped (has_members (change_shape readings)) change_json (changes ts us) (each-follows _ _ (change-shaped readings) (changes ts us) (all-changes readings us to ts from)) in
-    let cut = items-shaped (is_path readings) path_json (paths (cuts v.body w.body)) (each-follows _ _ (path-shaped readings) (paths (cuts v.body w.body)) (each-cut readings kind v.body w.body h.paths k.paths b.fits)) in
-    let gone = items-shaped is_key gone_json (gone_from ts us) (each (λ k. is_key (gone_json k) ≡ true) key-shaped (gone_from ts us)) in
-    let here = items-shaped (has_members (here_shape readings)) (here_json (text_json version)) (new_in ts us)
-    (each-follows _ _ (here-shaped readings version) (new_in ts us) (all-placed readings (λ e. not (is_in_table ts e.manager)) 0 us to)) in
-    let leaves = items-shaped (has_items (is_path readings ∷ is_anything ∷ [])) leaf_json (new_leaves v.body w.body).entries
-    (each-follows _ _ (leaf-shaped readings kind v.body w.body h.paths k.paths b.fits) (new_leaves v.body w.body).entries (each-leaf readings kind v.body w.body h.paths k.paths b.fits)) in
-    let order = items-shaped (has_items (is_path readings ∷ is_path readings ∷ [])) order_json (new_orders v.body w.body).entries
-    (each-follows _ _ (order-shaped readings kind v.body w.body h.paths k.paths b.fits) (new_orders v.body w.body).entries (each-order readings kind v.body w.body h.paths k.paths b.fits)) in
-    let put = items-shaped (is_put readings) (put_json kind) (puts v.body w.body).entries
-    (each-follows _ _ (put-shaped readings kind v.body w.body h.paths k.paths b.fits) (puts v.body w.body).entries (each-put readings kind v.body w.body h.paths k.paths b.fits)) in
-    λ i. ((changed i || false) && ((cut i || false) && ((gone i || false) && ((here i || false) && ((leaves i || false) && ((order i || false) && ((put i || false) && true))))))) && true
+    record-shaped readings version kind v w (record { before = a; after = b; reads = h; reads_after = k })
 
 lawful-kind : (kind : Kind) → IsSchemaKind kind → IsLawfulPlace (of_kind kind)
 lawful-kind kind h =
@@ -377,29 +474,4 @@ lawful-kind kind h =
 
 pub record_texts_are_read : RecordTextsAreRead
 record_texts_are_read readings version kind v w accepted a b h k =
-    let from = read-entries readings v.body h.paths v.table a.table.ownable h.moments in
-    let to = read-entries readings w.body k.paths w.table b.table.ownable k.moments in
-    let ts = v.table in
-    let us = w.table in
-    let lawful = lawful-kind kind accepted in
-    let changed = items-back (change_in readings) change_json (changes ts us) (each-follows _ _ (change-back readings) (changes ts us) (all-changes readings us to ts from)) in
-    let cut =
-    ap listed (items-back (λ v. path_in readings (Some v)) path_json (paths (cuts v.body w.body))
-    (each-follows _ _ (path-back readings) (paths (cuts v.body w.body)) (each-cut readings kind v.body w.body h.paths k.paths b.fits)))
-    ∙ set-again (cuts v.body w.body) in
-    let gone = items-back key_in gone_json (gone_from ts us) (each (λ k. key_in (gone_json k) ≡ k) key-back (gone_from ts us)) in
-    let here = items-back (here_in readings) (here_json (text_json version)) (new_in ts us)
-    (each-follows _ _ (here-back readings version) (new_in ts us) (all-placed readings (λ e. not (is_in_table ts e.manager)) 0 us to)) in
-    let leaves =
-    ap from_entries (items-back (leaf_in readings kind) leaf_json (new_leaves v.body w.body).entries
-    (each-follows _ _ (leaf-back readings kind v.body w.body h.paths k.paths b.fits) (new_leaves v.body w.body).entries (each-leaf readings kind v.body w.body h.paths k.paths b.fits)))
-    ∙ map-again (new_leaves v.body w.body) in
-    let order =
-    ap from_entries (items-back (order_in readings) order_json (new_orders v.body w.body).entries
-    (each-follows _ _ (order-back readings kind v.body w.body h.paths k.paths b.fits) (new_orders v.body w.body).entries (each-order readings kind v.body w.body h.paths k.paths b.fits)))
-    ∙ map-again (new_orders v.body w.body) in
-    let put =
-    ap from_entries (items-back (put_in readings kind) (put_json kind) (puts v.body w.body).entries
-    (each-follows _ _ (put-back readings kind v.body w.body h.paths k.paths b.fits lawful) (puts v.body w.body).entries (each-put readings kind v.body w.body h.paths k.paths b.fits)))
-    ∙ map-again (puts v.body w.body) in
-    λ i. record { body = record { cut = cut i; leaves = leaves i; order = order i; put = put i }; table = record { changed = changed i; gone = gone i; here = here i } }
+    record-read readings version kind v w (record { before = a; after = b; reads = h; reads_after = k }) (lawful-kind kind accepted)

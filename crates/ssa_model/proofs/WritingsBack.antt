@@ -53,8 +53,9 @@ is_filled (p ∷ ps) = true
 among-head : (e f : Element) (fs : List Element) → is_among e (with_head f fs) ≡ (same_element e f || is_among e fs)
 among-head e f [] = refl
 among-head e f (g ∷ fs) =
-    elim (same_element f g) as (λ b. same_element f g ≡ b → is_among e (if b then g ∷ fs else f ∷ g ∷ fs) ≡ (same_element e f || (same_element e g || is_among e fs))) [
-      | true ↦ λ t. or_twice (same_element e g) (is_among e fs) ∙ ap (λ x. same_element e x || (same_element e g || is_among e fs)) (sym (same_element-true f g t))
+    let later = same_element e g || is_among e fs in
+    elim (same_element f g) as (λ b. same_element f g ≡ b → is_among e (if b then g ∷ fs else f ∷ g ∷ fs) ≡ (same_element e f || later)) [
+      | true ↦ λ t. or_twice (same_element e g) (is_among e fs) ∙ ap (λ x. same_element e x || later) (sym (same_element-true f g t))
       | false ↦ λ t. refl
     ] refl
 
@@ -63,13 +64,19 @@ among-filled e [] = refl
 among-filled e ([] ∷ ps) = among-filled e ps
 among-filled e ((f ∷ p) ∷ ps) =
     among-head e f (heads ps)
-    ∙ elim (same_element e f) as (λ b. (b || is_among e (heads ps)) ≡ is_filled (if b then p ∷ tails e ps else tails e ps)) [ true ↦ refl | false ↦ among-filled e ps ]
+    ∙ elim (same_element e f) as (λ b. (b || is_among e (heads ps)) ≡ is_filled (if b then p ∷ tails e ps else tails e ps)) [
+      | true ↦ refl
+      | false ↦ among-filled e ps
+    ]
 
 -- some element stands in front
 head-form : (e : Element) (fs : List Element) → (g : Element) × ((gs : List Element) × (with_head e fs ≡ g ∷ gs))
 head-form e [] = (e, ([], refl))
 head-form e (f ∷ fs) =
-    elim (same_element e f) as (λ b. (g : Element) × ((gs : List Element) × ((if b then f ∷ fs else e ∷ f ∷ fs) ≡ g ∷ gs))) [ true ↦ (f, (fs, refl)) | false ↦ (e, (f ∷ fs, refl)) ]
+    elim (same_element e f) as (λ b. (g : Element) × ((gs : List Element) × ((if b then f ∷ fs else e ∷ f ∷ fs) ≡ g ∷ gs))) [
+      | true ↦ (f, (fs, refl))
+      | false ↦ (e, (f ∷ fs, refl))
+    ]
 
 root-one : (ps : List Path) → is_one_of ps [] ≡ list_any is_root ps
 root-one [] = refl
@@ -130,6 +137,10 @@ module _ {X : Type 0} where
 
 -- ---- what is written of some paths
 
+-- an object of these members, with `.` in front where the place itself is written
+abbrev dotted : Bool → Members → Json
+dotted b ms = if b then object (member (codes ".") nothing_written ms) else object ms
+
 some-inside : (n : ℕ) (qs : List Path) → is_filled qs ≡ true → longest qs ≤ n → is_nothing_inside (written_paths n qs) ≡ false
 some-inside n [] filled long = absurd (true≢false (sym filled))
 some-inside zero ([] ∷ qs) filled long = refl
@@ -139,13 +150,14 @@ some-inside (suc n) ((e ∷ q) ∷ qs) filled long =
     let ps = (e ∷ q) ∷ qs in
     let form = head-form e (heads qs) in
     let members = field_members (written_paths n) ps (with_head e (heads qs)) in
-    elim (list_any is_root qs) as (λ b. is_nothing_inside (if b then object (member (codes ".") nothing_written members) else object members) ≡ false) [
+    elim (list_any is_root qs) as (λ b. is_nothing_inside (dotted b members) ≡ false) [
       | true ↦ refl
       | false ↦ ap (λ es. is_nothing_inside (object (field_members (written_paths n) ps es))) form.1.1
     ]
 
 -- it isn't `.` alone
-other-value : (n : ℕ) (qs : List Path) → is_filled qs ≡ true → are_apart qs ≡ true → longest qs ≤ n → is_place_alone qs ≡ false → same_json (written_paths n qs) dot_alone ≡ false
+other-value : (n : ℕ) (qs : List Path) → is_filled qs ≡ true → are_apart qs ≡ true → longest qs ≤ n → is_place_alone qs ≡ false
+    → same_json (written_paths n qs) dot_alone ≡ false
 other-value n [] filled apart long off = absurd (true≢false (sym filled))
 other-value n ([] ∷ []) filled apart long off = absurd (true≢false off)
 other-value n ([] ∷ [] ∷ qs) filled apart long off = absurd (true≢false (sym apart))
@@ -158,7 +170,7 @@ other-value (suc n) ((e ∷ q) ∷ qs) filled apart long off =
     let ps = (e ∷ q) ∷ qs in
     let form = head-form e (heads qs) in
     let members = field_members (written_paths n) ps (with_head e (heads qs)) in
-    elim (list_any is_root qs) as (λ b. same_json (if b then object (member (codes ".") nothing_written members) else object members) dot_alone ≡ false) [
+    elim (list_any is_root qs) as (λ b. same_json (dotted b members) dot_alone ≡ false) [
       | true ↦ ap (λ es. same_members (field_members (written_paths n) ps es) no_members) form.1.1
       | false ↦ ap (λ es. same_json (object (field_members (written_paths n) ps es)) dot_alone) form.1.1 ∙ named form.0 form.1.0
     ]
@@ -214,11 +226,13 @@ module _ (readings : Readings) where
   abbrev Says : ℕ → List Path → Type 0
   Says n qs = (q : Path) → is_one_of (said_paths readings.value (written_paths n qs)) q ≡ is_one_of qs q
 
-  inside-said : (n : ℕ) (qs : List Path) → is_filled qs ≡ true → longest qs ≤ n → Says n qs → (q : Path) → is_one_of (inside_paths (below_value n qs)) q ≡ is_one_of qs q
+  inside-said : (n : ℕ) (qs : List Path) → is_filled qs ≡ true → longest qs ≤ n → Says n qs
+      → (q : Path) → is_one_of (inside_paths (below_value n qs)) q ≡ is_one_of qs q
   inside-said n qs filled long says q =
-      elim (is_place_alone qs) as (λ b. is_place_alone qs ≡ b → is_one_of (inside_paths (if b then nothing_written else written_paths n qs)) q ≡ is_one_of qs q) [
+      let v = written_paths n qs in
+      elim (is_place_alone qs) as (λ b. is_place_alone qs ≡ b → is_one_of (inside_paths (if b then nothing_written else v)) q ≡ is_one_of qs q) [
         | true ↦ λ t. ap (λ ps. is_one_of ps q) (sym (alone-is qs t))
-        | false ↦ λ t. ap (λ b. is_one_of (if b then [] ∷ [] else said_paths readings.value (written_paths n qs)) q) (some-inside n qs filled long) ∙ says q
+        | false ↦ λ t. ap (λ b. is_one_of (if b then [] ∷ [] else said_paths readings.value v) q) (some-inside n qs filled long) ∙ says q
       ] refl
 
   -- the paths that a member of the writing says
@@ -236,7 +250,8 @@ module _ (readings : Readings) where
   abbrev members : ℕ → List Path → List Element → Members
   members n ps es = field_members (written_paths n) ps es
 
-  members-no-root : (n : ℕ) (ps : List Path) (es : List Element) → AllByRecursion (IsHead ps) es → is_one_of (member_paths readings.value (members n ps es)) [] ≡ false
+  members-no-root : (n : ℕ) (ps : List Path) (es : List Element) → AllByRecursion (IsHead ps) es
+      → is_one_of (member_paths readings.value (members n ps es)) [] ≡ false
   members-no-root n ps [] h = refl
   members-no-root n ps (f ∷ es) h =
       let inside = inside_paths (below_value n (tails f ps)) in
@@ -244,7 +259,8 @@ module _ (readings : Readings) where
       ap (λ xs. is_one_of (xs ++ rest) []) (own-is n ps f h.0) ∙ list_any-append _ (behind f inside) rest
       ∙ (λ i. no-root f inside i || members-no-root n ps es h.1 i)
 
-  members-said : (n : ℕ) (ps : List Path) (es : List Element) → ((f : Element) → is_filled (tails f ps) ≡ true → Says n (tails f ps)) → longest ps ≤ suc n → AllByRecursion (IsHead ps) es
+  members-said : (n : ℕ) (ps : List Path) (es : List Element)
+      → ((f : Element) → is_filled (tails f ps) ≡ true → Says n (tails f ps)) → longest ps ≤ suc n → AllByRecursion (IsHead ps) es
       → (e : Element) (q : Path) → is_one_of (member_paths readings.value (members n ps es)) (e ∷ q) ≡ (is_among e es && is_one_of (tails e ps) q)
   members-said n ps [] says long h e q = refl
   members-said n ps (f ∷ es) says long h e q =
@@ -253,20 +269,24 @@ module _ (readings : Readings) where
       let below = inside-said n (tails f ps) h.0.1 (longest-tail f ps n long) (says f h.0.1) q in
       ap (λ xs. is_one_of (xs ++ rest) (e ∷ q)) (own-is n ps f h.0) ∙ list_any-append _ (behind f inside) rest
       ∙ (λ i. one-behind e f inside q i || members-said n ps es says long h.1 e q i)
-      ∙ either-way (same_element e f) (is_among e es) (is_one_of (tails e ps) q) (is_one_of inside q) (λ t. below ∙ ap (λ x. is_one_of (tails x ps) q) (sym (same_element-true e f t)))
+      ∙ either-way (same_element e f) (is_among e es) (is_one_of (tails e ps) q) (is_one_of inside q)
+      (λ t. below ∙ ap (λ x. is_one_of (tails x ps) q) (sym (same_element-true e f t)))
 
   written-said : (n : ℕ) (ps : List Path) → longest ps ≤ n → AreRead ps → Says n ps
   written-said zero ps long read [] =
-      elim (list_any is_root ps) as (λ b. list_any is_root ps ≡ b → is_one_of (said_paths readings.value (if b then object (member (codes ".") nothing_written no_members) else nothing_written)) [] ≡ is_one_of ps []) [
+      elim (list_any is_root ps) as (λ b. list_any is_root ps ≡ b → is_one_of (said_paths readings.value (dotted b no_members)) [] ≡ is_one_of ps []) [
         | true ↦ λ t. sym (root-one ps ∙ t)
         | false ↦ λ t. sym (root-one ps ∙ t)
       ] refl
   written-said zero ps long read (e ∷ q) =
       let none = short-none ps e q long in
-      elim (list_any is_root ps) as (λ b. is_one_of (said_paths readings.value (if b then object (member (codes ".") nothing_written no_members) else nothing_written)) (e ∷ q) ≡ is_one_of ps (e ∷ q)) [ true ↦ sym none | false ↦ sym none ]
+      elim (list_any is_root ps) as (λ b. is_one_of (said_paths readings.value (dotted b no_members)) (e ∷ q) ≡ is_one_of ps (e ∷ q)) [
+        | true ↦ sym none
+        | false ↦ sym none
+      ]
   written-said (suc n) ps long read [] =
       let ms = members n ps (heads ps) in
-      elim (list_any is_root ps) as (λ b. list_any is_root ps ≡ b → is_one_of (said_paths readings.value (if b then object (member (codes ".") nothing_written ms) else object ms)) [] ≡ is_one_of ps []) [
+      elim (list_any is_root ps) as (λ b. list_any is_root ps ≡ b → is_one_of (said_paths readings.value (dotted b ms)) [] ≡ is_one_of ps []) [
         | true ↦ λ t. sym (root-one ps ∙ t)
         | false ↦ λ t. members-no-root n ps (heads ps) (all-heads ps read) ∙ sym (root-one ps ∙ t)
       ] refl
@@ -275,27 +295,33 @@ module _ (readings : Readings) where
       let own =
       members-said n ps (heads ps) (λ f filled. written-said n (tails f ps) (longest-tail f ps n long) (read-tail f ps read)) long (all-heads ps read) e q
       ∙ ap (λ b. b && is_one_of (tails e ps) q) (among-filled e ps) ∙ and-filled (tails e ps) q ∙ one-tail e ps q in
-      elim (list_any is_root ps) as (λ b. is_one_of (said_paths readings.value (if b then object (member (codes ".") nothing_written ms) else object ms)) (e ∷ q) ≡ is_one_of ps (e ∷ q)) [ true ↦ own | false ↦ own ]
+      elim (list_any is_root ps) as (λ b. is_one_of (said_paths readings.value (dotted b ms)) (e ∷ q) ≡ is_one_of ps (e ∷ q)) [ true ↦ own | false ↦ own ]
 
   -- ---- that the writing has no fault
 
   abbrev below_faults : Json → List ElementFault
   below_faults v = if same_json v dot_alone then not_canonical ∷ [] else fields_faults readings.value v
 
-  below-faultless : (n : ℕ) (qs : List Path) → is_filled qs ≡ true → are_apart qs ≡ true → longest qs ≤ n → fields_faults readings.value (written_paths n qs) ≡ [] → below_faults (below_value n qs) ≡ []
+  below-faultless : (n : ℕ) (qs : List Path) → is_filled qs ≡ true → are_apart qs ≡ true → longest qs ≤ n
+      → fields_faults readings.value (written_paths n qs) ≡ [] → below_faults (below_value n qs) ≡ []
   below-faultless n qs filled apart long inside =
       elim (is_place_alone qs) as (λ b. is_place_alone qs ≡ b → below_faults (if b then nothing_written else written_paths n qs) ≡ []) [
         | true ↦ λ t. refl
-        | false ↦ λ t. ap (λ b. if b then not_canonical ∷ [] else fields_faults readings.value (written_paths n qs)) (other-value n qs filled apart long t) ∙ inside
+        | false ↦ λ t.
+            ap (λ b. if b then not_canonical ∷ [] else fields_faults readings.value (written_paths n qs)) (other-value n qs filled apart long t) ∙ inside
       ] refl
 
-  members-faultless : (n : ℕ) (ps : List Path) (es : List Element) → ((f : Element) → fields_faults readings.value (written_paths n (tails f ps)) ≡ []) → longest ps ≤ suc n → are_apart ps ≡ true → AllByRecursion (IsHead ps) es
+  members-faultless : (n : ℕ) (ps : List Path) (es : List Element) → ((f : Element) → fields_faults readings.value (written_paths n (tails f ps)) ≡ [])
+      → longest ps ≤ suc n → are_apart ps ≡ true → AllByRecursion (IsHead ps) es
       → member_faults readings.value (members n ps es) ≡ []
   members-faultless n ps [] inside long apart h = refl
   members-faultless n ps (f ∷ es) inside long apart h =
       let v = below_value n (tails f ps) in
       let own =
-      ap (λ b. if b then (if is_nothing_inside v then [] else bad_element ∷ []) else elim (element_of readings.value (element_text f)) [ Err x ↦ x ∷ [] | Ok e ↦ below_faults v ]) (no-dot f)
+      ap
+      (λ b. if b then (if is_nothing_inside v then [] else bad_element ∷ [])
+      else elim (element_of readings.value (element_text f)) [ Err x ↦ x ∷ [] | Ok e ↦ below_faults v ])
+      (no-dot f)
       ∙ ap (λ (r : Result Element ElementFault). elim r [ Err x ↦ x ∷ [] | Ok e ↦ below_faults v ]) h.0.0
       ∙ below-faultless n (tails f ps) h.0.1 (apart-tail f ps apart) (longest-tail f ps n long) (inside f) in
       let rest = members-faultless n ps es inside long apart h.1 in
@@ -303,11 +329,12 @@ module _ (readings : Readings) where
 
   written-faultless : (n : ℕ) (ps : List Path) → longest ps ≤ n → are_apart ps ≡ true → AreRead ps → fields_faults readings.value (written_paths n ps) ≡ []
   written-faultless zero ps long apart read =
-      elim (list_any is_root ps) as (λ b. fields_faults readings.value (if b then object (member (codes ".") nothing_written no_members) else nothing_written) ≡ []) [ true ↦ refl | false ↦ refl ]
+      elim (list_any is_root ps) as (λ b. fields_faults readings.value (dotted b no_members) ≡ []) [ true ↦ refl | false ↦ refl ]
   written-faultless (suc n) ps long apart read =
       let ms = members n ps (heads ps) in
-      let own = members-faultless n ps (heads ps) (λ f. written-faultless n (tails f ps) (longest-tail f ps n long) (apart-tail f ps apart) (read-tail f ps read)) long apart (all-heads ps read) in
-      elim (list_any is_root ps) as (λ b. fields_faults readings.value (if b then object (member (codes ".") nothing_written ms) else object ms) ≡ []) [ true ↦ own | false ↦ own ]
+      let below = λ (f : Element). written-faultless n (tails f ps) (longest-tail f ps n long) (apart-tail f ps apart) (read-tail f ps read) in
+      let own = members-faultless n ps (heads ps) below long apart (all-heads ps read) in
+      elim (list_any is_root ps) as (λ b. fields_faults readings.value (dotted b ms) ≡ []) [ true ↦ own | false ↦ own ]
 
   -- ---- sets
 
@@ -325,4 +352,5 @@ module _ (readings : Readings) where
   pub set-said : (s : PathSet) → IsReadSet s → said_set readings.value (fields_json s) ≡ s
   set-said s h =
       same_sets (said_set readings.value (fields_json s)) s (λ p.
-      has-listed (said_paths readings.value (fields_json s)) p ∙ written-said (longest (paths s)) (paths s) (omega arith) (read-paths s h) p ∙ sym (has-paths s p))
+      has-listed (said_paths readings.value (fields_json s)) p
+      ∙ written-said (longest (paths s)) (paths s) (omega arith) (read-paths s h) p ∙ sym (has-paths s p))
