@@ -98,4 +98,9 @@ module _ (vs : List Json) where
 
 -- the bench file
 pub bench_file_is_met : BenchFileIsMet
-bench_file_is_met = record { valid = filed-valid (bench_values filed); text = refl; fits = le-of (length (bench_text filed)) most_bench_bytes refl; spelled = values-spelled }
+bench_file_is_met = record {
+  valid = filed-valid (bench_values filed);
+  text = refl;
+  fits = le-of (length (bench_text filed)) most_bench_bytes refl;
+  spelled = values-spelled;
+}

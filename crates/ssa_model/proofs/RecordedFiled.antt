@@ -16,7 +16,8 @@ read-history =
     let readings = readings_of (recorded_values filed) in
     record {
       first = read-paths-of readings filed.timeline.first.body (tt, tt);
-      later = All-cons (HasReadStep readings) applied_step [] (read-paths-of readings applied_step.state.body (tt, ((refl, tt), ((refl, (refl, tt)), tt)))) (All-nil (HasReadStep readings));
+      later = All-cons (HasReadStep readings) applied_step [] (read-paths-of readings applied_step.state.body (tt, ((refl, tt), ((refl, (refl, tt)), tt))))
+          (All-nil (HasReadStep readings));
     }
 
 values-spelled : All (IsSpelled (readings_of (recorded_values filed))) (recorded_values filed)

@@ -56,13 +56,17 @@ module _ (readings : Readings) (bench : Bench) (valid : IsValidBench readings be
   AreGoodMoves v [] = Unit {0}
   AreGoodMoves v (s ∷ ss) = IsGoodMove v s × AreGoodMoves s.state ss
 
-  good-moves : (v : State) (ss : List Step) → IsGoodState v → All (MakesValid bench.schema.kind) ss → All (IsStep readings) ss → All (HasReadStep readings) ss → KeepsOrders v ss → AreGoodMoves v ss
+  good-moves : (v : State) (ss : List Step) → IsGoodState v → All (MakesValid bench.schema.kind) ss → All (IsStep readings) ss → All (HasReadStep readings) ss
+      → KeepsOrders v ss → AreGoodMoves v ss
   good-moves v [] good valids steps paths order = tt
   good-moves v (s ∷ ss) good valids steps paths order =
       let step = All-head (IsStep readings) s ss steps in
-      let next : IsGoodState s.state = record { valid_state = All-head (MakesValid bench.schema.kind) s ss valids; back = step.table; paths = All-head (HasReadStep readings) s ss paths } in (
+      let valid_next = All-head (MakesValid bench.schema.kind) s ss valids in
+      let read_next = All-head (HasReadStep readings) s ss paths in
+      let next : IsGoodState s.state = record { valid_state = valid_next; back = step.table; paths = read_next } in (
         record { from = good; to = next; label = step.label; order = order.0 },
-        good-moves s.state ss next (All-tail (MakesValid bench.schema.kind) s ss valids) (All-tail (IsStep readings) s ss steps) (All-tail (HasReadStep readings) s ss paths) order.1,
+        good-moves s.state ss next (All-tail (MakesValid bench.schema.kind) s ss valids) (All-tail (IsStep readings) s ss steps)
+            (All-tail (HasReadStep readings) s ss paths) order.1,
       )
 
   good-take : (n : ℕ) (v : State) (ss : List Step) → AreGoodMoves v ss → AreGoodMoves v (take n ss)
@@ -82,14 +86,16 @@ module _ (readings : Readings) (bench : Bench) (valid : IsValidBench readings be
 
   -- ---- one line
 
-  record-is : (v w : State) → IsGoodState v → IsGoodState w → record_in readings bench.schema.kind (record_json (version_in bench.identity.version) bench.schema.kind (record_of v w)) ≡ record_of v w
+  record-is : (v w : State) → IsGoodState v → IsGoodState w
+      → record_in readings bench.schema.kind (record_json (version_in bench.identity.version) bench.schema.kind (record_of v w)) ≡ record_of v w
   record-is v w a b =
       let p = identity-parts bench.identity valid.named in
       ap (λ (i : Identity). record_in readings bench.schema.kind (record_json (version_in i.version) bench.schema.kind (record_of v w))) p.is
       ∙ record_texts_are_read readings p.version bench.schema.kind v w valid.accepted a.valid_state b.valid_state
       (record { paths = a.paths; moments = moments-of readings v.table a.back }) (record { paths = b.paths; moments = moments-of readings w.table b.back })
 
-  led-back : (label : Label) (v w : State) → IsGoodState v → IsGoodState w → KeepsOrder v.table w.table → led_state readings bench v (record_line bench label v w) ≡ Some w
+  led-back : (label : Label) (v w : State) → IsGoodState v → IsGoodState w → KeepsOrder v.table w.table
+      → led_state readings bench v (record_line bench label v w) ≡ Some w
   led-back label v w a b order =
       let carried = ap (λ (d : Record). carry d v) (record-is v w a b) ∙ record_leads bench.schema.kind v w a.valid_state b.valid_state order in
       ap (λ s. of_result (file_state readings bench.schema.kind (whole_object bench s))) carried
@@ -98,7 +104,8 @@ module _ (readings : Readings) (bench : Bench) (valid : IsValidBench readings be
       of_result : Result State Fault → Option State
       of_result r = elim r [ Ok x ↦ Some x | Err f ↦ None ]
 
-  move-back : (label : Label) (v w : State) → IsLabel readings label → IsGoodState v → IsGoodState w → KeepsOrder v.table w.table → move_in readings bench v (record_line bench label v w) ≡ Some (label, w)
+  move-back : (label : Label) (v w : State) → IsLabel readings label → IsGoodState v → IsGoodState w → KeepsOrder v.table w.table
+      → move_in readings bench v (record_line bench label v w) ≡ Some (label, w)
   move-back label v w h a b order =
       let j = record_line bench label v w in
       ap (option_and_then (λ l. option_and_then (move_to readings bench v j l) (led_state readings bench v j))) (label-back readings label h)
@@ -114,7 +121,8 @@ module _ (readings : Readings) (bench : Bench) (valid : IsValidBench readings be
       let j = record_line bench s.label s.state v in
       ap (λ js. past_in readings bench (last_state s.state ss) js acc) (append_assoc (past_lines bench s.state ss) (j ∷ []) rest)
       ∙ past-back s.state ss (j ∷ rest) acc h.1
-      ∙ ap (option_and_then (λ m. past_in readings bench m.1 rest (record { label = m.0; state = s.state } ∷ (ss ++ acc)))) (move-back s.label s.state v h.0.label h.0.to h.0.from (sym h.0.order))
+      ∙ ap (option_and_then (λ m. past_in readings bench m.1 rest (record { label = m.0; state = s.state } ∷ (ss ++ acc))))
+      (move-back s.label s.state v h.0.label h.0.to h.0.from (sym h.0.order))
 
   future-back : (v : State) (ss : List Step) → AreGoodMoves v ss → future_in readings bench v (future_lines bench v ss) ≡ Some ss
   future-back v [] h = refl
@@ -140,7 +148,8 @@ counts-back : (past future : ℕ) → counts_in (record_head past future) ≡ So
 counts-back past future = ap (λ b. given_if {X = Counts} b (record { past = past; future = future })) (written-itself (record_head past future))
 
 present-by : (v : Json) (r : Result Bench Fault) (now : Bench)
-    → r ≡ Ok now → whole_object now now.timeline.first ≡ v → elim r [ Ok bench ↦ given_if (is_written_as (whole_object bench bench.timeline.first) v) bench | Err f ↦ None ] ≡ Some now
+    → r ≡ Ok now → whole_object now now.timeline.first ≡ v
+    → elim r [ Ok bench ↦ given_if (is_written_as (whole_object bench bench.timeline.first) v) bench | Err f ↦ None ] ≡ Some now
 present-by v r now is same =
     ap (λ (r : Result Bench Fault). elim r [ Ok bench ↦ given_if (is_written_as (whole_object bench bench.timeline.first) v) bench | Err f ↦ None ]) is
     ∙ ap (λ b. given_if b now) (ap (is_written_as (whole_object now now.timeline.first)) (sym same) ∙ written-itself (whole_object now now.timeline.first))
@@ -179,14 +188,16 @@ module _ (readings : Readings) (bench : Bench) (valid : IsValidBench readings be
   present-back : present_in readings bench.schema (whole_object bench v) ≡ Some now
   present-back =
       let good = good-last readings bench valid bench.timeline.place first bench.timeline.later good-first good-all in
-      present-by (whole_object bench v) (bench_of readings bench.schema (whole_object bench v)) now (shown-back readings bench valid v good.valid_state good.back) refl
+      present-by (whole_object bench v) (bench_of readings bench.schema (whole_object bench v)) now
+      (shown-back readings bench valid v good.valid_state good.back) refl
 
   place-many : length back_lines ≡ bench.timeline.place
   place-many = past-many bench first before ∙ length-take-le bench.timeline.place bench.timeline.later valid.place
 
   past-is : past_in readings now v (take bench.timeline.place (back_lines ++ on_lines)) [] ≡ Some (first, before)
   past-is =
-      ap (λ js. past_in readings now v js []) (ap (λ n. take n (back_lines ++ on_lines)) (sym place-many) ∙ take-append_seam back_lines on_lines ∙ sym (append-nil back_lines))
+      ap (λ js. past_in readings now v js [])
+      (ap (λ n. take n (back_lines ++ on_lines)) (sym place-many) ∙ take-append_seam back_lines on_lines ∙ sym (append-nil back_lines))
       ∙ past-back readings bench valid first before [] [] (good-take readings bench valid bench.timeline.place first bench.timeline.later good-all)
       ∙ ap (λ ss. Some (first, ss)) (append-nil before)
 
@@ -204,11 +215,12 @@ module _ (readings : Readings) (bench : Bench) (valid : IsValidBench readings be
       let left = length-drop place later in
       let within = valid.place in
       let short = valid.few in
-      let lines : length (back_lines ++ on_lines) ≡ place + (length later - place) = both ∙ (λ i. place-many i + (on ∙ left) i) in
-      let many : (length (back_lines ++ on_lines) == place + (length later - place)) ≡ true = ap (λ n. n == place + (length later - place)) lines ∙ nat-itself (place + (length later - place)) in
-      let sum : place + (length later - place) ≤ most_past = omega (arith, within, short) in
+      let all = place + (length later - place) in
+      let lines : length (back_lines ++ on_lines) ≡ all = both ∙ (λ i. place-many i + (on ∙ left) i) in
+      let many : (length (back_lines ++ on_lines) == all) ≡ true = ap (λ n. n == all) lines ∙ nat-itself all in
+      let sum : all ≤ most_past = omega (arith, within, short) in
       ap (λ b. given_if b (with_timeline now (record { first = first; later = before ++ behind; place = place })))
-      (and_from (length (back_lines ++ on_lines) == place + (length later - place)) (nat_le (place + (length later - place)) most_past) many (nat_le-of (place + (length later - place)) most_past sum))
+      (and_from (length (back_lines ++ on_lines) == all) (nat_le all most_past) many (nat_le-of all most_past sum))
       ∙ ap (λ ss. Some (with_timeline now (record { first = first; later = ss; place = place }))) (take-append-drop place later)
 
   abbrev js : List Json
@@ -234,7 +246,8 @@ module _ (readings : Readings) (bench : Bench) (valid : IsValidBench readings be
       of_counts : Counts → Option Bench
       of_counts c = option_and_then (of_schema c) (schema_in bench.schema.source)
 
-  recorded-text-back : length (recorded_text bench) ≤ most_bench_bytes → All (IsSpelled readings) (recorded_values bench) → recorded_bench_in readings (recorded_text bench) ≡ Some bench
+  recorded-text-back : length (recorded_text bench) ≤ most_bench_bytes → All (IsSpelled readings) (recorded_values bench)
+      → recorded_bench_in readings (recorded_text bench) ≡ Some bench
   recorded-text-back h spelled =
       ap (λ b. if b then of_lines (text_lines (recorded_text bench)) else None) (nat_le-of (length (recorded_text bench)) most_bench_bytes h)
       ∙ ap of_lines (text_lines-of (recorded_values bench))

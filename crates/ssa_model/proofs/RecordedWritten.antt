@@ -47,7 +47,8 @@ present-from v (Err f) now is = absurd (none-some now is)
 
 module _ (bench : Bench) where
   -- with one step more, one line more stands in front
-  past-push : (v : State) (ss : List Step) (s : Step) → past_lines bench v (ss ++ s ∷ []) ≡ record_line bench s.label s.state (last_state v ss) ∷ past_lines bench v ss
+  past-push : (v : State) (ss : List Step) (s : Step)
+      → past_lines bench v (ss ++ s ∷ []) ≡ record_line bench s.label s.state (last_state v ss) ∷ past_lines bench v ss
   past-push v [] s = refl
   past-push v (t ∷ ss) s = ap (λ js. js ++ record_line bench t.label t.state v ∷ []) (past-push t.state ss s)
 
@@ -139,7 +140,8 @@ module _ (readings : Readings) (head source shown : Json) (js : List Json) (benc
       ∙ (λ i. back.lines i ++ on i)
       ∙ sym (map-append compact (past_lines now past.0 back.steps) (future_lines now v future))
       ∙ (λ i. map compact (past_lines now past.0 ((same ∙ sym taken) i) ++ future_lines now (sym now_is i) (sym dropped i))) in
-      let written : map compact (head ∷ source ∷ shown ∷ js) ≡ map compact (recorded_values made) = λ i. head_is i ∷ compact (source_is i) ∷ shown_is i ∷ lines_are i in
+      let written : map compact (head ∷ source ∷ shown ∷ js) ≡ map compact (recorded_values made) =
+      λ i. head_is i ∷ compact (source_is i) ∷ shown_is i ∷ lines_are i in
       written ∙ ap (λ b. map compact (recorded_values b)) got.1
 
   abbrev of_now : Counts → Bench → Option Bench
@@ -155,7 +157,8 @@ module _ (readings : Readings) (head source shown : Json) (js : List Json) (benc
       → counts_in head ≡ Some c → schema_in source ≡ Some schema → present_in readings schema shown ≡ Some now → of_now c now ≡ Some bench → Written
   by-now c schema now counted schemed there is =
       let v = now.timeline.first in
-      let past = and_then-back (λ past. option_and_then (with_moves c now js past) (future_in readings now v (drop c.past js))) (past_in readings now v (take c.past js) []) bench is in
+      let of_past = λ (past : State × List Step). option_and_then (with_moves c now js past) (future_in readings now v (drop c.past js)) in
+      let past = and_then-back of_past (past_in readings now v (take c.past js) []) bench is in
       let future = and_then-back (with_moves c now js past.0) (future_in readings now v (drop c.past js)) bench past.2 in
       by-moves c schema now past.0 future.0 counted schemed there past.1 future.1 future.2
 
@@ -175,7 +178,8 @@ module _ (readings : Readings) (head source shown : Json) (js : List Json) (benc
       by-counts got.0 got.1 got.2
 
 -- the values from which a bench is taken have the texts of those that are written of it
-pub recorded-written : (readings : Readings) (vs : List Json) (bench : Bench) → recorded_bench readings vs ≡ Some bench → map compact vs ≡ map compact (recorded_values bench)
+pub recorded-written : (readings : Readings) (vs : List Json) (bench : Bench) → recorded_bench readings vs ≡ Some bench
+    → map compact vs ≡ map compact (recorded_values bench)
 recorded-written readings [] bench is = absurd (none-some bench is)
 recorded-written readings (head ∷ []) bench is = absurd (none-some bench is)
 recorded-written readings (head ∷ source ∷ []) bench is = absurd (none-some bench is)

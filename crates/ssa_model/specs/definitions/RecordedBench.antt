@@ -19,7 +19,8 @@ use Rattle.ssa_model.specs.definitions.RecordReading.{HasReadPaths}
 
 -- the format, and how many commands can be redone and undone
 abbrev pub record_head : ℕ → ℕ → Json
-record_head past future = object (member (codes "format") (number_json 2) (member (codes "future") (number_json future) (member (codes "past") (number_json past) no_members)))
+record_head past future =
+    object (member (codes "format") (number_json 2) (member (codes "future") (number_json future) (member (codes "past") (number_json past) no_members)))
 
 -- a command, and the record of the move from one state to another across it
 abbrev pub record_line : Bench → Label → State → State → Json

@@ -4,7 +4,7 @@ use Rattle.std.specs.List.{list_any, list_all}
 use Rattle.ssa_model.specs.definitions.Json.{Text, Json, list, object, no_items, Members, no_members, member, compact, same_text}
 use Rattle.ssa_model.specs.definitions.Readings.{Readings}
 use Rattle.ssa_model.specs.definitions.Operations.{State}
-use Rattle.ssa_model.specs.definitions.Record.{record_of}
+use Rattle.ssa_model.specs.definitions.Record.{Record, record_of}
 use Rattle.ssa_model.specs.definitions.RecordText.{record_json}
 use Rattle.ssa_model.specs.definitions.RecordReading.{is_record_shape, record_in, IsReadState}
 use Rattle.ssa_model.specs.examples.Sample.{sample_kind, string_json, number_json}
@@ -19,21 +19,27 @@ name_key n = object (member (codes "name") (string_json n) no_members)
 abbrev pub host_values : List Json
 host_values = string_json (codes "a") ∷ string_json (codes "b") ∷ string_json (codes "c") ∷ string_json (codes "d") ∷ string_json (codes "x") ∷ []
 
+abbrev pub key_values : List Json
+key_values = name_key (codes "a") ∷ name_key (codes "b") ∷ name_key (codes "c") ∷ host_values
+
 -- the keys and values of the rows are read from their texts, and their moments are moments
 abbrev pub record_readings : Readings
 record_readings = record {
-  value = λ t. if same_text t (codes " 1") then Ok (number_json 1) else value_among (name_key (codes "a") ∷ name_key (codes "b") ∷ name_key (codes "c") ∷ host_values) t;
+  value = λ t. if same_text t (codes " 1") then Ok (number_json 1) else value_among key_values t;
   moment = λ t. list_any (same_text t) (codes "2024-05-01T10:00:01Z" ∷ codes "2024-05-01T10:00:02Z" ∷ codes "2024-05-01T10:00:04Z" ∷ codes "t2" ∷ []);
 }
 
+abbrev pub written_record : Record → Json
+written_record d = record_json (string_json (codes "example.com/v1")) sample_kind d
+
 abbrev pub row_record : State → State → Json
-row_record v w = record_json (string_json (codes "example.com/v1")) sample_kind (record_of v w)
+row_record v w = written_record (record_of v w)
 
 -- the record has its shape, and what is read from it is written as it is
 abbrev pub is_read : State → State → Bool
 is_read v w =
     is_record_shape record_readings (row_record v w)
-    && same_text (compact (record_json (string_json (codes "example.com/v1")) sample_kind (record_in record_readings sample_kind (row_record v w)))) (record_text v w)
+    && same_text (compact (written_record (record_in record_readings sample_kind (row_record v w)))) (record_text v w)
 
 -- back and forth
 abbrev pub are_read : State → State → Bool
@@ -55,7 +61,8 @@ nothing = list no_items
 -- the value of a record with these members in place of its own
 abbrev pub members_with : Json → Json → Json → Json → Members → Members
 members_with changed cut gone here rest =
-    member (codes "changed") changed (member (codes "cut") cut (member (codes "gone") gone (member (codes "here") here (member (codes "leaves") nothing (member (codes "order") nothing rest)))))
+    member (codes "changed") changed (member (codes "cut") cut (member (codes "gone") gone (member (codes "here") here
+    (member (codes "leaves") nothing (member (codes "order") nothing rest)))))
 
 abbrev pub record_with : Json → Json → Json → Json → Json → Json
 record_with changed cut gone here put = object (members_with changed cut gone here (member (codes "put") put no_members))
@@ -87,11 +94,13 @@ put_alone vs = record_with nothing nothing nothing nothing (list_of (list_of vs 
 abbrev pub has_shape : Json → Bool
 has_shape = is_record_shape record_readings
 
--- these have the shape of a record, be it the record of states or not: a path that no body has, a change, one who is gone, and what stands in no list with a place
+-- these have the shape of a record, be it the record of states or not: a path that no body has, changes with a moment and without,
+-- one who is gone, and what stands in no list with a place
 abbrev pub ShapesAreTold : Type 0
 ShapesAreTold =
     list_all has_shape
-    (cut_alone (codes "f:nothing" ∷ []) ∷ change_alone (fields_at (codes "f:a" ∷ [])) (member (codes "time") (string_json (codes "t2")) no_members) ∷ change_alone (fields_at []) no_members
+    (cut_alone (codes "f:nothing" ∷ []) ∷ change_alone (fields_at (codes "f:a" ∷ [])) (member (codes "time") (string_json (codes "t2")) no_members)
+    ∷ change_alone (fields_at []) no_members
     ∷ gone_alone (codes "Update") ∷ put_alone (path_of_texts (codes "f:spec" ∷ []) ∷ number_json 1 ∷ number_json 7 ∷ []) ∷ []) ≡ true
 
 -- a member missing, one more, an element with a blank in it, `.` alone under an element, an operation and a moment that are none,

@@ -16,11 +16,14 @@ use Rattle.ssa_model.specs.examples.RecordReadingRows.{nothing, list_of, path_of
 
 abbrev pub sample_text : Text
 sample_text =
-    codes "{\"properties\":{\"spec\":{\"properties\":{\"args\":{\"items\":{\"type\":\"string\"},\"type\":\"array\"},\"env\":{\"additionalProperties\":{\"type\":\"string\"},\"type\":\"object\"},"
+    codes "{\"properties\":{\"spec\":{\"properties\":{\"args\":{\"items\":{\"type\":\"string\"},\"type\":\"array\"},"
+    ++ codes "\"env\":{\"additionalProperties\":{\"type\":\"string\"},\"type\":\"object\"},"
     ++ codes "\"hosts\":{\"items\":{\"type\":\"string\"},\"type\":\"array\",\"x-kubernetes-list-type\":\"set\"},\"image\":{\"type\":\"string\"},"
     ++ codes "\"limits\":{\"additionalProperties\":{\"type\":\"integer\"},\"type\":\"object\",\"x-kubernetes-map-type\":\"atomic\"},"
-    ++ codes "\"ports\":{\"items\":{\"properties\":{\"name\":{\"type\":\"string\"},\"port\":{\"type\":\"integer\"},\"proto\":{\"type\":\"string\"}},\"type\":\"object\"},\"type\":\"array\","
-    ++ codes "\"x-kubernetes-list-map-keys\":[\"name\"],\"x-kubernetes-list-type\":\"map\"},\"replicas\":{\"type\":\"integer\"}},\"type\":\"object\"}},\"type\":\"object\"}"
+    ++ codes "\"ports\":{\"items\":{\"properties\":{\"name\":{\"type\":\"string\"},"
+    ++ codes "\"port\":{\"type\":\"integer\"},\"proto\":{\"type\":\"string\"}},\"type\":\"object\"},\"type\":\"array\","
+    ++ codes "\"x-kubernetes-list-map-keys\":[\"name\"],\"x-kubernetes-list-type\":\"map\"},"
+    ++ codes "\"replicas\":{\"type\":\"integer\"}},\"type\":\"object\"}},\"type\":\"object\"}"
 
 abbrev pub applied_entry : Text
 applied_entry =
@@ -29,7 +32,8 @@ applied_entry =
 
 abbrev pub applied_object : Text
 applied_object =
-    codes "{\"apiVersion\":\"example.com/v1\",\"kind\":\"App\",\"metadata\":{\"managedFields\":[" ++ applied_entry ++ codes "],\"name\":\"web\"},\"spec\":{\"replicas\":3}}"
+    codes "{\"apiVersion\":\"example.com/v1\",\"kind\":\"App\",\"metadata\":{\"managedFields\":[" ++ applied_entry
+    ++ codes "],\"name\":\"web\"},\"spec\":{\"replicas\":3}}"
 
 abbrev pub with_command : Text → Text
 with_command record_text =
@@ -61,7 +65,8 @@ RecordedFilesAreWritten =
 
 -- the bench is taken from its values, and what is taken has its text
 abbrev pub is_taken_again : Bench → Bool
-is_taken_again bench = elim (recorded_bench file_readings (recorded_values bench)) [ Some taken ↦ same_text (recorded_text taken) (recorded_text bench) | None ↦ false ]
+is_taken_again bench =
+    elim (recorded_bench file_readings (recorded_values bench)) [ Some taken ↦ same_text (recorded_text taken) (recorded_text bench) | None ↦ false ]
 
 abbrev pub RecordedValuesAreTaken : Type 0
 RecordedValuesAreTaken = (is_taken_again applied_bench ≡ true) × (is_taken_again (after (one_apply ∷ undo ∷ [])) ≡ true)
@@ -77,7 +82,10 @@ moved_value record_value = object (member (codes "command") (label_json applied_
 
 -- the value is read from this text alone, and 1 from a text with a blank
 abbrev pub reads_alone : Text → Json → Readings
-reads_alone t j = record { value = λ u. if same_text u (codes " 1") then Ok (number_json 1) else (if same_text u t then Ok j else value_among [] u); moment = file_readings.moment }
+reads_alone t j = record {
+  value = λ u. if same_text u (codes " 1") then Ok (number_json 1) else (if same_text u t then Ok j else value_among [] u);
+  moment = file_readings.moment;
+}
 
 -- the number of the fault of a text that is read as this value, in the state after the apply
 abbrev pub text_number : Text → Json → Option ℕ
@@ -89,8 +97,19 @@ record_number d = text_number (compact (moved_value d)) (moved_value d)
 abbrev pub spec_path : Json
 spec_path = path_of_texts (codes "f:spec" ∷ [])
 
+abbrev pub one_gone : Text → Json
+one_gone name = list_of (list_of (string_json name ∷ string_json (codes "Apply") ∷ []) ∷ [])
+
 abbrev pub m1_gone : Json
-m1_gone = list_of (list_of (string_json (codes "m1") ∷ string_json (codes "Apply") ∷ []) ∷ [])
+m1_gone = one_gone (codes "m1")
+
+-- members in another order
+abbrev pub other_order : Text
+other_order = codes "{\"cut\":[[\"f:spec\"]],\"changed\":[],\"gone\":[[\"m1\",\"Apply\"]],\"here\":[],\"leaves\":[],\"order\":[],\"put\":[]}"
+
+-- a path with a number
+abbrev pub one_at : List Text → ℕ → Json
+one_at ts n = list_of (list_of (path_of_texts ts ∷ number_json n ∷ []) ∷ [])
 
 abbrev pub undo_value : Json
 undo_value = record_with nothing (list_of (spec_path ∷ [])) m1_gone nothing nothing
@@ -108,10 +127,10 @@ DamagedLinesAreTold =
     × (record_number (record_with nothing (list_of (path_of_texts (codes "f:nothing" ∷ []) ∷ [])) m1_gone nothing nothing) ≡ Some 71)
     × (record_number (record_with nothing (list_of (spec_path ∷ [])) nothing nothing nothing) ≡ Some 71)
     × (record_number (record_with nothing (list_of (path_of_texts (codes "v: 1" ∷ []) ∷ [])) m1_gone nothing nothing) ≡ Some 70)
-    × (text_number (with_command (codes "{\"cut\":[[\"f:spec\"]],\"changed\":[],\"gone\":[[\"m1\",\"Apply\"]],\"here\":[],\"leaves\":[],\"order\":[],\"put\":[]}")) (moved_value undo_value) ≡ Some 70)
-    × (record_number (replicas_cut (list_of (list_of (path_of_texts (codes "f:spec" ∷ codes "f:replicas" ∷ []) ∷ number_json 3 ∷ []) ∷ []))) ≡ Some 71)
-    × (record_number (record_with nothing nothing (list_of (list_of (string_json (codes "m2") ∷ string_json (codes "Apply") ∷ []) ∷ [])) nothing nothing) ≡ Some 71)
-    × (record_number (record_with nothing nothing nothing nothing (list_of (list_of (path_of_texts (codes "f:size" ∷ []) ∷ number_json 1 ∷ []) ∷ []))) ≡ Some 71)
+    × (text_number (with_command other_order) (moved_value undo_value) ≡ Some 70)
+    × (record_number (replicas_cut (one_at (codes "f:spec" ∷ codes "f:replicas" ∷ []) 3)) ≡ Some 71)
+    × (record_number (record_with nothing nothing (one_gone (codes "m2")) nothing nothing) ≡ Some 71)
+    × (record_number (record_with nothing nothing nothing nothing (one_at (codes "f:size" ∷ []) 1)) ≡ Some 71)
     × (text_number [] (moved_value undo_value) ≡ Some 70)
 
 abbrev pub is_text_taken : List Json → Text → Bool

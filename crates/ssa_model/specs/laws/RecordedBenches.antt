@@ -25,12 +25,15 @@ pub record Counts : Type 0 where
 
 abbrev pub counts_in : Json → Option Counts
 counts_in v =
-    option_and_then (λ past. option_and_then (λ future. given_if (is_written_as (record_head past future) v) (record { past = past; future = future })) (number_in (member_at (codes "future") v)))
+    option_and_then
+    (λ past. option_and_then (λ future. given_if (is_written_as (record_head past future) v) (record { past = past; future = future }))
+    (number_in (member_at (codes "future") v)))
     (number_in (member_at (codes "past") v))
 
 -- the bench of the present state alone
 abbrev pub present_in : Readings → Schema → Json → Option Bench
-present_in readings schema v = elim (bench_of readings schema v) [ Ok bench ↦ given_if (is_written_as (whole_object bench bench.timeline.first) v) bench | Err f ↦ None ]
+present_in readings schema v =
+    elim (bench_of readings schema v) [ Ok bench ↦ given_if (is_written_as (whole_object bench bench.timeline.first) v) bench | Err f ↦ None ]
 
 -- ---- the lines
 
@@ -38,10 +41,8 @@ module _ (readings : Readings) (bench : Bench) where
   -- the state that an object file with what the record leads to would have
   abbrev pub led_state : State → Json → Option State
   led_state v j =
-      elim (file_state readings bench.schema.kind (whole_object bench (carry (record_in readings bench.schema.kind (value_in (member_at (codes "record") j))) v))) [
-        | Ok w ↦ Some w
-        | Err f ↦ None
-      ]
+      let d = record_in readings bench.schema.kind (value_in (member_at (codes "record") j)) in
+      elim (file_state readings bench.schema.kind (whole_object bench (carry d v))) [ Ok w ↦ Some w | Err f ↦ None ]
 
   -- the managers of both keep their order, and the line is that of the two states
   abbrev pub is_move : Json → Label → State → State → Bool
@@ -81,7 +82,9 @@ lines_bench readings counts now js =
 
 abbrev pub recorded_bench : Readings → List Json → Option Bench
 recorded_bench readings (head ∷ source ∷ now ∷ js) =
-    option_and_then (λ counts. option_and_then (λ schema. option_and_then (λ bench. lines_bench readings counts bench js) (present_in readings schema now)) (schema_in source)) (counts_in head)
+    option_and_then
+    (λ counts. option_and_then (λ schema. option_and_then (λ bench. lines_bench readings counts bench js) (present_in readings schema now)) (schema_in source))
+    (counts_in head)
 recorded_bench readings _ = None
 
 abbrev pub recorded_bench_in : Readings → Text → Option Bench
