@@ -144,8 +144,11 @@ future-many bench v (s ∷ ss) = let rest = future-many bench s.state ss in omeg
 
 -- ---- the bench
 
-counts-back : (past future : ℕ) → counts_in (record_head past future) ≡ Some (record { past = past; future = future })
-counts-back past future = ap (λ b. given_if {X = Counts} b (record { past = past; future = future })) (written-itself (record_head past future))
+counts-back : (past future : ℕ) → past + future ≤ most_past → counts_in (record_head past future) ≡ Some (record { past = past; future = future })
+counts-back past future few =
+    let head = record_head past future in
+    ap (λ b. given_if {X = Counts} b (record { past = past; future = future }))
+    (and_from (is_written_as head head) (nat_le (past + future) most_past) (written-itself head) (nat_le-of (past + future) most_past few))
 
 present-by : (v : Json) (r : Result Bench Fault) (now : Bench)
     → r ≡ Ok now → whole_object now now.timeline.first ≡ v
@@ -213,15 +216,15 @@ module _ (readings : Readings) (bench : Bench) (valid : IsValidBench readings be
       let both = length-append back_lines on_lines in
       let on = future-many bench v behind in
       let left = length-drop place later in
-      let within = valid.place in
-      let short = valid.few in
       let all = place + (length later - place) in
       let lines : length (back_lines ++ on_lines) ≡ all = both ∙ (λ i. place-many i + (on ∙ left) i) in
       let many : (length (back_lines ++ on_lines) == all) ≡ true = ap (λ n. n == all) lines ∙ nat-itself all in
-      let sum : all ≤ most_past = omega (arith, within, short) in
       ap (λ b. given_if b (with_timeline now (record { first = first; later = before ++ behind; place = place })))
-      (and_from (length (back_lines ++ on_lines) == all) (nat_le all most_past) many (nat_le-of all most_past sum))
+      many
       ∙ ap (λ ss. Some (with_timeline now (record { first = first; later = ss; place = place }))) (take-append-drop place later)
+
+  few : bench.timeline.place + (length bench.timeline.later - bench.timeline.place) ≤ most_past
+  few = let within = valid.place in let short = valid.few in omega (arith, within, short)
 
   abbrev js : List Json
   js = back_lines ++ on_lines
@@ -235,7 +238,7 @@ module _ (readings : Readings) (bench : Bench) (valid : IsValidBench readings be
   -- from the values that are written of the bench it is taken
   pub recorded-back : recorded_bench readings (recorded_values bench) ≡ Some bench
   recorded-back =
-      ap (option_and_then of_counts) (counts-back bench.timeline.place (length bench.timeline.later - bench.timeline.place))
+      ap (option_and_then of_counts) (counts-back bench.timeline.place (length bench.timeline.later - bench.timeline.place) few)
       ∙ ap (option_and_then (of_schema counts)) (schema-back bench.schema valid.read)
       ∙ ap (option_and_then (λ b. lines_bench readings counts b js)) present-back
       ∙ lines-back

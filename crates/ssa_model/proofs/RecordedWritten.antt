@@ -31,8 +31,9 @@ counts-from : (v : Json) (c : Counts) → counts_in v ≡ Some c → compact v �
 counts-from v c is =
     let past = and_then-back _ (number_in (member_at (codes "past") v)) c is in
     let future = and_then-back _ (number_in (member_at (codes "future") v)) c past.2 in
-    let got = given-back (is_written_as (record_head past.0 future.0) v) (record { past = past.0; future = future.0 }) c future.2 in
-    sym (same_text-true (compact (record_head past.0 future.0)) (compact v) got.0) ∙ ap (λ (x : Counts). compact (record_head x.past x.future)) got.1
+    let head = record_head past.0 future.0 in
+    let got = given-back (is_written_as head v && nat_le (past.0 + future.0) most_past) (record { past = past.0; future = future.0 }) c future.2 in
+    sym (same_text-true (compact head) (compact v) (and_parts (is_written_as head v) (nat_le (past.0 + future.0) most_past) got.0).0) ∙ ap (λ (x : Counts). compact (record_head x.past x.future)) got.1
 
 present-from : (v : Json) (r : Result Bench Fault) (now : Bench)
     → elim r [ Ok bench ↦ given_if (is_written_as (whole_object bench bench.timeline.first) v) bench | Err f ↦ None ] ≡ Some now
@@ -116,8 +117,8 @@ module _ (readings : Readings) (head source shown : Json) (js : List Json) (benc
       let v = now.timeline.first in
       let later = past.1 ++ future in
       let made = with_timeline now (record { first = past.0; later = later; place = c.past }) in
-      let got = given-back ((length js == c.past + c.future) && nat_le (c.past + c.future) most_past) made bench is in
-      let all = eqb-true (length js) (c.past + c.future) (and_parts (length js == c.past + c.future) (nat_le (c.past + c.future) most_past) got.0).0 in
+      let got = given-back (length js == c.past + c.future) made bench is in
+      let all = eqb-true (length js) (c.past + c.future) got.0 in
       let back = past-from readings now v (take c.past js) [] past backed in
       let on = future-from readings now v (drop c.past js) future ahead in
       let same = sym (append-nil back.steps) ∙ back.all in

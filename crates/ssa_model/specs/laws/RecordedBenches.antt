@@ -1,6 +1,6 @@
 -- How a bench file of records is taken, line by line: each line is the compact text of a value, and so is what is written of
 -- what is taken from it. What is taken is the bench of which the text is the file, where there is one.
-use Rattle.std.specs.Prelude.{◌≡◌, ℕ, ◌+◌, List, [], ◌∷◌, ◌++◌, Bool, ◌&&◌, ◌==◌, Option, Some, None, option_map, option_and_then, Ok, Err, if◌then◌else◌, length, nat_le, take, drop, codes}
+use Rattle.std.specs.Prelude.{◌≡◌, ℕ, ◌+◌, ◌-◌, List, [], ◌∷◌, ◌++◌, Bool, true, ◌&&◌, ◌==◌, Option, Some, None, option_map, option_and_then, Result, Ok, Err, if◌then◌else◌, length, nat_lt, nat_le, take, drop, codes}
 use Rattle.ssa_model.specs.definitions.Limits.{most_past, most_bench_bytes}
 use Rattle.ssa_model.specs.definitions.Json.{Text, Json, member_at}
 use Rattle.ssa_model.specs.definitions.Readings.{Readings}
@@ -11,14 +11,18 @@ use Rattle.ssa_model.specs.definitions.Replies.{label_json}
 use Rattle.ssa_model.specs.definitions.History.{Label, Step, Bench, with_timeline}
 use Rattle.ssa_model.specs.definitions.Answers.{bench_of, file_state}
 use Rattle.ssa_model.specs.definitions.BenchText.{whole_object}
+use Rattle.ssa_model.specs.definitions.Objects.{is_identity}
+use Rattle.ssa_model.specs.definitions.Lines.{whole_lines}
+use Rattle.ssa_model.specs.definitions.Valid.{IsValidState}
+use Rattle.ssa_model.specs.definitions.BenchFile.{IsLabel}
 use Rattle.ssa_model.specs.definitions.Carry.{carry}
-use Rattle.ssa_model.specs.definitions.RecordReading.{Test, must_have, has_members, is_record_shape, record_in}
+use Rattle.ssa_model.specs.definitions.RecordReading.{Test, must_have, has_members, is_record_shape, record_in, IsReadState}
 use Rattle.ssa_model.specs.definitions.RecordedBench.{record_head, record_line, recorded_text, IsRecordedFile}
 use Rattle.ssa_model.specs.laws.BenchFiles.{spelled_value, values_of, given_if, is_written_as, number_in, schema_in, said_label, is_label, label_in, keeps_order}
 
 -- ---- the head and the present object
 
--- how many commands can be undone and redone
+-- how many commands can be undone and redone, no more than a bench keeps
 pub record Counts : Type 0 where
   pub past : ℕ
   pub future : ℕ
@@ -26,7 +30,8 @@ pub record Counts : Type 0 where
 abbrev pub counts_in : Json → Option Counts
 counts_in v =
     option_and_then
-    (λ past. option_and_then (λ future. given_if (is_written_as (record_head past future) v) (record { past = past; future = future }))
+    (λ past. option_and_then
+    (λ future. given_if (is_written_as (record_head past future) v && nat_le (past + future) most_past) (record { past = past; future = future }))
     (number_in (member_at (codes "future") v)))
     (number_in (member_at (codes "past") v))
 
@@ -70,7 +75,7 @@ module _ (readings : Readings) (bench : Bench) where
 -- the bench with these steps, where the head counts the lines
 abbrev pub with_moves : Counts → Bench → List Json → State × List Step → List Step → Option Bench
 with_moves counts now js past future =
-    given_if ((length js == counts.past + counts.future) && nat_le (counts.past + counts.future) most_past)
+    given_if (length js == counts.past + counts.future)
     (with_timeline now (record { first = past.0; later = past.1 ++ future; place = counts.past }))
 
 -- the bench with the moves of these lines, on the bench of the present state
@@ -115,12 +120,50 @@ is_move_shape readings = has_members (must_have (codes "command") (is_label_shap
 abbrev pub refused_fault : Readings → Json → MoveFault
 refused_fault readings j = if is_move_shape readings j then record_does_not_fit else no_move_text
 
-abbrev pub value_fault : Readings → Bench → State → Json → Option MoveFault
-value_fault readings bench v j = elim (move_in readings bench v j) [ Some m ↦ None | None ↦ Some (refused_fault readings j) ]
+module _ (readings : Readings) (bench : Bench) where
+  abbrev pub value_move : State → Json → Result (Label × State) MoveFault
+  value_move v j = elim (move_in readings bench v j) [ Some m ↦ Ok m | None ↦ Err (refused_fault readings j) ]
 
--- the fault of a line, read in a state, where it has one; where a line is missing, of the empty text
-abbrev pub line_fault : Readings → Bench → State → Text → Option MoveFault
-line_fault readings bench v t = elim (spelled_value readings t) [ Some j ↦ value_fault readings bench v j | None ↦ Some no_move_text ]
+  -- the command of a line and the state to which it leads, or its fault
+  abbrev pub line_move : State → Text → Result (Label × State) MoveFault
+  line_move v t = elim (spelled_value readings t) [ Some j ↦ value_move v j | None ↦ Err no_move_text ]
+
+  -- the fault of a line, read in a state, where it has one
+  abbrev pub line_fault : State → Text → Option MoveFault
+  line_fault v t = elim (line_move v t) [ Ok m ↦ None | Err f ↦ Some f ]
+
+  -- the first fault of lines that lead on from a state, or the one behind them
+  abbrev pub lines_fault : MoveFault → State → List Text → MoveFault
+  lines_fault behind v [] = behind
+  lines_fault behind v (t ∷ ts) = elim (line_move v t) [ Ok m ↦ lines_fault behind m.1 ts | Err f ↦ f ]
+
+-- ---- why a text is refused
+
+-- the lines that end within so many bytes
+abbrev pub lines_within : ℕ → List Text → List Text
+lines_within room [] = []
+lines_within room (t ∷ ts) = if nat_lt (length t) room then t ∷ lines_within (room - (length t + 1)) ts else []
+
+-- the first fault of the lines behind the present object: they stand for the past and then for the future; a line that is missing,
+-- one too much and one that reaches too far are no text of a line
+abbrev pub moves_fault : Readings → Counts → Bench → List Text → MoveFault
+moves_fault readings counts now ts =
+    let v = now.timeline.first in
+    lines_fault readings now (lines_fault readings now no_move_text v (take counts.future (drop counts.past ts))) v (take counts.past ts)
+
+-- the counts of a head, and the bench of the present state alone
+abbrev pub opening_in : Readings → Text → Text → Text → Option (Counts × Bench)
+opening_in readings head source now =
+    option_and_then (λ counts. option_and_then (λ schema. option_map (λ bench. (counts, bench)) (option_and_then (present_in readings schema) (spelled_value readings now)))
+    (option_and_then schema_in (spelled_value readings source))) (option_and_then counts_in (spelled_value readings head))
+
+abbrev pub texts_fault : Readings → List Text → MoveFault
+texts_fault readings (head ∷ source ∷ now ∷ ts) = elim (opening_in readings head source now) [ Some x ↦ moves_fault readings x.0 x.1 ts | None ↦ no_move_text ]
+texts_fault readings _ = no_move_text
+
+-- the fault of a text that is refused: that of its first line that has one
+abbrev pub recorded_fault : Readings → Text → MoveFault
+recorded_fault readings t = texts_fault readings (lines_within most_bench_bytes (whole_lines t))
 
 -- ---- the laws
 
@@ -131,3 +174,14 @@ RecordedFilesAreTaken = (readings : Readings) (t : Text) (bench : Bench) → IsR
 -- a text that is taken is the text of what it is taken as
 abbrev pub TakenIsRecordedText : Type 0
 TakenIsRecordedText = (readings : Readings) (t : Text) (bench : Bench) → recorded_bench_in readings t ≡ Some bench → t ≡ recorded_text bench
+
+-- a text that tells of a record that doesn't fit is refused
+abbrev pub MisfitIsRefused : Type 0
+MisfitIsRefused = (readings : Readings) (t : Text) → recorded_fault readings t ≡ record_does_not_fit → recorded_bench_in readings t ≡ None
+
+-- a line of two valid states has the shape of a line
+abbrev pub MovesHaveShape : Type 0
+MovesHaveShape =
+    (readings : Readings) (bench : Bench) (label : Label) (v w : State)
+    → is_identity bench.identity ≡ true → IsLabel readings label → IsValidState bench.schema.kind v → IsValidState bench.schema.kind w
+    → IsReadState readings v → IsReadState readings w → is_move_shape readings (record_line bench label v w) ≡ true
