@@ -47,12 +47,12 @@ lone-by v r lone is same =
 
 -- ---- labels and the order of managers
 
-is_label-of : (readings : Readings) (label : Label) → IsLabel readings label → is_label readings label ≡ true
+pub is_label-of : (readings : Readings) (label : Label) → IsLabel readings label → is_label readings label ≡ true
 is_label-of readings (applied who force at) h = and_from (is_manager_name who) (readings.moment at) h.0 h.1
 is_label-of readings (updated who at) h = and_from (is_manager_name who) (readings.moment at) h.0 h.1
 is_label-of readings stripped h = refl
 
-said-back : (label : Label) → said_label (label_json label) ≡ label
+pub said-back : (label : Label) → said_label (label_json label) ≡ label
 said-back (applied who force at) = refl
 said-back (updated who at) = refl
 said-back stripped = refl

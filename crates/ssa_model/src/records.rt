@@ -6,8 +6,8 @@ ghost use Rattle.ssa_model.specs.laws.RecordSizes.{BodyBound, TableBound, SizeBo
 ghost use Rattle.ssa_model.specs.laws.InPlace.{TableIsInserted, StayersAreLed, ItemsAreInserted};
 ghost use Rattle.ssa_model.specs.laws.RecordWalks.{CutsAreFiltered, LeavesAreFiltered, OrdersAreFiltered, PutsAreFiltered, RecordBelow, PartIsValue, TreeLeads, BodiesAreTrees, PartIsTree, CarryBelow};
 ghost use Rattle.ssa_model.specs.laws.RecordReading.{RecordTextsHaveShape, RecordTextsAreRead};
-ghost use Rattle.ssa_model.specs.laws.RecordedBenches.{RecordedFilesAreTaken, TakenIsRecordedText};
-ghost use Rattle.ssa_model.specs.examples.RecordedRows.{RecordedFilesAreWritten, RecordedValuesAreTaken, RecordedFileIsMet, DamagedLinesAreTold, OtherFilesAreRefused};
+ghost use Rattle.ssa_model.specs.laws.RecordedBenches.{RecordedFilesAreTaken, TakenIsRecordedText, MisfitIsRefused, MovesHaveShape};
+ghost use Rattle.ssa_model.specs.examples.RecordedRows.{RecordedFilesAreWritten, RecordedValuesAreTaken, RecordedFileIsMet, DamagedLinesAreTold, DamagedFilesAreTold, OtherFilesAreRefused};
 ghost use Rattle.ssa_model.specs.examples.RecordReadingRows.{RecordsAreRead, ShapesAreTold, OtherShapesAreRefused, ReadStatesAreMet};
 ghost use Rattle.ssa_model.specs.examples.RecordRows.{FirstApplyRecord, ForcedRecord, GivenUpRecord, RemovedItemRecord, RemovedItemPlace, ReorderRecord, RepeatRecord, StripRecord, SetFilledRecord, SetEmptiedRecord, LiveItemsRecord, LedRecord, ForcedFacts, ReorderFacts, RemovedItemFacts, FirstApplyText, ForcedText, RemovedItemText, ReorderText, RecordsAreMet};
 
@@ -139,9 +139,12 @@ pub fn records_are_read()
 {}
 
 /// The bench file of records of a bench is taken as that bench, and what is taken has the text as its file.
+/// A text that tells of a record that doesn't fit is not taken, and each line of two valid states has the shape of a line.
 pub fn recorded_files()
     ensures taken { RecordedFilesAreTaken }
     ensures text { TakenIsRecordedText }
+    ensures misfit { MisfitIsRefused }
+    ensures shape { MovesHaveShape }
 {}
 
 /// Bench files of records are written and taken again, worked by computation. There is such a file.
@@ -151,8 +154,9 @@ pub fn recorded_files_are_worked()
     ensures met { RecordedFileIsMet }
 {}
 
-/// Damaged lines of a bench file of records have their faults, and other texts are refused.
+/// Damaged lines of a bench file of records, and files with such lines, have their faults, and other texts are refused.
 pub fn damaged_records_are_told()
-    ensures damaged { DamagedLinesAreTold }
+    ensures lines { DamagedLinesAreTold }
+    ensures files { DamagedFilesAreTold }
     ensures others { OtherFilesAreRefused }
 {}

@@ -1,5 +1,6 @@
 -- Worked examples: the text of a bench file of records after an apply and after its undo, what is taken from it, and damaged lines with their faults.
 use Rattle.std.specs.Prelude.{◌≡◌, ℕ, List, [], ◌∷◌, ◌++◌, flat_map, Bool, true, false, Option, Some, None, option_map, is_some, Ok, if◌then◌else◌, codes}
+use Rattle.std.specs.List.{list_any}
 use Rattle.ssa_model.specs.definitions.Json.{Text, Json, object, no_members, member, compact, same_text}
 use Rattle.ssa_model.specs.definitions.Readings.{Readings}
 use Rattle.ssa_model.specs.definitions.Replies.{label_json}
@@ -7,7 +8,7 @@ use Rattle.ssa_model.specs.definitions.History.{Bench, present}
 use Rattle.ssa_model.specs.definitions.Answers.{undo}
 use Rattle.ssa_model.specs.definitions.BenchText.{line, whole_object}
 use Rattle.ssa_model.specs.definitions.RecordedBench.{record_head, recorded_values, recorded_text, IsRecordedFile}
-use Rattle.ssa_model.specs.laws.RecordedBenches.{recorded_bench, recorded_bench_in, move_fault_number, line_fault}
+use Rattle.ssa_model.specs.laws.RecordedBenches.{recorded_bench, recorded_bench_in, move_fault_number, line_fault, recorded_fault}
 use Rattle.ssa_model.specs.examples.Sample.{sample_schema, string_json, number_json}
 use Rattle.ssa_model.specs.examples.FileRows.{feed, after, one_apply, file_readings, value_among, readings_of, applied_step, filed}
 use Rattle.ssa_model.specs.examples.RecordReadingRows.{nothing, list_of, path_of_texts, record_with}
@@ -132,6 +133,28 @@ DamagedLinesAreTold =
     × (record_number (record_with nothing nothing (one_gone (codes "m2")) nothing nothing) ≡ Some 71)
     × (record_number (record_with nothing nothing nothing nothing (one_at (codes "f:size" ∷ []) 1)) ≡ Some 71)
     × (text_number [] (moved_value undo_value) ≡ Some 70)
+
+-- the number of the fault of the file after the apply, with this head and this last line, which is read as this value
+abbrev pub file_number : Json → Text → Json → ℕ
+file_number head t j =
+    let opening = head ∷ sample_schema.source ∷ whole_object applied_bench (present applied_bench.timeline) ∷ [] in
+    let alone = reads_alone t j in
+    let readings : Readings = record { value = λ u. if list_any (λ v. same_text u (compact v)) opening then value_among opening u else alone.value u; moment = alone.moment } in
+    move_fault_number (recorded_fault readings (flat_map line opening ++ t ++ feed))
+
+abbrev pub record_file_number : ℕ → Json → ℕ
+record_file_number past d = file_number (record_head past 0) (compact (moved_value d)) (moved_value d)
+
+-- a path that isn't there; a manager that would own an absent path; an element with a blank; a head that tells of a command more,
+-- whose line is missing; members in another order; a head that tells of too many commands, in front of a record that doesn't fit
+abbrev pub DamagedFilesAreTold : Type 0
+DamagedFilesAreTold =
+    (record_file_number 1 (record_with nothing (list_of (path_of_texts (codes "f:nothing" ∷ []) ∷ [])) m1_gone nothing nothing) ≡ 71)
+    × (record_file_number 1 (record_with nothing (list_of (spec_path ∷ [])) nothing nothing nothing) ≡ 71)
+    × (record_file_number 1 (record_with nothing (list_of (path_of_texts (codes "v: 1" ∷ []) ∷ [])) m1_gone nothing nothing) ≡ 70)
+    × (record_file_number 2 undo_value ≡ 70)
+    × (file_number (record_head 1 0) (with_command other_order) (moved_value undo_value) ≡ 70)
+    × (record_file_number 1001 (record_with nothing (list_of (spec_path ∷ [])) nothing nothing nothing) ≡ 70)
 
 abbrev pub is_text_taken : List Json → Text → Bool
 is_text_taken vs t = is_some (recorded_bench_in (readings_of vs) t)
