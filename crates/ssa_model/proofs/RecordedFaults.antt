@@ -18,7 +18,7 @@ use Rattle.ssa_model.specs.definitions.BenchFile.{IsLabel}
 use Rattle.ssa_model.specs.definitions.Record.{record_of}
 use Rattle.ssa_model.specs.definitions.RecordText.{record_json}
 use Rattle.ssa_model.specs.definitions.RecordReading.{is_record_shape}
-use Rattle.ssa_model.specs.laws.BenchFiles.{ended_lines, text_lines, spelled_value, spelled_values, values_of, is_written_as, schema_in, said_label, is_label}
+use Rattle.ssa_model.specs.laws.BenchFiles.{ended_lines, text_lines, spelled_value, spelled_values, values_of, is_written_as, schema_in, is_label}
 use Rattle.ssa_model.specs.laws.RecordedBenches.{Counts, counts_in, present_in, move_in, past_in, future_in, with_moves, lines_bench, recorded_bench, recorded_bench_in, MoveFault, no_move_text, record_does_not_fit, is_label_shape, refused_fault, value_move, line_move, lines_fault, lines_within, moves_fault, opening_in, texts_fault, recorded_fault, MisfitIsRefused, MovesHaveShape}
 use Rattle.ssa_model.proofs.Given.{and_then-back, map-back}
 use Rattle.ssa_model.proofs.RecordsBack.{record_texts_have_shape}
@@ -30,8 +30,9 @@ use Rattle.ssa_model.proofs.TakenOfWritten.{written-itself, is_label-of, said-ba
 
 label-shaped : (readings : Readings) (label : Label) → IsLabel readings label → is_label_shape readings (label_json label) ≡ true
 label-shaped readings label h =
-    ap (λ l. is_written_as (label_json l) (label_json label) && is_label readings l) (said-back label)
-    ∙ and_from (is_written_as (label_json label) (label_json label)) (is_label readings label) (written-itself (label_json label)) (is_label-of readings label h)
+    let j = label_json label in
+    ap (λ l. is_written_as (label_json l) j && is_label readings l) (said-back label)
+    ∙ and_from (is_written_as j j) (is_label readings label) (written-itself j) (is_label-of readings label h)
 
 pub moves_have_shape : MovesHaveShape
 moves_have_shape readings bench label v w named h a b from to =
@@ -61,15 +62,18 @@ first-read readings t ts vs h =
 
 -- a line whose value is read and taken is taken
 module _ (readings : Readings) (bench : Bench) (behind : MoveFault) where
-  line-taken : (v : State) (t : Text) (j : Json) (m : Label × State) → spelled_value readings t ≡ Some j → move_in readings bench v j ≡ Some m → line_move readings bench v t ≡ Ok m
+  line-taken : (v : State) (t : Text) (j : Json) (m : Label × State) → spelled_value readings t ≡ Some j → move_in readings bench v j ≡ Some m
+      → line_move readings bench v t ≡ Ok m
   line-taken v t j m spelled is =
       ap (λ (o : Option Json). elim o [ Some j ↦ value_move readings bench v j | None ↦ Err no_move_text ]) spelled ∙ of_move (move_in readings bench v j) is
     where
-      of_move : (o : Option (Label × State)) → o ≡ Some m → ◌≡◌ {A = Result (Label × State) MoveFault} (elim o [ Some m ↦ Ok m | None ↦ Err (refused_fault readings j) ]) (Ok m)
+      of_move : (o : Option (Label × State)) → o ≡ Some m
+          → ◌≡◌ {A = Result (Label × State) MoveFault} (elim o [ Some m ↦ Ok m | None ↦ Err (refused_fault readings j) ]) (Ok m)
       of_move (Some n) is = ap Ok (same_Some n m is)
       of_move None is = absurd (none-some m is)
 
-  next-line : (v : State) (t : Text) (m : Label × State) (ts : List Text) → line_move readings bench v t ≡ Ok m → lines_fault readings bench behind v (t ∷ ts) ≡ lines_fault readings bench behind m.1 ts
+  next-line : (v : State) (t : Text) (m : Label × State) (ts : List Text) → line_move readings bench v t ≡ Ok m
+      → lines_fault readings bench behind v (t ∷ ts) ≡ lines_fault readings bench behind m.1 ts
   next-line v t m ts is = ap (λ (r : Result (Label × State) MoveFault). elim r [ Ok m ↦ lines_fault readings bench behind m.1 ts | Err f ↦ f ]) is
 
   past-faultless : (n : ℕ) (v : State) (ts : List Text) (js : List Json) (acc : List Step) (r : State × List Step)
@@ -95,7 +99,8 @@ module _ (readings : Readings) (bench : Bench) (behind : MoveFault) where
       next-line v t moved.0 (take n ts) (line-taken v t own.value moved.0 own.read moved.1)
       ∙ future-faultless n moved.0.1 ts own.rest later.0 own.later later.1
 
-spelled-drop : (readings : Readings) (n : ℕ) (ts : List Text) (js : List Json) → spelled_values readings ts ≡ Some js → spelled_values readings (drop n ts) ≡ Some (drop n js)
+spelled-drop : (readings : Readings) (n : ℕ) (ts : List Text) (js : List Json) → spelled_values readings ts ≡ Some js
+    → spelled_values readings (drop n ts) ≡ Some (drop n js)
 spelled-drop readings zero ts js h = h
 spelled-drop readings (suc n) [] js h = ap (λ js. Some (drop (suc n) js)) (same_Some [] js h)
 spelled-drop readings (suc n) (t ∷ ts) js h =
@@ -112,8 +117,10 @@ module _ (readings : Readings) (bench : Bench) where
       let of_past = λ (past : State × List Step). option_and_then (with_moves counts now js past) (future_in readings now v (drop counts.past js)) in
       let past = and_then-back of_past (past_in readings now v (take counts.past js) []) bench is in
       let future = and_then-back (with_moves counts now js past.0) (future_in readings now v (drop counts.past js)) bench past.2 in
-      past-faultless readings now (lines_fault readings now no_move_text v (take counts.future (drop counts.past ts))) counts.past v ts js [] past.0 spelled past.1
-      ∙ future-faultless readings now no_move_text counts.future v (drop counts.past ts) (drop counts.past js) future.0 (spelled-drop readings counts.past ts js spelled) future.1
+      let behind = lines_fault readings now no_move_text v (take counts.future (drop counts.past ts)) in
+      past-faultless readings now behind counts.past v ts js [] past.0 spelled past.1
+      ∙ future-faultless readings now no_move_text counts.future v (drop counts.past ts) (drop counts.past js) future.0
+      (spelled-drop readings counts.past ts js spelled) future.1
 
   abbrev of_schema : Counts → Json → List Json → Schema → Option Bench
   of_schema counts now js schema = option_and_then (λ b. lines_bench readings counts b js) (present_in readings schema now)
@@ -126,22 +133,34 @@ module _ (readings : Readings) (bench : Bench) where
       option_and_then (λ schema. option_map (λ (x : Bench). (counts, x)) (option_and_then (present_in readings schema) (spelled_value readings c)))
       (option_and_then schema_in (spelled_value readings b))
 
+  opening-is : (a b c : Text) (head source now : Json) (counts : Counts) (schema : Schema) (there : Bench)
+      → spelled_value readings a ≡ Some head → spelled_value readings b ≡ Some source → spelled_value readings c ≡ Some now
+      → counts_in head ≡ Some counts → schema_in source ≡ Some schema → present_in readings schema now ≡ Some there
+      → opening_in readings a b c ≡ Some (counts, there)
+  opening-is a b c head source now counts schema there sa sb sc counted schemed is =
+      ap (option_and_then (opening b c)) (ap (option_and_then counts_in) sa ∙ counted)
+      ∙ ap (option_and_then (λ schema. option_map (λ (x : Bench). (counts, x)) (option_and_then (present_in readings schema) (spelled_value readings c))))
+      (ap (option_and_then schema_in) sb ∙ schemed)
+      ∙ ap (option_map (λ (x : Bench). (counts, x))) (ap (option_and_then (present_in readings schema)) sc ∙ is)
+
   opened-faultless : (a b c : Text) (ts : List Text) (head source now : Json) (js : List Json)
-      → spelled_value readings a ≡ Some head → spelled_value readings b ≡ Some source → spelled_value readings c ≡ Some now → spelled_values readings ts ≡ Some js
+      → spelled_value readings a ≡ Some head → spelled_value readings b ≡ Some source → spelled_value readings c ≡ Some now
+      → spelled_values readings ts ≡ Some js
       → recorded_bench readings (head ∷ source ∷ now ∷ js) ≡ Some bench → texts_fault readings (a ∷ b ∷ c ∷ ts) ≡ no_move_text
   opened-faultless a b c ts head source now js sa sb sc spelled is =
       let counts = and_then-back (of_counts source now js) (counts_in head) bench is in
       let schema = and_then-back (of_schema counts.0 now js) (schema_in source) bench counts.2 in
       let there = and_then-back (λ b. lines_bench readings counts.0 b js) (present_in readings schema.0 now) bench schema.2 in
-      let all : opening_in readings a b c ≡ Some (counts.0, there.0) =
-      ap (option_and_then (opening b c)) (ap (option_and_then counts_in) sa ∙ counts.1)
-      ∙ ap (option_and_then (λ schema. option_map (λ (x : Bench). (counts.0, x)) (option_and_then (present_in readings schema) (spelled_value readings c))))
-      (ap (option_and_then schema_in) sb ∙ schema.1)
-      ∙ ap (option_map (λ (x : Bench). (counts.0, x))) (ap (option_and_then (present_in readings schema.0)) sc ∙ there.1) in
-      ap (λ (o : Option (Counts × Bench)). elim o [ Some x ↦ moves_fault readings x.0 x.1 ts | None ↦ no_move_text ]) all
-      ∙ moves-faultless counts.0 there.0 ts js spelled there.2
+      by-opening counts.0 there.0 (opening-is a b c head source now counts.0 schema.0 there.0 sa sb sc counts.1 schema.1 there.1) there.2
+    where
+      by-opening : (counts : Counts) (there : Bench) → opening_in readings a b c ≡ Some (counts, there) → lines_bench readings counts there js ≡ Some bench
+          → texts_fault readings (a ∷ b ∷ c ∷ ts) ≡ no_move_text
+      by-opening counts there opened is =
+          ap (λ (o : Option (Counts × Bench)). elim o [ Some x ↦ moves_fault readings x.0 x.1 ts | None ↦ no_move_text ]) opened
+          ∙ moves-faultless counts there ts js spelled is
 
-  texts-faultless : (ls : List Text) (vs : List Json) → spelled_values readings ls ≡ Some vs → recorded_bench readings vs ≡ Some bench → texts_fault readings ls ≡ no_move_text
+  texts-faultless : (ls : List Text) (vs : List Json) → spelled_values readings ls ≡ Some vs → recorded_bench readings vs ≡ Some bench
+      → texts_fault readings ls ≡ no_move_text
   texts-faultless [] vs spelled is = refl
   texts-faultless (a ∷ []) vs spelled is = refl
   texts-faultless (a ∷ b ∷ []) vs spelled is = refl
@@ -150,7 +169,8 @@ module _ (readings : Readings) (bench : Bench) where
       let second = first-read readings b (c ∷ ts) first.rest first.later in
       let third = first-read readings c ts second.rest second.later in
       let same = first.all ∙ ap (λ js. first.value ∷ js) (second.all ∙ ap (λ js. second.value ∷ js) third.all) in
-      opened-faultless a b c ts first.value second.value third.value third.rest first.read second.read third.read third.later (ap (recorded_bench readings) (sym same) ∙ is)
+      opened-faultless a b c ts first.value second.value third.value third.rest first.read second.read third.read third.later
+      (ap (recorded_bench readings) (sym same) ∙ is)
 
 -- ---- lines within the limit
 

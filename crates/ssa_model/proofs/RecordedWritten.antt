@@ -33,7 +33,8 @@ counts-from v c is =
     let future = and_then-back _ (number_in (member_at (codes "future") v)) c past.2 in
     let head = record_head past.0 future.0 in
     let got = given-back (is_written_as head v && nat_le (past.0 + future.0) most_past) (record { past = past.0; future = future.0 }) c future.2 in
-    sym (same_text-true (compact head) (compact v) (and_parts (is_written_as head v) (nat_le (past.0 + future.0) most_past) got.0).0) ∙ ap (λ (x : Counts). compact (record_head x.past x.future)) got.1
+    sym (same_text-true (compact head) (compact v) (and_parts (is_written_as head v) (nat_le (past.0 + future.0) most_past) got.0).0)
+    ∙ ap (λ (x : Counts). compact (record_head x.past x.future)) got.1
 
 present-from : (v : Json) (r : Result Bench Fault) (now : Bench)
     → elim r [ Ok bench ↦ given_if (is_written_as (whole_object bench bench.timeline.first) v) bench | Err f ↦ None ] ≡ Some now

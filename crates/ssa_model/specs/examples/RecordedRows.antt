@@ -139,7 +139,10 @@ abbrev pub file_number : Json → Text → Json → ℕ
 file_number head t j =
     let opening = head ∷ sample_schema.source ∷ whole_object applied_bench (present applied_bench.timeline) ∷ [] in
     let alone = reads_alone t j in
-    let readings : Readings = record { value = λ u. if list_any (λ v. same_text u (compact v)) opening then value_among opening u else alone.value u; moment = alone.moment } in
+    let readings : Readings = record {
+      value = λ u. if list_any (λ v. same_text u (compact v)) opening then value_among opening u else alone.value u;
+      moment = alone.moment;
+    } in
     move_fault_number (recorded_fault readings (flat_map line opening ++ t ++ feed))
 
 abbrev pub record_file_number : ℕ → Json → ℕ

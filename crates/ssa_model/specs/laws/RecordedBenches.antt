@@ -154,8 +154,11 @@ moves_fault readings counts now ts =
 -- the counts of a head, and the bench of the present state alone
 abbrev pub opening_in : Readings → Text → Text → Text → Option (Counts × Bench)
 opening_in readings head source now =
-    option_and_then (λ counts. option_and_then (λ schema. option_map (λ bench. (counts, bench)) (option_and_then (present_in readings schema) (spelled_value readings now)))
-    (option_and_then schema_in (spelled_value readings source))) (option_and_then counts_in (spelled_value readings head))
+    option_and_then
+    (λ counts. option_and_then
+    (λ schema. option_map (λ bench. (counts, bench)) (option_and_then (present_in readings schema) (spelled_value readings now)))
+    (option_and_then schema_in (spelled_value readings source)))
+    (option_and_then counts_in (spelled_value readings head))
 
 abbrev pub texts_fault : Readings → List Text → MoveFault
 texts_fault readings (head ∷ source ∷ now ∷ ts) = elim (opening_in readings head source now) [ Some x ↦ moves_fault readings x.0 x.1 ts | None ↦ no_move_text ]
