@@ -9,10 +9,11 @@ use Rattle.ssa_model.specs.definitions.Schema.{at_root}
 use Rattle.ssa_model.specs.definitions.Replies.{label_json}
 use Rattle.ssa_model.specs.definitions.History.{Label, applied, updated, stripped, Step, Bench}
 use Rattle.ssa_model.specs.definitions.Readings.{Readings}
-use Rattle.ssa_model.specs.definitions.BenchText.{head_json, state_json, whole_object, first_json, step_json}
+use Rattle.ssa_model.specs.definitions.BenchText.{head_json, state_json, whole_object, first_json, step_json, bench_values}
 use Rattle.ssa_model.specs.definitions.Valid.{IsValidState, MakesValid}
 use Rattle.ssa_model.specs.definitions.BenchFile.{IsValidBench}
 use Rattle.ssa_model.specs.laws.BenchDepths.{IsShallow, StateValuesAreShallow, SchemaIsShallow, DistinctBenchIsShallow, SecondTypeIsDeep}
+use Rattle.ssa_model.specs.examples.FileRows.{filed}
 use Rattle.ssa_model.proofs.FiledBench.{filed-valid}
 use Rattle.ssa_model.proofs.ObjectDepths.{state-depth}
 use Rattle.ssa_model.proofs.SchemaDepths.{schema-depth}
@@ -64,7 +65,7 @@ distinct_bench_is_shallow readings bench valid apart =
 
 pub second_type_is_deep : SecondTypeIsDeep
 second_type_is_deep =
-    let own = filed-valid in (
+    let own = filed-valid (bench_values filed) in (
       record {
         read = refl;
         accepted = own.accepted;

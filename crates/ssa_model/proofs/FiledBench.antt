@@ -22,7 +22,7 @@ use Rattle.ssa_model.proofs.FlatRooted.{flat_is_rooted}
 use Rattle.ssa_model.proofs.Tables.{text-itself, first_false, second_false, strip_keeps}
 use Rattle.ssa_model.proofs.ValidStates.{apply_keeps_valid}
 
-le-of : (a b : ℕ) → nat_le a b ≡ true → a ≤ b
+pub le-of : (a b : ℕ) → nat_le a b ≡ true → a ≤ b
 le-of a b h = grind (arith, nat_tests)
 
 -- ---- an apply that passes its tests leads to its target
@@ -57,7 +57,7 @@ applied-valid =
 
 -- ---- the readings
 
-spelled-in : (before : List Json) (v : Json) (behind : List Json)
+pub spelled-in : (before : List Json) (v : Json) (behind : List Json)
     → list_any (λ w. same_text (compact w) (compact v)) before ≡ false → value_among (before ++ v ∷ behind) (compact v) ≡ Ok v
 spelled-in [] v behind h = ap (λ t. if t then Ok v else value_among behind (compact v)) (text-itself (compact v))
 spelled-in (w ∷ ws) v behind h =
@@ -78,22 +78,29 @@ values-spelled =
 
 -- ---- the bench and its file
 
-step-is : IsStep (readings_of (bench_values filed)) applied_step
-step-is = record { label = (refl, refl); table = (record { no_fault = refl; says = refl; moment = refl }, tt) }
+module _ (vs : List Json) where
+  step-is : IsStep (readings_of vs) applied_step
+  step-is = record { label = (refl, refl); table = (record { no_fault = refl; says = refl; moment = refl }, tt) }
 
-pub filed-valid : IsValidBench (readings_of (bench_values filed)) filed
-filed-valid = record {
-  read = refl;
-  accepted = record { lawful = refl; apart = refl };
-  named = refl;
-  states = record { first = first-valid; later = All-cons (MakesValid sample_kind) applied_step [] applied-valid (All-nil (MakesValid sample_kind)) };
-  first = tt;
-  steps = All-cons (IsStep (readings_of (bench_values filed))) applied_step [] step-is (All-nil (IsStep (readings_of (bench_values filed))));
-  order = (refl, tt);
-  place = omega arith;
-  few = omega arith;
-}
+  -- whatever values are read
+  pub filed-valid : IsValidBench (readings_of vs) filed
+  filed-valid = record {
+    read = refl;
+    accepted = record { lawful = refl; apart = refl };
+    named = refl;
+    states = record { first = first-valid; later = All-cons (MakesValid sample_kind) applied_step [] applied-valid (All-nil (MakesValid sample_kind)) };
+    first = tt;
+    steps = All-cons (IsStep (readings_of vs)) applied_step [] step-is (All-nil (IsStep (readings_of vs)));
+    order = (refl, tt);
+    place = omega arith;
+    few = omega arith;
+  }
 
 -- the bench file
 pub bench_file_is_met : BenchFileIsMet
-bench_file_is_met = record { valid = filed-valid; text = refl; fits = le-of (length (bench_text filed)) most_bench_bytes refl; spelled = values-spelled }
+bench_file_is_met = record {
+  valid = filed-valid (bench_values filed);
+  text = refl;
+  fits = le-of (length (bench_text filed)) most_bench_bytes refl;
+  spelled = values-spelled;
+}

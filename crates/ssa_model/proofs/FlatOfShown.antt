@@ -51,7 +51,7 @@ name-among n (m ∷ ns) = λ i. same_text n m || name-among n ns i
 
 module _ (kind : Kind) (b : Body) (k : IsBodyOf kind b) where
   -- the value at each place of the kind tells what the body has there
-  abbrev Told : Kind → Type 0
+  abbrev pub Told : Kind → Type 0
   Told j = (p : Path) → place_at (of_kind kind) p ≡ Some (of_kind j) → has b p ≡ true → Tells kind b k p (places j (shown j b p) p)
 
   abbrev IsToldField : Path → Fields → Text → Kind → Type 0
@@ -71,7 +71,7 @@ module _ (kind : Kind) (b : Body) (k : IsBodyOf kind b) where
         | false ↦ λ t. told-skipped kind b k p (field n) (named gs) (field_places fs ms p) t rest
       ] refl
 
-  fields-told : (r : Place) (fs : Fields) (p : Path) → ((n : Text) → place_below r (field n) ≡ option_map of_kind (kind_of n fs)) → ((e : Element) (s : Place) → place_below r e ≡ Some s → IsFieldPlace fs e)
+  pub fields-told : (r : Place) (fs : Fields) (p : Path) → ((n : Text) → place_below r (field n) ≡ option_map of_kind (kind_of n fs)) → ((e : Element) (s : Place) → place_below r e ≡ Some s → IsFieldPlace fs e)
       → place_at (of_kind kind) p ≡ Some r → get b p ≡ Some record_branch → are_ordered fs ≡ true → OfEach Told fs → Tells kind b k p ((p, record_branch) ∷ field_places fs (shown_fields fs b p) p)
   fields-told r fs p like only at here ordered each =
       told-branch kind b k p record_branch (named fs) (field_places fs (shown_fields fs b p) p) here
@@ -187,7 +187,7 @@ module _ (kind : Kind) (b : Body) (k : IsBodyOf kind b) where
       subst (Tells kind b k p) (sym (ap (λ o. places (atomic_of s) (content_value o) p) c.is_there ∙ atomic-places s c.content p c.fits))
       (told-alone kind b k p (of_kind (atomic_of s)) c.content at (λ e r none. none-some r none) c.is_there)
 
-  all_told : OfParts Told
+  pub all_told : OfParts Told
   all_told = record {
     of_scalar = scalar-told;
     of_atomic = atomic-told;

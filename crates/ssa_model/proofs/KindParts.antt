@@ -60,7 +60,7 @@ module _ (P : Kind → Type 0) (parts : OfParts P) where
     each_kind (kinds.set_of k) o y = parts.of_set k
     each_kind (items_of ns fs) o y = parts.of_items ns fs (first_so _ _ y) o (of_fields fs o (second_so (are_key_names ns) _ y))
 
-    of_fields : (fs : Fields) → are_ordered fs ≡ true → are_keyed fs ≡ true → OfEach P fs
+    pub of_fields : (fs : Fields) → are_ordered fs ≡ true → are_keyed fs ≡ true → OfEach P fs
     of_fields no_fields o y n k is = absurd (none-some k is)
     of_fields (kind_field m j fs) o y n k is =
         let later = second_so (is_before_all m fs) _ o in

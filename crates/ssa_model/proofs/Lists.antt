@@ -8,7 +8,7 @@ use Rattle.ssa_model.specs.definitions.PathMap.{from_entries, has, paths, set_of
 use Rattle.ssa_model.proofs.Texts.{same_path_same}
 use Rattle.ssa_model.proofs.PathMaps.{is_one_of, get-from_entries, same_path-true, has-paths, same_sets, has-set_of, insert_swap}
 
-or_twice : (a b : Bool) → (a || b) ≡ (a || (a || b))
+pub or_twice : (a b : Bool) → (a || b) ≡ (a || (a || b))
 or_twice true b = refl
 or_twice false b = refl
 

@@ -31,7 +31,7 @@ cmp-below : (p q r : Path) → path_cmp (p ++ q) (p ++ r) ≡ path_cmp q r
 cmp-below [] q r = refl
 cmp-below (e ∷ p) q r = ap (λ o. ordering_then o (path_cmp (p ++ q) (p ++ r))) (element-tied e) ∙ cmp-below p q r
 
-same-below : (p q r : Path) → same_path (p ++ q) (p ++ r) ≡ same_path q r
+pub same-below : (p q r : Path) → same_path (p ++ q) (p ++ r) ≡ same_path q r
 same-below p q r = ap is_eq (cmp-below p q r)
 
 module _ {X : Type 0} (p : Path) where

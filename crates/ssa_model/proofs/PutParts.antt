@@ -88,7 +88,7 @@ module _ {X : Type 0} (m : PathMap X) (g r : Path) where
 abbrev pub IsPut : Body → Body → Path → Part → Type 0
 IsPut v w g x = (x ≡ part_at w g) × (is_top v g ≡ true)
 
-put-is : (v w : Body) (p : Path) (x : Part) → (if is_top v p then Some (part_at w p) else None) ≡ Some x → IsPut v w p x
+pub put-is : (v w : Body) (p : Path) (x : Part) → (if is_top v p then Some (part_at w p) else None) ≡ Some x → IsPut v w p x
 put-is v w p x h =
     by_test (is_top v p)
     (λ t. (sym (same_Some (part_at w p) x (sym (ap (λ b. if b then Some (part_at w p) else None) t) ∙ h)), t))

@@ -33,20 +33,20 @@ one-second ps qs q none = list_any-append _ ps qs ∙ ap (λ b. b || is_one_of q
 
 -- ---- paths with an element in front
 
-abbrev behind : Element → List Path → List Path
+abbrev pub behind : Element → List Path → List Path
 behind e = map (λ p. e ∷ p)
 
-no-root : (e : Element) (ps : List Path) → is_one_of (behind e ps) [] ≡ false
+pub no-root : (e : Element) (ps : List Path) → is_one_of (behind e ps) [] ≡ false
 no-root e [] = refl
 no-root e (p ∷ ps) = no-root e ps
 
-same-behind : (e : Element) (ps : List Path) (q : Path) → is_one_of (behind e ps) (e ∷ q) ≡ is_one_of ps q
+pub same-behind : (e : Element) (ps : List Path) (q : Path) → is_one_of (behind e ps) (e ∷ q) ≡ is_one_of ps q
 same-behind e [] q = refl
 same-behind e (p ∷ ps) q =
     ap (λ b. b || is_one_of (behind e ps) (e ∷ q)) (then_both (element_cmp e e) (path_cmp q p) ∙ (λ i. element-itself e i && is_eq (path_cmp q p)))
     ∙ ap (λ b. is_eq (path_cmp q p) || b) (same-behind e ps q)
 
-other-behind : (e f : Element) (ps : List Path) (q : Path) → same_element e f ≡ false → is_one_of (behind f ps) (e ∷ q) ≡ false
+pub other-behind : (e f : Element) (ps : List Path) (q : Path) → same_element e f ≡ false → is_one_of (behind f ps) (e ∷ q) ≡ false
 other-behind e f [] q other = refl
 other-behind e f (p ∷ ps) q other =
     ap (λ b. b || is_one_of (behind f ps) (e ∷ q)) (then_both (element_cmp e f) (path_cmp q p) ∙ (λ i. other i && is_eq (path_cmp q p)))

@@ -52,7 +52,7 @@ ended-is ls [] texts h = append-nil (ended ls) ∙ ap ended (same_Some ls texts 
 ended-is ls (b ∷ bs) texts h = absurd (none-some texts h)
 
 -- a text with such lines is the lines, each ended
-text-of-lines : (t : Text) (texts : List Text) → text_lines t ≡ Some texts → t ≡ ended texts
+pub text-of-lines : (t : Text) (texts : List Text) → text_lines t ≡ Some texts → t ≡ ended texts
 text-of-lines t texts h = sym (ended-split_lines t) ∙ ended-is (whole_lines t) (unfinished_line t) texts h
 
 -- the text of a value that is taken from it

@@ -30,7 +30,7 @@ entry-is : (version : Text) (fields : Json) (name : Text) (o : Operation) (time 
 entry-is version fields name applies time = refl
 entry-is version fields name updates time = refl
 
-operation-back : (o : Operation) → elim (operation_of (operation_text o)) [ Some q ↦ q | None ↦ applies ] ≡ o
+pub operation-back : (o : Operation) → elim (operation_of (operation_text o)) [ Some q ↦ q | None ↦ applies ] ≡ o
 operation-back applies = refl
 operation-back updates = refl
 

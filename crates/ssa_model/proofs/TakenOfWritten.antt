@@ -26,7 +26,7 @@ use Rattle.ssa_model.proofs.SpelledValues.{text_lines-of, spelled_values-of}
 use Rattle.ssa_model.proofs.Tables.{manager-itself, text-itself}
 
 -- a value is written as it is written
-written-itself : (v : Json) → is_written_as v v ≡ true
+pub written-itself : (v : Json) → is_written_as v v ≡ true
 written-itself v = text-itself (compact v)
 
 -- ---- the head and the schema
@@ -34,7 +34,7 @@ written-itself v = text-itself (compact v)
 head-back : (place states : ℕ) → head_in (head_of place states) ≡ Some (record { place = place; states = states })
 head-back place states = ap (λ b. given_if {X = Head} b (record { place = place; states = states })) (written-itself (head_of place states))
 
-schema-back : (schema : Schema) → read_schema schema.source ≡ Ok schema.kind → schema_in schema.source ≡ Some schema
+pub schema-back : (schema : Schema) → read_schema schema.source ≡ Ok schema.kind → schema_in schema.source ≡ Some schema
 schema-back schema h = ap (λ (r : Result Kind SchemaFault). elim r [ Ok kind ↦ Some (record { source = schema.source; kind = kind }) | Err f ↦ None ]) h
 
 -- ---- the states
@@ -47,17 +47,17 @@ lone-by v r lone is same =
 
 -- ---- labels and the order of managers
 
-is_label-of : (readings : Readings) (label : Label) → IsLabel readings label → is_label readings label ≡ true
+pub is_label-of : (readings : Readings) (label : Label) → IsLabel readings label → is_label readings label ≡ true
 is_label-of readings (applied who force at) h = and_from (is_manager_name who) (readings.moment at) h.0 h.1
 is_label-of readings (updated who at) h = and_from (is_manager_name who) (readings.moment at) h.0 h.1
 is_label-of readings stripped h = refl
 
-said-back : (label : Label) → said_label (label_json label) ≡ label
+pub said-back : (label : Label) → said_label (label_json label) ≡ label
 said-back (applied who force at) = refl
 said-back (updated who at) = refl
 said-back stripped = refl
 
-label-back : (readings : Readings) (label : Label) → IsLabel readings label → label_in readings (label_json label) ≡ Some label
+pub label-back : (readings : Readings) (label : Label) → IsLabel readings label → label_in readings (label_json label) ≡ Some label
 label-back readings label h =
     ap (λ l. given_if (is_label readings l) l) (said-back label) ∙ ap (λ b. given_if b label) (is_label-of readings label h)
 
@@ -65,7 +65,7 @@ pointwise-itself : (ms : List ManagerKey) → pointwise same_manager ms ms ≡ t
 pointwise-itself [] = refl
 pointwise-itself (m ∷ ms) = and_from (same_manager m m) (pointwise same_manager ms ms) (manager-itself m) (pointwise-itself ms)
 
-keeps_order-of : (before after : Table) → KeepsOrder before after → keeps_order before after ≡ true
+pub keeps_order-of : (before after : Table) → KeepsOrder before after → keeps_order before after ≡ true
 keeps_order-of before after h = ap (pointwise same_manager (shared_managers before after)) (sym h) ∙ pointwise-itself (shared_managers before after)
 
 -- ---- the later states
@@ -99,21 +99,21 @@ module _ (readings : Readings) (bench : Bench) where
 
 -- ---- the bench
 
-nat_le-of : (a b : ℕ) → a ≤ b → nat_le a b ≡ true
+pub nat_le-of : (a b : ℕ) → a ≤ b → nat_le a b ≡ true
 nat_le-of a b h = grind (arith, nat_tests)
 
-nat-itself : (a : ℕ) → (a == a) ≡ true
+pub nat-itself : (a : ℕ) → (a == a) ≡ true
 nat-itself a = grind (arith, nat_tests)
 
 module _ (readings : Readings) (bench : Bench) (valid : IsValidBench readings bench) where
   abbrev alone : State → Bench
   alone state = lone_bench bench.schema bench.identity state
 
-  shown-back : (state : State) → IsValidState bench.schema.kind state → AllEntries (IsReadBack readings) state.table
+  pub shown-back : (state : State) → IsValidState bench.schema.kind state → AllEntries (IsReadBack readings) state.table
       → bench_of readings bench.schema (whole_object bench state) ≡ Ok (alone state)
   shown-back state fits back = shown_state_is_taken readings bench.schema bench.identity state valid.named valid.accepted fits back
 
-  state-back : (state : State) → IsValidState bench.schema.kind state → AllEntries (IsReadBack readings) state.table → IsTaken readings bench state
+  pub state-back : (state : State) → IsValidState bench.schema.kind state → AllEntries (IsReadBack readings) state.table → IsTaken readings bench state
   state-back state fits back = (lone-parts readings bench.schema (whole_object bench state) (alone state) (shown-back state fits back)).state_is
 
   abbrev lone : Bench

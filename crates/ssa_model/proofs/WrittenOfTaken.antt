@@ -29,7 +29,7 @@ head-from v h is =
     let got = given-back (is_written_as (head_of place.0 states.0) v) (record { place = place.0; states = states.0 }) h states.2 in
     sym (same_text-true (compact (head_of place.0 states.0)) (compact v) got.0) ∙ ap (λ (x : Head). compact (head_of x.place x.states)) got.1
 
-schema-from : (v : Json) (r : Result Kind SchemaFault) (schema : Schema)
+pub schema-from : (v : Json) (r : Result Kind SchemaFault) (schema : Schema)
     → elim r [ Ok kind ↦ Some (record { source = v; kind = kind }) | Err f ↦ None ] ≡ Some schema → v ≡ schema.source
 schema-from v (Ok kind) schema is = ap (λ (s : Schema). s.source) (same_Some {A = Schema} (record { source = v; kind = kind }) schema is)
 schema-from v (Err f) schema is = absurd (none-some schema is)

@@ -72,3 +72,7 @@ pub mod Takes
 pub mod Facts
 -- a record as JSON
 pub mod RecordText
+-- how a record is read from JSON
+pub mod RecordReading
+-- the text of a bench file of records
+pub mod RecordedBench

@@ -18,3 +18,7 @@ pub mod ShownRows
 pub mod SubcommandRows
 -- the sizes and the texts of records
 pub mod RecordRows
+-- records read from JSON
+pub mod RecordReadingRows
+-- bench files of records
+pub mod RecordedRows

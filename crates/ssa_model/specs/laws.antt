@@ -32,3 +32,7 @@ pub mod RecordSizes
 pub mod InPlace
 -- the record of two bodies along their paths, and below a path
 pub mod RecordWalks
+-- a record is read from its JSON
+pub mod RecordReading
+-- how a bench file of records is taken, line by line
+pub mod RecordedBenches

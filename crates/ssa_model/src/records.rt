@@ -5,6 +5,10 @@ ghost use Rattle.ssa_model.specs.laws.RecordTurns.{BodyTurns, TableTurns, Record
 ghost use Rattle.ssa_model.specs.laws.RecordSizes.{BodyBound, TableBound, SizeBound, FactsBothWays};
 ghost use Rattle.ssa_model.specs.laws.InPlace.{TableIsInserted, StayersAreLed, ItemsAreInserted};
 ghost use Rattle.ssa_model.specs.laws.RecordWalks.{CutsAreFiltered, LeavesAreFiltered, OrdersAreFiltered, PutsAreFiltered, RecordBelow, PartIsValue, TreeLeads, BodiesAreTrees, PartIsTree, CarryBelow};
+ghost use Rattle.ssa_model.specs.laws.RecordReading.{RecordTextsHaveShape, RecordTextsAreRead};
+ghost use Rattle.ssa_model.specs.laws.RecordedBenches.{RecordedFilesAreTaken, TakenIsRecordedText, MisfitIsRefused, MovesHaveShape};
+ghost use Rattle.ssa_model.specs.examples.RecordedRows.{RecordedFilesAreWritten, RecordedValuesAreTaken, RecordedFileIsMet, DamagedLinesAreTold, DamagedFilesAreTold, OtherFilesAreRefused};
+ghost use Rattle.ssa_model.specs.examples.RecordReadingRows.{RecordsAreRead, ShapesAreTold, OtherShapesAreRefused, ReadStatesAreMet};
 ghost use Rattle.ssa_model.specs.examples.RecordRows.{FirstApplyRecord, ForcedRecord, GivenUpRecord, RemovedItemRecord, RemovedItemPlace, ReorderRecord, RepeatRecord, StripRecord, SetFilledRecord, SetEmptiedRecord, LiveItemsRecord, LedRecord, ForcedFacts, ReorderFacts, RemovedItemFacts, FirstApplyText, ForcedText, RemovedItemText, ReorderText, RecordsAreMet};
 
 /// The sizes of the records of worked commands, back and forth.
@@ -118,4 +122,41 @@ pub fn carry_walks()
 /// The states of a worked example meet what the laws ask of two states.
 pub fn records_are_met()
     ensures { RecordsAreMet }
+{}
+
+/// The value of the record of two states has the shape of a record, and the record is read from it, where the states' paths and moments are read.
+pub fn record_readings()
+    ensures shape { RecordTextsHaveShape }
+    ensures read { RecordTextsAreRead }
+{}
+
+/// The records of worked commands are read from their values. Some values have the shape of a record, and some have not.
+pub fn records_are_read()
+    ensures read { RecordsAreRead }
+    ensures shapes { ShapesAreTold }
+    ensures others { OtherShapesAreRefused }
+    ensures met { ReadStatesAreMet }
+{}
+
+/// The bench file of records of a bench is taken as that bench, and what is taken has the text as its file.
+/// A text that tells of a record that doesn't fit is not taken, and each line of two valid states has the shape of a line.
+pub fn recorded_files()
+    ensures taken { RecordedFilesAreTaken }
+    ensures text { TakenIsRecordedText }
+    ensures misfit { MisfitIsRefused }
+    ensures shape { MovesHaveShape }
+{}
+
+/// Bench files of records are written and taken again, worked by computation. There is such a file.
+pub fn recorded_files_are_worked()
+    ensures written { RecordedFilesAreWritten }
+    ensures taken { RecordedValuesAreTaken }
+    ensures met { RecordedFileIsMet }
+{}
+
+/// Damaged lines of a bench file of records, and files with such lines, have their faults, and other texts are refused.
+pub fn damaged_records_are_told()
+    ensures lines { DamagedLinesAreTold }
+    ensures files { DamagedFilesAreTold }
+    ensures others { OtherFilesAreRefused }
 {}

@@ -1,0 +1,267 @@
+-- From the lines that are written of a valid bench, by records, the bench is taken, and from its file.
+use Rattle.std.proofs.Common.{◌≡◌, ◌≤◌, ℕ, zero, suc, ◌+◌, ◌-◌, length, List, [], ◌∷◌, ◌++◌, take, drop, true, Option, Some, None, option_map, option_and_then, refl, sym, ap, ◌∙◌, subst, arith, append_assoc, append-nil, length-append, length-drop}
+use Rattle.std.proofs.Math.Seq.{take-append_seam, drop-append_seam}
+use Rattle.std.proofs.lemmas.Bool.{and_from}
+use Rattle.std.proofs.lemmas.List.{take-append-drop, length-take-le}
+use Rattle.std.proofs.lemmas.List.Elements.{All-head, All-tail}
+use Rattle.std.specs.List.{All}
+use Rattle.std.specs.Prelude.{if◌then◌else◌, ◌==◌, nat_le, Result, Ok, Err}
+use Rattle.ssa_model.specs.definitions.Limits.{most_past, most_bench_bytes}
+use Rattle.ssa_model.specs.definitions.Json.{Text, Json}
+use Rattle.ssa_model.specs.definitions.Readings.{Readings}
+use Rattle.ssa_model.specs.definitions.Schema.{Schema}
+use Rattle.ssa_model.specs.definitions.Objects.{Identity}
+use Rattle.ssa_model.specs.definitions.Operations.{State}
+use Rattle.ssa_model.specs.definitions.Entries.{version_in}
+use Rattle.ssa_model.specs.definitions.Table.{Table}
+use Rattle.ssa_model.specs.definitions.History.{Label, Step, Bench, last_state, present, with_timeline}
+use Rattle.ssa_model.specs.definitions.Answers.{Fault, lone_bench, file_state, bench_of}
+use Rattle.ssa_model.specs.definitions.BenchText.{whole_object}
+use Rattle.ssa_model.specs.definitions.Valid.{AllEntries, IsValidState, MakesValid, KeepsOrder, KeepsOrders}
+use Rattle.ssa_model.specs.definitions.BenchFile.{IsReadBack, IsLabel, IsStep, IsSpelled, IsValidBench}
+use Rattle.ssa_model.specs.definitions.Record.{Record, record_of}
+use Rattle.ssa_model.specs.definitions.Carry.{carry}
+use Rattle.ssa_model.specs.definitions.RecordText.{record_json}
+use Rattle.ssa_model.specs.definitions.RecordReading.{record_in, HasReadPaths}
+use Rattle.ssa_model.specs.definitions.RecordedBench.{record_head, record_line, past_lines, future_lines, past_steps, future_steps, recorded_values, recorded_text, HasReadStep, HasReadHistory}
+use Rattle.ssa_model.specs.laws.BenchFiles.{text_lines, spelled_values, given_if, is_written_as, schema_in, keeps_order}
+use Rattle.ssa_model.specs.laws.RecordedBenches.{Counts, counts_in, present_in, led_state, move_to, move_in, past_in, future_in, with_moves, lines_bench, recorded_bench, recorded_bench_in, RecordedFilesAreTaken}
+use Rattle.ssa_model.proofs.RecordTakes.{record_leads}
+use Rattle.ssa_model.proofs.RecordsBack.{record_texts_are_read}
+use Rattle.ssa_model.proofs.ShownObjects.{identity-parts}
+use Rattle.ssa_model.proofs.SpelledValues.{text_lines-of, spelled_values-of}
+use Rattle.ssa_model.proofs.TakenOfWritten.{written-itself, schema-back, label-back, keeps_order-of, nat_le-of, nat-itself, shown-back, state-back}
+
+moments-of : (readings : Readings) (t : Table) → AllEntries (IsReadBack readings) t → AllEntries (λ e. readings.moment e.moment ≡ true) t
+moments-of readings [] h = tt
+moments-of readings (e ∷ es) h = (h.0.moment, moments-of readings es h.1)
+
+-- ---- the moves of a bench
+
+module _ (readings : Readings) (bench : Bench) (valid : IsValidBench readings bench) where
+  -- what is known of a state of the bench
+  record IsGoodState (s : State) : Type 0 where
+    pub valid_state : IsValidState bench.schema.kind s
+    pub back : AllEntries (IsReadBack readings) s.table
+    pub paths : HasReadPaths readings s.body
+
+  -- of a step from a state
+  record IsGoodMove (v : State) (s : Step) : Type 0 where
+    pub from : IsGoodState v
+    pub to : IsGoodState s.state
+    pub label : IsLabel readings s.label
+    pub order : KeepsOrder v.table s.state.table
+
+  abbrev AreGoodMoves : State → List Step → Type 0
+  AreGoodMoves v [] = Unit {0}
+  AreGoodMoves v (s ∷ ss) = IsGoodMove v s × AreGoodMoves s.state ss
+
+  good-moves : (v : State) (ss : List Step) → IsGoodState v → All (MakesValid bench.schema.kind) ss → All (IsStep readings) ss → All (HasReadStep readings) ss
+      → KeepsOrders v ss → AreGoodMoves v ss
+  good-moves v [] good valids steps paths order = tt
+  good-moves v (s ∷ ss) good valids steps paths order =
+      let step = All-head (IsStep readings) s ss steps in
+      let valid_next = All-head (MakesValid bench.schema.kind) s ss valids in
+      let read_next = All-head (HasReadStep readings) s ss paths in
+      let next : IsGoodState s.state = record { valid_state = valid_next; back = step.table; paths = read_next } in (
+        record { from = good; to = next; label = step.label; order = order.0 },
+        good-moves s.state ss next (All-tail (MakesValid bench.schema.kind) s ss valids) (All-tail (IsStep readings) s ss steps)
+            (All-tail (HasReadStep readings) s ss paths) order.1,
+      )
+
+  good-take : (n : ℕ) (v : State) (ss : List Step) → AreGoodMoves v ss → AreGoodMoves v (take n ss)
+  good-take zero v ss h = tt
+  good-take (suc n) v [] h = tt
+  good-take (suc n) v (s ∷ ss) h = (h.0, good-take n s.state ss h.1)
+
+  good-drop : (n : ℕ) (v : State) (ss : List Step) → AreGoodMoves v ss → AreGoodMoves (last_state v (take n ss)) (drop n ss)
+  good-drop zero v ss h = h
+  good-drop (suc n) v [] h = tt
+  good-drop (suc n) v (s ∷ ss) h = good-drop n s.state ss h.1
+
+  good-last : (n : ℕ) (v : State) (ss : List Step) → IsGoodState v → AreGoodMoves v ss → IsGoodState (last_state v (take n ss))
+  good-last zero v ss good h = good
+  good-last (suc n) v [] good h = good
+  good-last (suc n) v (s ∷ ss) good h = good-last n s.state ss h.0.to h.1
+
+  -- ---- one line
+
+  record-is : (v w : State) → IsGoodState v → IsGoodState w
+      → record_in readings bench.schema.kind (record_json (version_in bench.identity.version) bench.schema.kind (record_of v w)) ≡ record_of v w
+  record-is v w a b =
+      let p = identity-parts bench.identity valid.named in
+      ap (λ (i : Identity). record_in readings bench.schema.kind (record_json (version_in i.version) bench.schema.kind (record_of v w))) p.is
+      ∙ record_texts_are_read readings p.version bench.schema.kind v w valid.accepted a.valid_state b.valid_state
+      (record { paths = a.paths; moments = moments-of readings v.table a.back }) (record { paths = b.paths; moments = moments-of readings w.table b.back })
+
+  led-back : (label : Label) (v w : State) → IsGoodState v → IsGoodState w → KeepsOrder v.table w.table
+      → led_state readings bench v (record_line bench label v w) ≡ Some w
+  led-back label v w a b order =
+      let carried = ap (λ (d : Record). carry d v) (record-is v w a b) ∙ record_leads bench.schema.kind v w a.valid_state b.valid_state order in
+      ap (λ s. of_result (file_state readings bench.schema.kind (whole_object bench s))) carried
+      ∙ ap of_result (state-back readings bench valid w b.valid_state b.back)
+    where
+      of_result : Result State Fault → Option State
+      of_result r = elim r [ Ok x ↦ Some x | Err f ↦ None ]
+
+  move-back : (label : Label) (v w : State) → IsLabel readings label → IsGoodState v → IsGoodState w → KeepsOrder v.table w.table
+      → move_in readings bench v (record_line bench label v w) ≡ Some (label, w)
+  move-back label v w h a b order =
+      let j = record_line bench label v w in
+      ap (option_and_then (λ l. option_and_then (move_to readings bench v j l) (led_state readings bench v j))) (label-back readings label h)
+      ∙ ap (option_and_then (move_to readings bench v j label)) (led-back label v w a b order)
+      ∙ ap (λ x. given_if x (label, w)) (and_from (is_written_as j j) (keeps_order v.table w.table) (written-itself j) (keeps_order-of v.table w.table order))
+
+  -- ---- the lines
+
+  past-back : (v : State) (ss : List Step) (rest : List Json) (acc : List Step) → AreGoodMoves v ss
+      → past_in readings bench (last_state v ss) (past_lines bench v ss ++ rest) acc ≡ past_in readings bench v rest (ss ++ acc)
+  past-back v [] rest acc h = refl
+  past-back v (s ∷ ss) rest acc h =
+      let j = record_line bench s.label s.state v in
+      ap (λ js. past_in readings bench (last_state s.state ss) js acc) (append_assoc (past_lines bench s.state ss) (j ∷ []) rest)
+      ∙ past-back s.state ss (j ∷ rest) acc h.1
+      ∙ ap (option_and_then (λ m. past_in readings bench m.1 rest (record { label = m.0; state = s.state } ∷ (ss ++ acc))))
+      (move-back s.label s.state v h.0.label h.0.to h.0.from (sym h.0.order))
+
+  future-back : (v : State) (ss : List Step) → AreGoodMoves v ss → future_in readings bench v (future_lines bench v ss) ≡ Some ss
+  future-back v [] h = refl
+  future-back v (s ∷ ss) h =
+      ap (option_and_then (λ m. option_map (λ ts. record { label = m.0; state = m.1 } ∷ ts) (future_in readings bench m.1 (future_lines bench s.state ss))))
+      (move-back s.label v s.state h.0.label h.0.from h.0.to h.0.order)
+      ∙ ap (option_map (λ ts. s ∷ ts)) (future-back s.state ss h.1)
+
+pub past-many : (bench : Bench) (v : State) (ss : List Step) → length (past_lines bench v ss) ≡ length ss
+past-many bench v [] = refl
+past-many bench v (s ∷ ss) =
+    let both = length-append (past_lines bench s.state ss) (record_line bench s.label s.state v ∷ []) in
+    let rest = past-many bench s.state ss in
+    omega (arith, both, rest)
+
+pub future-many : (bench : Bench) (v : State) (ss : List Step) → length (future_lines bench v ss) ≡ length ss
+future-many bench v [] = refl
+future-many bench v (s ∷ ss) = let rest = future-many bench s.state ss in omega (arith, rest)
+
+-- ---- the bench
+
+counts-back : (past future : ℕ) → past + future ≤ most_past → counts_in (record_head past future) ≡ Some (record { past = past; future = future })
+counts-back past future few =
+    let head = record_head past future in
+    ap (λ b. given_if {X = Counts} b (record { past = past; future = future }))
+    (and_from (is_written_as head head) (nat_le (past + future) most_past) (written-itself head) (nat_le-of (past + future) most_past few))
+
+present-by : (v : Json) (r : Result Bench Fault) (now : Bench)
+    → r ≡ Ok now → whole_object now now.timeline.first ≡ v
+    → elim r [ Ok bench ↦ given_if (is_written_as (whole_object bench bench.timeline.first) v) bench | Err f ↦ None ] ≡ Some now
+present-by v r now is same =
+    ap (λ (r : Result Bench Fault). elim r [ Ok bench ↦ given_if (is_written_as (whole_object bench bench.timeline.first) v) bench | Err f ↦ None ]) is
+    ∙ ap (λ b. given_if b now) (ap (is_written_as (whole_object now now.timeline.first)) (sym same) ∙ written-itself (whole_object now now.timeline.first))
+
+module _ (readings : Readings) (bench : Bench) (valid : IsValidBench readings bench) (read : HasReadHistory readings bench.timeline) where
+  abbrev first : State
+  first = bench.timeline.first
+
+  abbrev v : State
+  v = present bench.timeline
+
+  abbrev now : Bench
+  now = lone_bench bench.schema bench.identity v
+
+  abbrev before : List Step
+  before = past_steps bench.timeline
+
+  abbrev behind : List Step
+  behind = future_steps bench.timeline
+
+  abbrev back_lines : List Json
+  back_lines = past_lines bench first before
+
+  abbrev on_lines : List Json
+  on_lines = future_lines bench v behind
+
+  abbrev counts : Counts
+  counts = record { past = bench.timeline.place; future = length bench.timeline.later - bench.timeline.place }
+
+  good-first : IsGoodState readings bench valid first
+  good-first = record { valid_state = valid.states.first; back = valid.first; paths = read.first }
+
+  good-all : AreGoodMoves readings bench valid first bench.timeline.later
+  good-all = good-moves readings bench valid first bench.timeline.later good-first valid.states.later valid.steps read.later valid.order
+
+  present-back : present_in readings bench.schema (whole_object bench v) ≡ Some now
+  present-back =
+      let good = good-last readings bench valid bench.timeline.place first bench.timeline.later good-first good-all in
+      present-by (whole_object bench v) (bench_of readings bench.schema (whole_object bench v)) now
+      (shown-back readings bench valid v good.valid_state good.back) refl
+
+  place-many : length back_lines ≡ bench.timeline.place
+  place-many = past-many bench first before ∙ length-take-le bench.timeline.place bench.timeline.later valid.place
+
+  past-is : past_in readings now v (take bench.timeline.place (back_lines ++ on_lines)) [] ≡ Some (first, before)
+  past-is =
+      ap (λ js. past_in readings now v js [])
+      (ap (λ n. take n (back_lines ++ on_lines)) (sym place-many) ∙ take-append_seam back_lines on_lines ∙ sym (append-nil back_lines))
+      ∙ past-back readings bench valid first before [] [] (good-take readings bench valid bench.timeline.place first bench.timeline.later good-all)
+      ∙ ap (λ ss. Some (first, ss)) (append-nil before)
+
+  future-is : future_in readings now v (drop bench.timeline.place (back_lines ++ on_lines)) ≡ Some behind
+  future-is =
+      ap (future_in readings now v) (ap (λ n. drop n (back_lines ++ on_lines)) (sym place-many) ∙ drop-append_seam back_lines on_lines)
+      ∙ future-back readings bench valid v behind (good-drop readings bench valid bench.timeline.place first bench.timeline.later good-all)
+
+  moves-are : with_moves counts now (back_lines ++ on_lines) (first, before) behind ≡ Some bench
+  moves-are =
+      let later = bench.timeline.later in
+      let place = bench.timeline.place in
+      let both = length-append back_lines on_lines in
+      let on = future-many bench v behind in
+      let left = length-drop place later in
+      let all = place + (length later - place) in
+      let lines : length (back_lines ++ on_lines) ≡ all = both ∙ (λ i. place-many i + (on ∙ left) i) in
+      let many : (length (back_lines ++ on_lines) == all) ≡ true = ap (λ n. n == all) lines ∙ nat-itself all in
+      ap (λ b. given_if b (with_timeline now (record { first = first; later = before ++ behind; place = place })))
+      many
+      ∙ ap (λ ss. Some (with_timeline now (record { first = first; later = ss; place = place }))) (take-append-drop place later)
+
+  few : bench.timeline.place + (length bench.timeline.later - bench.timeline.place) ≤ most_past
+  few = let within = valid.place in let short = valid.few in omega (arith, within, short)
+
+  abbrev js : List Json
+  js = back_lines ++ on_lines
+
+  lines-back : lines_bench readings counts now js ≡ Some bench
+  lines-back =
+      ap (option_and_then (λ past. option_and_then (with_moves counts now js past) (future_in readings now v (drop bench.timeline.place js)))) past-is
+      ∙ ap (option_and_then (with_moves counts now js (first, before))) future-is
+      ∙ moves-are
+
+  -- from the values that are written of the bench it is taken
+  pub recorded-back : recorded_bench readings (recorded_values bench) ≡ Some bench
+  recorded-back =
+      ap (option_and_then of_counts) (counts-back bench.timeline.place (length bench.timeline.later - bench.timeline.place) few)
+      ∙ ap (option_and_then (of_schema counts)) (schema-back bench.schema valid.read)
+      ∙ ap (option_and_then (λ b. lines_bench readings counts b js)) present-back
+      ∙ lines-back
+    where
+      of_schema : Counts → Schema → Option Bench
+      of_schema c schema = option_and_then (λ b. lines_bench readings c b js) (present_in readings schema (whole_object bench v))
+
+      of_counts : Counts → Option Bench
+      of_counts c = option_and_then (of_schema c) (schema_in bench.schema.source)
+
+  recorded-text-back : length (recorded_text bench) ≤ most_bench_bytes → All (IsSpelled readings) (recorded_values bench)
+      → recorded_bench_in readings (recorded_text bench) ≡ Some bench
+  recorded-text-back h spelled =
+      ap (λ b. if b then of_lines (text_lines (recorded_text bench)) else None) (nat_le-of (length (recorded_text bench)) most_bench_bytes h)
+      ∙ ap of_lines (text_lines-of (recorded_values bench))
+      ∙ ap (option_and_then (recorded_bench readings)) (spelled_values-of readings (recorded_values bench) spelled)
+      ∙ recorded-back
+    where
+      of_lines : Option (List Text) → Option Bench
+      of_lines o = option_and_then (recorded_bench readings) (option_and_then (spelled_values readings) o)
+
+-- the law
+pub recorded_files_are_taken : RecordedFilesAreTaken
+recorded_files_are_taken readings t bench file =
+    ap (recorded_bench_in readings) file.text
+    ∙ recorded-text-back readings bench file.valid file.paths (subst (λ x. length x ≤ most_bench_bytes) file.text file.fits) file.spelled

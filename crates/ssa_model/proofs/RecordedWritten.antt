@@ -1,0 +1,197 @@
+-- The lines of a bench file of records are those written of the bench that is taken from them, and its text is the bench's.
+use Rattle.std.proofs.Common.{◌≡◌, ◌+◌, ◌-◌, ◌≤◌, length, List, [], ◌∷◌, ◌++◌, map, take, drop, ◌&&◌, Option, Some, None, option_and_then, refl, sym, ap, ◌∙◌, eqb-true, arith, append_assoc, append-nil, length-append, length-drop}
+use Rattle.std.proofs.Math.Seq.{take-append_seam, drop-append_seam}
+use Rattle.std.proofs.lemmas.Bool.{and_parts}
+use Rattle.std.proofs.lemmas.List.{map-append, length-map, take-append-drop, length-take-le}
+use Rattle.std.proofs.lemmas.Option.{same_Some, none-some}
+use Rattle.std.specs.Prelude.{◌==◌, codes, nat_le, Result, Ok, Err}
+use Rattle.ssa_model.specs.definitions.Limits.{most_past, most_bench_bytes}
+use Rattle.ssa_model.specs.definitions.Json.{Json, member_at, compact}
+use Rattle.ssa_model.specs.definitions.Readings.{Readings}
+use Rattle.ssa_model.specs.definitions.Commands.{value_in}
+use Rattle.ssa_model.specs.definitions.Schema.{Schema, read_schema}
+use Rattle.ssa_model.specs.definitions.Operations.{State}
+use Rattle.ssa_model.specs.definitions.History.{Label, Step, Bench, last_state, with_timeline}
+use Rattle.ssa_model.specs.definitions.Answers.{Fault, bench_of}
+use Rattle.ssa_model.specs.definitions.Lines.{ended}
+use Rattle.ssa_model.specs.definitions.BenchText.{whole_object}
+use Rattle.ssa_model.specs.definitions.RecordedBench.{record_head, record_line, past_lines, future_lines, recorded_values}
+use Rattle.ssa_model.specs.laws.BenchFiles.{text_lines, spelled_values, given_if, is_written_as, number_in, schema_in, label_in, keeps_order}
+use Rattle.ssa_model.specs.laws.RecordedBenches.{Counts, counts_in, present_in, led_state, is_move, move_to, move_in, past_in, future_in, with_moves, lines_bench, recorded_bench, TakenIsRecordedText}
+use Rattle.ssa_model.proofs.Given.{given-back, tested-back, and_then-back, map-back}
+use Rattle.ssa_model.proofs.LoneBenches.{lone-parts}
+use Rattle.ssa_model.proofs.RecordedTaken.{future-many}
+use Rattle.ssa_model.proofs.SpelledValues.{text-of-values, lines-are-ended}
+use Rattle.ssa_model.proofs.Tables.{same_text-true}
+use Rattle.ssa_model.proofs.WrittenOfTaken.{schema-from}
+
+-- ---- the head and the present object
+
+counts-from : (v : Json) (c : Counts) → counts_in v ≡ Some c → compact v ≡ compact (record_head c.past c.future)
+counts-from v c is =
+    let past = and_then-back _ (number_in (member_at (codes "past") v)) c is in
+    let future = and_then-back _ (number_in (member_at (codes "future") v)) c past.2 in
+    let head = record_head past.0 future.0 in
+    let got = given-back (is_written_as head v && nat_le (past.0 + future.0) most_past) (record { past = past.0; future = future.0 }) c future.2 in
+    sym (same_text-true (compact head) (compact v) (and_parts (is_written_as head v) (nat_le (past.0 + future.0) most_past) got.0).0)
+    ∙ ap (λ (x : Counts). compact (record_head x.past x.future)) got.1
+
+present-from : (v : Json) (r : Result Bench Fault) (now : Bench)
+    → elim r [ Ok bench ↦ given_if (is_written_as (whole_object bench bench.timeline.first) v) bench | Err f ↦ None ] ≡ Some now
+    → (r ≡ Ok now) × (compact v ≡ compact (whole_object now now.timeline.first))
+present-from v (Ok bench) now is =
+    let own = whole_object bench bench.timeline.first in
+    let got = given-back (is_written_as own v) bench now is in
+    (ap Ok got.1, sym (same_text-true (compact own) (compact v) got.0) ∙ ap (λ (b : Bench). compact (whole_object b b.timeline.first)) got.1)
+present-from v (Err f) now is = absurd (none-some now is)
+
+-- ---- the lines
+
+module _ (bench : Bench) where
+  -- with one step more, one line more stands in front
+  past-push : (v : State) (ss : List Step) (s : Step)
+      → past_lines bench v (ss ++ s ∷ []) ≡ record_line bench s.label s.state (last_state v ss) ∷ past_lines bench v ss
+  past-push v [] s = refl
+  past-push v (t ∷ ss) s = ap (λ js. js ++ record_line bench t.label t.state v ∷ []) (past-push t.state ss s)
+
+  last-push : (v : State) (ss : List Step) (s : Step) → last_state v (ss ++ s ∷ []) ≡ s.state
+  last-push v [] s = refl
+  last-push v (t ∷ ss) s = last-push t.state ss s
+
+module _ (readings : Readings) (bench : Bench) where
+  move-from : (v : State) (j : Json) (m : Label × State) → move_in readings bench v j ≡ Some m → compact j ≡ compact (record_line bench m.0 v m.1)
+  move-from v j m is =
+      let made = and_then-back _ (label_in readings (value_in (member_at (codes "command") j))) m is in
+      let led = and_then-back (move_to readings bench v j made.0) (led_state readings bench v j) m made.2 in
+      let got = given-back (is_move readings bench j made.0 v led.0) (made.0, led.0) m led.2 in
+      let line = record_line bench made.0 v led.0 in
+      sym (same_text-true (compact line) (compact j) (and_parts (is_written_as line j) (keeps_order v.table led.0.table) got.0).0)
+      ∙ ap (λ (x : Label × State). compact (record_line bench x.0 v x.1)) got.1
+
+  -- the steps that are taken back along some lines
+  record IsPast (v : State) (js : List Json) (acc : List Step) (r : State × List Step) : Type 0 where
+    pub steps : List Step
+    pub all : steps ++ acc ≡ r.1
+    pub last : last_state r.0 steps ≡ v
+    pub lines : map compact js ≡ map compact (past_lines bench r.0 steps)
+    pub many : length js ≡ length steps
+
+  past-from : (v : State) (js : List Json) (acc : List Step) (r : State × List Step) → past_in readings bench v js acc ≡ Some r → IsPast v js acc r
+  past-from v [] acc r is =
+      let same = same_Some (v, acc) r is in
+      record { steps = []; all = ap (λ (x : State × List Step). x.1) same; last = sym (ap (λ (x : State × List Step). x.0) same); lines = refl; many = refl }
+  past-from v (j ∷ js) acc r is =
+      let moved = and_then-back _ (move_in readings bench v j) r is in
+      let s : Step = record { label = moved.0.0; state = v } in
+      let rest = past-from moved.0.1 js (s ∷ acc) r moved.2 in
+      let own = move-from v j moved.0 moved.1 ∙ ap (λ w. compact (record_line bench s.label v w)) (sym rest.last) in
+      let counted = length-append rest.steps (s ∷ []) in
+      let fewer = rest.many in
+      record {
+        steps = rest.steps ++ s ∷ [];
+        all = append_assoc rest.steps (s ∷ []) acc ∙ rest.all;
+        last = last-push bench r.0 rest.steps s;
+        lines = (λ i. own i ∷ rest.lines i) ∙ ap (map compact) (sym (past-push bench r.0 rest.steps s));
+        many = omega (arith, counted, fewer);
+      }
+
+  future-from : (v : State) (js : List Json) (ss : List Step) → future_in readings bench v js ≡ Some ss → map compact js ≡ map compact (future_lines bench v ss)
+  future-from v [] ss is = ap (λ ts. map compact (future_lines bench v ts)) (same_Some [] ss is)
+  future-from v (j ∷ js) ss is =
+      let moved = and_then-back _ (move_in readings bench v j) ss is in
+      let s : Step = record { label = moved.0.0; state = moved.0.1 } in
+      let rest = map-back (λ ts. s ∷ ts) (future_in readings bench moved.0.1 js) ss moved.2 in
+      (λ i. move-from v j moved.0 moved.1 i ∷ future-from moved.0.1 js rest.0 rest.1 i)
+      ∙ ap (λ ts. map compact (future_lines bench v ts)) rest.2
+
+-- ---- the bench
+
+module _ (readings : Readings) (head source shown : Json) (js : List Json) (bench : Bench) where
+  abbrev Written : Type 0
+  Written = map compact (head ∷ source ∷ shown ∷ js) ≡ map compact (recorded_values bench)
+
+  by-moves : (c : Counts) (schema : Schema) (now : Bench) (past : State × List Step) (future : List Step)
+      → counts_in head ≡ Some c → schema_in source ≡ Some schema → present_in readings schema shown ≡ Some now
+      → past_in readings now now.timeline.first (take c.past js) [] ≡ Some past
+      → future_in readings now now.timeline.first (drop c.past js) ≡ Some future → with_moves c now js past future ≡ Some bench → Written
+  by-moves c schema now past future counted schemed there backed ahead is =
+      let v = now.timeline.first in
+      let later = past.1 ++ future in
+      let made = with_timeline now (record { first = past.0; later = later; place = c.past }) in
+      let got = given-back (length js == c.past + c.future) made bench is in
+      let all = eqb-true (length js) (c.past + c.future) got.0 in
+      let back = past-from readings now v (take c.past js) [] past backed in
+      let on = future-from readings now v (drop c.past js) future ahead in
+      let same = sym (append-nil back.steps) ∙ back.all in
+      let within : c.past ≤ length js = omega (arith, all) in
+      let many = ap length (sym same) ∙ sym back.many ∙ length-take-le c.past js within in
+      let taken = ap (λ n. take n later) (sym many) ∙ take-append_seam past.1 future in
+      let dropped = ap (λ n. drop n later) (sym many) ∙ drop-append_seam past.1 future in
+      let now_is : last_state past.0 (take c.past later) ≡ v = ap (last_state past.0) (taken ∙ sym same) ∙ back.last in
+      let ahead_many = sym (length-map (drop c.past js) compact) ∙ ap length on ∙ length-map (future_lines now v future) compact ∙ future-many now v future in
+      let left = length-drop c.past js in
+      let both = length-append past.1 future in
+      let count : length later - c.past ≡ c.future = omega (arith, all, many, ahead_many, left, both) in
+      let head_is = counts-from head c counted ∙ ap (λ n. compact (record_head c.past n)) (sym count) in
+      let object_is = present-from shown (bench_of readings schema shown) now there in
+      let schema_is = (lone-parts readings schema shown now object_is.0).schema_is in
+      let source_is = schema-from source (read_schema source) schema schemed ∙ ap (λ (x : Schema). x.source) schema_is in
+      let shown_is = object_is.1 ∙ ap (λ w. compact (whole_object now w)) (sym now_is) in
+      let lines_are =
+      ap (map compact) (sym (take-append-drop c.past js)) ∙ map-append compact (take c.past js) (drop c.past js)
+      ∙ (λ i. back.lines i ++ on i)
+      ∙ sym (map-append compact (past_lines now past.0 back.steps) (future_lines now v future))
+      ∙ (λ i. map compact (past_lines now past.0 ((same ∙ sym taken) i) ++ future_lines now (sym now_is i) (sym dropped i))) in
+      let written : map compact (head ∷ source ∷ shown ∷ js) ≡ map compact (recorded_values made) =
+      λ i. head_is i ∷ compact (source_is i) ∷ shown_is i ∷ lines_are i in
+      written ∙ ap (λ b. map compact (recorded_values b)) got.1
+
+  abbrev of_now : Counts → Bench → Option Bench
+  of_now c now = lines_bench readings c now js
+
+  abbrev of_schema : Counts → Schema → Option Bench
+  of_schema c schema = option_and_then (of_now c) (present_in readings schema shown)
+
+  abbrev of_counts : Counts → Option Bench
+  of_counts c = option_and_then (of_schema c) (schema_in source)
+
+  by-now : (c : Counts) (schema : Schema) (now : Bench)
+      → counts_in head ≡ Some c → schema_in source ≡ Some schema → present_in readings schema shown ≡ Some now → of_now c now ≡ Some bench → Written
+  by-now c schema now counted schemed there is =
+      let v = now.timeline.first in
+      let of_past = λ (past : State × List Step). option_and_then (with_moves c now js past) (future_in readings now v (drop c.past js)) in
+      let past = and_then-back of_past (past_in readings now v (take c.past js) []) bench is in
+      let future = and_then-back (with_moves c now js past.0) (future_in readings now v (drop c.past js)) bench past.2 in
+      by-moves c schema now past.0 future.0 counted schemed there past.1 future.1 future.2
+
+  by-schema : (c : Counts) (schema : Schema) → counts_in head ≡ Some c → schema_in source ≡ Some schema → of_schema c schema ≡ Some bench → Written
+  by-schema c schema counted schemed is =
+      let got = and_then-back (of_now c) (present_in readings schema shown) bench is in
+      by-now c schema got.0 counted schemed got.1 got.2
+
+  by-counts : (c : Counts) → counts_in head ≡ Some c → of_counts c ≡ Some bench → Written
+  by-counts c counted is =
+      let got = and_then-back (of_schema c) (schema_in source) bench is in
+      by-schema c got.0 counted got.1 got.2
+
+  by-values : option_and_then of_counts (counts_in head) ≡ Some bench → Written
+  by-values is =
+      let got = and_then-back of_counts (counts_in head) bench is in
+      by-counts got.0 got.1 got.2
+
+-- the values from which a bench is taken have the texts of those that are written of it
+pub recorded-written : (readings : Readings) (vs : List Json) (bench : Bench) → recorded_bench readings vs ≡ Some bench
+    → map compact vs ≡ map compact (recorded_values bench)
+recorded-written readings [] bench is = absurd (none-some bench is)
+recorded-written readings (head ∷ []) bench is = absurd (none-some bench is)
+recorded-written readings (head ∷ source ∷ []) bench is = absurd (none-some bench is)
+recorded-written readings (head ∷ source ∷ now ∷ js) bench is = by-values readings head source now js bench is
+
+-- the law
+pub taken_is_recorded_text : TakenIsRecordedText
+taken_is_recorded_text readings t bench is =
+    let small = tested-back (nat_le (length t) most_bench_bytes) _ bench is in
+    let values = and_then-back (recorded_bench readings) (option_and_then (spelled_values readings) (text_lines t)) bench small in
+    let ls = and_then-back (spelled_values readings) (text_lines t) values.0 values.1 in
+    text-of-values readings t ls.0 values.0 ls.1 ls.2 ∙ lines-are-ended values.0
+    ∙ ap ended (recorded-written readings values.0 bench values.2) ∙ sym (lines-are-ended (recorded_values bench))

@@ -1,0 +1,73 @@
+-- The text of a bench file of records: the present object, and from it the records that lead back along the past and on along
+-- the future. One compact value a line, each line ended by a line feed. And which texts are such files.
+use Rattle.std.specs.Prelude.{◌≡◌, ◌≤◌, ℕ, List, [], ◌∷◌, ◌++◌, take, drop, flat_map, length, codes}
+use Rattle.std.specs.List.{All}
+use Rattle.ssa_model.specs.definitions.Limits.{most_bench_bytes}
+use Rattle.ssa_model.specs.definitions.Json.{Text, Json, object, no_members, member}
+use Rattle.ssa_model.specs.definitions.Readings.{Readings}
+use Rattle.ssa_model.specs.definitions.Entries.{version_in}
+use Rattle.ssa_model.specs.definitions.Operations.{State}
+use Rattle.ssa_model.specs.definitions.History.{Label, Step, Timeline, Bench, present, past_len, future_len}
+use Rattle.ssa_model.specs.definitions.Replies.{number_json, label_json}
+use Rattle.ssa_model.specs.definitions.BenchText.{line, whole_object}
+use Rattle.ssa_model.specs.definitions.BenchFile.{IsSpelled, IsValidBench}
+use Rattle.ssa_model.specs.definitions.Record.{record_of}
+use Rattle.ssa_model.specs.definitions.RecordText.{record_json}
+use Rattle.ssa_model.specs.definitions.RecordReading.{HasReadPaths}
+
+-- ---- the lines
+
+-- the format, and how many commands can be redone and undone
+abbrev pub record_head : ℕ → ℕ → Json
+record_head past future =
+    object (member (codes "format") (number_json 2) (member (codes "future") (number_json future) (member (codes "past") (number_json past) no_members)))
+
+-- a command, and the record of the move from one state to another across it
+abbrev pub record_line : Bench → Label → State → State → Json
+record_line bench label v w =
+    object (member (codes "command") (label_json label)
+    (member (codes "record") (record_json (version_in bench.identity.version) bench.schema.kind (record_of v w)) no_members))
+
+-- the lines back along these steps, the last one first: each record leads from a step's state to the one before it
+abbrev pub past_lines : Bench → State → List Step → List Json
+past_lines bench v [] = []
+past_lines bench v (s ∷ ss) = past_lines bench s.state ss ++ record_line bench s.label s.state v ∷ []
+
+-- the lines on along these steps: each record leads from the state before a step to its state
+abbrev pub future_lines : Bench → State → List Step → List Json
+future_lines bench v [] = []
+future_lines bench v (s ∷ ss) = record_line bench s.label v s.state ∷ future_lines bench s.state ss
+
+abbrev pub past_steps : Timeline → List Step
+past_steps t = take t.place t.later
+
+abbrev pub future_steps : Timeline → List Step
+future_steps t = drop t.place t.later
+
+-- the head, the schema, the present object, the past from the latest command on, and the future
+abbrev pub recorded_values : Bench → List Json
+recorded_values bench =
+    let t = bench.timeline in
+    record_head (past_len t) (future_len t) ∷ bench.schema.source ∷ whole_object bench (present t)
+    ∷ past_lines bench t.first (past_steps t) ++ future_lines bench (present t) (future_steps t)
+
+abbrev pub recorded_text : Bench → Text
+recorded_text bench = flat_map line (recorded_values bench)
+
+-- ---- files
+
+abbrev pub HasReadStep : Readings → Step → Type 0
+HasReadStep readings s = HasReadPaths readings s.state.body
+
+-- the paths of each state are read from their texts
+pub record HasReadHistory (readings : Readings) (t : Timeline) : Type 0 where
+  pub first : HasReadPaths readings t.first.body
+  pub later : All (HasReadStep readings) t.later
+
+-- The text is that of the bench, which is valid, and each line's value is the one that is read from it.
+pub record IsRecordedFile (readings : Readings) (contents : Text) (bench : Bench) : Type 0 where
+  pub valid : IsValidBench readings bench
+  pub paths : HasReadHistory readings bench.timeline
+  pub text : contents ≡ recorded_text bench
+  pub fits : length contents ≤ most_bench_bytes
+  pub spelled : All (IsSpelled readings) (recorded_values bench)
