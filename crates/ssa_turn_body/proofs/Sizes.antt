@@ -1,0 +1,1 @@
+-- As much as the record of a body holds, its changes say.
