@@ -20,6 +20,7 @@ use Rattle.ssa_turn_body.specs.declared.steps.Step.{Step}
 use Rattle.ssa_turn_body.proofs.BodyMarks.{body-marks, body-same}
 use Rattle.ssa_turn_body.proofs.BodyRecords.{told-record}
 use Rattle.ssa_turn_body.proofs.KeepingRoom.{alike-back, record-leads}
+use Rattle.ssa_turn_body.proofs.OnceOnly.{once-all}
 
 module _ (v w : Node) (ps : List Elem) (old : List Step) (s : BodySteps) (tree : is_tree v ≡ true) (tree_to : is_tree w ≡ true) (root : ps ≡ []) (none : old ≡ [])
     (leading : AreLeading (path_view ps) (marks v) (marks w) old s.steps.items) where
@@ -47,6 +48,7 @@ module _ (v w : Node) (ps : List Elem) (old : List Step) (s : BodySteps) (tree :
   pub between-room : (b c : Body) → body_of v ≡ b → body_of w ≡ c → AreAlike b c → HasBodyRoom s b
   between-room b c is to alike = record {
     fits = between-fits b is;
+    once = once-all (path_view ps) old s.steps.items none leading.once;
     turns = λ t d turned.
         let same : d ≡ c = between-leads b c is to t d turned in
         let found = body-marks turned.before v turned.tree_before tree (turned.body_before ∙ sym is) in

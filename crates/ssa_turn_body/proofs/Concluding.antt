@@ -1,6 +1,7 @@
 -- The edit of a place whose common children are led leads to the second children and says what is other there.
-use Rattle.std.proofs.Common.{◌≡◌, ℕ, List, [], ◌∷◌, ◌++◌, Bool, true, false, ◌||◌, Option, Some, None, option_map, Vec, Global, reverse, refl, sym, ap, subst, ◌∙◌}
+use Rattle.std.proofs.Common.{◌≡◌, ℕ, List, [], ◌∷◌, ◌++◌, Bool, true, false, not, ◌&&◌, ◌||◌, Option, Some, None, option_map, Vec, Global, reverse, refl, sym, ap, subst, ◌∙◌}
 use Rattle.std.specs.Cmp.Lexicographic.{pointwise}
+use Rattle.std.specs.List.{list_any}
 use Rattle.std.specs.Prelude.{is_some, if◌then◌else◌}
 use Rattle.std.proofs.lemmas.Option.{none-some, same_Some}
 use Rattle.ssa_model.specs.definitions.Body.{Content}
@@ -10,15 +11,17 @@ use Rattle.ssa_model.specs.definitions.Record.{are_in_one_order, common}
 use Rattle.ssa_model.proofs.Tests.{pointwise-true, symmetric}
 use Rattle.ssa_path.specs.Children.{child_at, elements}
 use Rattle.ssa_path.specs.View.{path_view}
-use Rattle.ssa_path.proofs.Orders.{same_element-true}
+use Rattle.ssa_path.proofs.Orders.{both_first, both_second, same_element-true}
 use Rattle.ssa_typed.specs.Rows.{are_apart, are_trees}
 use Rattle.ssa_typed.specs.declared.node.Node.{Node}
+use Rattle.ssa_typed.proofs.Laws.{not_true, neither_first, neither_second}
 use Rattle.ssa_turn_body.specs.Between.{IsEditBetween}
 use Rattle.ssa_turn_body.specs.Changes.{ChangeFits, ChangeGives}
 use Rattle.ssa_turn_body.specs.Edits.{EditGives, told_unless}
 use Rattle.ssa_turn_body.specs.Found.{AreFound, AreKnown, fresh}
 use Rattle.ssa_turn_body.specs.Led.{AreLeading, AreSaying, IsLed, MayAdd, is_idle}
 use Rattle.ssa_turn_body.specs.Marks.{Child, Kids, Marks, Place, kids, marks, marks_in, may_stand, names, with_order}
+use Rattle.ssa_turn_body.specs.Once.{NamesOnce}
 use Rattle.ssa_turn_body.specs.Orders.{is_none}
 use Rattle.ssa_turn_body.specs.Said.{AreTold, contents}
 use Rattle.ssa_turn_body.specs.Told.{content_told, from_place, named}
@@ -32,6 +35,7 @@ use Rattle.ssa_turn_body.proofs.Finishing.{led_kids, names-from, fresh-names, fr
 use Rattle.ssa_turn_body.proofs.Knowing.{known-found}
 use Rattle.ssa_turn_body.proofs.Leading.{led-own, turned-own}
 use Rattle.ssa_turn_body.proofs.Marking.{names-kids}
+use Rattle.ssa_turn_body.proofs.OnceOnly.{once-added}
 use Rattle.ssa_turn_body.proofs.Recording.{leading-same}
 use Rattle.ssa_turn_body.proofs.Saying.{Joins, joins-first, joins-second, joins-still-first, joins-still-second, still-root, still-there}
 use Rattle.ssa_turn_body.proofs.Walking.{child-among, led, led_in, root-some}
@@ -79,6 +83,22 @@ final-place o ds q = ap (λ es. from_place (with_order o es, kids ds) q) (names-
 
 known-over : (fs : Found) (es es2 os os2 : List Element) → es ≡ es2 → os ≡ os2 → AreKnown fs es os → AreKnown fs es2 os2
 known-over fs es es2 os os2 p q h = subst (λ z. AreKnown fs z os2) p (subst (λ z. AreKnown fs es z) q h)
+
+-- what is not told differs where all do
+any-fresh : (e : Element) (fs : Found) (es : List Element) → list_any (same_element e) es ≡ false → list_any (same_element e) (fresh fs es) ≡ false
+any-fresh e [] es h = refl
+any-fresh e (f ∷ fs) [] h = refl
+any-fresh e (None ∷ fs) (x ∷ es) h =
+    λ i. neither_first (same_element e x) (list_any (same_element e) es) h i || any-fresh e fs es (neither_second (same_element e x) _ h) i
+any-fresh e (Some k ∷ fs) (x ∷ es) h = any-fresh e fs es (neither_second (same_element e x) (list_any (same_element e) es) h)
+
+apart-fresh : (fs : Found) (es : List Element) → are_apart es ≡ true → are_apart (fresh fs es) ≡ true
+apart-fresh [] es h = refl
+apart-fresh (f ∷ fs) [] h = refl
+apart-fresh (None ∷ fs) (e ∷ es) h =
+    λ i. not (any-fresh e fs es (not_true _ (both_first (not (list_any (same_element e) es)) (are_apart es) h)) i)
+    && apart-fresh fs es (both_second (not (list_any (same_element e) es)) (are_apart es) h) i
+apart-fresh (Some k ∷ fs) (e ∷ es) h = apart-fresh fs es (both_second (not (list_any (same_element e) es)) (are_apart es) h)
 
 -- ---- what is said before the edit, and by it
 
@@ -236,6 +256,17 @@ module _ (o : Content) (cs ds : List Child) (fs : Found) (s : ChildrenEdit) (bet
           (λ i q. final-place o ds q i)
           (edit-step-told o keeps (kids ds) ks u (back-again u y g) t e)))
 
+  -- it names each child that goes and each that comes once
+  made-once : NamesOnce made
+  made-once =
+      let fits = edit-fits o cs ds fs s between h own_apart apart found holds trees stand in
+      record {
+        gone = ap are_apart between.gone_fresh ∙ apart-fresh between.back (elements cs) own_apart;
+        come = ap are_apart (sym (names-kids h.items) ∙ ap names (held-kids o cs ds fs s between h own_apart apart found holds) ∙ fresh-names fs ds) ∙ apart-fresh fs (elements ds) apart;
+        trees = fits.trees;
+        held = fits.held;
+      }
+
   -- the edit leads from the children that are led so far to the second ones
   pub finish : (p : Path) (old new : List Step) → MayAdd (is_idle s) p (Children (record s { held = h })) old new
       → AreLeading p (led o cs ds) (from_place (with_order o (elements ds), kids ds)) old new
@@ -257,4 +288,5 @@ module _ (o : Content) (cs ds : List Child) (fs : Found) (s : ChildrenEdit) (bet
               turned-own a.0 led_now o (elements cs) refl (λ ts. AreTold (path_view a.0.path.items) (contents wanted) (contents led_now) (reverse ts))
               (λ t y path g. told-back a.0 t y a.2 path g);
         });
+        once = once-added p (Children made) old new made-once a;
       }

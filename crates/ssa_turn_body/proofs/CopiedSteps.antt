@@ -19,6 +19,7 @@ use Rattle.ssa_turn_body.specs.declared.steps.BodySteps.{BodySteps}
 use Rattle.ssa_turn_body.specs.declared.steps.Step.{Step}
 use Rattle.ssa_turn_body.proofs.Copied.{placed_as, say-same, copy-fits, copy-leads}
 use Rattle.ssa_turn_body.proofs.HeldTrees.{AllHoldTrees, left-hold, reverse-hold, same-told}
+use Rattle.ssa_turn_body.proofs.OnceOnly.{once-copied}
 use Rattle.ssa_turn_body.proofs.Returning.{says-reverse}
 
 -- ---- what they say
@@ -149,5 +150,6 @@ module _ (s c : BodySteps) (z : AllZip StepIsCopied s.steps.items c.steps.items)
 pub room-copied : (s c : BodySteps) → AllZip StepIsCopied s.steps.items c.steps.items → (b : Body) → HasBodyRoom s b → HasBodyRoom c b
 room-copied s c z b room = record {
   fits = λ n tree is. copies-fit s.steps.items c.steps.items n z (room.fits n tree is);
+  once = once-copied s.steps.items c.steps.items z room.once;
   turns = turn-recorded s c z b room;
 }

@@ -38,7 +38,7 @@ then_greater Less = refl
 then_greater Equal = refl
 then_greater Greater = refl
 
-same-one : (e x : Element) → same_path (e ∷ []) (x ∷ []) ≡ same_element e x
+pub same-one : (e x : Element) → same_path (e ∷ []) (x ∷ []) ≡ same_element e x
 same-one e x = then_equal (element_cmp e x)
 
 longer : (e f x : Element) (q : Path) → same_path (e ∷ f ∷ q) (x ∷ []) ≡ false

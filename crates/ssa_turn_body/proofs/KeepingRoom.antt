@@ -13,6 +13,7 @@ use Rattle.ssa_turn_body.specs.Records.{body_told}
 use Rattle.ssa_turn_body.specs.Rooms.{TurnsKeepRoom}
 use Rattle.ssa_turn_body.proofs.BackAgain.{bodies-back}
 use Rattle.ssa_turn_body.proofs.HeldTrees.{AllHoldTrees, fit-hold, left-hold, reverse-hold, same-told}
+use Rattle.ssa_turn_body.proofs.OnceOnly.{once-turned}
 
 tree-is : (n : Node) → is_tree n ≡ true → IsTree (body_of n)
 tree-is n h = record {
@@ -33,6 +34,8 @@ record-leads n m b c tn tm is_b is_c alike = tree_leads b c (subst IsTree is_b (
 pub turns-keep-room : TurnsKeepRoom
 turns-keep-room s t b c room turned fits = record {
   fits = fits;
+  once = once-turned s.steps.items turned.before t.steps.items turned.after room.once
+      (room.fits turned.before turned.tree_before turned.body_before) turned.turned;
   turns = λ u d again.
       let given = room.turns t c turned in
       let lead = bodies-back s t u b c d room.fits turned again in

@@ -18,6 +18,7 @@ use Rattle.ssa_turn_body.specs.declared.steps.BodySteps.{BodySteps}
 use Rattle.ssa_turn_body.specs.declared.steps.Step.{Step}
 use Rattle.ssa_turn_body.proofs.BodyRecords.{told-bodies}
 use Rattle.ssa_turn_body.proofs.KeepingRoom.{record-leads}
+use Rattle.ssa_turn_body.proofs.OnceOnly.{once-none}
 use Rattle.ssa_turn_body.proofs.Saying.{between-itself}
 
 alike-itself : (b : Body) → AreAlike b b
@@ -50,5 +51,6 @@ none-turned s t b c none turned =
 pub none-room : (s : BodySteps) (b : Body) → s.steps.items ≡ [] → HasBodyRoom s b
 none-room s b none = record {
   fits = λ n tree is. none-fit s.steps.items n none;
+  once = once-none s.steps.items none;
   turns = λ t c turned. none-turned s t b c none turned;
 }

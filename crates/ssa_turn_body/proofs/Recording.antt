@@ -1,5 +1,5 @@
 -- Changes that lead what a tree tells at a path to something else and say what is other: one after the other, in a child, of a leaf.
-use Rattle.std.proofs.Common.{◌≡◌, List, [], ◌∷◌, ◌++◌, Bool, true, false, not, true≢false, Option, Some, None, reverse, refl, sym, ap, subst, ◌∙◌, append_assoc, append-nil}
+use Rattle.std.proofs.Common.{◌≡◌, ◌+◌, ◌≤◌, List, [], ◌∷◌, ◌++◌, Bool, true, false, not, true≢false, Option, Some, None, reverse, refl, sym, ap, subst, ◌∙◌, append_assoc, append-nil}
 use Rattle.std.proofs.lemmas.List.{reverse-append}
 use Rattle.std.specs.Prelude.{is_some, if◌then◌else◌}
 use Rattle.ssa_model.specs.definitions.Json.{same_scalar, same_json}
@@ -19,6 +19,7 @@ use Rattle.ssa_typed.proofs.OverNodes.{leaf-there}
 use Rattle.ssa_turn_body.specs.Changes.{ChangeFits, ChangeGives}
 use Rattle.ssa_turn_body.specs.Led.{AreLeading, AreSaying, IsLed, MayAdd}
 use Rattle.ssa_turn_body.specs.Marks.{Marks, Place}
+use Rattle.ssa_turn_body.specs.Once.{changes_at}
 use Rattle.ssa_turn_body.specs.Said.{AreTold, between, contents, is_swapped}
 use Rattle.ssa_turn_body.specs.Steps.{StepsLead}
 use Rattle.ssa_turn_body.specs.Told.{content_told, from_place}
@@ -27,6 +28,7 @@ use Rattle.ssa_turn_body.specs.declared.change.PlaceChange.TheVariants.{Leaf as 
 use Rattle.ssa_turn_body.specs.declared.children.LeafSwap.{LeafSwap}
 use Rattle.ssa_turn_body.specs.declared.steps.Step.{Step}
 use Rattle.ssa_turn_body.proofs.Leading.{below-is, lead-both, led-own, led-same, led-then, turned-own}
+use Rattle.ssa_turn_body.proofs.OnceOnly.{once-added, once-same, once-then}
 use Rattle.ssa_turn_body.proofs.Returning.{leads-tree}
 use Rattle.ssa_turn_body.proofs.Saying.{Joins, root-said, said_in, says-inside, says-outside, told-child, told-none, told-then}
 
@@ -43,7 +45,13 @@ saying-same p M N same = record {
     none v (t ∷ ts) w l = absurd l
 
 pub leading-same : (p : Path) (M N : Marks) (xs ys : List Step) → ys ≡ xs → ((q : Path) → M q ≡ N q) → AreLeading p M N xs ys
-leading-same p M N xs ys e same = record { made = []; added = e ∙ sym (append-nil xs); led = led-same p M N same; saying = saying-same p M N same }
+leading-same p M N xs ys e same = record {
+  made = [];
+  added = e ∙ sym (append-nil xs);
+  led = led-same p M N same;
+  saying = saying-same p M N same;
+  once = once-same p xs ys e;
+}
 
 -- ---- one after the other
 
@@ -61,12 +69,13 @@ saying-then p M N O xs ys led g h joins = record {
 }
 
 pub leading-then : (p : Path) (M N O : Marks) (xs ys zs : List Step) → ((q : Path) → Joins (contents M) (contents N) (contents O) q) → AreLeading p M N xs ys
-    → AreLeading p N O ys zs → AreLeading p M O xs zs
-leading-then p M N O xs ys zs joins g h = record {
+    → AreLeading p N O ys zs → ((q : Path) → changes_at q zs ≤ changes_at q xs + 1) → AreLeading p M O xs zs
+leading-then p M N O xs ys zs joins g h places = record {
   made = g.made ++ h.made;
   added = h.added ∙ ap (λ us. us ++ h.made) g.added ∙ append_assoc xs g.made h.made;
   led = led-then p M N O g.made h.made g.led h.led;
   saying = saying-then p M N O g.made h.made g.led g.saying h.saying joins;
+  once = once-then p xs ys zs g.once h.once places;
 }
 
 -- ---- in a child
@@ -141,6 +150,7 @@ leading-leaf p own to old new other other_back h = record {
         (λ ts. AreTold (path_view h.0.path.items) (contents (from_place (leaf_content to, []))) (contents (from_place (leaf_content own, []))) (reverse ts))
         (λ t y path g. leaf-step-back h.0 t own to y h.2 path other_back g);
   });
+  once = once-added p (LeafChange (record { leaf = to })) old new tt h;
 }
   where
     put : (t : PlaceChange) (y : Place) → ChangeGives (LeafChange (record { leaf = to })) (leaf_content own, []) t y → (q : Path)

@@ -24,11 +24,11 @@ use Rattle.ssa_turn_body.proofs.Leading.{under-further, under-longer}
 
 -- ---- entries at a place
 
-same-below : (p q r : Path) → same_path (p ++ q) (p ++ r) ≡ same_path q r
+pub same-below : (p q r : Path) → same_path (p ++ q) (p ++ r) ≡ same_path q r
 same-below [] q r = refl
 same-below (e ∷ p) q r = ap (λ o. is_eq (ordering_then o (path_cmp (p ++ q) (p ++ r)))) (tied_itself element_cmp_total e) ∙ same-below p q r
 
-not-below : (p q r : Path) → under p q ≡ false → same_path q (p ++ r) ≡ false
+pub not-below : (p q r : Path) → under p q ≡ false → same_path q (p ++ r) ≡ false
 not-below p q r u =
     elim (same_path q (p ++ r)) as (λ b. same_path q (p ++ r) ≡ b → b ≡ false) [
       | true ↦ λ t. absurd (true≢false (sym (under-append p r) ∙ ap (under p) (sym (same_path-true q (p ++ r) t)) ∙ u))

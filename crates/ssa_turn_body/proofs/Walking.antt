@@ -7,6 +7,7 @@ use Rattle.std.proofs.lemmas.Option.{none-some, slice_get-get_or}
 use Rattle.ssa_model.specs.definitions.Body.{Content}
 use Rattle.ssa_model.specs.definitions.Path.{Element, Path, same_element, parent, under}
 use Rattle.ssa_path.specs.Children.{child_at, elements, IsChildAt}
+use Rattle.ssa_model.proofs.Pruned.{under-rest}
 use Rattle.ssa_path.specs.View.{element_view}
 use Rattle.ssa_path.proofs.Orders.{same_element-true, same_element-itself, same_either_way, both_first, both_second}
 use Rattle.ssa_typed.specs.Rows.{below, own_content, is_tree, are_trees, are_apart}
@@ -16,11 +17,13 @@ use Rattle.ssa_turn_body.specs.Found.{AreFound, fresh}
 use Rattle.ssa_typed.specs.Over.{AreAlikeBelow}
 use Rattle.ssa_turn_body.specs.Led.{AreLeading, IsAlikeChild, IsChildLed}
 use Rattle.ssa_turn_body.specs.Marks.{Child, Marks, marks, marks_in}
+use Rattle.ssa_turn_body.specs.Once.{AreOnceMore, changes_at}
 use Rattle.ssa_turn_body.specs.Told.{content_told}
 use Rattle.ssa_turn_body.specs.declared.steps.Step.{Step}
 use Rattle.ssa_turn_body.proofs.Descending.{child-here, found-at}
 use Rattle.ssa_turn_body.specs.Said.{contents}
-use Rattle.ssa_turn_body.proofs.Leading.{led-child}
+use Rattle.ssa_turn_body.proofs.Leading.{led-child, under-further}
+use Rattle.ssa_turn_body.proofs.OnceOnly.{once-child}
 use Rattle.ssa_turn_body.proofs.Recording.{leading-same, leading-then, saying-child}
 use Rattle.ssa_turn_body.proofs.Saying.{IsAround, Joins, joins-first, joins-second, joins-still-first, other-around, still-root}
 use Rattle.ssa_turn_body.proofs.Marking.{marks-level}
@@ -28,6 +31,11 @@ use Rattle.ssa_turn_body.proofs.Matching.{found-length}
 
 abbrev Found : Type 0
 Found = List (Option ℕ)
+
+-- a path is not below a child of its own
+under-above : (p : Path) (e : Element) → under (p ++ e ∷ []) p ≡ false
+under-above [] e = refl
+under-above (f ∷ p) e = ap (λ b. b && under (p ++ e ∷ []) p) (same_element-itself f) ∙ under-above p e
 
 -- ---- children of a list
 
@@ -99,6 +107,11 @@ led-start v (e ∷ q) = marks-level v (e ∷ q) ∙ by (child_at e (below v))
 pub root-some : (n : Node) → is_some (contents (marks n) []) ≡ true
 root-some n = ap (λ m. is_some (content_told m)) (marks-level n [])
 
+-- changes are put behind the others below the path alone, and below these children
+pub record AreAmong (p : Path) (done : List Child) (old new : List Step) : Type 0 where
+  pub here : changes_at p new ≡ changes_at p old
+  pub others : (e : Element) (q : Path) → child_at e done ≡ None → changes_at (p ++ e ∷ q) new ≡ changes_at (p ++ e ∷ q) old
+
 -- so far: the children before the rest are led, or held where they come
 pub record IsWalking (p : Path) (o : Content) (cs ds : List Child) (fs : Found) (old : List Step) (i : ℕ) (rest held : List Child) (steps : List Step) : Type 0 where
   pub done : List Child
@@ -108,6 +121,7 @@ pub record IsWalking (p : Path) (o : Content) (cs ds : List Child) (fs : Found) 
   pub found : AreFound cs rest (drop i fs)
   pub held_is : fresh fs ds ≡ held ++ fresh (drop i fs) rest
   pub leading : AreLeading p (led o cs []) (led o cs done) old steps
+  pub among : AreAmong p done old steps
 
 pub walking-start : (p : Path) (o : Content) (cs ds : List Child) (fs : Found) (old : List Step) → are_trees ds ≡ true → AreFound cs ds fs → IsWalking p o cs ds fs old 0 ds [] old
 walking-start p o cs ds fs old trees found = record {
@@ -118,6 +132,7 @@ walking-start p o cs ds fs old trees found = record {
   found = found;
   held_is = refl;
   leading = leading-same p (led o cs []) (led o cs []) old old refl (λ q. refl);
+  among = record { here = refl; others = λ e q none. refl };
 }
 
 module _ (p : Path) (o : Content) (cs ds : List Child) (fs : Found) (old : List Step) (i : ℕ) (d : Child) (all rest held : List Child) (steps : List Step) (is : all ≡ d ∷ rest) (apart : are_apart (elements ds) ≡ true)
@@ -195,6 +210,49 @@ module _ (p : Path) (o : Content) (cs ds : List Child) (fs : Found) (old : List 
                 (λ x. content_told (led_in (child_at f cs) x (g ∷ (q ++ r)))) (sym e);
           }
 
+  -- an element that is not among the children so far and this one
+  other-child : (f : Element) → child_at f (here.done ++ d ∷ []) ≡ None → (same_element (element_view d.0) f ≡ false) × (child_at f here.done ≡ None)
+  other-child f none =
+      elim (same_element f (element_view d.0)) as (λ b. same_element f (element_view d.0) ≡ b
+      → (same_element (element_view d.0) f ≡ false) × (child_at f here.done ≡ None)) [
+        | true ↦ λ t.
+            let is = same_element-true f (element_view d.0) t in
+            let new : child_at f here.done ≡ None = ap (λ x. child_at x here.done) is ∙ none-before here.done d rest apart_now in
+            let there : child_at f (here.done ++ d ∷ []) ≡ Some d.1 =
+            ap (λ x. child_at x (here.done ++ d ∷ [])) is ∙ push-same here.done d (none-before here.done d rest apart_now) in
+            absurd (none-some d.1 (sym none ∙ there))
+        | false ↦ λ t. (same_either_way f (element_view d.0) ∙ t, sym (push-other f here.done d t) ∙ none)
+      ] refl
+
+  -- the changes in this child are at other places than those so far
+  places-here : (steps2 : List Step) → AreOnceMore (p ++ element_view d.0 ∷ []) steps steps2 → (q : Path) → changes_at q steps2 ≤ changes_at q old + 1
+  places-here steps2 once q =
+      let e = element_view d.0 in
+      elim (under (p ++ e ∷ []) q) as (λ b. under (p ++ e ∷ []) q ≡ b → changes_at q steps2 ≤ changes_at q old + 1) [
+        | true ↦ λ u.
+            let rest = under-rest (p ++ e ∷ []) q u in
+            let is : q ≡ p ++ e ∷ rest.0 = rest.1 ∙ append_assoc p (e ∷ []) rest.0 in
+            let none : changes_at (p ++ e ∷ rest.0) steps ≡ changes_at (p ++ e ∷ rest.0) old = here.among.others e rest.0 (new_here) in
+            let same : changes_at q steps ≡ changes_at q old = (λ i. changes_at (is i) steps) ∙ none ∙ (λ i. changes_at (sym is i) old) in
+            let more = once.places q in
+            omega arith
+        | false ↦ λ u.
+            let same = once.others q u in
+            let more = here.leading.once.places q in
+            omega arith
+      ] refl
+    where
+      new_here : child_at (element_view d.0) here.done ≡ None
+      new_here = none-before here.done d rest apart_now
+
+  among-here : (steps2 : List Step) → AreOnceMore (p ++ element_view d.0 ∷ []) steps steps2 → AreAmong p (here.done ++ d ∷ []) old steps2
+  among-here steps2 once = record {
+    here = once.others p (under-above p (element_view d.0)) ∙ here.among.here;
+    others = λ f q none.
+        let other = other-child f none in
+        once.others (p ++ f ∷ q) (under-further p (element_view d.0 ∷ []) (f ∷ q) ∙ ap (λ b. b && true) other.0) ∙ here.among.others f q other.1;
+  }
+
   pub walking-led : (k : ℕ) (steps2 : List Step) → are_apart (elements cs) ≡ true → get_or fs i None ≡ Some k → IsChildLed p cs d steps steps2 → IsWalking p o cs ds fs old (i + 1) rest held steps2
   walking-led k steps2 own_apart e child =
       let at = child-here (element_view d.0) cs k (walking-place k e) in
@@ -214,6 +272,7 @@ module _ (p : Path) (o : Content) (cs ds : List Child) (fs : Found) (old : List 
             (λ q. (λ t. led_in (there t) (push-same here.done d new t) q))
             led-here (root-some at.child.1) (root-some d.1)
             one.saying;
+        once = once-child p (element_view d.0) steps steps2 one.once;
       } in
       record {
         done = here.done ++ d ∷ [];
@@ -222,7 +281,9 @@ module _ (p : Path) (o : Content) (cs ds : List Child) (fs : Found) (old : List 
         trees = both_second (is_tree d.1) _ here.trees;
         found = (found_now (Some k) e).1;
         held_is = here.held_is ∙ ap (λ gs. held ++ fresh gs (d ∷ rest)) (split (Some k) e);
-        leading = leading-then p (led o cs []) (led o cs here.done) (led o cs (here.done ++ d ∷ [])) old steps steps2 (joins-here new) here.leading step;
+        leading = leading-then p (led o cs []) (led o cs here.done) (led o cs (here.done ++ d ∷ [])) old steps steps2 (joins-here new) here.leading step
+            (places-here steps2 one.once);
+        among = among-here steps2 one.once;
       }
 
   pub walking-held : (held2 : List Child) → get_or fs i None ≡ None → held2 ≡ held ++ d ∷ [] → IsWalking p o cs ds fs old (i + 1) rest held2 steps
@@ -241,7 +302,8 @@ module _ (p : Path) (o : Content) (cs ds : List Child) (fs : Found) (old : List 
         leading = leading-then p (led o cs []) (led o cs here.done) (led o cs (here.done ++ d ∷ [])) old steps steps
             (λ q. joins-second (contents (led o cs [])) (contents (led o cs here.done)) (contents (led o cs (here.done ++ d ∷ []))) q
             (record { above = ap content_told (same (parent q)); from = λ r. ap content_told (same (q ++ r)) }))
-            here.leading (leading-same p (led o cs here.done) (led o cs (here.done ++ d ∷ [])) steps steps refl same);
+            here.leading (leading-same p (led o cs here.done) (led o cs (here.done ++ d ∷ [])) steps steps refl same) here.leading.once.places;
+        among = record { here = here.among.here; others = λ f q none. here.among.others f q (other-child f none).1 };
       }
     where
       same-led : child_at (element_view d.0) cs ≡ None → (q : Path) → led o cs here.done q ≡ led o cs (here.done ++ d ∷ []) q
@@ -259,10 +321,11 @@ nothing-fresh [] = refl
 nothing-fresh (g ∷ gs) = refl
 
 pub walking-end : (p : Path) (o : Content) (cs ds : List Child) (fs : Found) (old : List Step) (i : ℕ) (rest held : List Child) (steps : List Step) → rest ≡ [] → IsWalking p o cs ds fs old i rest held steps
-    → (held ≡ fresh fs ds) × AreLeading p (led o cs []) (led o cs ds) old steps
+    → (held ≡ fresh fs ds) × AreLeading p (led o cs []) (led o cs ds) old steps × (changes_at p steps ≡ changes_at p old)
 walking-end p o cs ds fs old i rest held steps none w = (
   sym (w.held_is ∙ ap (λ l. held ++ fresh (drop i fs) l) none ∙ ap (λ l. held ++ l) (nothing-fresh (drop i fs)) ∙ append-nil held),
   subst (λ l. AreLeading p (led o cs []) (led o cs l) old steps) (sym (w.whole ∙ ap (λ l. w.done ++ l) none ∙ append-nil w.done)) w.leading,
+  w.among.here,
 )
 
 -- ---- what is read

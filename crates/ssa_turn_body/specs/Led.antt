@@ -7,6 +7,7 @@ use Rattle.ssa_typed.specs.Over.{AreAlikeTrees}
 use Rattle.ssa_typed.specs.Rows.{is_tree}
 use Rattle.ssa_typed.specs.declared.node.Node.{Node}
 use Rattle.ssa_turn_body.specs.Marks.{Child, Marks, marks}
+use Rattle.ssa_turn_body.specs.Once.{AreOnceMore}
 use Rattle.ssa_turn_body.specs.Orders.{is_none}
 use Rattle.ssa_turn_body.specs.Said.{AreTold, contents}
 use Rattle.ssa_turn_body.specs.Steps.{StepsFit, StepsLead}
@@ -30,12 +31,13 @@ pub record AreSaying (p : Path) (before after : Marks) (ss : List Step) : Type 0
   pub back : (v : Node) → is_tree v ≡ true → ((q : Path) → marks v (p ++ q) ≡ before q) → (ts : List Step) (w : Node) → StepsLead ss v ts w
       → AreTold p (contents after) (contents before) (reverse ts)
 
--- such changes are made and stand behind the others
+-- such changes are made and stand behind the others, and say nothing twice
 pub record AreLeading (p : Path) (before after : Marks) (old new : List Step) : Type 0 where
   pub made : List Step
   pub added : new ≡ old ++ made
   pub led : IsLed p before after made
   pub saying : AreSaying p before after made
+  pub once : AreOnceMore p old new
 
 -- a change of the path is put behind the others, unless there is nothing to change
 abbrev pub MayAdd : Bool → Path → PlaceChange → List Step → List Step → Type 0

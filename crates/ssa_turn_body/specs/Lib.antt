@@ -8,10 +8,12 @@ pub mod Found
 pub mod Inner
 pub mod Led
 pub mod Marks
+pub mod Once
 pub mod Orders
 pub mod Records
 pub mod Rooms
 pub mod Said
+pub mod Sizes
 pub mod Steps
 pub mod Told
 pub mod Turns

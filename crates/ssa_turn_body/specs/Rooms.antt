@@ -7,6 +7,7 @@ use Rattle.ssa_model.specs.definitions.Record.{BodyRecord, body_record}
 use Rattle.ssa_model.specs.definitions.Takes.{BodyTakes}
 use Rattle.ssa_model.specs.laws.RecordWalks.{AreAlike}
 use Rattle.ssa_turn_body.specs.Bodies.{BodyStepsFit, IsBodyTurned}
+use Rattle.ssa_turn_body.specs.Once.{AreOnce}
 use Rattle.ssa_turn_body.specs.Records.{body_told}
 use Rattle.ssa_turn_body.specs.declared.steps.BodySteps.{BodySteps}
 
@@ -17,9 +18,10 @@ pub record AreRecorded (s : BodySteps) (b : Body) (t : BodySteps) (c : Body) : T
   pub back : body_told t ≡ body_record c b
   pub leads : c ≡ carry_body (body_told s) b
 
--- the steps fit each tree of the body, and each turn is recorded
+-- the steps fit each tree of the body and say nothing twice, and each turn is recorded
 pub record HasBodyRoom (s : BodySteps) (b : Body) : Type 0 where
   pub fits : BodyStepsFit s b
+  pub once : AreOnce s.steps.items
   pub turns : (t : BodySteps) (c : Body) → IsBodyTurned s b t c → AreRecorded s b t c
 
 -- a turn leaves steps that serve the way back

@@ -11,6 +11,7 @@ pub mod exchanges;
 pub mod found;
 pub mod live_body;
 pub mod reorder;
+pub mod size;
 pub mod steps;
 pub mod told;
 pub mod walk;

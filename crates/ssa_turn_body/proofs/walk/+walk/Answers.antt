@@ -21,6 +21,7 @@ use Rattle.ssa_turn_body.proofs.Finishing.{alike-apart, alike-told, kind-trees, 
 use Rattle.ssa_turn_body.proofs.Concluding.{finish, joins-final}
 use Rattle.ssa_turn_body.proofs.Matching.{counted, counted-at, found-alike}
 use Rattle.ssa_turn_body.proofs.BodyMarks.{own-stands}
+use Rattle.ssa_turn_body.proofs.OnceOnly.{once-last}
 use Rattle.ssa_turn_body.proofs.Recording.{leading-then}
 use Rattle.ssa_turn_body.proofs.Places.{kind-Branch, kind-Dict, kind-List}
 use Rattle.ssa_turn_body.proofs.Walking.{IsWalking, child-there, found-read, led, led-start, walking-start, walking-count, walking-index, walking-tree, walking-place, walking-alike, walking-led, walking-held, walking-end}
@@ -206,7 +207,8 @@ walk_children-returns-clause-led t c =
     (own-stands n (elements ds) c.requires.from c.requires.stand) c.requires.stand (own-order n c.requires.from) p l.steps.items c.push_edit.new.steps.items
     added in
     leading-from p (marks n) (led o cs []) _ old c.push_edit.new.steps.items (led-start n)
-    (leading-then p (led o cs []) (led o cs ds) _ old l.steps.items c.push_edit.new.steps.items (joins-final o cs ds) end.1 last)
+    (leading-then p (led o cs []) (led o cs ds) _ old l.steps.items c.push_edit.new.steps.items (joins-final o cs ds) end.1 last
+    (once-last (is_idle s) p (Children (record s { held = l.held })) old l.steps.items c.push_edit.new.steps.items end.2 end.1.once.places added last.once.places))
 
 -- ---- a place
 
