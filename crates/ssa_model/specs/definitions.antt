@@ -70,6 +70,8 @@ pub mod Carry
 pub mod Takes
 -- the size of a record, and the facts in which two states differ
 pub mod Facts
+-- the records of a history, and how much each holds
+pub mod HistoryRecords
 -- a record as JSON
 pub mod RecordText
 -- how a record is read from JSON

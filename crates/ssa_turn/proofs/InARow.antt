@@ -1,5 +1,5 @@
 -- Where a move of a journal's place leads, told of the states in a row.
-use Rattle.std.proofs.Common.{◌≡◌, ℕ, zero, suc, true, ◌≤◌, Option, Some, None, slice_get, Result, Ok, Err, OnOk, OnErr, subst, ◌+◌, ◌-◌, ◌<◌, List, [], ◌∷◌, ◌++◌, length, map, get_or, take, drop, reverse, refl, sym, ap, ◌∙◌, append_assoc, arith}
+use Rattle.std.proofs.Common.{◌≡◌, ℕ, true, ◌≤◌, Some, slice_get, Result, Ok, Err, OnOk, OnErr, subst, ◌+◌, ◌-◌, ◌<◌, List, [], ◌∷◌, ◌++◌, length, map, get_or, take, drop, reverse, refl, sym, ap, ◌∙◌, append_assoc, arith}
 use Rattle.std.proofs.lemmas.Grind.{reverse_onto}
 use Rattle.std.proofs.Math.Seq.{take-append_seam, drop-append_seam}
 use Rattle.std.proofs.lemmas.List.{append-nil, length-append, map-append, length-map, length-drop, take_more, get_or-drop, reverse-reverse}
@@ -25,7 +25,7 @@ last_state-push : (s : State) (ts : List model.Step) (t : model.Step) → last_s
 last_state-push s [] t = refl
 last_state-push s (u ∷ ts) t = last_state-push u.state ts t
 
-steps-many : (past : Past) (v : State) → length (steps_to past v) ≡ length past
+pub steps-many : (past : Past) (v : State) → length (steps_to past v) ≡ length past
 steps-many [] v = refl
 steps-many (s ∷ past) v =
     let before = steps-many past s.0 in
@@ -58,7 +58,7 @@ future-many t = let all = all-many t in omega (arith, all)
 pub place-within : (t : Timeline State Label) → length t.past ≤ length (in_a_row t).later
 place-within t = let all = all-many t in omega (arith, all)
 
-last-is : (past : Past) (v : State) → last_state (first_of past v) (steps_to past v) ≡ v
+pub last-is : (past : Past) (v : State) → last_state (first_of past v) (steps_to past v) ≡ v
 last-is [] v = refl
 last-is (s ∷ past) v = last_state-push (first_of past s.0) (steps_to past s.0) (step_of (v, s.1))
 

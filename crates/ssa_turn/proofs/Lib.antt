@@ -1,1 +1,2 @@
 pub mod InARow
+pub mod KeptRecords

@@ -1,8 +1,9 @@
 //! The history of a bench: its live state, and the records that lead back and forward from it.
-ghost use Rattle.std.specs.Prelude.{◌≡◌, [], OnOk, OnErr, IfOk, Some, ◌≤◌, ◌+◌, ◌-◌, ◌<◌, ◌^◌, length, map, take, drop, slice_get, ◌++◌};
+ghost use Rattle.std.specs.Prelude.{◌≡◌, [], OnOk, OnErr, IfOk, Some, ◌≤◌, ◌+◌, ◌-◌, ◌<◌, ◌^◌, length, map, min, option_map, take, drop, slice_get, ◌++◌};
 ghost use Rattle.std.specs.List.{All};
 ghost use Rattle.ssa_model.specs.definitions.Carry.{carry};
 ghost use Rattle.ssa_model.specs.definitions.History.{present, past_len, future_len, appended, moved_to};
+ghost use Rattle.ssa_model.specs.definitions.HistoryRecords.{kept_size};
 ghost use Rattle.ssa_merge.specs.States.{state_view};
 ghost use Rattle.ssa_reverse.specs.Journals.{future_of, past_of, timeline_of};
 ghost use Rattle.ssa_turn.specs.Dated.{MakesDated};
@@ -163,6 +164,18 @@ impl Timeline {
         match self.journal.entry(self.journal.past_len() - 1) {
             Some(entry) => entry.1,
             None => unreachable!(),
+        }
+    }
+
+    /// How much the n-th record holds, or `usize::MAX` where it is more: of those of the past first,
+    /// oldest at 0, each leading back from the state after its command to the one before it, then of
+    /// those of the future, each leading forward. Takes no memory.
+    pub fn record_size(&self, n: usize) -> Option<usize>
+        ensures { result ≡ option_map (λ s. min s (2 ^ 64 - 1)) (kept_size self.now n) }
+    {
+        match self.journal.entry(n) {
+            Some(entry) => Some(entry.0.size()),
+            None => None,
         }
     }
 

@@ -262,7 +262,9 @@ module _ (o : Content) (cs ds : List Child) (fs : Found) (s : ChildrenEdit) (bet
       let fits = edit-fits o cs ds fs s between h own_apart apart found holds trees stand in
       record {
         gone = ap are_apart between.gone_fresh ∙ apart-fresh between.back (elements cs) own_apart;
-        come = ap are_apart (sym (names-kids h.items) ∙ ap names (held-kids o cs ds fs s between h own_apart apart found holds) ∙ fresh-names fs ds) ∙ apart-fresh fs (elements ds) apart;
+        come =
+            ap are_apart (sym (names-kids h.items) ∙ ap names (held-kids o cs ds fs s between h own_apart apart found holds) ∙ fresh-names fs ds)
+            ∙ apart-fresh fs (elements ds) apart;
         trees = fits.trees;
         held = fits.held;
       }

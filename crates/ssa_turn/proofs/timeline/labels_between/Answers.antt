@@ -1,4 +1,4 @@
-use Rattle.std.proofs.Common.{◌≡◌, ◌∙◌, ◌++◌, ◌∷◌, [], Some, slice_get, sym, ap, arith}
+use Rattle.std.proofs.Common.{◌∙◌, ◌++◌, ◌∷◌, [], sym, ap, arith}
 use Rattle.std.proofs.lemmas.List.{map-append}
 use Rattle.ssa_reverse.specs.Journals.{past_of, future_of}
 use Rattle.ssa_turn.specs.Histories.{label_view, lent_labels}

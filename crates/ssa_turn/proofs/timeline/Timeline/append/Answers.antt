@@ -1,13 +1,12 @@
-use Rattle.std.proofs.Common.{◌≡◌, ap, sym, subst, ◌∙◌, OnErr, reverse}
+use Rattle.std.proofs.Common.{◌≡◌, ap, sym, subst, ◌∙◌, OnErr}
 use Rattle.ssa_merge.specs.States.{state_view}
 use Rattle.ssa_model.specs.definitions.Carry.{carry}
 use Rattle.ssa_model.specs.definitions.History.{present, appended}
 use Rattle.ssa_model.specs.definitions.Operations.{State}
-use Rattle.ssa_reverse.specs.Journals.{timeline_of, past_of, future_of}
-use Rattle.ssa_reverse.specs.Timeline.{steps_along}
+use Rattle.ssa_reverse.specs.Journals.{timeline_of}
 use Rattle.ssa_turn.specs.Histories.{in_a_row, label_view}
 use Rattle.ssa_turn.specs.TablesBack.{HasTableBack}
-use Rattle.ssa_turn.proofs.InARow.{IsReadBack, after-record, on-err, on-ok, present-is, recorded-is, same-row}
+use Rattle.ssa_turn.proofs.InARow.{after-record, on-err, on-ok, present-is, recorded-is, same-row}
 use Rattle.ssa_turn_state.specs.States.{HasStateRoom, IsTaken, state_steps}
 use Rattle.ssa_turn.proofs.timeline.Timeline.append.Goals as goal
 

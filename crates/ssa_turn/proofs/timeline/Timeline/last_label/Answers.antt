@@ -1,8 +1,8 @@
-use Rattle.std.proofs.Common.{◌≡◌, ◌-◌, ◌++◌, ◌∙◌, length, map, slice_get, option_map, Some, sym, ap}
+use Rattle.std.proofs.Common.{◌-◌, ◌++◌, ◌∙◌, map, slice_get, option_map, sym, ap}
 use Rattle.std.proofs.lemmas.Option.{slice_get-map}
 use Rattle.ssa_merge.specs.States.{state_view}
 use Rattle.ssa_model.specs.definitions.Carry.{carry}
-use Rattle.ssa_reverse.specs.Journals.{past_of, future_of, timeline_of}
+use Rattle.ssa_reverse.specs.Journals.{past_of, future_of}
 use Rattle.ssa_turn.specs.Histories.{label_view}
 use Rattle.ssa_turn_state.specs.States.{state_steps}
 use Rattle.ssa_turn.proofs.InARow.{all-labels}

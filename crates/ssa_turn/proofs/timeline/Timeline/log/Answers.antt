@@ -1,4 +1,4 @@
-use Rattle.std.proofs.Common.{◌≡◌, ℕ, ◌+◌, ◌-◌, ◌++◌, ◌∙◌, length, map, take, drop, sym, ap, arith}
+use Rattle.std.proofs.Common.{◌≡◌, ℕ, ◌+◌, ◌-◌, ◌++◌, ◌∙◌, map, take, drop, sym, ap, arith}
 use Rattle.std.proofs.lemmas.List.{take-map, drop-map, length-append, length-drop, take_all}
 use Rattle.ssa_merge.specs.States.{state_view}
 use Rattle.ssa_model.specs.definitions.Carry.{carry}

@@ -1,4 +1,4 @@
-use Rattle.std.proofs.Common.{◌-◌, ◌+◌}
+use Rattle.std.proofs.Common.{◌-◌}
 use Rattle.ssa_merge.specs.States.{state_view}
 use Rattle.ssa_model.specs.definitions.History.{past_len}
 use Rattle.ssa_reverse.specs.Journals.{timeline_of}
