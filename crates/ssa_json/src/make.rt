@@ -1,6 +1,7 @@
-//! Values made of counts and texts.
+//! Values made of counts, of texts and of pairs.
 ghost use Rattle.std.specs.Prelude.{◌≡◌, ◌<◌, ◌^◌, IfOk};
 ghost use Rattle.ssa_model.specs.definitions.Entries.{text_json};
+ghost use Rattle.ssa_model.specs.definitions.Json.{item, list, no_items};
 ghost use Rattle.ssa_model.specs.definitions.Replies.{number_json};
 ghost use Rattle.ssa_json.specs.View.{view};
 
@@ -22,5 +23,15 @@ impl Json {
     {
         let text = String::from_str(alloc, text)?;
         Ok(Json::Scalar(Scalar::Text(text)))
+    }
+
+    /// The list of two values.
+    pub fn of_pair(alloc: Global, first: Json, second: Json) -> Result<Json, AllocError>
+        ensures { IfOk result (λ v. view v ≡ list (item (view first) (item (view second) no_items))) }
+    {
+        let mut items = Vec::with_capacity(alloc, 2)?;
+        items.push(first)?;
+        items.push(second)?;
+        Ok(Json::List(items))
     }
 }

@@ -28,6 +28,8 @@ use Rattle.ssa_turn_body.specs.declared.children.LeafSwap.{LeafSwap}
 use Rattle.ssa_turn_body.specs.declared.steps.Step.{Step}
 use Rattle.ssa_turn_body.proofs.Leading.{below-is, lead-both, led-own, led-same, led-then, turned-own}
 use Rattle.ssa_turn_body.proofs.Returning.{leads-tree}
+use Rattle.ssa_turn_body.proofs.Writing.{both-writable}
+use Rattle.ssa_turn_body.specs.Writable.{IsWritable}
 use Rattle.ssa_turn_body.proofs.Saying.{Joins, root-said, said_in, says-inside, says-outside, told-child, told-none, told-then}
 
 -- ---- nothing to do
@@ -43,7 +45,13 @@ saying-same p M N same = record {
     none v (t ∷ ts) w l = absurd l
 
 pub leading-same : (p : Path) (M N : Marks) (xs ys : List Step) → ys ≡ xs → ((q : Path) → M q ≡ N q) → AreLeading p M N xs ys
-leading-same p M N xs ys e same = record { made = []; added = e ∙ sym (append-nil xs); led = led-same p M N same; saying = saying-same p M N same }
+leading-same p M N xs ys e same = record {
+  made = [];
+  added = e ∙ sym (append-nil xs);
+  led = led-same p M N same;
+  saying = saying-same p M N same;
+  writable = tt;
+}
 
 -- ---- one after the other
 
@@ -67,6 +75,7 @@ leading-then p M N O xs ys zs joins g h = record {
   added = h.added ∙ ap (λ us. us ++ h.made) g.added ∙ append_assoc xs g.made h.made;
   led = led-then p M N O g.made h.made g.led h.led;
   saying = saying-then p M N O g.made h.made g.led g.saying h.saying joins;
+  writable = both-writable g.made h.made g.writable h.writable;
 }
 
 -- ---- in a child
@@ -141,6 +150,7 @@ leading-leaf p own to old new other other_back h = record {
         (λ ts. AreTold (path_view h.0.path.items) (contents (from_place (leaf_content to, []))) (contents (from_place (leaf_content own, []))) (reverse ts))
         (λ t y path g. leaf-step-back h.0 t own to y h.2 path other_back g);
   });
+  writable = (subst IsWritable (sym h.2) tt, tt);
 }
   where
     put : (t : PlaceChange) (y : Place) → ChangeGives (LeafChange (record { leaf = to })) (leaf_content own, []) t y → (q : Path)

@@ -214,6 +214,7 @@ module _ (p : Path) (o : Content) (cs ds : List Child) (fs : Found) (old : List 
             (λ q. (λ t. led_in (there t) (push-same here.done d new t) q))
             led-here (root-some at.child.1) (root-some d.1)
             one.saying;
+        writable = one.writable;
       } in
       record {
         done = here.done ++ d ∷ [];

@@ -13,5 +13,8 @@ pub mod live_body;
 pub mod reorder;
 pub mod steps;
 pub mod told;
+pub mod told_values;
 pub mod walk;
 pub mod weave;
+pub mod writing;
+pub mod writing_parts;
