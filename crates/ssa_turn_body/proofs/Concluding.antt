@@ -26,7 +26,7 @@ use Rattle.ssa_turn_body.specs.declared.change.PlaceChange.{PlaceChange}
 use Rattle.ssa_turn_body.specs.declared.change.PlaceChange.TheVariants.{Leaf, Children}
 use Rattle.ssa_turn_body.specs.declared.children.ChildrenEdit.{ChildrenEdit}
 use Rattle.ssa_turn_body.specs.declared.steps.Step.{Step}
-use Rattle.ssa_turn_body.proofs.Writing.{fit-writable}
+use Rattle.ssa_turn_body.proofs.Writables.{fit-writable}
 use Rattle.ssa_turn_body.proofs.Again.{kids_from, named-kids}
 use Rattle.ssa_turn_body.proofs.EditTold.{IsEdit, edit-step-told}
 use Rattle.ssa_turn_body.proofs.Finishing.{led_kids, names-from, fresh-names, fresh-trees, long, held-kids, edit-fits, idle-told, put}

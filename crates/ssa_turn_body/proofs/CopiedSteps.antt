@@ -1,5 +1,5 @@
 -- Copies of changes, one after the other: they say one record, and serve wherever the changes do.
-use Rattle.std.proofs.Common.{◌≡◌, ◌^◌, arith, List, [], ◌∷◌, ◌++◌, map, length, reverse, refl, sym, ap, subst, ◌∙◌}
+use Rattle.std.proofs.Common.{◌≡◌, ◌^◌, List, [], ◌∷◌, ◌++◌, map, length, reverse, refl, sym, ap, subst, ◌∙◌}
 use Rattle.std.proofs.lemmas.List.{length-map, reverse-reverse}
 use Rattle.std.specs.List.{AllZip}
 use Rattle.ssa_model.specs.definitions.Body.{Body}
@@ -91,7 +91,7 @@ edit-writable : (s c : ChildrenEdit) → EditIsCopied s c → IsWritableEdit s �
 edit-writable s c copy h = record {
   trees = (kept-same c.held.items s.held.items copy.held).trees_same ∙ h.trees;
   each =
-      let long : length c.held.items ≡ length s.held.items = omega (arith, ap length copy.held) in
+      let long : length c.held.items ≡ length s.held.items = sym (length-map c.held.items _) ∙ ap length copy.held ∙ length-map s.held.items _ in
       long ∙ h.each ∙ ap length (sym copy.come);
   small = subst (AreBelow (2 ^ 63)) (sym copy.come) h.small;
 }

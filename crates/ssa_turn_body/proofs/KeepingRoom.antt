@@ -13,7 +13,7 @@ use Rattle.ssa_turn_body.specs.Records.{body_told}
 use Rattle.ssa_turn_body.specs.Rooms.{TurnsKeepRoom}
 use Rattle.ssa_turn_body.proofs.BackAgain.{bodies-back}
 use Rattle.ssa_turn_body.specs.Writable.{AreWritable}
-use Rattle.ssa_turn_body.proofs.Writing.{left-writable, reverse-writable}
+use Rattle.ssa_turn_body.proofs.Writables.{left-writable, reverse-writable}
 use Rattle.ssa_turn_body.proofs.HeldTrees.{AllHoldTrees, fit-hold, left-hold, reverse-hold, same-told}
 
 tree-is : (n : Node) → is_tree n ≡ true → IsTree (body_of n)

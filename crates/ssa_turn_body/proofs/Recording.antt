@@ -28,7 +28,7 @@ use Rattle.ssa_turn_body.specs.declared.children.LeafSwap.{LeafSwap}
 use Rattle.ssa_turn_body.specs.declared.steps.Step.{Step}
 use Rattle.ssa_turn_body.proofs.Leading.{below-is, lead-both, led-own, led-same, led-then, turned-own}
 use Rattle.ssa_turn_body.proofs.Returning.{leads-tree}
-use Rattle.ssa_turn_body.proofs.Writing.{both-writable}
+use Rattle.ssa_turn_body.proofs.Writables.{both-writable}
 use Rattle.ssa_turn_body.specs.Writable.{IsWritable}
 use Rattle.ssa_turn_body.proofs.Saying.{Joins, root-said, said_in, says-inside, says-outside, told-child, told-none, told-then}
 

@@ -1,7 +1,8 @@
 -- Values told of paths, put in path order one after the other.
-use Rattle.std.proofs.Common.{◌≡◌, List, [], ◌∷◌, map, Ordering, Less, Equal, Greater, refl, ap, ◌∙◌}
+use Rattle.std.proofs.Common.{◌≡◌, List, [], ◌∷◌, ◌++◌, map, Ordering, Less, Equal, Greater, refl, sym, ap, ◌∙◌, append_assoc, append-nil}
 use Rattle.std.specs.BTreeMap.{insert_entry}
 use Rattle.std.specs.FinMap.Entries.{put, by_order}
+use Rattle.std.specs.Map.{values_of}
 use Rattle.std.specs.Ordering.{match_ordering, on}
 use Rattle.ssa_model.specs.definitions.Json.{Json, list}
 use Rattle.ssa_model.specs.definitions.Path.{Path, path_cmp}
@@ -33,7 +34,7 @@ entry-put p v (e ∷ es) =
     ]
 
 module _ {X Y : Type 0} (f : Path × X → Y) where
-  abbrev with : List (Path × X) → List (Path × Y)
+  abbrev pub with : List (Path × X) → List (Path × Y)
   with = map (λ e. (e.0, f e))
 
   put-with : (p : Path) (x : X) (es : List (Path × X)) → put path_cmp p (f (p, x)) (with es) ≡ with (put path_cmp p x es)
@@ -63,3 +64,36 @@ told-listed f told es is =
     ap (λ l. list (items_of (in_path_order l))) is
     ∙ ap (λ l. list (items_of l)) (ap (map (λ e. e.1)) (entries-with f es) ∙ values-with f (from_entries es).entries)
     ∙ ap list (items-made f (from_entries es).entries)
+
+-- of these entries the first are left, and those behind them are in the map
+pub record AreSorted (all rest sorted : List Entry) : Type 0 where
+  pub taken : List Entry
+  pub whole : all ≡ rest ++ taken
+  pub done : told_view sorted ≡ (from_entries (told_view taken)).entries
+
+-- at first none is taken
+pub sorted-none : (es sorted : List Entry) → sorted ≡ [] → AreSorted es es sorted
+sorted-none es sorted none = record { taken = []; whole = sym (append-nil es); done = ap told_view none }
+
+-- one more is taken off the end
+pub sorted-more : (all old new sorted sorted2 : List Entry) (p : LentPath) (v : program.Json) → AreSorted all old sorted → old ≡ new ++ (p, v) ∷ []
+    → sorted2 ≡ insert_entry (on lent_path path_cmp) sorted p v → AreSorted all new sorted2
+sorted-more all old new sorted sorted2 p v h is put_in = record {
+  taken = (p, v) ∷ h.taken;
+  whole = h.whole ∙ ap (λ l. l ++ h.taken) is ∙ append_assoc new ((p, v) ∷ []) h.taken;
+  done = ap told_view put_in ∙ entry-put p v sorted ∙ ap (put path_cmp (lent_path p) (view v)) h.done;
+}
+
+-- at last all are
+pub sorted-all : (all rest sorted : List Entry) → AreSorted all rest sorted → rest ≡ [] → told_view sorted ≡ (from_entries (told_view all)).entries
+sorted-all all rest sorted h none = h.done ∙ ap (λ l. (from_entries (told_view l)).entries) (sym (h.whole ∙ ap (λ l. l ++ h.taken) none))
+
+-- ---- the values alone
+
+pub itself : {A : Type 0} (xs : List A) → map (λ x. x) xs ≡ xs
+itself [] = refl
+itself (x ∷ xs) = ap (λ l. x ∷ l) (itself xs)
+
+pub values-shown : (es : List Entry) → map view (values_of es) ≡ map (λ e. e.1) (told_view es)
+values-shown [] = refl
+values-shown (e ∷ es) = ap (λ l. view e.1 ∷ l) (values-shown es)

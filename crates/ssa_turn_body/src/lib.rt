@@ -10,6 +10,7 @@ pub mod descent;
 pub mod exchanges;
 pub mod found;
 pub mod live_body;
+pub mod record_values;
 pub mod reorder;
 pub mod steps;
 pub mod told;

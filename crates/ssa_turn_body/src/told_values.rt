@@ -15,7 +15,7 @@ fn by_path<'a>(
     alloc: Global,
     told: Vec<(LentPath<'a>, Json)>,
 ) -> Result<BTreeMap<LentPath<'a>, Json>, AllocError>
-    ensures { IfOk result (λ m. told_view m.entries ≡ (from_entries (told_view told.items)).entries) }
+    ensures { IfOk result (λ m. told_view m.entries ≡ (from_entries (told_view told.entry.items)).entries) }
 {
     let mut rest = told;
     let mut sorted = BTreeMap::new(alloc);
@@ -30,7 +30,7 @@ fn values_of<'a>(
     alloc: Global,
     sorted: BTreeMap<LentPath<'a>, Json>,
 ) -> Result<Vec<Json>, AllocError>
-    ensures { IfOk result (λ vs. map view vs.items ≡ map (λ e. e.1) (told_view sorted.entries)) }
+    ensures { IfOk result (λ vs. map view vs.items ≡ map (λ e. e.1) (told_view sorted.entry.entries)) }
 {
     let mut values = Vec::with_capacity(alloc, sorted.len())?;
     for value in sorted.into_values() {
@@ -44,7 +44,7 @@ pub fn values_in_path_order<'a>(
     alloc: Global,
     told: Vec<(LentPath<'a>, Json)>,
 ) -> Result<Json, AllocError>
-    ensures { IfOk result (λ v. view v ≡ list (items_of (in_path_order (told_view told.items)))) }
+    ensures { IfOk result (λ v. view v ≡ list (items_of (in_path_order (told_view told.entry.items)))) }
 {
     let sorted = by_path(alloc, told)?;
     let values = values_of(alloc, sorted)?;

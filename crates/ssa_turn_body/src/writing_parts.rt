@@ -1,18 +1,19 @@
 //! What comes by changes, as values in the order of their paths.
-ghost use Rattle.std.specs.Prelude.{◌≡◌, ◌∷◌, ◌++◌, [], ◌<◌, ◌^◌, true, IfOk, IfSome, OnOk};
+ghost use Rattle.std.specs.Prelude.{◌≡◌, ◌∷◌, ◌++◌, [], ◌<◌, ◌^◌, length, true, IfOk, IfSome, OnOk, Some, if◌then◌else◌, position};
 ghost use Rattle.std.specs.List.{position_from};
 ghost use Rattle.ssa_model.specs.definitions.Json.{item, list, no_items};
 ghost use Rattle.ssa_model.specs.definitions.Path.{same_element};
 ghost use Rattle.ssa_json.specs.View.{view};
 ghost use Rattle.ssa_path.specs.TopPaths.{lent_path};
 ghost use Rattle.ssa_path.specs.View.{element_view, path_view};
-ghost use Rattle.ssa_typed.specs.Rows.{is_tree};
+ghost use Rattle.ssa_typed.specs.Rows.{are_trees, is_tree};
+ghost use Rattle.ssa_turn_body.specs.Found.{AreBelow};
+ghost use Rattle.ssa_turn_body.specs.Orders.{is_none};
 ghost use Rattle.ssa_turn_body.specs.Records.{at_place, place_after, told_by};
 ghost use Rattle.ssa_turn_body.specs.ToldValues.{as_values, coming_json, comes_in, comes_of, told_view};
-ghost use Rattle.ssa_turn_body.specs.Writable.{AreWritable, IsWritable, IsWritableEdit};
+ghost use Rattle.ssa_turn_body.specs.Writable.{AreWritable, IsWritable};
 
 use crate::change::PlaceChange;
-use crate::children::ChildrenEdit;
 use crate::steps::Step;
 use ssa_json::value::Json;
 use ssa_path::element::Elem;
@@ -21,11 +22,31 @@ use ssa_typed::node::Node;
 use std::alloc::{AllocError, Global};
 
 // The place of an element in a list, where it is there.
+fn find_in(order: &[Elem], element: &Elem) -> Option<usize>
+    ensures value { result ≡ position (λ own. same_element (element_view element.now) (element_view own)) order.now }
+    ensures small { IfSome result (λ k. k < 2 ^ 63) }
+{
+    order.iter().position(|own| element.is_same(own))
+}
+
+// The same place, by the elements.
 fn place_in(order: &[Elem], element: &Elem) -> Option<usize>
     ensures value { result ≡ position_from (same_element (element_view element.now)) 0 (path_view order.now) }
     ensures small { IfSome result (λ k. k < 2 ^ 63) }
 {
-    order.iter().position(|own| element.is_same(own))
+    find_in(order, element)
+}
+
+// The place in the order that is told, or the one where the item came in.
+fn item_place(order: &[Elem], element: &Elem, place: usize) -> Option<usize>
+    requires { place < 2 ^ 63 }
+    ensures value { result ≡ (if is_none (path_view order.now) then Some place else position_from (same_element (element_view element.now)) 0 (path_view order.now)) }
+    ensures small { IfSome result (λ k. k < 2 ^ 63) }
+{
+    match order {
+        [] => Some(place),
+        [_first, ..] => place_in(order, element),
+    }
 }
 
 // The place of an item afterwards: as it came in, or in the order that is told.
@@ -34,22 +55,15 @@ fn place_after(order: &[Elem], element: &Elem, place: usize) -> Option<usize>
     ensures value { result ≡ place_after (path_view order.now) (element_view element.now) place }
     ensures small { IfSome result (λ k. k < 2 ^ 63) }
 {
-    if !element.is_item() {
-        return None;
-    }
-    match order {
-        [] => Some(place),
-        [_first, ..] => place_in(order, element),
+    if element.is_item() {
+        item_place(order, element, place)
+    } else {
+        None
     }
 }
 
 // The list of three values.
-fn list_of_three(
-    alloc: Global,
-    first: Json,
-    second: Json,
-    third: Json,
-) -> Result<Json, AllocError>
+fn list_of_three(alloc: Global, first: Json, second: Json, third: Json) -> Result<Json, AllocError>
     ensures { IfOk result (λ v. view v ≡ list (item (view first) (item (view second) (item (view third) no_items)))) }
 {
     let mut items = Vec::with_capacity(alloc, 3)?;
@@ -99,18 +113,23 @@ fn push_child<'a>(
     Ok(())
 }
 
-// Puts the children that come at a place behind others.
-fn push_edit<'a>(
+// Puts children that come at a place behind others, each with its place there.
+fn push_children<'a>(
     alloc: Global,
     at: &'a [Elem],
-    edit: &'a ChildrenEdit,
+    order: &[Elem],
+    places: &[usize],
+    held: &'a [(Elem, Node)],
     told: &mut Vec<(LentPath<'a>, Json)>,
 ) -> Result<(), AllocError>
-    requires { IsWritableEdit edit.now }
-    ensures { OnOk result (told_view told.new.items ≡ told_view told.old.items ++ as_values coming_json (at_place (path_view at.now) (comes_of (path_view edit.now.order.after.items) edit.now.come.places.items edit.now.held.items))) }
+    requires trees { are_trees held.now ≡ true }
+    requires each { length held.now ≡ length places.now }
+    requires small { AreBelow (2 ^ 63) places.now }
+    ensures { OnOk result (told_view told.new.items ≡ told_view told.old.items ++ as_values coming_json (at_place (path_view at.now) (comes_of (path_view order.now) places.now held.now))) }
 {
-    for (i, child) in edit.held.iter().enumerate() {
-        let place = place_after(&edit.order.after, &child.0, edit.come.places[i]);
+    for (i, child) in held.iter().enumerate() {
+        let own = places[i];
+        let place = place_after(order, &child.0, own);
         push_child(alloc, at, child, place, told)?;
     }
     Ok(())
@@ -127,7 +146,14 @@ fn push_parts<'a>(
 {
     match &step.change {
         PlaceChange::Leaf(_) => Ok(()),
-        PlaceChange::Children(edit) => push_edit(alloc, &step.path, edit, told),
+        PlaceChange::Children(edit) => push_children(
+            alloc,
+            &step.path,
+            &edit.order.after,
+            &edit.come.places,
+            &edit.held,
+            told,
+        ),
     }
 }
 
