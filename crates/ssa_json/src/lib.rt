@@ -4,6 +4,7 @@
 pub mod copy;
 pub mod fault;
 pub mod fault_code;
+pub mod make;
 pub mod members;
 pub mod moment;
 pub mod piece;

@@ -32,7 +32,7 @@ module _ {X : Type 0} (P : Path → X → Type 0) where
         | Greater ↦ λ k. (h.0, all-put p x es a h.1)
       ] refl
 
-  all-from_entries : (es : List (Path × X)) → AllAt P es → AllAt P (from_entries es).entries
+  pub all-from_entries : (es : List (Path × X)) → AllAt P es → AllAt P (from_entries es).entries
   all-from_entries [] h = tt
   all-from_entries (e ∷ es) h = all-put e.0 e.1 (from_entries es).entries h.0 (all-from_entries es h.1)
 

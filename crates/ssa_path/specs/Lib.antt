@@ -13,3 +13,4 @@ pub mod FieldsReading
 pub mod FieldsWriting
 pub mod FieldsBack
 pub mod FaultCodes
+pub mod TopPaths

@@ -17,4 +17,5 @@ pub mod listing;
 pub mod order;
 pub mod path;
 mod same;
+pub mod top_path;
 pub mod trie;

@@ -15,6 +15,7 @@ use Rattle.ssa_turn_body.specs.Marks.{marks}
 use Rattle.ssa_turn_body.specs.Records.{body_told}
 use Rattle.ssa_turn_body.specs.Rooms.{HasBodyRoom}
 use Rattle.ssa_turn_body.specs.Said.{AreTold, contents}
+use Rattle.ssa_turn_body.specs.Writable.{AreWritable}
 use Rattle.ssa_turn_body.specs.declared.steps.BodySteps.{BodySteps}
 use Rattle.ssa_turn_body.specs.declared.steps.Step.{Step}
 use Rattle.ssa_turn_body.proofs.BodyMarks.{body-marks, body-same}
@@ -45,6 +46,9 @@ module _ (v w : Node) (ps : List Elem) (old : List Step) (s : BodySteps) (tree :
       let left = led.lead turned.before turned.tree_before (body-marks turned.before v turned.tree_before tree (turned.body_before ∙ sym is)) (reverse t.steps.items) turned.after turned.turned in
       sym turned.body_after ∙ body-same turned.after w turned.tree_after tree_to left.there ∙ to
 
+  writable : AreWritable s.steps.items
+  writable = subst AreWritable (ap (λ xs. xs ++ leading.made) (sym none) ∙ sym leading.added) leading.writable
+
   pub between-room : (b c : Body) → body_of v ≡ b → body_of w ≡ c → AreAlike b c → HasBodyRoom s b
   between-room b c is to alike = record {
     fits = between-fits b is;
@@ -66,4 +70,5 @@ module _ (v w : Node) (ps : List Elem) (old : List Step) (s : BodySteps) (tree :
               sym (ap (λ r. carry_body r b) there
               ∙ record-leads turned.before turned.after b d turned.tree_before turned.tree_after turned.body_before turned.body_after alike_now);
         };
+    writable = writable;
   }

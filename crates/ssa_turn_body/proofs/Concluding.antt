@@ -29,6 +29,7 @@ use Rattle.ssa_turn_body.specs.declared.change.PlaceChange.{PlaceChange}
 use Rattle.ssa_turn_body.specs.declared.change.PlaceChange.TheVariants.{Leaf, Children}
 use Rattle.ssa_turn_body.specs.declared.children.ChildrenEdit.{ChildrenEdit}
 use Rattle.ssa_turn_body.specs.declared.steps.Step.{Step}
+use Rattle.ssa_turn_body.proofs.Writables.{fit-writable}
 use Rattle.ssa_turn_body.proofs.Again.{kids_from, named-kids}
 use Rattle.ssa_turn_body.proofs.EditTold.{IsEdit, edit-step-told}
 use Rattle.ssa_turn_body.proofs.Finishing.{led_kids, names-from, fresh-names, fresh-trees, long, held-kids, edit-fits, idle-told, put}
@@ -291,4 +292,8 @@ module _ (o : Content) (cs ds : List Child) (fs : Found) (s : ChildrenEdit) (bet
               (λ t y path g. told-back a.0 t y a.2 path g);
         });
         once = once-added p (Children made) old new made-once a;
+        writable = (
+          fit-writable a.0.change (o, ks) (subst (λ x. ChangeFits x (o, ks)) (sym a.2) (edit-fits o cs ds fs s between h own_apart apart found holds trees stand)),
+          tt,
+        );
       }

@@ -1,5 +1,5 @@
 -- Copies of changes, one after the other: they say one record, and serve wherever the changes do.
-use Rattle.std.proofs.Common.{◌≡◌, List, [], ◌∷◌, ◌++◌, map, length, reverse, refl, sym, ap, subst, ◌∙◌}
+use Rattle.std.proofs.Common.{◌≡◌, ◌^◌, List, [], ◌∷◌, ◌++◌, map, length, reverse, refl, sym, ap, subst, ◌∙◌}
 use Rattle.std.proofs.lemmas.List.{length-map, reverse-reverse}
 use Rattle.std.specs.List.{AllZip}
 use Rattle.ssa_model.specs.definitions.Body.{Body}
@@ -7,14 +7,19 @@ use Rattle.ssa_model.specs.definitions.Carry.{carry_body}
 use Rattle.ssa_model.specs.definitions.Path.{Path}
 use Rattle.ssa_model.specs.definitions.PathMap.{from_entries}
 use Rattle.ssa_path.specs.View.{path_view}
+use Rattle.ssa_typed.proofs.Copying.{kept-same}
 use Rattle.ssa_typed.specs.declared.node.Node.{Node}
 use Rattle.ssa_turn_body.specs.Bodies.{IsBodyTurned}
 use Rattle.ssa_turn_body.specs.Changes.{change_steps}
-use Rattle.ssa_turn_body.specs.Copies.{ChangeIsCopied, StepIsCopied}
+use Rattle.ssa_turn_body.specs.Copies.{ChangeIsCopied, EditIsCopied, StepIsCopied}
+use Rattle.ssa_turn_body.specs.Found.{AreBelow}
 use Rattle.ssa_turn_body.specs.Records.{at_place, body_told, told_by}
 use Rattle.ssa_turn_body.specs.Rooms.{AreRecorded, HasBodyRoom}
 use Rattle.ssa_turn_body.specs.Steps.{StepsFit, StepsLead, step_says}
+use Rattle.ssa_turn_body.specs.Writable.{AreWritable, IsWritable, IsWritableEdit}
 use Rattle.ssa_turn_body.specs.declared.change.PlaceChange.{PlaceChange}
+use Rattle.ssa_turn_body.specs.declared.change.PlaceChange.TheVariants.{Leaf, Children}
+use Rattle.ssa_turn_body.specs.declared.children.ChildrenEdit.{ChildrenEdit}
 use Rattle.ssa_turn_body.specs.declared.steps.BodySteps.{BodySteps}
 use Rattle.ssa_turn_body.specs.declared.steps.Step.{Step}
 use Rattle.ssa_turn_body.proofs.Copied.{placed_as, say-same, copy-fits, copy-leads}
@@ -80,6 +85,29 @@ placed-say (s ∷ ss) (c ∷ cs) v [] w z l = absurd l
 placed-say (s ∷ ss) (c ∷ cs) v (t ∷ ts) w z l =
     let path : path_view s.path.items ≡ path_view t.path.items = sym (ap path_view l.1.path ∙ z.0.path) in
     λ i. (path i, change_steps t.change) ∷ placed-say ss cs l.0 ts w z.1 l.2 i
+
+-- ---- whether they can be written
+
+edit-writable : (s c : ChildrenEdit) → EditIsCopied s c → IsWritableEdit s → IsWritableEdit c
+edit-writable s c copy h = record {
+  trees = (kept-same c.held.items s.held.items copy.held).trees_same ∙ h.trees;
+  each =
+      let long : length c.held.items ≡ length s.held.items = sym (length-map c.held.items _) ∙ ap length copy.held ∙ length-map s.held.items _ in
+      long ∙ h.each ∙ ap length (sym copy.come);
+  small = subst (AreBelow (2 ^ 63)) (sym copy.come) h.small;
+}
+
+copy-writable : (x y : PlaceChange) → ChangeIsCopied x y → IsWritable x → IsWritable y
+copy-writable (Leaf s) (Leaf c) copy h = tt
+copy-writable (Leaf s) (Children c) copy h = absurd copy
+copy-writable (Children s) (Leaf c) copy h = absurd copy
+copy-writable (Children s) (Children c) copy h = edit-writable s c copy h
+
+copies-writable : (ss cs : List Step) → AllZip StepIsCopied ss cs → AreWritable ss → AreWritable cs
+copies-writable [] [] z h = tt
+copies-writable [] (c ∷ cs) z h = absurd z
+copies-writable (s ∷ ss) [] z h = absurd z
+copies-writable (s ∷ ss) (c ∷ cs) z h = (copy-writable s.change c.change z.0.change h.0, copies-writable ss cs z.1 h.1)
 
 -- ---- of a body
 
@@ -152,4 +180,5 @@ room-copied s c z b room = record {
   fits = λ n tree is. copies-fit s.steps.items c.steps.items n z (room.fits n tree is);
   once = once-copied s.steps.items c.steps.items z room.once;
   turns = turn-recorded s c z b room;
+  writable = copies-writable s.steps.items c.steps.items z room.writable;
 }

@@ -12,6 +12,8 @@ use Rattle.ssa_typed.proofs.AnyTree.{tree-closed, tree-items, tree-once, tree-ro
 use Rattle.ssa_turn_body.specs.Records.{body_told}
 use Rattle.ssa_turn_body.specs.Rooms.{TurnsKeepRoom}
 use Rattle.ssa_turn_body.proofs.BackAgain.{bodies-back}
+use Rattle.ssa_turn_body.specs.Writable.{AreWritable}
+use Rattle.ssa_turn_body.proofs.Writables.{left-writable, reverse-writable}
 use Rattle.ssa_turn_body.proofs.HeldTrees.{AllHoldTrees, fit-hold, left-hold, reverse-hold, same-told}
 use Rattle.ssa_turn_body.proofs.OnceOnly.{once-turned}
 
@@ -55,4 +57,8 @@ turns-keep-room s t b c room turned fits = record {
             sym (ap (λ r. carry_body r c) told
             ∙ record-leads again.before again.after c d again.tree_before again.tree_after again.body_before again.body_after alike);
       };
+  writable =
+      subst AreWritable (reverse-reverse t.steps.items) (reverse-writable (reverse t.steps.items)
+      (left-writable s.steps.items turned.before (reverse t.steps.items) turned.after
+      (room.fits turned.before turned.tree_before turned.body_before) turned.turned));
 }

@@ -14,6 +14,7 @@ use Rattle.ssa_turn_body.specs.Records.{body_told}
 use Rattle.ssa_turn_body.specs.Rooms.{AreRecorded, HasBodyRoom}
 use Rattle.ssa_turn_body.specs.Said.{says}
 use Rattle.ssa_turn_body.specs.Steps.{StepsFit, StepsLead}
+use Rattle.ssa_turn_body.specs.Writable.{AreWritable}
 use Rattle.ssa_turn_body.specs.declared.steps.BodySteps.{BodySteps}
 use Rattle.ssa_turn_body.specs.declared.steps.Step.{Step}
 use Rattle.ssa_turn_body.proofs.BodyRecords.{told-bodies}
@@ -53,4 +54,5 @@ none-room s b none = record {
   fits = λ n tree is. none-fit s.steps.items n none;
   once = once-none s.steps.items none;
   turns = λ t c turned. none-turned s t b c none turned;
+  writable = subst AreWritable (sym none) tt;
 }

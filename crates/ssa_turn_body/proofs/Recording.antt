@@ -30,6 +30,8 @@ use Rattle.ssa_turn_body.specs.declared.steps.Step.{Step}
 use Rattle.ssa_turn_body.proofs.Leading.{below-is, lead-both, led-own, led-same, led-then, turned-own}
 use Rattle.ssa_turn_body.proofs.OnceOnly.{once-added, once-same, once-then}
 use Rattle.ssa_turn_body.proofs.Returning.{leads-tree}
+use Rattle.ssa_turn_body.proofs.Writables.{both-writable}
+use Rattle.ssa_turn_body.specs.Writable.{IsWritable}
 use Rattle.ssa_turn_body.proofs.Saying.{Joins, root-said, said_in, says-inside, says-outside, told-child, told-none, told-then}
 
 -- ---- nothing to do
@@ -51,6 +53,7 @@ leading-same p M N xs ys e same = record {
   led = led-same p M N same;
   saying = saying-same p M N same;
   once = once-same p xs ys e;
+  writable = tt;
 }
 
 -- ---- one after the other
@@ -76,6 +79,7 @@ leading-then p M N O xs ys zs joins g h places = record {
   led = led-then p M N O g.made h.made g.led h.led;
   saying = saying-then p M N O g.made h.made g.led g.saying h.saying joins;
   once = once-then p xs ys zs g.once h.once places;
+  writable = both-writable g.made h.made g.writable h.writable;
 }
 
 -- ---- in a child
@@ -151,6 +155,7 @@ leading-leaf p own to old new other other_back h = record {
         (λ t y path g. leaf-step-back h.0 t own to y h.2 path other_back g);
   });
   once = once-added p (LeafChange (record { leaf = to })) old new tt h;
+  writable = (subst IsWritable (sym h.2) tt, tt);
 }
   where
     put : (t : PlaceChange) (y : Place) → ChangeGives (LeafChange (record { leaf = to })) (leaf_content own, []) t y → (q : Path)

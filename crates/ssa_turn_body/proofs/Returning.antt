@@ -35,7 +35,7 @@ change-again (Children s) (Children t) (Children u) x y z h g k = let a = edit-a
 abbrev pub SameMarks : Node → Node → Type 0
 SameMarks n m = (q : Path) → marks n q ≡ marks m q
 
-step-back : (s t : Step) (v w : Node) → StepFits s v → StepLeads s v t w → StepFits t w
+pub step-back : (s t : Step) (v w : Node) → StepFits s v → StepLeads s v t w → StepFits t w
 step-back s t v w h l =
     subst (λ p. FitsIn (λ n. ChangeFits t.change (seen n)) (node_on (path_view p) w)) (sym l.path)
     (back-on (ChangeFits s.change) (λ x y. ChangeGives s.change x t.change y) (ChangeFits t.change) (λ x y. change-back s.change t.change x y) (path_view s.path.items) v w h l.change)

@@ -51,7 +51,7 @@ module _ {X : Type 0} where
   find-outside p q (e ∷ es) u = λ i. cond (not-below p q e.0 u i) (Some e.1) (find-outside p q es u i)
 
   module _ (f : PlaceChange → List (Path × X)) where
-    told-append : (ss ts : List Step) → told_by f (ss ++ ts) ≡ told_by f ss ++ told_by f ts
+    pub told-append : (ss ts : List Step) → told_by f (ss ++ ts) ≡ told_by f ss ++ told_by f ts
     told-append [] ts = refl
     told-append (s ∷ ss) ts =
         ap (λ es. at_place (path_view s.path.items) (f s.change) ++ es) (told-append ss ts)

@@ -273,6 +273,7 @@ module _ (p : Path) (o : Content) (cs ds : List Child) (fs : Found) (old : List 
             led-here (root-some at.child.1) (root-some d.1)
             one.saying;
         once = once-child p (element_view d.0) steps steps2 one.once;
+        writable = one.writable;
       } in
       record {
         done = here.done ++ d ∷ [];

@@ -11,6 +11,7 @@ use Rattle.ssa_turn_body.specs.Once.{AreOnceMore}
 use Rattle.ssa_turn_body.specs.Orders.{is_none}
 use Rattle.ssa_turn_body.specs.Said.{AreTold, contents}
 use Rattle.ssa_turn_body.specs.Steps.{StepsFit, StepsLead}
+use Rattle.ssa_turn_body.specs.Writable.{AreWritable}
 use Rattle.ssa_turn_body.specs.declared.change.PlaceChange.{PlaceChange}
 use Rattle.ssa_turn_body.specs.declared.children.ChildrenEdit.{ChildrenEdit}
 use Rattle.ssa_turn_body.specs.declared.steps.Step.{Step}
@@ -38,6 +39,7 @@ pub record AreLeading (p : Path) (before after : Marks) (old new : List Step) : 
   pub led : IsLed p before after made
   pub saying : AreSaying p before after made
   pub once : AreOnceMore p old new
+  pub writable : AreWritable made
 
 -- a change of the path is put behind the others, unless there is nothing to change
 abbrev pub MayAdd : Bool → Path → PlaceChange → List Step → List Step → Type 0

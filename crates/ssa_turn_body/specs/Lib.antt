@@ -18,3 +18,5 @@ pub mod Steps
 pub mod Told
 pub mod Turns
 pub mod Woven
+pub mod Writable
+pub mod ToldValues

@@ -9,6 +9,7 @@ use Rattle.ssa_model.specs.laws.RecordWalks.{AreAlike}
 use Rattle.ssa_turn_body.specs.Bodies.{BodyStepsFit, IsBodyTurned}
 use Rattle.ssa_turn_body.specs.Once.{AreOnce}
 use Rattle.ssa_turn_body.specs.Records.{body_told}
+use Rattle.ssa_turn_body.specs.Writable.{AreWritable}
 use Rattle.ssa_turn_body.specs.declared.steps.BodySteps.{BodySteps}
 
 -- the first steps say the record of the two bodies and lead there, and the second say the record of the way back
@@ -18,11 +19,12 @@ pub record AreRecorded (s : BodySteps) (b : Body) (t : BodySteps) (c : Body) : T
   pub back : body_told t ≡ body_record c b
   pub leads : c ≡ carry_body (body_told s) b
 
--- the steps fit each tree of the body and say nothing twice, and each turn is recorded
+-- the steps fit each tree of the body and say nothing twice, each turn is recorded, and they can be written
 pub record HasBodyRoom (s : BodySteps) (b : Body) : Type 0 where
   pub fits : BodyStepsFit s b
   pub once : AreOnce s.steps.items
   pub turns : (t : BodySteps) (c : Body) → IsBodyTurned s b t c → AreRecorded s b t c
+  pub writable : AreWritable s.steps.items
 
 -- a turn leaves steps that serve the way back
 abbrev pub TurnsKeepRoom : Type 0

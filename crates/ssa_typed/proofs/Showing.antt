@@ -3,13 +3,16 @@ use Rattle.std.proofs.Common.{◌≡◌, List, [], ◌∷◌, ◌++◌, Bool, tr
 use Rattle.std.specs.Prelude.{is_some, if◌then◌else◌}
 use Rattle.std.specs.List.{AllByRecursion}
 use Rattle.ssa_model.specs.definitions.Json.{Text, Json, scalar, list, object, item, same_text}
-use Rattle.ssa_model.specs.definitions.Path.{Element, field, Path, same_element}
-use Rattle.ssa_model.specs.definitions.PathMap.{get, has}
+use Rattle.ssa_model.specs.definitions.Path.{Element, field, key, value, Path, same_element}
+use Rattle.ssa_model.specs.definitions.PathMap.{get, has, below as map_below}
 use Rattle.ssa_model.specs.definitions.Kind as kinds
 use Rattle.ssa_model.specs.definitions.Kind.{Kind, ScalarKind, Fields, scalar_kind, atomic_of, record_of, dict_of, items_of, no_fields, kind_field, kind_of, is_of}
 use Rattle.ssa_model.specs.definitions.Body.{Body, Content, leaf, atom, record_branch, dict_branch, list_branch, is_leaf, order_at}
+use Rattle.ssa_model.specs.definitions.Fitting as fitting
 use Rattle.ssa_model.specs.definitions.Fitting.{Place, of_kind, item_of, place_below, place_at, content_fits, IsBodyOf}
 use Rattle.ssa_model.specs.definitions.Objects.{shown, shown_fields, shown_items, entry_members, names_below, content_value}
+use Rattle.ssa_model.specs.definitions.RecordText.{value_at_place}
+use Rattle.ssa_model.proofs.PutParts.{get-below}
 use Rattle.ssa_model.proofs.Places.{record-branch, item-branch, dict-branch, set-branch, list-branch, value-leaf, set-place, list-place, kind-placed}
 use Rattle.ssa_path.specs.Children.{child_at, elements, rises}
 use Rattle.ssa_path.specs.View.{element_view}
@@ -301,4 +304,79 @@ body-shown n kind tree ordered body =
       same = get-body n;
       tree = tree;
       fits = λ q c is. let at = body.fits q c (get-body n q ∙ is) in record { place = at.place; there = at.there; fits = at.fits };
+    }))
+
+-- ---- a part of a body
+
+-- the fields of each kind of the place rise
+abbrev is_ordered_place : Place → Bool
+is_ordered_place (of_kind k) = is_ordered k
+is_ordered_place (item_of ns fs) = are_ordered fs
+is_ordered_place (fitting.value_of s) = true
+
+ordered-field : (fs : Fields) (n : Text) (k : Kind) → are_ordered fs ≡ true → kind_of n fs ≡ Some k → is_ordered k ≡ true
+ordered-field no_fields n k o h = absurd (none-some k h)
+ordered-field (kind_field l j fs) n k o h =
+    let later = both_second (is_before_all l fs) _ o in
+    elim (same_text n l) as (λ t. (if t then Some j else kind_of n fs) ≡ Some k → is_ordered k ≡ true) [
+      | true ↦ λ own. ap is_ordered (sym (some-is j k own)) ∙ both_first _ _ later
+      | false ↦ λ other. ordered-field fs n k (both_second (is_ordered j) _ later) other
+    ] h
+
+ordered-kind : (fs : Fields) (n : Text) (s : Place) → are_ordered fs ≡ true → option_map of_kind (kind_of n fs) ≡ Some s → is_ordered_place s ≡ true
+ordered-kind fs n s o h =
+    let k = kind-placed (kind_of n fs) s h in
+    subst (λ x. is_ordered_place x ≡ true) k.1.1 (ordered-field fs n k.0 o k.1.0)
+
+ordered-below : (r : Place) (e : Element) (s : Place) → is_ordered_place r ≡ true → place_below r e ≡ Some s → is_ordered_place s ≡ true
+ordered-below (of_kind (scalar_kind k)) e s o h = absurd (none-some s h)
+ordered-below (of_kind (atomic_of a)) e s o h = absurd (none-some s h)
+ordered-below (of_kind (record_of fs)) (field n) s o h = ordered-kind fs n s o h
+ordered-below (of_kind (record_of fs)) (key ks) s o h = absurd (none-some s h)
+ordered-below (of_kind (record_of fs)) (value x) s o h = absurd (none-some s h)
+ordered-below (of_kind (dict_of k)) (field n) s o h = subst (λ x. is_ordered_place x ≡ true) (some-is (of_kind k) s h) o
+ordered-below (of_kind (dict_of k)) (key ks) s o h = absurd (none-some s h)
+ordered-below (of_kind (dict_of k)) (value x) s o h = absurd (none-some s h)
+ordered-below (of_kind (kinds.set_of k)) e s o h = subst (λ x. is_ordered_place x ≡ true) (set-place k e s h).place refl
+ordered-below (of_kind (items_of ns fs)) e s o h = subst (λ x. is_ordered_place x ≡ true) (list-place ns fs e s h).place o
+ordered-below (item_of ns fs) (field n) s o h = ordered-kind fs n s o h
+ordered-below (item_of ns fs) (key ks) s o h = absurd (none-some s h)
+ordered-below (item_of ns fs) (value x) s o h = absurd (none-some s h)
+ordered-below (fitting.value_of t) e s o h = absurd (none-some s h)
+
+ordered-at : (p : Path) (q r : Place) → is_ordered_place q ≡ true → place_at q p ≡ Some r → is_ordered_place r ≡ true
+ordered-at [] q r o h = subst (λ s. is_ordered_place s ≡ true) (some-is q r h) o
+ordered-at (e ∷ p) q r o h =
+    elim (place_below q e) as (λ b. place_below q e ≡ b → ◌≡◌ {A = Option Place} (elim b [ None ↦ None | Some s ↦ place_at s p ]) (Some r) → is_ordered_place r ≡ true) [
+      | None ↦ λ is g. absurd (none-some r g)
+      | Some s ↦ λ is g. ordered-at p s r (ordered-below q e s o is) g
+    ] refl h
+
+-- the place of a path that goes on from a place
+place-joined : (p t : Path) (q r : Place) → place_at q p ≡ Some r → place_at q (p ++ t) ≡ place_at r t
+place-joined [] t q r h = ap (λ s. place_at s t) (some-is q r h)
+place-joined (e ∷ p) t q r h =
+    elim (place_below q e) as (λ b. ◌≡◌ {A = Option Place} (elim b [ None ↦ None | Some s ↦ place_at s p ]) (Some r)
+    → ◌≡◌ {A = Option Place} (elim b [ None ↦ None | Some s ↦ place_at s (p ++ t) ]) (place_at r t)) [
+      | None ↦ λ g. absurd (none-some r g)
+      | Some s ↦ λ g. place-joined p t s r g
+    ] h
+
+place-shown : (r : Place) (b : Body) (p : Path) (m : Node) → is_ordered_place r ≡ true → IsShownAt b r p m → value_at_place r b p ≡ value_of m
+place-shown (of_kind k) b p m o h = kind-shown k b o p m h
+place-shown (item_of ns fs) b p m o h =
+    record-at b (item_of ns fs) p m h fs (λ n. refl) o (item-branch ns fs (own_content m) (own-fits b (item_of ns fs) p m h)) (fields-shown fs b o)
+place-shown (fitting.value_of s) b p m o h =
+    leaf-at b (fitting.value_of s) p m h (ap (λ c. is_leaf (Some c)) (value-leaf s (own_content m) (own-fits b (fitting.value_of s) p m h)))
+
+-- the value of a tree whose body is what another body has at a place and below
+pub part-shown : (n : Node) (kind : Kind) (r : Place) (p : Path) (w : Body) → is_tree n ≡ true → is_ordered kind ≡ true → IsBodyOf kind w
+    → place_at (of_kind kind) p ≡ Some r → body_of n ≡ map_below w p → value_of n ≡ value_at_place r (body_of n) []
+part-shown n kind r p w tree ordered body at is =
+    sym (place-shown r (body_of n) [] n (ordered-at p (of_kind kind) r ordered at) (record {
+      same = get-body n;
+      tree = tree;
+      fits = λ q c there.
+          let found = body.fits (p ++ q) c (sym (get-below w p q) ∙ ap (λ b. get b q) (sym is) ∙ get-body n q ∙ there) in
+          record { place = found.place; there = sym (place-joined p q (of_kind kind) r at) ∙ found.there; fits = found.fits };
     }))

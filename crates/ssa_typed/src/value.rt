@@ -22,8 +22,8 @@ impl Node {
     }
 }
 
-// The value of a leaf.
-fn leaf_value(alloc: Global, leaf: &Leaf) -> Result<Json, AllocError>
+/// The value of a leaf.
+pub fn leaf_value(alloc: Global, leaf: &Leaf) -> Result<Json, AllocError>
     ensures { IfOk result (λ v. view v ≡ leaf_value leaf.now) }
 {
     match leaf {

@@ -1,0 +1,99 @@
+-- Values told of paths, put in path order one after the other.
+use Rattle.std.proofs.Common.{◌≡◌, List, [], ◌∷◌, ◌++◌, map, Ordering, Less, Equal, Greater, refl, sym, ap, ◌∙◌, append_assoc, append-nil}
+use Rattle.std.specs.BTreeMap.{insert_entry}
+use Rattle.std.specs.FinMap.Entries.{put, by_order}
+use Rattle.std.specs.Map.{values_of}
+use Rattle.std.specs.Ordering.{match_ordering, on}
+use Rattle.ssa_model.specs.definitions.Json.{Json, list}
+use Rattle.ssa_model.specs.definitions.Path.{Path, path_cmp}
+use Rattle.ssa_model.specs.definitions.PathMap.{from_entries}
+use Rattle.ssa_model.specs.definitions.Replies.{list_json}
+use Rattle.ssa_model.proofs.Texts.{same_path_same}
+use Rattle.ssa_json.specs.View.{items_of, view}
+use Rattle.ssa_json.specs.declared.value.Json as program
+use Rattle.ssa_json.proofs.Listed.{items-made}
+use Rattle.ssa_path.specs.TopPaths.{lent_path}
+use Rattle.ssa_path.specs.declared.top_path.LentPath.{LentPath}
+use Rattle.ssa_turn_body.specs.ToldValues.{as_values, in_path_order, told_view}
+
+abbrev Entry : Type 0
+Entry = LentPath × program.Json
+
+-- an entry more in the map is an entry more among the paths
+pub entry-put : (p : LentPath) (v : program.Json) (es : List Entry)
+    → told_view (insert_entry (on lent_path path_cmp) es p v) ≡ put path_cmp (lent_path p) (view v) (told_view es)
+entry-put p v [] = refl
+entry-put p v (e ∷ es) =
+    let own : Path × Json = (lent_path p, view v) in
+    let here : Path × Json = (lent_path e.0, view e.1) in
+    elim (path_cmp (lent_path p) (lent_path e.0)) as (λ o. told_view (match_ordering o ((p, v) ∷ e ∷ es) ((e.0, v) ∷ es) (e ∷ insert_entry (on lent_path path_cmp) es p v))
+    ≡ by_order o (own ∷ here ∷ told_view es) ((lent_path e.0, view v) ∷ told_view es) (here ∷ put path_cmp (lent_path p) (view v) (told_view es))) [
+      | Less ↦ refl
+      | Equal ↦ refl
+      | Greater ↦ ap (λ l. here ∷ l) (entry-put p v es)
+    ]
+
+module _ {X Y : Type 0} (f : Path × X → Y) where
+  abbrev pub with : List (Path × X) → List (Path × Y)
+  with = map (λ e. (e.0, f e))
+
+  put-with : (p : Path) (x : X) (es : List (Path × X)) → put path_cmp p (f (p, x)) (with es) ≡ with (put path_cmp p x es)
+  put-with p x [] = refl
+  put-with p x (e ∷ es) =
+      elim (path_cmp p e.0) as (λ o. path_cmp p e.0 ≡ o
+      → by_order o ((p, f (p, x)) ∷ (e.0, f e) ∷ with es) ((e.0, f (p, x)) ∷ with es) ((e.0, f e) ∷ put path_cmp p (f (p, x)) (with es))
+      ≡ with (by_order o ((p, x) ∷ e ∷ es) ((e.0, x) ∷ es) (e ∷ put path_cmp p x es))) [
+        | Less ↦ λ is. refl
+        | Equal ↦ λ is. ap (λ q. (e.0, f (q, x)) ∷ with es) (same_path_same p e.0 is)
+        | Greater ↦ λ is. ap (λ l. (e.0, f e) ∷ l) (put-with p x es)
+      ] refl
+
+  -- what a function makes of the entries of a map are the entries of the map of what it makes
+  pub entries-with : (es : List (Path × X)) → (from_entries (with es)).entries ≡ with (from_entries es).entries
+  entries-with [] = refl
+  entries-with (e ∷ es) = ap (put path_cmp e.0 (f e)) (entries-with es) ∙ put-with e.0 e.1 (from_entries es).entries
+
+  values-with : (es : List (Path × X)) → map (λ e. e.1) (with es) ≡ map f es
+  values-with [] = refl
+  values-with (e ∷ es) = ap (λ l. f e ∷ l) (values-with es)
+
+-- the list of what is told, in path order
+pub told-listed : {X : Type 0} (f : Path × X → Json) (told : List (Path × Json)) (es : List (Path × X)) → told ≡ as_values f es
+    → list (items_of (in_path_order told)) ≡ list_json f (from_entries es).entries
+told-listed f told es is =
+    ap (λ l. list (items_of (in_path_order l))) is
+    ∙ ap (λ l. list (items_of l)) (ap (map (λ e. e.1)) (entries-with f es) ∙ values-with f (from_entries es).entries)
+    ∙ ap list (items-made f (from_entries es).entries)
+
+-- of these entries the first are left, and those behind them are in the map
+pub record AreSorted (all rest sorted : List Entry) : Type 0 where
+  pub taken : List Entry
+  pub whole : all ≡ rest ++ taken
+  pub done : told_view sorted ≡ (from_entries (told_view taken)).entries
+
+-- at first none is taken
+pub sorted-none : (es sorted : List Entry) → sorted ≡ [] → AreSorted es es sorted
+sorted-none es sorted none = record { taken = []; whole = sym (append-nil es); done = ap told_view none }
+
+-- one more is taken off the end
+pub sorted-more : (all old new sorted sorted2 : List Entry) (p : LentPath) (v : program.Json) → AreSorted all old sorted → old ≡ new ++ (p, v) ∷ []
+    → sorted2 ≡ insert_entry (on lent_path path_cmp) sorted p v → AreSorted all new sorted2
+sorted-more all old new sorted sorted2 p v h is put_in = record {
+  taken = (p, v) ∷ h.taken;
+  whole = h.whole ∙ ap (λ l. l ++ h.taken) is ∙ append_assoc new ((p, v) ∷ []) h.taken;
+  done = ap told_view put_in ∙ entry-put p v sorted ∙ ap (put path_cmp (lent_path p) (view v)) h.done;
+}
+
+-- at last all are
+pub sorted-all : (all rest sorted : List Entry) → AreSorted all rest sorted → rest ≡ [] → told_view sorted ≡ (from_entries (told_view all)).entries
+sorted-all all rest sorted h none = h.done ∙ ap (λ l. (from_entries (told_view l)).entries) (sym (h.whole ∙ ap (λ l. l ++ h.taken) none))
+
+-- ---- the values alone
+
+pub itself : {A : Type 0} (xs : List A) → map (λ x. x) xs ≡ xs
+itself [] = refl
+itself (x ∷ xs) = ap (λ l. x ∷ l) (itself xs)
+
+pub values-shown : (es : List Entry) → map view (values_of es) ≡ map (λ e. e.1) (told_view es)
+values-shown [] = refl
+values-shown (e ∷ es) = ap (λ l. view e.1 ∷ l) (values-shown es)
