@@ -5,3 +5,4 @@
 pub mod copying;
 pub mod live_state;
 pub mod making;
+pub mod to_json;
