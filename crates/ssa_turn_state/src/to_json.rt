@@ -31,9 +31,9 @@ struct RecordMembers {
 impl RecordMembers {
     // The object of the members.
     fn into_json(self, alloc: Global) -> Result<Json, AllocError>
-        ensures { IfOk result (λ v. view v ≡ object (member (codes "changed") (view self.entry.changed) (member (codes "cut") (view self.entry.cut) (member (codes "gone") (view self.entry.gone)
-            (member (codes "here") (view self.entry.here) (member (codes "leaves") (view self.entry.leaves) (member (codes "order") (view self.entry.order)
-            (member (codes "put") (view self.entry.put) no_members)))))))) }
+        ensures { IfOk result (λ v. view v ≡ object (member (codes "changed") (view self.changed) (member (codes "cut") (view self.cut) (member (codes "gone") (view self.gone)
+            (member (codes "here") (view self.here) (member (codes "leaves") (view self.leaves) (member (codes "order") (view self.order)
+            (member (codes "put") (view self.put) no_members)))))))) }
     {
         let mut members = BTreeMap::new(alloc);
         put_member(alloc, &mut members, "put", self.put)?;

@@ -6,14 +6,14 @@ use Rattle.ssa_turn_state.specs.States.{state_steps}
 use Rattle.ssa_turn_state.proofs.Parts.{here_small}
 use Rattle.ssa_turn_state.proofs.live_state.StateDelta.to_json.Goals as goal
 
-pub changed_to_json-changed-requires : goal.changed_to_json-changed-requires
-changed_to_json-changed-requires c = (c.requires.room.0.table, c.requires.room.1.table.sets)
+pub changed_to_json-requires : goal.changed_to_json-requires
+changed_to_json-requires c = (c.requires.room.0.table, c.requires.room.1.table.sets)
 
-pub here_to_json-here-requires : goal.here_to_json-here-requires
-here_to_json-here-requires c = here_small (state_steps c.args.self.now) c.requires.taken.0 c.requires.taken.1 c.requires.taken.2
+pub here_to_json-requires : goal.here_to_json-requires
+here_to_json-requires c = here_small (state_steps c.args.self.now) c.requires.taken.0 c.requires.taken.1 c.requires.taken.2
 
-pub put_to_json-put-requires : goal.put_to_json-put-requires
-put_to_json-put-requires c = c.requires.room.1.body.writable
+pub put_to_json-requires : goal.put_to_json-requires
+put_to_json-requires c = c.requires.room.1.body.writable
 
 pub returns : goal.returns
 returns c = λ kind v w ordered takes.
