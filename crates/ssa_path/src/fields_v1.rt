@@ -2,6 +2,7 @@
 ghost use Rattle.std.specs.Prelude.{◌≡◌, true, IfOk, OnOk};
 ghost use Rattle.ssa_model.specs.definitions.FieldsV1.{fields_json, AreCanonical, IsWritten};
 ghost use Rattle.ssa_model.specs.definitions.Json.{object};
+ghost use Rattle.ssa_model.specs.definitions.PathMap.{listed};
 ghost use Rattle.ssa_json.specs.View.{view, members_view};
 ghost use Rattle.ssa_path.specs.FieldsBack.{AreReadBack, IsReadBack};
 ghost use Rattle.ssa_path.specs.FieldsWriting.{dot_members, paths_json, IsWrittenBelow};
@@ -25,6 +26,18 @@ impl FieldSet {
         ensures is_read { OnOk result (IsReadBack self.now) }
     {
         let members = place_members(alloc, self.root())?;
+        Ok(Json::Object(members))
+    }
+}
+
+impl Trie {
+    /// The set of the trie's paths as FieldsV1 of the Kubernetes API, as [`FieldSet::to_fields_v1`]
+    /// gives it.
+    pub fn to_fields_v1(&self, alloc: Global) -> Result<Json, AllocError>
+        requires { is_trie self.now ≡ true }
+        ensures { IfOk result (λ v. view v ≡ fields_json (listed (paths self.now))) }
+    {
+        let members = place_members(alloc, self)?;
         Ok(Json::Object(members))
     }
 }

@@ -6,3 +6,4 @@ pub mod copying;
 pub mod live_state;
 pub mod making;
 pub mod size;
+pub mod to_json;

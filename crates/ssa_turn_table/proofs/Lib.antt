@@ -8,3 +8,4 @@ pub mod Compared
 pub mod LedTables
 pub mod Staying
 pub mod TableCopies
+pub mod RecordMembers

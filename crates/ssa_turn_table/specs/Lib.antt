@@ -4,3 +4,4 @@ pub mod Going
 pub mod Coming
 pub mod Turning
 pub mod Copies
+pub mod Writing

@@ -11,3 +11,4 @@ pub mod live_table;
 pub mod size;
 pub mod table;
 pub mod table_delta;
+pub mod to_json;

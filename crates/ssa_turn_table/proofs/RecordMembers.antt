@@ -1,0 +1,44 @@
+-- The members of a table's record as values.
+use Rattle.std.proofs.Common.{◌≡◌, ℕ, zero, suc, ◌+◌, ◌<◌, ◌≤◌, ◌^◌, List, [], ◌∷◌, Bool, true, false, length, get_or, Option, Some, None, refl, sym, subst, arith}
+use Rattle.std.specs.Prelude.{codes, if◌then◌else◌}
+use Rattle.ssa_model.specs.definitions.Json.{Json, Text, no_members, member}
+use Rattle.ssa_model.specs.definitions.PathMap.{PathSet}
+use Rattle.ssa_model.specs.definitions.Record.{placed}
+use Rattle.ssa_model.specs.definitions.RecordText.{time_members}
+use Rattle.ssa_model.specs.definitions.Table.{Entry, Table, owned_by}
+use Rattle.ssa_merge.specs.Managers.{key_view}
+use Rattle.ssa_turn_set.specs.Turn.{HasRoom}
+use Rattle.ssa_turn_table.specs.Changing.{AllHaveRoom}
+use Rattle.ssa_turn_table.specs.Tables.{heres_view}
+use Rattle.ssa_turn_table.specs.Writing.{with_time, HaveSmallPlaces}
+use Rattle.ssa_turn_table.specs.declared.delta.EntryChange.{EntryChange}
+use Rattle.ssa_turn_table.specs.declared.delta.Here.{Here}
+
+-- a moment stands behind the other members of a change
+pub timed : (at : Option Text) (a b c d : Json)
+    → with_time at (member (codes "gain") a (member (codes "lose") b (member (codes "manager") c (member (codes "operation") d no_members))))
+    ≡ member (codes "gain") a (member (codes "lose") b (member (codes "manager") c (member (codes "operation") d (time_members at))))
+timed None a b c d = refl
+timed (Some at) a b c d = refl
+
+-- each change has room
+pub room-at : (t : Table) (cs : List EntryChange) (i : ℕ) (c : EntryChange) → i < length cs → c ≡ get_or cs i c → AllHaveRoom t cs → (s : PathSet) × HasRoom c.set s
+room-at t [] i c lt is h = absurd (omega arith)
+room-at t (x ∷ cs) zero c lt is h = subst (λ y. (s : PathSet) × HasRoom y.set s) (sym is) (owned_by t (key_view x.key), h.0)
+room-at t (x ∷ cs) (suc i) c lt is h = room-at t cs i c (omega arith) is h.1
+
+-- each place is small
+pub small-at : (hs : List Here) (i : ℕ) (h : Here) → i < length hs → h ≡ get_or hs i h → HaveSmallPlaces (heres_view hs) → h.place < 2 ^ 63
+small-at [] i h lt is small = absurd (omega arith)
+small-at (x ∷ hs) zero h lt is small = subst (λ y. y.place < 2 ^ 63) (sym is) small.0
+small-at (x ∷ hs) (suc i) h lt is small = small-at hs i h (omega arith) is small.1
+
+-- places in a short table are small
+pub small-placed : (test : Entry → Bool) (i : ℕ) (es : List Entry) → i + length es ≤ 64 → HaveSmallPlaces (placed test i es)
+small-placed test i [] few = tt
+small-placed test i (e ∷ es) few =
+    let rest = small-placed test (i + 1) es (omega arith) in
+    elim (test e) as (λ b. HaveSmallPlaces (if b then (i, e) ∷ placed test (i + 1) es else placed test (i + 1) es)) [
+      | true ↦ (omega arith, rest)
+      | false ↦ rest
+    ]
