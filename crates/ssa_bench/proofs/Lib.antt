@@ -7,3 +7,4 @@ pub mod LoadedSteps
 pub mod LoadedBench
 pub mod ValidBench
 pub mod SavedBench
+pub mod KeptSizes

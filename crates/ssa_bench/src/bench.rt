@@ -23,6 +23,7 @@ ghost use Rattle.ssa_file.specs.Saving.{CannotHold, NotSaved};
 
 mod laws;
 mod lines;
+mod sizes;
 
 use crate::command::Command;
 use crate::fault::Fault;
