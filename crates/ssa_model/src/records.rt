@@ -166,3 +166,8 @@ pub fn damaged_records_are_told()
 pub fn fitting_body_leads()
     ensures { FittingBodyLeads }
 {}
+
+/// A record that takes a body of a kind to another of the kind fits it.
+pub fn taken_body_fits()
+    ensures { TakenBodyFits }
+{}
