@@ -105,7 +105,7 @@ module _ (v w : Body) (a : IsTree v) (b : IsTree w) (alike : AreAlike v w) where
   abbrev puts_of : List (Path × Part)
   puts_of = (puts v w).entries
 
-  content_is : (q : Path) (c e : Content) → get v q ≡ Some c → get w q ≡ Some e → class_of c ≡ class_of e → carried_content d q c ≡ e
+  pub content_is : (q : Path) (c e : Content) → get v q ≡ Some c → get w q ≡ Some e → class_of c ≡ class_of e → carried_content d q c ≡ e
   content_is q (leaf s) (leaf t) is_v is_w same =
       ap (λ o. unwrap_or o (leaf s)) (get-over_paths v (λ p. new_leaf (get v p) (get w p)) q ∙ (λ i. cond (is_some (is_v i)) (new_leaf (is_v i) (is_w i)) None)) ∙ leaf-leads s t
   content_is q (atom s) (atom t) is_v is_w same =
@@ -129,7 +129,7 @@ module _ (v w : Body) (a : IsTree v) (b : IsTree w) (alike : AreAlike v w) where
       put_missed puts_of top.0 (part_at w top.0) q r.0 (get-puts v w top.0 top.2 top.3) r.1 none
 
   -- the second body has nothing at or below what is cut
-  lost : (q : Path) → has_at_or_above (cuts v w) q ≡ true → has w q ≡ false
+  pub lost : (q : Path) → has_at_or_above (cuts v w) q ≡ true → has w q ≡ false
   lost q cut =
       let x = some_one (λ g. under g q) (paths (cuts v w)) cut in
       let top = sym (get-cuts v w x.0) ∙ has-paths (cuts v w) x.0 ∙ x.1 in
@@ -137,7 +137,7 @@ module _ (v w : Body) (a : IsTree v) (b : IsTree w) (alike : AreAlike v w) where
       by_test (has w q) (λ t. yes_no (has w x.0) (closed-above w b.closed x.0 q t x.2) off) (λ f. f)
 
   -- and it has what is not cut
-  left : (q : Path) → has v q ≡ true → has_at_or_above (cuts v w) q ≡ false → has w q ≡ true
+  pub left : (q : Path) → has v q ≡ true → has_at_or_above (cuts v w) q ≡ false → has w q ≡ true
   left q there uncut =
       by_test (has w q)
       (λ t. t)

@@ -105,7 +105,7 @@ get-puts v w p there top =
 -- ---- what is put at a path
 
 -- what a first entry puts, where the path follows it as o says
-abbrev first_put : Option Path → Part → Option (Option Content) → Option (Option Content)
+abbrev pub first_put : Option Path → Part → Option (Option Content) → Option (Option Content)
 first_put o x rest = elim o [ Some r ↦ Some (get x.below r) | None ↦ rest ]
 
 -- an entry at or above the path puts what the second body has there

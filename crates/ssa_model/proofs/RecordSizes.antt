@@ -89,7 +89,7 @@ step_parent x y (z ∷ p) [] s g = absurd (true≢false (sym g))
 step_parent x y p (j ∷ r) s g = inr (λ i. (ap (same_element x) (sym s) ∙ element-itself x) i && g i)
 
 -- of two beginnings of a path one begins the other, or its parent
-begins_parent : (p r q : Path) → under p q ≡ true → under r q ≡ true → (p ≡ r) ⊎ ((under p (parent r) ≡ true) ⊎ (under r (parent p) ≡ true))
+pub begins_parent : (p r q : Path) → under p q ≡ true → under r q ≡ true → (p ≡ r) ⊎ ((under p (parent r) ≡ true) ⊎ (under r (parent p) ≡ true))
 begins_parent [] [] q a b = inl refl
 begins_parent [] (y ∷ r) q a b = inr (inl refl)
 begins_parent (x ∷ p) [] q a b = inr (inr refl)

@@ -62,7 +62,7 @@ orders_back v w =
 
 -- ---- what is cut and put
 
-some-put : {A : Type 0} (b c : Bool) (x : A) → is_some (cond b (if c then Some x else None) None) ≡ (b && c)
+pub some-put : {A : Type 0} (b c : Bool) (x : A) → is_some (cond b (if c then Some x else None) None) ≡ (b && c)
 some-put true true x = refl
 some-put true false x = refl
 some-put false c x = refl

@@ -36,3 +36,5 @@ pub mod RecordWalks
 pub mod RecordReading
 -- how a bench file of records is taken, line by line
 pub mod RecordedBenches
+-- which records fit a state
+pub mod FittingRecords

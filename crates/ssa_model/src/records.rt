@@ -5,6 +5,7 @@ ghost use Rattle.ssa_model.specs.laws.RecordTurns.{BodyTurns, TableTurns, Record
 ghost use Rattle.ssa_model.specs.laws.RecordSizes.{BodyBound, TableBound, SizeBound, FactsBothWays};
 ghost use Rattle.ssa_model.specs.laws.InPlace.{TableIsInserted, StayersAreLed, ItemsAreInserted};
 ghost use Rattle.ssa_model.specs.laws.RecordWalks.{CutsAreFiltered, LeavesAreFiltered, OrdersAreFiltered, PutsAreFiltered, RecordBelow, PartIsValue, TreeLeads, BodiesAreTrees, PartIsTree, CarryBelow};
+ghost use Rattle.ssa_model.specs.laws.FittingRecords.{FittingBodyLeads, TakenBodyFits};
 ghost use Rattle.ssa_model.specs.laws.RecordReading.{RecordTextsHaveShape, RecordTextsAreRead};
 ghost use Rattle.ssa_model.specs.laws.RecordedBenches.{RecordedFilesAreTaken, TakenIsRecordedText, MisfitIsRefused, MovesHaveShape};
 ghost use Rattle.ssa_model.specs.examples.RecordedRows.{RecordedFilesAreWritten, RecordedValuesAreTaken, RecordedFileIsMet, DamagedLinesAreTold, DamagedFilesAreTold, OtherFilesAreRefused};
@@ -159,4 +160,14 @@ pub fn damaged_records_are_told()
     ensures lines { DamagedLinesAreTold }
     ensures files { DamagedFilesAreTold }
     ensures others { OtherFilesAreRefused }
+{}
+
+/// A record that fits a body of a kind takes it to what it leads to.
+pub fn fitting_body_leads()
+    ensures { FittingBodyLeads }
+{}
+
+/// A record that takes a body of a kind to another of the kind fits it.
+pub fn taken_body_fits()
+    ensures { TakenBodyFits }
 {}
