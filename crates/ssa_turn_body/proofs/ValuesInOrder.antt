@@ -1,5 +1,5 @@
 -- Values told of paths, put in path order one after the other.
-use Rattle.std.proofs.Common.{◌≡◌, List, [], ◌∷◌, ◌++◌, map, Ordering, Less, Equal, Greater, refl, sym, ap, ◌∙◌, append_assoc, append-nil}
+use Rattle.std.proofs.Common.{◌≡◌, List, [], ◌∷◌, ◌++◌, map, Less, Equal, Greater, refl, sym, ap, ◌∙◌, append_assoc, append-nil}
 use Rattle.std.specs.BTreeMap.{insert_entry}
 use Rattle.std.specs.FinMap.Entries.{put, by_order}
 use Rattle.std.specs.Map.{values_of}

@@ -1,8 +1,7 @@
 -- Changes that fit can be written, and so can those that they leave.
-use Rattle.std.proofs.Common.{◌≡◌, ℕ, ◌+◌, ◌^◌, ◌<◌, ◌≤◌, List, [], ◌∷◌, ◌++◌, length, true, Option, Some, None, reverse, sym, subst, arith, vec_capacity}
+use Rattle.std.proofs.Common.{ℕ, ◌+◌, ◌^◌, ◌<◌, ◌≤◌, List, [], ◌∷◌, ◌++◌, length, Option, Some, None, reverse, sym, subst, arith, vec_capacity}
 use Rattle.std.proofs.lemmas.List.{reverse-append}
 use Rattle.ssa_path.specs.View.{path_view}
-use Rattle.ssa_typed.specs.Rows.{is_tree}
 use Rattle.ssa_typed.specs.Nodes.{node_on}
 use Rattle.ssa_typed.specs.declared.node.Node.{Node}
 use Rattle.ssa_turn_body.specs.Changes.{ChangeFits}

@@ -1,6 +1,6 @@
 -- What changes tell, each as a value beside its path.
 use Rattle.std.specs.Prelude.{ℕ, List, [], ◌∷◌, map, Option}
-use Rattle.ssa_model.specs.definitions.Json.{Json, list, item, no_items}
+use Rattle.ssa_model.specs.definitions.Json.{Json, list, item}
 use Rattle.ssa_model.specs.definitions.Path.{Element, Path}
 use Rattle.ssa_model.specs.definitions.PathMap.{from_entries}
 use Rattle.ssa_model.specs.definitions.RecordText.{place_items}

@@ -1,6 +1,4 @@
-use Rattle.std.proofs.Common.{◌≡◌, ◌++◌, length, List}
-use Rattle.ssa_model.specs.definitions.PathMap.{from_entries}
-use Rattle.ssa_turn_body.specs.ToldValues.{told_view}
+use Rattle.std.proofs.Common.{length}
 use Rattle.ssa_turn_body.proofs.ValuesInOrder.{AreSorted}
 use Rattle.ssa_turn_body.proofs.told_values.by_path.Given as goal
 
