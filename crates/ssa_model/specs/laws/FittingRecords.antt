@@ -1,9 +1,9 @@
 -- Which records fit a body, a table and a state: told where the record changes something, so that a test need look only there.
 use Rattle.std.specs.Prelude.{◌≡◌, List, [], ◌∷◌, ◌++◌, Bool, true, false, not, ◌&&◌, ◌||◌, Some, is_some}
-use Rattle.std.specs.List.{position_from}
+use Rattle.std.specs.List.{position_from, list_any}
 use Rattle.ssa_model.specs.definitions.Json.{Text, Scalar}
-use Rattle.ssa_model.specs.definitions.Path.{Element, field, key, Path, same_element, parent, is_item, is_item_element, is_key_field}
-use Rattle.ssa_model.specs.definitions.PathMap.{get, has, has_at_or_above}
+use Rattle.ssa_model.specs.definitions.Path.{Element, field, key, Path, same_element, same_path, parent, is_item, is_item_element, is_key_field}
+use Rattle.ssa_model.specs.definitions.PathMap.{PathMap, get, has, paths, has_at_or_above}
 use Rattle.ssa_model.specs.definitions.Kind.{Kind, is_among}
 use Rattle.ssa_model.specs.definitions.Body.{Content, leaf, list_branch, Body, is_other_leaf, order_at}
 use Rattle.ssa_model.specs.definitions.Fitting.{IsAt, are_distinct, scalar_of, IsBodyOf}
@@ -12,6 +12,13 @@ use Rattle.ssa_model.specs.definitions.Carry.{staying_items, refilled, carried_o
 use Rattle.ssa_model.specs.definitions.Takes.{BodyTakes}
 
 -- ---- bodies
+
+abbrev pub has_below : {X : Type 0} → PathMap X → Path → Bool
+has_below m p = list_any (λ q. same_path (parent q) p) (paths m)
+
+-- the record tells an order of the path, or cuts or puts something right below it
+abbrev pub is_touched : BodyRecord → Path → Bool
+is_touched d p = has d.order p || (has_below d.cut p || has_below d.put p)
 
 -- the body has the path, and nothing at or above it is cut
 abbrev pub stays : BodyRecord → Body → Path → Bool
@@ -50,7 +57,7 @@ pub record PutFits (kind : Kind) (d : BodyRecord) (v : Body) (p : Path) (x : Par
 abbrev pub order_after : BodyRecord → Path → List Element → List Element
 order_after d p es = carried_order (get d.order p) (refilled d p es)
 
--- A list that stays: the order names each of the items that stay and are put once, and nothing else, each that is put has its place there,
+-- A list that stays and is touched: the order names each of the items that stay and are put once, and nothing else, each that is put has its place there,
 -- and the record tells the order exactly where the common items stand in another one.
 pub record ListFits (d : BodyRecord) (p : Path) (es : List Element) : Type 0 where
   pub once : are_distinct (order_after d p es) ≡ true
@@ -66,7 +73,7 @@ pub record BodyFits (kind : Kind) (d : BodyRecord) (v : Body) : Type 0 where
   pub cut : (p : Path) → has d.cut p ≡ true → CutFits d v p
   pub leaves : (p : Path) (c : Content) → get d.leaves p ≡ Some c → LeafFits kind d v p c
   pub put : (p : Path) (x : Part) → get d.put p ≡ Some x → PutFits kind d v p x
-  pub lists : (p : Path) (es : List Element) → stays d v p ≡ true → get v p ≡ Some (list_branch es) → ListFits d p es
+  pub lists : (p : Path) (es : List Element) → is_touched d p ≡ true → stays d v p ≡ true → get v p ≡ Some (list_branch es) → ListFits d p es
   pub orders : (p : Path) → has d.order p ≡ true → (stays d v p ≡ true) × IsListAt v p
 
 -- a record that fits a body of the kind takes it to what it leads to
