@@ -95,7 +95,8 @@ module _ (kind : Kind) (v w : Body) (a : IsBodyOf kind v) (b : IsBodyOf kind w) 
   alike : AreAlike v w
   alike = (bodies_are_trees kind v w a b).2
 
-  uncut : (q : Path) → has w q ≡ true → has_at_or_above d.cut q ≡ false
+  -- nothing that the second body has is at or below what is cut
+  pub uncut : (q : Path) → has w q ≡ true → has_at_or_above d.cut q ≡ false
   uncut q there = by_test (has_at_or_above d.cut q) (λ t. yes_no (has w q) there (lost v w tree_v tree_w alike q t)) (λ k. k)
 
   stay : (q : Path) → has v q ≡ true → has w q ≡ true → stays d v q ≡ true

@@ -1,19 +1,20 @@
 -- Which records fit a body, a table and a state: told where the record changes something, so that a test need look only there.
 use Rattle.std.specs.Prelude.{◌≡◌, ◌≤◌, List, [], ◌∷◌, ◌++◌, Bool, true, false, not, ◌&&◌, ◌||◌, filter, filter_map, map, length, Option, Some, None, is_some}
 use Rattle.std.specs.List.{position_from, list_any}
-use Rattle.ssa_model.specs.definitions.Limits.{most_managers}
+use Rattle.ssa_model.specs.definitions.Limits.{most_places, most_managers}
 use Rattle.ssa_model.specs.definitions.Json.{Text, Scalar, same_text}
 use Rattle.ssa_model.specs.definitions.Path.{Element, field, key, Path, same_element, same_path, parent, is_item, is_item_element, is_key_field}
-use Rattle.ssa_model.specs.definitions.PathMap.{PathMap, PathSet, get, has, paths, has_at_or_above, is_empty}
+use Rattle.ssa_model.specs.definitions.PathMap.{PathMap, PathSet, get, has, paths, has_at_or_above, is_empty, size}
 use Rattle.ssa_model.specs.definitions.Kind.{Kind, is_among}
 use Rattle.ssa_model.specs.definitions.Body.{Content, leaf, list_branch, Body, is_other_leaf, order_at}
 use Rattle.ssa_model.specs.definitions.Table.{ManagerKey, Entry, Table, is_in_table}
 use Rattle.ssa_model.specs.definitions.History.{is_manager_name}
-use Rattle.ssa_model.specs.definitions.Valid.{has_distinct_keys, OwnedOwnable, OwnsOwnable, AllEntries, IsTable}
+use Rattle.ssa_model.specs.definitions.Operations.{State}
+use Rattle.ssa_model.specs.definitions.Valid.{has_distinct_keys, OwnedOwnable, OwnsOwnable, AllEntries, IsTable, IsRooted, IsValidState}
 use Rattle.ssa_model.specs.definitions.Fitting.{IsAt, are_distinct, scalar_of, IsBodyOf}
-use Rattle.ssa_model.specs.definitions.Record.{Change, Part, BodyRecord, TableRecord, are_in_one_order, placed}
-use Rattle.ssa_model.specs.definitions.Carry.{staying_items, refilled, carried_order, carry_body, is_key_among, change_for, changed_entry, carry_table}
-use Rattle.ssa_model.specs.definitions.Takes.{BodyTakes, TableTakes}
+use Rattle.ssa_model.specs.definitions.Record.{Change, Part, BodyRecord, TableRecord, Record, are_in_one_order, placed}
+use Rattle.ssa_model.specs.definitions.Carry.{staying_items, refilled, carried_order, carry_body, is_key_among, change_for, changed_entry, carry_table, carry}
+use Rattle.ssa_model.specs.definitions.Takes.{BodyTakes, TableTakes, Takes}
 
 -- ---- bodies
 
@@ -154,3 +155,20 @@ abbrev pub TakenTableFits : Type 0
 TakenTableFits =
     (d : TableRecord) (t u : Table) (w : Body) (cut : PathSet) → IsTable w u → ((p : Path) → has w p ≡ true → has_at_or_above cut p ≡ false)
     → TableTakes d t u → TableFits d t w cut
+
+-- ---- states
+
+-- The record fits the state: its parts fit those of the state, and the body after it is rooted and no larger than a body may be.
+pub record RecordFits (kind : Kind) (d : Record) (v : State) : Type 0 where
+  pub body : BodyFits kind d.body v.body
+  pub table : TableFits d.table v.table (carry_body d.body v.body) d.body.cut
+  pub rooted : IsRooted (carry_body d.body v.body)
+  pub few : size (carry_body d.body v.body) ≤ most_places
+
+-- a record that fits a valid state takes it to what it leads to
+abbrev pub FittingLeads : Type 0
+FittingLeads = (kind : Kind) (d : Record) (v : State) → IsValidState kind v → RecordFits kind d v → Takes kind d v (carry d v)
+
+-- and a record that takes a valid state anywhere fits it
+abbrev pub TakenFits : Type 0
+TakenFits = (kind : Kind) (d : Record) (v w : State) → Takes kind d v w → RecordFits kind d v
