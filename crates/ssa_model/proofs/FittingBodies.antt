@@ -13,7 +13,7 @@ use Rattle.ssa_model.specs.definitions.Body.{Content, leaf, atom, record_branch,
 use Rattle.ssa_model.specs.definitions.Fitting.{Place, of_kind, item_of, place_below, content_fits, IsAt, are_distinct, scalar_of, IsBodyOf}
 use Rattle.ssa_model.specs.definitions.Record.{Part, BodyRecord}
 use Rattle.ssa_model.specs.definitions.Carry.{carried_content, carry_body}
-use Rattle.ssa_model.specs.laws.FittingRecords.{order_after, ListFits, BodyFits}
+use Rattle.ssa_model.specs.laws.FittingRecords.{is_touched, order_after, ListFits, BodyFits}
 use Rattle.ssa_model.proofs.PathMaps.{has-paths}
 use Rattle.ssa_model.proofs.Pruned.{some_one, from_one, closed-above, under-append, under-rest, under-trans, under-push, named, key_field_is}
 use Rattle.ssa_model.proofs.Tables.{yes_no, no, under-itself}
@@ -21,6 +21,7 @@ use Rattle.ssa_model.proofs.Tests.{by_test}
 use Rattle.ssa_model.proofs.Fitting.{is_list, is_list_place, list_place, any_order, some_there, among-filter}
 use Rattle.ssa_model.proofs.Places.{place-after}
 use Rattle.ssa_model.proofs.Beginnings.{parent-push}
+use Rattle.ssa_model.proofs.UntouchedLists.{untouched-fits}
 use Rattle.ssa_model.proofs.CarriedPaths.{Source, stayed, came, away, source, at_put, at_stay, at_cut, parent_there}
 
 -- ---- places of lists
@@ -168,7 +169,10 @@ module _ (kind : Kind) (d : BodyRecord) (v : Body) (a : IsBodyOf kind v) (f : Bo
   carried q (list_branch es) is = listed es refl
 
   pub list-fits : (q : Path) (es : List Element) → get v q ≡ Some (list_branch es) → has_at_or_above d.cut q ≡ false → ListFits d q es
-  list-fits q es is uncut = f.lists q es (λ i. is_some (is i) && not (uncut i)) is
+  list-fits q es is uncut =
+      by_test (is_touched d q)
+      (λ t. f.lists q es t (λ i. is_some (is i) && not (uncut i)) is)
+      (λ k. untouched-fits kind d v a q es is k)
 
   once-there : (q : Path) → are_distinct (order_at (get w q)) ≡ true
   once-there q =

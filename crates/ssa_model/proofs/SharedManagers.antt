@@ -20,7 +20,7 @@ each-more P Q gives [] h = tt
 each-more P Q gives (e ∷ es) h = (gives e.manager h.0, each-more P Q gives es h.1)
 
 -- tests that answer alike on the managers of a table find the same
-filter-alike : (p q : ManagerKey → Bool) (es : Table) → Each (λ a. p a ≡ q a) es → filter p (managers es) ≡ filter q (managers es)
+pub filter-alike : (p q : ManagerKey → Bool) (es : Table) → Each (λ a. p a ≡ q a) es → filter p (managers es) ≡ filter q (managers es)
 filter-alike p q [] h = refl
 filter-alike p q (e ∷ es) h = λ i. cond (h.0 i) (e.manager ∷ filter-alike p q es h.1 i) (filter-alike p q es h.1 i)
 

@@ -83,7 +83,7 @@ change-absent u (e ∷ es) k h =
     ∙ change-absent u es k (second_false (same_manager e.manager k) (is_in_table es k) h)
 
 -- each entry of a table with distinct managers gets its own change
-change-found : (u : Table) (t : Table) → has_distinct_keys t ≡ true → AllEntries (λ e. change_for (changes t u) e.manager ≡ change_of e (entry_of u e.manager)) t
+pub change-found : (u : Table) (t : Table) → has_distinct_keys t ≡ true → AllEntries (λ e. change_for (changes t u) e.manager ≡ change_of e (entry_of u e.manager)) t
 change-found u [] h = tt
 change-found u (e ∷ es) h =
     let new = no (is_in_table es e.manager) (first_so (not (is_in_table es e.manager)) (has_distinct_keys es) h) in

@@ -95,7 +95,8 @@ module _ (kind : Kind) (v w : Body) (a : IsBodyOf kind v) (b : IsBodyOf kind w) 
   alike : AreAlike v w
   alike = (bodies_are_trees kind v w a b).2
 
-  uncut : (q : Path) → has w q ≡ true → has_at_or_above d.cut q ≡ false
+  -- nothing that the second body has is at or below what is cut
+  pub uncut : (q : Path) → has w q ≡ true → has_at_or_above d.cut q ≡ false
   uncut q there = by_test (has_at_or_above d.cut q) (λ t. yes_no (has w q) there (lost v w tree_v tree_w alike q t)) (λ k. k)
 
   stay : (q : Path) → has v q ≡ true → has w q ≡ true → stays d v q ≡ true
@@ -252,7 +253,7 @@ module _ (kind : Kind) (v w : Body) (a : IsBodyOf kind v) (b : IsBodyOf kind w) 
       (stay p (first_so (has v p) (is_reordered (get v p) (get w p)) both) (reordered_lists.second (get v p) (get w p) other), reordered-list (get v p) (get w p) other)
 
   record-fits : BodyFits kind d v
-  record-fits = record { cut = cut-fits; leaves = leaf-fits; put = put-fits; lists = list-fits; orders = order-fits }
+  record-fits = record { cut = cut-fits; leaves = leaf-fits; put = put-fits; lists = λ p es touched h is. list-fits p es h is; orders = order-fits }
 
 pub taken_body_fits : TakenBodyFits
 taken_body_fits kind d v w h = subst (λ (e : BodyRecord). BodyFits kind e v) (sym h.is) (record-fits kind v w h.from h.to)

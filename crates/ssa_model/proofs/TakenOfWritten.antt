@@ -24,6 +24,7 @@ use Rattle.ssa_model.proofs.LoneBenches.{lone-parts}
 use Rattle.ssa_model.proofs.ShownStates.{shown_state_is_taken}
 use Rattle.ssa_model.proofs.SpelledValues.{text_lines-of, spelled_values-of}
 use Rattle.ssa_model.proofs.Tables.{manager-itself, text-itself}
+use Rattle.ssa_model.proofs.Tests.{pointwise-itself}
 
 -- a value is written as it is written
 pub written-itself : (v : Json) → is_written_as v v ≡ true
@@ -61,12 +62,8 @@ pub label-back : (readings : Readings) (label : Label) → IsLabel readings labe
 label-back readings label h =
     ap (λ l. given_if (is_label readings l) l) (said-back label) ∙ ap (λ b. given_if b label) (is_label-of readings label h)
 
-pointwise-itself : (ms : List ManagerKey) → pointwise same_manager ms ms ≡ true
-pointwise-itself [] = refl
-pointwise-itself (m ∷ ms) = and_from (same_manager m m) (pointwise same_manager ms ms) (manager-itself m) (pointwise-itself ms)
-
 pub keeps_order-of : (before after : Table) → KeepsOrder before after → keeps_order before after ≡ true
-keeps_order-of before after h = ap (pointwise same_manager (shared_managers before after)) (sym h) ∙ pointwise-itself (shared_managers before after)
+keeps_order-of before after h = ap (pointwise same_manager (shared_managers before after)) (sym h) ∙ pointwise-itself same_manager manager-itself (shared_managers before after)
 
 -- ---- the later states
 

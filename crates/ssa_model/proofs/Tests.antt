@@ -1,5 +1,5 @@
 -- Tests: told by their value, tests of equality, and what a filter keeps by a test.
-use Rattle.std.proofs.Common.{◌≡◌, List, [], ◌∷◌, Bool, true, false, cond, T, refl, sym, ap, ◌∙◌, true≢false}
+use Rattle.std.proofs.Common.{◌≡◌, List, [], ◌∷◌, Bool, true, false, cond, ◌&&◌, T, refl, sym, ap, ◌∙◌, true≢false}
 use Rattle.std.specs.Prelude.{filter}
 use Rattle.std.specs.Cmp.{first_so, second_so}
 use Rattle.std.specs.Cmp.Lexicographic.{pointwise}
@@ -38,7 +38,17 @@ module _ {A : Type 0} (same : A → A → Bool) (is : (x y : A) → same x y ≡
   pointwise-true (x ∷ xs) [] h = absurd (true≢false (sym h))
   pointwise-true (x ∷ xs) (y ∷ ys) h = λ i. is x y (first_so (same x y) (pointwise same xs ys) h) i ∷ pointwise-true xs ys (second_so (same x y) (pointwise same xs ys) h) i
 
+-- a test that each element passes with itself, each list passes with itself
+pub pointwise-itself : {A : Type 0} (same : A → A → Bool) → ((x : A) → same x x ≡ true) → (xs : List A) → pointwise same xs xs ≡ true
+pointwise-itself same itself [] = refl
+pointwise-itself same itself (x ∷ xs) = λ i. itself x i && pointwise-itself same itself xs i
+
 -- ---- what a filter keeps
+
+-- where all pass, all are kept
+pub filter-all : {A : Type 0} (test : A → Bool) → ((x : A) → test x ≡ true) → (xs : List A) → filter test xs ≡ xs
+filter-all test all [] = refl
+filter-all test all (x ∷ xs) = λ i. cond (all x i) (x ∷ filter-all test all xs i) (filter-all test all xs i)
 
 module _ {A : Type 0} (test : A → Bool) (x : A) (xs : List A) where
   pub filter-kept : test x ≡ true → filter test (x ∷ xs) ≡ x ∷ filter test xs

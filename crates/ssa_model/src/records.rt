@@ -5,7 +5,7 @@ ghost use Rattle.ssa_model.specs.laws.RecordTurns.{BodyTurns, TableTurns, Record
 ghost use Rattle.ssa_model.specs.laws.RecordSizes.{BodyBound, TableBound, SizeBound, FactsBothWays};
 ghost use Rattle.ssa_model.specs.laws.InPlace.{TableIsInserted, StayersAreLed, ItemsAreInserted};
 ghost use Rattle.ssa_model.specs.laws.RecordWalks.{CutsAreFiltered, LeavesAreFiltered, OrdersAreFiltered, PutsAreFiltered, RecordBelow, PartIsValue, TreeLeads, BodiesAreTrees, PartIsTree, CarryBelow};
-ghost use Rattle.ssa_model.specs.laws.FittingRecords.{FittingBodyLeads, TakenBodyFits};
+ghost use Rattle.ssa_model.specs.laws.FittingRecords.{FittingBodyLeads, TakenBodyFits, FittingTableLeads, TakenTableFits, FittingLeads, TakenFits};
 ghost use Rattle.ssa_model.specs.laws.RecordReading.{RecordTextsHaveShape, RecordTextsAreRead};
 ghost use Rattle.ssa_model.specs.laws.RecordedBenches.{RecordedFilesAreTaken, TakenIsRecordedText, MisfitIsRefused, MovesHaveShape};
 ghost use Rattle.ssa_model.specs.examples.RecordedRows.{RecordedFilesAreWritten, RecordedValuesAreTaken, RecordedFileIsMet, DamagedLinesAreTold, DamagedFilesAreTold, OtherFilesAreRefused};
@@ -170,4 +170,20 @@ pub fn fitting_body_leads()
 /// A record that takes a body of a kind to another of the kind fits it.
 pub fn taken_body_fits()
     ensures { TakenBodyFits }
+{}
+
+/// A record that fits a table of a body takes it to what it leads to, a table of the body after it.
+pub fn fitting_table_leads()
+    ensures { FittingTableLeads }
+{}
+
+/// A record that takes a table to a table of a body, which has nothing of what is cut, fits it.
+pub fn taken_table_fits()
+    ensures { TakenTableFits }
+{}
+
+/// A record fits a valid state exactly where it takes it to another, and then it takes it to what it leads to.
+pub fn fitting_records()
+    ensures leads { FittingLeads }
+    ensures taken { TakenFits }
 {}
