@@ -22,6 +22,8 @@ mod program;
 #[cfg(test)]
 mod program_tests;
 #[cfg(test)]
+mod record_size_tests;
+#[cfg(test)]
 mod sample;
 #[cfg(test)]
 mod saving_tests;

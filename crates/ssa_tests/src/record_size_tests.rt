@@ -1,0 +1,168 @@
+//! How much the records of a history hold, counted by hand: before an undo and after it.
+
+use crate::sample::{answers, bench, web};
+use ssa_bench::bench::Bench;
+use std::alloc::{AllocError, Global};
+use std::test::Fail;
+
+// What a command does, as members of its line.
+const APPLY: &str = "\"do\":\"apply\"";
+
+const FORCE: &str = "\"do\":\"apply\",\"force\":true";
+
+const UPDATE: &str = "\"do\":\"update\"";
+
+// The line of a command at a second.
+fn command(
+    alloc: Global,
+    second: &str,
+    does: &str,
+    who: &str,
+    object: &str,
+) -> Result<String, AllocError> {
+    [
+        "{\"at\":\"2024-05-01T10:00:0",
+        second,
+        "Z\",",
+        does,
+        ",\"manager\":\"",
+        who,
+        "\",\"object\":",
+        object,
+        "}\n",
+    ]
+    .concat(alloc)
+}
+
+// Carries out a command on an object with these members behind its metadata.
+fn carry_out(
+    alloc: Global,
+    bench: &mut Bench,
+    second: &str,
+    does: &str,
+    who: &str,
+    members: &str,
+) -> Result<(), Fail> {
+    let object = web(alloc, "", members)?;
+    let line = command(alloc, second, does, who, object.as_str())?;
+    answers(alloc, bench, line.as_str())?;
+    Ok(())
+}
+
+// The bench on which the commands were carried out: each a second, what it does, a name and members.
+fn bench_after(alloc: Global, commands: &[(&str, &str, &str, &str)]) -> Result<Bench, Fail> {
+    let mut bench = bench(alloc)?;
+    for (second, does, who, members) in commands {
+        carry_out(alloc, &mut bench, second, does, who, members)?;
+    }
+    Ok(bench)
+}
+
+// How much a record holds, or 1,000 where there is none.
+fn held(bench: &Bench, n: usize) -> usize {
+    bench.record_size(n).unwrap_or(1_000)
+}
+
+// How much the record of the last command holds, back and, after an undo, forth.
+fn back_and_forth(
+    alloc: Global,
+    commands: &[(&str, &str, &str, &str)],
+) -> Result<(usize, usize), Fail> {
+    let mut bench = bench_after(alloc, commands)?;
+    let last = bench.past_len().saturating_sub(1);
+    let back = held(&bench, last);
+    match bench.undo() {
+        Ok(_) => Ok((back, held(&bench, last))),
+        Err(_) => Err(Fail::new("nothing to undo")),
+    }
+}
+
+const THREE: &str = ",\"spec\":{\"replicas\":3}";
+
+const ABC: &str =
+    ",\"spec\":{\"ports\":[{\"name\":\"a\",\"port\":1},{\"name\":\"b\",\"port\":2},{\"name\":\"c\",\"port\":3}]}";
+
+const AC: &str = ",\"spec\":{\"ports\":[{\"name\":\"a\",\"port\":1},{\"name\":\"c\",\"port\":3}]}";
+
+const CBA: &str =
+    ",\"spec\":{\"ports\":[{\"name\":\"c\",\"port\":3},{\"name\":\"b\",\"port\":2},{\"name\":\"a\",\"port\":1}]}";
+
+#[test]
+fn an_apply_puts_a_field_and_a_manager(rt: HostRuntime) -> Result<(), Fail> {
+    let held = back_and_forth(rt.alloc(), &[("1", APPLY, "m1", THREE)]);
+    // Back: `spec` is cut, and m1 gone. Forth: `spec` and its field, and m1 with one path.
+    assert_eq!(rt; held?, (2, 4));
+    Ok(())
+}
+
+#[test]
+fn a_forced_apply_changes_a_leaf_and_takes_a_manager_out(rt: HostRuntime) -> Result<(), Fail> {
+    let held = back_and_forth(
+        rt.alloc(),
+        &[
+            ("1", APPLY, "m1", THREE),
+            ("2", APPLY, "m2", THREE),
+            ("4", FORCE, "m1", ",\"spec\":{\"replicas\":5}"),
+        ],
+    );
+    // The leaf and the moment; back m2 with one path comes, forth it is gone.
+    assert_eq!(rt; held?, (4, 3));
+    Ok(())
+}
+
+#[test]
+fn an_item_goes_with_its_fields(rt: HostRuntime) -> Result<(), Fail> {
+    let held = back_and_forth(
+        rt.alloc(),
+        &[("1", APPLY, "m1", ABC), ("2", UPDATE, "u", AC)],
+    );
+    // Back the item and its fields are put, forth it is cut; m1 gains or loses the three.
+    assert_eq!(rt; held?, (6, 4));
+    Ok(())
+}
+
+#[test]
+fn items_change_their_order(rt: HostRuntime) -> Result<(), Fail> {
+    let held = back_and_forth(
+        rt.alloc(),
+        &[("1", APPLY, "m1", ABC), ("2", UPDATE, "u", CBA)],
+    );
+    assert_eq!(rt; held?, (3, 3));
+    Ok(())
+}
+
+#[test]
+fn a_repeated_apply_holds_nothing(rt: HostRuntime) -> Result<(), Fail> {
+    let held = back_and_forth(
+        rt.alloc(),
+        &[("1", APPLY, "m1", THREE), ("9", APPLY, "m1", THREE)],
+    );
+    assert_eq!(rt; held?, (0, 0));
+    Ok(())
+}
+
+// How much each record of a bench holds, and that there are no more.
+fn all_held(alloc: Global) -> Result<[usize; 4], Fail> {
+    let bench = bench_after(
+        alloc,
+        &[
+            ("1", APPLY, "m1", THREE),
+            ("2", APPLY, "m2", THREE),
+            ("9", APPLY, "m2", THREE),
+        ],
+    )?;
+    Ok([
+        held(&bench, 0),
+        held(&bench, 1),
+        held(&bench, 2),
+        held(&bench, 3),
+    ])
+}
+
+#[test]
+fn records_stand_oldest_first(rt: HostRuntime) -> Result<(), Fail> {
+    let held = all_held(rt.alloc());
+    // The second command brings m2 alone, which is gone on the way back.
+    assert_eq!(rt; held?, [2, 1, 0, 1_000]);
+    Ok(())
+}
