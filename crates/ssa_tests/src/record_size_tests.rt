@@ -12,15 +12,14 @@ const FORCE: &str = "\"do\":\"apply\",\"force\":true";
 
 const UPDATE: &str = "\"do\":\"update\"";
 
-// The line of a command at a second, with the members of the object behind its metadata.
+// The line of a command at a second.
 fn command(
     alloc: Global,
     second: &str,
     does: &str,
     who: &str,
-    members: &str,
+    object: &str,
 ) -> Result<String, AllocError> {
-    let object = web(alloc, "", members)?;
     [
         "{\"at\":\"2024-05-01T10:00:0",
         second,
@@ -29,18 +28,32 @@ fn command(
         ",\"manager\":\"",
         who,
         "\",\"object\":",
-        object.as_str(),
+        object,
         "}\n",
     ]
     .concat(alloc)
+}
+
+// Carries out a command on an object with these members behind its metadata.
+fn carry_out(
+    alloc: Global,
+    bench: &mut Bench,
+    second: &str,
+    does: &str,
+    who: &str,
+    members: &str,
+) -> Result<(), Fail> {
+    let object = web(alloc, "", members)?;
+    let line = command(alloc, second, does, who, object.as_str())?;
+    answers(alloc, bench, line.as_str())?;
+    Ok(())
 }
 
 // The bench on which the commands were carried out: each a second, what it does, a name and members.
 fn bench_after(alloc: Global, commands: &[(&str, &str, &str, &str)]) -> Result<Bench, Fail> {
     let mut bench = bench(alloc)?;
     for (second, does, who, members) in commands {
-        let line = command(alloc, second, does, who, members)?;
-        answers(alloc, &mut bench, line.as_str())?;
+        carry_out(alloc, &mut bench, second, does, who, members)?;
     }
     Ok(bench)
 }
@@ -69,8 +82,7 @@ const THREE: &str = ",\"spec\":{\"replicas\":3}";
 const ABC: &str =
     ",\"spec\":{\"ports\":[{\"name\":\"a\",\"port\":1},{\"name\":\"b\",\"port\":2},{\"name\":\"c\",\"port\":3}]}";
 
-const AC: &str =
-    ",\"spec\":{\"ports\":[{\"name\":\"a\",\"port\":1},{\"name\":\"c\",\"port\":3}]}";
+const AC: &str = ",\"spec\":{\"ports\":[{\"name\":\"a\",\"port\":1},{\"name\":\"c\",\"port\":3}]}";
 
 const CBA: &str =
     ",\"spec\":{\"ports\":[{\"name\":\"c\",\"port\":3},{\"name\":\"b\",\"port\":2},{\"name\":\"a\",\"port\":1}]}";
