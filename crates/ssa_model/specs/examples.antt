@@ -22,3 +22,5 @@ pub mod RecordRows
 pub mod RecordReadingRows
 -- bench files of records
 pub mod RecordedRows
+-- records that fit a state, and some that don't
+pub mod FittingRows

@@ -9,6 +9,7 @@ ghost use Rattle.ssa_model.specs.laws.FittingRecords.{FittingBodyLeads, TakenBod
 ghost use Rattle.ssa_model.specs.laws.RecordReading.{RecordTextsHaveShape, RecordTextsAreRead};
 ghost use Rattle.ssa_model.specs.laws.RecordedBenches.{RecordedFilesAreTaken, TakenIsRecordedText, MisfitIsRefused, MovesHaveShape};
 ghost use Rattle.ssa_model.specs.examples.RecordedRows.{RecordedFilesAreWritten, RecordedValuesAreTaken, RecordedFileIsMet, DamagedLinesAreTold, DamagedFilesAreTold, OtherFilesAreRefused};
+ghost use Rattle.ssa_model.specs.examples.FittingRows.{RecordsFit, BodyRecordsFit, RepeatedLeafMisfits, WrongLeafMisfits, WrongPartMisfits, PutAgainMisfits, CutKeyFieldMisfits, CutNothingMisfits, GoneNobodyMisfits};
 ghost use Rattle.ssa_model.specs.examples.RecordReadingRows.{RecordsAreRead, ShapesAreTold, OtherShapesAreRefused, ReadStatesAreMet};
 ghost use Rattle.ssa_model.specs.examples.RecordRows.{FirstApplyRecord, ForcedRecord, GivenUpRecord, RemovedItemRecord, RemovedItemPlace, ReorderRecord, RepeatRecord, StripRecord, SetFilledRecord, SetEmptiedRecord, LiveItemsRecord, LedRecord, ForcedFacts, ReorderFacts, RemovedItemFacts, FirstApplyText, ForcedText, RemovedItemText, ReorderText, RecordsAreMet};
 
@@ -186,4 +187,21 @@ pub fn taken_table_fits()
 pub fn fitting_records()
     ensures leads { FittingLeads }
     ensures taken { TakenFits }
+{}
+
+/// The records of worked commands fit the states before and after them, and those of worked bodies fit them.
+pub fn records_fit()
+    ensures states { RecordsFit }
+    ensures bodies { BodyRecordsFit }
+{}
+
+/// Damaged records don't fit.
+pub fn damaged_records_do_not_fit()
+    ensures repeated { RepeatedLeafMisfits }
+    ensures wrong_leaf { WrongLeafMisfits }
+    ensures wrong_part { WrongPartMisfits }
+    ensures again { PutAgainMisfits }
+    ensures key { CutKeyFieldMisfits }
+    ensures nothing { CutNothingMisfits }
+    ensures nobody { GoneNobodyMisfits }
 {}
