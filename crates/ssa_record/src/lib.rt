@@ -1,0 +1,4 @@
+//! Records of states, read from their JSON values and made ready for their turns.
+#![tactic(auto)]
+
+pub mod told;
