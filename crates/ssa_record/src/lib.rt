@@ -1,4 +1,5 @@
 //! Records of states, read from their JSON values and made ready for their turns.
 #![tactic(auto)]
 
+pub mod places;
 pub mod told;
