@@ -1,1 +1,5 @@
-
+mod LedItems
+mod LedMembers
+mod LedPlaces
+mod LedPuts
+mod LedUntouched

@@ -1,2 +1,4 @@
 pub mod Told
 pub mod Places
+pub mod LedValues
+pub mod Probe

@@ -11,7 +11,7 @@ use Rattle.ssa_json.specs.View.{view}
 use Rattle.ssa_json.specs.declared.value.Json as program
 use Rattle.ssa_path.specs.Trie as tries
 use Rattle.ssa_path.specs.TopPaths.{lent_path}
-use Rattle.ssa_path.specs.View.{path_view}
+use Rattle.ssa_path.specs.View.{element_view, path_view}
 use Rattle.ssa_path.specs.declared.element.Elem.{Elem}
 use Rattle.ssa_path.specs.declared.top_path.LentPath.{LentPath}
 use Rattle.ssa_path.specs.declared.trie.Trie.{Trie}
@@ -89,3 +89,8 @@ pub record IsRefilled (m : ToldMaps) (p : Path) (es fs : List Element) : Type 0 
   pub stay : filter (λ e. not (has m.put (p ++ e ∷ []))) fs ≡ items_left m p es
   pub put : (e : Element) → has m.put (p ++ e ∷ []) ≡ true → is_among e fs ≡ true
   pub places : (e : Element) (x : Json × Option ℕ) → get m.put (p ++ e ∷ []) ≡ Some x → x.1 ≡ position_from (same_element e) 0 fs
+
+-- there is an order, and it is this one
+abbrev pub IsOrderOf : Option (List (Bor Elem)) → List Element → Type 0
+IsOrderOf None fs = ⊥
+IsOrderOf (Some es) fs = map (λ e. element_view e.now) es ≡ fs

@@ -1,5 +1,9 @@
 //! Records of states, read from their JSON values and made ready for their turns.
 #![tactic(auto)]
 
+pub mod led_value;
+pub mod order_after;
 pub mod places;
+pub mod probe;
 pub mod told;
+pub mod told_places;

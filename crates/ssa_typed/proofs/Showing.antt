@@ -309,7 +309,7 @@ body-shown n kind tree ordered body =
 -- ---- a part of a body
 
 -- the fields of each kind of the place rise
-abbrev is_ordered_place : Place → Bool
+abbrev pub is_ordered_place : Place → Bool
 is_ordered_place (of_kind k) = is_ordered k
 is_ordered_place (item_of ns fs) = are_ordered fs
 is_ordered_place (fitting.value_of s) = true
@@ -344,7 +344,8 @@ ordered-below (item_of ns fs) (key ks) s o h = absurd (none-some s h)
 ordered-below (item_of ns fs) (value x) s o h = absurd (none-some s h)
 ordered-below (fitting.value_of t) e s o h = absurd (none-some s h)
 
-ordered-at : (p : Path) (q r : Place) → is_ordered_place q ≡ true → place_at q p ≡ Some r → is_ordered_place r ≡ true
+-- so do those of the places below it
+pub ordered-at : (p : Path) (q r : Place) → is_ordered_place q ≡ true → place_at q p ≡ Some r → is_ordered_place r ≡ true
 ordered-at [] q r o h = subst (λ s. is_ordered_place s ≡ true) (some-is q r h) o
 ordered-at (e ∷ p) q r o h =
     elim (place_below q e) as (λ b. place_below q e ≡ b → ◌≡◌ {A = Option Place} (elim b [ None ↦ None | Some s ↦ place_at s p ]) (Some r) → is_ordered_place r ≡ true) [

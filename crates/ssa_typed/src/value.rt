@@ -32,8 +32,8 @@ pub fn leaf_value(alloc: Global, leaf: &Leaf) -> Result<Json, AllocError>
     }
 }
 
-// Puts a value among the members, where the element is a field.
-fn put(
+/// Puts a value among the members, where the element is a field.
+pub fn put_under(
     alloc: Global,
     members: &mut BTreeMap<String, Json>,
     element: &Elem,
@@ -78,7 +78,7 @@ fn members_of(
     let mut members = BTreeMap::new(alloc);
     for (element, child) in children {
         let value = value_of(alloc, child)?;
-        put(alloc, &mut members, element, value)?;
+        put_under(alloc, &mut members, element, value)?;
     }
     Ok(members)
 }

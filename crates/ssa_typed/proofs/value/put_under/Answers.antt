@@ -4,7 +4,7 @@ use Rattle.ssa_json.specs.View.{view, members_view}
 use Rattle.ssa_path.specs.View.{element_view}
 use Rattle.ssa_typed.specs.Values.{with_member_under}
 use Rattle.ssa_typed.proofs.Values.{inserted}
-use Rattle.ssa_typed.proofs.value.put.Goals as goal
+use Rattle.ssa_typed.proofs.value.put_under.Goals as goal
 
 pub returns-in_ok-insert-in-Field : goal.returns-in_ok-insert-in-Field
 returns-in_ok-insert-in-Field c =

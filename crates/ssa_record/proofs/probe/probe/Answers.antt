@@ -1,0 +1,6 @@
+use Rattle.ssa_record.proofs.LedUntouched.{untouched-value}
+use Rattle.ssa_record.proofs.LedMembers.{all-met}
+use Rattle.ssa_record.proofs.probe.probe.Goals as goal
+
+pub returns : goal.returns
+returns c = record { n = 1 }

@@ -1,0 +1,7 @@
+//! probe
+ghost use Rattle.ssa_record.specs.Probe.{IsProbed};
+
+pub fn probe()
+    ensures { IsProbed }
+{
+}
