@@ -57,11 +57,11 @@ under-name t (value s) v ms = refl
 -- ---- the children so far
 
 -- a child more
-abbrev pub or_last : Option Node → Element → Elem × Node → Option Node
+abbrev pub or_last : {A : Type 0} → Option A → Element → Elem × A → Option A
 or_last None e c = cond (same_element e (element_view c.0)) (Some c.1) None
 or_last (Some d) e c = Some d
 
-pub child_at-last : (e : Element) (cs : List (Elem × Node)) (c : Elem × Node) → child_at e (cs ++ c ∷ []) ≡ or_last (child_at e cs) e c
+pub child_at-last : {A : Type 0} (e : Element) (cs : List (Elem × A)) (c : Elem × A) → child_at e (cs ++ c ∷ []) ≡ or_last (child_at e cs) e c
 child_at-last e [] c = elim (same_element e (element_view c.0)) as (λ t. (if t then Some c.1 else None) ≡ cond t (Some c.1) None) [ true ↦ refl | false ↦ refl ]
 child_at-last e (d ∷ cs) c =
     elim (same_element e (element_view d.0)) as (λ t. (if t then Some d.1 else child_at e (cs ++ c ∷ [])) ≡ or_last (if t then Some d.1 else child_at e cs) e c) [

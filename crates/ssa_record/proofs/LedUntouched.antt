@@ -52,7 +52,8 @@ module _ (m : ToldMaps) (kind : Kind) (v w : Body) (f : IsToldFor m kind v w) wh
   alike : AreAlike v w
   alike = (bodies_are_trees kind v w f.from f.to).2
 
-  is-content : (q : Path) (c e : Content) → get v q ≡ Some c → get w q ≡ Some e → carried_content (body_record v w) q c ≡ e
+  -- what is carried to a path of both is what the second has there
+  pub is-content : (q : Path) (c e : Content) → get v q ≡ Some c → get w q ≡ Some e → carried_content (body_record v w) q c ≡ e
   is-content q c e is_v is_w = let h = bodies_are_trees kind v w f.from f.to in content_is v w h.0 h.1 h.2 q c e is_v is_w (h.2 q c e is_v is_w)
 
   -- where no order is told, the common items stand in one order

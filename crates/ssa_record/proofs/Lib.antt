@@ -1,4 +1,6 @@
+mod LedFields
 mod LedItems
+mod LedLeaves
 mod LedMembers
 mod LedPlaces
 mod LedPuts

@@ -1,4 +1,4 @@
-use Rattle.std.proofs.Common.{◌≡◌, take}
+use Rattle.std.proofs.Common.{take}
 use Rattle.ssa_json.specs.View.{members_view}
 use Rattle.ssa_path.specs.View.{path_view}
 use Rattle.ssa_path.specs.declared.trie.Trie.TheViews.{out-Trie}
