@@ -1,1 +1,4 @@
-
+pub mod ByPaths
+pub mod PathSearch
+pub mod ToldLists
+pub mod Touched

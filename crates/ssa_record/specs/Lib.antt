@@ -1,2 +1,4 @@
-pub mod Told
+pub mod PathOrder
 pub mod Places
+pub mod Told
+pub mod ToldEntries

@@ -1,5 +1,7 @@
 //! Records of states, read from their JSON values and made ready for their turns.
 #![tactic(auto)]
 
+pub mod by_path;
 pub mod places;
 pub mod told;
+pub mod told_places;
