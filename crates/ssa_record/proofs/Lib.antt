@@ -1,3 +1,4 @@
+pub mod ByPaths
 mod LedFields
 mod LedItems
 mod LedLeaves
@@ -5,3 +6,6 @@ mod LedMembers
 mod LedPlaces
 mod LedPuts
 mod LedUntouched
+pub mod PathSearch
+pub mod ToldLists
+pub mod Touched

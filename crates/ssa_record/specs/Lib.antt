@@ -1,4 +1,6 @@
-pub mod Told
-pub mod Places
 pub mod LedValues
+pub mod PathOrder
+pub mod Places
 pub mod Probe
+pub mod Told
+pub mod ToldEntries

@@ -1,5 +1,5 @@
 -- What a record tells of a body, found by whole paths.
-use Rattle.std.specs.Prelude.{◌≡◌, ℕ, List, [], ◌∷◌, ◌++◌, map, filter, filter_map, Bool, true, not, Option, Some, None}
+use Rattle.std.specs.Prelude.{◌≡◌, ℕ, List, [], ◌∷◌, ◌++◌, map, filter, true, not, Option, Some}
 use Rattle.std.specs.Borrow.{Bor}
 use Rattle.std.specs.List.{position_from}
 use Rattle.ssa_model.specs.definitions.Json.{Json}
@@ -57,10 +57,10 @@ put_view = map (λ e. (lent_path e.0, (view e.1.now.value, e.1.now.place)))
 
 abbrev pub maps_of : ToldPlaces → ToldMaps
 maps_of t = record {
-  cut = from_entries (cut_view t.cut.entries);
-  leaves = from_entries (leaves_view t.leaves.entries);
-  order = from_entries (order_view t.order.entries);
-  put = from_entries (put_view t.put.entries);
+  cut = from_entries (cut_view t.cut.entries.items);
+  leaves = from_entries (leaves_view t.leaves.entries.items);
+  order = from_entries (order_view t.order.entries.items);
+  put = from_entries (put_view t.put.entries.items);
   touched = t.touched;
 }
 

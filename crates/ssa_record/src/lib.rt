@@ -1,6 +1,7 @@
 //! Records of states, read from their JSON values and made ready for their turns.
 #![tactic(auto)]
 
+pub mod by_path;
 pub mod led_value;
 pub mod order_after;
 pub mod places;
