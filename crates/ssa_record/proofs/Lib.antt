@@ -1,4 +1,5 @@
 pub mod ByPaths
+mod LedChildren
 mod LedFields
 mod LedItems
 mod LedLeaves
