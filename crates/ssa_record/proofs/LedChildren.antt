@@ -14,7 +14,7 @@ use Rattle.ssa_model.specs.definitions.Path.{Element, same_element}
 use Rattle.ssa_model.proofs.Fitting.{same_element-true}
 use Rattle.ssa_model.proofs.Tables.{element-itself, or_true, true_or, yes_no}
 use Rattle.ssa_model.proofs.Tests.{by_test}
-use Rattle.ssa_path.specs.Children.{child_at, elements}
+use Rattle.ssa_path.specs.Children.{child_at, elements, IsChildAt}
 use Rattle.ssa_path.specs.View.{element_view}
 use Rattle.ssa_path.specs.declared.element.Elem.{Elem}
 use Rattle.ssa_path.specs.declared.trie.Trie.{Trie}
@@ -50,6 +50,10 @@ new-before (x ∷ xs) ys c apart =
 -- no child before another one has its element
 pub new-at-index : {A : Type 0} (cs : List (Elem × A)) (i : ℕ) (c : Elem × A) → i < length cs → c ≡ get_or cs i c → are_apart (elements cs) ≡ true → child_at (element_view c.0) (take i cs) ≡ None
 new-at-index cs i c lt is apart = new-before (take i cs) (drop (i + 1) cs) c (ap (λ xs. are_apart (elements xs)) (sym (parted cs i c lt is)) ∙ apart)
+
+-- the child at the place of an element has it
+pub child-named : {A : Type 0} (e : Element) (cs : List (Elem × A)) (k : ℕ) (c : Elem × A) → IsChildAt e cs k → c ≡ get_or cs k c → same_element e (element_view c.0) ≡ true
+child-named e cs k c at is = ap (λ (x : Elem × _). same_element e (element_view x.0)) is ∙ at.same c
 
 -- a walk into a child is a walk over fewer rows
 pub falls-into : (n : Node) (e : Element) (c : Node) → child_at e (below n) ≡ Some c → 8 * length (rows c) + 6 < 8 * length (rows n) + 2

@@ -3,7 +3,9 @@ use Rattle.std.proofs.Common.{arith, ◌≡◌, ℕ, List, [], ◌∷◌, ◌++�
 use Rattle.std.proofs.lemmas.Option.{none-some, same_Some}
 use Rattle.std.specs.Cmp.{first_so, second_so}
 use Rattle.std.specs.List.{position_from}
-use Rattle.std.specs.Prelude.{is_some, option_map, if◌then◌else◌}
+use Rattle.std.specs.Prelude.{is_some, option_map, if◌then◌else◌, IfOk, Result, Ok, Err}
+use Rattle.std.specs.declared.alloc.AllocError.{AllocError}
+use Rattle.ssa_path.specs.View.{element_view}
 use Rattle.ssa_model.specs.definitions.Json.{Json, list, Items, no_items, item}
 use Rattle.ssa_model.specs.definitions.Path.{Element, key, value, field, Path, same_element, is_item_element}
 use Rattle.ssa_model.specs.definitions.PathMap.{get, has}
@@ -24,12 +26,19 @@ use Rattle.ssa_model.proofs.Places.{list-place, set-place}
 use Rattle.ssa_model.proofs.Tables.{element-itself, no, or_true, true_or, yes_no}
 use Rattle.ssa_model.proofs.Tests.{by_test}
 use Rattle.ssa_path.specs.Children.{child_at, elements}
-use Rattle.ssa_typed.specs.Rows.{below, is_tree, own_content}
+use Rattle.ssa_json.specs.declared.value.Json as program
+use Rattle.ssa_json.specs.View.{view}
+use Rattle.ssa_path.specs.declared.element.Elem.{Elem}
+use Rattle.ssa_typed.specs.Rows.{below, below_of, content_of, is_tree, own_content}
+use Rattle.ssa_typed.specs.declared.node.Node.TheOpen.{Node-F}
+use Rattle.ssa_typed.specs.declared.node.Node.TheViews.{out-Node}
+use Rattle.ssa_typed.specs.declared.node.Leaf.TheVariants.{Scalar as ScalarLeaf, Atomic}
 use Rattle.ssa_typed.specs.declared.node.Node.{Node}
-use Rattle.ssa_record.specs.LedValues.{has_items, value_below, values_below, AreBelow, HaveItems, IsHere, IsToldFor}
-use Rattle.ssa_record.specs.Places.{items_left, IsRefilled, ToldMaps}
+use Rattle.ssa_typed.proofs.Values.{items_after}
+use Rattle.ssa_record.specs.LedValues.{has_items, value_below, values_below, AreBelow, HaveItems, IsGiven, IsHere, IsLed, IsLedItem, IsToldFor}
+use Rattle.ssa_record.specs.Places.{items_left, IsOrderOf, IsRefilled, ToldMaps}
 use Rattle.ssa_record.proofs.LedLeaves.{own-fits}
-use Rattle.ssa_record.proofs.LedPlaces.{coming, cut-gone, own-here, place-of, value-is}
+use Rattle.ssa_record.proofs.LedPlaces.{coming, cut-gone, here-below, no-child, no-value, none-missed, own-here, place-of, value-is}
 use Rattle.ssa_record.proofs.LedUntouched.{among-first, among-second, filter-alike, filter-whole, one-order}
 
 -- where the second body has all the elements, the items are its values at those so far
@@ -39,12 +48,7 @@ AreItemsSoFar m p n all es vs =
 
 -- ---- an item more
 
--- items with one behind them
-abbrev pub items_then : Items → Json → Items
-items_then no_items v = item v no_items
-items_then (item u vs) v = item u (items_then vs v)
-
-pub values-last : (q : Place) (w : Body) (p : Path) (es : List Element) (e : Element) (j : Json) → value_below q w p e ≡ Some j → values_below q w p (es ++ e ∷ []) ≡ items_then (values_below q w p es) j
+pub values-last : (q : Place) (w : Body) (p : Path) (es : List Element) (e : Element) (j : Json) → value_below q w p e ≡ Some j → values_below q w p (es ++ e ∷ []) ≡ items_after (values_below q w p es) j
 values-last q w p [] e j is = ap (λ o. item (value_in o) no_items) is
 values-last q w p (f ∷ es) e j is = ap (item (value_in (value_below q w p f))) (values-last q w p es e j is)
 
@@ -211,3 +215,58 @@ module _ (m : ToldMaps) (kind : Kind) (v w : Body) (f : IsToldFor m kind v w) (p
         f.to.items p e ∙ (λ i. item-element q e c.place place-is c.below i && c.there i);
     places = λ e x some. (coming m kind v w f p q e x h.place some).position;
   }
+
+-- ---- one item
+
+-- a value that is there is the second body's at a child of its own
+value-there : (m : ToldMaps) (kind : Kind) (v w : Body) (f : IsToldFor m kind v w) (p : Path) (q : Place) (e : Element) (j : Json) → value_below q w p e ≡ Some j → has w (p ++ e ∷ []) ≡ true
+value-there m kind v w f p q e j is = by_test (has w (p ++ e ∷ [])) (λ t. t) (λ k. absurd (none-some j (sym (no-value m kind v w f p q e k) ∙ is)))
+
+-- what is put
+pub item-put : (m : ToldMaps) (p : Path) (n : Node) (e : Element) (x : Json × Option ℕ) (u : program.Json) → get m.put (p ++ e ∷ []) ≡ Some x → view u ≡ x.0 → IsLedItem m p n e (Some u)
+item-put m p n e x u some same = λ kind v w q f h j is.
+    let c = coming m kind v w f p q e x h.place some in
+    same ∙ sym c.value ∙ same_Some _ j (sym (value-is m kind v w f p q e c.place c.there c.below) ∙ is)
+
+-- a child that stays
+pub item-stays : (m : ToldMaps) (p : Path) (n : Node) (e : Element) (c : Node) (o : Option program.Json) → is_tree n ≡ true → child_at e (below n) ≡ Some c → IsLed m (p ++ e ∷ []) c o → IsLedItem m p n e o
+item-stays m p n e c o tree found led = λ kind v w q f h j is.
+    let there = value-there m kind v w f p q e j is in
+    let s = place-of m kind v w f p q e h.place there in
+    subst (IsGiven o) (same_Some _ j (sym (value-is m kind v w f p q e s.0 there s.1) ∙ is)) (led kind v w s.0 f (here-below m kind v w f p q n h tree e c s.0 found there s.1))
+
+-- the same of an answer of the walk into the child
+pub item-led : (m : ToldMaps) (p : Path) (n : Node) (e : Element) (d : Elem) (c : Node) (r : Result (Option program.Json) AllocError) → is_tree n ≡ true → child_at e (below n) ≡ Some c → element_view d ≡ e
+    → IfOk r (λ o. IsLed m (p ++ element_view d ∷ []) c o) → IfOk r (λ o. IsLedItem m p n e o)
+item-led m p n e d c (Ok o) tree found own led = item-stays m p n e c o tree found (subst (λ x. IsLed m (p ++ x ∷ []) c o) own led)
+item-led m p n e d c (Err x) tree found own led = tt
+
+-- there is no other item
+pub item-none : (m : ToldMaps) (p : Path) (n : Node) (e : Element) → is_tree n ≡ true → child_at e (below n) ≡ None → get m.put (p ++ e ∷ []) ≡ None → IsLedItem m p n e None
+item-none m p n e tree gone unput = λ kind v w q f h j is.
+    none-some j (sym (no-value m kind v w f p q e (none-missed m kind v w f p e (ap is_some (own-here m kind v w f p q n h tree)) (no-child m kind v w f p q n h tree e gone) unput)) ∙ is)
+
+-- ---- the order
+
+own-by : (x : Node-F Node) → has_items (content_of x) ≡ true → order_at (Some (content_of x)) ≡ elements (below_of x)
+own-by (Node-F.Leaf (ScalarLeaf s)) is = absurd (true≢false (sym is))
+own-by (Node-F.Leaf (Atomic j)) is = absurd (true≢false (sym is))
+own-by (Node-F.Branch u) is = absurd (true≢false (sym is))
+own-by (Node-F.Dict u) is = absurd (true≢false (sym is))
+own-by (Node-F.List u) is = refl
+
+own-items : (n : Node) → has_items (own_content n) ≡ true → order_at (Some (own_content n)) ≡ elements (below n)
+own-items n is = own-by (out-Node n) is
+
+-- the order that is told or refilled is the second body's
+pub order-led : (m : ToldMaps) (p : Path) (n : Node) (o : Option (List Elem)) → is_tree n ≡ true → has_items (own_content n) ≡ true
+    → ((gs : List Element) → get m.order p ≡ Some gs → IsOrderOf o gs)
+    → (get m.order p ≡ None → (fs : List Element) → IsRefilled m p (elements (below n)) fs → IsOrderOf o fs)
+    → (kind : Kind) (v w : Body) (q : Place) → IsToldFor m kind v w → IsHere kind v w p q n → IsOrderOf o (order_at (get w p))
+order-led m p n o tree is told refilled kind v w q f h = by (get m.order p) refl
+  where
+    by : (x : Option (List Element)) → get m.order p ≡ x → IsOrderOf o (order_at (get w p))
+    by (Some gs) some = subst (IsOrderOf o) (sym (told-order m kind v w f p q n h tree is gs some)) (told gs some)
+    by None none =
+        refilled none (order_at (get w p))
+        (subst (λ es. IsRefilled m p es (order_at (get w p))) (own-items n is) (refilled-order m kind v w f p q n h tree is none))

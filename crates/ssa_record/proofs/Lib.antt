@@ -1,4 +1,5 @@
 pub mod ByPaths
+mod LedBodies
 mod LedChildren
 mod LedFields
 mod LedItems

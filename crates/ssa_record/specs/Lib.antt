@@ -1,3 +1,4 @@
+pub mod LedBodies
 pub mod LedValues
 pub mod PathOrder
 pub mod Places

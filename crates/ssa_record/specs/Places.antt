@@ -91,6 +91,6 @@ pub record IsRefilled (m : ToldMaps) (p : Path) (es fs : List Element) : Type 0 
   pub places : (e : Element) (x : Json × Option ℕ) → get m.put (p ++ e ∷ []) ≡ Some x → x.1 ≡ position_from (same_element e) 0 fs
 
 -- there is an order, and it is this one
-abbrev pub IsOrderOf : Option (List (Bor Elem)) → List Element → Type 0
+abbrev pub IsOrderOf : Option (List Elem) → List Element → Type 0
 IsOrderOf None fs = ⊥
-IsOrderOf (Some es) fs = map (λ e. element_view e.now) es ≡ fs
+IsOrderOf (Some es) fs = path_view es ≡ fs

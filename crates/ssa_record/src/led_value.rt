@@ -65,12 +65,12 @@ fn put_members(
 
 // The value of a child after the record.
 #[cycle(led)]
-fn led_child<'a>(
+fn led_child(
     alloc: Global,
-    told: &ToldPlaces<'a>,
-    touched: &'a Trie,
+    told: &ToldPlaces<'_>,
+    touched: &Trie,
     path: &mut Vec<Elem>,
-    child: &'a (Elem, Node),
+    child: &(Elem, Node),
 ) -> Result<Option<Json>, AllocError>
     requires tree { is_tree child.now.1 ≡ true }
     requires touched { IsTouchedBelow (maps_of told.now) (path_view path.old.items) touched.now }
@@ -92,12 +92,12 @@ fn led_child<'a>(
 
 // The members of what stays right below a place, each with its value after the record.
 #[cycle(led)]
-fn kept_members<'a>(
+fn kept_members(
     alloc: Global,
-    told: &ToldPlaces<'a>,
-    touched: &'a Trie,
+    told: &ToldPlaces<'_>,
+    touched: &Trie,
     path: &mut Vec<Elem>,
-    node: &'a Node,
+    node: &Node,
 ) -> Result<Option<BTreeMap<String, Json>>, AllocError>
     requires tree { is_tree node.now ≡ true }
     requires touched { IsTouchedBelow (maps_of told.now) (path_view path.old.items) touched.now }
@@ -120,12 +120,12 @@ fn kept_members<'a>(
 
 // The value of a record or a Dict after the record.
 #[cycle(led)]
-fn led_object<'a>(
+fn led_object(
     alloc: Global,
-    told: &ToldPlaces<'a>,
-    touched: &'a Trie,
+    told: &ToldPlaces<'_>,
+    touched: &Trie,
     path: &mut Vec<Elem>,
-    node: &'a Node,
+    node: &Node,
 ) -> Result<Option<Json>, AllocError>
     requires tree { is_tree node.now ≡ true }
     requires members { has_members (own_content node.now) ≡ true }
@@ -143,12 +143,12 @@ fn led_object<'a>(
 
 // The value of an item after the record, where it is put or stays.
 #[cycle(led)]
-fn led_item<'a>(
+fn led_item(
     alloc: Global,
-    told: &ToldPlaces<'a>,
-    touched: &'a Trie,
+    told: &ToldPlaces<'_>,
+    touched: &Trie,
     path: &mut Vec<Elem>,
-    node: &'a Node,
+    node: &Node,
     sorted: &[(&Elem, usize)],
     element: &Elem,
 ) -> Result<Option<Json>, AllocError>
@@ -170,19 +170,19 @@ fn led_item<'a>(
 
 // The values of these items after the record.
 #[cycle(led)]
-fn led_items<'a>(
+fn led_items(
     alloc: Global,
-    told: &ToldPlaces<'a>,
-    touched: &'a Trie,
+    told: &ToldPlaces<'_>,
+    touched: &Trie,
     path: &mut Vec<Elem>,
-    node: &'a Node,
-    order: &[&Elem],
+    node: &Node,
+    order: &[Elem],
 ) -> Result<Option<Vec<Json>>, AllocError>
     requires tree { is_tree node.now ≡ true }
     requires touched { IsTouchedBelow (maps_of told.now) (path_view path.old.items) touched.now }
     requires all { AllTouched (maps_of told.now) }
     ensures path { OnOk result (path.new.items ≡ path.old.items) }
-    ensures led { IfOk result (λ o. AreLedItems (maps_of told.now) (path_view path.old.items) node.now (map (λ e. element_view e.now) order.now) (option_map (λ vs. items_view vs.items) o)) }
+    ensures led { IfOk result (λ o. AreLedItems (maps_of told.now) (path_view path.old.items) node.now (path_view order.now) (option_map (λ vs. items_view vs.items) o)) }
 {
     let sorted = places_in_order(alloc, node.children())?;
     let mut items = Vec::with_capacity(alloc, order.len())?;
@@ -197,12 +197,12 @@ fn led_items<'a>(
 
 // The value of a list after the record.
 #[cycle(led)]
-fn led_list<'a>(
+fn led_list(
     alloc: Global,
-    told: &ToldPlaces<'a>,
-    touched: &'a Trie,
+    told: &ToldPlaces<'_>,
+    touched: &Trie,
     path: &mut Vec<Elem>,
-    node: &'a Node,
+    node: &Node,
 ) -> Result<Option<Json>, AllocError>
     requires tree { is_tree node.now ≡ true }
     requires items { has_items (own_content node.now) ≡ true }
@@ -223,12 +223,12 @@ fn led_list<'a>(
 /// The value after the record of what stands at a path of the body, or none where no record of the
 /// body tells this. A walk along the touched paths: the rest is copied as it stands.
 #[cycle(led)]
-pub fn led_value<'a>(
+pub fn led_value(
     alloc: Global,
-    told: &ToldPlaces<'a>,
-    touched: &'a Trie,
+    told: &ToldPlaces<'_>,
+    touched: &Trie,
     path: &mut Vec<Elem>,
-    node: &'a Node,
+    node: &Node,
 ) -> Result<Option<Json>, AllocError>
     requires tree { is_tree node.now ≡ true }
     requires touched { IsTouchedBelow (maps_of told.now) (path_view path.old.items) touched.now }

@@ -8,3 +8,4 @@ pub mod places;
 pub mod probe;
 pub mod told;
 pub mod told_places;
+pub mod told_steps;

@@ -12,13 +12,13 @@ use ssa_path::trie::Trie;
 use ssa_typed::node::Node;
 use std::alloc::{AllocError, Global};
 
-pub fn order_after<'a>(
+pub fn order_after(
     alloc: Global,
-    children: &'a [(Elem, Node)],
-    told: &ToldPlaces<'a>,
-    touched: &'a Trie,
+    children: &[(Elem, Node)],
+    told: &ToldPlaces<'_>,
+    touched: &Trie,
     path: &[Elem],
-) -> Result<Option<Vec<&'a Elem>>, AllocError>
+) -> Result<Option<Vec<Elem>>, AllocError>
     requires touched { IsTouchedBelow (maps_of told.now) (path_view path.now) touched.now }
     requires all { AllTouched (maps_of told.now) }
     ensures told { IfOk result (λ o. (gs : List Element) → get (maps_of told.now).order (path_view path.now) ≡ Some gs → IsOrderOf (option_map (λ es. es.items) o) gs) }

@@ -1,3 +1,4 @@
+use Rattle.ssa_record.proofs.LedBodies.{root-touched}
 use Rattle.ssa_record.proofs.LedItems.{refilled-order}
 use Rattle.ssa_record.proofs.LedFields.{members-led}
 use Rattle.ssa_record.proofs.LedPuts.{puts-end}
