@@ -1,4 +1,5 @@
 pub mod PathOrder
 pub mod Places
+pub mod Refilled
 pub mod Told
 pub mod ToldEntries

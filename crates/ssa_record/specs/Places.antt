@@ -1,7 +1,8 @@
 -- What a record tells of a body, found by whole paths.
-use Rattle.std.specs.Prelude.{◌≡◌, ℕ, List, [], ◌∷◌, ◌++◌, map, filter, true, not, Option, Some}
+use Rattle.std.specs.Prelude.{◌≡◌, ℕ, List, [], ◌∷◌, ◌++◌, map, filter, filter_map, Bool, true, not, Option, Some, None}
 use Rattle.std.specs.Borrow.{Bor}
 use Rattle.std.specs.List.{position_from}
+use Rattle.std.specs.Option.{option_map}
 use Rattle.ssa_model.specs.definitions.Json.{Json}
 use Rattle.ssa_model.specs.definitions.Path.{Element, Path, same_element}
 use Rattle.ssa_model.specs.definitions.PathMap.{PathMap, PathSet, get, has, from_entries, listed}
@@ -11,7 +12,7 @@ use Rattle.ssa_json.specs.View.{view}
 use Rattle.ssa_json.specs.declared.value.Json as program
 use Rattle.ssa_path.specs.Trie as tries
 use Rattle.ssa_path.specs.TopPaths.{lent_path}
-use Rattle.ssa_path.specs.View.{path_view}
+use Rattle.ssa_path.specs.View.{element_view, path_view}
 use Rattle.ssa_path.specs.declared.element.Elem.{Elem}
 use Rattle.ssa_path.specs.declared.top_path.LentPath.{LentPath}
 use Rattle.ssa_path.specs.declared.trie.Trie.{Trie}
@@ -89,3 +90,7 @@ pub record IsRefilled (m : ToldMaps) (p : Path) (es fs : List Element) : Type 0 
   pub stay : filter (λ e. not (has m.put (p ++ e ∷ []))) fs ≡ items_left m p es
   pub put : (e : Element) → has m.put (p ++ e ∷ []) ≡ true → is_among e fs ≡ true
   pub places : (e : Element) (x : Json × Option ℕ) → get m.put (p ++ e ∷ []) ≡ Some x → x.1 ≡ position_from (same_element e) 0 fs
+
+-- elements that are lent are these
+abbrev pub IsOrderOf : Option (List (Bor Elem)) → List Element → Type 0
+IsOrderOf o es = option_map (map (λ e. element_view e.now)) o ≡ Some es

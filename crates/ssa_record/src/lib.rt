@@ -2,6 +2,7 @@
 #![tactic(auto)]
 
 pub mod by_path;
+pub mod order_after;
 pub mod places;
 pub mod told;
 pub mod told_places;
