@@ -340,7 +340,7 @@ put-below m p t e touched all one =
     child-among e (out-Trie t).below.items ∙ found-child e (child_at e (out-Trie t).below.items) here
 
 -- a list that the places tell is filled from the touched children
-pub filled-below : (m : ToldMaps) (p : Path) (es fs : List Element) (t : Trie) (cs : List (Elem × Trie)) → cs ≡ (out-Trie t).below.items → IsTouchedBelow m p t → AllTouched m
-    → IsRefilled m p es fs → IsFilled (place_told m p) (elements cs) (items_left m p es) fs
+pub filled-below : (m : ToldMaps) (p : Path) (es fs : List Element) (t : Trie) (cs : List (Elem × Trie)) → cs ≡ (out-Trie t).below.items
+    → IsTouchedBelow m p t → AllTouched m → IsRefilled m p es fs → IsFilled (place_told m p) (elements cs) (items_left m p es) fs
 filled-below m p es fs t cs is touched all r =
     filled m p es fs (elements cs) r (λ e one. ap (λ (l : List (Elem × Trie)). is_among e (elements l)) is ∙ put-below m p t e touched all one)
