@@ -43,12 +43,14 @@ module _ {V X : Type 0} (f : V → X) where
   shown = map (λ e. (lent_path e.0, f e.1))
 
   -- an entry more in the map is an entry more among the paths
-  entry-put : (p : LentPath) (v : V) (es : List (LentPath × V)) → shown (insert_entry (on lent_path path_cmp) es p v) ≡ put path_cmp (lent_path p) (f v) (shown es)
+  entry-put : (p : LentPath) (v : V) (es : List (LentPath × V))
+      → shown (insert_entry (on lent_path path_cmp) es p v) ≡ put path_cmp (lent_path p) (f v) (shown es)
   entry-put p v [] = refl
   entry-put p v (e ∷ es) =
       let own : Path × X = (lent_path p, f v) in
       let here : Path × X = (lent_path e.0, f e.1) in
-      elim (path_cmp (lent_path p) (lent_path e.0)) as (λ o. shown (match_ordering o ((p, v) ∷ e ∷ es) ((e.0, v) ∷ es) (e ∷ insert_entry (on lent_path path_cmp) es p v))
+      let rest = insert_entry (on lent_path path_cmp) es p v in
+      elim (path_cmp (lent_path p) (lent_path e.0)) as (λ o. shown (match_ordering o ((p, v) ∷ e ∷ es) ((e.0, v) ∷ es) (e ∷ rest))
       ≡ by_order o (own ∷ here ∷ shown es) ((lent_path e.0, f v) ∷ shown es) (here ∷ put path_cmp (lent_path p) (f v) (shown es))) [
         | Less ↦ refl
         | Equal ↦ refl

@@ -1,6 +1,7 @@
 -- The body that a record leads to, from what is told of the record.
-use Rattle.std.proofs.Common.{◌≡◌, ℕ, List, [], ◌∷◌, ◌++◌, map, Bool, true, false, cond, Option, Some, None, refl, sym, ap, subst, ◌∙◌, true≢false}
+use Rattle.std.proofs.Common.{◌≡◌, ℕ, List, [], ◌∷◌, ◌++◌, map, Bool, true, false, ◌&&◌, cond, Option, Some, None, refl, sym, ap, subst, ◌∙◌, true≢false}
 use Rattle.std.proofs.lemmas.Option.{none-some}
+use Rattle.std.specs.Cmp.{first_so, second_so}
 use Rattle.std.specs.FinMap.Entries.{find}
 use Rattle.std.specs.Prelude.{is_some, option_map}
 use Rattle.ssa_model.specs.definitions.Json.{Json}
@@ -9,7 +10,7 @@ use Rattle.ssa_model.specs.definitions.PathMap.{PathMap, get, has, paths, listed
 use Rattle.ssa_model.specs.definitions.Kind.{Kind}
 use Rattle.ssa_model.specs.definitions.Body.{Body, Content}
 use Rattle.ssa_model.specs.definitions.Fitting.{of_kind, place_at}
-use Rattle.ssa_model.specs.definitions.Lawful.{is_ordered}
+use Rattle.ssa_model.specs.definitions.Lawful.{has_metadata, is_lawful, is_ordered, is_root_kind}
 use Rattle.ssa_model.specs.definitions.Record.{Part, BodyRecord, body_record}
 use Rattle.ssa_model.specs.definitions.Takes.{BodyTakes}
 use Rattle.ssa_model.proofs.PathMaps.{get-from_entries, has-paths, same_path-true}
@@ -61,3 +62,7 @@ root-here kind d v w n takes is = record {
 
 pub root-touched : (m : ToldMaps) (t : Trie) → tries.is_trie t ≡ true → listed (tries.paths t) ≡ m.touched → IsTouchedBelow m [] t
 root-touched m t trie same = (trie, λ r. sym (has-listed (tries.paths t) r) ∙ ap (λ s. has s r) same)
+
+-- the fields of a kind that is a schema's rise
+pub lawful-ordered : (kind : Kind) → is_lawful kind ≡ true → is_ordered kind ≡ true
+lawful-ordered kind lawful = first_so (is_ordered kind) (has_metadata kind) (second_so (is_root_kind kind) (is_ordered kind && has_metadata kind) lawful)

@@ -1,4 +1,5 @@
-pub mod ByPaths
+mod ByPaths
+mod ItemsRead
 mod LedBodies
 mod LedChildren
 mod LedFields
@@ -8,6 +9,8 @@ mod LedMembers
 mod LedPlaces
 mod LedPuts
 mod LedUntouched
-pub mod PathSearch
-pub mod ToldLists
-pub mod Touched
+mod PathSearch
+mod RefilledOrder
+mod Slots
+mod ToldLists
+mod Touched

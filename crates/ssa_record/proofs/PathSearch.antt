@@ -38,7 +38,8 @@ module _ {V : Type 0} where
   abbrev keys : List (LentPath × V) → List (Path × Unit {0})
   keys = map (λ e. (lent_path e.0, tt))
 
-  below-at : (x : Path) (es : List (LentPath × V)) (j : ℕ) (d : LentPath × V) → j < length es → below_all path_cmp x (keys es) ≡ true → path_cmp x (lent_path (get_or es j d).0) ≡ Less
+  below-at : (x : Path) (es : List (LentPath × V)) (j : ℕ) (d : LentPath × V) → j < length es → below_all path_cmp x (keys es) ≡ true
+      → path_cmp x (lent_path (get_or es j d).0) ≡ Less
   below-at x [] j d lt h = absurd (omega arith)
   below-at x (e ∷ es) zero d lt h = lower _ (first_so (is_lt (path_cmp x (lent_path e.0))) (below_all path_cmp x (keys es)) h)
   below-at x (e ∷ es) (suc j) d lt h = below-at x es j d (omega arith) (second_so (is_lt (path_cmp x (lent_path e.0))) (below_all path_cmp x (keys es)) h)
@@ -48,7 +49,8 @@ module _ {V : Type 0} where
   compared-rises q [] h i j d le lt = absurd (omega arith)
   compared-rises q (e ∷ es) h zero zero d le lt = omega arith
   compared-rises q (e ∷ es) h zero (suc j) d le lt =
-      index_up q (lent_path e.0) (lent_path (get_or es j d).0) _ refl (below-at (lent_path e.0) es j d (omega arith) (first_so (below_all path_cmp (lent_path e.0) (keys es)) (lent_rise es) h))
+      index_up q (lent_path e.0) (lent_path (get_or es j d).0) _ refl
+      (below-at (lent_path e.0) es j d (omega arith) (first_so (below_all path_cmp (lent_path e.0) (keys es)) (lent_rise es) h))
   compared-rises q (e ∷ es) h (suc i) zero d le lt = absurd (omega arith)
   compared-rises q (e ∷ es) h (suc i) (suc j) d le lt =
       compared-rises q es (second_so (below_all path_cmp (lent_path e.0) (keys es)) (lent_rise es) h) i j d (omega arith) (omega arith)
@@ -56,13 +58,15 @@ module _ {V : Type 0} where
   passed : (q : Path) (e : LentPath × V) (es : List (LentPath × V)) → same_path q (lent_path e.0) ≡ false → value_at q (e ∷ es) ≡ value_at q es
   passed q e es off = ap (λ b. cond b (Some e.1) (value_at q es)) off
 
-  found-at : (q : Path) (es : List (LentPath × V)) (i : ℕ) (d : LentPath × V) → lent_rise es ≡ true → i < length es → compared q (get_or es i d) ≡ Equal → value_at q es ≡ Some (get_or es i d).1
+  found-at : (q : Path) (es : List (LentPath × V)) (i : ℕ) (d : LentPath × V) → lent_rise es ≡ true → i < length es → compared q (get_or es i d) ≡ Equal
+      → value_at q es ≡ Some (get_or es i d).1
   found-at q [] i d h lt is = absurd (omega arith)
   found-at q (e ∷ es) zero d h lt is = ap (λ b. cond b (Some e.1) (value_at q es)) (ap is_eq (other_way q (lent_path e.0) Equal is))
   found-at q (e ∷ es) (suc i) d h lt is =
       let x = lent_path (get_or es i d).0 in
       let less : path_cmp (lent_path e.0) q ≡ Less =
-      ap (path_cmp (lent_path e.0)) (sym (same_path_same x q is)) ∙ below-at (lent_path e.0) es i d (omega arith) (first_so (below_all path_cmp (lent_path e.0) (keys es)) (lent_rise es) h) in
+      ap (path_cmp (lent_path e.0)) (sym (same_path_same x q is))
+      ∙ below-at (lent_path e.0) es i d (omega arith) (first_so (below_all path_cmp (lent_path e.0) (keys es)) (lent_rise es) h) in
       passed q e es (ap is_eq (other_way q (lent_path e.0) Less less))
       ∙ found-at q es i d (second_so (below_all path_cmp (lent_path e.0) (keys es)) (lent_rise es) h) (omega arith) is
 

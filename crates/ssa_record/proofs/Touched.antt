@@ -37,7 +37,9 @@ pub touched-is : (t : BodyTold) (s a b c d : PathSet) → s ≡ empty → AddsPa
 touched-is t s a b c d none by_cut by_leaves by_order by_put =
     same_sets d (listed (all_paths t)) (λ q.
     let cut : has a q ≡ is_one_of t.cut q = by_cut q ∙ (λ i. has (none i) q || is_one_of (paths-marked t.cut i) q) in
-    by_put q ∙ ap (λ x. x || is_one_of (told_paths t.put) q) (by_order q ∙ ap (λ x. x || is_one_of (told_paths t.order) q) (by_leaves q ∙ ap (λ x. x || is_one_of (told_paths t.leaves) q) cut))
+    let leaves = by_leaves q ∙ ap (λ x. x || is_one_of (told_paths t.leaves) q) cut in
+    let order = by_order q ∙ ap (λ x. x || is_one_of (told_paths t.order) q) leaves in
+    by_put q ∙ ap (λ x. x || is_one_of (told_paths t.put) q) order
     ∙ or-right (is_one_of t.cut q) (is_one_of (told_paths t.leaves) q) (is_one_of (told_paths t.order) q) (is_one_of (told_paths t.put) q)
     ∙ sym (has-listed (all_paths t) q ∙ one-of-four t.cut (told_paths t.leaves) (told_paths t.order) (told_paths t.put) q))
 

@@ -21,7 +21,8 @@ returns c =
     let b = c.leaves_told.new.touched in
     let o = c.orders_told.new.touched in
     let p = c.puts_told.new.touched in
-    let cut = told-by_map (λ (u : Unit {0}). tt) c.in_ok-cut.cut.items c.in_ok-of.field-0.entries.items c.in_ok-of.ensures ∙ ap from_entries (c.in_ok-cut.ensures.told ∙ ap marked c.deref.ensures.value) in
+    let cut = told-by_map (λ (u : Unit {0}). tt) c.in_ok-cut.cut.items c.in_ok-of.field-0.entries.items c.in_ok-of.ensures
+    ∙ ap from_entries (c.in_ok-cut.ensures.told ∙ ap marked c.deref.ensures.value) in
     let leaves = told-by_map (λ (v : Bor Json). view v.now) c.in_ok-leaves.leaves.items c.in_ok-of-2.field-0.entries.items c.in_ok-of-2.ensures
     ∙ ap from_entries (c.in_ok-leaves.ensures.told ∙ ap (map told_leaf) c.deref-2.ensures.value) in
     let order = told-by_map (λ (es : Bor (List Elem)). path_view es.now) c.in_ok-order.order.items c.in_ok-of-3.field-0.entries.items c.in_ok-of-3.ensures

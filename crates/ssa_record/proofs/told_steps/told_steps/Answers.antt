@@ -28,7 +28,7 @@ returns-in_ok-steps_between-in-Some-2-clause-taken c =
     let kind = c.args.schema.now.kind in
     let valid = subst (λ o. IfSome o (λ b. IsValidBody kind b)) c.in-Some-2.is c.in_ok-after.ensures.valid in
     let alike = (bodies_are_trees kind c.args.body.now c.in-Some-2.after c.requires.fits valid.fits).2 in
-    (c.in-Some-2.after, (record { from = c.requires.fits; to = valid.fits; is = c.in_ok-steps_between-in-Some-2.ensures.record alike }, valid))
+    (c.in-Some-2.after, record { from = c.requires.fits; to = valid.fits; is = c.in_ok-steps_between-in-Some-2.ensures.record alike }, valid)
 
 pub returns-in_ok-steps_between-in-Some-2-clause-room : goal.returns-in_ok-steps_between-in-Some-2-clause-room
 returns-in_ok-steps_between-in-Some-2-clause-room c =

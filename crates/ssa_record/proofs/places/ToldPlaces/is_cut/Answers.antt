@@ -7,4 +7,5 @@ use Rattle.ssa_record.proofs.places.ToldPlaces.is_cut.Goals as goal
 pub returns : goal.returns
 returns c =
     let p = path_view c.args.place.now ++ element_view c.args.last.now ∷ [] in
-    c.is_some.ensures ∙ copied-some c.get.result ∙ ap is_some c.get.ensures ∙ mapped-some (λ (u : Unit {0}). tt) _ ∙ ap is_some (value-shown (λ (u : Unit {0}). tt) p c.args.self.now.cut.entries.items)
+    c.is_some.ensures ∙ copied-some c.get.result ∙ ap is_some c.get.ensures ∙ mapped-some (λ (u : Unit {0}). tt) _
+    ∙ ap is_some (value-shown (λ (u : Unit {0}). tt) p c.args.self.now.cut.entries.items)

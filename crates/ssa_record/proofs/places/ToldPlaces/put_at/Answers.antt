@@ -11,4 +11,5 @@ use Rattle.ssa_record.proofs.places.ToldPlaces.put_at.Goals as goal
 pub returns : goal.returns
 returns c =
     let shows : Bor ToldPut → Json × Option ℕ = λ x. (view x.now.value, x.now.place) in
-    ap (option_map shows) (c.copied.ensures ∙ c.get.ensures) ∙ value-shown shows (path_view c.args.place.now ++ element_view c.args.last.now ∷ []) c.args.self.now.put.entries.items
+    ap (option_map shows) (c.copied.ensures ∙ c.get.ensures)
+    ∙ value-shown shows (path_view c.args.place.now ++ element_view c.args.last.now ∷ []) c.args.self.now.put.entries.items
