@@ -2,7 +2,6 @@ pub mod LedBodies
 pub mod LedValues
 pub mod PathOrder
 pub mod Places
-pub mod Probe
 pub mod Refilled
 pub mod Told
 pub mod ToldEntries

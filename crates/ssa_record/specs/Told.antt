@@ -9,12 +9,18 @@ use Rattle.ssa_model.specs.definitions.Commands.{value_in}
 use Rattle.ssa_model.specs.definitions.Fitting.{of_kind, place_at}
 use Rattle.ssa_model.specs.definitions.Objects.{content_value}
 use Rattle.ssa_model.specs.definitions.Readings.{Readings}
+use Rattle.ssa_model.specs.definitions.Record as model
 use Rattle.ssa_model.specs.definitions.Record.{Part, BodyRecord, TableRecord}
 use Rattle.ssa_model.specs.definitions.RecordReading.{list_in, item_at, member_in, order_in, path_in, place_given}
 use Rattle.ssa_model.specs.definitions.RecordText.{part_value}
+use Rattle.ssa_model.specs.definitions.Table as table_model
 use Rattle.ssa_json.specs.View.{view}
+use Rattle.ssa_merge.specs.Managers.{entry_view, key_view}
 use Rattle.ssa_path.specs.View.{path_view}
 use Rattle.ssa_record.specs.declared.told.ToldBody.{ToldBody}
+use Rattle.ssa_record.specs.declared.told.ToldChange.{ToldChange}
+use Rattle.ssa_record.specs.declared.told.ToldHere.{ToldHere}
+use Rattle.ssa_record.specs.declared.told.ToldTable.{ToldTable}
 
 -- what is told of a body: what is put is its value and the place of an item
 pub record BodyTold : Type 0 where
@@ -32,6 +38,15 @@ told_body t = record {
   order = map (λ e. (e.path, path_view e.items.items)) t.order.items;
   put = map (λ e. (e.path, (view e.value, e.place))) t.put.items;
 }
+
+abbrev pub told_change : ToldChange → model.Change
+told_change c = record { manager = key_view c.key; gain = c.gain; lose = c.lose; moment = c.at }
+
+abbrev pub told_here : ToldHere → ℕ × table_model.Entry
+told_here h = (h.place, entry_view h.entry)
+
+abbrev pub told_table : ToldTable → TableRecord
+told_table t = record { changed = map told_change t.changed.items; gone = map key_view t.gone.items; here = map told_here t.here.items }
 
 -- ---- as a value says it
 

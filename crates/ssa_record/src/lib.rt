@@ -5,7 +5,6 @@ pub mod by_path;
 pub mod led_value;
 pub mod order_after;
 pub mod places;
-pub mod probe;
 pub mod told;
 pub mod told_places;
 pub mod told_steps;
