@@ -39,10 +39,8 @@ fn staying<'a>(
 fn told_place(told: &ToldPlaces<'_>, path: &[Elem], element: &Elem) -> Option<Option<usize>>
     ensures { result ≡ place_told (maps_of told.now) (path_view path.now) (element_view element.now) }
 {
-    match told.put_at(path, element) {
-        Some(put) => Some(put.place),
-        None => None,
-    }
+    let put = told.put_at(path, element)?;
+    Some(put.place)
 }
 
 // Those of some children that are put, each with its place, unless one has no place.
