@@ -1,1 +1,2 @@
-
+pub mod MemberShapes
+pub mod PathTexts

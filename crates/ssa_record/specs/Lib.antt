@@ -1,1 +1,4 @@
+pub mod PathTexts
+pub mod Shapes
+pub mod Telling
 pub mod Told

@@ -1,4 +1,8 @@
 //! Records of states, read from their JSON values and made ready for their turns.
 #![tactic(auto)]
 
+mod member_names;
+pub mod path_texts;
 pub mod told;
+mod told_parts;
+pub mod value_shape;

@@ -9,7 +9,7 @@ use Rattle.ssa_model.specs.definitions.ElementTexts.{ElementFault, element_of, n
 use Rattle.ssa_json.specs.Reading.{json_reading}
 use Rattle.ssa_json.specs.View.{view, items_view}
 use Rattle.ssa_json.specs.declared.value.Json as values
-use Rattle.ssa_session.specs.PathTexts.{given_texts, texts_or_none}
+use Rattle.ssa_record.specs.PathTexts.{given_texts, texts_or_none}
 
 -- the path of a beginning that is read and of what is left
 abbrev pub behind : Path → Result Path ElementFault → Result Path ElementFault

@@ -1,0 +1,37 @@
+-- What reading a part of a record answers: what it tells, where the value has its shape.
+use Rattle.std.specs.Prelude.{◌≡◌, true, false, not, Bool, List, [], ◌∷◌, map, ◌&&◌, Option, Some, None, Vec, option_and_then, codes}
+use Rattle.std.specs.Global.{Global}
+use Rattle.std.specs.List.{list_any, list_all}
+use Rattle.ssa_model.specs.definitions.Json.{Text, Json, Members, no_members, member, member_of, same_text, as_text}
+use Rattle.ssa_model.specs.definitions.Commands.{value_in}
+use Rattle.ssa_model.specs.definitions.RecordReading.{Test, MemberShape, is_list_of, list_in}
+
+-- a value is there that passes the test
+abbrev pub passes : Test → Option Json → Bool
+passes test None = false
+passes test (Some v) = test v
+
+-- Something is told exactly where a value is there that passes the test, and it is what the value says.
+abbrev pub Tells : {A X : Type 0} → Test → (A → X) → (Json → X) → Option A → Option Json → Type 0
+Tells test seen says (Some a) v = (passes test v ≡ true) × (seen a ≡ says (value_in v))
+Tells test seen says None v = passes test v ≡ false
+
+-- so it is of a list, of whose items each is told
+abbrev pub TellsList : {A X : Type 0} → Test → (A → X) → (Json → X) → Option (Vec A Global) → Option Json → Type 0
+TellsList test seen says r v = Tells (is_list_of test) (λ xs. map seen xs.items) (list_in says) r v
+
+-- ---- members of objects
+
+-- the member is as the shape has it, where it stands and where not
+abbrev pub fits : MemberShape → Option Json → Bool
+fits s None = not s.required
+fits s (Some v) = s.test v
+
+-- each of the shapes has what it asks of the members
+abbrev pub all_fit : List MemberShape → Members → Bool
+all_fit shapes ms = list_all (λ s. fits s (member_of s.name ms)) shapes
+
+-- no member has another name than the shapes
+abbrev pub are_named : List MemberShape → Members → Bool
+are_named shapes no_members = true
+are_named shapes (member n v ms) = list_any (λ s. same_text n s.name) shapes && are_named shapes ms
