@@ -1,2 +1,3 @@
 pub mod MemberShapes
 pub mod PathTexts
+pub mod ToldItems

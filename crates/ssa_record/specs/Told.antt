@@ -11,7 +11,7 @@ use Rattle.ssa_model.specs.definitions.Objects.{content_value}
 use Rattle.ssa_model.specs.definitions.Readings.{Readings}
 use Rattle.ssa_model.specs.definitions.Record as model
 use Rattle.ssa_model.specs.definitions.Record.{Part, BodyRecord, TableRecord}
-use Rattle.ssa_model.specs.definitions.RecordReading.{list_in, item_at, member_in, order_in, path_in, place_given}
+use Rattle.ssa_model.specs.definitions.RecordReading.{list_in, item_at, key_in, member_in, change_in, here_in, order_in, path_in, place_given}
 use Rattle.ssa_model.specs.definitions.RecordText.{part_value}
 use Rattle.ssa_model.specs.definitions.Table as table_model
 use Rattle.ssa_json.specs.View.{view}
@@ -20,6 +20,9 @@ use Rattle.ssa_path.specs.View.{path_view}
 use Rattle.ssa_record.specs.declared.told.ToldBody.{ToldBody}
 use Rattle.ssa_record.specs.declared.told.ToldChange.{ToldChange}
 use Rattle.ssa_record.specs.declared.told.ToldHere.{ToldHere}
+use Rattle.ssa_record.specs.declared.told.ToldLeaf.{ToldLeaf}
+use Rattle.ssa_record.specs.declared.told.ToldOrder.{ToldOrder}
+use Rattle.ssa_record.specs.declared.told.ToldPut.{ToldPut}
 use Rattle.ssa_record.specs.declared.told.ToldTable.{ToldTable}
 
 -- what is told of a body: what is put is its value and the place of an item
@@ -31,12 +34,21 @@ pub record BodyTold : Type 0 where
 
 -- ---- as it was read
 
+abbrev pub told_leaf : ToldLeaf → Path × Json
+told_leaf e = (e.path, view e.value)
+
+abbrev pub told_order : ToldOrder → Path × List Element
+told_order e = (e.path, path_view e.items.items)
+
+abbrev pub told_put : ToldPut → Path × (Json × Option ℕ)
+told_put e = (e.path, (view e.value, e.place))
+
 abbrev pub told_body : ToldBody → BodyTold
 told_body t = record {
   cut = t.cut.items;
-  leaves = map (λ e. (e.path, view e.value)) t.leaves.items;
-  order = map (λ e. (e.path, path_view e.items.items)) t.order.items;
-  put = map (λ e. (e.path, (view e.value, e.place))) t.put.items;
+  leaves = map told_leaf t.leaves.items;
+  order = map told_order t.order.items;
+  put = map told_put t.put.items;
 }
 
 abbrev pub told_change : ToldChange → model.Change
@@ -63,6 +75,14 @@ said_body readings v = record {
   leaves = list_in (said_leaf readings) (member_in (codes "leaves") v);
   order = list_in (order_in readings) (member_in (codes "order") v);
   put = list_in (said_put readings) (member_in (codes "put") v);
+}
+
+-- what it says of a table
+abbrev pub said_table : Readings → Json → TableRecord
+said_table readings v = record {
+  changed = list_in (change_in readings) (member_in (codes "changed") v);
+  gone = list_in key_in (member_in (codes "gone") v);
+  here = list_in (here_in readings) (member_in (codes "here") v);
 }
 
 -- ---- as a record of bodies of a kind is told

@@ -1,6 +1,8 @@
 //! Records of states, read from their JSON values and made ready for their turns.
 #![tactic(auto)]
 
+mod body_reading;
+mod key_reading;
 mod member_names;
 pub mod path_texts;
 pub mod told;

@@ -1,9 +1,10 @@
 //! Texts and lists among JSON values, found by their members' names.
-ghost use Rattle.std.specs.Prelude.{◌≡◌, is_some, option_map, option_and_then};
+ghost use Rattle.std.specs.Prelude.{◌≡◌, MatchOption, is_some, option_map, option_and_then};
 ghost use Rattle.ssa_json.specs.View.{view, items_view, members_view};
 ghost use Rattle.ssa_model.specs.definitions.Json.{as_text, member_of};
 ghost use Rattle.ssa_model.specs.definitions.Schema.{is_text, texts_of};
 ghost use Rattle.ssa_record.specs.PathTexts.{as_list};
+ghost use Rattle.ssa_record.specs.Telling.{IsNoPair, IsNoTriple, pair, triple};
 
 use ssa_json::members::find_member;
 use ssa_json::value::Json;
@@ -50,4 +51,30 @@ pub fn are_texts(items: &[Json]) -> bool
         }
     }
     true
+}
+
+/// The items of a list of two.
+pub fn pair_in(value: &Json) -> Option<(&Json, &Json)>
+    ensures { MatchOption result (IsNoPair (view value.now)) (λ p. view value.now ≡ pair (view p.0.now) (view p.1.now)) }
+{
+    let Json::List(items) = value else {
+        return None;
+    };
+    if items.len() != 2 {
+        return None;
+    }
+    Some((&items[0], &items[1]))
+}
+
+/// The items of a list of three.
+pub fn triple_in(value: &Json) -> Option<(&Json, &Json, &Json)>
+    ensures { MatchOption result (IsNoTriple (view value.now)) (λ p. view value.now ≡ triple (view p.0.now) (view p.1.now) (view p.2.now)) }
+{
+    let Json::List(items) = value else {
+        return None;
+    };
+    if items.len() != 3 {
+        return None;
+    }
+    Some((&items[0], &items[1], &items[2]))
 }
