@@ -23,6 +23,7 @@ use Rattle.ssa_record.specs.declared.told.ToldHere.{ToldHere}
 use Rattle.ssa_record.specs.declared.told.ToldLeaf.{ToldLeaf}
 use Rattle.ssa_record.specs.declared.told.ToldOrder.{ToldOrder}
 use Rattle.ssa_record.specs.declared.told.ToldPut.{ToldPut}
+use Rattle.ssa_record.specs.declared.told.ToldRecord.{ToldRecord}
 use Rattle.ssa_record.specs.declared.told.ToldTable.{ToldTable}
 
 -- what is told of a body: what is put is its value and the place of an item
@@ -60,6 +61,9 @@ told_here h = (h.place, entry_view h.entry)
 abbrev pub told_table : ToldTable → TableRecord
 told_table t = record { changed = map told_change t.changed.items; gone = map key_view t.gone.items; here = map told_here t.here.items }
 
+abbrev pub told_record : ToldRecord → BodyTold × TableRecord
+told_record r = (told_body r.body, told_table r.table)
+
 -- ---- as a value says it
 
 abbrev pub said_leaf : Readings → Json → Path × Json
@@ -84,6 +88,10 @@ said_table readings v = record {
   gone = list_in key_in (member_in (codes "gone") v);
   here = list_in (here_in readings) (member_in (codes "here") v);
 }
+
+-- what it says of a state: of its body, and of its table
+abbrev pub said_record : Readings → Json → BodyTold × TableRecord
+said_record readings v = (said_body readings v, said_table readings v)
 
 -- ---- as a record of bodies of a kind is told
 

@@ -19,7 +19,7 @@ use std::collections::BTreeMap;
 // ---- items
 
 // The leaf of a list of a path and a value.
-fn read_leaf(alloc: Global, value: &Json) -> Result<Option<ToldLeaf>, AllocError>
+pub fn read_leaf(alloc: Global, value: &Json) -> Result<Option<ToldLeaf>, AllocError>
     ensures { IfOk result (λ t. Tells is_leaf told_leaf (said_leaf readings) t (Some (view value.now))) }
 {
     let Some((path, content)) = pair_in(value) else {
@@ -33,7 +33,7 @@ fn read_leaf(alloc: Global, value: &Json) -> Result<Option<ToldLeaf>, AllocError
 }
 
 // The order of a list of a path and the items' texts.
-fn read_order(alloc: Global, value: &Json) -> Result<Option<ToldOrder>, AllocError>
+pub fn read_order(alloc: Global, value: &Json) -> Result<Option<ToldOrder>, AllocError>
     ensures { IfOk result (λ t. Tells is_order told_order (order_in readings) t (Some (view value.now))) }
 {
     let Some((path, order)) = pair_in(value) else {
@@ -78,7 +78,7 @@ fn read_placed(alloc: Global, value: &Json) -> Result<Option<ToldPut>, AllocErro
 }
 
 // What is put, with a place or without.
-fn read_put(alloc: Global, value: &Json) -> Result<Option<ToldPut>, AllocError>
+pub fn read_put(alloc: Global, value: &Json) -> Result<Option<ToldPut>, AllocError>
     ensures { IfOk result (λ t. Tells (is_put readings) told_put (said_put readings) t (Some (view value.now))) }
 {
     match pair_in(value) {
