@@ -1,3 +1,4 @@
 pub mod MemberShapes
+pub mod Objects
 pub mod PathTexts
 pub mod ToldItems

@@ -1,7 +1,7 @@
 -- Members of an object have a shape where they have its names, and each name's member is as the shape asks.
-use Rattle.std.proofs.Common.{◌≡◌, List, [], ◌∷◌, Bool, true, false, cond, not, ◌&&◌, ◌||◌, String, Global, string_bytes, string_cmp, Less, refl, sym, ap, ◌∙◌, true≢false}
+use Rattle.std.proofs.Common.{◌≡◌, List, [], ◌∷◌, Bool, true, false, not, ◌&&◌, ◌||◌, String, Global, string_bytes, string_cmp, Less, refl, sym, ap, ◌∙◌}
 use Rattle.std.proofs.lemmas.Option.{same_Some, none-some}
-use Rattle.std.specs.Prelude.{Option, Some, None, is_some, if◌then◌else◌}
+use Rattle.std.specs.Prelude.{Some, None, is_some, if◌then◌else◌}
 use Rattle.std.specs.List.{list_all, list_any, AllByRecursion}
 use Rattle.std.specs.List.Sorted.{IsStrictlySortedBy}
 use Rattle.std.specs.Map.{keys_of}
@@ -10,7 +10,7 @@ use Rattle.ssa_model.specs.definitions.Json.{Text, Json, object, Members, no_mem
 use Rattle.ssa_model.specs.definitions.RecordReading.{MemberShape, are_members_of, has_members}
 use Rattle.ssa_model.specs.definitions.Schema.{has_member}
 use Rattle.ssa_model.proofs.Tests.{by_test, same_tests}
-use Rattle.ssa_json.specs.View.{view, members_view}
+use Rattle.ssa_json.specs.View.{members_view}
 use Rattle.ssa_json.specs.declared.value.Json as values
 use Rattle.ssa_json.proofs.Equality.{same_text-true, same_text-itself}
 use Rattle.ssa_record.specs.Telling.{fits, all_fit, are_named}

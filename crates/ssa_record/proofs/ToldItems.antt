@@ -1,8 +1,8 @@
 -- What is told of a list's items: of a pair, of a triple, and of all, one after another.
-use Rattle.std.proofs.Common.{◌≡◌, ℕ, zero, suc, ◌+◌, ◌<◌, ◌≤◌, List, [], ◌∷◌, ◌++◌, map, length, get_or, drop, Bool, true, false, ◌&&◌, ◌||◌, refl, sym, ap, subst, ◌∙◌, true≢false, append_assoc, arith, Vec, Global}
+use Rattle.std.proofs.Common.{◌≡◌, ℕ, suc, ◌+◌, ◌<◌, ◌≤◌, List, [], ◌∷◌, ◌++◌, map, length, get_or, drop, Bool, true, false, ◌&&◌, refl, sym, ap, ◌∙◌, append_assoc, arith, Vec, Global}
 use Rattle.std.proofs.lemmas.List.{append-nil, drop_more, drop_all, map-append}
-use Rattle.std.specs.Prelude.{Option, Some, None, option_and_then, option_map}
-use Rattle.ssa_model.specs.definitions.Json.{Text, Json, scalar, list, object, Items, no_items, item, as_text}
+use Rattle.std.specs.Prelude.{Option, Some, None, option_and_then}
+use Rattle.ssa_model.specs.definitions.Json.{Json, scalar, list, object, Items}
 use Rattle.ssa_model.specs.definitions.RecordReading.{Test, all_items, items_in, is_list_of, list_in, has_items, items_pass}
 use Rattle.ssa_model.specs.definitions.Commands.{value_in}
 use Rattle.ssa_json.specs.View.{view, items_view}

@@ -1,5 +1,5 @@
 -- What reading a part of a record answers: what it tells, where the value has its shape.
-use Rattle.std.specs.Prelude.{◌≡◌, true, false, not, Bool, List, [], ◌∷◌, map, ◌&&◌, Option, Some, None, Vec, option_and_then, codes}
+use Rattle.std.specs.Prelude.{◌≡◌, true, false, not, Bool, List, [], ◌∷◌, map, ◌&&◌, Option, Some, None, Vec, option_and_then}
 use Rattle.std.specs.Global.{Global}
 use Rattle.std.specs.List.{list_any, list_all}
 use Rattle.ssa_model.specs.definitions.Json.{Text, Json, list, no_items, item, Members, no_members, member, member_of, same_text, as_text}

@@ -1,5 +1,5 @@
 -- What the value of a record tells, list by list, and which record is told by it.
-use Rattle.std.specs.Prelude.{◌≡◌, ℕ, List, map, Option, Some, codes}
+use Rattle.std.specs.Prelude.{ℕ, List, map, Option, Some, codes}
 use Rattle.ssa_model.specs.definitions.Json.{Json}
 use Rattle.ssa_model.specs.definitions.Path.{Element, Path}
 use Rattle.ssa_model.specs.definitions.PathMap.{paths}

@@ -1,12 +1,13 @@
 // What the value of a record tells of a table.
-ghost use Rattle.std.specs.Prelude.{◌≡◌, Some, false, IfOk, MatchOption, codes};
+ghost use Rattle.std.specs.Prelude.{◌≡◌, ◌&&◌, Some, false, IfOk, MatchOption, codes};
 ghost use Rattle.ssa_json.specs.Readings.{readings};
 ghost use Rattle.ssa_json.specs.View.{view, members_view};
 ghost use Rattle.ssa_merge.specs.Managers.{entry_view};
 ghost use Rattle.ssa_model.specs.definitions.Json.{member_of, object};
 ghost use Rattle.ssa_model.specs.definitions.RecordReading.{change_in, change_shape, entry_shape, has_members, here_in, here_shape};
+ghost use Rattle.ssa_model.specs.definitions.Schema.{is_text};
 ghost use Rattle.ssa_record.specs.Shapes.{are_table_lists, entry_in, TellsTable};
-ghost use Rattle.ssa_record.specs.Telling.{Tells, TellsList, TellsMoment};
+ghost use Rattle.ssa_record.specs.Telling.{passes, Tells, TellsList, TellsMoment};
 ghost use Rattle.ssa_record.specs.Told.{told_change, told_here};
 
 use crate::key_reading::{key_at, told_gone};
@@ -71,14 +72,21 @@ fn read_change(alloc: Global, value: &Json) -> Result<Option<ToldChange>, AllocE
     }
 }
 
+// Whether the members `apiVersion` and `fieldsType` are texts.
+fn has_entry_texts(members: &BTreeMap<String, Json>) -> bool
+    ensures { result ≡ (passes is_text (member_of (codes "apiVersion") (members_view members.now.entries)) && passes is_text (member_of (codes "fieldsType") (members_view members.now.entries))) }
+{
+    text_of(members, "apiVersion").is_some() && text_of(members, "fieldsType").is_some()
+}
+
 // The entry of these members. Its `apiVersion` and its `fieldsType` may be any texts.
 fn entry_of(alloc: Global, members: &BTreeMap<String, Json>) -> Result<Option<Entry>, AllocError>
     ensures { IfOk result (λ t. Tells (has_members (entry_shape readings)) entry_view entry_in t (Some (object (members_view members.now.entries)))) }
 {
-    if !have_names_of(Shape::Entry, members)
-        || text_of(members, "apiVersion").is_none()
-        || text_of(members, "fieldsType").is_none()
-    {
+    if !have_names_of(Shape::Entry, members) {
+        return Ok(None);
+    }
+    if !has_entry_texts(members) {
         return Ok(None);
     }
     let Some(set) = set_at(alloc, members, "fieldsV1")? else {
