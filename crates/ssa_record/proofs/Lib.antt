@@ -1,4 +1,5 @@
 pub mod MemberShapes
 pub mod Objects
 pub mod PathTexts
+pub mod RecordTextsSay
 pub mod ToldItems

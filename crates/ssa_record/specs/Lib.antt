@@ -1,4 +1,5 @@
 pub mod PathTexts
+pub mod Said
 pub mod Shapes
 pub mod Telling
 pub mod Told

@@ -6,6 +6,7 @@ mod body_reading;
 mod key_reading;
 mod member_names;
 pub mod path_texts;
+pub mod reading_said;
 mod table_reading;
 pub mod told;
 mod told_parts;
