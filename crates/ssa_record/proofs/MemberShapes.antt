@@ -54,35 +54,45 @@ are-found (member n v ms) h = (ap (λ b. if b then Some v else member_of n ms) (
 
 -- ---- tests of lists
 
-named-any : (n : Text) (v : Json) (shapes : List MemberShape) → list_any (λ s. same_text n s.name && s.test v) shapes ≡ true → list_any (λ s. same_text n s.name) shapes ≡ true
+abbrev has_name : Text → MemberShape → Bool
+has_name n s = same_text n s.name
+
+abbrev tests_at : Text → Json → MemberShape → Bool
+tests_at n v s = same_text n s.name && s.test v
+
+abbrev is_there : Members → MemberShape → Bool
+is_there ms s = not s.required || has_member s.name ms
+
+named-any : (n : Text) (v : Json) (shapes : List MemberShape) → list_any (tests_at n v) shapes ≡ true → list_any (has_name n) shapes ≡ true
 named-any n v [] h = h
 named-any n v (s ∷ ss) h =
     by_test (same_text n s.name)
-    (λ t. ap (λ b. b || list_any (λ s. same_text n s.name) ss) t)
-    (λ f. ap (λ b. b || list_any (λ s. same_text n s.name) ss) f ∙ named-any n v ss (sym (ap (λ b. (b && s.test v) || list_any (λ s. same_text n s.name && s.test v) ss) f) ∙ h))
+    (λ t. ap (λ b. b || list_any (has_name n) ss) t)
+    (λ f. ap (λ b. b || list_any (has_name n) ss) f ∙ named-any n v ss (sym (ap (λ b. (b && s.test v) || list_any (tests_at n v) ss) f) ∙ h))
 
-any-fits : (n : Text) (v : Json) (whole : Members) (shapes : List MemberShape) → member_of n whole ≡ Some v → list_any (λ s. same_text n s.name) shapes ≡ true → all_fit shapes whole ≡ true
-    → list_any (λ s. same_text n s.name && s.test v) shapes ≡ true
+any-fits : (n : Text) (v : Json) (whole : Members) (shapes : List MemberShape) → member_of n whole ≡ Some v → list_any (has_name n) shapes ≡ true
+    → all_fit shapes whole ≡ true → list_any (tests_at n v) shapes ≡ true
 any-fits n v whole [] is named h = named
 any-fits n v whole (s ∷ ss) is named h =
     by_test (same_text n s.name)
     (λ t.
-    let here : fits s (Some v) ≡ true = ap (fits s) (sym is ∙ ap (λ x. member_of x whole) (same_text-true n s.name t)) ∙ first_so (fits s (member_of s.name whole)) (all_fit ss whole) h in
-    λ i. (t i && here i) || list_any (λ s. same_text n s.name && s.test v) ss)
+    let here : fits s (Some v) ≡ true =
+    ap (fits s) (sym is ∙ ap (λ x. member_of x whole) (same_text-true n s.name t)) ∙ first_so (fits s (member_of s.name whole)) (all_fit ss whole) h in
+    λ i. (t i && here i) || list_any (tests_at n v) ss)
     (λ f.
-    let rest = any-fits n v whole ss is (sym (ap (λ b. b || list_any (λ s. same_text n s.name) ss) f) ∙ named) (second_so (fits s (member_of s.name whole)) (all_fit ss whole) h) in
-    ap (λ b. (b && s.test v) || list_any (λ s. same_text n s.name && s.test v) ss) f ∙ rest)
+    let rest = any-fits n v whole ss is (sym (ap (λ b. b || list_any (has_name n) ss) f) ∙ named) (second_so (fits s (member_of s.name whole)) (all_fit ss whole) h) in
+    ap (λ b. (b && s.test v) || list_any (tests_at n v) ss) f ∙ rest)
 
 -- a member's value passes one of the tests of its name
 member-tested : (shapes : List MemberShape) (ms : Members) (n : Text) (v : Json) → are_members_of shapes ms ≡ true → member_of n ms ≡ Some v
-    → list_any (λ s. same_text n s.name && s.test v) shapes ≡ true
+    → list_any (tests_at n v) shapes ≡ true
 member-tested shapes no_members n v are is = absurd (none-some v is)
 member-tested shapes (member m w ms) n v are is =
     by_test (same_text n m)
     (λ t.
     let values : w ≡ v = same_Some w v (sym (ap (λ b. if b then Some w else member_of n ms) t) ∙ is) in
-    (λ i. list_any (λ s. same_text (same_text-true n m t i) s.name && s.test (sym values i)) shapes) ∙ first_so (list_any (λ s. same_text m s.name && s.test w) shapes) (are_members_of shapes ms) are)
-    (λ f. member-tested shapes ms n v (second_so (list_any (λ s. same_text m s.name && s.test w) shapes) (are_members_of shapes ms) are) (sym (ap (λ b. if b then Some w else member_of n ms) f) ∙ is))
+    (λ i. list_any (tests_at (same_text-true n m t i) (sym values i)) shapes) ∙ first_so (list_any (tests_at m w) shapes) (are_members_of shapes ms) are)
+    (λ f. member-tested shapes ms n v (second_so (list_any (tests_at m w) shapes) (are_members_of shapes ms) are) (sym (ap (λ b. if b then Some w else member_of n ms) f) ∙ is))
 
 -- ---- the shape
 
@@ -94,23 +104,23 @@ module _ (shapes : List MemberShape) where
   named-all : (ms : Members) → are_members_of shapes ms ≡ true → are_named shapes ms ≡ true
   named-all no_members h = refl
   named-all (member n v ms) h =
-      let here = named-any n v shapes (first_so (list_any (λ s. same_text n s.name && s.test v) shapes) (are_members_of shapes ms) h) in
-      let rest = named-all ms (second_so (list_any (λ s. same_text n s.name && s.test v) shapes) (are_members_of shapes ms) h) in
+      let here = named-any n v shapes (first_so (list_any (tests_at n v) shapes) (are_members_of shapes ms) h) in
+      let rest = named-all ms (second_so (list_any (tests_at n v) shapes) (are_members_of shapes ms) h) in
       λ i. here i && rest i
 
   shaped-all : (whole ms : Members) → AreFound whole ms → are_named shapes ms ≡ true → all_fit shapes whole ≡ true → are_members_of shapes ms ≡ true
   shaped-all whole no_members found named h = refl
   shaped-all whole (member n v ms) found named h =
-      let here = any-fits n v whole shapes found.0 (first_so (list_any (λ s. same_text n s.name) shapes) (are_named shapes ms) named) h in
-      let rest = shaped-all whole ms found.1 (second_so (list_any (λ s. same_text n s.name) shapes) (are_named shapes ms) named) h in
+      let here = any-fits n v whole shapes found.0 (first_so (list_any (has_name n) shapes) (are_named shapes ms) named) h in
+      let rest = shaped-all whole ms found.1 (second_so (list_any (has_name n) shapes) (are_named shapes ms) named) h in
       λ i. here i && rest i
 
-  fits-all : (ms : Members) (ss : List MemberShape) → AreApart shapes ss → are_members_of shapes ms ≡ true → list_all (λ s. not s.required || has_member s.name ms) ss ≡ true
+  fits-all : (ms : Members) (ss : List MemberShape) → AreApart shapes ss → are_members_of shapes ms ≡ true → list_all (is_there ms) ss ≡ true
       → all_fit ss ms ≡ true
   fits-all ms [] apart are there = refl
   fits-all ms (s ∷ ss) apart are there =
-      let first : (not s.required || has_member s.name ms) ≡ true = first_so (not s.required || has_member s.name ms) (list_all (λ s. not s.required || has_member s.name ms) ss) there in
-      let rest = fits-all ms ss apart.1 are (second_so (not s.required || has_member s.name ms) (list_all (λ s. not s.required || has_member s.name ms) ss) there) in
+      let first : (not s.required || has_member s.name ms) ≡ true = first_so (not s.required || has_member s.name ms) (list_all (is_there ms) ss) there in
+      let rest = fits-all ms ss apart.1 are (second_so (not s.required || has_member s.name ms) (list_all (is_there ms) ss) there) in
       let here : fits s (member_of s.name ms) ≡ true =
       elim (member_of s.name ms) as (λ o. member_of s.name ms ≡ o → (not s.required || is_some o) ≡ true → fits s o ≡ true) [
         | None ↦ λ _ h. none-there (not s.required) h
@@ -122,7 +132,7 @@ module _ (shapes : List MemberShape) where
       none-there true h = refl
       none-there false h = h
 
-  there-all : (ms : Members) (ss : List MemberShape) → all_fit ss ms ≡ true → list_all (λ s. not s.required || has_member s.name ms) ss ≡ true
+  there-all : (ms : Members) (ss : List MemberShape) → all_fit ss ms ≡ true → list_all (is_there ms) ss ≡ true
   there-all ms [] h = refl
   there-all ms (s ∷ ss) h =
       let rest = there-all ms ss (second_so (fits s (member_of s.name ms)) (all_fit ss ms) h) in
@@ -142,7 +152,7 @@ module _ (shapes : List MemberShape) where
       → has_members shapes (object (members_view es)) ≡ (are_named shapes (members_view es) && all_fit shapes (members_view es))
   shape-fits es sorted apart =
       let ms = members_view es in
-      let required = list_all (λ s. not s.required || has_member s.name ms) shapes in
+      let required = list_all (is_there ms) shapes in
       same_tests (are_members_of shapes ms && required) (are_named shapes ms && all_fit shapes ms)
       (λ h.
       let are = first_so (are_members_of shapes ms) required h in

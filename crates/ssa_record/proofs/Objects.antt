@@ -41,12 +41,37 @@ text-there test (Some v) h = refl
 -- ---- at the name of each shape of an object no other shape tests
 
 change-apart : AreApart (change_shape readings) (change_shape readings)
-change-apart =
-    (λ v. or-false (is_fields readings v), (λ v. or-false (is_fields readings v), (λ v. or-false (is_text v), (λ v. or-false (is_operation v), (λ v. or-false (is_moment readings v), tt)))))
+change-apart = (
+  λ v. or-false (is_fields readings v),
+  (
+    λ v. or-false (is_fields readings v),
+    (
+      λ v. or-false (is_text v),
+      (
+        λ v. or-false (is_operation v),
+        (λ v. or-false (is_moment readings v), tt),
+      ),
+    ),
+  ),
+)
 
 entry-apart : AreApart (entry_shape readings) (entry_shape readings)
-entry-apart =
-    (λ v. or-false (is_text v), (λ v. or-false (is_text v), (λ v. or-false (is_fields readings v), (λ v. or-false (is_text v), (λ v. or-false (is_operation v), (λ v. or-false (is_moment readings v), tt))))))
+entry-apart = (
+  λ v. or-false (is_text v),
+  (
+    λ v. or-false (is_text v),
+    (
+      λ v. or-false (is_fields readings v),
+      (
+        λ v. or-false (is_text v),
+        (
+          λ v. or-false (is_operation v),
+          (λ v. or-false (is_moment readings v), tt),
+        ),
+      ),
+    ),
+  ),
+)
 
 here-apart : AreApart (here_shape readings) (here_shape readings)
 here-apart = (λ v. or-false (has_members (entry_shape readings) v), (λ v. or-false (is_whole v), tt))
@@ -161,10 +186,12 @@ module _ (es : List Found) (sorted : IsStrictlySortedBy string_cmp (keys_of es))
       entry-key f k = entry-is ∙ (λ i. n i && (first_so version type t i && (second_so version type t i && (f i && both-refused name operation (time && true) k i))))
 
       pub entry-time : fields ≡ true → name ≡ true → operation ≡ true → time ≡ false → is_entry ≡ false
-      entry-time f m o at = entry-is ∙ (λ i. n i && (first_so version type t i && (second_so version type t i && (f i && (m i && (o i && (at i && true)))))))
+      entry-time f m o at =
+          entry-is ∙ (λ i. n i && (first_so version type t i && (second_so version type t i && (f i && (m i && (o i && (at i && true)))))))
 
       pub entry-all : fields ≡ true → name ≡ true → operation ≡ true → time ≡ true → is_entry ≡ true
-      entry-all f m o at = entry-is ∙ (λ i. n i && (first_so version type t i && (second_so version type t i && (f i && (m i && (o i && (at i && true)))))))
+      entry-all f m o at =
+          entry-is ∙ (λ i. n i && (first_so version type t i && (second_so version type t i && (f i && (m i && (o i && (at i && true)))))))
 
   -- ---- an entry that is here
 

@@ -78,7 +78,8 @@ module _ (readings : Readings) where
       ] refl h
 
   text-more : (e : Element) (p : Path) (o : Option (List Text)) → (is_read_path readings o ≡ true → path_of readings.value (texts_or_none o) ≡ Ok p)
-      → is_read_path readings (option_map (λ ts. element_text e ∷ ts) o) ≡ true → path_of readings.value (texts_or_none (option_map (λ ts. element_text e ∷ ts) o)) ≡ Ok (e ∷ p)
+      → is_read_path readings (option_map (λ ts. element_text e ∷ ts) o) ≡ true
+      → path_of readings.value (texts_or_none (option_map (λ ts. element_text e ∷ ts) o)) ≡ Ok (e ∷ p)
   text-more e p None rest h = absurd (true≢false (sym h))
   text-more e p (Some ts) rest h = element-read e p (path_of readings.value ts) rest h
 
@@ -99,7 +100,9 @@ module _ (readings : Readings) where
   order-said : (e : Path × List Element) → has_items (is_path readings ∷ is_path readings ∷ []) (order_json e) ≡ true → order_in readings (order_json e) ≡ e
   order-said e h =
       let later = second_so (is_path readings (path_json e.0)) (is_path readings (path_json e.1) && true) h in
-      λ i. (path-said e.0 (first_so (is_path readings (path_json e.0)) (is_path readings (path_json e.1) && true) h) i, path-said e.1 (first_so (is_path readings (path_json e.1)) true later) i)
+      let path = path-said e.0 (first_so (is_path readings (path_json e.0)) (is_path readings (path_json e.1) && true) h) in
+      let items = path-said e.1 (first_so (is_path readings (path_json e.1)) true later) in
+      λ i. (path i, items i)
 
   either : (a b c : Bool) → ((a && b) || (a && c)) ≡ true → a ≡ true
   either true b c h = refl
@@ -111,8 +114,12 @@ module _ (readings : Readings) where
       by : (o : Option ℕ) → is_put readings (list (item (path_json e.0) (item (part_value (place_at (of_kind kind) e.0) e.1.below) (place_items o)))) ≡ true
           → said_put readings (list (item (path_json e.0) (item (part_value (place_at (of_kind kind) e.0) e.1.below) (place_items o))))
           ≡ (e.0, (part_value (place_at (of_kind kind) e.0) e.1.below, o))
-      by None h = λ i. (path-said e.0 (either (is_path readings (path_json e.0)) true false h) i, (part_value (place_at (of_kind kind) e.0) e.1.below, None))
-      by (Some n) h = λ i. (path-said e.0 (either (is_path readings (path_json e.0)) false true h) i, (part_value (place_at (of_kind kind) e.0) e.1.below, Some n))
+      by None h =
+          let path = path-said e.0 (either (is_path readings (path_json e.0)) true false h) in
+          λ i. (path i, (part_value (place_at (of_kind kind) e.0) e.1.below, None))
+      by (Some n) h =
+          let path = path-said e.0 (either (is_path readings (path_json e.0)) false true h) in
+          λ i. (path i, (part_value (place_at (of_kind kind) e.0) e.1.below, Some n))
 
   -- ---- the lists of a body
 

@@ -22,7 +22,8 @@ fn told_cut(
     alloc: Global,
     members: &BTreeMap<String, Json>,
 ) -> Result<Option<Vec<Path>>, AllocError>
-    ensures { IfOk result (λ t. TellsList (is_path readings) (λ p. p) (λ v. path_in readings (Some v)) t (member_of (codes "cut") (members_view members.now.entries))) }
+    ensures { IfOk result (λ t. TellsList (is_path readings) (λ p. p) (λ v. path_in readings (Some v)) t
+        (member_of (codes "cut") (members_view members.now.entries))) }
 {
     let Some(items) = list_of(members, "cut") else {
         return Ok(None);
@@ -102,7 +103,8 @@ pub fn body_of(
     alloc: Global,
     members: &BTreeMap<String, Json>,
 ) -> Result<Option<ToldBody>, AllocError>
-    ensures { IfOk result (λ t. MatchOption t (are_body_lists (members_view members.now.entries) ≡ false) (λ b. TellsBody b (members_view members.now.entries))) }
+    ensures { IfOk result (λ t. MatchOption t (are_body_lists (members_view members.now.entries) ≡ false)
+        (λ b. TellsBody b (members_view members.now.entries))) }
 {
     let Some(cut) = told_cut(alloc, members)? else {
         return Ok(None);

@@ -39,7 +39,8 @@ pub fn key_at(
     alloc: Global,
     members: &BTreeMap<String, Json>,
 ) -> Result<Option<ManagerKey>, AllocError>
-    ensures { IfOk result (λ t. TellsKey t (member_of (codes "manager") (members_view members.now.entries)) (member_of (codes "operation") (members_view members.now.entries))) }
+    ensures { IfOk result (λ t. TellsKey t
+        (member_of (codes "manager") (members_view members.now.entries)) (member_of (codes "operation") (members_view members.now.entries))) }
 {
     let Some(name) = find_member(members, "manager") else {
         return Ok(None);

@@ -38,7 +38,8 @@ fn change_of(
     alloc: Global,
     members: &BTreeMap<String, Json>,
 ) -> Result<Option<ToldChange>, AllocError>
-    ensures { IfOk result (λ t. Tells (has_members (change_shape readings)) told_change (change_in readings) t (Some (object (members_view members.now.entries)))) }
+    ensures { IfOk result (λ t. Tells (has_members (change_shape readings)) told_change (change_in readings) t
+        (Some (object (members_view members.now.entries)))) }
 {
     if !have_names_of(Shape::Change, members) {
         return Ok(None);
@@ -74,7 +75,8 @@ fn read_change(alloc: Global, value: &Json) -> Result<Option<ToldChange>, AllocE
 
 // Whether the members `apiVersion` and `fieldsType` are texts.
 fn has_entry_texts(members: &BTreeMap<String, Json>) -> bool
-    ensures { result ≡ (passes is_text (member_of (codes "apiVersion") (members_view members.now.entries)) && passes is_text (member_of (codes "fieldsType") (members_view members.now.entries))) }
+    ensures { result ≡ (passes is_text (member_of (codes "apiVersion") (members_view members.now.entries))
+        && passes is_text (member_of (codes "fieldsType") (members_view members.now.entries))) }
 {
     text_of(members, "apiVersion").is_some() && text_of(members, "fieldsType").is_some()
 }
@@ -112,7 +114,8 @@ fn read_entry(alloc: Global, value: &Json) -> Result<Option<Entry>, AllocError>
 
 // The entry of the member `entry`.
 fn entry_at(alloc: Global, members: &BTreeMap<String, Json>) -> Result<Option<Entry>, AllocError>
-    ensures { IfOk result (λ t. Tells (has_members (entry_shape readings)) entry_view entry_in t (member_of (codes "entry") (members_view members.now.entries))) }
+    ensures { IfOk result (λ t. Tells (has_members (entry_shape readings)) entry_view entry_in t
+        (member_of (codes "entry") (members_view members.now.entries))) }
 {
     match find_member(members, "entry") {
         Some(value) => read_entry(alloc, value),
@@ -150,7 +153,8 @@ fn told_changes(
     alloc: Global,
     members: &BTreeMap<String, Json>,
 ) -> Result<Option<Vec<ToldChange>>, AllocError>
-    ensures { IfOk result (λ t. TellsList (has_members (change_shape readings)) told_change (change_in readings) t (member_of (codes "changed") (members_view members.now.entries))) }
+    ensures { IfOk result (λ t. TellsList (has_members (change_shape readings)) told_change (change_in readings) t
+        (member_of (codes "changed") (members_view members.now.entries))) }
 {
     let Some(items) = list_of(members, "changed") else {
         return Ok(None);
@@ -170,7 +174,8 @@ fn told_entries(
     alloc: Global,
     members: &BTreeMap<String, Json>,
 ) -> Result<Option<Vec<ToldHere>>, AllocError>
-    ensures { IfOk result (λ t. TellsList (has_members (here_shape readings)) told_here (here_in readings) t (member_of (codes "here") (members_view members.now.entries))) }
+    ensures { IfOk result (λ t. TellsList (has_members (here_shape readings)) told_here (here_in readings) t
+        (member_of (codes "here") (members_view members.now.entries))) }
 {
     let Some(items) = list_of(members, "here") else {
         return Ok(None);
@@ -190,7 +195,8 @@ pub fn table_of(
     alloc: Global,
     members: &BTreeMap<String, Json>,
 ) -> Result<Option<ToldTable>, AllocError>
-    ensures { IfOk result (λ t. MatchOption t (are_table_lists (members_view members.now.entries) ≡ false) (λ a. TellsTable a (members_view members.now.entries))) }
+    ensures { IfOk result (λ t. MatchOption t (are_table_lists (members_view members.now.entries) ≡ false)
+        (λ a. TellsTable a (members_view members.now.entries))) }
 {
     let Some(changed) = told_changes(alloc, members)? else {
         return Ok(None);

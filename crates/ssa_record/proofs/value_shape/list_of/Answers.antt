@@ -4,7 +4,9 @@ use Rattle.ssa_record.specs.PathTexts.{as_list}
 use Rattle.ssa_record.proofs.value_shape.list_of.Goals as goal
 
 pub returns-in_err-find_member : goal.returns-in_err-find_member
-returns-in_err-find_member c = ap (option_map (λ t. items_view t.now)) c.from_residual.ensures ∙ ap (option_and_then as_list) (sym (ap (option_map (λ v. view v.now)) c.in_err-find_member.was) ∙ c.find_member.ensures)
+returns-in_err-find_member c =
+    ap (option_map (λ t. items_view t.now)) c.from_residual.ensures
+    ∙ ap (option_and_then as_list) (sym (ap (option_map (λ v. view v.now)) c.in_err-find_member.was) ∙ c.find_member.ensures)
 
 pub returns : goal.returns
 returns c = c.as_list.ensures ∙ ap (option_and_then as_list) (sym (ap (option_map (λ v. view v.now)) c.in_ok-find_member.was) ∙ c.find_member.ensures)

@@ -10,4 +10,5 @@ returns-then-len-ne3 c s t u =
 pub returns : goal.returns
 returns c =
     list-seen c.args.value.now c.in-List.items c.in-List.is
-    ∙ three-items c.in-List.items.items c.index.result.now c.index-2.result.now c.index-3.result.now (omega arith) c.index.ensures c.index-2.ensures c.index-3.ensures
+    ∙ three-items c.in-List.items.items c.index.result.now c.index-2.result.now c.index-3.result.now (omega arith)
+    c.index.ensures c.index-2.ensures c.index-3.ensures
