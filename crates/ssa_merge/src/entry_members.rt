@@ -76,7 +76,8 @@ fn text_at<'a>(members: &'a BTreeMap<String, Json>, name: &str) -> &'a str
     }
 }
 
-fn operation_of(text: &str) -> Option<Operation>
+/// The operation of this word in `managedFields`, where it is one.
+pub fn operation_of(text: &str) -> Option<Operation>
     ensures { option_map operation_view result ≡ operation_of text.now }
 {
     if is_same_text(text, "Apply") {

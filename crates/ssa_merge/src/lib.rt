@@ -6,7 +6,7 @@ pub mod entries;
 pub mod entries_back;
 pub mod entries_read;
 pub mod entry_fault;
-mod entry_members;
+pub mod entry_members;
 pub mod entry_read;
 pub mod given_up;
 pub mod manager;

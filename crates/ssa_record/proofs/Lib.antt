@@ -9,8 +9,13 @@ mod LedMembers
 mod LedPlaces
 mod LedPuts
 mod LedUntouched
+pub mod MemberShapes
+pub mod Objects
 mod PathSearch
+pub mod PathTexts
+pub mod RecordTextsSay
 mod RefilledOrder
 mod Slots
+pub mod ToldItems
 mod ToldLists
 mod Touched

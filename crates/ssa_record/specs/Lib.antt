@@ -1,7 +1,11 @@
 pub mod LedBodies
 pub mod LedValues
 pub mod PathOrder
+pub mod PathTexts
 pub mod Places
 pub mod Refilled
+pub mod Said
+pub mod Shapes
+pub mod Telling
 pub mod Told
 pub mod ToldEntries

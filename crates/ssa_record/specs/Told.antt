@@ -1,5 +1,5 @@
 -- What the value of a record tells, list by list, and which record is told by it.
-use Rattle.std.specs.Prelude.{◌≡◌, ℕ, List, map, Option, Some, codes}
+use Rattle.std.specs.Prelude.{ℕ, List, map, Option, Some, codes}
 use Rattle.ssa_model.specs.definitions.Json.{Json}
 use Rattle.ssa_model.specs.definitions.Path.{Element, Path}
 use Rattle.ssa_model.specs.definitions.PathMap.{paths}
@@ -11,7 +11,7 @@ use Rattle.ssa_model.specs.definitions.Objects.{content_value}
 use Rattle.ssa_model.specs.definitions.Readings.{Readings}
 use Rattle.ssa_model.specs.definitions.Record as model
 use Rattle.ssa_model.specs.definitions.Record.{Part, BodyRecord, TableRecord}
-use Rattle.ssa_model.specs.definitions.RecordReading.{list_in, item_at, member_in, order_in, path_in, place_given}
+use Rattle.ssa_model.specs.definitions.RecordReading.{list_in, item_at, key_in, member_in, change_in, here_in, order_in, path_in, place_given}
 use Rattle.ssa_model.specs.definitions.RecordText.{part_value}
 use Rattle.ssa_model.specs.definitions.Table as table_model
 use Rattle.ssa_json.specs.View.{view}
@@ -20,6 +20,10 @@ use Rattle.ssa_path.specs.View.{path_view}
 use Rattle.ssa_record.specs.declared.told.ToldBody.{ToldBody}
 use Rattle.ssa_record.specs.declared.told.ToldChange.{ToldChange}
 use Rattle.ssa_record.specs.declared.told.ToldHere.{ToldHere}
+use Rattle.ssa_record.specs.declared.told.ToldLeaf.{ToldLeaf}
+use Rattle.ssa_record.specs.declared.told.ToldOrder.{ToldOrder}
+use Rattle.ssa_record.specs.declared.told.ToldPut.{ToldPut}
+use Rattle.ssa_record.specs.declared.told.ToldRecord.{ToldRecord}
 use Rattle.ssa_record.specs.declared.told.ToldTable.{ToldTable}
 
 -- what is told of a body: what is put is its value and the place of an item
@@ -31,12 +35,21 @@ pub record BodyTold : Type 0 where
 
 -- ---- as it was read
 
+abbrev pub told_leaf : ToldLeaf → Path × Json
+told_leaf e = (e.path, view e.value)
+
+abbrev pub told_order : ToldOrder → Path × List Element
+told_order e = (e.path, path_view e.items.items)
+
+abbrev pub told_put : ToldPut → Path × (Json × Option ℕ)
+told_put e = (e.path, (view e.value, e.place))
+
 abbrev pub told_body : ToldBody → BodyTold
 told_body t = record {
   cut = t.cut.items;
-  leaves = map (λ e. (e.path, view e.value)) t.leaves.items;
-  order = map (λ e. (e.path, path_view e.items.items)) t.order.items;
-  put = map (λ e. (e.path, (view e.value, e.place))) t.put.items;
+  leaves = map told_leaf t.leaves.items;
+  order = map told_order t.order.items;
+  put = map told_put t.put.items;
 }
 
 abbrev pub told_change : ToldChange → model.Change
@@ -47,6 +60,9 @@ told_here h = (h.place, entry_view h.entry)
 
 abbrev pub told_table : ToldTable → TableRecord
 told_table t = record { changed = map told_change t.changed.items; gone = map key_view t.gone.items; here = map told_here t.here.items }
+
+abbrev pub told_record : ToldRecord → BodyTold × TableRecord
+told_record r = (told_body r.body, told_table r.table)
 
 -- ---- as a value says it
 
@@ -64,6 +80,18 @@ said_body readings v = record {
   order = list_in (order_in readings) (member_in (codes "order") v);
   put = list_in (said_put readings) (member_in (codes "put") v);
 }
+
+-- what it says of a table
+abbrev pub said_table : Readings → Json → TableRecord
+said_table readings v = record {
+  changed = list_in (change_in readings) (member_in (codes "changed") v);
+  gone = list_in key_in (member_in (codes "gone") v);
+  here = list_in (here_in readings) (member_in (codes "here") v);
+}
+
+-- what it says of a state: of its body, and of its table
+abbrev pub said_record : Readings → Json → BodyTold × TableRecord
+said_record readings v = (said_body readings v, said_table readings v)
 
 -- ---- as a record of bodies of a kind is told
 

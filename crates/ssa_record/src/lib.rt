@@ -1,10 +1,20 @@
 //! Records of states, read from their JSON values and made ready for their turns.
 #![tactic(auto)]
 
+mod body_lists;
+mod body_reading;
 pub mod by_path;
+mod key_reading;
 pub mod led_value;
+mod member_names;
 pub mod order_after;
+pub mod path_texts;
 pub mod places;
+pub mod reading_said;
+mod table_reading;
 pub mod told;
+mod told_parts;
 pub mod told_places;
+pub mod told_reading;
 pub mod told_steps;
+pub mod value_shape;

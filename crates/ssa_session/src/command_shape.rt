@@ -1,16 +1,16 @@
 // Which JSON objects are commands, by their members.
-ghost use Rattle.std.specs.Prelude.{◌≡◌, ◌||◌, not, Some, None, MatchOption, is_some, option_map, option_and_then};
+ghost use Rattle.std.specs.Prelude.{◌≡◌, ◌||◌, not, Some, None, MatchOption, is_some, option_and_then};
 ghost use Rattle.std.specs.List.{list_all};
-ghost use Rattle.ssa_json.specs.View.{view, items_view, members_view};
-ghost use Rattle.ssa_model.specs.definitions.Json.{same_text, as_text, member_of};
-ghost use Rattle.ssa_model.specs.definitions.Schema.{has_member, is_text, list_of_texts, texts_of};
+ghost use Rattle.ssa_json.specs.View.{view, members_view};
+ghost use Rattle.ssa_model.specs.definitions.Json.{same_text};
+ghost use Rattle.ssa_model.specs.definitions.Schema.{has_member, list_of_texts};
 ghost use Rattle.ssa_model.specs.definitions.Commands.{rule_of, word_of, is_truth, is_known_member, are_known_members, follows_rule};
-ghost use Rattle.ssa_session.specs.PathTexts.{as_list};
 ghost use Rattle.ssa_session.specs.Commands.{word_text, member_rules, rule_at};
 
-use ssa_json::members::{find_member, has_member};
+use ssa_json::members::has_member;
 use ssa_json::text::is_same_text;
 use ssa_json::value::{Json, Scalar};
+use ssa_record::value_shape::{are_texts, is_text, text_of};
 use std::collections::BTreeMap;
 
 /// What a command does, as its member `do` says.
@@ -50,30 +50,6 @@ fn word_of_text(text: &str) -> Option<Word>
     }
 }
 
-/// The text of the member of a name, where it is one.
-pub fn text_of<'a>(members: &'a BTreeMap<String, Json>, name: &str) -> Option<&'a str>
-    ensures { option_map (λ text. text.now) result ≡ option_and_then as_text (member_of name.now (members_view members.now.entries)) }
-{
-    find_member(members, name)?.as_text()
-}
-
-// The items, where the value is a list.
-fn as_list(value: &Json) -> Option<&[Json]>
-    ensures { option_map (λ items. items_view items.now) result ≡ as_list (view value.now) }
-{
-    match value {
-        Json::List(items) => Some(items.as_slice()),
-        _ => None,
-    }
-}
-
-/// The items of the member of a name, where it is a list.
-pub fn list_of<'a>(members: &'a BTreeMap<String, Json>, name: &str) -> Option<&'a [Json]>
-    ensures { option_map (λ items. items_view items.now) result ≡ option_and_then as_list (member_of name.now (members_view members.now.entries)) }
-{
-    as_list(find_member(members, name)?)
-}
-
 /// The word of a command, where it is one.
 pub fn word_of(members: &BTreeMap<String, Json>) -> Option<Word>
     ensures { MatchOption result (option_and_then (rule_of) (word_of (members_view members.now.entries)) ≡ None)
@@ -82,28 +58,10 @@ pub fn word_of(members: &BTreeMap<String, Json>) -> Option<Word>
     word_of_text(text_of(members, "do")?)
 }
 
-fn is_text(value: &Json) -> bool
-    ensures { result ≡ is_text (view value.now) }
-{
-    value.as_text().is_some()
-}
-
 fn is_truth(value: &Json) -> bool
     ensures { result ≡ is_truth (view value.now) }
 {
     matches!(value, Json::Scalar(Scalar::Bool(_)))
-}
-
-/// Whether all items are texts.
-pub fn are_texts(items: &[Json]) -> bool
-    ensures { result ≡ is_some (texts_of (items_view items.now)) }
-{
-    for item in items {
-        if !is_text(item) {
-            return false;
-        }
-    }
-    true
 }
 
 // Whether the value is a list of texts.

@@ -13,7 +13,6 @@ pub mod files;
 pub mod json_text;
 pub mod log_text;
 pub mod machine;
-pub mod path_texts;
 pub mod read_command;
 pub mod reply_text;
 pub mod write_line;

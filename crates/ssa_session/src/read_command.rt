@@ -11,8 +11,7 @@ ghost use Rattle.ssa_session.specs.Replies.{line_code};
 ghost use Rattle.ssa_session.specs.declared.read_command.LineFault.TheVariants.{OutOfMemory};
 
 use crate::command::Command;
-use crate::command_shape::{Word, follows_rule, list_of, text_of, word_of};
-use crate::path_texts::path_of_texts;
+use crate::command_shape::{Word, follows_rule, word_of};
 use ssa_bench::command as bench;
 use ssa_json::fault::JsonFault;
 use ssa_json::fault_code::FaultCode;
@@ -20,6 +19,8 @@ use ssa_json::members::find_member;
 use ssa_json::moment::Moment;
 use ssa_json::value::{Json, Scalar};
 use ssa_path::element_fault::ElemFault;
+use ssa_record::path_texts::path_of_texts;
+use ssa_record::value_shape::{list_of, text_of};
 use std::alloc::{AllocError, AllocFailed, Global};
 use std::collections::BTreeMap;
 use thiserror::Error;

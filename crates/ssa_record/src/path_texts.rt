@@ -2,7 +2,7 @@
 ghost use Rattle.std.specs.Prelude.{◌≡◌, true, is_some};
 ghost use Rattle.ssa_json.specs.View.{items_view};
 ghost use Rattle.ssa_model.specs.definitions.Schema.{texts_of};
-ghost use Rattle.ssa_session.specs.PathTexts.{ReadsPath};
+ghost use Rattle.ssa_record.specs.PathTexts.{ReadsElements, ReadsPath};
 
 use ssa_json::value::Json;
 use ssa_path::element::Elem;
@@ -10,10 +10,10 @@ use ssa_path::element_fault::ElemFault;
 use ssa_path::path::Path;
 use std::alloc::Global;
 
-/// The path of elements' own texts, or the fault of the first text that is none.
-pub fn path_of_texts(alloc: Global, texts: &[Json]) -> Result<Path, ElemFault>
+/// The elements of these own texts, or the fault of the first text that is none.
+pub fn elements_of_texts(alloc: Global, texts: &[Json]) -> Result<Vec<Elem>, ElemFault>
     requires { is_some (texts_of (items_view texts.now)) ≡ true }
-    ensures { ReadsPath result (items_view texts.now) }
+    ensures { ReadsElements result (items_view texts.now) }
 {
     let mut elements = Vec::new(alloc);
     for text in texts {
@@ -25,5 +25,14 @@ pub fn path_of_texts(alloc: Global, texts: &[Json]) -> Result<Path, ElemFault>
             return Err(ElemFault::OutOfMemory);
         };
     }
+    Ok(elements)
+}
+
+/// The path of elements' own texts, or the fault of the first text that is none.
+pub fn path_of_texts(alloc: Global, texts: &[Json]) -> Result<Path, ElemFault>
+    requires { is_some (texts_of (items_view texts.now)) ≡ true }
+    ensures { ReadsPath result (items_view texts.now) }
+{
+    let elements = elements_of_texts(alloc, texts)?;
     Ok(Path::new(elements))
 }

@@ -1,10 +1,13 @@
 -- What reading a path from its elements' texts answers.
-use Rattle.std.specs.Prelude.{◌≡◌, List, [], Option, Some, None, Result, Ok, Err}
+use Rattle.std.specs.Prelude.{◌≡◌, List, [], Option, Some, None, Result, Ok, Err, Vec}
+use Rattle.std.specs.Global.{Global}
 use Rattle.ssa_model.specs.definitions.Json.{Text, Json, list, Items}
 use Rattle.ssa_model.specs.definitions.Schema.{texts_of}
 use Rattle.ssa_model.specs.definitions.Path as model
 use Rattle.ssa_model.specs.definitions.ElementTexts.{ElementFault, bad_element, index_element, not_canonical, path_of}
 use Rattle.ssa_json.specs.Reading.{json_reading}
+use Rattle.ssa_path.specs.View.{path_view}
+use Rattle.ssa_path.specs.declared.element.Elem.{Elem}
 use Rattle.ssa_path.specs.declared.element_fault.ElemFault.{ElemFault}
 use Rattle.ssa_path.specs.declared.element_fault.ElemFault.TheVariants.{BadElement, IndexElement, NotCanonical, OutOfMemory}
 
@@ -30,3 +33,8 @@ IsPathRead (Err OutOfMemory) r = Unit {0}
 
 abbrev pub ReadsPath : Result model.Path ElemFault → Items → Type 0
 ReadsPath result vs = IsPathRead result (path_of json_reading (given_texts vs))
+
+-- the elements of a path
+abbrev pub ReadsElements : Result (Vec Elem Global) ElemFault → Items → Type 0
+ReadsElements (Ok es) vs = ReadsPath (Ok (path_view es.items)) vs
+ReadsElements (Err f) vs = ReadsPath (Err f) vs

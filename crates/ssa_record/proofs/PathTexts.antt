@@ -9,7 +9,7 @@ use Rattle.ssa_model.specs.definitions.ElementTexts.{ElementFault, element_of, n
 use Rattle.ssa_json.specs.Reading.{json_reading}
 use Rattle.ssa_json.specs.View.{view, items_view}
 use Rattle.ssa_json.specs.declared.value.Json as values
-use Rattle.ssa_session.specs.PathTexts.{given_texts, texts_or_none}
+use Rattle.ssa_record.specs.PathTexts.{given_texts, texts_or_none}
 
 -- the path of a beginning that is read and of what is left
 abbrev pub behind : Path → Result Path ElementFault → Result Path ElementFault
@@ -33,7 +33,9 @@ more s (Some ts) some = (refl, refl)
 
 texts-more : (v : Json) (t : Text) (vs : Items) → as_text v ≡ Some t → is_some (texts_of (item v vs)) ≡ true
     → (is_some (texts_of vs) ≡ true) × (given_texts (item v vs) ≡ t ∷ given_texts vs)
-texts-more (scalar (text s)) t vs is some = let same : s ≡ t = cc in let both = more s (texts_of vs) some in (both.0, both.1 ∙ ap (λ x. x ∷ given_texts vs) same)
+texts-more (scalar (text s)) t vs is some =
+    let same : s ≡ t = cc in
+    let both = more s (texts_of vs) some in (both.0, both.1 ∙ ap (λ x. x ∷ given_texts vs) same)
 texts-more (scalar (whole z)) t vs is some = cc
 texts-more (scalar (truth b)) t vs is some = cc
 texts-more (list ws) t vs is some = cc
@@ -54,7 +56,8 @@ path-more ts es i j t e within is so_far is_text is_element =
     let next = texts-more (view j) t (items_view (drop (i + 1) ts)) is_text (sym (ap (λ xs. is_some (texts_of (items_view xs))) front) ∙ so_far.0) in (
       next.0,
       so_far.1 ∙ ap (λ xs. behind es (path_of json_reading (given_texts (items_view xs)))) front ∙ ap (λ xs. behind es (path_of json_reading xs)) next.1
-          ∙ ap (λ r. behind es (elim r [ Ok e ↦ next_element e (path_of json_reading (given_texts (items_view (drop (i + 1) ts)))) | Err f ↦ Err f ])) is_element
+          ∙ ap (λ r. behind es (elim r [ Ok e ↦ next_element e (path_of json_reading (given_texts (items_view (drop (i + 1) ts)))) | Err f ↦ Err f ]))
+          is_element
           ∙ behind-next es e (path_of json_reading (given_texts (items_view (drop (i + 1) ts)))),
     )
 

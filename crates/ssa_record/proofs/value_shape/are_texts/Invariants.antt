@@ -2,7 +2,7 @@ use Rattle.std.proofs.Common.{◌≡◌, drop}
 use Rattle.std.specs.Prelude.{is_some}
 use Rattle.ssa_model.specs.definitions.Schema.{texts_of}
 use Rattle.ssa_json.specs.View.{items_view}
-use Rattle.ssa_session.proofs.command_shape.are_texts.Given as goal
+use Rattle.ssa_record.proofs.value_shape.are_texts.Given as goal
 
 -- what is left decides
 abbrev pub invariant-loop-item : goal.invariant-loop-item
