@@ -1,18 +1,17 @@
 -- What the tests of an entry and of its change tell.
-use Rattle.std.proofs.Common.{◌≡◌, List, [], ◌∷◌, Bool, true, false, not, ◌&&◌, ◌||◌, Option, Some, refl, sym, ap, subst, ◌∙◌, true≢false}
+use Rattle.std.proofs.Common.{◌≡◌, map, List, [], ◌∷◌, Bool, true, false, not, ◌&&◌, ◌||◌, Option, Some, refl, sym, ap, subst, ◌∙◌, true≢false}
 use Rattle.std.proofs.lemmas.Option.{same_Some}
 use Rattle.std.specs.Cmp.{first_so, second_so}
-use Rattle.std.specs.FinMap.Entries.{find}
-use Rattle.std.specs.Prelude.{is_some, Decides, IfOk, Result, Ok, Err}
+use Rattle.std.specs.Prelude.{Decides, IfOk, Result, Ok, Err}
 use Rattle.ssa_model.specs.definitions.Json.{Text, same_text}
-use Rattle.ssa_model.specs.definitions.Path.{Path, path_cmp, under}
+use Rattle.ssa_model.specs.definitions.Path.{Path, under}
 use Rattle.ssa_model.specs.definitions.PathMap.{PathSet, has, has_at_or_above, has_at_or_below, is_empty, minus, paths, same_set, set_of, union}
 use Rattle.ssa_model.specs.definitions.Body.{Body}
 use Rattle.ssa_model.specs.definitions.Table.{Entry}
 use Rattle.ssa_model.specs.definitions.Record.{Change, TableRecord}
 use Rattle.ssa_model.specs.definitions.Carry.{is_key_among, change_for}
 use Rattle.ssa_model.specs.laws.FittingRecords.{loses, ChangeFits, EntryFits}
-use Rattle.ssa_model.proofs.PathMaps.{has-minus, has-paths, has-set_of, has-union, same_sets, same_set-true}
+use Rattle.ssa_model.proofs.PathMaps.{is_one_of, has-minus, has-paths, has-set_of, has-union, same_sets, same_set-true}
 use Rattle.ssa_model.proofs.Pruned.{from_one, some_one}
 use Rattle.ssa_model.proofs.Tables.{first_false, no, or_true, second_false, true_or, yes_no}
 use Rattle.ssa_model.proofs.Tests.{by_test, same_tests}
@@ -21,31 +20,36 @@ use Rattle.ssa_record.specs.EntryTests.{GivesUp, IsApart, ToldFits}
 
 -- ---- answers of a test
 
+-- yes
 pub told : {P : Type 0} → P → Decides true P
 told p = (λ h. p, λ q. refl)
 
+-- no
 pub refused : {P : Type 0} → (P → ⊥) → Decides false P
 refused f = (λ h. absurd (true≢false (sym h)), λ p. absurd (f p))
 
+-- no, where the answer is told
 pub off-refused : {P : Type 0} (b : Bool) → b ≡ false → (P → ⊥) → Decides b P
 off-refused b off f = (λ t. absurd (true≢false (sym t ∙ off)), λ p. absurd (f p))
 
+-- what an answer refuses
 pub not-so : {P : Type 0} (b : Bool) → Decides b P → b ≡ false → P → ⊥
 not-so b h off p = true≢false (sym (h.1 p) ∙ off)
 
 -- ---- empty sets
 
 empty-has : (s : PathSet) (p : Path) → is_empty s ≡ true → has s p ≡ false
-empty-has s p h =
-    elim s.entries as (λ es. s.entries ≡ es → (elim es [ [] ↦ true | e ∷ rest ↦ false ]) ≡ true → has s p ≡ false) [
-      | [] ↦ λ is h. ap (λ es. is_some (find path_cmp p es)) is
-      | e ∷ es ↦ λ is h. absurd (true≢false (sym h))
-    ] refl h
+empty-has s p h = has-paths s p ∙ go s.entries h
+  where
+    go : (es : List (Path × Unit {0})) → (elim es [ [] ↦ true | e ∷ rest ↦ false ]) ≡ true → is_one_of (map (λ (e : Path × Unit {0}). e.0) es) p ≡ false
+    go [] k = refl
+    go (e ∷ es) k = absurd (true≢false (sym k))
 
 -- no path of the first set is in the second
 pub lacks-decides : (s o both : PathSet) → both ≡ set_of (paths s) (has o) → Decides (is_empty both) ((p : Path) → has s p ≡ true → has o p ≡ false)
 lacks-decides s o both is =
-    let here : (p : Path) → has both p ≡ (has s p && has o p) = λ p. ap (λ x. has x p) is ∙ has-set_of (paths s) (has o) p ∙ ap (λ b. b && has o p) (sym (has-paths s p)) in (
+    let here : (p : Path) → has both p ≡ (has s p && has o p) =
+    λ p. ap (λ x. has x p) is ∙ has-set_of (paths s) (has o) p ∙ ap (λ b. b && has o p) (sym (has-paths s p)) in (
       λ h p there. ap (λ b. b && has o p) (sym there) ∙ sym (here p) ∙ empty-has both p h,
       λ h. no-path both (λ p. here p ∙ by_test (has s p) (λ t. (λ i. t i && h p t i)) (λ f. ap (λ b. b && has o p) f)),
     )
@@ -65,7 +69,8 @@ union-empty s t =
     (λ h.
     let off : (p : Path) → (has s p || has t p) ≡ false = λ p. sym (has-union s t p) ∙ empty-has (union s t) p h in
     (λ i. no-path s (λ p. first_false (has s p) (has t p) (off p)) i && no-path t (λ p. second_false (has s p) (has t p) (off p)) i))
-    (λ h. no-path (union s t) (λ p. has-union s t p ∙ (λ i. empty-has s p (first_so (is_empty s) (is_empty t) h) i || empty-has t p (second_so (is_empty s) (is_empty t) h) i)))
+    (λ h. no-path (union s t) (λ p.
+    has-union s t p ∙ (λ i. empty-has s p (first_so (is_empty s) (is_empty t) h) i || empty-has t p (second_so (is_empty s) (is_empty t) h) i)))
 
 -- ---- what is cut
 
@@ -73,7 +78,9 @@ union-empty s t =
 pub apart-decides : (s cut bare : PathSet) → bare ≡ set_of (paths cut) (λ g. not (has_at_or_below s g)) → Decides (same_set bare cut) (IsApart s cut)
 apart-decides s cut bare is =
     let here : (g : Path) → has bare g ≡ (has cut g && not (has_at_or_below s g)) =
-    λ g. ap (λ x. has x g) is ∙ has-set_of (paths cut) (λ g. not (has_at_or_below s g)) g ∙ ap (λ b. b && not (has_at_or_below s g)) (sym (has-paths cut g)) in (
+    λ g.
+    ap (λ x. has x g) is ∙ has-set_of (paths cut) (λ g. not (has_at_or_below s g)) g
+    ∙ ap (λ b. b && not (has_at_or_below s g)) (sym (has-paths cut g)) in (
       λ h p there.
           by_test (has_at_or_above cut p)
           (λ t.
@@ -115,29 +122,35 @@ gives-up-decides d cut left e b stays here h = (
       (λ k. k)),
 )
 
+-- the entry of a manager who is gone gives up all
 pub gone-gives-up : (d : TableRecord) (cut : PathSet) (e : Entry) → is_key_among d.gone e.manager ≡ true → GivesUp d cut e
 gone-gives-up d cut e gone p there above = true_or (is_key_among d.gone e.manager) (loses (change_for d.changed e.manager) p) gone
 
--- ---- answers by other tests
+-- ---- answers from others
 
+-- of a test that is another
 pub test-is : {P : Type 0} (b s : Bool) → b ≡ s → Decides s P → Decides b P
 test-is b s is h = (λ t. h.0 (sym is ∙ t), λ p. is ∙ h.1 p)
 
 -- another moment is told, or none
-pub moment-decides : (a m : Text) (o : Option Text) (b : Bool) → o ≡ Some m → b ≡ not (same_text a m) → Decides b ((n : Text) → o ≡ Some n → same_text a n ≡ false)
+pub moment-decides : (a m : Text) (o : Option Text) (b : Bool) → o ≡ Some m → b ≡ not (same_text a m)
+    → Decides b ((n : Text) → o ≡ Some n → same_text a n ≡ false)
 moment-decides a m o b told is = (
   λ t n h. ap (same_text a) (sym (same_Some m n (sym told ∙ h))) ∙ no (same_text a m) (sym is ∙ t),
   λ h. is ∙ ap not (h m told),
 )
 
 -- a change is told of the entry
-pub told-decides : (cs : List Change) (w : Body) (e : Entry) (c : Change) (b : Bool) → change_for cs e.manager ≡ Some c → Decides b (ChangeFits w c e) → Decides b (ToldFits cs w e)
+pub told-decides : (cs : List Change) (w : Body) (e : Entry) (c : Change) (b : Bool) → change_for cs e.manager ≡ Some c
+    → Decides b (ChangeFits w c e) → Decides b (ToldFits cs w e)
 told-decides cs w e c b here h = (
   λ t d is. subst (λ x. ChangeFits w x e) (same_Some c d (sym here ∙ is)) (h.0 t),
   λ f. h.1 (f c here),
 )
 
-pub entry-decides : (d : TableRecord) (w : Body) (cut : PathSet) (e : Entry) (b : Bool) → ToldFits d.changed w e → Decides b (GivesUp d cut e) → Decides b (EntryFits d w cut e)
+-- the record fits the entry where the change does and what is cut is given up
+pub entry-decides : (d : TableRecord) (w : Body) (cut : PathSet) (e : Entry) (b : Bool) → ToldFits d.changed w e
+    → Decides b (GivesUp d cut e) → Decides b (EntryFits d w cut e)
 entry-decides d w cut e b change h = (λ t. record { change = change; given_up = h.0 t }, λ f. h.1 f.given_up)
 
 -- what a function that may run out of memory answers

@@ -17,6 +17,7 @@ use Rattle.ssa_record.specs.TableTests.{same_keys, managers, changed_keys, has_c
 
 -- ---- lists of managers
 
+-- the test of two lists is that of their equality
 pub same_keys-decides : (ks js : List ManagerKey) → Decides (same_keys ks js) (ks ≡ js)
 same_keys-decides ks js = (
   pointwise-true same_manager same_manager-true ks js,
@@ -29,7 +30,8 @@ same_keys-decides ks js = (
 found-keys : (cs : List Change) (ks : List ManagerKey) → changed_keys (filter_map (change_for cs) ks) ≡ filter (has_change cs) ks
 found-keys cs [] = refl
 found-keys cs (k ∷ ks) =
-    elim (change_for cs k) as (λ o. change_for cs k ≡ o → changed_keys (cons_option o (filter_map (change_for cs) ks)) ≡ cond (is_some o) (k ∷ filter (has_change cs) ks) (filter (has_change cs) ks)) [
+    let keys = filter (has_change cs) ks in
+    elim (change_for cs k) as (λ o. change_for cs k ≡ o → changed_keys (cons_option o (filter_map (change_for cs) ks)) ≡ cond (is_some o) (k ∷ keys) keys) [
       | None ↦ λ is. found-keys cs ks
       | Some c ↦ λ is i. change-own cs k c is i ∷ found-keys cs ks i
     ] refl
@@ -38,7 +40,9 @@ found-keys cs (k ∷ ks) =
 found-filter : (cs : List Change) (ks : List ManagerKey) → filter_map (change_for cs) (filter (has_change cs) ks) ≡ filter_map (change_for cs) ks
 found-filter cs [] = refl
 found-filter cs (k ∷ ks) =
-    elim (change_for cs k) as (λ o. change_for cs k ≡ o → filter_map (change_for cs) (cond (is_some o) (k ∷ filter (has_change cs) ks) (filter (has_change cs) ks)) ≡ cons_option o (filter_map (change_for cs) ks)) [
+    let keys = filter (has_change cs) ks in
+    elim (change_for cs k) as
+    (λ o. change_for cs k ≡ o → filter_map (change_for cs) (cond (is_some o) (k ∷ keys) keys) ≡ cons_option o (filter_map (change_for cs) ks)) [
       | None ↦ λ is. found-filter cs ks
       | Some c ↦ λ is i. cons_option (is i) (found-filter cs ks i)
     ] refl
@@ -61,6 +65,7 @@ among-managers : (t : Table) (k : ManagerKey) → is_key_among (managers t) k �
 among-managers [] k = refl
 among-managers (e ∷ es) k = ap (λ b. same_manager e.manager k || b) (among-managers es k)
 
+-- the managers of a table, as a list
 pub distinct-managers : (t : Table) → has_distinct_keys t ≡ true → DistinctKeys (managers t)
 distinct-managers [] h = tt
 distinct-managers (e ∷ es) h = (
@@ -77,6 +82,7 @@ absent-filter q (j ∷ js) k h =
       | false ↦ rest
     ]
 
+-- distinct managers that pass a test are distinct
 pub distinct-passing : (q : ManagerKey → Bool) (ks : List ManagerKey) → DistinctKeys ks → DistinctKeys (filter q ks)
 distinct-passing q [] h = tt
 distinct-passing q (k ∷ ks) h =
@@ -91,25 +97,31 @@ passed-over : (c : Change) (cs : List Change) (ks : List ManagerKey) → is_key_
 passed-over c cs [] h = refl
 passed-over c cs (k ∷ ks) h =
     let other = apart-back k c.manager (first_false (same_manager k c.manager) (is_key_among ks c.manager) h) in
-    λ i. cons_option (if other i then Some c else change_for cs k) (passed-over c cs ks (second_false (same_manager k c.manager) (is_key_among ks c.manager) h) i)
+    let rest = passed-over c cs ks (second_false (same_manager k c.manager) (is_key_among ks c.manager) h) in
+    λ i. cons_option (if other i then Some c else change_for cs k) (rest i)
 
 -- changes of distinct managers are those found of them
 found-own : (cs : List Change) → DistinctKeys (changed_keys cs) → filter_map (change_for cs) (changed_keys cs) ≡ cs
 found-own [] h = refl
-found-own (c ∷ cs) h = λ i. cons_option (if manager-itself c.manager i then Some c else change_for cs c.manager) ((passed-over c cs (changed_keys cs) h.0 ∙ found-own cs h.1) i)
+found-own (c ∷ cs) h =
+    let rest = passed-over c cs (changed_keys cs) h.0 ∙ found-own cs h.1 in
+    λ i. cons_option (if manager-itself c.manager i then Some c else change_for cs c.manager) (rest i)
 
 -- a table has distinct managers where those that pass a test are distinct, and those that do not
-pub distinct-parts : (q : ManagerKey → Bool) (t : Table) → DistinctKeys (filter q (managers t)) → DistinctKeys (filter (λ k. not (q k)) (managers t)) → has_distinct_keys t ≡ true
+pub distinct-parts : (q : ManagerKey → Bool) (t : Table) → DistinctKeys (filter q (managers t))
+    → DistinctKeys (filter (λ k. not (q k)) (managers t)) → has_distinct_keys t ≡ true
 distinct-parts q [] a b = refl
 distinct-parts q (e ∷ es) a b =
     elim (q e.manager) as
     (λ s. q e.manager ≡ s → DistinctKeys (cond s (e.manager ∷ filter q (managers es)) (filter q (managers es)))
-    → DistinctKeys (cond (not s) (e.manager ∷ filter (λ k. not (q k)) (managers es)) (filter (λ k. not (q k)) (managers es))) → has_distinct_keys (e ∷ es) ≡ true) [
+    → DistinctKeys (cond (not s) (e.manager ∷ filter (λ k. not (q k)) (managers es)) (filter (λ k. not (q k)) (managers es)))
+    → has_distinct_keys (e ∷ es) ≡ true) [
       | true ↦ λ s a b.
           let new = sym (and-true (is_in_table es e.manager)) ∙ (λ i. is_in_table es e.manager && sym s i) ∙ sym (among-filter q es e.manager) ∙ a.0 in
           (λ i. not (new i) && distinct-parts q es a.1 b i)
       | false ↦ λ s a b.
-          let new = sym (and-true (is_in_table es e.manager)) ∙ (λ i. is_in_table es e.manager && not (sym s i)) ∙ sym (among-filter (λ k. not (q k)) es e.manager) ∙ b.0 in
+          let new = sym (and-true (is_in_table es e.manager)) ∙ (λ i. is_in_table es e.manager && not (sym s i))
+          ∙ sym (among-filter (λ k. not (q k)) es e.manager) ∙ b.0 in
           (λ i. not (new i) && distinct-parts q es a b.1 i)
     ] refl a b
 
@@ -120,6 +132,7 @@ module _ (d : TableRecord) (t : Table) (distinct : has_distinct_keys t ≡ true)
   stayers-changed : filter (has_change d.changed) stayers ≡ filter (λ k. not (is_key_among d.gone k) && has_change d.changed k) (managers t)
   stayers-changed = filter-both (λ k. not (is_key_among d.gone k)) (has_change d.changed) (managers t)
 
+  -- the keys of the changes tell whether the changes are those found of the managers that stay
   pub changed-decides : (b : Bool)
       → b ≡ same_keys (changed_keys d.changed) (filter (λ k. not (is_key_among d.gone k) && has_change d.changed k) (managers t))
       → Decides b (d.changed ≡ filter_map (change_for d.changed) (staying_managers d t))
@@ -128,7 +141,8 @@ module _ (d : TableRecord) (t : Table) (distinct : has_distinct_keys t ≡ true)
       let test = same_keys-decides (changed_keys d.changed) (filter (has_change d.changed) stayers) in (
         λ h.
             let keys = test.0 (sym is ∙ h) in
-            let apart = subst DistinctKeys (sym keys) (distinct-passing (has_change d.changed) stayers (distinct-passing (λ k. not (is_key_among d.gone k)) (managers t) (distinct-managers t distinct))) in
+            let stay = distinct-passing (λ k. not (is_key_among d.gone k)) (managers t) (distinct-managers t distinct) in
+            let apart = subst DistinctKeys (sym keys) (distinct-passing (has_change d.changed) stayers stay) in
             sym (found-own d.changed apart) ∙ ap (filter_map (change_for d.changed)) keys ∙ found-filter d.changed stayers,
         λ e. is ∙ test.1 (ap changed_keys e ∙ found-keys d.changed stayers),
       )

@@ -81,10 +81,11 @@ module _ {X : Type 0} (test : X → Bool) where
       → are_places i (length xs) (map (λ h. h.0) hs) ≡ true → Merged i hs xs
   merged i [] xs a b h = alone i xs b
   merged i (e ∷ hs) xs a b h =
-      let rest = second_so (nat_le i e.0) (nat_le (e.0 - i) (length xs) && are_places (e.0 + 1) (length xs - (e.0 - i)) (map (λ h. h.0) hs)) h in
-      let first : i ≤ e.0 = le-of i e.0 (first_so (nat_le i e.0) (nat_le (e.0 - i) (length xs) && are_places (e.0 + 1) (length xs - (e.0 - i)) (map (λ h. h.0) hs)) h) in
-      let few : e.0 - i ≤ length xs = le-of (e.0 - i) (length xs) (first_so (nat_le (e.0 - i) (length xs)) (are_places (e.0 + 1) (length xs - (e.0 - i)) (map (λ h. h.0) hs)) rest) in
-      let later = second_so (nat_le (e.0 - i) (length xs)) (are_places (e.0 + 1) (length xs - (e.0 - i)) (map (λ h. h.0) hs)) rest in
+      let more = are_places (e.0 + 1) (length xs - (e.0 - i)) (map (λ h. h.0) hs) in
+      let rest = second_so (nat_le i e.0) (nat_le (e.0 - i) (length xs) && more) h in
+      let first : i ≤ e.0 = le-of i e.0 (first_so (nat_le i e.0) (nat_le (e.0 - i) (length xs) && more) h) in
+      let few : e.0 - i ≤ length xs = le-of (e.0 - i) (length xs) (first_so (nat_le (e.0 - i) (length xs)) more rest) in
+      let later = second_so (nat_le (e.0 - i) (length xs)) more rest in
       let left = ap (λ n. are_places (e.0 + 1) n (map (λ h. h.0) hs)) (length-drop (e.0 - i) xs) ∙ later in
       behind (e.0 - i) i e.0 e.1 hs xs (omega arith) few a.0 b (merged (e.0 + 1) hs (drop (e.0 - i) xs) a.1 (pass-drop false (e.0 - i) xs b) left)
 
@@ -106,7 +107,8 @@ module _ {X : Type 0} (test : X → Bool) where
       let rest = places-of (i + 1) xs in
       let others = filter (λ y. not (test y)) xs in
       let ps = map (λ h. h.0) (placed test (i + 1) xs) in
-      elim (test x) as (λ b. are_places i (length (cond (not b) (x ∷ others) others)) (map (λ h. h.0) (if b then (i, x) ∷ placed test (i + 1) xs else placed test (i + 1) xs)) ≡ true) [
+      let later = placed test (i + 1) xs in
+      elim (test x) as (λ b. are_places i (length (cond (not b) (x ∷ others) others)) (map (λ h. h.0) (if b then (i, x) ∷ later else later)) ≡ true) [
         | true ↦
             let none : i - i ≡ 0 = omega arith in
             let all : length others - (i - i) ≡ length others = omega arith in
@@ -119,7 +121,8 @@ module _ {X : Type 0} (test : X → Bool) where
   pub placed-filter : (i : ℕ) (xs : List X) → map (λ h. h.1) (placed test i xs) ≡ filter test xs
   placed-filter i [] = refl
   placed-filter i (x ∷ xs) =
-      elim (test x) as (λ b. map (λ h. h.1) (if b then (i, x) ∷ placed test (i + 1) xs else placed test (i + 1) xs) ≡ cond b (x ∷ filter test xs) (filter test xs)) [
+      let later = placed test (i + 1) xs in
+      elim (test x) as (λ b. map (λ h. h.1) (if b then (i, x) ∷ later else later) ≡ cond b (x ∷ filter test xs) (filter test xs)) [
         | true ↦ ap (λ zs. x ∷ zs) (placed-filter (i + 1) xs)
         | false ↦ placed-filter (i + 1) xs
       ]
@@ -139,21 +142,23 @@ module _ {X : Type 0} (test : X → Bool) where
 
 newcomers-new : (t : Table) (es : List Entry) → are_newcomers t es ≡ true → Pass (λ e. not (is_in_table t e.manager)) true es
 newcomers-new t [] h = tt
-newcomers-new t (e ∷ es) h = (
-  first_so (not (is_in_table t e.manager)) (not (is_in_table es e.manager) && are_newcomers t es) h,
-  newcomers-new t es (second_so (not (is_in_table es e.manager)) (are_newcomers t es) (second_so (not (is_in_table t e.manager)) (not (is_in_table es e.manager) && are_newcomers t es) h)),
-)
+newcomers-new t (e ∷ es) h =
+    let one = not (is_in_table es e.manager) in
+    let rest = second_so (not (is_in_table t e.manager)) (one && are_newcomers t es) h in
+    (first_so (not (is_in_table t e.manager)) (one && are_newcomers t es) h, newcomers-new t es (second_so one (are_newcomers t es) rest))
 
 newcomers-distinct : (t : Table) (es : List Entry) → are_newcomers t es ≡ true → has_distinct_keys es ≡ true
 newcomers-distinct t [] h = refl
 newcomers-distinct t (e ∷ es) h =
-    let rest = second_so (not (is_in_table t e.manager)) (not (is_in_table es e.manager) && are_newcomers t es) h in
-    λ i. first_so (not (is_in_table es e.manager)) (are_newcomers t es) rest i && newcomers-distinct t es (second_so (not (is_in_table es e.manager)) (are_newcomers t es) rest) i
+    let one = not (is_in_table es e.manager) in
+    let rest = second_so (not (is_in_table t e.manager)) (one && are_newcomers t es) h in
+    λ i. first_so one (are_newcomers t es) rest i && newcomers-distinct t es (second_so one (are_newcomers t es) rest) i
 
 newcomers-back : (t : Table) (es : List Entry) → AllEntries (λ e. is_in_table t e.manager ≡ false) es → has_distinct_keys es ≡ true → are_newcomers t es ≡ true
 newcomers-back t [] a b = refl
 newcomers-back t (e ∷ es) a b =
-    λ i. not (a.0 i) && (first_so (not (is_in_table es e.manager)) (has_distinct_keys es) b i && newcomers-back t es a.1 (second_so (not (is_in_table es e.manager)) (has_distinct_keys es) b) i)
+    let one = not (is_in_table es e.manager) in
+    λ i. not (a.0 i) && (first_so one (has_distinct_keys es) b i && newcomers-back t es a.1 (second_so one (has_distinct_keys es) b) i)
 
 -- ---- the table after it
 
@@ -185,7 +190,8 @@ module _ (d : TableRecord) (t : Table) (distinct : has_distinct_keys t ≡ true)
   -- those who stay are in the table
   stay-in : AllEntries (λ e. is_in_table t e.manager ≡ true) stay
   stay-in =
-      all-map (λ e. is_in_table t e.manager ≡ true) (λ e. is_in_table t e.manager ≡ true) one (λ e h. ap (is_in_table t) (keeps e) ∙ h) (filter (λ e. stays e.manager) t)
+      all-map (λ e. is_in_table t e.manager ≡ true) (λ e. is_in_table t e.manager ≡ true) one (λ e h. ap (is_in_table t) (keeps e) ∙ h)
+      (filter (λ e. stays e.manager) t)
       (all-filter (λ e. is_in_table t e.manager ≡ true) (λ e. stays e.manager) t (each-in t))
 
   stay-off : Pass comes false stay
@@ -199,45 +205,51 @@ module _ (d : TableRecord) (t : Table) (distinct : has_distinct_keys t ≡ true)
   stay-managers = managers-map one keeps (filter (λ e. stays e.manager) t) ∙ managers-filter stays t
 
   -- so many stay, the places of those here are reached, and they are newcomers: they stand in the table as told
-  module _ (few : staying_count d.gone t + length d.here ≤ most_managers) (reached : are_places 0 (staying_count d.gone t) places ≡ true) (new : are_newcomers t heres ≡ true) where
-    m : Merged comes 0 d.here stay
-    m = merged comes 0 d.here stay (newcomers-new t heres new) stay-off (ap (λ n. are_places 0 n places) stay-count ∙ reached)
+  module _
+      (few : staying_count d.gone t + length d.here ≤ most_managers)
+      (reached : are_places 0 (staying_count d.gone t) places ≡ true)
+      (new : are_newcomers t heres ≡ true)
+    where
+      m : Merged comes 0 d.here stay
+      m = merged comes 0 d.here stay (newcomers-new t heres new) stay-off (ap (λ n. are_places 0 n places) stay-count ∙ reached)
 
-    table-is : carry_table d t ≡ m.all
-    table-is =
-        ap (filled (placed_at d.here) 0 (end_of places)) (sym m.others)
-        ∙ filled_is (placed_at d.here) (λ e. not (comes e)) 0 (end_of places) m.all (placed_gives (placed_at d.here) comes 0 m.all (λ j h. ap (λ hs. placed_at hs j) (sym m.told)))
-        (λ j h. placed_end d.here j (omega arith))
+      table-is : carry_table d t ≡ m.all
+      table-is =
+          ap (filled (placed_at d.here) 0 (end_of places)) (sym m.others)
+          ∙ filled_is (placed_at d.here) (λ e. not (comes e)) 0 (end_of places) m.all
+          (placed_gives (placed_at d.here) comes 0 m.all (λ j h. ap (λ hs. placed_at hs j) (sym m.told)))
+          (λ j h. placed_end d.here j (omega arith))
 
-    here-told : placed comes 0 (carry_table d t) ≡ d.here
-    here-told = ap (placed comes 0) table-is ∙ m.told
+      here-told : placed comes 0 (carry_table d t) ≡ d.here
+      here-told = ap (placed comes 0) table-is ∙ m.told
 
-    comes-are : filter comes m.all ≡ heres
-    comes-are = sym (placed-filter comes 0 m.all) ∙ ap (map (λ (e : ℕ × Entry). e.1)) m.told
+      comes-are : filter comes m.all ≡ heres
+      comes-are = sym (placed-filter comes 0 m.all) ∙ ap (map (λ (e : ℕ × Entry). e.1)) m.told
 
-    stay-keys : filter (is_in_table t) (managers m.all) ≡ filter stays (managers t)
-    stay-keys =
-        sym (managers-filter (is_in_table t) m.all) ∙ (λ i. managers (filter (λ e. sym (not-not (is_in_table t e.manager)) i) m.all)) ∙ ap managers m.others ∙ stay-managers
+      stay-keys : filter (is_in_table t) (managers m.all) ≡ filter stays (managers t)
+      stay-keys =
+          sym (managers-filter (is_in_table t) m.all) ∙ (λ i. managers (filter (λ e. sym (not-not (is_in_table t e.manager)) i) m.all))
+          ∙ ap managers m.others ∙ stay-managers
 
-    here-keys : filter (λ k. not (is_in_table t k)) (managers m.all) ≡ managers heres
-    here-keys = sym (managers-filter (λ k. not (is_in_table t k)) m.all) ∙ ap managers comes-are
+      here-keys : filter (λ k. not (is_in_table t k)) (managers m.all) ≡ managers heres
+      here-keys = sym (managers-filter (λ k. not (is_in_table t k)) m.all) ∙ ap managers comes-are
 
-    all-distinct : has_distinct_keys m.all ≡ true
-    all-distinct =
-        distinct-parts (is_in_table t) m.all (subst DistinctKeys (sym stay-keys) (distinct-passing stays (managers t) (distinct-managers t distinct)))
-        (subst DistinctKeys (sym here-keys) (distinct-managers heres (newcomers-distinct t heres new)))
+      all-distinct : has_distinct_keys m.all ≡ true
+      all-distinct =
+          distinct-parts (is_in_table t) m.all (subst DistinctKeys (sym stay-keys) (distinct-passing stays (managers t) (distinct-managers t distinct)))
+          (subst DistinctKeys (sym here-keys) (distinct-managers heres (newcomers-distinct t heres new)))
 
-    all-count : length m.all ≡ staying_count d.gone t + length d.here
-    all-count =
-        sym (length-parts comes m.all) ∙ (λ i. length (m.others i) + length (comes-are i))
-        ∙ (λ i. stay-count i + length-map d.here (λ e. e.1) i)
+      all-count : length m.all ≡ staying_count d.gone t + length d.here
+      all-count =
+          sym (length-parts comes m.all) ∙ (λ i. length (m.others i) + length (comes-are i))
+          ∙ (λ i. stay-count i + length-map d.here (λ e. e.1) i)
 
-    pub here-stands : HereStands d t
-    here-stands = record {
-      here = sym here-told;
-      distinct = ap has_distinct_keys table-is ∙ all-distinct;
-      few = subst (λ u. length u ≤ most_managers) (sym table-is) (subst (λ n. n ≤ most_managers) (sym all-count) few);
-    }
+      pub here-stands : HereStands d t
+      here-stands = record {
+        here = sym here-told;
+        distinct = ap has_distinct_keys table-is ∙ all-distinct;
+        few = subst (λ u. length u ≤ most_managers) (sym table-is) (subst (λ n. n ≤ most_managers) (sym all-count) few);
+      }
 
   -- ---- and back
 
@@ -272,15 +284,20 @@ module _ (d : TableRecord) (t : Table) (distinct : has_distinct_keys t ≡ true)
 
   -- ---- the tests
 
-  pub few-decides : (n k : ℕ) → n ≡ staying_count d.gone t → k ≡ length d.here → n ≤ most_managers → most_managers - n < k → HereStands d t → ⊥
-  few-decides n k stay is most many h = let all = here-few h in let none : ⊥ = omega arith in none
+  -- more than there are places for
+  pub few-refuse : (n k : ℕ) → n ≡ staying_count d.gone t → k ≡ length d.here → n ≤ most_managers → most_managers - n < k → HereStands d t → ⊥
+  few-refuse n k stay is most many h = let all = here-few h in let none : ⊥ = omega arith in none
 
+  -- few enough, each at a place that is reached: they stand as told where they are newcomers
   pub stands-decides : (n k : ℕ) (p b : Bool) → n ≡ staying_count d.gone t → k ≡ length d.here → n ≤ most_managers → k ≤ most_managers - n
       → p ≡ are_places 0 n places → p ≡ true → b ≡ are_newcomers t heres → Decides b (HereStands d t)
   stands-decides n k p b stay is most few reach reached new = (
-    λ so. here-stands (let all : staying_count d.gone t + length d.here ≤ most_managers = omega arith in all) (ap (λ m. are_places 0 m places) (sym stay) ∙ sym reach ∙ reached) (sym new ∙ so),
+    λ so.
+        here-stands (let all : staying_count d.gone t + length d.here ≤ most_managers = omega arith in all)
+        (ap (λ m. are_places 0 m places) (sym stay) ∙ sym reach ∙ reached) (sym new ∙ so),
     λ h. new ∙ here-new h,
   )
 
+  -- a place that is not reached
   pub places-refuse : (n : ℕ) (p : Bool) → n ≡ staying_count d.gone t → p ≡ are_places 0 n places → p ≡ false → HereStands d t → ⊥
   places-refuse n p stay reach off h = true≢false (sym (reach ∙ ap (λ m. are_places 0 m places) stay ∙ here-reached h) ∙ off)

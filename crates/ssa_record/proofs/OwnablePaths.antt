@@ -1,6 +1,7 @@
 -- That a set has only ownable paths where none is found that is not.
 use Rattle.std.proofs.Common.{◌≡◌, List, [], ◌∷◌, true, false, not, ◌&&◌, Some, None, refl, sym, ap, ◌∙◌}
 use Rattle.std.proofs.lemmas.Option.{none-some, same_Some}
+use Rattle.std.specs.Cmp.{first_so, second_so}
 use Rattle.ssa_model.specs.definitions.Body.{Body, is_ownable}
 use Rattle.ssa_model.specs.definitions.GivenEntries.{not_ownable}
 use Rattle.ssa_model.specs.definitions.Path.{Path, same_path}
@@ -25,11 +26,13 @@ module _ (b : Body) (s : PathSet) where
   not-here : (p : Path) → is_one_of (not_ownable b s) p ≡ (has s p && not (is_ownable b p))
   not-here p = is_one_of-filter (λ q. not (is_ownable b q)) (paths s) p ∙ ap (λ t. t && not (is_ownable b p)) (sym (has-paths s p))
 
+  -- none is found
   pub all-ownable : first_of (not_ownable b s) ≡ None → OwnedOwnable b s
   all-ownable h p there =
       by_test (is_ownable b p) (λ t. t) (λ f. yes_no (is_one_of (not_ownable b s) p) (not-here p ∙ (λ i. there i && not (f i))) (none-in (not_ownable b s) p h))
 
+  -- one is found
   pub one-not : (p : Path) → first_of (not_ownable b s) ≡ Some p → OwnedOwnable b s → ⊥
   one-not p h all =
       let one = sym (not-here p) ∙ first-in (not_ownable b s) p h in
-      yes_no (is_ownable b p) (all p (Rattle.std.specs.Cmp.first_so (has s p) (not (is_ownable b p)) one)) (no (is_ownable b p) (Rattle.std.specs.Cmp.second_so (has s p) (not (is_ownable b p)) one))
+      yes_no (is_ownable b p) (all p (first_so (has s p) (not (is_ownable b p)) one)) (no (is_ownable b p) (second_so (has s p) (not (is_ownable b p)) one))

@@ -16,7 +16,8 @@ pub has-room : (d : SetDelta) (s lose without : PathSet) (t : Trie) → is_trie 
     → without ≡ minus s lose → listed (paths t) ≡ without → is_trie t ≡ true
     → gain_room d.gain (paths t) d.room.gain ≡ true → lose_room d.lose (paths t) d.room.lose ≡ true → HasRoom d s
 has-room d s lose without t a b lost left same trie gain lose_has =
-    let ps : set_paths (minus s (listed (paths d.lose))) ≡ paths t = ap (λ x. set_paths (minus s x)) lost ∙ ap set_paths (sym left ∙ sym same) ∙ listed-paths t trie in
+    let ps : set_paths (minus s (listed (paths d.lose))) ≡ paths t =
+    ap (λ x. set_paths (minus s x)) lost ∙ ap set_paths (sym left ∙ sym same) ∙ listed-paths t trie in
     record {
       gain_trie = a;
       lose_trie = b;

@@ -18,7 +18,7 @@ use ssa_path::field_set::FieldSet;
 use ssa_typed::body::Body;
 use std::alloc::{AllocError, Global};
 
-/// Whether each path of the set can be owned in the body.
+// Whether each path of the set can be owned in the body.
 pub(crate) fn is_ownable(alloc: Global, body: &Body, set: &FieldSet) -> Result<bool, AllocError>
     ensures { IfOk result (λ b. Decides b (OwnedOwnable body.now set.now)) }
 {
@@ -166,7 +166,7 @@ fn does_entry_fit(
     gives_up(alloc, cut, entry, told)
 }
 
-/// Whether the record fits each entry, where this is the body after it and these paths are cut.
+// Whether the record fits each entry, where this is the body after it and these paths are cut.
 pub(crate) fn do_entries_fit(
     alloc: Global,
     after: &Body,

@@ -25,7 +25,7 @@ fn does_here_fit(alloc: Global, after: &Body, entry: &Entry) -> Result<bool, All
     is_ownable(alloc, after, &entry.set)
 }
 
-/// Whether each of those here fits the body.
+// Whether each of those here fits the body.
 pub(crate) fn do_heres_fit(
     alloc: Global,
     after: &Body,

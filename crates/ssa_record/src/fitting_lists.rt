@@ -15,7 +15,7 @@ use ssa_merge::manager::ManagerKey;
 use ssa_merge::managers::{Entry, MOST_MANAGERS};
 use ssa_merge::seat::is_in_table;
 
-/// Whether the manager is one of these.
+// Whether the manager is one of these.
 pub(crate) fn is_key_among(keys: &[ManagerKey], key: &ManagerKey) -> bool
     ensures { result ≡ is_key_among (keys_view keys.now) (key_view key.now) }
 {
@@ -27,7 +27,7 @@ pub(crate) fn is_key_among(keys: &[ManagerKey], key: &ManagerKey) -> bool
     false
 }
 
-/// The first change that is told of the manager.
+// The first change that is told of the manager.
 pub(crate) fn find_change<'a>(changed: &'a [ToldChange], key: &ManagerKey) -> Option<&'a ToldChange>
     ensures { option_map (λ c. told_change c.now) result ≡ change_for (map told_change changed.now) (key_view key.now) }
 {
@@ -161,7 +161,7 @@ fn do_heres_stand(entries: &[Entry], told: &ToldTable) -> bool
     are_places(&told.here, 0, staying) && are_newcomers(entries, &told.here)
 }
 
-/// Whether the lists fit the table, whatever the sets are.
+// Whether the lists fit the table, whatever the sets are.
 pub(crate) fn do_lists_fit(entries: &[Entry], told: &ToldTable) -> bool
     requires distinct { has_distinct_keys (table_view entries.now) ≡ true }
     requires few { length entries.now ≤ most_managers }

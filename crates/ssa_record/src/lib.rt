@@ -1,8 +1,8 @@
 //! Records of states, read from their JSON values and made ready for their turns.
 #![tactic(auto)]
 
-pub mod fitting_changes;
-pub mod fitting_here;
-pub mod fitting_lists;
+mod fitting_changes;
+mod fitting_here;
+mod fitting_lists;
 pub mod told;
 pub mod told_table;

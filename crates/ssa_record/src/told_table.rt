@@ -1,9 +1,12 @@
 //! What a record tells of a table, tested against the table and made ready to be turned.
-ghost use Rattle.std.specs.Prelude.{◌≡◌, ◌≤◌, ◌∷◌, [], None, true, length, map, Decides, IfOk, IfSome};
+ghost use Rattle.std.specs.Prelude.{◌≡◌, ◌≤◌, ◌∷◌, [], None, true, false, is_some, length, map, Decides, IfOk, IfSome};
 ghost use Rattle.ssa_model.specs.definitions.Carry.{carry_table};
 ghost use Rattle.ssa_model.specs.definitions.Limits.{most_managers};
-ghost use Rattle.ssa_model.specs.definitions.Table.{owned_by};
-ghost use Rattle.ssa_model.specs.definitions.Valid.{has_distinct_keys};
+ghost use Rattle.ssa_model.specs.definitions.Path.{Path};
+ghost use Rattle.ssa_model.specs.definitions.PathMap.{has, has_at_or_above};
+ghost use Rattle.ssa_model.specs.definitions.Table.{Table, owned_by};
+ghost use Rattle.ssa_model.specs.definitions.Takes.{TableTakes};
+ghost use Rattle.ssa_model.specs.definitions.Valid.{has_distinct_keys, IsTable};
 ghost use Rattle.ssa_model.specs.laws.FittingRecords.{TableFits};
 ghost use Rattle.ssa_merge.specs.Managers.{key_view, table_view};
 ghost use Rattle.ssa_record.specs.Told.{told_change, told_here, told_table};
@@ -190,6 +193,8 @@ pub fn table_told(
     ensures steps { IfOk result (λ t. IfSome t (λ d. table_steps d ≡ told_table told)) }
     ensures fits { IfOk result (λ t. IfSome t (λ d. TableFits (told_table told) (table_view entries.now) after.now cut.now)) }
     ensures room { IfOk result (λ t. IfSome t (λ d. HasTableRoom d (table_view entries.now))) }
+    ensures taken { IfOk result (λ t. (u : Table) → TableTakes (told_table told) (table_view entries.now) u → IsTable after.now u
+        → ((p : Path) → has after.now p ≡ true → has_at_or_above cut.now p ≡ false) → is_some t ≡ true) }
     ensures refused { IfOk result (λ t. t ≡ None → TableFits (told_table told) (table_view entries.now) after.now cut.now → ⊥) }
 {
     if !does_table_fit(alloc, entries, after, cut, &told)? {

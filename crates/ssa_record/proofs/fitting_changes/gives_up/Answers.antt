@@ -17,7 +17,8 @@ returns-in_ok-left-in-Some c =
     let left = c.in_ok-left-in-Some.left in
     let lose = c.in-Some.change.now.lose in
     let told = c.in-Some.ensures ∙ ap (λ cs. change_for (map told_change cs) e.manager) c.deref-2.ensures.value in
+    let stays = ap (λ ks. is_key_among (keys_view ks) e.manager) (sym c.deref.ensures.value) ∙ sym c.is_key_among.ensures ∙ c.if-is_key_among.false in
     ok-so c.is_apart.result
-    (λ b. gives-up-decides d c.args.cut.now left e b (ap (λ ks. is_key_among (keys_view ks) e.manager) (sym c.deref.ensures.value) ∙ sym c.is_key_among.ensures ∙ c.if-is_key_among.false)
+    (λ b. gives-up-decides d c.args.cut.now left e b stays
     (λ p. ap (λ x. has x p) c.in_ok-left-in-Some.ensures ∙ has-minus s lose p ∙ ap (λ o. has s p && not (loses o p)) told))
     c.is_apart.ensures

@@ -16,4 +16,5 @@ returns c =
     let left = minus c.args.set.now c.args.change.now.lose in
     let gain = c.args.change.now.gain in
     let none = sym c.is_empty.ensures ∙ c.if-not-is_empty.false in
-    ap not (c.is_empty-2.ensures ∙ ap is_empty c.in_ok-left.ensures ∙ sym (union-empty left gain ∙ ap (λ b. is_empty left && b) none ∙ and-true (is_empty left)))
+    ap not
+    (c.is_empty-2.ensures ∙ ap is_empty c.in_ok-left.ensures ∙ sym (union-empty left gain ∙ ap (λ b. is_empty left && b) none ∙ and-true (is_empty left)))

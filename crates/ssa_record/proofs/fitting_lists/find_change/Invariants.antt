@@ -6,4 +6,5 @@ use Rattle.ssa_record.proofs.fitting_lists.find_change.Given as goal
 
 -- the change is among those that are left
 abbrev pub invariant-loop-change : goal.invariant-loop-change
-invariant-loop-change l = change_for (map told_change l.changed) (key_view l.key) ≡ change_for (map told_change (drop l.change-index l.changed)) (key_view l.key)
+invariant-loop-change l =
+    change_for (map told_change l.changed) (key_view l.key) ≡ change_for (map told_change (drop l.change-index l.changed)) (key_view l.key)

@@ -10,10 +10,12 @@ pub returns-in-Some-clause-room : goal.returns-in-Some-clause-room
 returns-in-Some-clause-room c =
     let t = table_view c.args.entries.now in
     let k = key_view c.args.key.now in
-    subst (λ s. IfOk c.set_delta.result (λ d. HasRoom d s)) (sym (owned-entry t k (entry_view c.in-Some.entry.now) (sym c.in-Some.ensures))) c.set_delta.ensures.room
+    let owned = owned-entry t k (entry_view c.in-Some.entry.now) (sym c.in-Some.ensures) in
+    subst (λ s. IfOk c.set_delta.result (λ d. HasRoom d s)) (sym owned) c.set_delta.ensures.room
 
 pub returns-in-None-clause-room : goal.returns-in-None-clause-room
 returns-in-None-clause-room c =
     let t = table_view c.args.entries.now in
     let k = key_view c.args.key.now in
-    subst (λ s. IfOk c.set_delta-in-None-2.result (λ d. HasRoom d s)) (c.new.ensures ∙ sym (owned-absent t k (sym c.in-None.ensures))) c.set_delta-in-None-2.ensures.room
+    let owned = c.new.ensures ∙ sym (owned-absent t k (sym c.in-None.ensures)) in
+    subst (λ s. IfOk c.set_delta-in-None-2.result (λ d. HasRoom d s)) owned c.set_delta-in-None-2.ensures.room
