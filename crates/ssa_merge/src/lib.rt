@@ -13,7 +13,7 @@ pub mod manager;
 pub mod managers;
 pub mod names;
 pub mod order;
-mod ownable;
+pub mod ownable;
 pub mod owned;
 pub mod plan;
 pub mod seat;

@@ -1,4 +1,7 @@
 mod ByPaths
+pub mod FittingEntries
+pub mod FittingLists
+pub mod FittingPlaces
 mod ItemsRead
 mod LedBodies
 mod LedChildren
@@ -11,11 +14,13 @@ mod LedPuts
 mod LedUntouched
 pub mod MemberShapes
 pub mod Objects
+pub mod OwnablePaths
 mod PathSearch
 pub mod PathTexts
 pub mod RecordTextsSay
 mod RefilledOrder
 mod Slots
 pub mod ToldItems
-mod ToldLists
+pub mod ToldLists
+pub mod ToldSets
 mod Touched

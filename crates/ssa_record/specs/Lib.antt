@@ -1,3 +1,4 @@
+pub mod EntryTests
 pub mod LedBodies
 pub mod LedValues
 pub mod PathOrder
@@ -6,6 +7,7 @@ pub mod Places
 pub mod Refilled
 pub mod Said
 pub mod Shapes
+pub mod TableTests
 pub mod Telling
 pub mod Told
 pub mod ToldEntries

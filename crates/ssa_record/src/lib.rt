@@ -4,6 +4,9 @@
 mod body_lists;
 mod body_reading;
 pub mod by_path;
+mod fitting_changes;
+mod fitting_here;
+mod fitting_lists;
 mod key_reading;
 pub mod led_value;
 mod member_names;
@@ -17,4 +20,5 @@ mod told_parts;
 pub mod told_places;
 pub mod told_reading;
 pub mod told_steps;
+pub mod told_table;
 pub mod value_shape;

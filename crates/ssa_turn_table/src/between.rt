@@ -21,8 +21,8 @@ use ssa_path::field_set::FieldSet;
 use ssa_turn_set::making::between;
 use std::alloc::{AllocError, Global};
 
-// The manager's entry.
-fn find_entry<'a>(table: &'a [Entry], key: &ManagerKey) -> Option<&'a Entry>
+/// The manager's entry.
+pub fn find_entry<'a>(table: &'a [Entry], key: &ManagerKey) -> Option<&'a Entry>
     ensures { option_map (λ e. entry_view e.now) result ≡ entry_of (table_view table.now) (key_view key.now) }
 {
     for entry in table {
@@ -154,8 +154,8 @@ fn here_between(alloc: Global, from: &[Entry], to: &[Entry]) -> Result<Vec<Here>
     Ok(here)
 }
 
-// Room for the lists of the way back, where so many are gone and so many here.
-pub(crate) fn make_table_room(
+/// Room for the lists of the way back, where so many are gone and so many here.
+pub fn make_table_room(
     alloc: Global,
     gone: usize,
     here: usize,
