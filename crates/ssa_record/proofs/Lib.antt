@@ -22,5 +22,6 @@ mod RefilledOrder
 mod Slots
 pub mod ToldItems
 pub mod ToldLists
+pub mod ToldTables
 pub mod ToldSets
 mod Touched

@@ -1,4 +1,3 @@
-<<<<<<< HEAD
 -- What a list tells as far as it is read: its entries, and their paths among those of which anything is told.
 use Rattle.std.proofs.Common.{◌≡◌, ℕ, ◌+◌, ◌<◌, List, [], ◌∷◌, ◌++◌, length, get_or, take, map, Bool, true, false, ◌||◌, refl, sym, ap, ◌∙◌}
 use Rattle.std.proofs.lemmas.List.{map-append, take_more}
@@ -54,21 +53,3 @@ module _ {A V X : Type 0} (tell : A → Path × X) (f : V → X) where
   pub read-all : (xs : List A) (i : ℕ) (s t : PathSet) (es : List (LentPath × V)) → take i xs ≡ xs → IsReadTo xs i s t es
       → (shown f es ≡ map tell xs) × AddsPaths (told_paths (map tell xs)) s t
   read-all xs i s t es all h = (h.told ∙ ap (map tell) all, λ q. h.touched q ∙ ap (λ l. has s q || is_one_of (told_paths (map tell l)) q) all)
-=======
--- Lists made of what is told, element by element.
-use Rattle.std.proofs.Common.{◌≡◌, List, [], ◌∷◌, ◌++◌, map, refl, ap, append_assoc, ◌∙◌}
-use Rattle.std.proofs.lemmas.List.{map-append}
-use Rattle.ssa_record.specs.Told.{told_here}
-use Rattle.ssa_record.specs.declared.told.ToldHere.{ToldHere}
-
--- one more is made of the next that is told
-pub made-more : {X Y Z : Type 0} (f : X → Z) (g : Y → Z) (xs made : List X) (x : X) (y : Y) (rest : List Y) (all : List Z)
-    → map f xs ++ map g (y ∷ rest) ≡ all → f x ≡ g y → made ≡ xs ++ x ∷ [] → map f made ++ map g rest ≡ all
-made-more f g xs made x y rest all before one is =
-    ap (λ zs. map f zs ++ map g rest) is ∙ ap (λ zs. zs ++ map g rest) (map-append f xs (x ∷ []))
-    ∙ append_assoc (map f xs) (f x ∷ []) (map g rest) ∙ ap (λ z. map f xs ++ z ∷ map g rest) one ∙ before
-
-pub places-told : (hs : List ToldHere) → map (λ h. h.place) hs ≡ map (λ e. e.0) (map told_here hs)
-places-told [] = refl
-places-told (h ∷ hs) = ap (λ ps. h.place ∷ ps) (places-told hs)
->>>>>>> told-table

@@ -5,7 +5,7 @@ use Rattle.ssa_record.specs.TableTests.{are_newcomers, are_places, staying_count
 use Rattle.ssa_record.specs.Told.{told_here, told_table}
 use Rattle.ssa_record.proofs.FittingEntries.{off-refused, refused}
 use Rattle.ssa_record.proofs.FittingPlaces.{few-refuse, places-refuse, stands-decides}
-use Rattle.ssa_record.proofs.ToldLists.{places-told}
+use Rattle.ssa_record.proofs.ToldTables.{places-told}
 use Rattle.ssa_turn_table.specs.Tables.{keys_view}
 use Rattle.ssa_record.proofs.fitting_lists.do_heres_stand.Goals as goal
 
