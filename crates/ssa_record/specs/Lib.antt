@@ -1,5 +1,6 @@
 pub mod EntryTests
 pub mod LedBodies
+pub mod LedStates
 pub mod LedValues
 pub mod PathOrder
 pub mod PathTexts

@@ -17,6 +17,7 @@ pub mod reading_said;
 mod table_reading;
 pub mod told;
 mod told_parts;
+pub mod told_delta;
 pub mod told_places;
 pub mod told_reading;
 pub mod told_steps;
