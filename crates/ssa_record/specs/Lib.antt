@@ -5,6 +5,7 @@ pub mod LedValues
 pub mod PathOrder
 pub mod PathTexts
 pub mod Places
+pub mod RecordAnswers
 pub mod Refilled
 pub mod Said
 pub mod Shapes

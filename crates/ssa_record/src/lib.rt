@@ -13,6 +13,7 @@ mod member_names;
 pub mod order_after;
 pub mod path_texts;
 pub mod places;
+pub mod read_record;
 pub mod reading_said;
 mod table_reading;
 pub mod told;
