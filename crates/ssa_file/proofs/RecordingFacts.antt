@@ -38,16 +38,21 @@ state-behind t n s here = ap (last_state t.first) (taken-next t.later n s here) 
 state-valid : (kind : Kind) (t : Timeline) (n : ℕ) → AllValid kind t → IsValidState kind (state_at t n)
 state-valid kind t n h = present_valid kind (moved_to t n) (record { first = h.first; later = h.later })
 
-order-at : (v : State) (ss : List Step) (n : ℕ) (s : Step) → KeepsOrders v ss → slice_get ss n ≡ Some s → KeepsOrder (last_state v (take n ss)).table s.state.table
+order-at : (v : State) (ss : List Step) (n : ℕ) (s : Step) → KeepsOrders v ss → slice_get ss n ≡ Some s
+    → KeepsOrder (last_state v (take n ss)).table s.state.table
 order-at v [] n s kept at = absurd (none-some s at)
 order-at v (x ∷ ss) zero s kept at = subst (λ (y : Step). KeepsOrder v.table y.state.table) (same_Some x s at) kept.0
 order-at v (x ∷ ss) (suc n) s kept at = order-at x.state ss n s kept.1 at
 
-kept-order : (t : Timeline) (n : ℕ) (s : Step) → KeepsOrders t.first t.later → slice_get t.later n ≡ Some s → KeepsOrder (kept_from t n).table (kept_to t n).table
+kept-order : (t : Timeline) (n : ℕ) (s : Step) → KeepsOrders t.first t.later → slice_get t.later n ≡ Some s
+    → KeepsOrder (kept_from t n).table (kept_to t n).table
 kept-order t n s kept here =
     let order : KeepsOrder (state_at t n).table (state_at t (n + 1)).table =
     subst (λ (w : State). KeepsOrder (state_at t n).table w.table) (sym (state-behind t n s here)) (order-at t.first t.later n s kept here) in
-    elim (nat_lt n t.place) as (λ b. KeepsOrder (state_at t (if b then n + 1 else n)).table (state_at t (if b then n else n + 1)).table) [ true ↦ sym order | false ↦ order ]
+    elim (nat_lt n t.place) as (λ b. KeepsOrder (state_at t (if b then n + 1 else n)).table (state_at t (if b then n else n + 1)).table) [
+      | true ↦ sym order
+      | false ↦ order
+    ]
 
 -- the record of a valid history takes its one state to the other
 pub kept-takes : (kind : Kind) (t : Timeline) (n : ℕ) (s : Step) (d : Record) → IsValidHistory kind t → slice_get t.later n ≡ Some s

@@ -167,7 +167,7 @@ fn opening_text(
     Ok(text)
 }
 
-/// The text of the bench file of records of a history.
+/// The text of the bench file of records of a history, which is only read.
 pub fn recorded_text(
     alloc: Global,
     schema: &Schema,

@@ -19,30 +19,34 @@ object_of_state-requires c =
 
 pub returns-in_err-push_line-2-clause-refused : goal.returns-in_err-push_line-2-clause-refused
 returns-in_err-push_line-2-clause-refused c =
-    let bench = bench_with c.args.schema.now c.args.identity.now c.args.history.now in
+    let schema = c.args.schema.now in
+    let identity = c.args.identity.now in
+    let t = c.args.history.now in
     let text = c.push_line.new.text.items in
     let source = view c.json.result.now in
     let now = view c.in_ok-present.present in
     let fault = c.in_err-push_line-2.field-0.0 in
     let head = c.in_ok-head.ensures ∙ (λ i. record_head (c.past_len.ensures.count i) (c.future_len.ensures.count i)) in
-    let object = c.in_ok-present.ensures ∙ ap (whole_object bench) c.present.ensures in
+    let object = c.in_ok-present.ensures ∙ ap (whole_object (bench_with schema identity t)) c.present.ensures in
     let whole = sym (append_assoc text (line source) (line now ++ []))
-    ∙ opening-is c.args.schema.now c.args.identity.now c.args.history.now c.new-text.result.items text (text ++ line source) (view c.in_ok-head.head) source now
+    ∙ opening-is schema identity t c.new-text.result.items text (text ++ line source) (view c.in_ok-head.head) source now
     c.new-text.ensures.items c.in_ok-push_line.ensures.ok refl head c.json.ensures object in
     handed-on c.from_residual-in_err-push_line-2.result fault _ c.from_residual-in_err-push_line-2.ensures.1
     (lines-refused fault text (line source) (line now ++ []) _ whole c.in_err-push_line-2.ensures.refused)
 
 pub returns-in_err-push_line-3-clause-refused : goal.returns-in_err-push_line-3-clause-refused
 returns-in_err-push_line-3-clause-refused c =
-    let bench = bench_with c.args.schema.now c.args.identity.now c.args.history.now in
+    let schema = c.args.schema.now in
+    let identity = c.args.identity.now in
+    let t = c.args.history.now in
     let text = c.push_line-2.new.text.items in
     let source = view c.json.result.now in
     let now = view c.in_ok-present.present in
     let fault = c.in_err-push_line-3.field-0.0 in
     let head = c.in_ok-head.ensures ∙ (λ i. record_head (c.past_len.ensures.count i) (c.future_len.ensures.count i)) in
-    let object = c.in_ok-present.ensures ∙ ap (whole_object bench) c.present.ensures in
+    let object = c.in_ok-present.ensures ∙ ap (whole_object (bench_with schema identity t)) c.present.ensures in
     let whole =
-    opening-is c.args.schema.now c.args.identity.now c.args.history.now c.new-text.result.items c.push_line.new.text.items text (view c.in_ok-head.head) source now
+    opening-is schema identity t c.new-text.result.items c.push_line.new.text.items text (view c.in_ok-head.head) source now
     c.new-text.ensures.items c.in_ok-push_line.ensures.ok c.in_ok-push_line-2.ensures.ok head c.json.ensures object in
     handed-on c.from_residual-in_err-push_line-3.result fault _ c.from_residual-in_err-push_line-3.ensures.1
     (lines-refused fault text (line now) [] _ whole c.in_err-push_line-3.ensures.refused)

@@ -1,5 +1,5 @@
 -- The lines of the future, one after the other.
-use Rattle.std.proofs.Common.{◌≡◌, ◌<◌, ◌≤◌, ◌++◌, flat_map, length, ap, sym, subst, arith}
+use Rattle.std.proofs.Common.{◌<◌, ◌≤◌, ◌++◌, flat_map, length, ap, sym, subst, arith}
 use Rattle.std.specs.List.{All}
 use Rattle.std.proofs.lemmas.List.Elements.{All-nil}
 use Rattle.ssa_model.specs.definitions.BenchText.{line}
@@ -60,12 +60,16 @@ returns-in_err-push_record-clause-refused c =
 pub returns-clause-ok : goal.returns-clause-ok
 returns-clause-ok c =
     let t = c.args.history.now in
-    let beyond : length t.later ≤ c.loop-n.n = omega (arith, c.past_len-past.ensures.count, c.future_len.ensures.count, c.place_is_within.ensures, c.loop-n-test.false) in
+    let place = c.past_len-past.ensures.count in
+    let counted = c.future_len.ensures.count in
+    let beyond : length t.later ≤ c.loop-n.n = omega (arith, place, counted, c.place_is_within.ensures, c.loop-n-test.false) in
     all-made c.loop-n.text.items _ _ (future-done c.args.schema.now c.args.identity.now t c.loop-n.n beyond) c.loop-n.invariant.made
 
 pub returns-clause-of_program : goal.returns-clause-of_program
 returns-clause-of_program c =
     let t = c.args.history.now in
-    let beyond : length t.later ≤ c.loop-n.n = omega (arith, c.past_len-past.ensures.count, c.future_len.ensures.count, c.place_is_within.ensures, c.loop-n-test.false) in
+    let place = c.past_len-past.ensures.count in
+    let counted = c.future_len.ensures.count in
+    let beyond : length t.later ≤ c.loop-n.n = omega (arith, place, counted, c.place_is_within.ensures, c.loop-n-test.false) in
     c.loop-n.invariant.of_program
     (subst (All IsOfProgram) (sym (future-done c.args.schema.now c.args.identity.now t c.loop-n.n beyond)) (All-nil IsOfProgram))

@@ -14,5 +14,6 @@ invariant-loop-done l = record {
   made : l.text.items ++ flat_map line (past_left l.schema l.identity l.history (l.past - l.done))
       ≡ l.fn.text.items ++ flat_map line (past_values (bench_with l.schema l.identity l.history));
   fits : length l.text.items ≤ most_bench_bytes;
-  of_program : All IsOfProgram (past_left l.schema l.identity l.history (l.past - l.done)) → All IsOfProgram (past_values (bench_with l.schema l.identity l.history));
+  of_program : All IsOfProgram (past_left l.schema l.identity l.history (l.past - l.done))
+      → All IsOfProgram (past_values (bench_with l.schema l.identity l.history));
 }

@@ -22,7 +22,8 @@ pub returns : goal.returns
 returns c =
     let kind = c.args.schema.now.kind in
     let steps = state_steps c.args.delta.now in
-    let ordered = first_so (is_ordered kind) (has_metadata kind) (second_so (is_root_kind kind) (is_ordered kind && has_metadata kind) c.kind-kind.ensures.accepted.lawful) in
+    let lawful = second_so (is_root_kind kind) (is_ordered kind && has_metadata kind) c.kind-kind.ensures.accepted.lawful in
+    let ordered = first_so (is_ordered kind) (has_metadata kind) lawful in
     let is : (v w : State) → Takes kind steps v w → view c.in_ok-written.written ≡ record_json (version_in c.args.identity.now.version) kind (record_of v w) =
     λ v w takes. c.in_ok-written.ensures kind v w ordered takes ∙ (λ i. record_json (version_in (sym c.version.ensures i)) kind (takes.is i)) in
     if-ok c.line_value.result _ _

@@ -24,7 +24,8 @@ returns-clause-within c =
 pub returns-clause-steps : goal.returns-clause-steps
 returns-clause-steps c =
     if-some c.entry.result _ _
-    (λ e at. record-is c.self.inside c.self.invariant c.args.n (e.0.now, e.1.now) at ∙ ap (λ t. record_of (kept_from t c.args.n) (kept_to t c.args.n)) c.self.view_is)
+    (λ e at.
+    record-is c.self.inside c.self.invariant c.args.n (e.0.now, e.1.now) at ∙ ap (λ t. record_of (kept_from t c.args.n) (kept_to t c.args.n)) c.self.view_is)
     c.entry.ensures.value
 
 pub returns-clause-taken : goal.returns-clause-taken
@@ -40,7 +41,9 @@ returns-clause-taken c =
 pub returns-clause-room : goal.returns-clause-room
 returns-clause-room c =
     if-some c.entry.result _ _
-    (λ e at. subst (λ (t : model.Timeline). HasStateRoom e.0.now (kept_from t c.args.n)) c.self.view_is (record-between c.self.inside c.self.invariant c.args.n (e.0.now, e.1.now) at).fits.1)
+    (λ e at.
+    subst (λ (t : model.Timeline). HasStateRoom e.0.now (kept_from t c.args.n)) c.self.view_is
+    (record-between c.self.inside c.self.invariant c.args.n (e.0.now, e.1.now) at).fits.1)
     c.entry.ensures.value
 
 pub returns-clause-command : goal.returns-clause-command
