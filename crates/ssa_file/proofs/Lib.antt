@@ -3,3 +3,4 @@ pub mod LoadingFacts
 pub mod ReadingFacts
 pub mod DeviceFacts
 pub mod Walking
+pub mod RecordingFacts

@@ -1,11 +1,12 @@
 -- The steps along which a history goes.
-use Rattle.std.proofs.Common.{◌≡◌, ℕ, zero, suc, ◌+◌, ◌-◌, ◌<◌, ◌≤◌, List, [], ◌∷◌, ◌++◌, length, take, drop, slice_get, map, Some, option_map, Result, Ok, Err, OnOk, IfErr, refl, sym, ap, ◌∙◌, arith}
+use Rattle.std.proofs.Common.{◌≡◌, ℕ, zero, suc, ◌+◌, ◌-◌, ◌<◌, ◌≤◌, List, [], ◌∷◌, ◌++◌, length, take, drop, slice_get, map, Some, option_map, Result, Ok, Err, OnOk, IfErr, IfOk, refl, sym, ap, ◌∙◌, arith}
 use Rattle.std.proofs.lemmas.List.{drop_more, take_more}
 use Rattle.std.proofs.lemmas.Option.{get_or_from_slice_get, same_Some, slice_get-map, slice_get_within}
 use Rattle.ssa_model.specs.definitions.History.{Label, Step, Timeline, last_state, future_len, moved_to, past_len, present}
 use Rattle.ssa_model.specs.definitions.Operations.{State}
 
-last_state-push : (s : State) (ts : List Step) (t : Step) → last_state s (ts ++ t ∷ []) ≡ t.state
+-- the state that the step at the end made
+pub last_state-push : (s : State) (ts : List Step) (t : Step) → last_state s (ts ++ t ∷ []) ≡ t.state
 last_state-push s [] t = refl
 last_state-push s (u ∷ ts) t = last_state-push u.state ts t
 
@@ -33,7 +34,8 @@ left-from ss n s here = drop_more ss n s (slice_get_within ss n s here) ∙ ap (
 pub first-present : (t : Timeline) → past_len t ≡ 0 → present t ≡ t.first
 first-present t first = ap (λ n. last_state t.first (take n t.later)) first
 
-step-there : (ss : List Step) (n : ℕ) → n < length ss → (s : Step) × (slice_get ss n ≡ Some s)
+-- there is a step at each place
+pub step-there : (ss : List Step) (n : ℕ) → n < length ss → (s : Step) × (slice_get ss n ≡ Some s)
 step-there [] n h = absurd (omega (arith, h))
 step-there (s ∷ ss) zero h = (s, refl)
 step-there (s ∷ ss) (suc n) h = step-there ss n (omega (arith, h))
@@ -78,3 +80,7 @@ on-ok (Err e) f h = tt
 pub if-err : {A E : Type 0} (r : Result A E) (P Q : E → Type 0) → ((e : E) → P e → Q e) → IfErr r P → IfErr r Q
 if-err (Ok a) P Q f h = tt
 if-err (Err e) P Q f h = f e h
+
+pub if-ok : {A E : Type 0} (r : Result A E) (P Q : A → Type 0) → ((a : A) → P a → Q a) → IfOk r P → IfOk r Q
+if-ok (Ok a) P Q f h = f a h
+if-ok (Err e) P Q f h = tt

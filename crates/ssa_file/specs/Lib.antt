@@ -3,3 +3,4 @@ pub mod Held
 pub mod Reading
 pub mod Loading
 pub mod Heads
+pub mod Recording

@@ -5,5 +5,6 @@ pub mod head;
 pub mod line;
 pub mod loading;
 pub mod read_line;
+pub mod recording;
 pub mod saving;
 pub mod written;

@@ -61,7 +61,7 @@ impl From<DeviceFault> for SaveFault {
 }
 
 // Puts a number in its place among members.
-fn put_number(
+pub(crate) fn put_number(
     alloc: Global,
     members: &mut BTreeMap<String, Json>,
     name: &str,
@@ -127,7 +127,7 @@ pub fn step_value(
 }
 
 // Appends a value's line, where the text then has no more bytes than a file may have.
-fn push_line(alloc: Global, text: &mut Vec<u8>, value: &Json) -> Result<(), SaveFault>
+pub(crate) fn push_line(alloc: Global, text: &mut Vec<u8>, value: &Json) -> Result<(), SaveFault>
     requires { length text.old.items ≤ most_bench_bytes }
     ensures ok { OnOk result (text.new.items ≡ text.old.items ++ line (view value.now)) }
     ensures fits { OnOk result (length text.new.items ≤ most_bench_bytes) }

@@ -2,6 +2,7 @@ mod ByPaths
 pub mod FittingEntries
 pub mod FittingLists
 pub mod FittingPlaces
+mod CutPaths
 mod ItemsRead
 mod LedBodies
 mod LedChildren
@@ -11,6 +12,7 @@ mod LedLeaves
 mod LedMembers
 mod LedPlaces
 mod LedPuts
+mod LedStates
 mod LedUntouched
 pub mod MemberShapes
 pub mod Objects

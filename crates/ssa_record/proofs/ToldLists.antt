@@ -24,7 +24,8 @@ or-none : (a : Bool) → a ≡ (a || false)
 or-none true = refl
 or-none false = refl
 
-adds-more : (ps : List Path) (p : Path) (s t u : PathSet) → AddsPaths ps s t → u ≡ insert p tt t → AddsPaths (ps ++ p ∷ []) s u
+-- one path more
+pub adds-more : (ps : List Path) (p : Path) (s t u : PathSet) → AddsPaths ps s t → u ≡ insert p tt t → AddsPaths (ps ++ p ∷ []) s u
 adds-more ps p s t u h is q =
     ap (λ z. has z q) is ∙ has-insert p t q ∙ ap (λ b. same_path q p || b) (h q) ∙ or-last (same_path q p) (has s q) (is_one_of ps q)
     ∙ ap (λ b. has s q || b) (sym (list_any-append (same_path q) ps (p ∷ [])))

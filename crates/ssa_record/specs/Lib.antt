@@ -1,9 +1,11 @@
 pub mod EntryTests
 pub mod LedBodies
+pub mod LedStates
 pub mod LedValues
 pub mod PathOrder
 pub mod PathTexts
 pub mod Places
+pub mod RecordAnswers
 pub mod Refilled
 pub mod Said
 pub mod Shapes

@@ -157,7 +157,7 @@ module _ {D : Type 0} (leads : D → State → State) (Fits : D → State → Ty
 
 -- ---- of a history
 
-abbrev led_to : StateDelta → State → State
+abbrev pub led_to : StateDelta → State → State
 led_to d v = carry (state_steps d) v
 
 abbrev FitsState : StateDelta → State → Type 0
@@ -168,21 +168,29 @@ pub record-between : (t : Inside) → IsWhole t → (n : ℕ) (r : StateDelta ×
 record-between t whole n r at =
     record-at led_to FitsState (past_of t.journal) (future_of t.journal) (state_view t.live.state) whole.goes.back whole.goes.forward n r at
 
+-- the record is that of the two states
+pub record-is : (t : Inside) → IsWhole t → (n : ℕ) (r : StateDelta × Label) → slice_get (past_of t.journal ++ future_of t.journal) n ≡ Some r
+    → state_steps r.0 ≡ record_of (kept_from (timeline_view t) n) (kept_to (timeline_view t) n)
+record-is t whole n r at =
+    let led = record-between t whole n r at in
+    led.fits.0.1.is ∙ ap (record_of (kept_from (timeline_view t) n)) led.to
+
+-- the journal has a record for each command
+pub records-many : (t : Inside) → length (past_of t.journal ++ future_of t.journal) ≡ length (timeline_view t).later
+records-many t = sym (later-many led_to FitsState (past_of t.journal) (future_of t.journal) (state_view t.live.state))
+
 pub size-some : (t : Inside) → IsWhole t → (n : ℕ) (r : StateDelta × Label) → slice_get (past_of t.journal ++ future_of t.journal) n ≡ Some r
     → kept_size (timeline_view t) n ≡ Some (record_size (state_steps r.0))
 size-some t whole n r at =
-    let led = record-between t whole n r at in
     let within = slice_get_within (past_of t.journal ++ future_of t.journal) n r at in
-    let many = later-many led_to FitsState (past_of t.journal) (future_of t.journal) (state_view t.live.state) in
-    let is : state_steps r.0 ≡ record_of (kept_from (timeline_view t) n) (kept_to (timeline_view t) n) =
-    led.fits.0.1.is ∙ ap (record_of (kept_from (timeline_view t) n)) led.to in
+    let many = records-many t in
     ap (λ b. if b then Some (record_size (record_of (kept_from (timeline_view t) n) (kept_to (timeline_view t) n))) else None)
     (lt-ltb n (length (timeline_view t).later) (omega (arith, within, many)))
-    ∙ ap (λ d. Some (record_size d)) (sym is)
+    ∙ ap (λ d. Some (record_size d)) (sym (record-is t whole n r at))
 
 pub size-none : (t : Inside) (n : ℕ) → (n < length (past_of t.journal ++ future_of t.journal) → ⊥) → kept_size (timeline_view t) n ≡ None
 size-none t n beyond =
-    let many = later-many led_to FitsState (past_of t.journal) (future_of t.journal) (state_view t.live.state) in
+    let many = records-many t in
     elim (nat_lt n (length (timeline_view t).later)) as (λ b. nat_lt n (length (timeline_view t).later) ≡ b
     → (if b then Some (record_size (record_of (kept_from (timeline_view t) n) (kept_to (timeline_view t) n))) else None) ≡ None) [
       | true ↦ λ e. let lt = ltb-true n (length (timeline_view t).later) e in absurd (beyond (omega (arith, lt, many)))

@@ -1,9 +1,10 @@
 //! The history of a bench: its live state, and the records that lead back and forward from it.
-ghost use Rattle.std.specs.Prelude.{◌≡◌, [], OnOk, OnErr, IfOk, Some, ◌≤◌, ◌+◌, ◌-◌, ◌<◌, ◌^◌, length, map, min, option_map, take, drop, slice_get, ◌++◌};
+ghost use Rattle.std.specs.Prelude.{◌≡◌, ◌↔◌, [], OnOk, OnErr, IfOk, IfSome, IsSome, Some, ◌≤◌, ◌+◌, ◌-◌, ◌<◌, ◌^◌, length, map, min, option_map, take, drop, slice_get, ◌++◌};
 ghost use Rattle.std.specs.List.{All};
 ghost use Rattle.ssa_model.specs.definitions.Carry.{carry};
 ghost use Rattle.ssa_model.specs.definitions.History.{present, past_len, future_len, appended, moved_to};
-ghost use Rattle.ssa_model.specs.definitions.HistoryRecords.{kept_size};
+ghost use Rattle.ssa_model.specs.definitions.HistoryRecords.{kept_from, kept_size, kept_to};
+ghost use Rattle.ssa_model.specs.definitions.Record.{record_of};
 ghost use Rattle.ssa_merge.specs.States.{state_view};
 ghost use Rattle.ssa_reverse.specs.Journals.{future_of, past_of, timeline_of};
 ghost use Rattle.ssa_turn.specs.Dated.{MakesDated};
@@ -177,6 +178,19 @@ impl Timeline {
             Some(entry) => Some(entry.0.size()),
             None => None,
         }
+    }
+
+    /// The n-th record with the label of its command: those of the past first, oldest at 0, each
+    /// leading back from the state after its command to the one before it, then those of the future,
+    /// each leading forward. Takes no memory.
+    pub fn entry(&self, n: usize) -> Option<(&StateDelta, &Label)>
+        ensures within { IsSome result ↔ (n < length self.now.later) }
+        ensures steps { IfSome result (λ e. state_steps e.0.now ≡ record_of (kept_from self.now n) (kept_to self.now n)) }
+        ensures taken { IfSome result (λ e. IsTaken (state_steps e.0.now) (kept_from self.now n) (kept_to self.now n)) }
+        ensures room { IfSome result (λ e. HasStateRoom e.0.now (kept_from self.now n)) }
+        ensures command { IfSome result (λ e. slice_get (map (λ s. s.label) self.now.later) n ≡ Some (label_view e.1.now)) }
+    {
+        self.journal.entry(n)
     }
 
     /// Cuts off what came after the place, and goes to the state that the record leads to there.

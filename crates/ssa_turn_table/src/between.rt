@@ -155,11 +155,7 @@ fn here_between(alloc: Global, from: &[Entry], to: &[Entry]) -> Result<Vec<Here>
 }
 
 /// Room for the lists of the way back, where so many are gone and so many here.
-pub fn make_table_room(
-    alloc: Global,
-    gone: usize,
-    here: usize,
-) -> Result<TableRoom, AllocError>
+pub fn make_table_room(alloc: Global, gone: usize, here: usize) -> Result<TableRoom, AllocError>
     ensures gone_empty { IfOk result (λ r. r.gone.items ≡ []) }
     ensures here_empty { IfOk result (λ r. r.here.items ≡ []) }
     ensures gone_room { IfOk result (λ r. here ≤ vec_capacity r.gone) }

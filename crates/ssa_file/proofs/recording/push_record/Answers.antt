@@ -1,0 +1,60 @@
+-- The line of a record of the history is that of its step.
+use Rattle.std.proofs.Common.{◌++◌, ap, subst, ◌∙◌}
+use Rattle.ssa_model.specs.definitions.BenchText.{line}
+use Rattle.ssa_model.specs.definitions.HistoryRecords.{kept_from, kept_to}
+use Rattle.ssa_json.specs.Writable.{IsOfProgram}
+use Rattle.ssa_turn.specs.Histories.{label_view}
+use Rattle.ssa_turn_state.specs.States.{state_steps}
+use Rattle.ssa_file.specs.Saving.{CannotHold}
+use Rattle.ssa_file.proofs.RecordingFacts.{kept-is, kept-takes}
+use Rattle.ssa_file.proofs.Walking.{if-err, on-ok, step-there}
+use Rattle.ssa_file.proofs.recording.push_record.Goals as goal
+
+pub record_line-requires-clause-taken : goal.record_line-requires-clause-taken
+record_line-requires-clause-taken c =
+    let t = c.args.history.now in
+    let n = c.args.n in
+    let there = step-there t.later n c.requires.within in
+    let steps = state_steps c.in-Some.entry.0.now in
+    (kept_from t n, kept_to t n, kept-takes c.args.schema.now.kind t n there.0 steps c.requires.valid there.1 c.in-Some.ensures.steps)
+
+pub record_line-requires-clause-room : goal.record_line-requires-clause-room
+record_line-requires-clause-room c = (kept_from c.args.history.now c.args.n, c.in-Some.ensures.room)
+
+pub returns-clause-ok : goal.returns-clause-ok
+returns-clause-ok c =
+    let t = c.args.history.now in
+    let n = c.args.n in
+    let steps = state_steps c.in-Some.entry.0.now in
+    let label = label_view c.in-Some.entry.1.now in
+    on-ok c.push_line.result
+    (λ h s here. h ∙ ap (λ v. c.args.text.now.items ++ line v)
+    (c.in_ok-value-in-Some.ensures t (kept_from t n) (kept_to t n) (kept-takes c.args.schema.now.kind t n s steps c.requires.valid here c.in-Some.ensures.steps)
+    ∙ kept-is c.args.schema.now c.args.identity.now t n s label here c.in-Some.ensures.command))
+    c.push_line.ensures.ok
+
+pub returns-clause-of_program : goal.returns-clause-of_program
+returns-clause-of_program c =
+    let t = c.args.history.now in
+    let n = c.args.n in
+    let steps = state_steps c.in-Some.entry.0.now in
+    let label = label_view c.in-Some.entry.1.now in
+    on-ok c.push_line.result
+    (λ h s here. subst IsOfProgram
+    (c.in_ok-value-in-Some.ensures t (kept_from t n) (kept_to t n) (kept-takes c.args.schema.now.kind t n s steps c.requires.valid here c.in-Some.ensures.steps)
+    ∙ kept-is c.args.schema.now c.args.identity.now t n s label here c.in-Some.ensures.command)
+    h)
+    c.push_line.ensures.of_program
+
+pub returns-clause-refused : goal.returns-clause-refused
+returns-clause-refused c =
+    let t = c.args.history.now in
+    let n = c.args.n in
+    let steps = state_steps c.in-Some.entry.0.now in
+    let label = label_view c.in-Some.entry.1.now in
+    if-err c.push_line.result _ _
+    (λ f h s here. subst (λ v. CannotHold f (c.args.text.now.items ++ line v))
+    (c.in_ok-value-in-Some.ensures t (kept_from t n) (kept_to t n) (kept-takes c.args.schema.now.kind t n s steps c.requires.valid here c.in-Some.ensures.steps)
+    ∙ kept-is c.args.schema.now c.args.identity.now t n s label here c.in-Some.ensures.command)
+    h)
+    c.push_line.ensures.refused

@@ -1,0 +1,187 @@
+//! The text of a bench file of records.
+ghost use Rattle.std.specs.Prelude.{◌≡◌, ◌≤◌, ◌<◌, ◌^◌, ◌++◌, Some, codes, slice_get, IfErr, IfOk, OnOk, flat_map, length};
+ghost use Rattle.std.specs.List.{All};
+ghost use Rattle.ssa_model.specs.definitions.BenchText.{line};
+ghost use Rattle.ssa_model.specs.definitions.History.{Step, Timeline};
+ghost use Rattle.ssa_model.specs.definitions.Json.{member, no_members, object};
+ghost use Rattle.ssa_model.specs.definitions.Limits.{most_bench_bytes};
+ghost use Rattle.ssa_model.specs.definitions.Operations.{State};
+ghost use Rattle.ssa_model.specs.definitions.RecordedBench.{record_head, record_line, recorded_text, recorded_values};
+ghost use Rattle.ssa_model.specs.definitions.Takes.{Takes};
+ghost use Rattle.ssa_model.specs.definitions.Valid.{IsValidHistory};
+ghost use Rattle.ssa_json.specs.View.{view};
+ghost use Rattle.ssa_json.specs.Writable.{IsOfProgram};
+ghost use Rattle.ssa_turn.specs.Histories.{label_view};
+ghost use Rattle.ssa_turn_state.specs.States.{HasStateRoom, state_steps};
+ghost use Rattle.ssa_file.specs.Recording.{future_values, kept_value, opening_values, past_values};
+ghost use Rattle.ssa_file.specs.Saving.{CannotHold, bench_with};
+
+use crate::saving::{SaveFault, push_line, put_number};
+use ssa_json::members::put_member;
+use ssa_json::value::Json;
+use ssa_object::identity::Identity;
+use ssa_object::object::object_of_state;
+use ssa_schema::schema::Schema;
+use ssa_turn::label::Label;
+use ssa_turn::timeline::Timeline;
+use ssa_turn_state::live_state::StateDelta;
+use std::alloc::{AllocError, Global};
+use std::collections::BTreeMap;
+
+/// The value of the first line: how many commands can be undone, and how many redone.
+pub fn record_head(alloc: Global, past: usize, future: usize) -> Result<Json, AllocError>
+    requires past { past < 2 ^ 63 }
+    requires future { future < 2 ^ 63 }
+    ensures { IfOk result (λ v. view v ≡ record_head past future) }
+{
+    let mut members = BTreeMap::new(alloc);
+    put_number(alloc, &mut members, "past", past)?;
+    put_number(alloc, &mut members, "future", future)?;
+    put_number(alloc, &mut members, "format", 2)?;
+    Ok(Json::Object(members))
+}
+
+// The value of the line of a command and a record.
+fn line_value(alloc: Global, command: Json, written: Json) -> Result<Json, AllocError>
+    ensures { IfOk result (λ v. view v ≡ object (member (codes "command") (view command) (member (codes "record") (view written) no_members))) }
+{
+    let mut members = BTreeMap::new(alloc);
+    put_member(alloc, &mut members, "record", written)?;
+    put_member(alloc, &mut members, "command", command)?;
+    Ok(Json::Object(members))
+}
+
+/// The value of the line of a command and of the record of its two states, whichever of them the
+/// record leads to.
+pub fn record_line(
+    alloc: Global,
+    schema: &Schema,
+    identity: &Identity,
+    label: &Label,
+    delta: &StateDelta,
+) -> Result<Json, AllocError>
+    requires taken { (v w : State) × Takes schema.now.kind (state_steps delta.now) v w }
+    requires room { (v : State) × HasStateRoom delta.now v }
+    ensures { IfOk result (λ j. (t : Timeline) (v w : State) → Takes schema.now.kind (state_steps delta.now) v w
+        → view j ≡ record_line (bench_with schema.now identity.now t) (label_view label.now) v w) }
+{
+    // The value of a record is said for kinds whose fields rise, as this one's do.
+    let _kind = schema.kind();
+    let written = delta.to_json(alloc, identity.version())?;
+    let command = label.to_json(alloc)?;
+    line_value(alloc, command, written)
+}
+
+// Appends the line of the n-th record of a history, where the text then has no more bytes than a
+// file may have.
+fn push_record(
+    alloc: Global,
+    text: &mut Vec<u8>,
+    schema: &Schema,
+    identity: &Identity,
+    history: &Timeline,
+    n: usize,
+) -> Result<(), SaveFault>
+    requires few { length text.old.items ≤ most_bench_bytes }
+    requires within { n < length history.now.later }
+    requires valid { IsValidHistory schema.now.kind history.now }
+    ensures ok { OnOk result ((s : Step) → slice_get history.now.later n ≡ Some s → text.new.items ≡ text.old.items ++ line (kept_value schema.now identity.now history.now n s)) }
+    ensures fits { OnOk result (length text.new.items ≤ most_bench_bytes) }
+    ensures of_program { OnOk result ((s : Step) → slice_get history.now.later n ≡ Some s → IsOfProgram (kept_value schema.now identity.now history.now n s)) }
+    ensures refused { IfErr result (λ f. (s : Step) → slice_get history.now.later n ≡ Some s → CannotHold f (text.old.items ++ line (kept_value schema.now identity.now history.now n s))) }
+{
+    match history.entry(n) {
+        Some(entry) => {
+            let value = record_line(alloc, schema, identity, entry.1, entry.0)?;
+            push_line(alloc, text, &value)
+        }
+        None => unreachable!(),
+    }
+}
+
+// Appends the lines of the records of the past, the latest command's first, likewise.
+fn push_past(
+    alloc: Global,
+    text: &mut Vec<u8>,
+    schema: &Schema,
+    identity: &Identity,
+    history: &Timeline,
+) -> Result<(), SaveFault>
+    requires few { length text.old.items ≤ most_bench_bytes }
+    requires valid { IsValidHistory schema.now.kind history.now }
+    ensures ok { OnOk result (text.new.items ≡ text.old.items ++ flat_map line (past_values (bench_with schema.now identity.now history.now))) }
+    ensures fits { OnOk result (length text.new.items ≤ most_bench_bytes) }
+    ensures of_program { OnOk result (All IsOfProgram (past_values (bench_with schema.now identity.now history.now))) }
+    ensures refused { IfErr result (λ f. CannotHold f (text.old.items ++ flat_map line (past_values (bench_with schema.now identity.now history.now)))) }
+{
+    history.place_is_within();
+    let past = history.past_len();
+    for done in 0..past {
+        push_record(alloc, text, schema, identity, history, past - 1 - done)?;
+    }
+    Ok(())
+}
+
+// Appends the lines of the records of the future, the next command's first, likewise.
+fn push_future(
+    alloc: Global,
+    text: &mut Vec<u8>,
+    schema: &Schema,
+    identity: &Identity,
+    history: &Timeline,
+) -> Result<(), SaveFault>
+    requires few { length text.old.items ≤ most_bench_bytes }
+    requires valid { IsValidHistory schema.now.kind history.now }
+    ensures ok { OnOk result (text.new.items ≡ text.old.items ++ flat_map line (future_values (bench_with schema.now identity.now history.now))) }
+    ensures fits { OnOk result (length text.new.items ≤ most_bench_bytes) }
+    ensures of_program { OnOk result (All IsOfProgram (future_values (bench_with schema.now identity.now history.now))) }
+    ensures refused { IfErr result (λ f. CannotHold f (text.old.items ++ flat_map line (future_values (bench_with schema.now identity.now history.now)))) }
+{
+    history.place_is_within();
+    let past = history.past_len();
+    for n in past..past + history.future_len() {
+        push_record(alloc, text, schema, identity, history, n)?;
+    }
+    Ok(())
+}
+
+// The text of the lines in front of the records: the head, the schema and the present object.
+fn opening_text(
+    alloc: Global,
+    schema: &Schema,
+    identity: &Identity,
+    history: &Timeline,
+) -> Result<Vec<u8>, SaveFault>
+    requires valid { IsValidHistory schema.now.kind history.now }
+    ensures ok { IfOk result (λ t. t.items ≡ flat_map line (opening_values (bench_with schema.now identity.now history.now))) }
+    ensures fits { IfOk result (λ t. length t.items ≤ most_bench_bytes) }
+    ensures of_program { OnOk result (All IsOfProgram (opening_values (bench_with schema.now identity.now history.now))) }
+    ensures refused { IfErr result (λ f. CannotHold f (flat_map line (opening_values (bench_with schema.now identity.now history.now)))) }
+{
+    let head = record_head(alloc, history.past_len(), history.future_len())?;
+    let present = object_of_state(alloc, identity, schema, true, history.present())?;
+    let mut text = Vec::new(alloc);
+    push_line(alloc, &mut text, &head)?;
+    push_line(alloc, &mut text, schema.json())?;
+    push_line(alloc, &mut text, &present)?;
+    Ok(text)
+}
+
+/// The text of the bench file of records of a history, which is only read.
+pub fn recorded_text(
+    alloc: Global,
+    schema: &Schema,
+    identity: &Identity,
+    history: &Timeline,
+) -> Result<Vec<u8>, SaveFault>
+    requires valid { IsValidHistory schema.now.kind history.now }
+    ensures ok { IfOk result (λ t. t.items ≡ recorded_text (bench_with schema.now identity.now history.now)) }
+    ensures fits { IfOk result (λ t. length t.items ≤ most_bench_bytes) }
+    ensures of_program { OnOk result (All IsOfProgram (recorded_values (bench_with schema.now identity.now history.now))) }
+    ensures refused { IfErr result (λ f. CannotHold f (recorded_text (bench_with schema.now identity.now history.now))) }
+{
+    let mut text = opening_text(alloc, schema, identity, history)?;
+    push_past(alloc, &mut text, schema, identity, history)?;
+    push_future(alloc, &mut text, schema, identity, history)?;
+    Ok(text)
+}

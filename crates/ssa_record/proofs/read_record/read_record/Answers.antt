@@ -1,0 +1,76 @@
+use Rattle.std.proofs.Common.{◌≡◌, Some, None, true, false, refl, sym, ap, subst, ◌∙◌, true≢false}
+use Rattle.std.specs.Prelude.{is_some, IfSome}
+use Rattle.ssa_model.specs.definitions.Entries.{text_json}
+use Rattle.ssa_model.specs.definitions.Json.{same_json}
+use Rattle.ssa_model.specs.definitions.Operations.{State}
+use Rattle.ssa_model.specs.definitions.Record.{body_record, table_record, record_of}
+use Rattle.ssa_model.specs.definitions.RecordText.{record_json}
+use Rattle.ssa_model.specs.definitions.Takes.{Takes}
+use Rattle.ssa_model.proofs.SameValues.{same_json-itself, same_json-true}
+use Rattle.ssa_json.specs.Readings.{readings}
+use Rattle.ssa_json.specs.View.{view}
+use Rattle.ssa_merge.specs.States.{state_view}
+use Rattle.ssa_turn_state.specs.States.{HasStateRoom, state_steps}
+use Rattle.ssa_record.specs.LedStates.{IsSaidState}
+use Rattle.ssa_record.specs.RecordAnswers.{IsRecordOf}
+use Rattle.ssa_record.specs.Told.{said_body, said_table, told_body, told_of, told_table}
+use Rattle.ssa_record.proofs.LedBodies.{lawful-ordered}
+use Rattle.ssa_record.proofs.RecordTextsSay.{record_texts_say}
+use Rattle.ssa_record.proofs.read_record.read_record.Goals as goal
+
+pub returns-in_default-2-clause-answer : goal.returns-in_default-2-clause-answer
+returns-in_default-2-clause-answer c =
+    let kind = c.args.schema.now.kind in
+    let version = c.args.version.now in
+    let v = state_view c.args.state.now in
+    let j = view c.args.value.now in
+    record {
+      shape = sym c.in_ok-told.ensures.shape ∙ ap is_some c.in-Some.is;
+      none = λ w h.
+          let say = record_texts_say readings version kind v w c.kind-kind.ensures.accepted c.requires h.valid h.read_from h.read_to in
+          let body = subst (λ o. IfSome o (λ r. told_body r.body ≡ said_body readings j)) c.in-Some.is c.in_ok-told.ensures.body ∙ ap (said_body readings) h.value ∙ say.0 in
+          let table = subst (λ o. IfSome o (λ r. told_table r.table ≡ said_table readings j)) c.in-Some.is c.in_ok-told.ensures.table ∙ ap (said_table readings) h.value ∙ say.1 in
+          subst (λ o. IsSaidState o (record_of v w)) c.in_default-2.is (c.in_ok-delta.ensures.whole w h.valid h.order body table);
+    }
+
+pub to_json-requires-clause-taken : goal.to_json-requires-clause-taken
+to_json-requires-clause-taken c =
+    let kind = c.args.schema.now.kind in
+    let v = state_view c.args.state.now in
+    let taken = subst (λ o. IfSome o (λ d. (w : State) × Takes kind (state_steps d) v w)) c.in-Some-2.is c.in_ok-delta.ensures.taken in
+    (v, taken.0, (kind, taken.1))
+
+pub to_json-requires-clause-room : goal.to_json-requires-clause-room
+to_json-requires-clause-room c =
+    let v = state_view c.args.state.now in
+    (v, subst (λ o. IfSome o (λ d. HasStateRoom d v)) c.in-Some-2.is c.in_ok-delta.ensures.room)
+
+pub returns-then-not-same-clause-answer : goal.returns-then-not-same-clause-answer
+returns-then-not-same-clause-answer c =
+    let kind = c.args.schema.now.kind in
+    let version = c.args.version.now in
+    let v = state_view c.args.state.now in
+    let j = view c.args.value.now in
+    record {
+      shape = sym c.in_ok-told.ensures.shape ∙ ap is_some c.in-Some.is;
+      none = λ w h.
+          let say = record_texts_say readings version kind v w c.kind-kind.ensures.accepted c.requires h.valid h.read_from h.read_to in
+          let body = subst (λ o. IfSome o (λ r. told_body r.body ≡ said_body readings j)) c.in-Some.is c.in_ok-told.ensures.body ∙ ap (said_body readings) h.value ∙ say.0 in
+          let table = subst (λ o. IfSome o (λ r. told_table r.table ≡ said_table readings j)) c.in-Some.is c.in_ok-told.ensures.table ∙ ap (said_table readings) h.value ∙ say.1 in
+          let is : state_steps c.in-Some-2.delta ≡ record_of v w = subst (λ o. IsSaidState o (record_of v w)) c.in-Some-2.is (c.in_ok-delta.ensures.whole w h.valid h.order body table) in
+          let takes : Takes kind (state_steps c.in-Some-2.delta) v w = record { from = c.requires; to = h.valid; order = h.order; is = is } in
+          let made = c.in_ok-made.ensures kind v w (lawful-ordered kind c.kind-kind.ensures.accepted.lawful) takes in
+          let same : view c.in_ok-made.made ≡ j = made ∙ ap (record_json (text_json version) kind) is ∙ sym h.value in
+          true≢false (sym (c.same.ensures.test ∙ ap (λ x. same_json x j) same ∙ same_json-itself j) ∙ c.if-not-same.true);
+    }
+
+pub returns-clause-answer : goal.returns-clause-answer
+returns-clause-answer c =
+    let kind = c.args.schema.now.kind in
+    let v = state_view c.args.state.now in
+    let j = view c.args.value.now in
+    let taken = subst (λ o. IfSome o (λ d. (w : State) × Takes kind (state_steps d) v w)) c.in-Some-2.is c.in_ok-delta.ensures.taken in
+    let room = subst (λ o. IfSome o (λ d. HasStateRoom d v)) c.in-Some-2.is c.in_ok-delta.ensures.room in
+    let made = c.in_ok-made.ensures kind v taken.0 (lawful-ordered kind c.kind-kind.ensures.accepted.lawful) taken.1 in
+    let same : view c.in_ok-made.made ≡ j = same_json-true (view c.in_ok-made.made) j (sym c.same.ensures.test ∙ c.if-not-same.false) in
+    (taken.0, taken.1, sym same ∙ made, room)
