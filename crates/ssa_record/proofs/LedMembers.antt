@@ -132,7 +132,7 @@ pub kept-end : (m : ToldMaps) (p : Path) (n : Node) (ms : Members) → is_tree n
 kept-end m p n ms tree all kind v w q f h = (
   all.rise,
   λ t. all.members kind v w q f h t
-  ∙ kept-by v q w p t (child_at (field t) (below n)) (λ c found. child-is m kind v w f p q n h tree (field t) c found) (λ none. no-child m kind v w f p q n h tree (field t) none),
+      ∙ kept-by v q w p t (child_at (field t) (below n)) (λ c found. child-is m kind v w f p q n h tree (field t) c found) (λ none. no-child m kind v w f p q n h tree (field t) none),
 )
 
 -- ---- all members

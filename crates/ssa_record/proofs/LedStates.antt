@@ -51,13 +51,15 @@ pub state-taken : (kind : Kind) (v : State) (s : Record) (wb : Body) → IsValid
     → TableFits s.table v.table wb s.body.cut → (w : State) × Takes kind s v w
 state-taken kind v s wb valid takes own fits =
     let leads = fitting_table_leads s.table v.table v.body wb s.body.cut valid.table (keeps-uncut kind s.body v.body wb takes) fits in
-    let u = carry_table s.table v.table in
-    (record { body = wb; table = u }, record {
-      from = valid;
-      to = record { fits = own.fits; rooted = own.rooted; few = own.few; table = leads.1 };
-      order = leads.0.order;
-      is = λ i. record { body = takes.is i; table = leads.0.is i };
-    })
+    let u = carry_table s.table v.table in (
+      record { body = wb; table = u },
+      record {
+        from = valid;
+        to = record { fits = own.fits; rooted = own.rooted; few = own.few; table = leads.1 };
+        order = leads.0.order;
+        is = λ i. record { body = takes.is i; table = leads.0.is i };
+      },
+    )
 
 -- what is told of a table that a record takes a valid one to
 pub table-taken : (kind : Kind) (v w : State) (d : TableRecord) → IsValidState kind v → IsValidState kind w → KeepsOrder v.table w.table → d ≡ table_record v.table w.table → TableTakes d v.table w.table

@@ -22,11 +22,7 @@ use ssa_typed::fault::TypedFault;
 use std::alloc::{AllocError, Global};
 
 // The value of the body after the record, where what is told is the record of two bodies.
-fn value_after(
-    alloc: Global,
-    body: &Body,
-    told: &ToldBody,
-) -> Result<Option<Json>, AllocError>
+fn value_after(alloc: Global, body: &Body, told: &ToldBody) -> Result<Option<Json>, AllocError>
     ensures { IfOk result (λ o. IsShown (told_body told.now) body.now o) }
 {
     let places = places_told(alloc, told)?;
