@@ -24,6 +24,8 @@ mod program_tests;
 #[cfg(test)]
 mod record_size_tests;
 #[cfg(test)]
+mod record_tests;
+#[cfg(test)]
 mod sample;
 #[cfg(test)]
 mod saving_tests;
