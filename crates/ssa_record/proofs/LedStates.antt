@@ -7,17 +7,18 @@ use Rattle.ssa_model.specs.definitions.Kind.{Kind}
 use Rattle.ssa_model.specs.definitions.Body.{Body}
 use Rattle.ssa_model.specs.definitions.Table.{Table}
 use Rattle.ssa_model.specs.definitions.Operations.{State}
-use Rattle.ssa_model.specs.definitions.Carry.{carry_body, carry_table}
+use Rattle.ssa_model.specs.definitions.Carry.{carry, carry_body, carry_table}
 use Rattle.ssa_model.specs.definitions.Record.{BodyRecord, TableRecord, Record, body_record, table_record, record_of}
 use Rattle.ssa_model.specs.definitions.Takes.{BodyTakes, TableTakes, Takes}
 use Rattle.ssa_model.specs.definitions.Valid.{IsTable, IsValidBody, IsValidState, KeepsOrder}
 use Rattle.ssa_model.specs.laws.FittingRecords.{KeepsUncut, TableFits}
 use Rattle.ssa_model.proofs.BodyLeads.{bodies_are_trees, left, lost}
-use Rattle.ssa_model.proofs.RecordTakes.{body_laws}
+use Rattle.ssa_model.proofs.RecordTakes.{body_laws, fixes_target}
 use Rattle.ssa_model.proofs.FittingTables.{fitting_table_leads}
 use Rattle.ssa_model.proofs.Tables.{yes_no}
 use Rattle.ssa_model.proofs.Tests.{by_test}
 use Rattle.ssa_turn_body.specs.Rooms.{IsBodyTaken}
+use Rattle.ssa_turn_state.specs.States.{IsTaken}
 
 -- a record of two bodies of a kind is taken, to where it leads
 pub taken-there : (kind : Kind) (d : BodyRecord) (v w : Body) → BodyTakes kind d v w → IsBodyTaken d v (carry_body d v)
@@ -67,3 +68,7 @@ table-taken kind v w d valid own order is = record { from = valid.table.distinct
 
 pub body-taken : (kind : Kind) (v w : State) → IsValidState kind v → IsValidState kind w → BodyTakes kind (body_record v.body w.body) v.body w.body
 body-taken kind v w valid own = record { from = valid.fits; to = own.fits; is = refl }
+
+-- a record of two states is taken, to where it leads
+pub there : (kind : Kind) (d : Record) (v w : State) → Takes kind d v w → IsTaken d v (carry d v)
+there kind d v w takes = (kind, subst (Takes kind d v) (sym (fixes_target kind d v w takes)) takes)

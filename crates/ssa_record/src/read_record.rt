@@ -5,12 +5,13 @@ ghost use Rattle.ssa_json.specs.View.{view};
 ghost use Rattle.ssa_merge.specs.States.{state_view};
 ghost use Rattle.ssa_record.specs.RecordAnswers.{IsAnswer};
 
+use crate::own_paths::own_state_is_read;
 use crate::told_delta::told_delta;
 use crate::told_reading::told_record;
 use ssa_json::value::Json;
 use ssa_merge::state::State;
 use ssa_schema::schema::Schema;
-use ssa_turn_state::live_state::StateDelta;
+use ssa_turn_state::live_state::{StateDelta, turn_state};
 use std::alloc::{AllocError, Global};
 
 /// What a value is, where the record of a state is wanted.
@@ -29,6 +30,8 @@ pub enum RecordAnswer {
 ///
 /// The record is made anew from what the value tells, and its value is compared with the one that is
 /// read, so that no second spelling is taken. Nothing is changed; `Err` comes where memory is refused.
+/// The state is turned to where the record leads, and back, so that what holds of each state of a
+/// program is known of that one too: its paths, moments and sets are read from their texts.
 pub fn read_record(
     alloc: Global,
     schema: &Schema,
@@ -44,12 +47,16 @@ pub fn read_record(
     let Some(told) = told_record(alloc, value)? else {
         return Ok(RecordAnswer::NoRecord);
     };
-    let Some(delta) = told_delta(alloc, schema, state, told)? else {
+    let Some(mut delta) = told_delta(alloc, schema, state, told)? else {
         return Ok(RecordAnswer::Misfit);
     };
     let made = delta.to_json(alloc, version)?;
     if !made.same(value) {
         return Ok(RecordAnswer::Misfit);
     }
+    turn_state(state, &mut delta);
+    own_state_is_read(state);
+    state.managers.own_entries_are_read();
+    turn_state(state, &mut delta);
     Ok(RecordAnswer::Fits(delta))
 }
