@@ -17,6 +17,7 @@ mod LedUntouched
 pub mod MemberShapes
 pub mod Objects
 pub mod OwnablePaths
+mod OwnPaths
 mod PathSearch
 pub mod PathTexts
 pub mod RecordTextsSay
