@@ -19,7 +19,7 @@ pub struct Head {
 }
 
 // The member's number, where it is one and no less than 0.
-fn number_in(value: &Json, name: &str) -> Option<usize>
+pub(crate) fn number_in(value: &Json, name: &str) -> Option<usize>
     ensures is { result ≡ number_in (member_at name.now (view value.now)) }
     ensures small { IfSome result (λ n. n < 2 ^ 63) }
 {

@@ -1,0 +1,42 @@
+//! The first line of a bench file of records.
+ghost use Rattle.std.specs.Prelude.{◌≡◌, IfOk, option_map};
+ghost use Rattle.ssa_model.specs.laws.RecordedBenches.{counts_in};
+ghost use Rattle.ssa_json.specs.View.{view};
+
+use crate::head::number_in;
+use crate::recording::record_head;
+use crate::written::is_text_of;
+use ssa_json::value::Json;
+use std::alloc::{AllocError, Global};
+
+// The most commands of a bench file of records.
+const MOST_COMMANDS: usize = 1_000;
+
+/// How many commands a bench file of records has: those that can be undone, and those that can be redone.
+#[derive(Clone, Copy, Debug, PartialEq, Eq)]
+pub struct RecordCounts {
+    pub past: usize,
+    pub future: usize,
+}
+
+/// The counts that the value of a first line says, where it is written so, and no more than 1,000 in all.
+pub fn record_counts(alloc: Global, value: &Json) -> Result<Option<RecordCounts>, AllocError>
+    ensures { IfOk result (λ o. option_map (λ c. record { past = c.past; future = c.future }) o ≡ counts_in (view value.now)) }
+{
+    let Some(past) = number_in(value, "past") else {
+        return Ok(None);
+    };
+    let Some(future) = number_in(value, "future") else {
+        return Ok(None);
+    };
+    if past + future > MOST_COMMANDS {
+        return Ok(None);
+    }
+    let written = record_head(alloc, past, future)?;
+    let text = value.to_text(alloc)?;
+    if is_text_of(alloc, &written, &text)? {
+        Ok(Some(RecordCounts { past, future }))
+    } else {
+        Ok(None)
+    }
+}
