@@ -100,14 +100,16 @@ returns-clause-answer c =
     let home : state_view c.turn_state-2.new.state ≡ v =
     c.turn_state-2.ensures.value ∙ fixes_target back.0 (state_steps c.turn_state.new.delta) (state_view c.turn_state.new.state) (state_view c.told_delta.new.state) back.1 ∙ c.in_ok-delta.ensures.same in
     let is : state_steps c.turn_state-2.new.delta ≡ record_of v w = c.turn_state-2.ensures.back.1.is ∙ (λ i. record_of (home i) (led i)) in
-    let alike : d ≡ state_steps c.turn_state-2.new.delta = taken.1.is ∙ sym is in
-    (w, record {
-      takes = record { from = taken.1.from; to = taken.1.to; order = taken.1.order; is = is };
-      value = sym same ∙ made ∙ ap (record_json (text_json version) kind) alike;
-      room = subst (HasStateRoom c.turn_state-2.new.delta) home c.turn_state-2.ensures.room;
-      read = subst (IsReadState readings) led c.own_state_is_read.ensures;
-      table = subst (λ s. AllEntries (IsReadBack readings) s.table) led c.own_entries_are_read.ensures.sets;
-    })
+    let alike : d ≡ state_steps c.turn_state-2.new.delta = taken.1.is ∙ sym is in (
+      w,
+      record {
+        takes = record { from = taken.1.from; to = taken.1.to; order = taken.1.order; is = is };
+        value = sym same ∙ made ∙ ap (record_json (text_json version) kind) alike;
+        room = subst (HasStateRoom c.turn_state-2.new.delta) home c.turn_state-2.ensures.room;
+        read = subst (IsReadState readings) led c.own_state_is_read.ensures;
+        table = subst (λ s. AllEntries (IsReadBack readings) s.table) led c.own_entries_are_read.ensures.sets;
+      },
+    )
 
 pub returns-clause-same : goal.returns-clause-same
 returns-clause-same c =
