@@ -24,8 +24,6 @@ mod program_tests;
 #[cfg(test)]
 mod record_size_tests;
 #[cfg(test)]
-mod record_tests;
-#[cfg(test)]
 mod sample;
 #[cfg(test)]
 mod saving_tests;
