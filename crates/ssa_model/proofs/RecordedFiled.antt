@@ -9,7 +9,7 @@ use Rattle.ssa_model.specs.definitions.RecordedBench.{record_head, record_line, 
 use Rattle.ssa_model.specs.examples.FileRows.{readings_of, applied_step, filed}
 use Rattle.ssa_model.specs.examples.RecordedRows.{RecordedFileIsMet}
 use Rattle.ssa_model.proofs.FiledBench.{le-of, spelled-in, filed-valid}
-use Rattle.ssa_model.proofs.ReadStates.{read-paths-of}
+use Rattle.ssa_model.proofs.ReadPaths.{read-paths-of}
 
 read-history : HasReadHistory (readings_of (recorded_values filed)) filed.timeline
 read-history =

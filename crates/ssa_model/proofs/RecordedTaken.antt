@@ -1,5 +1,5 @@
 -- From the lines that are written of a valid bench, by records, the bench is taken, and from its file.
-use Rattle.std.proofs.Common.{◌≡◌, ◌≤◌, ℕ, zero, suc, ◌+◌, ◌-◌, length, List, [], ◌∷◌, ◌++◌, take, drop, true, Option, Some, None, option_map, option_and_then, refl, sym, ap, ◌∙◌, subst, arith, append_assoc, append-nil, length-append, length-drop}
+use Rattle.std.proofs.Common.{◌≡◌, ◌≤◌, ℕ, zero, suc, ◌+◌, ◌-◌, length, List, [], ◌∷◌, ◌++◌, take, drop, true, ◌&&◌, Option, Some, None, option_map, option_and_then, refl, sym, ap, ◌∙◌, subst, arith, append_assoc, append-nil, length-append, length-drop}
 use Rattle.std.proofs.Math.Seq.{take-append_seam, drop-append_seam}
 use Rattle.std.proofs.lemmas.Bool.{and_from}
 use Rattle.std.proofs.lemmas.List.{take-append-drop, length-take-le}
@@ -22,11 +22,12 @@ use Rattle.ssa_model.specs.definitions.BenchFile.{IsReadBack, IsLabel, IsStep, I
 use Rattle.ssa_model.specs.definitions.Record.{Record, record_of}
 use Rattle.ssa_model.specs.definitions.Carry.{carry}
 use Rattle.ssa_model.specs.definitions.RecordText.{record_json}
-use Rattle.ssa_model.specs.definitions.RecordReading.{record_in, HasReadPaths}
+use Rattle.ssa_model.specs.definitions.RecordReading.{record_in, HasReadPaths, has_read_paths}
 use Rattle.ssa_model.specs.definitions.RecordedBench.{record_head, record_line, past_lines, future_lines, past_steps, future_steps, recorded_values, recorded_text, HasReadStep, HasReadHistory}
 use Rattle.ssa_model.specs.laws.BenchFiles.{text_lines, spelled_values, given_if, is_written_as, schema_in, keeps_order}
 use Rattle.ssa_model.specs.laws.RecordedBenches.{Counts, counts_in, present_in, led_state, move_to, move_in, past_in, future_in, with_moves, lines_bench, recorded_bench, recorded_bench_in, RecordedFilesAreTaken}
 use Rattle.ssa_model.proofs.RecordTakes.{record_leads}
+use Rattle.ssa_model.proofs.ReadPaths.{read-paths-test}
 use Rattle.ssa_model.proofs.RecordsBack.{record_texts_are_read}
 use Rattle.ssa_model.proofs.ShownObjects.{identity-parts}
 use Rattle.ssa_model.proofs.SpelledValues.{text_lines-of, spelled_values-of}
@@ -110,7 +111,9 @@ module _ (readings : Readings) (bench : Bench) (valid : IsValidBench readings be
       let j = record_line bench label v w in
       ap (option_and_then (λ l. option_and_then (move_to readings bench v j l) (led_state readings bench v j))) (label-back readings label h)
       ∙ ap (option_and_then (move_to readings bench v j label)) (led-back label v w a b order)
-      ∙ ap (λ x. given_if x (label, w)) (and_from (is_written_as j j) (keeps_order v.table w.table) (written-itself j) (keeps_order-of v.table w.table order))
+      ∙ ap (λ x. given_if x (label, w))
+      (and_from (is_written_as j j) (keeps_order v.table w.table && has_read_paths readings w.body) (written-itself j)
+      (and_from (keeps_order v.table w.table) (has_read_paths readings w.body) (keeps_order-of v.table w.table order) (read-paths-test readings w.body b.paths)))
 
   -- ---- the lines
 

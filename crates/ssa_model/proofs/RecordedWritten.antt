@@ -16,7 +16,7 @@ use Rattle.ssa_model.specs.definitions.Answers.{Fault, bench_of}
 use Rattle.ssa_model.specs.definitions.Lines.{ended}
 use Rattle.ssa_model.specs.definitions.BenchText.{whole_object}
 use Rattle.ssa_model.specs.definitions.RecordedBench.{record_head, record_line, past_lines, future_lines, recorded_values}
-use Rattle.ssa_model.specs.laws.BenchFiles.{text_lines, spelled_values, given_if, is_written_as, number_in, schema_in, label_in, keeps_order}
+use Rattle.ssa_model.specs.laws.BenchFiles.{text_lines, spelled_values, given_if, is_written_as, number_in, schema_in, label_in}
 use Rattle.ssa_model.specs.laws.RecordedBenches.{Counts, counts_in, present_in, led_state, is_move, move_to, move_in, past_in, future_in, with_moves, lines_bench, recorded_bench, TakenIsRecordedText}
 use Rattle.ssa_model.proofs.Given.{given-back, tested-back, and_then-back, map-back}
 use Rattle.ssa_model.proofs.LoneBenches.{lone-parts}
@@ -65,7 +65,7 @@ module _ (readings : Readings) (bench : Bench) where
       let led = and_then-back (move_to readings bench v j made.0) (led_state readings bench v j) m made.2 in
       let got = given-back (is_move readings bench j made.0 v led.0) (made.0, led.0) m led.2 in
       let line = record_line bench made.0 v led.0 in
-      sym (same_text-true (compact line) (compact j) (and_parts (is_written_as line j) (keeps_order v.table led.0.table) got.0).0)
+      sym (same_text-true (compact line) (compact j) (and_parts (is_written_as line j) _ got.0).0)
       ∙ ap (λ (x : Label × State). compact (record_line bench x.0 v x.1)) got.1
 
   -- the steps that are taken back along some lines

@@ -78,7 +78,7 @@ module _ (reading : Text → Result Json ReadFault) where
   read_element n b o = cond b (Err index_element) (elim o [ None ↦ Err bad_element | Some e ↦ cond (same_text (element_text e) n) (Ok e) (Err not_canonical) ])
 
   -- a text that is an element's is its own
-  own-text : (n : Text) (e : Element) → element_of reading n ≡ Ok e → element_text e ≡ n
+  pub own-text : (n : Text) (e : Element) → element_of reading n ≡ Ok e → element_text e ≡ n
   own-text n e is = by (is_index n) (spelled_element reading n) is
     where
       by : (b : Bool) (o : Option Element) → read_element n b o ≡ Ok e → element_text e ≡ n

@@ -13,7 +13,7 @@ use Rattle.ssa_model.specs.definitions.Schema.{Schema, SchemaFault, read_schema}
 use Rattle.ssa_model.specs.definitions.Kind.{Kind}
 use Rattle.ssa_model.specs.definitions.Operations.{State}
 use Rattle.ssa_model.specs.definitions.Replies.{label_json}
-use Rattle.ssa_model.specs.definitions.Table.{ManagerKey, Table, same_manager}
+use Rattle.ssa_model.specs.definitions.Table.{Table, same_manager}
 use Rattle.ssa_model.specs.definitions.History.{Label, applied, updated, stripped, Step, Bench, is_manager_name}
 use Rattle.ssa_model.specs.definitions.Answers.{Fault, lone_bench, file_state, bench_of}
 use Rattle.ssa_model.specs.definitions.BenchText.{head_of, whole_object, first_json, step_json, bench_values, bench_text}

@@ -3,7 +3,7 @@ use Rattle.std.specs.Prelude.{◌≡◌, ℕ, zero, suc, pos, List, [], ◌∷�
 use Rattle.std.specs.List.{list_any, list_all}
 use Rattle.ssa_model.specs.definitions.Json.{Text, same_text, whole, Json, scalar, list, object, Items, no_items, item, Members, no_members, member, member_at, as_text}
 use Rattle.ssa_model.specs.definitions.Path.{Element, Path, element_text}
-use Rattle.ssa_model.specs.definitions.PathMap.{has, empty, from_entries, listed}
+use Rattle.ssa_model.specs.definitions.PathMap.{has, empty, from_entries, listed, paths}
 use Rattle.ssa_model.specs.definitions.Kind.{Kind, atomic_of}
 use Rattle.ssa_model.specs.definitions.Schema.{is_text, list_of_texts, has_member}
 use Rattle.ssa_model.specs.definitions.Body.{Content, leaf, atom, record_branch, Body, places, field_places}
@@ -250,6 +250,10 @@ IsReadPath readings (e ∷ p) = (element_of readings.value (element_text e) ≡ 
 -- each path of the body is read from its texts
 abbrev pub HasReadPaths : Readings → Body → Type 0
 HasReadPaths readings b = (p : Path) → has b p ≡ true → IsReadPath readings p
+
+-- whether each path of the body is read from its texts
+abbrev pub has_read_paths : Readings → Body → Bool
+has_read_paths readings b = list_all (list_all (λ e. is_ok (element_of readings.value (element_text e)))) (paths b)
 
 -- the readings read the paths of the state, and hold its moments for moments
 pub record IsReadState (readings : Readings) (s : State) : Type 0 where

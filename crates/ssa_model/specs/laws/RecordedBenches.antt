@@ -16,7 +16,7 @@ use Rattle.ssa_model.specs.definitions.Lines.{whole_lines}
 use Rattle.ssa_model.specs.definitions.Valid.{IsValidState}
 use Rattle.ssa_model.specs.definitions.BenchFile.{IsLabel}
 use Rattle.ssa_model.specs.definitions.Carry.{carry}
-use Rattle.ssa_model.specs.definitions.RecordReading.{Test, must_have, has_members, is_record_shape, record_in, IsReadState}
+use Rattle.ssa_model.specs.definitions.RecordReading.{Test, must_have, has_members, is_record_shape, record_in, has_read_paths, IsReadState}
 use Rattle.ssa_model.specs.definitions.RecordedBench.{record_head, record_line, recorded_text, IsRecordedFile}
 use Rattle.ssa_model.specs.laws.BenchFiles.{spelled_value, values_of, given_if, is_written_as, number_in, schema_in, said_label, is_label, label_in, keeps_order}
 
@@ -49,9 +49,9 @@ module _ (readings : Readings) (bench : Bench) where
       let d = record_in readings bench.schema.kind (value_in (member_at (codes "record") j)) in
       elim (file_state readings bench.schema.kind (whole_object bench (carry d v))) [ Ok w ↦ Some w | Err f ↦ None ]
 
-  -- the managers of both keep their order, and the line is that of the two states
+  -- the line is that of the two states, whose common managers keep their order, and the paths of the second are read from their texts
   abbrev pub is_move : Json → Label → State → State → Bool
-  is_move j label v w = is_written_as (record_line bench label v w) j && keeps_order v.table w.table
+  is_move j label v w = is_written_as (record_line bench label v w) j && (keeps_order v.table w.table && has_read_paths readings w.body)
 
   abbrev pub move_to : State → Json → Label → State → Option (Label × State)
   move_to v j label w = given_if (is_move j label v w) (label, w)
