@@ -20,6 +20,7 @@ use Rattle.ssa_model.specs.definitions.MemberNames.{has_distinct_names, items_ha
 use Rattle.ssa_model.specs.laws.FlatBodies.{HasDistinctAtoms, ShownIsDistinct, FlatHasDistinctAtoms}
 use Rattle.ssa_model.proofs.Faults.{cons≢nil}
 use Rattle.ssa_model.proofs.FlatFits.{left-distinct, flat-tells}
+use Rattle.ssa_model.proofs.NamesOnce.{distinct-fields}
 use Rattle.ssa_model.proofs.KindParts.{EachField, each_field, OfEach, OfParts, each_kind, none-before}
 use Rattle.ssa_model.proofs.PathMaps.{is_one_of}
 use Rattle.ssa_model.proofs.Places.{place-after, stands, if-some}
@@ -57,13 +58,13 @@ names-distinct p (q ∷ ps) h =
     not_one : is_one_of ps q ≡ false
     not_one = no (is_one_of ps q) (first_so _ _ h)
 
-below-distinct : (b : Body) (p : Path) → are_distinct_texts (names_below b p) ≡ true
+pub below-distinct : (b : Body) (p : Path) → are_distinct_texts (names_below b p) ≡ true
 below-distinct b p = names-distinct p (paths b) (sorted-distinct b.entries (holds (is_sorted path_cmp b.entries) b.in_order))
 
 -- ---- members
 
 module _ (shown_at : Path → Json) (p : Path) where
-  entry-missing : (n : Text) (ns : List Text) → list_any (same_text n) ns ≡ false → is_missing (member_of n (entry_members shown_at p ns)) ≡ true
+  pub entry-missing : (n : Text) (ns : List Text) → list_any (same_text n) ns ≡ false → is_missing (member_of n (entry_members shown_at p ns)) ≡ true
   entry-missing n [] h = refl
   entry-missing n (m ∷ ns) h =
       ap (λ t. is_missing (if t then Some (shown_at (p ++ field m ∷ [])) else member_of n (entry_members shown_at p ns))) (first_false (same_text n m) _ h)
@@ -86,7 +87,7 @@ module _ (b : Body) (p : Path) where
   abbrev IsDistinctField : Text → Kind → Type 0
   IsDistinctField n k = has b (p ++ field n ∷ []) ≡ true → has_distinct_names (shown k b (p ++ field n ∷ [])) ≡ true
 
-  field-missing : (n : Text) (fs : Fields) → is_before_all n fs ≡ true → is_missing (member_of n (shown_fields fs b p)) ≡ true
+  pub field-missing : (n : Text) (fs : Fields) → is_before_all n fs ≡ true → is_missing (member_of n (shown_fields fs b p)) ≡ true
   field-missing n fs h =
       ap is_missing (member_of-fields b p n fs ∙ ap (λ o. cond (has b (p ++ field n ∷ [])) (option_map (λ k. shown k b (p ++ field n ∷ [])) o) None) (before-none n fs h) ∙ cond-none (has b (p ++ field n ∷ [])))
 
@@ -222,7 +223,8 @@ reached-distinct (e ∷ p) q v apart =
 
 pub flat_has_distinct_atoms : FlatHasDistinctAtoms
 flat_has_distinct_atoms (record_of fs) (object ms) lawful apart fits p v is =
-    sym (ap distinct_in (sym (flat-tells fs ms ([], fits) apart p) ∙ is)) ∙ reached-distinct p (of_kind (record_of fs)) (object (without_empty_metadata ms)) (left-distinct ms apart)
+    sym (ap distinct_in (sym (flat-tells fs ms ([], fits) (distinct-fields fs ms apart) p) ∙ is))
+    ∙ reached-distinct p (of_kind (record_of fs)) (object (without_empty_metadata ms)) (left-distinct ms apart)
 flat_has_distinct_atoms (record_of fs) (scalar s) lawful apart fits p v is = absurd (cons≢nil fits)
 flat_has_distinct_atoms (record_of fs) (list vs) lawful apart fits p v is = absurd (cons≢nil fits)
 flat_has_distinct_atoms _ w lawful apart fits p v is = absurd (true≢false (sym lawful))

@@ -1,4 +1,4 @@
--- The flattening of a value without faults that names no member twice fits its kind place by place.
+-- The flattening of a value without faults that names no member of a place twice fits its kind place by place.
 use Rattle.std.proofs.Common.{◌≡◌, List, [], ◌∷◌, ◌++◌, Bool, true, false, ◌&&◌, Option, Some, None, refl, sym, ap, ◌∙◌, true≢false}
 use Rattle.std.proofs.lemmas.Option.{same_Some, none-some}
 use Rattle.std.specs.Prelude.{is_some, if◌then◌else◌, option_and_then, codes}
@@ -6,15 +6,17 @@ use Rattle.std.specs.Cmp.{first_so, second_so}
 use Rattle.ssa_model.specs.definitions.Json.{Text, Scalar, Json, scalar, list, object, Members, no_members, member, member_of, same_text}
 use Rattle.ssa_model.specs.definitions.Path.{Element, field, key, Path, is_item_element}
 use Rattle.ssa_model.specs.definitions.PathMap.{get, has}
-use Rattle.ssa_model.specs.definitions.Kind.{Kind, Fields, record_of, is_among, field_faults}
+use Rattle.ssa_model.specs.definitions.Kind.{Kind, Fields, record_of, is_among, kind_of, faults, field_faults}
 use Rattle.ssa_model.specs.definitions.Body.{Content, leaf, Body, order_at, places, is_empty_object, without_empty_metadata, flat}
 use Rattle.ssa_model.specs.definitions.Fitting.{Place, of_kind, content_fits, IsAt, are_distinct, scalar_of, IsBodyOf}
 use Rattle.ssa_model.specs.definitions.Objects.{is_missing}
+use Rattle.ssa_model.specs.definitions.Lawful.{is_lawful}
 use Rattle.ssa_model.specs.laws.Faultless.{Fits, FieldsFit}
 use Rattle.ssa_model.specs.definitions.MemberNames.{has_distinct_names, are_distinct_members}
 use Rattle.ssa_model.specs.laws.FlatBodies.{FlatFits}
 use Rattle.ssa_model.proofs.Faults.{cons≢nil}
 use Rattle.ssa_model.proofs.FaultlessParts.{member-join}
+use Rattle.ssa_model.proofs.NamesOnce.{names_once, fields_once, field_once, distinct-once}
 use Rattle.ssa_model.proofs.PathMaps.{get-from_entries}
 use Rattle.ssa_model.proofs.Reaching.{Standing, level, reached, reached-push, content_at, FitsAt}
 use Rattle.ssa_model.proofs.ReachedFits.{fits-below, fits-reached, HasContent, own-content, order-distinct, order-level, key-leaf, and-no}
@@ -140,16 +142,35 @@ left-distinct (member n v ms) h =
     later : (has_distinct_names v && are_distinct_members ms) ≡ true
     later = second_so (is_missing (member_of n ms)) _ h
 
+pub left-once : (fs : Fields) (ms : Members) → fields_once fs ms ≡ true → fields_once fs (without_empty_metadata ms) ≡ true
+left-once fs no_members h = refl
+left-once fs (member n v ms) h =
+    elim (is_left_out n v) as (λ b. fields_once fs (if b then ms else member n v (without_empty_metadata ms)) ≡ true) [
+      | true ↦ second_so (field_once (kind_of n fs) v) _ later
+      | false ↦ (λ i. left-missing n ms (first_so _ _ h) i
+          && (first_so (field_once (kind_of n fs) v) _ later i && left-once fs ms (second_so (field_once (kind_of n fs) v) _ later) i))
+    ]
+  where
+    later : (field_once (kind_of n fs) v && fields_once fs ms) ≡ true
+    later = second_so (is_missing (member_of n ms)) _ h
+
 -- ---- the law
 
 -- the body of an object has what is reached in what is left of it
-pub flat-tells : (fs : Fields) (ms : Members) → FieldsFit fs ms → are_distinct_members ms ≡ true → (p : Path) → get (flat (record_of fs) (object ms)) p ≡ content_at (reached (of_kind (record_of fs)) (object (without_empty_metadata ms)) p)
-flat-tells fs ms fits apart p =
-    get-from_entries (places (record_of fs) (object (without_empty_metadata ms)) []) p ∙ value-told (record_of fs) (object (without_empty_metadata ms)) [] (without-fits fs ms fits) (left-distinct ms apart) p
+pub flat-tells : (fs : Fields) (ms : Members) → FieldsFit fs ms → fields_once fs ms ≡ true
+    → (p : Path) → get (flat (record_of fs) (object ms)) p ≡ content_at (reached (of_kind (record_of fs)) (object (without_empty_metadata ms)) p)
+flat-tells fs ms fits once p =
+    get-from_entries (places (record_of fs) (object (without_empty_metadata ms)) []) p
+    ∙ value-told (record_of fs) (object (without_empty_metadata ms)) [] (without-fits fs ms fits) (left-once fs ms once) p
+
+-- no member of a place is named twice
+pub once_fits : (kind : Kind) (v : Json) → is_lawful kind ≡ true → names_once kind v ≡ true → faults kind v [] ≡ [] → IsBodyOf kind (flat kind v)
+once_fits (record_of fs) (object ms) lawful once fits =
+    body-reached (record_of fs) (object (without_empty_metadata ms)) (without-fits fs ms ([], fits)) (flat (record_of fs) (object ms))
+    (flat-tells fs ms ([], fits) once)
+once_fits (record_of fs) (scalar s) lawful once fits = absurd (cons≢nil fits)
+once_fits (record_of fs) (list vs) lawful once fits = absurd (cons≢nil fits)
+once_fits _ v lawful once fits = absurd (true≢false (sym lawful))
 
 pub flat_fits : FlatFits
-flat_fits (record_of fs) (object ms) lawful apart fits =
-    body-reached (record_of fs) (object (without_empty_metadata ms)) (without-fits fs ms ([], fits)) (flat (record_of fs) (object ms)) (flat-tells fs ms ([], fits) apart)
-flat_fits (record_of fs) (scalar s) lawful apart fits = absurd (cons≢nil fits)
-flat_fits (record_of fs) (list vs) lawful apart fits = absurd (cons≢nil fits)
-flat_fits _ v lawful apart fits = absurd (true≢false (sym lawful))
+flat_fits kind v lawful apart fits = once_fits kind v lawful (distinct-once kind v apart) fits

@@ -1,7 +1,9 @@
 -- The body of a value, or its first fault.
-use Rattle.std.proofs.Common.{◌≡◌, ◌≤◌, ℕ, nat_lt, arith, List, [], ◌∷◌, false, ap, ◌∙◌}
+use Rattle.std.proofs.Common.{◌≡◌, ◌≤◌, ℕ, nat_lt, arith, List, [], ◌∷◌, Bool, true, false, refl, ap, ◌∙◌, subst}
 use Rattle.std.proofs.lemmas.Bool.Decides.{nat_tests}
+use Rattle.std.proofs.lemmas.Option.{same_Some}
 use Rattle.std.specs.Prelude.{if◌then◌else◌, Result, Ok, Err}
+use Rattle.std.specs.Result.{result_ok}
 use Rattle.ssa_model.specs.definitions.Limits.{most_places}
 use Rattle.ssa_model.specs.definitions.Json.{Json}
 use Rattle.ssa_model.specs.definitions.PathMap.{size}
@@ -25,3 +27,26 @@ pub body_or_fault-fits : (kind : Kind) (v : Json) (b : Body) → faults kind v [
 body_or_fault-fits kind v b none is few =
     ap (by_faults kind v) none ∙ ap (λ c. if nat_lt most_places (size c) then Err (refused too_many_paths) else Ok c) is
     ∙ ap (λ t. if t then Err (refused too_many_paths) else Ok b) (at_most most_places (size b) few)
+
+-- what is made of a value without a fault
+pub record IsGivenBody (kind : Kind) (v : Json) (b : Body) : Type 0 where
+  pub faultless : faults kind v [] ≡ []
+  pub is : flat kind v ≡ b
+  pub few : size b ≤ most_places
+
+few-places : (n : ℕ) → nat_lt most_places n ≡ false → n ≤ most_places
+few-places n h = grind (arith, nat_tests)
+
+pub body_or_fault-back : (kind : Kind) (v : Json) (b : Body) → body_or_fault kind v ≡ Ok b → IsGivenBody kind v b
+body_or_fault-back kind v b h = by (faults kind v []) refl h
+  where
+    sized : (large : Bool) (c : Body) → nat_lt most_places (size c) ≡ large
+        → ◌≡◌ {A = Result Body Fault} (if large then Err (refused too_many_paths) else Ok c) (Ok b) → (c ≡ b) × (size b ≤ most_places)
+    sized true c few h = absurd cc
+    sized false c few h =
+        let same = same_Some c b (ap result_ok h) in
+        (same, subst (λ x. size x ≤ most_places) same (few-places (size c) few))
+
+    by : (fs : List kinds.FaultAt) → faults kind v [] ≡ fs → by_faults kind v fs ≡ Ok b → IsGivenBody kind v b
+    by [] none h = let own = sized (nat_lt most_places (size (flat kind v))) (flat kind v) refl h in record { faultless = none; is = own.0; few = own.1 }
+    by (f ∷ fs) none h = absurd cc

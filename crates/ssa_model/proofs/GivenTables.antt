@@ -1,4 +1,4 @@
--- The table that managers' entries say is one of the body.
+-- The table that managers' entries say is one of the body, with moments that are read.
 use Rattle.std.proofs.Common.{◌≡◌, ◌≤◌, List, [], ◌∷◌, ◌++◌, Bool, true, false, not, ◌&&◌, length, filter, refl, sym, ap, subst, ◌∙◌, arith, length-append}
 use Rattle.std.proofs.lemmas.Bool.Decides.{nat_tests}
 use Rattle.std.specs.Prelude.{Option, Some, None, Result, Ok, Err, nat_le, if◌then◌else◌}
@@ -12,7 +12,7 @@ use Rattle.ssa_model.specs.definitions.Readings.{Readings}
 use Rattle.ssa_model.specs.definitions.ElementTexts.{ElementFault}
 use Rattle.ssa_model.specs.definitions.GivenEntries.{EntryFault, too_many_managers, bad_entry, manager_name, other_version, bad_moment, of_fields, empty_entry, absent_path, duplicate_manager, is_entry, not_ownable, said_entry, owned_fault, entry_fault, value_entry, next_entry, table_behind}
 use Rattle.ssa_model.specs.definitions.History.{is_manager_name}
-use Rattle.ssa_model.specs.definitions.Valid.{OwnsOwnable, IsTable}
+use Rattle.ssa_model.specs.definitions.Valid.{OwnsOwnable, AllEntries, IsTable}
 use Rattle.ssa_model.proofs.Lists.{is_one_of-filter}
 use Rattle.ssa_model.proofs.PathMaps.{has-paths, is_one_of}
 use Rattle.ssa_model.proofs.Tables.{distinct-push, all-push}
@@ -41,12 +41,12 @@ no-fault false [] false h = (refl, refl, refl)
 
 no-fault-before : (name version moment : Bool) (fs : List ElementFault) (last : Option EntryFault)
     → ◌≡◌ {A = Option EntryFault} (if not name then Some manager_name else (if not version then Some other_version else (if not moment then Some bad_moment else (elim fs [ f ∷ gs ↦ Some (of_fields f) | [] ↦ last ])))) None
-    → (name ≡ true) × (last ≡ None)
+    → (name ≡ true) × (moment ≡ true) × (last ≡ None)
 no-fault-before false version moment fs last h = cc
 no-fault-before true false moment fs last h = cc
 no-fault-before true true false fs last h = cc
 no-fault-before true true true (f ∷ fs) last h = cc
-no-fault-before true true true [] last h = (refl, h)
+no-fault-before true true true [] last h = (refl, refl, h)
 
 said : (right : Bool) (fault : Option EntryFault) (e given : Entry)
     → ◌≡◌ {A = Result Entry EntryFault} (if not right then Err bad_entry else (elim fault [ Some f ↦ Err f | None ↦ Ok e ])) (Ok given)
@@ -62,42 +62,62 @@ few-more : (table : Table) (e : Entry) → nat_le most_managers (length table) �
 few-more table e h = grind (arith, nat_tests, length-append)
 
 module _ (readings : Readings) (body : Body) (version : Text) where
-  -- one entry more
-  next-table : (before : Table) (e : Entry) → nat_le most_managers (length before) ≡ false → is_manager_name e.manager.name ≡ true → owned_fault body before e ≡ None → IsTable body before → IsTable body (before ++ e ∷ [])
-  next-table before e room name none table =
-      let parts = no-fault (is_empty e.owned) (not_ownable body e.owned) (is_in_table before e.manager) none in
-      record {
-        distinct = distinct-push before e table.distinct parts.2;
-        few = few-more before e room;
-        names = all-push (λ x. is_manager_name x.manager.name ≡ true) before e table.names name;
-        own_some = all-push (λ x. is_empty x.owned ≡ false) before e table.own_some parts.0;
-        ownable = all-push (OwnsOwnable body) before e table.ownable (all-ownable body e parts.1);
-      }
+  -- what is known of an entry behind others
+  record IsNext (before : Table) (e : Entry) : Type 0 where
+    room : nat_le most_managers (length before) ≡ false
+    named : is_manager_name e.manager.name ≡ true
+    moment : readings.moment e.moment ≡ true
+    faultless : owned_fault body before e ≡ None
 
   next-members : (before : Table) (ms : Members) (e : Entry) → nat_le most_managers (length before) ≡ false
       → ◌≡◌ {A = Result Entry EntryFault} (if not (is_entry ms) then Err bad_entry else (elim (entry_fault readings body version before ms) [ Some f ↦ Err f | None ↦ Ok (said_entry readings ms) ])) (Ok e)
-      → IsTable body before → IsTable body (before ++ e ∷ [])
-  next-members before ms e room one table =
+      → IsNext before e
+  next-members before ms e room one =
       let own = said (is_entry ms) (entry_fault readings body version before ms) (said_entry readings ms) e one in
       let none = no-fault-before _ _ _ _ _ own.0 in
-      subst (λ x. IsTable body (before ++ x ∷ [])) own.1 (next-table before (said_entry readings ms) room none.0 none.1 table)
+      subst (IsNext before) own.1 (record { room = room; named = none.0; moment = none.1; faultless = none.2 })
 
   next-value : (full : Bool) (before : Table) (v : Json) (e : Entry) → nat_le most_managers (length before) ≡ full
       → ◌≡◌ {A = Result Entry EntryFault} (if full then Err too_many_managers else value_entry readings body version before v) (Ok e)
-      → IsTable body before → IsTable body (before ++ e ∷ [])
-  next-value true before v e room one table = cc
-  next-value false before (object ms) e room one table = next-members before ms e room one table
-  next-value false before (list vs) e room one table = cc
-  next-value false before (scalar s) e room one table = cc
+      → IsNext before e
+  next-value true before v e room one = cc
+  next-value false before (object ms) e room one = next-members before ms e room one
+  next-value false before (list vs) e room one = cc
+  next-value false before (scalar s) e room one = cc
 
-  -- the table that the items lead to
-  pub given_table : (vs : Items) (before table : Table) → IsTable body before → table_behind readings body version before vs ≡ Ok table → IsTable body table
-  given_table no_items before table h is = subst (IsTable body) (same-table before table is) h
-  given_table (item v vs) before table h is =
-      elim (next_entry readings body version before v) as (λ r. next_entry readings body version before v ≡ r → ◌≡◌ {A = Result Table EntryFault} (elim r [ Ok e ↦ table_behind readings body version (before ++ e ∷ []) vs | Err f ↦ Err f ]) (Ok table) → IsTable body table) [
+  -- what an entry more keeps holds of the table that the items lead to
+  given : (P : Table → Type 0) → ((before : Table) (e : Entry) → IsNext before e → P before → P (before ++ e ∷ []))
+      → (vs : Items) (before table : Table) → P before → table_behind readings body version before vs ≡ Ok table → P table
+  given P keeps no_items before table h is = subst P (same-table before table is) h
+  given P keeps (item v vs) before table h is =
+      elim (next_entry readings body version before v) as (λ r. next_entry readings body version before v ≡ r
+      → ◌≡◌ {A = Result Table EntryFault} (elim r [ Ok e ↦ table_behind readings body version (before ++ e ∷ []) vs | Err f ↦ Err f ]) (Ok table) → P table) [
         | Err f ↦ λ _ none. absurd (by f none)
-        | Ok e ↦ λ one rest. given_table vs (before ++ e ∷ []) table (next-value (nat_le most_managers (length before)) before v e refl one h) rest
+        | Ok e ↦ λ one rest.
+            given P keeps vs (before ++ e ∷ []) table (keeps before e (next-value (nat_le most_managers (length before)) before v e refl one) h) rest
       ] refl is
     where
       by : (f : EntryFault) → ◌≡◌ {A = Result Table EntryFault} (Err f) (Ok table) → ⊥
       by f none = cc
+
+  next-table : (before : Table) (e : Entry) → IsNext before e → IsTable body before → IsTable body (before ++ e ∷ [])
+  next-table before e next table =
+      let parts = no-fault (is_empty e.owned) (not_ownable body e.owned) (is_in_table before e.manager) next.faultless in
+      record {
+        distinct = distinct-push before e table.distinct parts.2;
+        few = few-more before e next.room;
+        names = all-push (λ x. is_manager_name x.manager.name ≡ true) before e table.names next.named;
+        own_some = all-push (λ x. is_empty x.owned ≡ false) before e table.own_some parts.0;
+        ownable = all-push (OwnsOwnable body) before e table.ownable (all-ownable body e parts.1);
+      }
+
+  -- the table that the items lead to
+  pub given_table : (vs : Items) (before table : Table) → IsTable body before → table_behind readings body version before vs ≡ Ok table → IsTable body table
+  given_table = given (IsTable body) next-table
+
+  abbrev HasMoment : Entry → Type 0
+  HasMoment e = readings.moment e.moment ≡ true
+
+  pub given_moments : (vs : Items) (before table : Table) → AllEntries HasMoment before → table_behind readings body version before vs ≡ Ok table
+      → AllEntries HasMoment table
+  given_moments = given (AllEntries HasMoment) (λ before e next h. all-push HasMoment before e h next.moment)

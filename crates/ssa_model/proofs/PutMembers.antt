@@ -17,7 +17,7 @@ order = slice_cmp nat_cmp
 abbrev pub metadata : Text
 metadata = codes "metadata"
 
-order-same : (n m : Text) → order n m ≡ Equal → n ≡ m
+pub order-same : (n m : Text) → order n m ≡ Equal → n ≡ m
 order-same n m e = same_text-true n m (ap is_eq e)
 
 pub greater-other : (n m : Text) → order n m ≡ Greater → same_text m n ≡ false
@@ -33,13 +33,13 @@ abbrev pub rise : Members → Bool
 rise no_members = true
 rise (member n v ms) = are_above n ms && rise ms
 
-above-on : (n l : Text) (ms : Members) → order n l ≡ Less → are_above l ms ≡ true → are_above n ms ≡ true
+pub above-on : (n l : Text) (ms : Members) → order n l ≡ Less → are_above l ms ≡ true → are_above n ms ≡ true
 above-on n l no_members h rest = refl
 above-on n l (member m v ms) h rest =
     let up = ap is_lt (nat_list_cmp_total.trans n l m h (lower _ (first_so (before l m) _ rest))) in
     λ i. up i && above-on n l ms h (second_so (before l m) _ rest) i
 
-above-none : (n : Text) (ms : Members) → are_above n ms ≡ true → member_of n ms ≡ None
+pub above-none : (n : Text) (ms : Members) → are_above n ms ≡ true → member_of n ms ≡ None
 above-none n no_members h = refl
 above-none n (member m v ms) h =
     ap (λ o. if is_eq o then Some v else member_of n ms) (lower (order n m) (first_so (before n m) _ h)) ∙ above-none n ms (second_so (before n m) _ h)

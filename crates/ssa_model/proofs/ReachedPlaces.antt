@@ -1,4 +1,4 @@
--- The places of a value without faults that names no member twice are those at which something stands, each with its content.
+-- The places of a value without faults that names no member of a place twice are those at which something stands, each with its content.
 use Rattle.std.proofs.Common.{◌≡◌, List, [], ◌∷◌, ◌++◌, Bool, true, false, not, cond, ◌&&◌, ◌||◌, Option, Some, None, option_map, refl, sym, ap, subst, ◌∙◌, true≢false}
 use Rattle.std.specs.Prelude.{if◌then◌else◌, option_and_then}
 use Rattle.std.specs.Cmp.{first_so, second_so}
@@ -12,10 +12,10 @@ use Rattle.ssa_model.specs.definitions.Body.{Content, leaf, atom, record_branch,
 use Rattle.ssa_model.specs.definitions.Fitting.{Place, of_kind, item_of, value_of, are_distinct}
 use Rattle.ssa_model.specs.definitions.Objects.{is_missing}
 use Rattle.ssa_model.specs.laws.Faultless.{Fits, FieldsFit, EntriesFit}
-use Rattle.ssa_model.specs.definitions.MemberNames.{has_distinct_names, items_have_distinct_names, are_distinct_members}
 use Rattle.ssa_model.proofs.Faults.{cons≢nil}
 use Rattle.ssa_model.proofs.FaultlessParts.{member-first, member-rest, entry-first, entry-rest, ValuesFitAfter, value-rest, ItemsFitAfter, item-parts, item-rest, values-distinct, items-distinct}
 use Rattle.ssa_model.proofs.Fitting.{same_element-true}
+use Rattle.ssa_model.proofs.NamesOnce.{names_once, fields_once, entries_once, items_once, field_once}
 use Rattle.ssa_model.proofs.PlacesTold.{Entries, find-both}
 use Rattle.ssa_model.proofs.Reaching.{Standing, Level, nothing_below, member_level, value_level, item_at, item_level, level, reached, content_of, content_at, own_scalar}
 use Rattle.ssa_model.proofs.ShownNames.{then_both}
@@ -182,7 +182,7 @@ values-told k (item (scalar s) vs) p fits apart =
     (values-told k vs p (value-rest k (scalar s) vs fits) (second_so (not (is_among (value s) (value_order vs))) _ apart))
 
 mutual
-  pub value-told : (k : Kind) (v : Json) (p : Path) → Fits k v → has_distinct_names v ≡ true → TellsReached p (reached (of_kind k) v) (places k v p)
+  pub value-told : (k : Kind) (v : Json) (p : Path) → Fits k v → names_once k v ≡ true → TellsReached p (reached (of_kind k) v) (places k v p)
   value-told (scalar_kind k) (scalar s) p fits apart = head-told p (of_kind (scalar_kind k)) (scalar s) (leaf s) [] refl (none-told p nothing_below (λ e. refl))
   value-told (atomic_of t) v p fits apart = head-told p (of_kind (atomic_of t)) v (atom v) [] refl (none-told p nothing_below (λ e. refl))
   value-told (record_of fs) (object ms) p fits apart = head-told p (of_kind (record_of fs)) (object ms) record_branch (field_places fs ms p) refl (fields-told fs ms p fits apart)
@@ -193,7 +193,8 @@ mutual
       head-told p (of_kind (items_of ns fs)) (list vs) (list_branch (key_order ns vs)) (item_places ns fs vs p) refl (items-told ns fs vs p ([], fits) apart (items-distinct ns fs vs fits))
   value-told _ _ p fits apart = absurd (cons≢nil fits.1)
 
-  fields-told : (fs : Fields) (ms : Members) (p : Path) → FieldsFit fs ms → are_distinct_members ms ≡ true → TellsReached p (reached_below (member_level (λ n. kind_of n fs) ms)) (field_places fs ms p)
+  fields-told : (fs : Fields) (ms : Members) (p : Path) → FieldsFit fs ms → fields_once fs ms ≡ true
+      → TellsReached p (reached_below (member_level (λ n. kind_of n fs) ms)) (field_places fs ms p)
   fields-told fs no_members p fits apart = none-told p (member_level (λ n. kind_of n fs) no_members) (no-members (λ n. kind_of n fs))
   fields-told fs (member n v ms) p fits apart =
       let fit = member-first fs n v ms fits in
@@ -202,18 +203,21 @@ mutual
       subst (λ o. TellsReached p (reached_below (member_level (λ m. kind_of m fs) (member n v ms))) (elim o [ None ↦ [] | Some k ↦ places k v own ] ++ field_places fs ms p)) (sym fit.1.0)
       (next-told p (field n) (of_kind fit.0) v (member_level (λ m. kind_of m fs) (member n v ms)) (member_level (λ m. kind_of m fs) ms) (places fit.0 v own) (field_places fs ms p)
       (first-member (λ m. kind_of m fs) n v fit.0 ms fit.1.0) (new-member (λ m. kind_of m fs) n ms (first_so _ _ apart))
-      (value-told fit.0 v own fit.1.1 (first_so (has_distinct_names v) _ later)) (fields-told fs ms p (member-rest fs n v ms fits) (second_so (has_distinct_names v) _ later)))
+      (value-told fit.0 v own fit.1.1 (sym (ap (λ o. field_once o v) fit.1.0) ∙ first_so (field_once (kind_of n fs) v) _ later))
+      (fields-told fs ms p (member-rest fs n v ms fits) (second_so (field_once (kind_of n fs) v) _ later)))
 
-  entries-told : (k : Kind) (ms : Members) (p : Path) → EntriesFit k ms → are_distinct_members ms ≡ true → TellsReached p (reached_below (member_level (λ n. Some k) ms)) (entry_places k ms p)
+  entries-told : (k : Kind) (ms : Members) (p : Path) → EntriesFit k ms → entries_once k ms ≡ true
+      → TellsReached p (reached_below (member_level (λ n. Some k) ms)) (entry_places k ms p)
   entries-told k no_members p fits apart = none-told p (member_level (λ n. Some k) no_members) (no-members (λ n. Some k))
   entries-told k (member n v ms) p fits apart =
       let own = p ++ field n ∷ [] in
       let later = second_so (is_missing (member_of n ms)) _ apart in
       next-told p (field n) (of_kind k) v (member_level (λ m. Some k) (member n v ms)) (member_level (λ m. Some k) ms) (places k v own) (entry_places k ms p)
       (first-member (λ m. Some k) n v k ms refl) (new-member (λ m. Some k) n ms (first_so _ _ apart))
-      (value-told k v own (entry-first k n v ms fits) (first_so (has_distinct_names v) _ later)) (entries-told k ms p (entry-rest k n v ms fits) (second_so (has_distinct_names v) _ later))
+      (value-told k v own (entry-first k n v ms fits) (first_so (names_once k v) _ later))
+      (entries-told k ms p (entry-rest k n v ms fits) (second_so (names_once k v) _ later))
 
-  items-told : (ns : List Text) (fs : Fields) (vs : Items) (p : Path) → ItemsFitAfter ns fs vs → items_have_distinct_names vs ≡ true → are_distinct (key_order ns vs) ≡ true
+  items-told : (ns : List Text) (fs : Fields) (vs : Items) (p : Path) → ItemsFitAfter ns fs vs → items_once fs vs ≡ true → are_distinct (key_order ns vs) ≡ true
       → TellsReached p (reached_below (item_level ns fs vs)) (item_places ns fs vs p)
   items-told ns fs no_items p fits apart order = none-told p (item_level ns fs no_items) (no-items ns fs)
   items-told ns fs (item (scalar s) vs) p fits apart order = absurd (cons≢nil fits.1.1)
@@ -223,5 +227,7 @@ mutual
       let own = p ++ e ∷ [] in
       next-told p e (item_of ns fs) (object ms) (item_level ns fs (item (object ms) vs)) (item_level ns fs vs) ((own, record_branch) ∷ field_places fs ms own) (item_places ns fs vs p)
       (first-item ns fs ms vs) (new-item ns fs ms vs (no (is_among e (key_order ns vs)) (first_so _ _ order)))
-      (head-told own (item_of ns fs) (object ms) record_branch (field_places fs ms own) refl (fields-told fs ms own (item-parts ns fs ms vs fits).1 (first_so (are_distinct_members ms) _ apart)))
-      (items-told ns fs vs p (item-rest ns fs (object ms) vs fits) (second_so (are_distinct_members ms) _ apart) (second_so (not (is_among e (key_order ns vs))) _ order))
+      (head-told own (item_of ns fs) (object ms) record_branch (field_places fs ms own) refl
+      (fields-told fs ms own (item-parts ns fs ms vs fits).1 (first_so (fields_once fs ms) _ apart)))
+      (items-told ns fs vs p (item-rest ns fs (object ms) vs fits) (second_so (fields_once fs ms) _ apart)
+      (second_so (not (is_among e (key_order ns vs))) _ order))

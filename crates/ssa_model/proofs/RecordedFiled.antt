@@ -1,14 +1,21 @@
--- The sample's bench file of records is one: what is asked of such a file is met.
-use Rattle.std.proofs.Common.{[], ◌∷◌, length, refl}
-use Rattle.std.proofs.lemmas.List.Elements.{All-nil, All-cons}
+-- The sample's bench file of records is one: what is asked of such a file, and of its lines, is met.
+use Rattle.std.proofs.Common.{◌≡◌, [], ◌∷◌, length, refl, ap}
+use Rattle.std.proofs.lemmas.List.Elements.{All-nil, All-cons, All-head}
 use Rattle.std.specs.List.{All}
+use Rattle.std.specs.Prelude.{codes}
 use Rattle.ssa_model.specs.definitions.Limits.{most_bench_bytes}
+use Rattle.ssa_model.specs.definitions.Json.{list, no_items}
 use Rattle.ssa_model.specs.definitions.BenchText.{whole_object}
-use Rattle.ssa_model.specs.definitions.BenchFile.{IsSpelled}
+use Rattle.ssa_model.specs.definitions.BenchFile.{IsReadBack, IsStep, IsSpelled}
+use Rattle.ssa_model.specs.definitions.Operations.{State}
+use Rattle.ssa_model.specs.definitions.RecordReading.{member_in, HasReadPaths}
+use Rattle.ssa_model.specs.definitions.Valid.{AllEntries, IsValidState}
 use Rattle.ssa_model.specs.definitions.RecordedBench.{record_head, record_line, recorded_values, recorded_text, HasReadStep, HasReadHistory}
+use Rattle.ssa_model.specs.laws.RecordedMoves.{IsReadBackState}
+use Rattle.ssa_model.specs.examples.Sample.{sample_kind}
 use Rattle.ssa_model.specs.examples.FileRows.{readings_of, applied_step, filed}
-use Rattle.ssa_model.specs.examples.RecordedRows.{RecordedFileIsMet}
-use Rattle.ssa_model.proofs.FiledBench.{le-of, spelled-in, filed-valid}
+use Rattle.ssa_model.specs.examples.RecordedRows.{one_gone, RecordedFileIsMet, RecordedMovesAreMet}
+use Rattle.ssa_model.proofs.FiledBench.{le-of, spelled-in, filed-valid, first-valid, applied-valid}
 use Rattle.ssa_model.proofs.ReadPaths.{read-paths-of}
 
 read-history : HasReadHistory (readings_of (recorded_values filed)) filed.timeline
@@ -40,3 +47,29 @@ recorded_file_is_met = record {
   fits = le-of (length (recorded_text filed)) most_bench_bytes refl;
   spelled = values-spelled;
 }
+
+-- ---- one line
+
+read-back : (s : State) → IsValidState sample_kind s → HasReadPaths (readings_of (recorded_values filed)) s.body
+    → AllEntries (IsReadBack (readings_of (recorded_values filed))) s.table → IsReadBackState (readings_of (recorded_values filed)) sample_kind s
+read-back s valid paths table = record { valid = valid; paths = paths; table = table }
+
+pub recorded_moves_are_met : RecordedMovesAreMet
+recorded_moves_are_met =
+    let good = filed-valid (recorded_values filed) in
+    let readings = readings_of (recorded_values filed) in (
+      record { accepted = good.accepted; named = good.named },
+      read-back filed.timeline.first first-valid read-history.first good.first,
+      read-back applied_step.state applied-valid (All-head (HasReadStep readings) applied_step [] read-history.later)
+          (All-head (IsStep readings) applied_step [] good.steps).table,
+      (All-head (IsStep readings) applied_step [] good.steps).label,
+      good.order.0,
+      refl,
+      refl,
+      refl,
+      refl,
+      λ u valid order read is. other (ap (λ j. member_in (codes "gone") j) is),
+    )
+  where
+    other : one_gone (codes "m2") ≡ list no_items → ⊥
+    other e = cc

@@ -1,5 +1,5 @@
 -- From the lines that are written of a valid bench, by records, the bench is taken, and from its file.
-use Rattle.std.proofs.Common.{◌≡◌, ◌≤◌, ℕ, zero, suc, ◌+◌, ◌-◌, length, List, [], ◌∷◌, ◌++◌, take, drop, true, ◌&&◌, Option, Some, None, option_map, option_and_then, refl, sym, ap, ◌∙◌, subst, arith, append_assoc, append-nil, length-append, length-drop}
+use Rattle.std.proofs.Common.{◌≡◌, ◌≤◌, ℕ, zero, suc, ◌+◌, ◌-◌, length, List, [], ◌∷◌, ◌++◌, take, drop, true, Option, Some, None, option_map, option_and_then, refl, sym, ap, ◌∙◌, subst, arith, append_assoc, append-nil, length-append, length-drop}
 use Rattle.std.proofs.Math.Seq.{take-append_seam, drop-append_seam}
 use Rattle.std.proofs.lemmas.Bool.{and_from}
 use Rattle.std.proofs.lemmas.List.{take-append-drop, length-take-le}
@@ -10,41 +10,25 @@ use Rattle.ssa_model.specs.definitions.Limits.{most_past, most_bench_bytes}
 use Rattle.ssa_model.specs.definitions.Json.{Text, Json}
 use Rattle.ssa_model.specs.definitions.Readings.{Readings}
 use Rattle.ssa_model.specs.definitions.Schema.{Schema}
-use Rattle.ssa_model.specs.definitions.Objects.{Identity}
 use Rattle.ssa_model.specs.definitions.Operations.{State}
-use Rattle.ssa_model.specs.definitions.Entries.{version_in}
-use Rattle.ssa_model.specs.definitions.Table.{Table}
-use Rattle.ssa_model.specs.definitions.History.{Label, Step, Bench, last_state, present, with_timeline}
-use Rattle.ssa_model.specs.definitions.Answers.{Fault, lone_bench, file_state, bench_of}
+use Rattle.ssa_model.specs.definitions.History.{Step, Bench, last_state, present, with_timeline}
+use Rattle.ssa_model.specs.definitions.Answers.{Fault, lone_bench, bench_of}
 use Rattle.ssa_model.specs.definitions.BenchText.{whole_object}
-use Rattle.ssa_model.specs.definitions.Valid.{AllEntries, IsValidState, MakesValid, KeepsOrder, KeepsOrders}
-use Rattle.ssa_model.specs.definitions.BenchFile.{IsReadBack, IsLabel, IsStep, IsSpelled, IsValidBench}
-use Rattle.ssa_model.specs.definitions.Record.{Record, record_of}
-use Rattle.ssa_model.specs.definitions.Carry.{carry}
-use Rattle.ssa_model.specs.definitions.RecordText.{record_json}
-use Rattle.ssa_model.specs.definitions.RecordReading.{record_in, HasReadPaths, has_read_paths}
+use Rattle.ssa_model.specs.definitions.Valid.{MakesValid, KeepsOrder, KeepsOrders}
+use Rattle.ssa_model.specs.definitions.BenchFile.{IsLabel, IsStep, IsSpelled, IsValidBench}
 use Rattle.ssa_model.specs.definitions.RecordedBench.{record_head, record_line, past_lines, future_lines, past_steps, future_steps, recorded_values, recorded_text, HasReadStep, HasReadHistory}
-use Rattle.ssa_model.specs.laws.BenchFiles.{text_lines, spelled_values, given_if, is_written_as, schema_in, keeps_order}
-use Rattle.ssa_model.specs.laws.RecordedBenches.{Counts, counts_in, present_in, led_state, move_to, move_in, past_in, future_in, with_moves, lines_bench, recorded_bench, recorded_bench_in, RecordedFilesAreTaken}
-use Rattle.ssa_model.proofs.RecordTakes.{record_leads}
-use Rattle.ssa_model.proofs.ReadPaths.{read-paths-test}
-use Rattle.ssa_model.proofs.RecordsBack.{record_texts_are_read}
-use Rattle.ssa_model.proofs.ShownObjects.{identity-parts}
+use Rattle.ssa_model.specs.laws.BenchFiles.{text_lines, spelled_values, given_if, is_written_as, schema_in}
+use Rattle.ssa_model.specs.laws.RecordedMoves.{IsReadBackState, TellsLines}
+use Rattle.ssa_model.specs.laws.RecordedBenches.{Counts, counts_in, present_in, past_in, future_in, with_moves, lines_bench, recorded_bench, recorded_bench_in, RecordedFilesAreTaken}
+use Rattle.ssa_model.proofs.RecordedMoves.{move-back}
 use Rattle.ssa_model.proofs.SpelledValues.{text_lines-of, spelled_values-of}
-use Rattle.ssa_model.proofs.TakenOfWritten.{written-itself, schema-back, label-back, keeps_order-of, nat_le-of, nat-itself, shown-back, state-back}
-
-moments-of : (readings : Readings) (t : Table) → AllEntries (IsReadBack readings) t → AllEntries (λ e. readings.moment e.moment ≡ true) t
-moments-of readings [] h = tt
-moments-of readings (e ∷ es) h = (h.0.moment, moments-of readings es h.1)
+use Rattle.ssa_model.proofs.TakenOfWritten.{written-itself, schema-back, nat_le-of, nat-itself, shown-back}
 
 -- ---- the moves of a bench
 
 module _ (readings : Readings) (bench : Bench) (valid : IsValidBench readings bench) where
-  -- what is known of a state of the bench
-  record IsGoodState (s : State) : Type 0 where
-    pub valid_state : IsValidState bench.schema.kind s
-    pub back : AllEntries (IsReadBack readings) s.table
-    pub paths : HasReadPaths readings s.body
+  abbrev IsGoodState : State → Type 0
+  IsGoodState = IsReadBackState readings bench.schema.kind
 
   -- of a step from a state
   record IsGoodMove (v : State) (s : Step) : Type 0 where
@@ -64,7 +48,7 @@ module _ (readings : Readings) (bench : Bench) (valid : IsValidBench readings be
       let step = All-head (IsStep readings) s ss steps in
       let valid_next = All-head (MakesValid bench.schema.kind) s ss valids in
       let read_next = All-head (HasReadStep readings) s ss paths in
-      let next : IsGoodState s.state = record { valid_state = valid_next; back = step.table; paths = read_next } in (
+      let next : IsGoodState s.state = record { valid = valid_next; paths = read_next; table = step.table } in (
         record { from = good; to = next; label = step.label; order = order.0 },
         good-moves s.state ss next (All-tail (MakesValid bench.schema.kind) s ss valids) (All-tail (IsStep readings) s ss steps)
             (All-tail (HasReadStep readings) s ss paths) order.1,
@@ -85,35 +69,8 @@ module _ (readings : Readings) (bench : Bench) (valid : IsValidBench readings be
   good-last (suc n) v [] good h = good
   good-last (suc n) v (s ∷ ss) good h = good-last n s.state ss h.0.to h.1
 
-  -- ---- one line
-
-  record-is : (v w : State) → IsGoodState v → IsGoodState w
-      → record_in readings bench.schema.kind (record_json (version_in bench.identity.version) bench.schema.kind (record_of v w)) ≡ record_of v w
-  record-is v w a b =
-      let p = identity-parts bench.identity valid.named in
-      ap (λ (i : Identity). record_in readings bench.schema.kind (record_json (version_in i.version) bench.schema.kind (record_of v w))) p.is
-      ∙ record_texts_are_read readings p.version bench.schema.kind v w valid.accepted a.valid_state b.valid_state
-      (record { paths = a.paths; moments = moments-of readings v.table a.back }) (record { paths = b.paths; moments = moments-of readings w.table b.back })
-
-  led-back : (label : Label) (v w : State) → IsGoodState v → IsGoodState w → KeepsOrder v.table w.table
-      → led_state readings bench v (record_line bench label v w) ≡ Some w
-  led-back label v w a b order =
-      let carried = ap (λ (d : Record). carry d v) (record-is v w a b) ∙ record_leads bench.schema.kind v w a.valid_state b.valid_state order in
-      ap (λ s. of_result (file_state readings bench.schema.kind (whole_object bench s))) carried
-      ∙ ap of_result (state-back readings bench valid w b.valid_state b.back)
-    where
-      of_result : Result State Fault → Option State
-      of_result r = elim r [ Ok x ↦ Some x | Err f ↦ None ]
-
-  move-back : (label : Label) (v w : State) → IsLabel readings label → IsGoodState v → IsGoodState w → KeepsOrder v.table w.table
-      → move_in readings bench v (record_line bench label v w) ≡ Some (label, w)
-  move-back label v w h a b order =
-      let j = record_line bench label v w in
-      ap (option_and_then (λ l. option_and_then (move_to readings bench v j l) (led_state readings bench v j))) (label-back readings label h)
-      ∙ ap (option_and_then (move_to readings bench v j label)) (led-back label v w a b order)
-      ∙ ap (λ x. given_if x (label, w))
-      (and_from (is_written_as j j) (keeps_order v.table w.table && has_read_paths readings w.body) (written-itself j)
-      (and_from (keeps_order v.table w.table) (has_read_paths readings w.body) (keeps_order-of v.table w.table order) (read-paths-test readings w.body b.paths)))
+  tells : TellsLines bench
+  tells = record { accepted = valid.accepted; named = valid.named }
 
   -- ---- the lines
 
@@ -125,13 +82,13 @@ module _ (readings : Readings) (bench : Bench) (valid : IsValidBench readings be
       ap (λ js. past_in readings bench (last_state s.state ss) js acc) (append_assoc (past_lines bench s.state ss) (j ∷ []) rest)
       ∙ past-back s.state ss (j ∷ rest) acc h.1
       ∙ ap (option_and_then (λ m. past_in readings bench m.1 rest (record { label = m.0; state = s.state } ∷ (ss ++ acc))))
-      (move-back s.label s.state v h.0.label h.0.to h.0.from (sym h.0.order))
+      (move-back readings bench tells s.label s.state v h.0.label h.0.to h.0.from (sym h.0.order))
 
   future-back : (v : State) (ss : List Step) → AreGoodMoves v ss → future_in readings bench v (future_lines bench v ss) ≡ Some ss
   future-back v [] h = refl
   future-back v (s ∷ ss) h =
       ap (option_and_then (λ m. option_map (λ ts. record { label = m.0; state = m.1 } ∷ ts) (future_in readings bench m.1 (future_lines bench s.state ss))))
-      (move-back s.label v s.state h.0.label h.0.from h.0.to h.0.order)
+      (move-back readings bench tells s.label v s.state h.0.label h.0.from h.0.to h.0.order)
       ∙ ap (option_map (λ ts. s ∷ ts)) (future-back s.state ss h.1)
 
 pub past-many : (bench : Bench) (v : State) (ss : List Step) → length (past_lines bench v ss) ≡ length ss
@@ -186,7 +143,7 @@ module _ (readings : Readings) (bench : Bench) (valid : IsValidBench readings be
   counts = record { past = bench.timeline.place; future = length bench.timeline.later - bench.timeline.place }
 
   good-first : IsGoodState readings bench valid first
-  good-first = record { valid_state = valid.states.first; back = valid.first; paths = read.first }
+  good-first = record { valid = valid.states.first; paths = read.first; table = valid.first }
 
   good-all : AreGoodMoves readings bench valid first bench.timeline.later
   good-all = good-moves readings bench valid first bench.timeline.later good-first valid.states.later valid.steps read.later valid.order
@@ -195,7 +152,7 @@ module _ (readings : Readings) (bench : Bench) (valid : IsValidBench readings be
   present-back =
       let good = good-last readings bench valid bench.timeline.place first bench.timeline.later good-first good-all in
       present-by (whole_object bench v) (bench_of readings bench.schema (whole_object bench v)) now
-      (shown-back readings bench valid v good.valid_state good.back) refl
+      (shown-back readings bench valid.named valid.accepted v good.valid good.table) refl
 
   place-many : length back_lines ≡ bench.timeline.place
   place-many = past-many bench first before ∙ length-take-le bench.timeline.place bench.timeline.later valid.place

@@ -13,7 +13,7 @@ use Rattle.ssa_model.specs.definitions.PathMap.{has, from_entries}
 use Rattle.ssa_model.specs.definitions.Kind as kinds
 use Rattle.ssa_model.specs.definitions.Kind.{Kind, Fields, record_of, no_fields, kind_field, kind_of, unknown_field, faults, field_faults, fault_at}
 use Rattle.ssa_model.specs.definitions.Body.{Body, flat, places, without_empty_metadata, is_empty_object}
-use Rattle.ssa_model.specs.definitions.Lawful.{is_root_kind, is_ordered, are_ordered, is_before_all, has_metadata, names_none, fields_in}
+use Rattle.ssa_model.specs.definitions.Lawful.{IsSchemaKind, is_root_kind, is_ordered, are_ordered, is_before_all, has_metadata, names_none, fields_in}
 use Rattle.ssa_model.specs.definitions.Objects.{Identity, value_at, identity_of, is_named_text, is_missing, is_some_object, is_identity, same_value, same_identity, without, without_in_metadata, value_without, identity_names, file_names, body_value, shown, shown_fields, with_member, with_given, members_in, with_identity, object_of_body}
 use Rattle.ssa_model.specs.definitions.Commands.{text_in}
 use Rattle.ssa_model.specs.definitions.GivenEntries.{table_of}
@@ -121,7 +121,7 @@ module _ (fs : Fields) (b : Body) (hs : Fields) (is_metadata : kind_of metadata 
   abbrev pub shown_metadata : Bool → Option Json
   shown_metadata t = cond t (Some (object (shown_fields hs b metadata_path))) None
 
-  metadata-is : member_of metadata ms ≡ shown_metadata (has b metadata_path)
+  pub metadata-is : member_of metadata ms ≡ shown_metadata (has b metadata_path)
   metadata-is = member_of-fields b [] metadata fs ∙ ap (λ o. cond (has b metadata_path) (option_map (λ k. shown k b metadata_path) o) None) is_metadata
 
   abbrev pub inner : Members
@@ -149,7 +149,7 @@ module _ (fs : Fields) (b : Body) (hs : Fields) (is_metadata : kind_of metadata 
       without-put names (codes "name") (scalar (text n)) (with_given (codes "namespace") ns inner) out.name ∙ given-out names ns inner out
       ∙ without-none names inner (inner-none names none)
 
-  value-is : (names : List Text) (v k n : Text) (ns : Option Json) → TakesOut names → names_none names hs ≡ true
+  pub value-is : (names : List Text) (v k n : Text) (ns : Option Json) → TakesOut names → names_none names hs ≡ true
       → value_without names (object (with_identity (parts v k n ns) ms)) ≡ object (with_member metadata (object inner) ms)
   value-is names v k n ns out none =
       ap (λ x. object (without_in_metadata names x)) (bare-is v k n ns)
@@ -185,20 +185,17 @@ module _ (fs hs : Fields) (is : kind_of metadata fs ≡ Some (record_of hs)) (p 
         | Greater ↦ join.1 (with_member metadata (object no_members) ns) (put-fits ns join.0)
       ]
 
--- ---- the body of the value
+-- ---- what holds of the kind
 
-module _ (fs : Fields) (b : Body) (s : IsShownBody (record_of fs) b) where
-  abbrev pub kind : Kind
-  kind = record_of fs
-
-  pub later : (is_ordered kind && has_metadata kind) ≡ true
-  later = second_so (is_root_kind kind) _ s.accepted.lawful
+module _ (fs : Fields) (a : IsSchemaKind (record_of fs)) where
+  pub later : (is_ordered (record_of fs) && has_metadata (record_of fs)) ≡ true
+  later = second_so (is_root_kind (record_of fs)) _ a.lawful
 
   pub ordered : are_ordered fs ≡ true
-  ordered = first_so (is_ordered kind) _ later
+  ordered = first_so (is_ordered (record_of fs)) _ later
 
-  pub has-one : has_metadata kind ≡ true
-  has-one = second_so (is_ordered kind) _ later
+  pub has-one : has_metadata (record_of fs) ≡ true
+  has-one = second_so (is_ordered (record_of fs)) _ later
 
   abbrev pub of_metadata : (hs : Fields) × (kind_of metadata fs ≡ Some (record_of hs))
   of_metadata = record-in (kind_of metadata fs) has-one
@@ -207,47 +204,58 @@ module _ (fs : Fields) (b : Body) (s : IsShownBody (record_of fs) b) where
   hs = of_metadata.0
 
   pub apart-root : names_none root_names fs ≡ true
-  apart-root = first_so (names_none root_names fs) _ s.accepted.apart
+  apart-root = first_so (names_none root_names fs) _ a.apart
 
   pub apart-file : names_none file_names hs ≡ true
-  apart-file = ap (λ o. names_none file_names (fields_in o)) (sym of_metadata.1) ∙ second_so (names_none root_names fs) _ s.accepted.apart
+  apart-file = ap (λ o. names_none file_names (fields_in o)) (sym of_metadata.1) ∙ second_so (names_none root_names fs) _ a.apart
 
-  abbrev pub fields : Members
+-- ---- the body of the value
+
+-- the value of a body without anything of the identity
+abbrev pub bare_value : Fields → Body → Json
+bare_value fs b = let fields = shown_fields fs b [] in object (with_member metadata (object (members_in (member_of metadata fields))) fields)
+
+module _ (fs : Fields) (b : Body) (s : IsShownBody (record_of fs) b) where
+  abbrev kind : Kind
+  kind = record_of fs
+
+  abbrev fields : Members
   fields = shown_fields fs b []
 
   none-shown : faults kind (object fields) [] ≡ []
   none-shown = shown_fits kind b s.accepted.lawful s.fits
 
-  put-is : (o : Option Json) → member_of metadata fields ≡ o → (t : Bool) → o ≡ cond t (Some (object (shown_fields hs b metadata_path))) None
+  put-is : (o : Option Json) → member_of metadata fields ≡ o → (t : Bool) → o ≡ cond t (Some (object (shown_fields (hs fs s.accepted) b metadata_path))) None
       → (faults kind (object (with_member metadata (object (members_in o)) fields)) [] ≡ []) × (flat kind (object (with_member metadata (object (members_in o)) fields)) ≡ b)
   put-is o found true is =
       let same : with_member metadata (object (members_in o)) fields ≡ fields =
-      put-again metadata (object (members_in o)) fields (shown-rise b [] fs ordered) (found ∙ is ∙ ap (λ x. Some (object (members_in x))) (sym is)) in (
+      put-again metadata (object (members_in o)) fields (shown-rise b [] fs (ordered fs s.accepted))
+      (found ∙ is ∙ ap (λ x. Some (object (members_in x))) (sym is)) in (
         ap (λ x. faults kind (object x) []) same ∙ none-shown,
         ap (λ x. flat kind (object x)) same ∙ flat_of_shown kind b s.accepted.lawful s.fits s.rooted,
       )
   put-is o found false is =
       let bare : with_member metadata (object (members_in o)) fields ≡ with_member metadata (object no_members) fields = ap (λ x. with_member metadata (object (members_in x)) fields) is in
-      let stays = metadata_stays fs b s.fits ordered has-one s.rooted in (
-        ap (λ x. faults kind (object x) []) bare ∙ put-fits fs hs of_metadata.1 [] fields none-shown,
+      let stays = metadata_stays fs b s.fits (ordered fs s.accepted) (has-one fs s.accepted) s.rooted in (
+        ap (λ x. faults kind (object x) []) bare ∙ put-fits fs (hs fs s.accepted) (of_metadata fs s.accepted).1 [] fields none-shown,
         ap (λ x. flat kind (object x)) bare
             ∙ ap (λ x. from_entries (places kind (object x) [])) (empty-put fields (found ∙ is) ∙ sym stays)
             ∙ flat_of_shown kind b s.accepted.lawful s.fits s.rooted,
       )
 
-  -- the value without anything of the identity
-  abbrev pub bare_value : Json
-  bare_value = object (with_member metadata (object (members_in (member_of metadata fields))) fields)
-
-  pub bare-taken : body_or_fault kind bare_value ≡ Ok b
+  pub bare-taken : body_or_fault kind (bare_value fs b) ≡ Ok b
   bare-taken =
-      let made = put-is (member_of metadata fields) refl (has b metadata_path) (metadata-is fs b hs of_metadata.1 ordered apart-root) in
-      body_or_fault-fits kind bare_value b made.0 made.1 s.few
+      let made = put-is (member_of metadata fields) refl (has b metadata_path)
+      (metadata-is fs b (hs fs s.accepted) (of_metadata fs s.accepted).1 (ordered fs s.accepted) (apart-root fs s.accepted)) in
+      body_or_fault-fits kind (bare_value fs b) b made.0 made.1 s.few
 
   -- the body is taken back, without these names of metadata
-  taken : (names : List Text) (v k n : Text) (ns : Option Json) → TakesOut names → names_none names hs ≡ true
+  taken : (names : List Text) (v k n : Text) (ns : Option Json) → TakesOut names → names_none names (hs fs s.accepted) ≡ true
       → body_or_fault kind (value_without names (object (with_identity (parts v k n ns) fields))) ≡ Ok b
-  taken names v k n ns out none = ap (body_or_fault kind) (value-is fs b hs of_metadata.1 ordered apart-root names v k n ns out none) ∙ bare-taken
+  taken names v k n ns out none =
+      ap (body_or_fault kind)
+      (value-is fs b (hs fs s.accepted) (of_metadata fs s.accepted).1 (ordered fs s.accepted) (apart-root fs s.accepted) names v k n ns out none)
+      ∙ bare-taken
 
 -- ---- what the object says
 
@@ -270,15 +278,15 @@ fewer-none (kind_field n k fs) h =
     let rest = fewer-none fs (second_so (not (list_any (same_text n) file_names)) _ h) in
     (λ i. first i && rest i)
 
-module _ (fs : Fields) (b : Body) (s : IsShownBody (record_of fs) b) (v k n : Text) (ns : Option Json) where
+module _ (fs : Fields) (b : Body) (a : IsSchemaKind (record_of fs)) (v k n : Text) (ns : Option Json) where
   abbrev pub members : Members
   members = with_identity (parts v k n ns) (shown_fields fs b [])
 
   abbrev pub inside : Members
-  inside = whole fs b (hs fs b s) (of_metadata fs b s).1 (ordered fs b s) (apart-root fs b s) n ns
+  inside = whole fs b (hs fs a) (of_metadata fs a).1 (ordered fs a) (apart-root fs a) n ns
 
   abbrev pub below_metadata : Members
-  below_metadata = inner fs b (hs fs b s) (of_metadata fs b s).1 (ordered fs b s) (apart-root fs b s)
+  below_metadata = inner fs b (hs fs a) (of_metadata fs a).1 (ordered fs a) (apart-root fs a)
 
   abbrev pub with_kind : Members
   with_kind = with_member (codes "kind") (scalar (text k)) (with_member metadata (object inside) (shown_fields fs b []))
@@ -302,7 +310,7 @@ module _ (fs : Fields) (b : Body) (s : IsShownBody (record_of fs) b) (v k n : Te
 
   no-name : (q : Text) → list_any (same_text q) file_names ≡ true → member_of q below_metadata ≡ None
   no-name q among =
-      none-of file_names q below_metadata (inner-none fs b (hs fs b s) (of_metadata fs b s).1 (ordered fs b s) (apart-root fs b s) file_names (apart-file fs b s)) among
+      none-of file_names q below_metadata (inner-none fs b (hs fs a) (of_metadata fs a).1 (ordered fs a) (apart-root fs a) file_names (apart-file fs a)) among
 
   given-there : (o : Option Json) → member_of (codes "namespace") (with_given (codes "namespace") o below_metadata) ≡ o
   given-there None = no-name (codes "namespace") refl
@@ -347,12 +355,15 @@ Makes readings schema body i =
 makes-record : (readings : Readings) (value : Json) (fs : Fields) (body : Body) → IsShownBody (record_of fs) body → (v k n : Text) (ns : Option Json) → is_identity (parts v k n ns) ≡ true
     → Makes readings (record { source = value; kind = record_of fs }) body (parts v k n ns)
 makes-record readings value fs body s v k n ns h =
-    let obj = object (members fs body s v k n ns) in
-    let identity = identity-is fs body s v k n ns in
-    let named : names_itself obj ≡ true = (λ i. is-object fs body s v k n ns i && is_identity (identity i)) ∙ h in
+    let obj = object (members fs body s.accepted v k n ns) in
+    let identity = identity-is fs body s.accepted v k n ns in
+    let named : names_itself obj ≡ true = (λ i. is-object fs body s.accepted v k n ns i && is_identity (identity i)) ∙ h in
     let state : file_state readings (record_of fs) obj ≡ Ok (record { body = body; table = [] }) =
-    ap (λ r. elim r [ Ok c ↦ with_table c (given_table readings c obj) | Err f ↦ Err f ]) (taken fs body s file_names v k n ns file_out (apart-file fs body s))
-    ∙ ap (λ o. with_table body (elim o [ None ↦ Ok [] | Some entries ↦ table_of readings body (text_in (value_at (codes "apiVersion" ∷ []) obj)) entries ])) (no-entries fs body s v k n ns) in
+    ap (λ r. elim r [ Ok c ↦ with_table c (given_table readings c obj) | Err f ↦ Err f ])
+    (taken fs body s file_names v k n ns file_out (apart-file fs s.accepted))
+    ∙ ap
+    (λ o. with_table body (elim o [ None ↦ Ok [] | Some entries ↦ table_of readings body (text_in (value_at (codes "apiVersion" ∷ []) obj)) entries ]))
+    (no-entries fs body s.accepted v k n ns) in
     ap (λ t. if not t then Err identity_fault else with_lone_state (record { source = value; kind = record_of fs }) (identity_of obj) (file_state readings (record_of fs) obj)) named
     ∙ (λ i. with_lone_state (record { source = value; kind = record_of fs }) (identity i) (state i))
 
@@ -368,15 +379,15 @@ shown_makes_bench readings schema identity body h s = makes-any readings schema.
 takes-record : (bench : Bench) (fs : Fields) (body : Body) → bench.schema.kind ≡ record_of fs → IsShownBody (record_of fs) body → (v k n : Text) (ns : Option Json) → is_identity (parts v k n ns) ≡ true
     → same_identity (parts v k n ns) bench.identity ≡ true → command_body bench (object_of_body (parts v k n ns) (record_of fs) body) ≡ Ok body
 takes-record bench fs body is s v k n ns h same =
-    let obj = object (members fs body s v k n ns) in
-    let identity = identity-is fs body s v k n ns in
+    let obj = object (members fs body s.accepted v k n ns) in
+    let identity = identity-is fs body s.accepted v k n ns in
     let own : has_identity bench obj ≡ true =
-    (λ i. is-object fs body s v k n ns i && (is_identity (identity i) && same_identity (identity i) bench.identity)) ∙ (λ i. h i && same i) in
-    let bare : gives_managed_fields obj ≡ false = ap (λ o. not (is_missing o)) (no-entries fs body s v k n ns) in
+    (λ i. is-object fs body s.accepted v k n ns i && (is_identity (identity i) && same_identity (identity i) bench.identity)) ∙ (λ i. h i && same i) in
+    let bare : gives_managed_fields obj ≡ false = ap (λ o. not (is_missing o)) (no-entries fs body s.accepted v k n ns) in
     ap (λ t. if not t then Err identity_fault else (if gives_managed_fields obj then Err managed_fields_given else body_or_fault bench.schema.kind (body_value obj))) own
     ∙ ap (λ t. if t then Err managed_fields_given else body_or_fault bench.schema.kind (body_value obj)) bare
     ∙ ap (λ kd. body_or_fault kd (body_value obj)) is
-    ∙ taken fs body s identity_names v k n ns identity_out (fewer-none (hs fs body s) (apart-file fs body s))
+    ∙ taken fs body s identity_names v k n ns identity_out (fewer-none (hs fs s.accepted) (apart-file fs s.accepted))
 
 takes-any : (bench : Bench) (kd : Kind) (body : Body) → bench.schema.kind ≡ kd → is_identity bench.identity ≡ true → IsShownBody kd body → command_body bench (object_of_body bench.identity kd body) ≡ Ok body
 takes-any bench (kinds.record_of fs) body is h s =

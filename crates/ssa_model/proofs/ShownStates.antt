@@ -23,92 +23,99 @@ use Rattle.ssa_model.proofs.PutMembers.{metadata, rise, put-found, put-other, pu
 use Rattle.ssa_model.proofs.ShownObjects.{root_names, parts, file_out, identity-parts, shown-rise, of_metadata, hs, ordered, apart-root, apart-file, members, inside, with_kind, bare-is, stripped-is, bare_value, bare-taken, version-there, kind-there, metadata-there, name-there, namespace-there, itself, shown_makes_bench}
 use Rattle.ssa_model.proofs.TablesBack.{table-back}
 
-module _ (fs : Fields) (b : Body) (s : IsShownBody (record_of fs) b) (v k n : Text) (ns : Option Json) (entries : Json) where
+module _ (fs : Fields) (b : Body) (a : IsSchemaKind (record_of fs)) (v k n : Text) (ns : Option Json) (entries : Json) where
   abbrev plain : Members
-  plain = members fs b s v k n ns
+  plain = members fs b a v k n ns
 
   abbrev filled : Members
-  filled = with_member (codes "managedFields") entries (inside fs b s v k n ns)
+  filled = with_member (codes "managedFields") entries (inside fs b a v k n ns)
 
-  abbrev full : Members
+  abbrev pub full : Members
   full = with_member metadata (object filled) plain
 
   plain-rise : rise plain ≡ true
   plain-rise =
-      rise-put (codes "apiVersion") (scalar (text v)) (with_kind fs b s v k n ns)
-      (rise-put (codes "kind") (scalar (text k)) (with_member metadata (object (inside fs b s v k n ns)) (shown_fields fs b []))
-      (rise-put metadata (object (inside fs b s v k n ns)) (shown_fields fs b []) (shown-rise b [] fs (ordered fs b s))))
+      rise-put (codes "apiVersion") (scalar (text v)) (with_kind fs b a v k n ns)
+      (rise-put (codes "kind") (scalar (text k)) (with_member metadata (object (inside fs b a v k n ns)) (shown_fields fs b []))
+      (rise-put metadata (object (inside fs b a v k n ns)) (shown_fields fs b []) (shown-rise b [] fs (ordered fs a))))
 
-  value-is : file_value (object full) ≡ bare_value fs b s
+  pub value-is : file_value (object full) ≡ bare_value fs b
   value-is =
       let fields = shown_fields fs b [] in
-      let is = (of_metadata fs b s).1 in
+      let is = (of_metadata fs a).1 in
       let bare =
       without-keeps root_names metadata (object filled) plain plain-rise refl
-      ∙ ap (with_member metadata (object filled)) (bare-is fs b (hs fs b s) is (ordered fs b s) (apart-root fs b s) v k n ns)
-      ∙ put-twice metadata (object filled) (object (inside fs b s v k n ns)) fields in
+      ∙ ap (with_member metadata (object filled)) (bare-is fs b (hs fs a) is (ordered fs a) (apart-root fs a) v k n ns)
+      ∙ put-twice metadata (object filled) (object (inside fs b a v k n ns)) fields in
       let stripped =
-      without-put file_names (codes "managedFields") entries (inside fs b s v k n ns) refl
-      ∙ stripped-is fs b (hs fs b s) is (ordered fs b s) (apart-root fs b s) file_names n ns file_out (apart-file fs b s) in
+      without-put file_names (codes "managedFields") entries (inside fs b a v k n ns) refl
+      ∙ stripped-is fs b (hs fs a) is (ordered fs a) (apart-root fs a) file_names n ns file_out (apart-file fs a) in
       ap (λ x. object (without_in_metadata file_names x)) bare
-      ∙ ap object (in-metadata file_names filled fields (shown-rise b [] fs (ordered fs b s)) ∙ ap (λ x. with_member metadata (object x) fields) stripped)
+      ∙ ap object (in-metadata file_names filled fields (shown-rise b [] fs (ordered fs a)) ∙ ap (λ x. with_member metadata (object x) fields) stripped)
 
   full-version : member_of (codes "apiVersion") full ≡ Some (scalar (text v))
-  full-version = put-other (codes "apiVersion") metadata (object filled) plain refl ∙ version-there fs b s v k n ns
+  full-version = put-other (codes "apiVersion") metadata (object filled) plain refl ∙ version-there fs b a v k n ns
 
   full-kind : member_of (codes "kind") full ≡ Some (scalar (text k))
-  full-kind = put-other (codes "kind") metadata (object filled) plain refl ∙ kind-there fs b s v k n ns
+  full-kind = put-other (codes "kind") metadata (object filled) plain refl ∙ kind-there fs b a v k n ns
 
   full-metadata : member_of metadata full ≡ Some (object filled)
   full-metadata = put-found metadata (object filled) plain
 
   inside-it : (q : Text) → value_at (codes "metadata" ∷ q ∷ []) (object full) ≡ member_of q filled
-  inside-it q = ap (option_and_then (value_at (q ∷ []))) full-metadata ∙ itself fs b s v k n ns (member_of q filled)
+  inside-it q = ap (option_and_then (value_at (q ∷ []))) full-metadata ∙ itself fs b a v k n ns (member_of q filled)
 
   full-identity : identity_of (object full) ≡ parts v k n ns
   full-identity =
-      let a = ap (option_and_then (value_at [])) full-version in
+      let version = ap (option_and_then (value_at [])) full-version in
       let c = ap (option_and_then (value_at [])) full-kind in
-      let d = inside-it (codes "name") ∙ put-other (codes "name") (codes "managedFields") entries (inside fs b s v k n ns) refl ∙ name-there fs b s v k n ns in
-      let e = inside-it (codes "namespace") ∙ put-other (codes "namespace") (codes "managedFields") entries (inside fs b s v k n ns) refl ∙ namespace-there fs b s v k n ns in
-      (λ i. record { version = a i; kind = c i; name = d i; namespace = e i })
+      let d = inside-it (codes "name") ∙ put-other (codes "name") (codes "managedFields") entries (inside fs b a v k n ns) refl ∙ name-there fs b a v k n ns in
+      let e = inside-it (codes "namespace") ∙ put-other (codes "namespace") (codes "managedFields") entries (inside fs b a v k n ns) refl
+      ∙ namespace-there fs b a v k n ns in
+      (λ i. record { version = version i; kind = c i; name = d i; namespace = e i })
 
   full-object : is_some_object (value_at (codes "metadata" ∷ []) (object full)) ≡ true
   full-object = ap (λ o. is_some_object (option_and_then (value_at []) o)) full-metadata
 
-  full-entries : value_at (codes "metadata" ∷ codes "managedFields" ∷ []) (object full) ≡ Some entries
-  full-entries = inside-it (codes "managedFields") ∙ put-found (codes "managedFields") entries (inside fs b s v k n ns)
+  pub full-entries : value_at (codes "metadata" ∷ codes "managedFields" ∷ []) (object full) ≡ Some entries
+  full-entries = inside-it (codes "managedFields") ∙ put-found (codes "managedFields") entries (inside fs b a v k n ns)
 
 -- ---- the object with the entries of a table
 
-module _ (fs : Fields) (b : Body) (s : IsShownBody (record_of fs) b) (v k n : Text) (ns : Option Json) (e : Entry) (es : Table) where
-  abbrev written : Json
-  written = list (entry_items (text_json v) (e ∷ es))
+abbrev pub written : Text → Table → Json
+written v table = list (entry_items (text_json v) table)
 
-  shown-is : with_managed_fields (e ∷ es) (object (members fs b s v k n ns)) ≡ object (full fs b s v k n ns written)
+module _ (fs : Fields) (b : Body) (a : IsSchemaKind (record_of fs)) (v k n : Text) (ns : Option Json) (e : Entry) (es : Table) where
+  pub shown-is : with_managed_fields (e ∷ es) (object (members fs b a v k n ns)) ≡ object (full fs b a v k n ns (written v (e ∷ es)))
   shown-is =
-      let version = ap (λ o. version_in (option_and_then (value_at []) o)) (version-there fs b s v k n ns) in
-      let inner_is = ap (λ o. members_in (option_and_then (value_at []) o)) (metadata-there fs b s v k n ns) in
-      λ i. object (with_member metadata (object (with_member (codes "managedFields") (list (entry_items (version i) (e ∷ es))) (inner_is i))) (members fs b s v k n ns))
+      let version = ap (λ o. version_in (option_and_then (value_at []) o)) (version-there fs b a v k n ns) in
+      let inner_is = ap (λ o. members_in (option_and_then (value_at []) o)) (metadata-there fs b a v k n ns) in
+      λ i. object (with_member metadata (object (with_member (codes "managedFields") (list (entry_items (version i) (e ∷ es))) (inner_is i)))
+      (members fs b a v k n ns))
+
+module _ (fs : Fields) (b : Body) (s : IsShownBody (record_of fs) b) (v k n : Text) (ns : Option Json) (e : Entry) (es : Table) where
+  abbrev own : Json
+  own = written v (e ∷ es)
 
   state-is : (readings : Readings) → IsTable b (e ∷ es) → AllEntries (IsReadBack readings) (e ∷ es)
-      → file_state readings (record_of fs) (object (full fs b s v k n ns written)) ≡ Ok (record { body = b; table = e ∷ es })
+      → file_state readings (record_of fs) (object (full fs b s.accepted v k n ns own)) ≡ Ok (record { body = b; table = e ∷ es })
   state-is readings t back =
-      let obj = object (full fs b s v k n ns written) in
+      let obj = object (full fs b s.accepted v k n ns own) in
       ap (λ r. elim r [ Ok c ↦ with_table c (given_table readings c obj) | Err f ↦ Err f ])
-      (ap (body_or_fault (record_of fs)) (value-is fs b s v k n ns written) ∙ bare-taken fs b s)
-      ∙ ap (λ o. with_table b (elim o [ None ↦ Ok [] | Some given ↦ table_of readings b (text_in (value_at (codes "apiVersion" ∷ []) obj)) given ])) (full-entries fs b s v k n ns written)
-      ∙ ap (λ o. with_table b (table_of readings b (text_in (option_and_then (value_at []) o)) written)) (full-version fs b s v k n ns written)
+      (ap (body_or_fault (record_of fs)) (value-is fs b s.accepted v k n ns own) ∙ bare-taken fs b s)
+      ∙ ap (λ o. with_table b (elim o [ None ↦ Ok [] | Some given ↦ table_of readings b (text_in (value_at (codes "apiVersion" ∷ []) obj)) given ]))
+      (full-entries fs b s.accepted v k n ns own)
+      ∙ ap (λ o. with_table b (table_of readings b (text_in (option_and_then (value_at []) o)) own)) (full-version fs b s.accepted v k n ns own)
       ∙ ap (with_table b) (table-back readings b v (e ∷ es) t back)
 
   bench-is : (readings : Readings) (value : Json) → IsTable b (e ∷ es) → AllEntries (IsReadBack readings) (e ∷ es) → is_identity (parts v k n ns) ≡ true
       → bench_of readings (record { source = value; kind = record_of fs }) (object_of_state (parts v k n ns) (record_of fs) true (record { body = b; table = e ∷ es }))
       ≡ Ok (record { schema = record { source = value; kind = record_of fs }; identity = parts v k n ns; timeline = lone_state (record { body = b; table = e ∷ es }) })
   bench-is readings value t back h =
-      let obj = object (full fs b s v k n ns written) in
-      let identity = full-identity fs b s v k n ns written in
-      let named : names_itself obj ≡ true = (λ i. full-object fs b s v k n ns written i && is_identity (identity i)) ∙ h in
-      ap (bench_of readings (record { source = value; kind = record_of fs })) shown-is
+      let obj = object (full fs b s.accepted v k n ns own) in
+      let identity = full-identity fs b s.accepted v k n ns own in
+      let named : names_itself obj ≡ true = (λ i. full-object fs b s.accepted v k n ns own i && is_identity (identity i)) ∙ h in
+      ap (bench_of readings (record { source = value; kind = record_of fs })) (shown-is fs b s.accepted v k n ns e es)
       ∙ ap (λ t. if not t then Err identity_fault else with_lone_state (record { source = value; kind = record_of fs }) (identity_of obj) (file_state readings (record_of fs) obj)) named
       ∙ (λ i. with_lone_state (record { source = value; kind = record_of fs }) (identity i) (state-is readings t back i))
 

@@ -1,6 +1,6 @@
 -- From the values that are written of a valid bench the bench is taken, and from its file.
 use Rattle.std.proofs.Common.{◌≡◌, ◌≤◌, ℕ, ◌+◌, length, List, [], ◌∷◌, map, true, Option, Some, None, option_map, option_and_then, refl, sym, ap, ◌∙◌, subst, arith}
-use Rattle.std.proofs.lemmas.Bool.{and_from}
+use Rattle.std.proofs.lemmas.Bool.{and_from, and_parts}
 use Rattle.std.proofs.lemmas.Bool.Decides.{nat_tests}
 use Rattle.std.proofs.lemmas.List.Elements.{All-head, All-tail}
 use Rattle.std.specs.Cmp.Lexicographic.{pointwise}
@@ -11,6 +11,8 @@ use Rattle.ssa_model.specs.definitions.Json.{Text, Json, compact}
 use Rattle.ssa_model.specs.definitions.Readings.{Readings}
 use Rattle.ssa_model.specs.definitions.Schema.{Schema, SchemaFault, read_schema}
 use Rattle.ssa_model.specs.definitions.Kind.{Kind}
+use Rattle.ssa_model.specs.definitions.Lawful.{IsSchemaKind}
+use Rattle.ssa_model.specs.definitions.Objects.{is_identity}
 use Rattle.ssa_model.specs.definitions.Operations.{State}
 use Rattle.ssa_model.specs.definitions.Replies.{label_json}
 use Rattle.ssa_model.specs.definitions.Table.{Table, same_manager}
@@ -23,8 +25,8 @@ use Rattle.ssa_model.specs.laws.BenchFiles.{text_lines, spelled_values, given_if
 use Rattle.ssa_model.proofs.LoneBenches.{lone-parts}
 use Rattle.ssa_model.proofs.ShownStates.{shown_state_is_taken}
 use Rattle.ssa_model.proofs.SpelledValues.{text_lines-of, spelled_values-of}
-use Rattle.ssa_model.proofs.Tables.{manager-itself, text-itself}
-use Rattle.ssa_model.proofs.Tests.{pointwise-itself}
+use Rattle.ssa_model.proofs.Tables.{manager-itself, same_manager-true, text-itself}
+use Rattle.ssa_model.proofs.Tests.{pointwise-true, pointwise-itself}
 
 -- a value is written as it is written
 pub written-itself : (v : Json) → is_written_as v v ≡ true
@@ -48,6 +50,12 @@ lone-by v r lone is same =
 
 -- ---- labels and the order of managers
 
+-- the test of labels is right
+pub is_label-by : (readings : Readings) (label : Label) → is_label readings label ≡ true → IsLabel readings label
+is_label-by readings (applied who force at) h = and_parts (is_manager_name who) (readings.moment at) h
+is_label-by readings (updated who at) h = and_parts (is_manager_name who) (readings.moment at) h
+is_label-by readings stripped h = tt
+
 pub is_label-of : (readings : Readings) (label : Label) → IsLabel readings label → is_label readings label ≡ true
 is_label-of readings (applied who force at) h = and_from (is_manager_name who) (readings.moment at) h.0 h.1
 is_label-of readings (updated who at) h = and_from (is_manager_name who) (readings.moment at) h.0 h.1
@@ -61,6 +69,9 @@ said-back stripped = refl
 pub label-back : (readings : Readings) (label : Label) → IsLabel readings label → label_in readings (label_json label) ≡ Some label
 label-back readings label h =
     ap (λ l. given_if (is_label readings l) l) (said-back label) ∙ ap (λ b. given_if b label) (is_label-of readings label h)
+
+pub keeps_order-by : (before after : Table) → keeps_order before after ≡ true → KeepsOrder before after
+keeps_order-by before after h = pointwise-true same_manager same_manager-true (shared_managers before after) (shared_managers after before) h
 
 pub keeps_order-of : (before after : Table) → KeepsOrder before after → keeps_order before after ≡ true
 keeps_order-of before after h = ap (pointwise same_manager (shared_managers before after)) (sym h) ∙ pointwise-itself same_manager manager-itself (shared_managers before after)
@@ -102,29 +113,27 @@ nat_le-of a b h = grind (arith, nat_tests)
 pub nat-itself : (a : ℕ) → (a == a) ≡ true
 nat-itself a = grind (arith, nat_tests)
 
+module _ (readings : Readings) (bench : Bench) (named : is_identity bench.identity ≡ true) (accepted : IsSchemaKind bench.schema.kind)
+    (state : State) (fits : IsValidState bench.schema.kind state) (back : AllEntries (IsReadBack readings) state.table) where
+  pub shown-back : bench_of readings bench.schema (whole_object bench state) ≡ Ok (lone_bench bench.schema bench.identity state)
+  shown-back = shown_state_is_taken readings bench.schema bench.identity state named accepted fits back
+
+  pub state-back : IsTaken readings bench state
+  state-back = (lone-parts readings bench.schema (whole_object bench state) (lone_bench bench.schema bench.identity state) shown-back).state_is
+
 module _ (readings : Readings) (bench : Bench) (valid : IsValidBench readings bench) where
-  abbrev alone : State → Bench
-  alone state = lone_bench bench.schema bench.identity state
-
-  pub shown-back : (state : State) → IsValidState bench.schema.kind state → AllEntries (IsReadBack readings) state.table
-      → bench_of readings bench.schema (whole_object bench state) ≡ Ok (alone state)
-  shown-back state fits back = shown_state_is_taken readings bench.schema bench.identity state valid.named valid.accepted fits back
-
-  pub state-back : (state : State) → IsValidState bench.schema.kind state → AllEntries (IsReadBack readings) state.table → IsTaken readings bench state
-  state-back state fits back = (lone-parts readings bench.schema (whole_object bench state) (alone state) (shown-back state fits back)).state_is
-
   abbrev lone : Bench
-  lone = alone bench.timeline.first
+  lone = lone_bench bench.schema bench.identity bench.timeline.first
 
   lone-back : lone_in readings bench.schema (first_json bench) ≡ Some lone
   lone-back =
       lone-by (first_json bench) (bench_of readings bench.schema (whole_object bench bench.timeline.first)) lone
-      (shown-back bench.timeline.first valid.states.first valid.first) refl
+      (shown-back readings bench valid.named valid.accepted bench.timeline.first valid.states.first valid.first) refl
 
   later-back : steps_in readings lone bench.timeline.first (map (step_json bench) bench.timeline.later) ≡ Some bench.timeline.later
   later-back =
       steps-back readings lone bench.timeline.first bench.timeline.later
-      (λ k d h. state-back _ (valid.states.later k d h) (valid.steps k d h).table) valid.steps valid.order
+      (λ k d h. state-back readings bench valid.named valid.accepted _ (valid.states.later k d h) (valid.steps k d h).table) valid.steps valid.order
 
   abbrev written_head : Head
   written_head = record { place = bench.timeline.place; states = length bench.timeline.later + 1 }

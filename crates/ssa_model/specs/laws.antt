@@ -36,5 +36,7 @@ pub mod RecordWalks
 pub mod RecordReading
 -- how a bench file of records is taken, line by line
 pub mod RecordedBenches
+-- what is taken from one line of it, or its fault
+pub mod RecordedMoves
 -- which records fit a state
 pub mod FittingRecords

@@ -8,7 +8,8 @@ ghost use Rattle.ssa_model.specs.laws.RecordWalks.{CutsAreFiltered, LeavesAreFil
 ghost use Rattle.ssa_model.specs.laws.FittingRecords.{FittingBodyLeads, TakenBodyFits, FittingTableLeads, TakenTableFits, FittingLeads, TakenFits};
 ghost use Rattle.ssa_model.specs.laws.RecordReading.{RecordTextsHaveShape, RecordTextsAreRead};
 ghost use Rattle.ssa_model.specs.laws.RecordedBenches.{RecordedFilesAreTaken, TakenIsRecordedText, MisfitIsRefused, MovesHaveShape};
-ghost use Rattle.ssa_model.specs.examples.RecordedRows.{RecordedFilesAreWritten, RecordedValuesAreTaken, RecordedFileIsMet, DamagedLinesAreTold, DamagedFilesAreTold, OtherFilesAreRefused};
+ghost use Rattle.ssa_model.specs.laws.RecordedMoves.{LineIsMove, ShapelessIsNoMove, MisfitIsTold, LineOfParts};
+ghost use Rattle.ssa_model.specs.examples.RecordedRows.{RecordedFilesAreWritten, RecordedValuesAreTaken, RecordedFileIsMet, RecordedMovesAreMet, DamagedLinesAreTold, DamagedFilesAreTold, OtherFilesAreRefused};
 ghost use Rattle.ssa_model.specs.examples.FittingRows.{RecordsFit, BodyRecordsFit, RepeatedLeafMisfits, WrongLeafMisfits, WrongPartMisfits, PutAgainMisfits, CutKeyFieldMisfits, CutNothingMisfits, GoneNobodyMisfits};
 ghost use Rattle.ssa_model.specs.examples.RecordReadingRows.{RecordsAreRead, ShapesAreTold, OtherShapesAreRefused, ReadStatesAreMet};
 ghost use Rattle.ssa_model.specs.examples.RecordRows.{FirstApplyRecord, ForcedRecord, GivenUpRecord, RemovedItemRecord, RemovedItemPlace, ReorderRecord, RepeatRecord, StripRecord, SetFilledRecord, SetEmptiedRecord, LiveItemsRecord, LedRecord, ForcedFacts, ReorderFacts, RemovedItemFacts, FirstApplyText, ForcedText, RemovedItemText, ReorderText, RecordsAreMet};
@@ -149,11 +150,21 @@ pub fn recorded_files()
     ensures shape { MovesHaveShape }
 {}
 
-/// Bench files of records are written and taken again, worked by computation. There is such a file.
+/// From one line of a bench file of records a move is taken, or its fault is told. The line of a move between two states is taken as that move; a value
+/// without the shape of a line, and one whose record is none from its state, are told; a value that says a label and the record of two states is their line.
+pub fn recorded_moves()
+    ensures line { LineIsMove }
+    ensures shapeless { ShapelessIsNoMove }
+    ensures misfit { MisfitIsTold }
+    ensures parts { LineOfParts }
+{}
+
+/// Bench files of records are written and taken again, worked by computation. There is such a file, and its line meets what the laws of one line ask.
 pub fn recorded_files_are_worked()
     ensures written { RecordedFilesAreWritten }
     ensures taken { RecordedValuesAreTaken }
     ensures met { RecordedFileIsMet }
+    ensures moves { RecordedMovesAreMet }
 {}
 
 /// Damaged lines of a bench file of records, and files with such lines, have their faults, and other texts are refused.

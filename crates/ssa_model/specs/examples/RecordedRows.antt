@@ -7,11 +7,17 @@ use Rattle.ssa_model.specs.definitions.Replies.{label_json}
 use Rattle.ssa_model.specs.definitions.History.{Bench, present}
 use Rattle.ssa_model.specs.definitions.Answers.{undo}
 use Rattle.ssa_model.specs.definitions.BenchText.{line, whole_object}
-use Rattle.ssa_model.specs.definitions.RecordedBench.{record_head, recorded_values, recorded_text, IsRecordedFile}
-use Rattle.ssa_model.specs.laws.RecordedBenches.{recorded_bench, recorded_bench_in, move_fault_number, line_fault, recorded_fault}
-use Rattle.ssa_model.specs.examples.Sample.{sample_schema, string_json, number_json}
+use Rattle.ssa_model.specs.definitions.BenchFile.{IsLabel}
+use Rattle.ssa_model.specs.definitions.MemberNames.{has_rising_names}
+use Rattle.ssa_model.specs.definitions.Operations.{State}
+use Rattle.ssa_model.specs.definitions.RecordReading.{IsReadState}
+use Rattle.ssa_model.specs.definitions.Valid.{IsValidState, KeepsOrder}
+use Rattle.ssa_model.specs.definitions.RecordedBench.{record_head, record_line, recorded_values, recorded_text, IsRecordedFile}
+use Rattle.ssa_model.specs.laws.RecordedBenches.{is_move_shape, recorded_bench, recorded_bench_in, move_fault_number, line_fault, recorded_fault}
+use Rattle.ssa_model.specs.laws.RecordedMoves.{IsReadBackState, TellsLines, IsRecordLineOf}
+use Rattle.ssa_model.specs.examples.Sample.{sample_kind, sample_schema, string_json, number_json}
 use Rattle.ssa_model.specs.examples.FileRows.{feed, after, one_apply, file_readings, value_among, readings_of, applied_step, filed}
-use Rattle.ssa_model.specs.examples.RecordReadingRows.{nothing, list_of, path_of_texts, record_with}
+use Rattle.ssa_model.specs.examples.RecordReadingRows.{nothing, list_of, path_of_texts, record_with, put_alone}
 
 -- ---- texts
 
@@ -81,6 +87,23 @@ RecordedFileIsMet = IsRecordedFile (readings_of (recorded_values filed)) (record
 abbrev pub moved_value : Json → Json
 moved_value record_value = object (member (codes "command") (label_json applied_step.label) (member (codes "record") record_value no_members))
 
+abbrev pub one_gone : Text → Json
+one_gone name = list_of (list_of (string_json name ∷ string_json (codes "Apply") ∷ []) ∷ [])
+
+-- the states of the sample's line, the line itself, a value without its shape, and one that tells that a manager goes who is not there,
+-- meet what the laws of one line ask
+abbrev pub RecordedMovesAreMet : Type 0
+RecordedMovesAreMet =
+    let readings = readings_of (recorded_values filed) in
+    let v = filed.timeline.first in
+    let w = applied_step.state in
+    let own = record_line filed applied_step.label v w in
+    let other = moved_value (record_with nothing nothing (one_gone (codes "m2")) nothing nothing) in
+    TellsLines filed × IsReadBackState readings sample_kind v × IsReadBackState readings sample_kind w × IsLabel readings applied_step.label
+    × KeepsOrder v.table w.table × (is_move_shape readings own ≡ true) × (has_rising_names own ≡ true)
+    × (is_move_shape readings (number_json 1) ≡ false) × (is_move_shape readings other ≡ true)
+    × ((u : State) → IsValidState sample_kind u → KeepsOrder v.table u.table → IsReadState readings u → IsRecordLineOf filed other v u → ⊥)
+
 -- the value is read from this text alone, and 1 from a text with a blank
 abbrev pub reads_alone : Text → Json → Readings
 reads_alone t j = record {
@@ -98,8 +121,8 @@ record_number d = text_number (compact (moved_value d)) (moved_value d)
 abbrev pub spec_path : Json
 spec_path = path_of_texts (codes "f:spec" ∷ [])
 
-abbrev pub one_gone : Text → Json
-one_gone name = list_of (list_of (string_json name ∷ string_json (codes "Apply") ∷ []) ∷ [])
+abbrev pub hosts_path : Json
+hosts_path = path_of_texts (codes "f:spec" ∷ codes "f:hosts" ∷ [])
 
 abbrev pub m1_gone : Json
 m1_gone = one_gone (codes "m1")
@@ -121,7 +144,8 @@ replicas_cut leaves =
     (member (codes "here") nothing (member (codes "leaves") leaves (member (codes "order") nothing (member (codes "put") nothing no_members)))))))
 
 -- no fault; a path that isn't there; a manager that would own an absent path; an element with a blank; members in another order,
--- which are read as those in order; a leaf with the content that it has; a manager that isn't there; a value that the schema has no place for; a missing line
+-- which are read as those in order; a leaf with the content that it has; a manager that isn't there; a value that the schema has no place for; a missing line;
+-- a list with an item whose element's text is not read
 abbrev pub DamagedLinesAreTold : Type 0
 DamagedLinesAreTold =
     (record_number undo_value ≡ None)
@@ -133,6 +157,7 @@ DamagedLinesAreTold =
     × (record_number (record_with nothing nothing (one_gone (codes "m2")) nothing nothing) ≡ Some 71)
     × (record_number (record_with nothing nothing nothing nothing (one_at (codes "f:size" ∷ []) 1)) ≡ Some 71)
     × (text_number [] (moved_value undo_value) ≡ Some 70)
+    × (record_number (put_alone (hosts_path ∷ list_of (string_json (codes "a") ∷ []) ∷ [])) ≡ Some 71)
 
 -- the number of the fault of the file after the apply, with this head and this last line, which is read as this value
 abbrev pub file_number : Json → Text → Json → ℕ

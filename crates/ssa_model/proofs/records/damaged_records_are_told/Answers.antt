@@ -5,7 +5,7 @@ use Rattle.ssa_model.proofs.records.damaged_records_are_told.Goals as goal
 pub returns : goal.returns
 unfolding split_lines
 returns c = record {
-  lines = (refl, refl, refl, refl, refl, refl, refl, refl, refl);
+  lines = (refl, refl, refl, refl, refl, refl, refl, refl, refl, refl);
   files = (refl, refl, refl, refl, refl, refl);
   others = (refl, refl, refl);
 }
