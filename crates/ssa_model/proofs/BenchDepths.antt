@@ -24,13 +24,13 @@ schema_is_shallow v kind apart read = let h = schema-depth most_levels at_root v
 
 -- ---- states
 
-label-depth : (label : Label) → depth (label_json label) ≤ 1
+pub label-depth : (label : Label) → depth (label_json label) ≤ 1
 label-depth (applied who force at) = omega arith
 label-depth (updated who at) = omega arith
 label-depth stripped = omega arith
 
 module _ (readings : Readings) (bench : Bench) (valid : IsValidBench readings bench) where
-  object-shallow : (s : State) → IsValidState bench.schema.kind s → depth (whole_object bench s) ≤ 71
+  pub object-shallow : (s : State) → IsValidState bench.schema.kind s → depth (whole_object bench s) ≤ 71
   object-shallow s one =
       let own = state-depth bench.identity bench.schema.kind s valid.named valid.accepted.lawful one in
       let few = read-levels bench.schema.source bench.schema.kind valid.read in

@@ -1,5 +1,5 @@
 -- How many levels a kind has: a value without faults nests no deeper, and no path of a place is longer.
-use Rattle.std.proofs.Common.{◌≡◌, ◌≤◌, ℕ, suc, List, [], ◌∷◌, Option, Some, None, length, true, false, refl, sym, ap, ◌∙◌, arith}
+use Rattle.std.proofs.Common.{◌≡◌, ◌≤◌, ℕ, suc, ◌+◌, List, [], ◌∷◌, Option, Some, None, length, true, false, refl, sym, ap, ◌∙◌, arith}
 use Rattle.std.proofs.Math.Nat.{max-le}
 use Rattle.std.proofs.lemmas.Option.{same_Some, none-some}
 use Rattle.std.specs.Prelude.{max, if◌then◌else◌}
@@ -62,7 +62,7 @@ shape_member-depth None fs n v p is inside e = absurd (cons≢nil e)
 shape_member-depth (Some s) fs n v p is inside e = let own = inside s e in let field = shape_field-levels n fs s is in omega arith
 
 mutual
-  shape-depth : (s : Shape) (v : Json) (p : Path) → shape_faults s v p ≡ [] → depth v ≤ shape_levels s
+  pub shape-depth : (s : Shape) (v : Json) (p : Path) → shape_faults s v p ≡ [] → depth v ≤ shape_levels s
   shape-depth (scalar_shape k) (scalar t) p e = omega arith
   shape-depth (record_shape fs) (object ms) p e = let h = shape_fields-depth fs ms p e in omega arith
   shape-depth (dict_shape s) (object ms) p e = let h = shape_entries-depth s ms p e in omega arith
@@ -102,7 +102,7 @@ mutual
   fits-depth (items_of names fs) (list vs) h = let inside = list-depth names fs vs ([], (h.0, h.1)) in omega arith
   fits-depth _ _ h = absurd (cons≢nil h.1)
 
-  fields-depth : (fs : Fields) (ms : Members) → FieldsFit fs ms → members_depth ms ≤ fields_levels fs
+  pub fields-depth : (fs : Fields) (ms : Members) → FieldsFit fs ms → members_depth ms ≤ fields_levels fs
   fields-depth fs no_members h = omega arith
   fields-depth fs (member n v ms) h =
       let known = member-first fs n v ms h in
@@ -124,7 +124,7 @@ mutual
 
 -- ---- paths of places
 
-abbrev place_levels : Place → ℕ
+abbrev pub place_levels : Place → ℕ
 place_levels (of_kind k) = levels k
 place_levels (item_of names fs) = suc (fields_levels fs)
 place_levels (value_of s) = 0
@@ -144,13 +144,14 @@ below-levels (of_kind (items_of names fs)) (key ks) r h = let same = ap place_le
 below-levels (item_of names fs) (field n) r h = let inside = fields_below n fs r h in omega arith
 below-levels _ _ r h = absurd (none-some r h)
 
-place-levels : (p : Path) (q r : Place) → place_at q p ≡ Some r → length p ≤ place_levels q
-place-levels [] q r h = omega arith
+pub place-levels : (p : Path) (q r : Place) → place_at q p ≡ Some r → length p + place_levels r ≤ place_levels q
+place-levels [] q r h = let same = ap place_levels (same_Some q r h) in omega arith
 place-levels (e ∷ p) q r h =
-    elim (place_below q e) as (λ o. place_below q e ≡ o → ◌≡◌ {A = Option Place} (elim o [ None ↦ None | Some s ↦ place_at s p ]) (Some r) → suc (length p) ≤ place_levels q) [
+    elim (place_below q e) as (λ o. place_below q e ≡ o → ◌≡◌ {A = Option Place} (elim o [ None ↦ None | Some s ↦ place_at s p ]) (Some r)
+    → suc (length p) + place_levels r ≤ place_levels q) [
       | None ↦ λ _ h. absurd (none-some r h)
       | Some s ↦ λ is h. let later = place-levels p s r h in let own = below-levels q e s is in omega arith
     ] refl h
 
 pub path-levels : (k : Kind) (p : Path) (r : Place) → place_at (of_kind k) p ≡ Some r → length p ≤ levels k
-path-levels k p r h = place-levels p (of_kind k) r h
+path-levels k p r h = let own = place-levels p (of_kind k) r h in omega arith

@@ -13,7 +13,7 @@ use Rattle.ssa_model.specs.definitions.Kind.{Kind, Fields, scalar_kind, atomic_o
 use Rattle.ssa_model.specs.definitions.Body.{Content, leaf, record_branch, dict_branch, list_branch, Body, places, field_places, entry_places, value_places, item_places, value_order, key_order}
 use Rattle.ssa_model.specs.definitions.Objects.{content_value}
 use Rattle.ssa_model.specs.definitions.Fitting.{Place, of_kind, item_of, value_of, place_below, place_at, are_keys, IsBodyOf}
-use Rattle.ssa_model.specs.definitions.Lawful.{are_key_names, is_keyed, are_keyed, is_before_all, is_ordered, are_ordered}
+use Rattle.ssa_model.specs.definitions.Lawful.{are_key_names, is_keyed, are_keyed, is_before_all, is_ordered, are_ordered, is_record, is_root_kind, has_metadata, is_lawful}
 use Rattle.ssa_model.specs.definitions.RecordText.{value_at_place}
 use Rattle.ssa_model.specs.definitions.RecordReading.{content_in, place_entries}
 use Rattle.ssa_model.proofs.FlatOfShown.{Told, fields-told, all_told}
@@ -34,6 +34,11 @@ abbrev pub IsLawfulPlace : Place → Type 0
 IsLawfulPlace (of_kind k) = IsLawfulKind k
 IsLawfulPlace (item_of ns fs) = (are_ordered fs ≡ true) × (are_keyed fs ≡ true)
 IsLawfulPlace (value_of s) = Unit {0}
+
+pub lawful-kind : (kind : Kind) → is_lawful kind ≡ true → IsLawfulPlace (of_kind kind)
+lawful-kind kind h =
+    let later = second_so (is_root_kind kind) _ h in
+    (first_so (is_ordered kind) (has_metadata kind) later, second_so (is_record kind) (is_keyed kind) (first_so (is_root_kind kind) _ h))
 
 field-lawful : (fs : Fields) (n : Text) (k : Kind) → are_ordered fs ≡ true → are_keyed fs ≡ true → kind_of n fs ≡ Some k → IsLawfulKind k
 field-lawful no_fields n k o y is = absurd (none-some k is)

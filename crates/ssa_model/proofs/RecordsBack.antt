@@ -1,17 +1,16 @@
 -- The record of two states is read from its value.
-use Rattle.std.proofs.Common.{◌≡◌, ℕ, ◌+◌, List, [], ◌∷◌, ◌++◌, map, Bool, true, false, cond, not, ◌&&◌, ◌||◌, Option, Some, None, is_some, option_and_then, option_map, refl, sym, ap, subst, ◌∙◌, true≢false}
+use Rattle.std.proofs.Common.{◌≡◌, ℕ, List, [], ◌∷◌, ◌++◌, map, Bool, true, false, not, ◌&&◌, ◌||◌, Option, Some, None, option_and_then, option_map, refl, sym, ap, subst, ◌∙◌, true≢false}
 use Rattle.std.proofs.lemmas.Option.{same_Some, none-some}
 use Rattle.std.specs.Prelude.{if◌then◌else◌, is_ok, Result, Ok, Err, codes}
-use Rattle.std.specs.List.{AllByRecursion, cons_option}
+use Rattle.std.specs.List.{AllByRecursion}
 use Rattle.std.specs.Cmp.{first_so, second_so}
-use Rattle.std.specs.FinMap.Entries.{find, is_sorted, is_some-find}
 use Rattle.ssa_model.specs.definitions.Json.{Text, same_text, Json, list, item, as_text, member_of}
-use Rattle.ssa_model.specs.definitions.Path.{Element, Path, element_text, path_cmp, same_path, same_element, is_item_element}
-use Rattle.ssa_model.specs.definitions.PathMap.{PathMap, PathSet, from_entries, get, has, paths, map_of, listed, below}
+use Rattle.ssa_model.specs.definitions.Path.{Element, Path, element_text, same_element, is_item_element}
+use Rattle.ssa_model.specs.definitions.PathMap.{PathMap, PathSet, from_entries, get, has, paths, listed, below}
 use Rattle.ssa_model.specs.definitions.Kind.{Kind, scalar_kind, atomic_of}
 use Rattle.ssa_model.specs.definitions.Schema.{texts_of}
-use Rattle.ssa_model.specs.definitions.Body.{Content, leaf, atom, record_branch, dict_branch, list_branch, Body, order_at, is_leaf, is_other_leaf}
-use Rattle.ssa_model.specs.definitions.Table.{Operation, applies, updates, ManagerKey, Entry, Table, entry_of, is_in_table, same_manager}
+use Rattle.ssa_model.specs.definitions.Body.{Content, leaf, atom, record_branch, dict_branch, list_branch, Body, order_at, is_leaf}
+use Rattle.ssa_model.specs.definitions.Table.{Operation, applies, updates, ManagerKey, Entry, Table, is_in_table}
 use Rattle.ssa_model.specs.definitions.Operations.{State}
 use Rattle.ssa_model.specs.definitions.Objects.{content_value}
 use Rattle.ssa_model.specs.definitions.Readings.{Readings}
@@ -20,35 +19,27 @@ use Rattle.ssa_model.specs.definitions.FieldsV1.{fields_json}
 use Rattle.ssa_model.specs.definitions.Entries.{operation_text, text_json, entry_json}
 use Rattle.ssa_model.specs.definitions.Replies.{items_json, path_json}
 use Rattle.ssa_model.specs.definitions.Fitting.{Place, of_kind, value_of, place_at, content_fits, IsBodyOf}
-use Rattle.ssa_model.specs.definitions.Lawful.{is_record, is_root_kind, is_keyed, is_ordered, has_metadata, IsSchemaKind}
 use Rattle.ssa_model.specs.definitions.Valid.{AllEntries, OwnsOwnable, IsValidState}
-use Rattle.ssa_model.specs.definitions.Record.{Change, Part, is_top, part_at, new_leaf, is_reordered, new_order, is_unchanged, change_to, change_of, placed, cuts, puts, new_leaves, new_orders, changes, gone_from, new_in, record_of}
+use Rattle.ssa_model.specs.definitions.Record.{Change, Part, is_top, part_at, new_leaf, is_reordered, new_order, change_to, cuts, puts, new_leaves, new_orders, changes, gone_from, new_in, record_of}
 use Rattle.ssa_model.specs.definitions.RecordText.{place_items, time_members, part_value, put_json, change_json, gone_json, here_json, leaf_json, order_json, record_json}
 use Rattle.ssa_model.specs.definitions.RecordReading.{Test, all_items, are_members_of, has_members, is_anything, is_operation, is_key, has_items, items_in, item_at, key_in, content_in, part_in, place_given, is_read_path, is_path, is_fields, change_shape, entry_shape, here_shape, is_put, path_in, change_in, here_in, order_in, leaf_in, put_in, IsReadPath, HasReadPaths, is_record_shape, record_in, IsReadState}
 use Rattle.ssa_model.specs.laws.RecordReading.{RecordTextsHaveShape, RecordTextsAreRead}
 use Rattle.ssa_model.proofs.BodyLeads.{get-cuts}
-use Rattle.ssa_model.proofs.Lists.{keys, has-listed}
-use Rattle.ssa_model.proofs.PartsBack.{IsLawfulPlace, lawful-at, part-back}
-use Rattle.ssa_model.proofs.PathMaps.{is_one_of, same_map, same_sets, get-from_entries, get-over_paths, has-paths, has-minus, same_path-true, same_path-itself}
+use Rattle.ssa_model.proofs.Fitting.{some_there}
+use Rattle.ssa_model.proofs.Lists.{has-listed}
+use Rattle.ssa_model.proofs.PartsBack.{IsLawfulPlace, lawful-kind, lawful-at, part-back}
+use Rattle.ssa_model.proofs.PathMaps.{same_map, same_sets, get-from_entries, has-paths, has-minus}
 use Rattle.ssa_model.proofs.PutParts.{put-is}
+use Rattle.ssa_model.proofs.RecordParts.{each, each-follows, each-answer, each-path, new-leaf-is, all-changes, all-placed}
 use Rattle.ssa_model.proofs.ShownItems.{each-among}
 use Rattle.ssa_model.proofs.Tables.{ownable-has, element-itself}
 use Rattle.ssa_model.proofs.TablesBack.{operation-back}
-use Rattle.ssa_model.proofs.Tests.{by_test, holds}
-use Rattle.ssa_model.proofs.WritingsBack.{none-below, set-faultless, set-said}
+use Rattle.ssa_model.proofs.Tests.{by_test}
+use Rattle.ssa_model.proofs.WritingsBack.{set-faultless, set-said}
 
 -- ---- lists
 
 module _ {X : Type 0} where
-  -- what is told of each element
-  each : (P : X → Type 0) → ((x : X) → P x) → (xs : List X) → AllByRecursion P xs
-  each P h [] = tt
-  each P h (x ∷ xs) = (h x, each P h xs)
-
-  each-follows : (P Q : X → Type 0) → ((x : X) → P x → Q x) → (xs : List X) → AllByRecursion P xs → AllByRecursion Q xs
-  each-follows P Q f [] h = tt
-  each-follows P Q f (x ∷ xs) h = (f x h.0, each-follows P Q f xs h.1)
-
   items-back : (f : Json → X) (g : X → Json) (xs : List X) → AllByRecursion (λ x. f (g x) ≡ x) xs → items_in f (items_json g xs) ≡ xs
   items-back f g [] h = refl
   items-back f g (x ∷ xs) h = λ i. h.0 i ∷ items-back f g xs h.1 i
@@ -72,44 +63,8 @@ module _ {X : Type 0} where
   map-again : (m : PathMap X) → from_entries m.entries ≡ m
   map-again m = same_map (from_entries m.entries) m (λ p. get-from_entries m.entries p)
 
-  -- each entry of a map is what it answers
-  found-own : (es : List (Path × X)) → is_sorted path_cmp es ≡ true → AllByRecursion (λ (e : Path × X). find path_cmp e.0 es ≡ Some e.1) es
-  found-own [] h = tt
-  found-own (e ∷ es) h = (
-    ap (λ b. cond b (Some e.1) (find path_cmp e.0 es)) (same_path-itself e.0),
-    each-follows (λ (f : Path × X). find path_cmp f.0 es ≡ Some f.1) (λ (f : Path × X). find path_cmp f.0 (e ∷ es) ≡ Some f.1)
-        later es (found-own es (second_so _ _ h)),
-  )
-    where
-      later : (f : Path × X) → find path_cmp f.0 es ≡ Some f.1 → find path_cmp f.0 (e ∷ es) ≡ Some f.1
-      later f is =
-          by_test (same_path f.0 e.0)
-          (λ t.
-          let one = is_some-find path_cmp f.0 es ∙ ap (is_one_of (keys es)) (same_path-true f.0 e.0 t) ∙ none-below e.0 es (first_so _ _ h) in
-          absurd (true≢false (sym (ap is_some is) ∙ one)))
-          (λ t. ap (λ b. cond b (Some e.1) (find path_cmp f.0 es)) t ∙ is)
-
-  each-entry : (m : PathMap X) → AllByRecursion (λ (e : Path × X). get m e.0 ≡ Some e.1) m.entries
-  each-entry m = found-own m.entries (holds _ m.in_order)
-
-  -- what holds of each path and answer of a map over the paths of another holds of each of its entries
-  each-answer : {Y : Type 0} (m : PathMap Y) (f : Path → Option X) (P : Path × X → Type 0) → ((p : Path) (x : X) → has m p ≡ true → f p ≡ Some x → P (p, x))
-      → AllByRecursion P (map_of (paths m) f).entries
-  each-answer m f P h =
-      each-follows (λ (e : Path × X). get (map_of (paths m) f) e.0 ≡ Some e.1) P
-      (λ e is. by e (sym (get-over_paths m f e.0) ∙ is)) (map_of (paths m) f).entries (each-entry (map_of (paths m) f))
-    where
-      by : (e : Path × X) → cond (has m e.0) (f e.0) None ≡ Some e.1 → P e
-      by e is =
-          by_test (has m e.0)
-          (λ t. h e.0 e.1 t (sym (ap (λ b. cond b (f e.0) None) t) ∙ is))
-          (λ t. absurd (none-some e.1 (sym (ap (λ b. cond b (f e.0) None) t) ∙ is)))
-
 set-again : (s : PathSet) → listed (paths s) ≡ s
 set-again s = same_sets (listed (paths s)) s (λ p. has-listed (paths s) p ∙ sym (has-paths s p))
-
-each-path : (s : PathSet) (P : Path → Type 0) → ((p : Path) → has s p ≡ true → P p) → AllByRecursion P (paths s)
-each-path s P h = each-among same_path same_path-itself P (paths s) (λ p among. h p (has-paths s p ∙ among))
 
 -- ---- contents and operations
 
@@ -122,17 +77,6 @@ content-back (value_of t) (leaf s) fits is = refl
 content-back (of_kind (atomic_of t)) (atom v) fits is = refl
 content-back _ (leaf s) fits is = absurd (true≢false (sym fits))
 content-back _ (atom v) fits is = absurd (true≢false (sym fits))
-
-other-leaf : (a b : Option Content) → is_other_leaf a b ≡ true → is_leaf b ≡ true
-other-leaf (Some (leaf x)) (Some (leaf y)) h = refl
-other-leaf (Some (atom x)) (Some (atom y)) h = refl
-other-leaf _ _ h = absurd (true≢false (sym h))
-
-new-leaf-is : (a b : Option Content) (c : Content) → new_leaf a b ≡ Some c → (b ≡ Some c) × (is_leaf b ≡ true)
-new-leaf-is a b c h =
-    by_test (is_other_leaf a b)
-    (λ t. (sym (ap (λ x. if x then b else None) t) ∙ h, other-leaf a b t))
-    (λ t. absurd (none-some c (sym (ap (λ x. if x then b else None) t) ∙ h)))
 
 operation-told : (o : Operation) → is_operation (text_json (operation_text o)) ≡ true
 operation-told applies = refl
@@ -189,14 +133,6 @@ module _ (readings : Readings) where
   read-entries b h [] own at = tt
   read-entries b h (e ∷ es) own at = (((λ p one. h p (ownable-has b p (own.0 p one))), at.0), read-entries b h es own.1 at.1)
 
-  entry-read : (u : Table) → AllEntries IsReadEntry u → (k : ManagerKey) (f : Entry) → entry_of u k ≡ Some f → IsReadEntry f
-  entry-read [] h k f is = absurd (none-some f is)
-  entry-read (e ∷ es) h k f is =
-      elim (same_manager e.manager k) as (λ b. (if b then Some e else entry_of es k) ≡ Some f → IsReadEntry f) [
-        | true ↦ λ is. subst IsReadEntry (same_Some e f is) h.0
-        | false ↦ λ is. entry-read es h.1 k f is
-      ] is
-
   abbrev is_given_moment : Option Text → Bool
   is_given_moment None = true
   is_given_moment (Some t) = readings.moment t
@@ -212,25 +148,6 @@ module _ (readings : Readings) where
     lose = λ p one. a.0 p (first_so (has e.owned p) _ (sym (has-minus e.owned f.owned p) ∙ one));
     moment = elim (same_text e.moment f.moment) as (λ s. is_given_moment (if s then None else Some f.moment) ≡ true) [ true ↦ refl | false ↦ b.1 ];
   }
-
-  change-read : (e : Entry) (o : Option Entry) (c : Change) → IsReadEntry e → ((f : Entry) → o ≡ Some f → IsReadEntry f) → change_of e o ≡ Some c
-      → IsReadChange c
-  change-read e None c a b is = absurd (none-some c is)
-  change-read e (Some f) c a b is =
-      elim (is_unchanged e f) as (λ s. (if s then None else Some (change_to e f)) ≡ Some c → IsReadChange c) [
-        | true ↦ λ is. absurd (none-some c is)
-        | false ↦ λ is. subst IsReadChange (same_Some (change_to e f) c is) (change-to-read e f a (b f refl))
-      ] is
-
-  all-changes : (u : Table) → AllEntries IsReadEntry u → (t : Table) → AllEntries IsReadEntry t → AllByRecursion IsReadChange (changes t u)
-  all-changes u b [] a = tt
-  all-changes u b (e ∷ es) a =
-      let rest = all-changes u b es a.1 in
-      let o = entry_of u e.manager in
-      elim (change_of e o) as (λ c. change_of e o ≡ c → AllByRecursion IsReadChange (cons_option c (changes es u))) [
-        | None ↦ λ is. rest
-        | Some c ↦ λ is. (change-read e o c a.0 (entry-read u b e.manager) is, rest)
-      ] refl
 
   change-back : (c : Change) → IsReadChange c → change_in readings (change_json c) ≡ c
   change-back c h =
@@ -251,15 +168,6 @@ module _ (readings : Readings) where
       let lose = fields-shaped c.lose h.lose in
       let time = time-shaped c.moment h.moment in
       λ i. ((gain i || false) && ((lose i || false) && ((operation-told c.manager.operation i || false) && time i))) && true
-
-  all-placed : (test : Entry → Bool) (n : ℕ) (u : Table) → AllEntries IsReadEntry u → AllByRecursion (λ (x : ℕ × Entry). IsReadEntry x.1) (placed test n u)
-  all-placed test n [] h = tt
-  all-placed test n (e ∷ es) h =
-      let rest = all-placed test (n + 1) es h.1 in
-      elim (test e) as (λ b. AllByRecursion (λ (x : ℕ × Entry). IsReadEntry x.1) (if b then (n, e) ∷ placed test (n + 1) es else placed test (n + 1) es)) [
-        | true ↦ (h.0, rest)
-        | false ↦ rest
-      ]
 
   here-back : (version : Text) (x : ℕ × Entry) → IsReadEntry x.1 → here_in readings (here_json (text_json version) x) ≡ x
   here-back version x h =
@@ -345,14 +253,10 @@ module _ (readings : Readings) where
       pub has_one : has w e.0 ≡ true
       pub is : e.1 ≡ part_at w e.0
 
-    content-there : (p : Path) → has w p ≡ true → (c : Content) × (get w p ≡ Some c)
-    content-there p one =
-        elim (get w p) as (λ o. is_some o ≡ true → (c : Content) × (o ≡ Some c)) [ None ↦ λ h. absurd (true≢false (sym h)) | Some c ↦ λ h. (c, refl) ] one
-
     each-put : AllByRecursion IsReadPut (puts v w).entries
     each-put =
         each-answer w (λ p. if is_top v p then Some (part_at w p) else None) IsReadPut (λ p x one is.
-        let c = content-there p one in
+        let c = some_there (get w p) one in
         let at = k.fits p c.0 c.1 in
         record { path = b p one; place = at.place; there = at.there; has_one = one; is = (put-is v w p x is).0 })
 
@@ -409,7 +313,10 @@ module _ (readings : Readings) (version : Text) (kind : Kind) (v w : State) (r :
   to = read-entries readings w.body r.reads_after.paths u r.after.table.ownable r.reads_after.moments
 
   all-here : AllByRecursion (λ (x : ℕ × Entry). IsReadEntry readings x.1) (new_in t u)
-  all-here = all-placed readings (λ e. not (is_in_table t e.manager)) 0 u to
+  all-here = all-placed (IsReadEntry readings) (λ e. not (is_in_table t e.manager)) 0 u to
+
+  all-changed : AllByRecursion (IsReadChange readings) (changes t u)
+  all-changed = all-changes (IsReadEntry readings) (IsReadChange readings) (change-to-read readings) u to t from
 
   all-cut : AllByRecursion (IsReadPath readings) (paths (cuts b c))
   all-cut = each-cut readings kind b c r.reads.paths r.reads_after.paths r.after.fits
@@ -425,7 +332,7 @@ module _ (readings : Readings) (version : Text) (kind : Kind) (v w : State) (r :
 
   record-shaped : is_record_shape readings (record_json (text_json version) kind (record_of v w)) ≡ true
   record-shaped =
-      let changed = each-shaped (has_members (change_shape readings)) change_json (change-shaped readings) (changes t u) (all-changes readings u to t from) in
+      let changed = each-shaped (has_members (change_shape readings)) change_json (change-shaped readings) (changes t u) all-changed in
       let cut = each-shaped (is_path readings) path_json (path-shaped readings) (paths (cuts b c)) all-cut in
       let gone = items-shaped is_key gone_json (gone_from t u) (each (λ k. is_key (gone_json k) ≡ true) key-shaped (gone_from t u)) in
       let here = each-shaped (has_members (here_shape readings)) (here_json (text_json version)) (here-shaped readings version) (new_in t u) all-here in
@@ -442,7 +349,7 @@ module _ (readings : Readings) (version : Text) (kind : Kind) (v w : State) (r :
 
   record-read : IsLawfulPlace (of_kind kind) → record_in readings kind (record_json (text_json version) kind (record_of v w)) ≡ record_of v w
   record-read lawful =
-      let changed = each-back (change_in readings) change_json (change-back readings) (changes t u) (all-changes readings u to t from) in
+      let changed = each-back (change_in readings) change_json (change-back readings) (changes t u) all-changed in
       let cut = ap listed (each-back (λ j. path_in readings (Some j)) path_json (path-back readings) (paths (cuts b c)) all-cut) ∙ set-again (cuts b c) in
       let gone = items-back key_in gone_json (gone_from t u) (each (λ k. key_in (gone_json k) ≡ k) key-back (gone_from t u)) in
       let here = each-back (here_in readings) (here_json (text_json version)) (here-back readings version) (new_in t u) all-here in
@@ -467,11 +374,6 @@ pub record_texts_have_shape : RecordTextsHaveShape
 record_texts_have_shape readings version kind v w a b h k =
     record-shaped readings version kind v w (record { before = a; after = b; reads = h; reads_after = k })
 
-lawful-kind : (kind : Kind) → IsSchemaKind kind → IsLawfulPlace (of_kind kind)
-lawful-kind kind h =
-    let later = second_so (is_root_kind kind) _ h.lawful in
-    (first_so (is_ordered kind) (has_metadata kind) later, second_so (is_record kind) (is_keyed kind) (first_so (is_root_kind kind) _ h.lawful))
-
 pub record_texts_are_read : RecordTextsAreRead
 record_texts_are_read readings version kind v w accepted a b h k =
-    record-read readings version kind v w (record { before = a; after = b; reads = h; reads_after = k }) (lawful-kind kind accepted)
+    record-read readings version kind v w (record { before = a; after = b; reads = h; reads_after = k }) (lawful-kind kind accepted.lawful)

@@ -96,7 +96,7 @@ module _ (kind : Kind) (b : Body) (p : Path) where
 -- ---- any kind
 
 module _ (kind : Kind) (b : Body) (k : IsBodyOf kind b) where
-  abbrev Fits : Kind → Type 0
+  abbrev pub Fits : Kind → Type 0
   Fits j = (p q : Path) → place_at (of_kind kind) p ≡ Some (of_kind j) → has b p ≡ true → faults j (shown j b p) q ≡ []
 
   atomic-fits : (s : Shape) (c : Content) (q : Path) → content_fits (of_kind (atomic_of s)) c ≡ true → faults (atomic_of s) (content_value (Some c)) q ≡ []
@@ -104,7 +104,8 @@ module _ (kind : Kind) (b : Body) (k : IsBodyOf kind b) where
   atomic-fits s _ q h = absurd (true≢false (sym h))
 
   -- the members of a place with fields
-  fields-fit : (r : Place) (fs : Fields) (p q : Path) → ((n : Text) → place_below r (field n) ≡ option_map of_kind (kind_of n fs)) → place_at (of_kind kind) p ≡ Some r → are_ordered fs ≡ true → OfEach Fits fs
+  pub fields-fit : (r : Place) (fs : Fields) (p q : Path)
+      → ((n : Text) → place_below r (field n) ≡ option_map of_kind (kind_of n fs)) → place_at (of_kind kind) p ≡ Some r → are_ordered fs ≡ true → OfEach Fits fs
       → field_faults fs (shown_fields fs b p) q ≡ []
   fields-fit r fs p q like at ordered each =
       members-fit b p fs fs q (each_field (IsFitField b p fs) fs ordered
@@ -115,7 +116,7 @@ module _ (kind : Kind) (b : Body) (k : IsBodyOf kind b) where
       entries-fit b p j (names_below b p) q (each-among same_text text-itself (λ n. (r : Path) → faults j (shown j b (p ++ field n ∷ [])) r ≡ []) (names_below b p)
       (λ n among r. each (p ++ field n ∷ []) r (place-after p (of_kind kind) (field n) (of_kind (dict_of j)) at) (sym (names-there b p n) ∙ among)))
 
-  all_fit : OfParts Fits
+  pub all_fit : OfParts Fits
   all_fit = record {
     of_scalar = λ s p q at one. let c = stands kind b k p (of_kind (scalar_kind s)) at one in ap (λ o. faults (scalar_kind s) (content_value o) q) c.is_there ∙ scalar-fits s c.content q c.fits;
     of_atomic = λ s p q at one. let c = stands kind b k p (of_kind (atomic_of s)) at one in ap (λ o. faults (atomic_of s) (content_value o) q) c.is_there ∙ atomic-fits s c.content q c.fits;

@@ -40,6 +40,17 @@ longest-bound (p ∷ ps) most h = max-le h.0 (longest-bound ps most h.1)
 
 -- ---- owned sets
 
+-- no path of the set is longer
+abbrev pub IsShortSet : ℕ → PathSet → Type 0
+IsShortSet most s = (p : Path) → has s p ≡ true → length p ≤ most
+
+pub short-depth : (most : ℕ) (s : PathSet) → IsShortSet most s → depth (fields_json s) ≤ suc (suc most)
+short-depth most s h =
+    let bound = longest-bound (paths s) most (each-among same_path same_path-itself (λ (p : Path). length p ≤ most) (paths s)
+    (λ p among. h p (has-paths s p ∙ among))) in
+    let written = written-depth (longest (paths s)) (paths s) in
+    omega arith
+
 path-bound : (kind : Kind) (body : Body) (p : Path) → IsBodyOf kind body → has body p ≡ true → length p ≤ levels kind
 path-bound kind body p k one =
     elim (get body p) as (λ o. get body p ≡ o → is_some o ≡ true → length p ≤ levels kind) [
@@ -47,9 +58,8 @@ path-bound kind body p k one =
       | Some c ↦ λ is _. let at = k.fits p c is in path-levels kind p at.place at.there
     ] refl one
 
+pub owned-short : (kind : Kind) (body : Body) (owned : PathSet) → IsBodyOf kind body → OwnedOwnable body owned → IsShortSet (levels kind) owned
+owned-short kind body owned k ownable p one = path-bound kind body p k (ownable-has body p (ownable p one))
+
 pub owned-depth : (kind : Kind) (body : Body) (owned : PathSet) → IsBodyOf kind body → OwnedOwnable body owned → depth (fields_json owned) ≤ suc (suc (levels kind))
-owned-depth kind body owned k ownable =
-    let most = longest-bound (paths owned) (levels kind) (each-among same_path same_path-itself (λ (p : Path). length p ≤ levels kind) (paths owned)
-    (λ p among. path-bound kind body p k (ownable-has body p (ownable p (has-paths owned p ∙ among))))) in
-    let written = written-depth (longest (paths owned)) (paths owned) in
-    omega arith
+owned-depth kind body owned k ownable = short-depth (levels kind) owned (owned-short kind body owned k ownable)

@@ -7,8 +7,8 @@ use Rattle.ssa_model.specs.definitions.Replies.{label_json}
 use Rattle.ssa_model.specs.definitions.History.{Bench, present}
 use Rattle.ssa_model.specs.definitions.Answers.{undo}
 use Rattle.ssa_model.specs.definitions.BenchText.{line, whole_object}
-use Rattle.ssa_model.specs.definitions.BenchFile.{IsLabel}
-use Rattle.ssa_model.specs.definitions.MemberNames.{has_rising_names}
+use Rattle.ssa_model.specs.definitions.BenchFile.{IsLabel, IsValidBench}
+use Rattle.ssa_model.specs.definitions.MemberNames.{has_distinct_names, has_rising_names}
 use Rattle.ssa_model.specs.definitions.Operations.{State}
 use Rattle.ssa_model.specs.definitions.RecordReading.{IsReadState}
 use Rattle.ssa_model.specs.definitions.Valid.{IsValidState, KeepsOrder}
@@ -81,6 +81,10 @@ RecordedValuesAreTaken = (is_taken_again applied_bench ≡ true) × (is_taken_ag
 -- what is asked of a bench file of records is met
 abbrev pub RecordedFileIsMet : Type 0
 RecordedFileIsMet = IsRecordedFile (readings_of (recorded_values filed)) (recorded_text filed) filed
+
+-- what is asked of a bench so that the values of its file of records are shallow is met
+abbrev pub ShallowFileIsMet : Type 0
+ShallowFileIsMet = IsValidBench (readings_of (recorded_values filed)) filed × (has_distinct_names filed.schema.source ≡ true)
 
 -- ---- damaged lines
 

@@ -1,4 +1,4 @@
--- How deep the values of a bench file nest: no deeper than a reader of JSON goes.
+-- How deep the values of a bench file, and of one of records, nest: no deeper than a reader of JSON goes.
 use Rattle.std.specs.Prelude.{◌≡◌, ◌≤◌, ◌<◌, ℕ, zero, suc, ◌∷◌, true, map, Ok, codes}
 use Rattle.std.specs.List.{All}
 use Rattle.ssa_model.specs.definitions.Limits.{most_depth}
@@ -11,6 +11,7 @@ use Rattle.ssa_model.specs.definitions.Readings.{Readings}
 use Rattle.ssa_model.specs.definitions.History.{Bench}
 use Rattle.ssa_model.specs.definitions.BenchText.{head_json, first_json, step_json, bench_values}
 use Rattle.ssa_model.specs.definitions.BenchFile.{IsValidBench}
+use Rattle.ssa_model.specs.definitions.RecordedBench.{recorded_values}
 use Rattle.ssa_model.specs.examples.FileRows.{readings_of, filed}
 
 abbrev pub IsShallow : Json → Type 0
@@ -27,6 +28,12 @@ SchemaIsShallow = (v : Json) (kind : Kind) → has_distinct_names v ≡ true →
 -- all values of a valid bench with such a schema
 abbrev pub DistinctBenchIsShallow : Type 0
 DistinctBenchIsShallow = (readings : Readings) (bench : Bench) → IsValidBench readings bench → has_distinct_names bench.schema.source ≡ true → All IsShallow (bench_values bench)
+
+-- all values of the file of records of such a bench
+abbrev pub RecordedBenchIsShallow : Type 0
+RecordedBenchIsShallow =
+    (readings : Readings) (bench : Bench) → IsValidBench readings bench → has_distinct_names bench.schema.source ≡ true
+    → All IsShallow (recorded_values bench)
 
 -- ---- where a name stands twice
 
