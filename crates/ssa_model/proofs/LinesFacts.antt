@@ -1,6 +1,6 @@
 -- Laws of the lines of some bytes.
 use Rattle.std.proofs.Common.{◌≡◌, ◌≢◌, ℕ, ◌+◌, ◌<◌, List, [], ◌∷◌, ◌++◌, length, get_or, take, cond, eqb, true, false, refl, ap, sym, ◌∙◌, subst, eqb-true}
-use Rattle.std.proofs.lemmas.List.{take_more, append-nil}
+use Rattle.std.proofs.lemmas.List.{take_more, append-nil, append_assoc}
 use Rattle.ssa_model.specs.definitions.Lines.{line_feed, split_lines, with_first, whole_lines, unfinished_line, ended, HasNoLineFeed}
 
 pub HasNoLineFeed-append : (xs ys : List ℕ) → HasNoLineFeed xs → HasNoLineFeed ys → HasNoLineFeed (xs ++ ys)
@@ -89,15 +89,20 @@ abbrev pub HaveNoLineFeed : List (List ℕ) → Type 0
 HaveNoLineFeed [] = Unit {0}
 HaveNoLineFeed (text ∷ texts) = HasNoLineFeed text × HaveNoLineFeed texts
 
+-- ended texts, and then other bytes
+pub split_lines-after : (ts : List (List ℕ)) (rest : List ℕ) → HaveNoLineFeed ts
+    → split_lines (ended ts ++ rest) ≡ (ts ++ whole_lines rest, unfinished_line rest)
+split_lines-after [] rest plain = refl
+split_lines-after (t ∷ ts) rest plain =
+    ap split_lines (append_assoc (t ++ line_feed ∷ []) (ended ts) rest)
+    ∙ split_lines-first t (ended ts ++ rest) plain.0
+    ∙ ap (λ s. (t ∷ s.0, s.1)) (split_lines-after ts rest plain.1)
+
 -- the lines of ended texts are the texts
 pub split_lines-ended : (texts : List (List ℕ)) → HaveNoLineFeed texts → split_lines (ended texts) ≡ (texts, [])
 unfolding split_lines
-split_lines-ended [] plain = refl
-split_lines-ended (text ∷ texts) plain =
-    split_lines-append (text ++ line_feed ∷ []) (ended texts)
-    ∙ ap (λ s. joined s.0 s.1 (whole_lines (ended texts)) (unfinished_line (ended texts))) (split_lines-line text plain.0)
-    ∙ ap (λ s. joined (text ∷ []) [] s.0 s.1) (split_lines-ended texts plain.1)
-    ∙ before-others text texts []
+split_lines-ended texts plain =
+    ap split_lines (sym (append-nil (ended texts))) ∙ split_lines-after texts [] plain ∙ ap (λ ls. (ls, [])) (append-nil texts)
 
 ended-first : (x : ℕ) (ls : List (List ℕ)) (r : List ℕ) → ended (with_first x ls r).0 ++ (with_first x ls r).1 ≡ x ∷ (ended ls ++ r)
 ended-first x [] r = refl

@@ -1,12 +1,12 @@
 -- A text that is taken as a bench file of records has no line with a fault of its own, and a written line has the shape of one.
-use Rattle.std.proofs.Common.{◌≡◌, ◌≤◌, ℕ, zero, suc, ◌+◌, ◌-◌, length, List, [], ◌∷◌, ◌++◌, take, drop, Bool, true, false, ◌&&◌, ◌||◌, Option, Some, None, option_map, option_and_then, refl, sym, ap, ◌∙◌, subst, arith, length-append}
+use Rattle.std.proofs.Common.{◌≡◌, ◌≤◌, ℕ, zero, suc, length, List, [], ◌∷◌, take, drop, Bool, true, false, ◌&&◌, ◌||◌, Option, Some, None, option_map, option_and_then, refl, sym, ap, ◌∙◌, subst, arith}
 use Rattle.std.proofs.lemmas.Bool.{and_from}
 use Rattle.std.proofs.lemmas.Bool.Decides.{nat_tests}
 use Rattle.std.proofs.lemmas.Option.{same_Some, none-some}
-use Rattle.std.specs.Prelude.{if◌then◌else◌, nat_lt, nat_le, Result, Ok, Err}
+use Rattle.std.specs.Prelude.{if◌then◌else◌, nat_le, Result, Ok, Err}
 use Rattle.ssa_model.specs.definitions.Limits.{most_bench_bytes}
 use Rattle.ssa_model.specs.definitions.Json.{Text, Json}
-use Rattle.ssa_model.specs.definitions.Lines.{ended, line_feed, whole_lines, unfinished_line}
+use Rattle.ssa_model.specs.definitions.Lines.{whole_lines, unfinished_line}
 use Rattle.ssa_model.specs.definitions.Objects.{Identity}
 use Rattle.ssa_model.specs.definitions.Operations.{State}
 use Rattle.ssa_model.specs.definitions.Readings.{Readings}
@@ -21,6 +21,7 @@ use Rattle.ssa_model.specs.definitions.RecordReading.{is_record_shape}
 use Rattle.ssa_model.specs.laws.BenchFiles.{ended_lines, text_lines, spelled_value, spelled_values, values_of, is_written_as, schema_in, is_label}
 use Rattle.ssa_model.specs.laws.RecordedBenches.{Counts, counts_in, present_in, move_in, past_in, future_in, with_moves, lines_bench, recorded_bench, recorded_bench_in, MoveFault, no_move_text, record_does_not_fit, is_label_shape, refused_fault, value_move, line_move, lines_fault, lines_within, moves_fault, opening_in, texts_fault, recorded_fault, MisfitIsRefused, MovesHaveShape}
 use Rattle.ssa_model.proofs.Given.{and_then-back, map-back}
+use Rattle.ssa_model.proofs.LinesRead.{lines_within-all}
 use Rattle.ssa_model.proofs.RecordsBack.{record_texts_have_shape}
 use Rattle.ssa_model.proofs.ShownObjects.{identity-parts}
 use Rattle.ssa_model.proofs.SpelledValues.{text-of-lines}
@@ -172,18 +173,7 @@ module _ (readings : Readings) (bench : Bench) where
       opened-faultless a b c ts first.value second.value third.value third.rest first.read second.read third.read third.later
       (ap (recorded_bench readings) (sym same) ∙ is)
 
--- ---- lines within the limit
-
-within : (a b : ℕ) → suc a ≤ b → nat_lt a b ≡ true
-within a b h = grind (arith, nat_tests)
-
-within-all : (room : ℕ) (ls : List Text) → length (ended ls) ≤ room → lines_within room ls ≡ ls
-within-all room [] h = refl
-within-all room (l ∷ ls) h =
-    let both = length-append (l ++ line_feed ∷ []) (ended ls) in
-    let own = length-append l (line_feed ∷ []) in
-    ap (λ b. if b then l ∷ lines_within (room - (length l + 1)) ls else []) (within (length l) room (omega (arith, both, own, h)))
-    ∙ ap (λ xs. l ∷ xs) (within-all (room - (length l + 1)) ls (omega (arith, both, own, h)))
+-- ---- the text
 
 whole-is : (ls : List Text) (rest : Text) (texts : List Text) → ended_lines (ls, rest) ≡ Some texts → ls ≡ texts
 whole-is ls [] texts h = same_Some ls texts h
@@ -199,7 +189,7 @@ taken-faultless readings t bench is =
     let ls = and_then-back (spelled_values readings) (text_lines t) values.0 values.1 in
     let few = subst (λ x. length x ≤ most_bench_bytes) (text-of-lines t ls.0 ls.1) (few-bytes (length t) most_bench_bytes small.0) in
     ap (λ x. texts_fault readings (lines_within most_bench_bytes x)) (whole-is (whole_lines t) (unfinished_line t) ls.0 ls.1)
-    ∙ ap (texts_fault readings) (within-all most_bench_bytes ls.0 few)
+    ∙ ap (texts_fault readings) (lines_within-all most_bench_bytes ls.0 few)
     ∙ texts-faultless readings bench ls.0 values.0 ls.2 values.2
   where
     within-limit : (b : Bool) → (if b then option_and_then (recorded_bench readings) (values_of readings t) else None) ≡ Some bench
