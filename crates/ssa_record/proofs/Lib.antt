@@ -17,7 +17,6 @@ mod LedUntouched
 pub mod MemberShapes
 pub mod Objects
 pub mod OwnablePaths
-mod OwnPaths
 mod PathSearch
 pub mod PathTexts
 pub mod RecordTextsSay

@@ -11,7 +11,6 @@ mod key_reading;
 pub mod led_value;
 mod member_names;
 pub mod order_after;
-pub mod own_paths;
 pub mod path_texts;
 pub mod places;
 pub mod read_record;

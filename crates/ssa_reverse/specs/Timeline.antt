@@ -21,6 +21,10 @@ AllFit fits leads (r ∷ rs) v = fits r.0 v × AllFit fits leads rs (leads r.0 v
 abbrev pub recorded : {V L : Type 0} → Timeline V L → V → L → Timeline V L
 recorded t w l = record { past = (t.present, l) ∷ t.past; present = w; future = [] }
 
+-- the place goes to a new value, from which nothing leads back; the value that stood there is the next step forward, under a label
+abbrev pub preceded : {V L : Type 0} → Timeline V L → V → L → Timeline V L
+preceded t w l = record { past = []; present = w; future = (t.present, l) ∷ t.future }
+
 -- the place moves back by one, where there is a past
 abbrev pub undone_from : {V L : Type 0} → List (V × L) → V → List (V × L) → Timeline V L
 undone_from [] v future = record { past = []; present = v; future = future }

@@ -19,7 +19,7 @@ pub struct Journal<T: Reversible, L: Drop> {
 }
 
 impl<T: Reversible, L: Drop> Journal<T, L> {
-    ghost use Rattle.ssa_reverse.specs.Timeline.{recorded, undone, redone};
+    ghost use Rattle.ssa_reverse.specs.Timeline.{preceded, recorded, undone, redone};
     ghost use Rattle.ssa_reverse.specs.Journals.{future_of, past_of, timeline_of, GoesWith, HoldsSame};
 
     /// The journal with no record, which goes with any value. Takes no memory.
@@ -85,6 +85,31 @@ impl<T: Reversible, L: Drop> Journal<T, L> {
         value.turn(&mut delta)?;
         self.future.clear();
         push_within(&mut self.past, (delta, label));
+        Ok(())
+    }
+
+    /// Takes the value, from which no record leads back, to where the record leads, and keeps the record
+    /// that leads forward again under the label, as the next to be redone.
+    ///
+    /// All memory that a later undo or redo wants for the journal itself is taken here. Where it
+    /// is refused, or the turn is, the record is dropped and all else is as it was.
+    pub fn precede(&mut self, value: &mut T, delta: T::Delta, label: L) -> Result<(), AllocError>
+        requires whole { GoesWith self.old (T.meaning value.old) }
+        requires first { past_of self.old ≡ [] }
+        requires fits { T.takes (T.steps delta) (T.meaning value.old) (T.target (T.steps delta) (T.meaning value.old)) }
+        requires room { T.has_room delta (T.meaning value.old) }
+        ensures whole { GoesWith self.new (T.meaning value.new) }
+        ensures ok { OnOk result (timeline_of self.new (T.meaning value.new)
+            ≡ preceded (timeline_of self.old (T.meaning value.old)) (T.target (T.steps delta) (T.meaning value.old)) label) }
+        ensures first { OnOk result (past_of self.new ≡ []) }
+        ensures err { OnErr result ((value.new ≡ value.old) × HoldsSame self.new self.old) }
+    {
+        let places = self.future.len() + 1;
+        self.future.reserve(1)?;
+        self.past.reserve(places)?;
+        let mut entry = (delta, label);
+        value.turn(&mut entry.0)?;
+        push_within(&mut self.future, entry);
         Ok(())
     }
 

@@ -171,6 +171,32 @@ fn a_record_drops_the_future(rt: HostRuntime) -> Result<(), Fail> {
 }
 
 #[test]
+fn a_dial_is_preceded_by_its_past(rt: HostRuntime) -> Result<(), Fail> {
+    let mut journal = Journal::<Dial, u8>::new(rt.alloc());
+    let mut dial = Dial {
+        number: 3,
+        is_locked: false,
+    };
+    journal.precede(&mut dial, 2, 13)?;
+    journal.precede(&mut dial, 1, 12)?;
+    assert_eq!(rt; dial.number, 1);
+    assert_eq!(rt; (journal.past_len(), journal.future_len()), (0, 2));
+    let ahead = [Some((2, 12)), Some((3, 13)), None, None, None];
+    assert_eq!(rt; entries(&journal), ahead);
+    dial.is_locked = true;
+    assert!(rt; journal.precede(&mut dial, 7, 17).is_err());
+    assert_eq!(rt; dial.number, 1);
+    assert_eq!(rt; entries(&journal), ahead);
+    dial.is_locked = false;
+    assert!(rt; journal.redo(&mut dial)?);
+    assert!(rt; journal.redo(&mut dial)?);
+    assert_eq!(rt; dial.number, 3);
+    let behind = [Some((1, 12)), Some((2, 13)), None, None, None];
+    assert_eq!(rt; entries(&journal), behind);
+    Ok(())
+}
+
+#[test]
 fn a_locked_dial_and_its_journal_stay(rt: HostRuntime) -> Result<(), Fail> {
     let mut journal = Journal::<Dial, u8>::new(rt.alloc());
     let mut dial = Dial {

@@ -5,18 +5,23 @@ use Rattle.std.proofs.Math.Seq.{take-append_seam, drop-append_seam}
 use Rattle.std.proofs.lemmas.List.{append-nil, length-append, map-append, length-map, length-drop, take_more, get_or-drop, reverse-reverse}
 use Rattle.std.proofs.lemmas.Option.{get_or_from_slice_get, slice_get_within}
 use Rattle.std.specs.List.{All}
-use Rattle.std.proofs.lemmas.List.Elements.{All-push, All-take}
+use Rattle.std.proofs.lemmas.List.Elements.{All-cons, All-push, All-take}
 use Rattle.ssa_model.specs.definitions.History as model
 use Rattle.ssa_model.specs.definitions.History.{last_state, present, past_len, future_len, appended, moved_to}
 use Rattle.ssa_model.specs.definitions.Operations.{State}
+use Rattle.ssa_model.specs.definitions.RecordReading.{HasReadPaths}
+use Rattle.ssa_model.specs.definitions.RecordedBench.{HasReadHistory, HasReadStep}
+use Rattle.ssa_json.specs.Readings.{readings}
 use Rattle.ssa_reverse.specs.Journals.{HoldsSame, leads, timeline_of}
 use Rattle.ssa_reverse.specs.declared.journal.Journal.{Journal}
 use Rattle.ssa_reverse.specs.declared.reversible.Reversible.{Ghosts}
+use Rattle.ssa_reverse.specs.Timeline as moves
 use Rattle.ssa_reverse.specs.Timeline.{Timeline, steps_along, recorded, undone, undone_from, redone, redone_from}
 use Rattle.ssa_turn.specs.Dated.{is_dated, MakesDated}
-use Rattle.ssa_turn.specs.Histories.{first_of, in_a_row, label_view, step_of, steps_to}
+use Rattle.ssa_turn.specs.Histories.{IsWhole, first_of, in_a_row, label_view, preceded, step_of, steps_to, timeline_view}
 use Rattle.ssa_turn.specs.TablesBack.{AllTablesBack, HasTableBack, MakesTableBack}
 use Rattle.ssa_turn.specs.declared.label.Label.{Label}
+use Rattle.ssa_turn.specs.declared.timeline.Timeline.TheInside.{Inside}
 
 abbrev Past : Type 0
 Past = List (State × Label)
@@ -71,6 +76,16 @@ recorded-is t w l =
     let place : length ((t.present, l) ∷ t.past) ≡ length t.past + 1 = omega arith in
     λ i. record { first = first_of t.past t.present; later = later i; place = place i }
 
+preceded-from : (past : Past) (v : State) (future : Past) (w : State) (l : Label) → length past ≡ 0
+    → in_a_row (record { past = []; present = w; future = (v, l) ∷ future })
+    ≡ preceded (in_a_row (record { past = past; present = v; future = future })) (label_view l) w
+preceded-from [] v future w l none = refl
+preceded-from (s ∷ past) v future w l none = absurd (omega (arith, none))
+
+pub preceded-is : (t : Timeline State Label) (w : State) (l : Label) → length t.past ≡ 0
+    → in_a_row (moves.preceded t w l) ≡ preceded (in_a_row t) (label_view l) w
+preceded-is t w l none = preceded-from t.past t.present t.future w l none
+
 pub undone-is : (past : Past) (v : State) (future : Past) → 0 < length past
     → in_a_row (undone_from past v future) ≡ moved_to (in_a_row (record { past = past; present = v; future = future })) (length past - 1)
 undone-is [] v future some = absurd (omega (arith, some))
@@ -116,20 +131,42 @@ module _ {D : Type 0} (leads : D → State → State) where
 
 -- ---- what holds of each state and of each step
 
--- the histories whose tables and labels are read back
+-- the histories whose tables, labels and paths are read back
 pub record IsReadBack (t : model.Timeline) : Type 0 where
   pub back : AllTablesBack t
   pub dated : All MakesDated t.later
+  pub read : HasReadHistory readings t
+
+pub whole-back : (t : Inside) → IsWhole t → IsReadBack (timeline_view t)
+whole-back t whole = record { back = whole.back; dated = whole.dated; read = whole.read }
 
 pub moved-back : (t : model.Timeline) (n : ℕ) → IsReadBack t → IsReadBack (moved_to t n)
-moved-back t n h = record { back = record { first = h.back.first; later = h.back.later }; dated = h.dated }
+moved-back t n h =
+    record { back = record { first = h.back.first; later = h.back.later }; dated = h.dated; read = record { first = h.read.first; later = h.read.later } }
 
-pub appended-back : (t : model.Timeline) (l : model.Label) (w : State) → IsReadBack t → HasTableBack w → is_dated l ≡ true → IsReadBack (appended t l w)
-appended-back t l w h table dated =
+-- the state and its label are read back
+pub record IsReadStep (l : model.Label) (w : State) : Type 0 where
+  pub table : HasTableBack w
+  pub dated : is_dated l ≡ true
+  pub paths : HasReadPaths readings w.body
+
+pub appended-back : (t : model.Timeline) (l : model.Label) (w : State) → IsReadBack t → IsReadStep l w → IsReadBack (appended t l w)
+appended-back t l w h new =
+    let past = take t.place t.later in
     let s : model.Step = record { label = l; state = w } in
     record {
-      back = record { first = h.back.first; later = All-push MakesTableBack (take t.place t.later) s (All-take MakesTableBack t.place t.later h.back.later) table };
-      dated = All-push MakesDated (take t.place t.later) s (All-take MakesDated t.place t.later h.dated) dated;
+      back = record { first = h.back.first; later = All-push MakesTableBack past s (All-take MakesTableBack t.place t.later h.back.later) new.table };
+      dated = All-push MakesDated past s (All-take MakesDated t.place t.later h.dated) new.dated;
+      read = record { first = h.read.first; later = All-push (HasReadStep readings) past s (All-take (HasReadStep readings) t.place t.later h.read.later) new.paths };
+    }
+
+pub preceded-back : (t : model.Timeline) (l : model.Label) (w : State) → IsReadBack t → IsReadStep l w → IsReadBack (preceded t l w)
+preceded-back t l w h new =
+    let s : model.Step = record { label = l; state = t.first } in
+    record {
+      back = record { first = new.table; later = All-cons MakesTableBack s t.later h.back.first h.back.later };
+      dated = All-cons MakesDated s t.later new.dated h.dated;
+      read = record { first = new.paths; later = All-cons (HasReadStep readings) s t.later h.read.first h.read.later };
     }
 
 -- ---- moves
@@ -140,11 +177,24 @@ same-row {g = g} j k v w same is =
     λ i. record { past = steps_along (leads g) (reverse (same.0 i)) (g.meaning (is i)); present = g.meaning (is i); future = steps_along (leads g) (same.1 i) (g.meaning (is i)) }
 
 -- what was recorded, or what stays where memory was refused
-pub after-record : {A E : Type 0} (r : Result A E) (before after : Timeline State Label) (w : State) (l : Label) → OnOk r (after ≡ recorded before w l) → OnErr r (after ≡ before)
-    → IsReadBack (in_a_row before) → HasTableBack w → is_dated (label_view l) ≡ true → IsReadBack (in_a_row after)
-after-record (Ok a) before after w l ok err h table dated =
-    subst IsReadBack (sym (ap in_a_row ok ∙ recorded-is before w l)) (appended-back (in_a_row before) (label_view l) w h table dated)
-after-record (Err e) before after w l ok err h table dated = subst IsReadBack (sym (ap in_a_row err)) h
+pub after-record : {A E : Type 0} (r : Result A E) (before after : Timeline State Label) (w : State) (l : Label)
+    → OnOk r (after ≡ recorded before w l) → OnErr r (after ≡ before)
+    → IsReadBack (in_a_row before) → HasTableBack w → is_dated (label_view l) ≡ true → HasReadPaths readings after.present.body → IsReadBack (in_a_row after)
+after-record (Ok a) before after w l ok err h table dated paths =
+    let read = subst (λ (t : Timeline State Label). HasReadPaths readings t.present.body) ok paths in
+    subst IsReadBack (sym (ap in_a_row ok ∙ recorded-is before w l))
+    (appended-back (in_a_row before) (label_view l) w h (record { table = table; dated = dated; paths = read }))
+after-record (Err e) before after w l ok err h table dated paths = subst IsReadBack (sym (ap in_a_row err)) h
+
+-- what was put before all others, or what stays
+pub after-precede : {A E : Type 0} (r : Result A E) (before after : Timeline State Label) (w : State) (l : Label) → length before.past ≡ 0
+    → OnOk r (after ≡ moves.preceded before w l) → OnErr r (after ≡ before)
+    → IsReadBack (in_a_row before) → HasTableBack w → is_dated (label_view l) ≡ true → HasReadPaths readings after.present.body → IsReadBack (in_a_row after)
+after-precede (Ok a) before after w l none ok err h table dated paths =
+    let read = subst (λ (t : Timeline State Label). HasReadPaths readings t.present.body) ok paths in
+    subst IsReadBack (sym (ap in_a_row ok ∙ preceded-is before w l none))
+    (preceded-back (in_a_row before) (label_view l) w h (record { table = table; dated = dated; paths = read }))
+after-precede (Err e) before after w l none ok err h table dated paths = subst IsReadBack (sym (ap in_a_row err)) h
 
 pub on-ok : {A E : Type 0} (r : Result A E) {P Q : Type 0} → (P → Q) → OnOk r P → OnOk r Q
 on-ok (Ok a) f h = f h

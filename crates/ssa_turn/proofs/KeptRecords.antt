@@ -15,6 +15,7 @@ use Rattle.ssa_model.specs.definitions.Record.{record_of}
 use Rattle.ssa_merge.specs.States.{state_view}
 use Rattle.ssa_reverse.specs.Journals.{future_of, past_of}
 use Rattle.ssa_reverse.specs.Timeline.{AllFit, Timeline, steps_along}
+use Rattle.ssa_reverse.proofs.Along.{steps-length}
 use Rattle.ssa_turn.specs.Histories.{IsWhole, first_of, in_a_row, step_of, steps_to, timeline_view}
 use Rattle.ssa_turn.specs.declared.label.Label.{Label}
 use Rattle.ssa_turn.specs.declared.timeline.Timeline.TheInside.{Inside}
@@ -44,10 +45,6 @@ last_state-append : (s : State) (ts us : List model.Step) → last_state s (ts +
 last_state-append s [] us = refl
 last_state-append s (t ∷ ts) us = last_state-append t.state ts us
 
-steps-along-many : {D : Type 0} (leads : D → State → State) (rs : List (D × Label)) (v : State) → length (steps_along leads rs v) ≡ length rs
-steps-along-many leads [] v = refl
-steps-along-many leads (r ∷ rs) v = ap suc (steps-along-many leads rs (leads r.0 v))
-
 module _ {D : Type 0} (leads : D → State → State) (Fits : D → State → Type 0) where
   -- the record fits the first state and leads to the second
   pub record LeadsBetween (d : D) (v w : State) : Type 0 where
@@ -64,7 +61,7 @@ module _ {D : Type 0} (leads : D → State → State) (Fits : D → State → Ty
       let steps = steps_to past s in
       let first = first_of past s in
       let own = step_of (v, x.1) in
-      let many : length steps ≡ length rs = steps-many past s ∙ steps-along-many leads rs s in
+      let many : length steps ≡ length rs = steps-many past s ∙ steps-length leads rs s in
       elim (slice_get-both (reverse rs) (x ∷ []) n r (ap (λ xs. slice_get xs n) (sym (reverse-append (x ∷ []) rs)) ∙ at)) [
         | inl h ↦
             let back = back-at rs s fit.1 n r h.0 in
@@ -107,7 +104,7 @@ module _ {D : Type 0} (leads : D → State → State) (Fits : D → State → Ty
     steps = steps_to row.past v
 
     past-many : length row.past ≡ length past
-    past-many = steps-along-many leads (reverse past) v ∙ length-reverse past
+    past-many = steps-length leads (reverse past) v ∙ length-reverse past
 
     -- the state after so many commands of the past, and after more
     state-before : (n : ℕ) → n ≤ length past → state_at (in_a_row row) n ≡ last_state (first_of row.past v) (take n steps)
@@ -151,7 +148,7 @@ module _ {D : Type 0} (leads : D → State → State) (Fits : D → State → Ty
     pub later-many : length (in_a_row row).later ≡ length (past ++ future)
     later-many =
         let all = all-many row in
-        let ahead = steps-along-many leads future v in
+        let ahead = steps-length leads future v in
         let both = length-append past future in
         omega (arith, all, past-many, ahead, both)
 

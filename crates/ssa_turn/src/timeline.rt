@@ -5,17 +5,26 @@ ghost use Rattle.ssa_model.specs.definitions.Carry.{carry};
 ghost use Rattle.ssa_model.specs.definitions.History.{present, past_len, future_len, appended, moved_to};
 ghost use Rattle.ssa_model.specs.definitions.HistoryRecords.{kept_from, kept_size, kept_to};
 ghost use Rattle.ssa_model.specs.definitions.Record.{record_of};
+ghost use Rattle.ssa_model.specs.definitions.RecordedBench.{HasReadHistory};
+ghost use Rattle.ssa_model.specs.definitions.Valid.{IsValidState};
+ghost use Rattle.ssa_json.specs.Readings.{readings};
+ghost use Rattle.ssa_json.specs.View.{view};
 ghost use Rattle.ssa_merge.specs.States.{state_view};
+ghost use Rattle.ssa_record.specs.RecordAnswers.{IsAnswer};
 ghost use Rattle.ssa_reverse.specs.Journals.{future_of, past_of, timeline_of};
 ghost use Rattle.ssa_turn.specs.Dated.{MakesDated};
-ghost use Rattle.ssa_turn.specs.Histories.{in_a_row, label_view, lent_labels};
+ghost use Rattle.ssa_turn.specs.Histories.{in_a_row, label_view, lent_labels, preceded};
 ghost use Rattle.ssa_turn.specs.TablesBack.{AllTablesBack, HasTableBack};
 ghost use Rattle.ssa_turn_state.specs.States.{HasStateRoom, IsTaken, state_steps};
 
 use crate::label::Label;
+use ssa_json::value::Json;
 use ssa_merge::state::State;
+use ssa_record::read_record::{RecordAnswer, read_record};
 use ssa_reverse::journal::Journal;
+use ssa_schema::schema::Schema;
 use ssa_turn_state::live_state::{LiveState, StateDelta};
+use ssa_turn_state::own_paths::own_paths_are_read;
 use std::alloc::{AllocError, Global};
 use std::marker::Model;
 
@@ -84,6 +93,7 @@ impl Timeline {
         ensures { result ≡ record { first = state_view first; later = []; place = 0 } }
     {
         first.managers.own_entries_are_read();
+        own_paths_are_read(&first.body);
         Timeline {
             live: LiveState { state: first },
             journal: Journal::new(alloc),
@@ -117,6 +127,13 @@ impl Timeline {
     /// The moments of the commands that made the states are moments. Takes no memory.
     pub fn own_moments_are_read(&self)
         ensures { All MakesDated self.now.later }
+    {
+        let _ = &self.live;
+    }
+
+    /// The paths of each state are read from their elements' texts. Takes no memory.
+    pub fn own_paths_are_read(&self)
+        ensures { HasReadHistory readings self.now }
     {
         let _ = &self.live;
     }
@@ -205,7 +222,45 @@ impl Timeline {
     {
         let Step { label, delta } = step;
         label.own_moment_is_read();
-        self.journal.record(&mut self.live, delta, label)
+        let moved = self.journal.record(&mut self.live, delta, label);
+        own_paths_are_read(&self.live.state.body);
+        moved
+    }
+
+    /// Puts a state before all others, at the place of which the timeline stands, and goes there: the
+    /// command led from it to the state that was first, and the record leads to it.
+    ///
+    /// All memory that later moves want is taken here: where it is refused, nothing has moved.
+    pub fn precede(&mut self, label: Label, delta: StateDelta) -> Result<(), AllocError>
+        requires first { past_len self.old ≡ 0 }
+        requires fits { IsTaken (state_steps delta) (present self.old) (carry (state_steps delta) (present self.old)) }
+        requires room { HasStateRoom delta (present self.old) }
+        requires back { HasTableBack (carry (state_steps delta) (present self.old)) }
+        ensures ok { OnOk result (self.new ≡ preceded self.old (label_view label) (carry (state_steps delta) (present self.old))) }
+        ensures err { OnErr result (self.new ≡ self.old) }
+    {
+        label.own_moment_is_read();
+        let moved = self.journal.precede(&mut self.live, delta, label);
+        own_paths_are_read(&self.live.state.body);
+        moved
+    }
+
+    /// What a value is in the present state, where the state's record is wanted
+    /// (`ssa_record::read_record`).
+    ///
+    /// The history is as before: the live state goes to where the record leads, and back.
+    pub fn read_record(
+        &mut self,
+        alloc: Global,
+        schema: &Schema,
+        version: &str,
+        value: &Json,
+    ) -> Result<RecordAnswer, AllocError>
+        requires { IsValidState schema.now.kind (present self.old) }
+        ensures same { self.new ≡ self.old }
+        ensures answer { IfOk result (λ r. IsAnswer schema.now.kind version.now (present self.old) (view value.now) r) }
+    {
+        read_record(alloc, schema, version, &mut self.live.state, value)
     }
 
     /// Goes one state back. Takes no memory.

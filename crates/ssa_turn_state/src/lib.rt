@@ -5,5 +5,6 @@
 pub mod copying;
 pub mod live_state;
 pub mod making;
+pub mod own_paths;
 pub mod size;
 pub mod to_json;

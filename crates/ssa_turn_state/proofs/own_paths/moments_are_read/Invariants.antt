@@ -1,6 +1,6 @@
 use Rattle.std.proofs.Common.{take}
-use Rattle.ssa_record.proofs.OwnPaths.{AreDated}
-use Rattle.ssa_record.proofs.own_paths.moments_are_read.Given as goal
+use Rattle.ssa_turn_state.proofs.OwnPaths.{AreDated}
+use Rattle.ssa_turn_state.proofs.own_paths.moments_are_read.Given as goal
 
 -- the first entries have moments
 abbrev pub invariant-loop-entry : goal.invariant-loop-entry

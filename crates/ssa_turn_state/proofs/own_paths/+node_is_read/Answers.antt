@@ -1,6 +1,6 @@
 use Rattle.std.proofs.Common.{arith, subst, take_all}
-use Rattle.ssa_record.proofs.OwnPaths.{AreReadChildren, children-more, tree-read}
-use Rattle.ssa_record.proofs.own_paths.+node_is_read.Goals as goal
+use Rattle.ssa_turn_state.proofs.OwnPaths.{AreReadChildren, children-more, tree-read}
+use Rattle.ssa_turn_state.proofs.own_paths.+node_is_read.Goals as goal
 
 pub loop-child-preserved : goal.loop-child-preserved
 loop-child-preserved t c =

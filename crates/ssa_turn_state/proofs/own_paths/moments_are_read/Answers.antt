@@ -1,6 +1,6 @@
 use Rattle.std.proofs.Common.{arith, subst, take_all}
-use Rattle.ssa_record.proofs.OwnPaths.{AreDated, dated-more}
-use Rattle.ssa_record.proofs.own_paths.moments_are_read.Goals as goal
+use Rattle.ssa_turn_state.proofs.OwnPaths.{AreDated, dated-more}
+use Rattle.ssa_turn_state.proofs.own_paths.moments_are_read.Goals as goal
 
 pub loop-entry-preserved : goal.loop-entry-preserved
 loop-entry-preserved c =
