@@ -36,7 +36,7 @@ kept-goes front back c any = filter-append has_any front (c ∷ back) ∙ ap (λ
 
 -- ---- one among others
 
-at-middle : {A : Type 0} (front back : List A) (c d : A) → d ≡ get_or (front ++ d ∷ back) (length front) c
+pub at-middle : {A : Type 0} (front back : List A) (c d : A) → d ≡ get_or (front ++ d ∷ back) (length front) c
 at-middle [] back c d = refl
 at-middle (x ∷ front) back c d = at-middle front back c d
 

@@ -5,7 +5,7 @@ use Rattle.std.proofs.lemmas.List.Folds.{list_any-append}
 use Rattle.ssa_model.specs.definitions.Path.{Element, Path, same_element, same_path}
 use Rattle.ssa_path.specs.declared.element.Elem.{Elem}
 use Rattle.ssa_path.specs.declared.trie.Trie.{Trie}
-use Rattle.ssa_path.specs.Children.{child_at, elements, is_below, rises, IsChildAt}
+use Rattle.ssa_path.specs.Children.{child_at, elements, rises, IsChildAt}
 use Rattle.ssa_path.specs.View.{element_view}
 use Rattle.ssa_path.specs.Trie.{is_one_of, paths_after, paths_below, paths, is_trie, is_filled, are_filled_tries}
 use Rattle.ssa_path.proofs.FieldsMembers.{child-filled}
@@ -20,7 +20,7 @@ use Rattle.ssa_turn_set.specs.Siblings.{kept}
 use Rattle.ssa_turn_set.proofs.Keeping.{IsLessened, has-any-is, kept-all, kept-goes, kept-stays, less-goes, less-stays}
 use Rattle.ssa_turn_set.proofs.Losing.{IsLosing, losing-more, losing-none}
 use Rattle.ssa_turn_set.proofs.Places.{a_path, left-set}
-use Rattle.ssa_turn_set.proofs.Reaching.{is_below-before, rises-near}
+use Rattle.ssa_turn_set.proofs.Reaching.{rises-joined, rises-near}
 use Rattle.ssa_turn_set.proofs.Taking.{found-one, set-tries}
 
 -- Those of `done` are taken out of the children cs, which have become `now`: those before `start` have been passed, and those from there on are as
@@ -62,16 +62,6 @@ left-more d left p k =
     or_true : (b : Bool) → (b || true) ≡ true
     or_true true = refl
     or_true false = refl
-
--- what is behind the last of some is behind all of them
-below-joined : (x : Element) (es : List Element) (e : Element) (fs : List Element) → is_below x (es ++ e ∷ []) ≡ true → is_below e fs ≡ true
-    → is_below x ((es ++ e ∷ []) ++ fs) ≡ true
-below-joined x [] e fs h k = both _ _ (both_first _ _ h) (is_below-before x e fs (both_first _ _ h) k)
-below-joined x (y ∷ es) e fs h k = both _ _ (both_first _ _ h) (below-joined x es e fs (both_second _ _ h) k)
-
-rises-joined : (es : List Element) (e : Element) (fs : List Element) → rises (es ++ e ∷ []) ≡ true → rises (e ∷ fs) ≡ true → rises ((es ++ e ∷ []) ++ fs) ≡ true
-rises-joined [] e fs h k = k
-rises-joined (x ∷ es) e fs h k = both _ _ (below-joined x es e fs (both_first _ _ h) (both_first _ _ k)) (rises-joined es e fs (both_second _ _ h) k)
 
 neither : (a b : Bool) → (a || b) ≡ false → (a ≡ false) × (b ≡ false)
 neither true b h = absurd (true≢false h)

@@ -18,6 +18,17 @@ is_below-before e f [] lt h = refl
 is_below-before e f (g ∷ es) lt h =
     both _ _ (ap is_lt (element_cmp_total.trans e f g (lower _ lt) (lower _ (both_first _ _ h)))) (is_below-before e f es lt (both_second _ _ h))
 
+-- what is behind the last of some is behind all of them
+below-joined : (x : Element) (es : List Element) (e : Element) (fs : List Element) → is_below x (es ++ e ∷ []) ≡ true → is_below e fs ≡ true
+    → is_below x ((es ++ e ∷ []) ++ fs) ≡ true
+below-joined x [] e fs h k = both _ _ (both_first _ _ h) (is_below-before x e fs (both_first _ _ h) k)
+below-joined x (y ∷ es) e fs h k = both _ _ (both_first _ _ h) (below-joined x es e fs (both_second _ _ h) k)
+
+pub rises-joined : (es : List Element) (e : Element) (fs : List Element) → rises (es ++ e ∷ []) ≡ true → rises (e ∷ fs) ≡ true
+    → rises ((es ++ e ∷ []) ++ fs) ≡ true
+rises-joined [] e fs h k = k
+rises-joined (x ∷ es) e fs h k = both _ _ (below-joined x es e fs (both_first _ _ h) (both_first _ _ k)) (rises-joined es e fs (both_second _ _ h) k)
+
 pub not_before : (o : Ordering) → (ordering_index o == 0) ≡ false → is_lt o ≡ false
 not_before Less h = absurd (true≢false h)
 not_before Equal h = refl

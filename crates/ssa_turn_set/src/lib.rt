@@ -11,3 +11,4 @@ pub mod room;
 pub(crate) mod siblings;
 pub mod spare;
 pub mod turn;
+pub(crate) mod weaving;
