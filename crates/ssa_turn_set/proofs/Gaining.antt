@@ -13,7 +13,7 @@ use Rattle.ssa_path.specs.declared.trie.Trie.TheOpen.{Trie-F}
 use Rattle.ssa_path.specs.Trie.{is_one_of, paths_after, paths_below, paths, is_trie, is_filled, are_filled_tries, IsGathered}
 use Rattle.ssa_path.proofs.Orders.{both_first, both_second, same_either_way, not_tied, same_element-true}
 use Rattle.ssa_path.proofs.Inserting.{spread}
-use Rattle.ssa_path.proofs.Lists.{taken-at, paths_below-append, left-at, elements-append, one-between, filled-between, filled-without}
+use Rattle.ssa_path.proofs.Lists.{taken-at, paths_below-append, left-at, elements-append, one-between, filled-between}
 use Rattle.ssa_path.proofs.Levels.{same_path-reading, any-after, any-level, any-made, one-after-root, one-level-root, one-made-root, one-below-root}
 use Rattle.std.proofs.lemmas.List.{take_all, take_more_set}
 use Rattle.ssa_turn_set.specs.declared.room.Room.{Room}
@@ -57,9 +57,9 @@ one-more done d p =
 
 pub gaining-more : (cs done left : List (Elem × Trie)) (filled rooms : List (Spare × Room)) (now new : List (Elem × Trie)) (capacity longer : ℕ) (d : Elem × Trie) (r s : Spare × Room) → IsGaining cs done (d ∷ left) filled (r ∷ rooms) now capacity
     → IsGathered now (element_view d.0) d.1 new → ((e : Element) → same_element e (element_view d.0) ≡ false → tails e (paths_below new) ≡ tails e (paths_below now))
-    → length new ≡ length now + fresh (tails (element_view d.0) (paths_below now)) → longer ≡ capacity → lose_one d (tails (element_view d.0) (paths_below now)) s ≡ true
+    → length new ≡ length now + fresh (tails (element_view d.0) (paths_below now)) → capacity ≤ longer → lose_one d (tails (element_view d.0) (paths_below now)) s ≡ true
     → IsGaining cs (done ++ d ∷ []) left (filled ++ s ∷ []) rooms new longer
-gaining-more cs done left filled rooms now new capacity longer d r s h g apart len same room = record {
+gaining-more cs done left filled rooms now new capacity longer d r s h g apart len wider room = record {
   paths_are = λ p. g.paths_are p ∙ ap (λ b. is_one_of (paths_after (element_view d.0) (paths d.1)) p || b) (h.paths_are p) ∙ reorder (is_one_of (paths_after (element_view d.0) (paths d.1)) p) (is_one_of (paths_below done) p) (is_one_of (paths_below cs) p) ∙ ap (λ b. b || is_one_of (paths_below cs) p) (sym (one-more done d p));
   risen = g.risen;
   tries = g.tries;
@@ -123,15 +123,15 @@ gained-place x g s here below (e ∷ p) =
 
 -- a child that took more paths, among the others
 pub gathered-child : (cs ds front left : List (Elem × Trie)) (f : Element) (t : Trie) (d : Elem) (c m : Trie) → cs ≡ front ++ (d, c) ∷ left → ds ≡ front ++ (d, m) ∷ left → same_element f (element_view d) ≡ true
-    → ((p : Path) → is_one_of (paths m) p ≡ (is_one_of (paths t) p || is_one_of (paths c) p)) → is_trie m ≡ true → is_filled m ≡ true → rises (elements cs) ≡ true → are_filled_tries cs ≡ true → IsGathered cs f t ds
-gathered-child cs ds front left f t d c m old new tie made trie filled risen tries =
+    → ((p : Path) → is_one_of (paths m) p ≡ (is_one_of (paths t) p || is_one_of (paths c) p)) → is_trie m ≡ true → is_filled m ≡ true → rises (elements cs) ≡ true → are_filled_tries (front ++ left) ≡ true → IsGathered cs f t ds
+gathered-child cs ds front left f t d c m old new tie made trie filled risen others =
     let R = same_path-reading in
     let same : f ≡ element_view d = same_element-true f (element_view d) tie in
     let named : elements (front ++ (d, m) ∷ left) ≡ elements (front ++ (d, c) ∷ left) = elements-append front ((d, m) ∷ left) ∙ sym (elements-append front ((d, c) ∷ left)) in
     record {
       paths_are = held;
       risen = ap (λ l. rises (elements l)) new ∙ ap rises named ∙ ap (λ l. rises (elements l)) (sym old) ∙ risen;
-      tries = ap are_filled_tries new ∙ filled-between front left (d, m) trie filled (filled-without front left (d, c) (ap are_filled_tries (sym old) ∙ tries));
+      tries = ap are_filled_tries new ∙ filled-between front left (d, m) trie filled others;
     }
   where
     held : (p : Path) → is_one_of (paths_below ds) p ≡ (is_one_of (paths_after f (paths t)) p || is_one_of (paths_below cs) p)
@@ -143,18 +143,6 @@ gathered-child cs ds front left f t d c m old new tie made trie filled risen tri
         ∙ spread (same_element e (element_view d)) (is_one_of (paths t) p) (is_one_of (paths c) p) (is_one_of (paths_below (front ++ left)) (e ∷ p))
         ∙ (λ i. (same_element e (sym (same_element-true f (element_view d) tie) i) && is_one_of (paths t) p) || (sym (any-after same_path same_path-reading e (element_view d) (paths c) p) i || is_one_of (paths_below (front ++ left)) (e ∷ p)))
         ∙ (λ i. sym (any-after same_path same_path-reading e f (paths t) p) i || sym (ap (λ l. is_one_of (paths_below l) (e ∷ p)) old ∙ one-between front left (d, c) (e ∷ p)) i)
-
--- a child with the same paths does as well
-pub gathered-alike : (cs ds : List (Elem × Trie)) (f : Element) (t m : Trie) → ((p : Path) → is_one_of (paths m) p ≡ is_one_of (paths t) p) → IsGathered cs f m ds → IsGathered cs f t ds
-gathered-alike cs ds f t m made h = record {
-  paths_are = λ p. h.paths_are p ∙ ap (λ b. b || is_one_of (paths_below cs) p) (after p);
-  risen = h.risen;
-  tries = h.tries;
-}
-  where
-    after : (p : Path) → is_one_of (paths_after f (paths m)) p ≡ is_one_of (paths_after f (paths t)) p
-    after [] = one-after-root f (paths m) ∙ sym (one-after-root f (paths t))
-    after (e ∷ p) = any-after same_path same_path-reading e f (paths m) p ∙ ap (λ b. same_element e f && b) (made p) ∙ sym (any-after same_path same_path-reading e f (paths t) p)
 
 pub gaining-fits : (cs done left : List (Elem × Trie)) (filled rooms : List (Spare × Room)) (now : List (Elem × Trie)) (capacity : ℕ) (d : Elem × Trie) (r : Spare × Room) → IsGaining cs done (d ∷ left) filled (r ∷ rooms) now capacity
     → (length now + fresh (tails (element_view d.0) (paths_below now)) ≤ capacity) × (gain_one d (tails (element_view d.0) (paths_below now)) r ≡ true)

@@ -1,8 +1,7 @@
 -- A set taken out of another, child by child.
-use Rattle.std.proofs.Common.{◌≡◌, ℕ, zero, suc, ◌+◌, ◌<◌, ◌≤◌, List, [], ◌∷◌, ◌++◌, length, get_or, set, drop, take, Bool, true, false, not, ◌&&◌, ◌||◌, refl, sym, ap, ◌∙◌, arith, subst, length-drop, true≢false}
+use Rattle.std.proofs.Common.{◌≡◌, ℕ, zero, suc, ◌+◌, ◌<◌, ◌≤◌, List, [], ◌∷◌, ◌++◌, length, get_or, drop, take, Bool, true, false, not, ◌&&◌, ◌||◌, refl, sym, ap, ◌∙◌, arith, subst, length-drop, true≢false}
 use Rattle.std.proofs.Math.Bool.{and-true}
-use Rattle.std.proofs.lemmas.List.{take_all, take_more_set}
-use Rattle.std.proofs.lemmas.List.Folds.{list_any-append}
+use Rattle.std.proofs.lemmas.List.{take_all}
 use Rattle.std.specs.Prelude.{vec_capacity}
 use Rattle.ssa_model.specs.definitions.FieldsV1.{heads, tails}
 use Rattle.ssa_model.specs.definitions.Path.{Element, Path, same_element, same_path}
@@ -13,10 +12,10 @@ use Rattle.ssa_path.specs.declared.trie.Trie.TheOpen.{Trie-F}
 use Rattle.ssa_path.specs.Children.{elements, is_below, rises}
 use Rattle.ssa_path.specs.View.{element_view}
 use Rattle.ssa_path.specs.Trie.{is_one_of, paths_after, paths_below, paths, is_trie, are_filled_tries}
-use Rattle.ssa_path.proofs.Orders.{both, both_first, both_second, not_tied, same_element-itself}
-use Rattle.ssa_path.proofs.Searching.{absent-below, below-middle}
-use Rattle.ssa_path.proofs.Lists.{taken-at, left-at, rises-drop, elements-append}
-use Rattle.ssa_path.proofs.Levels.{same_path-reading, any-after, any-below, any-level, any-made, found, one-after-root, one-level-root, one-made-root, one-below-root}
+use Rattle.ssa_path.proofs.Orders.{both, both_first, both_second, not_tied}
+use Rattle.ssa_path.proofs.Searching.{below-middle}
+use Rattle.ssa_path.proofs.Lists.{elements-append}
+use Rattle.ssa_path.proofs.Levels.{same_path-reading, any-level, any-made, one-level-root, one-made-root, one-below-root}
 use Rattle.ssa_turn_set.specs.declared.room.Room.{Room}
 use Rattle.ssa_turn_set.specs.declared.room.Room.TheOpen.{Room-F}
 use Rattle.ssa_turn_set.specs.declared.room.Room.TheViews.{out-Room, roll-Room, out-roll-Room}
@@ -32,7 +31,6 @@ pub record IsLosing (cs done left : List (Elem × Trie)) (old filled rooms : Lis
   pub risen : rises (elements now) ≡ true
   pub tries : are_filled_tries now ≡ true
   pub len : length now + freshes done (paths_below now) ≡ length cs
-  pub within : (p : Path) → is_one_of (paths_below left) p ≡ true → is_one_of (paths_below now) p ≡ true
   pub without : List Path
   pub form : loses left without rooms ≡ true
   pub back : loses done (paths_below now) old ≡ true → gains done (paths_below now) filled ≡ true
@@ -76,18 +74,6 @@ not_both true false true = refl
 not_both true false false = refl
 not_both false a d = refl
 
--- what is left is apart from d
-left-apart : (d : Elem × Trie) (left : List (Elem × Trie)) (p : Path) → is_below (element_view d.0) (elements left) ≡ true → rises (elements left) ≡ true → is_one_of (paths_below left) p ≡ true → is_one_of (paths_after (element_view d.0) (paths d.1)) p ≡ false
-left-apart d left [] h risen k = one-after-root (element_view d.0) (paths d.1)
-left-apart d left (e ∷ p) h risen k =
-    any-after same_path same_path-reading e (element_view d.0) (paths d.1) p ∙ ap (λ b. b && is_one_of (paths d.1) p) (told (same_element e (element_view d.0)) refl)
-  where
-    told : (b : Bool) → same_element e (element_view d.0) ≡ b → same_element e (element_view d.0) ≡ false
-    told false s = s
-    told true s =
-        let none = any-below same_path same_path-reading e left p risen ∙ ap (λ x. found same_path x p) (absent-below e (element_view d.0) left s h) in
-        absurd (true≢false (sym k ∙ none))
-
 pub losing-more : (cs done left : List (Elem × Trie)) (old filled rooms : List (Spare × Room)) (now new : List (Elem × Trie)) (d : Elem × Trie) (r s : Spare × Room) → IsLosing cs done (d ∷ left) old filled (r ∷ rooms) now
     → ((p : Path) → is_one_of (paths_below new) p ≡ (is_one_of (paths_below now) p && not (is_one_of (paths_after (element_view d.0) (paths d.1)) p)))
     → rises (elements new) ≡ true → are_filled_tries new ≡ true
@@ -97,7 +83,6 @@ pub losing-more : (cs done left : List (Elem × Trie)) (old filled rooms : List 
     → IsLosing cs (done ++ d ∷ []) left (old ++ r ∷ []) (filled ++ s ∷ []) rooms new
 losing-more cs done left old filled rooms now new d r s h paths_are risen tries apart len room =
     let all : rises (elements done ++ element_view d.0 ∷ elements left) ≡ true = ap rises (sym (elements-append done (d ∷ left))) ∙ h.all_rise in
-    let behind = rises-drop (elements done) (element_view d.0 ∷ elements left) all in
     let alike = front-alike done (element_view d.0) (elements left) (paths_below now) (paths_below new) all apart in
     let counted = h.len in
     let more = freshes-more done d (paths_below new) in
@@ -109,7 +94,6 @@ losing-more cs done left old filled rooms now new d r s h paths_are risen tries 
       risen = risen;
       tries = tries;
       len = omega arith;
-      within = λ p k. paths_are p ∙ both _ _ (h.within p (in-rest p k)) (ap not (left-apart d left p (both_first _ _ behind) (both_second _ _ behind) k));
       without = h.without;
       form = both_second _ _ h.form;
       back = λ k.
@@ -124,21 +108,13 @@ losing-more cs done left old filled rooms now new d r s h paths_are risen tries 
     one-by-one [] x ys = refl
     one-by-one (y ∷ xs) x ys = ap (λ l. y ∷ l) (one-by-one xs x ys)
 
-    or_true : (b : Bool) → (b || true) ≡ true
-    or_true true = refl
-    or_true false = refl
-
-    in-rest : (p : Path) → is_one_of (paths_below left) p ≡ true → is_one_of (paths_below (d ∷ left)) p ≡ true
-    in-rest p k = list_any-append (same_path p) (paths_after (element_view d.0) (paths d.1)) (paths_below left) ∙ ap (λ b. is_one_of (paths_after (element_view d.0) (paths d.1)) p || b) k ∙ or_true _
-
 pub losing-none : (cs ds : List (Elem × Trie)) (rooms : List (Spare × Room)) (ps : List Path) → rises (elements cs) ≡ true → are_filled_tries cs ≡ true → rises (elements ds) ≡ true → are_filled_tries ds ≡ true
-    → ((p : Path) → is_one_of (paths_below ds) p ≡ true → is_one_of (paths_below cs) p ≡ true) → loses ds ps rooms ≡ true → IsLosing cs [] ds [] [] rooms cs
-losing-none cs ds rooms ps risen tries left_rise left_tries within form = record {
+    → loses ds ps rooms ≡ true → IsLosing cs [] ds [] [] rooms cs
+losing-none cs ds rooms ps risen tries left_rise left_tries form = record {
   paths_are = λ p. sym (and-true (is_one_of (paths_below cs) p));
   risen = risen;
   tries = tries;
   len = omega arith;
-  within = within;
   without = ps;
   form = form;
   back = λ k. refl;
@@ -148,19 +124,8 @@ losing-none cs ds rooms ps risen tries left_rise left_tries within form = record
 
 -- ---- in a loop
 
-pub losing-at : (cs ds : List (Elem × Trie)) (rs fs : List (Spare × Room)) (now : List (Elem × Trie)) (i : ℕ) (d : Elem × Trie) (r : Spare × Room) → i < length ds → d ≡ get_or ds i d → i < length rs → r ≡ get_or rs i r
-    → IsLosing cs (take i ds) (drop i ds) (take i rs) fs (drop i rs) now → IsLosing cs (take i ds) (d ∷ drop (i + 1) ds) (take i rs) fs (r ∷ drop (i + 1) rs) now
-losing-at cs ds rs fs now i d r lt is lt2 is2 h = subst (λ l. IsLosing cs (take i ds) l (take i rs) fs (r ∷ drop (i + 1) rs) now) (left-at ds i d lt is) (subst (λ l. IsLosing cs (take i ds) (drop i ds) (take i rs) fs l now) (left-at rs i r lt2 is2) h)
-
 pub losing-within : (cs ds : List (Elem × Trie)) (rs fs : List (Spare × Room)) (now : List (Elem × Trie)) (i : ℕ) → i < length ds → IsLosing cs (take i ds) (drop i ds) (take i rs) fs (drop i rs) now → i < length rs
 losing-within cs ds rs fs now i lt h = within-both ds rs i lt (loses-some (drop i ds) h.without (drop i rs) h.form)
-
-pub losing-next : (cs ds : List (Elem × Trie)) (rs ns : List (Spare × Room)) (now : List (Elem × Trie)) (i : ℕ) (d : Elem × Trie) (r s : Spare × Room) → i < length ds → d ≡ get_or ds i d → i < length rs → r ≡ get_or rs i r → i < length ns
-    → IsLosing cs (take i ds ++ d ∷ []) (drop (i + 1) ds) (take i rs ++ r ∷ []) (take i ns ++ s ∷ []) (drop (i + 1) rs) now → IsLosing cs (take (i + 1) ds) (drop (i + 1) ds) (take (i + 1) rs) (take (i + 1) (set ns i s)) (drop (i + 1) rs) now
-losing-next cs ds rs ns now i d r s lt is lt2 is2 lt3 h =
-    subst (λ l. IsLosing cs l (drop (i + 1) ds) (take (i + 1) rs) (take (i + 1) (set ns i s)) (drop (i + 1) rs) now) (sym (taken-at ds i d lt is))
-    (subst (λ l. IsLosing cs (take i ds ++ d ∷ []) (drop (i + 1) ds) l (take (i + 1) (set ns i s)) (drop (i + 1) rs) now) (sym (taken-at rs i r lt2 is2))
-    (subst (λ l. IsLosing cs (take i ds ++ d ∷ []) (drop (i + 1) ds) (take i rs ++ r ∷ []) l (drop (i + 1) rs) now) (sym (take_more_set ns i s lt3)) h))
 
 -- what is left over of both lists of rooms is one
 pub same-left : (ns rs : List (Spare × Room)) (i : ℕ) (r : Spare × Room) → drop i ns ≡ drop i rs → i < length ns → r ≡ get_or ns i r → (i < length rs) × (r ≡ get_or rs i r) × (drop (i + 1) ns ≡ drop (i + 1) rs)
@@ -219,13 +184,6 @@ start-form t ps r h =
 pub start-within : (l s : Trie) → ((p : Path) → is_one_of (paths l) p ≡ true → is_one_of (paths s) p ≡ true) → (p : Path) → is_one_of (paths_below (out-Trie l).below.items) p ≡ true → is_one_of (paths_below (out-Trie s).below.items) p ≡ true
 start-within l s h [] k = absurd (true≢false (sym k ∙ one-below-root (out-Trie l).below.items))
 start-within l s h (e ∷ p) k = sym (any-level same_path same_path-reading s e p) ∙ h (e ∷ p) (any-level same_path same_path-reading l e p ∙ k)
-
-pub step-within : (cs done left : List (Elem × Trie)) (old filled rooms : List (Spare × Room)) (now : List (Elem × Trie)) (d : Elem × Trie) → IsLosing cs done (d ∷ left) old filled rooms now
-    → (p : Path) → is_one_of (paths d.1) p ≡ true → is_one_of (paths_below now) (element_view d.0 ∷ p) ≡ true
-step-within cs done left old filled rooms now d h p k =
-    h.within (element_view d.0 ∷ p)
-    (list_any-append (same_path (element_view d.0 ∷ p)) (paths_after (element_view d.0) (paths d.1)) (paths_below left)
-    ∙ ap (λ b. b || is_one_of (paths_below left) (element_view d.0 ∷ p)) (any-after same_path same_path-reading (element_view d.0) (element_view d.0) (paths d.1) p ∙ both _ _ (same_element-itself (element_view d.0)) k))
 
 pub same-length : (ns rs : List (Spare × Room)) (i : ℕ) → drop i ns ≡ drop i rs → i < length rs → i < length ns
 same-length ns rs i e lt = let a = length-drop i ns in let b = length-drop i rs in let l = ap length e in omega arith

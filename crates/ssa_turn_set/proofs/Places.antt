@@ -108,10 +108,14 @@ lose-rolled t s x h empty fits l =
     (record { empty = ap (λ y. y.children.items) is ∙ empty; fits = λ lt. subst (λ n. length (out-Trie s).below.items ≤ n) (sym (ap (λ y. vec_capacity y.children) is)) (fits lt) })
     (ap (λ y. loses (out-Trie t).below.items (paths_below (out-Trie s).below.items) y.below.items) is ∙ l)
 
--- room enough after an exchange that was made where it could be
-pub enough-after : (f n c d : ℕ) → (0 < f → n + f ≤ c) → (n ≤ c → c ≤ d) → n ≤ d → n + f ≤ d
-enough-after zero n c d own grows least = omega arith
-enough-after (suc f) n c d own grows least = let a = own (omega arith) in let b = grows (omega arith) in omega arith
+-- where there is room for more children than there are, there is room for those that come; else none comes
+pub comes-within : (f n c : ℕ) → (0 < f → n + f ≤ c) → n < c → n + f ≤ c
+comes-within zero n c own lt = omega arith
+comes-within (suc f) n c own lt = own (omega arith)
+
+pub none-comes : (f n c : ℕ) → (0 < f → n + f ≤ c) → c ≤ n → f ≡ 0
+none-comes zero n c own le = refl
+none-comes (suc f) n c own le = let a = own (omega arith) in absurd (omega arith)
 
 -- ---- a child that is found, or not
 
@@ -147,13 +151,7 @@ all-taken xs ys i le e =
 pub within-both : {A B : Type 0} (xs : List A) (ys : List B) (i : ℕ) → i < length xs → length (drop i xs) ≡ length (drop i ys) → i < length ys
 within-both xs ys i lt e = let a = length-drop i xs in let b = length-drop i ys in omega arith
 
--- ---- a child put at a place
-
-pub length-between : {A : Type 0} (xs : List A) (i : ℕ) (x : A) → length (take i xs ++ x ∷ drop i xs) ≡ length xs + 1
-length-between [] zero x = refl
-length-between [] (suc i) x = refl
-length-between (y ∷ xs) zero x = omega arith
-length-between (y ∷ xs) (suc i) x = let e = length-between xs i x in omega arith
+-- ---- a child that has some path
 
 pub fresh-filled : (ps : List Path) → has_some ps ≡ true → fresh ps ≡ 0
 fresh-filled ps h = ap (λ b. cond b 0 1) h
@@ -169,6 +167,3 @@ set-apart f e cs i c m lt is tie apart =
     let away = apart-from f e c.0 tie apart in
     ap (λ l. tails f (paths_below l)) (parted-set cs i (c.0, m) lt) ∙ tails-apart f (take i cs) (drop (i + 1) cs) c.0 m away
     ∙ sym (ap (λ l. tails f (paths_below l)) (parted cs i c lt is) ∙ tails-apart f (take i cs) (drop (i + 1) cs) c.0 c.1 away)
-
-pub between-apart : (f e : Element) (cs : List (Elem × Trie)) (i : ℕ) (d : Elem) (m : Trie) → element_view d ≡ e → same_element f e ≡ false → tails f (paths_below (take i cs ++ (d, m) ∷ drop i cs)) ≡ tails f (paths_below cs)
-between-apart f e cs i d m is apart = tails-apart f (take i cs) (drop i cs) d m (ap (same_element f) is ∙ apart) ∙ ap (λ l. tails f (paths_below l)) (take-append-drop i cs)

@@ -1,7 +1,6 @@
 -- One child of a set whose paths are taken out: it stays with fewer paths, or goes where it has none left.
-use Rattle.std.proofs.Common.{◌≡◌, ℕ, ◌+◌, ◌<◌, List, [], ◌∷◌, ◌++◌, length, get_or, set, drop, take, Bool, true, false, not, ◌&&◌, ◌||◌, cond, Some, None, refl, sym, ap, ◌∙◌, arith, length-set, get_or-set_same}
+use Rattle.std.proofs.Common.{◌≡◌, ℕ, ◌+◌, ◌<◌, List, [], ◌∷◌, ◌++◌, length, get_or, set, drop, take, Bool, true, false, not, ◌&&◌, ◌||◌, cond, Some, None, refl, sym, ap, ◌∙◌, length-set, get_or-set_same}
 use Rattle.std.proofs.Math.Bool.{and-true}
-use Rattle.std.proofs.lemmas.List.{take-set, drop-set-lt}
 use Rattle.ssa_model.specs.definitions.Path.{Element, Path, same_element, same_path}
 use Rattle.ssa_path.specs.declared.element.Elem.{Elem}
 use Rattle.ssa_path.specs.declared.trie.Trie.{Trie}
@@ -9,7 +8,7 @@ use Rattle.ssa_path.specs.Children.{elements, child_at, is_below, rises}
 use Rattle.ssa_path.specs.View.{element_view}
 use Rattle.ssa_path.specs.Trie.{is_one_of, paths_after, paths_below, paths, is_trie, is_filled, are_filled_tries}
 use Rattle.ssa_path.proofs.Orders.{both_first, both_second, same_element-true}
-use Rattle.ssa_path.proofs.Searching.{absent-below, apart-before, below-middle, child-found, child-absent}
+use Rattle.ssa_path.proofs.Searching.{absent-below, apart-before, below-middle, child-found}
 use Rattle.ssa_path.proofs.Lists.{parted, parted-set, elements-append, one-between, filled-between, filled-without}
 use Rattle.ssa_path.proofs.Levels.{same_path-reading, any-after, any-below, found, one-below-root}
 use Rattle.ssa_model.specs.definitions.FieldsV1.{tails}
@@ -96,11 +95,3 @@ module _ (cs : List (Elem × Trie)) (i : ℕ) (f : Element) (t : Trie) (c : Elem
 
 pub goes-tries : (cs : List (Elem × Trie)) (i : ℕ) (c : Elem × Trie) → i < length cs → c ≡ get_or cs i c → are_filled_tries cs ≡ true → are_filled_tries (take i cs ++ drop (i + 1) cs) ≡ true
 goes-tries cs i c lt is h = filled-without (take i cs) (drop (i + 1) cs) c (ap are_filled_tries (sym (parted cs i c lt is)) ∙ h)
-
--- what is left where the child that was changed in place is taken out
-pub without-set : (cs : List (Elem × Trie)) (i : ℕ) (x : Elem × Trie) → take i (set cs i x) ++ drop (i + 1) (set cs i x) ≡ take i cs ++ drop (i + 1) cs
-without-set cs i x = λ j. take-set cs i x j ++ drop-set-lt (i + 1) cs i x (omega arith) j
-
--- nothing is told below an element that has no child
-pub gap-none : (e : Element) (cs : List (Elem × Trie)) (i : ℕ) (p : Path) → rises (elements cs) ≡ true → rises (elements (take i cs) ++ e ∷ elements (drop i cs)) ≡ true → is_one_of (paths_below cs) (e ∷ p) ≡ false
-gap-none e cs i p h gap = any-below same_path same_path-reading e cs p h ∙ ap (λ x. found same_path x p) (child-absent e cs i gap)

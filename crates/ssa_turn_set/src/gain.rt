@@ -1,18 +1,18 @@
 //! A set of paths put into another, in the room for it.
-ghost use Rattle.std.specs.Prelude.{◌≡◌, ◌≤◌, ◌+◌, ◌||◌, true, false, length, vec_capacity};
-ghost use Rattle.ssa_model.specs.definitions.Path.{Element, Path, same_element};
-ghost use Rattle.ssa_model.specs.definitions.FieldsV1.{tails};
+ghost use Rattle.std.specs.Prelude.{◌≡◌, ◌≤◌, ◌+◌, ◌||◌, [], true, length, vec_capacity};
+ghost use Rattle.ssa_model.specs.definitions.Path.{Path};
 ghost use Rattle.ssa_path.specs.Children.{elements, rises};
-ghost use Rattle.ssa_path.specs.View.{element_view};
-ghost use Rattle.ssa_path.specs.Trie.{is_one_of, paths, paths_below, is_trie, is_filled, are_filled_tries, IsGathered};
-ghost use Rattle.ssa_turn_set.specs.Room.{below_child, fresh, gain_one, gain_room, lose_one, lose_room};
+ghost use Rattle.ssa_path.specs.Trie.{is_one_of, paths, paths_below, is_trie, are_filled_tries};
+ghost use Rattle.ssa_turn_set.specs.Room.{freshes, gain_room, gains, lose_room, loses};
+ghost use Rattle.ssa_turn_set.specs.Weaving.{AreGathered};
 
-use crate::filling::exchange_where_fits;
 use crate::room::Room;
-use crate::spare::{Spare, fill};
+use crate::spare::Spare;
+use crate::weaving::{open_place, pass_rest, turn_round};
 use ssa_path::children::search;
 use ssa_path::element::Elem;
 use ssa_path::trie::Trie;
+use ssa_reverse::room::push_within;
 
 /// Adds the paths of `gained`. Takes no memory.
 ///
@@ -32,45 +32,70 @@ pub fn gain(gained: &Trie, set: &mut Trie, room: &mut Room)
         below: rooms,
     } = room;
     *here = gained.here || *here;
-    exchange_where_fits(below, children);
+    if below.len() < children.capacity() {
+        weave_in(&gained.below, below, children, rooms);
+    } else {
+        gain_known(&gained.below, below, rooms);
+    }
+}
+
+// Adds the paths of children all of which stand among those of the place.
+#[cycle(gain)]
+fn gain_known(
+    gained: &[(Elem, Trie)],
+    below: &mut Vec<(Elem, Trie)>,
+    rooms: &mut Vec<(Spare, Room)>,
+)
+    requires gained_rise { rises (elements gained.now) ≡ true }
+    requires gained_tries { are_filled_tries gained.now ≡ true }
+    requires rise { rises (elements below.old.items) ≡ true }
+    requires tries { are_filled_tries below.old.items ≡ true }
+    requires known { freshes gained.now (paths_below below.old.items) ≡ 0 }
+    requires room { gains gained.now (paths_below below.old.items) rooms.old.items ≡ true }
+    ensures gathered { AreGathered gained.now below.old.items below.new.items }
+    ensures room { loses gained.now (paths_below below.old.items) rooms.new.items ≡ true }
+{
     let mut i = 0;
-    while i < gained.below.len() {
-        gain_child(&gained.below[i], below, &mut rooms[i]);
+    while i < gained.len() {
+        let child = &gained[i];
+        let Ok(place) = search(below, &child.0) else {
+            unreachable!()
+        };
+        gain(&child.1, &mut below[place].1, &mut rooms[i].1);
         i += 1;
     }
 }
 
-// Adds the paths of a child.
+// Adds the paths of children, of which some come to the place, in one pass over its children; these
+// are moved into the room for them.
 #[cycle(gain)]
-fn gain_child(gained: &(Elem, Trie), below: &mut Vec<(Elem, Trie)>, room: &mut (Spare, Room))
+fn weave_in(
+    gained: &[(Elem, Trie)],
+    below: &mut Vec<(Elem, Trie)>,
+    children: &mut Vec<(Elem, Trie)>,
+    rooms: &mut Vec<(Spare, Room)>,
+)
+    requires gained_rise { rises (elements gained.now) ≡ true }
+    requires gained_tries { are_filled_tries gained.now ≡ true }
     requires rise { rises (elements below.old.items) ≡ true }
     requires tries { are_filled_tries below.old.items ≡ true }
-    requires gained { is_trie gained.now.1 ≡ true }
-    requires filled { is_filled gained.now.1 ≡ true }
-    requires fits { length below.old.items + fresh (below_child gained.now (paths_below below.old.items)) ≤ vec_capacity below.old }
-    requires room { gain_one gained.now (below_child gained.now (paths_below below.old.items)) room.old ≡ true }
-    ensures gathered { IsGathered below.old.items (element_view gained.now.0) gained.now.1 below.new.items }
-    ensures apart { (e : Element) → same_element e (element_view gained.now.0) ≡ false → tails e (paths_below below.new.items) ≡ tails e (paths_below below.old.items) }
-    ensures len { length below.new.items ≡ length below.old.items + fresh (below_child gained.now (paths_below below.old.items)) }
-    ensures capacity { vec_capacity below.new ≡ vec_capacity below.old }
-    ensures room { lose_one gained.now (below_child gained.now (paths_below below.old.items)) room.new ≡ true }
+    requires empty { children.old.items ≡ [] }
+    requires fits { length below.old.items + freshes gained.now (paths_below below.old.items) ≤ vec_capacity children.old }
+    requires room { gains gained.now (paths_below below.old.items) rooms.old.items ≡ true }
+    ensures gathered { AreGathered gained.now below.old.items below.new.items }
+    ensures empty { children.new.items ≡ [] }
+    ensures left { vec_capacity children.new ≡ vec_capacity below.old }
+    ensures room { loses gained.now (paths_below below.old.items) rooms.new.items ≡ true }
 {
-    match search(below, &gained.0) {
-        Ok(i) => {
-            let child = &mut below[i];
-            gain(&gained.1, &mut child.1, &mut room.1);
-        }
-        Err(place) => {
-            let mut child = Trie {
-                here: false,
-                below: Vec::new(*below.allocator()),
-            };
-            gain(&gained.1, &mut child, &mut room.1);
-            let element = fill(&gained.0, &mut room.0);
-            match below.insert(place, (element, child)) {
-                Ok(()) => {}
-                Err(_) => unreachable!(),
-            }
-        }
+    turn_round(below);
+    let mut i = 0;
+    while i < gained.len() {
+        let child = &gained[i];
+        let room = &mut rooms[i];
+        let mut place = open_place(below, children, &child.0, &mut room.0);
+        gain(&child.1, &mut place.1, &mut room.1);
+        push_within(children, place);
+        i += 1;
     }
+    pass_rest(below, children);
 }

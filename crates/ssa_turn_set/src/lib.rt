@@ -8,5 +8,7 @@ pub mod live_set;
 pub mod lose;
 pub mod making;
 pub mod room;
+pub(crate) mod siblings;
 pub mod spare;
 pub mod turn;
+pub(crate) mod weaving;

@@ -1,18 +1,18 @@
 //! A set of paths taken out of another, its places made room for the way back.
-ghost use Rattle.std.specs.Prelude.{◌≡◌, ◌+◌, ◌&&◌, ◌∷◌, List, not, true, false, length, vec_capacity};
-ghost use Rattle.ssa_model.specs.definitions.Path.{Element, Path, same_element};
-ghost use Rattle.ssa_model.specs.definitions.FieldsV1.{tails};
-ghost use Rattle.ssa_path.specs.Children.{elements, rises};
+ghost use Rattle.std.specs.Prelude.{◌≡◌, ◌&&◌, List, not, true};
+ghost use Rattle.ssa_model.specs.definitions.Path.{Path, same_element};
 ghost use Rattle.ssa_path.specs.View.{element_view};
-ghost use Rattle.ssa_path.specs.Trie.{is_one_of, paths, paths_after, paths_below, is_trie, is_filled, are_filled_tries};
-ghost use Rattle.ssa_turn_set.specs.Room.{below_child, fresh, gain_one, gain_room, lose_one, lose_room};
+ghost use Rattle.ssa_path.specs.Trie.{is_one_of, paths, is_trie, is_filled};
+ghost use Rattle.ssa_turn_set.specs.Room.{gain_one, gain_room, lose_one, lose_room};
 
 use crate::filling::exchange_where_fits;
 use crate::room::Room;
+use crate::siblings::{place_from, take_out_bare};
 use crate::spare::{Spare, empty_element};
-use ssa_path::children::search;
+use ssa_json::value::Scalar;
 use ssa_path::element::Elem;
 use ssa_path::trie::Trie;
+use std::mem;
 
 /// Takes out the paths of `lost`, all of which the set has. Takes no memory.
 ///
@@ -33,39 +33,39 @@ pub fn lose(lost: &Trie, set: &mut Trie, room: &mut Room)
         below: rooms,
     } = room;
     *here = *here && !lost.here;
+    let mut start = 0;
+    let mut any_bare = false;
     let mut i = 0;
     while i < lost.below.len() {
-        lose_child(&lost.below[i], below, &mut rooms[i]);
+        let child = &lost.below[i];
+        let place = place_from(below, start, &child.0);
+        any_bare |= lose_child(child, &mut below[place], &mut rooms[i]);
+        start = place + 1;
         i += 1;
     }
+    take_out_bare(below, any_bare);
     exchange_where_fits(below, children);
 }
 
-// Takes out the paths of a child.
+// Takes out the paths of a child, and tells whether it has none left: then its element is room.
 #[cycle(lose)]
-fn lose_child(lost: &(Elem, Trie), below: &mut Vec<(Elem, Trie)>, room: &mut (Spare, Room))
-    requires rise { rises (elements below.old.items) ≡ true }
-    requires tries { are_filled_tries below.old.items ≡ true }
+fn lose_child(lost: &(Elem, Trie), child: &mut (Elem, Trie), room: &mut (Spare, Room)) -> bool
+    requires element { same_element (element_view lost.now.0) (element_view child.old.0) ≡ true }
+    requires trie { is_trie child.old.1 ≡ true }
     requires lost { is_trie lost.now.1 ≡ true }
-    requires filled { is_filled lost.now.1 ≡ true }
-    requires within { (p : Path) → is_one_of (paths lost.now.1) p ≡ true → is_one_of (paths_below below.old.items) (element_view lost.now.0 ∷ p) ≡ true }
+    requires within { (p : Path) → is_one_of (paths lost.now.1) p ≡ true → is_one_of (paths child.old.1) p ≡ true }
     requires form { (ps : List Path) × (lose_one lost.now ps room.old ≡ true) }
-    ensures paths { (p : Path) → is_one_of (paths_below below.new.items) p ≡ (is_one_of (paths_below below.old.items) p && not (is_one_of (paths_after (element_view lost.now.0) (paths lost.now.1)) p)) }
-    ensures rise { rises (elements below.new.items) ≡ true }
-    ensures tries { are_filled_tries below.new.items ≡ true }
-    ensures apart { (e : Element) → same_element e (element_view lost.now.0) ≡ false → tails e (paths_below below.new.items) ≡ tails e (paths_below below.old.items) }
-    ensures len { length below.new.items + fresh (below_child lost.now (paths_below below.new.items)) ≡ length below.old.items }
-    ensures capacity { vec_capacity below.new ≡ vec_capacity below.old }
-    ensures room { lose_one lost.now (below_child lost.now (paths_below below.new.items)) room.old ≡ true
-        → gain_one lost.now (below_child lost.now (paths_below below.new.items)) room.new ≡ true }
+    ensures paths { (p : Path) → is_one_of (paths child.new.1) p ≡ (is_one_of (paths child.old.1) p && not (is_one_of (paths lost.now.1) p)) }
+    ensures trie { is_trie child.new.1 ≡ true }
+    ensures bare { result ≡ not (is_filled child.new.1) }
+    ensures element { is_filled child.new.1 ≡ true → child.new.0 ≡ child.old.0 }
+    ensures room { lose_one lost.now (paths child.new.1) room.old ≡ true → gain_one lost.now (paths child.new.1) room.new ≡ true }
 {
-    let Ok(i) = search(below, &lost.0) else {
-        unreachable!()
-    };
-    let child = &mut below[i];
     lose(&lost.1, &mut child.1, &mut room.1);
-    if !below[i].1.has_paths() {
-        let (element, _emptied) = below.remove(i);
-        room.0 = empty_element(element);
+    if child.1.has_paths() {
+        return false;
     }
+    let element = mem::replace(&mut child.0, Elem::Value(Scalar::Bool(false)));
+    room.0 = empty_element(element);
+    true
 }

@@ -3,6 +3,7 @@ ghost use Rattle.std.specs.Prelude.{◌≡◌, ◌≤◌, ◌<◌, [], true, len
 ghost use Rattle.ssa_path.specs.View.{element_view};
 ghost use Rattle.ssa_path.specs.Children.{elements, rises};
 ghost use Rattle.ssa_path.specs.Trie.{is_trie, paths, paths_below, are_filled_tries};
+ghost use Rattle.ssa_path.specs.Combine.{IsCombination};
 ghost use Rattle.ssa_turn_set.specs.Room.{below_child, fresh, freshes, gain_one, gain_room, lose_one, lose_room};
 ghost use Rattle.ssa_turn_set.specs.Spare.{fits, fits_text};
 ghost use Rattle.ssa_turn_set.specs.Turn.{IsBetween};
@@ -87,7 +88,7 @@ pub fn make_gain_room(alloc: Global, gained: &Trie, without: &Trie) -> Result<Ro
     requires without { is_trie without.now ≡ true }
     ensures { IfOk result (λ r. gain_room gained.now (paths without.now) r ≡ true) }
 {
-    let mut below = Vec::new(alloc);
+    let mut below = Vec::with_capacity(alloc, gained.below.len())?;
     for child in &gained.below {
         below.push(make_child_gain_room(alloc, child, &without.below)?)?;
     }
@@ -131,7 +132,7 @@ pub fn make_lose_room(alloc: Global, lost: &Trie, without: &Trie) -> Result<Room
     requires without { is_trie without.now ≡ true }
     ensures { IfOk result (λ r. lose_room lost.now (paths without.now) r ≡ true) }
 {
-    let mut below = Vec::new(alloc);
+    let mut below = Vec::with_capacity(alloc, lost.below.len())?;
     for child in &lost.below {
         below.push(make_child_lose_room(alloc, child, &without.below)?)?;
     }
@@ -167,6 +168,21 @@ fn make_child_lose_room(
     }
 }
 
+// What a combination keeps of two tries, with no more room than it needs: a record keeps it for long.
+fn combine_exactly(
+    alloc: Global,
+    own: &Trie,
+    other: &Trie,
+    how: Combination,
+) -> Result<Trie, AllocError>
+    requires own { is_trie own.now ≡ true }
+    requires other { is_trie other.now ≡ true }
+    ensures { IfOk result (λ t. IsCombination how own.now other.now t) }
+{
+    let combined = combine(alloc, own, other, how)?;
+    combined.copy(alloc)
+}
+
 /// The record that leads from one set to another, with room for every turn of it.
 ///
 /// All memory that its turns want is taken here; `Err` comes where it is refused.
@@ -174,8 +190,8 @@ pub fn between(alloc: Global, from: &FieldSet, to: &FieldSet) -> Result<SetDelta
     ensures { IfOk result (λ d. IsBetween from.now to.now d) }
 {
     let (own, other) = (from.root(), to.root());
-    let gained = combine(alloc, other, own, Combination::Minus)?;
-    let lost = combine(alloc, own, other, Combination::Minus)?;
+    let gained = combine_exactly(alloc, other, own, Combination::Minus)?;
+    let lost = combine_exactly(alloc, own, other, Combination::Minus)?;
     let without = combine(alloc, own, other, Combination::Meet)?;
     let gain_room = make_gain_room(alloc, &gained, &without)?;
     let lose_room = make_lose_room(alloc, &lost, &without)?;

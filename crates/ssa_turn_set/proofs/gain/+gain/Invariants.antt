@@ -1,13 +1,22 @@
-use Rattle.std.proofs.Common.{◌-◌, length, take, drop}
+use Rattle.std.proofs.Common.{◌≡◌, ◌-◌, ◌++◌, length, reverse, take, drop}
 use Rattle.std.specs.Prelude.{vec_capacity}
-use Rattle.ssa_path.specs.declared.trie.Trie.TheViews.{out-Trie}
 use Rattle.ssa_turn_set.proofs.Gaining.{IsGaining}
+use Rattle.ssa_turn_set.proofs.Coming.{HavePassed}
 use Rattle.ssa_turn_set.proofs.gain.+gain.Given as goal
 
-abbrev pub invariant-gain-loop-i : goal.invariant-gain-loop-i
-invariant-gain-loop-i l =
-    let ds = (out-Trie l.gained).below.items in
-    IsGaining (out-Trie l.fn.set).below.items (take l.i ds) (drop l.i ds) (take l.i l.rooms.items) (drop l.i l.rooms.items) l.below.items (vec_capacity l.below)
+abbrev pub invariant-gain_known-loop-i : goal.invariant-gain_known-loop-i
+invariant-gain_known-loop-i l =
+    IsGaining l.fn.below.items (take l.i l.gained) (drop l.i l.gained) (take l.i l.rooms.items) (drop l.i l.rooms.items) l.below.items (length l.below.items)
 
-abbrev pub decreases-gain-loop-i : goal.decreases-gain-loop-i
-decreases-gain-loop-i l = length (out-Trie l.gained).below.items - l.i
+abbrev pub decreases-gain_known-loop-i : goal.decreases-gain_known-loop-i
+decreases-gain_known-loop-i l = length l.gained - l.i
+
+abbrev pub invariant-weave_in-loop-i : goal.invariant-weave_in-loop-i
+invariant-weave_in-loop-i l =
+    IsGaining l.fn.below.items (take l.i l.gained) (drop l.i l.gained) (take l.i l.rooms.items) (drop l.i l.rooms.items)
+    (l.children.items ++ reverse l.below.items) (vec_capacity l.children)
+    × HavePassed l.children.items (drop l.i l.gained)
+    × (vec_capacity l.below ≡ vec_capacity l.fn.below)
+
+abbrev pub decreases-weave_in-loop-i : goal.decreases-weave_in-loop-i
+decreases-weave_in-loop-i l = length l.gained - l.i

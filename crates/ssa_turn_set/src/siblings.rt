@@ -1,0 +1,60 @@
+//! The children of a place: found one after the other, and those with no path left taken out.
+ghost use Rattle.std.specs.Prelude.{◌≡◌, ◌≤◌, true, false, None, length, take, drop, vec_capacity};
+ghost use Rattle.ssa_path.specs.Children.{child_at, elements, rises, IsChildAt};
+ghost use Rattle.ssa_path.specs.View.{element_view};
+ghost use Rattle.ssa_turn_set.specs.Siblings.{has_any, kept};
+
+use ssa_path::children::search;
+use ssa_path::element::Elem;
+use ssa_path::trie::Trie;
+use std::cmp::Ordering;
+
+// As many of the first children as are enough to have the element's child, where there is one.
+//
+// They are doubled until the last of them is not before the element, so that it costs no more than
+// the logarithm of how far the child stands.
+fn reach(children: &[(Elem, Trie)], element: &Elem) -> usize
+    requires { rises (elements children.now) ≡ true }
+    ensures within { result ≤ length children.now }
+    ensures enough { child_at (element_view element.now) (take result children.now) ≡ child_at (element_view element.now) children.now }
+{
+    let mut width = children.len().min(1);
+    while width < children.len() && children[width - 1].0.order(element) == Ordering::Less {
+        width += width.min(children.len() - width);
+    }
+    width
+}
+
+// The place of the child of this element, which stands at `start` or behind it.
+pub(crate) fn place_from(children: &[(Elem, Trie)], start: usize, element: &Elem) -> usize
+    requires start { start ≤ length children.now }
+    requires rise { rises (elements (drop start children.now)) ≡ true }
+    requires present { child_at (element_view element.now) (drop start children.now) ≡ None → ⊥ }
+    ensures from { start ≤ result }
+    ensures child { IsChildAt (element_view element.now) children.now result }
+{
+    let left = &children[start..];
+    let near = &left[..reach(left, element)];
+    let Ok(place) = search(near, element) else {
+        unreachable!()
+    };
+    start + place
+}
+
+// Whether the child has some path.
+fn has_any(child: &(Elem, Trie)) -> bool
+    ensures { result ≡ has_any child.now }
+{
+    child.1.here || !child.1.below.is_empty()
+}
+
+// Takes out the children that have no path left, in one pass where there are any.
+pub(crate) fn take_out_bare(below: &mut Vec<(Elem, Trie)>, any_bare: bool)
+    requires { any_bare ≡ false → kept below.old.items ≡ below.old.items }
+    ensures items { below.new.items ≡ kept below.old.items }
+    ensures capacity { vec_capacity below.new ≡ vec_capacity below.old }
+{
+    if any_bare {
+        below.retain(|child| has_any(child));
+    }
+}
