@@ -75,6 +75,8 @@ pub enum FaultCode {
     CommandShape,
     /// A file is not the text of a bench.
     BenchText,
+    /// A record in a bench's file is none from its state to a valid one.
+    RecordDoesNotFit,
     /// A bench's file failed while it was read.
     Io,
     /// A bench's text is longer than a file may be.
@@ -135,6 +137,7 @@ impl FaultCode {
             FaultCode::NothingToRedo => ("65", "NothingToRedo"),
             FaultCode::CommandShape => ("66", "CommandShape"),
             FaultCode::BenchText => ("70", "BenchText"),
+            FaultCode::RecordDoesNotFit => ("71", "RecordDoesNotFit"),
             FaultCode::Io => ("72", "Io"),
             FaultCode::BenchTooLong => ("73", "BenchTooLong"),
         }

@@ -1,5 +1,5 @@
 -- The bench that an object file makes has the schema that it was read by, and the file's state.
-use Rattle.std.proofs.Common.{◌≡◌, Bool, true, false, not, ap}
+use Rattle.std.proofs.Common.{◌≡◌, Bool, true, false, not, refl, ap, subst}
 use Rattle.std.proofs.lemmas.Option.{same_Some}
 use Rattle.std.specs.Prelude.{if◌then◌else◌, Result, Ok, Err}
 use Rattle.std.specs.Result.{result_ok}
@@ -9,18 +9,23 @@ use Rattle.ssa_model.specs.definitions.Schema.{Schema}
 use Rattle.ssa_model.specs.definitions.Objects.{Identity, identity_of}
 use Rattle.ssa_model.specs.definitions.Operations.{State}
 use Rattle.ssa_model.specs.definitions.History.{Bench}
-use Rattle.ssa_model.specs.definitions.Answers.{Fault, identity_fault, names_itself, lone_bench, with_lone_state, file_state, bench_of}
+use Rattle.ssa_model.specs.definitions.Answers.{Fault, identity_fault, names_itself, lone_state, lone_bench, with_lone_state, file_state, bench_of}
 
--- the bench has the schema, and the state is there and is the bench's
+-- the bench has the schema, and the state is there and is the bench's only one
 pub record IsLoneOf (schema : Schema) (state : Result State Fault) (lone : Bench) : Type 0 where
   pub schema_is : schema ≡ lone.schema
   pub state_is : state ≡ Ok lone.timeline.first
+  pub alone : lone.timeline ≡ lone_state lone.timeline.first
 
 of_state : (schema : Schema) (identity : Identity) (r : Result State Fault) (lone : Bench)
     → with_lone_state schema identity r ≡ Ok lone → IsLoneOf schema r lone
 of_state schema identity (Ok state) lone is =
     let same = same_Some (lone_bench schema identity state) lone (ap result_ok is) in
-    record { schema_is = ap (λ (b : Bench). b.schema) same; state_is = ap (λ (b : Bench). Ok b.timeline.first) same }
+    record {
+      schema_is = ap (λ (b : Bench). b.schema) same;
+      state_is = ap (λ (b : Bench). Ok b.timeline.first) same;
+      alone = subst (λ (b : Bench). b.timeline ≡ lone_state b.timeline.first) same refl;
+    }
 of_state schema identity (Err f) lone is = absurd cc
 
 -- what makes a bench is an object that names itself, and then its state

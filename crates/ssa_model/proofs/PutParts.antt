@@ -48,7 +48,7 @@ module _ {X : Type 0} (P : Path → X → Type 0) where
   pub all-map_of : (ps : List Path) (f : Path → Option X) → ((p : Path) (x : X) → f p ≡ Some x → P p x) → AllAt P (map_of ps f).entries
   all-map_of ps f g = all-from_entries (filter_map (λ p. option_map (λ x. (p, x)) (f p)) ps) (all-answers ps f g)
 
-where_true : {A : Type 0} (b : Bool) (o : Option A) → (b ≡ false → o ≡ None) → cond b o None ≡ o
+pub where_true : {A : Type 0} (b : Bool) (o : Option A) → (b ≡ false → o ≡ None) → cond b o None ≡ o
 where_true true o h = refl
 where_true false o h = sym (h refl)
 
@@ -133,19 +133,19 @@ put_missed (e ∷ es) g x q r found rest none =
     (λ t. content_some (rest_of e.0 q) e.1 (put_content es q) r (ap (λ p. rest_of p q) (sym (same_path-true g e.0 t)) ∙ rest) none)
     (λ f. put_missed es g x q r (sym (ap (λ b. cond b (Some e.1) (find path_cmp g es)) f) ∙ found) rest (content_none (rest_of e.0 q) e.1 (put_content es q) none))
 
-prefixed : (g r : Path) (ps : List Path) → is_one_of ps r ≡ true → is_one_of (map (λ q. g ++ q) ps) (g ++ r) ≡ true
+pub prefixed : (g r : Path) (ps : List Path) → is_one_of ps r ≡ true → is_one_of (map (λ q. g ++ q) ps) (g ++ r) ≡ true
 prefixed g r [] h = h
 prefixed g r (p ∷ ps) h =
     either (same_path r p) (is_one_of ps r) h
     (λ same. true_or (same_path (g ++ r) (g ++ p)) (is_one_of (map (λ q. g ++ q) ps) (g ++ r)) (ap (λ s. same_path (g ++ r) (g ++ s)) (sym (same_path-true r p same)) ∙ same_path-itself (g ++ r)))
     (λ later. or_true (same_path (g ++ r) (g ++ p)) (is_one_of (map (λ q. g ++ q) ps) (g ++ r)) (prefixed g r ps later))
 
-one-append : (ps qs : List Path) (q : Path) → is_one_of ps q ≡ true → is_one_of (ps ++ qs) q ≡ true
+pub one-append : (ps qs : List Path) (q : Path) → is_one_of ps q ≡ true → is_one_of (ps ++ qs) q ≡ true
 one-append [] qs q h = absurd (true≢false (sym h))
 one-append (p ∷ ps) qs q h =
     either (same_path q p) (is_one_of ps q) h (λ s. true_or (same_path q p) (is_one_of (ps ++ qs) q) s) (λ l. or_true (same_path q p) (is_one_of (ps ++ qs) q) (one-append ps qs q l))
 
-one-later : (ps qs : List Path) (q : Path) → is_one_of qs q ≡ true → is_one_of (ps ++ qs) q ≡ true
+pub one-later : (ps qs : List Path) (q : Path) → is_one_of qs q ≡ true → is_one_of (ps ++ qs) q ≡ true
 one-later [] qs q h = h
 one-later (p ∷ ps) qs q h = or_true (same_path q p) (is_one_of (ps ++ qs) q) (one-later ps qs q h)
 

@@ -35,7 +35,7 @@ length-put p x (e ∷ es) =
       | Greater ↦ let h = length-put p x es in omega arith
     ]
 
-length-entries : {X : Type 0} (es : List (Path × X)) → length (from_entries es).entries ≤ length es
+pub length-entries : {X : Type 0} (es : List (Path × X)) → length (from_entries es).entries ≤ length es
 length-entries [] = omega arith
 length-entries (e ∷ es) = let h = length-entries es in let k = length-put e.0 e.1 (from_entries es).entries in omega arith
 
@@ -47,7 +47,7 @@ length-found {A} {B} f (x ∷ xs) = one (f x) (length-found f xs)
     one None h = omega arith
     one (Some y) h = omega arith
 
-rest-under : (p q : Path) → is_some (rest_of p q) ≡ under p q
+pub rest-under : (p q : Path) → is_some (rest_of p q) ≡ under p q
 rest-under [] q = refl
 rest-under (e ∷ p) [] = refl
 rest-under (e ∷ p) (f ∷ q) = elim (same_element e f) as (λ b. is_some (if b then rest_of p q else None) ≡ (b && under p q)) [ true ↦ rest-under p q | false ↦ refl ]
@@ -60,7 +60,7 @@ length-rests p (q ∷ ps) = one (rest_of p q) ∙ (λ i. one_if (rest-under p q 
     one None = omega arith
     one (Some r) = omega arith
 
-size-below : (w : Body) (p : Path) → size (below w p) ≤ total (λ q. one_if (under p q)) (paths w)
+pub size-below : (w : Body) (p : Path) → size (below w p) ≤ total (λ q. one_if (under p q)) (paths w)
 size-below w p =
     let rests : List Path = filter_map (rest_of p) (paths w) in
     let found : List (Path × Content) = filter_map (λ q. option_map (λ x. (q, x)) (get w (p ++ q))) rests in

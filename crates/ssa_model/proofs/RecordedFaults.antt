@@ -175,7 +175,7 @@ module _ (readings : Readings) (bench : Bench) where
 
 -- ---- the text
 
-whole-is : (ls : List Text) (rest : Text) (texts : List Text) → ended_lines (ls, rest) ≡ Some texts → ls ≡ texts
+pub whole-is : (ls : List Text) (rest : Text) (texts : List Text) → ended_lines (ls, rest) ≡ Some texts → ls ≡ texts
 whole-is ls [] texts h = same_Some ls texts h
 whole-is ls (b ∷ bs) texts h = absurd (none-some texts h)
 

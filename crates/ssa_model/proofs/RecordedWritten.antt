@@ -36,7 +36,7 @@ counts-from v c is =
     sym (same_text-true (compact head) (compact v) (and_parts (is_written_as head v) (nat_le (past.0 + future.0) most_past) got.0).0)
     ∙ ap (λ (x : Counts). compact (record_head x.past x.future)) got.1
 
-present-from : (v : Json) (r : Result Bench Fault) (now : Bench)
+pub present-from : (v : Json) (r : Result Bench Fault) (now : Bench)
     → elim r [ Ok bench ↦ given_if (is_written_as (whole_object bench bench.timeline.first) v) bench | Err f ↦ None ] ≡ Some now
     → (r ≡ Ok now) × (compact v ≡ compact (whole_object now now.timeline.first))
 present-from v (Ok bench) now is =

@@ -148,7 +148,7 @@ module _ (kind : Kind) (v w : Body) (a : IsBodyOf kind v) (b : IsBodyOf kind w) 
 
   -- ---- what is put
 
-  part-of : (p : Path) → has w p ≡ true → IsPartOf kind p (below w p)
+  pub part-of : (p : Path) → has w p ≡ true → IsPartOf kind p (below w p)
   part-of p here =
       let t = part_is_tree w p tree_w here in
       record {

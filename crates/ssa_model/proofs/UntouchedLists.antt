@@ -51,7 +51,7 @@ module _ (kind : Kind) (d : BodyRecord) (v : Body) (a : IsBodyOf kind v) (p : Pa
   all-stay : staying_items d p es ≡ es
   all-stay = filter-all (λ e. not (has d.cut (p ++ e ∷ []))) (λ e. ap not (uncut e)) es
 
-  order-stays : order_after d p es ≡ es
+  pub order-stays : order_after d p es ≡ es
   order-stays =
       ap (λ o. carried_order o (refilled d p es)) untold
       ∙ ap (λ is. filled (put_item d.put.entries p) 0 (end_of is) (staying_items d p es)) (no-places p d.put.entries (second_false (has_below d.cut p) (has_below d.put p) below))

@@ -67,7 +67,7 @@ module _ (test : Option Content → Bool) (of_place : Place → Bool) (decided :
 
 -- ---- `metadata`
 
-no_leaf : (b : Body) → IsRooted b → is_leaf (get b metadata_path) ≡ false
+pub no_leaf : (b : Body) → IsRooted b → is_leaf (get b metadata_path) ≡ false
 no_leaf b rooted =
     apart_by (is_leaf (get b metadata_path))
     (λ t. yes_no (has (points b) metadata_path) (has-points b metadata_path ∙ (λ i. leaf-has (get b metadata_path) t i && leaf-point b rooted metadata_path t i)) rooted.metadata)
@@ -76,10 +76,10 @@ module _ (b : Body) (rooted : IsRooted b) (there : has b metadata_path ≡ true)
   no_point : is_point b metadata_path ≡ false
   no_point = (λ i. sym there i && is_point b metadata_path) ∙ sym (has-points b metadata_path) ∙ rooted.metadata
 
-  in_no_dict : is_dict (get b []) ≡ false
+  pub in_no_dict : is_dict (get b []) ≡ false
   in_no_dict = first_false (is_dict (get b [])) (is_bare b metadata_path) (second_false (is_leaf (get b metadata_path)) _ no_point)
 
-  something_below : list_any (strictly_under metadata_path) (paths b) ≡ true
+  pub something_below : list_any (strictly_under metadata_path) (paths b) ≡ true
   something_below = filled (list_any (strictly_under metadata_path) (paths b)) (second_false (is_dict (get b [])) (is_bare b metadata_path) (second_false (is_leaf (get b metadata_path)) _ no_point))
     where
       filled : (t : Bool) → not t ≡ false → t ≡ true

@@ -24,3 +24,4 @@ pub mod RecordReadingRows
 pub mod RecordedRows
 -- records that fit a state, and some that don't
 pub mod FittingRows
+pub mod PlaceRows

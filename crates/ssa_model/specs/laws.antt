@@ -36,7 +36,11 @@ pub mod RecordWalks
 pub mod RecordReading
 -- how a bench file of records is taken, line by line
 pub mod RecordedBenches
+-- a bench file of records read line by line
+pub mod LineByLine
 -- what is taken from one line of it, or its fault
 pub mod RecordedMoves
 -- which records fit a state
 pub mod FittingRecords
+-- records that change a body at one place alone
+pub mod RecordPlaces

@@ -6,11 +6,14 @@ ghost use Rattle.ssa_model.specs.laws.RecordSizes.{BodyBound, TableBound, SizeBo
 ghost use Rattle.ssa_model.specs.laws.InPlace.{TableIsInserted, StayersAreLed, ItemsAreInserted};
 ghost use Rattle.ssa_model.specs.laws.RecordWalks.{CutsAreFiltered, LeavesAreFiltered, OrdersAreFiltered, PutsAreFiltered, RecordBelow, PartIsValue, TreeLeads, BodiesAreTrees, PartIsTree, CarryBelow};
 ghost use Rattle.ssa_model.specs.laws.FittingRecords.{FittingBodyLeads, TakenBodyFits, FittingTableLeads, TakenTableFits, FittingLeads, TakenFits};
+ghost use Rattle.ssa_model.specs.laws.RecordPlaces.{ReplacedAnswers, PartsFit, ReplacedFits, ReplacedIsRooted, ReplacedSize, ChangesThere, PlaceStays, KindsFit, PlaceIsValid, PlaceIsRead};
 ghost use Rattle.ssa_model.specs.laws.RecordReading.{RecordTextsHaveShape, RecordTextsAreRead};
+ghost use Rattle.ssa_model.specs.laws.LineByLine.{FilesAreRead};
 ghost use Rattle.ssa_model.specs.laws.RecordedBenches.{RecordedFilesAreTaken, TakenIsRecordedText, MisfitIsRefused, MovesHaveShape};
 ghost use Rattle.ssa_model.specs.laws.RecordedMoves.{LineIsMove, ShapelessIsNoMove, MisfitIsTold, LineOfParts};
 ghost use Rattle.ssa_model.specs.examples.RecordedRows.{RecordedFilesAreWritten, RecordedValuesAreTaken, RecordedFileIsMet, RecordedMovesAreMet, DamagedLinesAreTold, DamagedFilesAreTold, OtherFilesAreRefused};
 ghost use Rattle.ssa_model.specs.examples.FittingRows.{RecordsFit, BodyRecordsFit, RepeatedLeafMisfits, WrongLeafMisfits, WrongPartMisfits, PutAgainMisfits, CutKeyFieldMisfits, CutNothingMisfits, GoneNobodyMisfits};
+ghost use Rattle.ssa_model.specs.examples.PlaceRows.{ItemReplaced, OtherPartKept, IsPlaceMet};
 ghost use Rattle.ssa_model.specs.examples.RecordReadingRows.{RecordsAreRead, ShapesAreTold, OtherShapesAreRefused, ReadStatesAreMet};
 ghost use Rattle.ssa_model.specs.examples.RecordRows.{FirstApplyRecord, ForcedRecord, GivenUpRecord, RemovedItemRecord, RemovedItemPlace, ReorderRecord, RepeatRecord, StripRecord, SetFilledRecord, SetEmptiedRecord, LiveItemsRecord, LedRecord, ForcedFacts, ReorderFacts, RemovedItemFacts, FirstApplyText, ForcedText, RemovedItemText, ReorderText, RecordsAreMet};
 
@@ -215,4 +218,38 @@ pub fn damaged_records_do_not_fit()
     ensures key { CutKeyFieldMisfits }
     ensures nothing { CutNothingMisfits }
     ensures nobody { GoneNobodyMisfits }
+{}
+
+/// What is read of a bench file of records line by line is what is taken of its whole text, or the fault of its first faulty line.
+pub fn recorded_lines()
+    ensures { FilesAreRead }
+{}
+
+/// A body with a part in place of what it has at and below a path: what it answers, that it is a body of the kind again and rooted, and how large it is.
+pub fn replaced_parts()
+    ensures answers { ReplacedAnswers }
+    ensures parts { PartsFit }
+    ensures fits { ReplacedFits }
+    ensures rooted { ReplacedIsRooted }
+    ensures size { ReplacedSize }
+{}
+
+/// A record that changes a body below one path alone leads to the body with something else there, and the path stays.
+pub fn record_places()
+    ensures there { ChangesThere }
+    ensures stays { PlaceStays }
+{}
+
+/// At a place of a kind inside a schema's: what may stand there, that a valid body stays valid, and that what a body has there is read from its value.
+pub fn kind_places()
+    ensures fits { KindsFit }
+    ensures valid { PlaceIsValid }
+    ensures read { PlaceIsRead }
+{}
+
+/// A record that changes one field of an item leads to the body with another item there, worked by computation. It meets what the laws ask.
+pub fn places_are_replaced()
+    ensures item { ItemReplaced }
+    ensures other { OtherPartKept }
+    ensures met { IsPlaceMet }
 {}

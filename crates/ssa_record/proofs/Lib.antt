@@ -16,6 +16,7 @@ mod LedStates
 mod LedUntouched
 pub mod MemberShapes
 pub mod Objects
+pub mod LineShapes
 pub mod OwnablePaths
 mod PathSearch
 pub mod PathTexts

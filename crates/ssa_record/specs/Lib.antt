@@ -13,3 +13,4 @@ pub mod TableTests
 pub mod Telling
 pub mod Told
 pub mod ToldEntries
+pub mod LineValues

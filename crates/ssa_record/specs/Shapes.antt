@@ -7,9 +7,10 @@ use Rattle.ssa_model.specs.definitions.RecordReading.{MemberShape, Test, is_anyt
 use Rattle.ssa_model.specs.definitions.Table as model
 use Rattle.ssa_json.specs.Readings.{readings}
 use Rattle.ssa_record.specs.declared.member_names.Shape.{Shape}
-use Rattle.ssa_record.specs.declared.member_names.Shape.TheVariants.{Record, Change, Here, Entry}
+use Rattle.ssa_record.specs.declared.member_names.Shape.TheVariants.{Line, Record, Change, Here, Entry}
 use Rattle.ssa_record.specs.declared.told.ToldBody.{ToldBody}
 use Rattle.ssa_record.specs.declared.told.ToldTable.{ToldTable}
+use Rattle.ssa_record.specs.LineValues.{line_shape}
 use Rattle.ssa_record.specs.Telling.{passes}
 use Rattle.ssa_record.specs.Told.{told_body, told_table, said_body, said_table}
 
@@ -24,6 +25,7 @@ abbrev pub is_placed : Test
 is_placed = has_items (is_path readings ∷ is_anything ∷ is_whole ∷ [])
 
 abbrev pub shapes_of : Shape → List MemberShape
+shapes_of Line = line_shape is_anything is_anything
 shapes_of Record = record_shape readings
 shapes_of Change = change_shape readings
 shapes_of Here = here_shape readings

@@ -9,6 +9,7 @@ mod fitting_here;
 mod fitting_lists;
 mod key_reading;
 pub mod led_value;
+pub mod line_values;
 mod member_names;
 pub mod order_after;
 pub mod path_texts;

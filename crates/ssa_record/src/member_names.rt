@@ -1,4 +1,4 @@
-// The names of the members of a record's value and of the objects in it.
+// The names of the members of a record's value, of the objects in it, and of its line.
 ghost use Rattle.std.specs.Prelude.{◌≡◌, string_cmp};
 ghost use Rattle.std.specs.BTreeMap.{IsOrdered};
 ghost use Rattle.std.specs.List.{list_any};
@@ -11,9 +11,10 @@ use ssa_json::text::is_same_text;
 use ssa_json::value::Json;
 use std::collections::BTreeMap;
 
-// An object in the value of a record.
+// The line of a record, its value, or an object in it.
 #[derive(Clone, Copy, Debug, PartialEq, Eq)]
 pub enum Shape {
+    Line,
     Record,
     Change,
     Here,
@@ -58,6 +59,7 @@ fn is_name_in(shape: Shape, name: &str) -> bool
     ensures { result ≡ list_any (λ s. same_text name.now s.name) (shapes_of shape) }
 {
     match shape {
+        Shape::Line => is_same_text(name, "command") || is_same_text(name, "record"),
         Shape::Record => is_record_name(name),
         Shape::Change => is_change_name(name),
         Shape::Here => is_same_text(name, "entry") || is_same_text(name, "place"),

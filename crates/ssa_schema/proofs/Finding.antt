@@ -1,13 +1,15 @@
 -- Laws of what a walk finds.
-use Rattle.std.proofs.Common.{◌≡◌, List, [], ◌∷◌, ◌++◌, map, refl, sym, ap, subst, true≢false, ◌∙◌, append_assoc, append-nil, String, Global, string_bytes}
+use Rattle.std.proofs.Common.{◌≡◌, List, [], ◌∷◌, ◌++◌, map, true, false, not, refl, sym, ap, subst, true≢false, ◌∙◌, append_assoc, append-nil, String, Global, string_bytes}
 use Rattle.std.proofs.lemmas.List.{map-append, reverse-append}
 use Rattle.std.specs.Prelude.{Option, None, Some, is_some, option_map, reverse}
 use Rattle.ssa_model.specs.definitions.Path.{Path, Element, element_text}
 pub use Rattle.ssa_path.proofs.Lists.{left-at as item_split}
 use Rattle.ssa_model.specs.definitions.Kind.{FaultAt, fault_at}
+use Rattle.ssa_model.specs.definitions.Operations.{is_none}
+use Rattle.std.proofs.lemmas.Option.{none-some}
 use Rattle.ssa_schema.specs.Kinds.{names_view}
 use Rattle.ssa_schema.specs.Refusals.{first_of, or_next}
-use Rattle.ssa_schema.specs.Finds.{Finds, Breaks, told, misfit_view}
+use Rattle.ssa_schema.specs.Finds.{Finds, Breaks, found_at, told, misfit_view}
 use Rattle.ssa_schema.specs.declared.fit.found.Misfit.{Misfit}
 use Rattle.ssa_schema.specs.declared.fit.found.Found.{Found}
 
@@ -68,3 +70,17 @@ none_first (x ∷ xs) ys e = absurd (true≢false (sym (ap is_some e)))
 -- where the first have no fault, the others decide
 pub item_fits : (o : Option Found) (inner rest : Path → List FaultAt) → o ≡ None → Finds o inner → (p : Path) → first_of (inner p ++ rest p) ≡ first_of (rest p)
 item_fits o inner rest is h p = none_first (inner p) (rest p) (subst (λ x. Finds x inner) is h p)
+
+-- ---- whether there is a fault
+
+pub found-none : (o : Option Found) (fs : Path → List FaultAt) → Finds o fs → not (is_some o) ≡ is_none (fs [])
+found-none None fs h = by (fs []) (h [])
+  where
+    by : (xs : List FaultAt) → None ≡ option_map told (first_of xs) → true ≡ is_none xs
+    by [] e = refl
+    by (x ∷ xs) e = absurd (none-some (told x) e)
+found-none (Some f) fs h = by (fs []) (h [])
+  where
+    by : (xs : List FaultAt) → Some (found_at [] f) ≡ option_map told (first_of xs) → false ≡ is_none xs
+    by [] e = absurd (none-some (found_at [] f) (sym e))
+    by (x ∷ xs) e = refl

@@ -4,6 +4,7 @@
 pub mod body_fault;
 pub mod fault;
 mod fit;
+pub mod fitting;
 pub mod key_fields;
 pub mod kind;
 mod read;

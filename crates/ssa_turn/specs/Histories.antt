@@ -4,6 +4,7 @@ use Rattle.std.specs.Borrow.{Bor}
 use Rattle.std.specs.List.{All}
 use Rattle.ssa_model.specs.definitions.History as model
 use Rattle.ssa_model.specs.definitions.Operations.{State}
+pub use Rattle.ssa_model.specs.laws.LineByLine.{preceded}
 use Rattle.ssa_model.specs.definitions.RecordedBench.{HasReadHistory}
 use Rattle.ssa_json.specs.Readings.{readings}
 use Rattle.ssa_merge.specs.States.{state_view}
@@ -44,10 +45,6 @@ in_a_row t = record { first = first_of t.past t.present; later = steps_to t.past
 
 abbrev pub timeline_view : Inside → model.Timeline
 timeline_view t = in_a_row (timeline_of t.journal (state_view t.live.state))
-
--- a new first state, at which the place stands: the command led from it to the state that was first
-abbrev pub preceded : model.Timeline → model.Label → State → model.Timeline
-preceded t l w = record { first = w; later = record { label = l; state = t.first } ∷ t.later; place = 0 }
 
 -- the journal goes with the live state, and what the history tells is read back from its writing, also the paths of its states
 pub record IsWhole (t : Inside) : Type 0 where

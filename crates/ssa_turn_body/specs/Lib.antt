@@ -1,3 +1,4 @@
+pub mod At
 pub mod Between
 pub mod Bodies
 pub mod Changes

@@ -2,6 +2,7 @@
 #![tactic(auto)]
 
 pub mod between;
+pub mod between_at;
 pub mod body;
 pub mod change;
 pub mod children;

@@ -23,7 +23,7 @@ use Rattle.ssa_typed.proofs.Lookups.{content-root, content-level, tree-child}
 
 -- ---- the node at a path
 
-abbrev IsTreeIn : Option Node → Type 0
+abbrev pub IsTreeIn : Option Node → Type 0
 IsTreeIn None = Unit {0}
 IsTreeIn (Some n) = is_tree n ≡ true
 
@@ -31,7 +31,7 @@ on-child : (c : Option Node) (p q : Path) → ((n : Node) → c ≡ Some n → c
 on-child None p q h = refl
 on-child (Some n) p q h = h n refl
 
-content-on : (p : Path) (n : Node) (q : Path) → is_tree n ≡ true → content_at (rows n) (p ++ q) ≡ content_in (node_on p n) q
+pub content-on : (p : Path) (n : Node) (q : Path) → is_tree n ≡ true → content_at (rows n) (p ++ q) ≡ content_in (node_on p n) q
 content-on [] n q h = refl
 content-on (e ∷ p) n q h = content-level n e (p ++ q) h ∙ on-child (child_at e (below n)) p q (λ c is. content-on p c q (tree-child n e c h is))
 
@@ -39,7 +39,7 @@ tree-in : (c : Option Node) (p : Path) → ((n : Node) → c ≡ Some n → IsTr
 tree-in None p h = tt
 tree-in (Some n) p h = h n refl
 
-tree-on : (p : Path) (n : Node) → is_tree n ≡ true → IsTreeIn (node_on p n)
+pub tree-on : (p : Path) (n : Node) → is_tree n ≡ true → IsTreeIn (node_on p n)
 tree-on [] n h = h
 tree-on (e ∷ p) n h = tree-in (child_at e (below n)) p (λ c is. tree-on p c (tree-child n e c h is))
 

@@ -1,9 +1,13 @@
 -- What reading a body answers.
-use Rattle.std.specs.Prelude.{◌≡◌, ◌<◌, ◌≤◌, [], Option, None, Some, option_map, Result, Ok, Err, Bool, false, codes}
+use Rattle.std.specs.Prelude.{◌≡◌, ◌<◌, ◌≤◌, [], Option, None, Some, option_map, Result, Ok, Err, Bool, false, true, codes}
 use Rattle.ssa_model.specs.definitions.Limits.{most_places}
 use Rattle.ssa_model.specs.definitions.Json.{Json, Members, member_of}
 use Rattle.ssa_model.specs.definitions.Kind.{Kind, faults}
-use Rattle.ssa_model.specs.definitions.PathMap.{size}
+use Rattle.ssa_model.specs.definitions.PathMap.{from_entries, size}
+use Rattle.ssa_model.specs.definitions.Fitting.{IsBodyOf}
+use Rattle.ssa_model.specs.definitions.Operations.{is_none}
+use Rattle.ssa_typed.specs.Rows.{body_of, is_tree}
+use Rattle.ssa_typed.specs.declared.node.Node.{Node}
 use Rattle.ssa_model.specs.definitions.Body as model
 use Rattle.ssa_model.specs.definitions.Body.{flat, is_empty_object}
 use Rattle.ssa_schema.specs.Finds.{told, told_view}
@@ -17,6 +21,17 @@ ReadsBody (Ok b) k v = (faults k v [] ≡ []) × ((b ≡ flat k v) × (size b �
 ReadsBody (Err (Body f)) k v = Some (told_view f) ≡ option_map told (first_of (faults k v []))
 ReadsBody (Err TooManyPaths) k v = (faults k v [] ≡ []) × (most_places < size (flat k v))
 ReadsBody (Err OutOfMemory) k v = Unit {0}
+
+-- The value fits the kind, and the tree has its places and is of a body of the kind; or it doesn't fit.
+pub record IsTreeRead (k : Kind) (v : Json) (n : Node) : Type 0 where
+  pub fits : faults k v [] ≡ []
+  pub tree : is_tree n ≡ true
+  pub body : IsBodyOf k (body_of n)
+  pub places : body_of n ≡ from_entries (model.places k v [])
+
+abbrev pub ReadsTree : Option Node → Kind → Json → Type 0
+ReadsTree None k v = is_none (faults k v []) ≡ false
+ReadsTree (Some n) k v = IsTreeRead k v n
 
 -- the members have a `metadata` with nothing in it
 abbrev pub is_empty_member : Option Json → Bool

@@ -50,6 +50,7 @@ pub data Code : Type 0 where
   command_shape : Code
   -- bench files
   bench_text : Code
+  record_does_not_fit : Code
   io : Code
   bench_too_long : Code
 
@@ -90,6 +91,7 @@ row_of nothing_to_undo = (64, codes "NothingToUndo")
 row_of nothing_to_redo = (65, codes "NothingToRedo")
 row_of command_shape = (66, codes "CommandShape")
 row_of bench_text = (70, codes "BenchText")
+row_of record_does_not_fit = (71, codes "RecordDoesNotFit")
 row_of io = (72, codes "Io")
 row_of bench_too_long = (73, codes "BenchTooLong")
 

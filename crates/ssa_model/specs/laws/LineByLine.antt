@@ -1,0 +1,104 @@
+-- A bench file of records read line by line: what stands next, what is taken of it, and the first fault. What is read so is what is
+-- taken of the whole text, and its fault where nothing is.
+use Rattle.std.specs.Prelude.{◌≡◌, ℕ, zero, suc, ◌+◌, ◌-◌, List, [], ◌∷◌, length, drop, Option, Some, None, Result, Ok, Err}
+use Rattle.ssa_model.specs.definitions.Limits.{most_bench_bytes}
+use Rattle.ssa_model.specs.definitions.Json.{Text, Json}
+use Rattle.ssa_model.specs.definitions.Lines.{whole_lines}
+use Rattle.ssa_model.specs.definitions.Operations.{State}
+use Rattle.ssa_model.specs.definitions.Readings.{Readings}
+use Rattle.ssa_model.specs.definitions.History.{Label, Timeline, Bench, appended, moved_to, present, with_timeline}
+use Rattle.ssa_model.specs.laws.BenchFiles.{spelled_value, schema_in}
+use Rattle.ssa_model.specs.laws.RecordedBenches.{counts_in, present_in, lines_within, MoveFault, no_move_text, value_move, recorded_bench_in, recorded_fault}
+
+-- ---- what stands next
+
+-- nothing, no value's line within the room, or a value, with the bytes and the room behind its line
+pub data Next : Type 0 where
+  at_end : Next
+  no_value : Next
+  value_then : Json → List ℕ → ℕ → Next
+
+-- ---- how a bench goes along its lines
+
+-- how a move changes a history
+abbrev pub Move : Type 0
+Move = Timeline → Label → State → Timeline
+
+-- a new state before all others, which was the first of them, and the place goes there
+abbrev pub preceded : Move
+preceded t label s = record { first = s; later = record { label = label; state = t.first } ∷ t.later; place = 0 }
+
+abbrev pub moved_by : Move → Bench → Label × State → Bench
+moved_by move b m = with_timeline b (move b.timeline m.0 m.1)
+
+abbrev pub at_place : ℕ → Bench → Bench
+at_place n b = with_timeline b (moved_to b.timeline n)
+
+-- ---- what is read of bytes, with so much room
+
+abbrev pub Reader : Type 0
+Reader = List ℕ → ℕ → Result Bench MoveFault
+
+-- a value stands next
+abbrev pub after_value : (Json → Reader) → Next → Result Bench MoveFault
+after_value go (value_then v ys left) = go v ys left
+after_value go at_end = Err no_move_text
+after_value go no_value = Err no_move_text
+
+-- a part is taken of the value
+abbrev pub after_part : {X : Type 0} → (X → Reader) → Option X → Reader
+after_part go (Some x) ys left = go x ys left
+after_part go None ys left = Err no_move_text
+
+abbrev pub after_move : (Label × State → Reader) → Result (Label × State) MoveFault → Reader
+after_move go (Ok m) ys left = go m ys left
+after_move go (Err f) ys left = Err f
+
+-- nothing stands behind
+abbrev pub at_last : Bench → Next → Result Bench MoveFault
+at_last b at_end = Ok b
+at_last b no_value = Err no_move_text
+at_last b (value_then v ys left) = Err no_move_text
+
+module _ (readings : Readings) where
+  abbrev pub first_value : List ℕ → ℕ → List Text → Next
+  first_value xs room [] = no_value
+  first_value xs room (t ∷ ts) = elim (spelled_value readings t) [ Some v ↦ value_then v (drop (length t + 1) xs) (room - (length t + 1)) | None ↦ no_value ]
+
+  abbrev pub next_value : ℕ → List ℕ → Next
+  next_value room [] = at_end
+  next_value room (x ∷ xs) = first_value (x ∷ xs) room (lines_within room (whole_lines (x ∷ xs)))
+
+  abbrev pub with_value : (Json → Reader) → Reader
+  with_value go xs room = after_value go (next_value room xs)
+
+  abbrev pub with_part : {X : Type 0} → (Json → Option X) → (X → Reader) → Reader
+  with_part take go = with_value (λ v. after_part go (take v))
+
+  -- so many lines, each a move from the present state
+  abbrev pub along : Move → (Bench → Reader) → ℕ → Bench → Reader
+  along move go zero b = go b
+  along move go (suc n) b = with_value (λ v. after_move (λ m. along move go n (moved_by move b m)) (value_move readings b (present b.timeline) v))
+
+  abbrev pub ended_with : Bench → Reader
+  ended_with b xs room = at_last b (next_value room xs)
+
+  -- the future behind the present state, and the end
+  abbrev pub on_from : ℕ → ℕ → Bench → Reader
+  on_from past future b = along appended (λ last. ended_with (at_place past last)) future (at_place past b)
+
+  -- the past back from the present state, the future and the end
+  abbrev pub moves_from : ℕ → ℕ → Bench → Reader
+  moves_from past future b = along preceded (on_from past future) past b
+
+  abbrev pub file_from : Reader
+  file_from =
+      with_part counts_in (λ counts. with_part schema_in (λ schema. with_part (present_in readings schema) (moves_from counts.past counts.future)))
+
+-- ---- the law
+
+-- what is read line by line is what is taken of the text, or the fault of its first faulty line
+abbrev pub FilesAreRead : Type 0
+FilesAreRead =
+    (readings : Readings) (t : Text)
+    → file_from readings t most_bench_bytes ≡ elim (recorded_bench_in readings t) [ Some bench ↦ Ok bench | None ↦ Err (recorded_fault readings t) ]
