@@ -1,9 +1,9 @@
 pub mod Planned
 pub mod Taken
 pub mod ReadBack
-pub mod TakenSteps
+pub mod TakenLines
 pub mod LoadedParts
-pub mod LoadedSteps
+pub mod LoadedMoves
 pub mod LoadedBench
 pub mod ValidBench
 pub mod SavedBench

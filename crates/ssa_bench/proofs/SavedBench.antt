@@ -1,14 +1,15 @@
 -- What is saved is the file of the bench.
-use Rattle.std.proofs.Common.{◌≤◌, List, [], ◌∷◌, length, map, refl}
+use Rattle.std.proofs.Common.{◌≡◌, ◌≤◌, List, [], ◌∷◌, ◌++◌, length, true, refl}
 use Rattle.std.specs.List.{All}
 use Rattle.std.proofs.lemmas.List.Elements.{All-head, All-tail, All-nil, All-cons}
 use Rattle.ssa_model.specs.definitions.Limits.{most_bench_bytes}
 use Rattle.ssa_model.specs.definitions.Json.{Json}
-use Rattle.ssa_model.specs.definitions.History.{Bench}
-use Rattle.ssa_model.specs.definitions.BenchText.{bench_text, bench_values, first_json, head_json, step_json}
-use Rattle.ssa_model.specs.definitions.BenchFile.{IsBenchFile, IsSpelled, IsValidBench}
-use Rattle.ssa_model.specs.laws.BenchDepths.{DistinctBenchIsShallow, IsShallow}
-use Rattle.ssa_model.specs.laws.MemberNames.{RisingIsDistinct}
+use Rattle.ssa_model.specs.definitions.History.{Bench, future_len, past_len, present}
+use Rattle.ssa_model.specs.definitions.BenchText.{whole_object}
+use Rattle.ssa_model.specs.definitions.MemberNames.{has_rising_names}
+use Rattle.ssa_model.specs.definitions.BenchFile.{IsSpelled, IsValidBench}
+use Rattle.ssa_model.specs.definitions.RecordedBench.{HasReadHistory, future_lines, future_steps, past_lines, past_steps, record_head, recorded_text, recorded_values, IsRecordedFile}
+use Rattle.ssa_model.specs.laws.BenchDepths.{IsShallow}
 use Rattle.ssa_json.specs.Readings.{readings}
 use Rattle.ssa_json.specs.Writable.{CompactIsRead, IsOfProgram}
 
@@ -21,15 +22,20 @@ all-spelled (v ∷ vs) read made shallow =
     (all-spelled vs read (All-tail IsOfProgram v vs made) (All-tail IsShallow v vs shallow))
 
 -- the text of a valid bench whose values the program makes is its file
-pub is-file : (bench : Bench) → CompactIsRead → RisingIsDistinct → DistinctBenchIsShallow → IsValidBench readings bench → All IsOfProgram (bench_values bench)
-    → length (bench_text bench) ≤ most_bench_bytes → IsBenchFile readings (bench_text bench) bench
-is-file bench read distinct shallow valid made fits =
-    let states = first_json bench ∷ map (step_json bench) bench.timeline.later in
-    let behind = All-tail IsOfProgram (head_json bench.timeline) (bench.schema.source ∷ states) made in
-    let source = All-head IsOfProgram bench.schema.source states behind in
-    record {
-      valid = valid;
-      text = refl;
-      fits = fits;
-      spelled = all-spelled (bench_values bench) read made (shallow readings bench valid (distinct bench.schema.source source.names));
-    }
+pub is-file : (bench : Bench) → CompactIsRead → All IsShallow (recorded_values bench) → IsValidBench readings bench → HasReadHistory readings bench.timeline
+    → All IsOfProgram (recorded_values bench) → length (recorded_text bench) ≤ most_bench_bytes → IsRecordedFile readings (recorded_text bench) bench
+is-file bench read shallow valid paths made fits = record {
+  valid = valid;
+  paths = paths;
+  text = refl;
+  fits = fits;
+  spelled = all-spelled (recorded_values bench) read made shallow;
+}
+
+-- the names in the schema's value rise
+pub source-names : (bench : Bench) → All IsOfProgram (recorded_values bench) → has_rising_names bench.schema.source ≡ true
+source-names bench made =
+    let t = bench.timeline in
+    let head = record_head (past_len t) (future_len t) in
+    let rest = whole_object bench (present t) ∷ past_lines bench t.first (past_steps t) ++ future_lines bench (present t) (future_steps t) in
+    (All-head IsOfProgram bench.schema.source rest (All-tail IsOfProgram head (bench.schema.source ∷ rest) made)).names

@@ -1,88 +1,83 @@
 -- What loading a bench answers.
-use Rattle.std.specs.Prelude.{◌≡◌, ◌≤◌, ◌<◌, ◌+◌, ℕ, List, [], ◌∷◌, length, Option, Some, None, option_map, option_and_then, Result, Ok, Err}
-use Rattle.ssa_model.specs.definitions.Limits.{most_past, most_bench_bytes}
+use Rattle.std.specs.Prelude.{◌≡◌, ℕ, List, [], Option, Some, None, Result, Ok, Err}
 use Rattle.ssa_model.specs.definitions.Json.{Json}
-use Rattle.ssa_model.specs.definitions.History.{Bench, Step, with_timeline}
-use Rattle.ssa_model.specs.definitions.BenchText.{bench_text}
-use Rattle.ssa_model.specs.definitions.BenchFile.{IsBenchFile, IsValidBench}
-use Rattle.ssa_model.specs.laws.BenchFiles.{bench_in, steps_in, values_of}
+use Rattle.ssa_model.specs.definitions.History.{Bench}
+use Rattle.ssa_model.specs.definitions.BenchFile.{IsValidBench}
+use Rattle.ssa_model.specs.definitions.Limits.{most_bench_bytes}
+use Rattle.ssa_model.specs.definitions.RecordedBench.{HasReadHistory, recorded_text, IsRecordedFile}
+use Rattle.ssa_model.specs.laws.LineByLine.{Move, Reader, along, at_end, ended_with, next_value, with_part, with_value}
+use Rattle.ssa_model.specs.laws.RecordedBenches.{MoveFault, no_move_text, record_does_not_fit, recorded_bench_in, recorded_fault}
+use Rattle.std.specs.Prelude.{◌≤◌, length}
 use Rattle.ssa_json.specs.Readings.{readings}
-use Rattle.ssa_file.specs.Loading.{IsFirstLine}
+use Rattle.ssa_file.specs.Loading.{IsNextLine}
 use Rattle.ssa_file.specs.declared.loading.FileLine.{FileLine}
 use Rattle.ssa_file.specs.declared.loading.LoadFault.{LoadFault}
-use Rattle.ssa_file.specs.declared.loading.LoadFault.TheVariants.{BenchText}
+use Rattle.ssa_file.specs.declared.loading.LoadFault.TheVariants.{BenchText, RecordDoesNotFit, Io, OutOfMemory}
 
--- ---- a part of the file
+-- ---- parts of the file
 
--- the bytes begin with a line from whose value the part is taken
+-- What is read of bytes is refused with this fault; of want of memory and of a failed device nothing is said.
+abbrev pub ReadRefuses : {X : Type 0} → LoadFault → Result X MoveFault → Type 0
+ReadRefuses BenchText r = r ≡ Err no_move_text
+ReadRefuses RecordDoesNotFit r = r ≡ Err record_does_not_fit
+ReadRefuses Io r = Unit {0}
+ReadRefuses OutOfMemory r = Unit {0}
+
+-- Of bytes that the source tells: the line that stands next, or that none does, whatever is to be read of it.
+abbrev pub ReadsLine : Option (List ℕ) → Option (List ℕ) → ℕ → ℕ → Result FileLine LoadFault → Type 0
+ReadsLine None after room room_after r = Unit {0}
+ReadsLine (Some xs) after room room_after (Ok l) = IsNextLine xs after room room_after l
+ReadsLine (Some xs) after room room_after (Err f) = (go : Json → Reader) → ReadRefuses f (with_value readings go xs room)
+
+-- a part is taken of the line that stands next, and reading goes on behind it
 pub record IsPart {X : Type 0} (take : Json → Option X) (xs : List ℕ) (after : Option (List ℕ)) (room room_after : ℕ) (x : X) : Type 0 where
-  pub value : Json
-  pub taken : take value ≡ Some x
   pub rest : List ℕ
   pub left : after ≡ Some rest
-  pub values : values_of readings xs ≡ option_map (λ vs. value ∷ vs) (values_of readings rest)
-  pub counted : length xs + room_after ≡ length rest + room
+  pub goes_on : (go : X → Reader) → with_part readings take go xs room ≡ go x rest room_after
 
--- whatever first value the bytes have, nothing is taken of it, or there are more bytes than room
-abbrev pub HasNoPart : {X : Type 0} → (Json → Option X) → List ℕ → ℕ → Type 0
-HasNoPart take xs room = (v : Json) (vs : List Json) → values_of readings xs ≡ Some (v ∷ vs) → length xs ≤ room → take v ≡ None
-
--- Of bytes that the source tells: a part of their first value, or that there is none.
 abbrev pub ReadsPart : {X : Type 0} → (Json → Option X) → Option (List ℕ) → Option (List ℕ) → ℕ → ℕ → Result X LoadFault → Type 0
 ReadsPart take None after room room_after r = Unit {0}
 ReadsPart take (Some xs) after room room_after (Ok x) = IsPart take xs after room room_after x
-ReadsPart take (Some xs) after room room_after (Err BenchText) = HasNoPart take xs room
-ReadsPart take (Some xs) after room room_after (Err f) = Unit {0}
+ReadsPart {X = X} take (Some xs) after room room_after (Err f) = (go : X → Reader) → ReadRefuses f (with_part readings take go xs room)
 
--- the value of a line
-abbrev pub ReadsLine : Option (List ℕ) → Option (List ℕ) → ℕ → ℕ → Result FileLine LoadFault → Type 0
-ReadsLine None after room room_after r = Unit {0}
-ReadsLine (Some xs) after room room_after (Ok l) = IsFirstLine xs after room room_after l
-ReadsLine (Some xs) after room room_after (Err BenchText) = (v : Json) (vs : List Json) → values_of readings xs ≡ Some (v ∷ vs) → length xs ≤ room → ⊥
-ReadsLine (Some xs) after room room_after (Err f) = Unit {0}
+-- the lines of so many moves are read, the bench goes their way, and reading goes on behind them
+pub record HasMoved (move : Move) (count : ℕ) (xs : List ℕ) (after : Option (List ℕ)) (room room_after : ℕ) (old new : Bench) : Type 0 where
+  pub rest : List ℕ
+  pub left : after ≡ Some rest
+  pub goes_on : (go : Bench → Reader) → along readings move go count old xs room ≡ go new rest room_after
 
--- ---- the later states
+abbrev pub ReadsMoves : Move → ℕ → Option (List ℕ) → Option (List ℕ) → ℕ → ℕ → Bench → Bench → Result (Unit {0}) LoadFault → Type 0
+ReadsMoves move count None after room room_after old new r = Unit {0}
+ReadsMoves move count (Some xs) after room room_after old new (Ok u) = HasMoved move count xs after room room_after old new
+ReadsMoves move count (Some xs) after room room_after old new (Err f) = (go : Bench → Reader) → ReadRefuses f (along readings move go count old xs room)
 
-abbrev pub steps_of : Bench → List ℕ → Option (List Step)
-steps_of lone xs = option_and_then (steps_in readings lone lone.timeline.first) (values_of readings xs)
-
--- the bench with these later states, at the last of them
-abbrev pub at_last : Bench → List Step → Bench
-at_last lone ss = with_timeline lone (record { first = lone.timeline.first; later = ss; place = length ss })
-
--- the steps of all bytes are taken, and the bench goes to the last
-pub record HasTaken (xs : List ℕ) (after : Option (List ℕ)) (room : ℕ) (lone new : Bench) : Type 0 where
-  pub steps : List Step
-  pub taken : steps_of lone xs ≡ Some steps
-  pub bench : new ≡ at_last lone steps
-  pub left : after ≡ Some []
-  pub fits : length xs ≤ room
-
--- Of bytes that the source tells: all their steps, or that none are taken of them, or too many, or there are too many bytes.
-abbrev pub TakesSteps : Option (List ℕ) → Option (List ℕ) → ℕ → Bench → Bench → Result (Unit {0}) LoadFault → Type 0
-TakesSteps None after room lone new r = Unit {0}
-TakesSteps (Some xs) after room lone new (Ok u) = HasTaken xs after room lone new
-TakesSteps (Some xs) after room lone new (Err BenchText) = (ss : List Step) → steps_of lone xs ≡ Some ss → length xs ≤ room → most_past < length ss
-TakesSteps (Some xs) after room lone new (Err f) = Unit {0}
+-- nothing stands behind
+abbrev pub ReadsEnd : Option (List ℕ) → Option (List ℕ) → ℕ → Result (Unit {0}) LoadFault → Type 0
+ReadsEnd None after room r = Unit {0}
+ReadsEnd (Some xs) after room (Ok u) = (next_value readings room xs ≡ at_end) × (after ≡ Some [])
+ReadsEnd (Some xs) after room (Err f) = (b : Bench) → ReadRefuses f (ended_with readings b xs room)
 
 -- ---- the bench
 
--- the bytes are the file of the bench, which is valid, and were taken to their end
+-- the bytes are the text of the bench, which is valid, and were taken to their end
 pub record IsLoaded (xs : List ℕ) (after : Option (List ℕ)) (bench : Bench) : Type 0 where
-  pub taken : bench_in readings xs ≡ Some bench
+  pub taken : recorded_bench_in readings xs ≡ Some bench
   pub valid : IsValidBench readings bench
-  pub text : xs ≡ bench_text bench
+  pub paths : HasReadHistory readings bench.timeline
+  pub text : xs ≡ recorded_text bench
   pub fits : length xs ≤ most_bench_bytes
   pub left : after ≡ Some []
 
--- the bytes are no bench's file
-pub record IsNoFile (xs : List ℕ) : Type 0 where
-  pub taken : bench_in readings xs ≡ None
-  pub none : (bench : Bench) → IsBenchFile readings xs bench → ⊥
+-- the bytes are no bench's file, and this is the fault of their first line that has one
+pub record IsRefused (xs : List ℕ) (f : MoveFault) : Type 0 where
+  pub taken : recorded_bench_in readings xs ≡ None
+  pub none : (bench : Bench) → IsRecordedFile readings xs bench → ⊥
+  pub fault : recorded_fault readings xs ≡ f
 
--- Of bytes that the source tells: the bench of which they are the file, or that they are none's.
+-- Of bytes that the source tells: the bench of which they are the file, or that they are none's, and why.
 abbrev pub Loads : Option (List ℕ) → Option (List ℕ) → Result Bench LoadFault → Type 0
 Loads None after r = Unit {0}
 Loads (Some xs) after (Ok bench) = IsLoaded xs after bench
-Loads (Some xs) after (Err BenchText) = IsNoFile xs
+Loads (Some xs) after (Err BenchText) = IsRefused xs no_move_text
+Loads (Some xs) after (Err RecordDoesNotFit) = IsRefused xs record_does_not_fit
 Loads (Some xs) after (Err f) = Unit {0}

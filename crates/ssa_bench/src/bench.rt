@@ -4,9 +4,8 @@ ghost use Rattle.ssa_model.specs.definitions.Limits.{most_bench_bytes};
 ghost use Rattle.ssa_model.specs.definitions.Answers.{answer, apply, update, strip, undo, redo, log, logged, apply_answer, bench_of, body_or_fault, command_body, owners_of, file_state, lone_bench};
 ghost use Rattle.ssa_model.specs.definitions.Entries.{object_of_state};
 ghost use Rattle.ssa_model.specs.definitions.History.{is_manager_name, past_len, future_len, present};
-ghost use Rattle.ssa_model.specs.definitions.BenchFile.{IsBenchFile};
-ghost use Rattle.ssa_model.specs.definitions.BenchText.{bench_text, bench_values};
 ghost use Rattle.ssa_model.specs.definitions.PathMap.{size};
+ghost use Rattle.ssa_model.specs.definitions.RecordedBench.{recorded_text, recorded_values, IsRecordedFile};
 ghost use Rattle.ssa_model.specs.definitions.Valid.{IsTable, IsValidState, IsValidBody};
 ghost use Rattle.ssa_json.specs.Readings.{readings};
 ghost use Rattle.ssa_json.specs.View.{view};
@@ -28,7 +27,8 @@ mod sizes;
 use crate::command::Command;
 use crate::fault::Fault;
 use crate::prepared::{Changed, Counts, Prepared, accepted};
-use ssa_file::saving::{SaveFault, bench_text, write_text};
+use ssa_file::recording::recorded_text;
+use ssa_file::saving::{SaveFault, write_text};
 use ssa_json::moment::Moment;
 use ssa_json::sink::Sink;
 use ssa_json::value::Json;
@@ -39,7 +39,7 @@ use ssa_merge::managers::Managers;
 use ssa_merge::names::is_manager_name;
 use ssa_merge::owned::owners;
 use ssa_merge::state::State;
-use ssa_model::{bench_values_are_shallow, rising_names_are_distinct};
+use ssa_model::{recorded_values_are_shallow, rising_names_are_distinct};
 use ssa_object::body_value::{body_value, file_parts};
 use ssa_object::identity::{Identity, gives_managed_fields, has_identity};
 use ssa_object::object::object_of_state;
@@ -112,12 +112,7 @@ fn given_managers(
 }
 
 // The state that an object file gives, or its first fault.
-pub(crate) fn file_state(
-    alloc: Global,
-    schema: &Schema,
-    object: Json,
-    version: &str,
-) -> Result<State, Fault>
+fn file_state(alloc: Global, schema: &Schema, object: Json, version: &str) -> Result<State, Fault>
     requires { version.now ≡ version_in (view object) }
     ensures given { IsGivenState result (file_state readings schema.now.kind (view object)) }
     ensures valid { IfOk result (λ s. IsValidState schema.now.kind (state_view s)) }
@@ -437,47 +432,35 @@ impl Bench {
         Ok(log)
     }
 
-    // The text of the bench file. The bench goes along its history, and back to where it was.
-    fn text(&mut self, alloc: Global) -> Result<Vec<u8>, SaveFault>
-        ensures same { self.new ≡ self.old }
-        ensures ok { IfOk result (λ t. t.items ≡ bench_text self.old) }
+    // The text of the bench file.
+    fn text(&self, alloc: Global) -> Result<Vec<u8>, SaveFault>
+        ensures ok { IfOk result (λ t. t.items ≡ recorded_text self.now) }
         ensures fits { IfOk result (λ t. length t.items ≤ most_bench_bytes) }
-        ensures of_program { OnOk result (All IsOfProgram (bench_values self.old)) }
-        ensures refused { IfErr result (λ f. CannotHold f (bench_text self.old)) }
+        ensures of_program { OnOk result (All IsOfProgram (recorded_values self.now)) }
+        ensures refused { IfErr result (λ f. CannotHold f (recorded_text self.now)) }
     {
-        self.timeline.place_is_within();
-        let place = self.timeline.past_len();
-        self.timeline.go_to(0);
-        let text = bench_text(
-            alloc,
-            &self.schema,
-            &self.identity,
-            place,
-            &mut self.timeline,
-        );
-        self.timeline.go_to(place);
-        text
+        recorded_text(alloc, &self.schema, &self.identity, &self.timeline)
     }
 
     /// Writes the bench as a file, and hands it on. A file has at most
     /// [`MOST_FILE_BYTES`](ssa_file::saving::MOST_FILE_BYTES) bytes; nothing is written before all of it
-    /// stands in memory. The bench is gone along for its states, and is as it was, whatever comes.
-    pub fn save<S: Sink>(&mut self, alloc: Global, sink: &mut S) -> Result<(), SaveFault>
-        ensures same { self.new ≡ self.old }
-        ensures ok { OnOk result (Appends (S.contents sink.old) (S.contents sink.new) (bench_text self.old)) }
+    /// stands in memory.
+    pub fn save<S: Sink>(&self, alloc: Global, sink: &mut S) -> Result<(), SaveFault>
+        ensures ok { OnOk result (Appends (S.contents sink.old) (S.contents sink.new) (recorded_text self.now)) }
         ensures handed_on { OnOk result (S.is_handed_on sink.new ≡ true) }
-        ensures fits { OnOk result (length (bench_text self.old) ≤ most_bench_bytes) }
+        ensures fits { OnOk result (length (recorded_text self.now) ≤ most_bench_bytes) }
 
         // What is written is the bench's file: `load` gives the bench back from it.
-        ensures file { OnOk result (IsBenchFile readings (bench_text self.old) self.old) }
-        ensures refused { IfErr result (NotSaved S.contents S.has_failed sink.old sink.new (bench_text self.old)) }
+        ensures file { OnOk result (IsRecordedFile readings (recorded_text self.now) self.now) }
+        ensures refused { IfErr result (NotSaved S.contents S.has_failed sink.old sink.new (recorded_text self.now)) }
     {
         let text = self.text(alloc)?;
         write_text(sink, &text)?;
         self.is_valid();
+        self.paths_are_read();
         compact_is_read();
         rising_names_are_distinct();
-        bench_values_are_shallow();
+        recorded_values_are_shallow();
         Ok(())
     }
 }

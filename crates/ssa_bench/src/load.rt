@@ -1,20 +1,26 @@
 //! A bench is taken from its file, line by line.
-ghost use Rattle.std.specs.Prelude.{◌≡◌, true, Err, IfOk};
+ghost use Rattle.std.specs.Prelude.{◌≡◌, ◌≤◌, ◌+◌, true, Err, IfOk, OnOk, length};
 ghost use Rattle.ssa_model.specs.definitions.Answers.{lone_state};
+ghost use Rattle.ssa_model.specs.definitions.History.{appended, past_len};
 ghost use Rattle.ssa_model.specs.definitions.Json.{compact};
-ghost use Rattle.ssa_model.specs.laws.BenchFiles.{lone_in, schema_in};
+ghost use Rattle.ssa_model.specs.definitions.Limits.{most_past};
+ghost use Rattle.ssa_model.specs.laws.BenchFiles.{schema_in};
+ghost use Rattle.ssa_model.specs.laws.LineByLine.{preceded};
+ghost use Rattle.ssa_model.specs.laws.RecordedBenches.{present_in};
 ghost use Rattle.ssa_json.specs.Readings.{readings};
 ghost use Rattle.ssa_json.specs.View.{view};
+ghost use Rattle.ssa_json.specs.Writable.{IsOfProgram};
 ghost use Rattle.ssa_file.specs.declared.loading.LoadFault.TheVariants.{Io};
-ghost use Rattle.ssa_bench.specs.Loading.{Loads, ReadsLine, ReadsPart, TakesSteps};
-ghost use Rattle.ssa_bench.specs.Taking.{heads_in};
+ghost use Rattle.ssa_bench.specs.Loading.{Loads, ReadsEnd, ReadsLine, ReadsMoves, ReadsPart};
+ghost use Rattle.ssa_bench.specs.Taking.{held_counts};
 
-use crate::bench::{Bench, MOST_PAST};
-use crate::taking::{head_of, schema_of};
-use ssa_file::head::Head;
+use crate::bench::Bench;
+use crate::taking::{counts_of, schema_of};
+use ssa_file::head::RecordCounts;
 use ssa_file::loading::{FileLine, LoadFault, read_value};
 use ssa_file::saving::MOST_FILE_BYTES;
 use ssa_json::source::Source;
+use ssa_model::records::{recorded_files, recorded_lines};
 use ssa_schema::schema::Schema;
 use std::alloc::Global;
 
@@ -26,6 +32,7 @@ fn next_line<R: Source>(
 ) -> Result<FileLine, LoadFault>
     ensures read { ReadsLine (R.remaining reader.old) (R.remaining reader.new) room.old room.new result }
     ensures spelled { IfOk result (λ l. l.text.items ≡ compact (view l.value)) }
+    ensures of_program { IfOk result (λ l. IsOfProgram (view l.value)) }
     ensures failed { result ≡ Err LoadFault.Io → R.has_failed reader.new ≡ true }
 {
     match read_value(alloc, reader, room)? {
@@ -34,13 +41,18 @@ fn next_line<R: Source>(
     }
 }
 
-// Reads the first line: the place of the present state, and how many states there are.
-fn read_head<R: Source>(alloc: Global, reader: &mut R, room: &mut usize) -> Result<Head, LoadFault>
-    ensures read { ReadsPart heads_in (R.remaining reader.old) (R.remaining reader.new) room.old room.new result }
+// Reads the first line: how many commands can be undone, and how many redone.
+fn read_counts<R: Source>(
+    alloc: Global,
+    reader: &mut R,
+    room: &mut usize,
+) -> Result<RecordCounts, LoadFault>
+    ensures few { IfOk result (λ c. c.past + c.future ≤ most_past) }
+    ensures read { ReadsPart held_counts (R.remaining reader.old) (R.remaining reader.new) room.old room.new result }
     ensures failed { result ≡ Err LoadFault.Io → R.has_failed reader.new ≡ true }
 {
     let line = next_line(alloc, reader, room)?;
-    head_of(alloc, &line)
+    counts_of(alloc, &line)
 }
 
 // Reads the second line: the schema.
@@ -56,38 +68,69 @@ fn read_schema<R: Source>(
     schema_of(alloc, line.value)
 }
 
-// Reads the third line: the first state, and with it the bench of that state.
-fn read_first<R: Source>(
+// Reads the third line: the present object, and with it the bench of that state.
+fn read_present<R: Source>(
     alloc: Global,
     reader: &mut R,
     room: &mut usize,
     schema: Schema,
 ) -> Result<Bench, LoadFault>
     ensures lone { IfOk result (λ b. b.timeline ≡ lone_state b.timeline.first) }
-    ensures read { ReadsPart (lone_in readings schema) (R.remaining reader.old) (R.remaining reader.new) room.old room.new result }
+    ensures read { ReadsPart (present_in readings schema) (R.remaining reader.old) (R.remaining reader.new) room.old room.new result }
     ensures failed { result ≡ Err LoadFault.Io → R.has_failed reader.new ≡ true }
 {
     let line = next_line(alloc, reader, room)?;
-    Bench::of_first_line(alloc, schema, line)
+    Bench::of_present_line(alloc, schema, line)
 }
 
-// Takes the later states, each behind the one before it.
-fn take_steps<R: Source>(
+// Reads the lines of the past, and goes back along them.
+fn read_past<R: Source>(
     alloc: Global,
     reader: &mut R,
     room: &mut usize,
     bench: &mut Bench,
+    count: usize,
 ) -> Result<(), LoadFault>
-    requires { bench.old.timeline ≡ lone_state bench.old.timeline.first }
-    ensures taken { TakesSteps (R.remaining reader.old) (R.remaining reader.new) room.old bench.old bench.new result }
+    requires first { past_len bench.old.timeline ≡ 0 }
+    requires few { length bench.old.timeline.later + count ≤ most_past }
+    ensures read { ReadsMoves preceded count (R.remaining reader.old) (R.remaining reader.new) room.old room.new bench.old bench.new result }
+    ensures many { OnOk result (length bench.new.timeline.later ≡ length bench.old.timeline.later + count) }
     ensures failed { result ≡ Err LoadFault.Io → R.has_failed reader.new ≡ true }
 {
-    for _ in 0..MOST_PAST {
-        let Some(line) = read_value(alloc, reader, room)? else {
-            return Ok(());
-        };
-        bench.take_line(alloc, line)?;
+    for _ in 0..count {
+        let line = next_line(alloc, reader, room)?;
+        bench.go_back_by(alloc, &line)?;
     }
+    Ok(())
+}
+
+// Reads the lines of the future, and goes on along them.
+fn read_future<R: Source>(
+    alloc: Global,
+    reader: &mut R,
+    room: &mut usize,
+    bench: &mut Bench,
+    count: usize,
+) -> Result<(), LoadFault>
+    requires few { past_len bench.old.timeline + count ≤ most_past }
+    ensures read { ReadsMoves appended count (R.remaining reader.old) (R.remaining reader.new) room.old room.new bench.old bench.new result }
+    ensures many { OnOk result (past_len bench.new.timeline ≡ past_len bench.old.timeline + count) }
+    ensures within { OnOk result (past_len bench.new.timeline ≤ length bench.new.timeline.later) }
+    ensures failed { result ≡ Err LoadFault.Io → R.has_failed reader.new ≡ true }
+{
+    for _ in 0..count {
+        let line = next_line(alloc, reader, room)?;
+        bench.go_on_by(alloc, &line)?;
+    }
+    bench.place_is_within();
+    Ok(())
+}
+
+// Reads that nothing stands behind.
+fn read_end<R: Source>(alloc: Global, reader: &mut R, room: &mut usize) -> Result<(), LoadFault>
+    ensures read { ReadsEnd (R.remaining reader.old) (R.remaining reader.new) room.old result }
+    ensures failed { result ≡ Err LoadFault.Io → R.has_failed reader.new ≡ true }
+{
     match read_value(alloc, reader, room)? {
         Some(_) => Err(LoadFault::BenchText),
         None => Ok(()),
@@ -97,25 +140,34 @@ fn take_steps<R: Source>(
 impl Bench {
     /// Takes a bench from its file: the text that [`save`](Bench::save) writes of it, and nothing else.
     ///
-    /// Reads line by line, and holds one line beside the bench that it makes. `BenchText` is answered
-    /// for the first line that is not as `save` would write it: another spelling of a value, a
-    /// schema, an object or an entry that is refused, a label that no command gives, managers in
-    /// another order than before; for a place beyond the states or a wrong count of them; for more
-    /// commands than can be undone; and for more than
-    /// [`MOST_FILE_BYTES`](ssa_file::saving::MOST_FILE_BYTES) bytes. Of what the commands of the
-    /// history do nothing is asked: their states are taken as they stand.
+    /// Reads line by line, and holds one line beside the bench that it makes: the present object first,
+    /// then the records that lead back from it, and those that lead on. Each record's room is made on
+    /// the way, so that undo and redo take no memory. Of several faulty lines the first is told.
+    /// `BenchText` is answered for a line that is not as `save` would write it: another spelling of a
+    /// value, a schema, an object or an entry that is refused, a label that no command gives, what has
+    /// not the shape of a record; for a wrong count of lines; for more commands than can be undone;
+    /// and for more than [`MOST_FILE_BYTES`](ssa_file::saving::MOST_FILE_BYTES) bytes.
+    /// `RecordDoesNotFit` is answered for a record that is none from the state that it is told of to a
+    /// valid one. Of what the commands of the history do nothing is asked: their states are taken as
+    /// the records lead to them.
     pub fn load<R: Source>(alloc: Global, reader: &mut R) -> Result<Bench, LoadFault>
         // A bench is taken exactly from its file; of want of memory and of a failed reader nothing is said.
         ensures loaded { Loads (R.remaining reader.old) (R.remaining reader.new) result }
         ensures failed { result ≡ Err LoadFault.Io → R.has_failed reader.new ≡ true }
     {
+        recorded_lines();
+        recorded_files();
         let mut room = MOST_FILE_BYTES;
-        let head = read_head(alloc, reader, &mut room)?;
+        let counts = read_counts(alloc, reader, &mut room)?;
         let schema = read_schema(alloc, reader, &mut room)?;
-        let mut bench = read_first(alloc, reader, &mut room, schema)?;
-        take_steps(alloc, reader, &mut room, &mut bench)?;
-        let bench = bench.at_head(head)?;
+        let mut bench = read_present(alloc, reader, &mut room, schema)?;
+        read_past(alloc, reader, &mut room, &mut bench, counts.past)?;
+        bench.go_to(counts.past);
+        read_future(alloc, reader, &mut room, &mut bench, counts.future)?;
+        read_end(alloc, reader, &mut room)?;
+        bench.go_to(counts.past);
         bench.is_valid();
+        bench.paths_are_read();
         Ok(bench)
     }
 }

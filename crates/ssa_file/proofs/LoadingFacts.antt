@@ -1,5 +1,5 @@
 -- Laws of reading the values of a bench file.
-use Rattle.std.proofs.Common.{◌≡◌, ◌≢◌, ℕ, ◌+◌, ◌↔◌, IsTrue, Bool, true, false, length, List, [], ◌∷◌, ◌++◌, Option, Some, None, OnSome, Result, Ok, Err, inl, refl, sym, ap, subst, ◌∙◌, arith, length-append}
+use Rattle.std.proofs.Common.{◌≡◌, ◌≢◌, ◌≤◌, ◌<◌, ◌-◌, ℕ, ◌+◌, ◌↔◌, IsTrue, Bool, true, false, length, List, [], ◌∷◌, ◌++◌, Option, Some, None, OnSome, Result, Ok, Err, refl, sym, ap, subst, ◌∙◌, arith}
 use Rattle.std.proofs.lemmas.Bool.{false≢true}
 use Rattle.std.proofs.lemmas.List.{append-nil}
 use Rattle.std.proofs.lemmas.Result.{err_from_is_err_and}
@@ -9,8 +9,10 @@ use Rattle.std.specs.Prelude.{Vec}
 use Rattle.std.specs.declared.alloc.Global.{Global}
 use Rattle.ssa_model.specs.definitions.Json.{Text, compact, same_text}
 use Rattle.ssa_model.specs.definitions.Lines.{line_feed}
-use Rattle.ssa_model.specs.laws.BenchFiles.{spelled_value, values_of}
-use Rattle.ssa_model.proofs.FirstValues.{spelled-found, values-found, values-refused, values-unended}
+use Rattle.ssa_model.specs.laws.BenchFiles.{spelled_value}
+use Rattle.ssa_model.specs.laws.LineByLine.{next_value, value_then}
+use Rattle.ssa_model.proofs.FirstValues.{spelled-found}
+use Rattle.ssa_model.proofs.NextValues.{next-beyond, next-of-line, next-refused, next-unended}
 use Rattle.ssa_model.proofs.Tables.{same_text-true}
 use Rattle.ssa_json.specs.Reading.{json_reading}
 use Rattle.ssa_json.specs.Readings.{readings}
@@ -19,10 +21,10 @@ use Rattle.ssa_file.specs.Held.{Holds}
 use Rattle.ssa_file.specs.Loading.{IsSpelledAs, ReadsValue}
 use Rattle.ssa_file.specs.Reading.{TakesLine}
 use Rattle.ssa_file.specs.declared.line.Line.{Line}
-use Rattle.ssa_file.specs.declared.line.Line.TheVariants.{Kept}
+use Rattle.ssa_file.specs.declared.line.Line.TheVariants.{Kept, TooLong}
 use Rattle.ssa_file.specs.declared.loading.FileLine.{FileLine}
 use Rattle.ssa_file.specs.declared.loading.LoadFault.{LoadFault}
-use Rattle.ssa_file.specs.declared.loading.LoadFault.TheVariants.{BenchText, Io, OutOfMemory}
+use Rattle.ssa_file.specs.declared.loading.LoadFault.TheVariants.{BenchText, RecordDoesNotFit, Io, OutOfMemory}
 
 -- a line whose value is read from its text, and written as it
 pub spelled-as : (l : FileLine) (read written shown spelled : Text)
@@ -46,7 +48,17 @@ refused-unended most room room_after (Some xs) None line empty takes end test so
 refused-unended most room room_after (Some xs) (Some ys) line empty takes end test some =
     let whole : xs ≡ takes.text = takes.taken ∙ ap (λ t. (takes.text ++ []) ++ t) end ∙ append-nil (takes.text ++ []) ∙ append-nil takes.text in
     let there : takes.text ≢ [] = λ none. false≢true (sym some ∙ (test takes.text takes.held).1 none) in
-    inl (ap (values_of readings) whole ∙ values-unended readings takes.text takes.plain there)
+    ap (next_value readings room) whole ∙ next-unended readings takes.text room takes.plain there
+
+-- no byte is left
+pub at-its-end : (most room : ℕ) (a b : Option (List ℕ)) (line : Line) (empty : Bool)
+    → TakesLine most a b line [] → OnSome a (IsAtEnd b) → ((text : List ℕ) → Holds most line text → IsTrue empty ↔ (text ≡ [])) → empty ≡ true
+    → ReadsValue a b room room (Ok None)
+at-its-end most room None b line empty takes end test none = tt
+at-its-end most room (Some xs) None line empty takes end test none = absurd takes.taken
+at-its-end most room (Some xs) (Some ys) line empty takes end test none =
+    let whole : xs ≡ takes.text = takes.taken ∙ ap (λ t. (takes.text ++ []) ++ t) end ∙ append-nil (takes.text ++ []) ∙ append-nil takes.text in
+    (ap (next_value readings room) (whole ∙ (test takes.text takes.held).0 none), (ap Some end, refl))
 
 -- a line that is no value's
 pub refused-line : (most room room_after : ℕ) (a b : Option (List ℕ)) (line : Line) (bytes : Vec ℕ Global)
@@ -55,7 +67,27 @@ refused-line most room room_after None b line bytes is takes none = tt
 refused-line most room room_after (Some xs) None line bytes is takes none = absurd takes.taken
 refused-line most room room_after (Some xs) (Some ys) line bytes is takes none =
     let held : Holds most (Kept bytes) takes.text = subst (λ l. Holds most l takes.text) is takes.held in
-    inl (ap (values_of readings) takes.taken ∙ values-refused readings takes.text ys takes.plain (ap (spelled_value readings) (sym held.0) ∙ none))
+    ap (next_value readings room) takes.taken ∙ next-refused readings takes.text ys room takes.plain (ap (spelled_value readings) (sym held.0) ∙ none)
+
+-- a line for which there is no room
+pub refused-beyond : (room room_after : ℕ) (a b : Option (List ℕ)) (line : Line)
+    → TakesLine room a b line (line_feed ∷ []) → ((text : List ℕ) → Holds room line text → room ≤ length text) → ReadsValue a b room room_after (Err BenchText)
+refused-beyond room room_after None b line takes more = tt
+refused-beyond room room_after (Some xs) None line takes more = absurd takes.taken
+refused-beyond room room_after (Some xs) (Some ys) line takes more =
+    ap (next_value readings room) takes.taken ∙ next-beyond readings takes.text ys room takes.plain (more takes.text takes.held)
+
+pub too-long : (room room_after : ℕ) (a b : Option (List ℕ)) (line : Line) → line ≡ TooLong → TakesLine room a b line (line_feed ∷ [])
+    → ReadsValue a b room room_after (Err BenchText)
+too-long room room_after a b line is takes =
+    refused-beyond room room_after a b line takes (λ text held. let more = subst (λ l. Holds room l text) is held in omega (arith, more))
+
+pub too-much : (room room_after : ℕ) (a b : Option (List ℕ)) (line : Line) (bytes : Vec ℕ Global) → line ≡ Kept bytes → TakesLine room a b line (line_feed ∷ [])
+    → room ≤ length bytes.items → ReadsValue a b room room_after (Err BenchText)
+too-much room room_after a b line bytes is takes more =
+    refused-beyond room room_after a b line takes (λ text held.
+    let same = subst (λ l. Holds room l text) is held in
+    subst (λ t. room ≤ length t) same.0 more)
 
 -- a value's line
 pub first-line : (most room room_after : ℕ) (a b : Option (List ℕ)) (line : Line) (bytes : Vec ℕ Global) (l : FileLine)
@@ -66,13 +98,14 @@ first-line most room room_after (Some xs) None line bytes l is takes spelled roo
 first-line most room room_after (Some xs) (Some ys) line bytes l is takes spelled room_is =
     let held : Holds most (Kept bytes) takes.text = subst (λ l. Holds most l takes.text) is takes.held in
     let same : length bytes.items ≡ length takes.text = ap length held.0 in
-    let ended : length xs ≡ length (takes.text ++ line_feed ∷ []) + length ys = ap length takes.taken ∙ length-append (takes.text ++ line_feed ∷ []) ys in
-    let counts : length (takes.text ++ line_feed ∷ []) ≡ length takes.text + 1 = length-append takes.text (line_feed ∷ []) in
+    let less : length takes.text < room = omega (arith, same, room_is) in
+    let left : room - (length takes.text + 1) ≡ room_after = omega (arith, same, room_is) in
     record {
       rest = ys;
       left = refl;
-      values = ap (values_of readings) takes.taken ∙ values-found readings takes.text ys (view l.value) takes.plain (ap (spelled_value readings) (sym held.0) ∙ spelled.spelled);
-      counted = omega (arith, same, ended, counts, room_is);
+      next = ap (next_value readings room) takes.taken
+          ∙ next-of-line readings takes.text ys room (view l.value) takes.plain (ap (spelled_value readings) (sym held.0) ∙ spelled.spelled) less
+          ∙ ap (value_then (view l.value) ys) left;
     }
 
 -- what is said of a fault that is handed on
@@ -85,9 +118,10 @@ reads-handed_on room room_after a b r f h told =
 -- a fault, which is that of the text only where the line is no value's
 pub refused-by : (most room room_after : ℕ) (a b : Option (List ℕ)) (line : Line) (bytes : Vec ℕ Global) (f : LoadFault)
     → line ≡ Kept bytes → TakesLine most a b line (line_feed ∷ []) → (◌≡◌ {A = Result FileLine LoadFault} (Err f) (Err BenchText) → spelled_value readings bytes.items ≡ None)
-    → ReadsValue a b room room_after (Err f)
-refused-by most room room_after a b line bytes BenchText is takes told = refused-line most room room_after a b line bytes is takes (told refl)
-refused-by most room room_after None b line bytes Io is takes told = tt
-refused-by most room room_after (Some xs) b line bytes Io is takes told = tt
-refused-by most room room_after None b line bytes OutOfMemory is takes told = tt
-refused-by most room room_after (Some xs) b line bytes OutOfMemory is takes told = tt
+    → f ≢ RecordDoesNotFit → ReadsValue a b room room_after (Err f)
+refused-by most room room_after a b line bytes BenchText is takes told other = refused-line most room room_after a b line bytes is takes (told refl)
+refused-by most room room_after a b line bytes RecordDoesNotFit is takes told other = absurd (other refl)
+refused-by most room room_after None b line bytes Io is takes told other = tt
+refused-by most room room_after (Some xs) b line bytes Io is takes told other = tt
+refused-by most room room_after None b line bytes OutOfMemory is takes told other = tt
+refused-by most room room_after (Some xs) b line bytes OutOfMemory is takes told other = tt

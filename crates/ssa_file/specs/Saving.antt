@@ -2,13 +2,10 @@
 use Rattle.std.specs.Prelude.{◌≡◌, ◌<◌, ◌≤◌, ℕ, List, Option, Bool, true, length}
 use Rattle.ssa_model.specs.definitions.Limits.{most_bench_bytes}
 use Rattle.ssa_model.specs.definitions.Objects.{Identity}
-use Rattle.ssa_model.specs.definitions.Json.{Text, Json}
-use Rattle.ssa_model.specs.definitions.BenchText.{line, first_json, step_json}
-use Rattle.ssa_model.specs.definitions.Operations.{State}
+use Rattle.ssa_model.specs.definitions.Json.{Text}
 use Rattle.ssa_model.specs.definitions.Schema.{Schema}
-use Rattle.ssa_model.specs.definitions.History.{Step, Timeline, Bench}
+use Rattle.ssa_model.specs.definitions.History.{Timeline, Bench}
 use Rattle.ssa_json.specs.Devices.{AppendsPart}
-use Rattle.ssa_model.specs.definitions.Answers.{lone_bench}
 use Rattle.ssa_file.specs.declared.saving.SaveFault.{SaveFault}
 use Rattle.ssa_file.specs.declared.saving.SaveFault.TheVariants.{BenchTooLong, Io, OutOfMemory}
 
@@ -26,14 +23,3 @@ CannotHold OutOfMemory text = Unit {0}
 
 abbrev pub bench_with : Schema → Identity → Timeline → Bench
 bench_with schema identity timeline = record { schema = schema; identity = identity; timeline = timeline }
-
--- the value of the first state's line, under the schema and the identity
-abbrev pub first_value : Schema → Identity → State → Json
-first_value schema identity state = first_json (lone_bench schema identity state)
-
--- and of a later one's
-abbrev pub step_value : Schema → Identity → Step → Json
-step_value schema identity s = step_json (lone_bench schema identity s.state) s
-
-abbrev pub step_line : Schema → Identity → Step → Text
-step_line schema identity s = line (step_value schema identity s)

@@ -1,25 +1,27 @@
 //! The first line of a bench file.
 ghost use Rattle.std.specs.Prelude.{◌≡◌, ◌<◌, ◌^◌, IfOk, IfSome, option_map};
-ghost use Rattle.ssa_model.specs.definitions.Json.{compact, member_at};
-ghost use Rattle.ssa_model.specs.laws.BenchFiles.{head_in, number_in};
+ghost use Rattle.ssa_model.specs.definitions.Json.{member_at};
+ghost use Rattle.ssa_model.specs.laws.BenchFiles.{number_in};
+ghost use Rattle.ssa_model.specs.laws.RecordedBenches.{counts_in};
 ghost use Rattle.ssa_json.specs.View.{view};
-ghost use Rattle.ssa_file.specs.Heads.{head_view};
 
-use crate::loading::FileLine;
-use crate::saving::head_value;
+use crate::recording::record_head;
 use crate::written::is_text_of;
 use ssa_json::value::{Json, Scalar};
 use std::alloc::{AllocError, Global};
 
-/// The place of the present state, and how many states there are.
-#[derive(Clone, Copy)]
-pub struct Head {
-    pub place: usize,
-    pub states: usize,
+// The most commands of a bench file of records.
+const MOST_COMMANDS: usize = 1_000;
+
+/// How many commands a bench file of records has: those that can be undone, and those that can be redone.
+#[derive(Clone, Copy, Debug, PartialEq, Eq)]
+pub struct RecordCounts {
+    pub past: usize,
+    pub future: usize,
 }
 
 // The member's number, where it is one and no less than 0.
-pub(crate) fn number_in(value: &Json, name: &str) -> Option<usize>
+fn number_in(value: &Json, name: &str) -> Option<usize>
     ensures is { result ≡ number_in (member_at name.now (view value.now)) }
     ensures small { IfSome result (λ n. n < 2 ^ 63) }
 {
@@ -29,20 +31,23 @@ pub(crate) fn number_in(value: &Json, name: &str) -> Option<usize>
     }
 }
 
-/// The head that a line is, none where it isn't written as one.
-pub fn head_in(alloc: Global, line: &FileLine) -> Result<Option<Head>, AllocError>
-    requires { line.now.text.items ≡ compact (view line.now.value) }
-    ensures { IfOk result (λ found. option_map head_view found ≡ head_in (view line.now.value)) }
+/// The counts that the value of a first line says, where it is written so, and no more than 1,000 in all.
+pub fn record_counts(alloc: Global, value: &Json) -> Result<Option<RecordCounts>, AllocError>
+    ensures { IfOk result (λ o. option_map (λ c. record { past = c.past; future = c.future }) o ≡ counts_in (view value.now)) }
 {
-    let Some(place) = number_in(&line.value, "place") else {
+    let Some(past) = number_in(value, "past") else {
         return Ok(None);
     };
-    let Some(states) = number_in(&line.value, "states") else {
+    let Some(future) = number_in(value, "future") else {
         return Ok(None);
     };
-    let written = head_value(alloc, place, states)?;
-    if is_text_of(alloc, &written, &line.text)? {
-        Ok(Some(Head { place, states }))
+    if past + future > MOST_COMMANDS {
+        return Ok(None);
+    }
+    let written = record_head(alloc, past, future)?;
+    let text = value.to_text(alloc)?;
+    if is_text_of(alloc, &written, &text)? {
+        Ok(Some(RecordCounts { past, future }))
     } else {
         Ok(None)
     }

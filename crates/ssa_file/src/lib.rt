@@ -5,7 +5,6 @@ pub mod head;
 pub mod line;
 pub mod loading;
 pub mod read_line;
-pub mod record_head;
 pub mod recording;
 pub mod saving;
 pub mod written;

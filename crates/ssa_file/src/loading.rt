@@ -5,6 +5,7 @@ ghost use Rattle.ssa_model.specs.laws.BenchFiles.{spelled_value};
 ghost use Rattle.ssa_json.specs.FaultCodes.{code_view};
 ghost use Rattle.ssa_json.specs.Readings.{readings};
 ghost use Rattle.ssa_json.specs.View.{view};
+ghost use Rattle.ssa_json.specs.Writable.{IsOfProgram};
 ghost use Rattle.ssa_file.specs.Loading.{IsSpelledAs, ReadsValue, load_code};
 ghost use Rattle.ssa_file.specs.declared.loading.LoadFault.TheVariants.{Io, OutOfMemory};
 
@@ -21,6 +22,8 @@ use std::alloc::{AllocError, Global};
 pub enum LoadFault {
     /// The bytes are not the text of a bench.
     BenchText,
+    /// A line's record is none from the state that it is told of to a valid one.
+    RecordDoesNotFit,
     /// The source has failed.
     Io,
     /// A growth of memory was refused.
@@ -34,6 +37,7 @@ impl LoadFault {
     {
         match self {
             LoadFault::BenchText => FaultCode::BenchText,
+            LoadFault::RecordDoesNotFit => FaultCode::RecordDoesNotFit,
             LoadFault::Io => FaultCode::Io,
             LoadFault::OutOfMemory => FaultCode::OutOfMemory,
         }
@@ -73,8 +77,10 @@ pub fn is_same_bytes(text: &[u8], other: &[u8]) -> bool
 // The value of which the text is the compact text.
 fn value_of(alloc: Global, text: Vec<u8>) -> Result<FileLine, LoadFault>
     ensures ok { IfOk result (λ l. IsSpelledAs l text.items) }
+    ensures of_program { IfOk result (λ l. IsOfProgram (view l.value)) }
     ensures refused { result ≡ Err LoadFault.BenchText → spelled_value readings text.items ≡ None }
     ensures memory { result ≢ Err LoadFault.Io }
+    ensures told { result ≢ Err LoadFault.RecordDoesNotFit }
 {
     let value = match Json::read(alloc, &text, text.len()) {
         Ok(value) => value,
@@ -111,6 +117,7 @@ pub fn read_value<R: Source>(
 ) -> Result<Option<FileLine>, LoadFault>
     ensures read { ReadsValue (R.remaining reader.old) (R.remaining reader.new) room.old room.new result }
     ensures spelled { IfOk result (λ o. IfSome o (λ l. l.text.items ≡ compact (view l.value))) }
+    ensures of_program { IfOk result (λ o. IfSome o (λ l. IsOfProgram (view l.value))) }
     ensures failed { result ≡ Err LoadFault.Io → R.has_failed reader.new ≡ true }
 {
     let mut line = Line::new(alloc);

@@ -1,6 +1,6 @@
 //! The files that the words name: what is read of them, and how a bench is saved.
 ghost use Rattle.std.specs.Prelude.{◌≡◌, ◌≤◌, ◌<◌, Err, IfErr, OnOk, length};
-ghost use Rattle.ssa_model.specs.definitions.BenchText.{bench_text};
+ghost use Rattle.ssa_model.specs.definitions.RecordedBench.{recorded_text};
 ghost use Rattle.ssa_model.specs.definitions.Limits.{most_bench_bytes};
 ghost use Rattle.ssa_program.specs.Trouble.{IsLoadTrouble, IsReadTrouble, IsSaveTrouble};
 
@@ -55,11 +55,10 @@ pub fn load_bench<'a, T: Files + AllocGlobal>(rt: &T, name: &'a str) -> Result<B
 fn write_bench<F: Write + OpenFile + Drop>(
     alloc: Global,
     file: F,
-    bench: &mut Bench,
+    bench: &Bench,
 ) -> Result<(), SaveFault>
-    ensures same { bench.new ≡ bench.old }
-    ensures fits { OnOk result (length (bench_text bench.old) ≤ most_bench_bytes) }
-    ensures too_long { result ≡ Err SaveFault.BenchTooLong → most_bench_bytes < length (bench_text bench.old) }
+    ensures fits { OnOk result (length (recorded_text bench.now) ≤ most_bench_bytes) }
+    ensures too_long { result ≡ Err SaveFault.BenchTooLong → most_bench_bytes < length (recorded_text bench.now) }
 {
     let mut sink = OfWriter::new(file);
     bench.save(alloc, &mut sink)?;
@@ -75,11 +74,10 @@ fn replace_file<'a, T: Files + AllocGlobal>(
     draft: &str,
     file: T::File,
     name: &'a str,
-    bench: &mut Bench,
+    bench: &Bench,
 ) -> Result<(), Trouble<'a>>
-    ensures same { bench.new ≡ bench.old }
-    ensures fits { OnOk result (length (bench_text bench.old) ≤ most_bench_bytes) }
-    ensures trouble { IfErr result (IsSaveTrouble name.now (bench_text bench.old)) }
+    ensures fits { OnOk result (length (recorded_text bench.now) ≤ most_bench_bytes) }
+    ensures trouble { IfErr result (IsSaveTrouble name.now (recorded_text bench.now)) }
 {
     match write_bench(rt.alloc(), file, bench) {
         Ok(()) => {}
@@ -98,11 +96,10 @@ fn replace_file<'a, T: Files + AllocGlobal>(
 pub fn save_bench<'a, T: Files + AllocGlobal>(
     rt: &T,
     name: &'a str,
-    bench: &mut Bench,
+    bench: &Bench,
 ) -> Result<(), Trouble<'a>>
-    ensures same { bench.new ≡ bench.old }
-    ensures fits { OnOk result (length (bench_text bench.old) ≤ most_bench_bytes) }
-    ensures trouble { IfErr result (IsSaveTrouble name.now (bench_text bench.old)) }
+    ensures fits { OnOk result (length (recorded_text bench.now) ≤ most_bench_bytes) }
+    ensures trouble { IfErr result (IsSaveTrouble name.now (recorded_text bench.now)) }
 {
     let Ok(draft) = [name, ".new"].concat(rt.alloc()) else {
         return Err(Trouble::OutOfMemory);

@@ -129,9 +129,9 @@ fn init<'a, T: Files + AllocGlobal, W: Sink>(
     let schema_bytes = read_file(rt, schema)?;
     let read = made_schema(alloc, notes, schema, &schema_bytes)?;
     let object_bytes = read_file(rt, object)?;
-    let mut made = made_bench(alloc, notes, read, &schema_bytes, object, &object_bytes)?;
+    let made = made_bench(alloc, notes, read, &schema_bytes, object, &object_bytes)?;
     let reply = init_text(alloc, &made)?;
-    save_bench(rt, bench, &mut made)?;
+    save_bench(rt, bench, &made)?;
     write_reply(writer, reply)?;
     Ok(Status::Done)
 }
@@ -242,6 +242,6 @@ fn hold_session<'a, T: Files + AllocGlobal, R: Source, W: Sink>(
     let Ok(()) = session(rt.alloc(), reader, writer, &mut bench) else {
         return Err(Trouble::SessionBroken);
     };
-    save_bench(rt, name, &mut bench)?;
+    save_bench(rt, name, &bench)?;
     Ok(Status::Done)
 }

@@ -1,7 +1,7 @@
 //! Bench files that are taken again, and those that are none.
 
 use crate::devices::Breaks;
-use crate::sample::{answers, bench_file};
+use crate::sample::{answers, bench_file, undone_file};
 use ssa_bench::bench::Bench;
 use ssa_file::loading::LoadFault;
 use ssa_json::reader::OfReader;
@@ -16,7 +16,7 @@ fn loaded(alloc: Global, file: &str) -> Result<Bench, LoadFault> {
 }
 
 // The file of a bench.
-fn saved(alloc: Global, bench: &mut Bench) -> Result<Vec<u8>, Fail> {
+fn saved(alloc: Global, bench: &Bench) -> Result<Vec<u8>, Fail> {
     let mut sink = OfWriter::new(Vec::new(alloc));
     match bench.save(alloc, &mut sink) {
         Ok(()) => Ok(sink.into_inner()),
@@ -30,7 +30,7 @@ fn goes_on(alloc: Global, file: &str, line: &str) -> Result<(Vec<u8>, Vec<u8>), 
         return Err(Fail::new("the file is refused"));
     };
     let reply = answers(alloc, &mut bench, line)?;
-    let file = saved(alloc, &mut bench)?;
+    let file = saved(alloc, &bench)?;
     Ok((reply, file))
 }
 
@@ -48,9 +48,7 @@ fn a_loaded_command_is_undone(rt: HostRuntime) -> Result<(), Fail> {
     let file = bench_file(alloc)?;
     let (reply, undone) = goes_on(alloc, file.as_str(), "{\"do\":\"undo\"}\n")?;
     assert!(rt; reply.as_slice() == b"{\"done\":\"undo\",\"future\":1,\"past\":0}\n".as_slice());
-    let first = file
-        .as_str()
-        .replacen(alloc, "\"place\":1", "\"place\":0", 1)?;
+    let first = undone_file(alloc)?;
     assert!(rt; undone.as_slice() == first.as_bytes());
     let (reply, redone) = goes_on(alloc, first.as_str(), "{\"do\":\"redo\"}\n")?;
     assert!(rt; reply.as_slice() == b"{\"done\":\"redo\",\"future\":0,\"past\":1}\n".as_slice());
@@ -58,30 +56,71 @@ fn a_loaded_command_is_undone(rt: HostRuntime) -> Result<(), Fail> {
     Ok(())
 }
 
-// Parts of the file, and others in their place, with which it is no bench's.
-const DAMAGES: [(&str, &str); 14] = [
-    ("\"place\":1", "\"place\":2"),
-    ("\"states\":2", "\"states\":3"),
-    ("\"format\":1", "\"format\":2"),
+// Parts of the file, and others in their place, with which it is not the text of a bench.
+const DAMAGES: [(&str, &str); 19] = [
+    ("\"past\":1", "\"past\":2"),
+    ("\"past\":1", "\"past\":0"),
+    ("\"past\":1", "\"past\":1001"),
+    ("\"format\":2", "\"format\":1"),
     ("{\"format\"", "{ \"format\""),
     ("\"type\":\"object\"}\n", "\"type\":\"strings\"}\n"),
-    ("{\"command\":{},", "{\"command\":{\"do\":\"strip\"},"),
-    ("{\"command\":{},", "{"),
     ("\"kind\":\"App\"", "\"kind\":\"\""),
     ("\"force\":false,", ""),
     (
-        "\"manager\":\"kubectl\"},\"object\"",
-        "\"manager\":\"\"},\"object\"",
+        "\"manager\":\"kubectl\"},\"record\"",
+        "\"manager\":\"\"},\"record\"",
     ),
     ("\"at\":\"2024-05-01", "\"at\":\"2024-02-30"),
     ("\"f:image\":{}", "\"f:replicas\":{}"),
     ("\"image\":\"a\"", "\"image\":1"),
     ("\"image\":\"a\"", "\"image\":\"\\u0061\""),
+    ("\"cut\":[[\"f:spec\"]]", "\"cut\":[[\"v: 1\"]]"),
+    ("\"cut\":[[\"f:spec\"]]", "\"cut\":[\"f:spec\"]"),
+    ("\"Apply\"]]", "\"Patch\"]]"),
+    ("\"here\":[],\"leaves\":[]", "\"leaves\":[],\"here\":[]"),
+    (",\"put\":[]", ""),
+    ("{\"changed\":[]", "{\"added\":[],\"changed\":[]"),
+];
+
+// Others with which a record is none from its state to a valid one.
+const MISFITS: [(&str, &str); 10] = [
+    ("\"cut\":[[\"f:spec\"]]", "\"cut\":[[\"f:nothing\"]]"),
+    ("\"gone\":[[\"kubectl\",\"Apply\"]]", "\"gone\":[]"),
+    (
+        "\"gone\":[[\"kubectl\",\"Apply\"]]",
+        "\"gone\":[[\"kubectl\",\"Update\"]]",
+    ),
+    (
+        "\"gone\":[[\"kubectl\",\"Apply\"]]",
+        "\"gone\":[[\"kubectl\",\"Apply\"],[\"m1\",\"Apply\"]]",
+    ),
+    // the leaf has this content
+    (
+        "\"cut\":[[\"f:spec\"]],\"gone\":[[\"kubectl\",\"Apply\"]],\"here\":[],\"leaves\":[]",
+        "\"cut\":[],\"gone\":[],\"here\":[],\"leaves\":[[[\"f:spec\",\"f:image\"],\"a\"]]",
+    ),
+    // a content of another type
+    (
+        "\"cut\":[[\"f:spec\"]],\"gone\":[[\"kubectl\",\"Apply\"]],\"here\":[],\"leaves\":[]",
+        "\"cut\":[],\"gone\":[],\"here\":[],\"leaves\":[[[\"f:spec\",\"f:image\"],1]]",
+    ),
+    ("\"put\":[]", "\"put\":[[[\"f:nothing\"],1]]"),
+    ("\"put\":[]", "\"put\":[[[\"f:spec\"],{\"image\":\"a\"}]]"),
+    ("\"order\":[]", "\"order\":[[[\"f:spec\"],[]]]"),
+    (
+        "\"here\":[]",
+        "\"here\":[{\"entry\":{\"apiVersion\":\"example.com/v2\",\"fieldsType\":\"FieldsV1\",\"fieldsV1\":{},\"manager\":\"m1\",\"operation\":\"Apply\",\"time\":\"2024-05-01T10:00:01Z\"},\"place\":0}]",
+    ),
 ];
 
 // Whether the text is refused as no bench's.
 fn is_refused(alloc: Global, text: &str) -> bool {
     matches!(loaded(alloc, text), Err(LoadFault::BenchText))
+}
+
+// Whether a record of the text does not fit its state.
+fn is_misfit(alloc: Global, text: &str) -> bool {
+    matches!(loaded(alloc, text), Err(LoadFault::RecordDoesNotFit))
 }
 
 #[test]
@@ -91,6 +130,17 @@ fn damaged_files_are_refused(rt: HostRuntime) -> Result<(), Fail> {
         let damaged = file.as_str().replacen(rt.alloc(), part, other, 1)?;
         assert!(rt; damaged.as_str() != file.as_str(), "part {part}");
         assert!(rt; is_refused(rt.alloc(), damaged.as_str()), "other {other}");
+    }
+    Ok(())
+}
+
+#[test]
+fn records_that_do_not_fit_are_told(rt: HostRuntime) -> Result<(), Fail> {
+    let file = bench_file(rt.alloc())?;
+    for (part, other) in &MISFITS {
+        let damaged = file.as_str().replacen(rt.alloc(), part, other, 1)?;
+        assert!(rt; damaged.as_str() != file.as_str(), "part {part}");
+        assert!(rt; is_misfit(rt.alloc(), damaged.as_str()), "other {other}");
     }
     Ok(())
 }

@@ -13,7 +13,11 @@ use std::test::Fail;
 
 // The lines of the bench's file after m1 has applied three replicas, behind the schema's.
 const APPLIED: &str =
-    "\n{\"command\":{},\"object\":{\"apiVersion\":\"example.com/v1\",\"kind\":\"App\",\"metadata\":{\"name\":\"web\"}}}\n{\"command\":{\"at\":\"2024-05-01T10:00:01Z\",\"do\":\"apply\",\"force\":false,\"manager\":\"m1\"},\"object\":{\"apiVersion\":\"example.com/v1\",\"kind\":\"App\",\"metadata\":{\"managedFields\":[{\"apiVersion\":\"example.com/v1\",\"fieldsType\":\"FieldsV1\",\"fieldsV1\":{\"f:spec\":{\"f:replicas\":{}}},\"manager\":\"m1\",\"operation\":\"Apply\",\"time\":\"2024-05-01T10:00:01Z\"}],\"name\":\"web\"},\"spec\":{\"replicas\":3}}}\n";
+    "\n{\"apiVersion\":\"example.com/v1\",\"kind\":\"App\",\"metadata\":{\"managedFields\":[{\"apiVersion\":\"example.com/v1\",\"fieldsType\":\"FieldsV1\",\"fieldsV1\":{\"f:spec\":{\"f:replicas\":{}}},\"manager\":\"m1\",\"operation\":\"Apply\",\"time\":\"2024-05-01T10:00:01Z\"}],\"name\":\"web\"},\"spec\":{\"replicas\":3}}\n{\"command\":{\"at\":\"2024-05-01T10:00:01Z\",\"do\":\"apply\",\"force\":false,\"manager\":\"m1\"},\"record\":{\"changed\":[],\"cut\":[[\"f:spec\"]],\"gone\":[[\"m1\",\"Apply\"]],\"here\":[],\"leaves\":[],\"order\":[],\"put\":[]}}\n";
+
+// The same after an undo.
+const UNDONE: &str =
+    "\n{\"apiVersion\":\"example.com/v1\",\"kind\":\"App\",\"metadata\":{\"name\":\"web\"}}\n{\"command\":{\"at\":\"2024-05-01T10:00:01Z\",\"do\":\"apply\",\"force\":false,\"manager\":\"m1\"},\"record\":{\"changed\":[],\"cut\":[],\"gone\":[],\"here\":[{\"entry\":{\"apiVersion\":\"example.com/v1\",\"fieldsType\":\"FieldsV1\",\"fieldsV1\":{\"f:spec\":{\"f:replicas\":{}}},\"manager\":\"m1\",\"operation\":\"Apply\",\"time\":\"2024-05-01T10:00:01Z\"},\"place\":0}],\"leaves\":[],\"order\":[],\"put\":[[[\"f:spec\"],{\"replicas\":3}]]}}\n";
 
 // Whether the words end with this status and print this line.
 fn prints(memory: &Memory, words: &str, status: u8, line: &str) -> Result<bool, Fail> {
@@ -91,15 +95,20 @@ fn holds(memory: &Memory, name: &str, text: &str) -> Result<bool, Fail> {
     Ok(memory.text(name)?.as_slice() == text.as_bytes())
 }
 
-// The bench's file, with this first line.
-fn bench_file(alloc: Global, head: &str) -> Result<String, Fail> {
-    Ok([head, "\n", SCHEMA, APPLIED].concat(alloc)?)
+// The bench's file after the apply.
+fn applied_file(alloc: Global) -> Result<String, Fail> {
+    Ok(["{\"format\":2,\"future\":0,\"past\":1}\n", SCHEMA, APPLIED].concat(alloc)?)
+}
+
+// The bench's file after the apply and its undo.
+fn undone_file(alloc: Global) -> Result<String, Fail> {
+    Ok(["{\"format\":2,\"future\":1,\"past\":0}\n", SCHEMA, UNDONE].concat(alloc)?)
 }
 
 #[test]
 fn the_file_has_the_history(rt: HostRuntime) -> Result<(), Fail> {
     let memory = applied(rt.alloc())?;
-    let file = bench_file(rt.alloc(), "{\"format\":1,\"place\":1,\"states\":2}")?;
+    let file = applied_file(rt.alloc())?;
     assert!(rt; holds(&memory, "b", file.as_str())?);
     assert!(rt; !memory.has("b.new"));
     Ok(())
@@ -154,7 +163,7 @@ fn a_name_takes_one_line(rt: HostRuntime) -> Result<(), Fail> {
 #[test]
 fn a_file_cut_short_is_no_bench(rt: HostRuntime) -> Result<(), Fail> {
     let memory = applied(rt.alloc())?;
-    let file = bench_file(rt.alloc(), "{\"format\":1,\"place\":1,\"states\":2}")?;
+    let file = applied_file(rt.alloc())?;
     memory.put("b", file.as_str().strip_suffix("\n").unwrap_or(""))?;
     assert!(rt;
         prints(
@@ -183,7 +192,7 @@ fn a_full_device_leaves_the_file(rt: HostRuntime) -> Result<(), Fail> {
     assert!(rt; tells(&memory, "strip b", 3, "ssabench: cannot write b\n")?);
     assert!(rt; tells(&memory, INIT, 3, "ssabench: cannot write b\n")?);
     assert!(rt; tells(&memory, "session b", 3, "ssabench: cannot write b\n")?);
-    let file = bench_file(rt.alloc(), "{\"format\":1,\"place\":1,\"states\":2}")?;
+    let file = applied_file(rt.alloc())?;
     assert!(rt; holds(&memory, "b", file.as_str())?);
     assert!(rt; !memory.has("b.new"));
     Ok(())
@@ -198,7 +207,7 @@ fn a_session_is_saved_at_its_end(rt: HostRuntime) -> Result<(), Fail> {
         run.printed.as_slice(),
         b"{\"fault\":65,\"name\":\"NothingToRedo\"}\n{\"done\":\"undo\",\"future\":1,\"past\":0}\n".as_slice()
     );
-    let file = bench_file(rt.alloc(), "{\"format\":1,\"place\":0,\"states\":2}")?;
+    let file = undone_file(rt.alloc())?;
     assert!(rt; holds(&memory, "b", file.as_str())?);
     Ok(())
 }
@@ -217,7 +226,7 @@ fn a_broken_session_is_not_saved(rt: HostRuntime) -> Result<(), Fail> {
         run.told.as_slice(),
         b"ssabench: session ended unsaved\n".as_slice()
     );
-    let file = bench_file(rt.alloc(), "{\"format\":1,\"place\":1,\"states\":2}")?;
+    let file = applied_file(rt.alloc())?;
     assert!(rt; holds(&memory, "b", file.as_str())?);
     Ok(())
 }
@@ -233,7 +242,7 @@ fn a_reply_that_cannot_be_printed_is_told_by_the_status(rt: HostRuntime) -> Resu
     let status = perform(&memory, &call, &mut reader, &mut writer, &mut errors);
     assert_eq!(rt; status, 3);
     assert_eq!(rt; errors.into_inner().as_slice(), b"".as_slice());
-    let file = bench_file(rt.alloc(), "{\"format\":1,\"place\":0,\"states\":2}")?;
+    let file = undone_file(rt.alloc())?;
     assert!(rt; holds(&memory, "b", file.as_str())?);
     Ok(())
 }

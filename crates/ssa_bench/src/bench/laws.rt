@@ -7,6 +7,7 @@ ghost use Rattle.ssa_model.specs.definitions.Valid.{IsValidHistory};
 ghost use Rattle.ssa_json.specs.Readings.{readings};
 ghost use Rattle.ssa_bench.specs.ReadBack.{AllTakenBack};
 ghost use Rattle.ssa_model.specs.definitions.BenchFile.{IsValidBench};
+ghost use Rattle.ssa_model.specs.definitions.RecordedBench.{HasReadHistory};
 
 use super::Bench;
 
@@ -31,6 +32,13 @@ impl Bench {
         self.timeline.place_is_within();
         self.timeline.own_entries_are_read();
         self.timeline.own_moments_are_read();
+    }
+
+    /// The paths of each state are read from their elements' texts. Takes no memory.
+    pub fn paths_are_read(&self)
+        ensures { HasReadHistory readings self.now.timeline }
+    {
+        self.timeline.own_paths_are_read();
     }
 
     /// The object that is shown without the managers' entries is taken as the present body: by a

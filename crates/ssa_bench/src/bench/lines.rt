@@ -1,60 +1,52 @@
-//! The lines of a bench file: each is compared with what is written of what it says.
-ghost use Rattle.std.specs.Prelude.{◌≡◌, Ok, ◌&&◌, ◌<◌, ◌-◌, ◌||◌, IfOk, false, length};
+//! The lines of a bench file, each taken on the bench that the lines before it made.
+ghost use Rattle.std.specs.Prelude.{◌≡◌, ◌≤◌, ◌<◌, IfOk, length, true};
 ghost use Rattle.ssa_model.specs.definitions.Answers.{lone_state};
-ghost use Rattle.ssa_model.specs.definitions.History.{past_len, present};
-ghost use Rattle.ssa_model.specs.definitions.Valid.{IsValidState};
+ghost use Rattle.ssa_model.specs.definitions.BenchText.{whole_object};
+ghost use Rattle.ssa_model.specs.definitions.History.{appended, past_len};
+ghost use Rattle.ssa_model.specs.definitions.Json.{compact, same_text};
+ghost use Rattle.ssa_model.specs.definitions.Limits.{most_past};
+ghost use Rattle.ssa_model.specs.definitions.MemberNames.{has_rising_names};
+ghost use Rattle.ssa_model.specs.laws.LineByLine.{at_place, preceded};
+ghost use Rattle.ssa_model.specs.laws.RecordedBenches.{present_in};
 ghost use Rattle.ssa_json.specs.Readings.{readings};
 ghost use Rattle.ssa_json.specs.View.{view};
-ghost use Rattle.ssa_merge.specs.States.{state_view};
-ghost use Rattle.ssa_model.specs.definitions.Limits.{most_past};
-ghost use Rattle.ssa_model.specs.definitions.Json.{compact, same_text};
-ghost use Rattle.ssa_model.specs.definitions.BenchText.{first_json, step_json};
-ghost use Rattle.ssa_model.specs.laws.BenchFiles.{keeps_order, lone_in, with_steps};
-ghost use Rattle.ssa_file.specs.Heads.{head_view};
-ghost use Rattle.ssa_bench.specs.Taking.{GoesOn, IsTaken, TakesStep, taken_view};
+ghost use Rattle.ssa_bench.specs.Taking.{IsTaken, MovesBy, TellsMove};
 
 use super::Bench;
-use crate::taking::{TakenStep, label_in, load_fault, object_in, state_in};
-use ssa_file::head::Head;
+use crate::taking::{answered_step, label_of, load_fault};
 use ssa_file::loading::{FileLine, LoadFault};
-use ssa_file::written::{is_first, is_step};
+use ssa_file::written::is_text_of;
+use ssa_json::value::Json;
+use ssa_model::records::recorded_moves;
+use ssa_record::line_values::line_values;
 use ssa_schema::schema::Schema;
-use ssa_turn::timeline::{Step, Timeline};
-use ssa_turn_state::live_state::StateDelta;
+use ssa_turn::timeline::Step;
 use std::alloc::{AllocError, Global};
 
-// How many states a timeline has after the first.
-fn later_len(timeline: &Timeline) -> usize
-    ensures { result ≡ length timeline.now.later }
-{
-    timeline.place_is_within();
-    timeline.past_len() + timeline.future_len()
-}
-
 impl Bench {
-    // Whether the text is that of the line of the only state.
-    fn is_first_line(&self, alloc: Global, text: &[u8]) -> Result<bool, AllocError>
+    // Whether the text is that of the only state's object.
+    fn is_present_line(&self, alloc: Global, text: &[u8]) -> Result<bool, AllocError>
         requires { self.now.timeline ≡ lone_state self.now.timeline.first }
-        ensures { IfOk result (λ same. same ≡ same_text (compact (first_json self.now)) text.now) }
+        ensures { IfOk result (λ same. same ≡ same_text (compact (whole_object self.now self.now.timeline.first)) text.now) }
     {
-        let first = self.timeline.present();
-        is_first(alloc, &self.schema, &self.identity, first, text)
+        let shown = self.show(alloc, true)?;
+        is_text_of(alloc, &shown, text)
     }
 
-    // The bench of the first state that a line tells.
-    pub(crate) fn of_first_line(
+    // The bench of the state that a line shows.
+    pub(crate) fn of_present_line(
         alloc: Global,
         schema: Schema,
         line: FileLine,
     ) -> Result<Bench, LoadFault>
         requires { line.text.items ≡ compact (view line.value) }
-        ensures taken { IsTaken result (lone_in readings schema (view line.value)) }
+        ensures taken { IsTaken result (present_in readings schema (view line.value)) }
         ensures lone { IfOk result (λ b. b.timeline ≡ lone_state b.timeline.first) }
     {
         let FileLine { value, text } = line;
-        match Bench::new(alloc, schema, object_in(alloc, value)) {
+        match Bench::new(alloc, schema, value) {
             Ok(bench) => {
-                if bench.is_first_line(alloc, &text)? {
+                if bench.is_present_line(alloc, &text)? {
                     Ok(bench)
                 } else {
                     Err(LoadFault::BenchText)
@@ -64,66 +56,64 @@ impl Bench {
         }
     }
 
-    // Whether the step is told by the text, and keeps the order of the present state's managers.
-    fn is_next_line(&self, alloc: Global, step: &TakenStep, text: &[u8]) -> Result<bool, AllocError>
-        requires { IsValidState self.now.schema.kind (state_view step.now.state) }
-        ensures { IfOk result (λ is. is ≡ (same_text (compact (step_json self.now (taken_view step.now))) text.now && keeps_order (present self.now.timeline).table (state_view step.now.state).table)) }
+    // The command of a line, and its record, made ready for its turns in the present state.
+    fn told_move(&mut self, alloc: Global, value: &Json) -> Result<Step, LoadFault>
+        requires { has_rising_names (view value.now) ≡ true }
+        ensures same { self.new ≡ self.old }
+        ensures told { TellsMove self.old result (view value.now) }
     {
-        let (label, state) = (&step.label, &step.state);
-        if !is_step(alloc, &self.schema, &self.identity, label, state, text)? {
-            return Ok(false);
-        }
-        let before = self.timeline.present();
-        Ok(before.managers.same_order(&step.state.managers))
-    }
-
-    // The step that a line tells, behind the present state.
-    fn step_of_line(&self, alloc: Global, line: FileLine) -> Result<TakenStep, LoadFault>
-        requires { line.text.items ≡ compact (view line.value) }
-        ensures taken { TakesStep self.now result (view line.value) }
-        ensures valid { IfOk result (λ s. IsValidState self.now.schema.kind (state_view s.state)) }
-    {
-        let Some(label) = label_in(alloc, &line.value)? else {
+        recorded_moves();
+        self.is_valid();
+        self.paths_are_read();
+        let Some(values) = line_values(value) else {
             return Err(LoadFault::BenchText);
         };
-        let FileLine { value, text } = line;
-        match state_in(alloc, &self.schema, object_in(alloc, value)) {
-            Ok(state) => {
-                let step = TakenStep { label, state };
-                if self.is_next_line(alloc, &step, &text)? {
-                    Ok(step)
-                } else {
-                    Err(LoadFault::BenchText)
-                }
-            }
-            Err(fault) => Err(load_fault(fault)),
-        }
+        let Some(label) = label_of(alloc, values.command)? else {
+            return Err(LoadFault::BenchText);
+        };
+        let version = self.identity.version();
+        let answer = self
+            .timeline
+            .read_record(alloc, &self.schema, version, values.record)?;
+        answered_step(label, answer)
     }
 
-    // Goes on by the step that a line tells.
-    pub(crate) fn take_line(&mut self, alloc: Global, line: FileLine) -> Result<(), LoadFault>
-        requires spelled { line.text.items ≡ compact (view line.value) }
-        requires few { past_len self.old.timeline < most_past }
-        ensures { GoesOn self.old self.new result (view line.value) }
+    // Goes by a line to the state before all others.
+    pub(crate) fn go_back_by(&mut self, alloc: Global, line: &FileLine) -> Result<(), LoadFault>
+        requires names { has_rising_names (view line.now.value) ≡ true }
+        requires first { past_len self.old.timeline ≡ 0 }
+        requires few { length self.old.timeline.later < most_past }
+        ensures { MovesBy preceded self.old self.new result (view line.now.value) }
     {
-        self.timeline.place_is_within();
-        let step = self.step_of_line(alloc, line)?;
-        let TakenStep { label, state } = step;
-        state.managers.own_entries_are_read();
-        let delta = StateDelta::leading(alloc, self.timeline.present(), state)?;
-        self.timeline.append(Step { label, delta })?;
+        let Step { label, delta } = self.told_move(alloc, &line.value)?;
+        self.timeline.precede(label, delta)?;
         Ok(())
     }
 
-    // Goes to the place of a head that counts the states.
-    pub(crate) fn at_head(mut self, head: Head) -> Result<Bench, LoadFault>
-        ensures { IsTaken result (with_steps (head_view head) self self.timeline.later) }
+    // Goes by a line to the state behind the present one.
+    pub(crate) fn go_on_by(&mut self, alloc: Global, line: &FileLine) -> Result<(), LoadFault>
+        requires names { has_rising_names (view line.now.value) ≡ true }
+        requires few { past_len self.old.timeline < most_past }
+        ensures { MovesBy appended self.old self.new result (view line.now.value) }
     {
-        let later_len = later_len(&self.timeline);
-        if head.states != later_len + 1 || head.place > later_len {
-            return Err(LoadFault::BenchText);
-        }
-        self.timeline.go_to(head.place);
-        Ok(self)
+        self.timeline.place_is_within();
+        let step = self.told_move(alloc, &line.value)?;
+        self.timeline.append(step)?;
+        Ok(())
+    }
+
+    // The place is that of one of the states.
+    pub(crate) fn place_is_within(&self)
+        ensures { past_len self.now.timeline ≤ length self.now.timeline.later }
+    {
+        self.timeline.place_is_within();
+    }
+
+    // Goes to a place of the history.
+    pub(crate) fn go_to(&mut self, place: usize)
+        requires { place ≤ length self.old.timeline.later }
+        ensures { self.new ≡ at_place place self.old }
+    {
+        self.timeline.go_to(place);
     }
 }

@@ -4,7 +4,7 @@ use Rattle.ssa_model.specs.laws.BenchFiles.{schema_in}
 use Rattle.ssa_file.specs.declared.loading.LoadFault.{LoadFault}
 use Rattle.ssa_bench.specs.Taking.{IsTaken}
 use Rattle.std.specs.Prelude.{Err}
-use Rattle.ssa_bench.proofs.TakenSteps.{schema-taken, schema-refused}
+use Rattle.ssa_bench.proofs.TakenLines.{schema-taken, schema-refused}
 use Rattle.ssa_bench.proofs.taking.schema_of.Goals as goal
 
 pub returns-in-Ok : goal.returns-in-Ok

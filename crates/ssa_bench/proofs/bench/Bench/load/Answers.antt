@@ -1,41 +1,109 @@
+use Rattle.std.proofs.Common.{◌≡◌, ◌≤◌, ℕ, length, List, Option, Some, ap, sym, subst, ◌∙◌, arith}
+use Rattle.std.specs.Prelude.{Ok}
+use Rattle.ssa_model.specs.definitions.BenchFile.{IsValidBench}
+use Rattle.ssa_model.specs.definitions.History.{Bench, appended}
+use Rattle.ssa_model.specs.definitions.RecordedBench.{HasReadHistory}
+use Rattle.ssa_model.specs.laws.BenchFiles.{schema_in}
+use Rattle.ssa_model.specs.laws.LineByLine.{along, at_place, ended_with, moves_from, on_from, preceded, with_part}
+use Rattle.ssa_model.specs.laws.RecordedBenches.{present_in}
+use Rattle.ssa_model.proofs.LineByLine.{after_head, after_now, after_source}
+use Rattle.ssa_json.specs.Readings.{readings}
 use Rattle.ssa_bench.specs.Loading.{Loads}
+use Rattle.ssa_bench.specs.Taking.{counts_view, held_counts}
 use Rattle.ssa_bench.proofs.LoadedParts.{fault-handed}
-use Rattle.ssa_bench.proofs.LoadedBench.{begun, first-refused, head-misplaced, head-refused, loaded, schema-refused, steps-refused}
+use Rattle.ssa_bench.proofs.LoadedBench.{Reached, end-refused, loaded, moves-refused, part-refused, reached-moves, reached-none, reached-part}
 use Rattle.ssa_bench.proofs.bench.Bench.load.Goals as goal
 
-pub returns-in_err-head-clause-loaded : goal.returns-in_err-head-clause-loaded
-returns-in_err-head-clause-loaded g c =
-    let fault = c.in_err-head.field-0.0 in
-    fault-handed c.from_residual.result fault (Loads (g.R.Source.remaining c.args.reader.now) (g.R.Source.remaining c.read_head.new.reader)) c.from_residual.ensures.1
-    (head-refused _ _ _ fault c.in_err-head.ensures.read)
+pub returns-in_err-counts-clause-loaded : goal.returns-in_err-counts-clause-loaded
+returns-in_err-counts-clause-loaded g c =
+    let fault = c.in_err-counts.field-0.0 in
+    let a = g.R.Source.remaining c.args.reader.now in
+    fault-handed c.from_residual.result fault (Loads a (g.R.Source.remaining c.read_counts.new.reader)) c.from_residual.ensures.1
+    (part-refused held_counts (λ k. after_head readings (counts_view k)) a a _ _ c.read_counts.new.room fault c.recorded_lines.ensures c.recorded_files.ensures.taken (reached-none a) c.in_err-counts.ensures.read)
 
 pub returns-in_err-schema-clause-loaded : goal.returns-in_err-schema-clause-loaded
 returns-in_err-schema-clause-loaded g c =
     let fault = c.in_err-schema.field-0.0 in
-    fault-handed c.from_residual-in_err-schema.result fault (Loads (g.R.Source.remaining c.args.reader.now) (g.R.Source.remaining c.read_schema.new.reader)) c.from_residual-in_err-schema.ensures.1
-    (schema-refused _ _ _ c.read_head.new.room c.read_schema.new.room c.in_ok-head.head fault c.in_ok-head.ensures.read c.in_err-schema.ensures.read)
+    let a = g.R.Source.remaining c.args.reader.now in
+    let counts = c.in_ok-counts.counts in
+    let one = reached-part held_counts (λ k. after_head readings (counts_view k)) a a _ _ c.read_counts.new.room counts (reached-none a) c.in_ok-counts.ensures.read in
+    fault-handed c.from_residual-in_err-schema.result fault (Loads a (g.R.Source.remaining c.read_schema.new.reader)) c.from_residual-in_err-schema.ensures.1
+    (part-refused schema_in (after_source readings (counts_view counts)) a _ _ _ c.read_schema.new.room fault c.recorded_lines.ensures c.recorded_files.ensures.taken one c.in_err-schema.ensures.read)
 
 pub returns-in_err-bench-clause-loaded : goal.returns-in_err-bench-clause-loaded
 returns-in_err-bench-clause-loaded g c =
     let fault = c.in_err-bench.field-0.0 in
-    fault-handed c.from_residual-in_err-bench.result fault (Loads (g.R.Source.remaining c.args.reader.now) (g.R.Source.remaining c.read_first.new.reader)) c.from_residual-in_err-bench.ensures.1
-    (first-refused _ _ _ _ c.read_head.new.room c.read_schema.new.room c.read_first.new.room c.in_ok-head.head c.in_ok-schema.schema fault c.in_ok-head.ensures.read c.in_ok-schema.ensures.read c.in_err-bench.ensures.read)
+    let a = g.R.Source.remaining c.args.reader.now in
+    let counts = c.in_ok-counts.counts in
+    let one = reached-part held_counts (λ k. after_head readings (counts_view k)) a a _ _ c.read_counts.new.room counts (reached-none a) c.in_ok-counts.ensures.read in
+    let two = reached-part schema_in (after_source readings (counts_view counts)) a _ _ _ c.read_schema.new.room c.in_ok-schema.schema one c.in_ok-schema.ensures.read in
+    fault-handed c.from_residual-in_err-bench.result fault (Loads a (g.R.Source.remaining c.read_present.new.reader)) c.from_residual-in_err-bench.ensures.1
+    (part-refused (present_in readings c.in_ok-schema.schema) (after_now readings (counts_view counts)) a _ _ _ c.read_present.new.room fault c.recorded_lines.ensures c.recorded_files.ensures.taken two
+    c.in_err-bench.ensures.read)
 
-pub returns-in_err-take_steps-clause-loaded : goal.returns-in_err-take_steps-clause-loaded
-returns-in_err-take_steps-clause-loaded g c =
-    let fault = c.in_err-take_steps.field-0.0 in
-    let three = begun _ _ _ _ c.read_head.new.room c.read_schema.new.room c.read_first.new.room c.in_ok-head.head c.in_ok-schema.schema c.in_ok-bench.bench c.in_ok-head.ensures.read c.in_ok-schema.ensures.read c.in_ok-bench.ensures.read in
-    fault-handed c.from_residual-in_err-take_steps.result fault (Loads (g.R.Source.remaining c.args.reader.now) (g.R.Source.remaining c.take_steps.new.reader)) c.from_residual-in_err-take_steps.ensures.1
-    (steps-refused _ _ _ c.read_first.new.room _ c.in_ok-bench.bench c.take_steps.new.bench fault three c.in_err-take_steps.ensures.taken)
+pub returns-in_err-read_past-clause-loaded : goal.returns-in_err-read_past-clause-loaded
+returns-in_err-read_past-clause-loaded g c =
+    let fault = c.in_err-read_past.field-0.0 in
+    let a = g.R.Source.remaining c.args.reader.now in
+    let counts = c.in_ok-counts.counts in
+    let one = reached-part held_counts (λ k. after_head readings (counts_view k)) a a _ _ c.read_counts.new.room counts (reached-none a) c.in_ok-counts.ensures.read in
+    let two = reached-part schema_in (after_source readings (counts_view counts)) a _ _ _ c.read_schema.new.room c.in_ok-schema.schema one c.in_ok-schema.ensures.read in
+    let three = reached-part (present_in readings c.in_ok-schema.schema) (after_now readings (counts_view counts)) a _ _ _ c.read_present.new.room c.in_ok-bench.bench two c.in_ok-bench.ensures.read in
+    fault-handed c.from_residual-in_err-read_past.result fault (Loads a (g.R.Source.remaining c.read_past.new.reader)) c.from_residual-in_err-read_past.ensures.1
+    (moves-refused preceded (on_from readings counts.past counts.future) counts.past a _ _ _ c.read_past.new.room c.in_ok-bench.bench c.read_past.new.bench fault c.recorded_lines.ensures
+    c.recorded_files.ensures.taken three c.in_err-read_past.ensures.read)
 
-pub returns-in_err-bench-2-clause-loaded : goal.returns-in_err-bench-2-clause-loaded
-returns-in_err-bench-2-clause-loaded g c =
-    let fault = c.in_err-bench-2.field-0.0 in
-    let three = begun _ _ _ _ c.read_head.new.room c.read_schema.new.room c.read_first.new.room c.in_ok-head.head c.in_ok-schema.schema c.in_ok-bench.bench c.in_ok-head.ensures.read c.in_ok-schema.ensures.read c.in_ok-bench.ensures.read in
-    fault-handed c.from_residual-in_err-bench-2.result fault (Loads (g.R.Source.remaining c.args.reader.now) (g.R.Source.remaining c.take_steps.new.reader)) c.from_residual-in_err-bench-2.ensures.1
-    (head-misplaced _ _ _ c.read_first.new.room _ c.in_ok-bench.bench c.take_steps.new.bench fault three c.in_ok-take_steps.ensures.taken c.in_err-bench-2.ensures)
+pub returns-in_err-read_future-clause-loaded : goal.returns-in_err-read_future-clause-loaded
+returns-in_err-read_future-clause-loaded g c =
+    let fault = c.in_err-read_future.field-0.0 in
+    let a = g.R.Source.remaining c.args.reader.now in
+    let counts = c.in_ok-counts.counts in
+    let one = reached-part held_counts (λ k. after_head readings (counts_view k)) a a _ _ c.read_counts.new.room counts (reached-none a) c.in_ok-counts.ensures.read in
+    let two = reached-part schema_in (after_source readings (counts_view counts)) a _ _ _ c.read_schema.new.room c.in_ok-schema.schema one c.in_ok-schema.ensures.read in
+    let three = reached-part (present_in readings c.in_ok-schema.schema) (after_now readings (counts_view counts)) a _ _ _ c.read_present.new.room c.in_ok-bench.bench two c.in_ok-bench.ensures.read in
+    let four = reached-moves preceded (on_from readings counts.past counts.future) counts.past a _ _ _ c.read_past.new.room c.in_ok-bench.bench c.read_past.new.bench three c.in_ok-read_past.ensures.read in
+    let last = λ (b : Bench). ended_with readings (at_place counts.past b) in
+    let five = subst (λ (b : Bench). Reached a (g.R.Source.remaining c.read_past.new.reader) c.read_past.new.room (along readings appended last counts.future b)) (sym c.go_to.ensures) four in
+    fault-handed c.from_residual-in_err-read_future.result fault (Loads a (g.R.Source.remaining c.read_future.new.reader)) c.from_residual-in_err-read_future.ensures.1
+    (moves-refused appended last counts.future a _ _ _ c.read_future.new.room c.go_to.new.self c.read_future.new.bench fault c.recorded_lines.ensures c.recorded_files.ensures.taken five
+    c.in_err-read_future.ensures.read)
+
+pub returns-in_err-read_end-clause-loaded : goal.returns-in_err-read_end-clause-loaded
+returns-in_err-read_end-clause-loaded g c =
+    let fault = c.in_err-read_end.field-0.0 in
+    let a = g.R.Source.remaining c.args.reader.now in
+    let counts = c.in_ok-counts.counts in
+    let one = reached-part held_counts (λ k. after_head readings (counts_view k)) a a _ _ c.read_counts.new.room counts (reached-none a) c.in_ok-counts.ensures.read in
+    let two = reached-part schema_in (after_source readings (counts_view counts)) a _ _ _ c.read_schema.new.room c.in_ok-schema.schema one c.in_ok-schema.ensures.read in
+    let three = reached-part (present_in readings c.in_ok-schema.schema) (after_now readings (counts_view counts)) a _ _ _ c.read_present.new.room c.in_ok-bench.bench two c.in_ok-bench.ensures.read in
+    let four = reached-moves preceded (on_from readings counts.past counts.future) counts.past a _ _ _ c.read_past.new.room c.in_ok-bench.bench c.read_past.new.bench three c.in_ok-read_past.ensures.read in
+    let last = λ (b : Bench). ended_with readings (at_place counts.past b) in
+    let five = subst (λ (b : Bench). Reached a (g.R.Source.remaining c.read_past.new.reader) c.read_past.new.room (along readings appended last counts.future b)) (sym c.go_to.ensures) four in
+    let six = reached-moves appended last counts.future a _ _ _ c.read_future.new.room c.go_to.new.self c.read_future.new.bench five c.in_ok-read_future.ensures.read in
+    fault-handed c.from_residual-in_err-read_end.result fault (Loads a (g.R.Source.remaining c.read_end.new.reader)) c.from_residual-in_err-read_end.ensures.1
+    (end-refused (at_place counts.past c.read_future.new.bench) a _ _ c.read_future.new.room fault c.recorded_lines.ensures c.recorded_files.ensures.taken six c.in_err-read_end.ensures.read)
+
+pub go_to-requires-2 : goal.go_to-requires-2
+go_to-requires-2 g c =
+    let counts = c.in_ok-counts.counts in
+    let place = ap (λ (b : Bench). b.timeline.place) c.go_to.ensures in
+    let many = c.in_ok-read_future.ensures.many in
+    let within = c.in_ok-read_future.ensures.within in
+    omega (arith, place, many, within)
 
 pub returns-clause-loaded : goal.returns-clause-loaded
 returns-clause-loaded g c =
-    let three = begun _ _ _ _ c.read_head.new.room c.read_schema.new.room c.read_first.new.room c.in_ok-head.head c.in_ok-schema.schema c.in_ok-bench.bench c.in_ok-head.ensures.read c.in_ok-schema.ensures.read c.in_ok-bench.ensures.read in
-    loaded _ _ _ c.read_first.new.room _ c.in_ok-bench.bench c.take_steps.new.bench c.in_ok-bench-2.bench three c.in_ok-take_steps.ensures.taken c.in_ok-bench-2.ensures c.is_valid.ensures
+    let a = g.R.Source.remaining c.args.reader.now in
+    let counts = c.in_ok-counts.counts in
+    let one = reached-part held_counts (λ k. after_head readings (counts_view k)) a a _ _ c.read_counts.new.room counts (reached-none a) c.in_ok-counts.ensures.read in
+    let two = reached-part schema_in (after_source readings (counts_view counts)) a _ _ _ c.read_schema.new.room c.in_ok-schema.schema one c.in_ok-schema.ensures.read in
+    let three = reached-part (present_in readings c.in_ok-schema.schema) (after_now readings (counts_view counts)) a _ _ _ c.read_present.new.room c.in_ok-bench.bench two c.in_ok-bench.ensures.read in
+    let four = reached-moves preceded (on_from readings counts.past counts.future) counts.past a _ _ _ c.read_past.new.room c.in_ok-bench.bench c.read_past.new.bench three c.in_ok-read_past.ensures.read in
+    let last = λ (b : Bench). ended_with readings (at_place counts.past b) in
+    let five = subst (λ (b : Bench). Reached a (g.R.Source.remaining c.read_past.new.reader) c.read_past.new.room (along readings appended last counts.future b)) (sym c.go_to.ensures) four in
+    let six = reached-moves appended last counts.future a _ _ _ c.read_future.new.room c.go_to.new.self c.read_future.new.bench five c.in_ok-read_future.ensures.read in
+    let made = at_place counts.past c.read_future.new.bench in
+    subst (λ (b : Bench). Loads a (g.R.Source.remaining c.read_end.new.reader) (Ok b)) (sym c.go_to-2.ensures)
+    (loaded made a _ _ c.read_future.new.room c.recorded_lines.ensures c.recorded_files.ensures.text
+    (subst (λ (b : Bench). IsValidBench readings b) c.go_to-2.ensures c.is_valid.ensures) (subst (λ (b : Bench). HasReadHistory readings b.timeline) c.go_to-2.ensures c.paths_are_read.ensures)
+    six c.in_ok-read_end.ensures.read)

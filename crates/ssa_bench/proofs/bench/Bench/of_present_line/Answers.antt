@@ -1,0 +1,10 @@
+use Rattle.ssa_model.proofs.LoneBenches.{lone-parts}
+use Rattle.ssa_json.specs.Readings.{readings}
+use Rattle.ssa_json.specs.View.{view}
+use Rattle.ssa_bench.proofs.bench.Bench.of_present_line.Goals as goal
+
+pub returns-then-branch-clause-lone : goal.returns-then-branch-clause-lone
+returns-then-branch-clause-lone c = (lone-parts readings c.args.schema (view c.args.line.value) c.in-Ok.bench c.in-Ok.ensures).alone
+
+pub is_present_line-requires : goal.is_present_line-requires
+is_present_line-requires c = (lone-parts readings c.args.schema (view c.args.line.value) c.in-Ok.bench c.in-Ok.ensures).alone

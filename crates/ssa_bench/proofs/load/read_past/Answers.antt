@@ -1,0 +1,36 @@
+use Rattle.std.proofs.Common.{◌≡◌, ◌<◌, ◌+◌, length, ap, sym, ◌∙◌, arith}
+use Rattle.ssa_model.specs.definitions.History.{Bench}
+use Rattle.ssa_model.specs.laws.LineByLine.{preceded}
+use Rattle.ssa_json.specs.View.{view}
+use Rattle.ssa_bench.specs.Loading.{ReadsMoves}
+use Rattle.ssa_bench.proofs.LoadedParts.{fault-handed}
+use Rattle.ssa_bench.proofs.LoadedMoves.{went-more, went-refused, went-unread}
+use Rattle.ssa_bench.proofs.load.read_past.Goals as goal
+
+pub returns-in_err-line-clause-read : goal.returns-in_err-line-clause-read
+returns-in_err-line-clause-read g c =
+    let fault = c.in_err-line.field-0.0 in
+    fault-handed c.from_residual.result fault
+    (ReadsMoves preceded c.args.count (g.R.Source.remaining c.args.reader.now) (g.R.Source.remaining c.next_line.new.reader) c.args.room.now c.next_line.new.room c.args.bench.now c.loop.bench)
+    c.from_residual.ensures.1
+    (went-unread preceded c.args.count c.loop.counter _ _ _ _ c.loop.room c.next_line.new.room c.args.bench.now c.loop.bench c.loop.bench fault c.loop-test.true c.loop.invariant.0 c.in_err-line.ensures.read)
+
+pub returns-in_err-go_back_by-clause-read : goal.returns-in_err-go_back_by-clause-read
+returns-in_err-go_back_by-clause-read g c =
+    let fault = c.in_err-go_back_by.field-0.0 in
+    fault-handed c.from_residual-in_err-go_back_by.result fault
+    (ReadsMoves preceded c.args.count (g.R.Source.remaining c.args.reader.now) (g.R.Source.remaining c.next_line.new.reader) c.args.room.now c.next_line.new.room c.args.bench.now c.go_back_by.new.self)
+    c.from_residual-in_err-go_back_by.ensures.1
+    (went-refused preceded c.args.count c.loop.counter _ _ _ _ c.loop.room c.next_line.new.room c.args.bench.now c.loop.bench c.go_back_by.new.self c.in_ok-line.line fault
+    c.loop-test.true c.loop.invariant.0 c.in_ok-line.ensures.read c.in_err-go_back_by.ensures)
+
+pub loop-preserved : goal.loop-preserved
+loop-preserved g c =
+    let moved = c.in_ok-go_back_by.ensures in
+    let place = ap (λ (b : Bench). b.timeline.place) moved.2 in
+    let many = ap (λ (b : Bench). length b.timeline.later) moved.2 in
+    let before = c.loop.invariant.1.1 in (
+      went-more preceded c.args.count c.loop.counter _ _ _ _ c.loop.room c.next_line.new.room c.args.bench.now c.loop.bench c.go_back_by.new.self c.in_ok-line.line
+          c.loop-test.true c.loop.invariant.0 c.in_ok-line.ensures.read moved,
+      (place, omega (arith, many, before)),
+    )
