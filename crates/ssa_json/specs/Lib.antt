@@ -7,3 +7,5 @@ pub mod Devices
 pub mod Piece
 pub mod Writable
 pub mod FaultCodes
+pub mod Lookups
+pub mod Parts

@@ -1,5 +1,6 @@
 -- What is handed to `serde_json` to be printed.
-use Rattle.std.specs.Prelude.{ℤ, pos, negsuc, ◌^◌, Bool, true, ◌&&◌, nat_lt}
+use Rattle.std.specs.Prelude.{◌≡◌, ℕ, ◌<◌, ℤ, pos, negsuc, ◌^◌, Bool, true, ◌&&◌, nat_lt}
+use Rattle.std.specs.Fmt as fmt
 use Rattle.serde_json.specs.Data as json
 use Rattle.serde_json.specs.Find.{of_integer}
 use Rattle.ssa_model.specs.definitions.Json as model
@@ -48,3 +49,7 @@ abbrev mutual
   pub members_narrow : model.Members → Bool
   members_narrow model.no_members = true
   members_narrow (model.member k v ms) = is_narrow v && members_narrow ms
+
+-- a number that fits in 64 bits is printed in the digits of its decimal writing
+abbrev pub DecimalsArePrinted : Type 0
+DecimalsArePrinted = (n : ℕ) → n < 2 ^ 64 → fmt.decimal n ≡ model.decimal n

@@ -1,6 +1,7 @@
 //! JSON values: what RFC 8259 has, but for nulls and for numbers that are not whole numbers of 64 bits.
 ghost use Rattle.std.specs.Prelude.{◌≡◌, Some, None, option_map};
 ghost use Rattle.ssa_json.specs.View.{view, members_view, as_object};
+ghost use Rattle.ssa_json.specs.Lookups.{ObjectsAreMembers};
 ghost use Rattle.ssa_model.specs.definitions.Json.{is_object, as_text, member_at};
 
 use std::collections::BTreeMap;
@@ -59,3 +60,8 @@ impl Json {
         }
     }
 }
+
+/// An object is seen as the members of its map.
+pub fn objects_are_members()
+    ensures { ObjectsAreMembers }
+{}

@@ -5,7 +5,7 @@ ghost use Rattle.ssa_model.specs.definitions.Json.{compact};
 ghost use Rattle.ssa_json.specs.Reading.{json_reading};
 ghost use Rattle.ssa_json.specs.View.{view, items_view, members_view};
 ghost use Rattle.ssa_json.specs.Writable.{CompactIsRead, IsOfProgram, depth, has_rising_names, has_utf8, items_have_rising_names, items_have_utf8, max_depth, members_have_utf8, members_rise};
-ghost use Rattle.ssa_json.specs.Written.{data_of, items_data, members_data, is_narrow, items_narrow, members_narrow};
+ghost use Rattle.ssa_json.specs.Written.{DecimalsArePrinted, data_of, items_data, members_data, is_narrow, items_narrow, members_narrow};
 
 use crate::value::{Json, Scalar};
 use serde_json::{Map, Value};
@@ -39,6 +39,11 @@ impl Json {
 /// UTF-8, the names of its members rise, and it nests at most 127 deep.
 pub fn compact_is_read()
     ensures { CompactIsRead }
+{}
+
+/// A number of at most 64 bits is printed by `format!` as JSON writes it.
+pub fn decimals_are_printed()
+    ensures { DecimalsArePrinted }
 {}
 
 // The value as `serde_json` has it.

@@ -17,7 +17,7 @@ use Rattle.ssa_model.specs.definitions.Schema.{has_member, is_text}
 use Rattle.ssa_model.specs.definitions.Table.{Operation, applies, updates}
 use Rattle.ssa_json.specs.View.{view, members_view}
 use Rattle.ssa_json.specs.declared.value.Json as json
-use Rattle.ssa_json.proofs.Equality.{same_text-true}
+use Rattle.ssa_model.proofs.Tables.{same_text-true}
 use Rattle.ssa_merge.specs.EntryReading.{members_saying}
 
 -- ---- what stands at a name

@@ -1,6 +1,6 @@
 -- The test of equality tells scalars apart.
-use Rattle.std.proofs.Common.{◌≡◌, ℕ, ℤ, pos, negsuc, Bool, true, false, refl, sym, ap, arith, true≢false}
-use Rattle.std.specs.Prelude.{◌==◌}
+use Rattle.std.proofs.Common.{◌≡◌, ℕ, ℤ, pos, negsuc, Bool, true, false, refl, sym, ap, subst, arith, true≢false}
+use Rattle.std.specs.Prelude.{◌==◌, ◌↔◌, IsTrue}
 use Rattle.std.proofs.lemmas.Bool.Decides.{nat_tests}
 use Rattle.ssa_model.specs.definitions.Json.{Scalar, text, whole, truth, same_whole, same_truth, same_scalar}
 use Rattle.ssa_model.proofs.Tables.{same_text-true, text-itself}
@@ -42,3 +42,7 @@ same_scalar-itself (text t) = text-itself t
 same_scalar-itself (whole (pos n)) = same_nat-itself n
 same_scalar-itself (whole (negsuc n)) = same_nat-itself n
 same_scalar-itself (truth b) = same_truth-itself b
+
+-- so the test decides equality
+pub same_scalar-decides : (s t : Scalar) → IsTrue (same_scalar s t) ↔ (s ≡ t)
+same_scalar-decides s t = (same_scalar-true s t, λ e. subst (λ x. same_scalar s x ≡ true) e (same_scalar-itself s))

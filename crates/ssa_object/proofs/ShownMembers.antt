@@ -10,7 +10,7 @@ use Rattle.ssa_model.specs.definitions.Entries.{entry_items, object_of_state, te
 use Rattle.ssa_model.specs.definitions.Table.{Table}
 use Rattle.ssa_model.specs.definitions.Objects.{Identity, members_in, members_of_value, object_of_body, shown, value_at, with_given, with_member}
 use Rattle.ssa_object.specs.Identities.{HasVersion}
-use Rattle.ssa_json.proofs.Equality.{same_text-itself}
+use Rattle.ssa_model.proofs.Tables.{text-itself as same_text-itself}
 
 -- the member that is put is there
 put-there : (n : Text) (v : Json) (ms : Members) → member_of n (with_member n v ms) ≡ Some v

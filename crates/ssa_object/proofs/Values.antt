@@ -11,9 +11,11 @@ use Rattle.ssa_model.specs.definitions.Json.{Text, Json, scalar, list, object, s
 use Rattle.ssa_model.specs.definitions.Objects.{value_at, without, without_names, without_in_metadata, file_names, file_value}
 use Rattle.ssa_json.specs.View.{view, members_view}
 use Rattle.ssa_json.specs.declared.value.Json as values
-use Rattle.ssa_json.proofs.Converting.{Found}
-use Rattle.ssa_json.proofs.Equality.{same_text-true}
-use Rattle.ssa_model.proofs.Tables.{or-false}
+use Rattle.ssa_model.proofs.Tables.{same_text-true, or-false}
+
+-- a name of a map, and its value
+abbrev Found : Type 0
+Found = String Global × values.Json
 
 -- the test by which a map finds a name
 abbrev pub finds : Text → String Global → Bool

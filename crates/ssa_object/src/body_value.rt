@@ -7,7 +7,7 @@ ghost use Rattle.ssa_model.specs.definitions.Json.{object};
 ghost use Rattle.ssa_model.specs.definitions.Objects.{value_at, without, without_names, without_in_metadata, body_value, file_value, value_without};
 ghost use Rattle.ssa_json.specs.View.{view, members_view};
 
-use ssa_json::value::{Json, Scalar};
+use ssa_json::value::{Json, Scalar, objects_are_members};
 use std::collections::BTreeMap;
 use std::mem;
 
@@ -27,6 +27,7 @@ pub fn file_parts(object: Json) -> (Json, Option<Json>)
     ensures value { view result.0 ≡ file_value (view object) }
     ensures entries { option_map view result.1 ≡ value_at (codes "metadata" ∷ codes "managedFields" ∷ []) (view object) }
 {
+    objects_are_members();
     match object {
         Json::Object(mut members) => {
             let entries = take_entries(&mut members);
@@ -120,6 +121,7 @@ fn without_member(value: Json, name: &str) -> (Json, Option<Json>)
     ensures rest { view result.0 ≡ without_names (name.now ∷ []) (view value) }
     ensures taken { option_map view result.1 ≡ value_at (name.now ∷ []) (view value) }
 {
+    objects_are_members();
     match value {
         Json::Object(mut members) => {
             let taken = members.remove(name);

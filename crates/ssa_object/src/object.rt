@@ -9,7 +9,7 @@ ghost use Rattle.ssa_merge.specs.States.{state_view};
 
 use crate::identity::Identity;
 use ssa_json::members::put_member;
-use ssa_json::value::Json;
+use ssa_json::value::{Json, objects_are_members};
 use ssa_merge::state::State;
 use ssa_schema::schema::Schema;
 use ssa_typed::body::Body;
@@ -28,6 +28,7 @@ fn object_of_body(
 {
     // The value of a body is said for kinds whose fields rise, as this one's do.
     let _kind = schema.kind();
+    objects_are_members();
     let shown = body.to_json(alloc)?;
     let mut members = into_members(alloc, shown);
     add_identity(alloc, &mut members, identity)?;

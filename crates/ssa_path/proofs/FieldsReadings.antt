@@ -12,7 +12,8 @@ use Rattle.ssa_model.specs.definitions.FieldsV1.{nothing_written, AreCanonical, 
 use Rattle.ssa_model.specs.definitions.ElementTexts.{ElementFault, bad_element, not_canonical, element_of}
 use Rattle.ssa_json.specs.Reading.{json_reading}
 use Rattle.ssa_json.specs.View.{view, members_view}
-use Rattle.ssa_json.proofs.Equality.{same_json-true, same_text-true}
+use Rattle.ssa_model.proofs.Tables.{same_text-true}
+use Rattle.ssa_model.proofs.SameValues.{same_json-true}
 use Rattle.ssa_json.proofs.Ordered.{IsAbove, names, above_before}
 use Rattle.ssa_path.specs.Children.{elements, is_below, rises}
 use Rattle.ssa_path.specs.ElementReading.{ReadsElement}

@@ -15,7 +15,7 @@ use Rattle.ssa_json.specs.Written.{is_narrow_scalar, members_narrow}
 use Rattle.ssa_json.specs.declared.value.Scalar as json
 use Rattle.ssa_json.specs.declared.value.Scalar.TheVariants.{Text as TextOf, Int, Bool as BoolOf}
 use Rattle.ssa_json.specs.Writable.{is_utf8_scalar, members_have_utf8, members_rise, members_depth}
-use Rattle.ssa_json.proofs.Equality.{same_text-itself}
+use Rattle.ssa_model.proofs.Tables.{text-itself as same_text-itself}
 use Rattle.ssa_json.proofs.OfProgram.{string_is_utf8}
 use Rattle.ssa_json.proofs.ReadingBack.{compact-is-read}
 use Rattle.ssa_path.specs.Keys.{Members, members_view, names_rise_after, are_keys}

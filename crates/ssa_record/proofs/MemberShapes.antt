@@ -12,7 +12,8 @@ use Rattle.ssa_model.specs.definitions.Schema.{has_member}
 use Rattle.ssa_model.proofs.Tests.{by_test, same_tests}
 use Rattle.ssa_json.specs.View.{members_view}
 use Rattle.ssa_json.specs.declared.value.Json as values
-use Rattle.ssa_json.proofs.Equality.{same_text-true, same_text-itself}
+use Rattle.ssa_model.proofs.Tables.{same_text-true}
+use Rattle.ssa_model.proofs.Tables.{text-itself as same_text-itself}
 use Rattle.ssa_record.specs.Telling.{fits, all_fit, are_named}
 
 abbrev Found : Type 0

@@ -20,7 +20,7 @@ use Rattle.ssa_model.specs.definitions.Replies.{items_json, path_json}
 use Rattle.ssa_model.specs.definitions.Schema.{texts_of}
 use Rattle.ssa_model.proofs.RecordsBack.{record_texts_have_shape, record_texts_are_read}
 use Rattle.ssa_model.proofs.Texts.{element_text-injective}
-use Rattle.ssa_json.proofs.Equality.{same_text-true}
+use Rattle.ssa_model.proofs.Tables.{same_text-true}
 use Rattle.ssa_record.specs.PathTexts.{texts_or_none}
 use Rattle.ssa_record.specs.Said.{RecordTextsSay}
 use Rattle.ssa_record.specs.Told.{leaf_of, put_of, said_body, said_leaf, said_put, told_of}

@@ -13,7 +13,7 @@ use Rattle.ssa_model.specs.definitions.Kind as kinds
 use Rattle.ssa_model.proofs.Faults.{cons≢nil, nil_first, nil_second}
 use Rattle.ssa_model.proofs.SchemaMembers.{kept as not_false, behind, no-fault}
 use Rattle.ssa_model.proofs.Tables.{first_false, second_false}
-use Rattle.ssa_json.proofs.Equality.{same_text-true}
+use Rattle.ssa_model.proofs.Tables.{same_text-true}
 use Rattle.ssa_path.proofs.Orders.{both, both_first, both_second}
 use Rattle.ssa_model.specs.definitions.Schema as model
 use Rattle.ssa_model.specs.definitions.Lawful.{names_rise_after, are_key_names, is_keyed, are_keyed, is_record, is_root_kind}

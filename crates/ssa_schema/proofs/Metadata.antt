@@ -9,7 +9,7 @@ use Rattle.ssa_model.specs.definitions.Kind.{Kind, Fields, scalar_kind, atomic_o
 use Rattle.ssa_model.specs.definitions.Schema.{with_field, with_metadata, read_schema, schema_faults, kind_of_schema, at_root, metadata_fields}
 use Rattle.ssa_model.specs.definitions.Limits.{most_levels}
 use Rattle.ssa_model.specs.definitions.Lawful.{is_record, is_some_record, has_metadata}
-use Rattle.ssa_json.proofs.Equality.{same_text-itself}
+use Rattle.ssa_model.proofs.Tables.{text-itself as same_text-itself}
 use Rattle.ssa_schema.proofs.Lawful.{root-record, told-kind}
 
 -- a field that is put among others is found

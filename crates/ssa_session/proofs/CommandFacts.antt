@@ -18,8 +18,8 @@ use Rattle.ssa_json.specs.Moment.{is_moment}
 use Rattle.ssa_json.specs.Reading.{json_reading}
 use Rattle.ssa_json.specs.View.{view, members_view}
 use Rattle.ssa_json.specs.declared.value.Json as values
-use Rattle.ssa_json.proofs.Equality.{same_text-true}
-use Rattle.ssa_json.proofs.Views.{view-lookup}
+use Rattle.ssa_model.proofs.Tables.{same_text-true}
+use Rattle.ssa_json.specs.Lookups.{view-lookup}
 use Rattle.ssa_session.specs.declared.command_shape.Word.{Word}
 use Rattle.ssa_session.specs.declared.command_shape.Word.TheVariants.{Apply, Update, Strip, Undo, Redo, Show, Owners, Log}
 use Rattle.ssa_record.specs.PathTexts.{as_list, given_texts}

@@ -1,5 +1,5 @@
 -- Laws of a session, line by line.
-use Rattle.std.proofs.Common.{◌≡◌, ◌≢◌, ℕ, List, [], ◌∷◌, ◌++◌, Option, OnSome, ◌⊎◌, inl, inr, refl, ap, ◌∙◌, subst}
+use Rattle.std.proofs.Common.{◌≡◌, ◌≢◌, ℕ, List, [], ◌∷◌, ◌++◌, Option, Some, None, OnSome, ◌⊎◌, inl, inr, refl, ap, ◌∙◌, subst}
 use Rattle.std.proofs.lemmas.List.{append-nil}
 use Rattle.std.proofs.lemmas.Grind.{flat_map-append}
 use Rattle.std.proofs.KnownBytes.{Consumes-nil, Consumes-trans, Appends-nil, Appends-trans}
@@ -12,6 +12,12 @@ use Rattle.ssa_json.specs.Devices.{AppendsPart}
 use Rattle.ssa_session.specs.Session.{IsAnswer, IsRefused, AnswersLine, Replies}
 use Rattle.ssa_session.specs.Outcome.{AnswersAll, AnswersWhole, AnswersPartly}
 use Rattle.ssa_model.proofs.LinesFacts.{split_lines-whole, split_lines-unfinished}
+
+-- the source is at its end, whatever it has given before
+pub IsAtEnd-consumed : (first old new : Option (List ℕ)) (xs : List ℕ) → Consumes first old xs → OnSome old (IsAtEnd new) → OnSome first (IsAtEnd new)
+IsAtEnd-consumed None old new xs p q = tt
+IsAtEnd-consumed (Some a) None new xs p q = absurd p
+IsAtEnd-consumed (Some a) (Some b) new xs p q = q
 
 last_line-of_some : (text : List ℕ) → text ≢ [] → last_line text ≡ text ∷ []
 last_line-of_some [] some = absurd (some refl)

@@ -10,6 +10,7 @@ ghost use Rattle.ssa_schema.specs.Kinds.{names_view};
 ghost use Rattle.ssa_session.specs.Replies.{names_json};
 
 use ssa_json::value::{Json, Scalar};
+use ssa_json::write::decimals_are_printed;
 use ssa_path::element::Elem;
 use ssa_path::field_set::FieldSet;
 use ssa_path::path::Path;
@@ -29,6 +30,7 @@ pub fn push_comma(text: &mut Vec<u8>, is_later: bool) -> Result<(), AllocError>
 pub fn push_number(alloc: Global, text: &mut Vec<u8>, number: usize) -> Result<(), AllocError>
     ensures { OnOk result (text.new.items ≡ text.old.items ++ compact (number_json number)) }
 {
+    decimals_are_printed();
     let digits = format!(in alloc; "{number}")?;
     text.extend_from_slice(digits.as_bytes())
 }

@@ -17,7 +17,7 @@ use ssa_json::fault::JsonFault;
 use ssa_json::fault_code::FaultCode;
 use ssa_json::members::find_member;
 use ssa_json::moment::Moment;
-use ssa_json::value::{Json, Scalar};
+use ssa_json::value::{Json, Scalar, objects_are_members};
 use ssa_path::element_fault::ElemFault;
 use ssa_record::path_texts::path_of_texts;
 use ssa_record::value_shape::{list_of, text_of};
@@ -111,6 +111,7 @@ pub fn read_command(alloc: Global, line: &[u8]) -> Result<Command, LineFault>
 fn command_of(alloc: Global, value: Json) -> Result<Command, LineFault>
     ensures { ReadsCommand result (read_command readings (view value)) }
 {
+    objects_are_members();
     let Json::Object(members) = value else {
         return Err(LineFault::CommandShape);
     };

@@ -13,7 +13,7 @@ use Rattle.ssa_model.specs.definitions.Json.{Text, member, member_of, same_text}
 use Rattle.ssa_model.specs.definitions.Body.{is_empty_object, without_empty_metadata}
 use Rattle.ssa_json.specs.View.{view, members_view}
 use Rattle.ssa_json.proofs.Converting.{Found}
-use Rattle.ssa_json.proofs.Equality.{same_text-true}
+use Rattle.ssa_model.proofs.Tables.{same_text-true}
 use Rattle.ssa_json.proofs.Ordered.{above_first}
 use Rattle.ssa_typed.specs.Reads.{is_empty_member, has_empty_metadata}
 

@@ -11,7 +11,8 @@ use Rattle.ssa_model.specs.definitions.Fitting.{Place, of_kind, item_of, value_o
 use Rattle.ssa_model.specs.definitions.Operations.{is_none}
 use Rattle.ssa_model.proofs.Faults.{unless-true, shape-anywhere}
 use Rattle.ssa_model.proofs.Places.{place-push}
-use Rattle.ssa_json.proofs.Equality.{same_text-true, same_scalar-itself}
+use Rattle.ssa_model.proofs.Tables.{same_text-true}
+use Rattle.ssa_model.proofs.Scalars.{same_scalar-itself}
 use Rattle.ssa_typed.specs.Rows.{Row}
 use Rattle.ssa_model.specs.laws.Faultless.{Fits, FieldsFit, EntriesFit, KeysFit}
 use Rattle.ssa_typed.specs.Flats.{member_places}

@@ -19,7 +19,7 @@ use Rattle.ssa_model.proofs.Pruned.{from_one}
 use Rattle.ssa_model.proofs.Tables.{apart_by, yes_no}
 use Rattle.ssa_model.proofs.ValidStates.{leaf_place}
 use Rattle.std.specs.Cmp.{first_so}
-use Rattle.ssa_json.proofs.Equality.{same_text-itself}
+use Rattle.ssa_model.proofs.Tables.{text-itself as same_text-itself}
 use Rattle.ssa_path.proofs.Orders.{same_element-true, same_element-itself}
 use Rattle.ssa_model.proofs.Faults.{cons≢nil}
 use Rattle.ssa_model.proofs.Places.{place-push}

@@ -12,7 +12,7 @@ use Rattle.ssa_model.specs.definitions.Kind.{Fields, no_fields, kind_field}
 use Rattle.ssa_model.specs.definitions.Body.{Body, Content}
 use Rattle.ssa_model.specs.definitions.Objects.{shown, shown_fields, entry_members, names_below}
 use Rattle.ssa_model.proofs.ShownNames.{name_of, names-there, name-is}
-use Rattle.ssa_json.proofs.Equality.{same_text-true}
+use Rattle.ssa_model.proofs.Tables.{same_text-true}
 use Rattle.ssa_path.specs.Children.{child_at, elements, is_below, rises}
 use Rattle.ssa_path.specs.View.{element_view}
 use Rattle.ssa_path.proofs.Orders.{element_cmp_total, both, both_first, both_second}

@@ -2,7 +2,7 @@ use Rattle.std.proofs.Common.{string_bytes, refl, sym, ◌∙◌}
 use Rattle.std.proofs.lemmas.Result.{err_from_is_err_and}
 use Rattle.ssa_model.specs.definitions.FieldsV1.{fields_json}
 use Rattle.ssa_json.specs.View.{view}
-use Rattle.ssa_json.proofs.Equality.{same_text-true}
+use Rattle.ssa_model.proofs.Tables.{same_text-true}
 use Rattle.ssa_merge.specs.Managers.{table_view}
 use Rattle.ssa_merge.proofs.EntryFaults.{no-fault, owned-fault, passed, whole}
 use Rattle.ssa_merge.proofs.entry_read.read_entry.Goals as goal

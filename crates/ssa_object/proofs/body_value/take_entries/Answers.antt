@@ -2,7 +2,7 @@ use Rattle.std.proofs.Common.{[], ◌∷◌, option_map, ap, sym, ◌∙◌}
 use Rattle.std.specs.Prelude.{codes, option_and_then}
 use Rattle.ssa_model.specs.definitions.Objects.{value_at, without_names}
 use Rattle.ssa_json.specs.View.{view, members_view}
-use Rattle.ssa_json.proofs.Views.{view-lookup}
+use Rattle.ssa_json.specs.Lookups.{view-lookup}
 use Rattle.ssa_object.proofs.Values.{no_metadata, written}
 use Rattle.ssa_object.proofs.body_value.take_entries.Goals as goal
 

@@ -1,7 +1,7 @@
 use Rattle.std.proofs.Common.{codes, Some, option_map, ap, sym, ◌∙◌}
 use Rattle.ssa_model.specs.definitions.Objects.{members_in}
 use Rattle.ssa_json.specs.View.{view, members_view}
-use Rattle.ssa_json.proofs.Views.{view_of_ref, view-lookup}
+use Rattle.ssa_json.specs.Lookups.{view_of_ref, view-lookup}
 use Rattle.ssa_object.proofs.object.metadata_of.Goals as goal
 
 pub returns-in_ok-copy-in-Some : goal.returns-in_ok-copy-in-Some

@@ -1,5 +1,5 @@
 use Rattle.std.proofs.Common.{sym, ◌∙◌}
-use Rattle.ssa_json.proofs.Equality.{same_text-true}
+use Rattle.ssa_model.proofs.Tables.{same_text-true}
 use Rattle.ssa_session.proofs.CommandFacts.{rule_of-other}
 use Rattle.ssa_session.proofs.command_shape.word_of_text.Goals as goal
 

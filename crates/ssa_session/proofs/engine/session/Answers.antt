@@ -1,7 +1,6 @@
 use Rattle.std.proofs.Common.{◌≢◌, [], true≢false, Ok, ap, sym, ◌∙◌}
 use Rattle.ssa_model.specs.definitions.Limits.{most_line_bytes}
-use Rattle.ssa_file.proofs.DeviceFacts.{IsAtEnd-consumed}
-use Rattle.ssa_session.proofs.SessionFacts.{SoFar-none, SoFar-more, AnswersWhole-fault, AnswersAll-last, AnswersPartly-whole, AnswersPartly-last}
+use Rattle.ssa_session.proofs.SessionFacts.{IsAtEnd-consumed, SoFar-none, SoFar-more, AnswersWhole-fault, AnswersAll-last, AnswersPartly-whole, AnswersPartly-last}
 use Rattle.ssa_session.proofs.engine.session.Goals as goal
 
 pub loop-end-init : goal.loop-end-init

@@ -1,6 +1,6 @@
 use Rattle.std.proofs.lemmas.Result.{on_ok_weaker, on_err_weaker}
 use Rattle.std.proofs.KnownBytes.{Appends-trans}
-use Rattle.ssa_json.proofs.Writing.{AppendsPart-after}
+use Rattle.ssa_json.specs.Parts.{AppendsPart-after}
 use Rattle.ssa_session.proofs.fault_line.write_both.Goals as goal
 
 pub returns-clause-ok : goal.returns-clause-ok

@@ -3,7 +3,7 @@ use Rattle.std.proofs.lemmas.Result.{err_from_is_err_and, on_ok_weaker, on_err_w
 use Rattle.std.proofs.KnownBytes.{Appends-trans}
 use Rattle.std.specs.Io.KnownBytes.{Appends}
 use Rattle.std.specs.Prelude.{codes}
-use Rattle.ssa_json.proofs.Writing.{AppendsPart-after}
+use Rattle.ssa_json.specs.Parts.{AppendsPart-after}
 use Rattle.ssa_json.specs.Devices.{AppendsPart}
 use Rattle.ssa_json.specs.FaultCodes.{code_view}
 use Rattle.ssa_session.specs.Replies.{name_end}

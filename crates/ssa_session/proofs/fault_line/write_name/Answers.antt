@@ -5,7 +5,7 @@ use Rattle.std.specs.Io.KnownBytes.{Appends}
 use Rattle.std.specs.Prelude.{codes}
 use Rattle.ssa_model.specs.definitions.Lines.{line_feed}
 use Rattle.ssa_json.specs.Devices.{AppendsPart}
-use Rattle.ssa_json.proofs.Writing.{AppendsPart-after}
+use Rattle.ssa_json.specs.Parts.{AppendsPart-after}
 use Rattle.ssa_session.proofs.Lines.{AppendsPart-before}
 use Rattle.ssa_session.proofs.fault_line.write_name.Goals as goal
 

@@ -3,7 +3,7 @@ use Rattle.ssa_model.specs.definitions.Json.{as_text, member_of}
 use Rattle.ssa_model.specs.definitions.Commands.{value_in}
 use Rattle.ssa_json.specs.Moment.{is_moment}
 use Rattle.ssa_json.specs.View.{view, members_view}
-use Rattle.ssa_json.proofs.Views.{view-lookup}
+use Rattle.ssa_json.specs.Lookups.{view-lookup}
 use Rattle.ssa_session.proofs.CommandFacts.{there, text_in-is, other_member}
 use Rattle.ssa_session.proofs.read_command.take_request.Goals as goal
 

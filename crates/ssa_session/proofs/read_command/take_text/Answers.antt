@@ -1,7 +1,7 @@
 use Rattle.std.proofs.Common.{option_map, option_and_then, string_bytes, ap, ◌∙◌, sym}
 use Rattle.ssa_model.specs.definitions.Json.{as_text}
 use Rattle.ssa_json.specs.View.{view}
-use Rattle.ssa_json.proofs.Views.{view-lookup}
+use Rattle.ssa_json.specs.Lookups.{view-lookup}
 use Rattle.ssa_session.proofs.read_command.take_text.Goals as goal
 
 pub returns-in_err-remove : goal.returns-in_err-remove

@@ -1,6 +1,6 @@
 use Rattle.std.proofs.lemmas.Result.{err_from_is_err_and}
 use Rattle.std.proofs.KnownBytes.{Appends-trans, Appends-kept}
-use Rattle.ssa_json.proofs.Writing.{AppendsPart-whole, AppendsPart-after, OnErr-always}
+use Rattle.ssa_json.specs.Parts.{AppendsPart-whole, AppendsPart-after, OnErr-always}
 use Rattle.ssa_session.proofs.write_line.write_line.Goals as goal
 
 pub returns-in_err-write_all-2-clause-err : goal.returns-in_err-write_all-2-clause-err

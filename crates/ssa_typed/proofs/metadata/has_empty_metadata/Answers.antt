@@ -1,7 +1,7 @@
 use Rattle.std.proofs.Common.{sym, ap, ◌∙◌}
 use Rattle.std.specs.Prelude.{option_map}
 use Rattle.ssa_json.specs.View.{view}
-use Rattle.ssa_json.proofs.Views.{view_of_ref, view-lookup}
+use Rattle.ssa_json.specs.Lookups.{view_of_ref, view-lookup}
 use Rattle.std.specs.Prelude.{codes}
 use Rattle.ssa_typed.specs.Reads.{is_empty_member}
 use Rattle.ssa_typed.proofs.metadata.has_empty_metadata.Goals as goal

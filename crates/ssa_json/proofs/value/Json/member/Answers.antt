@@ -1,7 +1,8 @@
 use Rattle.std.proofs.Common.{option_map, ap, ◌∙◌, sym}
 use Rattle.ssa_model.specs.definitions.Json.{member_at}
 use Rattle.ssa_json.specs.View.{view}
-use Rattle.ssa_json.proofs.Views.{view_of_ref, view-lookup, view-Object}
+use Rattle.ssa_json.specs.Lookups.{view_of_ref, view-lookup}
+use Rattle.ssa_json.proofs.Views.{view-Object}
 use Rattle.ssa_json.proofs.value.Json.member.Goals as goal
 
 pub returns-in-Object : goal.returns-in-Object

@@ -1,5 +1,5 @@
 use Rattle.ssa_json.specs.View.{view}
-use Rattle.ssa_json.proofs.Equality.{same_json-decides}
+use Rattle.ssa_model.proofs.SameValues.{same_json-decides}
 use Rattle.ssa_json.proofs.value.Json.same.Goals as goal
 
 pub returns-clause-value : goal.returns-clause-value

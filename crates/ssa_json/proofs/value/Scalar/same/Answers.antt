@@ -1,7 +1,7 @@
 use Rattle.std.proofs.Common.{◌≡◌, rules}
 use Rattle.ssa_model.specs.definitions.Json.{same_scalar}
 use Rattle.ssa_json.specs.View.{scalar_view}
-use Rattle.ssa_json.proofs.Equality.{same_scalar-decides}
+use Rattle.ssa_model.proofs.Scalars.{same_scalar-decides}
 use Rattle.ssa_json.proofs.value.Scalar.same.Goals as goal
 
 pub returns-in-Text-Text-clause-value : goal.returns-in-Text-Text-clause-value

@@ -1,5 +1,5 @@
 use Rattle.std.proofs.Common.{rules, sym, ◌∙◌}
-use Rattle.ssa_json.proofs.Equality.{same_text-true}
+use Rattle.ssa_model.proofs.Tables.{same_text-true}
 use Rattle.ssa_path.proofs.OwnTexts.{own-text-of-none}
 use Rattle.ssa_path.proofs.element.Elem.read.Goals as goal
 

@@ -1,4 +1,4 @@
--- Laws of what is written.
+-- Laws of the words for what is written: a beginning of the bytes, and one behind others.
 use Rattle.std.proofs.Common.{◌≡◌, ℕ, List, ◌++◌, Option, Result, Ok, Err, OnErr, length, drop, refl, ap, sym, ◌∙◌, append_assoc, take-append-drop}
 use Rattle.std.proofs.Transfers.{starts_with_of_eq, starts_with_of_append}
 use Rattle.std.proofs.KnownBytes.{Appends-trans}
