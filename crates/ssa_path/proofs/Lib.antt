@@ -22,3 +22,4 @@ pub mod FieldsReadings
 pub mod FieldsSaid
 pub mod FieldsSays
 pub mod FieldsBack
+pub mod LyingWithin

@@ -38,10 +38,13 @@ pub rises-drop : (es fs : List Element) → rises (es ++ fs) ≡ true → rises 
 rises-drop [] fs h = h
 rises-drop (e ∷ es) fs h = rises-drop es fs (both_second _ _ h)
 
-pub child-trie : (cs : List (Elem × Trie)) (i : ℕ) (c : Elem × Trie) → i < length cs → c ≡ get_or cs i c → are_filled_tries cs ≡ true → is_trie c.1 ≡ true
-child-trie cs i c lt is h =
+pub filled-at : (cs : List (Elem × Trie)) (i : ℕ) (c : Elem × Trie) → i < length cs → c ≡ get_or cs i c → are_filled_tries cs ≡ true → (is_trie c.1 && is_filled c.1) ≡ true
+filled-at cs i c lt is h =
     let left : are_filled_tries (c ∷ drop (i + 1) cs) ≡ true = ap are_filled_tries (sym (drop_more cs i c lt ∙ ap (λ x. x ∷ drop (i + 1) cs) (sym is))) ∙ filled-drop cs i h in
-    both_first (is_trie c.1) _ (both_first _ _ left)
+    both_first (is_trie c.1 && is_filled c.1) _ left
+
+pub child-trie : (cs : List (Elem × Trie)) (i : ℕ) (c : Elem × Trie) → i < length cs → c ≡ get_or cs i c → are_filled_tries cs ≡ true → is_trie c.1 ≡ true
+child-trie cs i c lt is h = both_first (is_trie c.1) _ (filled-at cs i c lt is h)
 
 -- ---- parted at a place
 

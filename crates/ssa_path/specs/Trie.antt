@@ -60,6 +60,14 @@ are_filled_tries cs = all_filled (map (λ c. (c.0, shape c.1)) cs)
 abbrev pub is_one_of : List Path → Path → Bool
 is_one_of ps p = list_any (same_path p) ps
 
+-- each of the paths is one of the others
+abbrev pub IsWithin : List Path → List Path → Type 0
+IsWithin ps qs = (p : Path) → is_one_of ps p ≡ true → is_one_of qs p ≡ true
+
+-- some of the paths is none of the others
+abbrev pub Exceeds : List Path → List Path → Type 0
+Exceeds ps qs = (p : Path) × (is_one_of ps p ≡ true) × (is_one_of qs p ≡ false)
+
 -- ---- what functions over tries give
 
 -- a child under the same element with the same paths

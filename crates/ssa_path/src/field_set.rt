@@ -12,6 +12,7 @@ use crate::listing::{count_paths, list_paths};
 use crate::path::Path;
 use crate::same::same_tries;
 use crate::trie::Trie;
+use crate::within::lies_within;
 use std::alloc::{AllocError, Global};
 use std::marker::Model;
 use std::mem;
@@ -115,6 +116,13 @@ impl FieldSet {
         ensures { result ≡ is_empty self.now }
     {
         !self.root.has_paths()
+    }
+
+    /// Whether each path of the set is one of the other's. Takes no memory.
+    pub fn is_within(&self, other: &FieldSet) -> bool
+        ensures { result ≡ is_empty (minus self.now other.now) }
+    {
+        lies_within(&self.root, &other.root)
     }
 
     /// Whether both sets have the same paths. Takes no memory.

@@ -19,3 +19,4 @@ pub mod path;
 mod same;
 pub mod top_path;
 pub mod trie;
+pub mod within;
