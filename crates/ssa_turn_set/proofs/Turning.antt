@@ -157,7 +157,7 @@ led-between s t =
     let back = sets-are-led t s in
     record { fits = there.fits; leads = there.leads; fits_back = back.fits; leads_back = back.leads; between = refl }
 
-meets : (s t : Bool) → (s && t) ≡ (s && not (s && not t))
+pub meets : (s t : Bool) → (s && t) ≡ (s && not (s && not t))
 meets true true = refl
 meets true false = refl
 meets false t = refl

@@ -7,7 +7,8 @@ use Rattle.ssa_path.specs.declared.trie.Trie.{Trie}
 use Rattle.ssa_path.specs.declared.trie.Trie.TheOpen.{Trie-F}
 use Rattle.ssa_path.specs.declared.trie.Trie.TheFolds.{fold-Trie}
 use Rattle.ssa_path.specs.View.{element_view}
-use Rattle.ssa_path.specs.Trie.{has_some}
+use Rattle.std.specs.List.{filter}
+use Rattle.ssa_path.specs.Trie.{has_some, is_one_of, paths}
 use Rattle.ssa_turn_set.specs.declared.room.Room.{Room}
 use Rattle.ssa_turn_set.specs.declared.room.Room.TheViews.{out-Room}
 use Rattle.ssa_turn_set.specs.declared.spare.Spare.{Spare}
@@ -91,3 +92,21 @@ gain_one d below r = serves (element_view d.0) below r.0 && gain_room d.1 below 
 
 abbrev pub lose_one : Elem × Trie → List Path → Spare × Room → Bool
 lose_one d below r = is_nothing r.0 && lose_room d.1 below r.1
+
+-- ---- where a set loses some of its paths
+
+-- the paths without those others
+abbrev pub left : List Path → List Path → List Path
+left ps qs = filter (λ p. not (is_one_of qs p)) ps
+
+-- the children that go whole, where these are the paths that the set had and each child is lost
+abbrev pub going : List (Elem × Trie) → List Path → ℕ
+going [] ps = 0
+going (d ∷ ds) ps = fresh (left (below_child d ps) (paths d.1)) + going ds ps
+
+-- each room is enough for its child to be lost
+abbrev pub losses : List (Elem × Trie) → List Path → List (Spare × Room) → Bool
+losses [] ps [] = true
+losses [] ps (r ∷ rs) = false
+losses (d ∷ ds) ps [] = false
+losses (d ∷ ds) ps (r ∷ rs) = lose_one d (left (below_child d ps) (paths d.1)) r && losses ds ps rs

@@ -6,6 +6,7 @@ pub(crate) mod filling;
 pub mod gain;
 pub mod live_set;
 pub mod lose;
+pub mod loss;
 pub mod making;
 pub mod room;
 pub(crate) mod siblings;

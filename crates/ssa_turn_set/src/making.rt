@@ -71,7 +71,11 @@ fn count_fresh(children: &[(Elem, Trie)], without: &[(Elem, Trie)]) -> usize
 }
 
 // An empty vector with room for so many children, where some come or go.
-fn make_children(alloc: Global, fresh: usize, len: usize) -> Result<Vec<(Elem, Trie)>, AllocError>
+pub(crate) fn make_children(
+    alloc: Global,
+    fresh: usize,
+    len: usize,
+) -> Result<Vec<(Elem, Trie)>, AllocError>
     ensures items { IfOk result (λ v. v.items ≡ []) }
     ensures fits { IfOk result (λ v. 0 < fresh → len ≤ vec_capacity v) }
 {
@@ -169,7 +173,7 @@ fn make_child_lose_room(
 }
 
 // What a combination keeps of two tries, with no more room than it needs: a record keeps it for long.
-fn combine_exactly(
+pub(crate) fn combine_exactly(
     alloc: Global,
     own: &Trie,
     other: &Trie,

@@ -1,8 +1,7 @@
 -- A set that stays, and what becomes of its entry.
 use Rattle.std.proofs.Common.{◌≡◌, ◌+◌, List, [], ◌∷◌, ◌++◌, Bool, true, false, not, ◌&&◌, Some, None, refl, ap, sym, ◌∙◌, length}
 use Rattle.std.specs.Cmp.Lexicographic.{pointwise}
-use Rattle.std.specs.Prelude.{if◌then◌else◌, nat_le, vec_capacity}
-use Rattle.ssa_model.specs.definitions.FieldsV1.{heads}
+use Rattle.std.specs.Prelude.{if◌then◌else◌}
 use Rattle.ssa_model.specs.definitions.Json.{Text, same_text}
 use Rattle.ssa_model.specs.definitions.Path.{Path, same_path}
 use Rattle.ssa_model.specs.definitions.PathMap.{PathSet, has, listed, minus, paths as set_paths}
@@ -10,23 +9,17 @@ use Rattle.ssa_model.specs.definitions.Record.{change_of, change_to, is_unchange
 use Rattle.ssa_model.specs.definitions.Table.{Entry}
 use Rattle.ssa_model.proofs.PathMaps.{has-minus, same_path-itself, same_sets}
 use Rattle.ssa_model.proofs.Tables.{manager-itself, text-itself}
-use Rattle.ssa_path.specs.declared.element.Elem.{Elem}
-use Rattle.ssa_path.specs.declared.trie.Trie.{Trie}
 use Rattle.ssa_path.specs.declared.trie.Trie.TheOpen.{Trie-F}
-use Rattle.ssa_path.specs.declared.trie.Trie.TheViews.{out-Trie, roll-Trie, out-roll-Trie}
-use Rattle.ssa_path.specs.Children.{elements, rises}
-use Rattle.ssa_path.specs.Trie.{are_filled_tries, has_some, here_path, is_trie, paths, paths_below}
-use Rattle.ssa_path.proofs.Levels.{is_trie-made, paths-made}
+use Rattle.ssa_path.specs.declared.trie.Trie.TheViews.{roll-Trie}
+use Rattle.ssa_path.specs.Trie.{paths}
 use Rattle.ssa_path.proofs.Orders.{both}
 use Rattle.ssa_path.proofs.Sets.{has-listed}
 use Rattle.ssa_merge.specs.TableChanges.{changed_entry}
 use Rattle.ssa_merge.specs.declared.table_change.EntryChange.TheVariants.{Stays}
-use Rattle.ssa_turn_set.specs.declared.room.Room.{Room}
 use Rattle.ssa_turn_set.specs.declared.room.Room.TheOpen.{Room-F}
-use Rattle.ssa_turn_set.specs.declared.room.Room.TheViews.{out-Room, roll-Room, out-roll-Room}
-use Rattle.ssa_turn_set.specs.Room.{freshes, gain_room, gains, if_any, lose_room, loses}
+use Rattle.ssa_turn_set.specs.declared.room.Room.TheViews.{roll-Room}
 use Rattle.ssa_turn_set.specs.Turn.{IsBetween, SetSteps, set_between, set_target}
-use Rattle.ssa_turn_set.proofs.Rooms.{gain_room-level, lose_room-level}
+use Rattle.ssa_turn_set.proofs.Bare.{IsBare, IsEmptyRoom, bare-gain, bare-lose, bare-paths, bare-trie}
 use Rattle.ssa_turn_set.proofs.Turning.{led-between}
 use Rattle.ssa_turn_table.specs.Changing.{change_in, owning}
 use Rattle.ssa_turn_table.proofs.Changes.{led-steps}
@@ -40,42 +33,6 @@ none-left false = refl
 -- a set without itself has no path
 minus-itself : (s : PathSet) → listed [] ≡ minus s s
 minus-itself s = same_sets _ _ (λ p. has-listed [] p ∙ sym (has-minus s s p ∙ none-left (has s p)))
-
--- a place with nothing at or below it
-pub record IsBare (x : Trie-F Trie) : Type 0 where
-  pub here : x.here ≡ false
-  pub below : x.below.items ≡ []
-
-bare-paths : (x : Trie-F Trie) → IsBare x → paths (roll-Trie x) ≡ []
-bare-paths x h = paths-made x ∙ (λ i. here_path (h.here i) ++ paths_below (h.below i))
-
-bare-trie : (x : Trie-F Trie) → IsBare x → is_trie (roll-Trie x) ≡ true
-bare-trie x h = is_trie-made x (ap (λ cs. rises (elements cs)) h.below) (ap are_filled_tries h.below)
-
-pub record IsEmptyRoom (r : Room-F Room) : Type 0 where
-  pub children : r.children.items ≡ []
-  pub below : r.below.items ≡ []
-
-module _ (x : Trie-F Trie) (bare : IsBare x) (r : Room-F Room) (none : IsEmptyRoom r) (ps : List Path) where
-  no-child : (out-Trie (roll-Trie x)).below.items ≡ []
-  no-child = ap (λ y. y.below.items) (out-roll-Trie x) ∙ bare.below
-
-  own : out-Room (roll-Room r) ≡ r
-  own = out-roll-Room r
-
-  bare-gain : gain_room (roll-Trie x) ps (roll-Room r) ≡ true
-  bare-gain =
-      gain_room-level (roll-Trie x) ps (roll-Room r)
-      ∙ (λ i. (not (has_some {A = Elem × Trie} ((ap (λ y. y.children.items) own ∙ none.children) i))
-      && if_any (freshes (no-child i) ps) (nat_le (length (heads ps) + freshes (no-child i) ps) (vec_capacity (out-Room (roll-Room r)).children)))
-      && gains (no-child i) ps ((ap (λ y. y.below.items) own ∙ none.below) i))
-
-  bare-lose : lose_room (roll-Trie x) ps (roll-Room r) ≡ true
-  bare-lose =
-      lose_room-level (roll-Trie x) ps (roll-Room r)
-      ∙ (λ i. (not (has_some {A = Elem × Trie} ((ap (λ y. y.children.items) own ∙ none.children) i))
-      && if_any (freshes (no-child i) ps) (nat_le (length (heads ps)) (vec_capacity (out-Room (roll-Room r)).children)))
-      && loses (no-child i) ps ((ap (λ y. y.below.items) own ∙ none.below) i))
 
 -- nothing is gained and lost, and no room is needed
 pub stays-between : (x y : Trie-F Trie) (r q : Room-F Room) → IsBare x → IsBare y → IsEmptyRoom r → IsEmptyRoom q

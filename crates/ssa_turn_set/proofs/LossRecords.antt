@@ -1,0 +1,56 @@
+-- The record of a set that loses some of its paths.
+use Rattle.std.proofs.Common.{◌≡◌, List, [], true, false, not, ◌&&◌, Bool, refl, sym, ap, ◌∙◌, subst}
+use Rattle.std.specs.List.{filter}
+use Rattle.ssa_model.specs.definitions.Path.{Path}
+use Rattle.ssa_model.specs.definitions.PathMap.{PathSet, has, listed, minus, paths as set_paths}
+use Rattle.ssa_model.proofs.PathMaps.{has-minus, paths-tested, same_sets}
+use Rattle.ssa_path.specs.declared.trie.Trie.{Trie}
+use Rattle.ssa_path.specs.Trie.{is_one_of, is_trie, paths}
+use Rattle.ssa_path.specs.Combine.{IsCombination}
+use Rattle.ssa_path.specs.declared.combine.Combination.TheVariants.{Meet}
+use Rattle.ssa_path.proofs.Orders.{both}
+use Rattle.ssa_path.proofs.Sets.{has-listed}
+use Rattle.ssa_turn_set.specs.declared.turn.SetDelta.{SetDelta}
+use Rattle.ssa_turn_set.specs.Room.{gain_room, left, lose_room}
+use Rattle.ssa_turn_set.specs.Turn.{IsBetween, IsLed, set_between, set_steps}
+use Rattle.ssa_turn_set.proofs.Turning.{led-between, listed-paths, meets}
+
+nothing-new : (s l : Bool) → ((s && not l) && not s) ≡ false
+nothing-new true true = refl
+nothing-new true false = refl
+nothing-new false l = refl
+
+-- the paths of a set without those of another are what is left of them
+left-paths : (s l : Trie) → is_trie s ≡ true → set_paths (minus (listed (paths s)) (listed (paths l))) ≡ left (paths s) (paths l)
+left-paths s l trie =
+    paths-tested (listed (paths s)) (λ p. not (has (listed (paths l)) p))
+    ∙ (λ i. filter (λ p. not (has-listed (paths l) p i)) (listed-paths s trie i))
+
+-- nothing comes, what goes is what the set has of the lost paths, and there is room for it
+pub loss-between : (s o : Trie) (d : SetDelta) → is_trie s ≡ true → paths d.gain ≡ [] → is_trie d.gain ≡ true → IsCombination Meet s o d.lose
+    → ((ps : List Path) → gain_room d.gain ps d.room.gain ≡ true) → lose_room d.lose (left (paths s) (paths d.lose)) d.room.lose ≡ true
+    → IsBetween (listed (paths s)) (minus (listed (paths s)) (listed (paths o))) d
+loss-between s o d trie none bare lost gain lose =
+    let own : PathSet = listed (paths s) in
+    let other : PathSet = listed (paths o) in
+    let rest : PathSet = minus own other in
+    let gained : listed (paths d.gain) ≡ minus rest own =
+    ap listed none ∙ same_sets _ _ (λ p. has-listed [] p ∙ sym (has-minus rest own p ∙ ap (λ b. b && not (has own p)) (has-minus own other p) ∙ nothing-new (has own p) (has other p))) in
+    let taken : listed (paths d.lose) ≡ minus own rest =
+    same_sets _ _ (λ p.
+    has-listed (paths d.lose) p ∙ lost.paths_are p ∙ (λ i. sym (has-listed (paths s) p) i && sym (has-listed (paths o) p) i) ∙ meets (has own p) (has other p)
+    ∙ sym (has-minus own rest p ∙ ap (λ b. has own p && not b) (has-minus own other p))) in
+    let steps : set_steps d ≡ set_between own rest = λ i. record { gain = gained i; lose = taken i } in
+    let led : IsLed (set_steps d) own rest = subst (λ x. IsLed x own rest) (sym steps) (led-between own rest) in
+    record {
+      led = subst (IsLed (set_steps d) own) (sym led.leads) led;
+      leads = led.leads;
+      room = record {
+        gain_trie = bare;
+        lose_trie = lost.trie;
+        room = both _ _ (gain (set_paths (minus own (listed (paths d.lose))))) (ap (λ l. lose_room d.lose l d.room.lose) (left-paths s d.lose trie) ∙ lose);
+      };
+    }
+
+pub loss-sets : (s o : Trie) (u v : PathSet) (d : SetDelta) → listed (paths s) ≡ u → listed (paths o) ≡ v → IsBetween (listed (paths s)) (minus (listed (paths s)) (listed (paths o))) d → IsBetween u (minus u v) d
+loss-sets s o u v d own other h = subst (λ y. IsBetween u (minus u y) d) other (subst (λ x. IsBetween x (minus x (listed (paths o))) d) own h)
