@@ -22,7 +22,7 @@ use Rattle.ssa_model.specs.definitions.Fitting.{Place, of_kind, value_of, place_
 use Rattle.ssa_model.specs.definitions.Valid.{AllEntries, OwnsOwnable, IsValidState}
 use Rattle.ssa_model.specs.definitions.Record.{Change, Part, is_top, part_at, new_leaf, is_reordered, new_order, change_to, cuts, puts, new_leaves, new_orders, changes, gone_from, new_in, record_of}
 use Rattle.ssa_model.specs.definitions.RecordText.{place_items, time_members, part_value, put_json, change_json, gone_json, here_json, leaf_json, order_json, record_json}
-use Rattle.ssa_model.specs.definitions.RecordReading.{Test, all_items, are_members_of, has_members, is_anything, is_operation, is_key, has_items, items_in, item_at, key_in, content_in, part_in, place_given, is_read_path, is_path, is_fields, change_shape, entry_shape, here_shape, is_put, path_in, change_in, here_in, order_in, leaf_in, put_in, IsReadPath, HasReadPaths, is_record_shape, record_in, IsReadState}
+use Rattle.ssa_model.specs.definitions.RecordReading.{Test, all_items, are_members_of, has_members, is_anything, is_operation, is_key, has_items, items_in, item_at, key_in, content_in, part_in, place_given, is_read_path, is_path, is_fields, change_shape, entry_shape, here_shape, is_put, path_in, change_in, here_in, order_in, leaf_in, put_in, IsReadPath, HasReadSet, HasReadPaths, is_record_shape, record_in, IsReadState}
 use Rattle.ssa_model.specs.laws.RecordReading.{RecordTextsHaveShape, RecordTextsAreRead}
 use Rattle.ssa_model.proofs.BodyLeads.{get-cuts}
 use Rattle.ssa_model.proofs.Fitting.{some_there}
@@ -117,16 +117,18 @@ module _ (readings : Readings) where
   path-shaped : (p : Path) → IsReadPath readings p → is_path readings (path_json p) ≡ true
   path-shaped p h = ap (is_read_path readings) (texts-of p) ∙ ap is_ok (path-of p h)
 
-  abbrev IsReadSet : PathSet → Type 0
-  IsReadSet s = (p : Path) → has s p ≡ true → IsReadPath readings p
-
-  fields-shaped : (s : PathSet) → IsReadSet s → is_fields readings (fields_json s) ≡ true
+  fields-shaped : (s : PathSet) → HasReadSet readings s → is_fields readings (fields_json s) ≡ true
   fields-shaped s h = ap (λ (fs : List ElementFault). elim fs [ [] ↦ true | f ∷ gs ↦ false ]) (set-faultless readings s h)
 
   -- ---- entries and changes
 
   abbrev IsReadEntry : Entry → Type 0
-  IsReadEntry e = IsReadSet e.owned × (readings.moment e.moment ≡ true)
+  IsReadEntry e = HasReadSet readings e.owned × (readings.moment e.moment ≡ true)
+
+  -- what is owned of a body whose paths are read is read
+  pub read-owned : (b : Body) → HasReadPaths readings b → (t : Table) → AllEntries (OwnsOwnable b) t → AllEntries (λ e. HasReadSet readings e.owned) t
+  read-owned b h [] own = tt
+  read-owned b h (e ∷ es) own = ((λ p one. h p (ownable-has b p (own.0 p one))), read-owned b h es own.1)
 
   read-entries : (b : Body) → HasReadPaths readings b → (t : Table) → AllEntries (OwnsOwnable b) t → AllEntries (λ e. readings.moment e.moment ≡ true) t
       → AllEntries IsReadEntry t
@@ -138,8 +140,8 @@ module _ (readings : Readings) where
   is_given_moment (Some t) = readings.moment t
 
   record IsReadChange (c : Change) : Type 0 where
-    pub gain : IsReadSet c.gain
-    pub lose : IsReadSet c.lose
+    pub gain : HasReadSet readings c.gain
+    pub lose : HasReadSet readings c.lose
     pub moment : is_given_moment c.moment ≡ true
 
   change-to-read : (e f : Entry) → IsReadEntry e → IsReadEntry f → IsReadChange (change_to e f)

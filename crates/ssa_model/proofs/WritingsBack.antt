@@ -15,7 +15,7 @@ use Rattle.ssa_model.specs.definitions.Kind.{is_among}
 use Rattle.ssa_model.specs.definitions.Readings.{Readings}
 use Rattle.ssa_model.specs.definitions.ElementTexts.{ElementFault, not_canonical, bad_element, element_of}
 use Rattle.ssa_model.specs.definitions.FieldsV1.{with_head, heads, tails, is_place_alone, nothing_written, field_members, written_paths, longest, fields_json, dot_alone, is_nothing_inside, fields_faults, member_faults, said_paths, member_paths, said_set}
-use Rattle.ssa_model.specs.definitions.RecordReading.{IsReadPath}
+use Rattle.ssa_model.specs.definitions.RecordReading.{HasReadSet, IsReadPath}
 use Rattle.ssa_model.proofs.Fitting.{same_element-true}
 use Rattle.ssa_model.proofs.Lists.{keys, or_twice, has-listed}
 use Rattle.ssa_model.proofs.PathMaps.{is_one_of, has-paths, same_path-itself, same_sets}
@@ -338,18 +338,15 @@ module _ (readings : Readings) where
 
   -- ---- sets
 
-  abbrev IsReadSet : PathSet → Type 0
-  IsReadSet s = (p : Path) → has s p ≡ true → IsReadPath readings p
-
-  read-paths : (s : PathSet) → IsReadSet s → AreRead (paths s)
+  read-paths : (s : PathSet) → HasReadSet readings s → AreRead (paths s)
   read-paths s h p one = h p (has-paths s p ∙ one)
 
   -- the writing of such a set has no fault
-  pub set-faultless : (s : PathSet) → IsReadSet s → fields_faults readings.value (fields_json s) ≡ []
+  pub set-faultless : (s : PathSet) → HasReadSet readings s → fields_faults readings.value (fields_json s) ≡ []
   set-faultless s h = written-faultless (longest (paths s)) (paths s) (omega arith) (sorted-apart s.entries (holds _ s.in_order)) (read-paths s h)
 
   -- and says the set
-  pub set-said : (s : PathSet) → IsReadSet s → said_set readings.value (fields_json s) ≡ s
+  pub set-said : (s : PathSet) → HasReadSet readings s → said_set readings.value (fields_json s) ≡ s
   set-said s h =
       same_sets (said_set readings.value (fields_json s)) s (λ p.
       has-listed (said_paths readings.value (fields_json s)) p

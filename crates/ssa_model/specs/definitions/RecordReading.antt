@@ -3,7 +3,7 @@ use Rattle.std.specs.Prelude.{◌≡◌, ℕ, zero, suc, pos, List, [], ◌∷�
 use Rattle.std.specs.List.{list_any, list_all}
 use Rattle.ssa_model.specs.definitions.Json.{Text, same_text, whole, Json, scalar, list, object, Items, no_items, item, Members, no_members, member, member_at, as_text}
 use Rattle.ssa_model.specs.definitions.Path.{Element, Path, element_text}
-use Rattle.ssa_model.specs.definitions.PathMap.{has, empty, from_entries, listed, paths}
+use Rattle.ssa_model.specs.definitions.PathMap.{PathSet, has, empty, from_entries, listed, paths}
 use Rattle.ssa_model.specs.definitions.Kind.{Kind, atomic_of}
 use Rattle.ssa_model.specs.definitions.Schema.{is_text, list_of_texts, has_member}
 use Rattle.ssa_model.specs.definitions.Body.{Content, leaf, atom, record_branch, Body, places, field_places}
@@ -246,6 +246,10 @@ module _ (readings : Readings) where
 abbrev pub IsReadPath : Readings → Path → Type 0
 IsReadPath readings [] = Unit {0}
 IsReadPath readings (e ∷ p) = (element_of readings.value (element_text e) ≡ Ok e) × IsReadPath readings p
+
+-- each path of the set is read from its texts
+abbrev pub HasReadSet : Readings → PathSet → Type 0
+HasReadSet readings s = (p : Path) → has s p ≡ true → IsReadPath readings p
 
 -- each path of the body is read from its texts
 abbrev pub HasReadPaths : Readings → Body → Type 0
