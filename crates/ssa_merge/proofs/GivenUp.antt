@@ -116,6 +116,17 @@ minus-none s t h =
     let apart = sym (has-set_of (paths s) (has t) p ∙ ap (λ b. b && has t p) (sym (has-paths s p))) ∙ ap (λ m. has m p) (is_empty-true (meet s t) h) in
     sym (has-minus s t p ∙ without_none (has s p) (has t p) apart))
 
+not-both : (a b : Bool) → (a && not (a && b)) ≡ (a && not b)
+not-both true b = refl
+not-both false b = refl
+
+-- what a set has of the lost paths is what it loses
+pub minus-meet : (s t : PathSet) → minus s (meet s t) ≡ minus s t
+minus-meet s t =
+    same_sets _ _ (λ p.
+    has-minus s (meet s t) p ∙ ap (λ b. has s p && not b) (has-set_of (paths s) (has t) p ∙ ap (λ b. b && has t p) (sym (has-paths s p)))
+    ∙ not-both (has s p) (has t p) ∙ sym (has-minus s t p))
+
 -- ---- what an Update leaves
 
 whatever : (b : Bool) → (b && true) ≡ b

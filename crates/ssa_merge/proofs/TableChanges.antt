@@ -4,7 +4,7 @@ use Rattle.std.proofs.lemmas.List.{map-append, append-nil, append_assoc, length-
 use Rattle.std.proofs.lemmas.List.Elements.{filter-append}
 use Rattle.std.specs.Prelude.{filter, if◌then◌else◌}
 use Rattle.ssa_model.specs.definitions.Json.{Text}
-use Rattle.ssa_model.specs.definitions.PathMap.{PathSet, is_empty, same_set}
+use Rattle.ssa_model.specs.definitions.PathMap.{PathSet, is_empty, minus, same_set}
 use Rattle.ssa_model.specs.definitions.Table.{Entry, Table}
 use Rattle.ssa_model.proofs.PathMaps.{same_set-true}
 use Rattle.ssa_path.proofs.Lists.{taken-at}
@@ -15,7 +15,7 @@ use Rattle.ssa_merge.specs.TableChanges.{changed_entry, changed_entries}
 use Rattle.ssa_merge.specs.declared.managers.Entry as merge
 use Rattle.ssa_merge.specs.declared.table_change.EntryChange.{EntryChange}
 use Rattle.ssa_merge.specs.declared.table_change.EntryChange.TheVariants.{Leaves}
-use Rattle.ssa_merge.proofs.GivenUp.{minus-none}
+use Rattle.ssa_merge.proofs.GivenUp.{minus-meet, minus-none}
 
 -- an entry that owns something is kept
 pub kept-if : (e : Entry) (s : PathSet) → s ≡ e.owned → is_empty s ≡ false → e ∷ [] ≡ filter owns (e ∷ [])
@@ -26,6 +26,13 @@ pub less-none : (e : Entry) (lost : PathSet) → is_empty (meet e.owned lost) �
 less-none e lost none some =
     (λ i. record { manager = e.manager; owned = minus-none e.owned lost none i; moment = e.moment } ∷ [])
     ∙ kept-if (less e lost) e.owned (minus-none e.owned lost none) some
+
+-- who loses some of its paths, and keeps others, loses what it has of the lost ones
+pub less-taken : (e : Entry) (lost taken : PathSet) → taken ≡ meet e.owned lost → is_empty (minus e.owned lost) ≡ false
+    → record { manager = e.manager; owned = minus e.owned taken; moment = e.moment } ∷ [] ≡ filter owns (less e lost ∷ [])
+less-taken e lost taken is some =
+    (λ i. record { manager = e.manager; owned = (ap (minus e.owned) is ∙ minus-meet e.owned lost) i; moment = e.moment } ∷ [])
+    ∙ kept-if (less e lost) (minus e.owned lost) refl some
 
 -- who owns the same paths has another moment where a field changed, and else stays as it is
 pub acted-renewed : (e : Entry) (owned : PathSet) (changed : Bool) (at : Text) → is_empty owned ≡ false → same_set owned e.owned ≡ true → changed ≡ true

@@ -1,13 +1,14 @@
 -- What a change makes of a table.
 use Rattle.std.specs.Prelude.{◌≡◌, ◌≤◌, ◌<◌, Bool, true, false, List, [], ◌∷◌, ◌++◌, length, Option, Some, None, Result, Ok, Err}
 use Rattle.ssa_model.specs.definitions.Limits.{most_managers}
+use Rattle.ssa_model.specs.definitions.PathMap.{minus}
 use Rattle.ssa_model.specs.definitions.Table as model
 use Rattle.ssa_model.specs.definitions.Table.{Table, is_in_table}
 use Rattle.ssa_model.specs.definitions.Valid.{AllEntries}
 use Rattle.ssa_merge.specs.Managers.{entry_view}
 use Rattle.ssa_merge.specs.declared.managers.Entry.{Entry}
 use Rattle.ssa_merge.specs.declared.table_change.EntryChange.{EntryChange}
-use Rattle.ssa_merge.specs.declared.table_change.EntryChange.TheVariants.{Stays, Leaves, Renewed, Owns}
+use Rattle.ssa_merge.specs.declared.table_change.EntryChange.TheVariants.{Stays, Leaves, Renewed, Loses, Owns}
 use Rattle.ssa_merge.specs.declared.table_change.TableChange.{TableChange}
 use Rattle.ssa_merge.specs.declared.plan.Refusal.{Refusal}
 use Rattle.ssa_merge.specs.declared.plan.Refusal.TheVariants.{Conflict, TooManyPaths, TooManyManagers, OutOfMemory}
@@ -17,12 +18,14 @@ abbrev pub changed_entry : EntryChange → model.Entry → Table
 changed_entry Stays e = e ∷ []
 changed_entry Leaves e = []
 changed_entry (Renewed at) e = record { manager = e.manager; owned = e.owned; moment = at } ∷ []
+changed_entry (Loses lost at) e = record { manager = e.manager; owned = minus e.owned lost; moment = at } ∷ []
 changed_entry (Owns set at) e = record { manager = e.manager; owned = set; moment = at } ∷ []
 
 abbrev pub leaves : EntryChange → Bool
 leaves Leaves = true
 leaves Stays = false
 leaves (Renewed at) = false
+leaves (Loses lost at) = false
 leaves (Owns set at) = false
 
 -- each entry after its change

@@ -1,5 +1,6 @@
 //! Tables of managers read back from the entries that they are written as.
 ghost use Rattle.ssa_model.specs.definitions.BenchFile.{IsReadBack};
+ghost use Rattle.ssa_model.specs.definitions.RecordReading.{HasReadSet};
 ghost use Rattle.ssa_model.specs.definitions.Table as model;
 ghost use Rattle.ssa_model.specs.definitions.Table.{Table};
 ghost use Rattle.ssa_model.specs.definitions.Valid.{AllEntries};
@@ -46,13 +47,16 @@ impl Managers {
 }
 
 impl EntryChange {
-    // An entry that is read back is so after the change.
+    // An entry that is read back, and whose paths are read, is read back after the change.
     fn new_set_is_read(&self)
-        ensures { (e : model.Entry) → IsReadBack readings e → AllEntries (IsReadBack readings) (changed_entry self.now e) }
+        ensures { (e : model.Entry) → IsReadBack readings e → HasReadSet readings e.owned → AllEntries (IsReadBack readings) (changed_entry self.now e) }
     {
         match self {
             EntryChange::Stays | EntryChange::Leaves => {}
             EntryChange::Renewed(at) => {
+                let _moment = at.write();
+            }
+            EntryChange::Loses(_, at) => {
                 let _moment = at.write();
             }
             EntryChange::Owns(set, at) => {
@@ -63,9 +67,9 @@ impl EntryChange {
     }
 }
 
-// Entries that are read back are so after their changes.
+// Entries that are read back, and whose paths are read, are read back after their changes.
 fn changed_entries_are_read(changes: &[EntryChange])
-    ensures { (t : Table) → AllEntries (IsReadBack readings) t → AllEntries (IsReadBack readings) (changed_entries changes.now t) }
+    ensures { (t : Table) → AllEntries (IsReadBack readings) t → AllEntries (λ e. HasReadSet readings e.owned) t → AllEntries (IsReadBack readings) (changed_entries changes.now t) }
 {
     match changes {
         [] => {}
@@ -86,11 +90,11 @@ fn newcomer_is_read(newcomer: &Option<Entry>)
 }
 
 impl TableChange {
-    /// The table after the change is read back where the one before is.
+    /// The table after the change is read back where the one before is, and its sets' paths are read.
     ///
     /// Looks at the numbers of the sets that the change makes, and changes nothing. Takes no memory.
     pub fn new_sets_are_read(&self)
-        ensures { (t u : Table) → LeadsTo t self.now u → AllEntries (IsReadBack readings) t → AllEntries (IsReadBack readings) u }
+        ensures { (t u : Table) → LeadsTo t self.now u → AllEntries (IsReadBack readings) t → AllEntries (λ e. HasReadSet readings e.owned) t → AllEntries (IsReadBack readings) u }
     {
         changed_entries_are_read(&self.entries);
         newcomer_is_read(&self.newcomer);

@@ -35,11 +35,10 @@ fn losing(alloc: Global, entry: &Entry, lost: &FieldSet) -> Result<EntryChange, 
         }
         return Ok(EntryChange::Stays);
     }
-    let left = set.minus(alloc, lost)?;
-    if left.is_empty() {
+    if set.is_within(lost) {
         return Ok(EntryChange::Leaves);
     }
-    Ok(EntryChange::Owns(left, entry.at))
+    Ok(EntryChange::Loses(taken, entry.at))
 }
 
 // What becomes of the entry of a manager that owns these paths then; where its paths or a field

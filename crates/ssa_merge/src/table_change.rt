@@ -20,6 +20,8 @@ pub enum EntryChange {
     Leaves,
     /// The manager owns what it owned, and has another moment.
     Renewed(Moment),
+    /// The manager loses these paths, not all that it owned, and has this moment.
+    Loses(FieldSet, Moment),
     /// The manager owns other paths, and has this moment.
     Owns(FieldSet, Moment),
 }
@@ -42,6 +44,7 @@ impl EntryChange {
             EntryChange::Leaves => true,
             EntryChange::Stays => false,
             EntryChange::Renewed(_) => false,
+            EntryChange::Loses(_, _) => false,
             EntryChange::Owns(_, _) => false,
         }
     }
@@ -73,6 +76,7 @@ fn changed_entry(
         EntryChange::Leaves => return Ok(None),
         EntryChange::Stays => (entry.set.copy(alloc)?, entry.at),
         EntryChange::Renewed(at) => (entry.set.copy(alloc)?, at),
+        EntryChange::Loses(lost, at) => (entry.set.minus(alloc, &lost)?, at),
         EntryChange::Owns(set, at) => (set, at),
     };
     let key = entry.key.copy(alloc)?;

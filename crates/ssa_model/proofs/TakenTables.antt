@@ -53,7 +53,7 @@ moment-other a b m h =
 moment-same : (a b : Text) → is_some (new_moment a b) ≡ not (same_text a b)
 moment-same a b = elim (same_text a b) as (λ t. is_some (if t then None else Some b) ≡ not t) [ true ↦ refl | false ↦ refl ]
 
-none-left : (s t : PathSet) → is_empty (minus s t) ≡ true → (p : Path) → has s p ≡ true → has t p ≡ true
+pub none-left : (s t : PathSet) → is_empty (minus s t) ≡ true → (p : Path) → has s p ≡ true → has t p ≡ true
 none-left s t h p one =
     by_test (has t p)
     (λ k. k)

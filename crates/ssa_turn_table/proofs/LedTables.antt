@@ -18,7 +18,7 @@ use Rattle.ssa_merge.specs.TableChanges.{changed_entry, changed_entries, leaves,
 use Rattle.ssa_merge.specs.declared.manager.ManagerKey.{ManagerKey as Key}
 use Rattle.ssa_merge.specs.declared.managers.Entry as merge
 use Rattle.ssa_merge.specs.declared.table_change.EntryChange.{EntryChange as Fate}
-use Rattle.ssa_merge.specs.declared.table_change.EntryChange.TheVariants.{Stays, Leaves, Renewed, Owns}
+use Rattle.ssa_merge.specs.declared.table_change.EntryChange.TheVariants.{Stays, Leaves, Renewed, Loses, Owns}
 use Rattle.ssa_path.proofs.Lists.{parted}
 use Rattle.ssa_turn_table.specs.Tables.{keys_view}
 use Rattle.ssa_turn_table.proofs.Compared.{placed-append, table-more}
@@ -49,6 +49,7 @@ apart-changed : (f : Fate) (e : Entry) (k : ManagerKey) → same_manager e.manag
 apart-changed Stays e k h = ap (λ b. b || false) h
 apart-changed Leaves e k h = refl
 apart-changed (Renewed at) e k h = ap (λ b. b || false) h
+apart-changed (Loses lost at) e k h = ap (λ b. b || false) h
 apart-changed (Owns set at) e k h = ap (λ b. b || false) h
 
 absent-changed : (fs : List Fate) (t : Table) (k : ManagerKey) → is_in_table t k ≡ false → is_in_table (changed_entries fs t) k ≡ false
@@ -99,6 +100,7 @@ stays-there : (f : Fate) (e : Entry) → is_in_table (changed_entry f e) e.manag
 stays-there Stays e = ap (λ b. b || false) (manager-itself e.manager)
 stays-there Leaves e = refl
 stays-there (Renewed at) e = ap (λ b. b || false) (manager-itself e.manager)
+stays-there (Loses lost at) e = ap (λ b. b || false) (manager-itself e.manager)
 stays-there (Owns set at) e = ap (λ b. b || false) (manager-itself e.manager)
 
 -- where a manager has the entry that is made of its own, it stays where it does not leave
@@ -176,6 +178,7 @@ each-changed P (f ∷ fs) [] h = tt
 each-changed P (Stays ∷ fs) (e ∷ es) h = (h.0, each-changed P fs es h.1)
 each-changed P (Leaves ∷ fs) (e ∷ es) h = each-changed P fs es h.1
 each-changed P (Renewed at ∷ fs) (e ∷ es) h = (h.0, each-changed P fs es h.1)
+each-changed P (Loses lost at ∷ fs) (e ∷ es) h = (h.0, each-changed P fs es h.1)
 each-changed P (Owns set at ∷ fs) (e ∷ es) h = (h.0, each-changed P fs es h.1)
 
 none-placed : (t : Table) (i : ℕ) (v : Table) → Each (λ k. is_in_table t k ≡ true) v → placed (is_off t) i v ≡ []

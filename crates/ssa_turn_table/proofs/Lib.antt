@@ -9,3 +9,4 @@ pub mod LedTables
 pub mod Staying
 pub mod TableCopies
 pub mod RecordMembers
+pub mod Lessening

@@ -9,6 +9,7 @@ use Rattle.ssa_model.specs.definitions.Record.{change_of, change_to, is_unchange
 use Rattle.ssa_model.specs.definitions.Table.{Entry}
 use Rattle.ssa_model.proofs.PathMaps.{has-minus, same_path-itself, same_sets}
 use Rattle.ssa_model.proofs.Tables.{manager-itself, text-itself}
+use Rattle.ssa_path.specs.declared.trie.Trie.{Trie}
 use Rattle.ssa_path.specs.declared.trie.Trie.TheOpen.{Trie-F}
 use Rattle.ssa_path.specs.declared.trie.Trie.TheViews.{roll-Trie}
 use Rattle.ssa_path.specs.Trie.{paths}
@@ -16,6 +17,7 @@ use Rattle.ssa_path.proofs.Orders.{both}
 use Rattle.ssa_path.proofs.Sets.{has-listed}
 use Rattle.ssa_merge.specs.TableChanges.{changed_entry}
 use Rattle.ssa_merge.specs.declared.table_change.EntryChange.TheVariants.{Stays}
+use Rattle.ssa_turn_set.specs.declared.room.Room.{Room}
 use Rattle.ssa_turn_set.specs.declared.room.Room.TheOpen.{Room-F}
 use Rattle.ssa_turn_set.specs.declared.room.Room.TheViews.{roll-Room}
 use Rattle.ssa_turn_set.specs.Turn.{IsBetween, SetSteps, set_between, set_target}
@@ -31,7 +33,7 @@ none-left true = refl
 none-left false = refl
 
 -- a set without itself has no path
-minus-itself : (s : PathSet) → listed [] ≡ minus s s
+pub minus-itself : (s : PathSet) → listed [] ≡ minus s s
 minus-itself s = same_sets _ _ (λ p. has-listed [] p ∙ sym (has-minus s s p ∙ none-left (has s p)))
 
 -- nothing is gained and lost, and no room is needed

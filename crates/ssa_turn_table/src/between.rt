@@ -41,7 +41,7 @@ pub(crate) fn is_same_moment(before: Moment, after: Moment) -> bool
 }
 
 // The moment afterwards, where it is another.
-fn new_moment(before: Moment, after: Moment) -> Option<Moment>
+pub(crate) fn new_moment(before: Moment, after: Moment) -> Option<Moment>
     ensures { result ≡ new_moment before after }
 {
     if is_same_moment(before, after) {

@@ -1,23 +1,26 @@
 //! The record of what a change makes of a table, in which no set that stays is copied or compared.
-ghost use Rattle.std.specs.Prelude.{◌≡◌, true, length, map, option_map, IfOk, IfSome};
-ghost use Rattle.ssa_model.specs.definitions.PathMap.{PathSet};
+ghost use Rattle.std.specs.Prelude.{◌≡◌, ◌&&◌, not, true, length, map, option_map, IfOk, IfSome};
+ghost use Rattle.ssa_model.specs.definitions.Json.{same_text};
+ghost use Rattle.ssa_model.specs.definitions.PathMap.{PathSet, minus};
 ghost use Rattle.ssa_model.specs.definitions.Record.{change_of, changes, gone_from, table_record};
 ghost use Rattle.ssa_model.specs.definitions.Table.{Table};
 ghost use Rattle.ssa_model.specs.definitions.Valid.{has_distinct_keys, KeepsOrder};
 ghost use Rattle.ssa_merge.specs.Managers.{entry_view, key_view, table_view};
 ghost use Rattle.ssa_merge.specs.TableChanges.{changed_entries, changed_entry, leaves, lone, LeadsTo};
+ghost use Rattle.ssa_path.specs.Trie.{has_some, is_trie, paths};
 ghost use Rattle.ssa_turn_set.specs.Turn.{HasRoom, IsBetween};
 ghost use Rattle.ssa_turn_table.specs.Changing.{AllHaveRoom, change_in, owning};
 ghost use Rattle.ssa_turn_table.specs.Going.{AllKeysAgree};
 ghost use Rattle.ssa_turn_table.specs.Tables.{change_view, changes_view, heres_view, keys_view};
 ghost use Rattle.ssa_turn_table.specs.Turning.{HasTableRoom, table_steps};
 
-use crate::between::{change_to, is_same_moment, make_table_room};
+use crate::between::{change_to, is_same_moment, make_table_room, new_moment};
 use crate::delta::{EntryChange, Here, TableDelta};
 use ssa_json::moment::Moment;
 use ssa_merge::manager::ManagerKey;
 use ssa_merge::managers::Entry;
 use ssa_merge::table_change::{self, TableChange, count_kept};
+use ssa_path::field_set::FieldSet;
 use ssa_path::trie::Trie;
 use ssa_turn_set::room::Room;
 use ssa_turn_set::turn::{SetDelta, SetRoom};
@@ -65,6 +68,36 @@ fn renewed(alloc: Global, entry: &Entry, at: Moment) -> Result<Option<EntryChang
     }))
 }
 
+// Whether a record of a set loses nothing of an entry's, and its moment stays.
+fn is_kept(entry: &Entry, delta: &SetDelta, at: Moment) -> bool
+    requires { is_trie delta.now.lose ≡ true }
+    ensures { result ≡ (not (has_some (paths delta.now.lose)) && same_text entry.now.at at) }
+{
+    !delta.lose.has_paths() && is_same_moment(entry.at, at)
+}
+
+// The change of an entry whose manager loses these paths, and then has this moment.
+fn losing(
+    alloc: Global,
+    entry: &Entry,
+    lost: &FieldSet,
+    at: Moment,
+) -> Result<Option<EntryChange>, AllocError>
+    ensures change { IfOk result (λ c. option_map change_view c ≡ change_of (entry_view entry.now) (Some (owning (entry_view entry.now) (minus entry.now.set lost.now) at))) }
+    ensures room { IfOk result (λ c. IfSome c (λ d. HasRoom d.set entry.now.set)) }
+{
+    let delta = SetDelta::of_loss(alloc, &entry.set, lost)?;
+    if is_kept(entry, &delta, at) {
+        return Ok(None);
+    }
+    let key = entry.key.copy(alloc)?;
+    Ok(Some(EntryChange {
+        key,
+        set: delta,
+        at: new_moment(entry.at, at),
+    }))
+}
+
 // The change of an entry by what becomes of it.
 fn change_by(
     alloc: Global,
@@ -78,6 +111,7 @@ fn change_by(
         table_change::EntryChange::Stays => Ok(None),
         table_change::EntryChange::Leaves => Ok(None),
         table_change::EntryChange::Renewed(at) => renewed(alloc, entry, *at),
+        table_change::EntryChange::Loses(lost, at) => losing(alloc, entry, lost, *at),
         table_change::EntryChange::Owns(set, at) => change_to(alloc, entry, set, *at),
     }
 }
@@ -145,7 +179,8 @@ fn here_by(alloc: Global, place: usize, newcomer: Option<Entry>) -> Result<Vec<H
 /// turn of it.
 ///
 /// All memory that its turns want is taken here; `Err` comes where it is refused. Of the sets only
-/// those that the change brings are compared with those that they take the place of.
+/// those that the change brings are compared with those that they take the place of; of a set that
+/// loses some of its paths, what it keeps is neither copied nor compared.
 pub fn table_delta(
     alloc: Global,
     entries: &[Entry],

@@ -1,5 +1,6 @@
 use Rattle.std.proofs.Common.{◌≡◌, ap, sym, ◌∙◌, subst}
 use Rattle.std.specs.Prelude.{IfOk, option_map}
+use Rattle.ssa_model.specs.definitions.PathMap.{minus}
 use Rattle.ssa_merge.specs.Managers.{entry_view}
 use Rattle.ssa_merge.specs.TableChanges.{changed_entry}
 use Rattle.ssa_turn_table.specs.Changing.{change_in}
@@ -23,3 +24,9 @@ returns-in-Owns-clause-change c =
     let e = entry_view c.args.entry.now in
     subst (λ o. IfOk c.change_to.result (λ d. option_map change_view d ≡ o))
     (sym (lone-owning e c.in-Owns.set c.in-Owns.at) ∙ ap (λ f. change_in (changed_entry f e) e) (sym c.in-Owns.is)) c.change_to.ensures.change
+
+pub returns-in-Loses-clause-change : goal.returns-in-Loses-clause-change
+returns-in-Loses-clause-change c =
+    let e = entry_view c.args.entry.now in
+    subst (λ o. IfOk c.losing.result (λ d. option_map change_view d ≡ o))
+    (sym (lone-owning e (minus c.args.entry.now.set c.in-Loses.lost) c.in-Loses.at) ∙ ap (λ f. change_in (changed_entry f e) e) (sym c.in-Loses.is)) c.losing.ensures.change
