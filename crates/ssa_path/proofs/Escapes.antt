@@ -1,5 +1,5 @@
 -- The order of quoted texts, byte by byte.
-use Rattle.std.proofs.Common.{◌≡◌, ℕ, ◌/◌, ◌%◌, List, [], ◌∷◌, ◌++◌, take, Bool, true, false, Ordering, Less, Equal, Greater, refl, sym, ap, ◌∙◌, append_assoc, true≢false, ◌⊎◌, inl, inr, codes, length, drop, get_or, ◌+◌, ◌<◌, ◌≤◌, Option, Some, None, Bor, ltb, ltb-true, arith}
+use Rattle.std.proofs.Common.{◌≡◌, ℕ, ◌/◌, ◌%◌, List, [], ◌∷◌, ◌++◌, take, Bool, true, false, Ordering, Less, Equal, Greater, refl, sym, ap, ◌∙◌, append_assoc, true≢false, subst, ◌-◌, nat_eq, ◌⊎◌, inl, inr, codes, length, drop, get_or, ◌+◌, ◌<◌, ◌≤◌, Option, Some, None, Bor, ltb, ltb-true, arith}
 use Rattle.std.specs.Prelude.{is_some, IfSome}
 use Rattle.std.specs.Option.{option_copied}
 use Rattle.std.proofs.lemmas.Bool.Decides.{nat_tests}
@@ -12,7 +12,11 @@ use Rattle.std.specs.Cmp.{tied_itself}
 use Rattle.std.specs.Cmp.Lexicographic.{nat_list_cmp_total}
 use Rattle.ssa_model.specs.definitions.Path.{Element, value}
 use Rattle.ssa_model.proofs.Texts.{element_text-injective}
-use Rattle.ssa_path.specs.Order.{first, mark}
+use Rattle.std.proofs.Math.Seq.{take-add}
+use Rattle.std.proofs.lemmas.List.{take-append-drop}
+use Rattle.std.specs.Cmp.Lexicographic.{pointwise}
+use Rattle.ssa_model.proofs.Tests.{pointwise-true}
+use Rattle.ssa_path.specs.Order.{first, mark, BeginAlike}
 use Rattle.ssa_path.proofs.Parts.{text_cmp, AreWords, cmp-words, tails}
 
 choice : (P : List ℕ → Type 0) (b : Bool) (u v : List ℕ) → P u → (b ≡ false → P v) → P (if b then u else v)
@@ -171,3 +175,32 @@ marks-at a d i (inr h) = end-marks (drop i a) (drop i d) (inr (drop_all i d h))
 pub looked : (xs : List ℕ) (i : ℕ) (r : Option (Bor ℕ)) → is_some r ≡ ltb i (length xs) → IfSome r (λ x. x.now ≡ get_or xs i x.now) → option_copied r ≡ first (drop i xs)
 looked xs i None e h = let past : length xs ≤ i = grind (arith, nat_tests) in ap first (sym (drop_all i xs past))
 looked xs i (Some x) e h = ap Some h ∙ ap first (sym (drop_more xs i x.now (ltb-true i (length xs) (sym e))))
+
+-- ---- a beginning of two texts
+
+past-same : (p a d : List ℕ) → text_cmp (quoted_end (p ++ a)) (quoted_end (p ++ d)) ≡ text_cmp (quoted_end a) (quoted_end d)
+past-same [] a d = refl
+past-same (b ∷ p) a d = end-same b (p ++ a) (p ++ d) ∙ past-same p a d
+
+-- what both texts begin with makes no difference
+pub past-alike : (a d : List ℕ) (n : ℕ) → BeginAlike a d n → text_cmp (quoted a) (quoted d) ≡ text_cmp (quoted_end (drop n a)) (quoted_end (drop n d))
+past-alike a d n h =
+    sym (λ i. text_cmp (quoted (take-append-drop n a i)) (quoted (take-append-drop n d i)))
+    ∙ ap (λ p. text_cmp (quoted_end (p ++ drop n a)) (quoted_end (take n d ++ drop n d))) h.same
+    ∙ past-same (take n d) (drop n a) (drop n d)
+
+same_byte : (b c : ℕ) → nat_eq b c ≡ true → b ≡ c
+same_byte b c e = grind (arith, nat_tests)
+
+-- so many bytes more that are the same
+pub alike-more : (a d : List ℕ) (n m : ℕ) → BeginAlike a d n → n + m ≤ length a → n + m ≤ length d
+    → pointwise nat_eq (take (n + m - n) (drop n a)) (take (n + m - n) (drop n d)) ≡ true → BeginAlike a d (n + m)
+alike-more a d n m h own others more =
+    let len : n + m - n ≡ m = omega arith in
+    let next = pointwise-true nat_eq same_byte (take (n + m - n) (drop n a)) (take (n + m - n) (drop n d)) more in
+    let rest : take m (drop n a) ≡ take m (drop n d) = subst (λ k. take k (drop n a) ≡ take k (drop n d)) len next in
+    record {
+      own = own;
+      others = others;
+      same = take-add n m a ∙ (λ i. h.same i ++ rest i) ∙ sym (take-add n m d)
+    }

@@ -6,7 +6,7 @@ ghost use Rattle.ssa_model.specs.definitions.Json.{compact_members, hex_digit, q
 ghost use Rattle.ssa_model.specs.definitions.Path.{key_members};
 ghost use Rattle.ssa_json.specs.View.{scalar_view};
 ghost use Rattle.ssa_path.specs.Keys.{members_view};
-ghost use Rattle.ssa_path.specs.Order.{mark, member_text, key_end};
+ghost use Rattle.ssa_path.specs.Order.{mark, member_text, key_end, BeginAlike};
 
 use itoa::Buffer;
 use ssa_json::value::Scalar;
@@ -79,11 +79,35 @@ fn order_marks(byte: Option<u8>, other: Option<u8>) -> Ordering
     }
 }
 
+// How many bytes both texts begin with alike, in whole eights: eight are one comparison.
+fn alike_in_eights(text: &[u8], other: &[u8]) -> usize
+    ensures { BeginAlike text.now other.now result }
+{
+    let mut i = 0;
+    while text.len() - i >= 8 && other.len() - i >= 8 && text[i..i + 8] == other[i..i + 8] {
+        i += 8;
+    }
+    i
+}
+
+// Passes four bytes that both texts have alike at the place.
+fn past_four(text: &[u8], other: &[u8], i: usize) -> usize
+    requires { BeginAlike text.now other.now i }
+    ensures { BeginAlike text.now other.now result }
+{
+    if text.len() - i >= 4 && other.len() - i >= 4 && text[i..i + 4] == other[i..i + 4] {
+        i + 4
+    } else {
+        i
+    }
+}
+
 // The order of two texts in quotes.
 pub fn order_quoted(text: &[u8], other: &[u8]) -> Ordering
     ensures { result ≡ slice_cmp nat_cmp (quoted text.now) (quoted other.now) }
 {
-    let mut i = 0;
+    let eights = alike_in_eights(text, other);
+    let mut i = past_four(text, other, eights);
     while i < text.len() && i < other.len() {
         if text[i] != other[i] {
             return order_marks(Some(text[i]), Some(other[i]));

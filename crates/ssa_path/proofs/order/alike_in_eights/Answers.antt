@@ -1,0 +1,6 @@
+use Rattle.std.proofs.Common.{arith, sym, ◌∙◌}
+use Rattle.ssa_path.proofs.Escapes.{alike-more}
+use Rattle.ssa_path.proofs.order.alike_in_eights.Goals as goal
+
+pub loop-i-preserved : goal.loop-i-preserved
+loop-i-preserved c = alike-more c.args.text.now c.args.other.now c.loop-i.i 8 c.loop-i.invariant (omega arith) (omega arith) (sym c.eq.ensures ∙ c.if-eq.true)
