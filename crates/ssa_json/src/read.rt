@@ -50,7 +50,7 @@ fn converted(alloc: Global, value: Value) -> Result<Json, JsonFault>
 fn converted_items(alloc: Global, items: Vec<Value>) -> Result<Vec<Json>, JsonFault>
     ensures { Converts (λ v. items_view v.items) result (items_value (data_items items.items)) }
 {
-    let mut found = Vec::new(alloc);
+    let mut found = Vec::with_capacity(alloc, items.len())?;
     for item in items {
         found.push(converted(alloc, item)?)?;
     }
