@@ -5,6 +5,7 @@ ghost use Rattle.ssa_json.specs.View.{view, items_view, members_view};
 ghost use Rattle.ssa_json.specs.Reading.{Answers, Converts, value_of, items_value, members_value};
 
 use crate::fault::JsonFault;
+use crate::straight::read_straight;
 use crate::value::{Json, Scalar};
 use serde_json::{Map, Value};
 use std::alloc::Global;
@@ -20,6 +21,9 @@ impl Json {
     {
         if bytes.len() > most {
             return Err(JsonFault::TooLong);
+        }
+        if let Some(value) = read_straight(alloc, bytes) {
+            return Ok(value);
         }
         match Value::from_slice(alloc, bytes) {
             Ok(value) => converted(alloc, value),
