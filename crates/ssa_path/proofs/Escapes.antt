@@ -1,5 +1,5 @@
 -- The order of quoted texts, byte by byte.
-use Rattle.std.proofs.Common.{◌≡◌, ℕ, ◌/◌, ◌%◌, List, [], ◌∷◌, ◌++◌, take, Bool, true, false, Ordering, Less, Equal, Greater, refl, sym, ap, ◌∙◌, append_assoc, true≢false, subst, ◌-◌, nat_eq, ◌⊎◌, inl, inr, codes, length, drop, get_or, ◌+◌, ◌<◌, ◌≤◌, Option, Some, None, Bor, ltb, ltb-true, arith}
+use Rattle.std.proofs.Common.{◌≡◌, ℕ, ◌/◌, ◌%◌, List, [], ◌∷◌, ◌++◌, take, Bool, true, false, Ordering, Less, Equal, Greater, refl, sym, ap, ◌∙◌, append_assoc, true≢false, ◌⊎◌, inl, inr, codes, length, drop, get_or, ◌+◌, ◌<◌, ◌≤◌, Option, Some, None, Bor, ltb, ltb-true, arith}
 use Rattle.std.specs.Prelude.{is_some, IfSome}
 use Rattle.std.specs.Option.{option_copied}
 use Rattle.std.proofs.lemmas.Bool.Decides.{nat_tests}
@@ -14,8 +14,6 @@ use Rattle.ssa_model.specs.definitions.Path.{Element, value}
 use Rattle.ssa_model.proofs.Texts.{element_text-injective}
 use Rattle.std.proofs.Math.Seq.{take-add}
 use Rattle.std.proofs.lemmas.List.{take-append-drop}
-use Rattle.std.specs.Cmp.Lexicographic.{pointwise}
-use Rattle.ssa_model.proofs.Tests.{pointwise-true}
 use Rattle.ssa_path.specs.Order.{first, mark, BeginAlike}
 use Rattle.ssa_path.proofs.Parts.{text_cmp, AreWords, cmp-words, tails}
 
@@ -189,18 +187,10 @@ past-alike a d n h =
     ∙ ap (λ p. text_cmp (quoted_end (p ++ drop n a)) (quoted_end (take n d ++ drop n d))) h.same
     ∙ past-same (take n d) (drop n a) (drop n d)
 
-same_byte : (b c : ℕ) → nat_eq b c ≡ true → b ≡ c
-same_byte b c e = grind (arith, nat_tests)
-
 -- so many bytes more that are the same
-pub alike-more : (a d : List ℕ) (n m : ℕ) → BeginAlike a d n → n + m ≤ length a → n + m ≤ length d
-    → pointwise nat_eq (take (n + m - n) (drop n a)) (take (n + m - n) (drop n d)) ≡ true → BeginAlike a d (n + m)
-alike-more a d n m h own others more =
-    let len : n + m - n ≡ m = omega arith in
-    let next = pointwise-true nat_eq same_byte (take (n + m - n) (drop n a)) (take (n + m - n) (drop n d)) more in
-    let rest : take m (drop n a) ≡ take m (drop n d) = subst (λ k. take k (drop n a) ≡ take k (drop n d)) len next in
-    record {
-      own = own;
-      others = others;
-      same = take-add n m a ∙ (λ i. h.same i ++ rest i) ∙ sym (take-add n m d)
-    }
+pub alike-more : (a d : List ℕ) (n m : ℕ) → BeginAlike a d n → n + m ≤ length a → n + m ≤ length d → take m (drop n a) ≡ take m (drop n d) → BeginAlike a d (n + m)
+alike-more a d n m h own others more = record {
+    own = own;
+    others = others;
+    same = take-add n m a ∙ (λ i. h.same i ++ more i) ∙ sym (take-add n m d);
+  }
