@@ -43,7 +43,7 @@ fn copied(alloc: Global, value: &Json) -> Result<Json, AllocError>
 fn copied_items(alloc: Global, items: &Vec<Json>) -> Result<Vec<Json>, AllocError>
     ensures { IfOk result (λ v. items_view v.items ≡ items_view items.now.items) }
 {
-    let mut found = Vec::new(alloc);
+    let mut found = Vec::with_capacity(alloc, items.len())?;
     for item in items {
         found.push(copied(alloc, item)?)?;
     }

@@ -13,6 +13,7 @@ pub mod reader;
 pub mod same;
 pub mod sink;
 pub mod source;
+mod straight;
 pub mod text;
 pub mod value;
 pub mod write;

@@ -5,6 +5,7 @@ ghost use Rattle.ssa_json.specs.View.{view, items_view, members_view};
 ghost use Rattle.ssa_json.specs.Reading.{Answers, Converts, value_of, items_value, members_value};
 
 use crate::fault::JsonFault;
+use crate::straight::read_straight;
 use crate::value::{Json, Scalar};
 use serde_json::{Map, Value};
 use std::alloc::Global;
@@ -20,6 +21,9 @@ impl Json {
     {
         if bytes.len() > most {
             return Err(JsonFault::TooLong);
+        }
+        if let Some(value) = read_straight(alloc, bytes) {
+            return Ok(value);
         }
         match Value::from_slice(alloc, bytes) {
             Ok(value) => converted(alloc, value),
@@ -50,7 +54,7 @@ fn converted(alloc: Global, value: Value) -> Result<Json, JsonFault>
 fn converted_items(alloc: Global, items: Vec<Value>) -> Result<Vec<Json>, JsonFault>
     ensures { Converts (λ v. items_view v.items) result (items_value (data_items items.items)) }
 {
-    let mut found = Vec::new(alloc);
+    let mut found = Vec::with_capacity(alloc, items.len())?;
     for item in items {
         found.push(converted(alloc, item)?)?;
     }

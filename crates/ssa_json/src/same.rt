@@ -3,6 +3,7 @@ ghost use Rattle.std.specs.Prelude.{◌≡◌, ◌↔◌, IsTrue};
 ghost use Rattle.ssa_model.specs.definitions.Json.{same_text, same_scalar, same_json, same_items, same_members};
 ghost use Rattle.ssa_json.specs.View.{view, items_view, members_view, scalar_view};
 
+use crate::text::is_same_text;
 use crate::value::{Json, Scalar};
 use std::collections::BTreeMap;
 
@@ -13,7 +14,7 @@ impl Scalar {
         ensures value { IsTrue result ↔ (scalar_view self.now ≡ scalar_view other.now) }
     {
         match (self, other) {
-            (Scalar::Text(a), Scalar::Text(b)) => same_text(a.as_str(), b.as_str()),
+            (Scalar::Text(a), Scalar::Text(b)) => is_same_text(a.as_str(), b.as_str()),
             (Scalar::Int(a), Scalar::Int(b)) => *a == *b,
             (Scalar::Bool(a), Scalar::Bool(b)) => *a == *b,
             _ => false,
@@ -29,12 +30,6 @@ impl Json {
     {
         same_values(self, other)
     }
-}
-
-fn same_text(text: &str, other: &str) -> bool
-    ensures { result ≡ same_text text.now other.now }
-{
-    text == other
 }
 
 #[cycle(same)]
@@ -74,7 +69,7 @@ fn same_members(members: &BTreeMap<String, Json>, others: &BTreeMap<String, Json
         let Some((other_name, other)) = rest.next() else {
             return false;
         };
-        if !same_text(name.as_str(), other_name.as_str()) || !same_values(member, other) {
+        if !is_same_text(name.as_str(), other_name.as_str()) || !same_values(member, other) {
             return false;
         }
     }

@@ -6,5 +6,5 @@ ghost use Rattle.ssa_model.specs.definitions.Json.{same_text};
 pub fn is_same_text(text: &str, other: &str) -> bool
     ensures { result ≡ same_text text.now other.now }
 {
-    text.as_bytes().cmp(other.as_bytes()).is_eq()
+    text == other
 }

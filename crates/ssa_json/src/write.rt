@@ -70,7 +70,7 @@ fn items_to_values(alloc: Global, items: &Vec<Json>) -> Result<Vec<Value>, Alloc
     ensures texts { OnOk result (items_have_utf8 (items_view items.now.items) ≡ true) }
     ensures names { OnOk result (items_have_rising_names (items_view items.now.items) ≡ true) }
 {
-    let mut found = Vec::new(alloc);
+    let mut found = Vec::with_capacity(alloc, items.len())?;
     for item in items {
         found.push(to_value(alloc, item)?)?;
     }

@@ -12,7 +12,9 @@ use Rattle.std.specs.Cmp.{tied_itself}
 use Rattle.std.specs.Cmp.Lexicographic.{nat_list_cmp_total}
 use Rattle.ssa_model.specs.definitions.Path.{Element, value}
 use Rattle.ssa_model.proofs.Texts.{element_text-injective}
-use Rattle.ssa_path.specs.Order.{first, mark}
+use Rattle.std.proofs.Math.Seq.{take-add}
+use Rattle.std.proofs.lemmas.List.{take-append-drop}
+use Rattle.ssa_path.specs.Order.{first, mark, BeginAlike}
 use Rattle.ssa_path.proofs.Parts.{text_cmp, AreWords, cmp-words, tails}
 
 choice : (P : List ℕ → Type 0) (b : Bool) (u v : List ℕ) → P u → (b ≡ false → P v) → P (if b then u else v)
@@ -171,3 +173,24 @@ marks-at a d i (inr h) = end-marks (drop i a) (drop i d) (inr (drop_all i d h))
 pub looked : (xs : List ℕ) (i : ℕ) (r : Option (Bor ℕ)) → is_some r ≡ ltb i (length xs) → IfSome r (λ x. x.now ≡ get_or xs i x.now) → option_copied r ≡ first (drop i xs)
 looked xs i None e h = let past : length xs ≤ i = grind (arith, nat_tests) in ap first (sym (drop_all i xs past))
 looked xs i (Some x) e h = ap Some h ∙ ap first (sym (drop_more xs i x.now (ltb-true i (length xs) (sym e))))
+
+-- ---- a beginning of two texts
+
+past-same : (p a d : List ℕ) → text_cmp (quoted_end (p ++ a)) (quoted_end (p ++ d)) ≡ text_cmp (quoted_end a) (quoted_end d)
+past-same [] a d = refl
+past-same (b ∷ p) a d = end-same b (p ++ a) (p ++ d) ∙ past-same p a d
+
+-- what both texts begin with makes no difference
+pub past-alike : (a d : List ℕ) (n : ℕ) → BeginAlike a d n → text_cmp (quoted a) (quoted d) ≡ text_cmp (quoted_end (drop n a)) (quoted_end (drop n d))
+past-alike a d n h =
+    sym (λ i. text_cmp (quoted (take-append-drop n a i)) (quoted (take-append-drop n d i)))
+    ∙ ap (λ p. text_cmp (quoted_end (p ++ drop n a)) (quoted_end (take n d ++ drop n d))) h.same
+    ∙ past-same (take n d) (drop n a) (drop n d)
+
+-- so many bytes more that are the same
+pub alike-more : (a d : List ℕ) (n m : ℕ) → BeginAlike a d n → n + m ≤ length a → n + m ≤ length d → take m (drop n a) ≡ take m (drop n d) → BeginAlike a d (n + m)
+alike-more a d n m h own others more = record {
+    own = own;
+    others = others;
+    same = take-add n m a ∙ (λ i. h.same i ++ more i) ∙ sym (take-add n m d);
+  }

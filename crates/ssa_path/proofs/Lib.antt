@@ -13,6 +13,7 @@ pub mod Orders
 pub mod Parts
 pub mod Readings
 pub mod Searching
+pub mod Sameness
 pub mod Sets
 pub mod Texts
 pub mod OwnTexts

@@ -5,6 +5,7 @@ use Rattle.std.specs.Coded.{Coded, coded×, coded_list}
 use Rattle.std.specs.Ordering.{is_lt, nat_cmp}
 use Rattle.std.specs.Cmp.Lexicographic.{slice_cmp}
 use Rattle.ssa_model.specs.definitions.Json as model
+use Rattle.ssa_model.specs.definitions.Json.{same_text, same_scalar}
 use Rattle.ssa_model.specs.codes.Codes.{coded_text, coded_scalar}
 use Rattle.ssa_json.specs.View.{scalar_view}
 use Rattle.ssa_json.specs.declared.value.Scalar.{Scalar}
@@ -29,3 +30,7 @@ are_keys (m ∷ ms) = names_rise_after m.0 ms
 
 abbrev pub keys_of : Members → Option Members
 keys_of ms = if are_keys ms then Some ms else None
+
+-- both key fields have one name and one value
+abbrev pub same_key : model.Text × model.Scalar → model.Text × model.Scalar → Bool
+same_key k j = same_text k.0 j.0 && same_scalar k.1 j.1

@@ -1,5 +1,5 @@
 -- The order of elements' texts, part by part.
-use Rattle.std.specs.Prelude.{ℕ, List, [], ◌∷◌, ◌++◌, Option, Some, None}
+use Rattle.std.specs.Prelude.{◌≡◌, ◌≤◌, ℕ, List, [], ◌∷◌, ◌++◌, length, take, Option, Some, None}
 use Rattle.ssa_model.specs.definitions.Json.{escaped_byte, quoted, scalar_text}
 use Rattle.ssa_path.specs.Keys.{Members}
 
@@ -21,3 +21,9 @@ key_end (m ∷ ms) = 44 ∷ []
 abbrev pub member_text : Members → List ℕ
 member_text [] = []
 member_text (m ∷ ms) = quoted m.0 ++ 58 ∷ (scalar_text m.1 ++ key_end ms)
+
+-- so many bytes of both texts are the same
+pub record BeginAlike (text other : List ℕ) (n : ℕ) : Type 0 where
+  pub own : n ≤ length text
+  pub others : n ≤ length other
+  pub same : take n text ≡ take n other

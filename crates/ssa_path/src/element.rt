@@ -4,8 +4,9 @@ ghost use Rattle.ssa_model.specs.definitions.Path.{element_cmp, is_item_element,
 ghost use Rattle.ssa_path.specs.OwnText.{OwnTextsAreRead};
 ghost use Rattle.ssa_path.specs.View.{element_view};
 
-use crate::keys::Keys;
+use crate::keys::{Keys, are_same_members};
 use crate::order::{order_keys, order_scalars};
+use ssa_json::text::is_same_text;
 use ssa_json::value::Scalar;
 use std::alloc::{AllocError, Global};
 use std::cmp::Ordering;
@@ -55,10 +56,25 @@ impl Elem {
     }
 
     /// Whether both are one element.
+    #[tactic(auto, using(crate::proofs::Sameness::same_values, crate::proofs::Sameness::same_keys))]
     pub fn is_same(&self, other: &Elem) -> bool
         ensures { result ≡ same_element (element_view self.now) (element_view other.now) }
     {
-        self.order(other).is_eq()
+        match (self, other) {
+            (Elem::Field(name), Elem::Field(other_name)) => {
+                is_same_text(name.as_str(), other_name.as_str())
+            }
+            (Elem::Key(keys), Elem::Key(others)) => {
+                are_same_members(keys.members(), others.members())
+            }
+            (Elem::Value(scalar), Elem::Value(other_scalar)) => scalar.same(other_scalar),
+            (Elem::Field(_), Elem::Key(_)) => false,
+            (Elem::Field(_), Elem::Value(_)) => false,
+            (Elem::Key(_), Elem::Value(_)) => false,
+            (Elem::Key(_), Elem::Field(_)) => false,
+            (Elem::Value(_), Elem::Field(_)) => false,
+            (Elem::Value(_), Elem::Key(_)) => false,
+        }
     }
 
     /// The same element, with new memory.

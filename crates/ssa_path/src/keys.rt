@@ -1,7 +1,10 @@
 // The key fields that name an item of a list.
-ghost use Rattle.std.specs.Prelude.{◌≡◌, true, IfOk};
-ghost use Rattle.ssa_path.specs.Keys.{are_keys, keys_of, members_view, names_rise_after};
+ghost use Rattle.std.specs.Prelude.{◌≡◌, true, IfOk, string_bytes};
+ghost use Rattle.std.specs.Cmp.Lexicographic.{pointwise};
+ghost use Rattle.ssa_json.specs.View.{scalar_view};
+ghost use Rattle.ssa_path.specs.Keys.{are_keys, keys_of, members_view, names_rise_after, same_key};
 
+use ssa_json::text::is_same_text;
 use ssa_json::value::Scalar;
 use std::alloc::{AllocError, Global};
 use std::marker::Model;
@@ -49,6 +52,27 @@ fn are_keys(members: &[(String, Scalar)]) -> bool
     match members {
         [] => false,
         [first, rest @ ..] => do_names_rise(&first.0, rest),
+    }
+}
+
+// Whether both members have one name and one value.
+fn is_same_member(member: &(String, Scalar), other: &(String, Scalar)) -> bool
+    ensures { result ≡ same_key (string_bytes member.now.0, scalar_view member.now.1) (string_bytes other.now.0, scalar_view other.now.1) }
+{
+    is_same_text(member.0.as_str(), other.0.as_str()) && member.1.same(&other.1)
+}
+
+/// Whether both have the same names and values. Takes no memory.
+pub fn are_same_members(members: &[(String, Scalar)], others: &[(String, Scalar)]) -> bool
+    ensures { result ≡ pointwise same_key (members_view members.now) (members_view others.now) }
+{
+    match (members, others) {
+        ([], []) => true,
+        ([], [_other, ..]) => false,
+        ([_first, ..], []) => false,
+        ([first, rest @ ..], [other, others @ ..]) => {
+            is_same_member(first, other) && are_same_members(rest, others)
+        }
     }
 }
 

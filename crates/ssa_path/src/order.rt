@@ -2,11 +2,12 @@
 ghost use Rattle.std.specs.Prelude.{◌≡◌, ◌≤◌, ◌<◌, ◌+◌, ◌++◌, [], ◌∷◌, false, length, take, drop, IfSome};
 ghost use Rattle.std.specs.Ordering.{nat_cmp};
 ghost use Rattle.std.specs.Cmp.Lexicographic.{slice_cmp};
+ghost use Rattle.std.specs.Int.{to_le_bytes, w32, w64};
 ghost use Rattle.ssa_model.specs.definitions.Json.{compact_members, hex_digit, quoted, scalar_text, whole_text};
 ghost use Rattle.ssa_model.specs.definitions.Path.{key_members};
 ghost use Rattle.ssa_json.specs.View.{scalar_view};
 ghost use Rattle.ssa_path.specs.Keys.{members_view};
-ghost use Rattle.ssa_path.specs.Order.{mark, member_text, key_end};
+ghost use Rattle.ssa_path.specs.Order.{mark, member_text, key_end, BeginAlike};
 
 use itoa::Buffer;
 use ssa_json::value::Scalar;
@@ -50,6 +51,7 @@ fn mark(byte: Option<u8>) -> ([u8; 6], usize)
 }
 
 // The mark where it is a single byte.
+#[inline(always)]
 fn single_mark(byte: Option<u8>) -> Option<u8>
     ensures { IfSome result (λ only. mark byte ≡ only ∷ []) }
 {
@@ -70,6 +72,7 @@ fn order_escapes(byte: Option<u8>, other: Option<u8>) -> Ordering
 }
 
 // Most marks are single bytes, which are compared with no arrays.
+#[inline(always)]
 fn order_marks(byte: Option<u8>, other: Option<u8>) -> Ordering
     ensures { result ≡ slice_cmp nat_cmp (mark byte) (mark other) }
 {
@@ -79,11 +82,64 @@ fn order_marks(byte: Option<u8>, other: Option<u8>) -> Ordering
     }
 }
 
+// The eight bytes at a place as one number.
+#[inline(always)]
+fn eight_at(bytes: &[u8], i: usize) -> u64
+    requires { i + 8 ≤ length bytes.now }
+    ensures { to_le_bytes w64 result ≡ take 8 (drop i bytes.now) }
+{
+    u64::from_le_bytes([
+        bytes[i],
+        bytes[i + 1],
+        bytes[i + 2],
+        bytes[i + 3],
+        bytes[i + 4],
+        bytes[i + 5],
+        bytes[i + 6],
+        bytes[i + 7],
+    ])
+}
+
+// The four bytes at a place as one number.
+#[inline(always)]
+fn four_at(bytes: &[u8], i: usize) -> u32
+    requires { i + 4 ≤ length bytes.now }
+    ensures { to_le_bytes w32 result ≡ take 4 (drop i bytes.now) }
+{
+    u32::from_le_bytes([bytes[i], bytes[i + 1], bytes[i + 2], bytes[i + 3]])
+}
+
+// How many bytes both texts begin with alike, in whole eights: eight are one comparison.
+#[inline(always)]
+fn alike_in_eights(text: &[u8], other: &[u8]) -> usize
+    ensures { BeginAlike text.now other.now result }
+{
+    let mut i = 0;
+    while text.len() - i >= 8 && other.len() - i >= 8 && eight_at(text, i) == eight_at(other, i) {
+        i += 8;
+    }
+    i
+}
+
+// Passes four bytes that both texts have alike at the place.
+#[inline(always)]
+fn past_four(text: &[u8], other: &[u8], i: usize) -> usize
+    requires { BeginAlike text.now other.now i }
+    ensures { BeginAlike text.now other.now result }
+{
+    if text.len() - i >= 4 && other.len() - i >= 4 && four_at(text, i) == four_at(other, i) {
+        i + 4
+    } else {
+        i
+    }
+}
+
 // The order of two texts in quotes.
 pub fn order_quoted(text: &[u8], other: &[u8]) -> Ordering
     ensures { result ≡ slice_cmp nat_cmp (quoted text.now) (quoted other.now) }
 {
-    let mut i = 0;
+    let eights = alike_in_eights(text, other);
+    let mut i = past_four(text, other, eights);
     while i < text.len() && i < other.len() {
         if text[i] != other[i] {
             return order_marks(Some(text[i]), Some(other[i]));

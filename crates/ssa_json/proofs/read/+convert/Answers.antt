@@ -14,12 +14,12 @@ use Rattle.ssa_json.proofs.read.+convert.Goals as goal
 
 pub converted_items-loop-item-init : goal.converted_items-loop-item-init
 converted_items-loop-item-init t c =
-    rw (c.new-found.ensures.items, c.into_iter-item-iterator.ensures.into_iter_gives.0) (with_items-none (items_value (data_items c.args.items.items)))
+    rw (c.in_ok-found.ensures.items, c.into_iter-item-iterator.ensures.into_iter_gives.0) (with_items-none (items_value (data_items c.args.items.items)))
 
 pub converted_items-returns-in_err-converted : goal.converted_items-returns-in_err-converted
 converted_items-returns-in_err-converted t c =
     let l = c.loop-item in
-    let p = err_from_is_err_and c.from_residual.result c.from_residual.ensures.1 in
+    let p = err_from_is_err_and c.from_residual-in_err-converted.result c.from_residual-in_err-converted.ensures.1 in
     let so_far = l.invariant ∙ ap (λ ys. with_items (map view l.found.items) (items_value (data_items ys))) c.in-Some.ensures.steps.0 in
     rw (p.1, p.2) (items-fault c.in_err-converted.field-0.0 (map view l.found.items) (data_view c.in-Some.item) (data_items (into_iter_items c.next.new.self)) _ so_far c.in_err-converted.ensures)
 

@@ -1,9 +1,15 @@
 use Rattle.std.proofs.Common.{◌≤◌, ◌⊎◌, inl, inr, length, sym, ◌∙◌, arith}
 use Rattle.ssa_path.proofs.Parts.{text_cmp}
-use Rattle.ssa_path.proofs.Escapes.{differ-at, looked, marks-at}
+use Rattle.ssa_path.proofs.Escapes.{differ-at, looked, marks-at, past-alike, same-at}
 use Rattle.ssa_path.specs.Order.{mark}
 use Rattle.ssa_path.proofs.order.order_quoted.Goals as goal
 use Rattle.ssa_path.proofs.order.order_quoted.Goals.{then-loop-i-test+else-i-other, else-loop-i-test}
+
+pub loop-i-init : goal.loop-i-init
+loop-i-init c = past-alike c.args.text.now c.args.other.now c.past_four-i.result c.past_four-i.ensures
+
+pub loop-i-preserved : goal.loop-i-preserved
+loop-i-preserved c = c.loop-i.invariant ∙ same-at c.args.text.now c.args.other.now c.loop-i.i (omega arith) (omega arith) c.if-text-i.false
 
 pub returns-then-text-i : goal.returns-then-text-i
 returns-then-text-i c =

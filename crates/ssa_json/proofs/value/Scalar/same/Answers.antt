@@ -6,5 +6,5 @@ use Rattle.ssa_json.proofs.value.Scalar.same.Goals as goal
 
 pub returns-in-Text-Text-clause-value : goal.returns-in-Text-Text-clause-value
 returns-in-Text-Text-clause-value c =
-    let test : c.same_text.result ≡ same_scalar (scalar_view c.args.self.now) (scalar_view c.args.other.now) = search rules in
+    let test : c.is_same_text.result ≡ same_scalar (scalar_view c.args.self.now) (scalar_view c.args.other.now) = search rules in
     rw test (same_scalar-decides (scalar_view c.args.self.now) (scalar_view c.args.other.now))

@@ -1,6 +1,6 @@
 use Rattle.std.proofs.Common.{sym, ◌∙◌}
 use Rattle.std.proofs.lemmas.Map.Text.{is_eq-slice_cmp}
-use Rattle.ssa_json.proofs.same.same_text.Goals as goal
+use Rattle.ssa_json.proofs.text.is_same_text.Goals as goal
 
 pub returns : goal.returns
 returns c = c.eq.ensures ∙ sym (is_eq-slice_cmp c.args.text.now c.args.other.now)

@@ -1,0 +1,41 @@
+use Rattle.std.proofs.Common.{◌≡◌, ℕ, ◌+◌, ◌*◌, ◌≤◌, length, true}
+use Rattle.json.specs.Json.{items, members, value, parse_map}
+use Rattle.serde_json.specs.Data.{no_members}
+use Rattle.serde_json.specs.Read.{of_items, of_members, converted}
+use Rattle.ssa_json.specs.View.{items_view, members_view}
+use Rattle.ssa_json.specs.Written.{members_data, items_narrow, members_narrow}
+use Rattle.ssa_json.proofs.StraightData.{before}
+use Rattle.ssa_json.proofs.straight.+straight.Given as goal
+
+abbrev pub decreases-read_value : goal.decreases-read_value
+decreases-read_value l = 2 * l.depth
+
+abbrev pub decreases-read_items : goal.decreases-read_items
+decreases-read_items l = 2 * l.depth + 1
+
+abbrev pub decreases-read_members : goal.decreases-read_members
+decreases-read_members l = 2 * l.depth + 1
+
+abbrev pub invariant-read_items-items : goal.invariant-read_items-items
+invariant-read_items-items l = record {
+  most : ℕ;
+  enough : length l.reader ≤ most;
+  read : converted of_items (items (value l.depth) (length l.initial.reader) l.initial.reader) ≡ parse_map (before l.found.items) (converted of_items (items (value l.depth) most l.reader));
+  shorter : length l.reader ≤ length l.initial.reader;
+  narrow : items_narrow (items_view l.found.items) ≡ true;
+}
+
+abbrev pub decreases-read_items-items : goal.decreases-read_items-items
+decreases-read_items-items l = length l.reader
+
+abbrev pub invariant-read_members-members : goal.invariant-read_members-members
+invariant-read_members-members l = record {
+  most : ℕ;
+  enough : length l.reader ≤ most;
+  read : converted (λ ms. of_members ms no_members) (members (value l.depth) (length l.initial.reader) l.initial.reader) ≡ converted (λ ms. of_members ms (members_data (members_view l.found.entries))) (members (value l.depth) most l.reader);
+  shorter : length l.reader ≤ length l.initial.reader;
+  narrow : members_narrow (members_view l.found.entries) ≡ true;
+}
+
+abbrev pub decreases-read_members-members : goal.decreases-read_members-members
+decreases-read_members-members l = length l.reader

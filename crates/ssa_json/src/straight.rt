@@ -1,0 +1,157 @@
+//! Reads JSON text straight into values, where it has no part that is left out here.
+ghost use Rattle.std.specs.Prelude.{◌≡◌, ◌<◌, Ok, Some, true, length, IfOk, IfSome, OnOk};
+ghost use Rattle.json.specs.Json.{value, items, members};
+ghost use Rattle.serde_json.specs.Data.{no_members};
+ghost use Rattle.serde_json.specs.Find.{of_integer};
+ghost use Rattle.serde_json.specs.Read.{of_json, of_items, of_members, converted, number_of, read as read_text};
+ghost use Rattle.ssa_json.specs.Reading.{json_reading};
+ghost use Rattle.ssa_json.specs.View.{view, items_view, members_view};
+ghost use Rattle.ssa_json.specs.Written.{data_of, items_data, members_data, is_narrow, is_narrow_whole, items_narrow, members_narrow};
+
+use crate::value::{Json, Scalar};
+use itoa::Buffer;
+use json::{Invalid, Reader, Scratch, Token};
+use std::alloc::{AllocError, AllocFailed, Global};
+use std::collections::BTreeMap;
+
+const MOST_DEPTH: usize = 127;
+
+// The text is not read straight: it is no JSON text, has a part that is left out here, or memory ran out.
+#[derive(Drop)]
+struct NotStraight;
+
+impl From<AllocError> for NotStraight {
+    fn from(_refused: AllocError) -> NotStraight {
+        NotStraight
+    }
+}
+
+impl From<Invalid> for NotStraight {
+    fn from(_invalid: Invalid) -> NotStraight {
+        NotStraight
+    }
+}
+
+impl<T> From<AllocFailed<T>> for NotStraight
+where
+    T: Drop,
+{
+    fn from(_refused: AllocFailed<T>) -> NotStraight {
+        NotStraight
+    }
+}
+
+// The whole number of 64 bits with sign whose decimal text this is.
+fn whole_number(text: &str) -> Option<i64>
+    ensures number { IfSome result (λ n. number_of text.now ≡ Some (of_integer n)) }
+    ensures narrow { IfSome result (λ n. is_narrow_whole n ≡ true) }
+{
+    let Ok(number) = text.parse::<i64>() else {
+        return None;
+    };
+    let mut digits = Buffer::new();
+    if digits.format(number) == text {
+        Some(number)
+    } else {
+        None
+    }
+}
+
+/// The value of bytes that are JSON text without a part that is left out here, as far as memory does. Each of its
+/// numbers is spelled as the program spells it.
+pub fn read_straight(alloc: Global, bytes: &[u8]) -> Option<Json>
+    ensures { IfSome result (λ v. json_reading bytes.now ≡ Ok (view v)) }
+{
+    let Ok(text) = str::from_utf8(bytes) else {
+        return None;
+    };
+    match read_whole(alloc, text) {
+        Ok(value) => Some(value),
+        Err(_) => None,
+    }
+}
+
+// The value of a whole text.
+fn read_whole(alloc: Global, text: &str) -> Result<Json, NotStraight>
+    ensures ok { IfOk result (λ v. read_text text.now ≡ Some (data_of (view v))) }
+    ensures narrow { IfOk result (λ v. is_narrow (view v) ≡ true) }
+{
+    let mut scratch = Scratch::new(alloc);
+    let mut reader = Reader::new(text, &mut scratch)?;
+    let value = read_value(alloc, &mut reader, MOST_DEPTH)?;
+    if reader.next().is_some() {
+        return Err(NotStraight);
+    }
+    Ok(value)
+}
+
+#[cycle(straight)]
+fn read_value(alloc: Global, reader: &mut Reader<'_>, depth: usize) -> Result<Json, NotStraight>
+    ensures ok { IfOk result (λ v. converted of_json (value depth reader.old) ≡ Some (data_of (view v), reader.new)) }
+    ensures shorter { OnOk result (length reader.new < length reader.old) }
+    ensures narrow { IfOk result (λ v. is_narrow (view v) ≡ true) }
+{
+    let token = reader.next().ok_or(NotStraight)?;
+    match token {
+        Token::String(text) => Ok(Json::Scalar(Scalar::Text(String::from_str(alloc, text)?))),
+        Token::Number(text) => match whole_number(text) {
+            Some(number) => Ok(Json::Scalar(Scalar::Int(number))),
+            None => Err(NotStraight),
+        },
+        Token::Bool(b) => Ok(Json::Scalar(Scalar::Bool(b))),
+        Token::Null | Token::EndObject | Token::EndArray | Token::Key(_) | Token::Bad => {
+            Err(NotStraight)
+        }
+        Token::BeginArray => {
+            if depth == 0 {
+                return Err(NotStraight);
+            }
+            Ok(Json::List(read_items(alloc, reader, depth - 1)?))
+        }
+        Token::BeginObject => {
+            if depth == 0 {
+                return Err(NotStraight);
+            }
+            Ok(Json::Object(read_members(alloc, reader, depth - 1)?))
+        }
+    }
+}
+
+#[cycle(straight)]
+fn read_items(
+    alloc: Global,
+    reader: &mut Reader<'_>,
+    depth: usize,
+) -> Result<Vec<Json>, NotStraight>
+    ensures ok { IfOk result (λ v. converted of_items (items (value depth) (length reader.old) reader.old)
+        ≡ Some (items_data (items_view v.items), reader.new)) }
+    ensures shorter { OnOk result (length reader.new < length reader.old) }
+    ensures narrow { IfOk result (λ v. items_narrow (items_view v.items) ≡ true) }
+{
+    let mut found = Vec::new(alloc);
+    'items: while !reader.take_end_array() {
+        let item = read_value(alloc, reader, depth)?;
+        found.push(item)?;
+    }
+    Ok(found)
+}
+
+#[cycle(straight)]
+fn read_members(
+    alloc: Global,
+    reader: &mut Reader<'_>,
+    depth: usize,
+) -> Result<BTreeMap<String, Json>, NotStraight>
+    ensures ok { IfOk result (λ m. converted (λ ms. of_members ms no_members) (members (value depth) (length reader.old) reader.old)
+        ≡ Some (members_data (members_view m.entries), reader.new)) }
+    ensures shorter { OnOk result (length reader.new < length reader.old) }
+    ensures narrow { IfOk result (λ m. members_narrow (members_view m.entries) ≡ true) }
+{
+    let mut found = BTreeMap::new(alloc);
+    'members: while let Some(name) = reader.next_key()? {
+        let key = String::from_str(alloc, name)?;
+        let member = read_value(alloc, reader, depth)?;
+        drop(found.insert(key, member)?);
+    }
+    Ok(found)
+}
