@@ -10,7 +10,10 @@ use Rattle.ssa_model.specs.definitions.History.{Bench, Step, Timeline, appended,
 use Rattle.ssa_model.specs.definitions.History as history
 use Rattle.ssa_model.specs.definitions.Answers as model
 use Rattle.ssa_model.specs.definitions.Answers.{Answer, fault, refused, history_full, manager_name, comparison, accept, accept_or_refuse, command_body, with_body}
+use Rattle.ssa_model.specs.definitions.RecordReading.{HasReadPaths}
+use Rattle.ssa_model.specs.definitions.RecordedBench.{HasReadHistory, HasReadStep}
 use Rattle.ssa_model.specs.definitions.Valid.{IsValidState, KeepsOrder}
+use Rattle.ssa_json.specs.Readings.{readings}
 use Rattle.ssa_model.specs.definitions.Carry.{carry}
 use Rattle.ssa_model.specs.definitions.Kind.{Kind}
 use Rattle.ssa_model.specs.definitions.Record.{Record, record_of}
@@ -175,6 +178,14 @@ last-back s (t ∷ ts) h all = last-back t.state ts (All-head MakesTableBack t t
 
 pub present-back : (t : Timeline) → AllTablesBack t → HasTableBack (present t)
 present-back t h = last-back t.first (take t.place t.later) h.first (All-take MakesTableBack t.place t.later h.later)
+
+-- and of the last of them the paths are read
+last-paths : (s : State) (ts : List Step) → HasReadPaths readings s.body → All (HasReadStep readings) ts → HasReadPaths readings (last_state s ts).body
+last-paths s [] paths read = paths
+last-paths s (t ∷ ts) paths read = last-paths t.state ts (All-head (HasReadStep readings) t ts read) (All-tail (HasReadStep readings) t ts read)
+
+pub present-paths : (t : Timeline) → HasReadHistory readings t → HasReadPaths readings (present t).body
+present-paths t h = last-paths t.first (take t.place t.later) h.first (All-take (HasReadStep readings) t.place t.later h.later)
 
 -- ---- a Strip
 

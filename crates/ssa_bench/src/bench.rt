@@ -48,6 +48,7 @@ use ssa_schema::body_fault::BodyFault;
 use ssa_schema::schema::Schema;
 use ssa_turn::label::Label;
 use ssa_turn::timeline::{Log, Timeline};
+use ssa_typed::alike::bodies_are_alike;
 use ssa_typed::body::Body;
 use ssa_typed::fault::TypedFault;
 use std::alloc::{AllocError, Global};
@@ -223,6 +224,8 @@ impl Bench {
     {
         let now = self.timeline.present();
         self.timeline.own_entries_are_read();
+        self.timeline.own_paths_are_read();
+        bodies_are_alike();
         match change_apply(alloc, now, config, who.as_str(), force, at) {
             Ok(change) => {
                 let prepared = accepted(alloc, now, Label::Apply { at, force, who }, change)?;
@@ -263,6 +266,7 @@ impl Bench {
     {
         let now = self.timeline.present();
         self.timeline.own_entries_are_read();
+        self.timeline.own_paths_are_read();
         match change_update(alloc, now, body, who.as_str(), at) {
             Ok(change) => {
                 let prepared = accepted(alloc, now, Label::Update { at, who }, change)?;
@@ -297,6 +301,7 @@ impl Bench {
         }
         let now = self.timeline.present();
         self.timeline.own_entries_are_read();
+        self.timeline.own_paths_are_read();
         let change = change_strip(alloc, now)?;
         let prepared = accepted(alloc, now, Label::Strip, change)?;
         Ok(prepared)

@@ -2,7 +2,9 @@
 ghost use Rattle.std.specs.Prelude.{◌≡◌, IfOk};
 ghost use Rattle.ssa_model.specs.definitions.Kind.{Kind};
 ghost use Rattle.ssa_model.specs.definitions.Record.{record_of};
+ghost use Rattle.ssa_model.specs.definitions.RecordReading.{HasReadPaths};
 ghost use Rattle.ssa_model.specs.definitions.Valid.{IsValidState, KeepsOrder};
+ghost use Rattle.ssa_json.specs.Readings.{readings};
 ghost use Rattle.ssa_merge.specs.Plans.{changed_state};
 ghost use Rattle.ssa_merge.specs.States.{state_view};
 ghost use Rattle.ssa_merge.specs.TableChanges.{changed_table, LeadsTo};
@@ -62,6 +64,7 @@ pub(crate) fn accepted(
     change: Change,
 ) -> Result<Prepared, AllocError>
     requires valid { (kind : Kind) × IsValidState kind (state_view state.now) × IsValidState kind (changed_state (state_view state.now) change.body change.table) }
+    requires read { HasReadPaths readings (state_view state.now).body }
     requires leads { LeadsTo (state_view state.now).table change.table (changed_table change.table (state_view state.now).table) }
     requires order { KeepsOrder (state_view state.now).table (changed_table change.table (state_view state.now).table) }
     ensures label { IfOk result (λ p. p.step.label ≡ label) }

@@ -1,7 +1,5 @@
 -- Laws of a bench file's text.
-use Rattle.std.proofs.Common.{◌≡◌, ◌≤◌, ◌++◌, Result, length, ap, sym, subst, arith, length-append}
-use Rattle.std.specs.Result.{IfErr, IsErrAnd}
-use Rattle.std.proofs.lemmas.Result.{err_from_is_err_and}
+use Rattle.std.proofs.Common.{◌≡◌, ◌≤◌, ◌++◌, length, ap, arith, length-append}
 use Rattle.ssa_model.specs.definitions.Json.{Text}
 use Rattle.ssa_file.specs.Saving.{CannotHold}
 use Rattle.ssa_file.specs.declared.saving.SaveFault.{SaveFault}
@@ -21,9 +19,3 @@ lines-refused fault made line rest whole is h =
     let behind = length-append line rest in
     let both = length-append made (line ++ rest) in
     CannotHold-longer fault (made ++ line) whole (omega (arith, all, first, behind, both)) h
-
--- what is said of a fault is said of the result that hands it on
-pub handed-on : {A : Type 0} (r : Result A SaveFault) (f : SaveFault) (P : SaveFault → Type 0) → IsErrAnd r (λ g. g ≡ f) → P f → IfErr r P
-handed-on r f P h p =
-    let e = err_from_is_err_and r h in
-    rw e.1 (subst P (sym e.2) p)

@@ -1,5 +1,6 @@
 -- A value with the steps back from it and the steps forward, and how a place moves along them.
-use Rattle.std.specs.Prelude.{List, [], ◌∷◌}
+use Rattle.std.specs.Prelude.{◌≡◌, List, [], ◌∷◌, length, suc}
+use mathlib.Core.Path.{ap, refl}
 
 -- the latest step back and the next step forward stand first: each is the value on its far side, with its label
 pub record Timeline (V L : Type 0) : Type 0 where
@@ -11,6 +12,11 @@ pub record Timeline (V L : Type 0) : Type 0 where
 abbrev pub steps_along : {D V L : Type 0} → (D → V → V) → List (D × L) → V → List (V × L)
 steps_along leads [] v = []
 steps_along leads (r ∷ rs) v = (leads r.0 v, r.1) ∷ steps_along leads rs (leads r.0 v)
+
+-- they are as many as the records
+pub steps-length : {D V L : Type 0} (leads : D → V → V) (rs : List (D × L)) (v : V) → length (steps_along leads rs v) ≡ length rs
+steps-length leads [] v = refl
+steps-length leads (r ∷ rs) v = ap suc (steps-length leads rs (leads r.0 v))
 
 -- each record of a list fits the value that the ones before it lead to
 abbrev pub AllFit : {D V L : Type 0} → (D → V → Type 0) → (D → V → V) → List (D × L) → V → Type 0

@@ -15,7 +15,7 @@ use Rattle.ssa_model.specs.definitions.Record.{record_of}
 use Rattle.ssa_merge.specs.States.{state_view}
 use Rattle.ssa_reverse.specs.Journals.{future_of, past_of}
 use Rattle.ssa_reverse.specs.Timeline.{AllFit, Timeline, steps_along}
-use Rattle.ssa_reverse.proofs.Along.{steps-length}
+use Rattle.ssa_reverse.specs.Timeline.{steps-length}
 use Rattle.ssa_turn.specs.Histories.{IsWhole, first_of, in_a_row, step_of, steps_to, timeline_view}
 use Rattle.ssa_turn.specs.declared.label.Label.{Label}
 use Rattle.ssa_turn.specs.declared.timeline.Timeline.TheInside.{Inside}

@@ -7,7 +7,7 @@ use Rattle.ssa_model.specs.laws.RecordWalks.{AreAlike as AreOfOneClass}
 use Rattle.ssa_model.proofs.BodyLeads.{bodies_are_trees}
 use Rattle.ssa_merge.specs.Plans.{body_after}
 use Rattle.ssa_typed.specs.Alike.{AreAlike}
-use Rattle.ssa_typed.proofs.Alike.{bodies_alike}
+use Rattle.ssa_typed.proofs.OneSort.{bodies_alike}
 
 module _ (v w : Body) (to : Option Body) (is : to ≡ Some w) (h : (kind : Kind) × IsBodyOf kind v × IsBodyOf kind (body_after to v)) where
   after_fits : IsBodyOf h.0 w

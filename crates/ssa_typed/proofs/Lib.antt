@@ -1,4 +1,4 @@
-pub mod Alike
+pub mod OneSort
 pub mod AnyTree
 pub mod BodyFits
 pub mod Building

@@ -1,5 +1,7 @@
 -- Bodies one of which may be put over the other.
 use Rattle.std.specs.Prelude.{◌≡◌, Bool, true, false, Option, None, Some}
+use Rattle.ssa_model.specs.definitions.Fitting.{IsBodyOf}
+use Rattle.ssa_model.specs.definitions.Kind.{Kind}
 use Rattle.ssa_model.specs.definitions.Path.{Path}
 use Rattle.ssa_model.specs.definitions.PathMap.{get}
 use Rattle.ssa_model.specs.definitions.Body.{Content, leaf, atom, record_branch, dict_branch, list_branch, Body, is_leaf}
@@ -17,3 +19,7 @@ are_alike _ _ = false
 
 abbrev pub AreAlike : Body → Body → Type 0
 AreAlike live config = (p : Path) → are_alike (get live p) (get config p) ≡ true
+
+-- two bodies of one kind are so
+abbrev pub BodiesAreAlike : Type 0
+BodiesAreAlike = (kind : Kind) (b c : Body) → IsBodyOf kind b → IsBodyOf kind c → AreAlike b c

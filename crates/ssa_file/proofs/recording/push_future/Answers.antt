@@ -6,7 +6,7 @@ use Rattle.ssa_model.specs.definitions.BenchText.{line}
 use Rattle.ssa_json.specs.Writable.{IsOfProgram}
 use Rattle.ssa_file.specs.Recording.{kept_value}
 use Rattle.ssa_file.proofs.RecordingFacts.{all-made, future-done, future-line, future_left, made-next, of_program-next, refused-next}
-use Rattle.ssa_file.proofs.SavingFacts.{handed-on}
+use Rattle.ssa_model.proofs.Results.{handed-on}
 use Rattle.ssa_file.proofs.recording.push_future.Goals as goal
 
 pub loop-n-init : goal.loop-n-init

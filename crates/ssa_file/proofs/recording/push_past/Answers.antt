@@ -6,7 +6,7 @@ use Rattle.ssa_model.specs.definitions.BenchText.{line}
 use Rattle.ssa_json.specs.Writable.{IsOfProgram}
 use Rattle.ssa_file.specs.Recording.{kept_value}
 use Rattle.ssa_file.proofs.RecordingFacts.{all-made, made-next, of_program-next, past-line, past_left, refused-next}
-use Rattle.ssa_file.proofs.SavingFacts.{handed-on}
+use Rattle.ssa_model.proofs.Results.{handed-on}
 use Rattle.ssa_file.proofs.recording.push_past.Goals as goal
 
 pub loop-done-init : goal.loop-done-init

@@ -6,7 +6,8 @@ use Rattle.ssa_json.specs.Writable.{IsOfProgram}
 use Rattle.ssa_file.specs.Recording.{future_values, opening_values, past_values}
 use Rattle.ssa_file.specs.Saving.{CannotHold, bench_with}
 use Rattle.ssa_file.proofs.RecordingFacts.{in-three}
-use Rattle.ssa_file.proofs.SavingFacts.{handed-on, lines-refused}
+use Rattle.ssa_model.proofs.Results.{handed-on}
+use Rattle.ssa_file.proofs.SavingFacts.{lines-refused}
 use Rattle.ssa_file.proofs.recording.recorded_text.Goals as goal
 
 pub returns-in_err-text-clause-refused : goal.returns-in_err-text-clause-refused

@@ -1,4 +1,4 @@
-use Rattle.ssa_typed.proofs.Alike.{bodies_alike}
+use Rattle.ssa_typed.proofs.OneSort.{bodies_alike}
 use Rattle.ssa_tests_low.proofs.merge_tests.over.Goals as goal
 
 pub over-requires : goal.over-requires

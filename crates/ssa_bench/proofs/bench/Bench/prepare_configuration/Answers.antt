@@ -6,13 +6,14 @@ use Rattle.ssa_model.specs.definitions.History.{is_manager_name, present}
 use Rattle.ssa_model.specs.definitions.Operations.{State, Refusal, apply}
 use Rattle.ssa_model.specs.definitions.Answers.{apply_answer}
 use Rattle.ssa_model.specs.definitions.Valid.{IsValidState, IsValidBody}
-use Rattle.ssa_typed.proofs.Alike.{bodies_alike}
+use Rattle.ssa_model.specs.definitions.RecordReading.{HasReadPaths}
+use Rattle.ssa_json.specs.Readings.{readings}
 use Rattle.ssa_merge.specs.States.{state_view, applier}
 use Rattle.ssa_bench.specs.Benches.{IsPrepared}
 use Rattle.ssa_bench.specs.declared.fault.Fault.{Fault}
 use Rattle.ssa_turn.specs.TablesBack.{HasTableBack}
 use Rattle.ssa_turn.specs.declared.label.Label.TheVariants.{Apply}
-use Rattle.ssa_bench.proofs.Planned.{IsKept, IsRecorded, accepted, leads-itself, planned-at, present-back, refused-planned}
+use Rattle.ssa_bench.proofs.Planned.{IsKept, IsRecorded, accepted, leads-itself, planned-at, present-back, present-paths, refused-planned}
 use Rattle.ssa_model.proofs.ValidTimelines.{present_valid}
 use Rattle.ssa_bench.proofs.bench.Bench.prepare_configuration.Goals as goal
 
@@ -22,7 +23,7 @@ change_apply-requires c =
     let valid : model.Bench → Type 0 = λ n. IsValidBody n.schema.kind c.args.config in
     let live = subst (IsValidState b.schema.kind) (sym c.present-now.ensures) (present_valid b.schema.kind b.timeline c.self.invariant.states) in
     let config = subst valid (sym c.self.view_is) c.requires.valid in
-    bodies_alike b.schema.kind c.present-now.result.now.body c.args.config live.fits config.fits
+    c.bodies_are_alike.ensures b.schema.kind c.present-now.result.now.body c.args.config live.fits config.fits
 
 pub accepted-requires-clause-valid : goal.accepted-requires-clause-valid
 accepted-requires-clause-valid c =
@@ -33,6 +34,11 @@ accepted-requires-clause-valid c =
     let body = subst valid (sym c.self.view_is) c.requires.valid in
     let named = ap is_manager_name c.as_str.ensures.value ∙ c.requires.named in
     (kind, live, c.in-Ok.ensures.valid kind live body.fits body.rooted named)
+
+pub accepted-requires-clause-read : goal.accepted-requires-clause-read
+accepted-requires-clause-read c =
+    let b = c.self.inside in
+    subst (λ (s : State). HasReadPaths readings s.body) (sym c.present-now.ensures) (present-paths b.timeline c.own_paths_are_read.ensures)
 
 pub accepted-requires-clause-leads : goal.accepted-requires-clause-leads
 accepted-requires-clause-leads c = leads-itself c.in-Ok.ensures.change.2

@@ -5,12 +5,14 @@ use Rattle.ssa_model.specs.definitions.History as model
 use Rattle.ssa_model.specs.definitions.History.{is_manager_name, present}
 use Rattle.ssa_model.specs.definitions.Operations.{State, Refusal, update}
 use Rattle.ssa_model.specs.definitions.Valid.{IsValidState, IsValidBody}
+use Rattle.ssa_model.specs.definitions.RecordReading.{HasReadPaths}
+use Rattle.ssa_json.specs.Readings.{readings}
 use Rattle.ssa_merge.specs.States.{state_view, updater}
 use Rattle.ssa_bench.specs.Benches.{IsPrepared, update_answer}
 use Rattle.ssa_bench.specs.declared.fault.Fault.{Fault}
 use Rattle.ssa_turn.specs.TablesBack.{HasTableBack}
 use Rattle.ssa_turn.specs.declared.label.Label.TheVariants.{Update}
-use Rattle.ssa_bench.proofs.Planned.{IsKept, IsRecorded, accepted, leads-itself, planned-at, present-back, refused-planned}
+use Rattle.ssa_bench.proofs.Planned.{IsKept, IsRecorded, accepted, leads-itself, planned-at, present-back, present-paths, refused-planned}
 use Rattle.ssa_model.proofs.ValidTimelines.{present_valid}
 use Rattle.ssa_bench.proofs.bench.Bench.prepare_replacement.Goals as goal
 
@@ -23,6 +25,11 @@ accepted-requires-clause-valid c =
     let body = subst valid (sym c.self.view_is) c.requires.valid in
     let named = ap is_manager_name c.as_str.ensures.value ∙ c.requires.named in
     (kind, live, c.in-Ok.ensures.valid kind live body.fits body.rooted body.few named)
+
+pub accepted-requires-clause-read : goal.accepted-requires-clause-read
+accepted-requires-clause-read c =
+    let b = c.self.inside in
+    subst (λ (s : State). HasReadPaths readings s.body) (sym c.present-now.ensures) (present-paths b.timeline c.own_paths_are_read.ensures)
 
 pub accepted-requires-clause-leads : goal.accepted-requires-clause-leads
 accepted-requires-clause-leads c = leads-itself c.in-Ok.ensures.change.2

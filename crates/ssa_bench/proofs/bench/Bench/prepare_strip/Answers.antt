@@ -3,11 +3,13 @@ use Rattle.ssa_model.specs.definitions.History as model
 use Rattle.ssa_model.specs.definitions.History.{past_len, present}
 use Rattle.ssa_model.specs.definitions.Operations.{State, strip}
 use Rattle.ssa_model.specs.definitions.Valid.{IsValidState}
+use Rattle.ssa_model.specs.definitions.RecordReading.{HasReadPaths}
+use Rattle.ssa_json.specs.Readings.{readings}
 use Rattle.ssa_merge.specs.States.{state_view}
 use Rattle.ssa_merge.specs.Plans.{IsChange}
 use Rattle.ssa_turn.specs.TablesBack.{HasTableBack}
 use Rattle.ssa_turn.specs.declared.label.Label.TheVariants.{Strip}
-use Rattle.ssa_bench.proofs.Planned.{IsKept, IsRecorded, leads-itself, present-back, stripped-accepted}
+use Rattle.ssa_bench.proofs.Planned.{IsKept, IsRecorded, leads-itself, present-back, present-paths, stripped-accepted}
 use Rattle.ssa_model.proofs.ValidTimelines.{present_valid}
 use Rattle.ssa_bench.proofs.bench.Bench.prepare_strip.Goals as goal
 
@@ -17,6 +19,11 @@ accepted-requires-clause-valid c =
     let kind = b.schema.kind in
     let live = subst (IsValidState kind) (sym c.present-now.ensures) (present_valid kind b.timeline c.self.invariant.states) in
     (kind, live, c.in_ok-change.ensures.valid kind live)
+
+pub accepted-requires-clause-read : goal.accepted-requires-clause-read
+accepted-requires-clause-read c =
+    let b = c.self.inside in
+    subst (λ (s : State). HasReadPaths readings s.body) (sym c.present-now.ensures) (present-paths b.timeline c.own_paths_are_read.ensures)
 
 pub accepted-requires-clause-leads : goal.accepted-requires-clause-leads
 accepted-requires-clause-leads c = leads-itself c.in_ok-change.ensures.change

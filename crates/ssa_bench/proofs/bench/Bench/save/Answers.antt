@@ -9,7 +9,7 @@ use Rattle.ssa_json.specs.Readings.{readings}
 use Rattle.ssa_json.specs.Writable.{IsOfProgram}
 use Rattle.ssa_file.specs.Saving.{NotSaved}
 use Rattle.ssa_file.specs.declared.saving.SaveFault.TheVariants.{Io}
-use Rattle.ssa_file.proofs.SavingFacts.{handed-on}
+use Rattle.ssa_model.proofs.Results.{handed-on}
 use Rattle.ssa_bench.proofs.SavedBench.{is-file, source-names}
 use Rattle.ssa_bench.proofs.bench.Bench.save.Goals as goal
 

@@ -2,7 +2,7 @@ use Rattle.std.proofs.Common.{rules, ◌≡◌, ◌∙◌, sym, length}
 use Rattle.std.proofs.lemmas.List.{length-reverse}
 use Rattle.ssa_reverse.specs.Journals.{future_of, leads}
 use Rattle.ssa_reverse.proofs.journal.Journal.future_len.Goals as goal
-use Rattle.ssa_reverse.proofs.Along.{steps-length}
+use Rattle.ssa_reverse.specs.Timeline.{steps-length}
 
 pub returns-clause-steps : goal.returns-clause-steps
 returns-clause-steps g c = λ v.

@@ -4,7 +4,7 @@ use Rattle.ssa_merge.specs.States.{state_view}
 use Rattle.ssa_model.specs.definitions.Carry.{carry}
 use Rattle.ssa_model.specs.definitions.History.{present, past_len}
 use Rattle.ssa_reverse.specs.Journals.{past_of, timeline_of}
-use Rattle.ssa_reverse.proofs.Along.{steps-length}
+use Rattle.ssa_reverse.specs.Timeline.{steps-length}
 use Rattle.ssa_turn.specs.Histories.{in_a_row, label_view, preceded}
 use Rattle.ssa_turn.specs.TablesBack.{HasTableBack}
 use Rattle.ssa_turn.proofs.InARow.{after-precede, on-err, on-ok, preceded-is, present-is, same-row, whole-back}
