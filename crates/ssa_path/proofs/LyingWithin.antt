@@ -40,13 +40,13 @@ pub within-more : (cs ds : List (Elem × Trie)) (i : ℕ) (c : Elem × Trie) (pl
     → child_at (element_view c.0) ds ≡ Some place → IsWithin (paths c.1) (paths place) → AreWithin (take i cs) ds → AreWithin (take (i + 1) cs) ds
 within-more cs ds i c place lt is rise at within before e p h =
     let split = ap (λ l. is_one_of (paths_below l) (e ∷ p)) (taken-at cs i c lt is)
-        ∙ ap (λ l. is_one_of l (e ∷ p)) (paths_below-append (take i cs) (c ∷ []))
-        ∙ list_any-append (same_path (e ∷ p)) (paths_below (take i cs)) (paths_below (c ∷ [])) in
+    ∙ ap (λ l. is_one_of l (e ∷ p)) (paths_below-append (take i cs) (c ∷ []))
+    ∙ list_any-append (same_path (e ∷ p)) (paths_below (take i cs)) (paths_below (c ∷ [])) in
     let last = list_any-append (same_path (e ∷ p)) (paths_after (element_view c.0) (paths c.1)) [] ∙ or_false _ ∙ in-child e (element_view c.0) (paths c.1) p in
     or-by (is_one_of (paths_below (take i cs)) (e ∷ p)) _ _ (sym split ∙ h) (before e p) (λ k.
-      let both = sym last ∙ k in
-      let same = same_element-true e (element_view c.0) (both_first (same_element e (element_view c.0)) (is_one_of (paths c.1) p) both) in
-      at-child e ds place p rise (ap (λ x. child_at x ds) same ∙ at) ∙ within p (both_second (same_element e (element_view c.0)) (is_one_of (paths c.1) p) both))
+    let both = sym last ∙ k in
+    let same = same_element-true e (element_view c.0) (both_first (same_element e (element_view c.0)) (is_one_of (paths c.1) p) both) in
+    at-child e ds place p rise (ap (λ x. child_at x ds) same ∙ at) ∙ within p (both_second (same_element e (element_view c.0)) (is_one_of (paths c.1) p) both))
 
 -- a path of a child is one of the trie's behind the child's element
 child-has : (t : Trie) (cs : List (Elem × Trie)) (i : ℕ) (c : Elem × Trie) (p : Path) → cs ≡ (out-Trie t).below.items → i < length cs → c ≡ get_or cs i c
@@ -66,8 +66,7 @@ pub exceeds-none : (t o : Trie) (cs : List (Elem × Trie)) (i : ℕ) (c : Elem �
     → child_at (element_view c.0) (out-Trie o).below.items ≡ None → Exceeds (paths t) (paths o)
 exceeds-none t o cs i c below lt is filled trie none =
     let e = element_view c.0 in
-    let some = some-path (paths c.1) filled in
-    (
+    let some = some-path (paths c.1) filled in (
       e ∷ some.0,
       child-has t cs i c some.0 below lt is some.1,
       any-level same_path same_path-reading o e some.0 ∙ any-below same_path same_path-reading e (out-Trie o).below.items some.0 (trie-parts o _ refl trie).0 ∙ ap (λ x. found same_path x some.0) none,
@@ -77,8 +76,7 @@ exceeds-none t o cs i c below lt is filled trie none =
 pub exceeds-child : (t o : Trie) (cs : List (Elem × Trie)) (i : ℕ) (c : Elem × Trie) (place : Trie) → cs ≡ (out-Trie t).below.items → i < length cs → c ≡ get_or cs i c → is_trie o ≡ true
     → child_at (element_view c.0) (out-Trie o).below.items ≡ Some place → Exceeds (paths c.1) (paths place) → Exceeds (paths t) (paths o)
 exceeds-child t o cs i c place below lt is trie at more =
-    let e = element_view c.0 in
-    (
+    let e = element_view c.0 in (
       e ∷ more.0,
       child-has t cs i c more.0 below lt is more.1,
       any-level same_path same_path-reading o e more.0 ∙ at-child e (out-Trie o).below.items place more.0 (trie-parts o _ refl trie).0 at ∙ more.2,
@@ -107,8 +105,8 @@ and-not false b h = refl
 pub within-empty : (m n : Trie) (b : Bool) → MatchBool b (IsWithin (paths m) (paths n)) (Exceeds (paths m) (paths n)) → b ≡ is_empty (minus (listed (paths m)) (listed (paths n)))
 within-empty m n true h =
     sym (no-path (minus (listed (paths m)) (listed (paths n))) (λ p.
-      has-minus (listed (paths m)) (listed (paths n)) p
-      ∙ and-not _ _ (λ k. has-listed (paths n) p ∙ h p (sym (has-listed (paths m) p) ∙ k))))
+    has-minus (listed (paths m)) (listed (paths n)) p
+    ∙ and-not _ _ (λ k. has-listed (paths n) p ∙ h p (sym (has-listed (paths m) p) ∙ k))))
 within-empty m n false h =
     let p = h.0 in
     let there = has-minus (listed (paths m)) (listed (paths n)) p ∙ (λ i. (has-listed (paths m) p ∙ h.1) i && not ((has-listed (paths n) p ∙ h.2) i)) in

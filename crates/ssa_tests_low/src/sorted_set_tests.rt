@@ -142,7 +142,10 @@ fn do_minus_and_meet_agree(alloc: Global, sets: &Sets) -> Result<bool, Fail> {
     let both = kept(alloc, &sets.own, |code| sets.others.contains(&code))?;
     let minus = sets.set.minus(alloc, &sets.other)?;
     let meet = sets.set.meet(alloc, &sets.other)?;
-    Ok(holds(alloc, &minus, &left)? && holds(alloc, &meet, &both)?)
+    let are_parts = minus.is_within(&sets.set)
+        && meet.is_within(&sets.set)
+        && meet.is_within(&sets.other);
+    Ok(are_parts && holds(alloc, &minus, &left)? && holds(alloc, &meet, &both)?)
 }
 
 // Whether what has none of the others above it, and what has none below it, is what the lists tell.
@@ -170,10 +173,12 @@ fn do_looks_agree(alloc: Global, state: &mut u64, sets: &Sets) -> Result<bool, F
     let is_there = sets.own.contains(&code);
     let is_above = sets.own.iter().any(|found| begins(code, *found));
     let are_same = sets.own.as_slice() == sets.others.as_slice();
+    let are_within = sets.own.iter().all(|found| sets.others.contains(found));
     Ok(
         sets.set.has(&path) == is_there
             && sets.set.has_at_or_below(&path) == is_above
-            && sets.set.is_same(&sets.other) == are_same,
+            && sets.set.is_same(&sets.other) == are_same
+            && sets.set.is_within(&sets.other) == are_within,
     )
 }
 

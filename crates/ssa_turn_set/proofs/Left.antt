@@ -86,8 +86,8 @@ losses-are (d ∷ ds) ps qs (r ∷ rs) h = λ i. lose_one d (sym h.0 i) r && los
 pub left-below : (lost own : Trie) → is_trie lost ≡ true → AllChildren (IsLeft (paths_below (out-Trie own).below.items) (left (paths own) (paths lost))) (out-Trie lost).below.items
 left-below lost own trie =
     all-children _ (out-Trie lost).below.items (trie-parts lost _ refl trie).0 (λ e c at.
-      tails-filter e (λ p. not (is_one_of (paths lost) p)) (paths own)
-      ∙ (λ i. filter (λ p. not ((any-paths same_path same_path-reading lost e p trie ∙ ap (λ x. found same_path x p) at) i)) (place-tails own e i)))
+    tails-filter e (λ p. not (is_one_of (paths lost) p)) (paths own)
+    ∙ (λ i. filter (λ p. not ((any-paths same_path same_path-reading lost e p trie ∙ ap (λ x. found same_path x p) at) i)) (place-tails own e i)))
 
 going-more : (ds : List (Elem × Trie)) (d : Elem × Trie) (ps : List Path) → going (ds ++ d ∷ []) ps ≡ going ds ps + fresh (left (tails (element_view d.0) ps) (paths d.1))
 going-more [] d ps = let n = fresh (left (tails (element_view d.0) ps) (paths d.1)) in omega arith

@@ -28,13 +28,7 @@ fn count_going_one(child: &(Elem, Trie), own: &[(Elem, Trie)]) -> usize
     ensures most { result ≤ 1 }
 {
     match find_child(own, &child.0) {
-        Some(place) => {
-            if lies_within(place, &child.1) {
-                1
-            } else {
-                0
-            }
-        }
+        Some(place) => { if lies_within(place, &child.1) { 1 } else { 0 } }
         None => 1,
     }
 }
