@@ -190,7 +190,7 @@ past-alike a d n h =
 -- so many bytes more that are the same
 pub alike-more : (a d : List ℕ) (n m : ℕ) → BeginAlike a d n → n + m ≤ length a → n + m ≤ length d → take m (drop n a) ≡ take m (drop n d) → BeginAlike a d (n + m)
 alike-more a d n m h own others more = record {
-    own = own;
-    others = others;
-    same = take-add n m a ∙ (λ i. h.same i ++ more i) ∙ sym (take-add n m d);
-  }
+  own = own;
+  others = others;
+  same = take-add n m a ∙ (λ i. h.same i ++ more i) ∙ sym (take-add n m d);
+}
