@@ -1,5 +1,5 @@
 -- Paths that are lent: the elements of a place, and one behind them or none.
-use Rattle.std.specs.Prelude.{List, [], ◌∷◌, ◌++◌, Option, Some, None}
+use Rattle.std.specs.Prelude.{[], ◌∷◌, ◌++◌, Option, Some, None}
 use Rattle.std.specs.Borrow.{Bor}
 use Rattle.ssa_model.specs.definitions.Entries.{text_json}
 use Rattle.ssa_model.specs.definitions.Json.{Json}

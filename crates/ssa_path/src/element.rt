@@ -5,7 +5,7 @@ ghost use Rattle.ssa_path.specs.OwnText.{OwnTextsAreRead};
 ghost use Rattle.ssa_path.specs.View.{element_view};
 
 use crate::keys::{Keys, are_same_members};
-use crate::order::{order_keys, order_scalars};
+use crate::order::{order_keys, order_values};
 use ssa_json::text::is_same_text;
 use ssa_json::value::Scalar;
 use std::alloc::{AllocError, Global};
@@ -43,9 +43,7 @@ impl Elem {
                 name.as_str().as_bytes().cmp(other_name.as_str().as_bytes())
             }
             (Elem::Key(keys), Elem::Key(others)) => order_keys(keys.members(), others.members()),
-            (Elem::Value(scalar), Elem::Value(other_scalar)) => {
-                order_scalars(scalar, b"", other_scalar, b"")
-            }
+            (Elem::Value(scalar), Elem::Value(other_scalar)) => order_values(scalar, other_scalar),
             (Elem::Field(_), Elem::Key(_)) => Ordering::Less,
             (Elem::Field(_), Elem::Value(_)) => Ordering::Less,
             (Elem::Key(_), Elem::Value(_)) => Ordering::Less,

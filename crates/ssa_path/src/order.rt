@@ -192,6 +192,9 @@ pub fn order_scalars(scalar: &Scalar, end: &[u8], other: &Scalar, other_end: &[u
 pub fn order_values(scalar: &Scalar, other: &Scalar) -> Ordering
     ensures { result ≡ slice_cmp nat_cmp (scalar_text (scalar_view scalar.now)) (scalar_text (scalar_view other.now)) }
 {
+    if let (Scalar::Text(text), Scalar::Text(other_text)) = (scalar, other) {
+        return order_quoted(text.as_bytes(), other_text.as_bytes());
+    }
     order_scalars(scalar, b"", other, b"")
 }
 

@@ -1,4 +1,4 @@
-use Rattle.std.proofs.Common.{◌≡◌, ◌++◌, ap, map, ◌∙◌}
+use Rattle.std.proofs.Common.{◌++◌, ap, map, ◌∙◌}
 use Rattle.ssa_json.specs.View.{items_of, view}
 use Rattle.ssa_json.proofs.Listed.{items-made}
 use Rattle.ssa_json.proofs.Views.{view-List}
