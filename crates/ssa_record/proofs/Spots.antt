@@ -223,3 +223,17 @@ pub from-lower : {E : Type 0} (m : ToldMaps) (p g q : Path) (s b : Spot) (res : 
     → IfOk res (λ r. LeadsDown m p s q r)
 from-lower m p g q s b (Ok r) lower leads = λ kind v fits h. leads kind v fits (lower.leads kind v fits h)
 from-lower m p g q s b (Err e) lower leads = leads
+
+-- the root, at and below which is everything
+pub root-spot : (m : ToldMaps) (kind : Kind) (v : Body) (s : Spot) → is_tree s.node.now ≡ true → body_of s.node.now ≡ v → kind_view s.kind.now ≡ kind
+    → IsTouchedBelow m [] s.touched.now → IsSpot m kind v [] s
+root-spot m kind v s tree seen same touched = record {
+  tree = tree;
+  has_tree = λ q. ap (λ b. get b q) (sym seen);
+  place = ap (λ k. Some (of_kind k)) (sym same);
+  free = refl;
+  touched = touched;
+  within = λ q _. refl;
+  uncut = λ h. absurd (true≢false h);
+  unput = λ h. absurd (true≢false h);
+}

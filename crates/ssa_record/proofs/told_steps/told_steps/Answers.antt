@@ -1,25 +1,26 @@
-use Rattle.std.proofs.Common.{rules, ◌≡◌, IfOk, IfSome, ℕ, ◌+◌, ◌-◌, ◌*◌, ◌<◌, ◌≤◌, length, ◌/◌, ◌%◌, Bool, true, false, nat_eq, nat_lt, List, [], ◌∷◌, ◌++◌, slice_index_or, slice_set, bit_and, bit_or, Fits, w8, w32, w64, Bor, MutBor}
-use Rattle.ssa_model.specs.definitions.Body.{Body}
-use Rattle.ssa_model.specs.definitions.Takes.{BodyTakes}
-use Rattle.ssa_model.specs.definitions.Valid.{IsValidBody}
-use Rattle.ssa_model.specs.definitions.Record.{BodyRecord}
-use Rattle.ssa_json.specs.View.{view}
-use Rattle.ssa_turn_body.specs.Records.{body_told}
-use Rattle.ssa_turn_body.specs.Rooms.{HasBodyRoom}
-use Rattle.ssa_record.specs.LedBodies.{IsRead, IsSaid, IsShown}
+use Rattle.std.proofs.Common.{◌≡◌, [], refl, sym, ap, subst, ◌∙◌}
+use Rattle.ssa_path.specs.View.{path_view}
 use Rattle.ssa_record.specs.Places.{maps_of, AllTouched}
-use Rattle.ssa_record.specs.Spots.{AreSteps}
-use Rattle.ssa_record.specs.Told.{told_body, told_of}
+use Rattle.ssa_record.specs.Spots.{IsSpot}
+use Rattle.ssa_record.specs.Told.{told_body}
+use Rattle.ssa_record.specs.declared.spot.Spot.{Spot}
+use Rattle.ssa_record.proofs.LedBodies.{root-touched}
+use Rattle.ssa_record.proofs.Spots.{root-spot}
+use Rattle.ssa_record.proofs.Touched.{all-touched}
 use Rattle.ssa_record.proofs.told_steps.told_steps.Goals as goal
 
--- src/told_steps.rt:105:9
 pub steps_there-requires-clause-all : goal.steps_there-requires-clause-all
-steps_there-requires-clause-all c = ?
+steps_there-requires-clause-all c = subst AllTouched (sym c.in_ok-places.ensures) (all-touched (told_body c.args.told.now))
 
--- src/told_steps.rt:105:9
 pub steps_there-requires-clause-spot : goal.steps_there-requires-clause-spot
-steps_there-requires-clause-spot c = ?
+steps_there-requires-clause-spot c =
+    let m = maps_of c.in_ok-places.places in
+    let kind = c.args.schema.now.kind in
+    let v = c.args.body.now in
+    let s : Spot = record { touched = c.root.result; node = c.root-2.result; kind = c.kind-kind.result } in
+    let root : path_view c.new-path.result.items ≡ [] = ap path_view c.new-path.ensures.items in
+    let start = root-spot m kind v s c.root-2.ensures.tree c.root-2.ensures.seen c.kind-kind.ensures.same (root-touched m c.root.result.now c.root.ensures.trie c.root.ensures.same) in
+    c.in_ok-spot.ensures kind v c.requires.fits (subst (λ p. IsSpot m kind v p s) (sym root) start)
 
--- src/told_steps.rt:107:9
 pub steps_of_whole-requires-clause-all : goal.steps_of_whole-requires-clause-all
-steps_of_whole-requires-clause-all c = ?
+steps_of_whole-requires-clause-all c = subst AllTouched (sym c.in_ok-places.ensures) (all-touched (told_body c.args.told.now))
