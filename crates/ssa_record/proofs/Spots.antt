@@ -1,5 +1,5 @@
 -- The way down to the place at and below which is all that a record touches.
-use Rattle.std.proofs.Common.{◌≡◌, List, [], ◌∷◌, ◌++◌, Bool, true, false, cond, Option, Some, None, refl, sym, ap, subst, ◌∙◌, true≢false, append_assoc, append-nil, arith}
+use Rattle.std.proofs.Common.{◌≡◌, List, [], ◌∷◌, ◌++◌, Bool, true, false, Option, Some, None, refl, sym, ap, ◌∙◌, true≢false, append_assoc, arith}
 use Rattle.std.proofs.lemmas.Option.{none-some}
 use Rattle.std.specs.Prelude.{if◌then◌else◌, IfOk, Result, Ok, Err}
 use Rattle.ssa_model.specs.definitions.Json.{Text, Scalar}
@@ -12,7 +12,7 @@ use Rattle.ssa_model.specs.definitions.Fitting.{Place, of_kind, item_of, value_o
 use Rattle.ssa_model.proofs.Fitting.{same_element-true}
 use Rattle.ssa_model.proofs.Places.{if-some, place-after, place-push}
 use Rattle.ssa_model.proofs.Pruned.{under-append, under-rest}
-use Rattle.ssa_model.proofs.Tables.{element-itself, yes_no}
+use Rattle.ssa_model.proofs.Tables.{element-itself}
 use Rattle.ssa_model.proofs.Tests.{by_test}
 use Rattle.ssa_path.specs.Children.{child_at}
 use Rattle.ssa_path.specs.Keys.{members_view}
@@ -24,7 +24,7 @@ use Rattle.ssa_path.specs.declared.trie.Trie.TheViews.{out-Trie}
 use Rattle.ssa_path.proofs.Levels.{any-paths, found, one-level-root, same_path-reading}
 use Rattle.ssa_schema.specs.Kinds.{fields_view, kind_view}
 use Rattle.ssa_typed.specs.Points.{content_in}
-use Rattle.ssa_typed.specs.Rows.{below, body_of, is_tree, own_content, rows}
+use Rattle.ssa_typed.specs.Rows.{below, body_of, is_tree, own_content}
 use Rattle.ssa_typed.specs.declared.node.Node.{Node}
 use Rattle.ssa_typed.proofs.Lookups.{content-level, content-root, tree-child}
 use Rattle.ssa_typed.proofs.Looks.{get-body}

@@ -1,16 +1,16 @@
 -- The changes at and below one place lead a valid body to a valid one, and say the record that is told.
-use Rattle.std.proofs.Common.{◌≡◌, ℕ, ◌+◌, ◌≤◌, length, [], ◌∷◌, ◌++◌, Bool, true, false, not, Option, Some, None, refl, sym, ap, subst, ◌∙◌, true≢false, append-nil, arith}
-use Rattle.std.specs.Prelude.{is_some, option_map}
+use Rattle.std.proofs.Common.{◌≡◌, ◌+◌, ◌≤◌, length, [], ◌∷◌, ◌++◌, true, false, Option, refl, sym, ap, subst, ◌∙◌, true≢false, append-nil, arith}
+use Rattle.std.specs.Prelude.{is_some}
 use Rattle.ssa_model.specs.definitions.Path.{Path, is_root, under}
 use Rattle.ssa_model.specs.definitions.PathMap.{empty, from_entries, get, has, size, below as map_below}
 use Rattle.ssa_model.specs.definitions.Json.{Json}
 use Rattle.ssa_model.specs.definitions.Kind.{Kind, faults}
 use Rattle.ssa_model.specs.definitions.Body.{Body, places}
-use Rattle.ssa_model.specs.definitions.Fitting.{of_kind, place_at, IsBodyOf}
+use Rattle.ssa_model.specs.definitions.Fitting.{of_kind, IsBodyOf}
 use Rattle.ssa_model.specs.definitions.Lawful.{is_keyed, is_lawful}
 use Rattle.ssa_model.specs.definitions.Limits.{most_places}
 use Rattle.ssa_model.specs.definitions.Objects.{shown}
-use Rattle.ssa_model.specs.definitions.Record.{BodyRecord, body_record, new_leaves, new_orders, puts}
+use Rattle.ssa_model.specs.definitions.Record.{BodyRecord, body_record, new_leaves, puts}
 use Rattle.ssa_model.specs.definitions.Takes.{BodyTakes}
 use Rattle.ssa_model.specs.definitions.Valid.{metadata_path, IsValidBody}
 use Rattle.ssa_model.specs.laws.RecordPlaces.{replaced}
@@ -23,12 +23,11 @@ use Rattle.ssa_model.proofs.PutParts.{get-below}
 use Rattle.ssa_model.proofs.ReplacedParts.{get-inside, replaced_fits}
 use Rattle.ssa_model.proofs.ReplacedSizes.{replaced_size}
 use Rattle.ssa_model.proofs.Tables.{mapped_some}
-use Rattle.ssa_model.proofs.Tests.{by_test}
 use Rattle.ssa_schema.specs.Kinds.{kind_view}
 use Rattle.ssa_typed.specs.Alike.{are_alike}
 use Rattle.ssa_typed.specs.Over.{AreAlikeTrees}
 use Rattle.ssa_typed.specs.Reads.{IsTreeRead}
-use Rattle.ssa_typed.specs.Rows.{body_of, content_at, is_tree, rows}
+use Rattle.ssa_typed.specs.Rows.{body_of, rows}
 use Rattle.ssa_typed.specs.declared.node.Node.{Node}
 use Rattle.ssa_typed.proofs.Alike.{bodies_alike}
 use Rattle.ssa_typed.proofs.AnyTree.{tree-root}
@@ -38,9 +37,8 @@ use Rattle.ssa_turn_body.specs.At.{with_tree, SayAt, ServeAt}
 use Rattle.ssa_turn_body.specs.Records.{body_told}
 use Rattle.ssa_turn_body.specs.Rooms.{HasBodyRoom}
 use Rattle.ssa_turn_body.specs.declared.steps.BodySteps.{BodySteps}
-use Rattle.ssa_json.specs.View.{view}
 use Rattle.ssa_json.specs.declared.value.Json as program
-use Rattle.ssa_record.specs.LedValues.{told_leaf, told_part, IsGiven, IsHere, IsLed, IsToldFor}
+use Rattle.ssa_record.specs.LedValues.{told_leaf, told_part, IsGiven, IsLed, IsToldFor}
 use Rattle.ssa_record.specs.Places.{maps_told, ToldMaps}
 use Rattle.ssa_record.specs.Spots.{IsSpot, IsWithin}
 use Rattle.ssa_record.specs.Told.{told_of}

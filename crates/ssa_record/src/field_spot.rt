@@ -8,9 +8,9 @@ ghost use Rattle.ssa_record.specs.Places.{maps_of};
 ghost use Rattle.ssa_record.specs.Spots.{IsDown, IsSpotBelow};
 
 use crate::places::ToldPlaces;
-use crate::spot::{only_child, Spot};
+use crate::spot::{Spot, only_child};
 use ssa_path::element::Elem;
-use ssa_schema::kind::{find_field, Kind};
+use ssa_schema::kind::{Kind, find_field};
 use std::alloc::{AllocError, Global};
 
 // The kind of a field of a record or of an entry of a Dict.

@@ -8,11 +8,11 @@ ghost use Rattle.ssa_record.specs.Places.{maps_of};
 ghost use Rattle.ssa_record.specs.Spots.{IsDown, IsFieldBelow, IsItemBelow};
 
 use crate::places::ToldPlaces;
-use crate::spot::{only_child, Item, Spot};
+use crate::spot::{Item, Spot, only_child};
 use ssa_json::text::is_same_text;
 use ssa_json::value::Scalar;
 use ssa_path::element::Elem;
-use ssa_schema::kind::{find_field, Kind};
+use ssa_schema::kind::{Kind, find_field};
 use std::alloc::{AllocError, Global};
 
 // Whether one of the key fields has the name.

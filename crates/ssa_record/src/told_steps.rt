@@ -28,7 +28,11 @@ use ssa_typed::fault::TypedFault;
 use std::alloc::{AllocError, Global};
 
 // The value of the body after the record, where what is told is the record of two bodies.
-fn value_after(alloc: Global, body: &Body, told: &ToldPlaces<'_>) -> Result<Option<Json>, AllocError>
+fn value_after(
+    alloc: Global,
+    body: &Body,
+    told: &ToldPlaces<'_>,
+) -> Result<Option<Json>, AllocError>
     requires { AllTouched (maps_of told.now) }
     ensures { IfOk result (λ o. IsShown (maps_of told.now) body.now o) }
 {

@@ -1,7 +1,6 @@
-use Rattle.std.proofs.Common.{◌≡◌, ◌∷◌, [], ◌++◌, refl, sym, ap, subst, ◌∙◌}
+use Rattle.std.proofs.Common.{◌≡◌, ◌∷◌, [], ◌++◌, sym, ap, subst, ◌∙◌}
 use Rattle.std.proofs.lemmas.List.{map-append}
 use Rattle.ssa_path.specs.View.{element_view, path_view}
-use Rattle.ssa_typed.specs.Rows.{is_tree}
 use Rattle.ssa_typed.proofs.Lookups.{tree-child}
 use Rattle.ssa_record.specs.Places.{maps_of}
 use Rattle.ssa_record.specs.Spots.{IsFieldBelow, IsLower}

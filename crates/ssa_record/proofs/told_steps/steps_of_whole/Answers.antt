@@ -1,13 +1,12 @@
-use Rattle.std.proofs.Common.{◌≡◌, [], Some, None, refl, sym, ap, subst, ◌∙◌}
+use Rattle.std.proofs.Common.{◌≡◌, [], sym, ap, subst, ◌∙◌}
 use Rattle.std.specs.Prelude.{IfSome}
-use Rattle.ssa_model.specs.definitions.Body.{Body}
 use Rattle.ssa_model.specs.definitions.Objects.{shown}
 use Rattle.ssa_model.specs.definitions.Record.{body_record}
 use Rattle.ssa_model.specs.definitions.Valid.{IsValidBody}
 use Rattle.ssa_model.proofs.BodyLeads.{bodies_are_trees}
 use Rattle.ssa_json.specs.View.{view}
 use Rattle.ssa_typed.proofs.Alike.{bodies_alike}
-use Rattle.ssa_record.specs.LedBodies.{IsRead, IsThis}
+use Rattle.ssa_record.specs.LedBodies.{IsThis}
 use Rattle.ssa_record.specs.LedValues.{IsGiven}
 use Rattle.ssa_record.proofs.LedBodies.{lawful-ordered}
 use Rattle.ssa_record.proofs.told_steps.steps_of_whole.Goals as goal

@@ -1,4 +1,4 @@
-use Rattle.std.proofs.Common.{◌≡◌, [], refl, sym, ap, subst, ◌∙◌}
+use Rattle.std.proofs.Common.{◌≡◌, [], sym, ap, subst}
 use Rattle.ssa_path.specs.View.{path_view}
 use Rattle.ssa_record.specs.Places.{maps_of, AllTouched}
 use Rattle.ssa_record.specs.Spots.{IsSpot}

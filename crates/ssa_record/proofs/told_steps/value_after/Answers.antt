@@ -1,6 +1,5 @@
-use Rattle.std.proofs.Common.{◌≡◌, [], refl, sym, ap, subst, ◌∙◌}
+use Rattle.std.proofs.Common.{◌≡◌, [], sym, ap, subst}
 use Rattle.ssa_model.specs.definitions.Fitting.{of_kind}
-use Rattle.ssa_json.specs.View.{view}
 use Rattle.ssa_path.specs.View.{path_view}
 use Rattle.ssa_record.specs.LedValues.{IsLed, IsToldFor}
 use Rattle.ssa_record.specs.Places.{maps_of, IsTouchedBelow}
