@@ -3,7 +3,6 @@ use Rattle.std.proofs.Common.{◌≡◌, ℕ, ◌+◌, ◌<◌, List, [], ◌∷
 use Rattle.std.proofs.lemmas.List.{map-append}
 use Rattle.std.proofs.lemmas.List.Folds.{list_any-append}
 use Rattle.std.specs.FinMap.Entries.{is_some-find}
-use Rattle.std.specs.List.{list_any}
 use Rattle.std.specs.Prelude.{is_some}
 use Rattle.ssa_model.specs.definitions.Path.{Element, Path, path_cmp, same_path}
 use Rattle.ssa_model.specs.definitions.PathMap.{PathSet, empty, from_entries, has, insert}
@@ -13,7 +12,6 @@ use Rattle.ssa_path.specs.View.{element_view, path_view}
 use Rattle.ssa_path.specs.declared.element.Elem.{Elem}
 use Rattle.ssa_path.proofs.Lists.{taken-at}
 use Rattle.ssa_turn_body.specs.Records.{at_place, cuts_in, told_by}
-use Rattle.ssa_turn_body.specs.declared.change.PlaceChange.{PlaceChange}
 use Rattle.ssa_turn_body.specs.declared.steps.Step.{Step}
 use Rattle.ssa_record.specs.LedStates.{path_after, paths_after}
 use Rattle.ssa_record.specs.Places.{told_paths}

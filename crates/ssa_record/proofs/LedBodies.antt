@@ -1,28 +1,26 @@
 -- The body that a record leads to, from what is told of the record.
-use Rattle.std.proofs.Common.{◌≡◌, ℕ, List, [], ◌∷◌, ◌++◌, map, Bool, true, false, ◌&&◌, cond, Option, Some, None, refl, sym, ap, subst, ◌∙◌, true≢false}
-use Rattle.std.proofs.lemmas.Option.{none-some}
+use Rattle.std.proofs.Common.{◌≡◌, List, [], ◌∷◌, map, true, false, ◌&&◌, cond, Some, refl, sym, ap, ◌∙◌}
 use Rattle.std.specs.Cmp.{first_so, second_so}
 use Rattle.std.specs.FinMap.Entries.{find}
-use Rattle.std.specs.Prelude.{is_some, option_map}
-use Rattle.ssa_model.specs.definitions.Json.{Json}
-use Rattle.ssa_model.specs.definitions.Path.{Element, Path, path_cmp, same_path}
+use Rattle.std.specs.Prelude.{option_map}
+use Rattle.ssa_model.specs.definitions.Path.{Path, path_cmp, same_path}
 use Rattle.ssa_model.specs.definitions.PathMap.{PathMap, get, has, paths, listed, from_entries}
 use Rattle.ssa_model.specs.definitions.Kind.{Kind}
-use Rattle.ssa_model.specs.definitions.Body.{Body, Content}
-use Rattle.ssa_model.specs.definitions.Fitting.{of_kind, place_at}
+use Rattle.ssa_model.specs.definitions.Body.{Body}
+use Rattle.ssa_model.specs.definitions.Fitting.{of_kind}
 use Rattle.ssa_model.specs.definitions.Lawful.{has_metadata, is_lawful, is_ordered, is_root_kind}
-use Rattle.ssa_model.specs.definitions.Record.{Part, BodyRecord, body_record}
+use Rattle.ssa_model.specs.definitions.Record.{BodyRecord}
 use Rattle.ssa_model.specs.definitions.Takes.{BodyTakes}
 use Rattle.ssa_model.proofs.PathMaps.{get-from_entries, has-paths, same_path-true}
 use Rattle.ssa_path.specs.Trie as tries
 use Rattle.ssa_path.specs.declared.trie.Trie.{Trie}
 use Rattle.ssa_path.proofs.Sets.{has-listed}
-use Rattle.ssa_typed.specs.Rows.{body_of, content_at, rows}
+use Rattle.ssa_typed.specs.Rows.{body_of}
 use Rattle.ssa_typed.specs.declared.node.Node.{Node}
 use Rattle.ssa_typed.proofs.Looks.{get-body}
 use Rattle.ssa_record.specs.LedValues.{told_leaf, told_part, IsHere, IsToldFor}
-use Rattle.ssa_record.specs.Places.{maps_told, AllTouched, IsTouchedBelow, ToldMaps}
-use Rattle.ssa_record.specs.Told.{leaf_of, put_of, told_of, BodyTold}
+use Rattle.ssa_record.specs.Places.{maps_told, IsTouchedBelow, ToldMaps}
+use Rattle.ssa_record.specs.Told.{told_of}
 use Rattle.ssa_record.proofs.Touched.{all-touched}
 
 -- what is found of entries that are told by a function of their paths

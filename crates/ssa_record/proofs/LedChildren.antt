@@ -1,5 +1,5 @@
 -- The children of a tree, one after the other, how large they are, and what of them is touched and led.
-use Rattle.std.proofs.Common.{◌≡◌, ℕ, ◌+◌, ◌*◌, ◌<◌, List, [], ◌∷◌, ◌++◌, drop, get_or, length, take, Bool, true, false, not, ◌&&◌, ◌||◌, Option, Some, None, append_assoc, refl, sym, ap, subst, ◌∙◌, arith, true≢false}
+use Rattle.std.proofs.Common.{◌≡◌, ℕ, ◌+◌, ◌*◌, ◌<◌, List, [], ◌∷◌, ◌++◌, drop, get_or, length, take, Bool, true, false, not, Option, Some, None, append_assoc, refl, sym, ap, ◌∙◌, arith, true≢false}
 use Rattle.ssa_model.specs.definitions.Json.{Json}
 use Rattle.ssa_model.specs.definitions.Path.{Path, same_path}
 use Rattle.ssa_model.specs.definitions.PathMap.{has}
@@ -12,7 +12,7 @@ use Rattle.std.specs.List.{list_any}
 use Rattle.std.specs.Prelude.{is_some, if◌then◌else◌}
 use Rattle.ssa_model.specs.definitions.Path.{Element, same_element}
 use Rattle.ssa_model.proofs.Fitting.{same_element-true}
-use Rattle.ssa_model.proofs.Tables.{element-itself, or_true, true_or, yes_no}
+use Rattle.ssa_model.proofs.Tables.{element-itself, or_true, true_or}
 use Rattle.ssa_model.proofs.Tests.{by_test}
 use Rattle.ssa_path.specs.Children.{child_at, elements, IsChildAt}
 use Rattle.ssa_path.specs.View.{element_view}

@@ -1,16 +1,15 @@
 -- The value of a record or a Dict after a record: its members are those that the second body shows.
-use Rattle.std.proofs.Common.{◌≡◌, List, [], ◌∷◌, ◌++◌, Bool, true, false, ◌&&◌, cond, Option, Some, None, refl, sym, ap, subst, ◌∙◌, true≢false}
-use Rattle.std.proofs.lemmas.Option.{none-some, same_Some}
+use Rattle.std.proofs.Common.{◌≡◌, [], ◌∷◌, ◌++◌, true, cond, Some, None, refl, sym, ap, ◌∙◌, true≢false}
 use Rattle.std.specs.FinMap.Entries.{is_sorted}
 use Rattle.std.specs.Prelude.{option_map, if◌then◌else◌}
-use Rattle.ssa_model.specs.definitions.Json.{Text, Json, Members, no_members, member, member_of, object}
-use Rattle.ssa_model.specs.definitions.Path.{Element, field, Path}
-use Rattle.ssa_model.specs.definitions.PathMap.{get, has}
+use Rattle.ssa_model.specs.definitions.Json.{Text, Members, no_members, member, member_of, object}
+use Rattle.ssa_model.specs.definitions.Path.{field, Path}
+use Rattle.ssa_model.specs.definitions.PathMap.{has}
 use Rattle.ssa_model.specs.definitions.Kind as kinds
 use Rattle.ssa_model.specs.definitions.Kind.{Kind, Fields, scalar_kind, atomic_of, record_of, dict_of, items_of, kind_of}
 use Rattle.ssa_model.specs.definitions.Body.{Body, Content, leaf, atom, record_branch, dict_branch, list_branch}
-use Rattle.ssa_model.specs.definitions.Fitting.{Place, of_kind, item_of, value_of, place_at, place_below, content_fits}
-use Rattle.ssa_model.specs.definitions.Lawful.{are_ordered, is_ordered}
+use Rattle.ssa_model.specs.definitions.Fitting.{Place, of_kind, item_of, value_of, place_below, content_fits}
+use Rattle.ssa_model.specs.definitions.Lawful.{are_ordered}
 use Rattle.ssa_model.specs.definitions.Objects.{shown, shown_fields, entry_members, names_below}
 use Rattle.ssa_model.specs.definitions.RecordText.{value_at_place}
 use Rattle.ssa_model.proofs.ShownNames.{member_of-fields}

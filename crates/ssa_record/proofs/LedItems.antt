@@ -1,8 +1,7 @@
 -- The items of a list after a record.
-use Rattle.std.proofs.Common.{arith, ◌≡◌, ℕ, List, [], ◌∷◌, ◌++◌, Bool, true, false, not, ◌&&◌, cond, filter, Option, Some, None, refl, sym, ap, subst, ◌∙◌, true≢false}
+use Rattle.std.proofs.Common.{arith, ◌≡◌, ℕ, List, [], ◌∷◌, ◌++◌, Bool, true, false, not, ◌&&◌, cond, Option, Some, None, refl, sym, ap, subst, ◌∙◌, true≢false}
 use Rattle.std.proofs.lemmas.Option.{none-some, same_Some}
-use Rattle.std.specs.Cmp.{first_so, second_so}
-use Rattle.std.specs.List.{position_from}
+use Rattle.std.specs.Cmp.{second_so}
 use Rattle.std.specs.Prelude.{is_some, option_map, if◌then◌else◌, IfOk, Result, Ok, Err}
 use Rattle.std.specs.declared.alloc.AllocError.{AllocError}
 use Rattle.ssa_path.specs.View.{element_view}
@@ -13,17 +12,17 @@ use Rattle.ssa_model.specs.definitions.Kind as kinds
 use Rattle.ssa_model.specs.definitions.Kind.{Kind, Fields, scalar_kind, atomic_of, record_of, dict_of, items_of, is_among}
 use Rattle.ssa_model.specs.definitions.Body.{Body, Content, leaf, atom, record_branch, dict_branch, list_branch, order_at}
 use Rattle.ssa_model.specs.definitions.Commands.{value_in}
-use Rattle.ssa_model.specs.definitions.Fitting.{Place, of_kind, item_of, value_of, place_at, place_below, content_fits, are_distinct}
+use Rattle.ssa_model.specs.definitions.Fitting.{Place, of_kind, item_of, value_of, place_below, content_fits}
 use Rattle.ssa_model.specs.definitions.Objects.{content_value, shown_fields, shown_items}
 use Rattle.ssa_model.specs.definitions.Json.{object}
 use Rattle.ssa_model.specs.definitions.Record.{are_in_one_order, new_order, new_orders}
 use Rattle.ssa_model.specs.definitions.RecordText.{value_at_place}
 use Rattle.ssa_model.specs.laws.RecordWalks.{class_of}
 use Rattle.ssa_model.proofs.BodyLeads.{bodies_are_trees}
-use Rattle.ssa_model.proofs.Fitting.{nothing_there, some_there}
+use Rattle.ssa_model.proofs.Fitting.{some_there}
 use Rattle.ssa_model.proofs.PathMaps.{get-over_paths}
 use Rattle.ssa_model.proofs.Places.{list-place, set-place}
-use Rattle.ssa_model.proofs.Tables.{element-itself, no, or_true, true_or, yes_no}
+use Rattle.ssa_model.proofs.Tables.{element-itself, or_true, true_or}
 use Rattle.ssa_model.proofs.Tests.{by_test}
 use Rattle.ssa_path.specs.Children.{child_at, elements}
 use Rattle.ssa_json.specs.declared.value.Json as program
@@ -35,11 +34,11 @@ use Rattle.ssa_typed.specs.declared.node.Node.TheViews.{out-Node}
 use Rattle.ssa_typed.specs.declared.node.Leaf.TheVariants.{Scalar as ScalarLeaf, Atomic}
 use Rattle.ssa_typed.specs.declared.node.Node.{Node}
 use Rattle.ssa_typed.proofs.Values.{items_after}
-use Rattle.ssa_record.specs.LedValues.{has_items, value_below, values_below, AreBelow, HaveItems, IsGiven, IsHere, IsLed, IsLedItem, IsToldFor}
-use Rattle.ssa_record.specs.Places.{items_left, IsOrderOf, IsRefilled, ToldMaps}
+use Rattle.ssa_record.specs.LedValues.{has_items, value_below, values_below, AreBelow, IsGiven, IsHere, IsLed, IsLedItem, IsToldFor}
+use Rattle.ssa_record.specs.Places.{IsOrderOf, IsRefilled, ToldMaps}
 use Rattle.ssa_record.proofs.LedLeaves.{own-fits}
 use Rattle.ssa_record.proofs.LedPlaces.{coming, cut-gone, here-below, no-child, no-value, none-missed, own-here, place-of, value-is}
-use Rattle.ssa_record.proofs.LedUntouched.{among-first, among-second, filter-alike, filter-whole, one-order}
+use Rattle.ssa_record.proofs.LedUntouched.{among-first, among-second, filter-alike, one-order}
 
 -- where the second body has all the elements, the items are its values at those so far
 abbrev pub AreItemsSoFar : ToldMaps → Path → Node → List Element → List Element → Items → Type 0

@@ -1,16 +1,15 @@
 -- The value of a leaf after a record.
-use Rattle.std.proofs.Common.{◌≡◌, List, [], Bool, true, false, Option, Some, None, refl, sym, ap, subst, ◌∙◌, true≢false}
-use Rattle.std.proofs.lemmas.Option.{none-some, same_Some}
+use Rattle.std.proofs.Common.{◌≡◌, true, Option, Some, None, refl, sym, ap, ◌∙◌, true≢false}
+use Rattle.std.proofs.lemmas.Option.{same_Some}
 use Rattle.std.specs.Option.{unwrap_or}
 use Rattle.std.specs.Prelude.{option_map}
-use Rattle.ssa_model.specs.definitions.Json.{Json, scalar}
 use Rattle.ssa_model.specs.definitions.Path.{Path}
 use Rattle.ssa_model.specs.definitions.PathMap.{get}
 use Rattle.ssa_model.specs.definitions.Kind as kinds
 use Rattle.ssa_model.specs.definitions.Kind.{Kind, scalar_kind, atomic_of, record_of, dict_of, items_of}
 use Rattle.ssa_model.specs.definitions.Body.{Body, Content, leaf, atom, record_branch, dict_branch, list_branch, is_leaf}
 use Rattle.ssa_model.specs.definitions.Carry.{carried_content}
-use Rattle.ssa_model.specs.definitions.Fitting.{Place, of_kind, item_of, value_of, place_at, content_fits}
+use Rattle.ssa_model.specs.definitions.Fitting.{Place, of_kind, item_of, value_of, content_fits}
 use Rattle.ssa_model.specs.definitions.Objects.{content_value}
 use Rattle.ssa_model.specs.definitions.Record.{body_record, new_leaves}
 use Rattle.ssa_model.specs.definitions.RecordText.{value_at_place}

@@ -1,35 +1,35 @@
 -- A tree of the first of two bodies beside what is told: its children, what of them the second body has, and what is put beside them.
-use Rattle.std.proofs.Common.{◌≡◌, ℕ, List, [], ◌∷◌, ◌++◌, Bool, true, false, not, ◌&&◌, cond, Option, Some, None, refl, sym, ap, subst, ◌∙◌, true≢false, append_assoc, append-nil}
+use Rattle.std.proofs.Common.{◌≡◌, ℕ, List, [], ◌∷◌, ◌++◌, true, false, not, ◌&&◌, cond, Option, Some, None, refl, sym, ap, subst, ◌∙◌, true≢false, append_assoc, append-nil}
 use Rattle.std.proofs.lemmas.Option.{none-some, same_Some}
 use Rattle.std.specs.Cmp.{first_so, second_so}
 use Rattle.std.specs.FinMap.Entries.{find}
 use Rattle.std.specs.List.{position_from}
 use Rattle.std.specs.Prelude.{is_some, option_map, if◌then◌else◌}
 use Rattle.ssa_model.specs.definitions.Json.{Json}
-use Rattle.ssa_model.specs.definitions.Path.{Element, Path, path_cmp, same_element, same_path, parent, last_element}
-use Rattle.ssa_model.specs.definitions.PathMap.{get, has, below as map_below}
+use Rattle.ssa_model.specs.definitions.Path.{Element, Path, path_cmp, same_element, same_path, parent}
+use Rattle.ssa_model.specs.definitions.PathMap.{get, has}
 use Rattle.ssa_model.specs.definitions.Kind.{Kind}
-use Rattle.ssa_model.specs.definitions.Body.{Body, Content, order_at}
+use Rattle.ssa_model.specs.definitions.Body.{Body, order_at}
 use Rattle.ssa_model.specs.definitions.Carry.{carry_body}
 use Rattle.ssa_model.specs.definitions.Fitting.{Place, of_kind, place_below, place_at}
-use Rattle.ssa_model.specs.definitions.Record.{Part, BodyRecord, is_top, item_place, part_at, cuts, puts, body_record}
+use Rattle.ssa_model.specs.definitions.Record.{Part, is_top, part_at, puts, body_record}
 use Rattle.ssa_model.specs.definitions.RecordText.{part_value, value_at_place}
 use Rattle.ssa_model.specs.definitions.Takes.{BodyTakes}
 use Rattle.ssa_model.specs.laws.FittingRecords.{BodyFits}
 use Rattle.ssa_model.proofs.Beginnings.{parent-push, last-push}
 use Rattle.ssa_model.proofs.BodyLeads.{body_leads, get-cuts}
-use Rattle.ssa_model.proofs.Fitting.{nothing_there, some_there}
+use Rattle.ssa_model.proofs.Fitting.{some_there}
 use Rattle.ssa_model.proofs.PartValues.{part_is_value}
 use Rattle.ssa_model.proofs.PathMaps.{get-over_paths, same_path-true}
 use Rattle.ssa_model.proofs.Places.{place-after}
 use Rattle.ssa_model.proofs.PutParts.{AllAt, IsPut, all-puts, get-puts}
 use Rattle.ssa_model.proofs.RecordTurns.{some-put}
 use Rattle.ssa_model.proofs.TakenBodies.{taken_body_fits}
-use Rattle.ssa_model.proofs.Tables.{no, yes_no}
+use Rattle.ssa_model.proofs.Tables.{no}
 use Rattle.ssa_model.proofs.Tests.{by_test}
 use Rattle.ssa_path.specs.Children.{child_at}
 use Rattle.ssa_typed.specs.Points.{content_in}
-use Rattle.ssa_typed.specs.Rows.{below, content_at, is_tree, own_content, rows}
+use Rattle.ssa_typed.specs.Rows.{below, is_tree, own_content}
 use Rattle.ssa_typed.specs.declared.node.Node.{Node}
 use Rattle.ssa_typed.proofs.Lookups.{content-level, content-root}
 use Rattle.ssa_record.specs.LedValues.{told_part, value_below, IsHere, IsToldFor}

@@ -1,7 +1,5 @@
 -- What is put among the members of a place.
 use Rattle.std.proofs.Common.{◌≡◌, ℕ, List, [], ◌∷◌, ◌++◌, Bool, true, false, cond, Option, Some, None, refl, sym, ap, ◌∙◌}
-use Rattle.std.proofs.lemmas.Option.{none-some}
-use Rattle.std.specs.Prelude.{is_some, if◌then◌else◌}
 use Rattle.ssa_model.specs.definitions.Json.{Text, Json, Members, member_of}
 use Rattle.ssa_model.specs.definitions.Path.{Element, field, Path, same_element}
 use Rattle.ssa_model.specs.definitions.PathMap.{get, has}
@@ -14,7 +12,6 @@ use Rattle.ssa_path.specs.declared.element.Elem.{Elem}
 use Rattle.ssa_path.specs.declared.trie.Trie.{Trie}
 use Rattle.ssa_path.specs.declared.trie.Trie.TheViews.{out-Trie}
 use Rattle.ssa_path.proofs.Levels.{any-paths, found, same_path-reading}
-use Rattle.ssa_path.specs.Trie.{is_trie}
 use Rattle.ssa_model.specs.definitions.Path.{same_path}
 use Rattle.ssa_typed.specs.Values.{with_member_under}
 use Rattle.ssa_record.specs.LedValues.{names_rise, put_or, ArePut}

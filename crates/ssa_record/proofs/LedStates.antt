@@ -1,16 +1,14 @@
 -- The state that a record leads to, by its body and its table.
-use Rattle.std.proofs.Common.{◌≡◌, List, [], ◌∷◌, ◌++◌, map, Bool, true, false, ◌||◌, Option, Some, None, refl, sym, ap, subst, ◌∙◌}
-use Rattle.std.specs.List.{list_any}
-use Rattle.ssa_model.specs.definitions.Path.{Element, Path, same_path}
-use Rattle.ssa_model.specs.definitions.PathMap.{PathSet, has, has_at_or_above, from_entries, empty}
+use Rattle.std.proofs.Common.{◌≡◌, true, false, refl, sym, ap, subst, ◌∙◌}
+use Rattle.ssa_model.specs.definitions.Path.{Path}
+use Rattle.ssa_model.specs.definitions.PathMap.{has, has_at_or_above}
 use Rattle.ssa_model.specs.definitions.Kind.{Kind}
 use Rattle.ssa_model.specs.definitions.Body.{Body}
-use Rattle.ssa_model.specs.definitions.Table.{Table}
 use Rattle.ssa_model.specs.definitions.Operations.{State}
 use Rattle.ssa_model.specs.definitions.Carry.{carry, carry_body, carry_table}
-use Rattle.ssa_model.specs.definitions.Record.{BodyRecord, TableRecord, Record, body_record, table_record, record_of}
+use Rattle.ssa_model.specs.definitions.Record.{BodyRecord, TableRecord, Record, body_record, table_record}
 use Rattle.ssa_model.specs.definitions.Takes.{BodyTakes, TableTakes, Takes}
-use Rattle.ssa_model.specs.definitions.Valid.{IsTable, IsValidBody, IsValidState, KeepsOrder}
+use Rattle.ssa_model.specs.definitions.Valid.{IsValidBody, IsValidState, KeepsOrder}
 use Rattle.ssa_model.specs.laws.FittingRecords.{KeepsUncut, TableFits}
 use Rattle.ssa_model.proofs.BodyLeads.{bodies_are_trees, left, lost}
 use Rattle.ssa_model.proofs.RecordTakes.{body_laws, fixes_target}

@@ -1,6 +1,6 @@
 -- What is told of a path, and what stands there: where nothing is told at and below it, both bodies have the same.
-use Rattle.std.proofs.Common.{◌≡◌, List, [], ◌∷◌, ◌++◌, Bool, true, false, not, ◌&&◌, ◌||◌, cond, filter, Option, Some, None, refl, sym, ap, subst, ◌∙◌, true≢false, append_assoc, append-nil}
-use Rattle.std.proofs.lemmas.Option.{none-some, same_Some}
+use Rattle.std.proofs.Common.{◌≡◌, List, [], ◌∷◌, ◌++◌, Bool, true, false, not, ◌&&◌, cond, filter, Option, Some, None, refl, sym, ap, ◌∙◌, append_assoc, append-nil}
+use Rattle.std.proofs.lemmas.Option.{none-some}
 use Rattle.std.specs.Cmp.{first_so, second_so}
 use Rattle.std.specs.Option.{unwrap_or}
 use Rattle.std.specs.Prelude.{is_some, option_map, if◌then◌else◌}
@@ -9,7 +9,7 @@ use Rattle.ssa_model.specs.definitions.PathMap.{get, has, below as map_below}
 use Rattle.ssa_model.specs.definitions.Kind.{Kind, is_among}
 use Rattle.ssa_model.specs.definitions.Body.{Body, Content, leaf, atom, record_branch, dict_branch, list_branch, order_at}
 use Rattle.ssa_model.specs.definitions.Carry.{carried_content}
-use Rattle.ssa_model.specs.definitions.Fitting.{Place, of_kind, place_at}
+use Rattle.ssa_model.specs.definitions.Fitting.{Place}
 use Rattle.ssa_model.specs.definitions.Record.{body_record, common, are_in_one_order, new_leaves, new_order, new_orders}
 use Rattle.ssa_model.specs.definitions.RecordText.{value_at_place}
 use Rattle.ssa_model.specs.laws.RecordWalks.{AreAlike}
@@ -19,10 +19,10 @@ use Rattle.ssa_model.proofs.PartValues.{part_is_value}
 use Rattle.ssa_model.proofs.PathMaps.{get-over_paths, same_map}
 use Rattle.ssa_model.proofs.Pruned.{closed-above, under-append}
 use Rattle.ssa_model.proofs.PutParts.{get-below}
-use Rattle.ssa_model.proofs.Tables.{element-itself, no, or_true, true_or, yes_no}
+use Rattle.ssa_model.proofs.Tables.{element-itself, or_true, true_or, yes_no}
 use Rattle.ssa_model.proofs.Tests.{by_test, pointwise-true}
 use Rattle.ssa_model.proofs.Fitting.{same_element-true}
-use Rattle.ssa_typed.specs.Rows.{body_of, content_at, is_tree, rows}
+use Rattle.ssa_typed.specs.Rows.{body_of, is_tree}
 use Rattle.ssa_typed.specs.Values.{value_of}
 use Rattle.ssa_typed.specs.declared.node.Node.{Node}
 use Rattle.ssa_typed.proofs.Looks.{get-body}

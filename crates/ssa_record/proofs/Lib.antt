@@ -27,4 +27,7 @@ pub mod ToldItems
 pub mod ToldLists
 pub mod ToldTables
 pub mod ToldSets
+mod Spots
+mod StepsThere
 mod Touched
+mod WithinPlaces

@@ -1,5 +1,5 @@
 -- The line of a command and its record is an object of these two members and no others.
-use Rattle.std.proofs.Common.{◌≡◌, List, Bool, true, false, ◌&&◌, String, Global, string_cmp, refl, sym, ap, ◌∙◌}
+use Rattle.std.proofs.Common.{◌≡◌, List, Bool, true, false, ◌&&◌, String, Global, string_cmp, refl, ap, ◌∙◌}
 use Rattle.std.specs.Prelude.{Option, Some, None, codes}
 use Rattle.std.specs.List.{list_any}
 use Rattle.std.specs.List.Sorted.{IsStrictlySortedBy}

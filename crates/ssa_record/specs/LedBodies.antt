@@ -12,11 +12,12 @@ use Rattle.ssa_json.specs.declared.value.Json as program
 use Rattle.ssa_turn_body.specs.Records.{body_told}
 use Rattle.ssa_turn_body.specs.declared.steps.BodySteps.{BodySteps}
 use Rattle.ssa_record.specs.LedValues.{IsGiven}
-use Rattle.ssa_record.specs.Told.{BodyTold, told_of}
+use Rattle.ssa_record.specs.Places.{maps_told, ToldMaps}
+use Rattle.ssa_record.specs.Told.{told_of}
 
 -- where a record is told that takes the body to another one, the value is that of the other
-abbrev pub IsShown : BodyTold → Body → Option program.Json → Type 0
-IsShown t v o = (kind : Kind) (d : BodyRecord) (w : Body) → is_ordered kind ≡ true → BodyTakes kind d v w → t ≡ told_of kind d → IsGiven o (shown kind w [])
+abbrev pub IsShown : ToldMaps → Body → Option program.Json → Type 0
+IsShown m v o = (kind : Kind) (d : BodyRecord) (w : Body) → is_ordered kind ≡ true → BodyTakes kind d v w → m ≡ maps_told (told_of kind d) → IsGiven o (shown kind w [])
 
 -- there is a body, and it is this one
 abbrev pub IsThis : Option Body → Body → Type 0

@@ -9,6 +9,7 @@ pub mod RecordAnswers
 pub mod Refilled
 pub mod Said
 pub mod Shapes
+pub mod Spots
 pub mod TableTests
 pub mod Telling
 pub mod Told

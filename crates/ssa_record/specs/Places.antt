@@ -11,7 +11,7 @@ use Rattle.ssa_json.specs.View.{view}
 use Rattle.ssa_json.specs.declared.value.Json as program
 use Rattle.ssa_path.specs.Trie as tries
 use Rattle.ssa_path.specs.TopPaths.{lent_path}
-use Rattle.ssa_path.specs.View.{element_view, path_view}
+use Rattle.ssa_path.specs.View.{path_view}
 use Rattle.ssa_path.specs.declared.element.Elem.{Elem}
 use Rattle.ssa_path.specs.declared.top_path.LentPath.{LentPath}
 use Rattle.ssa_path.specs.declared.trie.Trie.{Trie}

@@ -1,4 +1,4 @@
-use Rattle.std.proofs.Common.{◌≡◌, ◌+◌, ◌*◌, ◌<◌, ◌∷◌, [], ◌++◌, drop, get_or, map, take, length, true, Some, None, refl, sym, ap, subst, ◌∙◌, arith, rules}
+use Rattle.std.proofs.Common.{◌≡◌, ◌+◌, ◌*◌, ◌<◌, ◌∷◌, [], ◌++◌, drop, get_or, take, length, Some, None, refl, sym, ap, subst, ◌∙◌, arith, rules}
 use Rattle.std.proofs.lemmas.List.{map-append, take_all}
 use Rattle.std.specs.Option.{option_copied, unwrap_or}
 use Rattle.std.specs.Prelude.{option_map, IfNone, IfSome}
@@ -10,10 +10,9 @@ use Rattle.ssa_json.proofs.Views.{view-List, view-Object}
 use Rattle.ssa_json.specs.View.{items_view, members_view, view}
 use Rattle.ssa_path.specs.Children.{child_at, elements, IsChildAt}
 use Rattle.ssa_path.specs.View.{element_view, path_view}
-use Rattle.ssa_path.specs.declared.trie.Trie.TheViews.{out-Trie}
 use Rattle.ssa_path.proofs.Levels.{trie-parts}
 use Rattle.ssa_path.proofs.Lists.{parted, taken-at}
-use Rattle.ssa_typed.specs.Rows.{are_apart, below, is_tree, own_content, rows}
+use Rattle.ssa_typed.specs.Rows.{below, own_content, rows}
 use Rattle.ssa_typed.specs.Values.{leaf_value, with_member_under}
 use Rattle.ssa_typed.proofs.Levels.{level-below}
 use Rattle.ssa_typed.proofs.Lookups.{tree-child}
@@ -22,14 +21,13 @@ use Rattle.ssa_typed.proofs.Overlaying.{child-at-index}
 use Rattle.ssa_typed.proofs.Values.{items_after, items_view-push}
 use Rattle.ssa_turn_body.proofs.Matching.{place-told}
 use Rattle.ssa_turn_body.proofs.Walking.{child-there}
-use Rattle.ssa_record.specs.LedValues.{values_below, AreBelow, ArePut, HaveItems, HaveKept, IsGiven, IsLed, IsLedItem}
+use Rattle.ssa_record.specs.LedValues.{values_below, AreBelow, ArePut, HaveItems, HaveKept, IsLed, IsLedItem}
 use Rattle.ssa_record.specs.Places.{maps_of, IsOrderOf, IsRefilled, IsTouchedBelow}
 use Rattle.ssa_record.proofs.LedChildren.{child-named, falls-into, led-given, new-at-index, touched-child, untouched-led}
 use Rattle.ssa_record.proofs.LedFields.{members-led}
 use Rattle.ssa_record.proofs.LedItems.{all-below, below-at, item-led, item-none, item-put, list-led, order-led, values-last}
 use Rattle.ssa_record.proofs.LedLeaves.{leaf-led}
-use Rattle.ssa_record.proofs.LedMembers.{AreKeptSoFar, all-met, kept-add, kept-end, kept-skip, kept-start}
-use Rattle.ssa_record.proofs.LedPlaces.{child-is, here-below, kept-there, place-of, value-is}
+use Rattle.ssa_record.proofs.LedMembers.{AreKeptSoFar, all-met, kept-add, kept-end, kept-skip}
 use Rattle.ssa_record.proofs.led_value.+led.Goals as goal
 
 -- ---- the members that stay

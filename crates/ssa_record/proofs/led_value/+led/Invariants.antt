@@ -1,7 +1,6 @@
-use Rattle.std.proofs.Common.{◌≡◌, ◌+◌, ◌*◌, length, map, take}
-use Rattle.std.specs.Prelude.{option_map}
+use Rattle.std.proofs.Common.{◌≡◌, ◌+◌, ◌*◌, length, take}
 use Rattle.ssa_json.specs.View.{items_view, members_view}
-use Rattle.ssa_path.specs.View.{element_view, path_view}
+use Rattle.ssa_path.specs.View.{path_view}
 use Rattle.ssa_typed.specs.Rows.{below, rows}
 use Rattle.ssa_record.specs.Places.{maps_of}
 use Rattle.ssa_record.proofs.LedMembers.{AreKeptSoFar}

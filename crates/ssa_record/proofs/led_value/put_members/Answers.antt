@@ -1,14 +1,13 @@
-use Rattle.std.proofs.Common.{◌≡◌, ◌+◌, ◌<◌, ◌∷◌, [], ◌++◌, get_or, take, length, Some, None, refl, sym, ap, subst, ◌∙◌, arith}
+use Rattle.std.proofs.Common.{◌≡◌, ◌<◌, ◌∷◌, [], ◌++◌, get_or, take, length, sym, ap, subst, ◌∙◌, arith}
 use Rattle.std.proofs.lemmas.List.{take_all}
 use Rattle.std.specs.Prelude.{option_map}
-use Rattle.ssa_model.specs.definitions.PathMap.{get}
 use Rattle.ssa_json.specs.View.{members_view, view}
 use Rattle.ssa_path.specs.View.{element_view, path_view}
 use Rattle.ssa_path.specs.declared.trie.Trie.TheViews.{out-Trie}
 use Rattle.ssa_path.proofs.Lists.{taken-at}
 use Rattle.ssa_typed.specs.Values.{with_member_under}
 use Rattle.ssa_record.specs.Places.{maps_of}
-use Rattle.ssa_record.proofs.LedPuts.{ArePutSoFar, puts-add, puts-end, puts-skip, puts-start}
+use Rattle.ssa_record.proofs.LedPuts.{ArePutSoFar, puts-add, puts-end, puts-skip}
 use Rattle.ssa_record.proofs.led_value.put_members.Goals as goal
 use Rattle.ssa_record.proofs.led_value.put_members.Goals.{in-Some+in_ok-value-in-Some+in_ok-put_under-in-Some, in-None}
 

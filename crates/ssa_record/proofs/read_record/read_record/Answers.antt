@@ -1,4 +1,4 @@
-use Rattle.std.proofs.Common.{◌≡◌, Some, None, true, false, refl, sym, ap, subst, ◌∙◌, true≢false}
+use Rattle.std.proofs.Common.{◌≡◌, sym, ap, subst, ◌∙◌, true≢false}
 use Rattle.std.specs.Prelude.{is_some, IfSome}
 use Rattle.ssa_model.specs.definitions.Entries.{text_json}
 use Rattle.ssa_model.specs.definitions.Json.{same_json}
@@ -8,7 +8,7 @@ use Rattle.ssa_model.specs.definitions.Operations.{State}
 use Rattle.ssa_model.specs.definitions.RecordReading.{IsReadState}
 use Rattle.ssa_model.specs.definitions.Valid.{AllEntries}
 use Rattle.ssa_model.proofs.RecordTakes.{fixes_target}
-use Rattle.ssa_model.specs.definitions.Record.{body_record, table_record, record_of}
+use Rattle.ssa_model.specs.definitions.Record.{record_of}
 use Rattle.ssa_model.specs.definitions.RecordText.{record_json}
 use Rattle.ssa_model.specs.definitions.Takes.{Takes}
 use Rattle.ssa_model.proofs.SameValues.{same_json-itself, same_json-true}
@@ -17,8 +17,7 @@ use Rattle.ssa_json.specs.View.{view}
 use Rattle.ssa_merge.specs.States.{state_view}
 use Rattle.ssa_turn_state.specs.States.{HasStateRoom, IsTaken, state_steps}
 use Rattle.ssa_record.specs.LedStates.{IsSaidState}
-use Rattle.ssa_record.specs.RecordAnswers.{IsRecordOf}
-use Rattle.ssa_record.specs.Told.{said_body, said_table, told_body, told_of, told_table}
+use Rattle.ssa_record.specs.Told.{said_body, said_table, told_body, told_table}
 use Rattle.ssa_record.proofs.LedBodies.{lawful-ordered}
 use Rattle.ssa_record.proofs.LedStates.{there}
 use Rattle.ssa_record.proofs.RecordTextsSay.{record_texts_say}

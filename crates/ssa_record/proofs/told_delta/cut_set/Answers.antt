@@ -1,4 +1,4 @@
-use Rattle.std.proofs.Common.{◌<◌, ap, subst, refl, ◌∙◌, get_or, length, take, arith}
+use Rattle.std.proofs.Common.{◌<◌, ap, subst, refl, ◌∙◌, get_or, length, arith}
 use Rattle.std.proofs.lemmas.List.{take_all}
 use Rattle.ssa_model.specs.definitions.PathMap.{empty}
 use Rattle.ssa_path.specs.View.{path_view}

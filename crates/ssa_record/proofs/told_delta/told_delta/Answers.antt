@@ -1,7 +1,6 @@
-use Rattle.std.proofs.Common.{◌≡◌, Some, None, true, false, refl, sym, ap, subst, ◌∙◌, true≢false}
+use Rattle.std.proofs.Common.{◌≡◌, sym, ap, subst, ◌∙◌, true≢false}
 use Rattle.std.specs.Prelude.{is_some, IfSome}
 use Rattle.ssa_model.specs.definitions.Body.{Body}
-use Rattle.ssa_model.specs.definitions.Carry.{carry_body}
 use Rattle.ssa_model.specs.definitions.PathMap.{has, has_at_or_above}
 use Rattle.ssa_model.specs.definitions.Record.{BodyRecord, body_record}
 use Rattle.ssa_model.specs.definitions.Takes.{BodyTakes, TableTakes}

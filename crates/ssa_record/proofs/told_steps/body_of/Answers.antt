@@ -1,4 +1,4 @@
-use Rattle.std.proofs.Common.{◌≡◌, ◌<◌, ◌≤◌, [], Some, None, Err, refl, sym, ap, subst, ◌∙◌, arith}
+use Rattle.std.proofs.Common.{◌≡◌, ◌<◌, [], Err, sym, ap, subst, ◌∙◌, arith}
 use Rattle.std.proofs.lemmas.Option.{none-some}
 use Rattle.std.specs.Prelude.{option_map}
 use Rattle.ssa_model.specs.definitions.Body.{flat}
@@ -7,7 +7,7 @@ use Rattle.ssa_model.specs.definitions.Limits.{most_places}
 use Rattle.ssa_model.specs.definitions.PathMap.{size}
 use Rattle.ssa_model.proofs.FlatOfShown.{flat_of_shown}
 use Rattle.ssa_model.proofs.ShownFits.{shown_fits}
-use Rattle.ssa_schema.specs.Finds.{told, told_view}
+use Rattle.ssa_schema.specs.Finds.{told}
 use Rattle.ssa_schema.specs.Refusals.{first_of}
 use Rattle.ssa_typed.specs.Reads.{ReadsBody}
 use Rattle.ssa_json.specs.View.{view}
