@@ -3,7 +3,8 @@
  * REFUSE_FROM=N each such call on the same from it on, meets what REFUSE_HOW says: the number of an error, with which the call is refused;
  * `killed` or `done_and_killed`, where the process is killed before or after the call; `nothing`, where a read or a write
  * answers that it moved no byte; `one`, where it moves one at most. With REFUSE_REPORT=FILE a line is added there for each
- * call: its number, its name and what it is on, a path or a number of standard input, output or error. For use with LD_PRELOAD. */
+ * call: its name, what it gave, and what it is on, a path or a number of standard input, output or error. For use with
+ * LD_PRELOAD. */
 #define _GNU_SOURCE
 #include <errno.h>
 #include <fcntl.h>
@@ -47,13 +48,8 @@ static void end(void) {
 
 /* Counts a call, and whether it is the one. */
 static int meets(const char *kind, const char *on) {
-    char line[700];
     begin();
     calls++;
-    if (report >= 0) {
-        int n = snprintf(line, sizeof line, "%ld %s %s\n", calls, kind, on);
-        syscall(SYS_write, report, line, n);
-    }
     if (from > 0 && calls >= from) {
         if (calls == from) {
             kind_from = kind;
@@ -73,15 +69,22 @@ static int refuses(int met) {
     return 1;
 }
 
-static long ended(int met, long result) {
+/* What a call gives, which is reported. */
+static long ended(int met, const char *kind, const char *on, long result) {
     if (met && strcmp(how, "done_and_killed") == 0) end();
+    if (report >= 0) {
+        char line[700];
+        int kept = errno, n = snprintf(line, sizeof line, "%s %ld %s\n", kind, result, on);
+        syscall(SYS_write, report, line, n);
+        errno = kept;
+    }
     return result;
 }
 
 static int opened(int dir, const char *path, int flags, int mode) {
     int met = meets("open", path);
     if (refuses(met)) return -1;
-    int fd = ended(met, syscall(SYS_openat, dir, path, flags, mode));
+    int fd = ended(met, "open", path, syscall(SYS_openat, dir, path, flags, mode));
     if (fd >= 0 && fd < MOST) snprintf(names[fd], sizeof names[fd], "%s", path);
     return fd;
 }
@@ -103,14 +106,14 @@ ssize_t read(int fd, void *bytes, size_t n) {
     int met = meets("read", named(fd));
     if (refuses(met)) return -1;
     n = share(met, n);
-    return n == 0 ? 0 : ended(met, syscall(SYS_read, fd, bytes, n));
+    return ended(met, "read", named(fd), n == 0 ? 0 : syscall(SYS_read, fd, bytes, n));
 }
 
 ssize_t write(int fd, const void *bytes, size_t n) {
     int met = meets("write", named(fd));
     if (refuses(met)) return -1;
     n = share(met, n);
-    return n == 0 ? 0 : ended(met, syscall(SYS_write, fd, bytes, n));
+    return ended(met, "write", named(fd), n == 0 ? 0 : syscall(SYS_write, fd, bytes, n));
 }
 
 ssize_t writev(int fd, const struct iovec *parts, int count) {
@@ -128,7 +131,7 @@ ssize_t readv(int fd, const struct iovec *parts, int count) {
 static int on_file(const char *kind, long call, int fd) {
     int met = meets(kind, named(fd));
     if (refuses(met)) return -1;
-    return ended(met, syscall(call, fd));
+    return ended(met, kind, named(fd), syscall(call, fd));
 }
 
 int fsync(int fd) { return on_file("fsync", SYS_fsync, fd); }
@@ -136,24 +139,22 @@ int fdatasync(int fd) { return on_file("fsync", SYS_fdatasync, fd); }
 
 int close(int fd) {
     int met = meets("close", named(fd));
+    /* (a close that tells an error has closed the file) */
+    int refused = refuses(met), kept = errno;
+    long result = ended(met, "close", named(fd), syscall(SYS_close, fd));
     if (fd >= 0 && fd < MOST) names[fd][0] = 0;
-    if (met) {
-        int refused = refuses(met), kept = errno;
-        ended(met, syscall(SYS_close, fd));
-        errno = kept;
-        return refused ? -1 : 0;
-    }
-    return syscall(SYS_close, fd);
+    if (refused) errno = kept;
+    return refused ? -1 : result;
 }
 
 int rename(const char *old, const char *new) {
     int met = meets("rename", old);
     if (refuses(met)) return -1;
-    return ended(met, syscall(SYS_renameat2, AT_FDCWD, old, AT_FDCWD, new, 0));
+    return ended(met, "rename", old, syscall(SYS_renameat2, AT_FDCWD, old, AT_FDCWD, new, 0));
 }
 
 int unlink(const char *path) {
     int met = meets("unlink", path);
     if (refuses(met)) return -1;
-    return ended(met, syscall(SYS_unlinkat, AT_FDCWD, path, 0));
+    return ended(met, "unlink", path, syscall(SYS_unlinkat, AT_FDCWD, path, 0));
 }
