@@ -15,8 +15,8 @@ static uint64_t folded(uint64_t a, uint64_t b) {
     return (uint64_t)product ^ (uint64_t)(product >> 64);
 }
 
-/* What the hasher has after one more byte: keys of bytes are hashed byte by byte. */
-static uint64_t after(uint64_t state, unsigned char byte) { return folded(state ^ byte, multiplier ^ 2); }
+/* What the hasher has after one more byte: keys of bytes are hashed byte by byte, each as three. */
+static uint64_t after(uint64_t state, unsigned char byte) { return folded(state ^ byte * UINT64_C(0x010101), multiplier ^ 2); }
 
 int main(int argc, char **argv) {
     long count = argc > 1 ? atol(argv[1]) : 0;
