@@ -119,7 +119,16 @@ fn whole_lines(alloc: Global, bytes: &[u8]) -> (Result<(), SessionFault>, Vec<u8
 }
 
 // The replies to the whole lines of `ab`, an empty line and `cd`, of which so many bytes were read.
-const ANSWERED_BEFORE: [&str; 8] = ["", "", "", "ab\n", "ab\n\n", "ab\n\n", "ab\n\n", "ab\n\ncd\n"];
+const ANSWERED_BEFORE: [&str; 8] = [
+    "",
+    "",
+    "",
+    "ab\n",
+    "ab\n\n",
+    "ab\n\n",
+    "ab\n\n",
+    "ab\n\ncd\n",
+];
 
 #[test]
 fn a_reader_that_fails_has_its_whole_lines_answered(rt: HostRuntime) {
