@@ -70,6 +70,7 @@ pub fn push_unread(alloc: Global, text: &mut Vec<u8>, bytes: &[u8]) -> Result<()
             }
             Ok(())
         }
+        Err(fault) if fault.is_memory() => Err(AllocError),
         Err(fault) => {
             let (line, column) = (fault.line(), fault.column());
             let told = format!(in alloc; "no JSON at line {line}, column {column}")?;

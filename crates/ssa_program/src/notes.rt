@@ -11,6 +11,7 @@ use ssa_explain::json::push_unread;
 use ssa_explain::path::push_refused_element;
 use ssa_explain::way::push_member;
 use ssa_file::saving::write_text;
+use ssa_json::fault::JsonFault;
 use ssa_json::sink::Sink;
 use ssa_json::value::Json;
 use ssa_schema::schema::Schema;
@@ -176,6 +177,7 @@ fn path_lines(alloc: Global, path: &[u8]) -> Result<Vec<u8>, AllocError> {
             push_refused_element(alloc, &mut text, &value)?;
             ended(text)
         }
+        Err(JsonFault::OutOfMemory) => Err(AllocError),
         Err(_) => unread_line(alloc, "PATH", path),
     }
 }
@@ -197,6 +199,7 @@ fn command_lines(
         Err(AskedFault::Line(LineFault::BadMoment)) => {
             b"ssabench: --at is no moment such as 2024-05-01T10:00:01Z\n".to_vec(alloc)
         }
+        Err(AskedFault::Line(LineFault::OutOfMemory)) => Err(AllocError),
         Err(_) => unread_line(alloc, name, object),
     }
 }

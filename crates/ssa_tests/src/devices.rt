@@ -1,10 +1,12 @@
-//! Devices that fail, that take one byte at a time, and that tell when they are flushed.
+//! Devices that fail or take nothing, that take one byte at a time, and that tell when they are flushed.
 ghost use Rattle.std.specs.Prelude.{◌≡◌, length, None, false, IsTrue, IsErr};
 ghost use Rattle.ssa_json.specs.Devices.{is_fault};
 
 use ssa_json::sink::Sink;
 use ssa_json::source::{DeviceFault, Source};
 use std::alloc::Global;
+use std::io;
+use std::io::{ErrorKind, Write};
 
 /// Lends two bytes at a time, and fails in place of its end.
 #[derive(Drop)]
@@ -108,5 +110,56 @@ impl Sink for Marks {
         self.take(b'|')?;
         self.is_handed_on = true;
         Ok(())
+    }
+}
+
+/// A `std` writer that takes one byte at a call, until it has been called so often; then it fails, or takes nothing of what it
+/// is to write.
+#[derive(Drop)]
+pub struct Falters {
+    bytes: Vec<u8>,
+    calls_left: usize,
+    takes_nothing: bool,
+}
+
+impl Falters {
+    pub fn new(alloc: Global, calls_left: usize, takes_nothing: bool) -> Falters {
+        Falters {
+            bytes: Vec::new(alloc),
+            calls_left,
+            takes_nothing,
+        }
+    }
+
+    /// What was written.
+    pub fn into_bytes(self) -> Vec<u8> {
+        self.bytes
+    }
+
+    // Counts a call.
+    fn turn(&mut self) -> io::Result<()> {
+        if self.calls_left == 0 {
+            return Err(io::Error::from(ErrorKind::TimedOut));
+        }
+        self.calls_left -= 1;
+        Ok(())
+    }
+}
+
+impl Write for Falters {
+    fn write(&mut self, buf: &[u8]) -> io::Result<usize> {
+        if self.takes_nothing && self.calls_left == 0 {
+            return Ok(0);
+        }
+        self.turn()?;
+        let Some(byte) = buf.first() else {
+            return Ok(0);
+        };
+        self.bytes.push(*byte)?;
+        Ok(1)
+    }
+
+    fn flush(&mut self) -> io::Result<()> {
+        self.turn()
     }
 }
