@@ -29,7 +29,7 @@ use Rattle.ssa_typed.specs.Over.{AreAlikeTrees}
 use Rattle.ssa_typed.specs.Reads.{IsTreeRead}
 use Rattle.ssa_typed.specs.Rows.{body_of, rows}
 use Rattle.ssa_typed.specs.declared.node.Node.{Node}
-use Rattle.ssa_typed.proofs.Alike.{bodies_alike}
+use Rattle.ssa_typed.proofs.OneSort.{bodies_alike}
 use Rattle.ssa_typed.proofs.AnyTree.{tree-root}
 use Rattle.ssa_typed.proofs.Looks.{get-body}
 use Rattle.ssa_typed.proofs.Sizes.{size-body}

@@ -5,7 +5,7 @@ use Rattle.ssa_model.specs.definitions.Record.{body_record}
 use Rattle.ssa_model.specs.definitions.Valid.{IsValidBody}
 use Rattle.ssa_model.proofs.BodyLeads.{bodies_are_trees}
 use Rattle.ssa_json.specs.View.{view}
-use Rattle.ssa_typed.proofs.Alike.{bodies_alike}
+use Rattle.ssa_typed.proofs.OneSort.{bodies_alike}
 use Rattle.ssa_record.specs.LedBodies.{IsThis}
 use Rattle.ssa_record.specs.LedValues.{IsGiven}
 use Rattle.ssa_record.proofs.LedBodies.{lawful-ordered}
