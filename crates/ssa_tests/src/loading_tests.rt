@@ -1,7 +1,7 @@
 //! Bench files that are taken again, and those that are none.
 
 use crate::devices::Breaks;
-use crate::sample::{answers, bench_file, undone_file};
+use crate::sample::{answers, bench, bench_file, line, undone_file, web};
 use ssa_bench::bench::Bench;
 use ssa_file::loading::LoadFault;
 use ssa_json::reader::OfReader;
@@ -56,6 +56,65 @@ fn a_loaded_command_is_undone(rt: HostRuntime) -> Result<(), Fail> {
     Ok(())
 }
 
+// Members of an object, and others in one place of which alone something changes: a leaf of a record, of
+// an item of a list and of a map, more than one leaf, and items that come and move.
+const CHANGES: [(&str, &str); 6] = [
+    (",\"spec\":{\"image\":\"a\"}", ",\"spec\":{\"image\":\"b\"}"),
+    (
+        ",\"spec\":{\"ports\":[{\"name\":\"http\",\"port\":80},{\"name\":\"https\",\"port\":443}]}",
+        ",\"spec\":{\"ports\":[{\"name\":\"http\",\"port\":80},{\"name\":\"https\",\"port\":444}]}",
+    ),
+    (
+        ",\"spec\":{\"env\":{\"A\":\"1\",\"B\":\"2\"}}",
+        ",\"spec\":{\"env\":{\"A\":\"1\",\"B\":\"3\"}}",
+    ),
+    (
+        ",\"spec\":{\"image\":\"a\",\"replicas\":1}",
+        ",\"spec\":{\"image\":\"b\",\"replicas\":2}",
+    ),
+    (
+        ",\"spec\":{\"hosts\":[\"a\",\"b\"]}",
+        ",\"spec\":{\"hosts\":[\"c\",\"a\",\"b\"]}",
+    ),
+    (
+        ",\"spec\":{\"args\":[\"a\"]}",
+        ",\"spec\":{\"args\":[\"a\",\"b\"]}",
+    ),
+];
+
+// The file of a bench on which one manager applied an object with these members, and then with others.
+fn changed_file(alloc: Global, before: &str, after: &str) -> Result<Vec<u8>, Fail> {
+    let mut live = bench(alloc)?;
+    let first = line(alloc, "apply", "kubectl", web(alloc, "", before)?.as_str())?;
+    let second = line(alloc, "apply", "kubectl", web(alloc, "", after)?.as_str())?;
+    let lines = [first.as_str(), "\n", second.as_str(), "\n"].concat(alloc)?;
+    answers(alloc, &mut live, lines.as_str())?;
+    saved(alloc, &live)
+}
+
+// Whether the file is taken as a bench with the same file, and that bench's after an undo too.
+fn is_taken(alloc: Global, file: &[u8]) -> Result<bool, Fail> {
+    let mut reader = OfReader::new(file);
+    let Ok(mut live) = Bench::load(alloc, &mut reader) else {
+        return Ok(false);
+    };
+    let same = saved(alloc, &live)?;
+    answers(alloc, &mut live, "{\"do\":\"undo\"}\n")?;
+    let undone = saved(alloc, &live)?;
+    let mut reader = OfReader::new(undone.as_slice());
+    Ok(same.as_slice() == file && Bench::load(alloc, &mut reader).is_ok())
+}
+
+#[test]
+fn what_changes_in_one_place_is_loaded(rt: HostRuntime) -> Result<(), Fail> {
+    for (before, after) in &CHANGES {
+        let file = changed_file(rt.alloc(), before, after)?;
+        let taken = is_taken(rt.alloc(), file.as_slice())?;
+        assert!(rt; taken, "after {after}");
+    }
+    Ok(())
+}
+
 // Parts of the file, and others in their place, with which it is not the text of a bench.
 const DAMAGES: [(&str, &str); 19] = [
     ("\"past\":1", "\"past\":2"),
@@ -83,7 +142,7 @@ const DAMAGES: [(&str, &str); 19] = [
 ];
 
 // Others with which a record is none from its state to a valid one.
-const MISFITS: [(&str, &str); 10] = [
+const MISFITS: [(&str, &str); 11] = [
     ("\"cut\":[[\"f:spec\"]]", "\"cut\":[[\"f:nothing\"]]"),
     ("\"gone\":[[\"kubectl\",\"Apply\"]]", "\"gone\":[]"),
     (
@@ -103,6 +162,11 @@ const MISFITS: [(&str, &str); 10] = [
     (
         "\"cut\":[[\"f:spec\"]],\"gone\":[[\"kubectl\",\"Apply\"]],\"here\":[],\"leaves\":[]",
         "\"cut\":[],\"gone\":[],\"here\":[],\"leaves\":[[[\"f:spec\",\"f:image\"],1]]",
+    ),
+    // a leaf that isn't there
+    (
+        "\"cut\":[[\"f:spec\"]],\"gone\":[[\"kubectl\",\"Apply\"]],\"here\":[],\"leaves\":[]",
+        "\"cut\":[],\"gone\":[],\"here\":[],\"leaves\":[[[\"f:spec\",\"f:replicas\"],1]]",
     ),
     ("\"put\":[]", "\"put\":[[[\"f:nothing\"],1]]"),
     ("\"put\":[]", "\"put\":[[[\"f:spec\"],{\"image\":\"a\"}]]"),
