@@ -31,3 +31,4 @@ mod Spots
 mod StepsThere
 mod Touched
 mod WithinPlaces
+mod Stands

@@ -12,6 +12,7 @@ pub mod Shapes
 pub mod Spots
 pub mod TableTests
 pub mod Telling
+pub mod Standing
 pub mod Told
 pub mod ToldEntries
 pub mod LineValues

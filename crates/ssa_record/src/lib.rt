@@ -19,6 +19,7 @@ pub mod places;
 pub mod read_record;
 pub mod reading_said;
 pub mod spot;
+pub mod standing;
 pub mod steps_there;
 mod table_reading;
 pub mod told;

@@ -1,6 +1,6 @@
 //! What is told of a body, put by whole paths.
 ghost use Rattle.std.specs.Prelude.{◌≡◌, ◌∷◌, [], ◌++◌, map, IfOk, OnOk, option_map};
-ghost use Rattle.ssa_model.specs.definitions.PathMap.{get, has, insert, marked};
+ghost use Rattle.ssa_model.specs.definitions.PathMap.{get, has, marked};
 ghost use Rattle.ssa_json.specs.View.{view};
 ghost use Rattle.ssa_path.specs.TopPaths.{lent_path};
 ghost use Rattle.ssa_path.specs.View.{element_view, path_view};
@@ -18,12 +18,6 @@ use ssa_path::path::Path;
 use ssa_path::top_path::LentPath;
 use std::alloc::{AllocError, Global};
 
-// The most elements of a path of which anything is told.
-const MOST_ELEMENTS: usize = 1_000;
-
-// The most paths that a member of a record tells of.
-const MOST_PATHS: usize = 20_000;
-
 // The path itself, with none behind it.
 fn lent(path: &Path) -> LentPath<'_>
     ensures { lent_path result ≡ path.now }
@@ -32,17 +26,6 @@ fn lent(path: &Path) -> LentPath<'_>
         place: path.elements(),
         last: None,
     }
-}
-
-// Adds a path to those of which anything is told. For a path of more elements memory is refused: the set would be so deep
-// that a walk over it takes more of the stack than there may be. A body's paths have 31 elements at most.
-fn touch(alloc: Global, path: &Path, touched: &mut FieldSet) -> Result<(), AllocError>
-    ensures { OnOk result (touched.new ≡ insert path.now tt touched.old) }
-{
-    if path.elements().len() > MOST_ELEMENTS {
-        return Err(AllocError);
-    }
-    touched.insert(alloc, path)
 }
 
 // The paths that are cut. Each is added to those of which anything is told.
@@ -56,7 +39,7 @@ fn cut_told<'a>(
 {
     let mut told = Vec::with_capacity(alloc, cut.len())?;
     for path in cut {
-        touch(alloc, path, touched)?;
+        touched.insert(alloc, path)?;
         told.push((lent(path), ()))?;
     }
     Ok(told)
@@ -73,7 +56,7 @@ fn leaves_told<'a>(
 {
     let mut told = Vec::with_capacity(alloc, leaves.len())?;
     for leaf in leaves {
-        touch(alloc, &leaf.path, touched)?;
+        touched.insert(alloc, &leaf.path)?;
         told.push((lent(&leaf.path), &leaf.value))?;
     }
     Ok(told)
@@ -90,7 +73,7 @@ fn orders_told<'a>(
 {
     let mut told = Vec::with_capacity(alloc, orders.len())?;
     for order in orders {
-        touch(alloc, &order.path, touched)?;
+        touched.insert(alloc, &order.path)?;
         told.push((lent(&order.path), order.items.as_slice()))?;
     }
     Ok(told)
@@ -107,29 +90,16 @@ fn puts_told<'a>(
 {
     let mut told = Vec::with_capacity(alloc, puts.len())?;
     for put in puts {
-        touch(alloc, &put.path, touched)?;
+        touched.insert(alloc, &put.path)?;
         told.push((lent(&put.path), put))?;
     }
     Ok(told)
 }
 
-// Whether more paths are told than a body has: to add them, in whatever order, would take the square of their number.
-fn are_too_many(told: &ToldBody) -> bool {
-    told.cut.len() > MOST_PATHS
-        || told.leaves.len() > MOST_PATHS
-        || told.order.len() > MOST_PATHS
-        || told.put.len() > MOST_PATHS
-}
-
 /// What is told of a body, by whole paths. Takes about n log n comparisons of paths.
-///
-/// Memory is refused for a record that tells of longer paths, or of more of them, than any body has: it fits none.
 pub fn places_told<'a>(alloc: Global, told: &'a ToldBody) -> Result<ToldPlaces<'a>, AllocError>
     ensures { IfOk result (λ t. maps_of t ≡ maps_told (told_body told.now)) }
 {
-    if are_too_many(told) {
-        return Err(AllocError);
-    }
     let mut touched = FieldSet::new(alloc);
     let cut = cut_told(alloc, &told.cut, &mut touched)?;
     let leaves = leaves_told(alloc, &told.leaves, &mut touched)?;

@@ -9,6 +9,6 @@ use Rattle.ssa_record.proofs.told_places.leaves_told.Goals as goal
 pub loop-leaf-preserved : goal.loop-leaf-preserved
 loop-leaf-preserved c =
     read-more told_leaf (λ (v : Bor Json). view v.now) c.args.leaves.now c.loop-leaf.leaf-index c.leaf-item.result c.args.touched.now c.loop-leaf.touched
-    c.touch.new.touched c.loop-leaf.told.items c.push.new.self.items _
-    (omega arith) c.leaf-item.is c.loop-leaf.invariant c.in_ok-touch.ensures c.in_ok-push.ensures.items
+    c.insert.new.self c.loop-leaf.told.items c.push.new.self.items _
+    (omega arith) c.leaf-item.is c.loop-leaf.invariant c.in_ok-insert.ensures.ok c.in_ok-push.ensures.items
     (λ i. (c.lent.ensures i, view c.leaf-item.result.value))

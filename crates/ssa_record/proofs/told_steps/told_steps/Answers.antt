@@ -1,7 +1,9 @@
-use Rattle.std.proofs.Common.{◌≡◌, [], sym, ap, subst}
+use Rattle.std.proofs.Common.{◌≡◌, ◌∙◌, [], sym, ap, subst, true≢false}
 use Rattle.ssa_path.specs.View.{path_view}
 use Rattle.ssa_record.specs.Places.{maps_of, AllTouched}
 use Rattle.ssa_record.specs.Spots.{IsSpot}
+use Rattle.ssa_record.specs.Standing.{stand}
+use Rattle.ssa_record.proofs.Stands.{told-stands}
 use Rattle.ssa_record.specs.Told.{told_body}
 use Rattle.ssa_record.specs.declared.spot.Spot.{Spot}
 use Rattle.ssa_record.proofs.LedBodies.{root-touched}
@@ -24,3 +26,8 @@ steps_there-requires-clause-spot c =
 
 pub steps_of_whole-requires-clause-all : goal.steps_of_whole-requires-clause-all
 steps_of_whole-requires-clause-all c = subst AllTouched (sym c.in_ok-places.ensures) (all-touched (told_body c.args.told.now))
+
+pub returns-then-not-told_stands-clause-whole : goal.returns-then-not-told_stands-clause-whole
+returns-then-not-told_stands-clause-whole c =
+    let v = c.args.body.now in
+    λ d w takes valid told. true≢false (sym (c.told_stands.ensures ∙ ap (stand v) told ∙ told-stands c.args.schema.now.kind d v w takes) ∙ c.if-not-told_stands.true)

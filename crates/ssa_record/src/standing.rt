@@ -1,0 +1,87 @@
+//! Whether what is told of a body is told where the body has something.
+ghost use Rattle.std.specs.Prelude.{◌≡◌, ◌&&◌};
+ghost use Rattle.std.specs.List.{list_all};
+ghost use Rattle.ssa_model.specs.definitions.Path.{parent};
+ghost use Rattle.ssa_model.specs.definitions.PathMap.{has};
+ghost use Rattle.ssa_record.specs.Standing.{stand, stands};
+ghost use Rattle.ssa_record.specs.Told.{told_body};
+
+use crate::told::{ToldBody, ToldLeaf, ToldOrder, ToldPut};
+use ssa_path::path::Path;
+use ssa_typed::body::Body;
+
+// Whether the body has the path's parent.
+fn has_parent(body: &Body, path: &Path) -> bool
+    ensures { result ≡ stands body.now path.now }
+{
+    let elements = path.elements();
+    let above = elements.len().saturating_sub(1);
+    body.root().node_at(&elements[..above]).is_some()
+}
+
+// Whether the body has the parent of each path that is cut.
+fn cut_stands(body: &Body, cut: &[Path]) -> bool
+    ensures { result ≡ list_all (stands body.now) cut.now }
+{
+    for path in cut {
+        if !has_parent(body, path) {
+            return false;
+        }
+    }
+    true
+}
+
+// Whether the body has the parent of each leaf.
+fn leaves_stand(body: &Body, leaves: &[ToldLeaf]) -> bool
+    ensures { result ≡ list_all (λ e. stands body.now e.path) leaves.now }
+{
+    for leaf in leaves {
+        if !has_parent(body, &leaf.path) {
+            return false;
+        }
+    }
+    true
+}
+
+// Whether the body has the parent of each list whose order changes.
+fn orders_stand(body: &Body, orders: &[ToldOrder]) -> bool
+    ensures { result ≡ list_all (λ e. stands body.now e.path) orders.now }
+{
+    for order in orders {
+        if !has_parent(body, &order.path) {
+            return false;
+        }
+    }
+    true
+}
+
+// Whether the body has the parent of each path that something is put at.
+fn puts_stand(body: &Body, puts: &[ToldPut]) -> bool
+    ensures { result ≡ list_all (λ e. stands body.now e.path) puts.now }
+{
+    for put in puts {
+        if !has_parent(body, &put.path) {
+            return false;
+        }
+    }
+    true
+}
+
+/// Whether the body has the parent of each path of which something is told, as it has where what is
+/// told is a record of it. Takes no memory.
+///
+/// So no path of what is told is longer than the body's by more than one element.
+pub fn told_stands(body: &Body, told: &ToldBody) -> bool
+    ensures { result ≡ stand body.now (told_body told.now) }
+{
+    if !cut_stands(body, &told.cut) {
+        return false;
+    }
+    if !leaves_stand(body, &told.leaves) {
+        return false;
+    }
+    if !orders_stand(body, &told.order) {
+        return false;
+    }
+    puts_stand(body, &told.put)
+}
