@@ -1,19 +1,22 @@
 -- What a record tells of a body is told where the body has something.
 use Rattle.std.proofs.Common.{◌≡◌, ℕ, suc, ◌-◌, List, [], ◌∷◌, map, take, length, Bool, true, false, not, ◌&&◌, cond, Option, Some, None, refl, sym, ap, ◌∙◌, arith, true≢false}
 use Rattle.std.proofs.Common.{◌++◌}
-use Rattle.std.specs.Prelude.{is_some, if◌then◌else◌, IfNone, IfSome}
+use Rattle.std.specs.Prelude.{is_some, if◌then◌else◌, nat_le, ◌≤◌, ◌+◌, IfNone, IfSome}
 use Rattle.std.specs.Borrow.{Bor}
-use Rattle.std.proofs.lemmas.List.{append-nil}
+use Rattle.std.proofs.lemmas.List.{append-nil, length-map}
 use Rattle.std.specs.Cmp.{second_so, first_so}
 use Rattle.std.specs.FinMap.Entries.{find}
 use Rattle.std.specs.List.{list_all}
-use Rattle.std.proofs.lemmas.Bool.{and_from}
+use Rattle.std.proofs.lemmas.Bool.{and_from, le-leb}
 use Rattle.std.proofs.lemmas.List.Folds.{list_all-map}
 use Rattle.ssa_model.specs.definitions.Body.{Body}
 use Rattle.ssa_model.specs.definitions.Fitting.{IsBodyOf}
+use Rattle.ssa_model.proofs.MapEntries.{counted, size-map}
+use Rattle.ssa_model.proofs.Sums.{total}
 use Rattle.ssa_model.specs.definitions.Kind.{Kind}
+use Rattle.ssa_model.specs.definitions.Limits.{most_places}
 use Rattle.ssa_model.specs.definitions.Path.{Path, parent, path_cmp, same_element, under}
-use Rattle.ssa_model.specs.definitions.PathMap.{PathMap, get, has, map_of, paths}
+use Rattle.ssa_model.specs.definitions.PathMap.{PathMap, get, has, map_of, paths, size}
 use Rattle.ssa_model.specs.definitions.Record.{BodyRecord, body_record, cuts, is_top, new_leaf, new_leaves, new_order, new_orders, part_at, puts}
 use Rattle.ssa_model.specs.definitions.Takes.{BodyTakes}
 use Rattle.ssa_model.proofs.BodyLeads.{get-cuts}
@@ -26,7 +29,7 @@ use Rattle.ssa_typed.specs.Rows.{body_of, content_at, rows}
 use Rattle.ssa_typed.specs.declared.node.Node.{Node}
 use Rattle.ssa_typed.proofs.Lookups.{content-root}
 use Rattle.ssa_typed.proofs.Looks.{get-body}
-use Rattle.ssa_record.specs.Standing.{stand, stands}
+use Rattle.ssa_record.specs.Standing.{are_few, stand, stands}
 use Rattle.ssa_record.specs.Told.{leaf_of, put_of, told_body, told_leaf, told_of, told_order, told_put}
 use Rattle.ssa_record.specs.declared.told.ToldBody.{ToldBody}
 
@@ -118,3 +121,34 @@ told-parts v t a b c d cut leaves order put =
     let map_order = order ∙ sym (list_all-map (λ e. stands v e.0) told_order t.order.items) in
     let map_put = put ∙ sym (list_all-map (λ e. stands v e.0) told_put t.put.items) in
     λ i. cut i && (map_leaves i && (map_order i && map_put i))
+
+-- ---- how much is told
+
+counted-one : {Y : Type 0} (o : Option Y) → counted (λ (y : Y). 1) o ≤ 1
+counted-one None = omega arith
+counted-one (Some y) = omega arith
+
+total-most : {Y : Type 0} (f : Path → Option Y) (ps : List Path) → total (λ p. counted (λ (y : Y). 1) (f p)) ps ≤ length ps
+total-most f [] = omega arith
+total-most f (p ∷ ps) = let one = counted-one (f p) in let rest = total-most f ps in omega arith
+
+-- a map over a body's paths has no more than the body
+few-over : {X Y : Type 0} (m : PathMap X) (f : Path → Option Y) → size m ≤ most_places → nat_le (size (map_of (paths m) f)) most_places ≡ true
+few-over m f few =
+    let most = total-most f (paths m) in
+    let is = size-map m f in
+    let many = length-map m.entries (λ e. e.0) in
+    le-leb _ _ (omega arith)
+
+few-map : {X Y : Type 0} (f : X → Y) (xs : List X) → nat_le (length xs) most_places ≡ true → nat_le (length (map f xs)) most_places ≡ true
+few-map f xs h = ap (λ n. nat_le n most_places) (length-map xs f) ∙ h
+
+-- what is told as the record of two valid bodies is no more than a body may have
+pub told-few : (kind : Kind) (d : BodyRecord) (v w : Body) → BodyTakes kind d v w → size v ≤ most_places → size w ≤ most_places → are_few (told_of kind d) ≡ true
+told-few kind d v w h before after =
+    let r = body_record v w in
+    let cut = few-map (λ e. e.0) r.cut.entries (few-over v (λ p. cond (is_top w p) (Some tt) None) before) in
+    let leaves = few-map leaf_of r.leaves.entries (few-over v (λ p. new_leaf (get v p) (get w p)) before) in
+    let order = few-over v (λ p. new_order (get v p) (get w p)) before in
+    let put = few-map (put_of kind) r.put.entries (few-over w (λ p. if is_top v p then Some (part_at w p) else None) after) in
+    ap (λ x. are_few (told_of kind x)) h.is ∙ and_from _ _ cut (and_from _ _ leaves (and_from _ _ order put))

@@ -1,7 +1,8 @@
--- Whether a record is told where the body has something.
-use Rattle.std.specs.Prelude.{Bool, ◌&&◌}
+-- Whether a record is told where the body has something, and tells no more than a body has.
+use Rattle.std.specs.Prelude.{Bool, ◌&&◌, length, nat_le}
 use Rattle.std.specs.List.{list_all}
 use Rattle.ssa_model.specs.definitions.Body.{Body}
+use Rattle.ssa_model.specs.definitions.Limits.{most_places}
 use Rattle.ssa_model.specs.definitions.Path.{Path, parent}
 use Rattle.ssa_model.specs.definitions.PathMap.{has}
 use Rattle.ssa_record.specs.Told.{BodyTold}
@@ -14,3 +15,7 @@ stands v p = has v (parent p)
 abbrev pub stand : Body → BodyTold → Bool
 stand v t =
     list_all (stands v) t.cut && (list_all (λ e. stands v e.0) t.leaves && (list_all (λ e. stands v e.0) t.order && list_all (λ e. stands v e.0) t.put))
+
+-- no list has more paths than a body may have places
+abbrev pub are_few : BodyTold → Bool
+are_few t = nat_le (length t.cut) most_places && (nat_le (length t.leaves) most_places && (nat_le (length t.order) most_places && nat_le (length t.put) most_places))

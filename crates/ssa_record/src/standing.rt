@@ -1,14 +1,13 @@
-//! Whether what is told of a body is told where the body has something.
-ghost use Rattle.std.specs.Prelude.{◌≡◌, ◌&&◌};
+//! Whether what is told of a body is told where the body has something, and no more than a body has.
+ghost use Rattle.std.specs.Prelude.{◌≡◌, nat_le};
 ghost use Rattle.std.specs.List.{list_all};
-ghost use Rattle.ssa_model.specs.definitions.Path.{parent};
-ghost use Rattle.ssa_model.specs.definitions.PathMap.{has};
-ghost use Rattle.ssa_record.specs.Standing.{stand, stands};
+ghost use Rattle.ssa_model.specs.definitions.Limits.{most_places};
+ghost use Rattle.ssa_record.specs.Standing.{are_few, stand, stands};
 ghost use Rattle.ssa_record.specs.Told.{told_body};
 
 use crate::told::{ToldBody, ToldLeaf, ToldOrder, ToldPut};
 use ssa_path::path::Path;
-use ssa_typed::body::Body;
+use ssa_typed::body::{Body, MOST_PLACES};
 
 // Whether the body has the path's parent.
 fn has_parent(body: &Body, path: &Path) -> bool
@@ -84,4 +83,31 @@ pub fn told_stands(body: &Body, told: &ToldBody) -> bool
         return false;
     }
     puts_stand(body, &told.put)
+}
+
+// Whether a body may have so many places.
+fn is_few(places: usize) -> bool
+    ensures { result ≡ nat_le places most_places }
+{
+    places <= MOST_PLACES
+}
+
+/// Whether no list of what is told has more paths than a body may have places, as none has where what
+/// is told is a record of two valid bodies. Takes no memory.
+///
+/// So putting the paths by their elements, in whatever order they are told, takes no more than that
+/// many steps for a path.
+pub fn told_are_few(told: &ToldBody) -> bool
+    ensures { result ≡ are_few (told_body told.now) }
+{
+    if !is_few(told.cut.len()) {
+        return false;
+    }
+    if !is_few(told.leaves.len()) {
+        return false;
+    }
+    if !is_few(told.order.len()) {
+        return false;
+    }
+    is_few(told.put.len())
 }

@@ -15,7 +15,7 @@ ghost use Rattle.ssa_record.specs.Told.{told_body, told_of};
 use crate::led_value::led_value;
 use crate::places::ToldPlaces;
 use crate::spot::Spot;
-use crate::standing::told_stands;
+use crate::standing::{told_are_few, told_stands};
 use crate::steps_there::{is_inner, steps_there};
 use crate::told::ToldBody;
 use crate::told_places::places_told;
@@ -97,6 +97,9 @@ pub fn told_steps(
     ensures whole { IfOk result (λ o. (d : BodyRecord) (w : Body) → BodyTakes schema.now.kind d body.now w → IsValidBody schema.now.kind w
         → told_body told.now ≡ told_of schema.now.kind d → IsSaid o d) }
 {
+    if !told_are_few(told) {
+        return Ok(None);
+    }
     if !told_stands(body, told) {
         return Ok(None);
     }

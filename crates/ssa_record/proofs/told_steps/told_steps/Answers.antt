@@ -2,8 +2,8 @@ use Rattle.std.proofs.Common.{◌≡◌, ◌∙◌, [], sym, ap, subst, true≢f
 use Rattle.ssa_path.specs.View.{path_view}
 use Rattle.ssa_record.specs.Places.{maps_of, AllTouched}
 use Rattle.ssa_record.specs.Spots.{IsSpot}
-use Rattle.ssa_record.specs.Standing.{stand}
-use Rattle.ssa_record.proofs.Stands.{told-stands}
+use Rattle.ssa_record.specs.Standing.{are_few, stand}
+use Rattle.ssa_record.proofs.Stands.{told-few, told-stands}
 use Rattle.ssa_record.specs.Told.{told_body}
 use Rattle.ssa_record.specs.declared.spot.Spot.{Spot}
 use Rattle.ssa_record.proofs.LedBodies.{root-touched}
@@ -31,3 +31,8 @@ pub returns-then-not-told_stands-clause-whole : goal.returns-then-not-told_stand
 returns-then-not-told_stands-clause-whole c =
     let v = c.args.body.now in
     λ d w takes valid told. true≢false (sym (c.told_stands.ensures ∙ ap (stand v) told ∙ told-stands c.args.schema.now.kind d v w takes) ∙ c.if-not-told_stands.true)
+
+pub returns-then-not-told_are_few-clause-whole : goal.returns-then-not-told_are_few-clause-whole
+returns-then-not-told_are_few-clause-whole c =
+    λ d w takes valid told.
+    true≢false (sym (c.told_are_few.ensures ∙ ap are_few told ∙ told-few c.args.schema.now.kind d c.args.body.now w takes c.requires.few valid.few) ∙ c.if-not-told_are_few.true)
