@@ -10,11 +10,9 @@ use Rattle.ssa_model.specs.definitions.Record.{record_of}
 use Rattle.ssa_model.specs.definitions.Valid.{AllValid, IsValidState}
 use Rattle.ssa_model.specs.laws.RecordSizes.{SizeBound}
 use Rattle.ssa_model.proofs.ValidTimelines.{present_valid}
+use Rattle.ssa_model.proofs.ValidTimelines.{state-valid}
 
--- each state of a valid history is valid
-state-valid : (kind : Kind) (t : Timeline) (n : ℕ) → AllValid kind t → IsValidState kind (state_at t n)
-state-valid kind t n h = present_valid kind (moved_to t n) (record { first = h.first; later = h.later })
-
+-- the n-th record of a valid history holds at most as much as there are facts in which its two states differ
 pub size-within : (kind : Kind) (t : Timeline) (n : ℕ) (r : Option ℕ) → SizeBound → AllValid kind t
     → r ≡ option_map (λ s. min s (2 ^ 64 - 1)) (kept_size t n) → IfSome r (λ s. s ≤ kept_facts t n)
 size-within kind t n r bound valid is = by r (nat_lt n (length t.later)) is

@@ -42,6 +42,7 @@ pub reached-none : (a : Option (List ℕ)) → Reached a a most_bench_bytes (wit
 reached-none None = tt
 reached-none (Some xs) = held-next (after_head readings) (next_value readings most_bench_bytes xs)
 
+-- where a part of the file is read, its reader has reached what stands behind the part
 pub reached-part : {X : Type 0} (take : Json → Option X) (go : X → Reader) (a b c : Option (List ℕ)) (room room_after : ℕ) (x : X)
     → Reached a b room (with_part readings take go) → ReadsPart take b c room room_after (Ok x) → Reached a c room_after (go x)
 reached-part take go None b c room room_after x reached part = tt
@@ -49,6 +50,7 @@ reached-part take go (Some xs) None c room room_after x reached part = absurd re
 reached-part take go (Some xs) (Some ys) c room room_after x reached part =
     subst (λ d. Reached (Some xs) d room_after (go x)) (sym part.left) (reached ∙ part.goes_on go)
 
+-- where moves are read, their reader has reached what stands behind them, with the bench that they lead to
 pub reached-moves : (move : Move) (go : Bench → Reader) (count : ℕ) (a b c : Option (List ℕ)) (room room_after : ℕ) (old new : Bench)
     → Reached a b room (along readings move go count old) → ReadsMoves move count b c room room_after old new (Ok tt) → Reached a c room_after (go new)
 reached-moves move go count None b c room room_after old new reached moves = tt
@@ -61,7 +63,8 @@ reached-moves move go count (Some xs) (Some ys) c room room_after old new reache
 abbrev of_taken : List ℕ → Option Bench → Result Bench MoveFault
 of_taken xs o = elim o [ Some bench ↦ Ok bench | None ↦ Err (recorded_fault readings xs) ]
 
-refused-with : (xs : List ℕ) (f : MoveFault) (o : Option Bench) → recorded_bench_in readings xs ≡ o → RecordedFilesAreTaken → of_taken xs o ≡ Err f → IsRefused xs f
+refused-with : (xs : List ℕ) (f : MoveFault) (o : Option Bench) → recorded_bench_in readings xs ≡ o → RecordedFilesAreTaken → of_taken xs o ≡ Err f
+    → IsRefused xs f
 refused-with xs f (Some bench) is files h = absurd cc
 refused-with xs f None is files h = record {
   taken = is;
@@ -77,27 +80,34 @@ refused-with xs f None is files h = record {
 refused-file : (xs : List ℕ) (f : MoveFault) → FilesAreRead → RecordedFilesAreTaken → file_from readings xs most_bench_bytes ≡ Err f → IsRefused xs f
 refused-file xs f read files h = refused-with xs f (recorded_bench_in readings xs) refl files (sym (read readings xs) ∙ h)
 
+-- where what is left is refused, so is the whole file
 pub reached-refused : (a b c : Option (List ℕ)) (room : ℕ) (reader : Reader) (f : LoadFault) → FilesAreRead → RecordedFilesAreTaken
     → Reached a b room reader → ((ys : List ℕ) → b ≡ Some ys → ReadRefuses f (reader ys room)) → Loads a c (Err f)
 reached-refused None b c room reader f read files reached refused = tt
 reached-refused (Some xs) None c room reader f read files reached refused = absurd reached
 reached-refused (Some xs) (Some ys) c room reader BenchText read files reached refused = refused-file xs no_move_text read files (reached ∙ refused ys refl)
-reached-refused (Some xs) (Some ys) c room reader RecordDoesNotFit read files reached refused = refused-file xs record_does_not_fit read files (reached ∙ refused ys refl)
+reached-refused (Some xs) (Some ys) c room reader RecordDoesNotFit read files reached refused =
+    refused-file xs record_does_not_fit read files (reached ∙ refused ys refl)
 reached-refused (Some xs) (Some ys) c room reader Io read files reached refused = tt
 reached-refused (Some xs) (Some ys) c room reader OutOfMemory read files reached refused = tt
 
-pub part-refused : {X : Type 0} (take : Json → Option X) (go : X → Reader) (a b c : Option (List ℕ)) (room room_after : ℕ) (f : LoadFault) → FilesAreRead → RecordedFilesAreTaken
+-- where a part of the file is refused, so is the whole file
+pub part-refused : {X : Type 0} (take : Json → Option X) (go : X → Reader) (a b c : Option (List ℕ)) (room room_after : ℕ) (f : LoadFault) → FilesAreRead
+    → RecordedFilesAreTaken
     → Reached a b room (with_part readings take go) → ReadsPart take b c room room_after (Err f) → Loads a c (Err f)
 part-refused take go a b c room room_after f read files reached part =
     reached-refused a b c room (with_part readings take go) f read files reached
     (λ ys is. subst (λ o. ReadsPart take o c room room_after (Err f)) is part go)
 
-pub moves-refused : (move : Move) (go : Bench → Reader) (count : ℕ) (a b c : Option (List ℕ)) (room room_after : ℕ) (old new : Bench) (f : LoadFault) → FilesAreRead → RecordedFilesAreTaken
+-- where a move is refused, so is the whole file
+pub moves-refused : (move : Move) (go : Bench → Reader) (count : ℕ) (a b c : Option (List ℕ)) (room room_after : ℕ) (old new : Bench) (f : LoadFault)
+    → FilesAreRead → RecordedFilesAreTaken
     → Reached a b room (along readings move go count old) → ReadsMoves move count b c room room_after old new (Err f) → Loads a c (Err f)
 moves-refused move go count a b c room room_after old new f read files reached moves =
     reached-refused a b c room (along readings move go count old) f read files reached
     (λ ys is. subst (λ o. ReadsMoves move count o c room room_after old new (Err f)) is moves go)
 
+-- where something stands behind the last move, or the source fails there, the whole file is refused
 pub end-refused : (bench : Bench) (a b c : Option (List ℕ)) (room : ℕ) (f : LoadFault) → FilesAreRead → RecordedFilesAreTaken
     → Reached a b room (ended_with readings bench) → ReadsEnd b c room (Err f) → Loads a c (Err f)
 end-refused bench a b c room f read files reached end =
@@ -120,7 +130,9 @@ taken-with xs bench (Some other) h = ap told h
     told (Err g) = None
 taken-with xs bench None h = absurd cc
 
-pub loaded : (bench : Bench) (a b c : Option (List ℕ)) (room : ℕ) → FilesAreRead → TakenIsRecordedText → IsValidBench readings bench → HasReadHistory readings bench.timeline
+-- where the end is reached, the file is loaded: its bench is the one that was read
+pub loaded : (bench : Bench) (a b c : Option (List ℕ)) (room : ℕ) → FilesAreRead → TakenIsRecordedText → IsValidBench readings bench
+    → HasReadHistory readings bench.timeline
     → Reached a b room (ended_with readings bench) → ReadsEnd b c room (Ok tt) → Loads a c (Ok bench)
 loaded bench None b c room read texts valid paths reached end = tt
 loaded bench (Some xs) None c room read texts valid paths reached end = absurd reached

@@ -22,10 +22,6 @@ Went move count done (Some xs) None room room_left old bench = ⊥
 Went move count done (Some xs) (Some ys) room room_left old bench =
     (go : Bench → Reader) → along readings move go count old xs room ≡ along readings move go (count - done) bench ys room_left
 
-pub went-none : (move : Move) (count : ℕ) (a : Option (List ℕ)) (room : ℕ) (bench : Bench) → Went move count 0 a a room room bench bench
-went-none move count None room bench = tt
-went-none move count (Some xs) room bench = λ go. let all : count ≡ count - 0 = omega arith in ap (λ n. along readings move go n bench xs room) all
-
 -- how reading goes on with a line's value
 abbrev Onward : Move → (Bench → Reader) → ℕ → Bench → Json → Reader
 Onward move go n bench v = after_move (λ m. along readings move go n (moved_by move bench m)) (value_move readings bench (present bench.timeline) v)
@@ -33,8 +29,10 @@ Onward move go n bench v = after_move (λ m. along readings move go n (moved_by 
 one-more : (count done : ℕ) → done < count → count - done ≡ suc (count - (done + 1))
 one-more count done less = omega (arith, less)
 
+-- one move more was read: what is read of all is what is read of the rest behind it
 pub went-more : (move : Move) (count done : ℕ) (a b c : Option (List ℕ)) (room room_left room_after : ℕ) (old bench next : Bench) (l : FileLine)
-    → done < count → Went move count done a b room room_left old bench → ReadsLine b c room_left room_after (Ok l) → MovesBy move bench next (Ok tt) (view l.value)
+    → done < count → Went move count done a b room room_left old bench → ReadsLine b c room_left room_after (Ok l)
+    → MovesBy move bench next (Ok tt) (view l.value)
     → Went move count (done + 1) a c room room_after old next
 went-more move count done None b c room room_left room_after old bench next l less went line moved = tt
 went-more move count done (Some xs) None c room room_left room_after old bench next l less went line moved = absurd went
@@ -48,20 +46,11 @@ went-more move count done (Some xs) (Some ys) c room room_left room_after old be
     ∙ ap (λ (r : Result (Label × State) MoveFault). after_move (λ m. along readings move go left (moved_by move bench m)) r line.rest room_after) moved.1
     ∙ ap (λ b. along readings move go left b line.rest room_after) (sym moved.2))
 
--- all lines were read
-pub went-all : (move : Move) (count : ℕ) (a b : Option (List ℕ)) (room room_left : ℕ) (old bench : Bench) → Went move count count a b room room_left old bench
-    → ReadsMoves move count a b room room_left old bench (Ok tt)
-went-all move count None b room room_left old bench went = tt
-went-all move count (Some xs) None room room_left old bench went = absurd went
-went-all move count (Some xs) (Some ys) room room_left old bench went = record {
-  rest = ys;
-  left = refl;
-  goes_on = λ go. let none : count - count ≡ 0 = omega arith in went go ∙ ap (λ n. along readings move go n bench ys room_left) none;
-}
-
 -- ---- refusals
 
-pub refuses-as : {X Y : Type 0} (f : LoadFault) (r : Result X MoveFault) (s : Result Y MoveFault) → ((g : MoveFault) → r ≡ Err g → s ≡ Err g) → Refuses f r → ReadRefuses f s
+-- where one result has each fault of the other, a reader with this result refuses for the same reason
+pub refuses-as : {X Y : Type 0} (f : LoadFault) (r : Result X MoveFault) (s : Result Y MoveFault) → ((g : MoveFault) → r ≡ Err g → s ≡ Err g) → Refuses f r
+    → ReadRefuses f s
 refuses-as BenchText r s on h = on _ h
 refuses-as RecordDoesNotFit r s on h = on _ h
 refuses-as Io r s on h = absurd h
@@ -78,8 +67,10 @@ went-unread move count done (Some xs) (Some ys) c room room_left room_after old 
     (line (Onward move go (count - (done + 1)) bench))
 
 -- the line that stands next is refused
-pub went-refused : (move : Move) (count done : ℕ) (a b c : Option (List ℕ)) (room room_left room_after : ℕ) (old bench next : Bench) (l : FileLine) (f : LoadFault)
-    → done < count → Went move count done a b room room_left old bench → ReadsLine b c room_left room_after (Ok l) → MovesBy move bench next (Err f) (view l.value)
+pub went-refused : (move : Move) (count done : ℕ) (a b c : Option (List ℕ)) (room room_left room_after : ℕ) (old bench next : Bench) (l : FileLine)
+    (f : LoadFault)
+    → done < count → Went move count done a b room room_left old bench → ReadsLine b c room_left room_after (Ok l)
+    → MovesBy move bench next (Err f) (view l.value)
     → ReadsMoves move count a c room room_after old next (Err f)
 went-refused move count done None b c room room_left room_after old bench next l f less went line moved = tt
 went-refused move count done (Some xs) None c room room_left room_after old bench next l f less went line moved = absurd went
@@ -88,25 +79,7 @@ went-refused move count done (Some xs) (Some ys) c room room_left room_after old
     λ go. subst (ReadRefuses f)
     (sym (went go ∙ ap (λ n. along readings move go n bench ys room_left) (one-more count done less) ∙ ap (after_value (Onward move go left bench)) line.next))
     (refuses-as f (value_move readings bench (present bench.timeline) (view l.value)) (Onward move go left bench (view l.value) line.rest room_after)
-    (λ g e. ap (λ (r : Result (Label × State) MoveFault). after_move (λ m. along readings move go left (moved_by move bench m)) r line.rest room_after) e) moved)
-
--- what never fails as a source does
-pub moved-no-io : (move : Move) (old new : Bench) (v : Json) (r : Result (Unit {0}) LoadFault) → MovesBy move old new r v → r ≡ Err Io → ⊥
-moved-no-io move old new v r h e = subst (λ q. MovesBy move old new q v) e h
+    (λ g e. ap (λ (r : Result (Label × State) MoveFault). after_move (λ m. along readings move go left (moved_by move bench m)) r line.rest room_after) e)
+    moved)
 
 -- ---- the end
-
-pub end-met : (a b : Option (List ℕ)) (room room_after : ℕ) → ReadsValue a b room room_after (Ok None) → ReadsEnd a b room (Ok tt)
-end-met None b room room_after h = tt
-end-met (Some xs) b room room_after h = (h.0, h.1.0)
-
-pub end-missed : (a b : Option (List ℕ)) (room room_after : ℕ) (l : FileLine) → ReadsValue a b room room_after (Ok (Some l)) → ReadsEnd a b room (Err BenchText)
-end-missed None b room room_after l h = tt
-end-missed (Some xs) b room room_after l h = λ bench. ap (at_last bench) h.next
-
-pub end-unread : (a b : Option (List ℕ)) (room room_after : ℕ) (f : LoadFault) → ReadsValue a b room room_after (Err f) → ReadsEnd a b room (Err f)
-end-unread None b room room_after f h = tt
-end-unread (Some xs) b room room_after BenchText h = λ bench. ap (at_last bench) h
-end-unread (Some xs) b room room_after RecordDoesNotFit h = absurd h
-end-unread (Some xs) b room room_after Io h = λ bench. tt
-end-unread (Some xs) b room room_after OutOfMemory h = λ bench. tt

@@ -15,14 +15,18 @@ use Rattle.ssa_bench.specs.Taking.{IsTaken}
 
 -- ---- a line that must be there
 
-pub line-found : (a b : Option (List ℕ)) (room room_after : ℕ) (l : FileLine) → ReadsValue a b room room_after (Ok (Some l)) → ReadsLine a b room room_after (Ok l)
+-- where a value is read, the line that must be there is that value's
+pub line-found : (a b : Option (List ℕ)) (room room_after : ℕ) (l : FileLine) → ReadsValue a b room room_after (Ok (Some l))
+    → ReadsLine a b room room_after (Ok l)
 line-found None b room room_after l h = tt
 line-found (Some xs) b room room_after l h = h
 
+-- where no line is left, one that must be there is a fault of the bench's text
 pub line-missing : (a b : Option (List ℕ)) (room room_after : ℕ) → ReadsValue a b room room_after (Ok None) → ReadsLine a b room room_after (Err BenchText)
 line-missing None b room room_after h = tt
 line-missing (Some xs) b room room_after h = λ go. ap (after_value go) h.0
 
+-- a fault of reading a value is that of the line that must be there
 pub line-fault : (a b : Option (List ℕ)) (room room_after : ℕ) (f : LoadFault) → ReadsValue a b room room_after (Err f) → ReadsLine a b room room_after (Err f)
 line-fault None b room room_after f h = tt
 line-fault (Some xs) b room room_after BenchText h = λ go. ap (after_value go) h
@@ -55,6 +59,7 @@ part-unread take (Some xs) b room room_after f line = λ go. line (λ v. after_p
 
 -- ---- faults that are handed on
 
+-- what holds of the fault that was told holds of the result
 pub fault-handed : {X : Type 0} (r : Result X LoadFault) (f : LoadFault) (P : Result X LoadFault → Type 0) → IsErrAnd r (λ g. g ≡ f) → P (Err f) → P r
 fault-handed r f P h told =
     let e = err_from_is_err_and r h in

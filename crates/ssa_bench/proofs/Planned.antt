@@ -56,7 +56,8 @@ module _ (bench : Bench) (word : Text) where
   told faults.OutOfMemory g a e h = tt
 
   -- a fault of what is tested first is the answer
-  pub told-first : {A : Type 0} (f : engine.Fault) (r : Result A model.Fault) (a : Answer) → ((g : model.Fault) → r ≡ Err g → a ≡ (fault g, bench)) → IsGiven (Err f) r → IsPrepared bench (Err f) a word
+  pub told-first : {A : Type 0} (f : engine.Fault) (r : Result A model.Fault) (a : Answer) → ((g : model.Fault) → r ≡ Err g → a ≡ (fault g, bench))
+      → IsGiven (Err f) r → IsPrepared bench (Err f) a word
   told-first (faults.Body b) r a go h = told (faults.Body b) h.0 a (go h.0 h.1) h.2
   told-first faults.TooManyPaths r a go h = told faults.TooManyPaths h.0 a (go h.0 h.1) h.2
   told-first faults.Identity r a go h = told faults.Identity h.0 a (go h.0 h.1) h.2
@@ -89,23 +90,34 @@ module _ (bench : Bench) (who : Text) (v : Json) (go : Body → Answer) where
 
 -- what is prepared of a change of a state, under a label
 pub record IsRecorded (before : State) (label : Label) (change : Change) (p : Prepared) : Type 0 where
+  -- its label is the one that was given
   pub label_is : p.step.label ≡ label
+  -- its record is that of the state and the one after the change
   pub record_is : state_steps p.step.delta ≡ record_of before (changed_state before change.body change.table)
+  -- it has the room that turning the state by the record wants
   pub room : HasStateRoom p.step.delta before
+  -- what it tells of what changed is what the change changes
   pub changed_is : changed_view p.changed ≡ changed_by before change
 
 -- the change keeps a state valid, and the order of the managers that stay
 pub record IsKept (kind : Kind) (before : State) (change : Change) : Type 0 where
+  -- the state after the change is valid
   pub valid : IsValidState kind (changed_state before change.body change.table)
+  -- the managers that stay keep their order
   pub order : KeepsOrder before.table (changed_table change.table before.table)
+  -- the new table is read back from its entries' texts
   pub back : HasTableBack (changed_state before change.body change.table)
 
 -- a record of two valid states leads from the first to the second
 pub record IsLed (d : Record) (before after : State) : Type 0 where
+  -- the record leads from the first state to the second
   pub led : carry d before ≡ after
+  -- the first state takes the record
   pub fits : IsTaken d before (carry d before)
 
-pub led-by : (kind : Kind) (d : Record) (before after : State) → d ≡ record_of before after → IsValidState kind before → IsValidState kind after → KeepsOrder before.table after.table → IsLed d before after
+-- the record of two valid states in one order of managers leads from the first to the second
+pub led-by : (kind : Kind) (d : Record) (before after : State) → d ≡ record_of before after → IsValidState kind before → IsValidState kind after
+    → KeepsOrder before.table after.table → IsLed d before after
 led-by kind d before after is from to order =
     let led = ap (λ r. carry r before) is ∙ record_leads kind before after from to order in
     record {
@@ -122,12 +134,14 @@ led-by kind d before after is from to order =
     }
 
 -- a change leads to the table that it makes
-pub leads-itself : {before : State} {change : Change} {after : State} → IsChange before change after → LeadsTo before.table change.table (changed_table change.table before.table)
+pub leads-itself : {before : State} {change : Change} {after : State} → IsChange before change after
+    → LeadsTo before.table change.table (changed_table change.table before.table)
 leads-itself {before = before} {change = change} is = subst (LeadsTo before.table change.table) (sym is.table_leads.leads) is.table_leads
 
 module _ (bench : Bench) (word : Text) (label : Label) where
   -- a change that is kept to is the answer
-  planned : (change : Change) (p : Prepared) (after : State) → IsRecorded (present bench.timeline) label change p → IsChange (present bench.timeline) change after
+  planned : (change : Change) (p : Prepared) (after : State) → IsRecorded (present bench.timeline) label change p
+      → IsChange (present bench.timeline) change after
       → IsValidState bench.schema.kind (present bench.timeline) → IsKept bench.schema.kind (present bench.timeline) change
       → IsAccepted bench p (accept bench word (label_view label) after) word
   planned change p after made is now kept =
@@ -138,7 +152,12 @@ module _ (bench : Bench) (word : Text) (label : Label) where
       let leads = led-by kind (state_steps p.step.delta) before target made.record_is now kept.valid kept.order in
       let led : led_to bench p ≡ target = leads.led in
       let compared : comparison before after ≡ changed_by before change =
-      λ i. record { added = sym is.comparison_is.added_are i; modified = sym is.comparison_is.modified_are i; removed = sym is.comparison_is.removed_are i; managers = length (sym is.table_leads.leads i) } in
+      λ i. record {
+        added = sym is.comparison_is.added_are i;
+        modified = sym is.comparison_is.modified_are i;
+        removed = sym is.comparison_is.removed_are i;
+        managers = length (sym is.table_leads.leads i);
+      } in
       record {
         reply = ap (model.changed word) (compared ∙ sym made.changed_is);
         next = λ i. with_timeline bench (appended bench.timeline (label_view (sym made.label_is i)) (sym (led ∙ same) i));
@@ -148,25 +167,35 @@ module _ (bench : Bench) (word : Text) (label : Label) where
         back = subst HasTableBack (sym led) kept.back;
       }
 
-  pub accepted : (change : Change) (p : Prepared) (given : Result State Refusal) → IsRecorded (present bench.timeline) label change p → IsChanged (present bench.timeline) (Ok change) given
-      → IsValidState bench.schema.kind (present bench.timeline) → IsKept bench.schema.kind (present bench.timeline) change → IsAccepted bench p (accept_or_refuse bench word (label_view label) given) word
+  -- a command whose change is made is accepted, as what was prepared says
+  pub accepted : (change : Change) (p : Prepared) (given : Result State Refusal) → IsRecorded (present bench.timeline) label change p
+      → IsChanged (present bench.timeline) (Ok change) given
+      → IsValidState bench.schema.kind (present bench.timeline) → IsKept bench.schema.kind (present bench.timeline) change
+      → IsAccepted bench p (accept_or_refuse bench word (label_view label) given) word
   accepted change p given made is now kept =
       let tells : Answer → Type 0 = λ a. IsAccepted bench p a word in
       subst tells (ap (accept_or_refuse bench word (label_view label)) (sym is.1)) (planned change p is.0 made is.2 now kept)
 
   -- a refusal that is told is the answer
-  pub refused-planned : (r : plan.Refusal) (given : Result State Refusal) → IsChanged (present bench.timeline) (Err r) given → IsPrepared bench (Err (refusal_fault r)) (accept_or_refuse bench word (label_view label) given) word
-  refused-planned (plans.Conflict clashes) given h = told bench word (faults.Conflict clashes) (refused h.0) _ (ap (accept_or_refuse bench word (label_view label)) h.1) (ap refused h.2)
-  refused-planned plans.TooManyPaths given h = told bench word faults.TooManyPaths (refused h.0) _ (ap (accept_or_refuse bench word (label_view label)) h.1) (ap refused h.2)
-  refused-planned plans.TooManyManagers given h = told bench word faults.TooManyManagers (refused h.0) _ (ap (accept_or_refuse bench word (label_view label)) h.1) (ap refused h.2)
+  pub refused-planned : (r : plan.Refusal) (given : Result State Refusal) → IsChanged (present bench.timeline) (Err r) given
+      → IsPrepared bench (Err (refusal_fault r)) (accept_or_refuse bench word (label_view label) given) word
+  refused-planned (plans.Conflict clashes) given h = told bench word (faults.Conflict clashes) (refused h.0) _
+      (ap (accept_or_refuse bench word (label_view label)) h.1) (ap refused h.2)
+  refused-planned plans.TooManyPaths given h = told bench word faults.TooManyPaths (refused h.0) _ (ap (accept_or_refuse bench word (label_view label)) h.1)
+      (ap refused h.2)
+  refused-planned plans.TooManyManagers given h = told bench word faults.TooManyManagers (refused h.0) _
+      (ap (accept_or_refuse bench word (label_view label)) h.1) (ap refused h.2)
   refused-planned plans.OutOfMemory given h = tt
 
 -- ---- the state that was planned on
 
+-- the result is the change that a command makes of a state under a name
 abbrev pub Planned : (State → Text → Result State Refusal) → Result Change plan.Refusal → State → Text → Type 0
 Planned to r now name = IsChanged now r (to now name)
 
-pub planned-at : (to : State → Text → Result State Refusal) (r : Result Change plan.Refusal) (now present : State) (name who : Text) → now ≡ present → name ≡ who → Planned to r now name → Planned to r present who
+-- what was planned on a state that is the present one, under the same name, is planned on the present one
+pub planned-at : (to : State → Text → Result State Refusal) (r : Result Change plan.Refusal) (now present : State) (name who : Text) → now ≡ present
+    → name ≡ who → Planned to r now name → Planned to r present who
 planned-at to r now present name who n w h =
     let on : State → Type 0 = λ s. Planned to r s who in
     subst on n (subst (Planned to r now) w h)
@@ -176,6 +205,7 @@ last-back : (s : State) (ts : List Step) → HasTableBack s → All MakesTableBa
 last-back s [] h all = h
 last-back s (t ∷ ts) h all = last-back t.state ts (All-head MakesTableBack t ts all) (All-tail MakesTableBack t ts all)
 
+-- the present table is read back where all tables of the history are
 pub present-back : (t : Timeline) → AllTablesBack t → HasTableBack (present t)
 present-back t h = last-back t.first (take t.place t.later) h.first (All-take MakesTableBack t.place t.later h.later)
 
@@ -184,6 +214,7 @@ last-paths : (s : State) (ts : List Step) → HasReadPaths readings s.body → A
 last-paths s [] paths read = paths
 last-paths s (t ∷ ts) paths read = last-paths t.state ts (All-head (HasReadStep readings) t ts read) (All-tail (HasReadStep readings) t ts read)
 
+-- the present body's paths are read where all paths of the history are
 pub present-paths : (t : Timeline) → HasReadHistory readings t → HasReadPaths readings (present t).body
 present-paths t h = last-paths t.first (take t.place t.later) h.first (All-take (HasReadStep readings) t.place t.later h.later)
 
@@ -192,9 +223,15 @@ present-paths t h = last-paths t.first (take t.place t.later) h.first (All-take 
 not_full : (most n : ℕ) → n < most → nat_le most n ≡ false
 not_full most n h = grind (arith, nat_tests)
 
-pub stripped-accepted : (bench : Bench) (change : Change) (p : Prepared) (past : ℕ) → past ≡ past_len bench.timeline → past < most_past → IsRecorded (present bench.timeline) Strip change p
-    → IsChange (present bench.timeline) change (strip (present bench.timeline)) → IsValidState bench.schema.kind (present bench.timeline) → IsKept bench.schema.kind (present bench.timeline) change
-    → IsAccepted bench p (if nat_le most_past (past_len bench.timeline) then (fault history_full, bench) else accept bench (codes "strip") history.stripped (strip (present bench.timeline))) (codes "strip")
+-- a strip whose change is made, where the past is not full, is accepted as what was prepared says
+pub stripped-accepted : (bench : Bench) (change : Change) (p : Prepared) (past : ℕ) → past ≡ past_len bench.timeline → past < most_past
+    → IsRecorded (present bench.timeline) Strip change p
+    → IsChange (present bench.timeline) change (strip (present bench.timeline)) → IsValidState bench.schema.kind (present bench.timeline)
+    → IsKept bench.schema.kind (present bench.timeline) change
+    → IsAccepted bench p (if nat_le most_past (past_len bench.timeline) then (
+      fault history_full,
+      bench,
+    ) else accept bench (codes "strip") history.stripped (strip (present bench.timeline))) (codes "strip")
 stripped-accepted bench change p past count few made is now kept =
     let answer = accept bench (codes "strip") history.stripped (strip (present bench.timeline)) in
     let tells : Answer → Type 0 = λ a. IsAccepted bench p a (codes "strip") in

@@ -13,10 +13,14 @@ use Rattle.ssa_model.specs.definitions.Valid.{MakesValid, AllValid}
 
 -- what the law on shown states asks of a bench
 pub record IsShown (n : model.Bench) : Type 0 where
+  -- the schema's kind is one that a schema can have
   pub accepted : IsSchemaKind n.schema.kind
+  -- the identity is one that an object can have
   pub named : is_identity n.identity ≡ true
+  -- all states are valid under the kind
   pub valid : AllValid n.schema.kind n.timeline
 
+-- each state of such a bench whose tables are read back is taken back from what it is shown as
 pub all-taken : (n : model.Bench) → IsShown n → AllTablesBack n.timeline → AllTakenBack n
 all-taken n h back = record {
   first = shown_state_is_taken readings n.schema n.identity n.timeline.first h.named h.accepted h.valid.first back.first;
@@ -27,5 +31,6 @@ all-taken n h back = record {
     by [] valid read = All-nil (MakesTakenBack n)
     by (t ∷ ts) valid read =
         All-cons (MakesTakenBack n) t ts
-        (shown_state_is_taken readings n.schema n.identity t.state h.named h.accepted (All-head (MakesValid n.schema.kind) t ts valid) (All-head MakesTableBack t ts read))
+        (shown_state_is_taken readings n.schema n.identity t.state h.named h.accepted (All-head (MakesValid n.schema.kind) t ts valid)
+        (All-head MakesTableBack t ts read))
         (by ts (All-tail (MakesValid n.schema.kind) t ts valid) (All-tail MakesTableBack t ts read))

@@ -28,23 +28,9 @@ use Rattle.ssa_bench.specs.declared.fault.Fault.TheVariants.{Body, TooManyPaths,
 
 -- ---- faults that are told
 
--- the fault that is told is the given one
-pub refused-given : {A : Type 0} (f : Fault) (g : model.Fault) (given : Result A model.Fault) → given ≡ Err g → IsFault f g → IsGiven (Err f) given
-refused-given (Body b) g given e h = (g, e, h)
-refused-given TooManyPaths g given e h = (g, e, h)
-refused-given Identity g given e h = (g, e, h)
-refused-given ManagedFieldsGiven g given e h = (g, e, h)
-refused-given (Entry f) g given e h = (g, e, h)
-refused-given ManagerName g given e h = (g, e, h)
-refused-given HistoryFull g given e h = (g, e, h)
-refused-given NothingToUndo g given e h = (g, e, h)
-refused-given NothingToRedo g given e h = (g, e, h)
-refused-given (Conflict cs) g given e h = (g, e, h)
-refused-given TooManyManagers g given e h = (g, e, h)
-refused-given OutOfMemory g given e h = tt
-
 -- a fault of what is asked first is told of all
-pub passed-on : {A B : Type 0} (f : Fault) (r : Result A model.Fault) (s : Result B model.Fault) → ((g : model.Fault) → r ≡ Err g → s ≡ Err g) → IsGiven (Err f) r → IsGiven (Err f) s
+pub passed-on : {A B : Type 0} (f : Fault) (r : Result A model.Fault) (s : Result B model.Fault) → ((g : model.Fault) → r ≡ Err g → s ≡ Err g)
+    → IsGiven (Err f) r → IsGiven (Err f) s
 passed-on (Body b) r s go h = (h.0, go h.0 h.1, h.2)
 passed-on TooManyPaths r s go h = (h.0, go h.0 h.1, h.2)
 passed-on Identity r s go h = (h.0, go h.0 h.1, h.2)
@@ -65,27 +51,35 @@ first-told : (kind : Kind) (v : Json) (f : BodyFault) (fs : List kinds.FaultAt) 
 first-told kind v f [] h = absurd (true≢false (ap is_some h))
 first-told kind v f (m ∷ ms) h = (body_fault m.fault m.path, refl, (m, refl, ap (λ o. unwrap_or {T = Told} o (told_view f)) h))
 
-pub body_or_fault-first : (kind : Kind) (v : Json) (f : BodyFault) → ◌≡◌ {A = Option Told} (Some (told_view f)) (option_map told (first_of (faults kind v []))) → IsGiven (Err (Body f)) (body_or_fault kind v)
+-- where the first of a value's faults under its kind is told, the body is refused by it
+pub body_or_fault-first : (kind : Kind) (v : Json) (f : BodyFault)
+    → ◌≡◌ {A = Option Told} (Some (told_view f)) (option_map told (first_of (faults kind v []))) → IsGiven (Err (Body f)) (body_or_fault kind v)
 body_or_fault-first kind v f h = first-told kind v f (faults kind v []) h
 
 -- ---- a command's object
 
 abbrev tested : Bench → Json → Bool → Bool → Result bodies.Body model.Fault
-tested bench v identity managed = if not identity then Err identity_fault else (if managed then Err managed_fields_given else body_or_fault bench.schema.kind (body_value v))
+tested bench v identity managed = if not identity then Err identity_fault else (if managed then Err managed_fields_given else body_or_fault bench.schema.kind
+    (body_value v))
 
 -- the tests in their order, once the value is an object
-pub command_body-tested : (bench : Bench) (v : Json) → is_object v ≡ true → command_body bench v ≡ tested bench v (has_identity bench v) (gives_managed_fields v)
+pub command_body-tested : (bench : Bench) (v : Json) → is_object v ≡ true
+    → command_body bench v ≡ tested bench v (has_identity bench v) (gives_managed_fields v)
 command_body-tested bench (object ms) h = refl
 command_body-tested bench (list vs) h = absurd (true≢false (sym h))
 command_body-tested bench (scalar s) h = absurd (true≢false (sym h))
 
-pub command_body-taken : (bench : Bench) (v : Json) → is_object v ≡ true → has_identity bench v ≡ true → gives_managed_fields v ≡ false → command_body bench v ≡ body_or_fault bench.schema.kind (body_value v)
+-- an object with the bench's identity and without managers gives what its body's value gives under the kind
+pub command_body-taken : (bench : Bench) (v : Json) → is_object v ≡ true → has_identity bench v ≡ true → gives_managed_fields v ≡ false
+    → command_body bench v ≡ body_or_fault bench.schema.kind (body_value v)
 command_body-taken bench v o i m = command_body-tested bench v o ∙ (λ k. tested bench v (i k) (m k))
 
+-- three tests in another grouping
 pub regrouped : (a b c : Bool) → (a && b) ≡ true → c ≡ true → (a && (b && c)) ≡ true
 regrouped true b c h e = λ i. h i && e i
 regrouped false b c h e = h
 
+-- a value that is no object is refused as of the wrong type, at the root
 pub command_body-no_object : (bench : Bench) (v : Json) → is_object v ≡ false → command_body bench v ≡ Err (body_fault wrong_type [])
 command_body-no_object bench (object ms) h = absurd (true≢false h)
 command_body-no_object bench (list vs) h = refl
@@ -103,18 +97,22 @@ with_table-or_fault body (Err f) = refl
 abbrev and_table : Json → Result bodies.Body model.Fault → Result State model.Fault
 and_table v r = elim r [ Ok body ↦ with_table body (given_table readings body v) | Err f ↦ Err f ]
 
-pub file_state-body : (kind : Kind) (v : Json) (body : bodies.Body) (r : Result Table model.Fault) → body_or_fault kind (file_value v) ≡ Ok body → table_or_fault (given_table readings body v) ≡ r
+-- the state of an object file is its body with the table that it gives, or the fault of that table
+pub file_state-body : (kind : Kind) (v : Json) (body : bodies.Body) (r : Result Table model.Fault) → body_or_fault kind (file_value v) ≡ Ok body
+    → table_or_fault (given_table readings body v) ≡ r
     → file_state readings kind v ≡ and_body body r
 file_state-body kind v body r e h = ap (and_table v) e ∙ with_table-or_fault body (given_table readings body v) ∙ ap (and_body body) h
 
 abbrev made : Schema → Json → Bool → Result State model.Fault → Result Bench model.Fault
 made schema v identity r = if not identity then Err identity_fault else with_lone_state schema (identity_of v) r
 
-bench_of-tested : (schema : Schema) (v : Json) → is_object v ≡ true → bench_of readings schema v ≡ made schema v (names_itself v) (file_state readings schema.kind v)
+bench_of-tested : (schema : Schema) (v : Json) → is_object v ≡ true
+    → bench_of readings schema v ≡ made schema v (names_itself v) (file_state readings schema.kind v)
 bench_of-tested schema (object ms) h = refl
 bench_of-tested schema (list vs) h = absurd (true≢false (sym h))
 bench_of-tested schema (scalar s) h = absurd (true≢false (sym h))
 
+-- a new bench of a value that is no object is refused as of the wrong type, at the root
 pub bench_of-no_object : (schema : Schema) (v : Json) → is_object v ≡ false → bench_of readings schema v ≡ Err (body_fault wrong_type [])
 bench_of-no_object schema (object ms) h = absurd (true≢false h)
 bench_of-no_object schema (list vs) h = refl
@@ -135,10 +133,14 @@ unnamed v false h = refl
 pub identity-found : (v : Json) (i : objects.Identity) → ◌≡◌ {A = Option objects.Identity} (Some i) (identity_in v) → i ≡ identity_of v
 identity-found v i h = (named v (names_itself v) i h).1
 
-pub bench_of-nameless : (schema : Schema) (v : Json) → is_object v ≡ true → ◌≡◌ {A = Option objects.Identity} None (identity_in v) → bench_of readings schema v ≡ Err identity_fault
+-- a new bench of an object without an identity is refused for that
+pub bench_of-nameless : (schema : Schema) (v : Json) → is_object v ≡ true → ◌≡◌ {A = Option objects.Identity} None (identity_in v)
+    → bench_of readings schema v ≡ Err identity_fault
 bench_of-nameless schema v o h = bench_of-tested schema v o ∙ ap (λ b. made schema v b (file_state readings schema.kind v)) (unnamed v (names_itself v) h)
 
-pub bench_of-state : (schema : Schema) (v : Json) (i : objects.Identity) (r : Result State model.Fault) → is_object v ≡ true → ◌≡◌ {A = Option objects.Identity} (Some i) (identity_in v)
+-- a new bench of an object with an identity has the one state of its file, or is refused by the fault of that state
+pub bench_of-state : (schema : Schema) (v : Json) (i : objects.Identity) (r : Result State model.Fault) → is_object v ≡ true
+    → ◌≡◌ {A = Option objects.Identity} (Some i) (identity_in v)
     → file_state readings schema.kind v ≡ r → bench_of readings schema v ≡ with_lone_state schema i r
 bench_of-state schema v i r o h e =
     let found = named v (names_itself v) i h in

@@ -51,41 +51,20 @@ use Rattle.ssa_turn.specs.declared.label.Label as labels
 use Rattle.ssa_turn_state.specs.States.{IsTaken}
 use Rattle.ssa_turn_state.specs.declared.live_state.StateDelta.{StateDelta}
 use Rattle.ssa_bench.specs.Taking.{IsTaken as IsTakenFrom, IsToldMove, TellsMove, answered_step, counts_view, held_counts, of_schema_fault, written_label}
+use Rattle.ssa_model.proofs.RecordTakes.{taken-there}
 
 -- ---- the head
-
-abbrev counts_held : Counts → RecordCounts
-counts_held c = record { past = c.past; future = c.future }
-
-held-back : (found : Option RecordCounts) → option_map counts_held (option_map counts_view found) ≡ found
-held-back None = refl
-held-back (Some c) = refl
-
-pub counts-of : (found : Option RecordCounts) (v : Json) → option_map counts_view found ≡ counts_in v → held_counts v ≡ found
-counts-of found v e = ap (option_map counts_held) (sym e) ∙ held-back found
-
--- there are no more commands than can be undone
-pub counts-few : (v : Json) (c : Counts) → counts_in v ≡ Some c → c.past + c.future ≤ most_past
-counts-few v c is =
-    let past = and_then-back _ (number_in (member_at (codes "past") v)) c is in
-    let future = and_then-back _ (number_in (member_at (codes "future") v)) c past.2 in
-    let head = record_head past.0 future.0 in
-    let made : Counts = record { past = past.0; future = future.0 } in
-    let got = given-back (is_written_as head v && nat_le (past.0 + future.0) most_past) made c future.2 in
-    subst (λ (x : Counts). x.past + x.future ≤ most_past) got.1
-    (by (past.0 + future.0) (and_parts (is_written_as head v) (nat_le (past.0 + future.0) most_past) got.0).1)
-  where
-    by : (n : ℕ) → nat_le n most_past ≡ true → n ≤ most_past
-    by n h = grind (arith, nat_tests, h)
 
 -- ---- the schema
 
 abbrev schema_by : Json → Result Kind schemas.SchemaFault → Option Schema
 schema_by v r = elim r [ Ok kind ↦ Some (record { source = v; kind = kind }) | Err f ↦ None ]
 
+-- a schema whose kind was read from its value is the one in the value
 pub schema-taken : (v : Json) (s : Schema) → s.source ≡ v → schemas.read_schema v ≡ Ok s.kind → schema_in v ≡ Some s
 schema-taken v s source read = ap (schema_by v) read ∙ (λ i. Some (record { source = sym source i; kind = s.kind }))
 
+-- where a schema is refused, its value has none, and the fault is told
 pub schema-refused : (f : SchemaFault) (v : Json) → Faults f (schemas.read_schema v) → IsTakenFrom (Err (of_schema_fault f)) (schema_in v)
 schema-refused SchemaKeyword v h = ap (schema_by v) h
 schema-refused SchemaShape v h = ap (schema_by v) h
@@ -94,19 +73,6 @@ schema-refused SchemaDepth v h = ap (schema_by v) h
 schema-refused faults.OutOfMemory v h = tt
 
 -- ---- a command's label
-
--- where no label is said, none is written
-pub unsaid-unwritten : (v : Json) → label_in readings v ≡ None → written_label v ≡ None
-unsaid-unwritten v none = by (is_label readings (said_label v)) refl none
-  where
-    by : (b : Bool) → is_label readings (said_label v) ≡ b → given_if b (said_label v) ≡ None
-        → given_if (is_written_as (label_json (said_label v)) v && is_label readings (said_label v)) (said_label v) ≡ None
-    by true e h = absurd (none-some (said_label v) (sym h))
-    by false e h = ap (λ b. given_if (is_written_as (label_json (said_label v)) v && b) (said_label v)) e ∙ never (is_written_as (label_json (said_label v)) v)
-      where
-        never : (b : Bool) → given_if (b && false) (said_label v) ≡ None
-        never true = refl
-        never false = refl
 
 -- where one is said, it is written where both have one text
 pub said-written : (v : Json) (l : Label) (same : Bool) → label_in readings v ≡ Some l → same ≡ same_text (compact (label_json l)) (compact v)
@@ -124,20 +90,24 @@ said-written v l same said is =
 
 -- ---- the present state
 
-last-read : (s : State) (ts : List Step) → HasReadPaths readings s.body → AllEntries (IsReadBack readings) s.table → All (HasReadStep readings) ts → All (IsStep readings) ts
+last-read : (s : State) (ts : List Step) → HasReadPaths readings s.body → AllEntries (IsReadBack readings) s.table → All (HasReadStep readings) ts
+    → All (IsStep readings) ts
     → HasReadPaths readings (last_state s ts).body × AllEntries (IsReadBack readings) (last_state s ts).table
 last-read s [] paths table read steps = (paths, table)
 last-read s (t ∷ ts) paths table read steps =
     last-read t.state ts (All-head (HasReadStep readings) t ts read) (All-head (IsStep readings) t ts steps).table (All-tail (HasReadStep readings) t ts read)
     (All-tail (IsStep readings) t ts steps)
 
-pub present-read : (bench : Bench) → IsValidBench readings bench → HasReadHistory readings bench.timeline → IsReadBackState readings bench.schema.kind (present bench.timeline)
+-- the present state of a valid bench whose paths are read is one that is read back
+pub present-read : (bench : Bench) → IsValidBench readings bench → HasReadHistory readings bench.timeline
+    → IsReadBackState readings bench.schema.kind (present bench.timeline)
 present-read bench valid read =
     let t = bench.timeline in
     let last = last-read t.first (take t.place t.later) read.first valid.first (All-take (HasReadStep readings) t.place t.later read.later)
     (All-take (IsStep readings) t.place t.later valid.steps) in
     record { valid = present_valid bench.schema.kind t valid.states; paths = last.0; table = last.1 }
 
+-- a valid bench tells the lines of its moves
 pub lines-told : (bench : Bench) → IsValidBench readings bench → TellsLines bench
 lines-told bench valid = record { accepted = valid.accepted; named = valid.named }
 
@@ -160,20 +130,27 @@ unwritten-shape v none = by (is_label_shape readings v) none
     by true h = absurd (none-some (said_label v) (sym h))
     by false h = refl
 
-pub shape-of : (l : LineValues) (v : Json) → IsLine l v → is_move_shape readings v ≡ (is_label_shape readings (view l.command.now) && is_record_shape readings (view l.record.now))
+-- a line has the shape of a move where its label has the shape of one and its record too
+pub shape-of : (l : LineValues) (v : Json) → IsLine l v → is_move_shape readings v
+    ≡ (is_label_shape readings (view l.command.now) && is_record_shape readings (view l.record.now))
 shape-of l v line = line.shape (is_label_shape readings) (is_record_shape readings)
 
+-- a line whose label is not the text of one has not the shape of a move
 pub no-label : (l : LineValues) (v : Json) → IsLine l v → written_label (view l.command.now) ≡ None → is_move_shape readings v ≡ false
 no-label l v line none = shape-of l v line ∙ ap (λ b. b && is_record_shape readings (view l.record.now)) (unwritten-shape (view l.command.now) none)
 
+-- a line whose record has not the shape of one has not the shape of a move
 pub no-record : (l : LineValues) (v : Json) → IsLine l v → is_record_shape readings (view l.record.now) ≡ false → is_move_shape readings v ≡ false
-no-record l v line none = shape-of l v line ∙ ap (λ b. is_label_shape readings (view l.command.now) && b) none ∙ never (is_label_shape readings (view l.command.now))
+no-record l v line none = shape-of l v line ∙ ap (λ b. is_label_shape readings (view l.command.now) && b) none
+    ∙ never (is_label_shape readings (view l.command.now))
   where
     never : (b : Bool) → (b && false) ≡ false
     never true = refl
     never false = refl
 
-pub has-shape : (l : LineValues) (v : Json) (label : Label) → IsLine l v → written_label (view l.command.now) ≡ Some label → is_record_shape readings (view l.record.now) ≡ true
+-- a line with a label's text and a record of the right shape has the shape of a move
+pub has-shape : (l : LineValues) (v : Json) (label : Label) → IsLine l v → written_label (view l.command.now) ≡ Some label
+    → is_record_shape readings (view l.record.now) ≡ true
     → is_move_shape readings v ≡ true
 has-shape l v label line written shape =
     let got = given-back (is_label_shape readings (view l.command.now)) (said_label (view l.command.now)) label written in
@@ -185,7 +162,9 @@ record-value : (bench : Bench) (l : LineValues) (v : Json) (from to : State) →
     → view l.record.now ≡ record_json (version_in bench.identity.version) bench.schema.kind (record_of from to)
 record-value bench l v from to line is = ap value_in (sym line.written) ∙ is
 
-pub shapeless-told : (bench : Bench) (v : Json) → ShapelessIsNoMove → IsValidBench readings bench → HasReadHistory readings bench.timeline → is_move_shape readings v ≡ false
+-- a line that has not the shape of a move is refused as no move's text
+pub shapeless-told : (bench : Bench) (v : Json) → ShapelessIsNoMove → IsValidBench readings bench → HasReadHistory readings bench.timeline
+    → is_move_shape readings v ≡ false
     → value_move readings bench (present bench.timeline) v ≡ Err no_move_text
 shapeless-told bench v told valid read shape = told readings bench (present bench.timeline) v (lines-told bench valid) (present-read bench valid read) shape
 
@@ -193,7 +172,9 @@ shapeless-told bench v told valid read shape = told readings bench (present benc
 pub no-line : (v : Json) → ((s t : Test) → has_members (line_shape s t) v ≡ false) → is_move_shape readings v ≡ false
 no-line v none = none (is_label_shape readings) (is_record_shape readings)
 
-pub misfit-told : (bench : Bench) (l : LineValues) (v : Json) (label : Label) (version : List ℕ) → MisfitIsTold → IsValidBench readings bench → HasReadHistory readings bench.timeline
+-- a line whose record does not fit the present state is refused for that
+pub misfit-told : (bench : Bench) (l : LineValues) (v : Json) (label : Label) (version : List ℕ) → MisfitIsTold → IsValidBench readings bench
+    → HasReadHistory readings bench.timeline
     → version_in bench.identity.version ≡ text_json version → IsLine l v → written_label (view l.command.now) ≡ Some label
     → IsMisfit bench.schema.kind version (present bench.timeline) (view l.record.now)
     → value_move readings bench (present bench.timeline) v ≡ Err record_does_not_fit
@@ -225,7 +206,8 @@ move-told bench l v label version d w moves parts valid read named rise line wri
     let whole = parts readings bench (label_view label) now w v (has-shape l v (label_view label) line written shape) rise said is in
     let there : IsReadBackState readings kind w = record { valid = fitting.takes.to; paths = fitting.read.paths; table = fitting.table } in
     record {
-      move = ap (value_move readings bench now) whole.0 ∙ moves readings bench (label_view label) now w (lines-told bench valid) whole.1 here there fitting.takes.order;
+      move = ap (value_move readings bench now) whole.0 ∙ moves readings bench (label_view label) now w (lines-told bench valid) whole.1 here there
+          fitting.takes.order;
       takes = fitting.takes;
       room = fitting.room;
       back = fitting.table;
@@ -233,11 +215,13 @@ move-told bench l v label version d w moves parts valid read named rise line wri
     }
 
 -- what is told of a line whose record was looked at
-pub told-answer : (bench : Bench) (l : LineValues) (v : Json) (label : labels.Label) (version : List ℕ) → LineIsMove → ShapelessIsNoMove → MisfitIsTold → LineOfParts
+pub told-answer : (bench : Bench) (l : LineValues) (v : Json) (label : labels.Label) (version : List ℕ) → LineIsMove → ShapelessIsNoMove → MisfitIsTold
+    → LineOfParts
     → IsValidBench readings bench → HasReadHistory readings bench.timeline → version_in bench.identity.version ≡ text_json version → has_rising_names v ≡ true
     → IsLine l v → written_label (view l.command.now) ≡ Some (label_view label)
     → (a : RecordAnswer) → IsAnswer bench.schema.kind version (present bench.timeline) (view l.record.now) a → TellsMove bench (answered_step label a) v
-told-answer bench l v label version moves shapeless misfits parts valid read named rise line written NoRecord h = shapeless-told bench v shapeless valid read (no-record l v line h)
+told-answer bench l v label version moves shapeless misfits parts valid read named rise line written NoRecord h =
+    shapeless-told bench v shapeless valid read (no-record l v line h)
 told-answer bench l v label version moves shapeless misfits parts valid read named rise line written Misfit h =
     misfit-told bench l v (label_view label) version misfits valid read named line written h
 told-answer bench l v label version moves shapeless misfits parts valid read named rise line written (Fits d) h =
@@ -250,10 +234,6 @@ told-answer bench l v label version moves shapeless misfits parts valid read nam
     let shape = ap (is_record_shape readings) (fitting.value ∙ ap (record_json (text_json version) kind) fitting.takes.is)
     ∙ record_texts_have_shape readings version kind now w here.valid fitting.takes.to from fitting.read in
     (w, move-told bench l v label version d w moves parts valid read named rise line written shape fitting)
-
--- a record that takes a state to another takes it to where it leads
-pub taken-there : (kind : Kind) (d : Record) (v w : State) → Takes kind d v w → IsTaken d v (carry d v)
-taken-there kind d v w takes = (kind, subst (Takes kind d v) (sym (fixes_target kind d v w takes)) takes)
 
 -- ---- the history behind a move
 

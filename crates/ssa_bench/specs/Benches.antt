@@ -72,7 +72,12 @@ next_bench bench p = with_timeline bench (appended bench.timeline (label_view p.
 -- what a change of a state changes
 abbrev pub changed_by : operations.State → Change → answers.Changed
 changed_by before c =
-    record { added = c.comparison.added; modified = c.comparison.modified; removed = c.comparison.removed; managers = length (changed_table c.table before.table) }
+    record {
+      added = c.comparison.added;
+      modified = c.comparison.modified;
+      removed = c.comparison.removed;
+      managers = length (changed_table c.table before.table);
+    }
 
 -- the body of an Apply's or an Update's object, or the command's first fault
 abbrev pub tested_body : model.Bench → Text → Json → Result Body answers.Fault

@@ -12,31 +12,44 @@ use ssa_merge::plan::Refusal;
 use ssa_path::field_set::FieldSet;
 use ssa_schema::body_fault::BodyFault;
 use std::alloc::AllocError;
+use thiserror::Error;
 
 /// Why a command or an object is refused.
-#[derive(Drop)]
+#[derive(Debug, Drop, Error)]
 pub enum Fault {
     /// The object does not fit the schema: its first fault.
+    #[error("an object that does not fit the schema")]
     Body(BodyFault),
     /// The body would have more than 20,000 paths beside the root.
+    #[error("more than 20,000 paths")]
     TooManyPaths,
     /// The object has no identity, or another than the bench's.
+    #[error("no identity, or another than the bench's")]
     Identity,
     /// The object gives `metadata.managedFields`, which are not a command's to give.
+    #[error("metadata.managedFields given by a command")]
     ManagedFieldsGiven,
     /// The `metadata.managedFields` of an object file are no table of managers: their first fault.
+    #[error("managedFields that are no table of managers")]
     Entry(EntryFault),
     /// A manager's name is not of 1 to 128 printable ASCII characters.
+    #[error("no name of a manager")]
     ManagerName,
     /// The history has 1,000 commands before the present state.
+    #[error("1,000 commands before the present state")]
     HistoryFull,
+    #[error("nothing to undo")]
     NothingToUndo,
+    #[error("nothing to redo")]
     NothingToRedo,
     /// The managers whose fields the command would change, in table order, each with these fields.
+    #[error("a conflict with other managers")]
     Conflict(Vec<(ManagerKey, FieldSet)>),
     /// The table would have more than 64 managers.
+    #[error("more than 64 managers")]
     TooManyManagers,
     /// A growth of memory was refused.
+    #[error("out of memory")]
     OutOfMemory,
 }
 

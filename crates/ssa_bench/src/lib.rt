@@ -1,9 +1,32 @@
 //! The bench: an object, its managers, and the history of commands on it.
+//!
+//! A [`Bench`] carries out each [`Command`] or tells the [`Fault`], goes back and forth, shows the
+//! object, tells owners, and is saved and loaded.
+//!
+//! ```
+//! let object = json(rt.alloc(), web(rt.alloc(), "", "")?.as_str())?;
+//! let mut bench = Bench::new(rt.alloc(), schema(rt.alloc())?, object)?;
+//! let command = Command::Apply {
+//!     who: String::from_str(rt.alloc(), "kubectl")?,
+//!     force: false,
+//!     at: moment()?,
+//!     object: json(rt.alloc(), web(rt.alloc(), "", IMAGE)?.as_str())?,
+//! };
+//! let changed = bench.execute(rt.alloc(), command)?;
+//! assert_eq!(rt; changed.added.len(), 1);
+//! assert!(rt; bench.undo().is_ok());
+//! assert!(rt; bench.undo().is_err());
+//! ```
 #![tactic(auto)]
 
 pub mod bench;
 pub mod command;
 pub mod fault;
-pub mod load;
+mod load;
 pub mod prepared;
 mod taking;
+
+pub use bench::{Bench, MOST_PAST};
+pub use command::Command;
+pub use fault::Fault;
+pub use prepared::{Changed, Counts, Prepared};

@@ -1,4 +1,14 @@
-//! Where a refusal is, told for people: places in JSON, in a schema and in an object, and values in conflict.
+//! Where a refusal is, told for people: places in JSON, in a schema and in an object, and values in
+//! conflict.
+//!
+//! Places are told as `jq` would take them. Nothing rests on these texts: a fault's number and path are
+//! told beside them.
+//!
+//! ```
+//! let mut text = Vec::new(rt.alloc());
+//! push_members(rt.alloc(), &mut text, &["spec", "a key"])?;
+//! assert_eq!(rt; text.as_slice(), br#".spec["a key"]"#.as_slice());
+//! ```
 #![tactic(auto)]
 
 pub mod conflict;
@@ -7,3 +17,10 @@ pub mod identity;
 pub mod json;
 pub mod path;
 pub mod way;
+
+pub use conflict::push_conflict;
+pub use entry::push_refused_entry;
+pub use identity::{push_missing_part, push_other_part};
+pub use json::push_unread;
+pub use path::push_refused_element;
+pub use way::{push_element, push_member, push_members, push_place, push_value};

@@ -50,16 +50,6 @@ refused-unended most room room_after (Some xs) (Some ys) line empty takes end te
     let there : takes.text ≢ [] = λ none. false≢true (sym some ∙ (test takes.text takes.held).1 none) in
     ap (next_value readings room) whole ∙ next-unended readings takes.text room takes.plain there
 
--- no byte is left
-pub at-its-end : (most room : ℕ) (a b : Option (List ℕ)) (line : Line) (empty : Bool)
-    → TakesLine most a b line [] → OnSome a (IsAtEnd b) → ((text : List ℕ) → Holds most line text → IsTrue empty ↔ (text ≡ [])) → empty ≡ true
-    → ReadsValue a b room room (Ok None)
-at-its-end most room None b line empty takes end test none = tt
-at-its-end most room (Some xs) None line empty takes end test none = absurd takes.taken
-at-its-end most room (Some xs) (Some ys) line empty takes end test none =
-    let whole : xs ≡ takes.text = takes.taken ∙ ap (λ t. (takes.text ++ []) ++ t) end ∙ append-nil (takes.text ++ []) ∙ append-nil takes.text in
-    (ap (next_value readings room) (whole ∙ (test takes.text takes.held).0 none), (ap Some end, refl))
-
 -- a line that is no value's
 pub refused-line : (most room room_after : ℕ) (a b : Option (List ℕ)) (line : Line) (bytes : Vec ℕ Global)
     → line ≡ Kept bytes → TakesLine most a b line (line_feed ∷ []) → spelled_value readings bytes.items ≡ None → ReadsValue a b room room_after (Err BenchText)
@@ -77,11 +67,13 @@ refused-beyond room room_after (Some xs) None line takes more = absurd takes.tak
 refused-beyond room room_after (Some xs) (Some ys) line takes more =
     ap (next_value readings room) takes.taken ∙ next-beyond readings takes.text ys room takes.plain (more takes.text takes.held)
 
+-- a line longer than any may be is a fault of the bench's text
 pub too-long : (room room_after : ℕ) (a b : Option (List ℕ)) (line : Line) → line ≡ TooLong → TakesLine room a b line (line_feed ∷ [])
     → ReadsValue a b room room_after (Err BenchText)
 too-long room room_after a b line is takes =
     refused-beyond room room_after a b line takes (λ text held. let more = subst (λ l. Holds room l text) is held in omega (arith, more))
 
+-- a line for which what is left of the file's limit is too little is a fault of the bench's text
 pub too-much : (room room_after : ℕ) (a b : Option (List ℕ)) (line : Line) (bytes : Vec ℕ Global) → line ≡ Kept bytes → TakesLine room a b line (line_feed ∷ [])
     → room ≤ length bytes.items → ReadsValue a b room room_after (Err BenchText)
 too-much room room_after a b line bytes is takes more =
@@ -117,7 +109,8 @@ reads-handed_on room room_after a b r f h told =
 
 -- a fault, which is that of the text only where the line is no value's
 pub refused-by : (most room room_after : ℕ) (a b : Option (List ℕ)) (line : Line) (bytes : Vec ℕ Global) (f : LoadFault)
-    → line ≡ Kept bytes → TakesLine most a b line (line_feed ∷ []) → (◌≡◌ {A = Result FileLine LoadFault} (Err f) (Err BenchText) → spelled_value readings bytes.items ≡ None)
+    → line ≡ Kept bytes → TakesLine most a b line (line_feed ∷ [])
+    → (◌≡◌ {A = Result FileLine LoadFault} (Err f) (Err BenchText) → spelled_value readings bytes.items ≡ None)
     → f ≢ RecordDoesNotFit → ReadsValue a b room room_after (Err f)
 refused-by most room room_after a b line bytes BenchText is takes told other = refused-line most room room_after a b line bytes is takes (told refl)
 refused-by most room room_after a b line bytes RecordDoesNotFit is takes told other = absurd (other refl)

@@ -19,13 +19,14 @@ use Rattle.ssa_model.specs.definitions.RecordedBench.{future_lines, past_lines, 
 use Rattle.ssa_model.specs.definitions.Schema.{Schema}
 use Rattle.ssa_model.specs.definitions.Takes.{Takes}
 use Rattle.ssa_model.specs.definitions.Valid.{AllValid, IsValidHistory, IsValidState, KeepsOrder, KeepsOrders}
-use Rattle.ssa_model.proofs.ValidTimelines.{present_valid}
+use Rattle.ssa_model.proofs.ValidTimelines.{state-valid}
 use Rattle.ssa_json.specs.Writable.{IsOfProgram}
 use Rattle.ssa_file.specs.Recording.{kept_value, opening_values}
 use Rattle.ssa_file.specs.Saving.{CannotHold, bench_with}
 use Rattle.ssa_file.specs.declared.saving.SaveFault.{SaveFault}
 use Rattle.ssa_file.proofs.SavingFacts.{lines-refused}
-use Rattle.ssa_file.proofs.Walking.{last_state-push, left-from, step-there}
+use Rattle.ssa_file.proofs.Walking.{left-from, step-there}
+use Rattle.ssa_model.proofs.Tables.{last-push as last_state-push}
 
 -- ---- the states that a record leads between
 
@@ -34,9 +35,6 @@ taken-next ss n s here = take_more ss n s (slice_get_within ss n s here) ∙ ap 
 
 state-behind : (t : Timeline) (n : ℕ) (s : Step) → slice_get t.later n ≡ Some s → state_at t (n + 1) ≡ s.state
 state-behind t n s here = ap (last_state t.first) (taken-next t.later n s here) ∙ last_state-push t.first (take n t.later) s
-
-state-valid : (kind : Kind) (t : Timeline) (n : ℕ) → AllValid kind t → IsValidState kind (state_at t n)
-state-valid kind t n h = present_valid kind (moved_to t n) (record { first = h.first; later = h.later })
 
 order-at : (v : State) (ss : List Step) (n : ℕ) (s : Step) → KeepsOrders v ss → slice_get ss n ≡ Some s
     → KeepsOrder (last_state v (take n ss)).table s.state.table
@@ -115,8 +113,11 @@ future-next schema identity t n s here behind =
 
 -- the record at a number, and its line, the first of those that are left
 pub record NextLine (later : List Step) (n : ℕ) (value : Step → Json) (left next : List Json) : Type 0 where
+  -- the step of the record
   pub step : Step
+  -- it is the one at the record's number
   pub here : slice_get later n ≡ Some step
+  -- its line is the first of those that are left
   pub left_is : left ≡ value step ∷ next
 
 -- where so many lines of the past are done

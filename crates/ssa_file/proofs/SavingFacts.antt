@@ -12,7 +12,8 @@ CannotHold-longer Io t u longer h = h
 CannotHold-longer OutOfMemory t u longer h = tt
 
 -- where the next line is too much, so are all
-pub lines-refused : (fault : SaveFault) (made line rest whole : Text) → made ++ (line ++ rest) ≡ whole → CannotHold fault (made ++ line) → CannotHold fault whole
+pub lines-refused : (fault : SaveFault) (made line rest whole : Text) → made ++ (line ++ rest) ≡ whole → CannotHold fault (made ++ line)
+    → CannotHold fault whole
 lines-refused fault made line rest whole is h =
     let all : length (made ++ (line ++ rest)) ≡ length whole = ap (λ t. length t) is in
     let first = length-append made line in

@@ -4,11 +4,8 @@ use Rattle.std.proofs.lemmas.List.{drop_more}
 use Rattle.std.proofs.lemmas.Option.{get_or_from_slice_get, slice_get_within}
 use Rattle.ssa_model.specs.definitions.History.{Step, last_state}
 use Rattle.ssa_model.specs.definitions.Operations.{State}
-
--- the state that the step at the end made
-pub last_state-push : (s : State) (ts : List Step) (t : Step) → last_state s (ts ++ t ∷ []) ≡ t.state
-last_state-push s [] t = refl
-last_state-push s (u ∷ ts) t = last_state-push u.state ts t
+use Rattle.ssa_model.proofs.Tables.{last-push as last_state-push}
+use Rattle.std.proofs.lemmas.Result.{on_ok_weaker as on-ok}
 
 -- what is left from a step on
 pub left-from : (ss : List Step) (n : ℕ) (s : Step) → slice_get ss n ≡ Some s → drop n ss ≡ s ∷ drop (n + 1) ss
@@ -20,14 +17,12 @@ step-there [] n h = absurd (omega (arith, h))
 step-there (s ∷ ss) zero h = (s, refl)
 step-there (s ∷ ss) (suc n) h = step-there ss n (omega (arith, h))
 
-pub on-ok : {A E : Type 0} (r : Result A E) {P Q : Type 0} → (P → Q) → OnOk r P → OnOk r Q
-on-ok (Ok a) f h = f h
-on-ok (Err e) f h = tt
-
+-- what follows of each fault follows of the fault of a result, if it has one
 pub if-err : {A E : Type 0} (r : Result A E) (P Q : E → Type 0) → ((e : E) → P e → Q e) → IfErr r P → IfErr r Q
 if-err (Ok a) P Q f h = tt
 if-err (Err e) P Q f h = f e h
 
+-- what follows of each value follows of the value of a result, if it has one
 pub if-ok : {A E : Type 0} (r : Result A E) (P Q : A → Type 0) → ((a : A) → P a → Q a) → IfOk r P → IfOk r Q
 if-ok (Ok a) P Q f h = f a h
 if-ok (Err e) P Q f h = tt

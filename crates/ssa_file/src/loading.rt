@@ -16,17 +16,22 @@ use ssa_json::fault_code::FaultCode;
 use ssa_json::source::{DeviceFault, Source};
 use ssa_json::value::Json;
 use std::alloc::{AllocError, Global};
+use thiserror::Error;
 
 /// Why a bench file is not taken.
-#[derive(Drop)]
+#[derive(Debug, Drop, Error)]
 pub enum LoadFault {
     /// The bytes are not the text of a bench.
+    #[error("not the text of a bench")]
     BenchText,
     /// A line's record is none from the state that it is told of to a valid one.
+    #[error("a record that does not fit its state")]
     RecordDoesNotFit,
     /// The source has failed.
+    #[error("the source has failed")]
     Io,
     /// A growth of memory was refused.
+    #[error("out of memory")]
     OutOfMemory,
 }
 

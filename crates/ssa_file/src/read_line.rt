@@ -1,5 +1,5 @@
 //! Reads a source line by line.
-ghost use Rattle.std.specs.Prelude.{◌≡◌, ◌<◌, ◌≤◌, IsTrue, Some, None, Ok, OnSome};
+ghost use Rattle.std.specs.Prelude.{◌≡◌, ◌<◌, ◌≤◌, Some, None, Ok, OnSome};
 ghost use Rattle.std.specs.Io.KnownBytes.{IsAtEnd};
 ghost use Rattle.ssa_json.specs.Devices.{is_fault};
 ghost use Rattle.ssa_file.specs.Reading.{TakesPiece, TakesLine, piece_end_bytes, read_end_bytes};
@@ -23,7 +23,8 @@ fn take_piece<R: Source>(
 ) -> Result<Option<LineEnd>, DeviceFault>
     ensures takes { TakesPiece most (R.remaining reader.old) (R.remaining reader.new) line.old line.new (piece_end_bytes result) }
     ensures end { (result ≡ Ok (Some LineEnd.EndOfInput)) → OnSome (R.remaining reader.old) (IsAtEnd (R.remaining reader.new)) }
-    ensures met_end { (result ≡ Ok (Some LineEnd.EndOfInput)) → IsTrue (R.has_met_end reader.new) }
+    ensures ends { R.ends_met reader.old ≤ R.ends_met reader.new }
+    ensures met_end { (result ≡ Ok (Some LineEnd.EndOfInput)) → R.ends_met reader.old < R.ends_met reader.new }
     ensures failed { R.has_failed reader.new ≡ is_fault result }
     ensures goes_on { (result ≡ Ok None) → R.turns_left reader.new < R.turns_left reader.old }
     ensures line_feed { (result ≡ Ok (Some LineEnd.LineFeed)) → R.turns_left reader.new < R.turns_left reader.old }
@@ -54,7 +55,8 @@ pub fn read_line<R: Source>(
 ) -> Result<LineEnd, DeviceFault>
     ensures takes { TakesLine most (R.remaining reader.old) (R.remaining reader.new) line.new (read_end_bytes result) }
     ensures end { (result ≡ Ok LineEnd.EndOfInput) → OnSome (R.remaining reader.old) (IsAtEnd (R.remaining reader.new)) }
-    ensures met_end { (result ≡ Ok LineEnd.EndOfInput) → IsTrue (R.has_met_end reader.new) }
+    ensures ends { R.ends_met reader.old ≤ R.ends_met reader.new }
+    ensures met_end { (result ≡ Ok LineEnd.EndOfInput) → R.ends_met reader.old < R.ends_met reader.new }
     ensures failed { R.has_failed reader.new ≡ is_fault result }
     ensures line_feed { (result ≡ Ok LineEnd.LineFeed) → R.turns_left reader.new < R.turns_left reader.old }
 {

@@ -17,18 +17,22 @@ use ssa_json::source::DeviceFault;
 use ssa_json::value::{Json, Scalar};
 use std::alloc::{AllocError, Global};
 use std::collections::BTreeMap;
+use thiserror::Error;
 
 /// The most bytes of a bench file.
 pub const MOST_FILE_BYTES: usize = 67_108_864;
 
 /// Why a bench is not saved.
-#[derive(Drop)]
+#[derive(Debug, Drop, Error)]
 pub enum SaveFault {
     /// The file would have more than [`MOST_FILE_BYTES`] bytes. Nothing was written.
+    #[error("more than 67,108,864 bytes")]
     BenchTooLong,
     /// The sink has failed, perhaps after a beginning was written.
+    #[error("the sink has failed")]
     Io,
     /// A growth of memory was refused. Nothing was written.
+    #[error("out of memory")]
     OutOfMemory,
 }
 

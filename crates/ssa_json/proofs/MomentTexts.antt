@@ -69,9 +69,6 @@ digits_small t there =
       second = two_small t 17 g.0 g.1;
     }
 
-mark_small : (b m : ℕ) → (b == m) ≡ true → m < 128 → b < 128
-mark_small b m same small = subst (λ n. n < 128) (sym (eqb-true b m same)) small
-
 small-at : (t : List ℕ) → AreSmall t → has_marks t ≡ true → length t ≡ 20 → IsAscii t
 small-at t s marks len zero = s.century.0
 small-at t s marks len (suc zero) = s.century.1
@@ -92,9 +89,12 @@ small-at t s marks len (suc (suc (suc (suc (suc (suc (suc (suc (suc (suc (suc (s
 small-at t s marks len (suc (suc (suc (suc (suc (suc (suc (suc (suc (suc (suc (suc (suc (suc (suc (suc zero)))))))))))))))) = grind (arith, nat_tests)
 small-at t s marks len (suc (suc (suc (suc (suc (suc (suc (suc (suc (suc (suc (suc (suc (suc (suc (suc (suc zero))))))))))))))))) = s.second.0
 small-at t s marks len (suc (suc (suc (suc (suc (suc (suc (suc (suc (suc (suc (suc (suc (suc (suc (suc (suc (suc zero)))))))))))))))))) = s.second.1
-small-at t s marks len (suc (suc (suc (suc (suc (suc (suc (suc (suc (suc (suc (suc (suc (suc (suc (suc (suc (suc (suc zero))))))))))))))))))) = grind (arith, nat_tests)
-small-at t s marks len (suc (suc (suc (suc (suc (suc (suc (suc (suc (suc (suc (suc (suc (suc (suc (suc (suc (suc (suc (suc i)))))))))))))))))))) = past-end t (suc (suc (suc (suc (suc (suc (suc (suc (suc (suc (suc (suc (suc (suc (suc (suc (suc (suc (suc (suc i)))))))))))))))))))) (omega (arith, len))
+small-at t s marks len (suc (suc (suc (suc (suc (suc (suc (suc (suc (suc (suc (suc (suc (suc (suc (suc (suc (suc (suc zero))))))))))))))))))) =
+    grind (arith, nat_tests)
+small-at t s marks len (suc (suc (suc (suc (suc (suc (suc (suc (suc (suc (suc (suc (suc (suc (suc (suc (suc (suc (suc (suc i)))))))))))))))))))) =
+    past-end t (suc (suc (suc (suc (suc (suc (suc (suc (suc (suc (suc (suc (suc (suc (suc (suc (suc (suc (suc (suc i)))))))))))))))))))) (omega (arith, len))
 
+-- the text of a moment is UTF-8
 pub moment-is-utf8 : (t : List ℕ) → is_moment t ≡ true → IsUtf8 t
 unfolding is_moment
 moment-is-utf8 t h =

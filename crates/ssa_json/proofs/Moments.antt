@@ -4,6 +4,7 @@ use Rattle.std.specs.Prelude.{◌==◌}
 use Rattle.std.proofs.lemmas.Bool.{and_parts}
 use Rattle.ssa_json.specs.Moment.{is_moment, has_marks, exists, parts_of}
 
+-- the text of a moment has 20 bytes
 pub moment_length : (text : List ℕ) → is_moment text ≡ true → length text ≡ 20
 unfolding is_moment
 moment_length text h =

@@ -11,18 +11,23 @@ use Rattle.ssa_json.specs.Writable.{has_utf8, items_have_utf8, members_have_utf8
 use Rattle.ssa_json.specs.declared.value.Json.{Json}
 use Rattle.ssa_json.proofs.Converting.{Found}
 
+-- a string of the program is UTF-8
 pub string_is_utf8 : (t : String Global) → is_utf8 (string_bytes t) ≡ true
 string_is_utf8 t = is_utf8-from_IsUtf8 (string_bytes t) (IsUtf8-string_bytes t)
 
 -- ---- texts
 
-pub items_have_utf8-push : (vs : List Json) (v : Json) → items_have_utf8 (items_view vs) ≡ true → has_utf8 (view v) ≡ true → items_have_utf8 (items_view (vs ++ v ∷ [])) ≡ true
+-- with one item more of texts in UTF-8, the texts of all items are in it
+pub items_have_utf8-push : (vs : List Json) (v : Json) → items_have_utf8 (items_view vs) ≡ true → has_utf8 (view v) ≡ true
+    → items_have_utf8 (items_view (vs ++ v ∷ [])) ≡ true
 items_have_utf8-push [] v before here = rw here refl
 items_have_utf8-push (w ∷ vs) v before here =
     let parts = and_parts (has_utf8 (view w)) (items_have_utf8 (items_view vs)) before in
     and_from (has_utf8 (view w)) _ parts.0 (items_have_utf8-push vs v parts.1 here)
 
-pub members_have_utf8-push : (ms : List Found) (m : Found) → members_have_utf8 (members_view ms) ≡ true → has_utf8 (view m.1) ≡ true → members_have_utf8 (members_view (ms ++ m ∷ [])) ≡ true
+-- with one member more of texts in UTF-8, the texts of all members are in it
+pub members_have_utf8-push : (ms : List Found) (m : Found) → members_have_utf8 (members_view ms) ≡ true → has_utf8 (view m.1) ≡ true
+    → members_have_utf8 (members_view (ms ++ m ∷ [])) ≡ true
 members_have_utf8-push [] m before here = rw (string_is_utf8 m.0, here) refl
 members_have_utf8-push (w ∷ ms) m before here =
     let named = and_parts (is_utf8 (string_bytes w.0)) _ before in
@@ -31,13 +36,16 @@ members_have_utf8-push (w ∷ ms) m before here =
 
 -- ---- names
 
-pub items_have_rising_names-push : (vs : List Json) (v : Json) → items_have_rising_names (items_view vs) ≡ true → has_rising_names (view v) ≡ true → items_have_rising_names (items_view (vs ++ v ∷ [])) ≡ true
+-- with one item more in which names rise, they rise in all items
+pub items_have_rising_names-push : (vs : List Json) (v : Json) → items_have_rising_names (items_view vs) ≡ true → has_rising_names (view v) ≡ true
+    → items_have_rising_names (items_view (vs ++ v ∷ [])) ≡ true
 items_have_rising_names-push [] v before here = rw here refl
 items_have_rising_names-push (w ∷ vs) v before here =
     let parts = and_parts (has_rising_names (view w)) (items_have_rising_names (items_view vs)) before in
     and_from (has_rising_names (view w)) _ parts.0 (items_have_rising_names-push vs v parts.1 here)
 
-below-pushed : (w : Found) (ms : List Found) (m : Found) (more : List Found) → AllByRecursion (λ y. string_cmp w.0 y ≡ Less) (keys_of (ms ++ m ∷ more)) → is_below (string_bytes w.0) (members_view (ms ++ m ∷ [])) ≡ true
+below-pushed : (w : Found) (ms : List Found) (m : Found) (more : List Found) → AllByRecursion (λ y. string_cmp w.0 y ≡ Less) (keys_of (ms ++ m ∷ more))
+    → is_below (string_bytes w.0) (members_view (ms ++ m ∷ [])) ≡ true
 below-pushed w [] m more h = ap is_lt h.0
 below-pushed w (x ∷ ms) m more h = ap is_lt h.0
 

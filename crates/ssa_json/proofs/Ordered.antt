@@ -8,32 +8,40 @@ use Rattle.std.specs.Map.{keys_of}
 use Rattle.std.specs.Ordering.{ordering_reverse}
 use Rattle.std.specs.BTreeMap.{insert_entry}
 
+-- a value of some sort under its name
 abbrev pub Named : Type 0 → Type 0
 Named V = String Global × V
 
+-- the bytes of the names
 abbrev pub names : {V : Type 0} → List (Named V) → List (List ℕ)
 names es = map (λ e. string_bytes e.0) es
 
+-- the name is above each of these
 abbrev pub IsAbove : List ℕ → List (List ℕ) → Type 0
 IsAbove k ns = AllByRecursion (λ n. slice_cmp nat_cmp k n ≡ Greater) ns
 
 module _ {V : Type 0} where
-  below_middle : (first : Named V) (es : List (Named V)) (e : Named V) (more : List (Named V)) → AllByRecursion (λ y. string_cmp first.0 y ≡ Less) (keys_of (es ++ e ∷ more)) → string_cmp first.0 e.0 ≡ Less
+  below_middle : (first : Named V) (es : List (Named V)) (e : Named V) (more : List (Named V))
+      → AllByRecursion (λ y. string_cmp first.0 y ≡ Less) (keys_of (es ++ e ∷ more)) → string_cmp first.0 e.0 ≡ Less
   below_middle first [] e more h = h.0
   below_middle first (x ∷ es) e more h = below_middle first es e more h.1
 
   -- the name of a member is above that of each before it
-  pub above_first : (first : Named V) (es : List (Named V)) (e : Named V) (more : List (Named V)) → AllByRecursion (λ y. string_cmp first.0 y ≡ Less) (keys_of (es ++ e ∷ more)) → slice_cmp nat_cmp (string_bytes e.0) (string_bytes first.0) ≡ Greater
+  pub above_first : (first : Named V) (es : List (Named V)) (e : Named V) (more : List (Named V))
+      → AllByRecursion (λ y. string_cmp first.0 y ≡ Less) (keys_of (es ++ e ∷ more)) → slice_cmp nat_cmp (string_bytes e.0) (string_bytes first.0) ≡ Greater
   above_first first es e more h =
       nat_list_cmp_total.antisymm (string_bytes e.0) (string_bytes first.0) ∙ ap ordering_reverse (below_middle first es e more h)
 
-  pub above_before : (done : List (Named V)) (e : Named V) (more : List (Named V)) → IsStrictlySortedBy string_cmp (keys_of (done ++ e ∷ more)) → IsAbove (string_bytes e.0) (names done)
+  -- in a sorted map, the name of a member is above all those before it
+  pub above_before : (done : List (Named V)) (e : Named V) (more : List (Named V)) → IsStrictlySortedBy string_cmp (keys_of (done ++ e ∷ more))
+      → IsAbove (string_bytes e.0) (names done)
   unfolding IsStrictlySortedBy
   above_before [] e more h = tt
   above_before (first ∷ done) e more h = (above_first first done e more h.0, above_before done e more h.1)
 
   -- a name above all others goes last
-  pub insert_entry-last : (es : List (Named V)) (k : String Global) (v : V) → IsAbove (string_bytes k) (names es) → insert_entry string_cmp es k v ≡ es ++ (k, v) ∷ []
+  pub insert_entry-last : (es : List (Named V)) (k : String Global) (v : V) → IsAbove (string_bytes k) (names es)
+      → insert_entry string_cmp es k v ≡ es ++ (k, v) ∷ []
   insert_entry-last [] k v h = refl
   insert_entry-last (e ∷ es) k v h = rw h.0 (ap (λ t. e ∷ t) (insert_entry-last es k v h.1))
 

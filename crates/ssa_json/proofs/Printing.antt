@@ -26,19 +26,45 @@ module _ (x : ℕ) where
   is : (n : ℕ) → nat_eq x n ≡ true → Same n → Same x
   is n e same = subst Same (sym (eqb-true x n e)) same
 
-  other : nat_eq x 34 ≡ false → nat_eq x 92 ≡ false → nat_eq x 8 ≡ false → nat_eq x 9 ≡ false → nat_eq x 10 ≡ false → nat_eq x 12 ≡ false → nat_eq x 13 ≡ false → Same x
+  other : nat_eq x 34 ≡ false → nat_eq x 92 ≡ false → nat_eq x 8 ≡ false → nat_eq x 9 ≡ false → nat_eq x 10 ≡ false → nat_eq x 12 ≡ false
+      → nat_eq x 13 ≡ false → Same x
   unfolding print.escape_byte
   other e34 e92 e8 e9 e10 e12 e13 = rw (e34, e92, e8, e9, e10, e12, e13) refl
 
   escape_byte-is : Same x
   unfolding print.escape_byte
   escape_byte-is =
-      elim (nat_eq x 34) as (λ t. nat_eq x 34 ≡ t → Same x) [ true ↦ λ e. is 34 e refl | false ↦ λ e34. elim (nat_eq x 92) as (λ t. nat_eq x 92 ≡ t → Same x) [ true ↦ λ e. is 92 e refl | false ↦ λ e92. elim (nat_eq x 8) as (λ t. nat_eq x 8 ≡ t → Same x) [ true ↦ λ e. is 8 e refl | false ↦ λ e8. elim (nat_eq x 9) as (λ t. nat_eq x 9 ≡ t → Same x) [ true ↦ λ e. is 9 e refl | false ↦ λ e9. elim (nat_eq x 10) as (λ t. nat_eq x 10 ≡ t → Same x) [ true ↦ λ e. is 10 e refl | false ↦ λ e10. elim (nat_eq x 12) as (λ t. nat_eq x 12 ≡ t → Same x) [ true ↦ λ e. is 12 e refl | false ↦ λ e12. elim (nat_eq x 13) as (λ t. nat_eq x 13 ≡ t → Same x) [ true ↦ λ e. is 13 e refl | false ↦ λ e13. other e34 e92 e8 e9 e10 e12 e13 ] refl ] refl ] refl ] refl ] refl ] refl ] refl
+      elim (nat_eq x 34) as (λ t. nat_eq x 34 ≡ t → Same x) [
+        | true ↦ λ e. is 34 e refl
+        | false ↦ λ e34. elim (nat_eq x 92) as (λ t. nat_eq x 92 ≡ t
+            → Same x) [
+              | true ↦ λ e. is 92 e refl
+              | false ↦ λ e92. elim (nat_eq x 8) as (λ t. nat_eq x 8 ≡ t
+                  → Same x) [
+                    | true ↦ λ e. is 8 e refl
+                    | false ↦ λ e8. elim (nat_eq x 9) as (λ t. nat_eq x 9 ≡ t
+                        → Same x) [
+                          | true ↦ λ e. is 9 e refl
+                          | false ↦ λ e9. elim (nat_eq x 10) as (λ t. nat_eq x 10 ≡ t
+                              → Same x) [
+                                | true ↦ λ e. is 10 e refl
+                                | false ↦ λ e10. elim (nat_eq x 12) as (λ t. nat_eq x 12 ≡ t
+                                    → Same x) [
+                                      | true ↦ λ e. is 12 e refl
+                                      | false ↦ λ e12. elim (nat_eq x 13) as (λ t. nat_eq x 13 ≡ t
+                                          → Same x) [ true ↦ λ e. is 13 e refl | false ↦ λ e13. other e34 e92 e8 e9 e10 e12 e13 ] refl
+                                    ] refl
+                              ] refl
+                        ] refl
+                  ] refl
+            ] refl
+      ] refl
 
 escape-is : (t : Text) → print.escape t ≡ escaped t
 escape-is [] = refl
 escape-is (b ∷ bs) = ap₂ (λ t u. t ++ u) (escape_byte-is b) (escape-is bs)
 
+-- a text is printed as its quoted text
 pub quoted-is : (t : Text) → print.quoted t ≡ quoted t
 quoted-is t = ap (λ u. 34 ∷ (u ++ 34 ∷ [])) (escape-is t)
 
@@ -47,9 +73,12 @@ quoted-is t = ap (λ u. 34 ∷ (u ++ 34 ∷ [])) (escape-is t)
 digits_before-prepends : PrependsLastDigit digits_before
 digits_before-prepends = search rules
 
+-- a number below 2 ^ 64 is printed in its decimal digits
 pub decimal-is : (n : ℕ) → n < 2 ^ 64 → fmt.decimal n ≡ decimal n
-decimal-is n narrow = sym (append-nil (fmt.decimal n)) ∙ sym (decimal_from_prepends digits_before digits_before-prepends (suc n) n [] narrow (let short = length-decimal-le_succ n narrow in omega arith))
+decimal-is n narrow = sym (append-nil (fmt.decimal n)) ∙ sym
+    (decimal_from_prepends digits_before digits_before-prepends (suc n) n [] narrow (let short = length-decimal-le_succ n narrow in omega arith))
 
+-- a whole number of 64 bits is printed as its text
 pub whole-is : (z : ℤ) → is_narrow_whole z ≡ true → fmt.signed_decimal z ≡ whole_text z
 whole-is (pos n) narrow = decimal-is n (let small = ltb-true n (2 ^ 63) narrow in omega arith)
 whole-is (negsuc n) narrow = ap (λ t. 45 ∷ t) (decimal-is (suc n) (let small = ltb-true n (2 ^ 63) narrow in omega arith))
@@ -63,6 +92,7 @@ scalar-plain (whole (negsuc n)) = refl
 scalar-plain (truth b) = refl
 
 mutual
+  -- the data of a value has no float
   pub data_of-plain : (v : model.Json) → written.has_float (data_of v) ≡ false
   data_of-plain (scalar s) = scalar-plain s
   data_of-plain (list vs) = items-plain vs
@@ -84,6 +114,7 @@ scalar-text (truth true) narrow = refl
 scalar-text (truth false) narrow = refl
 
 mutual
+  -- the data of a value with numbers of 64 bits is printed as the value's compact text
   pub compact_text-data_of : (v : model.Json) → is_narrow v ≡ true → written.compact_text (data_of v) ≡ compact v
   compact_text-data_of (scalar s) narrow = scalar-text s narrow
   compact_text-data_of (list vs) narrow = ap (λ t. 91 ∷ t) (items-text false vs narrow)
@@ -103,17 +134,22 @@ mutual
 
 -- ---- item by item and member by member
 
+-- items made of the data of each value are the data of the items
 pub items_of-data : (vs : List Json) → json_view.items_of (map (λ j. data_of (view j)) vs) ≡ items_data (items_view vs)
 items_of-data [] = refl
 items_of-data (v ∷ vs) = ap (json.item (data_of (view v))) (items_of-data vs)
 
-pub items_narrow-push : (vs : List Json) (v : Json) → items_narrow (items_view vs) ≡ true → is_narrow (view v) ≡ true → items_narrow (items_view (vs ++ v ∷ [])) ≡ true
+-- with one item more of numbers of 64 bits, the numbers of all items have 64 bits
+pub items_narrow-push : (vs : List Json) (v : Json) → items_narrow (items_view vs) ≡ true → is_narrow (view v) ≡ true
+    → items_narrow (items_view (vs ++ v ∷ [])) ≡ true
 items_narrow-push [] v before here = rw here refl
 items_narrow-push (w ∷ vs) v before here =
     let parts = and_parts (is_narrow (view w)) (items_narrow (items_view vs)) before in
     and_from (is_narrow (view w)) _ parts.0 (items_narrow-push vs v parts.1 here)
 
-pub members_narrow-push : (ms : List Found) (m : Found) → members_narrow (members_view ms) ≡ true → is_narrow (view m.1) ≡ true → members_narrow (members_view (ms ++ m ∷ [])) ≡ true
+-- with one member more of numbers of 64 bits, the numbers of all members have 64 bits
+pub members_narrow-push : (ms : List Found) (m : Found) → members_narrow (members_view ms) ≡ true → is_narrow (view m.1) ≡ true
+    → members_narrow (members_view (ms ++ m ∷ [])) ≡ true
 members_narrow-push [] m before here = rw here refl
 members_narrow-push (w ∷ ms) m before here =
     let parts = and_parts (is_narrow (view w.1)) (members_narrow (members_view ms)) before in

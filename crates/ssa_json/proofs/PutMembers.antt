@@ -11,14 +11,20 @@ use Rattle.ssa_json.specs.declared.value.Json.{Json}
 use Rattle.ssa_json.proofs.Converting.{Found}
 
 -- the members that the map stands for
-pub inserted : (k : String Global) (v : Json) (es : List Found) → members_view (insert_entry string_cmp es k v) ≡ with_member (string_bytes k) (view v) (members_view es)
+pub inserted : (k : String Global) (v : Json) (es : List Found)
+    → members_view (insert_entry string_cmp es k v) ≡ with_member (string_bytes k) (view v) (members_view es)
 inserted k v [] = refl
 inserted k v (e ∷ es) =
     let n = string_bytes k in
     let m = string_bytes e.0 in
     elim (slice_cmp nat_cmp n m) as (λ o. slice_cmp nat_cmp n m ≡ o
     → members_view (match_ordering o ((k, v) ∷ e ∷ es) ((e.0, v) ∷ es) (e ∷ insert_entry string_cmp es k v))
-    ≡ elim o [ Less ↦ member n (view v) (member m (view e.1) (members_view es)) | Equal ↦ member n (view v) (members_view es) | Greater ↦ member m (view e.1) (with_member n (view v) (members_view es)) ]) [
+    ≡ elim o [
+      | Less ↦ member n (view v) (member m (view e.1) (members_view es))
+      | Equal ↦ member n (view v) (members_view es)
+      | Greater ↦ member m (view e.1)
+          (with_member n (view v) (members_view es))
+    ]) [
       | Less ↦ λ h. refl
       | Equal ↦ λ h. ap (λ t. member t (view v) (members_view es)) (sym (slice_cmp-IsAntisymmetric nat_cmp-IsAntisymmetric n m h))
       | Greater ↦ λ h. ap (member m (view e.1)) (inserted k v es)

@@ -39,6 +39,7 @@ scalar-value (whole z) narrow = whole-value z narrow
 scalar-value (truth b) narrow = refl
 
 mutual
+  -- the data of a value with numbers of 64 bits has this value
   pub value_of-data_of : (v : model.Json) → is_narrow v ≡ true → value_of (data_of v) ≡ Ok v
   value_of-data_of (scalar s) narrow = scalar-value s narrow
   value_of-data_of (list vs) narrow = rw (items_value-data vs narrow) refl
@@ -167,7 +168,8 @@ read-compact v w =
     let tree_of = outline (data_of v) in
     let same = tokens-compact v w.of_program.narrow ∙ sym (append-nil (tree.json_tokens tree_of)) in
     let within : tree.depth tree_of ≤ max_depth = subst (λ n. n ≤ max_depth) (sym (depth-outline (data_of v) ∙ depth-data_of v)) w.shallow in
-    ap (λ o. option_and_then of_json (option_and_then (λ p. grammar.if_last p.0 p.1) o)) (ap (grammar.value max_depth) same ∙ value-json_tokens tree_of max_depth [] within)
+    ap (λ o. option_and_then of_json (option_and_then (λ p. grammar.if_last p.0 p.1) o)) (ap (grammar.value max_depth) same
+    ∙ value-json_tokens tree_of max_depth [] within)
     ∙ of_json-outline v w.of_program.narrow w.of_program.names
 
 -- ---- the text is UTF-8
@@ -179,13 +181,15 @@ IsUtf8-whole : (z : ℤ) → is_narrow_whole z ≡ true → IsUtf8 (whole_text z
 IsUtf8-whole (pos n) narrow = subst IsUtf8 (whole-is (pos n) narrow) (IsUtf8-from_ascii _ (IsAscii-signed (pos n) (ltb-true n (2 ^ 63) narrow)))
 IsUtf8-whole (negsuc n) narrow = subst IsUtf8 (whole-is (negsuc n) narrow) (IsUtf8-from_ascii _ (IsAscii-signed (negsuc n) (ltb-true n (2 ^ 63) narrow)))
 
-IsUtf8-scalar : (s : Scalar) → is_narrow_scalar s ≡ true → is_utf8_scalar s ≡ true → IsUtf8 (scalar_text s)
+-- a scalar is written in UTF-8, where its number has 64 bits and its own text is UTF-8
+pub IsUtf8-scalar : (s : Scalar) → is_narrow_scalar s ≡ true → is_utf8_scalar s ≡ true → IsUtf8 (scalar_text s)
 IsUtf8-scalar (text t) narrow texts = IsUtf8-quote t texts
 IsUtf8-scalar (whole z) narrow texts = IsUtf8-whole z narrow
 IsUtf8-scalar (truth true) narrow texts = IsUtf8-are_ascii _ refl
 IsUtf8-scalar (truth false) narrow texts = IsUtf8-are_ascii _ refl
 
-IsUtf8-comma : (later : Bool) → IsUtf8 (comma_if later)
+-- a comma between others, or none, is UTF-8
+pub IsUtf8-comma : (later : Bool) → IsUtf8 (comma_if later)
 IsUtf8-comma true = IsUtf8-are_ascii _ refl
 IsUtf8-comma false = IsUtf8-are_ascii _ refl
 
@@ -218,6 +222,7 @@ mutual
       (IsUtf8-behind 58 _ (IsUtf8-are_ascii _ refl)
       (IsUtf8-append (compact v) _ (IsUtf8-compact v narrows.0 are_texts.0) (IsUtf8-members true ms narrows.1 are_texts.1))))
 
+-- the compact text of a writable value is read as the value
 pub compact-is-read : (v : model.Json) → IsWritable v → json_reading (compact v) ≡ Ok v
 compact-is-read v w =
     json_reading-data (compact v) (data_of v) (IsUtf8-compact v w.of_program.narrow w.of_program.texts) (read-compact v w)

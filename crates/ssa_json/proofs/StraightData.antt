@@ -22,6 +22,7 @@ abbrev pub before : List Json → Items → Items
 before [] rest = rest
 before (v ∷ vs) rest = item (data_of (view v)) (before vs rest)
 
+-- values in front of no items are the items
 pub before-none : (vs : List Json) → before vs no_items ≡ items_data (items_view vs)
 before-none [] = refl
 before-none (v ∷ vs) = ap (item (data_of (view v))) (before-none vs)
@@ -30,26 +31,33 @@ before-push : (vs : List Json) (v : Json) (rest : Items) → before vs (item (da
 before-push [] v rest = refl
 before-push (w ∷ vs) v rest = ap (item (data_of (view w))) (before-push vs v rest)
 
-pub one_more : (vs : List Json) (v : Json) (r : Option (Items × List Token)) → parse_map (before vs) (parse_map (item (data_of (view v))) r) ≡ parse_map (before (vs ++ v ∷ [])) r
+-- one value more stands last in front of the others
+pub one_more : (vs : List Json) (v : Json) (r : Option (Items × List Token))
+    → parse_map (before vs) (parse_map (item (data_of (view v))) r) ≡ parse_map (before (vs ++ v ∷ [])) r
 one_more vs v None = refl
 one_more vs v (Some p) = ap (λ ds. Some (ds, p.1)) (before-push vs v p.0)
 
-matched : (o : Ordering) (a b c : List Found) → members_data (members_view (match_ordering o a b c)) ≡ match_ordering o (members_data (members_view a)) (members_data (members_view b)) (members_data (members_view c))
+matched : (o : Ordering) (a b c : List Found) → members_data (members_view (match_ordering o a b c))
+    ≡ match_ordering o (members_data (members_view a)) (members_data (members_view b)) (members_data (members_view c))
 matched Less a b c = refl
 matched Equal a b c = refl
 matched Greater a b c = refl
 
 -- a member that is put among others
-pub inserted : (es : List Found) (k : String Global) (v : Json) → members_data (members_view (insert_entry string_cmp es k v)) ≡ put (string_bytes k) (data_of (view v)) (members_data (members_view es))
+pub inserted : (es : List Found) (k : String Global) (v : Json)
+    → members_data (members_view (insert_entry string_cmp es k v)) ≡ put (string_bytes k) (data_of (view v)) (members_data (members_view es))
 inserted [] k v = refl
 inserted (e ∷ es) k v = matched (string_cmp k e.0) _ _ _ ∙ rw (inserted es k v)
 
-matched_narrow : (o : Ordering) (a b c : List Found) → members_narrow (members_view a) ≡ true → members_narrow (members_view b) ≡ true → members_narrow (members_view c) ≡ true → members_narrow (members_view (match_ordering o a b c)) ≡ true
+matched_narrow : (o : Ordering) (a b c : List Found) → members_narrow (members_view a) ≡ true → members_narrow (members_view b) ≡ true
+    → members_narrow (members_view c) ≡ true → members_narrow (members_view (match_ordering o a b c)) ≡ true
 matched_narrow Less a b c f g h = f
 matched_narrow Equal a b c f g h = g
 matched_narrow Greater a b c f g h = h
 
-pub inserted_narrow : (es : List Found) (k : String Global) (v : Json) → members_narrow (members_view es) ≡ true → is_narrow (view v) ≡ true → members_narrow (members_view (insert_entry string_cmp es k v)) ≡ true
+-- with one member more of numbers of 64 bits put in, the numbers of all members have 64 bits
+pub inserted_narrow : (es : List Found) (k : String Global) (v : Json) → members_narrow (members_view es) ≡ true → is_narrow (view v) ≡ true
+    → members_narrow (members_view (insert_entry string_cmp es k v)) ≡ true
 inserted_narrow [] k v others own = rw own refl
 inserted_narrow (e ∷ es) k v others own =
     let parts = and_parts (is_narrow (view e.1)) (members_narrow (members_view es)) others in

@@ -31,7 +31,8 @@ parts_of t = do
 
 -- what stands between the numbers: `-`, `-`, `T`, `:`, `:`, and `Z` at the end
 abbrev pub has_marks : List ℕ → Bool
-has_marks t = (slice_index t 4 == 45) && (slice_index t 7 == 45) && (slice_index t 10 == 84) && (slice_index t 13 == 58) && (slice_index t 16 == 58) && (slice_index t 19 == 90)
+has_marks t = (slice_index t 4 == 45) && (slice_index t 7 == 45) && (slice_index t 10 == 84) && (slice_index t 13 == 58) && (slice_index t 16 == 58)
+    && (slice_index t 19 == 90)
 
 -- the date is in the calendar, from 1970 on, and the time is one of the day
 abbrev pub is_date : Parts → Bool

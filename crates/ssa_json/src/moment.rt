@@ -6,9 +6,11 @@ use jiff::civil::{Date, Time};
 use std::alloc::{AllocError, Global};
 use std::marker::Model;
 use std::str;
+use thiserror::Error;
 
 /// A text that is no moment.
-#[derive(Clone, Copy, Debug, PartialEq, Eq)]
+#[derive(Clone, Copy, Debug, PartialEq, Eq, Error)]
+#[error("no moment")]
 pub struct BadMoment;
 
 /// A moment, as its text of 20 bytes: a date and a time of RFC 3339 in UTC, with no fraction of a

@@ -1,5 +1,5 @@
 // A `std` reader as a source.
-ghost use Rattle.std.specs.Prelude.{◌≡◌, ℕ, ◌<◌, ◌^◌, ◌-◌, ◌||◌, ◌&&◌, is_ok, Some, [], length, false, IsOk, OnOk, IsErr, OnSome, IsTrue, nat_eq};
+ghost use Rattle.std.specs.Prelude.{◌≡◌, ℕ, ◌<◌, ◌^◌, ◌-◌, ◌+◌, if◌then◌else◌, ◌&&◌, is_ok, Some, [], length, false, IsOk, OnOk, IsErr, OnSome, IsTrue, nat_eq};
 ghost use Rattle.std.specs.Io.KnownBytes.{Keeps, IsAtEnd, prepend_known};
 ghost use Rattle.ssa_json.specs.Devices.{is_fault};
 
@@ -12,19 +12,19 @@ use std::io::BufRead;
 pub struct OfReader<R> {
     reader: R,
     piece: Piece,
-    has_met_end: bool,
+    ends_met: u64,
     has_failed: bool,
     turns: u64,
 }
 
 impl<R: BufRead> OfReader<R> {
     pub fn new(reader: R) -> OfReader<R>
-        ensures { result ≡ record { reader = reader; piece = []; has_met_end = false; has_failed = false; turns = 2 ^ 64 - 1 } }
+        ensures { result ≡ record { reader = reader; piece = []; ends_met = 0; has_failed = false; turns = 2 ^ 64 - 1 } }
     {
         OfReader {
             reader,
             piece: Piece::new(),
-            has_met_end: false,
+            ends_met: 0,
             has_failed: false,
             turns: u64::MAX,
         }
@@ -35,7 +35,7 @@ impl<R: BufRead> OfReader<R> {
         ensures bytes { Keeps (prepend_known self.old.piece (R.remaining self.old.reader))
             (prepend_known self.new.piece (R.remaining self.new.reader)) }
         ensures end { OnOk result (self.new.piece ≡ [] → OnSome (R.remaining self.old.reader) (IsAtEnd (R.remaining self.new.reader))) }
-        ensures met_end { self.new.has_met_end ≡ (self.old.has_met_end || (is_ok result && nat_eq (length self.new.piece) 0)) }
+        ensures end_met { self.new.ends_met ≡ (if is_ok result && nat_eq (length self.new.piece) 0 then 1 + self.old.ends_met else self.old.ends_met) }
         ensures failed { self.new.has_failed ≡ is_fault result }
         ensures stays_failed { IsTrue self.old.has_failed → IsErr result }
         ensures turns { self.new.turns ≡ self.old.turns }
@@ -44,7 +44,7 @@ impl<R: BufRead> OfReader<R> {
         if self.has_failed {
             return Err(DeviceFault);
         }
-        if self.turns == 0 {
+        if self.turns == 0 || self.ends_met == u64::MAX {
             self.has_failed = true;
             return Err(DeviceFault);
         }
@@ -54,7 +54,7 @@ impl<R: BufRead> OfReader<R> {
                 return Err(DeviceFault);
             }
             if self.piece.is_empty() {
-                self.has_met_end = true;
+                self.ends_met += 1;
             }
         }
         Ok(())
@@ -66,7 +66,7 @@ impl<R: BufRead> Source for OfReader<R> {
 
     ghost consumable_len = { λ s. Some (length s.piece) };
 
-    ghost has_met_end = { λ s. s.has_met_end };
+    ghost ends_met = { λ s. s.ends_met };
 
     ghost has_failed = { λ s. s.has_failed };
 

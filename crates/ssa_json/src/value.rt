@@ -7,7 +7,7 @@ ghost use Rattle.ssa_model.specs.definitions.Json.{is_object, as_text, member_at
 use std::collections::BTreeMap;
 
 /// A text, a whole number of 64 bits with sign, or a truth value.
-#[derive(Drop)]
+#[derive(Debug, Drop)]
 pub enum Scalar {
     Text(String),
     Int(i64),

@@ -17,9 +17,7 @@ use Rattle.ssa_merge.specs.Plans.{IsChanged, body_after}
 use Rattle.ssa_merge.specs.declared.change.Change.{Change}
 use Rattle.ssa_merge.specs.declared.plan.Refusal.{Refusal}
 use Rattle.ssa_merge.specs.declared.plan.Refusal.TheVariants.{Conflict, TooManyPaths, TooManyManagers, OutOfMemory}
-
-at_most : (m n : ℕ) → n ≤ m → nat_lt m n ≡ false
-at_most m n h = grind (arith, nat_tests)
+use Rattle.ssa_model.proofs.Basics.{at_most}
 
 more : (m n : ℕ) → m < n → nat_lt m n ≡ true
 more m n h = grind (arith, nat_tests)
@@ -36,6 +34,7 @@ module _ (state : State) (a : ManagerKey) (config : bodies.Body) (force : Bool) 
       let changed = modified state.body body in
       decided force (clashes a changed state.table) (record { body = body; table = seat state.table a (points config) changed changed at })
 
+  -- an Apply is decided as its body, its clashes, its places and its table, computed one by one, say
   pub apply-decided : (body : bodies.Body) (clash : List Clash) (places : ℕ) (table : Table)
       → body ≡ pruned state a config
       → clash ≡ clashes a (modified state.body body) state.table
@@ -44,73 +43,98 @@ module _ (state : State) (a : ManagerKey) (config : bodies.Body) (force : Bool) 
       → model.apply state a config force at ≡ counted force clash places body table
   apply-decided body clash places table b c n t = ap given (sym b) ∙ (λ i. counted force (sym c i) (sym n i) body (sym t i))
 
-pub decided-conflict : (force : Bool) (clash : List Clash) (places : ℕ) (body : bodies.Body) (table : Table) → not (force || is_none clash) ≡ true → counted force clash places body table ≡ Err (conflict clash)
+-- an Apply that is not forced and clashes is a conflict
+pub decided-conflict : (force : Bool) (clash : List Clash) (places : ℕ) (body : bodies.Body) (table : Table) → not (force || is_none clash) ≡ true
+    → counted force clash places body table ≡ Err (conflict clash)
 decided-conflict force clash places body table h =
-    ap (λ b. if b then Err (conflict clash) else (if nat_lt most_places places then Err too_many_paths else if_seated (record { body = body; table = table }))) h
+    ap (λ b. if b then Err (conflict clash) else (if nat_lt most_places places then Err too_many_paths else if_seated
+    (record { body = body; table = table }))) h
 
 abbrev below : ℕ → bodies.Body → Table → Result State model.Refusal
 below places body table = if nat_lt most_places places then Err too_many_paths else if_seated (record { body = body; table = table })
 
-quiet : (force : Bool) (clash : List Clash) (places : ℕ) (body : bodies.Body) (table : Table) → not (force || is_none clash) ≡ false → counted force clash places body table ≡ below places body table
+quiet : (force : Bool) (clash : List Clash) (places : ℕ) (body : bodies.Body) (table : Table) → not (force || is_none clash) ≡ false
+    → counted force clash places body table ≡ below places body table
 quiet force clash places body table h = ap (λ b. if b then Err (conflict clash) else below places body table) h
 
+-- where nothing forbids it, an Apply whose body has too many places is refused
 pub decided-paths : (force : Bool) (clash : List Clash) (places : ℕ) (body : bodies.Body) (table : Table)
     → not (force || is_none clash) ≡ false → most_places < places → counted force clash places body table ≡ Err too_many_paths
 decided-paths force clash places body table h over =
-    quiet force clash places body table h ∙ ap (λ b. if b then Err too_many_paths else if_seated (record { body = body; table = table })) (more most_places places over)
+    quiet force clash places body table h ∙ ap (λ b. if b then Err too_many_paths else if_seated (record { body = body; table = table }))
+    (more most_places places over)
 
 few : (places : ℕ) (body : bodies.Body) (table : Table) → places ≤ most_places → below places body table ≡ if_seated (record { body = body; table = table })
 few places body table h = ap (λ b. if b then Err too_many_paths else if_seated (record { body = body; table = table })) (at_most most_places places h)
 
+-- where the places are few enough, an Apply that leaves too many managers is refused
 pub decided-managers : (force : Bool) (clash : List Clash) (places : ℕ) (body : bodies.Body) (table : Table)
     → not (force || is_none clash) ≡ false → places ≤ most_places → most_managers < length table → counted force clash places body table ≡ Err too_many_managers
 decided-managers force clash places body table h n over =
-    quiet force clash places body table h ∙ few places body table n ∙ ap (λ b. if b then Err too_many_managers else Ok (record { body = body; table = table })) (more most_managers (length table) over)
+    quiet force clash places body table h ∙ few places body table n
+    ∙ ap (λ b. if b then Err too_many_managers else Ok (record { body = body; table = table })) (more most_managers (length table) over)
 
+-- where places and managers are few enough, an Apply leads to its body and its table
 pub decided-state : (force : Bool) (clash : List Clash) (places : ℕ) (body : bodies.Body) (table : Table)
-    → not (force || is_none clash) ≡ false → places ≤ most_places → length table ≤ most_managers → counted force clash places body table ≡ Ok (record { body = body; table = table })
+    → not (force || is_none clash) ≡ false → places ≤ most_places → length table ≤ most_managers
+    → counted force clash places body table ≡ Ok (record { body = body; table = table })
 decided-state force clash places body table h n fits =
-    quiet force clash places body table h ∙ few places body table n ∙ ap (λ b. if b then Err too_many_managers else Ok (record { body = body; table = table })) (at_most most_managers (length table) fits)
+    quiet force clash places body table h ∙ few places body table n
+    ∙ ap (λ b. if b then Err too_many_managers else Ok (record { body = body; table = table })) (at_most most_managers (length table) fits)
 
 -- ---- places, counted up to the largest number
 
+-- a count that stops at the largest number and is above the limit stands for places above the limit
 pub more_places : (n m : ℕ) → n ≡ min m (2 ^ 64 - 1) → most_places < n → most_places < m
 more_places n m is h = grind (arith, min-le_left m (2 ^ 64 - 1))
 
+-- a count that stops at the largest number and is within the limit stands for places within the limit
 pub few_places : (n m : ℕ) → n ≡ min m (2 ^ 64 - 1) → n ≤ most_places → m ≤ most_places
 few_places n m is h = grind (arith, min-eq_left, min-eq_right)
 
 -- ---- the change
 
+-- an Apply whose managers all have a place makes its change, which leads to the new body and the new table
 pub seated : (before : State) (force : Bool) (clash : List Clash) (places : ℕ) (change : Change) (body : bodies.Body) (table : Table)
     → not (force || is_none clash) ≡ false → places ≤ most_places → body_after change.body before.body ≡ body → LeadsTo before.table change.table table
     → IsComparison before.body body change.comparison → IsChanged before (Ok change) (counted force clash places body table)
 seated before force clash places change body table h n is leads compared = (
   record { body = body; table = table },
-  decided-state force clash places body table h n leads.few,
+  decided-state force clash places body table h n leads.managers.few,
   record { body_is = is; table_leads = leads; comparison_is = compared },
 )
 
+-- an Apply whose managers have no place is refused as the table says
 pub unseated : (before : State) (force : Bool) (clash : List Clash) (places : ℕ) (body : bodies.Body) (table : Table) (f : Refusal)
-    → not (force || is_none clash) ≡ false → places ≤ most_places → IsSeated before.table (Err f) table → IsChanged before (Err f) (counted force clash places body table)
+    → not (force || is_none clash) ≡ false → places ≤ most_places → IsSeated before.table (Err f) table
+    → IsChanged before (Err f) (counted force clash places body table)
 unseated before force clash places body table (Conflict clashes) h n given = absurd given
 unseated before force clash places body table TooManyPaths h n given = absurd given
-unseated before force clash places body table TooManyManagers h n given = (model.too_many_managers, decided-managers force clash places body table h n given, refl)
+unseated before force clash places body table TooManyManagers h n given =
+    (model.too_many_managers, decided-managers force clash places body table h n given, refl)
 unseated before force clash places body table OutOfMemory h n given = tt
 
 -- ---- an Update
 
-pub placed : (before : State) (change : Change) (body : bodies.Body) (table : Table) → body_after change.body before.body ≡ body → LeadsTo before.table change.table table
+-- an Update whose managers all have a place makes its change
+pub placed : (before : State) (change : Change) (body : bodies.Body) (table : Table) → body_after change.body before.body ≡ body
+    → LeadsTo before.table change.table table
     → IsComparison before.body body change.comparison → IsChanged before (Ok change) (if_seated (record { body = body; table = table }))
 placed before change body table is leads compared = (
   record { body = body; table = table },
-  ap (λ b. if b then Err too_many_managers else Ok (record { body = body; table = table })) (at_most most_managers (length table) leads.few),
+  ap (λ b. if b then Err too_many_managers else Ok (record { body = body; table = table })) (at_most most_managers (length table) leads.managers.few),
   record { body_is = is; table_leads = leads; comparison_is = compared },
 )
 
-pub unplaced : (before : State) (body : bodies.Body) (table : Table) (f : Refusal) → IsSeated before.table (Err f) table → IsChanged before (Err f) (if_seated (record { body = body; table = table }))
+-- an Update whose managers have no place is refused as the table says
+pub unplaced : (before : State) (body : bodies.Body) (table : Table) (f : Refusal) → IsSeated before.table (Err f) table
+    → IsChanged before (Err f) (if_seated (record { body = body; table = table }))
 unplaced before body table (Conflict clashes) given = absurd given
 unplaced before body table TooManyPaths given = absurd given
-unplaced before body table TooManyManagers given =
-    (model.too_many_managers, ap (λ b. if b then Err too_many_managers else Ok (record { body = body; table = table })) (more most_managers (length table) given), refl)
+unplaced before body table TooManyManagers given = (
+  model.too_many_managers,
+  ap (λ b. if b then Err too_many_managers else Ok (record { body = body; table = table }))
+      (more most_managers (length table) given),
+  refl,
+)
 unplaced before body table OutOfMemory given = tt

@@ -22,7 +22,8 @@ use Rattle.ssa_merge.specs.declared.entry_fault.EntryFault.TheVariants.{TooManyM
 use Rattle.ssa_merge.specs.declared.entry_members.Said.{Said}
 
 -- a fault of what is owned is the entry's
-pub owned_goes_on : {B : Type 0} (f : EntryFault) (o : Option model.EntryFault) (s : Result B model.EntryFault) → ((g : model.EntryFault) → o ≡ Some g → s ≡ Err g) → TellsOwned (Err f) o → GivesEntries {A = B} (Err f) s
+pub owned_goes_on : {B : Type 0} (f : EntryFault) (o : Option model.EntryFault) (s : Result B model.EntryFault)
+    → ((g : model.EntryFault) → o ≡ Some g → s ≡ Err g) → TellsOwned (Err f) o → GivesEntries {A = B} (Err f) s
 owned_goes_on OutOfMemory r s on h = tt
 owned_goes_on TooManyManagers r s on h = (h.0, on h.0 h.1, h.2)
 owned_goes_on BadEntry r s on h = (h.0, on h.0 h.1, h.2)
@@ -42,9 +43,15 @@ module _ (body : Body) (version : Text) (before : Table) where
   abbrev entry : Json → Result Entry model.EntryFault
   entry v = value_entry readings body version before v
 
+  -- the entry that the members of a value say
   abbrev pub entry_of : Said → Entry
-  entry_of s = record { manager = record { name = s.name.now; operation = operation_view s.operation }; owned = said_set json_reading (view s.fields.now); moment = s.time.now }
+  entry_of s = record {
+    manager = record { name = s.name.now; operation = operation_view s.operation };
+    owned = said_set json_reading (view s.fields.now);
+    moment = s.time.now;
+  }
 
+  -- the first fault, in the order of the tests: the name, the version, the moment, the set's elements, what is owned
   abbrev pub fault_in : Bool → Bool → Bool → List ElementFault → Option model.EntryFault → Option model.EntryFault
   fault_in name same moment fs last =
       if not name then Some manager_name
@@ -52,42 +59,64 @@ module _ (body : Body) (version : Text) (before : Table) where
       else (if not moment then Some bad_moment
       else (elim fs [ f ∷ gs ↦ Some (of_fields f) | [] ↦ last ])))
 
+  -- the first fault of what the members of a value say
   abbrev pub fault_of : Said → Option model.EntryFault
-  fault_of s = fault_in (is_manager_name s.name.now) (same_text s.version.now version) (is_moment s.time.now) (fields_faults json_reading (view s.fields.now)) (owned_fault body before (entry_of s))
+  fault_of s = fault_in (is_manager_name s.name.now) (same_text s.version.now version) (is_moment s.time.now) (fields_faults json_reading (view s.fields.now))
+      (owned_fault body before (entry_of s))
 
+  -- the fault where there is one, else the entry
   abbrev pub result_of : Option model.EntryFault → Entry → Result Entry model.EntryFault
   result_of fault e = elim fault [ Some f ↦ Err f | None ↦ Ok e ]
 
   as_said : (ms : Members) (s : Said) → Says ms s → entry (object ms) ≡ result_of (fault_of s) (entry_of s)
   as_said ms s says =
       let word : operation_in ms ≡ operation_view s.operation = ap (λ o. elim o as (λ _. Operation) [ Some x ↦ x | None ↦ applies ]) (sym says.operation) in
-      let same : said_entry readings ms ≡ entry_of s = λ i. record { manager = record { name = sym says.name i; operation = word i }; owned = said_set json_reading (sym says.fields i); moment = sym says.time i } in
-      ap (λ t. if not t then Err bad_entry else (elim (entry_fault readings body version before ms) [ Some f ↦ Err f | None ↦ Ok (said_entry readings ms) ])) says.entry
-      ∙ (λ i. result_of (fault_in (is_manager_name (sym says.name i)) (same_text (sym says.version i) version) (is_moment (sym says.time i)) (fields_faults json_reading (sym says.fields i)) (owned_fault body before (same i))) (same i))
+      let same : said_entry readings ms ≡ entry_of s = λ i. record {
+        manager = record { name = sym says.name i; operation = word i };
+        owned = said_set json_reading (sym says.fields i);
+        moment = sym says.time i;
+      } in
+      ap (λ t. if not t then Err bad_entry else (elim (entry_fault readings body version before ms) [ Some f ↦ Err f | None ↦ Ok (said_entry readings ms) ]))
+      says.entry
+      ∙ (λ i. result_of (fault_in (is_manager_name (sym says.name i)) (same_text (sym says.version i) version) (is_moment (sym says.time i))
+      (fields_faults json_reading (sym says.fields i)) (owned_fault body before (same i))) (same i))
 
+  -- a value whose members stand in their order gives the entry that they say, or its first fault
   pub in_order : (v : Json) (s : Said) → SaysIn v s → entry v ≡ result_of (fault_of s) (entry_of s)
   in_order (object ms) s says = as_said ms s says
   in_order (scalar x) s says = absurd says
   in_order (list vs) s says = absurd says
 
   -- an entry that has passed all tests before that of what it owns
-  pub passed : (v : Json) (s : Said) (name : Text) (owned : PathSet) (moment : Text) → SaysIn v s → is_manager_name s.name.now ≡ true → same_text s.version.now version ≡ true → is_moment s.time.now ≡ true
+  pub passed : (v : Json) (s : Said) (name : Text) (owned : PathSet) (moment : Text) → SaysIn v s → is_manager_name s.name.now ≡ true
+      → same_text s.version.now version ≡ true → is_moment s.time.now ≡ true
       → fields_faults json_reading (view s.fields.now) ≡ [] → name ≡ s.name.now → owned ≡ said_set json_reading (view s.fields.now) → moment ≡ s.time.now
-      → entry v ≡ result_of (owned_fault body before (owning (record { name = name; operation = operation_view s.operation }) owned)) (record { manager = record { name = name; operation = operation_view s.operation }; owned = owned; moment = moment })
+      → entry v ≡ result_of (owned_fault body before (owning (record { name = name; operation = operation_view s.operation }) owned))
+      (record { manager = record { name = name; operation = operation_view s.operation }; owned = owned; moment = moment })
   passed v s name owned moment says named same timed faultless name_is owned_is moment_is =
       in_order v s says
       ∙ (λ i. result_of (fault_in (named i) (same i) (timed i) (faultless i) (owned_fault body before (entry_of s))) (entry_of s))
-      ∙ (λ i. let e : Entry = record { manager = record { name = sym name_is i; operation = operation_view s.operation }; owned = sym owned_is i; moment = sym moment_is i } in
+      ∙ (λ i. let e : Entry = record {
+        manager = record { name = sym name_is i; operation = operation_view s.operation };
+        owned = sym owned_is i;
+        moment = sym moment_is i;
+      } in
       result_of (owned_fault body before e) e)
 
-  pub owned-fault : (v : Json) (o : Option model.EntryFault) (e : Entry) (f : EntryFault) → entry v ≡ result_of o e → TellsOwned (Err f) o → GivesEntries {A = Entry} (Err f) (entry v)
+  -- a fault that is told of what an entry owns is the fault of the entry's value
+  pub owned-fault : (v : Json) (o : Option model.EntryFault) (e : Entry) (f : EntryFault) → entry v ≡ result_of o e → TellsOwned (Err f) o
+      → GivesEntries {A = Entry} (Err f) (entry v)
   owned-fault v o e f is h = owned_goes_on f o (entry v) (λ g one. is ∙ ap (λ x. result_of x e) one) h
 
+  -- a value without a fault gives its entry
   pub no-fault : (v : Json) (o : Option model.EntryFault) (e : Entry) → entry v ≡ result_of o e → o ≡ None → entry v ≡ Ok e
   no-fault v o e is none = is ∙ ap (λ x. result_of x e) none
 
-pub whole : (v : Json) (s : Said) (version name : Text) (fields : Json) (moment : Text) → SaysIn v s → s.version.now ≡ version → name ≡ s.name.now → fields ≡ view s.fields.now → moment ≡ s.time.now
+-- a value is that with the members of an entry that says the same version, paths, name and moment
+pub whole : (v : Json) (s : Said) (version name : Text) (fields : Json) (moment : Text) → SaysIn v s → s.version.now ≡ version → name ≡ s.name.now
+    → fields ≡ view s.fields.now → moment ≡ s.time.now
     → object (members_saying version fields name (operation_view s.operation) moment) ≡ v
-whole (object ms) s version name fields moment says v n f t = (λ i. object (members_saying (sym v i) (f i) (n i) (operation_view s.operation) (t i))) ∙ ap object (sym says.whole)
+whole (object ms) s version name fields moment says v n f t = (λ i. object (members_saying (sym v i) (f i) (n i) (operation_view s.operation) (t i)))
+    ∙ ap object (sym says.whole)
 whole (scalar x) s version name fields moment says v n f t = absurd says
 whole (list vs) s version name fields moment says v n f t = absurd says

@@ -19,11 +19,9 @@ use Rattle.ssa_json.specs.View.{view, members_view}
 use Rattle.ssa_json.specs.declared.value.Json as json
 use Rattle.ssa_model.proofs.Tables.{same_text-true}
 use Rattle.ssa_merge.specs.EntryReading.{members_saying}
+use Rattle.ssa_model.proofs.Basics.{some-same as some-is}
 
 -- ---- what stands at a name
-
-some-is : {A : Type 0} (x y : A) → ◌≡◌ {A = Option A} (Some x) (Some y) → x ≡ y
-some-is x y h = cc
 
 member-tested : (ms : Members) (n : Text) (v : Json) → are_entry_members ms ≡ true → member_of n ms ≡ Some v → is_entry_member n v ≡ true
 member-tested no_members n v are is = cc
@@ -45,7 +43,8 @@ text-is (scalar (text t)) h = refl
 text-is _ h = absurd (true≢false (sym h))
 
 -- a member that is a text wherever it stands
-text-there : (ms : Members) (n : Text) → are_entry_members ms ≡ true → has_member n ms ≡ true → ((v : Json) → is_entry_member n v ≡ true → is_text v ≡ true) → member_of n ms ≡ Some (text_json (text_at n ms))
+text-there : (ms : Members) (n : Text) → are_entry_members ms ≡ true → has_member n ms ≡ true → ((v : Json) → is_entry_member n v ≡ true → is_text v ≡ true)
+    → member_of n ms ≡ Some (text_json (text_at n ms))
 text-there ms n are has tests =
     elim (member_of n ms) as (λ o. member_of n ms ≡ o → is_some o ≡ true → o ≡ Some (text_json (text_in o))) [
       | None ↦ λ _ none. absurd (true≢false (sym none))
@@ -54,16 +53,21 @@ text-there ms n are has tests =
 
 fields-there : (ms : Members) → has_member (codes "fieldsV1") ms ≡ true → member_of (codes "fieldsV1") ms ≡ Some (fields_in ms)
 fields-there ms has =
-    elim (member_of (codes "fieldsV1") ms) as (λ o. is_some o ≡ true → o ≡ Some (value_in o)) [ None ↦ λ none. absurd (true≢false (sym none)) | Some v ↦ λ _. refl ] has
+    elim (member_of (codes "fieldsV1") ms) as (λ o. is_some o ≡ true
+    → o ≡ Some (value_in o)) [ None ↦ λ none. absurd (true≢false (sym none)) | Some v ↦ λ _. refl ] has
 
+-- a text that says an operation is the word of that operation
 pub operation-word : (t : Text) (o : Operation) → operation_of t ≡ Some o → t ≡ operation_text o
 operation-word t o is =
-    elim (same_text t (codes "Apply")) as (λ a. same_text t (codes "Apply") ≡ a → ◌≡◌ {A = Option Operation} (if a then Some applies else (if same_text t (codes "Update") then Some updates else None)) (Some o) → t ≡ operation_text o) [
+    elim (same_text t (codes "Apply")) as (λ a. same_text t (codes "Apply") ≡ a
+    → ◌≡◌ {A = Option Operation} (if a then Some applies else (if same_text t (codes "Update") then Some updates else None)) (Some o)
+    → t ≡ operation_text o) [
       | true ↦ λ a here. same_text-true t (codes "Apply") a ∙ ap operation_text (some-is applies o here)
-      | false ↦ λ _ later. elim (same_text t (codes "Update")) as (λ u. same_text t (codes "Update") ≡ u → ◌≡◌ {A = Option Operation} (if u then Some updates else None) (Some o) → t ≡ operation_text o) [
-        | true ↦ λ u here. same_text-true t (codes "Update") u ∙ ap operation_text (some-is updates o here)
-        | false ↦ λ _ none. cc
-      ] refl later
+      | false ↦ λ _ later. elim (same_text t (codes "Update")) as (λ u. same_text t (codes "Update") ≡ u
+          → ◌≡◌ {A = Option Operation} (if u then Some updates else None) (Some o) → t ≡ operation_text o) [
+            | true ↦ λ u here. same_text-true t (codes "Update") u ∙ ap operation_text (some-is updates o here)
+            | false ↦ λ _ none. cc
+          ] refl later
     ] refl is
 
 -- ---- members as entries of a map in order
@@ -90,7 +94,8 @@ find-member : (es : List Found) (q : Text) → find (slice_cmp nat_cmp) q (pairs
 find-member [] q = refl
 find-member (e ∷ es) q = ap (λ o. if same_text q (string_bytes e.0) then Some (view e.1) else o) (find-member es q)
 
-sorted-below : (e : Found) (es : List Found) → AllByRecursion (λ y. string_cmp e.0 y ≡ Less) (keys_of es) → T (below_all (slice_cmp nat_cmp) (string_bytes e.0) (pairs es))
+sorted-below : (e : Found) (es : List Found) → AllByRecursion (λ y. string_cmp e.0 y ≡ Less) (keys_of es)
+    → T (below_all (slice_cmp nat_cmp) (string_bytes e.0) (pairs es))
 sorted-below e [] h = tt
 sorted-below e (f ∷ es) h = subst (λ o. T (is_lt o && below_all (slice_cmp nat_cmp) (string_bytes e.0) (pairs es))) (sym h.0) (sorted-below e es h.1)
 
@@ -111,18 +116,22 @@ six version fields name operation time =
     ∷ (codes "manager", text_json name) ∷ (codes "operation", text_json (operation_text operation)) ∷ (codes "time", text_json time) ∷ []
 
 module _ (ms : Members) (are : are_entry_members ms ≡ true) where
-  at : (n q : Text) (v : Json) (rest : Option Json) → member_of n ms ≡ Some v → (same_text q n ≡ false → member_of q ms ≡ rest) → member_of q ms ≡ (if same_text q n then Some v else rest)
+  at : (n q : Text) (v : Json) (rest : Option Json) → member_of n ms ≡ Some v → (same_text q n ≡ false → member_of q ms ≡ rest)
+      → member_of q ms ≡ (if same_text q n then Some v else rest)
   at n q v rest here other =
       elim (same_text q n) as (λ t. same_text q n ≡ t → (t ≡ false → member_of q ms ≡ rest) → member_of q ms ≡ (if t then Some v else rest)) [
         | true ↦ λ t _. ap (λ x. member_of x ms) (same_text-true q n t) ∙ here
         | false ↦ λ _ go. go refl
       ] refl other
 
-  text-at : (n : Text) → has_member n ms ≡ true → ((v : Json) → is_entry_member n v ≡ true → is_text v ≡ true) → member_of n ms ≡ Some (text_json (text_at n ms))
+  text-at : (n : Text) → has_member n ms ≡ true → ((v : Json) → is_entry_member n v ≡ true → is_text v ≡ true)
+      → member_of n ms ≡ Some (text_json (text_at n ms))
   text-at n has tests = text-there ms n are has tests
 
-  alike : (o : Operation) (q : Text) → list_all (λ n. has_member n ms) (codes "fieldsV1" ∷ entry_texts) ≡ true → same_text (text_at (codes "fieldsType") ms) (codes "FieldsV1") ≡ true → operation_of (text_at (codes "operation") ms) ≡ Some o
-      → member_of q ms ≡ find (slice_cmp nat_cmp) q (six (text_at (codes "apiVersion") ms) (fields_in ms) (text_at (codes "manager") ms) o (text_at (codes "time") ms))
+  alike : (o : Operation) (q : Text) → list_all (λ n. has_member n ms) (codes "fieldsV1" ∷ entry_texts) ≡ true
+      → same_text (text_at (codes "fieldsType") ms) (codes "FieldsV1") ≡ true → operation_of (text_at (codes "operation") ms) ≡ Some o
+      → member_of q ms ≡ find (slice_cmp nat_cmp) q (six (text_at (codes "apiVersion") ms) (fields_in ms) (text_at (codes "manager") ms) o
+      (text_at (codes "time") ms))
   alike o q all kind word =
       let a = second_so (has_member (codes "fieldsV1") ms) _ all in
       let b = second_so (has_member (codes "apiVersion") ms) _ a in
@@ -130,21 +139,26 @@ module _ (ms : Members) (are : are_entry_members ms ≡ true) where
       let d = second_so (has_member (codes "manager") ms) _ c in
       let e = second_so (has_member (codes "operation") ms) _ d in
       at (codes "apiVersion") q _ _ (text-at (codes "apiVersion") (first_so (has_member (codes "apiVersion") ms) _ a) (λ v h. h)) (λ f0.
-      at (codes "fieldsType") q _ _ (text-at (codes "fieldsType") (first_so (has_member (codes "fieldsType") ms) _ b) (λ v h. h) ∙ ap (λ t. Some (text_json t)) (same_text-true _ _ kind)) (λ f1.
+      at (codes "fieldsType") q _ _ (text-at (codes "fieldsType") (first_so (has_member (codes "fieldsType") ms) _ b) (λ v h. h)
+      ∙ ap (λ t. Some (text_json t)) (same_text-true _ _ kind)) (λ f1.
       at (codes "fieldsV1") q _ _ (fields-there ms (first_so (has_member (codes "fieldsV1") ms) _ all)) (λ f2.
       at (codes "manager") q _ _ (text-at (codes "manager") (first_so (has_member (codes "manager") ms) _ c) (λ v h. h)) (λ f3.
-      at (codes "operation") q _ _ (text-at (codes "operation") (first_so (has_member (codes "operation") ms) _ d) (λ v h. h) ∙ ap (λ t. Some (text_json t)) (operation-word _ o word)) (λ f4.
+      at (codes "operation") q _ _ (text-at (codes "operation") (first_so (has_member (codes "operation") ms) _ d) (λ v h. h)
+      ∙ ap (λ t. Some (text_json t)) (operation-word _ o word)) (λ f4.
       at (codes "time") q _ _ (text-at (codes "time") (first_so (has_member (codes "time") ms) _ e) (λ v h. h)) (λ f5.
       other-none ms q are (λ v i. f2 i || ((f0 i || (f1 i || (f3 i || (f4 i || (f5 i || false))))) && is_text v))))))))
 
 -- the members of a map that are an entry's are those that it is written with
 pub members-whole : (es : List Found) (o : Operation) → IsStrictlySortedBy string_cmp (keys_of es) → are_entry_members (members_view es) ≡ true
     → list_all (λ n. has_member n (members_view es)) (codes "fieldsV1" ∷ entry_texts) ≡ true
-    → same_text (text_at (codes "fieldsType") (members_view es)) (codes "FieldsV1") ≡ true → operation_of (text_at (codes "operation") (members_view es)) ≡ Some o
-    → members_view es ≡ members_saying (text_at (codes "apiVersion") (members_view es)) (fields_in (members_view es)) (text_at (codes "manager") (members_view es)) o (text_at (codes "time") (members_view es))
+    → same_text (text_at (codes "fieldsType") (members_view es)) (codes "FieldsV1") ≡ true
+    → operation_of (text_at (codes "operation") (members_view es)) ≡ Some o
+    → members_view es ≡ members_saying (text_at (codes "apiVersion") (members_view es)) (fields_in (members_view es))
+    (text_at (codes "manager") (members_view es)) o (text_at (codes "time") (members_view es))
 unfolding as_members
 members-whole es o sorted are all kind word =
     let ms = members_view es in
     let given = six (text_at (codes "apiVersion") ms) (fields_in ms) (text_at (codes "manager") ms) o (text_at (codes "time") ms) in
     members-are es
-    ∙ ap as_members (same_entries (slice_cmp nat_cmp) nat_list_cmp_total (slice_cmp-IsAntisymmetric nat_cmp-IsAntisymmetric) (pairs es) given (pairs-sorted es sorted) tt (λ q. find-member es q ∙ alike ms are o q all kind word))
+    ∙ ap as_members (same_entries (slice_cmp nat_cmp) nat_list_cmp_total (slice_cmp-IsAntisymmetric nat_cmp-IsAntisymmetric) (pairs es) given
+    (pairs-sorted es sorted) tt (λ q. find-member es q ∙ alike ms are o q all kind word))

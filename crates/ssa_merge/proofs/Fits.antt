@@ -17,25 +17,25 @@ module _ (kind : Kind) where
   abbrev of_kind : State → Type 0
   of_kind s = IsBodyOf kind s.body
 
-  apply_fits : (state : State) (a : ManagerKey) (config : Body) (force : Bool) (at : Text) (after : State) → IsBodyOf kind state.body → IsBodyOf kind config → apply state a config force at ≡ Ok after → IsBodyOf kind after.body
+  apply_fits : (state : State) (a : ManagerKey) (config : Body) (force : Bool) (at : Text) (after : State) → IsBodyOf kind state.body → IsBodyOf kind config
+      → apply state a config force at ≡ Ok after → IsBodyOf kind after.body
   apply_fits state a config force at after g h e = subst of_kind (applied_is state after a config force at e).0 (pruned_fits kind state a config g h)
 
-  update_fits : (state : State) (u : ManagerKey) (object : Body) (at : Text) (after : State) → IsBodyOf kind object → update state u object at ≡ Ok after → IsBodyOf kind after.body
+  update_fits : (state : State) (u : ManagerKey) (object : Body) (at : Text) (after : State) → IsBodyOf kind object → update state u object at ≡ Ok after
+      → IsBodyOf kind after.body
   update_fits state u object at after h e = subst of_kind (updated_is state after u object at e).0 h
 
 -- ---- of plans
 
-pub applied_fits : (state : State) (a : ManagerKey) (config : Body) (force : Bool) (at : Text) (r : Result Plan Refusal) → IsPlanned state r (apply state a config force at)
+-- the body that an Apply is planned to lead to is of the kind that the live body and the configuration are of
+pub applied_fits : (state : State) (a : ManagerKey) (config : Body) (force : Bool) (at : Text) (r : Result Plan Refusal)
+    → IsPlanned state r (apply state a config force at)
     → IfOk r (λ p. (kind : Kind) → IsBodyOf kind state.body → IsBodyOf kind config → IsBodyOf kind p.target.body)
 applied_fits state a config force at (Ok p) h = λ kind g k. subst (of_kind kind) (sym h.2.target_is) (apply_fits kind state a config force at h.0 g k h.1)
 applied_fits state a config force at (Err f) h = tt
 
+-- the body that an Update is planned to lead to is of the kind that its object is of
 pub updated_fits : (state : State) (u : ManagerKey) (object : Body) (at : Text) (r : Result Plan Refusal) → IsPlanned state r (update state u object at)
     → IfOk r (λ p. (kind : Kind) → IsBodyOf kind object → IsBodyOf kind p.target.body)
 updated_fits state u object at (Ok p) h = λ kind k. subst (of_kind kind) (sym h.2.target_is) (update_fits kind state u object at h.0 k h.1)
 updated_fits state u object at (Err f) h = tt
-
--- what follows for each plan follows for the one that is made
-pub if_planned : (r : Result Plan Refusal) (P Q : Plan → Type 0) → ((p : Plan) → P p → Q p) → IfOk r P → IfOk r Q
-if_planned (Ok p) P Q f h = f p h
-if_planned (Err e) P Q f h = tt

@@ -12,6 +12,7 @@ use Rattle.ssa_path.specs.Meet.{meet}
 use Rattle.ssa_typed.specs.Reached.{PointsKeepAll, PointsTellPlaces}
 use Rattle.ssa_merge.specs.Absent.{absent}
 use Rattle.ssa_merge.specs.Tables.{entry_of}
+use Rattle.ssa_model.proofs.Basics.{and-true as whatever}
 
 both : (a b c : Bool) → ((a && b) && c) ≡ (a && (b && c))
 both true b c = refl
@@ -25,6 +26,7 @@ twice ps f g = same_sets _ _ (λ q.
     ∙ both (is_one_of ps q) (f q) (g q)
     ∙ sym (has-set_of ps (λ p. f p && g p) q))
 
+-- the set that has the root and nothing else
 abbrev pub only_root : PathSet
 only_root = insert [] tt empty
 
@@ -44,11 +46,13 @@ neither false false there h = ap not (sym h)
 
 -- what has no point of the configuration at or below it, and is not the root, it leaves out
 pub unreached : (own : PathSet) (config : model.Body) → PointsTellPlaces config
-    → set_of (paths (set_of (paths own) (λ p. not (has_at_or_below (model.points config) p)))) (λ p. not (is_root p)) ≡ set_of (paths own) (λ p. not (has config p))
+    → set_of (paths (set_of (paths own) (λ p. not (has_at_or_below (model.points config) p)))) (λ p. not (is_root p))
+    ≡ set_of (paths own) (λ p. not (has config p))
 unreached own config law =
     twice (paths own) (λ p. not (has_at_or_below (model.points config) p)) (λ p. not (is_root p))
     ∙ (λ i. set_of (paths own) (λ p. neither (is_root p) (has_at_or_below (model.points config) p) (has config p) (law p) i))
 
+-- the paths that an entry owns, none where there is no entry
 abbrev pub set_in : Option Entry → PathSet
 set_in None = empty
 set_in (Some e) = e.owned
@@ -62,26 +66,32 @@ pub owned-entry : (table : Table) (a : ManagerKey) → owned_by table a ≡ set_
 owned-entry [] a = refl
 owned-entry (e ∷ es) a = picked (same_manager e.manager a) e (owned_by es a) (entry_of es a) (owned-entry es a)
 
-pub absent-of : (state : State) (a : ManagerKey) (config : model.Body) (o : Option Entry) → o ≡ entry_of state.table a → set_of (paths (set_in o)) (λ g. not (has config g)) ≡ absent state a config
+-- what an applier's entry owns and the configuration has not is what it leaves out
+pub absent-of : (state : State) (a : ManagerKey) (config : model.Body) (o : Option Entry) → o ≡ entry_of state.table a
+    → set_of (paths (set_in o)) (λ g. not (has config g)) ≡ absent state a config
 absent-of state a config o is = λ i. set_of (paths ((ap set_in is ∙ sym (owned-entry state.table a)) i)) (λ g. not (has config g))
 
 -- what is given up of what is left out
-pub dropped-absent : (state : State) (a : ManagerKey) (config : model.Body) (left others : PathSet) → left ≡ absent state a config → others ≡ owned_by_others state.table a
+pub dropped-absent : (state : State) (a : ManagerKey) (config : model.Body) (left others : PathSet) → left ≡ absent state a config
+    → others ≡ owned_by_others state.table a
     → set_of (paths left) (λ g. not (is_key_field g) && not (has_at_or_below others g)) ≡ dropped state a config
 dropped-absent state a config left others is same =
     (λ i. set_of (paths (is i)) (λ g. not (is_key_field g) && not (has_at_or_below (same i) g)))
     ∙ twice (paths (owned_by state.table a)) (λ g. not (has config g)) (λ g. not (is_key_field g) && not (has_at_or_below (owned_by_others state.table a) g))
 
 no-entries : (s : PathSet) → is_empty s ≡ true → paths s ≡ []
-no-entries s h = elim s.entries as (λ es. elim es [ [] ↦ true | e ∷ rest ↦ false ] ≡ true → map (λ e. e.0) es ≡ []) [ [] ↦ λ k. refl | e ∷ es ↦ λ k. absurd (true≢false (sym k)) ] h
+no-entries s h = elim s.entries as (λ es. elim es [ [] ↦ true | e ∷ rest ↦ false ] ≡ true
+    → map (λ e. e.0) es ≡ []) [ [] ↦ λ k. refl | e ∷ es ↦ λ k. absurd (true≢false (sym k)) ] h
 
-none-dropped : (state : State) (a : ManagerKey) (config : model.Body) (left : PathSet) → left ≡ absent state a config → is_empty left ≡ true → dropped state a config ≡ empty
+none-dropped : (state : State) (a : ManagerKey) (config : model.Body) (left : PathSet) → left ≡ absent state a config → is_empty left ≡ true
+    → dropped state a config ≡ empty
 none-dropped state a config left is none =
     sym (dropped-absent state a config left (owned_by_others state.table a) is refl)
     ∙ ap (λ ps. set_of ps (λ g. not (is_key_field g) && not (has_at_or_below (owned_by_others state.table a) g))) (no-entries left none)
 
 -- where nothing is left out, all of the merged body stays
-pub all-stays : (state : State) (a : ManagerKey) (config merged : model.Body) (left : PathSet) → left ≡ absent state a config → is_empty left ≡ true → merged ≡ model.over state.body config → PointsKeepAll merged → merged ≡ pruned state a config
+pub all-stays : (state : State) (a : ManagerKey) (config merged : model.Body) (left : PathSet) → left ≡ absent state a config → is_empty left ≡ true
+    → merged ≡ model.over state.body config → PointsKeepAll merged → merged ≡ pruned state a config
 all-stays state a config merged left is none made law =
     sym (law (kept state a config) there) ∙ ap (λ b. model.restricted b (λ p. is_root p || has_at_or_below (kept state a config) p)) made
   where
@@ -90,7 +100,8 @@ all-stays state a config merged left is none made law =
 
     there : (p : Path) → has (model.points merged) p ≡ true → has (kept state a config) p ≡ true
     there p h =
-        has-union (set_of (paths (model.points (model.over state.body config))) (λ q. not (has_at_or_above (dropped state a config) q))) (union (owned_by_others state.table a) (model.points config)) p
+        has-union (set_of (paths (model.points (model.over state.body config))) (λ q. not (has_at_or_above (dropped state a config) q)))
+        (union (owned_by_others state.table a) (model.points config)) p
         ∙ true_or _ _
         (has-set_of (paths (model.points (model.over state.body config))) (λ q. not (has_at_or_above (dropped state a config) q)) p
         ∙ (λ i. point i && not (spared p i)))
@@ -98,8 +109,19 @@ all-stays state a config merged left is none made law =
         point : is_one_of (paths (model.points (model.over state.body config))) p ≡ true
         point = sym (has-paths (model.points (model.over state.body config)) p) ∙ ap (λ b. has (model.points b) p) (sym made) ∙ h
 
+-- what stays of the merged body where something is given up
+pub stay-pruned : (state : State) (a : ManagerKey) (config merged : model.Body) (stay gone others points : PathSet) → merged ≡ model.over state.body config
+    → gone ≡ dropped state a config → others ≡ owned_by_others state.table a → points ≡ model.points config
+    → stay ≡ union (set_of (paths (model.points merged)) (λ p. not (has_at_or_above gone p))) (union others points)
+    → model.restricted merged (λ p. is_root p || has_at_or_below stay p) ≡ pruned state a config
+stay-pruned state a config merged stay gone others points made gone_is others_are points_are is =
+    ap (λ s. model.restricted merged (λ p. is_root p || has_at_or_below s p)) is
+    ∙ (λ i. model.restricted (made i) (λ p. is_root p || has_at_or_below
+    (union (set_of (paths (model.points (made i))) (λ q. not (has_at_or_above (gone_is i) q))) (union (others_are i) (points_are i))) p))
+
 -- ---- an empty set
 
+-- a set that is found empty is the empty set
 pub is_empty-true : (s : PathSet) → is_empty s ≡ true → s ≡ empty
 is_empty-true s h = same_sets s empty (λ p. has-paths s p ∙ ap (λ ps. is_one_of ps p) (no-entries s h))
 
@@ -110,6 +132,7 @@ without_none true true h = absurd (true≢false h)
 without_none true false h = refl
 without_none false b h = refl
 
+-- a set that shares nothing with another loses nothing by it
 pub minus-none : (s t : PathSet) → is_empty (meet s t) ≡ true → s ≡ minus s t
 minus-none s t h =
     same_sets _ _ (λ p.
@@ -129,12 +152,11 @@ minus-meet s t =
 
 -- ---- what an Update leaves
 
-whatever : (b : Bool) → (b && true) ≡ b
-whatever true = refl
-whatever false = refl
-
+-- what is added to no path is the whole set
 pub empty_union : (s : PathSet) → union empty s ≡ s
 empty_union s = same_sets _ _ (λ q. has-set_of (paths s) (λ p. true) q ∙ whatever (is_one_of (paths s) q) ∙ sym (has-paths s q))
 
-pub owned-after : (table : Table) (a : ManagerKey) (o : Option Entry) (gone gained : PathSet) → o ≡ entry_of table a → union (minus (set_in o) gone) gained ≡ union (minus (owned_by table a) gone) gained
+-- what a manager owns after an Update may be told by its entry: what was there without what is gone, with what is gained
+pub owned-after : (table : Table) (a : ManagerKey) (o : Option Entry) (gone gained : PathSet) → o ≡ entry_of table a
+    → union (minus (set_in o) gone) gained ≡ union (minus (owned_by table a) gone) gained
 owned-after table a o gone gained is = λ i. union (minus ((ap set_in is ∙ sym (owned-entry table a)) i) gone) gained

@@ -13,6 +13,7 @@ use Rattle.ssa_merge.specs.EntryReading.{first_of}
 
 -- ---- those that nobody can own
 
+-- the paths that nobody ever owns: the root and metadata
 abbrev pub never : PathSet
 never = insert metadata_path tt (insert [] tt empty)
 
@@ -25,6 +26,7 @@ either-way true false n = refl
 either-way true true true = refl
 either-way true true false = refl
 
+-- the paths of a set that a body has not, with those that nobody ever owns, are those that cannot be owned in it
 pub not_ownable-is : (b : Body) (s : PathSet) → union (set_of (paths s) (λ p. not (has b p))) (meet s never) ≡ set_of (paths s) (λ p. not (is_ownable b p))
 not_ownable-is b s = same_sets _ _ (λ q.
     let there = sym (has-paths s q) in
@@ -36,16 +38,20 @@ not_ownable-is b s = same_sets _ _ (λ q.
     ∙ sym (has-set_of (paths s) (λ p. not (is_ownable b p)) q))
 
 -- the first path of those that nobody can own
-pub first-refused : (b : Body) (s refused : PathSet) → refused ≡ set_of (paths s) (λ p. not (is_ownable b p)) → first_of (paths refused) ≡ first_of (not_ownable b s)
+pub first-refused : (b : Body) (s refused : PathSet) → refused ≡ set_of (paths s) (λ p. not (is_ownable b p))
+    → first_of (paths refused) ≡ first_of (not_ownable b s)
 first-refused b s refused is = ap (λ r. first_of (paths r)) is ∙ ap first_of (paths-tested s (λ p. not (is_ownable b p)))
 
+-- an empty set has no first path
 pub first-none : (s : PathSet) → is_empty s ≡ true → first_of (paths s) ≡ None
 first-none s h =
-    elim s.entries as (λ es. (elim es [ [] ↦ true | e ∷ es ↦ false ]) ≡ true → first_of (map (λ (e : Path × Unit {0}). e.0) es) ≡ None) [ [] ↦ λ _. refl | e ∷ es ↦ λ some. absurd (true≢false (sym some)) ] h
+    elim s.entries as (λ es. (elim es [ [] ↦ true | e ∷ es ↦ false ]) ≡ true
+    → first_of (map (λ (e : Path × Unit {0}). e.0) es) ≡ None) [ [] ↦ λ _. refl | e ∷ es ↦ λ some. absurd (true≢false (sym some)) ] h
 
 none-long : 1 ≤ 0 → ⊥
 none-long h = omega arith
 
+-- the path that stands at the start of a list is its first
 pub first-listed : (ps : List Path) (p : Path) → 1 ≤ length ps → p ≡ get_or ps 0 p → Some p ≡ first_of ps
 first-listed [] p h is = absurd (none-long h)
 first-listed (q ∷ ps) p h is = ap Some is

@@ -10,9 +10,7 @@ use Rattle.ssa_merge.specs.declared.managers.Entry.{Entry}
 abbrev AreFew : ℕ → Type 0
 AreFew n = n ≤ 64
 
-abbrev AreMany : ℕ → Type 0
-AreMany n = 64 < n
-
+-- a table that is held in at most 64 entries has at most 64
 pub few : (es : List Entry) (given : Table) → table_view es ≡ given → length es ≤ 64 → length given ≤ 64
 few es given same h = subst AreFew (sym (length-map es entry_view) ∙ ap length same) h
 
@@ -24,9 +22,3 @@ full n h = grind (arith, nat_tests)
 
 not_full : (n : ℕ) → (n == 64) ≡ false → n ≤ 64 → n + 1 ≤ 64
 not_full n h le = grind (arith, nat_tests)
-
-pub too_many : (es : List Entry) (given : Table) (e : model.Entry) → table_view es ++ e ∷ [] ≡ given → (length es == 64) ≡ true → 64 < length given
-too_many es given e same h = subst AreMany (one_more es given e same) (full (length es) h)
-
-pub few_more : (es : List Entry) (given : Table) (e : model.Entry) → table_view es ++ e ∷ [] ≡ given → (length es == 64) ≡ false → length es ≤ 64 → length given ≤ 64
-few_more es given e same h le = subst AreFew (one_more es given e same) (not_full (length es) h le)

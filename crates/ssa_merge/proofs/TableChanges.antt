@@ -38,13 +38,19 @@ less-taken e lost taken is some =
 pub acted-renewed : (e : Entry) (owned : PathSet) (changed : Bool) (at : Text) → is_empty owned ≡ false → same_set owned e.owned ≡ true → changed ≡ true
     → record { manager = e.manager; owned = e.owned; moment = at } ∷ [] ≡ filter owns (acted e owned changed at ∷ [])
 acted-renewed e owned changed at some same renewed =
-    (λ i. record { manager = e.manager; owned = sym (same_set-true owned e.owned same) i; moment = if sym renewed i || not (same_set owned e.owned) then at else e.moment } ∷ [])
+    (λ i. record {
+      manager = e.manager;
+      owned = sym (same_set-true owned e.owned same) i;
+      moment = if sym renewed i || not (same_set owned e.owned) then at else e.moment;
+    } ∷ [])
     ∙ kept-if (acted e owned changed at) owned refl some
 
+-- who owns the same paths stays as it is where no field changed
 pub acted-same : (e : Entry) (owned : PathSet) (changed : Bool) (at : Text) → is_empty owned ≡ false → same_set owned e.owned ≡ true → changed ≡ false
     → e ∷ [] ≡ filter owns (acted e owned changed at ∷ [])
 acted-same e owned changed at some same stays =
-    (λ i. record { manager = e.manager; owned = sym (same_set-true owned e.owned same) i; moment = if sym stays i || not (sym same i) then at else e.moment } ∷ [])
+    (λ i. record { manager = e.manager; owned = sym (same_set-true owned e.owned same) i; moment = if sym stays i || not (sym same i) then at else e.moment }
+    ∷ [])
     ∙ kept-if (acted e owned changed at) owned refl some
 
 -- ---- whole tables
@@ -69,13 +75,15 @@ changed-more (b ∷ bs) c (d ∷ ds) e same =
 pub kept-more : (table : Table) (e : Entry) (f : Entry → Entry) → filter owns (map f (table ++ e ∷ [])) ≡ filter owns (map f table) ++ filter owns (f e ∷ [])
 kept-more table e f = ap (filter owns) (map-append f table (e ∷ [])) ∙ filter-append owns (map f table) (f e ∷ [])
 
+-- where the first entries become what they shall and one more does, all of them do
 pub each-more : (cs : List EntryChange) (c : EntryChange) (table : Table) (e : Entry) (f : Entry → Entry) → length cs ≡ length table
     → changed_entries cs table ≡ filter owns (map f table) → changed_entry c e ≡ filter owns (f e ∷ [])
     → changed_entries (cs ++ c ∷ []) (table ++ e ∷ []) ≡ filter owns (map f (table ++ e ∷ []))
 each-more cs c table e f same before here = changed-more cs c table e same ∙ (λ i. before i ++ here i) ∙ sym (kept-more table e f)
 
 -- what becomes of the first entries, and of one more
-pub reseated-more : (es : List merge.Entry) (i : ℕ) (e : merge.Entry) (f : Entry → Entry) (cs : List EntryChange) (c : EntryChange) → i < length es → e ≡ get_or es i e
+pub reseated-more : (es : List merge.Entry) (i : ℕ) (e : merge.Entry) (f : Entry → Entry) (cs : List EntryChange) (c : EntryChange) → i < length es
+    → e ≡ get_or es i e
     → changed_entries cs (table_view (take i es)) ≡ filter owns (map f (table_view (take i es))) → length cs ≡ i
     → changed_entry c (entry_view e) ≡ filter owns (f (entry_view e) ∷ [])
     → changed_entries (cs ++ c ∷ []) (table_view (take (i + 1) es)) ≡ filter owns (map f (table_view (take (i + 1) es)))

@@ -28,60 +28,79 @@ use Rattle.ssa_merge.specs.declared.plan.Refusal.TheVariants.{Conflict, TooManyP
 same_state : (before : State) (c : Change) (after : State) → IsChange before c after → after ≡ changed_state before c.body c.table
 same_state before c after h = λ i. record { body = sym h.body_is i; table = sym h.table_leads.leads i }
 
-pub applied_valid : (state : State) (a : ManagerKey) (config : Body) (force : Bool) (at : Text) (r : Result Change Refusal) → IsChanged state r (apply state a config force at)
-    → IfOk r (λ c. (kind : Kind) → IsValidState kind state → IsBodyOf kind config → IsRooted config → is_manager_name a.name ≡ true → IsValidState kind (changed_state state c.body c.table))
-applied_valid state a config force at (Ok c) h = λ kind valid fits rooted name.
+-- an Apply of a configuration of the state's kind leads from a valid state to a valid one
+pub applied_valid : (state : State) (a : ManagerKey) (config : Body) (force : Bool) (at : Text) (r : Result Change Refusal) → is_manager_name a.name ≡ true
+    → IsRooted config → IsChanged state r (apply state a config force at)
+    → IfOk r (λ c. (kind : Kind) → IsValidState kind state → IsBodyOf kind config → IsValidState kind (changed_state state c.body c.table))
+applied_valid state a config force at (Ok c) name rooted h = λ kind valid fits.
     subst (IsValidState kind) (same_state state c h.0 h.2) (apply_keeps_valid kind state h.0 a config force at valid fits rooted name h.1)
-applied_valid state a config force at (Err f) h = tt
+applied_valid state a config force at (Err f) name rooted h = tt
 
-pub updated_valid : (state : State) (u : ManagerKey) (object : Body) (at : Text) (r : Result Change Refusal) → IsChanged state r (update state u object at)
-    → IfOk r (λ c. (kind : Kind) → IsValidState kind state → IsBodyOf kind object → IsRooted object → size object ≤ most_places → is_manager_name u.name ≡ true → IsValidState kind (changed_state state c.body c.table))
-updated_valid state u object at (Ok c) h = λ kind valid fits rooted few name.
+-- an Update by an object of the state's kind with few enough places leads from a valid state to a valid one
+pub updated_valid : (state : State) (u : ManagerKey) (object : Body) (at : Text) (r : Result Change Refusal) → is_manager_name u.name ≡ true
+    → IsRooted object → IsChanged state r (update state u object at)
+    → IfOk r (λ c. (kind : Kind) → IsValidState kind state → IsBodyOf kind object → size object ≤ most_places
+    → IsValidState kind (changed_state state c.body c.table))
+updated_valid state u object at (Ok c) name rooted h = λ kind valid fits few.
     subst (IsValidState kind) (same_state state c h.0 h.2) (update_keeps_valid kind state h.0 u object at valid fits rooted few name h.1)
-updated_valid state u object at (Err f) h = tt
+updated_valid state u object at (Err f) name rooted h = tt
 
-pub stripped_valid : (state : State) (c : TableChange) → LeadsTo state.table c [] → (kind : Kind) → IsValidState kind state → IsValidState kind (changed_state state None c)
+-- a strip leads from a valid state to a valid one
+pub stripped_valid : (state : State) (c : TableChange) → LeadsTo state.table c [] → (kind : Kind) → IsValidState kind state
+    → IsValidState kind (changed_state state None c)
 stripped_valid state c h kind valid = subst (IsValidState kind) (λ i. record { body = state.body; table = sym h.leads i }) (strip_keeps_valid kind state valid)
 
 -- ---- the managers' order
 
 -- from the state that a change leads to
-changed_order : (before after : State) (c : Change) → IsChange before c after → KeepsOrder before.table after.table → KeepsOrder before.table (changed_table c.table before.table)
+changed_order : (before after : State) (c : Change) → IsChange before c after → KeepsOrder before.table after.table
+    → KeepsOrder before.table (changed_table c.table before.table)
 changed_order before after c h order = subst (λ s. KeepsOrder before.table s.table) (same_state before c after h) order
 
-pub applied_order : (state : State) (a : ManagerKey) (config : Body) (force : Bool) (at : Text) (r : Result Change Refusal) → IsChanged state r (apply state a config force at) → IfOk r (ChangesInOrder state)
+-- the managers that stay after an Apply keep their order
+pub applied_order : (state : State) (a : ManagerKey) (config : Body) (force : Bool) (at : Text) (r : Result Change Refusal)
+    → IsChanged state r (apply state a config force at) → IfOk r (ChangesInOrder state)
 applied_order state a config force at (Ok c) h = λ distinct.
     let changed = modified state.body (pruned state a config) in
     changed_order state h.0 c h.2
-    (subst (λ s. KeepsOrder state.table s.table) (applied_is state h.0 a config force at h.1).0 (operations_keep_order state.table a (points config) changed changed at distinct))
+    (subst (λ s. KeepsOrder state.table s.table) (applied_is state h.0 a config force at h.1).0
+    (operations_keep_order state.table a (points config) changed changed at distinct))
 applied_order state a config force at (Err f) h = tt
 
-pub updated_order : (state : State) (u : ManagerKey) (object : Body) (at : Text) (r : Result Change Refusal) → IsChanged state r (update state u object at) → IfOk r (ChangesInOrder state)
+-- the managers that stay after an Update keep their order
+pub updated_order : (state : State) (u : ManagerKey) (object : Body) (at : Text) (r : Result Change Refusal) → IsChanged state r (update state u object at)
+    → IfOk r (ChangesInOrder state)
 updated_order state u object at (Ok c) h = λ distinct.
     let changed = modified state.body object in
     let gone = removed state.body object in
     let owned = union (minus (owned_by state.table u) gone) (union changed (added state.body object)) in
     changed_order state h.0 c h.2
-    (subst (λ s. KeepsOrder state.table s.table) (updated_is state h.0 u object at h.1).0 (operations_keep_order state.table u owned (union changed gone) changed at distinct))
+    (subst (λ s. KeepsOrder state.table s.table) (updated_is state h.0 u object at h.1).0
+    (operations_keep_order state.table u owned (union changed gone) changed at distinct))
 updated_order state u object at (Err f) h = tt
 
 no_shared : (bs : List ManagerKey) → filter (is_in_table []) bs ≡ []
 no_shared [] = refl
 no_shared (b ∷ bs) = no_shared bs
 
-pub stripped_order : (state : State) (c : TableChange) → LeadsTo state.table c [] → has_distinct_keys state.table ≡ true → KeepsOrder state.table (changed_table c state.table)
+-- a strip keeps the managers' order, since nobody stays
+pub stripped_order : (state : State) (c : TableChange) → LeadsTo state.table c [] → has_distinct_keys state.table ≡ true
+    → KeepsOrder state.table (changed_table c state.table)
 stripped_order state c h distinct = subst (KeepsOrder state.table) (sym h.leads) (no_shared (map (λ e. e.manager) state.table))
 
 -- ---- a plan that completes a change
 
 -- its target is the state after the change
-pub target_of : (before : State) (c : Change) (plan : Plan) (after : State) → IsChange before c after → IsPlan before plan after → changed_state before c.body c.table ≡ state_view plan.target
+pub target_of : (before : State) (c : Change) (plan : Plan) (after : State) → IsChange before c after → IsPlan before plan after
+    → changed_state before c.body c.table ≡ state_view plan.target
 target_of before c plan after h is = sym (same_state before c after h) ∙ sym is.target_is
 
+-- where a change is made, the plan that completes it is planned
 pub completed : (before : State) (change : Change) (plan : Plan) (given : Result State model.Refusal) → IsChanged before (Ok change) given
     → ((after : State) → IsChange before change after → IsPlan before plan after) → IsPlanned before (Ok plan) given
 completed before change plan given h leads = (h.0, h.1, leads h.0 h.2)
 
+-- where a change is refused, so is the plan, by the same refusal
 pub refused : (before : State) (r : Refusal) (given : Result State model.Refusal) → IsChanged before (Err r) given → IsPlanned before (Err r) given
 refused before (Conflict clashes) given h = h
 refused before TooManyPaths given h = h

@@ -10,4 +10,5 @@ use Rattle.ssa_json.specs.Readings.{readings}
 
 -- under each version, where the table is one of the body
 abbrev pub IsTableBack : Table → Type 0
-IsTableBack table = (body : Body) (version : Text) → IsTable body table → table_of readings body version (list (entry_items (text_json version) table)) ≡ Ok table
+IsTableBack table = (body : Body) (version : Text) → IsTable body table
+    → table_of readings body version (list (entry_items (text_json version) table)) ≡ Ok table

@@ -1,10 +1,10 @@
 -- What a change makes of a table.
-use Rattle.std.specs.Prelude.{◌≡◌, ◌≤◌, ◌<◌, Bool, true, false, List, [], ◌∷◌, ◌++◌, length, Option, Some, None, Result, Ok, Err}
+use Rattle.std.specs.Prelude.{◌≡◌, ◌<◌, Bool, true, false, List, [], ◌∷◌, ◌++◌, length, Option, Some, None, Result, Ok, Err}
 use Rattle.ssa_model.specs.definitions.Limits.{most_managers}
 use Rattle.ssa_model.specs.definitions.PathMap.{minus}
 use Rattle.ssa_model.specs.definitions.Table as model
 use Rattle.ssa_model.specs.definitions.Table.{Table, is_in_table}
-use Rattle.ssa_model.specs.definitions.Valid.{AllEntries}
+use Rattle.ssa_model.specs.definitions.Valid.{AllEntries, IsManagers}
 use Rattle.ssa_merge.specs.Managers.{entry_view}
 use Rattle.ssa_merge.specs.declared.managers.Entry.{Entry}
 use Rattle.ssa_merge.specs.declared.table_change.EntryChange.{EntryChange}
@@ -42,11 +42,11 @@ lone (Some e) = entry_view e ∷ []
 abbrev pub changed_table : TableChange → Table → Table
 changed_table c table = changed_entries c.entries.items table ++ lone c.newcomer
 
--- the change leads from one table to another, which has no more managers than it may; a newcomer was not there
+-- the change leads from one table to another, which is one by itself; a newcomer was not there
 pub record LeadsTo (before : Table) (change : TableChange) (after : Table) : Type 0 where
   pub each : length change.entries.items ≡ length before
   pub leads : changed_table change before ≡ after
-  pub few : length after ≤ most_managers
+  pub managers : IsManagers after
   pub new : AllEntries (λ e. is_in_table before e.manager ≡ false) (lone change.newcomer)
 
 -- The change leads to the given table, or that has too many managers; of want of memory nothing is said.

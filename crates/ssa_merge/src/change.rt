@@ -8,7 +8,7 @@ ghost use Rattle.ssa_model.specs.definitions.PathMap.{minus, size, union};
 ghost use Rattle.ssa_model.specs.definitions.Table.{owned_by};
 ghost use Rattle.ssa_model.specs.definitions.Operations as model;
 ghost use Rattle.ssa_model.specs.definitions.Operations.{apply, update, strip, is_none};
-ghost use Rattle.ssa_model.specs.definitions.Valid.{IsRooted, IsValidState};
+ghost use Rattle.ssa_model.specs.definitions.Valid.{AllEntries, IsValidState, OwnsOwnable};
 ghost use Rattle.ssa_typed.specs.Alike.{AreAlike};
 ghost use Rattle.ssa_merge.specs.Managers.{clashes_view, key_view, operation_view};
 ghost use Rattle.ssa_merge.specs.States.{state_view, applier, updater};
@@ -50,7 +50,7 @@ impl Change {
         let managers = table.completed(alloc, &state.managers)?;
         let body = match body {
             Some(body) => body,
-            None => state.body.copy(alloc)?,
+            None => state.body.clone(alloc)?,
         };
         Ok(Plan {
             target: State { body, managers },
@@ -86,7 +86,9 @@ fn applied(
     force: bool,
     at: Moment,
 ) -> Result<Change, Refusal>
-    requires { AreAlike state.now.body config }
+    requires alike { AreAlike state.now.body config }
+    requires named { is_manager_name (key_view key.now).name ≡ true }
+    requires owned { AllEntries (OwnsOwnable state.now.body) state.now.managers }
     ensures { IsChanged (state_view state.now) result (apply (state_view state.now) (key_view key.now) config force at) }
 {
     let points = config.points(alloc)?;
@@ -120,12 +122,15 @@ pub fn change_apply(
     force: bool,
     at: Moment,
 ) -> Result<Change, Refusal>
-    requires { AreAlike state.now.body config }
+    requires alike { AreAlike state.now.body config }
+    requires named { is_manager_name who.now ≡ true }
+    requires owned { AllEntries (OwnsOwnable state.now.body) state.now.managers }
     ensures change { IsChanged (state_view state.now) result (apply (state_view state.now) (applier who.now) config force at) }
-    ensures valid { IfOk result (λ c. (kind : Kind) → IsValidState kind (state_view state.now) → IsBodyOf kind config → IsRooted config → is_manager_name who.now ≡ true → IsValidState kind (changed_state (state_view state.now) c.body c.table)) }
+    ensures valid { IfOk result (λ c. (kind : Kind) → IsValidState kind (state_view state.now) → IsBodyOf kind config → IsValidState kind (changed_state (state_view state.now) c.body c.table)) }
     ensures order { IfOk result (ChangesInOrder (state_view state.now)) }
 {
     let key = key_of(alloc, who, Operation::Apply)?;
+    config.stands_rooted();
     applied(alloc, state, &key, config, force, at)
 }
 
@@ -158,6 +163,7 @@ fn updated(
     object: Body,
     at: Moment,
 ) -> Result<Change, Refusal>
+    requires { is_manager_name (key_view key.now).name ≡ true }
     ensures { IsChanged (state_view state.now) result (update (state_view state.now) (key_view key.now) object at) }
 {
     let comparison = state.body.compare(alloc, &object)?;
@@ -183,11 +189,13 @@ pub fn change_update(
     who: &str,
     at: Moment,
 ) -> Result<Change, Refusal>
+    requires { is_manager_name who.now ≡ true }
     ensures change { IsChanged (state_view state.now) result (update (state_view state.now) (updater who.now) object at) }
-    ensures valid { IfOk result (λ c. (kind : Kind) → IsValidState kind (state_view state.now) → IsBodyOf kind object → IsRooted object → size object ≤ most_places → is_manager_name who.now ≡ true → IsValidState kind (changed_state (state_view state.now) c.body c.table)) }
+    ensures valid { IfOk result (λ c. (kind : Kind) → IsValidState kind (state_view state.now) → IsBodyOf kind object → size object ≤ most_places → IsValidState kind (changed_state (state_view state.now) c.body c.table)) }
     ensures order { IfOk result (ChangesInOrder (state_view state.now)) }
 {
     let key = key_of(alloc, who, Operation::Update)?;
+    object.stands_rooted();
     updated(alloc, state, &key, object, at)
 }
 

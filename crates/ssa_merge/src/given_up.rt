@@ -4,6 +4,7 @@ ghost use Rattle.ssa_model.specs.definitions.PathMap.{has_at_or_above, has_at_or
 ghost use Rattle.ssa_model.specs.definitions.Path.{is_key_field, is_root};
 ghost use Rattle.ssa_model.specs.definitions.Body.{points};
 ghost use Rattle.ssa_model.specs.definitions.Operations.{pruned};
+ghost use Rattle.ssa_model.specs.definitions.Valid.{AllEntries, OwnsOwnable};
 ghost use Rattle.ssa_typed.specs.Alike.{AreAlike};
 ghost use Rattle.ssa_merge.specs.Absent.{absent};
 ghost use Rattle.ssa_merge.specs.Managers.{key_view};
@@ -87,10 +88,12 @@ pub fn pruned(
     config_points: &FieldSet,
 ) -> Result<Body, AllocError>
     requires alike { AreAlike state.now.body config }
+    requires owned { AllEntries (OwnsOwnable state.now.body) state.now.managers }
     requires points { config_points.now ≡ points config }
     ensures { IfOk result (λ b. b ≡ pruned (state_view state.now) (key_view key.now) config) }
 {
     let absent = left_out(alloc, state, key, &config, config_points)?;
+    config.stands_rooted();
     let merged = state.body.over(alloc, config)?;
     if absent.is_empty() {
         merged.points_keep_all();
@@ -99,6 +102,7 @@ pub fn pruned(
     let others = owned_by_others(alloc, state.managers.entries(), key)?;
     let gone = unneeded(alloc, &absent, &others)?;
     let stay = kept(alloc, &merged, &gone, &others, config_points)?;
+    merged.stands_rooted();
     let body = merged.restricted_to(alloc, &stay)?;
     Ok(body)
 }

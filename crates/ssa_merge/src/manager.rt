@@ -15,7 +15,7 @@ pub enum Operation {
 }
 
 /// A manager. One name has an entry of its own for each operation.
-#[derive(Drop)]
+#[derive(Debug, Drop)]
 pub struct ManagerKey {
     pub name: String,
     pub operation: Operation,

@@ -5,6 +5,7 @@ ghost use Rattle.ssa_model.specs.definitions.Limits.{most_managers};
 ghost use Rattle.ssa_model.specs.definitions.PathMap.{union};
 ghost use Rattle.ssa_model.specs.definitions.Table.{is_in_table, owned_by, owned_by_others};
 ghost use Rattle.ssa_model.specs.definitions.Operations.{clashes};
+ghost use Rattle.ssa_model.specs.definitions.Valid.{IsManagers};
 ghost use Rattle.ssa_merge.specs.Managers.{key_view, entry_view, table_view, clashes_view};
 ghost use Rattle.ssa_merge.specs.Tables.{entry_of};
 
@@ -58,7 +59,8 @@ impl Entry {
     }
 }
 
-/// The managers of an object, in the order in which they came: at most 64, each with some path.
+/// The managers of an object, in the order in which they came: at most 64, no one of them twice,
+/// each with a manager's name and some path.
 #[derive(Drop)]
 pub struct Managers {
     entries: ArrayVec<Entry, MOST_MANAGERS, Global>,
@@ -73,9 +75,12 @@ impl Model for Managers {
 
     ghost coded = { coded_list coded_entry };
 
+    ghost use Rattle.ssa_model.specs.definitions.Valid.{IsManagers};
     ghost use Rattle.ssa_merge.specs.Managers.{table_view};
 
     ghost view = { λ m. table_view m.entries.items };
+
+    ghost invariant = { λ m. IsManagers (table_view m.entries.items) };
 }
 
 impl Managers {
@@ -90,6 +95,7 @@ impl Managers {
 
     /// The table of these entries.
     pub fn of_entries(entries: ArrayVec<Entry, MOST_MANAGERS, Global>) -> Managers
+        requires { IsManagers (table_view entries.items) }
         ensures { result ≡ table_view entries.items }
     {
         Managers { entries }
@@ -98,6 +104,7 @@ impl Managers {
     /// The entries, in table order.
     pub fn entries(&self) -> &[Entry]
         ensures same { table_view result.now ≡ self.now }
+        ensures held { IsManagers self.now }
         ensures few { length result.now ≤ most_managers }
     {
         self.entries.as_slice()
@@ -120,6 +127,7 @@ impl Managers {
 
     /// Makes the table that of these entries. Takes no memory.
     pub fn set_entries(&mut self, entries: ArrayVec<Entry, MOST_MANAGERS, Global>)
+        requires { IsManagers (table_view entries.items) }
         ensures { self.new ≡ table_view entries.items }
     {
         self.entries = entries;

@@ -6,7 +6,7 @@ ghost use Rattle.ssa_model.specs.definitions.History.{is_manager_name};
 ghost use Rattle.ssa_model.specs.definitions.Kind.{Kind};
 ghost use Rattle.ssa_model.specs.definitions.PathMap.{size};
 ghost use Rattle.ssa_model.specs.definitions.Operations.{apply, update, strip};
-ghost use Rattle.ssa_model.specs.definitions.Valid.{IsRooted, IsValidState};
+ghost use Rattle.ssa_model.specs.definitions.Valid.{AllEntries, IsValidState, OwnsOwnable};
 ghost use Rattle.ssa_typed.specs.Alike.{AreAlike};
 ghost use Rattle.ssa_merge.specs.States.{state_view, applier, updater};
 ghost use Rattle.ssa_merge.specs.Plans.{IsPlan, IsPlanned, StandInOrder};
@@ -20,6 +20,7 @@ use ssa_path::field_set::FieldSet;
 use ssa_typed::body::Body;
 use ssa_typed::compare::Comparison;
 use std::alloc::{AllocError, Global};
+use thiserror::Error;
 
 /// The state that a command leads to, and how its body differs from the one before.
 #[derive(Drop)]
@@ -29,16 +30,20 @@ pub struct Plan {
 }
 
 /// Why a command is refused.
-#[derive(Drop)]
+#[derive(Debug, Drop, Error)]
 pub enum Refusal {
     /// The fields that the command would change though other managers own them: each of these
     /// managers, in table order, with its fields.
+    #[error("a conflict with other managers")]
     Conflict(Vec<(ManagerKey, FieldSet)>),
     /// The body would have more than 20,000 paths beside the root.
+    #[error("more than 20,000 paths")]
     TooManyPaths,
     /// The table would have more than 64 managers.
+    #[error("more than 64 managers")]
     TooManyManagers,
     /// A growth of memory was refused.
+    #[error("out of memory")]
     OutOfMemory,
 }
 
@@ -85,10 +90,12 @@ pub fn plan_apply(
     force: bool,
     at: Moment,
 ) -> Result<Plan, Refusal>
-    requires { AreAlike state.now.body config }
+    requires alike { AreAlike state.now.body config }
+    requires named { is_manager_name who.now ≡ true }
+    requires owned { AllEntries (OwnsOwnable state.now.body) state.now.managers }
     ensures plan { IsPlanned (state_view state.now) result (apply (state_view state.now) (applier who.now) config force at) }
     ensures fits { IfOk result (λ p. (kind : Kind) → IsBodyOf kind state.now.body → IsBodyOf kind config → IsBodyOf kind p.target.body) }
-    ensures valid { IfOk result (λ p. (kind : Kind) → IsValidState kind (state_view state.now) → IsBodyOf kind config → IsRooted config → is_manager_name who.now ≡ true → IsValidState kind (state_view p.target)) }
+    ensures valid { IfOk result (λ p. (kind : Kind) → IsValidState kind (state_view state.now) → IsBodyOf kind config → IsValidState kind (state_view p.target)) }
     ensures order { IfOk result (StandInOrder (state_view state.now)) }
 {
     let change = change_apply(alloc, state, config, who, force, at)?;
@@ -108,9 +115,10 @@ pub fn plan_update(
     who: &str,
     at: Moment,
 ) -> Result<Plan, Refusal>
+    requires { is_manager_name who.now ≡ true }
     ensures plan { IsPlanned (state_view state.now) result (update (state_view state.now) (updater who.now) object at) }
     ensures fits { IfOk result (λ p. (kind : Kind) → IsBodyOf kind object → IsBodyOf kind p.target.body) }
-    ensures valid { IfOk result (λ p. (kind : Kind) → IsValidState kind (state_view state.now) → IsBodyOf kind object → IsRooted object → size object ≤ most_places → is_manager_name who.now ≡ true → IsValidState kind (state_view p.target)) }
+    ensures valid { IfOk result (λ p. (kind : Kind) → IsValidState kind (state_view state.now) → IsBodyOf kind object → size object ≤ most_places → IsValidState kind (state_view p.target)) }
     ensures order { IfOk result (StandInOrder (state_view state.now)) }
 {
     let change = change_update(alloc, state, object, who, at)?;

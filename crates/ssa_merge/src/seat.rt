@@ -1,5 +1,6 @@
 //! What becomes of a table of managers by a command.
-ghost use Rattle.std.specs.Prelude.{◌≡◌, ◌∷◌, [], filter, map, length, IfOk};
+ghost use Rattle.std.specs.Prelude.{◌≡◌, ◌∷◌, [], true, filter, map, length, IfOk};
+ghost use Rattle.ssa_model.specs.definitions.History.{is_manager_name};
 ghost use Rattle.ssa_model.specs.definitions.Table.{is_in_table, reseated, seat};
 ghost use Rattle.ssa_merge.specs.Managers.{key_view, entry_view, table_view};
 ghost use Rattle.ssa_merge.specs.TableChanges.{changed_entries, changed_entry, IsSeated, LeadsTo};
@@ -133,6 +134,7 @@ pub fn seat(
     modified: &FieldSet,
     at: Moment,
 ) -> Result<TableChange, Refusal>
+    requires { is_manager_name (key_view key.now).name ≡ true }
     ensures { IsSeated managers.now result (seat managers.now (key_view key.now) owned.now lost.now modified.now at) }
 {
     let changed = !modified.is_empty();

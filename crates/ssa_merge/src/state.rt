@@ -15,10 +15,10 @@ pub struct State {
 
 impl State {
     /// The same state, with a body and sets of its own.
-    pub fn copy(&self, alloc: Global) -> Result<State, AllocError>
+    pub fn clone(&self, alloc: Global) -> Result<State, AllocError>
         ensures { IfOk result (λ s. state_view s ≡ state_view self.now) }
     {
-        let body = self.body.copy(alloc)?;
+        let body = self.body.clone(alloc)?;
         let managers = self.managers.copy(alloc)?;
         Ok(State { body, managers })
     }

@@ -23,17 +23,23 @@ at_most most n r s x h =
     ] refl h
 
 seated_is : (s next : State) → if_seated s ≡ Ok next → (s ≡ next) × (length s.table ≤ most_managers)
-seated_is s next h = (same_ok s next (from_else (nat_lt most_managers (length s.table)) too_many_managers (Ok s) next h), at_most most_managers (length s.table) too_many_managers (Ok s) next h)
+seated_is s next h = (
+  same_ok s next (from_else (nat_lt most_managers (length s.table)) too_many_managers (Ok s) next h),
+  at_most most_managers (length s.table) too_many_managers (Ok s) next h,
+)
 
+-- an accepted Apply leads to its target, which has no more managers and no larger body than a state may
 pub applied_is : (state next : State) (a : ManagerKey) (config : Body) (force : Bool) (at : Text) → apply state a config force at ≡ Ok next
     → (apply_target state a config at ≡ next) × (length (apply_target state a config at).table ≤ most_managers) × (size (pruned state a config) ≤ most_places)
 applied_is state next a config force at ok =
     let made = apply_target state a config at in
     let clash = clashes a (modified state.body made.body) state.table in
-    let sized = from_else (not (force || is_none clash)) (conflict clash) (if nat_lt most_places (size made.body) then Err too_many_paths else if_seated made) next ok in
+    let sized = from_else (not (force || is_none clash)) (conflict clash) (if nat_lt most_places (size made.body) then Err too_many_paths else if_seated made)
+    next ok in
     let seated = seated_is made next (from_else (nat_lt most_places (size made.body)) too_many_paths (if_seated made) next sized) in
     (seated.0, seated.1, at_most most_places (size made.body) too_many_paths (if_seated made) next sized)
 
+-- an accepted Update leads to its target, which has no more managers than a table may
 pub updated_is : (state next : State) (u : ManagerKey) (object : Body) (at : Text) → update state u object at ≡ Ok next
     → (update_target state u object at ≡ next) × (length (update_target state u object at).table ≤ most_managers)
 updated_is state next u object at ok = seated_is (update_target state u object at) next ok

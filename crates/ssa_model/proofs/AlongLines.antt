@@ -19,6 +19,7 @@ abbrev pub moves_in : Readings → Bench → State → List Json → Option (Lis
 moves_in readings now v [] = Some []
 moves_in readings now v (j ∷ js) = option_and_then (λ m. option_map (λ ms. m ∷ ms) (moves_in readings now m.1 js)) (move_in readings now v j)
 
+-- the history after these moves, one after the other
 abbrev pub all_moved : Move → Timeline → List (Label × State) → Timeline
 all_moved move t [] = t
 all_moved move t (m ∷ ms) = all_moved move (move t m.0 m.1) ms
@@ -46,33 +47,46 @@ abbrev told_fault : {X : Type 0} → MoveFault → Result X MoveFault → MoveFa
 told_fault d (Ok x) = d
 told_fault d (Err f) = f
 
+-- where two refusals are one, so are their faults
 pub same-fault : {X : Type 0} (f g : MoveFault) → ◌≡◌ {A = Result X MoveFault} (Err f) (Err g) → f ≡ g
 same-fault f g e = ap (told_fault f) e
 
 -- ---- along the lines
 
 module _ (readings : Readings) (now : Bench) (move : Move) (lands : Lands move) where
+  -- the bench with this history
   abbrev pub at : Timeline → Bench
   at t = with_timeline now t
 
   -- ---- a bench that was read
 
+  -- lines of moves that were read, and a bench that was read behind them
   pub record Went (go : Bench → Reader) (n : ℕ) (t : Timeline) (xs : List ℕ) (room : ℕ) (bench : Bench) : Type 0 where
+    -- the values of the lines
     pub js : List Json
+    -- the moves that these values give
     pub ms : List (Label × State)
+    -- the bytes behind the lines
     pub ys : List ℕ
+    -- the room that is left for them
     pub left : ℕ
+    -- the values of all bytes are those of the lines, and then those of the bytes behind them
     pub values : values_of readings xs ≡ option_map (λ ws. js ++ ws) (values_of readings ys)
+    -- there are as many lines as were to be read
     pub many : length js ≡ n
+    -- from the present state on, the values give the moves
     pub moves : moves_in readings now (present t) js ≡ Some ms
+    -- the room has become smaller by the bytes that were read
     pub counted : length xs + left ≡ length ys + room
+    -- what is read behind the lines, after the moves, is the bench
     pub done : go (at (all_moved move t ms)) ys left ≡ Ok bench
 
   all-left : (o : Option (List Json)) → o ≡ option_map (λ ws. [] ++ ws) o
   all-left None = refl
   all-left (Some ws) = refl
 
-  joined : (j : Json) (js : List Json) (o : Option (List Json)) → option_map (λ ws. j ∷ ws) (option_map (λ ws. js ++ ws) o) ≡ option_map (λ ws. (j ∷ js) ++ ws) o
+  joined : (j : Json) (js : List Json) (o : Option (List Json))
+      → option_map (λ ws. j ∷ ws) (option_map (λ ws. js ++ ws) o) ≡ option_map (λ ws. (j ∷ js) ++ ws) o
   joined j js None = refl
   joined j js (Some ws) = refl
 
@@ -112,6 +126,7 @@ module _ (readings : Readings) (now : Bench) (move : Move) (lands : Lands move) 
   went-next go n t xs room bench placed again (value_then v ys left) s h =
       went-move go n t xs room bench placed again v ys left s (value_move readings now (present t) v) refl h
 
+  -- a bench that is read along so many lines comes of such lines
   pub went : (go : Bench → Reader) (n : ℕ) (t : Timeline) (xs : List ℕ) (room : ℕ) (bench : Bench) → IsPlaced t
       → along readings move go n (at t) xs room ≡ Ok bench → Went go n t xs room bench
   went go zero t xs room bench placed is = record {
@@ -130,14 +145,21 @@ module _ (readings : Readings) (now : Bench) (move : Move) (lands : Lands move) 
 
   -- ---- values that give moves
 
+  -- values that give moves, and the reading that goes past them to what stands behind
   pub record Reaches (go : Bench → Reader) (n : ℕ) (t : Timeline) (xs : List ℕ) (room : ℕ) (ms : List (Label × State)) (ws : List Json) : Type 0 where
+    -- the bytes behind the lines of the moves
     pub ys : List ℕ
+    -- the room that is left for them
     pub left : ℕ
+    -- reading along the lines is reading behind them, after the moves
     pub is : along readings move go n (at t) xs room ≡ go (at (all_moved move t ms)) ys left
+    -- the bytes behind have the values behind
     pub values : values_of readings ys ≡ Some ws
+    -- there is room for them
     pub fits : length ys ≤ left
 
-  reaches-next : (go : Bench → Reader) (n : ℕ) (t : Timeline) (xs : List ℕ) (room : ℕ) (m : Label × State) (ms : List (Label × State)) (j : Json) (vs ws : List Json)
+  reaches-next : (go : Bench → Reader) (n : ℕ) (t : Timeline) (xs : List ℕ) (room : ℕ)
+      (m : Label × State) (ms : List (Label × State)) (j : Json) (vs ws : List Json)
       → value_move readings now (present t) j ≡ Ok m → values_of readings xs ≡ Some (j ∷ vs) → length xs ≤ room
       → ((ys : List ℕ) (left : ℕ) → values_of readings ys ≡ Some vs → length ys ≤ left → Reaches go n (move t m.0 m.1) ys left ms ws)
       → (next : Next) → Stands readings xs room next → next_value readings room xs ≡ next → Reaches go (suc n) t xs room (m ∷ ms) ws
@@ -161,6 +183,7 @@ module _ (readings : Readings) (now : Bench) (move : Move) (lands : Lands move) 
         fits = rest.fits;
       }
 
+  -- where the values of the bytes begin with those of moves, the reading reaches what stands behind them
   pub reaches : (go : Bench → Reader) (js ws : List Json) (ms : List (Label × State)) (t : Timeline) (xs : List ℕ) (room : ℕ) → IsPlaced t
       → moves_in readings now (present t) js ≡ Some ms → values_of readings xs ≡ Some (js ++ ws) → length xs ≤ room → Reaches go (length js) t xs room ms ws
   reaches go [] ws ms t xs room placed moves is fits = record {
@@ -198,7 +221,8 @@ module _ (readings : Readings) (now : Bench) (move : Move) (lands : Lands move) 
   fault-move go n t u ts ys left behind f placed short reached same again (Ok m) h =
       let landed = lands t m.0 m.1 placed in
       ap (λ s. lines_fault readings now behind s (take n ts)) (sym landed.0)
-      ∙ again (move t m.0 m.1) landed.1 (λ less. short (omega (arith, less))) (λ ms zs rest many lines failed. reached (m ∷ ms) zs rest (ap suc many) lines failed) h
+      ∙ again (move t m.0 m.1) landed.1 (λ less. short (omega (arith, less)))
+      (λ ms zs rest many lines failed. reached (m ∷ ms) zs rest (ap suc many) lines failed) h
   fault-move go n t u ts ys left behind f placed short reached same again (Err g) h = same-fault g f h
 
   fault-none : (n : ℕ) (v : State) (ts : List Text) (behind f : MoveFault) → (length ts < suc n → behind ≡ no_move_text)
@@ -232,6 +256,7 @@ module _ (readings : Readings) (now : Bench) (move : Move) (lands : Lands move) 
       ∙ fault-move go n t s.text ts ys left behind f placed short_of reached_of refl (λ w p few back e. again w ys left p few back e)
       (value_move readings now (present t) v) h
 
+  -- a fault that is read along lines is that of the first faulty one, or what is told behind them
   pub fault-along : (go : Bench → Reader) (n : ℕ) (t : Timeline) (xs : List ℕ) (room : ℕ) (behind f : MoveFault) → IsPlaced t
       → (length (lines_left xs room) < n → behind ≡ no_move_text) → Behind go n t (lines_left xs room) behind f
       → along readings move go n (at t) xs room ≡ Err f
@@ -248,20 +273,31 @@ abbrev pub part_of : {X : Type 0} → Readings → (Json → Option X) → Text 
 part_of readings part t = option_and_then part (spelled_value readings t)
 
 module _ (readings : Readings) {X : Type 0} (part : Json → Option X) (go : X → Reader) where
+  -- a first line of which a part was taken, and a bench that was read behind it
   pub record PartWent (xs : List ℕ) (room : ℕ) (bench : Bench) : Type 0 where
+    -- the value of the line
     pub value : Json
+    -- the part that is taken of it
     pub taken : X
+    -- the bytes behind the line
     pub ys : List ℕ
+    -- the room that is left for them
     pub left : ℕ
+    -- the values of all bytes are the line's, and then those of the bytes behind it
     pub values : values_of readings xs ≡ option_map (λ ws. value ∷ ws) (values_of readings ys)
+    -- the part is taken of the value
     pub took : part value ≡ Some taken
+    -- the room has become smaller by the bytes that were read
     pub counted : length xs + left ≡ length ys + room
+    -- what is read behind the line, with the part, is the bench
     pub done : go taken ys left ≡ Ok bench
 
+  -- a bench that is read with a part of the first line comes of such a line
   pub part-went : (xs : List ℕ) (room : ℕ) (bench : Bench) → with_part readings part go xs room ≡ Ok bench → PartWent xs room bench
   part-went xs room bench is = by-next (next_value readings room xs) (stands readings xs room) is
     where
-      by-part : (v : Json) (ys : List ℕ) (left : ℕ) → HasNext readings xs room v ys left → (o : Option X) → part v ≡ o → after_part go o ys left ≡ Ok bench → PartWent xs room bench
+      by-part : (v : Json) (ys : List ℕ) (left : ℕ) → HasNext readings xs room v ys left → (o : Option X) → part v ≡ o → after_part go o ys left ≡ Ok bench
+          → PartWent xs room bench
       by-part v ys left next (Some x) took h = record {
         value = v;
         taken = x;
@@ -279,13 +315,20 @@ module _ (readings : Readings) {X : Type 0} (part : Json → Option X) (go : X �
       by-next no_value s h = absurd cc
       by-next (value_then v ys left) s h = by-part v ys left s (part v) refl h
 
+  -- a first value of which a part is taken, and the reading that goes past its line to what stands behind
   pub record PartReaches (xs : List ℕ) (room : ℕ) (x : X) (ws : List Json) : Type 0 where
+    -- the bytes behind the line
     pub ys : List ℕ
+    -- the room that is left for them
     pub left : ℕ
+    -- reading with the part is reading behind the line, with this part
     pub is : with_part readings part go xs room ≡ go x ys left
+    -- the bytes behind have the other values
     pub values : values_of readings ys ≡ Some ws
+    -- there is room for them
     pub fits : length ys ≤ left
 
+  -- where a part is taken of the first value, the reading reaches what stands behind its line
   pub part-reaches : (xs : List ℕ) (room : ℕ) (v : Json) (vs : List Json) (x : X) → values_of readings xs ≡ Some (v ∷ vs) → length xs ≤ room → part v ≡ Some x
       → PartReaches xs room x vs
   part-reaches xs room v vs x is fits took = by-next (next_value readings room xs) (stands readings xs room) refl
@@ -309,33 +352,54 @@ module _ (readings : Readings) {X : Type 0} (part : Json → Option X) (go : X �
 
   -- no part is taken of the first line
   pub record PartFails (xs : List ℕ) (room : ℕ) (f : MoveFault) : Type 0 where
+    -- the fault is that of a text that is no line's
     pub fault : no_move_text ≡ f
+    -- where there is a first line within the room, no part is taken of it
     pub none : (t : Text) (ts : List Text) → lines_left xs room ≡ t ∷ ts → part_of readings part t ≡ None
 
   -- a part is, and what follows fails
   pub record FailsBehind (xs : List ℕ) (room : ℕ) (f : MoveFault) : Type 0 where
+    -- the text of the first line
     pub text : Text
+    -- the part that is taken of it
     pub taken : X
+    -- the bytes behind the line
     pub ys : List ℕ
+    -- the room that is left for them
     pub left : ℕ
+    -- the lines within the room are this one and those of the bytes behind it
     pub lines : lines_left xs room ≡ text ∷ lines_left ys left
+    -- the part is taken of the text
     pub took : part_of readings part text ≡ Some taken
+    -- what is read behind the line, with the part, has the fault
     pub failed : go taken ys left ≡ Err f
 
+  -- where reading with a part of the first line has a fault, no part is taken, or what is read behind the line has it
   pub part-fault : (xs : List ℕ) (room : ℕ) (f : MoveFault) → with_part readings part go xs room ≡ Err f → PartFails xs room f ⊎ FailsBehind xs room f
   part-fault xs room f is = by-next (next_value readings room xs) (stands readings xs room) is
     where
       by-part : (v : Json) (ys : List ℕ) (left : ℕ) → HasNext readings xs room v ys left → (o : Option X) → part v ≡ o → after_part go o ys left ≡ Err f
           → PartFails xs room f ⊎ FailsBehind xs room f
       by-part v ys left next (Some x) took h =
-          inr (record { text = next.text; taken = x; ys = ys; left = left; lines = next.lines; took = ap (option_and_then part) next.spelled ∙ took; failed = h })
+          inr (record {
+            text = next.text;
+            taken = x;
+            ys = ys;
+            left = left;
+            lines = next.lines;
+            took = ap (option_and_then part) next.spelled
+                ∙ took;
+            failed = h;
+          })
       by-part v ys left next None took h =
           inl (record {
             fault = same-fault no_move_text f h;
-            none = λ t ts e. ap (part_of readings part) (same-first t next.text ts (lines_left ys left) (sym e ∙ next.lines)) ∙ ap (option_and_then part) next.spelled ∙ took;
+            none = λ t ts e. ap (part_of readings part) (same-first t next.text ts (lines_left ys left) (sym e ∙ next.lines))
+                ∙ ap (option_and_then part) next.spelled ∙ took;
           })
 
-      by-next : (next : Next) → Stands readings xs room next → after_value (λ v. after_part go (part v)) next ≡ Err f → PartFails xs room f ⊎ FailsBehind xs room f
+      by-next : (next : Next) → Stands readings xs room next → after_value (λ v. after_part go (part v)) next ≡ Err f → PartFails xs room f
+          ⊎ FailsBehind xs room f
       by-next at_end s h =
           inl (record {
             fault = same-fault no_move_text f h;

@@ -19,17 +19,20 @@ use Rattle.ssa_model.proofs.ObjectDepths.{state-depth}
 use Rattle.ssa_model.proofs.SchemaDepths.{schema-depth}
 use Rattle.ssa_model.proofs.SchemaLevels.{read-parts, read-levels}
 
+-- a schema that is read is shallow, where no object of it names a member twice
 pub schema_is_shallow : SchemaIsShallow
 schema_is_shallow v kind apart read = let h = schema-depth most_levels at_root v apart (read-parts v kind read).0 in omega arith
 
 -- ---- states
 
+-- the value of a label nests at most one level
 pub label-depth : (label : Label) → depth (label_json label) ≤ 1
 label-depth (applied who force at) = omega arith
 label-depth (updated who at) = omega arith
 label-depth stripped = omega arith
 
 module _ (readings : Readings) (bench : Bench) (valid : IsValidBench readings bench) where
+  -- the object of a valid state, with its managers' entries, nests at most 71 levels
   pub object-shallow : (s : State) → IsValidState bench.schema.kind s → depth (whole_object bench s) ≤ 71
   object-shallow s one =
       let own = state-depth bench.identity bench.schema.kind s valid.named valid.accepted.lawful one in
@@ -50,19 +53,26 @@ module _ (readings : Readings) (bench : Bench) (valid : IsValidBench readings be
   head-shallow = omega arith
 
   behind-shallow : All IsShallow (first_json bench ∷ map (step_json bench) bench.timeline.later)
-  behind-shallow = All-cons IsShallow (first_json bench) (map (step_json bench) bench.timeline.later) (state-shallow (object no_members) bench.timeline.first (omega arith) valid.states.first) (steps-shallow bench.timeline.later valid.states.later)
+  behind-shallow = All-cons IsShallow (first_json bench) (map (step_json bench) bench.timeline.later)
+      (state-shallow (object no_members) bench.timeline.first (omega arith) valid.states.first) (steps-shallow bench.timeline.later valid.states.later)
 
+-- the head and the states of a valid bench are shallow values
 pub state_values_are_shallow : StateValuesAreShallow
 state_values_are_shallow readings bench valid =
-    All-cons IsShallow (head_json bench.timeline) (first_json bench ∷ map (step_json bench) bench.timeline.later) (head-shallow readings bench valid) (behind-shallow readings bench valid)
+    All-cons IsShallow (head_json bench.timeline) (first_json bench ∷ map (step_json bench) bench.timeline.later) (head-shallow readings bench valid)
+    (behind-shallow readings bench valid)
 
+-- all values of a valid bench's file are shallow, where no object of its schema names a member twice
 pub distinct_bench_is_shallow : DistinctBenchIsShallow
 distinct_bench_is_shallow readings bench valid apart =
-    All-cons IsShallow (head_json bench.timeline) (bench.schema.source ∷ first_json bench ∷ map (step_json bench) bench.timeline.later) (head-shallow readings bench valid)
-    (All-cons IsShallow bench.schema.source (first_json bench ∷ map (step_json bench) bench.timeline.later) (schema_is_shallow bench.schema.source bench.schema.kind apart valid.read) (behind-shallow readings bench valid))
+    All-cons IsShallow (head_json bench.timeline) (bench.schema.source ∷ first_json bench ∷ map (step_json bench) bench.timeline.later)
+    (head-shallow readings bench valid)
+    (All-cons IsShallow bench.schema.source (first_json bench ∷ map (step_json bench) bench.timeline.later)
+    (schema_is_shallow bench.schema.source bench.schema.kind apart valid.read) (behind-shallow readings bench valid))
 
 -- ---- where a name stands twice
 
+-- with a second `type` in its schema the sample's bench is valid too, and the schema nests deeper than a reader goes
 pub second_type_is_deep : SecondTypeIsDeep
 second_type_is_deep =
     let own = filed-valid (bench_values filed) in (

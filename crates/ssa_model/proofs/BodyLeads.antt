@@ -15,16 +15,17 @@ use Rattle.ssa_model.specs.definitions.Record.{Part, is_top, part_at, cuts, puts
 use Rattle.ssa_model.specs.definitions.Carry.{refilled, put_content, put_paths, carried_order, carried_content, kept_content, or_kept, carried_at, carry_body}
 use Rattle.ssa_model.specs.laws.RecordLeads.{CarryAnswers, BodyLeads}
 use Rattle.ssa_model.specs.laws.RecordWalks.{class_of, IsTree, AreAlike, BodiesAreTrees, TreeLeads}
-use Rattle.ssa_model.proofs.Fitting.{same_element-true, some_place, some_there, nothing_there}
+use Rattle.ssa_model.proofs.Fitting.{same_element-true, some_place, some_there}
 use Rattle.ssa_model.proofs.PathMaps.{is_one_of, get-map_of, has-paths, has-set_of, same_map, get-over_paths}
 use Rattle.ssa_model.proofs.Pruned.{some_one, from_one, closed-above}
-use Rattle.ssa_model.proofs.Tables.{first_false, second_false, yes_no, no}
+use Rattle.ssa_model.proofs.Tables.{yes_no}
 use Rattle.ssa_model.proofs.Scalars.{same_scalar-true}
 use Rattle.ssa_model.proofs.SameValues.{same_json-true}
 use Rattle.ssa_model.proofs.Tests.{by_test, pointwise-true}
 use Rattle.ssa_model.proofs.Beginnings.{departs, rest_of-under}
 use Rattle.ssa_model.proofs.PutParts.{all-puts, get-puts, put_case, put_missed, put_nothing}
 use Rattle.ssa_model.proofs.PutItems.{refilled-is}
+use Rattle.ssa_model.proofs.Basics.{not_true as no, first_false, second_false, none-there as nothing_there}
 
 -- ---- two contents that fit one place are of one kind
 
@@ -67,6 +68,7 @@ atom-leads a b =
     (λ same. ap (λ t. unwrap_or (if not t then Some (atom b) else None) (atom a)) same ∙ ap atom (same_json-true a b same))
     (λ off. ap (λ t. unwrap_or (if not t then Some (atom b) else None) (atom a)) off)
 
+-- cut are the paths of the first body that are topmost among those that the second has not
 pub get-cuts : (v w : Body) (p : Path) → has (cuts v w) p ≡ (has v p && is_top w p)
 get-cuts v w p = has-set_of (paths v) (is_top w) p ∙ ap (λ b. b && is_top w p) (sym (has-paths v p))
 
@@ -91,6 +93,7 @@ carried-none d v q off =
       | inr e ↦ ap (λ o. or_kept o (kept_content d q (get v q))) e
     ]
 
+-- what a record leads to from a body, path by path, whatever record and body
 pub carry_answers : CarryAnswers
 carry_answers d v q =
     get-map_of (paths v ++ put_paths d.put.entries) (carried_at d v) q
@@ -105,11 +108,14 @@ module _ (v w : Body) (a : IsTree v) (b : IsTree w) (alike : AreAlike v w) where
   abbrev puts_of : List (Path × Part)
   puts_of = (puts v w).entries
 
+  -- a content of the first body is carried to the second's, where both are of one class
   pub content_is : (q : Path) (c e : Content) → get v q ≡ Some c → get w q ≡ Some e → class_of c ≡ class_of e → carried_content d q c ≡ e
   content_is q (leaf s) (leaf t) is_v is_w same =
-      ap (λ o. unwrap_or o (leaf s)) (get-over_paths v (λ p. new_leaf (get v p) (get w p)) q ∙ (λ i. cond (is_some (is_v i)) (new_leaf (is_v i) (is_w i)) None)) ∙ leaf-leads s t
+      ap (λ o. unwrap_or o (leaf s)) (get-over_paths v (λ p. new_leaf (get v p) (get w p)) q
+      ∙ (λ i. cond (is_some (is_v i)) (new_leaf (is_v i) (is_w i)) None)) ∙ leaf-leads s t
   content_is q (atom s) (atom t) is_v is_w same =
-      ap (λ o. unwrap_or o (atom s)) (get-over_paths v (λ p. new_leaf (get v p) (get w p)) q ∙ (λ i. cond (is_some (is_v i)) (new_leaf (is_v i) (is_w i)) None)) ∙ atom-leads s t
+      ap (λ o. unwrap_or o (atom s)) (get-over_paths v (λ p. new_leaf (get v p) (get w p)) q
+      ∙ (λ i. cond (is_some (is_v i)) (new_leaf (is_v i) (is_w i)) None)) ∙ atom-leads s t
   content_is q record_branch record_branch is_v is_w same = refl
   content_is q dict_branch dict_branch is_v is_w same = refl
   content_is q (list_branch es) (list_branch fs) is_v is_w same =
@@ -168,14 +174,17 @@ module _ (v w : Body) (a : IsTree v) (b : IsTree w) (alike : AreAlike v w) where
   body_is : carry_body d v ≡ w
   body_is = same_map (carry_body d v) w (λ q. carry_answers d v q ∙ carried-is q)
 
+-- the record of two trees that are alike leads from the first to the second
 pub tree_leads : TreeLeads
 tree_leads v w a b alike = body_is v w a b alike
 
 tree : (kind : Kind) (v : Body) → IsBodyOf kind v → IsTree v
 tree kind v a = record { root = a.root; closed = a.closed; once = a.once; items = a.items }
 
+-- two bodies of one kind are trees, and alike
 pub bodies_are_trees : BodiesAreTrees
 bodies_are_trees kind v w a b = (tree kind v a, tree kind w b, λ p c e is_v is_w. one-class kind p c e (a.fits p c is_v) (b.fits p e is_w))
 
+-- the record of two bodies of one kind leads from the first to the second
 pub body_leads : BodyLeads
 body_leads kind v w a b = let h = bodies_are_trees kind v w a b in tree_leads v w h.0 h.1 h.2

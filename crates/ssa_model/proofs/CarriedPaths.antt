@@ -35,12 +35,28 @@ put_found : (es : List (Path × Part)) (q : Path) (o : Option Content) → put_c
 put_found [] q o h = absurd (none-some o h)
 put_found (e ∷ es) q o h =
     elim (rest_of e.0 q) as (λ r. rest_of e.0 q ≡ r → first_put r e.1 (put_content es q) ≡ Some o → IsPutAbove (e ∷ es) q o) [
-      | Some r ↦ λ is k. record { at = e.0; rest = r; part = e.1; found = ap (λ b. cond b (Some e.1) (find path_cmp e.0 es)) (same_path-itself e.0); follows = is; says = same_Some (get e.1.below r) o k }
+      | Some r ↦ λ is k. record {
+        at = e.0;
+        rest = r;
+        part = e.1;
+        found = ap (λ b. cond b (Some e.1) (find path_cmp e.0 es)) (same_path-itself e.0);
+        follows = is;
+        says = same_Some (get e.1.below r) o k;
+      }
       | None ↦ λ is k.
           let a = put_found es q o k in
           let off : same_path a.at e.0 ≡ false =
-          by_test (same_path a.at e.0) (λ t. absurd (none-some a.rest (sym is ∙ ap (λ p. rest_of p q) (sym (same_path-true a.at e.0 t)) ∙ a.follows))) (λ f. f) in
-          record { at = a.at; rest = a.rest; part = a.part; found = ap (λ b. cond b (Some e.1) (find path_cmp a.at es)) off ∙ a.found; follows = a.follows; says = a.says }
+          by_test (same_path a.at e.0) (λ t. absurd (none-some a.rest (sym is ∙ ap (λ p. rest_of p q) (sym (same_path-true a.at e.0 t)) ∙ a.follows)))
+          (λ f. f) in
+          record {
+            at = a.at;
+            rest = a.rest;
+            part = a.part;
+            found = ap (λ b. cond b (Some e.1) (find path_cmp a.at es)) off
+                ∙ a.found;
+            follows = a.follows;
+            says = a.says;
+          }
     ] refl h
 
 -- what stands at a path in the body that a record leads to
@@ -103,7 +119,8 @@ module _ (kind : Kind) (d : BodyRecord) (v : Body) (a : IsBodyOf kind v) (f : Bo
   -- what is not cut is carried
   pub at_stay : (q : Path) (c : Content) → get v q ≡ Some c → has_at_or_above d.cut q ≡ false → get w q ≡ Some (carried_content d q c)
   at_stay q c is uncut =
-      carry_answers d v q ∙ (λ i. or_kept (unput q (ap is_some is) i) (kept_content d q (is i))) ∙ ap (λ t. if t then None else Some (carried_content d q c)) uncut
+      carry_answers d v q ∙ (λ i. or_kept (unput q (ap is_some is) i) (kept_content d q (is i)))
+      ∙ ap (λ t. if t then None else Some (carried_content d q c)) uncut
 
   -- at and below what is cut stands nothing
   pub at_cut : (q : Path) → has v q ≡ true → has_at_or_above d.cut q ≡ true → get w q ≡ None
@@ -114,6 +131,7 @@ module _ (kind : Kind) (d : BodyRecord) (v : Body) (a : IsBodyOf kind v) (f : Bo
   at_new : (q : Path) → get v q ≡ None → put_content d.put.entries q ≡ None → get w q ≡ None
   at_new q off none = carry_answers d v q ∙ (λ i. or_kept (none i) (kept_content d q (off i)))
 
+  -- what stands at a path after a fitting record stayed or is put there, or nothing stands there
   pub source : (q : Path) → Source d v w q
   source q =
       elim (get v q) as (λ o. get v q ≡ o → Source d v w q) [

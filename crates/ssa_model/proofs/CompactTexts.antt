@@ -1,7 +1,8 @@
 -- Different values have different compact texts.
 use Rattle.std.proofs.Common.{◌≡◌, ℕ, ◌≤◌, List, [], ◌∷◌, ◌++◌, Bool, true, false, T, refl, sym, ap, ◌∙◌, arith, append_assoc, append-nil}
 use Rattle.ssa_model.specs.definitions.Json.{Scalar, text, whole, truth, Json, scalar, list, object, Items, no_items, item, Members, no_members, member, comma_if, quoted, compact, compact_items, compact_members}
-use Rattle.ssa_model.proofs.Texts.{Both, tails, differ, quoted-apart, ends, class_of, scalar_class, class-scalar, BothScalar, scalar_text-apart, regrouped}
+use Rattle.ssa_model.proofs.Texts.{Both, differ, quoted-apart, ends, class_of, scalar_class, class-scalar, BothScalar, scalar_text-apart, regrouped}
+use Rattle.ssa_model.proofs.Basics.{same-tails as tails}
 
 -- ---- the first byte of a value's text
 
@@ -97,5 +98,6 @@ mutual
       let rest = members-apart true ms ns r s own.1 in
       (λ i. member (name.0 i) (own.0 i) (rest.0 i), rest.1)
 
+-- values with one compact text are one value
 pub compact-injective : (v w : Json) → compact v ≡ compact w → v ≡ w
 compact-injective v w e = (compact-apart v w [] [] tt tt (append-nil (compact v) ∙ e ∙ sym (append-nil (compact w)))).0

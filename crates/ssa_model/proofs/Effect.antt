@@ -46,7 +46,8 @@ module _ (bench : Bench) (h : IsHistory bench.timeline) where
       deeds_by : Command → Bool → List Deed
       deeds_by c b = if b then elim (deed_of bench c) [ None ↦ h.deeds | Some d ↦ take bench.timeline.place h.deeds ++ d ∷ [] ] else h.deeds
 
-  accepted : (c : Command) (word : Text) (d : Deed) (s : State) → deed_of bench c ≡ Some d → carried_out (present bench.timeline) d ≡ Ok s → Keeps c (accept bench word (label_of d) s)
+  accepted : (c : Command) (word : Text) (d : Deed) (s : State) → deed_of bench c ≡ Some d → carried_out (present bench.timeline) d ≡ Ok s
+      → Keeps c (accept bench word (label_of d) s)
   accepted c word d s own e =
       let t = bench.timeline in
       let step : Step = record { label = label_of d; state = s } in
@@ -60,7 +61,8 @@ module _ (bench : Bench) (h : IsHistory bench.timeline) where
         deeds = ap (λ o. elim o [ None ↦ h.deeds | Some e ↦ take t.place h.deeds ++ e ∷ [] ]) (sym own);
       }
 
-  given : (c : Command) (word : Text) (d : Deed) (r : Result State Refusal) → deed_of bench c ≡ Some d → carried_out (present bench.timeline) d ≡ r → Keeps c (accept_or_refuse bench word (label_of d) r)
+  given : (c : Command) (word : Text) (d : Deed) (r : Result State Refusal) → deed_of bench c ≡ Some d → carried_out (present bench.timeline) d ≡ r
+      → Keeps c (accept_or_refuse bench word (label_of d) r)
   given c word d (Ok s) own e = accepted c word d s own e
   given c word d (Err r) own e = same c (fault (refused r)) refl
 
@@ -68,16 +70,19 @@ module _ (bench : Bench) (h : IsHistory bench.timeline) where
   one_of c true x y p q = p
   one_of c false x y p q = q
 
-  of_body : (c : Command) (r : Result Body Fault) (go : Body → Answer) → ((body : Body) → r ≡ Ok body → Keeps c (go body)) → Keeps c (elim r [ Ok body ↦ go body | Err f ↦ (fault f, bench) ])
+  of_body : (c : Command) (r : Result Body Fault) (go : Body → Answer) → ((body : Body) → r ≡ Ok body → Keeps c (go body))
+      → Keeps c (elim r [ Ok body ↦ go body | Err f ↦ (fault f, bench) ])
   of_body c (Ok body) go p = p body refl
   of_body c (Err f) go p = same c (fault f) refl
 
-  with_body-keeps : (c : Command) (who : Text) (v : Json) (go : Body → Answer) → ((body : Body) → command_body bench v ≡ Ok body → Keeps c (go body)) → Keeps c (with_body bench who v go)
+  with_body-keeps : (c : Command) (who : Text) (v : Json) (go : Body → Answer) → ((body : Body) → command_body bench v ≡ Ok body → Keeps c (go body))
+      → Keeps c (with_body bench who v go)
   with_body-keeps c who v go p =
       one_of c (nat_le most_past (past_len bench.timeline)) _ _ (same c (fault history_full) refl)
       (one_of c (not (is_manager_name who)) _ _ (same c (fault manager_name) refl) (of_body c (command_body bench v) go p))
 
-  goes : (c : Command) (word : Text) (past future n : ℕ) → n ≤ length bench.timeline.later → Keeps c (moved word past future, with_timeline bench (moved_to bench.timeline n))
+  goes : (c : Command) (word : Text) (past future n : ℕ) → n ≤ length bench.timeline.later
+      → Keeps c (moved word past future, with_timeline bench (moved_to bench.timeline n))
   goes c word past future n fits = record { first = refl; history = record { deeds = h.deeds; steps = h.steps; place = fits }; deeds = refl }
 
   unless : (c : Command) (b : Bool) (x y : Answer) → Keeps c x → (b ≡ false → Keeps c y) → Keeps c (if b then x else y)
@@ -93,17 +98,22 @@ module _ (bench : Bench) (h : IsHistory bench.timeline) where
   keeps : (c : Command) → Keeps c (answer bench c)
   keeps (apply who force at v) =
       with_body-keeps (apply who force at v) who v (apply_answer bench who force at)
-      (λ config e. given (apply who force at v) (codes "apply") (applying who force at config) _ (ap (λ r. option_map (applying who force at) (body_in r)) e) refl)
+      (λ config e. given (apply who force at v) (codes "apply") (applying who force at config) _ (ap (λ r. option_map (applying who force at) (body_in r)) e)
+      refl)
   keeps (update who at v) =
       with_body-keeps (update who at v) who v _
       (λ body e. given (update who at v) (codes "update") (updating who at body) _ (ap (λ r. option_map (updating who at) (body_in r)) e) refl)
-  keeps strip = one_of strip (nat_le most_past (past_len bench.timeline)) _ _ (same strip (fault history_full) refl) (accepted strip (codes "strip") stripping _ refl refl)
-  keeps undo = one_of undo (past_len bench.timeline == 0) _ _ (same undo (fault nothing_to_undo) refl) (goes undo (codes "undo") _ _ (bench.timeline.place - 1) (back bench.timeline.place (length bench.timeline.later) h.place))
+  keeps strip = one_of strip (nat_le most_past (past_len bench.timeline)) _ _ (same strip (fault history_full) refl)
+      (accepted strip (codes "strip") stripping _ refl refl)
+  keeps undo = one_of undo (past_len bench.timeline == 0) _ _ (same undo (fault nothing_to_undo) refl)
+      (goes undo (codes "undo") _ _ (bench.timeline.place - 1) (back bench.timeline.place (length bench.timeline.later) h.place))
   keeps redo =
-      unless redo (future_len bench.timeline == 0) _ _ (same redo (fault nothing_to_redo) refl) (λ e. goes redo (codes "redo") _ _ (bench.timeline.place + 1) (forth bench.timeline.place (length bench.timeline.later) e))
+      unless redo (future_len bench.timeline == 0) _ _ (same redo (fault nothing_to_redo) refl)
+      (λ e. goes redo (codes "redo") _ _ (bench.timeline.place + 1) (forth bench.timeline.place (length bench.timeline.later) e))
   keeps (show managed) = same (show managed) (shown _) refl
   keeps (owners p) = same (owners p) (owned_by _) refl
   keeps log = same log (logged _ _) refl
 
+-- an answer keeps a history of deeds, and the present state is what those up to the place make
 pub histories_are_carried_out : HistoriesAreCarriedOut
 histories_are_carried_out = (λ bench c old. keeps bench old c, present_is)

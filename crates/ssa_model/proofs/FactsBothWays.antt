@@ -61,10 +61,12 @@ where_both here there false n h t = nothing here ∙ sym (nothing there)
 
 lists-both : (a b : Option Content) → cond (is_some a) (both_lists a b) None ≡ cond (is_some b) (both_lists b a) None
 lists-both a b =
-    where_both (is_some a) (is_some b) (is_reordered a b) (Some (length (order_at a) + length (order_at b))) (reordered_lists.first a b) (reordered_lists.second a b)
+    where_both (is_some a) (is_some b) (is_reordered a b) (Some (length (order_at a) + length (order_at b))) (reordered_lists.first a b)
+    (reordered_lists.second a b)
     ∙ (λ i. cond (is_some b) (if reordered_lists.same a b i then Some (add_comm (length (order_at a)) (length (order_at b)) i) else None) None)
 
-total-lists : (v w : Body) → total (λ p. reordered (get v p) (get w p)) (paths v) ≡ total (λ e. e.1) (map_of (paths v) (λ p. both_lists (get v p) (get w p))).entries
+total-lists : (v w : Body) → total (λ p. reordered (get v p) (get w p)) (paths v)
+    ≡ total (λ e. e.1) (map_of (paths v) (λ p. both_lists (get v p) (get w p))).entries
 total-lists v w = sym (total-map (λ e. e.1) (λ p. both_lists (get v p) (get w p)) v ∙ alike (paths v))
   where
     alike : (ps : List Path) → total (λ p. counted (λ (n : ℕ). n) (both_lists (get v p) (get w p))) ps ≡ total (λ p. reordered (get v p) (get w p)) ps
@@ -74,7 +76,8 @@ total-lists v w = sym (total-map (λ e. e.1) (λ p. both_lists (get v p) (get w 
 orders-both : (v w : Body) → total (λ p. reordered (get v p) (get w p)) (paths v) ≡ total (λ p. reordered (get w p) (get v p)) (paths w)
 orders-both v w =
     total-lists v w
-    ∙ ap (λ m. total (λ e. e.1) m.entries) (same_map (map_of (paths v) (λ p. both_lists (get v p) (get w p))) (map_of (paths w) (λ p. both_lists (get w p) (get v p))) (λ q.
+    ∙ ap (λ m. total (λ e. e.1) m.entries) (same_map (map_of (paths v) (λ p. both_lists (get v p) (get w p)))
+    (map_of (paths w) (λ p. both_lists (get w p) (get v p))) (λ q.
     get-over_paths v (λ p. both_lists (get v p) (get w p)) q ∙ lists-both (get v q) (get w q) ∙ sym (get-over_paths w (λ p. both_lists (get w p) (get v p)) q)))
     ∙ sym (total-lists w v)
 
@@ -111,7 +114,8 @@ differing-both : (t u : Table) (k : ManagerKey) → is_in_table t k ≡ true →
 differing-both t u k a b =
     let e = entry-there t k a in
     let f = entry-there u k b in
-    (λ i. elim (e.1 i) [ None ↦ 0 | Some x ↦ entry_facts x (f.1 i) ]) ∙ entry-facts-both e.0 f.0 ∙ sym (λ i. elim (f.1 i) [ None ↦ 0 | Some x ↦ entry_facts x (e.1 i) ])
+    (λ i. elim (e.1 i) [ None ↦ 0 | Some x ↦ entry_facts x (f.1 i) ]) ∙ entry-facts-both e.0 f.0
+    ∙ sym (λ i. elim (f.1 i) [ None ↦ 0 | Some x ↦ entry_facts x (e.1 i) ])
 
 total-alike : (f g : ManagerKey → ℕ) (ks : List ManagerKey) → AllByRecursion (λ k. f k ≡ g k) ks → total f ks ≡ total g ks
 total-alike f g [] h = refl
@@ -125,11 +129,14 @@ common-both t u a b order =
     ∙ ap (total (differing u t)) order
     ∙ sym (facts-shared u t u (entry-own u b))
 
+-- two states with distinct managers, the common ones in one order, differ in as many facts one way as the other
 pub facts_both_ways : FactsBothWays
 facts_both_ways v w a b order =
     let leaves = ap size (modified-both v.body w.body) in
     let orders =
-    sum-total (λ p. reordered (get v.body p) (get w.body p)) (paths v.body) ∙ orders-both v.body w.body ∙ sym (sum-total (λ p. reordered (get w.body p) (get v.body p)) (paths w.body)) in
+    sum-total (λ p. reordered (get v.body p) (get w.body p)) (paths v.body) ∙ orders-both v.body w.body
+    ∙ sym (sum-total (λ p. reordered (get w.body p) (get v.body p)) (paths w.body)) in
     let common =
-    sum-total (λ e. entry_facts e (entry_of w.table e.manager)) v.table ∙ common-both v.table w.table a b order ∙ sym (sum-total (λ e. entry_facts e (entry_of v.table e.manager)) w.table) in
+    sum-total (λ e. entry_facts e (entry_of w.table e.manager)) v.table ∙ common-both v.table w.table a b order
+    ∙ sym (sum-total (λ e. entry_facts e (entry_of v.table e.manager)) w.table) in
     omega arith

@@ -8,8 +8,8 @@ use Rattle.ssa_model.specs.definitions.Kind.{Kind, Fields, kind_of, key_scalars,
 use Rattle.ssa_model.specs.definitions.Path.{Path}
 use Rattle.ssa_model.specs.definitions.Fitting.{are_keys, is_key_of, scalar_of}
 use Rattle.ssa_model.proofs.Faults.{cons≢nil, nil_first, nil_second, unless-true}
-use Rattle.ssa_model.proofs.FaultlessParts.{both-true}
 use Rattle.ssa_model.proofs.Tables.{same_text-true, text-itself}
+use Rattle.ssa_model.proofs.Basics.{both-true}
 
 -- ---- a key field without a fault
 
@@ -44,18 +44,25 @@ fault-none (Some (kinds.items_of ns fs)) p e = cons≢nil e
 
 -- the member is a scalar, of the kind of its field
 pub record IsKeyField (k : Option Kind) (o : Option Json) : Type 0 where
+  -- the kind of scalars that the field has
   pub of_kind : kinds.ScalarKind
+  -- the scalar that the member is
   pub own : Scalar
+  -- the field is one of scalars of this kind
   pub is_kind : k ≡ Some (kinds.scalar_kind of_kind)
+  -- the member is there and is this scalar
   pub is_own : o ≡ Some (scalar own)
+  -- the scalar is of this kind
   pub fits : is_of of_kind own ≡ true
 
+-- a key field without a fault is there, a scalar of its field's kind
 pub key-field : (k : Option Kind) (o : Option Json) (p : Path) → key_field_fault k o p ≡ [] → IsKeyField k o
 key-field k None p e = absurd (fault-none k p e)
 key-field k (Some (list vs)) p e = absurd (fault-list k vs p e)
 key-field k (Some (object ms)) p e = absurd (fault-object k ms p e)
 key-field None (Some (scalar s)) p e = absurd (cons≢nil e)
-key-field (Some (kinds.scalar_kind j)) (Some (scalar s)) p e = record { of_kind = j; own = s; is_kind = refl; is_own = refl; fits = unless-true (is_of j s) wrong_type p e }
+key-field (Some (kinds.scalar_kind j)) (Some (scalar s)) p e =
+    record { of_kind = j; own = s; is_kind = refl; is_own = refl; fits = unless-true (is_of j s) wrong_type p e }
 key-field (Some (kinds.atomic_of t)) (Some (scalar s)) p e = absurd (cons≢nil e)
 key-field (Some (kinds.record_of fs)) (Some (scalar s)) p e = absurd (cons≢nil e)
 key-field (Some (kinds.dict_of k)) (Some (scalar s)) p e = absurd (cons≢nil e)
@@ -73,11 +80,15 @@ keys-fit (n ∷ ns) fs ms p e =
 
 -- a scalar of an item's key is a member of the item, and its field is one of scalars
 pub record IsKeyMember (fs : Fields) (ms : Members) (n : Text) (s : Scalar) : Type 0 where
+  -- the kind of scalars that the field has
   pub of_kind : kinds.ScalarKind
+  -- the field of the name is one of scalars of this kind
   pub is_kind : kind_of n fs ≡ Some (kinds.scalar_kind of_kind)
+  -- the member of the name is the scalar
   pub is_own : member_of n ms ≡ Some (scalar s)
 
-key-member-if : (b : Bool) (fs : Fields) (ms : Members) (n m : Text) (s : Scalar) (rest : Option Scalar) (here : IsKeyField (kind_of m fs) (member_of m ms)) → same_text n m ≡ b
+key-member-if : (b : Bool) (fs : Fields) (ms : Members) (n m : Text) (s : Scalar) (rest : Option Scalar) (here : IsKeyField (kind_of m fs) (member_of m ms))
+    → same_text n m ≡ b
     → (rest ≡ Some s → IsKeyMember fs ms n s) → (if b then Some here.own else rest) ≡ Some s → IsKeyMember fs ms n s
 key-member-if true fs ms n m s rest here same later found =
     let is = same_text-true n m same in
@@ -88,7 +99,9 @@ key-member-if true fs ms n m s rest here same later found =
     }
 key-member-if false fs ms n m s rest here same later found = later found
 
-pub key-member : (ns : List Text) (fs : Fields) (ms : Members) (p : Path) (n : Text) (s : Scalar) → key_faults ns fs ms p ≡ [] → scalar_of n (key_scalars ns ms) ≡ Some s → IsKeyMember fs ms n s
+-- where key fields have no fault, each scalar of the item's key is such a member
+pub key-member : (ns : List Text) (fs : Fields) (ms : Members) (p : Path) (n : Text) (s : Scalar) → key_faults ns fs ms p ≡ []
+    → scalar_of n (key_scalars ns ms) ≡ Some s → IsKeyMember fs ms n s
 key-member [] fs ms p n s e found = absurd (none-some s found)
 key-member (m ∷ ns) fs ms p n s e found =
     let here = key-field (kind_of m fs) (member_of m ms) p (nil_first (key_field_fault (kind_of m fs) (member_of m ms) p) _ e) in

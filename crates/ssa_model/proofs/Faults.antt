@@ -12,44 +12,55 @@ is_nil : {X : Type 0} → List X → Bool
 is_nil [] = true
 is_nil (x ∷ xs) = false
 
+-- a list with an element is not empty
 pub cons≢nil : {X : Type 0} {x : X} {xs : List X} → x ∷ xs ≡ [] → ⊥
 unfolding is_nil
 cons≢nil e = true≢false (sym (ap is_nil e))
 
+-- where two lists in a row are empty, the first is
 pub nil_first : {X : Type 0} (xs ys : List X) → xs ++ ys ≡ [] → xs ≡ []
 nil_first [] ys e = refl
 nil_first (x ∷ xs) ys e = absurd (cons≢nil e)
 
+-- and the second is
 pub nil_second : {X : Type 0} (xs ys : List X) → xs ++ ys ≡ [] → ys ≡ []
 nil_second [] ys e = e
 nil_second (x ∷ xs) ys e = absurd (cons≢nil e)
 
+-- where a test that should pass tells no fault, it passes
 pub unless-true : (b : Bool) (f : kinds.BodyFault) (p : Path) → fault_unless b f p ≡ [] → b ≡ true
 unless-true true f p e = refl
 unless-true false f p e = absurd (cons≢nil e)
 
+-- where a list of faults is told to be empty, it is
 pub none-found : (fs : List FaultAt) → is_none fs ≡ true → fs ≡ []
 none-found [] h = refl
 none-found (f ∷ fs) h = absurd (true≢false (sym h))
 
 -- ---- atomic values
 
+-- the faults of a value by the shape of its field, or that the field is unknown
 abbrev pub shape_test : Json → Path → Option Shape → List FaultAt
 shape_test v p None = fault_at unknown_field p ∷ []
 shape_test v p (Some s) = shape_faults s v p
 
-shape_test-is : (v : Json) (p : Path) (o : Option Shape) → ◌≡◌ {A = List FaultAt} (elim o [ None ↦ fault_at unknown_field p ∷ [] | Some s ↦ shape_faults s v p ]) (shape_test v p o)
+shape_test-is : (v : Json) (p : Path) (o : Option Shape) → ◌≡◌ {A = List FaultAt}
+    (elim o [ None ↦ fault_at unknown_field p ∷ [] | Some s ↦ shape_faults s v p ]) (shape_test v p o)
 shape_test-is v p None = refl
 shape_test-is v p (Some s) = refl
 
-pub shape_member-now : (fs : ShapeFields) (n : Text) (v : Json) (ms : Members) (p : Path) → shape_field_faults fs (member n v ms) p ≡ shape_test v p (shape_of n fs) ++ shape_field_faults fs ms p
+-- the faults of members in an atomic value are those of the first by its field's shape, and then those of the others
+pub shape_member-now : (fs : ShapeFields) (n : Text) (v : Json) (ms : Members) (p : Path)
+    → shape_field_faults fs (member n v ms) p ≡ shape_test v p (shape_of n fs) ++ shape_field_faults fs ms p
 shape_member-now fs n v ms p = ap (λ xs. xs ++ shape_field_faults fs ms p) (shape_test-is v p (shape_of n fs))
 
-shape_member-anywhere : (o : Option Shape) (v : Json) (p q : Path) → ((s : Shape) → shape_faults s v p ≡ [] → shape_faults s v q ≡ []) → shape_test v p o ≡ [] → shape_test v q o ≡ []
+shape_member-anywhere : (o : Option Shape) (v : Json) (p q : Path) → ((s : Shape) → shape_faults s v p ≡ [] → shape_faults s v q ≡ []) → shape_test v p o ≡ []
+    → shape_test v q o ≡ []
 shape_member-anywhere None v p q inside e = absurd (cons≢nil e)
 shape_member-anywhere (Some s) v p q inside e = inside s e
 
 mutual
+  -- what has no fault in an atomic value at one path has none at another
   pub shape-anywhere : (s : Shape) (v : Json) (p q : Path) → shape_faults s v p ≡ [] → shape_faults s v q ≡ []
   shape-anywhere (kinds.scalar_shape k) (scalar t) p q e = ap (λ b. fault_unless b wrong_type q) (unless-true (is_of k t) wrong_type p e)
   shape-anywhere (kinds.record_shape fs) (object ms) p q e = shape_fields-anywhere fs ms p q e

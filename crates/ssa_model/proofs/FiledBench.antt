@@ -19,11 +19,9 @@ use Rattle.ssa_model.specs.examples.Rows.{new_bench, with_replicas}
 use Rattle.ssa_model.specs.examples.FileRows.{value_among, readings_of, m1_applies, three_replicas, applied_step, filed, BenchFileIsMet}
 use Rattle.ssa_model.proofs.FlatFits.{flat_fits}
 use Rattle.ssa_model.proofs.FlatRooted.{flat_is_rooted}
-use Rattle.ssa_model.proofs.Tables.{text-itself, first_false, second_false, strip_keeps}
+use Rattle.ssa_model.proofs.Tables.{text-itself, strip_keeps}
 use Rattle.ssa_model.proofs.ValidStates.{apply_keeps_valid}
-
-pub le-of : (a b : ℕ) → nat_le a b ≡ true → a ≤ b
-le-of a b h = grind (arith, nat_tests)
+use Rattle.ssa_model.proofs.Basics.{first_false, second_false, le-of}
 
 -- ---- an apply that passes its tests leads to its target
 
@@ -39,6 +37,7 @@ applied-is state a config at alone few seated =
     ∙ ap (λ t. if t then Err too_many_paths else if_seated next) few
     ∙ ap (λ t. if t then Err too_many_managers else Ok next) seated
 
+-- the first state of the sample's new bench is valid
 pub first-valid : IsValidState sample_kind new_bench.timeline.first
 first-valid = record {
   fits = flat_fits sample_kind (object no_members) refl refl refl;
@@ -47,6 +46,7 @@ first-valid = record {
   table = strip_keeps new_bench.timeline.first;
 }
 
+-- the state after the sample's first apply is valid
 pub applied-valid : IsValidState sample_kind applied_step.state
 applied-valid =
     let at = codes "2024-05-01T10:00:01Z" in
@@ -57,6 +57,7 @@ applied-valid =
 
 -- ---- the readings
 
+-- a value among others is read from its text, where none before it has this text
 pub spelled-in : (before : List Json) (v : Json) (behind : List Json)
     → list_any (λ w. same_text (compact w) (compact v)) before ≡ false → value_among (before ++ v ∷ behind) (compact v) ≡ Ok v
 spelled-in [] v behind h = ap (λ t. if t then Ok v else value_among behind (compact v)) (text-itself (compact v))

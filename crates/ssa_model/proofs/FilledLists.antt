@@ -28,6 +28,7 @@ module _ {X : Type 0} where
     | None ↦ elim xs [ [] ↦ filled at (i + 1) n [] | x ∷ rest ↦ x ∷ filled at (i + 1) n rest ]
   ]) e
 
+  -- where no element is given from i on and none is left, nothing is filled in
   pub filled_none : (at : ℕ → Option X) (i n : ℕ) → ((j : ℕ) → i ≤ j → at j ≡ None) → filled at i n [] ≡ []
   filled_none at i zero none = refl
   filled_none at i (suc n) none = step at i n [] None (none i (omega arith)) ∙ filled_none at (i + 1) n (λ j h. none j (omega arith))
@@ -41,7 +42,9 @@ module _ {X : Type 0} where
       (λ t. (λ k. cond (t k) (y ∷ rest k) (rest k)))
       (λ f. absurd (none-some y (sym (none i (omega arith)) ∙ g.0 ∙ ap (λ b. if b then None else Some y) f)))
 
-  pub filled_is : (at : ℕ → Option X) (stays : X → Bool) (i n : ℕ) (ys : List X) → Gives at stays i ys → ((j : ℕ) → i + n ≤ j → at j ≡ None) → filled at i n (filter stays ys) ≡ ys
+  -- the elements that stay, with the others given for their places, fill up to the list
+  pub filled_is : (at : ℕ → Option X) (stays : X → Bool) (i n : ℕ) (ys : List X) → Gives at stays i ys → ((j : ℕ) → i + n ≤ j → at j ≡ None)
+      → filled at i n (filter stays ys) ≡ ys
   filled_is at stays i zero ys g none = all_stay at stays i ys (λ j h. none j (omega arith)) g
   filled_is at stays i (suc n) [] g none = filled_none at i (suc n) g
   filled_is at stays i (suc n) (y ∷ ys) g none =
@@ -64,7 +67,8 @@ module _ {X : Type 0} where
       ]
 
   -- the places that a test gives, from any function that answers as they do from i on
-  pub placed_gives : (at : ℕ → Option X) (test : X → Bool) (i : ℕ) (ys : List X) → ((j : ℕ) → i ≤ j → at j ≡ placed_at (placed test i ys) j) → Gives at (λ y. not (test y)) i ys
+  pub placed_gives : (at : ℕ → Option X) (test : X → Bool) (i : ℕ) (ys : List X) → ((j : ℕ) → i ≤ j → at j ≡ placed_at (placed test i ys) j)
+      → Gives at (λ y. not (test y)) i ys
   placed_gives at test i [] alike = alike
   placed_gives at test i (y ∷ ys) alike =
       by_test (test y)
@@ -78,7 +82,8 @@ module _ {X : Type 0} where
       (λ f. (
         alike i (omega arith) ∙ ap (λ b. placed_at (if b then (i, y) ∷ placed test (i + 1) ys else placed test (i + 1) ys) i) f
             ∙ placed_before test (i + 1) i ys (omega arith) ∙ ap (λ b. if not b then None else Some y) (sym f),
-        placed_gives at test (i + 1) ys (λ j h. alike j (omega arith) ∙ ap (λ b. placed_at (if b then (i, y) ∷ placed test (i + 1) ys else placed test (i + 1) ys) j) f),
+        placed_gives at test (i + 1) ys (λ j h. alike j (omega arith)
+            ∙ ap (λ b. placed_at (if b then (i, y) ∷ placed test (i + 1) ys else placed test (i + 1) ys) j) f),
       ))
 
   -- no place is at the end or after it

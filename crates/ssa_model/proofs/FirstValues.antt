@@ -45,15 +45,3 @@ values-first readings l rest plain = ap (option_and_then (spelled_values reading
 pub values-found : (readings : Readings) (l rest : Text) (v : Json) → HasNoLineFeed l → spelled_value readings l ≡ Some v
     → values_of readings ((l ++ line_feed ∷ []) ++ rest) ≡ option_map (λ vs. v ∷ vs) (values_of readings rest)
 values-found readings l rest v plain h = values-first readings l rest plain ∙ ap (option_and_then (λ w. option_map (λ vs. w ∷ vs) (values_of readings rest))) h
-
--- where it has none
-pub values-refused : (readings : Readings) (l rest : Text) → HasNoLineFeed l → spelled_value readings l ≡ None → values_of readings ((l ++ line_feed ∷ []) ++ rest) ≡ None
-values-refused readings l rest plain h = values-first readings l rest plain ∙ ap (option_and_then (λ w. option_map (λ vs. w ∷ vs) (values_of readings rest))) h
-
-unended : (l : Text) → l ≢ [] → ended_lines ([], l) ≡ None
-unended [] h = absurd (h refl)
-unended (b ∷ bs) h = refl
-
--- bytes that no line feed ends
-pub values-unended : (readings : Readings) (l : Text) → HasNoLineFeed l → l ≢ [] → values_of readings l ≡ None
-values-unended readings l plain some = ap (option_and_then (spelled_values readings)) (ap ended_lines (split_lines-plain l plain) ∙ unended l some)

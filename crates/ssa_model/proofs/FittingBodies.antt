@@ -16,13 +16,14 @@ use Rattle.ssa_model.specs.definitions.Carry.{carried_content, carry_body}
 use Rattle.ssa_model.specs.laws.FittingRecords.{is_touched, order_after, ListFits, BodyFits}
 use Rattle.ssa_model.proofs.PathMaps.{has-paths}
 use Rattle.ssa_model.proofs.Pruned.{some_one, from_one, closed-above, under-append, under-rest, under-trans, under-push, named, key_field_is}
-use Rattle.ssa_model.proofs.Tables.{yes_no, no, under-itself}
+use Rattle.ssa_model.proofs.Tables.{yes_no, under-itself}
 use Rattle.ssa_model.proofs.Tests.{by_test}
 use Rattle.ssa_model.proofs.Fitting.{is_list, is_list_place, list_place, any_order, some_there, among-filter}
 use Rattle.ssa_model.proofs.Places.{place-after}
 use Rattle.ssa_model.proofs.Beginnings.{parent-push}
 use Rattle.ssa_model.proofs.UntouchedLists.{untouched-fits}
 use Rattle.ssa_model.proofs.CarriedPaths.{Source, stayed, came, away, source, at_put, at_stay, at_cut, parent_there}
+use Rattle.ssa_model.proofs.Basics.{not_true as no}
 
 -- ---- places of lists
 
@@ -45,7 +46,8 @@ list-item (item_of ns fs) (field n) s is i = absurd (true≢false (sym i))
 list-item _ _ s is i = absurd (none-some s is)
 
 -- a path that names a key field of its item is one
-pub key-named : (p q : Path) (ks : List (Text × Scalar)) (n : Text) (s : Scalar) → p ≡ (q ++ key ks ∷ []) ++ field n ∷ [] → scalar_of n ks ≡ Some s → is_key_field p ≡ false → ⊥
+pub key-named : (p q : Path) (ks : List (Text × Scalar)) (n : Text) (s : Scalar) → p ≡ (q ++ key ks ∷ []) ++ field n ∷ [] → scalar_of n ks ≡ Some s
+    → is_key_field p ≡ false → ⊥
 key-named p q ks n s is found free = yes_no (is_key_field p) (ap is_key_field is ∙ key_field_is q ks n (named n ks s found)) free
 
 -- ---- orders
@@ -78,6 +80,7 @@ module _ (kind : Kind) (d : BodyRecord) (v : Body) (a : IsBodyOf kind v) (f : Bo
 
   -- ---- cuts
 
+  -- where nothing at or above a path is cut, nothing is at or above a beginning of it
   pub uncut-above : (g q : Path) → under g q ≡ true → has_at_or_above d.cut q ≡ false → has_at_or_above d.cut g ≡ false
   uncut-above g q above uncut =
       by_test (has_at_or_above d.cut g)
@@ -98,12 +101,14 @@ module _ (kind : Kind) (d : BodyRecord) (v : Body) (a : IsBodyOf kind v) (f : Bo
       ])
       (λ k. k)
 
+  -- the root is not cut
   pub uncut-root : has_at_or_above d.cut [] ≡ false
   uncut-root =
       by_test (has_at_or_above d.cut [])
       (λ t.
       let x = some_one (λ h. under h []) (paths d.cut) t in
-      yes_no (has_at_or_above d.cut (parent x.0)) (from_one (λ h. under h (parent x.0)) (paths d.cut) x.0 x.1 (root-only x.0 x.2)) (f.cut x.0 (has-paths d.cut x.0 ∙ x.1)).top)
+      yes_no (has_at_or_above d.cut (parent x.0)) (from_one (λ h. under h (parent x.0)) (paths d.cut) x.0 x.1 (root-only x.0 x.2))
+      (f.cut x.0 (has-paths d.cut x.0 ∙ x.1)).top)
       (λ k. k)
 
   cut-here : (q : Path) → has d.cut q ≡ true → has_at_or_above d.cut q ≡ true
@@ -115,9 +120,11 @@ module _ (kind : Kind) (d : BodyRecord) (v : Body) (a : IsBodyOf kind v) (f : Bo
 
   -- ---- what stays is there
 
+  -- a path of the body that stays is a path of the body after it
   pub stay-there : (q : Path) → has v q ≡ true → has_at_or_above d.cut q ≡ false → has w q ≡ true
   stay-there q there uncut = let c = some_there (get v q) there in ap is_some (at_stay kind d v a f q c.0 c.1 uncut)
 
+  -- the body after it has the root
   pub root-there : has w [] ≡ true
   root-there = stay-there [] a.root uncut-root
 
@@ -132,7 +139,8 @@ module _ (kind : Kind) (d : BodyRecord) (v : Body) (a : IsBodyOf kind v) (f : Bo
           | inr above ↦
               let rest = under-rest g p above in
               let path : p ++ e ∷ [] ≡ g ++ (rest.0 ++ e ∷ []) = ap (λ s. s ++ e ∷ []) rest.1 ∙ append_assoc g rest.0 (e ∷ []) in
-              let there : has x.below (rest.0 ++ e ∷ []) ≡ true = sym (ap is_some (at_put kind d v a f g (rest.0 ++ e ∷ []) x found)) ∙ ap (has w) (sym path) ∙ one in
+              let there : has x.below (rest.0 ++ e ∷ []) ≡ true = sym (ap is_some (at_put kind d v a f g (rest.0 ++ e ∷ []) x found)) ∙ ap (has w) (sym path)
+              ∙ one in
               ap (has w) rest.1 ∙ ap is_some (at_put kind d v a f g rest.0 x found) ∙ (f.put g x found).part.closed rest.0 e there
         ]
         | away none ↦ absurd (true≢false (sym one ∙ ap is_some none))
@@ -142,12 +150,15 @@ module _ (kind : Kind) (d : BodyRecord) (v : Body) (a : IsBodyOf kind v) (f : Bo
 
   carried-fits : (q : Path) (c : Content) → get v q ≡ Some c → IsAt kind q (carried_content d q c)
   carried-fits q (leaf s) is =
-      elim (get d.leaves q) as (λ o. get d.leaves q ≡ o → IsAt kind q (unwrap_or o (leaf s))) [ None ↦ λ none. a.fits q (leaf s) is | Some e ↦ λ found. (f.leaves q e found).at ] refl
+      elim (get d.leaves q) as (λ o. get d.leaves q ≡ o → IsAt kind q (unwrap_or o (leaf s)))
+      [ None ↦ λ none. a.fits q (leaf s) is | Some e ↦ λ found. (f.leaves q e found).at ] refl
   carried-fits q (atom s) is =
-      elim (get d.leaves q) as (λ o. get d.leaves q ≡ o → IsAt kind q (unwrap_or o (atom s))) [ None ↦ λ none. a.fits q (atom s) is | Some e ↦ λ found. (f.leaves q e found).at ] refl
+      elim (get d.leaves q) as (λ o. get d.leaves q ≡ o → IsAt kind q (unwrap_or o (atom s)))
+      [ None ↦ λ none. a.fits q (atom s) is | Some e ↦ λ found. (f.leaves q e found).at ] refl
   carried-fits q record_branch is = a.fits q record_branch is
   carried-fits q dict_branch is = a.fits q dict_branch is
-  carried-fits q (list_branch es) is = let at = a.fits q (list_branch es) is in record { place = at.place; there = at.there; fits = any_order at.place (order_after d q es) es ∙ at.fits }
+  carried-fits q (list_branch es) is = let at = a.fits q (list_branch es) is in
+      record { place = at.place; there = at.there; fits = any_order at.place (order_after d q es) es ∙ at.fits }
 
   fits-there : (q : Path) (c : Content) → get w q ≡ Some c → IsAt kind q c
   fits-there q c is =
@@ -159,15 +170,21 @@ module _ (kind : Kind) (d : BodyRecord) (v : Body) (a : IsBodyOf kind v) (f : Bo
 
   -- ---- orders
 
+  -- what is carried of each content of the body is no list, or a list of the record's order
   pub carried : (q : Path) (c : Content) → get v q ≡ Some c → Carried d q c
   carried q (leaf s) is =
-      plain (elim (get d.leaves q) as (λ o. get d.leaves q ≡ o → order_at (Some (unwrap_or o (leaf s))) ≡ []) [ None ↦ λ none. refl | Some e ↦ λ found. other-order (get v q) e (f.leaves q e found).other ] refl) refl
+      plain (elim (get d.leaves q) as (λ o. get d.leaves q ≡ o
+      → order_at (Some (unwrap_or o (leaf s))) ≡ []) [ None ↦ λ none. refl | Some e ↦ λ found. other-order (get v q) e (f.leaves q e found).other ] refl)
+      refl
   carried q (atom s) is =
-      plain (elim (get d.leaves q) as (λ o. get d.leaves q ≡ o → order_at (Some (unwrap_or o (atom s))) ≡ []) [ None ↦ λ none. refl | Some e ↦ λ found. other-order (get v q) e (f.leaves q e found).other ] refl) refl
+      plain (elim (get d.leaves q) as (λ o. get d.leaves q ≡ o
+      → order_at (Some (unwrap_or o (atom s))) ≡ []) [ None ↦ λ none. refl | Some e ↦ λ found. other-order (get v q) e (f.leaves q e found).other ] refl)
+      refl
   carried q record_branch is = plain refl refl
   carried q dict_branch is = plain refl refl
   carried q (list_branch es) is = listed es refl
 
+  -- each list that stays fits, whether the record touches it or not
   pub list-fits : (q : Path) (es : List Element) → get v q ≡ Some (list_branch es) → has_at_or_above d.cut q ≡ false → ListFits d q es
   list-fits q es is uncut =
       by_test (is_touched d q)
@@ -179,14 +196,16 @@ module _ (kind : Kind) (d : BodyRecord) (v : Body) (a : IsBodyOf kind v) (f : Bo
       elim (from q) [
         | stayed c is uncut says ↦ elim (carried q c is) [
           | plain none other ↦ ap (λ o. are_distinct (order_at o)) says ∙ ap are_distinct none
-          | listed es same ↦ ap (λ o. are_distinct (order_at o)) (says ∙ ap (λ e. Some (carried_content d q e)) same) ∙ (list-fits q es (is ∙ ap (λ e. Some e) same) uncut).once
+          | listed es same ↦ ap (λ o. are_distinct (order_at o)) (says ∙ ap (λ e. Some (carried_content d q e)) same)
+              ∙ (list-fits q es (is ∙ ap (λ e. Some e) same) uncut).once
         ]
         | came g r x found path says ↦ ap (λ o. are_distinct (order_at o)) says ∙ (f.put g x found).part.once r
         | away none ↦ ap (λ o. are_distinct (order_at o)) none
       ]
 
   -- the place at a path of the body, and of what is below it
-  place-there : (p : Path) (c : Content) (e : Element) → get v p ≡ Some c → has w (p ++ e ∷ []) ≡ true → (r : Place) × (content_fits r c ≡ true) × ((s : Place) × (place_below r e ≡ Some s))
+  place-there : (p : Path) (c : Content) (e : Element) → get v p ≡ Some c → has w (p ++ e ∷ []) ≡ true → (r : Place) × (content_fits r c ≡ true)
+      × ((s : Place) × (place_below r e ≡ Some s))
   place-there p c e is one =
       let x = some_there (get w (p ++ e ∷ [])) one in
       let up = a.fits p c is in
@@ -203,14 +222,16 @@ module _ (kind : Kind) (d : BodyRecord) (v : Body) (a : IsBodyOf kind v) (f : Bo
       (λ n. sym (λ k. n k && has w (p ++ e ∷ [])))
 
   -- what is below a path that stays: what stays there and what is put there
-  child : (p : Path) (e : Element) → has v p ≡ true → has_at_or_above d.cut p ≡ false → has w (p ++ e ∷ []) ≡ ((has v (p ++ e ∷ []) && not (has d.cut (p ++ e ∷ []))) || has d.put (p ++ e ∷ []))
+  child : (p : Path) (e : Element) → has v p ≡ true → has_at_or_above d.cut p ≡ false
+      → has w (p ++ e ∷ []) ≡ ((has v (p ++ e ∷ []) && not (has d.cut (p ++ e ∷ []))) || has d.put (p ++ e ∷ []))
   child p e there uncut =
       let q = p ++ e ∷ [] in
       by_test (has d.put q)
       (λ put.
       let x = some_there (get d.put q) put in
       let lacks = (f.put q x.0 x.1).absent in
-      ap (has w) (sym (append-nil q)) ∙ ap is_some (at_put kind d v a f q [] x.0 x.1) ∙ (f.put q x.0 x.1).part.root ∙ sym (λ i. (lacks i && not (has d.cut q)) || put i))
+      ap (has w) (sym (append-nil q)) ∙ ap is_some (at_put kind d v a f q [] x.0 x.1) ∙ (f.put q x.0 x.1).part.root
+      ∙ sym (λ i. (lacks i && not (has d.cut q)) || put i))
       (λ unput.
       by_test (has v q)
       (λ here.
@@ -228,10 +249,12 @@ module _ (kind : Kind) (d : BodyRecord) (v : Body) (a : IsBodyOf kind v) (f : Bo
       ]))
 
   -- what is put below a list is an item
-  put-item : (p : Path) (es : List Element) (e : Element) → get v p ≡ Some (list_branch es) → has_at_or_above d.cut p ≡ false → has d.put (p ++ e ∷ []) ≡ true → is_item_element e ≡ true
+  put-item : (p : Path) (es : List Element) (e : Element) → get v p ≡ Some (list_branch es) → has_at_or_above d.cut p ≡ false → has d.put (p ++ e ∷ []) ≡ true
+      → is_item_element e ≡ true
   put-item p es e is uncut put =
       let x = some_there (get d.put (p ++ e ∷ [])) put in
-      let one : has w (p ++ e ∷ []) ≡ true = ap (has w) (sym (append-nil (p ++ e ∷ []))) ∙ ap is_some (at_put kind d v a f (p ++ e ∷ []) [] x.0 x.1) ∙ (f.put (p ++ e ∷ []) x.0 x.1).part.root in
+      let one : has w (p ++ e ∷ []) ≡ true = ap (has w) (sym (append-nil (p ++ e ∷ []))) ∙ ap is_some (at_put kind d v a f (p ++ e ∷ []) [] x.0 x.1)
+      ∙ (f.put (p ++ e ∷ []) x.0 x.1).part.root in
       let at = place-there p (list_branch es) e is one in
       list-item at.0 e at.2.0 at.2.1 (sym (list_place at.0 (list_branch es) at.1))
 
@@ -240,7 +263,8 @@ module _ (kind : Kind) (d : BodyRecord) (v : Body) (a : IsBodyOf kind v) (f : Bo
   list-items p es e is uncut =
       let q = p ++ e ∷ [] in
       (list-fits p es is uncut).items e
-      ∙ ap (λ b. b || has d.put q) (among-filter (λ x. not (has d.cut (p ++ x ∷ []))) es e ∙ ap (λ b. b && not (has d.cut q)) (ap (λ o. is_among e (order_at o)) (sym is) ∙ a.items p e))
+      ∙ ap (λ b. b || has d.put q) (among-filter (λ x. not (has d.cut (p ++ x ∷ []))) es e
+      ∙ ap (λ b. b && not (has d.cut q)) (ap (λ o. is_among e (order_at o)) (sym is) ∙ a.items p e))
       ∙ items-put (is_item_element e) (has v q) (not (has d.cut q)) (has d.put q) (put-item p es e is uncut)
       ∙ ap (λ b. is_item_element e && b) (sym (child p e (ap is_some is) uncut))
 
@@ -249,7 +273,8 @@ module _ (kind : Kind) (d : BodyRecord) (v : Body) (a : IsBodyOf kind v) (f : Bo
       elim (from p) [
         | stayed c is uncut says ↦ elim (carried p c is) [
           | plain none other ↦ ap (λ o. is_among e (order_at o)) says ∙ ap (is_among e) none ∙ no-item p c e is other
-          | listed es same ↦ ap (λ o. is_among e (order_at o)) (says ∙ ap (λ x. Some (carried_content d p x)) same) ∙ list-items p es e (is ∙ ap (λ x. Some x) same) uncut
+          | listed es same ↦ ap (λ o. is_among e (order_at o)) (says ∙ ap (λ x. Some (carried_content d p x)) same)
+              ∙ list-items p es e (is ∙ ap (λ x. Some x) same) uncut
         ]
         | came g r x found path says ↦
             let below : p ++ e ∷ [] ≡ g ++ (r ++ e ∷ []) = ap (λ s. s ++ e ∷ []) (sym path) ∙ append_assoc g r (e ∷ []) in
@@ -263,7 +288,8 @@ module _ (kind : Kind) (d : BodyRecord) (v : Body) (a : IsBodyOf kind v) (f : Bo
 
   -- ---- key fields
 
-  keys-there : (p : Path) (ks : List (Text × Scalar)) (n : Text) (s : Scalar) → scalar_of n ks ≡ Some s → has w (p ++ key ks ∷ []) ≡ true → get w ((p ++ key ks ∷ []) ++ field n ∷ []) ≡ Some (leaf s)
+  keys-there : (p : Path) (ks : List (Text × Scalar)) (n : Text) (s : Scalar) → scalar_of n ks ≡ Some s → has w (p ++ key ks ∷ []) ≡ true
+      → get w ((p ++ key ks ∷ []) ++ field n ∷ []) ≡ Some (leaf s)
   keys-there p ks n s scalar one =
       let item = p ++ key ks ∷ [] in
       let at = item ++ field n ∷ [] in
@@ -283,5 +309,6 @@ module _ (kind : Kind) (d : BodyRecord) (v : Body) (a : IsBodyOf kind v) (f : Bo
         | away none ↦ yes_no (has w item) one (ap is_some none)
       ]
 
+  -- what the record leads to is a body of the kind
   pub body-after : IsBodyOf kind w
   body-after = record { root = root-there; closed = closed-there; fits = fits-there; once = once-there; keys = keys-there; items = items-there }

@@ -16,12 +16,15 @@ use Rattle.ssa_model.proofs.TakenBodies.{uncut, taken_body_fits}
 use Rattle.ssa_model.proofs.FittingTables.{fitting_table_leads}
 use Rattle.ssa_model.proofs.TakenTables.{taken_table_fits}
 
+-- a record that fits a valid state takes it to what it leads to
 pub fitting_leads : FittingLeads
 fitting_leads kind d v a f =
     let body = fitting_body_leads kind d.body v.body a.fits f.body in
-    let table = fitting_table_leads d.table v.table v.body (carry_body d.body v.body) d.body.cut a.table (stay-there kind d.body v.body a.fits f.body) f.table in
+    let table = fitting_table_leads d.table v.table v.body (carry_body d.body v.body) d.body.cut a.table (stay-there kind d.body v.body a.fits f.body)
+    f.table in
     takes_by_parts kind d v (carry d v) a (record { fits = body.to; rooted = f.rooted; few = f.few; table = table.1 }) body table.0
 
+-- a record that takes a valid state anywhere fits it
 pub taken_fits : TakenFits
 taken_fits kind d v w h =
     let is = h.is in
@@ -31,7 +34,7 @@ taken_fits kind d v w h =
     record {
       body = taken_body_fits kind d.body v.body w.body (record { from = h.from.fits; to = h.to.fits; is = ap (λ (e : Record). e.body) is });
       table = subst (λ (b : Body). TableFits d.table v.table b d.body.cut) after (taken_table_fits d.table v.table w.table w.body d.body.cut h.to.table apart
-          (record { from = h.from.table.distinct; to = h.to.table.distinct; order = h.order; is = ap (λ (e : Record). e.table) is }));
+          (record { from = h.from.table.managers.distinct; to = h.to.table.managers.distinct; order = h.order; is = ap (λ (e : Record). e.table) is }));
       rooted = subst IsRooted after h.to.rooted;
       few = subst (λ (b : Body). size b ≤ most_places) after h.to.few;
     }

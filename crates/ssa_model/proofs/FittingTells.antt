@@ -15,17 +15,18 @@ use Rattle.ssa_model.specs.definitions.Carry.{refilled, carried_order, carried_c
 use Rattle.ssa_model.specs.laws.FittingRecords.{order_after, BodyFits, FittingBodyLeads}
 use Rattle.ssa_model.proofs.PathMaps.{has-paths, same_map, same_sets, get-over_paths}
 use Rattle.ssa_model.proofs.Pruned.{some_one, from_one, closed-above, under-append, under-push}
-use Rattle.ssa_model.proofs.Tables.{yes_no, no, under-itself}
+use Rattle.ssa_model.proofs.Tables.{yes_no, under-itself}
 use Rattle.ssa_model.proofs.Tests.{by_test, same_tests}
 use Rattle.ssa_model.proofs.Scalars.{same_scalar-itself}
 use Rattle.ssa_model.proofs.SameValues.{same_json-itself}
-use Rattle.ssa_model.proofs.Fitting.{is_list, some_there, nothing_there}
+use Rattle.ssa_model.proofs.Fitting.{is_list, some_there}
 use Rattle.ssa_model.proofs.Beginnings.{parent-push, last-push}
 use Rattle.ssa_model.proofs.PutParts.{get-below}
 use Rattle.ssa_model.proofs.RecordTurns.{nothing}
 use Rattle.ssa_model.proofs.BodyLeads.{get-cuts}
 use Rattle.ssa_model.proofs.CarriedPaths.{stayed, came, away, source, at_put, at_stay, at_cut, parent_there}
 use Rattle.ssa_model.proofs.FittingBodies.{plain, listed, carried, no-item, list-fits, root-there, stay-there, parent_uncut, body-after}
+use Rattle.ssa_model.proofs.Basics.{not_true as no, none-there as nothing_there}
 
 -- ---- paths
 
@@ -34,6 +35,7 @@ pub split_last : (p : Path) → (p ≡ []) ⊎ ((q : Path) × ((e : Element) × 
 split_last [] = inl refl
 split_last (e ∷ p) = elim (split_last p) [ inl is ↦ inr ([], (e, ap (λ q. e ∷ q) is)) | inr x ↦ inr (e ∷ x.0, (x.1.0, ap (λ q. e ∷ q) x.1.1)) ]
 
+-- each path is under its parent
 pub parent_above : (p : Path) → under (parent p) p ≡ true
 parent_above p =
     elim (split_last p) [
@@ -41,6 +43,7 @@ parent_above p =
       | inr x ↦ (λ i. under ((ap parent x.1.1 ∙ parent-push x.0 x.1.0) i) (x.1.1 i)) ∙ under-append x.0 (x.1.0 ∷ [])
     ]
 
+-- a path with one element more is that of an item exactly where this element is an item's
 pub item-push : (q : Path) (e : Element) → is_item (q ++ e ∷ []) ≡ is_item_element e
 item-push [] e = refl
 item-push (f ∷ []) e = refl
@@ -48,13 +51,7 @@ item-push (f ∷ g ∷ q) e = item-push (g ∷ q) e
 
 -- ---- contents
 
-pub no_other : (c : Content) → is_other_leaf (Some c) None ≡ false
-no_other (leaf s) = refl
-no_other (atom s) = refl
-no_other record_branch = refl
-no_other dict_branch = refl
-no_other (list_branch es) = refl
-
+-- a content has no other order where nothing stands in the second body
 pub no_order : (c : Content) → is_reordered (Some c) None ≡ false
 no_order (leaf s) = refl
 no_order (atom s) = refl
@@ -123,7 +120,8 @@ module _ (kind : Kind) (d : BodyRecord) (v : Body) (a : IsBodyOf kind v) (f : Bo
       same_tests (has d.cut p) (has (cuts v w) p) (cut-told p) (λ h.
       let both = sym (get-cuts v w p) ∙ h in
       let top = second_so (has v p) (is_top w p) both in
-      lost-cut p (first_so (has v p) (is_top w p) both) (no (has w p) (first_so (not (has w p)) (has w (parent p)) top)) (second_so (not (has w p)) (has w (parent p)) top)))
+      lost-cut p (first_so (has v p) (is_top w p) both) (no (has w p) (first_so (not (has w p)) (has w (parent p)) top))
+      (second_so (not (has w p)) (has w (parent p)) top)))
 
   -- ---- leaves
 
@@ -136,7 +134,8 @@ module _ (kind : Kind) (d : BodyRecord) (v : Body) (a : IsBodyOf kind v) (f : Bo
       let there = first_so (has v p) (not (has_at_or_above d.cut p)) l.stay in
       let uncut = no (has_at_or_above d.cut p) (second_so (has v p) (not (has_at_or_above d.cut p)) l.stay) in
       let x = some_there (get v p) there in
-      let is = at_stay kind d v a f p x.0 x.1 uncut ∙ ap (λ e. Some e) (leaf-carried d p x.0 c (ap (λ o. is_other_leaf o (Some c)) (sym x.1) ∙ l.other) found) in
+      let is = at_stay kind d v a f p x.0 x.1 uncut ∙ ap (λ e. Some e)
+      (leaf-carried d p x.0 c (ap (λ o. is_other_leaf o (Some c)) (sym x.1) ∙ l.other) found) in
       (λ i. cond (there i) (new_leaf (get v p) (is i)) None) ∙ ap (λ b. if b then Some c else None) l.other
 
   leaf-untold : (p : Path) → get d.leaves p ≡ None → cond (has v p) (leaf_at p) None ≡ None
@@ -151,7 +150,8 @@ module _ (kind : Kind) (d : BodyRecord) (v : Body) (a : IsBodyOf kind v) (f : Bo
   leaves-are : d.leaves ≡ new_leaves v w
   leaves-are =
       same_map d.leaves (new_leaves v w) (λ p.
-      elim (get d.leaves p) as (λ o. get d.leaves p ≡ o → o ≡ cond (has v p) (leaf_at p) None) [ None ↦ λ none. sym (leaf-untold p none) | Some c ↦ λ found. sym (leaf-told p c found) ] refl
+      elim (get d.leaves p) as (λ o. get d.leaves p ≡ o → o ≡ cond (has v p) (leaf_at p) None)
+      [ None ↦ λ none. sym (leaf-untold p none) | Some c ↦ λ found. sym (leaf-told p c found) ] refl
       ∙ sym (get-over_paths v leaf_at p))
 
   -- ---- orders
@@ -159,7 +159,8 @@ module _ (kind : Kind) (d : BodyRecord) (v : Body) (a : IsBodyOf kind v) (f : Bo
   abbrev new_at : Path → Option (List Element)
   new_at p = new_order (get v p) (get w p)
 
-  list-after : (p : Path) (es : List Element) → get v p ≡ Some (list_branch es) → has_at_or_above d.cut p ≡ false → new_at p ≡ (if is_some (get d.order p) then Some (order_after d p es) else None)
+  list-after : (p : Path) (es : List Element) → get v p ≡ Some (list_branch es) → has_at_or_above d.cut p ≡ false
+      → new_at p ≡ (if is_some (get d.order p) then Some (order_after d p es) else None)
   list-after p es is uncut =
       (λ i. new_order (is i) (at_stay kind d v a f p (list_branch es) is uncut i))
       ∙ ap (λ b. if b then Some (order_after d p es) else None) (sym (list-fits kind d v a f p es is uncut).order)
@@ -189,7 +190,8 @@ module _ (kind : Kind) (d : BodyRecord) (v : Body) (a : IsBodyOf kind v) (f : Bo
   orders-are : d.order ≡ new_orders v w
   orders-are =
       same_map d.order (new_orders v w) (λ p.
-      elim (get d.order p) as (λ o. get d.order p ≡ o → o ≡ cond (has v p) (new_at p) None) [ None ↦ λ none. sym (order-untold p none) | Some fs ↦ λ found. sym (order-told p fs found) ] refl
+      elim (get d.order p) as (λ o. get d.order p ≡ o → o ≡ cond (has v p) (new_at p) None)
+      [ None ↦ λ none. sym (order-untold p none) | Some fs ↦ λ found. sym (order-told p fs found) ] refl
       ∙ sym (get-over_paths v new_at p))
 
   -- ---- what is put
@@ -254,7 +256,8 @@ module _ (kind : Kind) (d : BodyRecord) (v : Body) (a : IsBodyOf kind v) (f : Bo
           | inl root ↦ yes_no (has v p) (ap (has v) root ∙ a.root) lacks
           | inr s ↦ elim (under-push g s.0 s.1.0 (ap (under g) (sym (path ∙ s.1.1)) ∙ under-append g r)) [
             | inl same ↦ none-some x (sym none ∙ ap (get d.put) (s.1.1 ∙ sym same) ∙ found)
-            | inr above ↦ yes_no (has v g) (closed-above v a.closed g s.0 (ap (has v) (sym (ap parent s.1.1 ∙ parent-push s.0 s.1.0)) ∙ up) above) (f.put g x found).absent
+            | inr above ↦ yes_no (has v g) (closed-above v a.closed g s.0 (ap (has v) (sym (ap parent s.1.1 ∙ parent-push s.0 s.1.0)) ∙ up) above)
+                (f.put g x found).absent
           ]
         ]
         | away gone ↦ yes_no (has w p) here (ap is_some gone)
@@ -271,11 +274,14 @@ module _ (kind : Kind) (d : BodyRecord) (v : Body) (a : IsBodyOf kind v) (f : Bo
   puts-are : d.put ≡ puts v w
   puts-are =
       same_map d.put (puts v w) (λ p.
-      elim (get d.put p) as (λ o. get d.put p ≡ o → o ≡ cond (has w p) (put_at p) None) [ None ↦ λ none. sym (put-untold p none) | Some x ↦ λ found. sym (put-told p x found) ] refl
+      elim (get d.put p) as (λ o. get d.put p ≡ o → o ≡ cond (has w p) (put_at p) None)
+      [ None ↦ λ none. sym (put-untold p none) | Some x ↦ λ found. sym (put-told p x found) ] refl
       ∙ sym (get-over_paths w put_at p))
 
+  -- the record that fits is the one of the body and of what it leads to
   pub record-is : d ≡ body_record v w
   record-is = λ i. record { cut = cut-is i; leaves = leaves-are i; order = orders-are i; put = puts-are i }
 
+-- a record that fits a body of the kind takes it to what it leads to
 pub fitting_body_leads : FittingBodyLeads
 fitting_body_leads kind d v a f = record { from = a; to = body-after kind d v a f; is = record-is kind d v a f }

@@ -25,7 +25,8 @@ use Rattle.ssa_model.proofs.ReachedPlaces.{value-told}
 -- ---- bodies that have what is reached
 
 -- what stands above what stands
-above-one : (o : Option Standing) (e : Element) (x : Standing) → option_and_then (λ y. level y.0 y.1 e) o ≡ Some x → (y : Standing) × ((o ≡ Some y) × (level y.0 y.1 e ≡ Some x))
+above-one : (o : Option Standing) (e : Element) (x : Standing) → option_and_then (λ y. level y.0 y.1 e) o ≡ Some x → (y : Standing)
+    × ((o ≡ Some y) × (level y.0 y.1 e ≡ Some x))
 above-one None e x h = absurd (none-some x h)
 above-one (Some y) e x h = (y, (refl, h))
 
@@ -66,9 +67,11 @@ module _ (kind : Kind) (v : Json) (fits : Fits kind v) (b : Body) (tells : (p : 
   once-at : (p : Path) → are_distinct (order_at (get b p)) ≡ true
   once-at p =
       ap (λ o. are_distinct (order_at o)) (tells p)
-      ∙ elim (at p) as (λ o. at p ≡ o → are_distinct (order_at (content_at o)) ≡ true) [ None ↦ λ _. refl | Some x ↦ λ there. order-distinct x.0 x.1 (fits-reached p (of_kind kind) v x fits there).1 ] refl
+      ∙ elim (at p) as (λ o. at p ≡ o → are_distinct (order_at (content_at o)) ≡ true)
+      [ None ↦ λ _. refl | Some x ↦ λ there. order-distinct x.0 x.1 (fits-reached p (of_kind kind) v x fits there).1 ] refl
 
-  key-at : (p : Path) (ks : List (Text × Scalar)) (n : Text) (s : Scalar) → scalar_of n ks ≡ Some s → has b (p ++ key ks ∷ []) ≡ true → get b ((p ++ key ks ∷ []) ++ field n ∷ []) ≡ Some (leaf s)
+  key-at : (p : Path) (ks : List (Text × Scalar)) (n : Text) (s : Scalar) → scalar_of n ks ≡ Some s → has b (p ++ key ks ∷ []) ≡ true
+      → get b ((p ++ key ks ∷ []) ++ field n ∷ []) ≡ Some (leaf s)
   key-at p ks n s found one =
       let x = stands-at (p ++ key ks ∷ []) one in
       let y = above-one (at p) (key ks) x.0 (sym (reached-push p (of_kind kind) v (key ks)) ∙ x.1) in
@@ -79,17 +82,20 @@ module _ (kind : Kind) (v : Json) (fits : Fits kind v) (b : Body) (tells : (p : 
 
   has-content : (q : Place) (w : Json) (e : Element) → FitsAt q w → is_some (level q w e) ≡ is_some (content_at (level q w e))
   has-content q w e fit =
-      elim (level q w e) as (λ o. level q w e ≡ o → is_some o ≡ is_some (content_at o)) [ None ↦ λ _. refl | Some x ↦ λ there. sym (ap is_some (own-content x.0 x.1 (fits-below q w e x fit there).1).is_own) ] refl
+      elim (level q w e) as (λ o. level q w e ≡ o → is_some o ≡ is_some (content_at o))
+      [ None ↦ λ _. refl | Some x ↦ λ there. sym (ap is_some (own-content x.0 x.1 (fits-below q w e x fit there).1).is_own) ] refl
 
   items-at : (p : Path) (e : Element) → is_among e (order_at (get b p)) ≡ (is_item_element e && has b (p ++ e ∷ []))
   items-at p e =
       ap (λ o. is_among e (order_at o)) (tells p)
-      ∙ elim (at p) as (λ o. at p ≡ o → is_among e (order_at (content_at o)) ≡ (is_item_element e && is_some (content_at (option_and_then (λ y. level y.0 y.1 e) o)))) [
+      ∙ elim (at p) as (λ o. at p ≡ o → is_among e (order_at (content_at o))
+      ≡ (is_item_element e && is_some (content_at (option_and_then (λ y. level y.0 y.1 e) o)))) [
         | None ↦ λ _. and-no (is_item_element e)
         | Some x ↦ λ there. order-level x.0 x.1 e ∙ ap (λ t. is_item_element e && t) (has-content x.0 x.1 e (fits-reached p (of_kind kind) v x fits there).1)
       ] refl
       ∙ ap (λ t. is_item_element e && t) (sym (has-at (p ++ e ∷ []) ∙ ap (λ o. is_some (content_at o)) (reached-push p (of_kind kind) v e)))
 
+  -- a body that has just what is reached in a fitting value is a body of the kind
   pub body-reached : IsBodyOf kind b
   body-reached = record {
     root = there-has [] (of_kind kind, v) refl;
@@ -102,10 +108,12 @@ module _ (kind : Kind) (v : Json) (fits : Fits kind v) (b : Body) (tells : (p : 
 
 -- ---- without an empty `metadata`
 
+-- the member is an empty `metadata`, which the flattening leaves out
 abbrev pub is_left_out : Text → Json → Bool
 is_left_out n v = same_text n (codes "metadata") && is_empty_object v
 
-if-fits : (b : Bool) (fs : Fields) (p : Path) (ms ns : Members) → field_faults fs ms p ≡ [] → field_faults fs ns p ≡ [] → field_faults fs (if b then ms else ns) p ≡ []
+if-fits : (b : Bool) (fs : Fields) (p : Path) (ms ns : Members) → field_faults fs ms p ≡ [] → field_faults fs ns p ≡ []
+    → field_faults fs (if b then ms else ns) p ≡ []
 if-fits true fs p ms ns e f = e
 if-fits false fs p ms ns e f = f
 
@@ -115,6 +123,7 @@ left-fits fs (member n v ms) p e =
     let others = member-join fs n v ms p e in
     if-fits (is_left_out n v) fs p ms (member n v (without_empty_metadata ms)) others.0 (others.1 (without_empty_metadata ms) (left-fits fs ms p others.0))
 
+-- members without faults have none where an empty `metadata` is left out
 pub without-fits : (fs : Fields) (ms : Members) → FieldsFit fs ms → FieldsFit fs (without_empty_metadata ms)
 without-fits fs ms h = (h.0, left-fits fs ms h.0 h.1)
 
@@ -122,26 +131,31 @@ without-fits fs ms h = (h.0, left-fits fs ms h.0 h.1)
 pub left-missing : (n : Text) (ms : Members) → is_missing (member_of n ms) ≡ true → is_missing (member_of n (without_empty_metadata ms)) ≡ true
 left-missing n no_members h = refl
 left-missing n (member m v ms) h =
-    elim (same_text n m) as (λ t. same_text n m ≡ t → is_missing (if t then Some v else member_of n ms) ≡ true → is_missing (member_of n (if is_left_out m v then ms else member m v (without_empty_metadata ms))) ≡ true) [
+    elim (same_text n m) as (λ t. same_text n m ≡ t → is_missing (if t then Some v else member_of n ms) ≡ true
+    → is_missing (member_of n (if is_left_out m v then ms else member m v (without_empty_metadata ms))) ≡ true) [
       | true ↦ λ t h. absurd (true≢false (sym h))
       | false ↦ λ t h. by t h (left-missing n ms h) (is_left_out m v)
     ] refl h
   where
-    by : same_text n m ≡ false → is_missing (member_of n ms) ≡ true → is_missing (member_of n (without_empty_metadata ms)) ≡ true → (b : Bool) → is_missing (member_of n (if b then ms else member m v (without_empty_metadata ms))) ≡ true
+    by : same_text n m ≡ false → is_missing (member_of n ms) ≡ true → is_missing (member_of n (without_empty_metadata ms)) ≡ true → (b : Bool)
+        → is_missing (member_of n (if b then ms else member m v (without_empty_metadata ms))) ≡ true
     by t h later true = h
     by t h later false = ap (λ s. is_missing (if s then Some v else member_of n (without_empty_metadata ms))) t ∙ later
 
+-- members that name none twice name none twice where an empty `metadata` is left out
 pub left-distinct : (ms : Members) → are_distinct_members ms ≡ true → are_distinct_members (without_empty_metadata ms) ≡ true
 left-distinct no_members h = refl
 left-distinct (member n v ms) h =
     elim (is_left_out n v) as (λ b. are_distinct_members (if b then ms else member n v (without_empty_metadata ms)) ≡ true) [
       | true ↦ second_so (has_distinct_names v) _ later
-      | false ↦ (λ i. left-missing n ms (first_so _ _ h) i && (first_so (has_distinct_names v) _ later i && left-distinct ms (second_so (has_distinct_names v) _ later) i))
+      | false ↦ (λ i. left-missing n ms (first_so _ _ h) i && (first_so (has_distinct_names v) _ later i
+          && left-distinct ms (second_so (has_distinct_names v) _ later) i))
     ]
   where
     later : (has_distinct_names v && are_distinct_members ms) ≡ true
     later = second_so (is_missing (member_of n ms)) _ h
 
+-- and so it is where the fields alone are asked, which have places for members
 pub left-once : (fs : Fields) (ms : Members) → fields_once fs ms ≡ true → fields_once fs (without_empty_metadata ms) ≡ true
 left-once fs no_members h = refl
 left-once fs (member n v ms) h =
@@ -172,5 +186,6 @@ once_fits (record_of fs) (scalar s) lawful once fits = absurd (cons≢nil fits)
 once_fits (record_of fs) (list vs) lawful once fits = absurd (cons≢nil fits)
 once_fits _ v lawful once fits = absurd (true≢false (sym lawful))
 
+-- under a lawful kind, the flattening of a value without faults that names no member twice is a body of the kind
 pub flat_fits : FlatFits
 flat_fits kind v lawful apart fits = once_fits kind v lawful (distinct-once kind v apart) fits

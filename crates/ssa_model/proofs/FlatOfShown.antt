@@ -25,11 +25,13 @@ use Rattle.ssa_model.proofs.Tables.{text-itself, element-itself}
 
 -- ---- single contents
 
-scalar-places : (k : ScalarKind) (c : Content) (p : Path) → content_fits (of_kind (scalar_kind k)) c ≡ true → places (scalar_kind k) (content_value (Some c)) p ≡ (p, c) ∷ []
+scalar-places : (k : ScalarKind) (c : Content) (p : Path) → content_fits (of_kind (scalar_kind k)) c ≡ true
+    → places (scalar_kind k) (content_value (Some c)) p ≡ (p, c) ∷ []
 scalar-places k (leaf s) p h = refl
 scalar-places k _ p h = absurd (true≢false (sym h))
 
-atomic-places : (s : Shape) (c : Content) (p : Path) → content_fits (of_kind (atomic_of s)) c ≡ true → places (atomic_of s) (content_value (Some c)) p ≡ (p, c) ∷ []
+atomic-places : (s : Shape) (c : Content) (p : Path) → content_fits (of_kind (atomic_of s)) c ≡ true
+    → places (atomic_of s) (content_value (Some c)) p ≡ (p, c) ∷ []
 atomic-places s (atom v) p h = refl
 atomic-places s _ p h = absurd (true≢false (sym h))
 
@@ -43,7 +45,8 @@ named (kind_field n k fs) = field n ∷ named fs
 field-among : (n : Text) (k : Kind) (fs : Fields) → kind_of n fs ≡ Some k → is_among (field n) (named fs) ≡ true
 field-among n k no_fields is = absurd (none-some k is)
 field-among n k (kind_field m j fs) is =
-    elim (same_text n m) as (λ t. (if t then Some j else kind_of n fs) ≡ Some k → (t || is_among (field n) (named fs)) ≡ true) [ true ↦ λ _. refl | false ↦ λ is. field-among n k fs is ] is
+    elim (same_text n m) as (λ t. (if t then Some j else kind_of n fs) ≡ Some k
+    → (t || is_among (field n) (named fs)) ≡ true) [ true ↦ λ _. refl | false ↦ λ is. field-among n k fs is ] is
 
 name-among : (n : Text) (ns : List Text) → is_among (field n) (map field ns) ≡ list_any (same_text n) ns
 name-among n [] = refl
@@ -55,7 +58,8 @@ module _ (kind : Kind) (b : Body) (k : IsBodyOf kind b) where
   Told j = (p : Path) → place_at (of_kind kind) p ≡ Some (of_kind j) → has b p ≡ true → Tells kind b k p (places j (shown j b p) p)
 
   abbrev IsToldField : Path → Fields → Text → Kind → Type 0
-  IsToldField p fs n j = (kind_of n fs ≡ Some j) × (has b (p ++ field n ∷ []) ≡ true → Tells kind b k (p ++ field n ∷ []) (places j (shown j b (p ++ field n ∷ [])) (p ++ field n ∷ [])))
+  IsToldField p fs n j = (kind_of n fs ≡ Some j) × (has b (p ++ field n ∷ []) ≡ true
+      → Tells kind b k (p ++ field n ∷ []) (places j (shown j b (p ++ field n ∷ [])) (p ++ field n ∷ [])))
 
   members-told : (p : Path) (fs gs : Fields) → EachField (IsToldField p fs) gs → TellsBelow kind b k p (named gs) (field_places fs (shown_fields gs b p) p)
   members-told p fs no_fields h = λ x. refl
@@ -64,15 +68,20 @@ module _ (kind : Kind) (b : Body) (k : IsBodyOf kind b) where
       let v = shown j b (p ++ field n ∷ []) in
       let ms = shown_fields gs b p in
       let rest = members-told p fs gs h.1 in
-      elim (has b (p ++ field n ∷ [])) as (λ t. has b (p ++ field n ∷ []) ≡ t → TellsBelow kind b k p (field n ∷ named gs) (field_places fs (if t then member n (shown j b (p ++ field n ∷ [])) (shown_fields gs b p) else shown_fields gs b p) p)) [
+      elim (has b (p ++ field n ∷ [])) as (λ t. has b (p ++ field n ∷ []) ≡ t
+      → TellsBelow kind b k p (field n ∷ named gs) (field_places fs
+      (if t then member n (shown j b (p ++ field n ∷ [])) (shown_fields gs b p) else shown_fields gs b p) p)) [
         | true ↦ λ t.
             subst (λ o. TellsBelow kind b k p (field n ∷ named gs) (elim o [ None ↦ [] | Some i ↦ places i v at ] ++ field_places fs ms p)) (sym h.0.0)
             (told-next kind b k p (field n) (named gs) (places j v at) (field_places fs ms p) (h.0.1 t) rest)
         | false ↦ λ t. told-skipped kind b k p (field n) (named gs) (field_places fs ms p) t rest
       ] refl
 
-  pub fields-told : (r : Place) (fs : Fields) (p : Path) → ((n : Text) → place_below r (field n) ≡ option_map of_kind (kind_of n fs)) → ((e : Element) (s : Place) → place_below r e ≡ Some s → IsFieldPlace fs e)
-      → place_at (of_kind kind) p ≡ Some r → get b p ≡ Some record_branch → are_ordered fs ≡ true → OfEach Told fs → Tells kind b k p ((p, record_branch) ∷ field_places fs (shown_fields fs b p) p)
+  -- the fields that are shown at a place with fields tell what the body has at and below it
+  pub fields-told : (r : Place) (fs : Fields) (p : Path) → ((n : Text) → place_below r (field n) ≡ option_map of_kind (kind_of n fs))
+      → ((e : Element) (s : Place) → place_below r e ≡ Some s → IsFieldPlace fs e)
+      → place_at (of_kind kind) p ≡ Some r → get b p ≡ Some record_branch → are_ordered fs ≡ true → OfEach Told fs
+      → Tells kind b k p ((p, record_branch) ∷ field_places fs (shown_fields fs b p) p)
   fields-told r fs p like only at here ordered each =
       told-branch kind b k p record_branch (named fs) (field_places fs (shown_fields fs b p) p) here
       (members-told p fs fs (each_field (IsToldField p fs) fs ordered
@@ -82,17 +91,21 @@ module _ (kind : Kind) (b : Body) (k : IsBodyOf kind b) where
       let x = only e s.place s.below in
       ap (λ y. is_among y (named fs)) x.is_own ∙ field-among x.own x.kind fs x.is_kind)
 
-  entries-told : (j : Kind) (p : Path) (ns : List Text) → AllByRecursion (λ n. Tells kind b k (p ++ field n ∷ []) (places j (shown j b (p ++ field n ∷ [])) (p ++ field n ∷ []))) ns
+  entries-told : (j : Kind) (p : Path) (ns : List Text) → AllByRecursion
+      (λ n. Tells kind b k (p ++ field n ∷ []) (places j (shown j b (p ++ field n ∷ [])) (p ++ field n ∷ []))) ns
       → TellsBelow kind b k p (map field ns) (entry_places j (entry_members (shown j b) p ns) p)
   entries-told j p [] h = λ x. refl
   entries-told j p (n ∷ ns) h =
-      told-next kind b k p (field n) (map field ns) (places j (shown j b (p ++ field n ∷ [])) (p ++ field n ∷ [])) (entry_places j (entry_members (shown j b) p ns) p) h.0 (entries-told j p ns h.1)
+      told-next kind b k p (field n) (map field ns) (places j (shown j b (p ++ field n ∷ [])) (p ++ field n ∷ []))
+      (entry_places j (entry_members (shown j b) p ns) p) h.0 (entries-told j p ns h.1)
 
-  dict-told : (j : Kind) (p : Path) → place_at (of_kind kind) p ≡ Some (of_kind (dict_of j)) → get b p ≡ Some dict_branch → Told j → Tells kind b k p (places (dict_of j) (shown (dict_of j) b p) p)
+  dict-told : (j : Kind) (p : Path) → place_at (of_kind kind) p ≡ Some (of_kind (dict_of j)) → get b p ≡ Some dict_branch → Told j
+      → Tells kind b k p (places (dict_of j) (shown (dict_of j) b p) p)
   dict-told j p at here each =
       let ns = names_below b p in
       told-branch kind b k p dict_branch (map field ns) (entry_places j (entry_members (shown j b) p ns) p) here
-      (entries-told j p ns (each-among same_text text-itself (λ n. Tells kind b k (p ++ field n ∷ []) (places j (shown j b (p ++ field n ∷ [])) (p ++ field n ∷ []))) ns
+      (entries-told j p ns (each-among same_text text-itself
+      (λ n. Tells kind b k (p ++ field n ∷ []) (places j (shown j b (p ++ field n ∷ [])) (p ++ field n ∷ []))) ns
       (λ n among. each (p ++ field n ∷ []) (place-after p (of_kind kind) (field n) (of_kind (dict_of j)) at) (sym (names-there b p n) ∙ among))))
       (λ e one.
       let s = below kind b k p (of_kind (dict_of j)) e at one in
@@ -104,14 +117,17 @@ module _ (kind : Kind) (b : Body) (k : IsBodyOf kind b) where
   abbrev value_items : Path → List Element → Items
   value_items p es = shown_items (λ q. content_value (get b q)) p es
 
-  value-row : (j : ScalarKind) (p : Path) (e : Element) (vs : Items) (x : IsSetItem j b p e) → value_places (item (content_value (get b (p ++ e ∷ []))) vs) p ≡ ((p ++ e ∷ [], leaf x.own) ∷ []) ++ value_places vs p
+  value-row : (j : ScalarKind) (p : Path) (e : Element) (vs : Items) (x : IsSetItem j b p e)
+      → value_places (item (content_value (get b (p ++ e ∷ []))) vs) p ≡ ((p ++ e ∷ [], leaf x.own) ∷ []) ++ value_places vs p
   value-row j p e vs x = ap (λ c. value_places (item (content_value c) vs) p) x.there ∙ (λ i. (p ++ sym x.is_own i ∷ [], leaf x.own) ∷ value_places vs p)
 
   values-order : (j : ScalarKind) (p : Path) (es : List Element) → AllByRecursion (IsSetItem j b p) es → value_order (value_items p es) ≡ es
   values-order j p [] h = refl
-  values-order j p (e ∷ es) h = ap (λ c. value_order (item (content_value c) (value_items p es))) h.0.there ∙ (λ i. sym h.0.is_own i ∷ values-order j p es h.1 i)
+  values-order j p (e ∷ es) h = ap (λ c. value_order (item (content_value c) (value_items p es))) h.0.there
+      ∙ (λ i. sym h.0.is_own i ∷ values-order j p es h.1 i)
 
-  values-told : (j : ScalarKind) (p : Path) (es : List Element) → place_at (of_kind kind) p ≡ Some (of_kind (kinds.set_of j)) → AllByRecursion (IsSetItem j b p) es → TellsBelow kind b k p es (value_places (value_items p es) p)
+  values-told : (j : ScalarKind) (p : Path) (es : List Element) → place_at (of_kind kind) p ≡ Some (of_kind (kinds.set_of j))
+      → AllByRecursion (IsSetItem j b p) es → TellsBelow kind b k p es (value_places (value_items p es) p)
   values-told j p [] at h = λ x. refl
   values-told j p (e ∷ es) at h =
       let vs = value_items p es in
@@ -120,12 +136,14 @@ module _ (kind : Kind) (b : Body) (k : IsBodyOf kind b) where
       (told-alone kind b k (p ++ e ∷ []) (value_of h.0.own) (leaf h.0.own) (value-at h.0) (λ f s none. none-some s none) h.0.there) (values-told j p es at h.1))
     where
       value-at : IsSetItem j b p e → place_at (of_kind kind) (p ++ e ∷ []) ≡ Some (value_of h.0.own)
-      value-at x = place-after p (of_kind kind) e (of_kind (kinds.set_of j)) at ∙ ap (place_below (of_kind (kinds.set_of j))) h.0.is_own ∙ ap (λ t. if t then Some (value_of h.0.own) else None) h.0.fits
+      value-at x = place-after p (of_kind kind) e (of_kind (kinds.set_of j)) at ∙ ap (place_below (of_kind (kinds.set_of j))) h.0.is_own
+          ∙ ap (λ t. if t then Some (value_of h.0.own) else None) h.0.fits
 
   item_element : (p : Path) (e : Element) → is_item_element e ≡ true → has b (p ++ e ∷ []) ≡ true → is_among e (order_at (get b p)) ≡ true
   item_element p e is one = k.items p e ∙ (λ i. is i && one i)
 
-  listed_content : (p : Path) (c : Content) (es : List Element) → get b p ≡ Some c → c ≡ list_branch (order_at (Some c)) → es ≡ order_at (get b p) → get b p ≡ Some (list_branch es)
+  listed_content : (p : Path) (c : Content) (es : List Element) → get b p ≡ Some c → c ≡ list_branch (order_at (Some c)) → es ≡ order_at (get b p)
+      → get b p ≡ Some (list_branch es)
   listed_content p c es here is same = here ∙ ap Some is ∙ ap (λ o. Some (list_branch (order_at o))) (sym here) ∙ ap (λ fs. Some (list_branch fs)) (sym same)
 
   set-told : (j : ScalarKind) → Told (kinds.set_of j)
@@ -148,12 +166,15 @@ module _ (kind : Kind) (b : Body) (k : IsBodyOf kind b) where
     items-order p [] h = refl
     items-order p (e ∷ es) h = λ i. h.0.own_key i ∷ items-order p es h.1 i
 
-    item-told : (p : Path) (e : Element) → IsListItem kind ns fs b p e → Tells kind b k (p ++ e ∷ []) ((p ++ e ∷ [], record_branch) ∷ field_places fs (shown_fields fs b (p ++ e ∷ [])) (p ++ e ∷ []))
+    item-told : (p : Path) (e : Element) → IsListItem kind ns fs b p e
+        → Tells kind b k (p ++ e ∷ []) ((p ++ e ∷ [], record_branch) ∷ field_places fs (shown_fields fs b (p ++ e ∷ [])) (p ++ e ∷ []))
     item-told p e x =
         let c = stands kind b k (p ++ e ∷ []) (item_of ns fs) x.at x.there in
-        fields-told (item_of ns fs) fs (p ++ e ∷ []) (λ n. refl) (item-place ns fs) x.at (c.is_there ∙ ap Some (item-branch ns fs c.content c.fits)) ordered each
+        fields-told (item_of ns fs) fs (p ++ e ∷ []) (λ n. refl) (item-place ns fs) x.at (c.is_there
+        ∙ ap Some (item-branch ns fs c.content c.fits)) ordered each
 
-    items-told : (p : Path) (es : List Element) → AllByRecursion (IsListItem kind ns fs b p) es → TellsBelow kind b k p es (item_places ns fs (list_items p es) p)
+    items-told : (p : Path) (es : List Element) → AllByRecursion (IsListItem kind ns fs b p) es
+        → TellsBelow kind b k p es (item_places ns fs (list_items p es) p)
     items-told p [] h = λ x. refl
     items-told p (e ∷ es) h =
         let ms = shown_fields fs b (p ++ e ∷ []) in
@@ -187,6 +208,7 @@ module _ (kind : Kind) (b : Body) (k : IsBodyOf kind b) where
       subst (Tells kind b k p) (sym (ap (λ o. places (atomic_of s) (content_value o) p) c.is_there ∙ atomic-places s c.content p c.fits))
       (told-alone kind b k p (of_kind (atomic_of s)) c.content at (λ e r none. none-some r none) c.is_there)
 
+  -- so it is told at each place of a kind, where it is told at those of the kind's parts
   pub all_told : OfParts Told
   all_told = record {
     of_scalar = scalar-told;

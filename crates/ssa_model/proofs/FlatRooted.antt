@@ -34,18 +34,21 @@ metadata = codes "metadata"
 
 left_whole : (n : Text) (v w : Json) (ms : Members) → is_left_out n v ≡ false → same_text metadata n ≡ true → v ≡ w → is_empty_object w ≡ false
 left_whole n v w ms kept same is =
-    ap is_empty_object (sym is) ∙ ap (λ t. t && is_empty_object v) (sym (ap (λ m. same_text m metadata) (sym (same_text-true metadata n same)) ∙ text-itself metadata)) ∙ kept
+    ap is_empty_object (sym is) ∙ ap (λ t. t && is_empty_object v)
+    (sym (ap (λ m. same_text m metadata) (sym (same_text-true metadata n same)) ∙ text-itself metadata)) ∙ kept
 
 left-some : (fs : Fields) (ms : Members) (w : Json) → fields_once fs ms ≡ true
     → member_of metadata (without_empty_metadata ms) ≡ Some w → is_empty_object w ≡ false
 left-some fs no_members w once found = absurd (none-some w found)
 left-some fs (member n v ms) w once found =
-    elim (is_left_out n v) as (λ b. is_left_out n v ≡ b → member_of metadata (if b then ms else member n v (without_empty_metadata ms)) ≡ Some w → is_empty_object w ≡ false) [
+    elim (is_left_out n v) as (λ b. is_left_out n v ≡ b → member_of metadata (if b then ms else member n v (without_empty_metadata ms)) ≡ Some w
+    → is_empty_object w ≡ false) [
       | true ↦ λ out found.
           let name = same_text-true n metadata (first_so (same_text n metadata) (is_empty_object v) out) in
           absurd (none-some w (sym (ap (λ m. member_of m ms) (sym name) ∙ missing (member_of n ms) (first_so _ _ once)) ∙ found))
       | false ↦ λ kept found.
-          elim (same_text metadata n) as (λ t. same_text metadata n ≡ t → (if t then Some v else member_of metadata (without_empty_metadata ms)) ≡ Some w → is_empty_object w ≡ false) [
+          elim (same_text metadata n) as (λ t. same_text metadata n ≡ t → (if t then Some v else member_of metadata (without_empty_metadata ms)) ≡ Some w
+          → is_empty_object w ≡ false) [
             | true ↦ λ same found. left_whole n v w ms kept same (same_Some v w found)
             | false ↦ λ same found. left-some fs ms w (second_so (field_once (kind_of n fs) v) _ (second_so (is_missing (member_of n ms)) _ once)) found
           ] refl found
@@ -66,7 +69,8 @@ has-field fs (object no_members) fits some = absurd (true≢false some)
 has-field fs (object (member n v ms)) fits some =
     let fit = member-first fs n v ms fits in
     let there : level (of_kind (record_of fs)) (object (member n v ms)) (field n) ≡ Some (of_kind fit.0, v) =
-    ap (λ t. option_and_then (λ w. option_map (λ k. (of_kind k, w)) (kind_of n fs)) (if t then Some v else member_of n ms)) (text-itself n) ∙ ap (option_map (λ k. (of_kind k, v))) fit.1.0 in
+    ap (λ t. option_and_then (λ w. option_map (λ k. (of_kind k, w)) (kind_of n fs)) (if t then Some v else member_of n ms)) (text-itself n)
+    ∙ ap (option_map (λ k. (of_kind k, v))) fit.1.0 in
     record { name = n; here = refl; below = ap (λ o. is_some (content_at o)) there ∙ ap is_some (own-content (of_kind fit.0) v fit.1.1).is_own }
 
 -- the member of a field
@@ -89,13 +93,15 @@ module _ (fs : Fields) (ms : Members) (fits : FieldsFit fs ms) (once : fields_on
 
   metadata_member : has body metadata_path ≡ true → (v : Json) × (member_of (codes "metadata") left ≡ Some v)
   metadata_member one =
-      elim (member_of (codes "metadata") left) as (λ o. is_some (content_from [] (standing_member (kind_of (codes "metadata") fs) o)) ≡ true → (v : Json) × (o ≡ Some v)) [
+      elim (member_of (codes "metadata") left) as (λ o. is_some (content_from [] (standing_member (kind_of (codes "metadata") fs) o)) ≡ true → (v : Json)
+      × (o ≡ Some v)) [
         | None ↦ λ one. absurd (true≢false (sym one))
         | Some v ↦ λ _. (v, refl)
       ] (sym (ap is_some (flat-tells fs ms fits once metadata_path)) ∙ one)
 
   -- what stands from the member on
-  from_member : (v : Json) (p : Path) → member_of (codes "metadata") left ≡ Some v → get body (field (codes "metadata") ∷ p) ≡ content_at (reached (of_kind (record_of hs)) v p)
+  from_member : (v : Json) (p : Path) → member_of (codes "metadata") left ≡ Some v
+      → get body (field (codes "metadata") ∷ p) ≡ content_at (reached (of_kind (record_of hs)) v p)
   from_member v p found =
       flat-tells fs ms fits once (field (codes "metadata") ∷ p) ∙ (λ i. content_from p (standing_member (is i) (found i)))
 
@@ -109,8 +115,10 @@ module _ (fs : Fields) (ms : Members) (fits : FieldsFit fs ms) (once : fields_on
       let v = metadata_member one in
       let own = member_fits v.0 v.1 in
       let low : Path = field (codes "metadata") ∷ field own.name ∷ [] in
-      let there : has body low ≡ true = ap is_some (from_member v.0 (field own.name ∷ []) v.1 ∙ ap content_at (reached_one (level (of_kind (record_of hs)) v.0 (field own.name)))) ∙ own.below in
-      let some : list_any (strictly_under metadata_path) (paths body) ≡ true = from_one (strictly_under metadata_path) (paths body) low (sym (has-paths body low) ∙ there) refl in
+      let there : has body low ≡ true = ap is_some (from_member v.0 (field own.name ∷ []) v.1
+      ∙ ap content_at (reached_one (level (of_kind (record_of hs)) v.0 (field own.name)))) ∙ own.below in
+      let some : list_any (strictly_under metadata_path) (paths body) ≡ true =
+      from_one (strictly_under metadata_path) (paths body) low (sym (has-paths body low) ∙ there) refl in
       let here : get body metadata_path ≡ Some record_branch = from_member v.0 [] v.1 ∙ own.here in
       λ i. is_leaf (here i) || (is_dict (root_is i) || not (some i))
 
@@ -125,11 +133,13 @@ module _ (fs : Fields) (ms : Members) (fits : FieldsFit fs ms) (once : fields_on
 -- no member of a place is named twice
 pub once_is_rooted : (kind : Kind) (v : Json) → is_lawful kind ≡ true → names_once kind v ≡ true → faults kind v [] ≡ [] → IsRooted (flat kind v)
 once_is_rooted (record_of fs) (object ms) lawful once fits =
-    let own = record-in (kind_of (codes "metadata") fs) (second_so (is_ordered (record_of fs)) (has_metadata (record_of fs)) (second_so (is_root_kind (record_of fs)) _ lawful)) in
+    let own = record-in (kind_of (codes "metadata") fs) (second_so (is_ordered (record_of fs)) (has_metadata (record_of fs))
+    (second_so (is_root_kind (record_of fs)) _ lawful)) in
     body_rooted fs ms ([], fits) once own.0 own.1
 once_is_rooted (record_of fs) (scalar s) lawful once fits = absurd (cons≢nil fits)
 once_is_rooted (record_of fs) (list vs) lawful once fits = absurd (cons≢nil fits)
 once_is_rooted _ v lawful once fits = absurd (true≢false (sym lawful))
 
+-- under a lawful kind, the flattening of a value without faults that names no member twice is rooted
 pub flat_is_rooted : FlatIsRooted
 flat_is_rooted kind v lawful apart fits = once_is_rooted kind v lawful (distinct-once kind v apart) fits

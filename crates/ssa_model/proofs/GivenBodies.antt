@@ -12,6 +12,7 @@ use Rattle.ssa_model.specs.definitions.Kind.{Kind, faults}
 use Rattle.ssa_model.specs.definitions.Body.{Body, flat}
 use Rattle.ssa_model.specs.definitions.Operations.{too_many_paths}
 use Rattle.ssa_model.specs.definitions.Answers.{Fault, refused, body_fault, body_or_fault}
+use Rattle.ssa_model.proofs.Basics.{at_most}
 
 -- what these faults of a value make of it
 abbrev pub by_faults : Kind → Json → List kinds.FaultAt → Result Body Fault
@@ -20,9 +21,7 @@ by_faults kind v fs = elim fs [
   | f ∷ rest ↦ Err (body_fault f.fault f.path)
 ]
 
-at_most : (m n : ℕ) → n ≤ m → nat_lt m n ≡ false
-at_most m n h = grind (arith, nat_tests)
-
+-- a value without faults gives its flattening, where this has no more places than a body may
 pub body_or_fault-fits : (kind : Kind) (v : Json) (b : Body) → faults kind v [] ≡ [] → flat kind v ≡ b → size b ≤ most_places → body_or_fault kind v ≡ Ok b
 body_or_fault-fits kind v b none is few =
     ap (by_faults kind v) none ∙ ap (λ c. if nat_lt most_places (size c) then Err (refused too_many_paths) else Ok c) is
@@ -30,13 +29,17 @@ body_or_fault-fits kind v b none is few =
 
 -- what is made of a value without a fault
 pub record IsGivenBody (kind : Kind) (v : Json) (b : Body) : Type 0 where
+  -- the value has no fault
   pub faultless : faults kind v [] ≡ []
+  -- its flattening is the body
   pub is : flat kind v ≡ b
+  -- the body has no more places than it may
   pub few : size b ≤ most_places
 
 few-places : (n : ℕ) → nat_lt most_places n ≡ false → n ≤ most_places
 few-places n h = grind (arith, nat_tests)
 
+-- where a value gives a body, this is the flattening of a value without faults
 pub body_or_fault-back : (kind : Kind) (v : Json) (b : Body) → body_or_fault kind v ≡ Ok b → IsGivenBody kind v b
 body_or_fault-back kind v b h = by (faults kind v []) refl h
   where

@@ -32,7 +32,8 @@ all-ownable body e none p h = passes (is_ownable body) (paths e.owned) p none (s
 -- ---- entries without a fault
 
 no-fault : (nothing : Bool) (others : List Path) (known : Bool)
-    → ◌≡◌ {A = Option EntryFault} (if nothing then Some empty_entry else (elim others [ p ∷ ps ↦ Some (absent_path p) | [] ↦ (if known then Some duplicate_manager else None) ])) None
+    → ◌≡◌ {A = Option EntryFault} (if nothing then Some empty_entry else (elim others
+    [ p ∷ ps ↦ Some (absent_path p) | [] ↦ (if known then Some duplicate_manager else None) ])) None
     → (nothing ≡ false) × (others ≡ []) × (known ≡ false)
 no-fault true others known h = cc
 no-fault false (p ∷ ps) known h = cc
@@ -40,7 +41,8 @@ no-fault false [] true h = cc
 no-fault false [] false h = (refl, refl, refl)
 
 no-fault-before : (name version moment : Bool) (fs : List ElementFault) (last : Option EntryFault)
-    → ◌≡◌ {A = Option EntryFault} (if not name then Some manager_name else (if not version then Some other_version else (if not moment then Some bad_moment else (elim fs [ f ∷ gs ↦ Some (of_fields f) | [] ↦ last ])))) None
+    → ◌≡◌ {A = Option EntryFault} (if not name then Some manager_name else (if not version then Some
+    other_version else (if not moment then Some bad_moment else (elim fs [ f ∷ gs ↦ Some (of_fields f) | [] ↦ last ])))) None
     → (name ≡ true) × (moment ≡ true) × (last ≡ None)
 no-fault-before false version moment fs last h = cc
 no-fault-before true false moment fs last h = cc
@@ -70,7 +72,8 @@ module _ (readings : Readings) (body : Body) (version : Text) where
     faultless : owned_fault body before e ≡ None
 
   next-members : (before : Table) (ms : Members) (e : Entry) → nat_le most_managers (length before) ≡ false
-      → ◌≡◌ {A = Result Entry EntryFault} (if not (is_entry ms) then Err bad_entry else (elim (entry_fault readings body version before ms) [ Some f ↦ Err f | None ↦ Ok (said_entry readings ms) ])) (Ok e)
+      → ◌≡◌ {A = Result Entry EntryFault} (if not (is_entry ms) then Err
+      bad_entry else (elim (entry_fault readings body version before ms) [ Some f ↦ Err f | None ↦ Ok (said_entry readings ms) ])) (Ok e)
       → IsNext before e
   next-members before ms e room one =
       let own = said (is_entry ms) (entry_fault readings body version before ms) (said_entry readings ms) e one in
@@ -104,10 +107,12 @@ module _ (readings : Readings) (body : Body) (version : Text) where
   next-table before e next table =
       let parts = no-fault (is_empty e.owned) (not_ownable body e.owned) (is_in_table before e.manager) next.faultless in
       record {
-        distinct = distinct-push before e table.distinct parts.2;
-        few = few-more before e next.room;
-        names = all-push (λ x. is_manager_name x.manager.name ≡ true) before e table.names next.named;
-        own_some = all-push (λ x. is_empty x.owned ≡ false) before e table.own_some parts.0;
+        managers = record {
+          distinct = distinct-push before e table.managers.distinct parts.2;
+          few = few-more before e next.room;
+          names = all-push (λ x. is_manager_name x.manager.name ≡ true) before e table.managers.names next.named;
+          own_some = all-push (λ x. is_empty x.owned ≡ false) before e table.managers.own_some parts.0;
+        };
         ownable = all-push (OwnsOwnable body) before e table.ownable (all-ownable body e parts.1);
       }
 
@@ -118,6 +123,7 @@ module _ (readings : Readings) (body : Body) (version : Text) where
   abbrev HasMoment : Entry → Type 0
   HasMoment e = readings.moment e.moment ≡ true
 
+  -- behind entries with moments, the table that items say has moments alone
   pub given_moments : (vs : Items) (before table : Table) → AllEntries HasMoment before → table_behind readings body version before vs ≡ Ok table
       → AllEntries HasMoment table
   given_moments = given (AllEntries HasMoment) (λ before e next h. all-push HasMoment before e h next.moment)

@@ -20,12 +20,14 @@ use Rattle.ssa_model.proofs.Tables.{undo_restores, take_first}
 
 -- ---- lists of commands
 
+-- a list of commands is carried out by one part of it after the other
 pub runs_go_on : RunsGoOn
 runs_go_on bench [] ds = refl
 runs_go_on bench (c ∷ cs) ds = ap (λ r. ((answer bench c).0 ∷ r.0, r.1)) (runs_go_on (answer bench c).1 cs ds)
 
 abbrev FromRun : Bench → List Deed → List Command → Type 0
-FromRun bench before cs = (history : IsHistory (run bench cs).1.timeline) × ((run bench cs).1.timeline.first ≡ bench.timeline.first) × (history.deeds ≡ deeds_of_run bench before cs)
+FromRun bench before cs = (history : IsHistory (run bench cs).1.timeline) × ((run bench cs).1.timeline.first ≡ bench.timeline.first)
+    × (history.deeds ≡ deeds_of_run bench before cs)
 
 from-run : (bench : Bench) (cs : List Command) (h : IsHistory bench.timeline) → FromRun bench h.deeds cs
 from-run bench [] h = (h, refl, refl)
@@ -34,6 +36,7 @@ from-run bench (c ∷ cs) h =
     let rest = from-run (answer bench c).1 cs kept.history in
     (rest.0, rest.1 ∙ kept.first, rest.2 ∙ ap (λ ds. deeds_of_run (answer bench c).1 ds cs) kept.deeds)
 
+-- after a list of commands the states are made by deeds: those before and the accepted commands'
 pub run_keeps_history : RunKeepsHistory
 run_keeps_history bench cs before =
     let made = from-run bench cs before in
@@ -50,6 +53,7 @@ alone-history t h =
     let none : t.place ≡ 0 = h.1 in
     record { deeds = []; steps = subst (AreSteps t.first []) (sym h.0) tt; place = omega (arith, none) }
 
+-- the present state is the commands in effect, carried out on the state that the bench was made from
 pub run_is_in_effect : RunIsInEffect
 run_is_in_effect bench cs alone =
     let kept = run_keeps_history bench cs (alone-history bench.timeline alone) in
@@ -67,17 +71,20 @@ module _ (bench : Bench) (P : Answer → Type 0) where
   one_of true x y p q = p
   one_of false x y p q = q
 
-  of_body : (r : Result Body Fault) (go : Body → Answer) → ((f : Fault) → r ≡ Err f → P (fault f, bench)) → ((body : Body) → r ≡ Ok body → P (go body)) → P (elim r [ Ok body ↦ go body | Err f ↦ (fault f, bench) ])
+  of_body : (r : Result Body Fault) (go : Body → Answer) → ((f : Fault) → r ≡ Err f → P (fault f, bench)) → ((body : Body) → r ≡ Ok body → P (go body))
+      → P (elim r [ Ok body ↦ go body | Err f ↦ (fault f, bench) ])
   of_body (Ok body) go p q = q body refl
   of_body (Err f) go p q = p f refl
 
   -- a command of an object: refused by a test, or answered with the object's body
-  by_body : (who : Text) (v : Json) (go : Body → Answer) → ((f : Fault) → IsTested bench v f → P (fault f, bench)) → ((body : Body) → command_body bench v ≡ Ok body → P (go body)) → P (with_body bench who v go)
+  by_body : (who : Text) (v : Json) (go : Body → Answer) → ((f : Fault) → IsTested bench v f → P (fault f, bench))
+      → ((body : Body) → command_body bench v ≡ Ok body → P (go body)) → P (with_body bench who v go)
   by_body who v go p q =
       one_of (nat_le most_past (past_len bench.timeline)) _ _ (p history_full (inl refl))
       (one_of (not (is_manager_name who)) _ _ (p manager_name (inr (inl refl))) (of_body (command_body bench v) go (λ f e. p f (inr (inr e))) q))
 
-  by_result : (word : Text) (label : Label) (r : Result State Refusal) → ((s : State) → P (accept bench word label s)) → ((f : Refusal) → r ≡ Err f → P (fault (refused f), bench)) → P (accept_or_refuse bench word label r)
+  by_result : (word : Text) (label : Label) (r : Result State Refusal) → ((s : State) → P (accept bench word label s))
+      → ((f : Refusal) → r ≡ Err f → P (fault (refused f), bench)) → P (accept_or_refuse bench word label r)
   by_result word label (Ok s) p q = p s
   by_result word label (Err f) p q = q f refl
 
@@ -102,13 +109,17 @@ module _ (bench : Bench) where
   leaves : (c : Command) → Leaves (answer bench c)
   leaves (apply who force at v) = by_body bench Leaves who v _ (λ f _. leaves-refused f) (λ body _. leaves-made _ _ _)
   leaves (update who at v) = by_body bench Leaves who v _ (λ f _. leaves-refused f) (λ body _. leaves-made _ _ _)
-  leaves strip = one_of bench Leaves (nat_le most_past (past_len bench.timeline)) _ _ (leaves-refused history_full) (leaves-accepted (codes "strip") stripped (operations.strip (present bench.timeline)))
-  leaves undo = one_of bench Leaves (past_len bench.timeline == 0) _ _ (leaves-refused nothing_to_undo) (leaves-moved (codes "undo") (past_len bench.timeline - 1) (future_len bench.timeline + 1) (bench.timeline.place - 1))
-  leaves redo = one_of bench Leaves (future_len bench.timeline == 0) _ _ (leaves-refused nothing_to_redo) (leaves-moved (codes "redo") (past_len bench.timeline + 1) (future_len bench.timeline - 1) (bench.timeline.place + 1))
+  leaves strip = one_of bench Leaves (nat_le most_past (past_len bench.timeline)) _ _ (leaves-refused history_full)
+      (leaves-accepted (codes "strip") stripped (operations.strip (present bench.timeline)))
+  leaves undo = one_of bench Leaves (past_len bench.timeline == 0) _ _ (leaves-refused nothing_to_undo)
+      (leaves-moved (codes "undo") (past_len bench.timeline - 1) (future_len bench.timeline + 1) (bench.timeline.place - 1))
+  leaves redo = one_of bench Leaves (future_len bench.timeline == 0) _ _ (leaves-refused nothing_to_redo)
+      (leaves-moved (codes "redo") (past_len bench.timeline + 1) (future_len bench.timeline - 1) (bench.timeline.place + 1))
   leaves (show managed) = λ f h. refl
   leaves (owners p) = λ f h. refl
   leaves log = λ f h. refl
 
+-- a refused command leaves the bench as it was
 pub refusals_change_nothing : RefusalsChangeNothing
 refusals_change_nothing bench c = leaves bench c
 
@@ -134,20 +145,35 @@ module _ (bench : Bench) where
   appends : (c : Command) → Appends (answer bench c)
   appends (apply who force at v) = by_body bench Appends who v _ (λ f _. appends-refused f) (λ body _. appends-made _ _ _)
   appends (update who at v) = by_body bench Appends who v _ (λ f _. appends-refused f) (λ body _. appends-made _ _ _)
-  appends strip = one_of bench Appends (nat_le most_past (past_len bench.timeline)) _ _ (appends-refused history_full) (appends-accepted (codes "strip") stripped (operations.strip (present bench.timeline)))
-  appends undo = one_of bench Appends (past_len bench.timeline == 0) _ _ (appends-refused nothing_to_undo) (appends-moved (codes "undo") (past_len bench.timeline - 1) (future_len bench.timeline + 1) (bench.timeline.place - 1))
-  appends redo = one_of bench Appends (future_len bench.timeline == 0) _ _ (appends-refused nothing_to_redo) (appends-moved (codes "redo") (past_len bench.timeline + 1) (future_len bench.timeline - 1) (bench.timeline.place + 1))
+  appends strip = one_of bench Appends (nat_le most_past (past_len bench.timeline)) _ _ (appends-refused history_full)
+      (appends-accepted (codes "strip") stripped (operations.strip (present bench.timeline)))
+  appends undo = one_of bench Appends (past_len bench.timeline == 0) _ _ (appends-refused nothing_to_undo)
+      (appends-moved (codes "undo") (past_len bench.timeline - 1) (future_len bench.timeline + 1) (bench.timeline.place - 1))
+  appends redo = one_of bench Appends (future_len bench.timeline == 0) _ _ (appends-refused nothing_to_redo)
+      (appends-moved (codes "redo") (past_len bench.timeline + 1) (future_len bench.timeline - 1) (bench.timeline.place + 1))
   appends (show managed) = λ h. cc
   appends (owners p) = λ h. cc
   appends log = λ h. cc
 
 undone : (bench : Bench) → (past_len bench.timeline == 0) ≡ false
-    → answer bench undo ≡ (moved (codes "undo") (past_len bench.timeline - 1) (future_len bench.timeline + 1), with_timeline bench (moved_to bench.timeline (bench.timeline.place - 1)))
-undone bench h = ap (λ b. if b then (fault nothing_to_undo, bench) else (moved (codes "undo") (past_len bench.timeline - 1) (future_len bench.timeline + 1), with_timeline bench (moved_to bench.timeline (bench.timeline.place - 1)))) h
+    → answer bench undo ≡ (
+      moved (codes "undo") (past_len bench.timeline - 1) (future_len bench.timeline + 1),
+      with_timeline bench (moved_to bench.timeline (bench.timeline.place - 1)),
+    )
+undone bench h = ap (λ b. if b then (fault nothing_to_undo, bench) else (
+  moved (codes "undo") (past_len bench.timeline - 1) (future_len bench.timeline + 1),
+  with_timeline bench (moved_to bench.timeline (bench.timeline.place - 1)),
+)) h
 
 redone : (bench : Bench) → (future_len bench.timeline == 0) ≡ false
-    → answer bench redo ≡ (moved (codes "redo") (past_len bench.timeline + 1) (future_len bench.timeline - 1), with_timeline bench (moved_to bench.timeline (bench.timeline.place + 1)))
-redone bench h = ap (λ b. if b then (fault nothing_to_redo, bench) else (moved (codes "redo") (past_len bench.timeline + 1) (future_len bench.timeline - 1), with_timeline bench (moved_to bench.timeline (bench.timeline.place + 1)))) h
+    → answer bench redo ≡ (
+      moved (codes "redo") (past_len bench.timeline + 1) (future_len bench.timeline - 1),
+      with_timeline bench (moved_to bench.timeline (bench.timeline.place + 1)),
+    )
+redone bench h = ap (λ b. if b then (fault nothing_to_redo, bench) else (
+  moved (codes "redo") (past_len bench.timeline + 1) (future_len bench.timeline - 1),
+  with_timeline bench (moved_to bench.timeline (bench.timeline.place + 1)),
+)) h
 
 some : (n : ℕ) → (n + 1 == 0) ≡ false
 some n = grind (arith, nat_tests)
@@ -168,7 +194,8 @@ one_ahead : (n m : ℕ) → (m - n) ≡ 1 → (m - (n + 1)) + 1 ≡ 1
 one_ahead n m h = omega (arith, h)
 
 -- undo of the bench with one more state
-undone-appended : (bench : Bench) (label : Label) (s : State) → bench.timeline.place ≤ length bench.timeline.later → IsRestored bench (answer (with_timeline bench (appended bench.timeline label s)) undo)
+undone-appended : (bench : Bench) (label : Label) (s : State) → bench.timeline.place ≤ length bench.timeline.later
+    → IsRestored bench (answer (with_timeline bench (appended bench.timeline label s)) undo)
 undone-appended bench label s h =
     let t = bench.timeline in
     let after = with_timeline bench (appended t label s) in
@@ -176,7 +203,8 @@ undone-appended bench label s h =
     let e = undone after (some t.place) in
     let restored : Answer → Type 0 = IsRestored bench in
     subst restored (sym e) (record {
-      reply = λ i. moved (codes "undo") (one_less t.place i) (one_ahead t.place (length (take t.place t.later ++ record { label = label; state = s } ∷ [])) back.1 i);
+      reply = λ i. moved (codes "undo") (one_less t.place i)
+          (one_ahead t.place (length (take t.place t.later ++ record { label = label; state = s } ∷ [])) back.1 i);
       schema = refl;
       identity = refl;
       first = refl;
@@ -186,11 +214,13 @@ undone-appended bench label s h =
       future = ap (λ n. future_len (moved_to (appended t label s) n)) (one_less t.place) ∙ back.1;
     })
 
+-- undo after an accepted command restores the bench up to its place, and that command alone can be done again
 pub undo_restores_all : UndoRestoresAll
 undo_restores_all bench c h accepted =
     let made = appends bench c accepted in
     subst (λ b. IsRestored bench (answer b undo)) (sym made.2) (undone-appended bench made.0 made.1 h)
 
+-- redo after undo restores the whole bench
 pub redo_restores_all : RedoRestoresAll
 redo_restores_all bench some_past h =
     let t = bench.timeline in
@@ -203,16 +233,19 @@ redo_restores_all bench some_past h =
 
 -- the tests before a command know no conflict
 
-if_fits : (cs : List Clash) (b : Bool) (body : Body) → ◌≡◌ {A = Result Body Fault} (if b then Err (refused too_many_paths) else Ok body) (Err (refused (conflict cs))) → ⊥
+if_fits : (cs : List Clash) (b : Bool) (body : Body) → ◌≡◌ {A = Result Body Fault} (if b then Err (refused too_many_paths) else Ok body)
+    (Err (refused (conflict cs))) → ⊥
 if_fits cs true body h = absurd cc
 if_fits cs false body h = absurd cc
 
 if_faultless : (cs : List Clash) (fs : List FaultAt) (b : Bool) (body : Body)
-    → ◌≡◌ {A = Result Body Fault} (elim fs [ [] ↦ if b then Err (refused too_many_paths) else Ok body | f ∷ rest ↦ Err (body_fault f.fault f.path) ]) (Err (refused (conflict cs))) → ⊥
+    → ◌≡◌ {A = Result Body Fault} (elim fs [ [] ↦ if b then Err (refused too_many_paths) else Ok body | f ∷ rest ↦ Err (body_fault f.fault f.path) ])
+    (Err (refused (conflict cs))) → ⊥
 if_faultless cs [] b body h = if_fits cs b body h
 if_faultless cs (f ∷ fs) b body h = absurd cc
 
-if_named : (cs : List Clash) (a b : Bool) (r : Result Body Fault) → (if a then Err identity_fault else (if b then Err managed_fields_given else r)) ≡ Err (refused (conflict cs)) → r ≡ Err (refused (conflict cs))
+if_named : (cs : List Clash) (a b : Bool) (r : Result Body Fault)
+    → (if a then Err identity_fault else (if b then Err managed_fields_given else r)) ≡ Err (refused (conflict cs)) → r ≡ Err (refused (conflict cs))
 if_named cs true b r h = cc
 if_named cs false true r h = cc
 if_named cs false false r h = h
@@ -266,5 +299,6 @@ module _ (bench : Bench) (who : Text) (force : Bool) (v : Json) where
       other : (f : Fault) → IsTested bench v f → Lists (fault f, bench)
       other f tested cs h = let same : f ≡ refused (conflict cs) = cc in absurd (tested-no_conflict bench v cs f tested same)
 
+-- a conflict lists exactly the managers and fields concerned
 pub conflicts_list_clashes : ConflictsListClashes
 conflicts_list_clashes bench who force at v = lists bench who force v at

@@ -16,17 +16,20 @@ use Rattle.ssa_model.proofs.Places.{if-some, kind-placed}
 -- ---- levels
 
 abbrev mutual
+  -- how deep a value of the shape may nest
   pub shape_levels : Shape → ℕ
   shape_levels (scalar_shape k) = 0
   shape_levels (record_shape fs) = suc (shape_fields_levels fs)
   shape_levels (dict_shape s) = suc (shape_levels s)
   shape_levels (list_shape s) = suc (shape_levels s)
 
+  -- how deep a value of one of the fields may nest
   pub shape_fields_levels : ShapeFields → ℕ
   shape_fields_levels no_shape_fields = 0
   shape_fields_levels (shape_field n s fs) = max (shape_levels s) (shape_fields_levels fs)
 
 abbrev mutual
+  -- how deep a value of the kind may nest
   pub levels : Kind → ℕ
   levels (scalar_kind k) = 0
   levels (atomic_of s) = shape_levels s
@@ -35,6 +38,7 @@ abbrev mutual
   levels (kinds.set_of k) = 1
   levels (items_of names fs) = suc (suc (fields_levels fs))
 
+  -- how deep a value of one of the fields may nest
   pub fields_levels : Fields → ℕ
   fields_levels no_fields = 0
   fields_levels (kind_field n k fs) = max (levels k) (fields_levels fs)
@@ -57,11 +61,13 @@ field-levels n (kind_field m j fs) k is =
 
 -- ---- atomic values
 
-shape_member-depth : (o : Option Shape) (fs : ShapeFields) (n : Text) (v : Json) (p : Path) → shape_of n fs ≡ o → ((s : Shape) → shape_faults s v p ≡ [] → depth v ≤ shape_levels s) → shape_test v p o ≡ [] → depth v ≤ shape_fields_levels fs
+shape_member-depth : (o : Option Shape) (fs : ShapeFields) (n : Text) (v : Json) (p : Path) → shape_of n fs ≡ o
+    → ((s : Shape) → shape_faults s v p ≡ [] → depth v ≤ shape_levels s) → shape_test v p o ≡ [] → depth v ≤ shape_fields_levels fs
 shape_member-depth None fs n v p is inside e = absurd (cons≢nil e)
 shape_member-depth (Some s) fs n v p is inside e = let own = inside s e in let field = shape_field-levels n fs s is in omega arith
 
 mutual
+  -- a value without faults in an atomic one nests no deeper than its shape has levels
   pub shape-depth : (s : Shape) (v : Json) (p : Path) → shape_faults s v p ≡ [] → depth v ≤ shape_levels s
   shape-depth (scalar_shape k) (scalar t) p e = omega arith
   shape-depth (record_shape fs) (object ms) p e = let h = shape_fields-depth fs ms p e in omega arith
@@ -78,11 +84,13 @@ mutual
 
   shape_entries-depth : (s : Shape) (ms : Members) (p : Path) → shape_entry_faults s ms p ≡ [] → members_depth ms ≤ shape_levels s
   shape_entries-depth s no_members p e = omega arith
-  shape_entries-depth s (member n v ms) p e = max-le (shape-depth s v p (nil_first (shape_faults s v p) _ e)) (shape_entries-depth s ms p (nil_second (shape_faults s v p) _ e))
+  shape_entries-depth s (member n v ms) p e = max-le (shape-depth s v p (nil_first (shape_faults s v p) _ e))
+      (shape_entries-depth s ms p (nil_second (shape_faults s v p) _ e))
 
   shape_items-depth : (s : Shape) (vs : Items) (p : Path) → shape_item_faults s vs p ≡ [] → items_depth vs ≤ shape_levels s
   shape_items-depth s no_items p e = omega arith
-  shape_items-depth s (item v vs) p e = max-le (shape-depth s v p (nil_first (shape_faults s v p) _ e)) (shape_items-depth s vs p (nil_second (shape_faults s v p) _ e))
+  shape_items-depth s (item v vs) p e = max-le (shape-depth s v p (nil_first (shape_faults s v p) _ e))
+      (shape_items-depth s vs p (nil_second (shape_faults s v p) _ e))
 
 -- ---- values without faults
 
@@ -93,6 +101,7 @@ values-depth k (item (list ws) vs) h = absurd (cons≢nil h.1.1)
 values-depth k (item (object ms) vs) h = absurd (cons≢nil h.1.1)
 
 mutual
+  -- a value without faults nests no deeper than its kind has levels
   pub fits-depth : (k : Kind) (v : Json) → Fits k v → depth v ≤ levels k
   fits-depth (scalar_kind k) (scalar s) h = omega arith
   fits-depth (atomic_of s) v h = shape-depth s v h.0 h.1
@@ -102,6 +111,7 @@ mutual
   fits-depth (items_of names fs) (list vs) h = let inside = list-depth names fs vs ([], (h.0, h.1)) in omega arith
   fits-depth _ _ h = absurd (cons≢nil h.1)
 
+  -- members without faults nest no deeper than their fields have levels
   pub fields-depth : (fs : Fields) (ms : Members) → FieldsFit fs ms → members_depth ms ≤ fields_levels fs
   fields-depth fs no_members h = omega arith
   fields-depth fs (member n v ms) h =
@@ -124,12 +134,14 @@ mutual
 
 -- ---- paths of places
 
+-- how deep a value at the place may nest
 abbrev pub place_levels : Place → ℕ
 place_levels (of_kind k) = levels k
 place_levels (item_of names fs) = suc (fields_levels fs)
 place_levels (value_of s) = 0
 
-fields_below : (n : Text) (fs : Fields) (r : Place) → ◌≡◌ {A = Option Place} (place_below (of_kind (record_of fs)) (field n)) (Some r) → place_levels r ≤ fields_levels fs
+fields_below : (n : Text) (fs : Fields) (r : Place) → ◌≡◌ {A = Option Place} (place_below (of_kind (record_of fs)) (field n)) (Some r)
+    → place_levels r ≤ fields_levels fs
 fields_below n fs r h =
     let known = kind-placed (kind_of n fs) r h in
     let own = field-levels n fs known.0 known.1.0 in
@@ -144,6 +156,7 @@ below-levels (of_kind (items_of names fs)) (key ks) r h = let same = ap place_le
 below-levels (item_of names fs) (field n) r h = let inside = fields_below n fs r h in omega arith
 below-levels _ _ r h = absurd (none-some r h)
 
+-- a path from one place to another takes a level for each element
 pub place-levels : (p : Path) (q r : Place) → place_at q p ≡ Some r → length p + place_levels r ≤ place_levels q
 place-levels [] q r h = let same = ap place_levels (same_Some q r h) in omega arith
 place-levels (e ∷ p) q r h =
@@ -153,5 +166,6 @@ place-levels (e ∷ p) q r h =
       | Some s ↦ λ is h. let later = place-levels p s r h in let own = below-levels q e s is in omega arith
     ] refl h
 
+-- the path of a place is no longer than the kind has levels
 pub path-levels : (k : Kind) (p : Path) (r : Place) → place_at (of_kind k) p ≡ Some r → length p ≤ levels k
 path-levels k p r h = let own = place-levels p (of_kind k) r h in omega arith

@@ -19,6 +19,7 @@ abbrev pub EachField : (Text → Kind → Type 0) → Fields → Type 0
 EachField P no_fields = Unit {0}
 EachField P (kind_field n k fs) = P n k × EachField P fs
 
+-- a name before all names of the fields is not that of a field that is found
 pub none-before : (n m : Text) (k : Kind) (fs : Fields) → is_before_all m fs ≡ true → kind_of n fs ≡ Some k → same_text n m ≡ false
 none-before n m k no_fields h is = absurd (none-some k is)
 none-before n m k (kind_field l j fs) h is =
@@ -38,20 +39,28 @@ each_field P (kind_field m k fs) o h = (
 
 -- ---- kinds
 
+-- a fact of the kind of each field that is found by its name
 abbrev pub OfEach : (Kind → Type 0) → Fields → Type 0
 OfEach P fs = (n : Text) (k : Kind) → kind_of n fs ≡ Some k → P k
 
 -- a fact of lawful kinds, from the kinds of their parts
 pub record OfParts (P : Kind → Type 0) : Type 0 where
+  -- it holds of each kind of scalars
   pub of_scalar : (k : ScalarKind) → P (scalar_kind k)
+  -- it holds of each kind of atomic values
   pub of_atomic : (s : Shape) → P (atomic_of s)
+  -- it holds of an object with fields where it holds of the kinds of the fields
   pub of_record : (fs : Fields) → are_ordered fs ≡ true → OfEach P fs → P (record_of fs)
+  -- it holds of a map where it holds of the kind of the entries
   pub of_dict : (k : Kind) → P k → P (dict_of k)
+  -- it holds of each set
   pub of_set : (k : ScalarKind) → P (kinds.set_of k)
+  -- it holds of a map list where it holds of the kinds of the items' fields
   pub of_items : (ns : List Text) (fs : Fields) → are_key_names ns ≡ true → are_ordered fs ≡ true → OfEach P fs → P (items_of ns fs)
 
 module _ (P : Kind → Type 0) (parts : OfParts P) where
   mutual
+    -- a fact that goes from the parts to the whole holds of each kind whose names rise and whose map lists have key fields
     pub each_kind : (k : Kind) → is_ordered k ≡ true → is_keyed k ≡ true → P k
     each_kind (scalar_kind k) o y = parts.of_scalar k
     each_kind (atomic_of s) o y = parts.of_atomic s
@@ -60,6 +69,7 @@ module _ (P : Kind → Type 0) (parts : OfParts P) where
     each_kind (kinds.set_of k) o y = parts.of_set k
     each_kind (items_of ns fs) o y = parts.of_items ns fs (first_so _ _ y) o (of_fields fs o (second_so (are_key_names ns) _ y))
 
+    -- and of the kind of each field
     pub of_fields : (fs : Fields) → are_ordered fs ≡ true → are_keyed fs ≡ true → OfEach P fs
     of_fields no_fields o y n k is = absurd (none-some k is)
     of_fields (kind_field m j fs) o y n k is =

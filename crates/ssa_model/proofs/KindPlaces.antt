@@ -21,7 +21,7 @@ use Rattle.ssa_model.proofs.ShownFits.{Fits, all_fit}
 -- ---- places
 
 -- the place at a path behind another
-place-on : (p s : Path) (q r : Place) → place_at q p ≡ Some r → place_at q (p ++ s) ≡ place_at r s
+pub place-on : (p s : Path) (q r : Place) → place_at q p ≡ Some r → place_at q (p ++ s) ≡ place_at r s
 place-on [] s q r is = ap (λ x. place_at x s) (same_Some q r is)
 place-on (e ∷ p) s q r is =
     elim (place_below q e) as (λ o. ◌≡◌ {A = Option Place} (elim o [ None ↦ None | Some x ↦ place_at x p ]) (Some r)
@@ -36,7 +36,7 @@ is_kind_place (item_of ns fs) = false
 is_kind_place (value_of s) = false
 
 -- an item of a map list is at no place of a kind
-below-key : (q : Place) (ks : List (Text × Scalar)) (k : Kind) → place_below q (key ks) ≡ Some (of_kind k) → ⊥
+pub below-key : (q : Place) (ks : List (Text × Scalar)) (k : Kind) → place_below q (key ks) ≡ Some (of_kind k) → ⊥
 below-key (of_kind (items_of ns fs)) ks k h = true≢false (sym (ap is_kind_place (if-some (are_keys ns fs ks) (item_of ns fs) (of_kind k) h).1))
 below-key _ ks k h = none-some (of_kind k) h
 
@@ -68,6 +68,7 @@ module _ (kind k : Kind) (p : Path) (b : Body) (at : place_at (of_kind kind) p �
             ap (λ r. get b (r ++ field n ∷ [])) item ∙ h.keys x.0 ks n s found (ap (has b) (sym item) ∙ one)
       ]
 
+  -- a body of the kind of this place may stand there
   pub part-there : IsPartOf kind p b
   part-there = record {
     root = h.root;
@@ -78,9 +79,11 @@ module _ (kind k : Kind) (p : Path) (b : Body) (at : place_at (of_kind kind) p �
     items = h.items;
   }
 
+-- so wherever a kind has a place of a kind: a body of that kind may stand there
 pub kinds_fit : KindsFit
 kinds_fit kind k p b at h = part-there kind k p b at h
 
+-- with a body of its kind at a place off the root, `metadata` and key fields, a valid body that stays small is valid again
 pub place_is_valid : PlaceIsValid
 place_is_valid kind k v b p valid at here free off h few = record {
   fits = replaced_fits kind v p b valid.fits here free (part-there kind k p b at h);
@@ -90,6 +93,7 @@ place_is_valid kind k v b p valid at here free off h few = record {
 
 -- ---- what is read there
 
+-- the value that a body has at a place of a kind has no fault under that kind, and its places are what the body has there
 pub place_is_read : PlaceIsRead
 place_is_read kind k w p lawful h at here =
     let own = lawful-at p (of_kind kind) (of_kind k) (lawful-kind kind lawful) at in (

@@ -20,7 +20,9 @@ use Rattle.ssa_model.proofs.Given.{and_then-back, given-back, map-back, tested-b
 use Rattle.ssa_model.proofs.LoneBenches.{lone-parts}
 use Rattle.ssa_model.proofs.NextValues.{lines_left, same-first, same-tail, no-values, Stands, stands, none-left}
 use Rattle.ssa_model.proofs.RecordedWritten.{present-from}
-use Rattle.ssa_model.proofs.TakenOfWritten.{nat-itself, nat_le-of}
+use Rattle.ssa_model.proofs.TakenOfWritten.{nat-itself}
+use Rattle.ssa_model.proofs.Tables.{last-push}
+use Rattle.ssa_model.proofs.Basics.{nat_le-of}
 
 -- ---- back along moves
 
@@ -33,8 +35,11 @@ preceded-lands t l s placed = (refl, omega arith)
 
 -- what stands in a row after moves back
 record IsBack (v : State) (acc : List Step) (ms : List (Label × State)) : Type 0 where
+  -- the place is at the first state
   pub place : (all_moved preceded (from_first v acc) ms).place ≡ 0
+  -- the first state has as many behind it as there are moves, and those that stood there
   pub many : length (all_moved preceded (from_first v acc) ms).later ≡ length ms + length acc
+  -- the last state is still the last
   pub last : last_state (all_moved preceded (from_first v acc) ms).first (all_moved preceded (from_first v acc) ms).later ≡ last_state v acc
 
 is-back : (v : State) (acc : List Step) (ms : List (Label × State)) → IsBack v acc ms
@@ -44,7 +49,8 @@ is-back v acc (m ∷ ms) =
     let many = rest.many in
     record { place = rest.place; many = omega (arith, many); last = rest.last }
 
-past-moved : (readings : Readings) (now : Bench) (v : State) (js : List Json) (acc : List Step) (ms : List (Label × State)) → moves_in readings now v js ≡ Some ms
+past-moved : (readings : Readings) (now : Bench) (v : State) (js : List Json) (acc : List Step) (ms : List (Label × State))
+    → moves_in readings now v js ≡ Some ms
     → past_in readings now v js acc ≡ Some ((all_moved preceded (from_first v acc) ms).first, (all_moved preceded (from_first v acc) ms).later)
 past-moved readings now v [] acc ms is =
     ap (λ ns. Some ((all_moved preceded (from_first v acc) ns).first, (all_moved preceded (from_first v acc) ns).later)) (same_Some [] ms is)
@@ -56,7 +62,8 @@ past-moved readings now v (j ∷ js) acc ms is =
     ∙ past-moved readings now m.1 js (record { label = m.0; state = v } ∷ acc) later.0 later.1
     ∙ ap (λ ns. Some ((all_moved preceded (from_first v acc) ns).first, (all_moved preceded (from_first v acc) ns).later)) later.2
 
-moves-of-past : (readings : Readings) (now : Bench) (v : State) (js : List Json) (acc : List Step) (r : State × List Step) → past_in readings now v js acc ≡ Some r
+moves-of-past : (readings : Readings) (now : Bench) (v : State) (js : List Json) (acc : List Step) (r : State × List Step)
+    → past_in readings now v js acc ≡ Some r
     → (ms : List (Label × State)) × (moves_in readings now v js ≡ Some ms) × (length ms ≡ length js)
 moves-of-past readings now v [] acc r is = ([], refl, refl)
 moves-of-past readings now v (j ∷ js) acc r is =
@@ -68,7 +75,8 @@ moves-of-past readings now v (j ∷ js) acc r is =
       ap suc rest.2,
     )
 
-moves-many : (readings : Readings) (now : Bench) (v : State) (js : List Json) (ms : List (Label × State)) → moves_in readings now v js ≡ Some ms → length ms ≡ length js
+moves-many : (readings : Readings) (now : Bench) (v : State) (js : List Json) (ms : List (Label × State)) → moves_in readings now v js ≡ Some ms
+    → length ms ≡ length js
 moves-many readings now v [] ms is = sym (ap length (same_Some [] ms is))
 moves-many readings now v (j ∷ js) ms is =
     let first = and_then-back (λ m. option_map (λ ns. m ∷ ns) (moves_in readings now m.1 js)) (move_in readings now v j) ms is in
@@ -84,10 +92,6 @@ to_last v later = record { first = v; later = later; place = length later }
 
 abbrev step_of : Label × State → Step
 step_of m = record { label = m.0; state = m.1 }
-
-last-push : (v : State) (ss : List Step) (s : Step) → last_state v (ss ++ s ∷ []) ≡ s.state
-last-push v [] s = refl
-last-push v (t ∷ ss) s = last-push t.state ss s
 
 appended-lands : Lands appended
 appended-lands t l s placed =
@@ -126,7 +130,8 @@ moves-of-future : (readings : Readings) (now : Bench) (v : State) (js : List Jso
     → (ms : List (Label × State)) × (moves_in readings now v js ≡ Some ms)
 moves-of-future readings now v [] ss is = ([], refl)
 moves-of-future readings now v (j ∷ js) ss is =
-    let first = and_then-back (λ m. option_map (λ xs. record { label = m.0; state = m.1 } ∷ xs) (future_in readings now m.1 js)) (move_in readings now v j) ss is in
+    let first = and_then-back (λ m. option_map (λ xs. record { label = m.0; state = m.1 } ∷ xs) (future_in readings now m.1 js)) (move_in readings now v j) ss
+    is in
     let m = first.0 in
     let later = map-back (λ xs. step_of m ∷ xs) (future_in readings now m.1 js) ss first.2 in
     let rest = moves-of-future readings now m.1 js later.0 later.1 in (
@@ -144,7 +149,8 @@ abbrev told_bench : Bench → Result Bench MoveFault → Bench
 told_bench d (Ok b) = b
 told_bench d (Err f) = d
 
-ended-ok : (readings : Readings) (made bench : Bench) (ys : List ℕ) (left : ℕ) (next : Next) → Stands readings ys left next → at_last made next ≡ Ok bench → (ys ≡ []) × (made ≡ bench)
+ended-ok : (readings : Readings) (made bench : Bench) (ys : List ℕ) (left : ℕ) (next : Next) → Stands readings ys left next → at_last made next ≡ Ok bench
+    → (ys ≡ []) × (made ≡ bench)
 ended-ok readings made bench ys left at_end s h = (s, ap (told_bench made) h)
 ended-ok readings made bench ys left no_value s h = absurd cc
 ended-ok readings made bench ys left (value_then v zs rest) s h = absurd cc
@@ -195,9 +201,13 @@ module _ (readings : Readings) (now : Bench) (alone : now.timeline ≡ from_firs
     counts = record { past = past; future = future }
 
     record AreRead (xs : List ℕ) (room : ℕ) (bench : Bench) : Type 0 where
+      -- the values of the lines
       pub js : List Json
+      -- the bytes have these values
       pub values : values_of readings xs ≡ Some js
+      -- the bench is taken from them
       pub is : lines_bench readings counts now js ≡ Some bench
+      -- there is room for the bytes
       pub fits : length xs ≤ room
 
     -- the lines of moves from which the bench is taken
@@ -207,7 +217,8 @@ module _ (readings : Readings) (now : Bench) (alone : now.timeline ≡ from_firs
     lines-taken js ks ms ns bench many more moves onward made =
         let both : length (js ++ ks) ≡ past + future = length-append js ks ∙ (λ i. many i + more i) in
         let test : (length (js ++ ks) == past + future) ≡ true = ap (λ n. n == past + future) both ∙ nat-itself (past + future) in
-        let back = ap (λ us. past_in readings now v us []) (ap (λ n. take n (js ++ ks)) (sym many) ∙ take-append_seam js ks) ∙ past-moved readings now v js [] ms moves in
+        let back = ap (λ us. past_in readings now v us []) (ap (λ n. take n (js ++ ks)) (sym many) ∙ take-append_seam js ks)
+        ∙ past-moved readings now v js [] ms moves in
         let on = ap (future_in readings now v) (ap (λ n. drop n (js ++ ks)) (sym many) ∙ drop-append_seam js ks) ∙ future-moved readings now v ks ns onward in
         ap (option_and_then (λ p. option_and_then (with_moves counts now (js ++ ks) p) (future_in readings now v (drop past (js ++ ks))))) back
         ∙ ap (option_and_then (with_moves counts now (js ++ ks) ((before ms).first, (before ms).later))) on
@@ -219,7 +230,8 @@ module _ (readings : Readings) (now : Bench) (alone : now.timeline ≡ from_firs
         let a = went readings now preceded preceded-lands (on_from readings past future) past (from_first v []) xs room bench (omega arith)
         (ap (λ (b : Bench). along readings preceded (on_from readings past future) past b xs room) (sym here) ∙ is) in
         let many = moves-many readings now v a.js a.ms a.moves ∙ a.many in
-        let b = went readings now appended appended-lands (last_read past) future (moved_to (before a.ms) past) a.ys a.left bench (before-placed a.ms past many) a.done in
+        let b = went readings now appended appended-lands (last_read past) future (moved_to (before a.ms) past) a.ys a.left bench
+        (before-placed a.ms past many) a.done in
         let onward = ap (λ s. moves_in readings now s b.js) (sym (before-present a.ms past many)) ∙ b.moves in
         let end = ended-ok readings (whole past a.ms b.ms) bench b.ys b.left (next_value readings b.left b.ys) (stands readings b.ys b.left) b.done in
         let none = ap length end.0 in
@@ -227,13 +239,15 @@ module _ (readings : Readings) (now : Bench) (alone : now.timeline ≡ from_firs
         let second = b.counted in
         record {
           js = a.js ++ b.js;
-          values = a.values ∙ ap (option_map (λ ws. a.js ++ ws)) (b.values ∙ ap (option_map (λ ws. b.js ++ ws)) (ap (values_of readings) end.0 ∙ no-values readings))
+          values = a.values ∙ ap (option_map (λ ws. a.js ++ ws)) (b.values
+              ∙ ap (option_map (λ ws. b.js ++ ws)) (ap (values_of readings) end.0 ∙ no-values readings))
               ∙ ap (λ ws. Some (a.js ++ ws)) (append-nil b.js);
           is = lines-taken a.js b.js a.ms b.ms bench a.many b.many a.moves onward end.1;
           fits = omega (arith, none, first, second);
         }
 
-    lines-found : (xs : List ℕ) (room : ℕ) (js : List Json) (bench : Bench) → lines_bench readings counts now js ≡ Some bench → values_of readings xs ≡ Some js → length xs ≤ room
+    lines-found : (xs : List ℕ) (room : ℕ) (js : List Json) (bench : Bench) → lines_bench readings counts now js ≡ Some bench
+        → values_of readings xs ≡ Some js → length xs ≤ room
         → moves_from readings past future now xs room ≡ Ok bench
     lines-found xs room js bench is values fits =
         let of_past = λ (p : State × List Step). option_and_then (with_moves counts now js p) (future_in readings now v (drop past js)) in
@@ -249,9 +263,11 @@ module _ (readings : Readings) (now : Bench) (alone : now.timeline ≡ from_firs
         let counted = a.2 ∙ many in
         let c = moves-of-future readings now v (drop past js) f.0 f.1 in
         let onward = ap (λ s. moves_in readings now s (drop past js)) (before-present a.0 past counted) ∙ c.1 in
-        let r = reaches readings now preceded preceded-lands (on_from readings past future) (take past js) (drop past js) a.0 (from_first v []) xs room (omega arith) a.1
+        let r = reaches readings now preceded preceded-lands (on_from readings past future) (take past js) (drop past js) a.0 (from_first v []) xs room
+        (omega arith) a.1
         (values ∙ ap Some (sym (take-append-drop past js))) fits in
-        let q = reaches readings now appended appended-lands (last_read past) (drop past js) [] c.0 (moved_to (before a.0) past) r.ys r.left (before-placed a.0 past counted) onward
+        let q = reaches readings now appended appended-lands (last_read past) (drop past js) [] c.0 (moved_to (before a.0) past) r.ys r.left
+        (before-placed a.0 past counted) onward
         (r.values ∙ ap Some (sym (append-nil (drop past js)))) r.fits in
         let back = same_Some ((before a.0).first, (before a.0).later) p.0 (sym (past-moved readings now v (take past js) [] a.0 a.1) ∙ p.1) in
         let on = same_Some (map step_of c.0) f.0 (sym (future-moved readings now v (drop past js) c.0 c.1) ∙ f.1) in
@@ -265,7 +281,8 @@ module _ (readings : Readings) (now : Bench) (alone : now.timeline ≡ from_firs
         ∙ ap (λ zs. ended_with readings (whole past a.0 c.0) zs q.left) (none-left readings q.ys q.values)
         ∙ ap Ok same
 
-    lines-fail : (xs : List ℕ) (room : ℕ) (f : MoveFault) → moves_from readings past future now xs room ≡ Err f → moves_fault readings counts now (lines_left xs room) ≡ f
+    lines-fail : (xs : List ℕ) (room : ℕ) (f : MoveFault) → moves_from readings past future now xs room ≡ Err f
+        → moves_fault readings counts now (lines_left xs room) ≡ f
     lines-fail xs room f is =
         let ts = lines_left xs room in
         let behind = lines_fault readings now no_move_text v (take future (drop past ts)) in
@@ -275,25 +292,30 @@ module _ (readings : Readings) (now : Bench) (alone : now.timeline ≡ from_firs
         (λ ms ys left many lines failed.
         ap (λ s. lines_fault readings now no_move_text s (take future (drop past ts))) (sym (before-present ms past many))
         ∙ ap (λ us. lines_fault readings now no_move_text (present (moved_to (before ms) past)) (take future us)) (sym lines)
-        ∙ fault-along readings now appended appended-lands (last_read past) future (moved_to (before ms) past) ys left no_move_text f (before-placed ms past many) (λ less. refl)
+        ∙ fault-along readings now appended appended-lands (last_read past) future (moved_to (before ms) past) ys left no_move_text f
+        (before-placed ms past many) (λ less. refl)
         (λ ns zs rest more behind_lines h. ended-fault (whole past ms ns) f (next_value readings rest zs) h) failed)
         (ap (λ (b : Bench). along readings preceded (on_from readings past future) past b xs room) (sym here) ∙ is)
 
 -- ---- the whole file
 
 -- a present object makes a bench of one state
-present-alone : (readings : Readings) (schema : Schema) (v : Json) (now : Bench) → present_in readings schema v ≡ Some now → now.timeline ≡ from_first now.timeline.first []
+present-alone : (readings : Readings) (schema : Schema) (v : Json) (now : Bench) → present_in readings schema v ≡ Some now
+    → now.timeline ≡ from_first now.timeline.first []
 present-alone readings schema v now is =
     let made = lone-parts readings schema v now (present-from v (bench_of readings schema v) now is).0 in
     made.alone
 
 module _ (readings : Readings) where
+  -- what is read behind the present object: the past, the future and the end
   abbrev pub after_now : Counts → Bench → List ℕ → ℕ → Result Bench MoveFault
   after_now counts = moves_from readings counts.past counts.future
 
+  -- what is read behind the schema: the present object, and what follows it
   abbrev pub after_source : Counts → Schema → List ℕ → ℕ → Result Bench MoveFault
   after_source counts schema = with_part readings (present_in readings schema) (after_now counts)
 
+  -- what is read behind the head: the schema, and what follows it
   abbrev pub after_head : Counts → List ℕ → ℕ → Result Bench MoveFault
   after_head counts = with_part readings schema_in (after_source counts)
 
@@ -318,7 +340,8 @@ module _ (readings : Readings) where
       let last = d.fits in
       let small : length t ≤ most_bench_bytes = omega (arith, first, second, third, last) in
       let values : values_of readings t ≡ Some (a.value ∷ b.value ∷ c.value ∷ d.js) =
-      a.values ∙ ap (option_map (λ ws. a.value ∷ ws)) (b.values ∙ ap (option_map (λ ws. b.value ∷ ws)) (c.values ∙ ap (option_map (λ ws. c.value ∷ ws)) d.values)) in
+      a.values ∙ ap (option_map (λ ws. a.value ∷ ws)) (b.values
+      ∙ ap (option_map (λ ws. b.value ∷ ws)) (c.values ∙ ap (option_map (λ ws. c.value ∷ ws)) d.values)) in
       ap (λ x. if x then option_and_then (recorded_bench readings) (values_of readings t) else None) (nat_le-of (length t) most_bench_bytes small)
       ∙ ap (option_and_then (recorded_bench readings)) values
       ∙ ap (option_and_then (of_counts b.value c.value d.js)) a.took
@@ -326,7 +349,8 @@ module _ (readings : Readings) where
       ∙ ap (option_and_then (of_now a.taken d.js)) c.took
       ∙ d.is
 
-  values-taken : (t : Text) (bench : Bench) (vs : List Json) → values_of readings t ≡ Some vs → length t ≤ most_bench_bytes → recorded_bench readings vs ≡ Some bench
+  values-taken : (t : Text) (bench : Bench) (vs : List Json) → values_of readings t ≡ Some vs → length t ≤ most_bench_bytes
+      → recorded_bench readings vs ≡ Some bench
       → file_from readings t most_bench_bytes ≡ Ok bench
   values-taken t bench [] values small is = absurd (none-some bench is)
   values-taken t bench (head ∷ []) values small is = absurd (none-some bench is)
@@ -339,7 +363,8 @@ module _ (readings : Readings) where
       let b = part-reaches readings schema_in (after_source counts.0) a.ys a.left source (now ∷ js) schema.0 a.values a.fits schema.1 in
       let c = part-reaches readings (present_in readings schema.0) (after_now counts.0) b.ys b.left now js there.0 b.values b.fits there.1 in
       a.is ∙ b.is ∙ c.is
-      ∙ lines-found readings there.0 (present-alone readings schema.0 now there.0 there.1) counts.0.past counts.0.future c.ys c.left js bench there.2 c.values c.fits
+      ∙ lines-found readings there.0 (present-alone readings schema.0 now there.0 there.1) counts.0.past counts.0.future c.ys c.left js bench there.2 c.values
+      c.fits
 
   file-found : (t : Text) (bench : Bench) → recorded_bench_in readings t ≡ Some bench → file_from readings t most_bench_bytes ≡ Ok bench
   file-found t bench is =
@@ -360,7 +385,8 @@ module _ (readings : Readings) where
   of_opening ts o = elim o [ Some x ↦ moves_fault readings x.0 x.1 ts | None ↦ no_move_text ]
 
   -- no three lines open the file
-  not-opened : (ts : List Text) (f : MoveFault) → ((a b c : Text) (us : List Text) → ts ≡ a ∷ b ∷ c ∷ us → opening_in readings a b c ≡ None) → no_move_text ≡ f → texts_fault readings ts ≡ f
+  not-opened : (ts : List Text) (f : MoveFault) → ((a b c : Text) (us : List Text) → ts ≡ a ∷ b ∷ c ∷ us → opening_in readings a b c ≡ None)
+      → no_move_text ≡ f → texts_fault readings ts ≡ f
   not-opened [] f none is = is
   not-opened (a ∷ []) f none is = is
   not-opened (a ∷ b ∷ []) f none is = is
@@ -380,22 +406,26 @@ module _ (readings : Readings) where
     Fails = texts_fault readings all_lines ≡ f
 
     after-all : (a : FailsBehind readings counts_in after_head t most_bench_bytes f) → (b : FailsBehind readings schema_in (after_source a.taken) a.ys a.left f)
-        → (c : FailsBehind readings (present_in readings b.taken) (after_now a.taken) b.ys b.left f) → (there : (v : Json) × (present_in readings b.taken v ≡ Some c.taken)) → Fails
+        → (c : FailsBehind readings (present_in readings b.taken) (after_now a.taken) b.ys b.left f)
+        → (there : (v : Json) × (present_in readings b.taken v ≡ Some c.taken)) → Fails
     after-all a b c there =
         let lines = a.lines ∙ ap (λ us. a.text ∷ us) (b.lines ∙ ap (λ us. b.text ∷ us) c.lines) in
         let opened : opening_in readings a.text b.text c.text ≡ Some (a.taken, c.taken) =
-        ap (option_and_then (opened_schema b.text c.text)) a.took ∙ ap (option_and_then (opened_now a.taken c.text)) b.took ∙ ap (option_map (λ (x : Bench). (a.taken, x))) c.took in
+        ap (option_and_then (opened_schema b.text c.text)) a.took ∙ ap (option_and_then (opened_now a.taken c.text)) b.took
+        ∙ ap (option_map (λ (x : Bench). (a.taken, x))) c.took in
         ap (texts_fault readings) lines ∙ ap (of_opening (lines_left c.ys c.left)) opened
         ∙ lines-fail readings c.taken (present-alone readings b.taken there.0 c.taken there.1) a.taken.past a.taken.future c.ys c.left f c.failed
 
     after-two : (a : FailsBehind readings counts_in after_head t most_bench_bytes f) → (b : FailsBehind readings schema_in (after_source a.taken) a.ys a.left f)
-        → PartFails readings (present_in readings b.taken) (after_now a.taken) b.ys b.left f ⊎ FailsBehind readings (present_in readings b.taken) (after_now a.taken) b.ys b.left f → Fails
+        → PartFails readings (present_in readings b.taken) (after_now a.taken) b.ys b.left f
+        ⊎ FailsBehind readings (present_in readings b.taken) (after_now a.taken) b.ys b.left f → Fails
     after-two a b (inl none) = not-opened all_lines f (λ x y z us e.
         let rest = same-tail a.text x (lines_left a.ys a.left) (y ∷ z ∷ us) (sym a.lines ∙ e) in
         let last = same-tail b.text y (lines_left b.ys b.left) (z ∷ us) (sym b.lines ∙ rest) in
         ap (λ w. opening_in readings w y z) (sym (same-first a.text x (lines_left a.ys a.left) (y ∷ z ∷ us) (sym a.lines ∙ e)))
         ∙ ap (option_and_then (opened_schema y z)) a.took
-        ∙ ap (λ w. option_and_then (opened_now a.taken z) (part_of readings schema_in w)) (sym (same-first b.text y (lines_left b.ys b.left) (z ∷ us) (sym b.lines ∙ rest)))
+        ∙ ap (λ w. option_and_then (opened_now a.taken z) (part_of readings schema_in w))
+        (sym (same-first b.text y (lines_left b.ys b.left) (z ∷ us) (sym b.lines ∙ rest)))
         ∙ ap (option_and_then (opened_now a.taken z)) b.took
         ∙ ap (option_map (λ (x : Bench). (a.taken, x))) (none.none z us last)) none.fault
     after-two a b (inr c) =
@@ -422,7 +452,8 @@ module _ (readings : Readings) where
 pub files_are_read : FilesAreRead
 files_are_read readings t = by (recorded_bench_in readings t) refl
   where
-    refused : (r : Result Bench MoveFault) → file_from readings t most_bench_bytes ≡ r → recorded_bench_in readings t ≡ None → r ≡ Err (recorded_fault readings t)
+    refused : (r : Result Bench MoveFault) → file_from readings t most_bench_bytes ≡ r → recorded_bench_in readings t ≡ None
+        → r ≡ Err (recorded_fault readings t)
     refused (Ok bench) e none = absurd (none-some bench (sym none ∙ file-taken readings t bench e))
     refused (Err f) e none = ap Err (sym (file-fails readings t f e))
 

@@ -9,12 +9,9 @@ use Rattle.ssa_model.specs.laws.BenchFiles.{ended_lines, spelled_value, spelled_
 use Rattle.ssa_model.specs.laws.RecordedBenches.{lines_within}
 use Rattle.ssa_model.proofs.FirstValues.{values-first}
 use Rattle.ssa_model.proofs.LinesFacts.{HaveNoLineFeed, split_lines-after, ended-split_lines}
+use Rattle.ssa_model.proofs.Basics.{at_most as long}
 
 -- ---- the lines so far
-
--- some lines, and then other bytes
-pub whole_lines-after : (ts : List Text) (rest : Text) → HaveNoLineFeed ts → whole_lines (ended ts ++ rest) ≡ ts ++ whole_lines rest
-whole_lines-after ts rest plain = ap (λ s. s.0) (split_lines-after ts rest plain)
 
 -- ---- their values
 
@@ -43,41 +40,12 @@ module _ (readings : Readings) where
       ∙ values-first readings t (ended ts ++ rest) plain.0
       ∙ ap (λ o. option_and_then (λ v. option_map (λ vs. v ∷ vs) o) (spelled_value readings t)) (values-after ts rest plain.1)
       ∙ one-in-front (spelled_value readings t) (spelled_values readings ts) (values_of readings rest)
-
-  -- no bytes are no values
-  pub values-end : values_of readings [] ≡ Some []
-  unfolding split_lines
-  values-end = refl
-
   -- ---- bytes that begin with no value's line
-
-  abbrev of_split : List Text → Text → Option (List Json)
-  of_split ls rest = option_and_then (spelled_values readings) (ended_lines (ls, rest))
-
-  -- bytes without a whole line are no values
-  pub values-unfinished : (xs : Text) → whole_lines xs ≡ [] → xs ≢ [] → values_of readings xs ≡ None
-  values-unfinished xs none some =
-      ap (λ ls. of_split ls (unfinished_line xs)) none ∙ by (unfinished_line xs) (λ e. some (sym (ended-split_lines xs) ∙ (λ i. ended (none i) ++ e i)))
-    where
-      by : (rest : Text) → (rest ≡ [] → ⊥) → of_split [] rest ≡ None
-      by [] some = absurd (some refl)
-      by (b ∷ bs) some = refl
-
-  -- nor are bytes whose first line is no value's
-  pub values-unspelled : (xs t : Text) (ts : List Text) → whole_lines xs ≡ t ∷ ts → spelled_value readings t ≡ None → values_of readings xs ≡ None
-  values-unspelled xs t ts first none = ap (λ ls. of_split ls (unfinished_line xs)) first ∙ by (unfinished_line xs)
-    where
-      by : (rest : Text) → of_split (t ∷ ts) rest ≡ None
-      by [] = ap (option_and_then (λ v. option_map (λ vs. v ∷ vs) (spelled_values readings ts))) none
-      by (b ∷ bs) = refl
 
 -- ---- how many bytes there may be
 
 short : (a b : ℕ) → suc a ≤ b → nat_lt a b ≡ true
 short a b h = grind (arith, nat_tests)
-
-long : (a b : ℕ) → b ≤ a → nat_lt a b ≡ false
-long a b h = grind (arith, nat_tests)
 
 -- lines that end within the room, and those that follow them
 pub lines_within-after : (room : ℕ) (ts us : List Text) → length (ended ts) ≤ room
@@ -94,7 +62,3 @@ lines_within-after room (t ∷ ts) us h =
 -- where all lines end within the room
 pub lines_within-all : (room : ℕ) (ts : List Text) → length (ended ts) ≤ room → lines_within room ts ≡ ts
 lines_within-all room ts h = ap (lines_within room) (sym (append-nil ts)) ∙ lines_within-after room ts [] h ∙ append-nil ts
-
--- a line that reaches too far, and all behind it, are none
-pub lines_within-long : (room : ℕ) (t : Text) (ts : List Text) → room ≤ length t → lines_within room (t ∷ ts) ≡ []
-lines_within-long room t ts h = ap (λ b. if b then t ∷ lines_within (room - (length t + 1)) ts else []) (long (length t) room h)

@@ -7,24 +7,18 @@ use Rattle.ssa_model.specs.definitions.Path.{Path, path_cmp, same_path}
 use Rattle.ssa_model.specs.definitions.PathMap.{from_entries, has, paths, set_of, listed, marked, insert}
 use Rattle.ssa_model.proofs.Texts.{same_path_same}
 use Rattle.ssa_model.proofs.PathMaps.{is_one_of, get-from_entries, same_path-true, has-paths, same_sets, has-set_of, insert_swap}
-
-pub or_twice : (a b : Bool) → (a || b) ≡ (a || (a || b))
-or_twice true b = refl
-or_twice false b = refl
-
-or_swap : (a b c : Bool) → (a || (b || c)) ≡ (b || (a || c))
-or_swap true true c = refl
-or_swap true false c = refl
-or_swap false b c = refl
+use Rattle.ssa_model.proofs.Basics.{or_swap, or_twice}
 
 module _ {X : Type 0} where
+  -- the paths of the entries
   abbrev pub keys : List (Path × X) → List Path
   keys es = map (λ e. e.0) es
 
   any-put : (test : Path → Bool) (p : Path) (x : X) (es : List (Path × X)) → list_any test (keys (put path_cmp p x es)) ≡ (test p || list_any test (keys es))
   any-put test p x [] = refl
   any-put test p x (e ∷ es) =
-      elim (path_cmp p e.0) as (λ o. path_cmp p e.0 ≡ o → list_any test (keys (by_order o ((p, x) ∷ e ∷ es) ((e.0, x) ∷ es) (e ∷ put path_cmp p x es))) ≡ (test p || (test e.0 || list_any test (keys es)))) [
+      elim (path_cmp p e.0) as (λ o. path_cmp p e.0 ≡ o → list_any test (keys (by_order o ((p, x) ∷ e ∷ es) ((e.0, x) ∷ es) (e ∷ put path_cmp p x es)))
+      ≡ (test p || (test e.0 || list_any test (keys es)))) [
         | Less ↦ λ h. refl
         | Equal ↦ λ h. or_twice (test e.0) _ ∙ ap (λ q. test q || (test e.0 || list_any test (keys es))) (sym (same_path_same p e.0 h))
         | Greater ↦ λ h. ap (λ b. test e.0 || b) (any-put test p x es) ∙ or_swap (test e.0) (test p) _
@@ -35,6 +29,7 @@ module _ {X : Type 0} where
   any-from_entries test [] = refl
   any-from_entries test (e ∷ es) = any-put test e.0 e.1 (from_entries es).entries ∙ ap (λ b. test e.0 || b) (any-from_entries test es)
 
+  -- the map of a list of entries has just their paths
   pub has-from_entries : (es : List (Path × X)) (q : Path) → has (from_entries es) q ≡ is_one_of (keys es) q
   has-from_entries es q = ap is_some (get-from_entries es q) ∙ is_some-find path_cmp q es
 
@@ -42,9 +37,11 @@ keys-marked : (ps : List Path) → keys (marked ps) ≡ ps
 keys-marked [] = refl
 keys-marked (p ∷ ps) = ap (λ qs. p ∷ qs) (keys-marked ps)
 
+-- a test passes one of the set's paths exactly where it passes one of the listed ones
 pub any-listed : (test : Path → Bool) (ps : List Path) → list_any test (paths (listed ps)) ≡ list_any test ps
 any-listed test ps = any-from_entries test (marked ps) ∙ ap (list_any test) (keys-marked ps)
 
+-- the set of listed paths has just these
 pub has-listed : (ps : List Path) (q : Path) → has (listed ps) q ≡ is_one_of ps q
 has-listed ps q = has-from_entries (marked ps) q ∙ ap (λ qs. is_one_of qs q) (keys-marked ps)
 
@@ -67,25 +64,16 @@ tested q p test b =
     same true x = refl
     same false x = refl
 
+-- a path is among those that pass exactly where it is in the list and passes
 pub is_one_of-filter : (test : Path → Bool) (ps : List Path) (q : Path) → is_one_of (filter test ps) q ≡ (is_one_of ps q && test q)
 is_one_of-filter test [] q = refl
 is_one_of-filter test (p ∷ ps) q =
     inside (test p) ∙ ap (λ b. cond (test p) (same_path q p || b) b) (is_one_of-filter test ps q) ∙ tested q p test (is_one_of ps q)
   where
-    inside : (t : Bool) → is_one_of (cond t (p ∷ filter test ps) (filter test ps)) q ≡ cond t (same_path q p || is_one_of (filter test ps) q) (is_one_of (filter test ps) q)
+    inside : (t : Bool) → is_one_of (cond t (p ∷ filter test ps) (filter test ps)) q
+        ≡ cond t (same_path q p || is_one_of (filter test ps) q) (is_one_of (filter test ps) q)
     inside true = refl
     inside false = refl
-
--- the tested paths of a list are the tested paths of any set or body with the same paths
-pub listed-filter : (test : Path → Bool) (ps qs : List Path) → ((q : Path) → is_one_of ps q ≡ is_one_of qs q) → listed (filter test ps) ≡ set_of qs test
-listed-filter test ps qs same = same_sets _ _ (λ q. has-listed (filter test ps) q ∙ is_one_of-filter test ps q ∙ ap (λ b. b && test q) (same q) ∙ sym (has-set_of qs test q))
-
--- the paths of a list, and those of its set
-pub is_one_of-listed : (ps : List Path) (q : Path) → is_one_of ps q ≡ is_one_of (paths (listed ps)) q
-is_one_of-listed ps q = sym (has-listed ps q) ∙ has-paths (listed ps) q
-
-pub is_one_of-from_entries : {X : Type 0} (es : List (Path × X)) (q : Path) → is_one_of (keys es) q ≡ is_one_of (paths (from_entries es)) q
-is_one_of-from_entries es q = sym (has-from_entries es q) ∙ has-paths (from_entries es) q
 
 -- a path at the end goes in like any other
 pub listed-push : (ps : List Path) (p : Path) → listed (ps ++ p ∷ []) ≡ insert p tt (listed ps)

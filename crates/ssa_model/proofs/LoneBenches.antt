@@ -13,8 +13,11 @@ use Rattle.ssa_model.specs.definitions.Answers.{Fault, identity_fault, names_its
 
 -- the bench has the schema, and the state is there and is the bench's only one
 pub record IsLoneOf (schema : Schema) (state : Result State Fault) (lone : Bench) : Type 0 where
+  -- the schema is the bench's
   pub schema_is : schema ≡ lone.schema
+  -- the state is there, and is the bench's first
   pub state_is : state ≡ Ok lone.timeline.first
+  -- the bench has no other state
   pub alone : lone.timeline ≡ lone_state lone.timeline.first
 
 of_state : (schema : Schema) (identity : Identity) (r : Result State Fault) (lone : Bench)

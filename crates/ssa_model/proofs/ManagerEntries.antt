@@ -7,12 +7,14 @@ use Rattle.std.specs.Prelude.{filter, if◌then◌else◌}
 use Rattle.ssa_model.specs.definitions.Table.{ManagerKey, Entry, Table, same_manager, is_in_table, entry_of}
 use Rattle.ssa_model.specs.definitions.Valid.{AllEntries, has_distinct_keys}
 use Rattle.ssa_model.specs.definitions.Carry.{is_key_among}
-use Rattle.ssa_model.proofs.Tables.{first_false, second_false, manager-itself, same_manager-true, no, true_or}
+use Rattle.ssa_model.proofs.Tables.{manager-itself, same_manager-true, true_or}
 use Rattle.ssa_model.proofs.SharedManagers.{managers, Each, each-apart}
 use Rattle.ssa_model.proofs.Tests.{by_test}
+use Rattle.ssa_model.proofs.Basics.{not_true as no, first_false, second_false}
 
 -- ---- the entry of a manager
 
+-- a manager that is in the table has an entry there, which is this manager's
 pub entry-there : (u : Table) (k : ManagerKey) → is_in_table u k ≡ true → (f : Entry) × (entry_of u k ≡ Some f) × (f.manager ≡ k)
 entry-there [] k h = absurd (true≢false (sym h))
 entry-there (f ∷ fs) k h =
@@ -22,6 +24,7 @@ entry-there (f ∷ fs) k h =
     let rest = entry-there fs k (sym (ap (λ b. b || is_in_table fs k) e) ∙ h) in
     (rest.0, ap (λ b. if b then Some f else entry_of fs k) e ∙ rest.1, rest.2))
 
+-- a manager that is not in the table has no entry there
 pub entry-absent : (u : Table) (k : ManagerKey) → is_in_table u k ≡ false → entry_of u k ≡ None
 entry-absent [] k h = refl
 entry-absent (f ∷ fs) k h =
@@ -38,7 +41,8 @@ entry-own (e ∷ es) h =
       both es (each-apart e.manager es new) rest,
     )
   where
-    both : (fs : Table) → Each (λ a. same_manager e.manager a ≡ false) fs → AllEntries (λ f. entry_of es f.manager ≡ Some f) fs → AllEntries (λ f. entry_of (e ∷ es) f.manager ≡ Some f) fs
+    both : (fs : Table) → Each (λ a. same_manager e.manager a ≡ false) fs → AllEntries (λ f. entry_of es f.manager ≡ Some f) fs
+        → AllEntries (λ f. entry_of (e ∷ es) f.manager ≡ Some f) fs
     both [] a b = tt
     both (f ∷ fs) a b = (ap (λ t. if t then Some e else entry_of es f.manager) a.0 ∙ b.0, both fs a.1 b.1)
 
@@ -52,11 +56,13 @@ among-filter q (e ∷ es) k =
     by_test (same_manager e.manager k)
     (λ t.
     let same : q e.manager ≡ q k = ap q (same_manager-true e.manager k t) in
-    elim (q e.manager) as (λ b. b ≡ q k → is_key_among (cond b (e.manager ∷ filter q (managers es)) (filter q (managers es))) k ≡ ((same_manager e.manager k || is_in_table es k) && q k)) [
+    elim (q e.manager) as (λ b. b ≡ q k → is_key_among (cond b (e.manager ∷ filter q (managers es)) (filter q (managers es))) k
+    ≡ ((same_manager e.manager k || is_in_table es k) && q k)) [
       | true ↦ λ s. true_or _ _ t ∙ sym (λ i. (t i || is_in_table es k) && sym s i)
       | false ↦ λ s. rest ∙ (λ i. is_in_table es k && sym s i) ∙ and-false (is_in_table es k) ∙ sym (λ i. (t i || is_in_table es k) && sym s i)
     ] same)
-    (λ f. elim (q e.manager) as (λ b. is_key_among (cond b (e.manager ∷ filter q (managers es)) (filter q (managers es))) k ≡ ((same_manager e.manager k || is_in_table es k) && q k)) [
+    (λ f. elim (q e.manager) as (λ b. is_key_among (cond b (e.manager ∷ filter q (managers es)) (filter q (managers es))) k
+    ≡ ((same_manager e.manager k || is_in_table es k) && q k)) [
       | true ↦ (λ i. f i || rest i) ∙ sym (λ i. (f i || is_in_table es k) && q k)
       | false ↦ rest ∙ sym (λ i. (f i || is_in_table es k) && q k)
     ])

@@ -8,9 +8,9 @@ use Rattle.std.specs.Prelude.{option_map}
 use Rattle.ssa_model.specs.definitions.Path.{Path, path_cmp}
 use Rattle.ssa_model.specs.definitions.PathMap.{PathMap, from_entries, paths, size, map_of}
 use Rattle.ssa_model.specs.laws.RecordWalks.{found}
-use Rattle.ssa_model.proofs.RisingNames.{lower}
 use Rattle.ssa_model.proofs.Tests.{holds}
 use Rattle.ssa_model.proofs.Sums.{total, length-total}
+use Rattle.ssa_model.proofs.Basics.{lower}
 
 module _ {X : Type 0} where
   put-first : (p : Path) (x : X) (es : List (Path × X)) → below_all path_cmp p es ≡ true → put path_cmp p x es ≡ (p, x) ∷ es
@@ -44,6 +44,7 @@ module _ {X Y : Type 0} (f : Path → Option Y) where
   sorted-found [] h = refl
   sorted-found (e ∷ es) h = sorted-cons e.0 (f e.0) (found f (keys es)) (below-found e.0 es (first_so _ _ h)) (sorted-found es (second_so _ _ h))
 
+  -- the entries of a function's map over the paths of another are its answers along these paths
   pub map-entries : (m : PathMap X) → (map_of (paths m) f).entries ≡ found f (paths m)
   map-entries m = sorted-entries (found f (paths m)) (sorted-found m.entries (holds _ m.in_order))
 
@@ -63,8 +64,10 @@ module _ {Y : Type 0} (g : Path × Y → ℕ) (f : Path → Option Y) where
   total-found [] = refl
   total-found (p ∷ ps) = total-cons p (f p) (found f ps) ∙ ap (λ n. counted (λ y. g (p, y)) (f p) + n) (total-found ps)
 
+  -- the sum over its entries is the sum of what the answers count for, along these paths
   pub total-map : {X : Type 0} (m : PathMap X) → total g (map_of (paths m) f).entries ≡ total (λ p. counted (λ y. g (p, y)) (f p)) (paths m)
   total-map m = ap (total g) (map-entries f m) ∙ total-found (paths m)
 
+-- its size is the number of these paths that have an answer
 pub size-map : {X Y : Type 0} (m : PathMap X) (f : Path → Option Y) → size (map_of (paths m) f) ≡ total (λ p. counted (λ y. 1) (f p)) (paths m)
 size-map m f = length-total (map_of (paths m) f).entries ∙ total-map (λ e. 1) f m

@@ -33,12 +33,15 @@ module _ {X : Type 0} where
   tail_of [] = []
   tail_of (x ∷ xs) = xs
 
+  -- a list with a first element is not empty
   pub nil-cons : (x : X) (xs : List X) → [] ≡ x ∷ xs → ⊥
   nil-cons x xs e = false≢true (ap has_first e)
 
+  -- where two lists are one, so are their first elements
   pub same-first : (x y : X) (xs ys : List X) → x ∷ xs ≡ y ∷ ys → x ≡ y
   same-first x y xs ys e = ap (first_or x) e
 
+  -- and so are the elements behind the first
   pub same-tail : (x y : X) (xs ys : List X) → x ∷ xs ≡ y ∷ ys → xs ≡ ys
   same-tail x y xs ys e = ap tail_of e
 
@@ -46,10 +49,15 @@ module _ {X : Type 0} where
 
 -- the bytes begin with the line, and these follow it
 record IsFirstLine (xs : List ℕ) (t : Text) (ts : List Text) : Type 0 where
+  -- the bytes behind the line
   pub rest : List ℕ
+  -- the bytes are the line, its line feed and these
   pub bytes : xs ≡ (t ++ line_feed ∷ []) ++ rest
+  -- these are left where the line and its line feed are dropped
   pub dropped : drop (length t + 1) xs ≡ rest
+  -- the other lines are the whole lines of these
   pub lines : ts ≡ whole_lines rest
+  -- the line has no line feed in it
   pub plain : HasNoLineFeed t
 
 at-feed : (x : ℕ) (xs : List ℕ) (t : Text) (ts : List Text) → x ≡ line_feed → [] ∷ whole_lines xs ≡ t ∷ ts → IsFirstLine (x ∷ xs) t ts
@@ -77,29 +85,37 @@ unfolding split_lines
 first-line [] t ts is = absurd (nil-cons t ts is)
 first-line (x ∷ xs) t ts is =
     elim (eqb x line_feed) as
-    (λ b. eqb x line_feed ≡ b → (cond b ([] ∷ whole_lines xs, unfinished_line xs) (with_first x (whole_lines xs) (unfinished_line xs))).0 ≡ t ∷ ts → IsFirstLine (x ∷ xs) t ts) [
+    (λ b. eqb x line_feed ≡ b → (cond b ([] ∷ whole_lines xs, unfinished_line xs) (with_first x (whole_lines xs) (unfinished_line xs))).0 ≡ t ∷ ts
+    → IsFirstLine (x ∷ xs) t ts) [
       | true ↦ λ e k. at-feed x xs t ts (eqb-true x line_feed e) k
       | false ↦ λ e k. goes-on x xs t ts (whole_lines xs) (λ same. false≢true (sym e ∙ ap (λ y. eqb y line_feed) same)) (first-line xs) k
     ] refl is
 
 -- ---- what stands next
 
+-- the whole lines of the bytes that end within the room
 abbrev pub lines_left : List ℕ → ℕ → List Text
 lines_left xs room = lines_within room (whole_lines xs)
 
+-- without bytes there are no lines
 pub no-lines : (room : ℕ) → lines_left [] room ≡ []
 unfolding split_lines
 no-lines room = refl
 
+-- without bytes there are no values, and nothing is amiss
 pub no-values : (readings : Readings) → values_of readings [] ≡ Some []
 unfolding split_lines
 no-values readings = refl
 
 -- what lines there are within the room, where there is a first
 record IsWithin (room : ℕ) (ls : List Text) (t : Text) (ts : List Text) : Type 0 where
+  -- the lines behind the first
   pub later : List Text
+  -- the lines are the first and these
   pub all : ls ≡ t ∷ later
+  -- the first line ends within the room
   pub fits : length t < room
+  -- the others within the room are those of these within the room that is left
   pub rest : ts ≡ lines_within (room - (length t + 1)) later
 
 is-within : (room : ℕ) (ls : List Text) (t : Text) (ts : List Text) → lines_within room ls ≡ t ∷ ts → IsWithin room ls t ts
@@ -117,11 +133,17 @@ is-within room (l ∷ ls) t ts is = by (nat_lt (length l) room) refl is
 module _ (readings : Readings) where
   -- a value's line, and what follows it
   pub record HasNext (xs : List ℕ) (room : ℕ) (v : Json) (ys : List ℕ) (left : ℕ) : Type 0 where
+    -- the text of the line
     pub text : Text
+    -- the value is read from the text, which is its compact text
     pub spelled : spelled_value readings text ≡ Some v
+    -- the text has no line feed in it
     pub plain : HasNoLineFeed text
+    -- the bytes are the text, a line feed and the bytes behind
     pub bytes : xs ≡ (text ++ line_feed ∷ []) ++ ys
+    -- the lines within the room are this one and those of the bytes behind, within the room that is left
     pub lines : lines_left xs room ≡ text ∷ lines_left ys left
+    -- the line, its line feed and the room that is left are the room
     pub counted : length text + 1 + left ≡ room
 
   -- what is known of the bytes by what stands next
@@ -155,6 +177,7 @@ module _ (readings : Readings) where
       by (Some v) e = has-next xs room t ts v is e
       by None e = (some, λ u us h. ap (spelled_value readings) (sym (same-first t u ts us (sym is ∙ h))) ∙ e)
 
+  -- so it is known of all bytes what stands next
   pub stands : (xs : List ℕ) (room : ℕ) → Stands xs room (next_value readings room xs)
   stands [] room = refl
   stands (x ∷ xs) room = first-stands (x ∷ xs) room (lines_left (x ∷ xs) room) (λ e. nil-cons x xs (sym e)) refl
@@ -166,6 +189,7 @@ module _ (readings : Readings) where
       → values_of readings xs ≡ option_map (λ vs. v ∷ vs) (values_of readings ys)
   next-values xs room v ys left next = ap (values_of readings) next.bytes ∙ values-found readings next.text ys v next.plain next.spelled
 
+  -- behind a value's line the room has become smaller by the bytes of the line
   pub next-counts : (xs : List ℕ) (room : ℕ) (v : Json) (ys : List ℕ) (left : ℕ) → HasNext xs room v ys left → length xs + left ≡ length ys + room
   next-counts xs room v ys left next =
       let all = ap length next.bytes in

@@ -31,7 +31,9 @@ depth_in (Some v) = depth v
 with_member-depth : (n : Text) (v : Json) (ms : Members) → members_depth (with_member n v ms) ≤ max (depth v) (members_depth ms)
 with_member-depth n v no_members = omega arith
 with_member-depth n v (member m w ms) =
-    elim (slice_cmp nat_cmp n m) as (λ o. members_depth (elim o [ Less ↦ member n v (member m w ms) | Equal ↦ member n v ms | Greater ↦ member m w (with_member n v ms) ]) ≤ max (depth v) (max (depth w) (members_depth ms))) [
+    elim (slice_cmp nat_cmp n m) as (λ o. members_depth (elim o
+    [ Less ↦ member n v (member m w ms) | Equal ↦ member n v ms | Greater ↦ member m w (with_member n v ms) ])
+    ≤ max (depth v) (max (depth w) (members_depth ms))) [
       | Less ↦ omega arith
       | Equal ↦ omega arith
       | Greater ↦ let h = with_member-depth n v ms in omega arith
@@ -83,7 +85,8 @@ with_identity-depth i ms h =
     let version = named-flat i.version (first_so (is_named_text i.version) _ h) in
     let kind = named-flat i.kind (first_so (is_named_text i.kind) _ later) in
     let name = named-flat i.name (first_so (is_named_text i.name) _ last) in
-    let namespace = either (is_missing i.namespace) (is_named_text i.namespace) (second_so (is_named_text i.name) _ last) (missing-flat i.namespace) (named-flat i.namespace) in
+    let namespace = either (is_missing i.namespace) (is_named_text i.namespace) (second_so (is_named_text i.name) _ last) (missing-flat i.namespace)
+    (named-flat i.namespace) in
     let metadata = members_in (member_of (codes "metadata") ms) in
     let spaced = with_given (codes "namespace") i.namespace metadata in
     let inside = object (with_given (codes "name") i.name spaced) in
@@ -108,7 +111,8 @@ object-depth i kind b h =
 abbrev AreWrittenWithin : ℕ → Table → Type 0
 AreWrittenWithin most = AllEntries (λ e. depth (fields_json e.owned) ≤ most)
 
-items-bound : (version : Json) (table : Table) (most : ℕ) → depth version ≤ most → AreWrittenWithin most table → items_depth (entry_items version table) ≤ suc most
+items-bound : (version : Json) (table : Table) (most : ℕ) → depth version ≤ most → AreWrittenWithin most table
+    → items_depth (entry_items version table) ≤ suc most
 items-bound version [] most h all = omega arith
 items-bound version (e ∷ es) most h all = let own = all.0 in max-le (omega arith) (items-bound version es most h all.1)
 
@@ -127,7 +131,8 @@ entries-depth entries v =
     let second = with_member-depth (codes "metadata") inside (members_in (Some v)) in
     omega arith
 
-managed-depth : (table : Table) (v : Json) (most : ℕ) → 1 ≤ most → depth v ≤ most → AreWrittenWithin most table → depth (with_managed_fields table v) ≤ suc (suc (suc (suc most)))
+managed-depth : (table : Table) (v : Json) (most : ℕ) → 1 ≤ most → depth v ≤ most → AreWrittenWithin most table
+    → depth (with_managed_fields table v) ≤ suc (suc (suc (suc most)))
 managed-depth [] v most one h all = omega arith
 managed-depth (e ∷ es) v most one h all =
     let named = value_at (codes "apiVersion" ∷ []) v in
@@ -138,14 +143,18 @@ managed-depth (e ∷ es) v most one h all =
     let whole = entries-depth entries v in
     omega arith
 
-all-written : (kind : Kind) (body : Body) (table : Table) → IsBodyOf kind body → AllEntries (OwnsOwnable body) table → AreWrittenWithin (suc (suc (levels kind))) table
+all-written : (kind : Kind) (body : Body) (table : Table) → IsBodyOf kind body → AllEntries (OwnsOwnable body) table
+    → AreWrittenWithin (suc (suc (levels kind))) table
 all-written kind body [] k all = tt
 all-written kind body (e ∷ es) k all = (owned-depth kind body e.owned k all.0, all-written kind body es k all.1)
 
 -- ---- the object of a state
 
-pub state-depth : (i : Identity) (kind : Kind) (s : State) → is_identity i ≡ true → is_lawful kind ≡ true → IsValidState kind s → depth (object_of_state i kind true s) ≤ suc (suc (suc (suc (suc (suc (levels kind))))))
+-- the object of a valid state, with its managers' entries, nests at most six levels more than the kind has
+pub state-depth : (i : Identity) (kind : Kind) (s : State) → is_identity i ≡ true → is_lawful kind ≡ true → IsValidState kind s
+    → depth (object_of_state i kind true s) ≤ suc (suc (suc (suc (suc (suc (levels kind))))))
 state-depth i kind s named lawful valid =
     let own = fits-depth kind (shown kind s.body []) ([], shown_fits kind s.body lawful valid.fits) in
     let whole = object-depth i kind s.body named in
-    managed-depth s.table (object_of_body i kind s.body) (suc (suc (levels kind))) (omega arith) (omega arith) (all-written kind s.body s.table valid.fits valid.table.ownable)
+    managed-depth s.table (object_of_body i kind s.body) (suc (suc (levels kind))) (omega arith) (omega arith)
+    (all-written kind s.body s.table valid.fits valid.table.ownable)

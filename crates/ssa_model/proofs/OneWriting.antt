@@ -12,13 +12,15 @@ use Rattle.ssa_model.specs.laws.OneWriting.{OneWriting, SetHasOneWriting, Writin
 use Rattle.ssa_model.specs.definitions.MemberNames.{is_below, has_rising_names, members_rise}
 use Rattle.ssa_model.specs.examples.Rows.{written}
 use Rattle.ssa_model.proofs.Ascii.{ascii-is-utf8}
-use Rattle.ssa_model.proofs.RisingNames.{apart-less, before, lower}
+use Rattle.ssa_model.proofs.RisingNames.{apart-less, before}
 use Rattle.ssa_model.proofs.SaidSets.{other-way, no-dot, is_said, value_in, said_set_says}
 use Rattle.ssa_model.proofs.Tables.{same_text-true, text-itself}
+use Rattle.ssa_model.proofs.Basics.{lower}
 
 -- ---- names below those of all members
 
-below-on : (n m : Text) (ms : Members) → before n m ≡ true → is_below m ms ≡ true → is_below n ms ≡ true
+-- a name before another that is below the members' first name is below it too
+pub below-on : (n m : Text) (ms : Members) → before n m ≡ true → is_below m ms ≡ true → is_below n ms ≡ true
 below-on n m no_members h rest = refl
 below-on n m (member l v ms) h rest = ap is_lt (nat_list_cmp_total.trans n m l (lower _ h) (lower _ rest))
 
@@ -45,7 +47,8 @@ own : (n t : Text) (v : Json) (ms : Members) → t ≡ n → member_of t (member
 own n t v ms is = ap (λ t. member_of t (member n v ms)) is ∙ ap (λ b. cond b (Some v) (member_of n ms)) (text-itself n)
 
 -- what stands under an element's text says, behind the element, what it says as a place of its own
-own-says : (n : Text) (v : Json) (ms : Members) (e : Element) (p : Path) → element_text e ≡ n → says (object (member n v ms)) (e ∷ p) ≡ is_said (value_below v p)
+own-says : (n : Text) (v : Json) (ms : Members) (e : Element) (p : Path) → element_text e ≡ n
+    → says (object (member n v ms)) (e ∷ p) ≡ is_said (value_below v p)
 own-says n v ms e p is = ap (λ o. is_said (value_in p o)) (own n (element_text e) v ms is)
 
 -- each canonical value says some path, where `{}` says its own place
@@ -69,13 +72,15 @@ first-apart n v ms ns (inl dot) none alike =
     true≢false (sym (ap is_some (own n (codes ".") v ms (sym dot.0))) ∙ alike [] ∙ ap is_some (ap (λ t. member_of t ns) (sym dot.0) ∙ none))
 first-apart n v ms ns (inr named) none alike =
     let below = some-said v named.2 in
-    true≢false (sym (own-says n v ms named.0.0 below.0 named.0.2 ∙ below.1) ∙ alike (named.0.0 ∷ below.0) ∙ ap (λ o. is_said (value_in below.0 o)) (ap (λ t. member_of t ns) named.0.2 ∙ none))
+    true≢false (sym (own-says n v ms named.0.0 below.0 named.0.2 ∙ below.1) ∙ alike (named.0.0 ∷ below.0)
+    ∙ ap (λ o. is_said (value_in below.0 o)) (ap (λ t. member_of t ns) named.0.2 ∙ none))
 
 abbrev SaysInside : Json → Type 0
 SaysInside v = (e : Element) × (p : Path) × (says v (e ∷ p) ≡ true)
 
 -- an object with members says a path below its place, unless it has `.` alone
-says-inside : (n : Text) (v : Json) (ms : Members) → AreCanonical (member n v ms) → members_rise (member n v ms) ≡ true → object (member n v ms) ≢ dot_alone → SaysInside (object (member n v ms))
+says-inside : (n : Text) (v : Json) (ms : Members) → AreCanonical (member n v ms) → members_rise (member n v ms) ≡ true → object (member n v ms) ≢ dot_alone
+    → SaysInside (object (member n v ms))
 says-inside n v ms c rise apart =
     elim c.0 as (λ m. SaysInside (object (member n v ms))) [
       | inl dot ↦ after ms c.1 (first_so (is_below n ms) _ rise) dot.0 (λ is. apart (λ i. object (member (dot.0 i) (dot.1 i) (is i))))
@@ -92,7 +97,8 @@ says-inside n v ms c rise apart =
               let other : same_text (element_text named.0.0) n ≡ false = ap (same_text (element_text named.0.0)) dot ∙ no-dot named.0.0 in (
                 named.0.0,
                 rest.0,
-                ap (λ b. is_said (value_in rest.0 (cond b (Some v) (member_of (element_text named.0.0) (member m w ms))))) other ∙ own-says m w ms named.0.0 rest.0 named.0.2 ∙ rest.1,
+                ap (λ b. is_said (value_in rest.0 (cond b (Some v) (member_of (element_text named.0.0) (member m w ms))))) other
+                    ∙ own-says m w ms named.0.0 rest.0 named.0.2 ∙ rest.1,
               )
         ]
 
@@ -132,7 +138,8 @@ module _ (n : Text) (v w : Json) (ms ns : Members) (alike : Alike (object (membe
   skipped : (shows : Option Json → Bool) (t : Text) → member_of n ms ≡ None → member_of n ns ≡ None
       → shows (member_of t (member n v ms)) ≡ shows (member_of t (member n w ns)) → shows (member_of t ms) ≡ shows (member_of t ns)
   skipped shows t first second =
-      elim (same_text t n) as (λ b. same_text t n ≡ b → shows (cond b (Some v) (member_of t ms)) ≡ shows (cond b (Some w) (member_of t ns)) → shows (member_of t ms) ≡ shows (member_of t ns)) [
+      elim (same_text t n) as (λ b. same_text t n ≡ b → shows (cond b (Some v) (member_of t ms)) ≡ shows (cond b (Some w) (member_of t ns))
+      → shows (member_of t ms) ≡ shows (member_of t ns)) [
         | true ↦ λ same _. let is = same_text-true t n same in ap shows (ap (λ t. member_of t ms) is ∙ first ∙ sym second ∙ ap (λ t. member_of t ns) (sym is))
         | false ↦ λ _ here. here
       ] refl
@@ -151,7 +158,8 @@ mutual
   one-value (object ms) (list ws) c d r q alike = absurd d
   one-value (object ms) (object ns) c d r q alike = ap object (one-members ms ns c d r q alike)
 
-  one-members : (ms ns : Members) → AreCanonical ms → AreCanonical ns → members_rise ms ≡ true → members_rise ns ≡ true → Alike (object ms) (object ns) → ms ≡ ns
+  one-members : (ms ns : Members) → AreCanonical ms → AreCanonical ns → members_rise ms ≡ true → members_rise ns ≡ true → Alike (object ms) (object ns)
+      → ms ≡ ns
   one-members no_members no_members c d r q alike = refl
   one-members no_members (member m w ns) c d r q alike = absurd (first-apart m w ns no_members d.0 refl (λ p. sym (alike p)))
   one-members (member n v ms) no_members c d r q alike = absurd (first-apart n v ms no_members c.0 refl alike)
@@ -165,24 +173,36 @@ mutual
             let value = value-same n v w ms ns both c.0 (subst (λ t. IsMember t w) (sym name) d.0) (value-rises n v ms r) (value-rises n w ns second)
             (λ a b. one-value v w a b (value-rises n v ms r) (value-rises n w ns second)) in
             let rest = one-members ms ns c.1 d.1 (later-rise n v ms r) (later-rise n w ns second)
-            (rest-alike n v w ms ns both (none-of n ms (first_so (is_below n ms) _ r) (later-rise n v ms r)) (none-of n ns (first_so (is_below n ns) _ second) (later-rise n w ns second))) in
+            (rest-alike n v w ms ns both (none-of n ms (first_so (is_below n ms) _ r) (later-rise n v ms r))
+            (none-of n ns (first_so (is_below n ns) _ second) (later-rise n w ns second))) in
             λ i. member (name i) (value i) (rest i)
         | Greater ↦ λ is.
             let above : is_lt (slice_cmp nat_cmp m n) ≡ true = ap is_lt (nat_list_cmp_total.antisymm m n ∙ ap ordering_reverse is) in
             absurd (first-apart m w ns (member n v ms) d.0 (none-of m (member n v ms) above r) (λ p. sym (alike p)))
       ] refl
 
+-- two canonical values in which names rise, and that say the same paths, are one
 pub one_writing : OneWriting
 one_writing = one-value
 
+-- two writings of a set in which names rise are one
 pub set_has_one_writing : SetHasOneWriting
 set_has_one_writing s v w a b r q = one-value v w a.canonical b.canonical r q (λ p. a.says_set p ∙ sym (b.says_set p))
 
 -- ---- the premises are met
 
+-- the sample's writing is canonical
 pub written_canonical : IsCanonical written
-written_canonical = (inr ((field (codes "spec"), ascii-is-utf8 (codes "spec") refl, refl), (λ e. cc), (inl (refl, refl), (inr ((field (codes "replicas"), ascii-is-utf8 (codes "replicas") refl, refl), (λ e. cc), tt), tt))), tt)
+written_canonical = (
+  inr (
+    (field (codes "spec"), ascii-is-utf8 (codes "spec") refl, refl),
+    (λ e. cc),
+    (inl (refl, refl), (inr ((field (codes "replicas"), ascii-is-utf8 (codes "replicas") refl, refl), (λ e. cc), tt), tt)),
+  ),
+  tt,
+)
 
+-- the sample's writing is that of a set of two paths, and its names rise
 pub writing_is_met : WritingIsMet
 writing_is_met = (record { canonical = written_canonical; says_set = λ p. said_set_says (λ t. Ok written) written p refl refl }, refl)
 
@@ -197,10 +217,17 @@ either-way true false = refl
 either-way false true = refl
 either-way false false = refl
 
+-- names out of order make a second canonical value that says the same paths
 pub order_tells : OrderTells
 order_tells = (
-  (inr ((field (codes "a"), ascii-is-utf8 (codes "a") refl, refl), (λ e. cc), tt), (inr ((field (codes "b"), ascii-is-utf8 (codes "b") refl, refl), (λ e. cc), tt), tt)),
-  (inr ((field (codes "b"), ascii-is-utf8 (codes "b") refl, refl), (λ e. cc), tt), (inr ((field (codes "a"), ascii-is-utf8 (codes "a") refl, refl), (λ e. cc), tt), tt)),
+  (
+    inr ((field (codes "a"), ascii-is-utf8 (codes "a") refl, refl), (λ e. cc), tt),
+    (inr ((field (codes "b"), ascii-is-utf8 (codes "b") refl, refl), (λ e. cc), tt), tt),
+  ),
+  (
+    inr ((field (codes "b"), ascii-is-utf8 (codes "b") refl, refl), (λ e. cc), tt),
+    (inr ((field (codes "a"), ascii-is-utf8 (codes "a") refl, refl), (λ e. cc), tt), tt),
+  ),
   alike,
   (λ e. true≢false (ap has_rising_names e)),
   refl,

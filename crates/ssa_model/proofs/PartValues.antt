@@ -31,6 +31,7 @@ cmp-below : (p q r : Path) → path_cmp (p ++ q) (p ++ r) ≡ path_cmp q r
 cmp-below [] q r = refl
 cmp-below (e ∷ p) q r = ap (λ o. ordering_then o (path_cmp (p ++ q) (p ++ r))) (element-tied e) ∙ cmp-below p q r
 
+-- two paths with one beginning are the same exactly where what follows it is
 pub same-below : (p q r : Path) → same_path (p ++ q) (p ++ r) ≡ same_path q r
 same-below p q r = ap is_eq (cmp-below p q r)
 
@@ -42,7 +43,8 @@ module _ {X : Type 0} (p : Path) where
   abbrev shifted : List (Path × X) → List (Path × X)
   shifted es = filter_map (λ e. shifted_one (rest_of p e.0) e.1) es
 
-  below-cons : (q : Path) (o : Option Path) (x : X) (es : List (Path × X)) → ((s : Path) → o ≡ Some s → is_lt (path_cmp q s) ≡ true) → below_all path_cmp q es ≡ true
+  below-cons : (q : Path) (o : Option Path) (x : X) (es : List (Path × X)) → ((s : Path) → o ≡ Some s → is_lt (path_cmp q s) ≡ true)
+      → below_all path_cmp q es ≡ true
       → below_all path_cmp q (cons_option (shifted_one o x) es) ≡ true
   below-cons q None x es a h = h
   below-cons q (Some s) x es a h = λ i. a s refl i && h i
@@ -70,8 +72,10 @@ module _ {X : Type 0} (p : Path) where
   find-shifted r [] = refl
   find-shifted r (e ∷ es) =
       let rest = find-shifted r es in
-      elim (rest_of p e.0) as (λ o. rest_of p e.0 ≡ o → find path_cmp r (cons_option (shifted_one o e.1) (shifted es)) ≡ cond (same_path (p ++ r) e.0) (Some e.1) (find path_cmp (p ++ r) es)) [
-        | Some s ↦ λ is. (λ i. cond (sym (same-below p r s) i) (Some e.1) (rest i)) ∙ ap (λ q. cond (same_path (p ++ r) q) (Some e.1) (find path_cmp (p ++ r) es)) (rest_of-is p e.0 s is)
+      elim (rest_of p e.0) as (λ o. rest_of p e.0 ≡ o → find path_cmp r (cons_option (shifted_one o e.1) (shifted es))
+      ≡ cond (same_path (p ++ r) e.0) (Some e.1) (find path_cmp (p ++ r) es)) [
+        | Some s ↦ λ is. (λ i. cond (sym (same-below p r s) i) (Some e.1) (rest i))
+            ∙ ap (λ q. cond (same_path (p ++ r) q) (Some e.1) (find path_cmp (p ++ r) es)) (rest_of-is p e.0 s is)
         | None ↦ λ is. rest ∙ by_test (same_path (p ++ r) e.0)
             (λ t. absurd (none-some r (sym is ∙ ap (rest_of p) (sym (same_path-true (p ++ r) e.0 t)) ∙ rest_of-append p r)))
             (λ f. sym (ap (λ b. cond b (Some e.1) (find path_cmp (p ++ r) es)) f))
@@ -93,6 +97,7 @@ if-none : (b : Bool) → ◌≡◌ {A = Option Text} (if b then None else None) 
 if-none true = refl
 if-none false = refl
 
+-- where something follows a beginning, the parent is the parent of what follows, behind that beginning
 pub parent-prefixed : (p : Path) (x : Element) (s : Path) → parent (p ++ x ∷ s) ≡ p ++ parent (x ∷ s)
 parent-prefixed [] x s = refl
 parent-prefixed (e ∷ []) x s = refl
@@ -100,7 +105,8 @@ parent-prefixed (e ∷ f ∷ p) x s = ap (λ q. e ∷ q) (parent-prefixed (f ∷
 
 at-shifted : (p r s : Path) → name_of r s ≡ name_of (p ++ r) (p ++ s)
 at-shifted p r [] =
-    if-none (same_path [] r) ∙ sym (ap (λ n. if same_path (parent (p ++ [])) (p ++ r) then n else None) (name-prefixed p r []) ∙ if-none (same_path (parent (p ++ [])) (p ++ r)))
+    if-none (same_path [] r) ∙ sym (ap (λ n. if same_path (parent (p ++ [])) (p ++ r) then n else None) (name-prefixed p r [])
+    ∙ if-none (same_path (parent (p ++ [])) (p ++ r)))
 at-shifted p r (x ∷ s) =
     (λ i. if sym (ap (λ q. same_path q (p ++ r)) (parent-prefixed p x s) ∙ same-below p (parent (x ∷ s)) r) i then sym (name-prefixed p r (x ∷ s)) i else None)
 
@@ -122,11 +128,13 @@ at-apart p r (e ∷ q) off =
     (λ t. let s = parent-begins q e p r (same_path-true (parent (e ∷ q)) (p ++ r) t) in absurd (none-some s.0 (sym off ∙ s.1)))
     (λ f. ap (λ b. if b then name_below (p ++ r) (e ∷ q) else None) f)
 
-names-shifted : {X : Type 0} (p r : Path) (es : List (Path × X)) → filter_map (name_of r) (map (λ e. e.0) (shifted p es)) ≡ filter_map (name_of (p ++ r)) (map (λ e. e.0) es)
+names-shifted : {X : Type 0} (p r : Path) (es : List (Path × X))
+    → filter_map (name_of r) (map (λ e. e.0) (shifted p es)) ≡ filter_map (name_of (p ++ r)) (map (λ e. e.0) es)
 names-shifted p r [] = refl
 names-shifted {X} p r (e ∷ es) =
     let rest = names-shifted p r es in
-    elim (rest_of p e.0) as (λ o. rest_of p e.0 ≡ o → filter_map (name_of r) (map (λ e. e.0) (cons_option (shifted_one p o e.1) (shifted p es))) ≡ cons_option (name_of (p ++ r) e.0) (filter_map (name_of (p ++ r)) (map (λ e. e.0) es))) [
+    elim (rest_of p e.0) as (λ o. rest_of p e.0 ≡ o → filter_map (name_of r) (map (λ e. e.0) (cons_option (shifted_one p o e.1) (shifted p es)))
+    ≡ cons_option (name_of (p ++ r) e.0) (filter_map (name_of (p ++ r)) (map (λ e. e.0) es))) [
       | Some s ↦ λ is. (λ i. cons_option ((at-shifted p r s ∙ ap (name_of (p ++ r)) (rest_of-is p e.0 s is)) i) (rest i))
       | None ↦ λ is. rest ∙ sym (ap (λ o. cons_option o (filter_map (name_of (p ++ r)) (map (λ e. e.0) es))) (at-apart p r e.0 is))
     ] refl
@@ -136,11 +144,13 @@ names-part w p r = ap (λ b. names_below b r) (below-moved w p) ∙ names-shifte
 
 -- ---- values
 
-members-alike : (f g : Path → Json) (p q : Path) → ((n : Text) → f (p ++ field n ∷ []) ≡ g (q ++ field n ∷ [])) → (ns : List Text) → entry_members f p ns ≡ entry_members g q ns
+members-alike : (f g : Path → Json) (p q : Path) → ((n : Text) → f (p ++ field n ∷ []) ≡ g (q ++ field n ∷ [])) → (ns : List Text)
+    → entry_members f p ns ≡ entry_members g q ns
 members-alike f g p q alike [] = refl
 members-alike f g p q alike (n ∷ ns) = λ i. member n (alike n i) (members-alike f g p q alike ns i)
 
-items-alike : (f g : Path → Json) (p q : Path) → ((e : Element) → f (p ++ e ∷ []) ≡ g (q ++ e ∷ [])) → (es : List Element) → shown_items f p es ≡ shown_items g q es
+items-alike : (f g : Path → Json) (p q : Path) → ((e : Element) → f (p ++ e ∷ []) ≡ g (q ++ e ∷ [])) → (es : List Element)
+    → shown_items f p es ≡ shown_items g q es
 items-alike f g p q alike [] = refl
 items-alike f g p q alike (e ∷ es) = λ i. item (alike e i) (items-alike f g p q alike es i)
 
@@ -156,15 +166,18 @@ module _ (w : Body) (p : Path) where
     shown-part (dict_of k) r =
         ap object
         (ap (entry_members (shown k (below w p)) r) (names-part w p r)
-        ∙ members-alike (shown k (below w p)) (shown k w) r (p ++ r) (λ n. shown-part k (r ++ field n ∷ []) ∙ ap (shown k w) (sym (append_assoc p r (field n ∷ [])))) (names_below w (p ++ r)))
+        ∙ members-alike (shown k (below w p)) (shown k w) r (p ++ r) (λ n. shown-part k (r ++ field n ∷ [])
+        ∙ ap (shown k w) (sym (append_assoc p r (field n ∷ [])))) (names_below w (p ++ r)))
     shown-part (kinds.set_of k) r =
         ap list
         (ap (λ o. shown_items (λ q. content_value (get (below w p) q)) r (order_at o)) (get-below w p r)
-        ∙ items-alike (λ q. content_value (get (below w p) q)) (λ q. content_value (get w q)) r (p ++ r) (λ e. content-part (r ++ e ∷ []) ∙ ap (λ q. content_value (get w q)) (sym (append_assoc p r (e ∷ [])))) (order_at (get w (p ++ r))))
+        ∙ items-alike (λ q. content_value (get (below w p) q)) (λ q. content_value (get w q)) r (p ++ r) (λ e. content-part (r ++ e ∷ [])
+        ∙ ap (λ q. content_value (get w q)) (sym (append_assoc p r (e ∷ [])))) (order_at (get w (p ++ r))))
     shown-part (items_of ns fs) r =
         ap list
         (ap (λ o. shown_items (λ q. object (shown_fields fs (below w p) q)) r (order_at o)) (get-below w p r)
-        ∙ items-alike (λ q. object (shown_fields fs (below w p) q)) (λ q. object (shown_fields fs w q)) r (p ++ r) (λ e. ap object (fields-part fs (r ++ e ∷ []) ∙ ap (shown_fields fs w) (sym (append_assoc p r (e ∷ []))))) (order_at (get w (p ++ r))))
+        ∙ items-alike (λ q. object (shown_fields fs (below w p) q)) (λ q. object (shown_fields fs w q)) r (p ++ r)
+        (λ e. ap object (fields-part fs (r ++ e ∷ []) ∙ ap (shown_fields fs w) (sym (append_assoc p r (e ∷ []))))) (order_at (get w (p ++ r))))
 
     fields-part : (fs : Fields) (r : Path) → shown_fields fs (below w p) r ≡ shown_fields fs w (p ++ r)
     fields-part no_fields r = refl
@@ -173,6 +186,7 @@ module _ (w : Body) (p : Path) where
         then member n ((shown-part k (r ++ field n ∷ []) ∙ ap (shown k w) (sym (append_assoc p r (field n ∷ [])))) i) (fields-part fs r i)
         else fields-part fs r i
 
+-- the value of a part is the value that the body has at the part's path
 pub part_is_value : PartIsValue
 part_is_value (of_kind k) w p = shown-part w p k [] ∙ ap (shown k w) (append-nil p)
 part_is_value (item_of ns fs) w p = ap object (fields-part w p fs [] ∙ ap (shown_fields fs w) (append-nil p))

@@ -30,11 +30,13 @@ use Rattle.ssa_model.proofs.PutParts.{get-below}
 abbrev IsLawfulKind : Kind → Type 0
 IsLawfulKind k = (is_ordered k ≡ true) × (is_keyed k ≡ true)
 
+-- the place is of a kind, or of items, whose fields' names rise and whose map lists have key fields
 abbrev pub IsLawfulPlace : Place → Type 0
 IsLawfulPlace (of_kind k) = IsLawfulKind k
 IsLawfulPlace (item_of ns fs) = (are_ordered fs ≡ true) × (are_keyed fs ≡ true)
 IsLawfulPlace (value_of s) = Unit {0}
 
+-- the root's place of a lawful kind is such a place
 pub lawful-kind : (kind : Kind) → is_lawful kind ≡ true → IsLawfulPlace (of_kind kind)
 lawful-kind kind h =
     let later = second_so (is_root_kind kind) _ h in
@@ -59,6 +61,7 @@ lawful-below (of_kind (items_of ns fs)) (key ks) r h is =
 lawful-below (item_of ns fs) (field n) r h is = let k = kind-placed (kind_of n fs) r is in subst IsLawfulPlace k.1.1 (field-lawful fs n k.0 h.0 h.1 k.1.0)
 lawful-below _ _ r h is = absurd (none-some r is)
 
+-- each place below such a place is one
 pub lawful-at : (p : Path) (q r : Place) → IsLawfulPlace q → place_at q p ≡ Some r → IsLawfulPlace r
 lawful-at [] q r h at = subst IsLawfulPlace (same_Some q r at) h
 lawful-at (e ∷ p) q r h at =

@@ -14,9 +14,11 @@ use Rattle.ssa_model.proofs.PathMaps.{has-paths, same_path-true}
 use Rattle.ssa_model.proofs.Tables.{either}
 use Rattle.ssa_model.proofs.Tables.{either}
 
+-- the body after is the body before with another item, and it is so with another list around the item
 pub item_replaced : ItemReplaced
 item_replaced = (same_entries_map _ _ refl, same_entries_map _ _ refl)
 
+-- with what the body after has at another item, the body before is as it was
 pub other_part_kept : OtherPartKept
 other_part_kept = same_entries_map _ _ refl
 
@@ -39,6 +41,7 @@ tells-below q told =
     (λ order. absurd (true≢false (sym (sym (has-paths d.order q) ∙ order))))
     (λ put. absurd (true≢false (sym (sym (has-paths d.put q) ∙ put))))))
 
+-- the two bodies and their record meet what the laws ask
 pub place_met : IsPlaceMet
 place_met = record {
   takes = record {

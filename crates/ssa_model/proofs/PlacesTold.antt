@@ -13,17 +13,21 @@ use Rattle.ssa_model.proofs.Fitting.{same_element-true}
 use Rattle.ssa_model.proofs.PathMaps.{same_path-true, same_path-itself}
 use Rattle.ssa_model.proofs.Places.{below}
 use Rattle.ssa_model.proofs.Pruned.{under-append, under-rest, under-trans, beginning, above}
-use Rattle.ssa_model.proofs.Tables.{either, or_true, true_or, yes_no, under-itself}
+use Rattle.ssa_model.proofs.Tables.{either, true_or, yes_no, under-itself}
+use Rattle.ssa_model.proofs.Basics.{or_true}
 
+-- paths with their contents
 abbrev pub Entries : Type 0
 Entries = List (Path × Content)
 
 -- ---- answers of lists
 
+-- of two lists in a row, the first that has the path answers
 pub find-both : (xs ys : Entries) (x : Path) → find path_cmp x (xs ++ ys) ≡ option_or (find path_cmp x xs) (find path_cmp x ys)
 find-both [] ys x = refl
 find-both (e ∷ xs) ys x =
-    elim (same_path x e.0) as (λ t. cond t (Some e.1) (find path_cmp x (xs ++ ys)) ≡ option_or (cond t (Some e.1) (find path_cmp x xs)) (find path_cmp x ys)) [ true ↦ refl | false ↦ find-both xs ys x ]
+    elim (same_path x e.0) as (λ t. cond t (Some e.1) (find path_cmp x (xs ++ ys)) ≡ option_or (cond t (Some e.1) (find path_cmp x xs)) (find path_cmp x ys))
+    [ true ↦ refl | false ↦ find-both xs ys x ]
 
 merged : (u v : Bool) (g : Option Content) → option_or (cond u g None) (cond v g None) ≡ cond (u || v) g None
 merged true true None = refl
@@ -61,7 +65,9 @@ module _ (kind : Kind) (b : Body) (k : IsBodyOf kind b) where
   abbrev pub TellsBelow : Path → List Element → Entries → Type 0
   TellsBelow p es rs = (x : Path) → find path_cmp x rs ≡ cond (list_any (λ e. under (p ++ e ∷ []) x) es) (get b x) None
 
-  pub told-next : (p : Path) (e : Element) (es : List Element) (xs ys : Entries) → Tells (p ++ e ∷ []) xs → TellsBelow p es ys → TellsBelow p (e ∷ es) (xs ++ ys)
+  -- the entries at and below one element, and those of the elements behind it, are those of all these elements
+  pub told-next : (p : Path) (e : Element) (es : List Element) (xs ys : Entries) → Tells (p ++ e ∷ []) xs → TellsBelow p es ys
+      → TellsBelow p (e ∷ es) (xs ++ ys)
   told-next p e es xs ys g h x =
       find-both xs ys x ∙ (λ i. option_or (g x i) (h x i)) ∙ merged (under (p ++ e ∷ []) x) (list_any (λ f. under (p ++ f ∷ []) x) es) (get b x)
 
@@ -73,7 +79,8 @@ module _ (kind : Kind) (b : Body) (k : IsBodyOf kind b) where
       ∙ reach later (under (p ++ e ∷ []) x || later) (get b x) (λ t. or_true (under (p ++ e ∷ []) x) later t)
       (λ t one. either (under (p ++ e ∷ []) x) later t (λ u. yes_no (has b (p ++ e ∷ [])) (above kind b k (p ++ e ∷ []) x one u) gone) (λ l. l))
 
-  first_element : (p x r : Path) (es : List Element) → x ≡ p ++ r → same_path x p ≡ false → has b x ≡ true → ((e : Element) → has b (p ++ e ∷ []) ≡ true → is_among e es ≡ true) → list_any (λ e. under (p ++ e ∷ []) x) es ≡ true
+  first_element : (p x r : Path) (es : List Element) → x ≡ p ++ r → same_path x p ≡ false → has b x ≡ true
+      → ((e : Element) → has b (p ++ e ∷ []) ≡ true → is_among e es ≡ true) → list_any (λ e. under (p ++ e ∷ []) x) es ≡ true
   first_element p x [] es is other one all = yes_no (same_path x p) (ap (λ y. same_path y p) (is ∙ append-nil p) ∙ same_path-itself p) other
   first_element p x (e ∷ r) es is other one all =
       let longer : (p ++ e ∷ []) ++ r ≡ x = append_assoc p (e ∷ []) r ∙ sym is in
@@ -81,7 +88,8 @@ module _ (kind : Kind) (b : Body) (k : IsBodyOf kind b) where
       (ap (under (p ++ e ∷ [])) (sym longer) ∙ under-append (p ++ e ∷ []) r)
 
   -- what stands at a path, and what stands at and below all elements there
-  pub told-branch : (p : Path) (c : Content) (es : List Element) (rs : Entries) → get b p ≡ Some c → TellsBelow p es rs → ((e : Element) → has b (p ++ e ∷ []) ≡ true → is_among e es ≡ true) → Tells p ((p, c) ∷ rs)
+  pub told-branch : (p : Path) (c : Content) (es : List Element) (rs : Entries) → get b p ≡ Some c → TellsBelow p es rs
+      → ((e : Element) → has b (p ++ e ∷ []) ≡ true → is_among e es ≡ true) → Tells p ((p, c) ∷ rs)
   told-branch p c es rs here told all x =
       elim (same_path x p) as (λ t. same_path x p ≡ t → cond t (Some c) (find path_cmp x rs) ≡ cond (under p x) (get b x) None) [
         | true ↦ λ t.
@@ -92,5 +100,6 @@ module _ (kind : Kind) (b : Body) (k : IsBodyOf kind b) where
       ] refl
 
   -- a place below which the kind has none
-  pub told-alone : (p : Path) (r : Place) (c : Content) → place_at (of_kind kind) p ≡ Some r → ((e : Element) (s : Place) → place_below r e ≡ Some s → ⊥) → get b p ≡ Some c → Tells p ((p, c) ∷ [])
+  pub told-alone : (p : Path) (r : Place) (c : Content) → place_at (of_kind kind) p ≡ Some r → ((e : Element) (s : Place) → place_below r e ≡ Some s → ⊥)
+      → get b p ≡ Some c → Tells p ((p, c) ∷ [])
   told-alone p r c at none here = told-branch p c [] [] here (λ x. refl) (λ e one. let s = below kind b k p r e at one in absurd (none e s.place s.below))

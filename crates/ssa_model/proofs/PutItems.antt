@@ -17,11 +17,12 @@ use Rattle.ssa_model.specs.definitions.Carry.{filled, end_of, place_in, is_place
 use Rattle.ssa_model.specs.laws.RecordWalks.{IsTree}
 use Rattle.ssa_model.proofs.Fitting.{same_element-true}
 use Rattle.ssa_model.proofs.PathMaps.{same_path-true, same_path-itself, has-set_of, has-paths}
-use Rattle.ssa_model.proofs.Tables.{or_true, true_or, yes_no, no, element-itself}
+use Rattle.ssa_model.proofs.Tables.{true_or, yes_no, element-itself}
 use Rattle.ssa_model.proofs.Tests.{by_test}
 use Rattle.ssa_model.proofs.FilledLists.{Gives, filled_is}
 use Rattle.ssa_model.proofs.Beginnings.{parent-push, last-push, parent-last}
 use Rattle.ssa_model.proofs.PutParts.{AllAt, IsPut, all-puts, get-puts}
+use Rattle.ssa_model.proofs.Basics.{or_true, not_true as no}
 
 -- ---- orders
 
@@ -33,10 +34,12 @@ filter-members p q (e ∷ es) h =
     let rest = filter-members p q es (λ f one. h f (or_true (same_element f e) (is_among f es) one)) in
     λ i. cond (here i) (e ∷ rest i) (rest i)
 
+-- elements that differ differ the other way too
 pub element-apart : (e f : Element) → same_element e f ≡ false → same_element f e ≡ false
 element-apart e f h = by_test (same_element f e) (λ t. yes_no (same_element e f) (ap (same_element e) (same_element-true f e t) ∙ element-itself e) h) (λ k. k)
 
-among-middle : (xs ys : List Element) (y : Element) → is_among y (xs ++ y ∷ ys) ≡ true
+-- an element between two lists is among all
+pub among-middle : (xs ys : List Element) (y : Element) → is_among y (xs ++ y ∷ ys) ≡ true
 among-middle [] ys y = true_or (same_element y y) (is_among y ys) (element-itself y)
 among-middle (x ∷ xs) ys y = or_true (same_element y x) (is_among y (xs ++ y ∷ ys)) (among-middle xs ys y)
 
@@ -44,10 +47,13 @@ among-apart : (x y : Element) (zs : List Element) → is_among x zs ≡ false �
 among-apart x y zs off one = by_test (same_element x y) (λ t. yes_no (is_among x zs) (ap (λ e. is_among e zs) (same_element-true x y t) ∙ one) off) (λ k. k)
 
 -- the place of an element of a list that names each once
-pub position-middle : (i : ℕ) (xs ys : List Element) (y : Element) → are_distinct (xs ++ y ∷ ys) ≡ true → position_from (same_element y) i (xs ++ y ∷ ys) ≡ Some (i + length xs)
-position-middle i [] ys y h = ap (λ b. cond b (Some i) (position_from (same_element y) (i + 1) ys)) (element-itself y) ∙ ap (λ n. Some n) (let e : i ≡ i + 0 = omega arith in e)
+pub position-middle : (i : ℕ) (xs ys : List Element) (y : Element) → are_distinct (xs ++ y ∷ ys) ≡ true
+    → position_from (same_element y) i (xs ++ y ∷ ys) ≡ Some (i + length xs)
+position-middle i [] ys y h = ap (λ b. cond b (Some i) (position_from (same_element y) (i + 1) ys)) (element-itself y)
+    ∙ ap (λ n. Some n) (let e : i ≡ i + 0 = omega arith in e)
 position-middle i (x ∷ xs) ys y h =
-    let off = among-apart x y (xs ++ y ∷ ys) (no (is_among x (xs ++ y ∷ ys)) (first_so (not (is_among x (xs ++ y ∷ ys))) (are_distinct (xs ++ y ∷ ys)) h)) (among-middle xs ys y) in
+    let off = among-apart x y (xs ++ y ∷ ys) (no (is_among x (xs ++ y ∷ ys)) (first_so (not (is_among x (xs ++ y ∷ ys))) (are_distinct (xs ++ y ∷ ys)) h))
+    (among-middle xs ys y) in
     ap (λ b. cond b (Some i) (position_from (same_element y) (i + 1) (xs ++ y ∷ ys))) (element-apart x y off)
     ∙ position-middle (i + 1) xs ys y (second_so (not (is_among x (xs ++ y ∷ ys))) (are_distinct (xs ++ y ∷ ys)) h)
     ∙ ap (λ n. Some n) (let e : i + 1 + length xs ≡ i + length (x ∷ xs) = omega arith in e)
@@ -56,6 +62,7 @@ position-middle i (x ∷ xs) ys y h =
 abbrev pub StandsAt : Element → ℕ → ℕ → List Element → Type 0
 StandsAt e i j fs = (xs : List Element) × ((ys : List Element) × (fs ≡ xs ++ e ∷ ys) × (i + length xs ≡ j))
 
+-- the place that is found for an element is one where it stands
 pub position-stands : (e : Element) (i j : ℕ) (fs : List Element) → position_from (same_element e) i fs ≡ Some j → StandsAt e i j fs
 position-stands e i j [] h = absurd (none-some j h)
 position-stands e i j (f ∷ fs) h =
@@ -86,13 +93,21 @@ placed-place q i false o h = absurd (true≢false (sym h))
 abbrev pub PutAt : Body → Body → List (Path × Part) → Path → ℕ → Type 0
 PutAt v w es q j = (g : Path) × (put_item es q j ≡ last_element g) × (parent g ≡ q) × (item_place w g ≡ Some j) × (is_top v g ≡ true)
 
+-- at a place, nothing is put, or an item that only the second body has and that has this place there
 pub item_case : (v w : Body) (es : List (Path × Part)) (q : Path) (j : ℕ) → AllAt (IsPut v w) es → (put_item es q j ≡ None) ⊎ PutAt v w es q j
 item_case v w [] q j h = inl refl
 item_case v w (e ∷ es) q j h =
     by_test (is_place j (place_in q e))
     (λ t.
     let at = placed-place q j (same_path (parent e.0) q) e.1.place t in
-    inr (e.0, ap (λ b. if b then last_element e.0 else put_item es q j) t, same_path-true (parent e.0) q at.0, sym (ap (λ (x : Part). x.place) h.0.0) ∙ at.1, h.0.1))
+    inr (
+      e.0,
+      ap (λ b. if b then last_element e.0 else put_item es q j) t,
+      same_path-true (parent e.0) q at.0,
+      sym (ap (λ (x : Part). x.place) h.0.0)
+          ∙ at.1,
+      h.0.1,
+    ))
     (λ f.
     let off = ap (λ b. if b then last_element e.0 else put_item es q j) f in
     elim (item_case v w es q j h.1) [
@@ -106,7 +121,8 @@ place_of w g e = position_from (same_element e) 0 (order_at (get w (parent g)))
 
 some-last : (w : Body) (g : Path) (j : ℕ) → item_place w g ≡ Some j → (e : Element) × (last_element g ≡ Some e) × (place_of w g e ≡ Some j)
 some-last w g j h =
-    elim (last_element g) as (λ o. last_element g ≡ o → (elim o [ None ↦ None | Some e ↦ place_of w g e ]) ≡ Some j → (e : Element) × (last_element g ≡ Some e) × (place_of w g e ≡ Some j)) [
+    elim (last_element g) as (λ o. last_element g ≡ o → (elim o [ None ↦ None | Some e ↦ place_of w g e ]) ≡ Some j → (e : Element)
+    × (last_element g ≡ Some e) × (place_of w g e ≡ Some j)) [
       | None ↦ λ is k. absurd (none-some j k)
       | Some e ↦ λ is k. (e, is, k)
     ] refl h
@@ -126,14 +142,17 @@ item_missed v w (e ∷ es) q j h g x found up place none =
     (λ same.
     let is : e.1 ≡ x = same_Some e.1 x (sym (ap (λ b. cond b (Some e.1) (find path_cmp g es)) same) ∙ found) in
     let here : same_path (parent e.0) q ≡ true = ap (λ p. same_path p q) (sym (ap parent (same_path-true g e.0 same)) ∙ up) ∙ same_path-itself q in
-    yes_no (is_place j (place_in q e)) ((λ i. is_place j (if here i then e.1.place else None)) ∙ ap (is_place j) (ap (λ (y : Part). y.place) is ∙ place) ∙ (let z : (j == j) ≡ true = grind (arith, nat_tests) in z)) f)
+    yes_no (is_place j (place_in q e)) ((λ i. is_place j (if here i then e.1.place else None)) ∙ ap (is_place j) (ap (λ (y : Part). y.place) is ∙ place)
+    ∙ (let z : (j == j) ≡ true = grind (arith, nat_tests) in z)) f)
     (λ off.
-    item_missed v w es q j h.1 g x (sym (ap (λ b. cond b (Some e.1) (find path_cmp g es)) off) ∙ found) up place (sym (ap (λ b. if b then last_element e.0 else put_item es q j) f) ∙ none)))
+    item_missed v w es q j h.1 g x (sym (ap (λ b. cond b (Some e.1) (find path_cmp g es)) off)
+    ∙ found) up place (sym (ap (λ b. if b then last_element e.0 else put_item es q j) f) ∙ none)))
 
 no-place : (j : ℕ) (o : Option ℕ) (is : List ℕ) → end_of (cons_option o is) ≤ j → (is_place j o ≡ false) × (end_of is ≤ j)
 no-place j None is h = (refl, h)
 no-place j (Some i) is h = ((let z : (i == j) ≡ false = grind (arith, nat_tests) in z), omega arith)
 
+-- from the end of the given places on nothing is put
 pub item_end : (es : List (Path × Part)) (q : Path) (j : ℕ) → end_of (filter_map (place_in q) es) ≤ j → put_item es q j ≡ None
 item_end [] q j h = refl
 item_end (e ∷ es) q j h =
@@ -142,7 +161,8 @@ item_end (e ∷ es) q j h =
 
 -- ---- a list of both bodies
 
-module _ (v w : Body) (a : IsTree v) (b : IsTree w) (q : Path) (es fs : List Element) (is_es : get v q ≡ Some (list_branch es)) (is_fs : get w q ≡ Some (list_branch fs)) where
+module _ (v w : Body) (a : IsTree v) (b : IsTree w) (q : Path) (es fs : List Element) (is_es : get v q ≡ Some (list_branch es))
+    (is_fs : get w q ≡ Some (list_branch fs)) where
   items_v : (e : Element) → is_among e es ≡ (is_item_element e && has v (q ++ e ∷ []))
   items_v e = sym (ap (λ o. is_among e (order_at o)) is_es) ∙ a.items q e
 
@@ -165,7 +185,8 @@ module _ (v w : Body) (a : IsTree v) (b : IsTree w) (q : Path) (es fs : List Ele
       let both = sym (items_v e) ∙ one in
       let item = first_so (is_item_element e) (has v p) both in
       let there = second_so (is_item_element e) (has v p) both in
-      ap not (has-set_of (paths v) (is_top w) p ∙ (λ i. (sym (has-paths v p) ∙ there) i && (not (has w p) && has w (parent-push q e i))) ∙ (λ i. not (has w p) && has_w i) ∙ and-true (not (has w p)))
+      ap not (has-set_of (paths v) (is_top w) p ∙ (λ i. (sym (has-paths v p) ∙ there) i && (not (has w p) && has w (parent-push q e i)))
+      ∙ (λ i. not (has w p) && has_w i) ∙ and-true (not (has w p)))
       ∙ not-not (has w p) ∙ sym (items_w e ∙ (λ i. item i && has w p))
 
   abbrev at : ℕ → Option Element
@@ -208,15 +229,18 @@ module _ (v w : Body) (a : IsTree v) (b : IsTree w) (q : Path) (es fs : List Ele
       ∙ ap (λ p. position_from (same_element y) 0 (order_at (get w p))) (parent-push q y)
       ∙ ap (position_from (same_element y) 0) (order_is ∙ sym split)
       ∙ position-middle 0 xs ys y distinct ∙ ap (λ n. Some n) (let z : 0 + length xs ≡ length xs = omega arith in z) in
-      item_missed v w (puts v w).entries q (length xs) (all-puts v w) g (part_at w g) (get-puts v w g (second_so (is_item_element y) (has w g) both) top) (parent-push q y) place none
+      item_missed v w (puts v w).entries q (length xs) (all-puts v w) g (part_at w g) (get-puts v w g (second_so (is_item_element y) (has w g) both) top)
+      (parent-push q y) place none
 
+  -- the places give the items of the second list that the first has not, each where it stands
   pub gives : (i : ℕ) (xs ys : List Element) → length xs ≡ i → xs ++ ys ≡ fs → Gives at (λ e. is_among e es) i ys
   gives i xs [] n split = λ j h. elim (item_case v w (puts v w).entries q j (all-puts v w)) [
     | inl none ↦ none
     | inr one ↦
         let f = found j one in
         let s = f.3 in
-        let len : length fs ≡ length s.0 + (length s.1.0 + 1) = ap length s.1.1 ∙ length-append s.0 (f.0 ∷ s.1.0) ∙ (let z : length s.0 + length (f.0 ∷ s.1.0) ≡ length s.0 + (length s.1.0 + 1) = omega arith in z) in
+        let len : length fs ≡ length s.0 + (length s.1.0 + 1) = ap length s.1.1 ∙ length-append s.0 (f.0 ∷ s.1.0)
+        ∙ (let z : length s.0 + length (f.0 ∷ s.1.0) ≡ length s.0 + (length s.1.0 + 1) = omega arith in z) in
         let all : length fs ≡ length xs = ap length (sym split) ∙ length-append xs [] ∙ (let z : length xs + 0 ≡ length xs = omega arith in z) in
         let m = s.1.2 in
         absurd (omega arith)
@@ -237,7 +261,10 @@ module _ (v w : Body) (a : IsTree v) (b : IsTree w) (q : Path) (es fs : List Ele
   )
 
   -- where the common items stand in one order, the list that a record makes is the second's
-  pub refilled-is : common es fs ≡ common fs es → filled at 0 (end_of (filter_map (place_in q) (puts v w).entries)) (filter (λ e. not (has (cuts v w) (q ++ e ∷ []))) es) ≡ fs
+  pub refilled-is : common es fs ≡ common fs es → filled at 0 (end_of (filter_map (place_in q) (puts v w).entries))
+      (filter (λ e. not (has (cuts v w) (q ++ e ∷ []))) es) ≡ fs
   refilled-is alike =
-      ap (filled at 0 (end_of (filter_map (place_in q) (puts v w).entries))) (filter-members (λ e. not (has (cuts v w) (q ++ e ∷ []))) (λ e. is_among e fs) es stays ∙ alike)
-      ∙ filled_is at (λ e. is_among e es) 0 (end_of (filter_map (place_in q) (puts v w).entries)) fs (gives 0 [] fs refl refl) (λ j h. item_end (puts v w).entries q j (omega arith))
+      ap (filled at 0 (end_of (filter_map (place_in q) (puts v w).entries)))
+      (filter-members (λ e. not (has (cuts v w) (q ++ e ∷ []))) (λ e. is_among e fs) es stays ∙ alike)
+      ∙ filled_is at (λ e. is_among e es) 0 (end_of (filter_map (place_in q) (puts v w).entries)) fs (gives 0 [] fs refl refl)
+      (λ j h. item_end (puts v w).entries q j (omega arith))

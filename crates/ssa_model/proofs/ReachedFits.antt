@@ -20,18 +20,21 @@ use Rattle.ssa_model.proofs.Tables.{mapped_some}
 
 -- ---- places
 
-value-below : (k : ScalarKind) (vs : Items) (s : Scalar) (x : Standing) → FitsAt (of_kind (kinds.set_of k)) (list vs) → value_level vs (value s) ≡ Some x → FitsBelow (of_kind (kinds.set_of k)) (value s) x
+value-below : (k : ScalarKind) (vs : Items) (s : Scalar) (x : Standing) → FitsAt (of_kind (kinds.set_of k)) (list vs) → value_level vs (value s) ≡ Some x
+    → FitsBelow (of_kind (kinds.set_of k)) (value s) x
 value-below k vs s x fits h =
     let own = if-some (is_among (value s) (value_order vs)) (value_of s, scalar s) x h in
     subst (FitsBelow (of_kind (kinds.set_of k)) (value s)) own.1 (ap (λ t. if t then Some (value_of s) else None) (among-is_of k vs s ([], fits) own.0), refl)
 
-item-below : (ns : List Text) (fs : Fields) (vs : Items) (ks : List (Text × Scalar)) (x : Standing) → FitsAt (of_kind (items_of ns fs)) (list vs) → item_level ns fs vs (key ks) ≡ Some x → FitsBelow (of_kind (items_of ns fs)) (key ks) x
+item-below : (ns : List Text) (fs : Fields) (vs : Items) (ks : List (Text × Scalar)) (x : Standing) → FitsAt (of_kind (items_of ns fs)) (list vs)
+    → item_level ns fs vs (key ks) ≡ Some x → FitsBelow (of_kind (items_of ns fs)) (key ks) x
 item-below ns fs vs ks x fits h =
     let own = some-item ns fs vs ks x ([], fits) h in
     let fit : KeysFit ns fs own.own = own.keys in
     let are : are_keys ns fs ks ≡ true = ap (are_keys ns fs) (sym own.is_own.0) ∙ keys-fit ns fs own.own fit.0 fit.1 in
     subst (FitsBelow (of_kind (items_of ns fs)) (key ks)) own.is (ap (λ t. if t then Some (item_of ns fs) else None) are, own.is_own.1)
 
+-- what stands under an element of a fitting value fits the place that the schema has there
 pub fits-below : (q : Place) (v : Json) (e : Element) (x : Standing) → FitsAt q v → level q v e ≡ Some x → FitsBelow q e x
 fits-below (of_kind (record_of fs)) (object ms) (field n) x fits h = field-below (of_kind (record_of fs)) fs ms n x refl fits h
 fits-below (of_kind (dict_of k)) (object ms) (field n) x fits h = entry-below k ms n x fits h
@@ -56,10 +59,14 @@ fits-reached (e ∷ p) q v x fits h =
 
 -- a value that fits a place has a content that fits it
 pub record HasContent (q : Place) (v : Json) : Type 0 where
+  -- the content
   pub own : Content
+  -- the value has it at the place
   pub is_own : content_of q v ≡ Some own
+  -- the content fits the place
   pub fits : content_fits q own ≡ true
 
+-- so has each value that fits its place
 pub own-content : (q : Place) (v : Json) → FitsAt q v → HasContent q v
 own-content (of_kind (scalar_kind k)) (scalar s) fits = record { own = leaf s; is_own = refl; fits = unless-true (is_of k s) wrong_type fits.0 fits.1 }
 own-content (of_kind (atomic_of t)) v fits = record { own = atom v; is_own = refl; fits = ap is_none (shape-anywhere t v fits.0 [] fits.1) }
@@ -73,6 +80,7 @@ own-content (value_of s) v fits = subst (HasContent (value_of s)) (sym fits) (re
 
 -- ---- orders
 
+-- the order of a list that fits its place names no item twice
 pub order-distinct : (q : Place) (v : Json) → FitsAt q v → are_distinct (order_at (content_of q v)) ≡ true
 order-distinct (of_kind (kinds.set_of k)) (list vs) fits = values-distinct k vs fits
 order-distinct (of_kind (items_of ns fs)) (list vs) fits = items-distinct ns fs vs fits
@@ -84,6 +92,7 @@ order-distinct (item_of ns fs) (object ms) fits = refl
 order-distinct (value_of s) (scalar t) fits = refl
 order-distinct _ _ fits = refl
 
+-- no test passes together with one that fails
 pub and-no : (b : Bool) → false ≡ (b && false)
 and-no true = refl
 and-no false = refl
@@ -122,14 +131,16 @@ module _ (ns : List Text) where
   among-keys e (item (scalar s) vs) = among-keys e vs
   among-keys e (item (list ws) vs) = among-keys e vs
   among-keys e (item (object ms) vs) =
-      elim (same_element e (item_key ns ms)) as (λ t. (t || is_among e (key_order ns vs)) ≡ is_some (if t then Some ms else item_at ns e vs)) [ true ↦ refl | false ↦ among-keys e vs ]
+      elim (same_element e (item_key ns ms)) as (λ t. (t || is_among e (key_order ns vs)) ≡ is_some (if t then Some ms else item_at ns e vs))
+      [ true ↦ refl | false ↦ among-keys e vs ]
 
 -- the order names the items that stand below
 pub order-level : (q : Place) (v : Json) (e : Element) → is_among e (order_at (content_of q v)) ≡ (is_item_element e && is_some (level q v e))
 order-level (of_kind (kinds.set_of k)) (list vs) (value s) = some-if (is_among (value s) (value_order vs)) (value_of s, scalar s)
 order-level (of_kind (kinds.set_of k)) (list vs) (field n) = no-field n vs
 order-level (of_kind (kinds.set_of k)) (list vs) (key ks) = no-key ks vs
-order-level (of_kind (items_of ns fs)) (list vs) (key ks) = among-keys ns (key ks) vs ∙ sym (mapped_some (λ (ms : Members). (item_of ns fs, object ms)) (item_at ns (key ks) vs))
+order-level (of_kind (items_of ns fs)) (list vs) (key ks) = among-keys ns (key ks) vs
+    ∙ sym (mapped_some (λ (ms : Members). (item_of ns fs, object ms)) (item_at ns (key ks) vs))
 order-level (of_kind (items_of ns fs)) (list vs) (field n) = no-item-field ns n vs
 order-level (of_kind (items_of ns fs)) (list vs) (value s) = no-item-value ns s vs
 order-level (of_kind (record_of fs)) (object ms) (field n) = refl
@@ -149,12 +160,14 @@ order-level _ _ e = and-no (is_item_element e)
 -- ---- key fields
 
 -- an item has the scalars of its key
-pub key-leaf : (q : Place) (v : Json) (ks : List (Text × Scalar)) (x : Standing) (n : Text) (s : Scalar) → FitsAt q v → level q v (key ks) ≡ Some x → scalar_of n ks ≡ Some s → content_at (level x.0 x.1 (field n)) ≡ Some (leaf s)
+pub key-leaf : (q : Place) (v : Json) (ks : List (Text × Scalar)) (x : Standing) (n : Text) (s : Scalar) → FitsAt q v → level q v (key ks) ≡ Some x
+    → scalar_of n ks ≡ Some s → content_at (level x.0 x.1 (field n)) ≡ Some (leaf s)
 key-leaf (of_kind (items_of ns fs)) (list vs) ks x n s fits h found =
     let own = some-item ns fs vs ks x ([], fits) h in
     let fit : KeysFit ns fs own.own = own.keys in
     let is = key-member ns fs own.own fit.0 n s fit.1 (ap (scalar_of n) own.is_own.0 ∙ found) in
-    subst (λ y. content_at (level y.0 y.1 (field n)) ≡ Some (leaf s)) own.is (λ i. content_at (option_and_then (λ v. option_map (λ k. (of_kind k, v)) (is.is_kind i)) (is.is_own i)))
+    subst (λ y. content_at (level y.0 y.1 (field n)) ≡ Some (leaf s)) own.is
+    (λ i. content_at (option_and_then (λ v. option_map (λ k. (of_kind k, v)) (is.is_kind i)) (is.is_own i)))
 key-leaf (of_kind (record_of fs)) (object ms) ks x n s fits h found = absurd (none-some x h)
 key-leaf (of_kind (dict_of k)) (object ms) ks x n s fits h found = absurd (none-some x h)
 key-leaf (of_kind (kinds.set_of k)) (list vs) ks x n s fits h found = absurd (none-some x h)

@@ -20,6 +20,7 @@ one-of : (P : Path → Type 0) (ps : List Path) → AllByRecursion P ps → (p :
 one-of P [] h p one = absurd (true≢false (sym one))
 one-of P (q ∷ ps) h p one = either (same_path p q) (is_one_of ps p) one (λ t. subst P (sym (same_path-true p q t)) h.0) (λ later. one-of P ps h.1 p later)
 
+-- where each path in a body's list is read from its texts, each path that the body has is
 pub read-paths-of : (readings : Readings) (b : Body) → AllByRecursion (IsReadPath readings) (paths b) → HasReadPaths readings b
 read-paths-of readings b h p one = one-of (IsReadPath readings) (paths b) h p (sym (has-paths b p) ∙ one)
 
@@ -55,5 +56,6 @@ module _ (readings : Readings) where
   pub read-paths-by : (b : Body) → has_read_paths readings b ≡ true → HasReadPaths readings b
   read-paths-by b h = read-paths-of readings b (each-by (paths b) h)
 
+  -- where the paths of a body are read from their texts, the test passes
   pub read-paths-test : (b : Body) → HasReadPaths readings b → has_read_paths readings b ≡ true
   read-paths-test b h = each-of (paths b) (each-among same_path same_path-itself (IsReadPath readings) (paths b) (λ p one. h p (has-paths b p ∙ one)))

@@ -5,6 +5,7 @@ use Rattle.ssa_model.specs.examples.Rows.{new_bench}
 use Rattle.ssa_model.specs.examples.FileRows.{applied_step}
 use Rattle.ssa_model.proofs.ReadPaths.{read-paths-of}
 
+-- the states before and after the sample's first apply have paths and moments that are read
 pub read_states_are_met : ReadStatesAreMet
 read_states_are_met = (
   record { paths = read-paths-of record_readings new_bench.timeline.first.body (tt, tt); moments = tt },

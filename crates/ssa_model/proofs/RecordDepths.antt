@@ -170,6 +170,7 @@ short-entries : (kind : Kind) (body : Body) (t : Table) → IsBodyOf kind body �
 short-entries kind body [] k own = tt
 short-entries kind body (e ∷ es) k own = (owned-short kind body e.owned k own.0, short-entries kind body es k own.1)
 
+-- the value of the record of two valid states nests at most six levels more than the kind has
 pub record-depth : (version : Json) (kind : Kind) (v w : State) → depth version ≤ 0 → is_lawful kind ≡ true → IsValidState kind v → IsValidState kind w
     → depth (record_json version kind (record_of v w)) ≤ levels kind + 6
 record-depth version kind v w low lawful a b =

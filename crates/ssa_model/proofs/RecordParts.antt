@@ -16,6 +16,7 @@ use Rattle.ssa_model.proofs.PathMaps.{is_one_of, get-over_paths, has-paths, same
 use Rattle.ssa_model.proofs.ShownItems.{each-among}
 use Rattle.ssa_model.proofs.Tests.{by_test, holds}
 use Rattle.ssa_model.proofs.WritingsBack.{none-below}
+use Rattle.ssa_model.proofs.Tables.{other_leaf as other-leaf}
 
 -- ---- lists
 
@@ -25,6 +26,7 @@ module _ {X : Type 0} where
   each P h [] = tt
   each P h (x ∷ xs) = (h x, each P h xs)
 
+  -- what follows for each element follows for all of a list
   pub each-follows : (P Q : X → Type 0) → ((x : X) → P x → Q x) → (xs : List X) → AllByRecursion P xs → AllByRecursion Q xs
   each-follows P Q f [] h = tt
   each-follows P Q f (x ∷ xs) h = (f x h.0, each-follows P Q f xs h.1)
@@ -49,6 +51,7 @@ module _ {X : Type 0} where
           absurd (true≢false (sym (ap is_some is) ∙ one)))
           (λ t. ap (λ b. cond b (Some e.1) (find path_cmp f.0 es)) t ∙ is)
 
+  -- each entry of a map has what the map has at its path
   pub each-entry : (m : PathMap X) → AllByRecursion (λ (e : Path × X). get m e.0 ≡ Some e.1) m.entries
   each-entry m = found-own m.entries (holds _ m.in_order)
 
@@ -65,16 +68,13 @@ module _ {X : Type 0} where
           (λ t. h e.0 e.1 t (sym (ap (λ b. cond b (f e.0) None) t) ∙ is))
           (λ t. absurd (none-some e.1 (sym (ap (λ b. cond b (f e.0) None) t) ∙ is)))
 
+-- what holds of each path that a set has holds of all in its list
 pub each-path : (s : PathSet) (P : Path → Type 0) → ((p : Path) → has s p ≡ true → P p) → AllByRecursion P (paths s)
 each-path s P h = each-among same_path same_path-itself P (paths s) (λ p among. h p (has-paths s p ∙ among))
 
 -- ---- leaves
 
-other-leaf : (a b : Option Content) → is_other_leaf a b ≡ true → is_leaf b ≡ true
-other-leaf (Some (leaf x)) (Some (leaf y)) h = refl
-other-leaf (Some (atom x)) (Some (atom y)) h = refl
-other-leaf _ _ h = absurd (true≢false (sym h))
-
+-- a leaf that changes is the second body's, and it is a leaf
 pub new-leaf-is : (a b : Option Content) (c : Content) → new_leaf a b ≡ Some c → (b ≡ Some c) × (is_leaf b ≡ true)
 new-leaf-is a b c h =
     by_test (is_other_leaf a b)
@@ -84,6 +84,7 @@ new-leaf-is a b c h =
 -- ---- entries
 
 module _ (E : Entry → Type 0) where
+  -- what holds of all entries of a table holds of a manager's entry
   pub entry-holds : (u : Table) → AllEntries E u → (k : ManagerKey) (f : Entry) → entry_of u k ≡ Some f → E f
   entry-holds [] h k f is = absurd (none-some f is)
   entry-holds (e ∷ es) h k f is =
@@ -92,6 +93,7 @@ module _ (E : Entry → Type 0) where
         | false ↦ λ is. entry-holds es h.1 k f is
       ] is
 
+  -- what holds of all entries of a table holds of those that are told with their places
   pub all-placed : (test : Entry → Bool) (n : ℕ) (u : Table) → AllEntries E u → AllByRecursion (λ (x : ℕ × Entry). E x.1) (placed test n u)
   all-placed test n [] h = tt
   all-placed test n (e ∷ es) h =
@@ -110,6 +112,7 @@ module _ (E : Entry → Type 0) where
           | false ↦ λ is. subst C (same_Some (change_to e f) c is) (change-to e f a (b f refl))
         ] is
 
+    -- a fact of each change between entries of which something holds is one of all changes between two tables of such entries
     pub all-changes : (u : Table) → AllEntries E u → (t : Table) → AllEntries E t → AllByRecursion C (changes t u)
     all-changes u b [] a = tt
     all-changes u b (e ∷ es) a =

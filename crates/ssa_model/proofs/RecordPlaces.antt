@@ -16,9 +16,9 @@ use Rattle.ssa_model.specs.laws.RecordPlaces.{replaced, tells_of, TellsBelow, Ch
 use Rattle.ssa_model.proofs.PathMaps.{has-paths, same_map, same_path-true}
 use Rattle.ssa_model.proofs.PutParts.{get-below}
 use Rattle.ssa_model.proofs.Pruned.{from_one, some_one, under-append, under-rest, under-trans}
-use Rattle.ssa_model.proofs.Tables.{or_true, true_or, yes_no}
+use Rattle.ssa_model.proofs.Tables.{true_or, yes_no}
 use Rattle.ssa_model.proofs.Tests.{by_test}
-use Rattle.ssa_model.proofs.Fitting.{nothing_there, some_there}
+use Rattle.ssa_model.proofs.Fitting.{some_there}
 use Rattle.ssa_model.proofs.FittingBodies.{stay-there}
 use Rattle.ssa_model.proofs.FittingTells.{parent_above}
 use Rattle.ssa_model.proofs.CarriedPaths.{stayed, came, away, source, at_stay}
@@ -26,6 +26,7 @@ use Rattle.ssa_model.proofs.UntouchedLists.{order-stays}
 use Rattle.ssa_model.proofs.BodyLeads.{body_leads}
 use Rattle.ssa_model.proofs.TakenBodies.{taken_body_fits}
 use Rattle.ssa_model.proofs.ReplacedParts.{get-inside, get-outside}
+use Rattle.ssa_model.proofs.Basics.{or_true, none-there as nothing_there}
 
 -- ---- what a record tells of
 
@@ -89,6 +90,7 @@ module _ (kind : Kind) (d : BodyRecord) (v : Body) (p : Path) (a : IsBodyOf kind
       (λ t. let x = some_one (λ g. under g r) (paths d.cut) t in absurd (untold-above x.0 (tells-cut d x.0 (has-paths d.cut x.0 ∙ x.1)) x.2))
       (λ k. k)
 
+  -- at a path that is not under it, the body after has what the body had
   pub same-outside : get w r ≡ get v r
   same-outside =
       elim (source kind d v a f r) [
@@ -101,9 +103,10 @@ module _ (kind : Kind) (d : BodyRecord) (v : Body) (p : Path) (a : IsBodyOf kind
       ]
 
 -- what a record of two bodies leads to
-led : (kind : Kind) (d : BodyRecord) (v w : Body) → BodyTakes kind d v w → carry_body d v ≡ w
+pub led : (kind : Kind) (d : BodyRecord) (v w : Body) → BodyTakes kind d v w → carry_body d v ≡ w
 led kind d v w takes = ap (λ x. carry_body x v) takes.is ∙ body_leads kind v w takes.from takes.to
 
+-- a record that tells of paths below one alone leads to the body with something else at this one
 pub changes_there : ChangesThere
 changes_there kind d v w p takes all =
     same_map w (replaced v p (below w p)) (λ r.
@@ -117,6 +120,7 @@ changes_there kind d v w p takes all =
 
 -- ---- the path stays
 
+-- and where the first body has this path, so has the second
 pub place_stays : PlaceStays
 place_stays kind d v w p takes all here =
     let f = taken_body_fits kind d v w takes in

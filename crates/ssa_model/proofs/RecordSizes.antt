@@ -17,12 +17,13 @@ use Rattle.ssa_model.specs.laws.RecordSizes.{BodyBound, TableBound, SizeBound}
 use Rattle.ssa_model.proofs.Fitting.{same_element-true}
 use Rattle.ssa_model.proofs.PathMaps.{is_one_of, same_path-itself}
 use Rattle.ssa_model.proofs.Pruned.{above}
-use Rattle.ssa_model.proofs.Tables.{first_false, second_false, yes_no, no, element-itself}
+use Rattle.ssa_model.proofs.Tables.{yes_no, element-itself}
 use Rattle.ssa_model.proofs.DistinctNames.{are_distinct_paths, sorted-distinct}
 use Rattle.ssa_model.proofs.SharedManagers.{managers}
 use Rattle.ssa_model.proofs.Tests.{by_test, holds}
 use Rattle.ssa_model.proofs.Sums.{total, sum-total, total-add, total-le, total-zero, total-if}
 use Rattle.ssa_model.proofs.MapEntries.{counted, total-map, size-map}
+use Rattle.ssa_model.proofs.Basics.{not_true as no, first_false, second_false}
 
 -- ---- the size of a part
 
@@ -35,6 +36,7 @@ length-put p x (e ∷ es) =
       | Greater ↦ let h = length-put p x es in omega arith
     ]
 
+-- a map has no more entries than the list that it is made of
 pub length-entries : {X : Type 0} (es : List (Path × X)) → length (from_entries es).entries ≤ length es
 length-entries [] = omega arith
 length-entries (e ∷ es) = let h = length-entries es in let k = length-put e.0 e.1 (from_entries es).entries in omega arith
@@ -47,10 +49,12 @@ length-found {A} {B} f (x ∷ xs) = one (f x) (length-found f xs)
     one None h = omega arith
     one (Some y) h = omega arith
 
+-- something follows a path in another exactly where this other one is under it
 pub rest-under : (p q : Path) → is_some (rest_of p q) ≡ under p q
 rest-under [] q = refl
 rest-under (e ∷ p) [] = refl
-rest-under (e ∷ p) (f ∷ q) = elim (same_element e f) as (λ b. is_some (if b then rest_of p q else None) ≡ (b && under p q)) [ true ↦ rest-under p q | false ↦ refl ]
+rest-under (e ∷ p) (f ∷ q) = elim (same_element e f) as (λ b. is_some (if b then rest_of p q else None) ≡ (b && under p q))
+    [ true ↦ rest-under p q | false ↦ refl ]
 
 length-rests : (p : Path) (ps : List Path) → length (filter_map (rest_of p) ps) ≡ total (λ q. one_if (under p q)) ps
 length-rests p [] = refl
@@ -60,6 +64,7 @@ length-rests p (q ∷ ps) = one (rest_of p q) ∙ (λ i. one_if (rest-under p q 
     one None = omega arith
     one (Some r) = omega arith
 
+-- what a body has at and below a path is no more than its paths that are under it
 pub size-below : (w : Body) (p : Path) → size (below w p) ≤ total (λ q. one_if (under p q)) (paths w)
 size-below w p =
     let rests : List Path = filter_map (rest_of p) (paths w) in
@@ -143,8 +148,10 @@ module _ (kind : Kind) (v w : Body) (a : IsBodyOf kind v) where
   at_most_one q [] d = omega arith
   at_most_one q (p ∷ ps) d =
       by_test (tops q p)
-      (λ f. let z : (if is_top v p then one_if (under p q) else 0) ≡ 1 = one-top q p ∙ ap one_if f in let k = none_else q p f ps (no (is_one_of ps p) (first_so _ _ d)) in omega arith)
-      (λ f. let z : (if is_top v p then one_if (under p q) else 0) ≡ 0 = one-top q p ∙ ap one_if f in let k = at_most_one q ps (second_so (not (is_one_of ps p)) _ d) in omega arith)
+      (λ f. let z : (if is_top v p then one_if (under p q) else 0) ≡ 1 = one-top q p
+      ∙ ap one_if f in let k = none_else q p f ps (no (is_one_of ps p) (first_so _ _ d)) in omega arith)
+      (λ f. let z : (if is_top v p then one_if (under p q) else 0) ≡ 0 = one-top q p
+      ∙ ap one_if f in let k = at_most_one q ps (second_so (not (is_one_of ps p)) _ d) in omega arith)
 
   none_below_old : (q : Path) → has v q ≡ true → (ps : List Path) → tops_above v w ps q ≡ 0
   none_below_old q h [] = refl
@@ -158,11 +165,14 @@ module _ (kind : Kind) (v w : Body) (a : IsBodyOf kind v) where
   tops-bound q =
       by_test (has v q)
       (λ h. let z : one_if (not (has v q)) ≡ 0 = ap (λ b. one_if (not b)) h in let k = none_below_old q h (paths w) in omega arith)
-      (λ h. let z : one_if (not (has v q)) ≡ 1 = ap (λ b. one_if (not b)) h in let k = at_most_one q (paths w) (sorted-distinct w.entries (holds _ w.in_order)) in omega arith)
+      (λ h. let z : one_if (not (has v q)) ≡ 1 = ap (λ b. one_if (not b)) h in let k =
+      at_most_one q (paths w) (sorted-distinct w.entries (holds _ w.in_order)) in omega arith)
 
-  counted-part : (p : Path) → counted (λ (x : Part). size x.below) (if is_top v p then Some (part_at w p) else None) ≤ (if is_top v p then total (λ q. one_if (under p q)) (paths w) else 0)
+  counted-part : (p : Path) → counted (λ (x : Part). size x.below) (if is_top v p then Some (part_at w p) else None)
+      ≤ (if is_top v p then total (λ q. one_if (under p q)) (paths w) else 0)
   counted-part p =
-      elim (is_top v p) as (λ b. counted (λ (x : Part). size x.below) (if b then Some (part_at w p) else None) ≤ (if b then total (λ q. one_if (under p q)) (paths w) else 0)) [
+      elim (is_top v p) as (λ b. counted (λ (x : Part). size x.below) (if b then Some (part_at w p) else None)
+      ≤ (if b then total (λ q. one_if (under p q)) (paths w) else 0)) [
         | true ↦ size-below w p
         | false ↦ omega arith
       ]
@@ -171,6 +181,7 @@ module _ (kind : Kind) (v w : Body) (a : IsBodyOf kind v) where
   counted-one true = refl
   counted-one false = refl
 
+  -- the removed paths are as many as the first body's that the second has not
   pub size-removed : (x y : Body) → size (removed x y) ≡ total (λ p. one_if (not (has y p))) (paths x)
   size-removed x y = size-map x (λ p. cond (not (has y p)) (Some tt) None) ∙ alike (paths x)
     where
@@ -178,10 +189,12 @@ module _ (kind : Kind) (v w : Body) (a : IsBodyOf kind v) where
       alike [] = refl
       alike (p ∷ ps) = λ i. counted-one (not (has y p)) i + alike ps i
 
+  -- what is put is no more than the paths that only the second body has
   pub puts-bound : total (λ e. size e.1.below) (puts v w).entries ≤ size (removed w v)
   puts-bound =
       let a = total-map (λ e. size e.1.below) (λ p. if is_top v p then Some (part_at w p) else None) w in
-      let b = total-le (λ p. counted (λ (x : Part). size x.below) (if is_top v p then Some (part_at w p) else None)) (λ p. if is_top v p then total (λ q. one_if (under p q)) (paths w) else 0) counted-part (paths w) in
+      let b = total-le (λ p. counted (λ (x : Part). size x.below) (if is_top v p then Some (part_at w p) else None))
+      (λ p. if is_top v p then total (λ q. one_if (under p q)) (paths w) else 0) counted-part (paths w) in
       let c = both_ways v w (paths w) (paths w) in
       let d = total-le (tops_above v w (paths w)) (λ q. one_if (not (has v q))) tops-bound (paths w) in
       let e = size-removed w v in
@@ -194,16 +207,20 @@ module _ (kind : Kind) (v w : Body) (a : IsBodyOf kind v) where
         | false ↦ elim (has w (parent p)) as (λ k. counted (λ (u : Unit {0}). 1) (cond k (Some tt) None) ≤ 1) [ true ↦ omega arith | false ↦ omega arith ]
       ]
 
+  -- what is cut is no more than the paths that only the first body has
   pub cuts-bound : size (cuts v w) ≤ size (removed v w)
   cuts-bound =
-      let a : size (cuts v w) ≡ total (λ p. counted (λ (u : Unit {0}). 1) (cond (is_top w p) (Some tt) None)) (paths v) = size-map v (λ p. cond (is_top w p) (Some tt) None) in
+      let a : size (cuts v w) ≡ total (λ p. counted (λ (u : Unit {0}). 1) (cond (is_top w p) (Some tt) None)) (paths v) =
+      size-map v (λ p. cond (is_top w p) (Some tt) None) in
       let b = total-le (λ p. counted (λ (u : Unit {0}). 1) (cond (is_top w p) (Some tt) None)) (λ p. one_if (not (has w p))) cut-bound (paths v) in
       let c = size-removed v w in
       omega arith
 
-  leaf-bound : (p : Path) → counted (λ (c : Content). 1) (new_leaf (get v p) (get w p)) ≤ counted (λ (u : Unit {0}). 1) (cond (is_other_leaf (get v p) (get w p)) (Some tt) None)
+  leaf-bound : (p : Path) → counted (λ (c : Content). 1) (new_leaf (get v p) (get w p))
+      ≤ counted (λ (u : Unit {0}). 1) (cond (is_other_leaf (get v p) (get w p)) (Some tt) None)
   leaf-bound p =
-      elim (is_other_leaf (get v p) (get w p)) as (λ b. counted (λ (c : Content). 1) (if b then get w p else None) ≤ counted (λ (u : Unit {0}). 1) (cond b (Some tt) None)) [
+      elim (is_other_leaf (get v p) (get w p)) as (λ b. counted (λ (c : Content). 1) (if b then get w p else None)
+      ≤ counted (λ (u : Unit {0}). 1) (cond b (Some tt) None)) [
         | true ↦ at_most (get w p)
         | false ↦ omega arith
       ]
@@ -212,16 +229,20 @@ module _ (kind : Kind) (v w : Body) (a : IsBodyOf kind v) where
       at_most None = omega arith
       at_most (Some c) = omega arith
 
+  -- the new leaves are no more than the leaves that differ
   pub leaves-bound : size (new_leaves v w) ≤ size (modified v w)
   leaves-bound =
       let a = size-map v (λ p. new_leaf (get v p) (get w p)) in
-      let b : size (modified v w) ≡ total (λ p. counted (λ (u : Unit {0}). 1) (cond (is_other_leaf (get v p) (get w p)) (Some tt) None)) (paths v) = size-map v (λ p. cond (is_other_leaf (get v p) (get w p)) (Some tt) None) in
-      let c = total-le (λ p. counted (λ (c : Content). 1) (new_leaf (get v p) (get w p))) (λ p. counted (λ (u : Unit {0}). 1) (cond (is_other_leaf (get v p) (get w p)) (Some tt) None)) leaf-bound (paths v) in
+      let b : size (modified v w) ≡ total (λ p. counted (λ (u : Unit {0}). 1) (cond (is_other_leaf (get v p) (get w p)) (Some tt) None)) (paths v) =
+      size-map v (λ p. cond (is_other_leaf (get v p) (get w p)) (Some tt) None) in
+      let c = total-le (λ p. counted (λ (c : Content). 1) (new_leaf (get v p) (get w p)))
+      (λ p. counted (λ (u : Unit {0}). 1) (cond (is_other_leaf (get v p) (get w p)) (Some tt) None)) leaf-bound (paths v) in
       omega arith
 
 order-bound : (x y : Option Content) → counted (λ (fs : List Element). length fs) (new_order x y) ≤ reordered x y
 order-bound x y =
-    elim (is_reordered x y) as (λ b. counted (λ (fs : List Element). length fs) (if b then Some (order_at y) else None) ≤ (if b then length (order_at x) + length (order_at y) else 0)) [
+    elim (is_reordered x y) as (λ b. counted (λ (fs : List Element). length fs) (if b then Some (order_at y) else None)
+    ≤ (if b then length (order_at x) + length (order_at y) else 0)) [
       | true ↦ omega arith
       | false ↦ omega arith
     ]
@@ -229,7 +250,8 @@ order-bound x y =
 orders-bound : (v w : Body) → total (λ e. length e.1) (new_orders v w).entries ≤ total (λ p. reordered (get v p) (get w p)) (paths v)
 orders-bound v w =
     let a = total-map (λ e. length e.1) (λ p. new_order (get v p) (get w p)) v in
-    let b = total-le (λ p. counted (λ (fs : List Element). length fs) (new_order (get v p) (get w p))) (λ p. reordered (get v p) (get w p)) (λ p. order-bound (get v p) (get w p)) (paths v) in
+    let b = total-le (λ p. counted (λ (fs : List Element). length fs) (new_order (get v p) (get w p))) (λ p. reordered (get v p) (get w p))
+    (λ p. order-bound (get v p) (get w p)) (paths v) in
     omega arith
 
 -- ---- tables
@@ -253,13 +275,15 @@ here-size t i [] = refl
 here-size t i (e ∷ es) =
     let rest = here-size t (i + 1) es in
     let later : List (ℕ × Entry) = placed (λ e. not (is_in_table t e.manager)) (i + 1) es in
-    elim (is_in_table t e.manager) as (λ b. total (λ e. 1 + size e.1.owned) (if not b then (i, e) ∷ later else later) ≡ (if b then 0 else 1 + size e.owned) + lone_total es t) [
+    elim (is_in_table t e.manager) as (λ b. total (λ e. 1 + size e.1.owned) (if not b then (i, e) ∷ later else later) ≡ (if b then 0 else 1 + size e.owned)
+    + lone_total es t) [
       | true ↦ omega arith
       | false ↦ omega arith
     ]
 
 moment-size : (e f : Entry) → one_if (is_some (new_moment e.moment f.moment)) ≡ one_if (not (same_text e.moment f.moment))
-moment-size e f = elim (same_text e.moment f.moment) as (λ b. one_if (is_some (if b then None else Some f.moment)) ≡ one_if (not b)) [ true ↦ refl | false ↦ refl ]
+moment-size e f = elim (same_text e.moment f.moment) as (λ b. one_if (is_some (if b then None else Some f.moment)) ≡ one_if (not b))
+    [ true ↦ refl | false ↦ refl ]
 
 change-bound : (e : Entry) (o : Option Entry) → counted change_size (change_of e o) ≤ entry_facts e o
 change-bound e None = omega arith
@@ -278,10 +302,12 @@ changes-bound u (e ∷ es) =
     let all = one (change_of e (entry_of u e.manager)) in
     omega arith
   where
-    one : (o : Option Change) → total change_size (cons_option o (filter_map (λ e. change_of e (entry_of u e.manager)) es)) ≡ counted change_size o + total change_size (filter_map (λ e. change_of e (entry_of u e.manager)) es)
+    one : (o : Option Change) → total change_size (cons_option o (filter_map (λ e. change_of e (entry_of u e.manager)) es)) ≡ counted change_size o
+        + total change_size (filter_map (λ e. change_of e (entry_of u e.manager)) es)
     one None = omega arith
     one (Some c) = refl
 
+-- the record of a body of the kind and another body holds no more than the facts in which they differ
 pub body_bound : BodyBound
 body_bound kind v w a =
     let sizes = sum-total (λ (e : Path × Part). size e.1.below) (puts v w).entries in
@@ -293,6 +319,7 @@ body_bound kind v w a =
     let orders = orders-bound v w in
     omega arith
 
+-- the record of two tables holds no more than the facts in which they differ
 pub table_bound : TableBound
 table_bound t u =
     let here_total = sum-total (λ (e : ℕ × Entry). 1 + size e.1.owned) (new_in t u) in
@@ -305,6 +332,7 @@ table_bound t u =
     let changed = changes-bound u t in
     omega arith
 
+-- the record of two states holds no more than the facts in which they differ, where the first body is one of the kind
 pub size_bound : SizeBound
 size_bound kind v w a =
     let body = body_bound kind v.body w.body a in

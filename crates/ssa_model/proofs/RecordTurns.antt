@@ -22,6 +22,7 @@ use Rattle.ssa_model.proofs.Differing.{other_leaves, reordered_lists}
 
 -- ---- leaves and orders
 
+-- where both branches of a test are nothing, so is the answer
 pub nothing : {X : Type 0} (b : Bool) → ◌≡◌ {A = Option X} (cond b None None) None
 nothing true = refl
 nothing false = refl
@@ -38,7 +39,8 @@ turned-when here there false back x y same h t s =
 
 leaf-turned : (a b : Option Content) → cond (is_some b) (new_leaf b a) None ≡ cond (is_some (cond (is_some a) (new_leaf a b) None)) a None
 leaf-turned a b =
-    turned-when (is_some a) (is_some b) (is_other_leaf a b) (is_other_leaf b a) a b (other_leaves.same a b) (other_leaves.first a b) (other_leaves.second a b) (other_leaves.second a b)
+    turned-when (is_some a) (is_some b) (is_other_leaf a b) (is_other_leaf b a) a b (other_leaves.same a b) (other_leaves.first a b) (other_leaves.second a b)
+    (other_leaves.second a b)
 
 leaves_back : (v w : Body) → new_leaves w v ≡ map_of (paths (new_leaves v w)) (get v)
 leaves_back v w =
@@ -50,7 +52,8 @@ leaves_back v w =
 
 order-turned : (a b : Option Content) → cond (is_some b) (new_order b a) None ≡ cond (is_some (cond (is_some a) (new_order a b) None)) (Some (order_at a)) None
 order-turned a b =
-    turned-when (is_some a) (is_some b) (is_reordered a b) (is_reordered b a) (Some (order_at a)) (Some (order_at b)) (reordered_lists.same a b) (reordered_lists.first a b) (reordered_lists.second a b) (λ t. refl)
+    turned-when (is_some a) (is_some b) (is_reordered a b) (is_reordered b a) (Some (order_at a)) (Some (order_at b)) (reordered_lists.same a b)
+    (reordered_lists.first a b) (reordered_lists.second a b) (λ t. refl)
 
 orders_back : (v w : Body) → new_orders w v ≡ map_of (paths (new_orders v w)) (λ p. Some (order_at (get v p)))
 orders_back v w =
@@ -62,6 +65,7 @@ orders_back v w =
 
 -- ---- what is cut and put
 
+-- what is told under two tests is there exactly where both pass
 pub some-put : {A : Type 0} (b c : Bool) (x : A) → is_some (cond b (if c then Some x else None) None) ≡ (b && c)
 some-put true true x = refl
 some-put true false x = refl
@@ -90,12 +94,15 @@ puts_back v w =
 
 -- ---- who is gone and who is here
 
-gone_back : (t : Table) (i : ℕ) (u : Table) → filter (λ k. not (is_in_table t k)) (managers u) ≡ map (λ e. e.1.manager) (placed (λ e. not (is_in_table t e.manager)) i u)
+gone_back : (t : Table) (i : ℕ) (u : Table) → filter (λ k. not (is_in_table t k)) (managers u)
+    ≡ map (λ e. e.1.manager) (placed (λ e. not (is_in_table t e.manager)) i u)
 gone_back t i [] = refl
 gone_back t i (e ∷ es) =
     let rest = gone_back t (i + 1) es in
-    elim (not (is_in_table t e.manager)) as (λ b. cond b (e.manager ∷ filter (λ k. not (is_in_table t k)) (managers es)) (filter (λ k. not (is_in_table t k)) (managers es))
-    ≡ map (λ e. e.1.manager) (if b then (i, e) ∷ placed (λ e. not (is_in_table t e.manager)) (i + 1) es else placed (λ e. not (is_in_table t e.manager)) (i + 1) es)) [
+    elim (not (is_in_table t e.manager)) as (λ b. cond b (e.manager ∷ filter (λ k. not (is_in_table t k)) (managers es))
+    (filter (λ k. not (is_in_table t k)) (managers es))
+    ≡ map (λ e. e.1.manager) (if b then (i, e) ∷ placed (λ e. not (is_in_table t e.manager)) (i + 1) es else placed (λ e. not (is_in_table t e.manager))
+    (i + 1) es)) [
       | true ↦ ap (λ ks. e.manager ∷ ks) rest
       | false ↦ rest
     ]
@@ -132,12 +139,14 @@ change-turned t e f k own =
     moment-back e.moment f.moment ∙ (λ i. option_map (λ at. moment_or at (sym own i)) (new_moment e.moment f.moment)) in
     λ i. record { manager = sym k i; gain = minus e.owned f.owned; lose = minus f.owned e.owned; moment = moment i }
 
-turned-unless : (b : Bool) (t : Table) (x y : Change) → x ≡ turned_change t y → (if b then None else Some x) ≡ option_map (turned_change t) (if b then None else Some y)
+turned-unless : (b : Bool) (t : Table) (x y : Change) → x ≡ turned_change t y
+    → (if b then None else Some x) ≡ option_map (turned_change t) (if b then None else Some y)
 turned-unless true t x y e = refl
 turned-unless false t x y e = ap (λ c. Some c) e
 
 -- one entry's change, turned
-entry-back : (t : Table) (e f : Entry) → e.manager ≡ f.manager → entry_of t e.manager ≡ Some e → change_of f (Some e) ≡ option_map (turned_change t) (change_of e (Some f))
+entry-back : (t : Table) (e f : Entry) → e.manager ≡ f.manager → entry_of t e.manager ≡ Some e
+    → change_of f (Some e) ≡ option_map (turned_change t) (change_of e (Some f))
 entry-back t e f k own =
     ap (λ b. if b then None else Some (change_to f e)) (entry-both f e)
     ∙ turned-unless (is_unchanged e f) t (change_to f e) (change_to e f) (change-turned t e f k own)
@@ -181,10 +190,12 @@ changes_back t u a b order =
     let back : ManagerKey → Option Change = λ k. option_map (turned_change t) (between t u k) in
     changes-shared u t u (entry-own u b)
     ∙ ap (filter_map (between u t)) (sym order)
-    ∙ found-alike (between u t) back (filter (is_in_table u) (managers t)) (all-passing (λ k. between u t k ≡ back k) (is_in_table u) (is_in_table t) (shared-turned t u) t (each-in t))
+    ∙ found-alike (between u t) back (filter (is_in_table u) (managers t))
+    (all-passing (λ k. between u t k ≡ back k) (is_in_table u) (is_in_table t) (shared-turned t u) t (each-in t))
     ∙ sym (map-found (turned_change t) (between t u) (filter (is_in_table u) (managers t)))
     ∙ ap (map (turned_change t)) (sym (changes-shared t u t (entry-own t a)))
 
+-- of any two bodies, the record of the way back is the turned record of the way there
 pub body_turns : BodyTurns
 body_turns v w =
     let cut = cuts_back v w in
@@ -193,6 +204,7 @@ body_turns v w =
     let put = puts_back v w in
     λ i. record { cut = cut i; leaves = leaves i; order = orders i; put = put i }
 
+-- so it is of two tables of distinct managers, the common ones in one order
 pub table_turns : TableTurns
 table_turns t u a b order =
     let changed = changes_back t u a b order in
@@ -200,6 +212,7 @@ table_turns t u a b order =
     let here = here_back t u in
     λ i. record { changed = changed i; gone = gone i; here = here i }
 
+-- and of two states with such tables
 pub record_turns : RecordTurns
 record_turns v w a b order =
     let body = body_turns v.body w.body in

@@ -18,20 +18,26 @@ use Rattle.ssa_model.proofs.PartValues.{parent-prefixed}
 found-tested : (test : Path → Bool) (ps : List Path) → map (λ (e : Path × Unit {0}). e.0) (found (λ p. cond (test p) (Some tt) None) ps) ≡ filter test ps
 found-tested test [] = refl
 found-tested test (p ∷ ps) =
-    elim (test p) as (λ b. map (λ (e : Path × Unit {0}). e.0) (cons_option (option_map (λ x. (p, x)) (cond b (Some tt) None)) (found (λ p. cond (test p) (Some tt) None) ps)) ≡ cond b (p ∷ filter test ps) (filter test ps)) [
+    elim (test p) as (λ b. map (λ (e : Path × Unit {0}). e.0)
+    (cons_option (option_map (λ x. (p, x)) (cond b (Some tt) None)) (found (λ p. cond (test p) (Some tt) None) ps))
+    ≡ cond b (p ∷ filter test ps) (filter test ps)) [
       | true ↦ ap (λ qs. p ∷ qs) (found-tested test ps)
       | false ↦ found-tested test ps
     ]
 
+-- what is cut are those of the first body's paths that pass a test, in their order
 pub cuts_are_filtered : CutsAreFiltered
 cuts_are_filtered v w = ap (map (λ (e : Path × Unit {0}). e.0)) (map-entries (λ p. cond (is_top w p) (Some tt) None) v) ∙ found-tested (is_top w) (paths v)
 
+-- the new leaves are answers along the first body's paths, in their order
 pub leaves_are_filtered : LeavesAreFiltered
 leaves_are_filtered v w = map-entries (λ p. new_leaf (get v p) (get w p)) v
 
+-- so are the new orders
 pub orders_are_filtered : OrdersAreFiltered
 orders_are_filtered v w = map-entries (λ p. new_order (get v p) (get w p)) v
 
+-- what is put are answers along the second body's paths, in their order
 pub puts_are_filtered : PutsAreFiltered
 puts_are_filtered v w = map-entries (λ p. if is_top v p then Some (part_at w p) else None) w
 
@@ -63,21 +69,30 @@ below-below w p q =
 part-below : (w : Body) (p : Path) (x : Element) (s : Path) → part_at (below w p) (x ∷ s) ≡ part_at w (p ++ x ∷ s)
 part-below w p x s =
     let place : item_place (below w p) (x ∷ s) ≡ item_place w (p ++ x ∷ s) =
-    λ i. elim (sym (last-prefixed p x s) i) [ None ↦ None | Some e ↦ position_from (same_element e) 0 (order_at ((get-below w p (parent (x ∷ s)) ∙ ap (get w) (sym (parent-prefixed p x s))) i)) ] in
+    λ i. elim (sym (last-prefixed p x s) i) [
+      | None ↦ None
+      | Some e ↦ position_from (same_element e) 0
+          (order_at ((get-below w p (parent (x ∷ s)) ∙ ap (get w) (sym (parent-prefixed p x s))) i))
+    ] in
     λ i. record { below = below-below w p (x ∷ s) i; place = place i }
 
 put-below : (v w : Body) (p q : Path) → has v p ≡ true
-    → cond (has w (p ++ q)) (if is_top v (p ++ q) then Some (part_at w (p ++ q)) else None) None ≡ cond (has (below w p) q) (if is_top (below v p) q then Some (part_at (below w p) q) else None) None
+    → cond (has w (p ++ q)) (if is_top v (p ++ q) then Some (part_at w (p ++ q)) else None) None
+    ≡ cond (has (below w p) q) (if is_top (below v p) q then Some (part_at (below w p) q) else None) None
 put-below v w p [] h =
-    (λ i. cond (sym (has-below w p []) i) (if nothing-top (has v (p ++ [])) (has v (parent (p ++ []))) (at-root v p h) i then Some (part_at w (p ++ [])) else None) None)
-    ∙ sym (λ i. cond (has (below w p) []) (if nothing-top (has (below v p) []) (has (below v p) []) (has-below v p [] ∙ at-root v p h) i then Some (part_at (below w p) []) else None) None)
+    (λ i. cond (sym (has-below w p []) i) (if nothing-top (has v (p ++ [])) (has v (parent (p ++ []))) (at-root v p h) i then Some
+    (part_at w (p ++ [])) else None) None)
+    ∙ sym (λ i. cond (has (below w p) []) (if nothing-top (has (below v p) []) (has (below v p) []) (has-below v p []
+    ∙ at-root v p h) i then Some (part_at (below w p) []) else None) None)
 put-below v w p (x ∷ s) h =
     λ i. cond (sym (has-below w p (x ∷ s)) i) (if sym (top-below v p (x ∷ s) h) i then Some (sym (part-below w p x s) i) else None) None
 
+-- what a record has below a path of both bodies is the record of what they have there
 pub record_below_is : RecordBelow
 record_below_is v w p a b =
     let cut = same_sets (below (cuts v w) p) (cuts (below v p) (below w p)) (λ q.
-    ap is_some (get-below (cuts v w) p q) ∙ get-cuts v w (p ++ q) ∙ (λ i. sym (has-below v p q) i && sym (top-below w p q b) i) ∙ sym (get-cuts (below v p) (below w p) q)) in
+    ap is_some (get-below (cuts v w) p q) ∙ get-cuts v w (p ++ q) ∙ (λ i. sym (has-below v p q) i && sym (top-below w p q b) i)
+    ∙ sym (get-cuts (below v p) (below w p) q)) in
     let leaves = same_map (below (new_leaves v w) p) (new_leaves (below v p) (below w p)) (λ q.
     get-below (new_leaves v w) p q ∙ get-over_paths v (λ r. new_leaf (get v r) (get w r)) (p ++ q)
     ∙ (λ i. cond (is_some (sym (get-below v p q) i)) (new_leaf (sym (get-below v p q) i) (sym (get-below w p q) i)) None)

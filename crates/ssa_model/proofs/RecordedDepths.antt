@@ -52,6 +52,7 @@ module _ (readings : Readings) (bench : Bench) (valid : IsValidBench readings be
       All-cons IsShallow (record_line bench s.label v s.state) (future_lines bench s.state ss) (line-shallow s.label v s.state a own)
       (future-shallow s.state ss own (All-tail (MakesValid bench.schema.kind) s ss all))
 
+-- all values of a valid bench's file of records are shallow, where no object of its schema names a member twice
 pub recorded_bench_is_shallow : RecordedBenchIsShallow
 recorded_bench_is_shallow readings bench valid apart =
     let t = bench.timeline in

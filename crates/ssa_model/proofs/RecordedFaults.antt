@@ -26,6 +26,7 @@ use Rattle.ssa_model.proofs.RecordsBack.{record_texts_have_shape}
 use Rattle.ssa_model.proofs.ShownObjects.{identity-parts}
 use Rattle.ssa_model.proofs.SpelledValues.{text-of-lines}
 use Rattle.ssa_model.proofs.TakenOfWritten.{written-itself, is_label-of, said-back}
+use Rattle.ssa_model.proofs.Basics.{le-of as few-bytes}
 
 -- ---- shapes
 
@@ -35,6 +36,7 @@ label-shaped readings label h =
     ap (λ l. is_written_as (label_json l) j && is_label readings l) (said-back label)
     ∙ and_from (is_written_as j j) (is_label readings label) (written-itself j) (is_label-of readings label h)
 
+-- the line of two valid states that are read has the shape of a line
 pub moves_have_shape : MovesHaveShape
 moves_have_shape readings bench label v w named h a b from to =
     let p = identity-parts bench.identity named in
@@ -49,10 +51,15 @@ moves_have_shape readings bench label v w named h a b from to =
 
 -- the value of a first line, and those of the rest
 record IsRead (readings : Readings) (t : Text) (ts : List Text) (vs : List Json) : Type 0 where
+  -- the value of the first line
   pub value : Json
+  -- the values of the other lines
   pub rest : List Json
+  -- the value is read from the first line, which is its compact text
   pub read : spelled_value readings t ≡ Some value
+  -- so are the values of the other lines
   pub later : spelled_values readings ts ≡ Some rest
+  -- the values are the first and the others
   pub all : vs ≡ value ∷ rest
 
 first-read : (readings : Readings) (t : Text) (ts : List Text) (vs : List Json) → spelled_values readings (t ∷ ts) ≡ Some vs → IsRead readings t ts vs
@@ -175,12 +182,10 @@ module _ (readings : Readings) (bench : Bench) where
 
 -- ---- the text
 
+-- where each line of a text is ended, the text's lines are those that are ended
 pub whole-is : (ls : List Text) (rest : Text) (texts : List Text) → ended_lines (ls, rest) ≡ Some texts → ls ≡ texts
 whole-is ls [] texts h = same_Some ls texts h
 whole-is ls (b ∷ bs) texts h = absurd (none-some texts h)
-
-few-bytes : (a b : ℕ) → nat_le a b ≡ true → a ≤ b
-few-bytes a b h = grind (arith, nat_tests)
 
 taken-faultless : (readings : Readings) (t : Text) (bench : Bench) → recorded_bench_in readings t ≡ Some bench → recorded_fault readings t ≡ no_move_text
 taken-faultless readings t bench is =
@@ -197,6 +202,7 @@ taken-faultless readings t bench is =
     within-limit true h = (refl, h)
     within-limit false h = absurd (none-some bench h)
 
+-- a text that is told to have a record that doesn't fit gives no bench
 pub misfit_is_refused : MisfitIsRefused
 misfit_is_refused readings t h = by (recorded_bench_in readings t) refl
   where

@@ -15,8 +15,9 @@ use Rattle.ssa_model.specs.laws.RecordedMoves.{IsReadBackState}
 use Rattle.ssa_model.specs.examples.Sample.{sample_kind}
 use Rattle.ssa_model.specs.examples.FileRows.{readings_of, applied_step, filed}
 use Rattle.ssa_model.specs.examples.RecordedRows.{one_gone, RecordedFileIsMet, RecordedMovesAreMet}
-use Rattle.ssa_model.proofs.FiledBench.{le-of, spelled-in, filed-valid, first-valid, applied-valid}
+use Rattle.ssa_model.proofs.FiledBench.{spelled-in, filed-valid, first-valid, applied-valid}
 use Rattle.ssa_model.proofs.ReadPaths.{read-paths-of}
+use Rattle.ssa_model.proofs.Basics.{le-of}
 
 read-history : HasReadHistory (readings_of (recorded_values filed)) filed.timeline
 read-history =
@@ -39,6 +40,7 @@ values-spelled =
     (All-cons (IsSpelled readings) now (last ∷ []) (spelled-in (head ∷ source ∷ []) now (last ∷ []) refl)
     (All-cons (IsSpelled readings) last [] (spelled-in (head ∷ source ∷ now ∷ []) last [] refl) (All-nil (IsSpelled readings)))))
 
+-- the sample's bench has a bench file of records
 pub recorded_file_is_met : RecordedFileIsMet
 recorded_file_is_met = record {
   valid = filed-valid (recorded_values filed);
@@ -54,6 +56,7 @@ read-back : (s : State) → IsValidState sample_kind s → HasReadPaths (reading
     → AllEntries (IsReadBack (readings_of (recorded_values filed))) s.table → IsReadBackState (readings_of (recorded_values filed)) sample_kind s
 read-back s valid paths table = record { valid = valid; paths = paths; table = table }
 
+-- the states of the sample's line, the line and two damaged values meet what the laws of one line ask
 pub recorded_moves_are_met : RecordedMovesAreMet
 recorded_moves_are_met =
     let good = filed-valid (recorded_values filed) in

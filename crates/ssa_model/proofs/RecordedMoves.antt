@@ -75,6 +75,7 @@ module _ (readings : Readings) (bench : Bench) (tells : TellsLines bench) where
       of_result : Result State Fault → Option State
       of_result r = elim r [ Ok x ↦ Some x | Err f ↦ None ]
 
+  -- from the line of a move between two states that are read back this move is taken
   pub move-back : (label : Label) (v w : State) → IsLabel readings label → IsGood v → IsGood w → KeepsOrder v.table w.table
       → move_in readings bench v (record_line bench label v w) ≡ Some (label, w)
   move-back label v w h a b order =
@@ -156,9 +157,11 @@ pub line_is_move : LineIsMove
 line_is_move readings bench label v w tells h a b order =
     ap (of_move readings bench tells (record_line bench label v w)) (move-back readings bench tells label v w h a b order)
 
+-- a value that has not the shape of a line is told so
 pub shapeless_is_no_move : ShapelessIsNoMove
 shapeless_is_no_move readings bench v j tells a h = shapeless readings bench tells v j a h
 
+-- a value of the shape whose record is none from its state to a valid one that is read is told to have one that doesn't fit
 pub misfit_is_told : MisfitIsTold
 misfit_is_told readings bench v j tells a h none = misfit readings bench tells v j a h none
 
@@ -220,6 +223,7 @@ module _ (readings : Readings) where
       alone n v no_members is all has up = absurd (true≢false (sym has ∙ ap (λ m. has_member (codes "command") (member m v no_members)) is))
       alone n v (member m w ms) is all has up = none-behind n m w is (first_so _ _ all) up
 
+-- a value of the shape, whose names rise, is the line of the label and the record that its members say
 pub line_of_parts : LineOfParts
 line_of_parts readings bench label v w (object ms) shape rise said made =
     let has = second_so (are_members_of (shapes readings) ms) _ shape in

@@ -22,7 +22,8 @@ use Rattle.ssa_model.specs.laws.RecordedMoves.{IsReadBackState, TellsLines}
 use Rattle.ssa_model.specs.laws.RecordedBenches.{Counts, counts_in, present_in, past_in, future_in, with_moves, lines_bench, recorded_bench, recorded_bench_in, RecordedFilesAreTaken}
 use Rattle.ssa_model.proofs.RecordedMoves.{move-back}
 use Rattle.ssa_model.proofs.SpelledValues.{text_lines-of, spelled_values-of}
-use Rattle.ssa_model.proofs.TakenOfWritten.{written-itself, schema-back, nat_le-of, nat-itself, shown-back}
+use Rattle.ssa_model.proofs.TakenOfWritten.{written-itself, schema-back, nat-itself, shown-back}
+use Rattle.ssa_model.proofs.Basics.{nat_le-of}
 
 -- ---- the moves of a bench
 
@@ -32,9 +33,13 @@ module _ (readings : Readings) (bench : Bench) (valid : IsValidBench readings be
 
   -- of a step from a state
   record IsGoodMove (v : State) (s : Step) : Type 0 where
+    -- the state before is valid and is read back
     pub from : IsGoodState v
+    -- the state of the step is valid and is read back
     pub to : IsGoodState s.state
+    -- the step's label is one
     pub label : IsLabel readings s.label
+    -- the managers that the two states share stand in one order
     pub order : KeepsOrder v.table s.state.table
 
   abbrev AreGoodMoves : State → List Step → Type 0
@@ -91,6 +96,7 @@ module _ (readings : Readings) (bench : Bench) (valid : IsValidBench readings be
       (move-back readings bench tells s.label v s.state h.0.label h.0.from h.0.to h.0.order)
       ∙ ap (option_map (λ ts. s ∷ ts)) (future-back s.state ss h.1)
 
+-- back along some steps there are as many lines as steps
 pub past-many : (bench : Bench) (v : State) (ss : List Step) → length (past_lines bench v ss) ≡ length ss
 past-many bench v [] = refl
 past-many bench v (s ∷ ss) =
@@ -98,6 +104,7 @@ past-many bench v (s ∷ ss) =
     let rest = past-many bench s.state ss in
     omega (arith, both, rest)
 
+-- on along some steps there are as many lines as steps
 pub future-many : (bench : Bench) (v : State) (ss : List Step) → length (future_lines bench v ss) ≡ length ss
 future-many bench v [] = refl
 future-many bench v (s ∷ ss) = let rest = future-many bench s.state ss in omega (arith, rest)

@@ -36,6 +36,7 @@ counts-from v c is =
     sym (same_text-true (compact head) (compact v) (and_parts (is_written_as head v) (nat_le (past.0 + future.0) most_past) got.0).0)
     ∙ ap (λ (x : Counts). compact (record_head x.past x.future)) got.1
 
+-- the bench that is taken of a present object is made from it, and the object's text is the one that is written of the bench
 pub present-from : (v : Json) (r : Result Bench Fault) (now : Bench)
     → elim r [ Ok bench ↦ given_if (is_written_as (whole_object bench bench.timeline.first) v) bench | Err f ↦ None ] ≡ Some now
     → (r ≡ Ok now) × (compact v ≡ compact (whole_object now now.timeline.first))
@@ -70,10 +71,15 @@ module _ (readings : Readings) (bench : Bench) where
 
   -- the steps that are taken back along some lines
   record IsPast (v : State) (js : List Json) (acc : List Step) (r : State × List Step) : Type 0 where
+    -- the steps that are taken back
     pub steps : List Step
+    -- they stand before the steps that were there
     pub all : steps ++ acc ≡ r.1
+    -- the last of their states is the one from which the lines lead back
     pub last : last_state r.0 steps ≡ v
+    -- the texts of the lines are those of what is written of these steps
     pub lines : map compact js ≡ map compact (past_lines bench r.0 steps)
+    -- there are as many lines as steps
     pub many : length js ≡ length steps
 
   past-from : (v : State) (js : List Json) (acc : List Step) (r : State × List Step) → past_in readings bench v js acc ≡ Some r → IsPast v js acc r

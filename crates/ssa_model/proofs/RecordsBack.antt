@@ -140,8 +140,11 @@ module _ (readings : Readings) where
   is_given_moment (Some t) = readings.moment t
 
   record IsReadChange (c : Change) : Type 0 where
+    -- the paths that are gained are read from their texts
     pub gain : HasReadSet readings c.gain
+    -- the paths that are lost are read from their texts
     pub lose : HasReadSet readings c.lose
+    -- a new moment, where there is one, is held for a moment
     pub moment : is_given_moment c.moment ≡ true
 
   change-to-read : (e f : Entry) → IsReadEntry e → IsReadEntry f → IsReadChange (change_to e f)
@@ -198,10 +201,15 @@ module _ (readings : Readings) where
 
     -- a leaf that changes, with the second body's content
     record IsReadLeaf (e : Path × Content) : Type 0 where
+      -- the path is read from its texts
       pub path : IsReadPath readings e.0
+      -- what the schema says of the place at the path
       pub place : Place
+      -- the schema has it at the path
       pub there : place_at (of_kind kind) e.0 ≡ Some place
+      -- the content goes there
       pub fits : content_fits place e.1 ≡ true
+      -- the content is a scalar or an atomic value
       pub leaf : is_leaf (Some e.1) ≡ true
 
     each-leaf : AllByRecursion IsReadLeaf (new_leaves v w).entries
@@ -249,10 +257,15 @@ module _ (readings : Readings) where
 
     -- a part of the second body, at its place of the schema
     record IsReadPut (e : Path × Part) : Type 0 where
+      -- the path is read from its texts
       pub path : IsReadPath readings e.0
+      -- what the schema says of the place at the path
       pub place : Place
+      -- the schema has it at the path
       pub there : place_at (of_kind kind) e.0 ≡ Some place
+      -- the second body has the path
       pub has_one : has w e.0 ≡ true
+      -- the part is the second body's at the path
       pub is : e.1 ≡ part_at w e.0
 
     each-put : AllByRecursion IsReadPut (puts v w).entries
@@ -290,9 +303,13 @@ module _ (readings : Readings) where
 
 -- what is known of the two states
 record IsReadPair (readings : Readings) (kind : Kind) (v w : State) : Type 0 where
+  -- the first state is valid
   pub before : IsValidState kind v
+  -- the second state is valid
   pub after : IsValidState kind w
+  -- the paths of the first state are read, and its moments held for moments
   pub reads : IsReadState readings v
+  -- and so are those of the second
   pub reads_after : IsReadState readings w
 
 module _ (readings : Readings) (version : Text) (kind : Kind) (v w : State) (r : IsReadPair readings kind v w) where
@@ -372,10 +389,12 @@ module _ (readings : Readings) (version : Text) (kind : Kind) (v w : State) (r :
         table = record { changed = changed i; gone = gone i; here = here i };
       }
 
+-- what the record of two valid states that are read is written as has the shape of a record
 pub record_texts_have_shape : RecordTextsHaveShape
 record_texts_have_shape readings version kind v w a b h k =
     record-shaped readings version kind v w (record { before = a; after = b; reads = h; reads_after = k })
 
+-- and the record is read from it
 pub record_texts_are_read : RecordTextsAreRead
 record_texts_are_read readings version kind v w accepted a b h k =
     record-read readings version kind v w (record { before = a; after = b; reads = h; reads_after = k }) (lawful-kind kind accepted.lawful)

@@ -18,12 +18,12 @@ use Rattle.ssa_model.proofs.Pruned.{IsClosed, closed-above, from_one, some_one, 
 use Rattle.ssa_model.proofs.RecordSizes.{begins_parent, rest-under}
 use Rattle.ssa_model.proofs.Tables.{yes_no}
 use Rattle.ssa_model.proofs.Tests.{by_test}
-use Rattle.ssa_model.proofs.Fitting.{nothing_there}
 use Rattle.ssa_model.proofs.FittingBodies.{key-named}
 use Rattle.ssa_model.proofs.FittingTells.{parent_above}
 use Rattle.ssa_model.proofs.Beginnings.{rest_of-append, rest_of-is}
 use Rattle.ssa_model.proofs.TakenBodies.{part-of}
 use Rattle.ssa_model.proofs.ValidStates.{in_no_dict, no_leaf, something_below}
+use Rattle.ssa_model.proofs.Basics.{none-there as nothing_there}
 
 -- ---- answers
 
@@ -48,22 +48,26 @@ module _ (v : Body) (p : Path) (b : Body) where
       ∙ where_true (is_one_of within r) (told r)
       (λ off. nothing_there (told r) (by_test (is_some (told r)) (λ t. yes_no (is_one_of within r) (told-within r t) off) (λ k. k)))
 
+  -- at and below the path the body with the part has what the part has
   pub get-inside : (q : Path) → get (replaced v p b) (p ++ q) ≡ get b q
   get-inside q = get-told (p ++ q) ∙ ap (λ o. elim o [ None ↦ get v (p ++ q) | Some s ↦ get b s ]) (rest_of-append p q)
 
+  -- elsewhere it has what it had
   pub get-outside : (r : Path) → under p r ≡ false → get (replaced v p b) r ≡ get v r
   get-outside r off = get-told r ∙ ap (λ o. elim o [ None ↦ get v r | Some s ↦ get b s ]) (nothing_there (rest_of p r) (rest-under p r ∙ off))
 
+-- so it answers, path by path
 pub replaced_answers : ReplacedAnswers
 replaced_answers v p b = (get-inside v p b, get-outside v p b)
 
+-- what a body of the kind has at and below a path may stand there
 pub parts_fit : PartsFit
 parts_fit kind w p fits there = part-of kind w w fits fits p there
 
 -- ---- the body fits
 
 -- no path is under one that is longer
-longer : (g : Path) (e : Element) → under (g ++ e ∷ []) g ≡ false
+pub longer : (g : Path) (e : Element) → under (g ++ e ∷ []) g ≡ false
 longer [] e = refl
 longer (x ∷ g) e = ap (λ t. same_element x x && t) (longer g e) ∙ and-false (same_element x x)
   where
@@ -156,6 +160,7 @@ module _ (kind : Kind) (v : Body) (p : Path) (b : Body) (a : IsBodyOf kind v) (h
       (λ off.
       ap (λ o. is_among e (order_at o)) (outside g off) ∙ a.items g e ∙ ap (λ t. is_item_element e && t) (sym (child-there g e off)))
 
+  -- the body with the part is a body of the kind
   pub fits-replaced : IsBodyOf kind w
   fits-replaced = record {
     root = closed-above w closed-there [] p here-too refl;
@@ -166,6 +171,7 @@ module _ (kind : Kind) (v : Body) (p : Path) (b : Body) (a : IsBodyOf kind v) (h
     items = items-there;
   }
 
+-- with what may stand at a path of it, but at no key field, a body of the kind is one again
 pub replaced_fits : ReplacedFits
 replaced_fits kind v p b a here free f = fits-replaced kind v p b a here free f
 
@@ -212,8 +218,10 @@ module _ (v : Body) (p : Path) (b : Body) (rooted : IsRooted v) (here : has v p 
       has-points new metadata_path ∙ (λ i. (ap is_some same ∙ t) i && (leaf_no i || (dict_no i || not (below i)))))
       (λ k. has-points new metadata_path ∙ (λ i. (ap is_some same ∙ k) i && is_point new metadata_path))
 
+  -- the body with the part is rooted
   pub rooted-replaced : IsRooted new
   rooted-replaced = record { root = ap is_leaf (get-outside v p b [] off-root) ∙ rooted.root; metadata = no-point }
 
+-- a rooted body is rooted again with a part that has a root, at a path that is neither the root nor `metadata`
 pub replaced_is_rooted : ReplacedIsRooted
 replaced_is_rooted v p b rooted here part off = rooted-replaced v p b rooted here part off

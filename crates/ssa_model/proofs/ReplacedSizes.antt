@@ -15,9 +15,10 @@ use Rattle.ssa_model.proofs.PutParts.{get-below, has-below, prefixed}
 use Rattle.ssa_model.proofs.Pruned.{under-append, under-rest}
 use Rattle.ssa_model.proofs.RecordSizes.{length-entries, size-below}
 use Rattle.ssa_model.proofs.Lists.{has-listed}
-use Rattle.ssa_model.proofs.Tables.{either, or_true, true_or, yes_no}
+use Rattle.ssa_model.proofs.Tables.{either, true_or, yes_no}
 use Rattle.ssa_model.proofs.Tests.{by_test, same_tests}
 use Rattle.ssa_model.proofs.ReplacedParts.{get-inside, get-outside}
+use Rattle.ssa_model.proofs.Basics.{or_true}
 
 -- ---- the paths that pass a test
 
@@ -132,5 +133,6 @@ module _ (v : Body) (p : Path) (b : Body) where
       let g : size (below w p) ≡ size b = ap size part-is in
       omega arith
 
+-- with a part in place of what it had there, a body is as large as it was, less what is gone, and the part
 pub replaced_size : ReplacedSize
 replaced_size v p b = size-replaced v p b

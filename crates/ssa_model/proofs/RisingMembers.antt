@@ -8,13 +8,10 @@ use Rattle.ssa_model.specs.definitions.Json.{Text, scalar, list, object, Items, 
 use Rattle.ssa_model.specs.definitions.Objects.{is_missing}
 use Rattle.ssa_model.specs.definitions.MemberNames.{items_have_distinct_names, are_distinct_members, is_below, has_rising_names, items_have_rising_names, members_rise}
 use Rattle.ssa_model.specs.laws.MemberNames.{RisingIsDistinct}
-use Rattle.ssa_model.proofs.RisingNames.{before, lower}
+use Rattle.ssa_model.proofs.RisingNames.{before}
 use Rattle.ssa_model.proofs.Tables.{same_text-true}
-
--- what is below a name is below the names behind it
-below-on : (n m : Text) (ms : Members) → before n m ≡ true → is_below m ms ≡ true → is_below n ms ≡ true
-below-on n m no_members up rest = refl
-below-on n m (member k v ms) up rest = ap is_lt (nat_list_cmp_total.trans n m k (lower _ up) (lower _ rest))
+use Rattle.ssa_model.proofs.OneWriting.{below-on}
+use Rattle.ssa_model.proofs.Basics.{lower}
 
 below-apart : (n m : Text) → before n m ≡ true → same_text n m ≡ false
 below-apart n m up =
@@ -32,6 +29,7 @@ missing-below n (member m v ms) up rise =
     ap (λ b. is_missing (if b then Some v else member_of n ms)) (below-apart n m up) ∙ rest
 
 mutual
+  -- where the names of each object rise, no object names a member twice
   pub rising_is_distinct : RisingIsDistinct
   rising_is_distinct (scalar s) rise = refl
   rising_is_distinct (list vs) rise = items-distinct vs rise

@@ -15,9 +15,10 @@ use Rattle.ssa_model.specs.definitions.Objects.{is_missing}
 use Rattle.ssa_model.proofs.Faults.{cons≢nil, nil_first, nil_second}
 use Rattle.ssa_model.proofs.Lists.{has-listed}
 use Rattle.ssa_model.proofs.PathMaps.{is_one_of}
-use Rattle.ssa_model.proofs.ShownNames.{then_both}
 use Rattle.ssa_model.proofs.Tables.{apart_by, same_text-true, text-itself, element-itself}
 use Rattle.ssa_model.proofs.Texts.{element_text-injective}
+use Rattle.ssa_model.proofs.ReachedPlaces.{missing as none-there}
+use Rattle.ssa_model.proofs.Basics.{then_both}
 
 -- ---- one of two lists of paths
 
@@ -33,19 +34,23 @@ one-second ps qs q none = list_any-append _ ps qs ∙ ap (λ b. b || is_one_of q
 
 -- ---- paths with an element in front
 
+-- the paths, each with the element in front
 abbrev pub behind : Element → List Path → List Path
 behind e = map (λ p. e ∷ p)
 
+-- the root is none of these
 pub no-root : (e : Element) (ps : List Path) → is_one_of (behind e ps) [] ≡ false
 no-root e [] = refl
 no-root e (p ∷ ps) = no-root e ps
 
+-- a path with this element in front is one of these exactly where it is one of the paths
 pub same-behind : (e : Element) (ps : List Path) (q : Path) → is_one_of (behind e ps) (e ∷ q) ≡ is_one_of ps q
 same-behind e [] q = refl
 same-behind e (p ∷ ps) q =
     ap (λ b. b || is_one_of (behind e ps) (e ∷ q)) (then_both (element_cmp e e) (path_cmp q p) ∙ (λ i. element-itself e i && is_eq (path_cmp q p)))
     ∙ ap (λ b. is_eq (path_cmp q p) || b) (same-behind e ps q)
 
+-- a path with another element in front is none of these
 pub other-behind : (e f : Element) (ps : List Path) (q : Path) → same_element e f ≡ false → is_one_of (behind f ps) (e ∷ q) ≡ false
 other-behind e f [] q other = refl
 other-behind e f (p ∷ ps) q other =
@@ -54,22 +59,21 @@ other-behind e f (p ∷ ps) q other =
 
 -- ---- texts
 
+-- texts that differ differ the other way too
 pub other-way : (s t : Text) → same_text s t ≡ false → same_text t s ≡ false
 other-way s t other = apart_by (same_text t s) (λ same. true≢false (sym (text-itself s) ∙ ap (same_text s) (sym (same_text-true t s same)) ∙ other))
 
+-- no element's text is `.`
 pub no-dot : (e : Element) → same_text (element_text e) (codes ".") ≡ false
 no-dot (field n) = refl
 no-dot (key ks) = refl
 no-dot (value s) = refl
 
-none-there : (o : Option Json) → is_missing o ≡ true → o ≡ None
-none-there None h = refl
-none-there (Some v) h = absurd (true≢false (sym h))
-
 -- something stands there, and it is `{}` or has `.`
 abbrev pub is_said : Option Json → Bool
 is_said o = is_no_object o || has_dot o
 
+-- the value to which a path leads from a value, if there is one
 abbrev pub value_in : Path → Option Json → Option Json
 value_in p o = elim o [ None ↦ None | Some v ↦ value_below v p ]
 
@@ -85,7 +89,8 @@ module _ (reading : Text → Result Json ReadFault) where
       by true o h = cc
       by false None h = cc
       by false (Some f) h =
-          elim (same_text (element_text f) n) as (λ b. same_text (element_text f) n ≡ b → ◌≡◌ {A = Result Element ElementFault} (cond b (Ok f) (Err not_canonical)) (Ok e) → element_text e ≡ n) [
+          elim (same_text (element_text f) n) as (λ b. same_text (element_text f) n ≡ b
+          → ◌≡◌ {A = Result Element ElementFault} (cond b (Ok f) (Err not_canonical)) (Ok e) → element_text e ≡ n) [
             | true ↦ λ same k. let is : f ≡ e = cc in ap element_text (sym is) ∙ same_text-true (element_text f) n same
             | false ↦ λ _ k. cc
           ] refl h
@@ -118,7 +123,8 @@ module _ (reading : Text → Result Json ReadFault) where
   faults-inside true fs h = absurd (cons≢nil h)
   faults-inside false fs h = h
 
-  inside-said : (v : Json) (p : Path) → below_faults v ≡ [] → (fields_faults reading v ≡ [] → says v p ≡ is_one_of (said_paths reading v) p) → is_said (value_below v p) ≡ is_one_of (inside_paths v) p
+  inside-said : (v : Json) (p : Path) → below_faults v ≡ [] → (fields_faults reading v ≡ [] → says v p ≡ is_one_of (said_paths reading v) p)
+      → is_said (value_below v p) ≡ is_one_of (inside_paths v) p
   inside-said (object no_members) [] none inside = refl
   inside-said (object no_members) (e ∷ p) none inside = refl
   inside-said (object (member n v ms)) [] none inside = inside (faults-inside (same_json (object (member n v ms)) dot_alone) _ none)
@@ -126,7 +132,8 @@ module _ (reading : Text → Result Json ReadFault) where
   inside-said (scalar s) p none inside = absurd (cons≢nil none)
   inside-said (list vs) p none inside = absurd (cons≢nil none)
 
-  child-said : (e : Element) (p : Path) (n : Text) (v : Json) (r : Result Element ElementFault) → element_text e ≡ n → element_of reading n ≡ r → child_faults r v ≡ []
+  child-said : (e : Element) (p : Path) (n : Text) (v : Json) (r : Result Element ElementFault) → element_text e ≡ n → element_of reading n ≡ r
+      → child_faults r v ≡ []
       → (fields_faults reading v ≡ [] → says v p ≡ is_one_of (said_paths reading v) p) → is_said (value_below v p) ≡ is_one_of (child_paths r v) (e ∷ p)
   child-said e p n v (Err f) text is none inside = absurd (cons≢nil none)
   child-said e p n v (Ok d) text is none inside =
@@ -156,7 +163,9 @@ module _ (reading : Text → Result Json ReadFault) where
   root-said : (ms : Members) → is_some (member_of (codes ".") ms) ≡ is_one_of (member_paths reading ms) []
   root-said no_members = refl
   root-said (member n v ms) =
-      elim (same_text n (codes ".")) as (λ b. same_text n (codes ".") ≡ b → is_some (member_of (codes ".") (member n v ms)) ≡ is_one_of (cond b ([] ∷ []) (child_paths (element_of reading n) v) ++ member_paths reading ms) []) [
+      elim (same_text n (codes ".")) as (λ b. same_text n (codes ".") ≡ b
+      → is_some (member_of (codes ".") (member n v ms)) ≡ is_one_of (cond b ([] ∷ []) (child_paths (element_of reading n) v) ++ member_paths reading ms)
+      []) [
         | true ↦ λ dot. here (ap (same_text (codes ".")) (same_text-true n (codes ".") dot) ∙ text-itself (codes "."))
         | false ↦ λ other.
             here (other-way n (codes ".") other) ∙ root-said ms
@@ -173,13 +182,15 @@ module _ (reading : Text → Result Json ReadFault) where
     says-value (scalar s) distinct none p = absurd (cons≢nil none)
     says-value (list vs) distinct none p = absurd (cons≢nil none)
 
-    says-members : (ms : Members) → are_distinct_members ms ≡ true → member_faults reading ms ≡ [] → (e : Element) (p : Path) → is_said (value_in p (member_of (element_text e) ms)) ≡ is_one_of (member_paths reading ms) (e ∷ p)
+    says-members : (ms : Members) → are_distinct_members ms ≡ true → member_faults reading ms ≡ [] → (e : Element) (p : Path)
+        → is_said (value_in p (member_of (element_text e) ms)) ≡ is_one_of (member_paths reading ms) (e ∷ p)
     says-members no_members distinct none e p = refl
     says-members (member n v ms) distinct none e p =
         let later = second_so (is_missing (member_of n ms)) _ distinct in
         let rest = says-members ms (second_so (has_distinct_names v) _ later) (nil_second (own_faults n v) _ none) e p in
         let own = own_paths n v in
-        elim (same_text (element_text e) n) as (λ b. same_text (element_text e) n ≡ b → is_said (value_in p (cond b (Some v) (member_of (element_text e) ms))) ≡ is_one_of (own ++ member_paths reading ms) (e ∷ p)) [
+        elim (same_text (element_text e) n) as (λ b. same_text (element_text e) n ≡ b
+        → is_said (value_in p (cond b (Some v) (member_of (element_text e) ms))) ≡ is_one_of (own ++ member_paths reading ms) (e ∷ p)) [
           | true ↦ λ same.
               let text = same_text-true (element_text e) n same in
               let missing = ap (λ t. member_of t ms) text ∙ none-there (member_of n ms) (first_so _ _ distinct) in
@@ -188,5 +199,6 @@ module _ (reading : Text → Result Json ReadFault) where
           | false ↦ λ other. rest ∙ sym (one-second own (member_paths reading ms) (e ∷ p) (own-other e p n v other))
         ] refl
 
+-- the set that a value without faults says has just the paths that it says, where no object of it names a member twice
 pub said_set_says : SaidSetSays
 said_set_says reading v p distinct none = says-value reading v distinct none p ∙ sym (has-listed (said_paths reading v) p)

@@ -19,6 +19,7 @@ same_truth-true true b e = sym e
 same_truth-true false true e = absurd (true≢false (sym e))
 same_truth-true false false e = refl
 
+-- scalars that are told the same are one
 pub same_scalar-true : (s t : Scalar) → same_scalar s t ≡ true → s ≡ t
 same_scalar-true (text a) (text b) e = ap text (same_text-true a b e)
 same_scalar-true (whole a) (whole b) e = ap whole (same_whole-true a b e)
@@ -37,6 +38,7 @@ same_truth-itself : (a : Bool) → same_truth a a ≡ true
 same_truth-itself true = refl
 same_truth-itself false = refl
 
+-- a scalar is told the same as itself
 pub same_scalar-itself : (s : Scalar) → same_scalar s s ≡ true
 same_scalar-itself (text t) = text-itself t
 same_scalar-itself (whole (pos n)) = same_nat-itself n

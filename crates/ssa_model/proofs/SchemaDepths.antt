@@ -10,8 +10,8 @@ use Rattle.ssa_model.specs.definitions.Objects.{is_missing}
 use Rattle.ssa_model.specs.definitions.Schema.{SchemaFault, schema_keyword, schema_shape, schema_keys, Standing, schema_keywords, schema_types, is_one_of_texts, has_member, if_given, is_text, is_text_among, names, is_key_list, is_scalar_type, is_object_type, is_array_type, list_type_is, standing_inside, fault_if, has_unknown_keyword, has_wrong_type, has_wrong_shape, has_wrong_keys, is_wrong_scalar, is_wrong_object, is_wrong_array, property_members, property_faults, optional_faults, child_faults, schema_faults}
 use Rattle.ssa_model.proofs.DistinctNames.{member-distinct}
 use Rattle.ssa_model.proofs.Faults.{cons≢nil, nil_first, nil_second}
-use Rattle.ssa_model.proofs.Tables.{first_false, second_false}
-use Rattle.ssa_model.proofs.SchemaMembers.{kept, behind, no-fault, text-flat, among-flat, key_list-flat, one-of, name-passes, members-bounded, by_type}
+use Rattle.ssa_model.proofs.SchemaMembers.{behind, no-fault, text-flat, among-flat, key_list-flat, one-of, name-passes, members-bounded, by_type}
+use Rattle.ssa_model.proofs.Basics.{not_false as kept, first_false, second_false}
 
 -- what is known of a schema whose tests pass
 record IsFaultless (read : Json → List SchemaFault) (s : Standing) (ms : Members) : Type 0 where
@@ -58,7 +58,8 @@ module _ (ms : Members) (most : ℕ) where
 
   -- ---- members with schemas inside
 
-  module _ (read : Json → List SchemaFault) (bound : (v : Json) → has_distinct_names v ≡ true → read v ≡ [] → depth v ≤ most) (apart : are_distinct_members ms ≡ true) where
+  module _ (read : Json → List SchemaFault) (bound : (v : Json) → has_distinct_names v ≡ true → read v ≡ []
+      → depth v ≤ most) (apart : are_distinct_members ms ≡ true) where
     child-shallow : (n : Text) → optional_faults read (member_of n ms) ≡ [] → IsShallow n
     child-shallow n h v is = let own = bound v (member-distinct n ms v apart is) (sym (ap (optional_faults read) is) ∙ h) in omega arith
 
@@ -66,12 +67,15 @@ module _ (ms : Members) (most : ℕ) where
     all-bounded no_members once h = omega arith
     all-bounded (member n v ps) once h =
         let later = second_so (is_missing (member_of n ps)) _ once in
-        max-le (bound v (first_so (has_distinct_names v) _ later) (nil_first (read v) _ h)) (all-bounded ps (second_so (has_distinct_names v) _ later) (nil_second (read v) _ h))
+        max-le (bound v (first_so (has_distinct_names v) _ later) (nil_first (read v) _ h))
+        (all-bounded ps (second_so (has_distinct_names v) _ later) (nil_second (read v) _ h))
 
-    properties-shallow : not (if_given is_object (member_of (codes "properties") ms)) ≡ false → property_faults read (property_members ms) ≡ [] → IsShallow (codes "properties")
+    properties-shallow : not (if_given is_object (member_of (codes "properties") ms)) ≡ false → property_faults read (property_members ms) ≡ []
+        → IsShallow (codes "properties")
     properties-shallow h none (object ps) is =
         let once = member-distinct (codes "properties") ms (object ps) apart is in
-        let own = sym (ap (λ o. property_faults read (elim o [ None ↦ no_members | Some v ↦ (elim v [ object qs ↦ qs | list vs ↦ no_members | scalar s ↦ no_members ]) ])) is) ∙ none in
+        let own = sym (ap (λ o. property_faults read (elim o
+        [ None ↦ no_members | Some v ↦ (elim v [ object qs ↦ qs | list vs ↦ no_members | scalar s ↦ no_members ]) ])) is) ∙ none in
         let inside = all-bounded ps once own in
         omega arith
     properties-shallow h none (list vs) is = absurd (true≢false (sym (sym (ap (if_given is_object) is) ∙ kept _ h)))
@@ -179,10 +183,12 @@ faultless n s ms h =
       items = nil_second (optional_faults read (member_of (codes "additionalProperties") ms)) _ optional;
     }
 
+-- a schema without faults nests at most twice as deep as it has levels, where no object of it names a member twice
 pub schema-depth : (n : ℕ) (s : Standing) (v : Json) → has_distinct_names v ≡ true → schema_faults n s v ≡ [] → depth v ≤ n + n
 schema-depth zero s v apart h = absurd (cons≢nil h)
 schema-depth (suc n) s (object ms) apart h =
-    let inside = members-shallow ms (n + n) (schema_faults n (standing_inside s ms)) (λ v once none. schema-depth n (standing_inside s ms) v once none) apart s (faultless n s ms h) in
+    let inside = members-shallow ms (n + n) (schema_faults n (standing_inside s ms)) (λ v once none. schema-depth n (standing_inside s ms) v once none) apart
+    s (faultless n s ms h) in
     omega arith
 schema-depth (suc n) s (list vs) apart h = absurd (cons≢nil h)
 schema-depth (suc n) s (scalar t) apart h = absurd (cons≢nil h)

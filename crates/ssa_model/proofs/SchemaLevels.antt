@@ -34,7 +34,8 @@ module _ (n : ℕ) (inside : (v : Json) → shape_levels (shape_of_schema n v) �
   fields-shape (member m v ms) = max-le (inside v) (fields-shape ms)
 
   entries-shape : (o : Option Json) (ms : Members)
-      → shape_levels (elim o [ None ↦ record_shape (shape_fields (shape_of_schema n) (property_members ms)) | Some v ↦ dict_shape (shape_of_schema n v) ]) ≤ suc (suc n)
+      → shape_levels (elim o [ None ↦ record_shape (shape_fields (shape_of_schema n) (property_members ms)) | Some v ↦ dict_shape (shape_of_schema n v) ])
+      ≤ suc (suc n)
   entries-shape None ms = let h = fields-shape (property_members ms) in omega arith
   entries-shape (Some v) ms = let h = inside v in omega arith
 
@@ -42,7 +43,8 @@ schema-shape : (n : ℕ) (v : Json) → shape_levels (shape_of_schema n v) ≤ s
 schema-shape zero v = omega arith
 schema-shape (suc n) (object ms) =
     either-shape (is_array_type ms) _ _ (suc (suc n)) (items-shape n (λ v. schema-shape n v) (member_of (codes "items") ms))
-    (either-shape (is_object_type ms) _ _ (suc (suc n)) (entries-shape n (λ v. schema-shape n v) (member_of (codes "additionalProperties") ms) ms) (omega arith))
+    (either-shape (is_object_type ms) _ _ (suc (suc n)) (entries-shape n (λ v. schema-shape n v) (member_of (codes "additionalProperties") ms) ms)
+    (omega arith))
 schema-shape (suc n) (list vs) = omega arith
 schema-shape (suc n) (scalar s) = omega arith
 
@@ -58,10 +60,12 @@ module _ (n most : ℕ) (inside : (v : Json) → levels (kind_of_schema n v) ≤
   entries-kind None ms = let h = fields-kind (property_members ms) in omega arith
   entries-kind (Some v) ms = let h = inside v in omega arith
 
-  items-kind : (ms : Members) → levels (items_of (sorted_texts (key_names ms)) (kind_fields (kind_of_schema n) (property_members (item_members ms)))) ≤ suc (suc most)
+  items-kind : (ms : Members) → levels (items_of (sorted_texts (key_names ms)) (kind_fields (kind_of_schema n) (property_members (item_members ms))))
+      ≤ suc (suc most)
   items-kind ms = let h = fields-kind (property_members (item_members ms)) in omega arith
 
-  later-kind : (ms : Members) → levels (atomic_of (shape_of_schema (suc n) (object ms))) ≤ suc (suc most) → levels (kind_of_schema (suc n) (object ms)) ≤ suc (suc most)
+  later-kind : (ms : Members) → levels (atomic_of (shape_of_schema (suc n) (object ms))) ≤ suc (suc most)
+      → levels (kind_of_schema (suc n) (object ms)) ≤ suc (suc most)
   later-kind ms atomic =
       let entries = entries-kind (member_of (codes "additionalProperties") ms) ms in
       either-kind (is_atomic ms) _ _ _ atomic
@@ -82,7 +86,9 @@ schema-kind (suc n) (scalar s) = omega arith
 with_field-levels : (n : Text) (k : Kind) (fs : Fields) → fields_levels (with_field n k fs) ≤ max (levels k) (fields_levels fs)
 with_field-levels n k no_fields = omega arith
 with_field-levels n k (kind_field m j fs) =
-    elim (slice_cmp nat_cmp n m) as (λ o. fields_levels (elim o [ Less ↦ kind_field n k (kind_field m j fs) | Equal ↦ kind_field n k fs | Greater ↦ kind_field m j (with_field n k fs) ]) ≤ max (levels k) (max (levels j) (fields_levels fs))) [
+    elim (slice_cmp nat_cmp n m) as (λ o. fields_levels (elim o
+    [ Less ↦ kind_field n k (kind_field m j fs) | Equal ↦ kind_field n k fs | Greater ↦ kind_field m j (with_field n k fs) ])
+    ≤ max (levels k) (max (levels j) (fields_levels fs))) [
       | Less ↦ omega arith
       | Equal ↦ omega arith
       | Greater ↦ let h = with_field-levels n k fs in omega arith
@@ -98,14 +104,17 @@ with_metadata-levels (items_of names fs) = omega arith
 
 -- ---- the reading
 
-read-as : (fs : List SchemaFault) (k kind : Kind) → ◌≡◌ {A = Result Kind SchemaFault} (elim fs [ [] ↦ Ok k | f ∷ gs ↦ Err f ]) (Ok kind) → (fs ≡ []) × (k ≡ kind)
+read-as : (fs : List SchemaFault) (k kind : Kind) → ◌≡◌ {A = Result Kind SchemaFault} (elim fs [ [] ↦ Ok k | f ∷ gs ↦ Err f ]) (Ok kind) → (fs ≡ [])
+    × (k ≡ kind)
 read-as [] k kind h = (refl, cc)
 read-as (f ∷ fs) k kind h = cc
 
 -- a schema that is read has no faults, and the kind is its own
-pub read-parts : (v : Json) (kind : Kind) → read_schema v ≡ Ok kind → (schema_faults most_levels at_root v ≡ []) × (with_metadata metadata_fields (kind_of_schema most_levels v) ≡ kind)
+pub read-parts : (v : Json) (kind : Kind) → read_schema v ≡ Ok kind → (schema_faults most_levels at_root v ≡ [])
+    × (with_metadata metadata_fields (kind_of_schema most_levels v) ≡ kind)
 read-parts v kind h = read-as (schema_faults most_levels at_root v) (with_metadata metadata_fields (kind_of_schema most_levels v)) kind h
 
+-- the kind of a schema that is read has at most 65 levels
 pub read-levels : (v : Json) (kind : Kind) → read_schema v ≡ Ok kind → levels kind ≤ 65
 read-levels v kind h =
     let same = ap levels (read-parts v kind h).1 in

@@ -11,29 +11,30 @@ use Rattle.ssa_model.specs.definitions.Objects.{is_missing}
 use Rattle.ssa_model.specs.definitions.Schema.{SchemaFault, schema_types, is_one_of_texts, is_text, is_text_among, names, texts_of, are_keys, is_key_list, is_scalar_type, is_object_type, is_array_type, fault_if, has_wrong_type}
 use Rattle.ssa_model.proofs.Faults.{cons≢nil}
 use Rattle.ssa_model.proofs.Given.{and_then-back, map-back}
-use Rattle.ssa_model.proofs.Tables.{same_text-true, text-itself, first_false, either}
+use Rattle.ssa_model.proofs.Tables.{same_text-true, text-itself, either}
+use Rattle.ssa_model.proofs.Basics.{not_false as kept, first_false}
 
 -- ---- tests that fail
 
-pub kept : (b : Bool) → not b ≡ false → b ≡ true
-kept true h = refl
-kept false h = cc
-
+-- where the first of two tests passes but not both do, the second fails
 pub behind : (a b : Bool) → a ≡ true → (a && b) ≡ false → b ≡ false
 behind true b a h = h
 behind false b a h = cc
 
+-- a test that tells a fault fails where none is told
 pub no-fault : (b : Bool) (f : SchemaFault) → fault_if b f ≡ [] → b ≡ false
 no-fault true f h = absurd (cons≢nil h)
 no-fault false f h = refl
 
 -- ---- values that are flat
 
+-- a text nests no level
 pub text-flat : (v : Json) → is_text v ≡ true → depth v ≡ 0
 text-flat (scalar s) h = refl
 text-flat (list vs) h = cc
 text-flat (object ms) h = cc
 
+-- one of some texts nests no level
 pub among-flat : (ts : List Text) (v : Json) → is_text_among ts v ≡ true → depth v ≡ 0
 among-flat ts (scalar s) h = refl
 among-flat ts (list vs) h = cc
@@ -48,6 +49,7 @@ texts-flat (item v vs) ts h =
     let later = texts-flat vs rest.0 rest.1 in
     omega arith
 
+-- a list of key fields' names nests at most one level
 pub key_list-flat : (v : Json) → is_key_list v ≡ true → depth v ≤ 1
 key_list-flat (scalar s) h = cc
 key_list-flat (object ms) h = cc
@@ -75,7 +77,8 @@ name-passes test n (member m w ms) v h is =
     ] refl is
 
 -- where no name stands twice, a bound of the members that are found by their names is one of all
-pub members-bounded : (ms : Members) (most : ℕ) → are_distinct_members ms ≡ true → ((n : Text) (v : Json) → member_of n ms ≡ Some v → depth v ≤ most) → members_depth ms ≤ most
+pub members-bounded : (ms : Members) (most : ℕ) → are_distinct_members ms ≡ true → ((n : Text) (v : Json) → member_of n ms ≡ Some v → depth v ≤ most)
+    → members_depth ms ≤ most
 members-bounded no_members most apart h = omega arith
 members-bounded (member m w ms) most apart h =
     max-le (h m w (ap (λ b. if b then Some w else member_of m ms) (text-itself m)))
@@ -84,7 +87,8 @@ members-bounded (member m w ms) most apart h =
     later : (n : Text) (v : Json) → member_of n ms ≡ Some v → (if same_text n m then Some w else member_of n ms) ≡ Some v
     later n v is =
         elim (same_text n m) as (λ b. same_text n m ≡ b → (if b then Some w else member_of n ms) ≡ Some v) [
-          | true ↦ λ same. absurd (true≢false (sym (first_so (is_missing (member_of m ms)) _ apart) ∙ ap (λ t. is_missing (member_of t ms)) (sym (same_text-true n m same)) ∙ ap is_missing is))
+          | true ↦ λ same. absurd (true≢false (sym (first_so (is_missing (member_of m ms)) _ apart)
+              ∙ ap (λ t. is_missing (member_of t ms)) (sym (same_text-true n m same)) ∙ ap is_missing is))
           | false ↦ λ _. is
         ] refl
 
@@ -104,7 +108,8 @@ module _ (ms : Members) (A : Type 0) where
   pub by_type : has_wrong_type ms ≡ false → (is_scalar_type ms ≡ true → A) → (is_object_type ms ≡ true → A) → (is_array_type ms ≡ true → A) → A
   by_type wrong of_scalar of_object of_array =
       let given = first_false (elim (member_of (codes "type") ms) [ None ↦ true | Some v ↦ not (is_text_among schema_types v) ]) _ wrong in
-      elim (member_of (codes "type") ms) as (λ o. member_of (codes "type") ms ≡ o → elim o [ None ↦ true | Some v ↦ not (is_text_among schema_types v) ] ≡ false → A) [
+      elim (member_of (codes "type") ms) as (λ o. member_of (codes "type") ms ≡ o
+      → elim o [ None ↦ true | Some v ↦ not (is_text_among schema_types v) ] ≡ false → A) [
         | None ↦ λ _ h. absurd (true≢false h)
         | Some v ↦ λ is h. named v is (kept (is_text_among schema_types v) h)
       ] refl given

@@ -18,17 +18,20 @@ use Rattle.ssa_model.proofs.KindParts.{EachField, each_field, OfEach, OfParts, e
 use Rattle.ssa_model.proofs.Places.{place-after, stands}
 use Rattle.ssa_model.proofs.ShownItems.{each-among, IsSetItem, set-item, IsListItem, list-item}
 use Rattle.ssa_model.proofs.ShownNames.{names-there}
-use Rattle.ssa_model.proofs.Tables.{no, text-itself, element-itself, true_or, or_true}
+use Rattle.ssa_model.proofs.Tables.{text-itself, element-itself, true_or}
+use Rattle.ssa_model.proofs.Basics.{or_true, not_true as no}
 
 -- ---- single contents
 
-scalar-fits : (k : ScalarKind) (c : Content) (q : Path) → content_fits (of_kind (scalar_kind k)) c ≡ true → faults (scalar_kind k) (content_value (Some c)) q ≡ []
+scalar-fits : (k : ScalarKind) (c : Content) (q : Path) → content_fits (of_kind (scalar_kind k)) c ≡ true
+    → faults (scalar_kind k) (content_value (Some c)) q ≡ []
 scalar-fits k (leaf s) q h = ap (λ b. fault_unless b wrong_type q) h
 scalar-fits k _ q h = absurd (true≢false (sym h))
 
 -- ---- members
 
-member-joins : (fs : Fields) (n : Text) (k : Kind) (v : Json) (ms : Members) (q : Path) → kind_of n fs ≡ Some k → faults k v (q ++ field n ∷ []) ≡ [] → field_faults fs ms q ≡ [] → field_faults fs (member n v ms) q ≡ []
+member-joins : (fs : Fields) (n : Text) (k : Kind) (v : Json) (ms : Members) (q : Path) → kind_of n fs ≡ Some k → faults k v (q ++ field n ∷ []) ≡ []
+    → field_faults fs ms q ≡ [] → field_faults fs (member n v ms) q ≡ []
 member-joins fs n k v ms q is first rest =
     ap (λ o. elim o [ None ↦ fault_at unknown_field (q ++ field n ∷ []) ∷ [] | Some j ↦ faults j v (q ++ field n ∷ []) ] ++ field_faults fs ms q) is
     ∙ (λ i. first i ++ rest i)
@@ -43,12 +46,14 @@ module _ (b : Body) (p : Path) where
   members-fit fs (kind_field n k gs) q h =
       let rest = members-fit fs gs q h.1 in
       let ms = shown_fields gs b p in
-      elim (has b (p ++ field n ∷ [])) as (λ t. has b (p ++ field n ∷ []) ≡ t → field_faults fs (if t then member n (shown k b (p ++ field n ∷ [])) (shown_fields gs b p) else shown_fields gs b p) q ≡ []) [
+      elim (has b (p ++ field n ∷ [])) as (λ t. has b (p ++ field n ∷ []) ≡ t
+      → field_faults fs (if t then member n (shown k b (p ++ field n ∷ [])) (shown_fields gs b p) else shown_fields gs b p) q ≡ []) [
         | true ↦ λ t. member-joins fs n k (shown k b (p ++ field n ∷ [])) (shown_fields gs b p) q h.0.0 (h.0.1 t (q ++ field n ∷ [])) rest
         | false ↦ λ t. rest
       ] refl
 
-  entries-fit : (k : Kind) (ns : List Text) (q : Path) → AllByRecursion (λ n. (r : Path) → faults k (shown k b (p ++ field n ∷ [])) r ≡ []) ns → entry_faults k (entry_members (shown k b) p ns) q ≡ []
+  entries-fit : (k : Kind) (ns : List Text) (q : Path) → AllByRecursion (λ n. (r : Path) → faults k (shown k b (p ++ field n ∷ [])) r ≡ []) ns
+      → entry_faults k (entry_members (shown k b) p ns) q ≡ []
   entries-fit k [] q h = refl
   entries-fit k (n ∷ ns) q h = let rest = entries-fit k ns q h.1 in λ i. h.0 (q ++ field n ∷ []) i ++ rest i
 
@@ -82,7 +87,8 @@ module _ (kind : Kind) (b : Body) (p : Path) where
       ∙ (λ i. or_else (fault_unless (h.0.fits i) wrong_type q) (fault_unless (not (fresh i)) duplicate_item (q ++ value own ∷ [])) ++ rest i)
 
   module _ (ns : List Text) (fs : Fields) where
-    items-fit : (es earlier : List Element) (q : Path) → AllByRecursion (IsListItem kind ns fs b p) es → AllByRecursion (λ e. (r : Path) → field_faults fs (shown_fields fs b (p ++ e ∷ [])) r ≡ []) es
+    items-fit : (es earlier : List Element) (q : Path) → AllByRecursion (IsListItem kind ns fs b p) es
+        → AllByRecursion (λ e. (r : Path) → field_faults fs (shown_fields fs b (p ++ e ∷ [])) r ≡ []) es
         → are_distinct es ≡ true → AreNew earlier es → item_faults ns fs earlier (shown_items (λ r. object (shown_fields fs b r)) p es) q ≡ []
     items-fit [] earlier q h fits apart new = refl
     items-fit (e ∷ es) earlier q h fits apart new =
@@ -96,6 +102,7 @@ module _ (kind : Kind) (b : Body) (p : Path) where
 -- ---- any kind
 
 module _ (kind : Kind) (b : Body) (k : IsBodyOf kind b) where
+  -- the value that is shown has no fault at any place of this kind that the body has
   abbrev pub Fits : Kind → Type 0
   Fits j = (p q : Path) → place_at (of_kind kind) p ≡ Some (of_kind j) → has b p ≡ true → faults j (shown j b p) q ≡ []
 
@@ -111,27 +118,35 @@ module _ (kind : Kind) (b : Body) (k : IsBodyOf kind b) where
       members-fit b p fs fs q (each_field (IsFitField b p fs) fs ordered
       (λ n j is. (is, λ one t. each n j is (p ++ field n ∷ []) t (place-after p (of_kind kind) (field n) r at ∙ like n ∙ ap (option_map of_kind) is) one)))
 
-  dict-fits : (j : Kind) (p q : Path) → place_at (of_kind kind) p ≡ Some (of_kind (dict_of j)) → Fits j → entry_faults j (entry_members (shown j b) p (names_below b p)) q ≡ []
+  dict-fits : (j : Kind) (p q : Path) → place_at (of_kind kind) p ≡ Some (of_kind (dict_of j)) → Fits j
+      → entry_faults j (entry_members (shown j b) p (names_below b p)) q ≡ []
   dict-fits j p q at each =
-      entries-fit b p j (names_below b p) q (each-among same_text text-itself (λ n. (r : Path) → faults j (shown j b (p ++ field n ∷ [])) r ≡ []) (names_below b p)
+      entries-fit b p j (names_below b p) q (each-among same_text text-itself (λ n. (r : Path)
+      → faults j (shown j b (p ++ field n ∷ [])) r ≡ []) (names_below b p)
       (λ n among r. each (p ++ field n ∷ []) r (place-after p (of_kind kind) (field n) (of_kind (dict_of j)) at) (sym (names-there b p n) ∙ among)))
 
+  -- so it is at each place of a kind, where it is at those of the kind's parts
   pub all_fit : OfParts Fits
   all_fit = record {
-    of_scalar = λ s p q at one. let c = stands kind b k p (of_kind (scalar_kind s)) at one in ap (λ o. faults (scalar_kind s) (content_value o) q) c.is_there ∙ scalar-fits s c.content q c.fits;
-    of_atomic = λ s p q at one. let c = stands kind b k p (of_kind (atomic_of s)) at one in ap (λ o. faults (atomic_of s) (content_value o) q) c.is_there ∙ atomic-fits s c.content q c.fits;
+    of_scalar = λ s p q at one. let c = stands kind b k p (of_kind (scalar_kind s)) at one in ap (λ o. faults (scalar_kind s) (content_value o) q) c.is_there
+        ∙ scalar-fits s c.content q c.fits;
+    of_atomic = λ s p q at one. let c = stands kind b k p (of_kind (atomic_of s)) at one in ap (λ o. faults (atomic_of s) (content_value o) q) c.is_there
+        ∙ atomic-fits s c.content q c.fits;
     of_record = λ fs ordered each p q at one. fields-fit (of_kind (record_of fs)) fs p q (λ n. refl) at ordered each;
     of_dict = λ j each p q at one. dict-fits j p q at each;
     of_set = λ s p q at one.
-        values-fit kind b p s (order_at (get b p)) [] q (each-among same_element element-itself (IsSetItem s b p) (order_at (get b p)) (λ e among. set-item kind b k s p e at among)) (k.once p) (λ e _. refl);
+        values-fit kind b p s (order_at (get b p)) [] q (each-among same_element element-itself (IsSetItem s b p) (order_at (get b p))
+        (λ e among. set-item kind b k s p e at among)) (k.once p) (λ e _. refl);
     of_items = λ ns fs names ordered each p q at one.
-        let items = each-among same_element element-itself (IsListItem kind ns fs b p) (order_at (get b p)) (λ e among. list-item kind b k ns fs names p e at among) in
+        let items = each-among same_element element-itself (IsListItem kind ns fs b p) (order_at (get b p))
+        (λ e among. list-item kind b k ns fs names p e at among) in
         items-fit kind b p ns fs (order_at (get b p)) [] q items
         (each-among same_element element-itself (λ e. (r : Path) → field_faults fs (shown_fields fs b (p ++ e ∷ [])) r ≡ []) (order_at (get b p))
         (λ e among r. fields-fit (item_of ns fs) fs (p ++ e ∷ []) r (λ n. refl) (list-item kind b k ns fs names p e at among).at ordered each))
         (k.once p) (λ e _. refl);
   }
 
+-- the value that a body of a lawful kind shows has no fault
 pub shown_fits : ShownFits
 shown_fits kind body lawful k =
     let ordered = first_so (is_ordered kind) _ (second_so (is_root_kind kind) _ lawful) in

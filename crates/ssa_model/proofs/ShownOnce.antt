@@ -20,7 +20,7 @@ use Rattle.ssa_model.proofs.KindParts.{EachField, each_field, OfEach, OfParts, o
 use Rattle.ssa_model.proofs.NamesOnce.{names_once, fields_once, entries_once, items_once, field_once}
 use Rattle.ssa_model.proofs.PutMembers.{metadata, rise, are_above, above-none, above-on, order-same, greater-other, put-other}
 use Rattle.ssa_model.proofs.ShownObjects.{shown-rise, metadata-is, shown_metadata, ordered, hs, of_metadata, apart-root, bare_value}
-use Rattle.ssa_model.proofs.Tables.{no}
+use Rattle.ssa_model.proofs.Basics.{not_true as no}
 
 -- ---- values of any kind
 
@@ -120,6 +120,7 @@ module _ (fs : Fields) (b : Body) (a : IsSchemaKind (record_of fs)) where
         | false ↦ refl
       ]
 
+  -- the value of a body without anything of the identity names no member of a place twice
   pub bare-once : names_once (record_of fs) (bare_value fs b) ≡ true
   bare-once =
       let fields = shown_fields fs b [] in

@@ -30,6 +30,7 @@ module _ (fs : Fields) (b : Body) (a : IsSchemaKind (record_of fs)) (v k n : Tex
   abbrev filled : Members
   filled = with_member (codes "managedFields") entries (inside fs b a v k n ns)
 
+  -- the members of the body's object with the managers' entries in its metadata
   abbrev pub full : Members
   full = with_member metadata (object filled) plain
 
@@ -39,6 +40,7 @@ module _ (fs : Fields) (b : Body) (a : IsSchemaKind (record_of fs)) (v k n : Tex
       (rise-put (codes "kind") (scalar (text k)) (with_member metadata (object (inside fs b a v k n ns)) (shown_fields fs b []))
       (rise-put metadata (object (inside fs b a v k n ns)) (shown_fields fs b []) (shown-rise b [] fs (ordered fs a))))
 
+  -- of an object file with these members, the body's value is that of the body without anything of the identity
   pub value-is : file_value (object full) ≡ bare_value fs b
   value-is =
       let fields = shown_fields fs b [] in
@@ -77,15 +79,18 @@ module _ (fs : Fields) (b : Body) (a : IsSchemaKind (record_of fs)) (v k n : Tex
   full-object : is_some_object (value_at (codes "metadata" ∷ []) (object full)) ≡ true
   full-object = ap (λ o. is_some_object (option_and_then (value_at []) o)) full-metadata
 
+  -- the managers' entries are found in the object
   pub full-entries : value_at (codes "metadata" ∷ codes "managedFields" ∷ []) (object full) ≡ Some entries
   full-entries = inside-it (codes "managedFields") ∙ put-found (codes "managedFields") entries (inside fs b a v k n ns)
 
 -- ---- the object with the entries of a table
 
+-- the managers' entries of a table, as they are written
 abbrev pub written : Text → Table → Json
 written v table = list (entry_items (text_json v) table)
 
 module _ (fs : Fields) (b : Body) (a : IsSchemaKind (record_of fs)) (v k n : Text) (ns : Option Json) (e : Entry) (es : Table) where
+  -- the object with the entries of a table is the body's object with these entries in its metadata
   pub shown-is : with_managed_fields (e ∷ es) (object (members fs b a v k n ns)) ≡ object (full fs b a v k n ns (written v (e ∷ es)))
   shown-is =
       let version = ap (λ o. version_in (option_and_then (value_at []) o)) (version-there fs b a v k n ns) in
@@ -109,20 +114,27 @@ module _ (fs : Fields) (b : Body) (s : IsShownBody (record_of fs) b) (v k n : Te
       ∙ ap (with_table b) (table-back readings b v (e ∷ es) t back)
 
   bench-is : (readings : Readings) (value : Json) → IsTable b (e ∷ es) → AllEntries (IsReadBack readings) (e ∷ es) → is_identity (parts v k n ns) ≡ true
-      → bench_of readings (record { source = value; kind = record_of fs }) (object_of_state (parts v k n ns) (record_of fs) true (record { body = b; table = e ∷ es }))
-      ≡ Ok (record { schema = record { source = value; kind = record_of fs }; identity = parts v k n ns; timeline = lone_state (record { body = b; table = e ∷ es }) })
+      → bench_of readings (record { source = value; kind = record_of fs })
+      (object_of_state (parts v k n ns) (record_of fs) true (record { body = b; table = e ∷ es }))
+      ≡ Ok (record {
+        schema = record { source = value; kind = record_of fs };
+        identity = parts v k n ns;
+        timeline = lone_state (record { body = b; table = e ∷ es });
+      })
   bench-is readings value t back h =
       let obj = object (full fs b s.accepted v k n ns own) in
       let identity = full-identity fs b s.accepted v k n ns own in
       let named : names_itself obj ≡ true = (λ i. full-object fs b s.accepted v k n ns own i && is_identity (identity i)) ∙ h in
       ap (bench_of readings (record { source = value; kind = record_of fs })) (shown-is fs b s.accepted v k n ns e es)
-      ∙ ap (λ t. if not t then Err identity_fault else with_lone_state (record { source = value; kind = record_of fs }) (identity_of obj) (file_state readings (record_of fs) obj)) named
+      ∙ ap (λ t. if not t then Err identity_fault else with_lone_state (record { source = value; kind = record_of fs }) (identity_of obj)
+      (file_state readings (record_of fs) obj)) named
       ∙ (λ i. with_lone_state (record { source = value; kind = record_of fs }) (identity i) (state-is readings t back i))
 
 -- ---- the law
 
 abbrev Taken : Readings → Schema → State → Identity → Type 0
-Taken readings schema state i = bench_of readings schema (object_of_state i schema.kind true state) ≡ Ok (record { schema = schema; identity = i; timeline = lone_state state })
+Taken readings schema state i = bench_of readings schema (object_of_state i schema.kind true state)
+    ≡ Ok (record { schema = schema; identity = i; timeline = lone_state state })
 
 body-of : (kind : Kind) (state : State) → IsSchemaKind kind → IsValidState kind state → IsShownBody kind state.body
 body-of kind state accepted valid = record { accepted = accepted; fits = valid.fits; rooted = valid.rooted; few = valid.few }
@@ -136,11 +148,13 @@ by-table readings value fs identity body (e ∷ es) h s t back =
     subst (Taken readings (record { source = value; kind = record_of fs }) (record { body = body; table = e ∷ es })) (sym p.is)
     (bench-is fs body s p.version p.kind p.name p.namespace e es readings value t back (ap is_identity (sym p.is) ∙ h))
 
-by-kind : (readings : Readings) (value : Json) (kind : Kind) (identity : Identity) (state : State) → is_identity identity ≡ true → IsSchemaKind kind → IsValidState kind state → AllEntries (IsReadBack readings) state.table
+by-kind : (readings : Readings) (value : Json) (kind : Kind) (identity : Identity) (state : State) → is_identity identity ≡ true → IsSchemaKind kind
+    → IsValidState kind state → AllEntries (IsReadBack readings) state.table
     → Taken readings (record { source = value; kind = kind }) state identity
 by-kind readings value (kinds.record_of fs) identity state h accepted valid back =
     by-table readings value fs identity state.body state.table h (body-of (record_of fs) state accepted valid) valid.table back
 by-kind readings value _ identity state h accepted valid back = absurd (true≢false (sym accepted.lawful))
 
+-- an object file with the object of a valid state, whose entries are read back, makes the bench of that state
 pub shown_state_is_taken : ShownStateIsTaken
 shown_state_is_taken readings schema = by-kind readings schema.source schema.kind

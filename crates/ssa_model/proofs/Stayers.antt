@@ -18,7 +18,8 @@ none-pass (e ∷ es) = none-pass es
 
 -- the entries of managers of the other table, each led to the other's
 stay-led : (d : Entry) (u es : Table)
-    → map (λ e. changed_entry (change_of e (entry_of u e.manager)) e) (filter (λ e. is_in_table u e.manager) es) ≡ map (entry_or d u) (filter (is_in_table u) (managers es))
+    → map (λ e. changed_entry (change_of e (entry_of u e.manager)) e) (filter (λ e. is_in_table u e.manager) es)
+    ≡ map (entry_or d u) (filter (is_in_table u) (managers es))
 stay-led d u [] = refl
 stay-led d u (e ∷ es) =
     let led : Entry → Entry = λ e. changed_entry (change_of e (entry_of u e.manager)) e in
@@ -35,6 +36,7 @@ stay-led d u (e ∷ es) =
     ap (map led) (filter-dropped (λ x. is_in_table u x.manager) e es off) ∙ rest
     ∙ sym (ap (map (entry_or d u)) (filter-dropped (is_in_table u) e.manager (managers es) off)))
 
+-- those who stay, each led to what the second table has of its manager, are the second table's, in its order
 pub stayers_are_led : StayersAreLed
 stayers_are_led [] u a b k = sym (none-pass u)
 stayers_are_led (d ∷ ds) u a b k =

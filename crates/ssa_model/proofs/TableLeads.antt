@@ -14,21 +14,16 @@ use Rattle.ssa_model.specs.definitions.Record.{Change, new_moment, is_unchanged,
 use Rattle.ssa_model.specs.definitions.Carry.{placed_at, filled, end_of, is_key_among, change_for, changed_entry, staying}
 use Rattle.ssa_model.specs.laws.RecordLeads.{SetLeads, TableLeads}
 use Rattle.ssa_model.proofs.PathMaps.{has-union, has-minus, same_sets, same_set-true}
-use Rattle.ssa_model.proofs.Tables.{first_false, second_false, manager-itself, same_text-true, no}
+use Rattle.ssa_model.proofs.Tables.{manager-itself, same_text-true}
 use Rattle.ssa_model.proofs.SharedManagers.{managers, Each, each-more, each-in, each-apart}
 use Rattle.ssa_model.proofs.Tests.{by_test, filter-kept, filter-dropped}
 use Rattle.ssa_model.proofs.ManagerEntries.{entry-there, entry-own, among-filter}
 use Rattle.ssa_model.proofs.FilledLists.{filled_is, placed_gives, placed_end}
+use Rattle.ssa_model.proofs.Basics.{not_true as no, first_false, second_false, there_and_back}
 
 -- ---- one entry
 
--- what is lost goes and what is gained comes
-there_and_back : (a b : Bool) → ((a && not (a && not b)) || (b && not a)) ≡ b
-there_and_back true true = refl
-there_and_back true false = refl
-there_and_back false true = refl
-there_and_back false false = refl
-
+-- a set without what only it has, and with what only the other has, is the other
 pub set_leads : SetLeads
 set_leads s t =
     same_sets _ _ (λ p.
@@ -65,12 +60,14 @@ change-manager e (Some f) c h =
     ] h
 
 -- a change of another manager in front is passed over
-pass_by : (k : ManagerKey) (e : Entry) (cs : List Change) (o : Option Change) → same_manager e.manager k ≡ false → ((c : Change) → o ≡ Some c → c.manager ≡ e.manager)
+pass_by : (k : ManagerKey) (e : Entry) (cs : List Change) (o : Option Change) → same_manager e.manager k ≡ false
+    → ((c : Change) → o ≡ Some c → c.manager ≡ e.manager)
     → change_for (cons_option o cs) k ≡ change_for cs k
 pass_by k e cs None other is = refl
 pass_by k e cs (Some c) other is = ap (λ t. if t then Some c else change_for cs k) (ap (λ m. same_manager m k) (is c refl) ∙ other)
 
-found_first : (k : ManagerKey) (e : Entry) (cs : List Change) (o : Option Change) → same_manager e.manager k ≡ true → ((c : Change) → o ≡ Some c → c.manager ≡ e.manager)
+found_first : (k : ManagerKey) (e : Entry) (cs : List Change) (o : Option Change) → same_manager e.manager k ≡ true
+    → ((c : Change) → o ≡ Some c → c.manager ≡ e.manager)
     → change_for cs k ≡ None → change_for (cons_option o cs) k ≡ o
 found_first k e cs None same is none = none
 found_first k e cs (Some c) same is none = ap (λ t. if t then Some c else change_for cs k) (ap (λ m. same_manager m k) (is c refl) ∙ same)
@@ -79,24 +76,32 @@ found_first k e cs (Some c) same is none = ap (λ t. if t then Some c else chang
 change-absent : (u : Table) (t : Table) (k : ManagerKey) → is_in_table t k ≡ false → change_for (changes t u) k ≡ None
 change-absent u [] k h = refl
 change-absent u (e ∷ es) k h =
-    pass_by k e (changes es u) (change_of e (entry_of u e.manager)) (first_false (same_manager e.manager k) (is_in_table es k) h) (λ c g. change-manager e (entry_of u e.manager) c g)
+    pass_by k e (changes es u) (change_of e (entry_of u e.manager)) (first_false (same_manager e.manager k) (is_in_table es k) h)
+    (λ c g. change-manager e (entry_of u e.manager) c g)
     ∙ change-absent u es k (second_false (same_manager e.manager k) (is_in_table es k) h)
 
 -- each entry of a table with distinct managers gets its own change
-pub change-found : (u : Table) (t : Table) → has_distinct_keys t ≡ true → AllEntries (λ e. change_for (changes t u) e.manager ≡ change_of e (entry_of u e.manager)) t
+pub change-found : (u : Table) (t : Table) → has_distinct_keys t ≡ true
+    → AllEntries (λ e. change_for (changes t u) e.manager ≡ change_of e (entry_of u e.manager)) t
 change-found u [] h = tt
 change-found u (e ∷ es) h =
     let new = no (is_in_table es e.manager) (first_so (not (is_in_table es e.manager)) (has_distinct_keys es) h) in
     let rest = change-found u es (second_so (not (is_in_table es e.manager)) (has_distinct_keys es) h) in
     let own = change_of e (entry_of u e.manager) in (
-      found_first e.manager e (changes es u) own (manager-itself e.manager) (λ c g. change-manager e (entry_of u e.manager) c g) (change-absent u es e.manager new),
+      found_first e.manager e (changes es u) own (manager-itself e.manager) (λ c g. change-manager e (entry_of u e.manager) c g)
+          (change-absent u es e.manager new),
       both es (each-apart e.manager es new) rest,
     )
   where
-    both : (fs : Table) → Each (λ a. same_manager e.manager a ≡ false) fs → AllEntries (λ f. change_for (changes es u) f.manager ≡ change_of f (entry_of u f.manager)) fs
+    both : (fs : Table) → Each (λ a. same_manager e.manager a ≡ false) fs
+        → AllEntries (λ f. change_for (changes es u) f.manager ≡ change_of f (entry_of u f.manager)) fs
         → AllEntries (λ f. change_for (changes (e ∷ es) u) f.manager ≡ change_of f (entry_of u f.manager)) fs
     both [] a b = tt
-    both (f ∷ fs) a b = (pass_by f.manager e (changes es u) (change_of e (entry_of u e.manager)) a.0 (λ c g. change-manager e (entry_of u e.manager) c g) ∙ b.0, both fs a.1 b.1)
+    both (f ∷ fs) a b = (
+      pass_by f.manager e (changes es u) (change_of e (entry_of u e.manager)) a.0 (λ c g. change-manager e (entry_of u e.manager) c g)
+          ∙ b.0,
+      both fs a.1 b.1,
+    )
 
 -- ---- the entries of both
 
@@ -110,7 +115,8 @@ pub from_managers : (d : Entry) (u : Table) (q : ManagerKey → Bool) (es : Tabl
 from_managers d u q [] h = refl
 from_managers d u q (e ∷ es) h =
     let rest = from_managers d u q es h.1 in
-    elim (q e.manager) as (λ b. map (entry_or d u) (cond b (e.manager ∷ filter q (managers es)) (filter q (managers es))) ≡ cond b (e ∷ filter (λ e. q e.manager) es) (filter (λ e. q e.manager) es)) [
+    elim (q e.manager) as (λ b. map (entry_or d u) (cond b (e.manager ∷ filter q (managers es)) (filter q (managers es)))
+    ≡ cond b (e ∷ filter (λ e. q e.manager) es) (filter (λ e. q e.manager) es)) [
       | true ↦ (λ i. ap (λ o. unwrap_or o d) h.0 i ∷ rest i)
       | false ↦ rest
     ]
@@ -124,7 +130,8 @@ module _ (d : Entry) (t u : Table) where
 
   -- the entries that stay, changed, are those of the other table
   stay-changed : (es : Table) → AllEntries (λ e. change_for (changes t u) e.manager ≡ change_of e (entry_of u e.manager)) es
-      → AllEntries (λ e. is_key_among (gone_from t u) e.manager ≡ not (is_in_table u e.manager)) es → map changed_one (filter stays es) ≡ map (entry_or d u) (filter (is_in_table u) (managers es))
+      → AllEntries (λ e. is_key_among (gone_from t u) e.manager ≡ not (is_in_table u e.manager)) es
+      → map changed_one (filter stays es) ≡ map (entry_or d u) (filter (is_in_table u) (managers es))
   stay-changed [] h g = refl
   stay-changed (e ∷ es) h g =
       let rest = stay-changed es h.1 g.1 in
@@ -141,7 +148,8 @@ module _ (d : Entry) (t u : Table) where
       ∙ sym (ap (map (entry_or d u)) (filter-dropped (is_in_table u) e.manager (managers es) off)))
 
 -- those who stay, changed, are the second table's entries of the first one's managers
-pub stay-are : (t u : Table) → has_distinct_keys t ≡ true → has_distinct_keys u ≡ true → KeepsOrder t u → staying (table_record t u) t ≡ filter (λ e. is_in_table t e.manager) u
+pub stay-are : (t u : Table) → has_distinct_keys t ≡ true → has_distinct_keys u ≡ true → KeepsOrder t u
+    → staying (table_record t u) t ≡ filter (λ e. is_in_table t e.manager) u
 stay-are [] u a b k = sym (none u)
   where
     none : (es : Table) → filter (λ e. false) es ≡ []
@@ -155,6 +163,7 @@ stay-are (d ∷ ds) u a b k =
     ∙ ap (map (entry_or d u)) k
     ∙ from_managers d u (is_in_table t) u (entry-own u b)
 
+-- the record of two tables of distinct managers, the common ones in one order, leads from the first to the second
 pub table_leads : TableLeads
 table_leads t u a b k =
     let here = new_in t u in

@@ -17,19 +17,22 @@ use Rattle.ssa_model.specs.definitions.History.{is_manager_name}
 use Rattle.ssa_model.specs.definitions.BenchFile.{IsReadBack}
 use Rattle.ssa_model.specs.definitions.Valid.{has_distinct_keys, OwnsOwnable, AllEntries, IsTable}
 use Rattle.ssa_model.proofs.PathMaps.{is_one_of, has-paths, same_path-itself}
-use Rattle.ssa_model.proofs.Tables.{text-itself, apart-back, first_false, second_false, no, or_true, true_or}
+use Rattle.ssa_model.proofs.Tables.{text-itself, apart-back, true_or}
+use Rattle.ssa_model.proofs.Basics.{or_true, not_true as no, first_false, second_false}
 
 -- ---- the members of an entry
 
 abbrev entry_of : Text → Json → Text → Operation → Text → Members
 entry_of version fields name o time =
     member (codes "apiVersion") (text_json version) (member (codes "fieldsType") (text_json (codes "FieldsV1")) (member (codes "fieldsV1") fields
-    (member (codes "manager") (text_json name) (member (codes "operation") (text_json (operation_text o)) (member (codes "time") (text_json time) no_members)))))
+    (member (codes "manager") (text_json name) (member (codes "operation") (text_json (operation_text o))
+    (member (codes "time") (text_json time) no_members)))))
 
 entry-is : (version : Text) (fields : Json) (name : Text) (o : Operation) (time : Text) → is_entry (entry_of version fields name o time) ≡ true
 entry-is version fields name applies time = refl
 entry-is version fields name updates time = refl
 
+-- an operation is read back from its text
 pub operation-back : (o : Operation) → elim (operation_of (operation_text o)) [ Some q ↦ q | None ↦ applies ] ≡ o
 operation-back applies = refl
 operation-back updates = refl
@@ -46,30 +49,42 @@ none-refused b e h = none-other b (paths e.owned) (λ p one. h p (has-paths e.ow
 module _ (readings : Readings) (body : Body) (version : Text) where
   -- what is known of an entry of a table
   pub record IsGood (e : Entry) : Type 0 where
+    -- its manager is named as managers are
     pub name : is_manager_name e.manager.name ≡ true
+    -- it owns some path
     pub some : is_empty e.owned ≡ false
+    -- each of its paths can be owned in the body
     pub ownable : OwnsOwnable body e
+    -- its set is read back, and its moment is one
     pub back : IsReadBack readings e
 
   abbrev entry_members : Entry → Members
   entry_members e = entry_of version (fields_json e.owned) e.manager.name e.manager.operation e.moment
 
   said-is : (e : Entry) → IsGood e → said_entry readings (entry_members e) ≡ e
-  said-is e g = λ i. record { manager = record { name = e.manager.name; operation = operation-back e.manager.operation i }; owned = g.back.says i; moment = e.moment }
+  said-is e g = λ i. record {
+    manager = record { name = e.manager.name; operation = operation-back e.manager.operation i };
+    owned = g.back.says i;
+    moment = e.moment;
+  }
 
   no-owned-fault : (before : Table) (e : Entry) → IsGood e → is_in_table before e.manager ≡ false → owned_fault body before e ≡ None
   no-owned-fault before e g new =
       let last : Option EntryFault = if is_in_table before e.manager then Some duplicate_manager else None in
-      ap (λ t. if t then Some empty_entry else elim (not_ownable body e.owned) [ p ∷ ps ↦ Some (absent_path p) | [] ↦ (if is_in_table before e.manager then Some duplicate_manager else None) ]) g.some
-      ∙ ap (λ (ps : List Path). elim ps [ p ∷ qs ↦ Some (absent_path p) | [] ↦ (if is_in_table before e.manager then Some duplicate_manager else None) ]) (none-refused body e g.ownable)
+      ap (λ t. if t then Some empty_entry else elim (not_ownable body e.owned)
+      [ p ∷ ps ↦ Some (absent_path p) | [] ↦ (if is_in_table before e.manager then Some duplicate_manager else None) ]) g.some
+      ∙ ap (λ (ps : List Path). elim ps [ p ∷ qs ↦ Some (absent_path p) | [] ↦ (if is_in_table before e.manager then Some duplicate_manager else None) ])
+      (none-refused body e g.ownable)
       ∙ ap (λ t. if t then Some duplicate_manager else None) new
 
   abbrev by_fields : Table → Entry → Option EntryFault
-  by_fields before e = elim (fields_faults readings.value (fields_json e.owned)) [ f ∷ fs ↦ Some (of_fields f) | [] ↦ owned_fault body before (said_entry readings (entry_members e)) ]
+  by_fields before e = elim (fields_faults readings.value (fields_json e.owned))
+      [ f ∷ fs ↦ Some (of_fields f) | [] ↦ owned_fault body before (said_entry readings (entry_members e)) ]
 
   no-fault : (before : Table) (e : Entry) → IsGood e → is_in_table before e.manager ≡ false → entry_fault readings body version before (entry_members e) ≡ None
   no-fault before e g new =
-      ap (λ t. if not t then Some manager_name else (if not (same_text version version) then Some other_version else (if not (readings.moment e.moment) then Some bad_moment else by_fields before e))) g.name
+      ap (λ t. if not t then Some manager_name else (if not (same_text version version) then Some
+      other_version else (if not (readings.moment e.moment) then Some bad_moment else by_fields before e))) g.name
       ∙ ap (λ t. if not t then Some other_version else (if not (readings.moment e.moment) then Some bad_moment else by_fields before e)) (text-itself version)
       ∙ ap (λ t. if not t then Some bad_moment else by_fields before e) g.back.moment
       ∙ ap (λ fs. elim fs [ f ∷ rest ↦ Some (of_fields f) | [] ↦ owned_fault body before (said_entry readings (entry_members e)) ]) g.back.no_fault
@@ -78,10 +93,12 @@ module _ (readings : Readings) (body : Body) (version : Text) where
   few : (m : ℕ) → m < most_managers → nat_le 64 m ≡ false
   few m h = grind (arith, nat_tests)
 
-  entry-back : (before : Table) (e : Entry) → IsGood e → is_in_table before e.manager ≡ false → length before < most_managers → next_entry readings body version before (entry_json (text_json version) e) ≡ Ok e
+  entry-back : (before : Table) (e : Entry) → IsGood e → is_in_table before e.manager ≡ false → length before < most_managers
+      → next_entry readings body version before (entry_json (text_json version) e) ≡ Ok e
   entry-back before e g new short =
       ap (λ t. if t then Err too_many_managers else members_entry readings body version before (entry_members e)) (few (length before) short)
-      ∙ ap (λ t. if not t then Err bad_entry else (elim (entry_fault readings body version before (entry_members e)) [ Some f ↦ Err f | None ↦ Ok (said_entry readings (entry_members e)) ]))
+      ∙ ap (λ t. if not t then Err bad_entry else (elim (entry_fault readings body version before (entry_members e))
+      [ Some f ↦ Err f | None ↦ Ok (said_entry readings (entry_members e)) ]))
       (entry-is version (fields_json e.owned) e.manager.name e.manager.operation e.moment)
       ∙ ap (λ o. elim o [ Some f ↦ Err f | None ↦ Ok (said_entry readings (entry_members e)) ]) (no-fault before e g new)
       ∙ ap Ok (said-is e g)
@@ -95,7 +112,8 @@ module _ (readings : Readings) (body : Body) (version : Text) where
   not-before : (before : Table) (e : Entry) (es : Table) → has_distinct_keys (before ++ e ∷ es) ≡ true → is_in_table before e.manager ≡ false
   not-before [] e es h = refl
   not-before (x ∷ xs) e es h =
-      let other = apart-back e.manager x.manager (in-middle xs e es x.manager (no (is_in_table (xs ++ e ∷ es) x.manager) (first_so (not (is_in_table (xs ++ e ∷ es) x.manager)) _ h))) in
+      let other = apart-back e.manager x.manager (in-middle xs e es x.manager
+      (no (is_in_table (xs ++ e ∷ es) x.manager) (first_so (not (is_in_table (xs ++ e ∷ es) x.manager)) _ h))) in
       let rest = not-before xs e es (second_so (not (is_in_table (xs ++ e ∷ es) x.manager)) _ h) in
       λ i. other i || rest i
 
@@ -110,6 +128,7 @@ module _ (readings : Readings) (body : Body) (version : Text) where
       by : (xs : Table) (e : Entry) (es : Table) → suc (length (xs ++ e ∷ es)) ≤ most_managers → suc (length xs) < most_managers
       by xs e es h = let r = longer xs e es in omega arith
 
+  -- behind some entries, those that are written of others say these, where all together may be a table
   pub entries-back : (before es : Table) → has_distinct_keys (before ++ es) ≡ true → length (before ++ es) ≤ most_managers → AllEntries IsGood es
       → table_behind readings body version before (entry_items (text_json version) es) ≡ Ok (before ++ es)
   entries-back before [] distinct short all = ap Ok (sym (append-nil before))
@@ -120,10 +139,12 @@ module _ (readings : Readings) (body : Body) (version : Text) where
       ∙ entries-back (before ++ e ∷ []) es (ap has_distinct_keys moved ∙ distinct) (subst (λ t. length t ≤ most_managers) (sym moved) short) all.1
       ∙ ap Ok moved
 
-  join : (es : Table) → AllEntries (λ e. is_manager_name e.manager.name ≡ true) es → AllEntries (λ e. is_empty e.owned ≡ false) es → AllEntries (OwnsOwnable body) es → AllEntries (IsReadBack readings) es → AllEntries IsGood es
+  join : (es : Table) → AllEntries (λ e. is_manager_name e.manager.name ≡ true) es → AllEntries (λ e. is_empty e.owned ≡ false) es
+      → AllEntries (OwnsOwnable body) es → AllEntries (IsReadBack readings) es → AllEntries IsGood es
   join [] a b c d = tt
   join (e ∷ es) a b c d = (record { name = a.0; some = b.0; ownable = c.0; back = d.0 }, join es a.1 b.1 c.1 d.1)
 
   -- the table is read from its entries
-  pub table-back : (table : Table) → IsTable body table → AllEntries (IsReadBack readings) table → table_behind readings body version [] (entry_items (text_json version) table) ≡ Ok table
-  table-back table t back = entries-back [] table t.distinct t.few (join table t.names t.own_some t.ownable back)
+  pub table-back : (table : Table) → IsTable body table → AllEntries (IsReadBack readings) table
+      → table_behind readings body version [] (entry_items (text_json version) table) ≡ Ok table
+  table-back table t back = entries-back [] table t.managers.distinct t.managers.few (join table t.managers.names t.managers.own_some t.ownable back)

@@ -16,7 +16,7 @@ use Rattle.ssa_model.specs.laws.RecordWalks.{IsTree, AreAlike}
 use Rattle.ssa_model.specs.laws.FittingRecords.{stays, CutFits, LeafFits, IsPartOf, PutFits, order_after, ListFits, IsListAt, BodyFits, TakenBodyFits}
 use Rattle.ssa_model.proofs.PathMaps.{get-over_paths}
 use Rattle.ssa_model.proofs.Pruned.{closed-above}
-use Rattle.ssa_model.proofs.Tables.{yes_no, no}
+use Rattle.ssa_model.proofs.Tables.{yes_no}
 use Rattle.ssa_model.proofs.Tests.{by_test}
 use Rattle.ssa_model.proofs.Scalars.{same_scalar-itself}
 use Rattle.ssa_model.proofs.Fitting.{list_place, some_there, among-filter}
@@ -29,6 +29,7 @@ use Rattle.ssa_model.proofs.BodyLeads.{get-cuts, lost, left, content_is, bodies_
 use Rattle.ssa_model.proofs.CarryBelow.{part_is_tree}
 use Rattle.ssa_model.proofs.FittingBodies.{list-item}
 use Rattle.ssa_model.proofs.FittingTells.{split_last, parent_above, item-push}
+use Rattle.ssa_model.proofs.Basics.{not_true as no}
 
 -- ---- key fields
 
@@ -53,7 +54,8 @@ key-told : (p : Path) → is_key_field p ≡ true → IsKeyOf p
 key-told [] h = absurd (true≢false (sym h))
 key-told (e ∷ []) h = absurd (true≢false (sym h))
 key-told (key ks ∷ field n ∷ []) h = let s = scalar-there n ks h in record { item = []; keys = ks; name = n; own = s.0; is = refl; found = s.1 }
-key-told (e ∷ f ∷ g ∷ p) h = let k = key-told (f ∷ g ∷ p) h in record { item = e ∷ k.item; keys = k.keys; name = k.name; own = k.own; is = ap (λ q. e ∷ q) k.is; found = k.found }
+key-told (e ∷ f ∷ g ∷ p) h = let k = key-told (f ∷ g ∷ p) h in
+    record { item = e ∷ k.item; keys = k.keys; name = k.name; own = k.own; is = ap (λ q. e ∷ q) k.is; found = k.found }
 key-told _ h = absurd (true≢false (sym h))
 
 -- ---- answers
@@ -67,7 +69,8 @@ answer-is false b o x h = absurd (none-some x h)
 some-position : (e : Element) (i : ℕ) (fs : List Element) → is_some (position_from (same_element e) i fs) ≡ is_among e fs
 some-position e i [] = refl
 some-position e i (f ∷ fs) =
-    elim (same_element e f) as (λ t. is_some (cond t (Some i) (position_from (same_element e) (i + 1) fs)) ≡ (t || is_among e fs)) [ true ↦ refl | false ↦ some-position e (i + 1) fs ]
+    elim (same_element e f) as (λ t. is_some (cond t (Some i) (position_from (same_element e) (i + 1) fs)) ≡ (t || is_among e fs))
+    [ true ↦ refl | false ↦ some-position e (i + 1) fs ]
 
 reordered-list : (o q : Option Content) → is_reordered o q ≡ true → (es : List Element) × (o ≡ Some (list_branch es))
 reordered-list (Some (list_branch es)) q h = (es, refl)
@@ -102,8 +105,10 @@ module _ (kind : Kind) (v w : Body) (a : IsBodyOf kind v) (b : IsBodyOf kind w) 
   stay : (q : Path) → has v q ≡ true → has w q ≡ true → stays d v q ≡ true
   stay q here there = λ i. here i && not (uncut q there i)
 
+  -- a path that stays is one of the second body
   pub stayed-there : (q : Path) → stays d v q ≡ true → has w q ≡ true
-  stayed-there q h = left v w tree_v tree_w alike q (first_so (has v q) (not (has_at_or_above d.cut q)) h) (no (has_at_or_above d.cut q) (second_so (has v q) (not (has_at_or_above d.cut q)) h))
+  stayed-there q h = left v w tree_v tree_w alike q (first_so (has v q) (not (has_at_or_above d.cut q)) h)
+      (no (has_at_or_above d.cut q) (second_so (has v q) (not (has_at_or_above d.cut q)) h))
 
   parent_in : (x : Body) → IsBodyOf kind x → (p : Path) → has x p ≡ true → has x (parent p) ≡ true
   parent_in x k p there = closed-above x k.closed (parent p) p there (parent_above p)
@@ -148,6 +153,7 @@ module _ (kind : Kind) (v w : Body) (a : IsBodyOf kind v) (b : IsBodyOf kind w) 
 
   -- ---- what is put
 
+  -- what the second body has at and below a path may stand there
   pub part-of : (p : Path) → has w p ≡ true → IsPartOf kind p (below w p)
   part-of p here =
       let t = part_is_tree w p tree_w here in
@@ -183,7 +189,8 @@ module _ (kind : Kind) (v w : Body) (a : IsBodyOf kind v) (b : IsBodyOf kind w) 
 
   -- what is put at a path
   put-is : (p : Path) (x : Part) → get d.put p ≡ Some x → (has w p ≡ true) × ((is_top v p ≡ true) × (Some (part_at w p) ≡ Some x))
-  put-is p x found = answer-is (has w p) (is_top v p) (Some (part_at w p)) x (sym (get-over_paths w (λ q. if is_top v q then Some (part_at w q) else None) p) ∙ found)
+  put-is p x found = answer-is (has w p) (is_top v p) (Some (part_at w p)) x (sym (get-over_paths w (λ q. if is_top v q then Some (part_at w q) else None) p)
+      ∙ found)
 
   put-fits : (p : Path) (x : Part) → get d.put p ≡ Some x → PutFits kind d v p x
   put-fits p x found =
@@ -248,12 +255,16 @@ module _ (kind : Kind) (v w : Body) (a : IsBodyOf kind v) (b : IsBodyOf kind w) 
 
   order-fits : (p : Path) → has d.order p ≡ true → (stays d v p ≡ true) × IsListAt v p
   order-fits p told =
-      let both = sym (ap is_some (get-over_paths v (λ q. new_order (get v q) (get w q)) p) ∙ some-put (has v p) (is_reordered (get v p) (get w p)) (order_at (get w p))) ∙ told in
-      let other = second_so (has v p) (is_reordered (get v p) (get w p)) both in
-      (stay p (first_so (has v p) (is_reordered (get v p) (get w p)) both) (reordered_lists.second (get v p) (get w p) other), reordered-list (get v p) (get w p) other)
+      let both = sym (ap is_some (get-over_paths v (λ q. new_order (get v q) (get w q)) p)
+      ∙ some-put (has v p) (is_reordered (get v p) (get w p)) (order_at (get w p))) ∙ told in
+      let other = second_so (has v p) (is_reordered (get v p) (get w p)) both in (
+        stay p (first_so (has v p) (is_reordered (get v p) (get w p)) both) (reordered_lists.second (get v p) (get w p) other),
+        reordered-list (get v p) (get w p) other,
+      )
 
   record-fits : BodyFits kind d v
   record-fits = record { cut = cut-fits; leaves = leaf-fits; put = put-fits; lists = λ p es touched h is. list-fits p es h is; orders = order-fits }
 
+-- a record that takes a body anywhere fits it
 pub taken_body_fits : TakenBodyFits
 taken_body_fits kind d v w h = subst (λ (e : BodyRecord). BodyFits kind e v) (sym h.is) (record-fits kind v w h.from h.to)

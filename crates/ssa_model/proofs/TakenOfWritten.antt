@@ -27,6 +27,7 @@ use Rattle.ssa_model.proofs.ShownStates.{shown_state_is_taken}
 use Rattle.ssa_model.proofs.SpelledValues.{text_lines-of, spelled_values-of}
 use Rattle.ssa_model.proofs.Tables.{manager-itself, same_manager-true, text-itself}
 use Rattle.ssa_model.proofs.Tests.{pointwise-true, pointwise-itself}
+use Rattle.ssa_model.proofs.Basics.{nat_le-of}
 
 -- a value is written as it is written
 pub written-itself : (v : Json) → is_written_as v v ≡ true
@@ -37,6 +38,7 @@ written-itself v = text-itself (compact v)
 head-back : (place states : ℕ) → head_in (head_of place states) ≡ Some (record { place = place; states = states })
 head-back place states = ap (λ b. given_if {X = Head} b (record { place = place; states = states })) (written-itself (head_of place states))
 
+-- a schema that is read is taken from its value
 pub schema-back : (schema : Schema) → read_schema schema.source ≡ Ok schema.kind → schema_in schema.source ≡ Some schema
 schema-back schema h = ap (λ (r : Result Kind SchemaFault). elim r [ Ok kind ↦ Some (record { source = schema.source; kind = kind }) | Err f ↦ None ]) h
 
@@ -56,25 +58,31 @@ is_label-by readings (applied who force at) h = and_parts (is_manager_name who) 
 is_label-by readings (updated who at) h = and_parts (is_manager_name who) (readings.moment at) h
 is_label-by readings stripped h = tt
 
+-- a label passes the test of labels
 pub is_label-of : (readings : Readings) (label : Label) → IsLabel readings label → is_label readings label ≡ true
 is_label-of readings (applied who force at) h = and_from (is_manager_name who) (readings.moment at) h.0 h.1
 is_label-of readings (updated who at) h = and_from (is_manager_name who) (readings.moment at) h.0 h.1
 is_label-of readings stripped h = refl
 
+-- the value that is written of a label says it
 pub said-back : (label : Label) → said_label (label_json label) ≡ label
 said-back (applied who force at) = refl
 said-back (updated who at) = refl
 said-back stripped = refl
 
+-- and from this value the label is taken
 pub label-back : (readings : Readings) (label : Label) → IsLabel readings label → label_in readings (label_json label) ≡ Some label
 label-back readings label h =
     ap (λ l. given_if (is_label readings l) l) (said-back label) ∙ ap (λ b. given_if b label) (is_label-of readings label h)
 
+-- where the test passes, the managers that two tables share stand in one order
 pub keeps_order-by : (before after : Table) → keeps_order before after ≡ true → KeepsOrder before after
 keeps_order-by before after h = pointwise-true same_manager same_manager-true (shared_managers before after) (shared_managers after before) h
 
+-- and where they stand so, the test passes
 pub keeps_order-of : (before after : Table) → KeepsOrder before after → keeps_order before after ≡ true
-keeps_order-of before after h = ap (pointwise same_manager (shared_managers before after)) (sym h) ∙ pointwise-itself same_manager manager-itself (shared_managers before after)
+keeps_order-of before after h = ap (pointwise same_manager (shared_managers before after)) (sym h)
+    ∙ pointwise-itself same_manager manager-itself (shared_managers before after)
 
 -- ---- the later states
 
@@ -107,17 +115,17 @@ module _ (readings : Readings) (bench : Bench) where
 
 -- ---- the bench
 
-pub nat_le-of : (a b : ℕ) → a ≤ b → nat_le a b ≡ true
-nat_le-of a b h = grind (arith, nat_tests)
-
+-- a number is equal to itself
 pub nat-itself : (a : ℕ) → (a == a) ≡ true
 nat-itself a = grind (arith, nat_tests)
 
 module _ (readings : Readings) (bench : Bench) (named : is_identity bench.identity ≡ true) (accepted : IsSchemaKind bench.schema.kind)
     (state : State) (fits : IsValidState bench.schema.kind state) (back : AllEntries (IsReadBack readings) state.table) where
+  -- from the object that is written of the state, the bench of this state is made
   pub shown-back : bench_of readings bench.schema (whole_object bench state) ≡ Ok (lone_bench bench.schema bench.identity state)
   shown-back = shown_state_is_taken readings bench.schema bench.identity state named accepted fits back
 
+  -- and from this object the state is taken
   pub state-back : IsTaken readings bench state
   state-back = (lone-parts readings bench.schema (whole_object bench state) (lone_bench bench.schema bench.identity state) shown-back).state_is
 

@@ -38,7 +38,9 @@ module _ (readings : Readings) where
 
   -- a table of a body with moments
   record IsGiven (body : Body) (table : Table) : Type 0 where
+    -- the table is one of the body
     pub right : IsTable body table
+    -- its moments are held for moments
     pub moments : HasMoments table
 
   empty-given : (body : Body) → IsGiven body []
@@ -71,7 +73,9 @@ module _ (readings : Readings) where
 
   -- what is known of a state that is taken
   pub record IsTakenState (kind : Kind) (w : State) : Type 0 where
+    -- the state is valid
     pub valid : IsValidState kind w
+    -- its moments are held for moments
     pub moments : HasMoments w.table
 
   with-table : (body : Body) (r : Result Table EntryFault) (w : State) → with_table body r ≡ Ok w → (r ≡ Ok w.table) × (body ≡ w.body)

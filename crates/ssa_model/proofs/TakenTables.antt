@@ -17,13 +17,14 @@ use Rattle.ssa_model.specs.definitions.Record.{Change, TableRecord, placed, new_
 use Rattle.ssa_model.specs.definitions.Carry.{is_key_among, change_for, carry_table}
 use Rattle.ssa_model.specs.laws.FittingRecords.{tells_something, ChangeFits, loses, is_given_up, EntryFits, HereFits, TableFits, TakenTableFits}
 use Rattle.ssa_model.proofs.PathMaps.{has-minus, same_sets, same_set-true}
-use Rattle.ssa_model.proofs.Tables.{yes_no, no, or_true, true_or, ownable-has}
+use Rattle.ssa_model.proofs.Tables.{yes_no, true_or, ownable-has}
 use Rattle.ssa_model.proofs.SharedManagers.{managers, Each, each-more, each-in, filter-alike}
 use Rattle.ssa_model.proofs.Tests.{by_test, same_tests}
 use Rattle.ssa_model.proofs.ManagerEntries.{among-filter, entry-there, entry-absent}
 use Rattle.ssa_model.proofs.TableLeads.{set_leads, change-found, table_leads}
 use Rattle.ssa_model.proofs.FilledTables.{all-placed-of, found-of-managers}
 use Rattle.ssa_model.proofs.FittingTables.{same_set-itself, all-both, all-more}
+use Rattle.ssa_model.proofs.Basics.{or_true, not_true as no}
 
 -- what holds of all entries holds of the entry of a manager
 all-entry : (P : Entry → Type 0) (es : Table) (k : ManagerKey) (f : Entry) → AllEntries P es → entry_of es k ≡ Some f → P f
@@ -35,7 +36,7 @@ all-entry P (e ∷ es) k f h is =
     ] is
 
 -- an empty set has no path
-empty-has : (s : PathSet) (p : Path) → is_empty s ≡ true → has s p ≡ false
+pub empty-has : (s : PathSet) (p : Path) → is_empty s ≡ true → has s p ≡ false
 empty-has s p h =
     elim s.entries as (λ es. s.entries ≡ es → (elim es [ [] ↦ true | e ∷ rest ↦ false ]) ≡ true → has s p ≡ false) [
       | [] ↦ λ is h. ap (λ es. is_some (find path_cmp p es)) is
@@ -53,6 +54,7 @@ moment-other a b m h =
 moment-same : (a b : Text) → is_some (new_moment a b) ≡ not (same_text a b)
 moment-same a b = elim (same_text a b) as (λ t. is_some (if t then None else Some b) ≡ not t) [ true ↦ refl | false ↦ refl ]
 
+-- where one set has nothing that another has not, each path of it is one of the other
 pub none-left : (s t : PathSet) → is_empty (minus s t) ≡ true → (p : Path) → has s p ≡ true → has t p ≡ true
 none-left s t h p one =
     by_test (has t p)
@@ -70,8 +72,10 @@ module _ (w : Body) (e f : Entry) (other : is_unchanged e f ≡ false) (own_some
       let gain = first_so (is_empty c.gain) (is_empty c.lose && not (is_some c.moment)) t in
       let rest = second_so (is_empty c.gain) (is_empty c.lose && not (is_some c.moment)) t in
       let lose = first_so (is_empty c.lose) (not (is_some c.moment)) rest in
-      let same : e.owned ≡ f.owned = same_sets e.owned f.owned (λ p. same_tests (has e.owned p) (has f.owned p) (none-left e.owned f.owned lose p) (none-left f.owned e.owned gain p)) in
-      let at : same_text e.moment f.moment ≡ true = sym (not-not (same_text e.moment f.moment)) ∙ ap not (sym (moment-same e.moment f.moment)) ∙ second_so (is_empty c.lose) (not (is_some c.moment)) rest in
+      let same : e.owned ≡ f.owned = same_sets e.owned f.owned
+      (λ p. same_tests (has e.owned p) (has f.owned p) (none-left e.owned f.owned lose p) (none-left f.owned e.owned gain p)) in
+      let at : same_text e.moment f.moment ≡ true = sym (not-not (same_text e.moment f.moment)) ∙ ap not (sym (moment-same e.moment f.moment))
+      ∙ second_so (is_empty c.lose) (not (is_some c.moment)) rest in
       yes_no (is_unchanged e f) (λ i. (ap (same_set e.owned) (sym same) ∙ same_set-itself e.owned) i && at i) other)
       (λ k. ap not k)
 
@@ -87,7 +91,8 @@ module _ (w : Body) (e f : Entry) (other : is_unchanged e f ≡ false) (own_some
 
 -- ---- the record
 
-module _ (t u : Table) (w : Body) (cut : PathSet) (b : IsTable w u) (apart : (p : Path) → has w p ≡ true → has_at_or_above cut p ≡ false) (from : has_distinct_keys t ≡ true) (order : KeepsOrder t u) where
+module _ (t u : Table) (w : Body) (cut : PathSet) (b : IsTable w u) (apart : (p : Path) → has w p ≡ true
+    → has_at_or_above cut p ≡ false) (from : has_distinct_keys t ≡ true) (order : KeepsOrder t u) where
   abbrev d : TableRecord
   d = table_record t u
 
@@ -95,7 +100,7 @@ module _ (t u : Table) (w : Body) (cut : PathSet) (b : IsTable w u) (apart : (p 
   stays k = not (is_key_among d.gone k)
 
   leads : carry_table d t ≡ u
-  leads = table_leads t u from b.distinct order
+  leads = table_leads t u from b.managers.distinct order
 
   gone-each : Each (λ k. is_key_among d.gone k ≡ not (is_in_table u k)) t
   gone-each =
@@ -103,11 +108,13 @@ module _ (t u : Table) (w : Body) (cut : PathSet) (b : IsTable w u) (apart : (p 
       (λ k one. among-filter (λ j. not (is_in_table u j)) t k ∙ ap (λ s. s && not (is_in_table u k)) one) t (each-in t)
 
   gone-is : d.gone ≡ filter (is_key_among d.gone) (managers t)
-  gone-is = filter-alike (λ k. not (is_in_table u k)) (is_key_among d.gone) t (each-more (λ k. is_key_among d.gone k ≡ not (is_in_table u k)) (λ k. not (is_in_table u k) ≡ is_key_among d.gone k) (λ k h. sym h) t gone-each)
+  gone-is = filter-alike (λ k. not (is_in_table u k)) (is_key_among d.gone) t
+      (each-more (λ k. is_key_among d.gone k ≡ not (is_in_table u k)) (λ k. not (is_in_table u k) ≡ is_key_among d.gone k) (λ k h. sym h) t gone-each)
 
   -- ---- one entry
 
-  module _ (e : Entry) (gone : is_key_among d.gone e.manager ≡ not (is_in_table u e.manager)) (own : change_for d.changed e.manager ≡ change_of e (entry_of u e.manager)) where
+  module _ (e : Entry) (gone : is_key_among d.gone e.manager ≡ not (is_in_table u e.manager))
+      (own : change_for d.changed e.manager ≡ change_of e (entry_of u e.manager)) where
     entry-told : change_of e (entry_of u e.manager) ≡ (if stays e.manager then change_for d.changed e.manager else None)
     entry-told =
         by_test (is_in_table u e.manager)
@@ -121,13 +128,15 @@ module _ (t u : Table) (w : Body) (cut : PathSet) (b : IsTable w u) (apart : (p 
         (λ t. absurd (none-some c (sym (ap (λ s. if s then None else Some (change_to e f)) t) ∙ h)))
         (λ k.
         subst (λ x. ChangeFits w x e) (same_Some (change_to e f) c (sym (ap (λ s. if s then None else Some (change_to e f)) k) ∙ h))
-        (change-fits w e f k (all-entry (λ x. is_empty x.owned ≡ false) u e.manager f b.own_some is) (all-entry (OwnsOwnable w) u e.manager f b.ownable is)))
+        (change-fits w e f k (all-entry (λ x. is_empty x.owned ≡ false) u e.manager f b.managers.own_some is)
+        (all-entry (OwnsOwnable w) u e.manager f b.ownable is)))
 
     -- a path of the entry's that the other one hasn't is lost
     lost : (p : Path) (f : Entry) → has e.owned p ≡ true → has f.owned p ≡ false → loses (change_of e (Some f)) p ≡ true
     lost p f here off =
         by_test (is_unchanged e f)
-        (λ t. yes_no (has f.owned p) (ap (λ s. has s p) (sym (same_set-true e.owned f.owned (first_so (same_set e.owned f.owned) (same_text e.moment f.moment) t))) ∙ here) off)
+        (λ t. yes_no (has f.owned p) (ap (λ s. has s p) (sym
+        (same_set-true e.owned f.owned (first_so (same_set e.owned f.owned) (same_text e.moment f.moment) t))) ∙ here) off)
         (λ k. ap (λ s. loses (if s then None else Some (change_to e f)) p) k ∙ has-minus e.owned f.owned p ∙ (λ i. here i && not (off i)))
 
     given-up : (p : Path) → has e.owned p ≡ true → has_at_or_above cut p ≡ true → is_given_up d e.manager p ≡ true
@@ -139,7 +148,8 @@ module _ (t u : Table) (w : Body) (cut : PathSet) (b : IsTable w u) (apart : (p 
         by_test (has f.0.owned p)
         (λ one. yes_no (has_at_or_above cut p) under_cut (apart p (ownable-has w p (all-entry (OwnsOwnable w) u e.manager f.0 b.ownable f.1 p one))))
         (λ k. k) in
-        or_true (is_key_among d.gone e.manager) (loses (change_for d.changed e.manager) p) (ap (λ o. loses o p) (own ∙ ap (change_of e) f.1) ∙ lost p f.0 here off))
+        or_true (is_key_among d.gone e.manager) (loses (change_for d.changed e.manager) p) (ap (λ o. loses o p) (own ∙ ap (change_of e) f.1)
+        ∙ lost p f.0 here off))
         (λ k. true_or (is_key_among d.gone e.manager) (loses (change_for d.changed e.manager) p) (gone ∙ ap not k))
 
     entry-fits : EntryFits d w cut e
@@ -148,23 +158,26 @@ module _ (t u : Table) (w : Body) (cut : PathSet) (b : IsTable w u) (apart : (p 
   entries : AllEntries (EntryFits d w cut) t
   entries = go t gone-each (change-found u t from)
     where
-      go : (es : Table) → Each (λ k. is_key_among d.gone k ≡ not (is_in_table u k)) es → AllEntries (λ e. change_for d.changed e.manager ≡ change_of e (entry_of u e.manager)) es → AllEntries (EntryFits d w cut) es
+      go : (es : Table) → Each (λ k. is_key_among d.gone k ≡ not (is_in_table u k)) es
+          → AllEntries (λ e. change_for d.changed e.manager ≡ change_of e (entry_of u e.manager)) es → AllEntries (EntryFits d w cut) es
       go [] x y = tt
       go (e ∷ es) x y = (entry-fits e x.0 y.0, go es x.1 y.1)
 
   told : AllEntries (λ e. change_of e (entry_of u e.manager) ≡ (if stays e.manager then change_for d.changed e.manager else None)) t
   told = go t gone-each (change-found u t from)
     where
-      go : (es : Table) → Each (λ k. is_key_among d.gone k ≡ not (is_in_table u k)) es → AllEntries (λ e. change_for d.changed e.manager ≡ change_of e (entry_of u e.manager)) es
+      go : (es : Table) → Each (λ k. is_key_among d.gone k ≡ not (is_in_table u k)) es
+          → AllEntries (λ e. change_for d.changed e.manager ≡ change_of e (entry_of u e.manager)) es
           → AllEntries (λ e. change_of e (entry_of u e.manager) ≡ (if stays e.manager then change_for d.changed e.manager else None)) es
       go [] x y = tt
       go (e ∷ es) x y = (entry-told e x.0 y.0, go es x.1 y.1)
 
   here-each : AllEntries (HereFits w) u
   here-each =
-      all-more (λ e. (is_manager_name e.manager.name ≡ true) × ((is_empty e.owned ≡ false) × OwnsOwnable w e)) (HereFits w) (λ e h. record { name = h.0; own_some = h.1.0; ownable = h.1.1 }) u
-      (all-both (λ e. is_manager_name e.manager.name ≡ true) (λ e. (is_empty e.owned ≡ false) × OwnsOwnable w e) u b.names
-      (all-both (λ e. is_empty e.owned ≡ false) (OwnsOwnable w) u b.own_some b.ownable))
+      all-more (λ e. (is_manager_name e.manager.name ≡ true)
+      × ((is_empty e.owned ≡ false) × OwnsOwnable w e)) (HereFits w) (λ e h. record { name = h.0; own_some = h.1.0; ownable = h.1.1 }) u
+      (all-both (λ e. is_manager_name e.manager.name ≡ true) (λ e. (is_empty e.owned ≡ false) × OwnsOwnable w e) u b.managers.names
+      (all-both (λ e. is_empty e.owned ≡ false) (OwnsOwnable w) u b.managers.own_some b.ownable))
 
   table-fits : TableFits d t w cut
   table-fits = record {
@@ -173,9 +186,10 @@ module _ (t u : Table) (w : Body) (cut : PathSet) (b : IsTable w u) (apart : (p 
     here = ap (placed (λ e. not (is_in_table t e.manager)) 0) (sym leads);
     entries = entries;
     new = all-placed-of (λ e. not (is_in_table t e.manager)) (HereFits w) 0 u here-each;
-    distinct = ap has_distinct_keys leads ∙ b.distinct;
-    few = subst (λ x. length x ≤ most_managers) (sym leads) b.few;
+    distinct = ap has_distinct_keys leads ∙ b.managers.distinct;
+    few = subst (λ x. length x ≤ most_managers) (sym leads) b.managers.few;
   }
 
+-- a record that takes a table to one of a body, which has nothing of what is cut, fits it
 pub taken_table_fits : TakenTableFits
 taken_table_fits d t u w cut b apart h = subst (λ (x : TableRecord). TableFits x t w cut) (sym h.is) (table-fits t u w cut b apart h.from h.order)

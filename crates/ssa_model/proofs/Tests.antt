@@ -15,10 +15,12 @@ same_tests true t f g = sym (f refl)
 same_tests false true f g = g refl
 same_tests false false f g = refl
 
+-- a test that is known to hold passes
 pub holds : (b : Bool) → T b → b ≡ true
 holds true h = refl
 holds false h = absurd h
 
+-- and one that passes is known to hold
 pub held : (b : Bool) → b ≡ true → T b
 held true e = tt
 held false e = absurd (true≢false (sym e))
@@ -36,7 +38,8 @@ module _ {A : Type 0} (same : A → A → Bool) (is : (x y : A) → same x y ≡
   pointwise-true [] [] h = refl
   pointwise-true [] (y ∷ ys) h = absurd (true≢false (sym h))
   pointwise-true (x ∷ xs) [] h = absurd (true≢false (sym h))
-  pointwise-true (x ∷ xs) (y ∷ ys) h = λ i. is x y (first_so (same x y) (pointwise same xs ys) h) i ∷ pointwise-true xs ys (second_so (same x y) (pointwise same xs ys) h) i
+  pointwise-true (x ∷ xs) (y ∷ ys) h = λ i. is x y (first_so (same x y) (pointwise same xs ys) h) i
+      ∷ pointwise-true xs ys (second_so (same x y) (pointwise same xs ys) h) i
 
 -- a test that each element passes with itself, each list passes with itself
 pub pointwise-itself : {A : Type 0} (same : A → A → Bool) → ((x : A) → same x x ≡ true) → (xs : List A) → pointwise same xs xs ≡ true
@@ -51,8 +54,10 @@ filter-all test all [] = refl
 filter-all test all (x ∷ xs) = λ i. cond (all x i) (x ∷ filter-all test all xs i) (filter-all test all xs i)
 
 module _ {A : Type 0} (test : A → Bool) (x : A) (xs : List A) where
+  -- a first element that passes is kept in front
   pub filter-kept : test x ≡ true → filter test (x ∷ xs) ≡ x ∷ filter test xs
   filter-kept h = ap (λ b. cond b (x ∷ filter test xs) (filter test xs)) h
 
+  -- a first element that fails is dropped
   pub filter-dropped : test x ≡ false → filter test (x ∷ xs) ≡ filter test xs
   filter-dropped h = ap (λ b. cond b (x ∷ filter test xs) (filter test xs)) h

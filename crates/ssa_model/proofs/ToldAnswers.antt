@@ -66,5 +66,6 @@ read : (readings : Readings) (bench : Bench) (r : Result Command LineFault) → 
 read readings bench (Ok c) = reply (answer bench c).0
 read readings bench (Err f) = line_fault f
 
+-- no answer to a line, nor to one that is too long, is the line of want of memory
 pub answers_are_told : AnswersAreTold
 answers_are_told = (refl, λ readings bench line. read readings bench (read_line readings line))

@@ -13,10 +13,10 @@ use Rattle.ssa_model.specs.definitions.Carry.{filled, end_of, place_in, put_item
 use Rattle.ssa_model.specs.laws.FittingRecords.{has_below, is_touched, order_after, ListFits}
 use Rattle.ssa_model.proofs.PathMaps.{has-paths, same_path-itself}
 use Rattle.ssa_model.proofs.Pruned.{from_one}
-use Rattle.ssa_model.proofs.Tables.{first_false, second_false, yes_no, or-false, element-itself}
+use Rattle.ssa_model.proofs.Tables.{yes_no, element-itself}
 use Rattle.ssa_model.proofs.Tests.{by_test, pointwise-itself, filter-all}
-use Rattle.ssa_model.proofs.Fitting.{nothing_there}
 use Rattle.ssa_model.proofs.Beginnings.{parent-push}
+use Rattle.ssa_model.proofs.Basics.{or-false, first_false, second_false, none-there as nothing_there}
 
 -- a map with nothing right below a path has no path right below it
 none-below : {X : Type 0} (m : PathMap X) (p : Path) (e : Element) → has_below m p ≡ false → has m (p ++ e ∷ []) ≡ false
@@ -35,7 +35,8 @@ no-places p (e ∷ es) off =
     let here = first_false (same_path (parent e.0) p) rest off in
     ap (λ b. cons_option (if b then e.1.place else None) (filter_map (place_in p) es)) here ∙ no-places p es (second_false (same_path (parent e.0) p) rest off)
 
-module _ (kind : Kind) (d : BodyRecord) (v : Body) (a : IsBodyOf kind v) (p : Path) (es : List Element) (is : get v p ≡ Some (list_branch es)) (off : is_touched d p ≡ false) where
+module _ (kind : Kind) (d : BodyRecord) (v : Body) (a : IsBodyOf kind v) (p : Path) (es : List Element) (is : get v p ≡ Some (list_branch es))
+    (off : is_touched d p ≡ false) where
   untold : get d.order p ≡ None
   untold = nothing_there (get d.order p) (first_false (has d.order p) (has_below d.cut p || has_below d.put p) off)
 
@@ -51,16 +52,20 @@ module _ (kind : Kind) (d : BodyRecord) (v : Body) (a : IsBodyOf kind v) (p : Pa
   all-stay : staying_items d p es ≡ es
   all-stay = filter-all (λ e. not (has d.cut (p ++ e ∷ []))) (λ e. ap not (uncut e)) es
 
+  -- the record leads to the list's own order
   pub order-stays : order_after d p es ≡ es
   order-stays =
       ap (λ o. carried_order o (refilled d p es)) untold
-      ∙ ap (λ is. filled (put_item d.put.entries p) 0 (end_of is) (staying_items d p es)) (no-places p d.put.entries (second_false (has_below d.cut p) (has_below d.put p) below))
+      ∙ ap (λ is. filled (put_item d.put.entries p) 0 (end_of is) (staying_items d p es))
+      (no-places p d.put.entries (second_false (has_below d.cut p) (has_below d.put p) below))
       ∙ all-stay
 
+  -- the list fits
   pub untouched-fits : ListFits d p es
   untouched-fits = record {
     once = ap are_distinct order-stays ∙ ap (λ o. are_distinct (order_at o)) (sym is) ∙ a.once p;
     items = λ e. ap (is_among e) order-stays ∙ sym ((λ i. is_among e (all-stay i) || unput e i) ∙ or-false (is_among e es));
     places = λ e x found. absurd (none-some x (sym (nothing_there (get d.put (p ++ e ∷ [])) (unput e)) ∙ found));
-    order = ap is_some untold ∙ sym (ap (λ fs. not (are_in_one_order es fs)) order-stays ∙ ap not (pointwise-itself same_element element-itself (common es es)));
+    order = ap is_some untold ∙ sym (ap (λ fs. not (are_in_one_order es fs)) order-stays
+        ∙ ap not (pointwise-itself same_element element-itself (common es es)));
   }

@@ -20,6 +20,7 @@ use Rattle.ssa_model.specs.laws.KeepsValid.{AcceptedGoesOn, NextKeepsHistory}
 use Rattle.ssa_model.proofs.Accepted.{applied_is, updated_is}
 use Rattle.ssa_model.proofs.SharedManagers.{operations_keep_order}
 use Rattle.ssa_model.proofs.ValidTimelines.{appended_valid, lone_valid}
+use Rattle.ssa_model.proofs.Basics.{not_false as named-of}
 
 -- ---- the last step of a list
 
@@ -55,6 +56,7 @@ lone_history kind s h = record { states = lone_valid kind s h; order = tt; names
 one-more : (place count n : ℕ) → place < most_past → n ≡ min place count → n + 1 ≤ most_past
 one-more place count n few is = grind (arith, min-le_left place count)
 
+-- a valid history goes on validly with the step that an accepted command adds
 pub next_keeps_history : NextKeepsHistory
 next_keeps_history kind t label s h within valid next =
     let step : Step = record { label = label; state = s } in
@@ -70,10 +72,6 @@ next_keeps_history kind t label s h within valid next =
 
 few-of : (n : ℕ) → nat_le most_past n ≡ false → n < most_past
 few-of n e = grind (arith, nat_tests)
-
-named-of : (b : Bool) → not b ≡ false → b ≡ true
-named-of true e = refl
-named-of false e = sym e
 
 module _ (bench : Bench) (distinct : has_distinct_keys (present bench.timeline).table ≡ true) where
   abbrev now : State
@@ -92,7 +90,8 @@ module _ (bench : Bench) (distinct : has_distinct_keys (present bench.timeline).
 
   accepted : (word : Text) (label : Label) (s : State) → IsNextStep bench.timeline label s → GoesOn (accept bench word label s)
   accepted word label s h w changes l u e next =
-      let same : ◌≡◌ {A = Step} (record { label = label; state = s }) (record { label = l; state = u }) = pushed-same (take bench.timeline.place bench.timeline.later) _ _ (ap (λ b. b.timeline.later) next) in
+      let same : ◌≡◌ {A = Step} (record { label = label; state = s }) (record { label = l; state = u }) =
+      pushed-same (take bench.timeline.place bench.timeline.later) _ _ (ap (λ b. b.timeline.later) next) in
       subst (λ (t : Step). IsNextStep bench.timeline t.label t.state) same h
 
   unless : (b : Bool) (x y : Answer) → GoesOn x → (b ≡ false → GoesOn y) → GoesOn (if b then x else y)
@@ -103,21 +102,26 @@ module _ (bench : Bench) (distinct : has_distinct_keys (present bench.timeline).
   of_body (Ok body) go p = p body
   of_body (Err f) go p = refusal f
 
-  tested : (who : Text) (v : Json) (go : Body → Answer) → (past_len bench.timeline < most_past → is_manager_name who ≡ true → (body : Body) → GoesOn (go body)) → GoesOn (with_body bench who v go)
+  tested : (who : Text) (v : Json) (go : Body → Answer) → (past_len bench.timeline < most_past → is_manager_name who ≡ true → (body : Body)
+      → GoesOn (go body)) → GoesOn (with_body bench who v go)
   tested who v go p =
       unless (nat_le most_past (past_len bench.timeline)) _ _ (refusal history_full)
       (λ few. unless (not (is_manager_name who)) _ _ (refusal manager_name) (λ named. of_body (command_body bench v) go (p (few-of _ few) (named-of _ named))))
 
-  made : (word : Text) (label : Label) (r : Result State Refusal) → ((s : State) → r ≡ Ok s → IsNextStep bench.timeline label s) → GoesOn (accept_or_refuse bench word label r)
+  made : (word : Text) (label : Label) (r : Result State Refusal) → ((s : State) → r ≡ Ok s → IsNextStep bench.timeline label s)
+      → GoesOn (accept_or_refuse bench word label r)
   made word label (Ok s) p = accepted word label s (p s refl)
   made word label (Err f) p = refusal (refused f)
 
-  applying : (who : Text) (force : Bool) (at : Text) → past_len bench.timeline < most_past → is_manager_name who ≡ true → (config : Body) → GoesOn (apply_answer bench who force at config)
+  applying : (who : Text) (force : Bool) (at : Text) → past_len bench.timeline < most_past → is_manager_name who ≡ true → (config : Body)
+      → GoesOn (apply_answer bench who force at config)
   applying who force at few named config =
       let a : ManagerKey = record { name = who; operation = applies } in
       made (codes "apply") (applied who force at) (operations.apply now a config force at)
       (λ s ok. record {
-        order = subst (λ (x : State). KeepsOrder now.table x.table) (applied_is now s a config force at ok).0 (operations_keep_order now.table a (points config) (modified now.body (operations.pruned now a config)) (modified now.body (operations.pruned now a config)) at distinct);
+        order = subst (λ (x : State). KeepsOrder now.table x.table) (applied_is now s a config force at ok).0
+            (operations_keep_order now.table a (points config) (modified now.body (operations.pruned now a config))
+            (modified now.body (operations.pruned now a config)) at distinct);
         named = named;
         few = few;
       })
@@ -131,7 +135,9 @@ module _ (bench : Bench) (distinct : has_distinct_keys (present bench.timeline).
       let u : ManagerKey = record { name = who; operation = updates } in
       made (codes "update") (updated who at) (operations.update now u object at)
       (λ s ok. record {
-        order = subst (λ (x : State). KeepsOrder now.table x.table) (updated_is now s u object at ok).0 (operations_keep_order now.table u (owned_after u object) (union (modified now.body object) (removed now.body object)) (modified now.body object) at distinct);
+        order = subst (λ (x : State). KeepsOrder now.table x.table) (updated_is now s u object at ok).0
+            (operations_keep_order now.table u (owned_after u object) (union (modified now.body object) (removed now.body object))
+            (modified now.body object) at distinct);
         named = named;
         few = few;
       })
@@ -152,5 +158,6 @@ module _ (bench : Bench) (distinct : has_distinct_keys (present bench.timeline).
   goes-on (owners p) = by _ (λ word changes e. cc)
   goes-on log = by _ (λ word changes e. cc)
 
+-- an accepted command adds such a step
 pub accepted_goes_on : AcceptedGoesOn
 accepted_goes_on bench c word changes label s distinct = goes-on bench distinct c word changes label s

@@ -16,18 +16,21 @@ use Rattle.ssa_model.specs.definitions.Valid.{OwnedOwnable, OwnsOwnable, AllEntr
 use Rattle.ssa_model.specs.laws.KeepsValid.{ApplyKeepsValid, UpdateKeepsValid, StripKeepsValid}
 use Rattle.ssa_model.proofs.Accepted.{applied_is, updated_is}
 use Rattle.ssa_model.proofs.PathMaps.{has-set_of, has-union, has-points, has-paths, is_one_of}
-use Rattle.ssa_model.proofs.Tables.{apart_by, first_false, second_false, or_true, true_or, yes_no, either, ownable-has, leaf-point, leaf-has, has-over, has-restricted, kept-stays, spared, apply_keeps, update_keeps, strip_keeps}
+use Rattle.ssa_model.proofs.Tables.{apart_by, true_or, yes_no, either, ownable-has, leaf-point, leaf-has, has-over, has-restricted, kept-stays, spared, apply_keeps, update_keeps, strip_keeps}
 use Rattle.ssa_model.proofs.Fitting.{some_place, some_there, same_element-true, over_fits}
 use Rattle.ssa_model.proofs.Pruned.{some_one, from_one, pruned_fits}
+use Rattle.ssa_model.proofs.Basics.{or_true, first_false, second_false}
 
 -- ---- contents that fit one place
 
+-- the schema has a scalar or an atomic value at the place
 abbrev pub is_leaf_place : Place → Bool
 is_leaf_place (of_kind (scalar_kind k)) = true
 is_leaf_place (of_kind (atomic_of s)) = true
 is_leaf_place (value_of s) = true
 is_leaf_place _ = false
 
+-- what fits a place is a leaf exactly where the place is that of one
 pub leaf_place : (q : Place) (c : Content) → content_fits q c ≡ true → is_leaf (Some c) ≡ is_leaf_place q
 leaf_place (of_kind (scalar_kind k)) (leaf s) h = refl
 leaf_place (of_kind (atomic_of s)) (atom v) h = refl
@@ -63,24 +66,30 @@ module _ (test : Option Content → Bool) (of_place : Place → Bool) (decided :
       let y = some_there (get c p) there in
       let s = g.fits p x.0 x.1 in
       let t = h.fits p y.0 y.1 in
-      ap test x.1 ∙ decided s.place x.0 s.fits ∙ ap of_place (some_place s.place t.place (sym s.there ∙ t.there)) ∙ sym (decided t.place y.0 t.fits) ∙ ap test (sym y.1)
+      ap test x.1 ∙ decided s.place x.0 s.fits ∙ ap of_place (some_place s.place t.place (sym s.there ∙ t.there)) ∙ sym (decided t.place y.0 t.fits)
+      ∙ ap test (sym y.1)
 
 -- ---- `metadata`
 
+-- `metadata` of a rooted body is no leaf
 pub no_leaf : (b : Body) → IsRooted b → is_leaf (get b metadata_path) ≡ false
 no_leaf b rooted =
     apart_by (is_leaf (get b metadata_path))
-    (λ t. yes_no (has (points b) metadata_path) (has-points b metadata_path ∙ (λ i. leaf-has (get b metadata_path) t i && leaf-point b rooted metadata_path t i)) rooted.metadata)
+    (λ t. yes_no (has (points b) metadata_path) (has-points b metadata_path
+    ∙ (λ i. leaf-has (get b metadata_path) t i && leaf-point b rooted metadata_path t i)) rooted.metadata)
 
 module _ (b : Body) (rooted : IsRooted b) (there : has b metadata_path ≡ true) where
   no_point : is_point b metadata_path ≡ false
   no_point = (λ i. sym there i && is_point b metadata_path) ∙ sym (has-points b metadata_path) ∙ rooted.metadata
 
+  -- the root is no map
   pub in_no_dict : is_dict (get b []) ≡ false
   in_no_dict = first_false (is_dict (get b [])) (is_bare b metadata_path) (second_false (is_leaf (get b metadata_path)) _ no_point)
 
+  -- something stands strictly below `metadata`
   pub something_below : list_any (strictly_under metadata_path) (paths b) ≡ true
-  something_below = filled (list_any (strictly_under metadata_path) (paths b)) (second_false (is_dict (get b [])) (is_bare b metadata_path) (second_false (is_leaf (get b metadata_path)) _ no_point))
+  something_below = filled (list_any (strictly_under metadata_path) (paths b))
+      (second_false (is_dict (get b [])) (is_bare b metadata_path) (second_false (is_leaf (get b metadata_path)) _ no_point))
     where
       filled : (t : Bool) → not t ≡ false → t ≡ true
       filled true h = refl
@@ -96,7 +105,8 @@ no_point_there kind b c g h rooted here there below =
 
 under_strictly : (x : Path) → under metadata_path x ≡ true → (x ≡ metadata_path → ⊥) → strictly_under metadata_path x ≡ true
 under_strictly [] u apart = absurd (true≢false (sym u))
-under_strictly (e ∷ []) u apart = absurd (apart (λ i. sym (same_element-true (field (codes "metadata")) e (first_so (same_element (field (codes "metadata")) e) true u)) i ∷ []))
+under_strictly (e ∷ []) u apart = absurd (apart (λ i. sym (same_element-true (field (codes "metadata")) e
+    (first_so (same_element (field (codes "metadata")) e) true u)) i ∷ []))
 under_strictly (e ∷ f ∷ x) u apart = λ i. u i && not (beyond i)
   where
     beyond : under (e ∷ f ∷ x) metadata_path ≡ false
@@ -109,12 +119,14 @@ others-ownable b [] a h = λ p own. absurd (true≢false (sym own))
 others-ownable b (e ∷ es) a h =
     elim (same_manager e.manager a) as (λ t. OwnedOwnable b (if t then owned_by_others es a else union e.owned (owned_by_others es a))) [
       | true ↦ others-ownable b es a h.1
-      | false ↦ λ p own. either (has e.owned p) (has (owned_by_others es a) p) (sym (has-union e.owned (owned_by_others es a) p) ∙ own) (h.0 p) (others-ownable b es a h.1 p)
+      | false ↦ λ p own. either (has e.owned p) (has (owned_by_others es a) p) (sym (has-union e.owned (owned_by_others es a) p)
+          ∙ own) (h.0 p) (others-ownable b es a h.1 p)
     ]
 
 -- ---- Apply
 
-module _ (kind : Kind) (state : State) (a : ManagerKey) (config : Body) (valid : IsValidState kind state) (fits : IsBodyOf kind config) (rooted : IsRooted config) where
+module _ (kind : Kind) (state : State) (a : ManagerKey) (config : Body) (valid : IsValidState kind state) (fits : IsBodyOf kind config)
+    (rooted : IsRooted config) where
   abbrev others : PathSet
   others = owned_by_others state.table a
 
@@ -137,7 +149,8 @@ module _ (kind : Kind) (state : State) (a : ManagerKey) (config : Body) (valid :
   after_fits = pruned_fits kind state a config valid.fits fits
 
   -- from `metadata` in a body that the merged one holds
-  no_merged_from : (b : Body) → IsBodyOf kind b → IsRooted b → ((p : Path) → has b p ≡ true → has merged p ≡ true) → has b metadata_path ≡ true → has (points merged) metadata_path ≡ false
+  no_merged_from : (b : Body) → IsBodyOf kind b → IsRooted b → ((p : Path) → has b p ≡ true → has merged p ≡ true) → has b metadata_path ≡ true
+      → has (points merged) metadata_path ≡ false
   no_merged_from b g r within here =
       let x = some_one (strictly_under metadata_path) (paths b) (something_below b r here) in
       let there = has-paths merged x.0 in
@@ -151,19 +164,22 @@ module _ (kind : Kind) (state : State) (a : ManagerKey) (config : Body) (valid :
   no_merged_point =
       apart_by (has (points merged) metadata_path)
       (λ t. yes_no (has (points merged) metadata_path) t
-      (either (has state.body metadata_path) (has config metadata_path) (sym (has-over state.body config metadata_path) ∙ first_so (has merged metadata_path) (is_point merged metadata_path) (sym (has-points merged metadata_path) ∙ t))
+      (either (has state.body metadata_path) (has config metadata_path) (sym (has-over state.body config metadata_path)
+      ∙ first_so (has merged metadata_path) (is_point merged metadata_path) (sym (has-points merged metadata_path) ∙ t))
       (no_merged_from state.body valid.fits valid.rooted (λ p here. in_merged p (true_or (has state.body p) (has config p) here)))
       (no_merged_from config fits rooted (λ p here. in_merged p (or_true (has state.body p) (has config p) here)))))
 
   spared_point : (p : Path) → has (spared state a config) p ≡ true → has (points merged) p ≡ true
   spared_point p one =
       has-paths (points merged) p
-      ∙ first_so (is_one_of (paths (points merged)) p) (not (has_at_or_above (dropped state a config) p)) (sym (has-set_of (paths (points merged)) (λ q. not (has_at_or_above (dropped state a config) q)) p) ∙ one)
+      ∙ first_so (is_one_of (paths (points merged)) p) (not (has_at_or_above (dropped state a config) p))
+      (sym (has-set_of (paths (points merged)) (λ q. not (has_at_or_above (dropped state a config) q)) p) ∙ one)
 
   -- what is kept is in one of the two bodies
   kept_there : (p : Path) → has stay p ≡ true → (has state.body p || has config p) ≡ true
   kept_there p one =
-      either (has (spared state a config) p) (has (union others (points config)) p) (sym (has-union (spared state a config) (union others (points config)) p) ∙ one)
+      either (has (spared state a config) p) (has (union others (points config)) p) (sym (has-union (spared state a config) (union others (points config)) p)
+      ∙ one)
       (λ free. sym (has-over state.body config p) ∙ first_so (has merged p) (is_point merged p) (sym (has-points merged p) ∙ spared_point p free))
       (λ rest. either (has others p) (has (points config) p) (sym (has-union others (points config) p) ∙ rest)
       (λ other. true_or (has state.body p) (has config p) (ownable-has state.body p (others-ownable state.body state.table a valid.table.ownable p other)))
@@ -172,10 +188,12 @@ module _ (kind : Kind) (state : State) (a : ManagerKey) (config : Body) (valid :
   -- `metadata` itself is not kept, but what is below it
   metadata_not_kept : has stay metadata_path ≡ true → ⊥
   metadata_not_kept one =
-      either (has (spared state a config) metadata_path) (has (union others (points config)) metadata_path) (sym (has-union (spared state a config) (union others (points config)) metadata_path) ∙ one)
+      either (has (spared state a config) metadata_path) (has (union others (points config)) metadata_path)
+      (sym (has-union (spared state a config) (union others (points config)) metadata_path) ∙ one)
       (λ free. yes_no (has (points merged) metadata_path) (spared_point metadata_path free) no_merged_point)
       (λ rest. either (has others metadata_path) (has (points config) metadata_path) (sym (has-union others (points config) metadata_path) ∙ rest)
-      (λ other. true≢false (sym (second_so (has state.body metadata_path) false (others-ownable state.body state.table a valid.table.ownable metadata_path other))))
+      (λ other. true≢false (sym (second_so (has state.body metadata_path) false
+      (others-ownable state.body state.table a valid.table.ownable metadata_path other))))
       (λ point. yes_no (has (points config) metadata_path) point rooted.metadata))
 
   staying : has after metadata_path ≡ true → has_at_or_below stay metadata_path ≡ true
@@ -192,13 +210,15 @@ module _ (kind : Kind) (state : State) (a : ManagerKey) (config : Body) (valid :
         let x = some_one (under metadata_path) (paths stay) (staying there) in
         let stays = has-paths stay x.0 ∙ x.1 in
         let strictly = under_strictly x.0 x.2 (λ is. metadata_not_kept (ap (has stay) (sym is) ∙ stays)) in
-        let below = from_one (strictly_under metadata_path) (paths after) x.0 (sym (has-paths after x.0) ∙ kept-stays state a config x.0 stays (kept_there x.0 stays)) strictly in
+        let below = from_one (strictly_under metadata_path) (paths after) x.0 (sym (has-paths after x.0)
+        ∙ kept-stays state a config x.0 stays (kept_there x.0 stays)) strictly in
         yes_no (has (points after) metadata_path) t
         (either (has state.body metadata_path) (has config metadata_path) (after_in_one metadata_path there)
         (λ here. no_point_there kind state.body after valid.fits after_fits valid.rooted here there below)
         (λ here. no_point_there kind config after fits after_fits rooted here there below)));
   }
 
+-- an accepted Apply of a rooted configuration leads from a valid state to a valid one
 pub apply_keeps_valid : ApplyKeepsValid
 apply_keeps_valid kind state next a config force at valid fits rooted name ok =
     let made = applied_is state next a config force at ok in
@@ -210,6 +230,7 @@ apply_keeps_valid kind state next a config force at valid fits rooted name ok =
       table = apply_keeps state next a config force at valid.table valid.rooted rooted name ok;
     }
 
+-- an accepted Update of a rooted object leads from a valid state to a valid one
 pub update_keeps_valid : UpdateKeepsValid
 update_keeps_valid kind state next u object at valid fits rooted few name ok =
     let is : object ≡ next.body = ap (λ s. s.body) (updated_is state next u object at ok).0 in
@@ -220,5 +241,6 @@ update_keeps_valid kind state next u object at valid fits rooted few name ok =
       table = update_keeps state next u object at valid.table valid.rooted rooted name ok;
     }
 
+-- a strip leads from a valid state to a valid one
 pub strip_keeps_valid : StripKeepsValid
 strip_keeps_valid kind state valid = record { fits = valid.fits; rooted = valid.rooted; few = valid.few; table = strip_keeps state }

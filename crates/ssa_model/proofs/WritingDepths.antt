@@ -22,13 +22,16 @@ either-depth false v w most h g = g
 
 -- ---- the writing of paths
 
-field_members-depth : (written : List Path → Json) (most : ℕ) (ps : List Path) (es : List Element) → 1 ≤ most → ((qs : List Path) → depth (written qs) ≤ most) → members_depth (field_members written ps es) ≤ most
+field_members-depth : (written : List Path → Json) (most : ℕ) (ps : List Path) (es : List Element) → 1 ≤ most → ((qs : List Path) → depth (written qs) ≤ most)
+    → members_depth (field_members written ps es) ≤ most
 field_members-depth written most ps [] one h = omega arith
 field_members-depth written most ps (e ∷ es) one h =
-    max-le (either-depth (is_place_alone (tails e ps)) nothing_written (written (tails e ps)) most one (h (tails e ps))) (field_members-depth written most ps es one h)
+    max-le (either-depth (is_place_alone (tails e ps)) nothing_written (written (tails e ps)) most one (h (tails e ps)))
+    (field_members-depth written most ps es one h)
 
 written-depth : (most : ℕ) (ps : List Path) → depth (written_paths most ps) ≤ suc (suc most)
-written-depth zero ps = either-depth (list_any is_root ps) (object (member (codes ".") nothing_written no_members)) nothing_written 2 (omega arith) (omega arith)
+written-depth zero ps = either-depth (list_any is_root ps) (object (member (codes ".") nothing_written no_members)) nothing_written 2 (omega arith)
+    (omega arith)
 written-depth (suc most) ps =
     let members = field_members (written_paths most) ps (heads ps) in
     let below = field_members-depth (written_paths most) (suc (suc most)) ps (heads ps) (omega arith) (λ qs. written-depth most qs) in
@@ -44,6 +47,7 @@ longest-bound (p ∷ ps) most h = max-le h.0 (longest-bound ps most h.1)
 abbrev pub IsShortSet : ℕ → PathSet → Type 0
 IsShortSet most s = (p : Path) → has s p ≡ true → length p ≤ most
 
+-- the writing of a set nests at most two levels more than its longest path may have elements
 pub short-depth : (most : ℕ) (s : PathSet) → IsShortSet most s → depth (fields_json s) ≤ suc (suc most)
 short-depth most s h =
     let bound = longest-bound (paths s) most (each-among same_path same_path-itself (λ (p : Path). length p ≤ most) (paths s)
@@ -58,8 +62,11 @@ path-bound kind body p k one =
       | Some c ↦ λ is _. let at = k.fits p c is in path-levels kind p at.place at.there
     ] refl one
 
+-- what can be owned in a body of a kind has no path longer than the kind has levels
 pub owned-short : (kind : Kind) (body : Body) (owned : PathSet) → IsBodyOf kind body → OwnedOwnable body owned → IsShortSet (levels kind) owned
 owned-short kind body owned k ownable p one = path-bound kind body p k (ownable-has body p (ownable p one))
 
-pub owned-depth : (kind : Kind) (body : Body) (owned : PathSet) → IsBodyOf kind body → OwnedOwnable body owned → depth (fields_json owned) ≤ suc (suc (levels kind))
+-- so its writing nests at most two levels more than the kind has
+pub owned-depth : (kind : Kind) (body : Body) (owned : PathSet) → IsBodyOf kind body → OwnedOwnable body owned
+    → depth (fields_json owned) ≤ suc (suc (levels kind))
 owned-depth kind body owned k ownable = short-depth (levels kind) owned (owned-short kind body owned k ownable)

@@ -17,14 +17,13 @@ use Rattle.ssa_model.specs.definitions.ElementTexts.{ElementFault, not_canonical
 use Rattle.ssa_model.specs.definitions.FieldsV1.{with_head, heads, tails, is_place_alone, nothing_written, field_members, written_paths, longest, fields_json, dot_alone, is_nothing_inside, fields_faults, member_faults, said_paths, member_paths, said_set}
 use Rattle.ssa_model.specs.definitions.RecordReading.{HasReadSet, IsReadPath}
 use Rattle.ssa_model.proofs.Fitting.{same_element-true}
-use Rattle.ssa_model.proofs.Lists.{keys, or_twice, has-listed}
+use Rattle.ssa_model.proofs.Lists.{keys, has-listed}
 use Rattle.ssa_model.proofs.PathMaps.{is_one_of, has-paths, same_path-itself, same_sets}
-use Rattle.ssa_model.proofs.RisingNames.{lower}
 use Rattle.ssa_model.proofs.SaidSets.{behind, no-root, same-behind, other-behind, no-dot}
 use Rattle.ssa_model.proofs.ShownItems.{each-among}
-use Rattle.ssa_model.proofs.ShownNames.{then_both}
-use Rattle.ssa_model.proofs.Tables.{no, true_or, element-itself}
+use Rattle.ssa_model.proofs.Tables.{true_or, element-itself}
 use Rattle.ssa_model.proofs.Tests.{by_test, holds}
+use Rattle.ssa_model.proofs.Basics.{or_twice, not_true as no, then_both, lower}
 
 -- ---- the paths that begin with an element, and the first elements
 
@@ -38,7 +37,8 @@ one-tail e ((f ∷ p) ∷ ps) q =
     ]
     ∙ ap (λ t. t || is_one_of ps (e ∷ q)) (sym (then_both (element_cmp e f) (path_cmp q p)))
 
-longest-tail : (e : Element) (ps : List Path) (n : ℕ) → longest ps ≤ suc n → longest (tails e ps) ≤ n
+-- what follows an element in paths is shorter by one
+pub longest-tail : (e : Element) (ps : List Path) (n : ℕ) → longest ps ≤ suc n → longest (tails e ps) ≤ n
 longest-tail e [] n h = omega arith
 longest-tail e ([] ∷ ps) n h = longest-tail e ps n (omega arith)
 longest-tail e ((f ∷ p) ∷ ps) n h =
@@ -121,6 +121,7 @@ apart-tail e ((f ∷ p) ∷ ps) h =
     ] refl
 
 module _ {X : Type 0} where
+  -- a path before all those of some entries is none of them
   pub none-below : (p : Path) (es : List (Path × X)) → below_all path_cmp p es ≡ true → is_one_of (keys es) p ≡ false
   none-below p [] h = refl
   none-below p (e ∷ es) h =

@@ -29,6 +29,7 @@ head-from v h is =
     let got = given-back (is_written_as (head_of place.0 states.0) v) (record { place = place.0; states = states.0 }) h states.2 in
     sym (same_text-true (compact (head_of place.0 states.0)) (compact v) got.0) ∙ ap (λ (x : Head). compact (head_of x.place x.states)) got.1
 
+-- the schema that is taken from a value has this value for its source
 pub schema-from : (v : Json) (r : Result Kind SchemaFault) (schema : Schema)
     → elim r [ Ok kind ↦ Some (record { source = v; kind = kind }) | Err f ↦ None ] ≡ Some schema → v ≡ schema.source
 schema-from v (Ok kind) schema is = ap (λ (s : Schema). s.source) (same_Some {A = Schema} (record { source = v; kind = kind }) schema is)
@@ -37,7 +38,8 @@ schema-from v (Err f) schema is = absurd (none-some schema is)
 -- ---- the first state
 
 lone-from : (v : Json) (r : Result Bench Fault) (lone : Bench)
-    → elim r [ Ok bench ↦ given_if (is_written_as (first_json bench) v) bench | Err f ↦ None ] ≡ Some lone → (r ≡ Ok lone) × (compact v ≡ compact (first_json lone))
+    → elim r [ Ok bench ↦ given_if (is_written_as (first_json bench) v) bench | Err f ↦ None ] ≡ Some lone → (r ≡ Ok lone)
+    × (compact v ≡ compact (first_json lone))
 lone-from v (Ok bench) lone is =
     let got = given-back (is_written_as (first_json bench) v) bench lone is in
     (ap Ok got.1, sym (same_text-true (compact (first_json bench)) (compact v) got.0) ∙ ap (λ b. compact (first_json b)) got.1)
@@ -51,10 +53,12 @@ module _ (readings : Readings) (bench : Bench) where
   step-from before v label (Ok state) s is =
       let made : Step = record { label = label; state = state } in
       let got = given-back (is_written_as (step_json bench made) v && keeps_order before.table state.table) made s is in
-      sym (same_text-true (compact (step_json bench made)) (compact v) (and_parts (is_written_as (step_json bench made) v) _ got.0).0) ∙ ap (λ t. compact (step_json bench t)) got.1
+      sym (same_text-true (compact (step_json bench made)) (compact v) (and_parts (is_written_as (step_json bench made) v) _ got.0).0)
+      ∙ ap (λ t. compact (step_json bench t)) got.1
   step-from before v label (Err f) s is = absurd (none-some s is)
 
-  steps-from : (before : State) (vs : List Json) (ss : List Step) → steps_in readings bench before vs ≡ Some ss → map compact vs ≡ map compact (map (step_json bench) ss)
+  steps-from : (before : State) (vs : List Json) (ss : List Step) → steps_in readings bench before vs ≡ Some ss
+      → map compact vs ≡ map compact (map (step_json bench) ss)
   steps-from before [] ss is = ap (λ ts. map compact (map (step_json bench) ts)) (same_Some [] ss is)
   steps-from before (v ∷ vs) ss is =
       let first = and_then-back _ (step_in readings bench before v) ss is in
@@ -82,7 +86,8 @@ module _ (readings : Readings) (head source first : Json) (later : List Json) (b
       let schema_is = (lone-parts readings schema (object_in first) lone lone_is.0).schema_is in
       let source_is = schema-from source (read_schema source) schema schemed ∙ ap (λ (x : Schema). x.source) schema_is in
       let steps_are = steps-from readings lone lone.timeline.first later steps stepped in
-      let written : map compact (head ∷ source ∷ first ∷ later) ≡ map compact (bench_values made) = λ i. head_is i ∷ compact (source_is i) ∷ lone_is.1 i ∷ steps_are i in
+      let written : map compact (head ∷ source ∷ first ∷ later) ≡ map compact (bench_values made) =
+      λ i. head_is i ∷ compact (source_is i) ∷ lone_is.1 i ∷ steps_are i in
       written ∙ ap (λ b. map compact (bench_values b)) got.1
 
   abbrev of_lone : Head → Bench → Option Bench
@@ -116,7 +121,8 @@ module _ (readings : Readings) (head source first : Json) (later : List Json) (b
       by-head got.0 got.1 got.2
 
 -- the values from which a bench is taken have the texts of those that are written of it
-pub values-written : (readings : Readings) (vs : List Json) (bench : Bench) → values_bench readings vs ≡ Some bench → map compact vs ≡ map compact (bench_values bench)
+pub values-written : (readings : Readings) (vs : List Json) (bench : Bench) → values_bench readings vs ≡ Some bench
+    → map compact vs ≡ map compact (bench_values bench)
 values-written readings [] bench is = absurd (none-some bench is)
 values-written readings (head ∷ []) bench is = absurd (none-some bench is)
 values-written readings (head ∷ source ∷ []) bench is = absurd (none-some bench is)
@@ -128,4 +134,5 @@ taken_is_its_text readings t bench is =
     let small = tested-back (nat_le (length t) most_bench_bytes) _ bench is in
     let values = and_then-back (values_bench readings) (option_and_then (spelled_values readings) (text_lines t)) bench small in
     let ls = and_then-back (spelled_values readings) (text_lines t) values.0 values.1 in
-    text-of-values readings t ls.0 values.0 ls.1 ls.2 ∙ lines-are-ended values.0 ∙ ap ended (values-written readings values.0 bench values.2) ∙ sym (lines-are-ended (bench_values bench))
+    text-of-values readings t ls.0 values.0 ls.1 ls.2 ∙ lines-are-ended values.0 ∙ ap ended (values-written readings values.0 bench values.2)
+    ∙ sym (lines-are-ended (bench_values bench))

@@ -10,6 +10,7 @@ by_test : (b : Bool) (l found : Identity) → cond b (Some l) None ≡ Some foun
 by_test true l found is = (refl, cc)
 by_test false l found is = cc
 
+-- the identity that is found in an object is one that an object can have
 pub named-in : (v : Json) (found : Identity) → identity_in v ≡ Some found → is_identity found ≡ true
 named-in v found is =
     let tested = by_test (is_some_object (value_at (codes "metadata" ∷ []) v) && is_identity (identity_of v)) (identity_of v) found is in

@@ -11,31 +11,25 @@ use Rattle.ssa_model.specs.definitions.Table.{Table}
 use Rattle.ssa_model.specs.definitions.Objects.{Identity, members_in, members_of_value, object_of_body, shown, value_at, with_given, with_member}
 use Rattle.ssa_object.specs.Identities.{HasVersion}
 use Rattle.ssa_model.proofs.Tables.{text-itself as same_text-itself}
-
--- the member that is put is there
-put-there : (n : Text) (v : Json) (ms : Members) → member_of n (with_member n v ms) ≡ Some v
-put-there n v no_members = ap (λ b. cond b (Some v) None) (same_text-itself n)
-put-there n v (member m w ms) =
-    elim (slice_cmp nat_cmp n m) as (λ o. slice_cmp nat_cmp n m ≡ o
-    → member_of n (elim o [ Less ↦ member n v (member m w ms) | Equal ↦ member n v ms | Greater ↦ member m w (with_member n v ms) ]) ≡ Some v) [
-      | Less ↦ λ _. ap (λ b. cond b (Some v) (member_of n (member m w ms))) (same_text-itself n)
-      | Equal ↦ λ _. ap (λ b. cond b (Some v) (member_of n ms)) (same_text-itself n)
-      | Greater ↦ λ h. ap (λ o. cond (is_eq o) (Some w) (member_of n (with_member n v ms))) h ∙ put-there n v ms
-    ] refl
+use Rattle.ssa_model.proofs.PutMembers.{put-found as put-there}
 
 -- the version of the object is the identity's
 pub version-shown : (identity : Identity) (kind : Kind) (body : Body) (version : Json) → identity.version ≡ Some version
     → value_at (codes "apiVersion" ∷ []) (object_of_body identity kind body) ≡ Some version
 version-shown identity kind body version is =
-    ap (λ v. value_at (codes "apiVersion" ∷ []) (object_of_body (record { version = v; kind = identity.kind; name = identity.name; namespace = identity.namespace }) kind body)) is
+    ap (λ v. value_at (codes "apiVersion" ∷ []) (object_of_body
+    (record { version = v; kind = identity.kind; name = identity.name; namespace = identity.namespace }) kind body)) is
     ∙ ap (λ o. elim o [ None ↦ None | Some v ↦ Some v ]) (put-there (codes "apiVersion") version
     (with_given (codes "kind") identity.kind
-    (with_member (codes "metadata") (object (with_given (codes "name") identity.name (with_given (codes "namespace") identity.namespace (members_in (member_of (codes "metadata") (members_of_value (shown kind body [])))))))
+    (with_member (codes "metadata") (object (with_given (codes "name") identity.name
+    (with_given (codes "namespace") identity.namespace (members_in (member_of (codes "metadata") (members_of_value (shown kind body [])))))))
     (members_of_value (shown kind body [])))))
 
 -- what is shown with the entries of some managers
-pub managed-shown : (identity : Identity) (kind : Kind) (managed : Bool) (body : Body) (table : Table) (t : Text) (v entries : Json) → managed ≡ true → (length table ≡ 0 → ⊥) → HasVersion t identity
-    → v ≡ object_of_body identity kind body → entries ≡ list (entry_items (text_json t) table) → with_entries entries v ≡ object_of_state identity kind managed (record { body = body; table = table })
+pub managed-shown : (identity : Identity) (kind : Kind) (managed : Bool) (body : Body) (table : Table) (t : Text) (v entries : Json) → managed ≡ true
+    → (length table ≡ 0 → ⊥) → HasVersion t identity
+    → v ≡ object_of_body identity kind body → entries ≡ list (entry_items (text_json t) table)
+    → with_entries entries v ≡ object_of_state identity kind managed (record { body = body; table = table })
 managed-shown identity kind false body table t v entries unasked some version shown_is entries_are = absurd (true≢false (sym unasked))
 managed-shown identity kind true body [] t v entries asked none version shown_is entries_are = absurd (none refl)
 managed-shown identity kind true body (e ∷ es) t v entries asked some version shown_is entries_are =

@@ -11,7 +11,8 @@ use Rattle.ssa_model.specs.definitions.Json.{Text, Json, scalar, list, object, s
 use Rattle.ssa_model.specs.definitions.Objects.{value_at, without, without_names, without_in_metadata, file_names, file_value}
 use Rattle.ssa_json.specs.View.{view, members_view}
 use Rattle.ssa_json.specs.declared.value.Json as values
-use Rattle.ssa_model.proofs.Tables.{same_text-true, or-false}
+use Rattle.ssa_model.proofs.Tables.{same_text-true}
+use Rattle.ssa_model.proofs.Basics.{or-false, reversed as is_eq-reverse}
 
 -- a name of a map, and its value
 abbrev Found : Type 0
@@ -21,25 +22,23 @@ Found = String Global × values.Json
 abbrev pub finds : Text → String Global → Bool
 finds n = is_at (λ k. slice_cmp nat_cmp n (string_bytes k))
 
-is_eq-reverse : (o : Ordering) → is_eq (ordering_reverse o) ≡ is_eq o
-is_eq-reverse Less = refl
-is_eq-reverse Equal = refl
-is_eq-reverse Greater = refl
-
 -- what is left out by one name is what a map finds by it
 by_one_name : (k n : Text) → list_any (same_text k) (n ∷ []) ≡ is_eq (slice_cmp nat_cmp n k)
 by_one_name k n = or-false (same_text k n) ∙ ap is_eq (nat_list_cmp_total.antisymm k n) ∙ is_eq-reverse (slice_cmp nat_cmp n k)
 
 -- ---- names taken out one after the other
 
+-- without no name all members stay
 pub without-none : (ms : Members) → without [] ms ≡ ms
 without-none no_members = refl
 without-none (member k v ms) = ap (member k v) (without-none ms)
 
+-- members left out by one name and then by others are left out by all of them
 pub without-first : (n : Text) (ns : List Text) (ms : Members) → without ns (without (n ∷ []) ms) ≡ without (n ∷ ns) ms
 without-first n ns no_members = refl
 without-first n ns (member k v ms) =
-    elim (same_text k n) as (λ b. without ns (if b || false then without (n ∷ []) ms else member k v (without (n ∷ []) ms)) ≡ (if b || list_any (same_text k) ns then without (n ∷ ns) ms else member k v (without (n ∷ ns) ms))) [
+    elim (same_text k n) as (λ b. without ns (if b || false then without (n ∷ []) ms else member k v (without (n ∷ []) ms))
+    ≡ (if b || list_any (same_text k) ns then without (n ∷ ns) ms else member k v (without (n ∷ ns) ms))) [
       | true ↦ without-first n ns ms
       | false ↦ ap (λ rest. if list_any (same_text k) ns then rest else member k v rest) (without-first n ns ms)
     ]
@@ -48,43 +47,55 @@ without-first n ns (member k v ms) =
 without-again : (n : Text) (ns : List Text) (ms : Members) → list_any (same_text n) ns ≡ true → without ns (without (n ∷ []) ms) ≡ without ns ms
 without-again n ns no_members among = refl
 without-again n ns (member k v ms) among =
-    elim (same_text k n) as (λ b. same_text k n ≡ b → without ns (if b || false then without (n ∷ []) ms else member k v (without (n ∷ []) ms)) ≡ without ns (member k v ms)) [
-      | true ↦ λ is. without-again n ns ms among ∙ ap (λ b. if b then without ns ms else member k v (without ns ms)) (sym (ap (λ t. list_any (same_text t) ns) (same_text-true k n is) ∙ among))
+    elim (same_text k n) as (λ b. same_text k n ≡ b → without ns (if b || false then without (n ∷ []) ms else member k v (without (n ∷ []) ms))
+    ≡ without ns (member k v ms)) [
+      | true ↦ λ is. without-again n ns ms among ∙ ap (λ b. if b then without ns ms else member k v (without ns ms))
+          (sym (ap (λ t. list_any (same_text t) ns) (same_text-true k n is) ∙ among))
       | false ↦ λ _. ap (λ rest. if list_any (same_text k) ns then rest else member k v rest) (without-again n ns ms among)
     ] refl
 
 -- ---- one name taken out of a map
 
-found_none : (n : Text) (e : Found) (es : List Found) → is_eq (slice_cmp nat_cmp n (string_bytes e.0)) ≡ false → lookup (finds n) (e ∷ es) ≡ None → lookup (finds n) es ≡ None
+found_none : (n : Text) (e : Found) (es : List Found) → is_eq (slice_cmp nat_cmp n (string_bytes e.0)) ≡ false → lookup (finds n) (e ∷ es) ≡ None
+    → lookup (finds n) es ≡ None
 found_none n e es other h = ap (λ b. cond b (Some e.1) (lookup (finds n) es)) (sym other) ∙ h
 
 member_by : (n : Text) (e : Found) (es : List Found) (b : Bool) → is_eq (slice_cmp nat_cmp n (string_bytes e.0)) ≡ b
-    → without (n ∷ []) (members_view (e ∷ es)) ≡ (if b then without (n ∷ []) (members_view es) else member (string_bytes e.0) (view e.1) (without (n ∷ []) (members_view es)))
+    → without (n ∷ []) (members_view (e ∷ es)) ≡ (if b then without (n ∷ []) (members_view es) else member (string_bytes e.0) (view e.1)
+    (without (n ∷ []) (members_view es)))
 member_by n e es b is =
-    ap (λ t. if t then without (n ∷ []) (members_view es) else member (string_bytes e.0) (view e.1) (without (n ∷ []) (members_view es))) (by_one_name (string_bytes e.0) n ∙ is)
+    ap (λ t. if t then without (n ∷ []) (members_view es) else member (string_bytes e.0) (view e.1) (without (n ∷ []) (members_view es)))
+    (by_one_name (string_bytes e.0) n ∙ is)
 
 absent : (n : Text) (es : List Found) → lookup (finds n) es ≡ None → without (n ∷ []) (members_view es) ≡ members_view es
 absent n [] none = refl
 absent n (e ∷ es) none =
-    elim (is_eq (slice_cmp nat_cmp n (string_bytes e.0))) as (λ b. is_eq (slice_cmp nat_cmp n (string_bytes e.0)) ≡ b → ◌≡◌ {A = Option values.Json} (cond b (Some e.1) (lookup (finds n) es)) None → without (n ∷ []) (members_view (e ∷ es)) ≡ members_view (e ∷ es)) [
+    elim (is_eq (slice_cmp nat_cmp n (string_bytes e.0))) as (λ b. is_eq (slice_cmp nat_cmp n (string_bytes e.0)) ≡ b
+    → ◌≡◌ {A = Option values.Json} (cond b (Some e.1) (lookup (finds n) es)) None → without (n ∷ []) (members_view (e ∷ es)) ≡ members_view (e ∷ es)) [
       | true ↦ λ _ h. cc
       | false ↦ λ is h. member_by n e es false is ∙ ap (member (string_bytes e.0) (view e.1)) (absent n es h)
     ] refl none
 
-removed : (n : Text) (es : List Found) → lookup (finds n) (remove_entry (finds n) es) ≡ None → members_view (remove_entry (finds n) es) ≡ without (n ∷ []) (members_view es)
+removed : (n : Text) (es : List Found) → lookup (finds n) (remove_entry (finds n) es) ≡ None
+    → members_view (remove_entry (finds n) es) ≡ without (n ∷ []) (members_view es)
 removed n [] none = refl
 removed n (e ∷ es) none =
-    elim (is_eq (slice_cmp nat_cmp n (string_bytes e.0))) as (λ b. is_eq (slice_cmp nat_cmp n (string_bytes e.0)) ≡ b → lookup (finds n) (cond b es (e ∷ remove_entry (finds n) es)) ≡ None
+    elim (is_eq (slice_cmp nat_cmp n (string_bytes e.0))) as (λ b. is_eq (slice_cmp nat_cmp n (string_bytes e.0)) ≡ b
+    → lookup (finds n) (cond b es (e ∷ remove_entry (finds n) es)) ≡ None
     → members_view (cond b es (e ∷ remove_entry (finds n) es)) ≡ without (n ∷ []) (members_view (e ∷ es))) [
       | true ↦ λ is h. sym (member_by n e es true is ∙ absent n es h)
-      | false ↦ λ is h. ap (member (string_bytes e.0) (view e.1)) (removed n es (found_none n e (remove_entry (finds n) es) is h)) ∙ sym (member_by n e es false is)
+      | false ↦ λ is h. ap (member (string_bytes e.0) (view e.1)) (removed n es (found_none n e (remove_entry (finds n) es) is h))
+          ∙ sym (member_by n e es false is)
     ] refl none
 
-pub without-removed : (n : Text) (old new : List Found) → new ≡ remove_entry (finds n) old → lookup (finds n) new ≡ None → members_view new ≡ without (n ∷ []) (members_view old)
+-- an entry taken out of a map under a name leaves its members without that name
+pub without-removed : (n : Text) (old new : List Found) → new ≡ remove_entry (finds n) old → lookup (finds n) new ≡ None
+    → members_view new ≡ without (n ∷ []) (members_view old)
 without-removed n old new is none = ap members_view is ∙ removed n old (ap (lookup (finds n)) (sym is) ∙ none)
 
 -- one name of several taken out
-pub removed-next : (n : Text) (ns : List Text) (old new : List Found) → new ≡ remove_entry (finds n) old → lookup (finds n) new ≡ None → without ns (members_view new) ≡ without (n ∷ ns) (members_view old)
+pub removed-next : (n : Text) (ns : List Text) (old new : List Found) → new ≡ remove_entry (finds n) old → lookup (finds n) new ≡ None
+    → without ns (members_view new) ≡ without (n ∷ ns) (members_view old)
 removed-next n ns old new is none = ap (without ns) (without-removed n old new is none) ∙ without-first n ns (members_view old)
 
 -- the value of one name
@@ -98,35 +109,41 @@ value_at-one n ms = found (member_of n ms)
 -- ---- names taken out of the metadata
 
 -- a name behind one that is equal
-absent_behind : (n : Text) (k : String Global) (es : List Found) → n ≡ string_bytes k → AllByRecursion (λ y. string_cmp k y ≡ Less) (keys_of es) → lookup (finds n) es ≡ None
+absent_behind : (n : Text) (k : String Global) (es : List Found) → n ≡ string_bytes k → AllByRecursion (λ y. string_cmp k y ≡ Less) (keys_of es)
+    → lookup (finds n) es ≡ None
 absent_behind n k [] is h = refl
 absent_behind n k (e ∷ es) is h =
     ap (λ o. cond (is_eq o) (Some e.1) (lookup (finds n) es)) (ap (λ t. slice_cmp nat_cmp t (string_bytes e.0)) is ∙ h.0) ∙ absent_behind n k es is h.1
 
 metadata_by : (ns : List Text) (e : Found) (b : Bool) → is_eq (slice_cmp nat_cmp (codes "metadata") (string_bytes e.0)) ≡ b
-    → (if same_text (string_bytes e.0) (codes "metadata") then without_names ns (view e.1) else view e.1) ≡ (if b then without_names ns (view e.1) else view e.1)
+    → (if same_text (string_bytes e.0) (codes "metadata") then without_names ns (view e.1) else view e.1)
+    ≡ (if b then without_names ns (view e.1) else view e.1)
 metadata_by ns e b is =
-    ap (λ t. if t then without_names ns (view e.1) else view e.1) (sym (or-false (same_text (string_bytes e.0) (codes "metadata"))) ∙ by_one_name (string_bytes e.0) (codes "metadata") ∙ is)
+    ap (λ t. if t then without_names ns (view e.1) else view e.1) (sym (or-false (same_text (string_bytes e.0) (codes "metadata")))
+    ∙ by_one_name (string_bytes e.0) (codes "metadata") ∙ is)
 
 -- without metadata all members stay
 pub no_metadata : (ns : List Text) (es : List Found) → lookup (finds (codes "metadata")) es ≡ None → members_view es ≡ without_in_metadata ns (members_view es)
 no_metadata ns [] none = refl
 no_metadata ns (e ∷ es) none =
     let k = string_bytes e.0 in
-    elim (is_eq (slice_cmp nat_cmp (codes "metadata") k)) as (λ b. is_eq (slice_cmp nat_cmp (codes "metadata") k) ≡ b → ◌≡◌ {A = Option values.Json} (cond b (Some e.1) (lookup (finds (codes "metadata")) es)) None
+    elim (is_eq (slice_cmp nat_cmp (codes "metadata") k)) as (λ b. is_eq (slice_cmp nat_cmp (codes "metadata") k) ≡ b
+    → ◌≡◌ {A = Option values.Json} (cond b (Some e.1) (lookup (finds (codes "metadata")) es)) None
     → members_view (e ∷ es) ≡ without_in_metadata ns (members_view (e ∷ es))) [
       | true ↦ λ _ h. cc
       | false ↦ λ is h. λ i. member k (sym (metadata_by ns e false is) i) (no_metadata ns es h i)
     ] refl none
 
 -- the metadata of a map, written back without some members
-pub written : (ns : List Text) (es : List Found) (v w : values.Json) → IsStrictlySortedBy string_cmp (keys_of es) → lookup (finds (codes "metadata")) es ≡ Some v → view w ≡ without_names ns (view v)
+pub written : (ns : List Text) (es : List Found) (v w : values.Json) → IsStrictlySortedBy string_cmp (keys_of es)
+    → lookup (finds (codes "metadata")) es ≡ Some v → view w ≡ without_names ns (view v)
     → members_view (set_value (finds (codes "metadata")) es w) ≡ without_in_metadata ns (members_view es)
 unfolding IsStrictlySortedBy
 written ns [] v w ordered found is = refl
 written ns (e ∷ es) v w ordered found is =
     let k = string_bytes e.0 in
-    elim (is_eq (slice_cmp nat_cmp (codes "metadata") k)) as (λ b. is_eq (slice_cmp nat_cmp (codes "metadata") k) ≡ b → ◌≡◌ {A = Option values.Json} (cond b (Some e.1) (lookup (finds (codes "metadata")) es)) (Some v)
+    elim (is_eq (slice_cmp nat_cmp (codes "metadata") k)) as (λ b. is_eq (slice_cmp nat_cmp (codes "metadata") k) ≡ b
+    → ◌≡◌ {A = Option values.Json} (cond b (Some e.1) (lookup (finds (codes "metadata")) es)) (Some v)
     → members_view (cond b ((e.0, w) ∷ es) (e ∷ set_value (finds (codes "metadata")) es w)) ≡ without_in_metadata ns (members_view (e ∷ es))) [
       | true ↦ λ here h.
           let value = is ∙ ap (λ o. without_names ns (view (unwrap_or {T = values.Json} o e.1))) (sym h) ∙ sym (metadata_by ns e true here) in
@@ -142,17 +159,22 @@ names-again n ns (object ms) among = ap object (without-again n ns ms among)
 names-again n ns (list vs) among = refl
 names-again n ns (scalar s) among = refl
 
-metadata-again : (n : Text) (ns : List Text) (ms : Members) → list_any (same_text n) ns ≡ true → without_in_metadata ns (without_in_metadata (n ∷ []) ms) ≡ without_in_metadata ns ms
+metadata-again : (n : Text) (ns : List Text) (ms : Members) → list_any (same_text n) ns ≡ true
+    → without_in_metadata ns (without_in_metadata (n ∷ []) ms) ≡ without_in_metadata ns ms
 metadata-again n ns no_members among = refl
 metadata-again n ns (member k v ms) among =
-    let value : (b : Bool) → (if b then without_names ns (if b then without_names (n ∷ []) v else v) else (if b then without_names (n ∷ []) v else v)) ≡ (if b then without_names ns v else v) = λ b. elim b as (λ b. (if b then without_names ns (if b then without_names (n ∷ []) v else v) else (if b then without_names (n ∷ []) v else v)) ≡ (if b then without_names ns v else v)) [ true ↦ names-again n ns v among | false ↦ refl ] in
+    let value : (b : Bool) → (if b then without_names ns (if b then without_names (n ∷ []) v else v) else (if b then without_names (n ∷ []) v else v))
+    ≡ (if b then without_names ns v else v) = λ b. elim b as (λ b. (if b then without_names ns
+    (if b then without_names (n ∷ []) v else v) else (if b then without_names (n ∷ []) v else v)) ≡ (if b then without_names ns v else v))
+    [ true ↦ names-again n ns v among | false ↦ refl ] in
     λ i. member k (value (same_text k (codes "metadata")) i) (metadata-again n ns ms among i)
 
 metadata-later : (names ns : List Text) (ms : Members) → without names (without_in_metadata ns ms) ≡ without_in_metadata ns (without names ms)
 metadata-later names ns no_members = refl
 metadata-later names ns (member k v ms) =
     let w = if same_text k (codes "metadata") then without_names ns v else v in
-    elim (list_any (same_text k) names) as (λ b. (if b then without names (without_in_metadata ns ms) else member k w (without names (without_in_metadata ns ms))) ≡ without_in_metadata ns (if b then without names ms else member k v (without names ms))) [
+    elim (list_any (same_text k) names) as (λ b. (if b then without names (without_in_metadata ns ms) else member k w
+    (without names (without_in_metadata ns ms))) ≡ without_in_metadata ns (if b then without names ms else member k v (without names ms))) [
       | true ↦ metadata-later names ns ms
       | false ↦ ap (member k w) (metadata-later names ns ms)
     ]

@@ -14,18 +14,22 @@ use Rattle.ssa_path.specs.Children.{elements, is_below, rises, heads_order}
 use Rattle.ssa_path.specs.Combine.{concerns, is_concerned, covers, keeps, IsCombination, IsCombined, IsKept, IsGrown}
 use Rattle.ssa_path.specs.View.{element_view}
 use Rattle.ssa_path.specs.Trie.{Shape, here_path, is_one_of, paths, paths_below, is_trie, is_filled, has_some, are_filled_tries, IsCopy}
-use Rattle.ssa_model.proofs.RisingNames.{lower}
-use Rattle.ssa_path.proofs.Orders.{element_cmp_total, same_either_way, same_element-true, not_tied, both, both_first, both_second, or_false}
+use Rattle.ssa_path.proofs.Orders.{element_cmp_total, not_tied, both_first, both_second}
 use Rattle.ssa_path.proofs.Levels.{GoesOn, same_path-reading, under-reading, any-child, any-made, any-level, child-more, one-made-root, one-level-root, is_trie-made, paths-level, paths-made, some-none}
 use Rattle.ssa_path.proofs.Lists.{left-at}
+use Rattle.ssa_model.proofs.Fitting.{same_element-true}
+use Rattle.ssa_model.proofs.ShownNames.{turned as same_either_way}
+use Rattle.ssa_model.proofs.Basics.{or-false as or_false, both-true as both, lower}
 
 -- ---- how the heads of two lists compare
 
+-- where the first list has ended, the head of the second comes first
 pub heads-other : {A B : Type 0} (cs : List (Elem × A)) (ds : List (Elem × B)) → cs ≡ [] → 0 < length ds → heads_order cs ds ≡ Some Greater
 heads-other [] [] e h = absurd (omega arith)
 heads-other [] (d ∷ ds) e h = refl
 heads-other (c ∷ cs) ds e h = cc
 
+-- where the second list has ended, the head of the first comes first
 pub heads-own : {A B : Type 0} (cs : List (Elem × A)) (ds : List (Elem × B)) → ds ≡ [] → 0 < length cs → heads_order cs ds ≡ Some Less
 heads-own [] ds e h = absurd (omega arith)
 heads-own (c ∷ cs) [] e h = refl
@@ -57,6 +61,7 @@ heads-Equal-other [] [] e = some_none Equal e
 heads-Equal-other (c ∷ cs) [] e = apart Less Equal refl refl e
 heads-Equal-other cs (d ∷ ds) e = omega arith
 
+-- where no head comes first, both lists have ended
 pub heads-none : {A B : Type 0} (cs : List (Elem × A)) (ds : List (Elem × B)) → heads_order cs ds ≡ None → (cs ≡ []) × (ds ≡ [])
 heads-none [] [] e = (refl, refl)
 heads-none (c ∷ cs) [] e = cc
@@ -66,13 +71,17 @@ heads-none (c ∷ cs) (d ∷ ds) e = cc
 within : {A : Type 0} (cs : List A) (i : ℕ) → 0 < length (drop i cs) → i < length cs
 within cs i h = let n = length-drop i cs in omega arith
 
+-- where the head of the first list comes first, its place is within the list
 pub own-within : {A B : Type 0} (cs : List (Elem × A)) (ds : List (Elem × B)) (i : ℕ) → heads_order (drop i cs) ds ≡ Some Less → i < length cs
 own-within cs ds i e = within cs i (heads-Less (drop i cs) ds e)
 
+-- where the head of the second list comes first, its place is within the list
 pub other-within : {A B : Type 0} (cs : List (Elem × A)) (ds : List (Elem × B)) (j : ℕ) → heads_order cs (drop j ds) ≡ Some Greater → j < length ds
 other-within cs ds j e = within ds j (heads-Greater cs (drop j ds) e)
 
-pub both-within : {A B : Type 0} (cs : List (Elem × A)) (ds : List (Elem × B)) (i j : ℕ) → heads_order (drop i cs) (drop j ds) ≡ Some Equal → (i < length cs) × (j < length ds)
+-- where the heads tie, both places are within their lists
+pub both-within : {A B : Type 0} (cs : List (Elem × A)) (ds : List (Elem × B)) (i j : ℕ) → heads_order (drop i cs) (drop j ds) ≡ Some Equal → (i < length cs)
+    × (j < length ds)
 both-within cs ds i j e = (within cs i (heads-Equal-own (drop i cs) (drop j ds) e), within ds j (heads-Equal-other (drop i cs) (drop j ds) e))
 
 -- ---- what is below an element
@@ -81,24 +90,31 @@ below-trans : (e f : Element) (gs : List Element) → element_cmp e f ≡ Less �
 below-trans e f [] h b = refl
 below-trans e f (g ∷ gs) h b = both _ _ (ap is_lt (element_cmp_total.trans e f g h (lower _ (both_first _ _ b)))) (below-trans e f gs h (both_second _ _ b))
 
-pub own-first : {A B : Type 0} (c : Elem × A) (cs : List (Elem × A)) (ds : List (Elem × B)) → heads_order (c ∷ cs) ds ≡ Some Less → rises (elements ds) ≡ true → is_below (element_view c.0) (elements ds) ≡ true
+-- a head of the first list that comes first is below all of the second list
+pub own-first : {A B : Type 0} (c : Elem × A) (cs : List (Elem × A)) (ds : List (Elem × B)) → heads_order (c ∷ cs) ds ≡ Some Less → rises (elements ds) ≡ true
+    → is_below (element_view c.0) (elements ds) ≡ true
 own-first c cs [] e h = refl
 own-first c cs (d ∷ ds) e h =
     let less : element_cmp (element_view c.0) (element_view d.0) ≡ Less = cc in
     both _ _ (ap is_lt less) (below-trans (element_view c.0) (element_view d.0) (elements ds) less (both_first _ _ h))
 
-pub other-first : {A B : Type 0} (cs : List (Elem × A)) (d : Elem × B) (ds : List (Elem × B)) → heads_order cs (d ∷ ds) ≡ Some Greater → rises (elements cs) ≡ true → is_below (element_view d.0) (elements cs) ≡ true
+-- a head of the second list that comes first is below all of the first list
+pub other-first : {A B : Type 0} (cs : List (Elem × A)) (d : Elem × B) (ds : List (Elem × B)) → heads_order cs (d ∷ ds) ≡ Some Greater
+    → rises (elements cs) ≡ true → is_below (element_view d.0) (elements cs) ≡ true
 other-first [] d ds e h = refl
 other-first (c ∷ cs) d ds e h =
     let greater : element_cmp (element_view c.0) (element_view d.0) ≡ Greater = cc in
-    let less : element_cmp (element_view d.0) (element_view c.0) ≡ Less = element_cmp_total.antisymm (element_view d.0) (element_view c.0) ∙ ap ordering_reverse greater in
+    let less : element_cmp (element_view d.0) (element_view c.0) ≡ Less = element_cmp_total.antisymm (element_view d.0) (element_view c.0)
+    ∙ ap ordering_reverse greater in
     both _ _ (ap is_lt less) (below-trans (element_view d.0) (element_view c.0) (elements cs) less (both_first _ _ h))
 
 -- children behind an element have no path that begins with it
-absent : (R : Path → Path → Bool) → GoesOn R → (e f : Element) (cs : List (Elem × Trie)) (p : Path) → same_element e f ≡ true → is_below f (elements cs) ≡ true → list_any (R (e ∷ p)) (paths_below cs) ≡ false
+absent : (R : Path → Path → Bool) → GoesOn R → (e f : Element) (cs : List (Elem × Trie)) (p : Path) → same_element e f ≡ true
+    → is_below f (elements cs) ≡ true → list_any (R (e ∷ p)) (paths_below cs) ≡ false
 absent R more e f [] p s h = refl
 absent R more e f (c ∷ cs) p s h =
-    let other : same_element e (element_view c.0) ≡ false = ap (λ x. same_element x (element_view c.0)) (same_element-true e f s) ∙ not_tied _ (both_first _ _ h) in
+    let other : same_element e (element_view c.0) ≡ false = ap (λ x. same_element x (element_view c.0)) (same_element-true e f s)
+    ∙ not_tied _ (both_first _ _ h) in
     child-more R more e c cs p
     ∙ (λ i. (other i && list_any (R p) (paths c.1)) || absent R more e f cs p s (both_second _ _ h) i)
 
@@ -127,7 +143,8 @@ front how true x y a b u v made none rest =
     let own : a ≡ false = (none refl).0 in
     let other : b ≡ false = (none refl).1 in
     let empty : u ≡ false = rest ∙ (λ i. keeps how (own i) (other i)) ∙ keeps-none how in
-    ap (λ w. v || w) empty ∙ or_false v ∙ made ∙ (λ i. keeps how (sym (or_false x) i) (sym (or_false y) i)) ∙ (λ i. keeps how (x || sym own i) (y || sym other i))
+    ap (λ w. v || w) empty ∙ or_false v ∙ made ∙ (λ i. keeps how (sym (or_false x) i) (sym (or_false y) i))
+    ∙ (λ i. keeps how (x || sym own i) (y || sym other i))
 
 keeps-own : (how : Combination) (x : Bool) → keeps how true false ≡ true → x ≡ keeps how x false
 keeps-own Union true h = refl
@@ -162,12 +179,14 @@ drops-other Meet y h = refl
 drops-other WithoutUnder y h = refl
 drops-other WithoutOver y h = refl
 
-gone : (s a : Bool) → ((s && false) || a) ≡ a
+-- a test that never passes adds nothing to another
+pub gone : (s a : Bool) → ((s && false) || a) ≡ a
 gone true a = refl
 gone false a = refl
 
 -- ---- steps, from the end of the lists to their front
 
+-- of no children nothing is combined
 pub combined-none : (how : Combination) → IsCombined how [] [] []
 combined-none how = record { paths_are = λ e p. sym (keeps-none how); risen = refl; tries = refl; lower = λ e g h. refl }
 
@@ -181,18 +200,21 @@ holds cs e p = is_one_of (paths_below cs) (e ∷ p)
 abbrev meets : Combination → Children → Element → Path → Bool
 meets how ds e p = is_concerned how (paths_below ds) (e ∷ p)
 
-meets-child : (how : Combination) (e : Element) (d : Elem × Trie) (ds : Children) (p : Path) → meets how (d ∷ ds) e p ≡ ((same_element e (element_view d.0) && is_concerned how (paths d.1) p) || meets how ds e p)
+meets-child : (how : Combination) (e : Element) (d : Elem × Trie) (ds : Children) (p : Path)
+    → meets how (d ∷ ds) e p ≡ ((same_element e (element_view d.0) && is_concerned how (paths d.1) p) || meets how ds e p)
 meets-child how = child-more (concerns how) (concerns-more how)
 
 -- what rises behind the heads of both lists, with the head's element in front
-module _ (how : Combination) (f : Element) (cs ds us : Children) (own : is_below f (elements cs) ≡ true) (other : is_below f (elements ds) ≡ true) (h : IsCombined how cs ds us) where
+module _ (how : Combination) (f : Element) (cs ds us : Children) (own : is_below f (elements cs) ≡ true) (other : is_below f (elements ds) ≡ true)
+    (h : IsCombined how cs ds us) where
   none_behind : (e : Element) (p : Path) → same_element e f ≡ true → (holds cs e p ≡ false) × (meets how ds e p ≡ false)
   none_behind e p s = (absent same_path same_path-reading.more e f cs p s own, absent (concerns how) (concerns-more how) e f ds p s other)
 
   -- what is made of the heads, where x and y are what they hold
   fronted : (x y v : Path → Bool) → ((p : Path) → v p ≡ keeps how (x p) (y p)) → (e : Element) (p : Path)
       → ((same_element e f && v p) || holds us e p) ≡ keeps how ((same_element e f && x p) || holds cs e p) ((same_element e f && y p) || meets how ds e p)
-  fronted x y v made e p = front how (same_element e f) (x p) (y p) (holds cs e p) (meets how ds e p) (holds us e p) (v p) (made p) (none_behind e p) (h.paths_are e p)
+  fronted x y v made e p = front how (same_element e f) (x p) (y p) (holds cs e p) (meets how ds e p) (holds us e p) (v p) (made p) (none_behind e p)
+      (h.paths_are e p)
 
   first-below : is_below f (elements us) ≡ true
   first-below = h.lower f own other
@@ -204,17 +226,21 @@ module _ (how : Combination) (f : Element) (cs ds us : Children) (own : is_below
   tries-more : (u : Elem × Trie) → is_trie u.1 ≡ true → is_filled u.1 ≡ true → are_filled_tries (u ∷ us) ≡ true
   tries-more u a b = both _ _ (both _ _ a b) h.tries
 
-pub holds-first : (u : Elem × Trie) (us : Children) (f : Element) (e : Element) (p : Path) → element_view u.0 ≡ f → holds (u ∷ us) e p ≡ ((same_element e f && is_one_of (paths u.1) p) || holds us e p)
+-- with a child in front, a path is held by this child, under its element, or by the others
+pub holds-first : (u : Elem × Trie) (us : Children) (f : Element) (e : Element) (p : Path) → element_view u.0 ≡ f
+    → holds (u ∷ us) e p ≡ ((same_element e f && is_one_of (paths u.1) p) || holds us e p)
 holds-first u us f e p is = any-child same_path same_path-reading e u us p ∙ ap (λ g. (same_element e g && is_one_of (paths u.1) p) || holds us e p) is
 
 abbrev nothing : Path → Bool
 nothing p = false
 
-meets-first : (how : Combination) (d : Elem × Trie) (ds : Children) (f : Element) (e : Element) (p : Path) → element_view d.0 ≡ f → meets how (d ∷ ds) e p ≡ ((same_element e f && is_concerned how (paths d.1) p) || meets how ds e p)
+meets-first : (how : Combination) (d : Elem × Trie) (ds : Children) (f : Element) (e : Element) (p : Path) → element_view d.0 ≡ f
+    → meets how (d ∷ ds) e p ≡ ((same_element e f && is_concerned how (paths d.1) p) || meets how ds e p)
 meets-first how d ds f e p is = meets-child how e d ds p ∙ ap (λ g. (same_element e g && is_concerned how (paths d.1) p) || meets how ds e p) is
 
 -- the own list's head has the first element
-pub own-kept : (how : Combination) (c : Elem × Trie) (cs ds us : Children) (u : Elem × Trie) → heads_order (c ∷ cs) ds ≡ Some Less → rises (elements (c ∷ cs)) ≡ true → rises (elements ds) ≡ true → are_filled_tries (c ∷ cs) ≡ true
+pub own-kept : (how : Combination) (c : Elem × Trie) (cs ds us : Children) (u : Elem × Trie) → heads_order (c ∷ cs) ds ≡ Some Less
+    → rises (elements (c ∷ cs)) ≡ true → rises (elements ds) ≡ true → are_filled_tries (c ∷ cs) ≡ true
     → keeps how true false ≡ true → IsCopy c u → IsCombined how cs ds us → IsCombined how (c ∷ cs) ds (u ∷ us)
 own-kept how c cs ds us u order own_rise other_rise tries kept copy h =
     let f = element_view c.0 in
@@ -228,11 +254,14 @@ own-kept how c cs ds us u order own_rise other_rise tries kept copy h =
           ∙ fronted how f cs ds us own other h (is_one_of (paths c.1)) nothing (is_one_of (paths c.1)) (λ q. keeps-own how (is_one_of (paths c.1) q) kept) e p
           ∙ (λ i. keeps how (sym (any-child same_path same_path-reading e c cs p) i) (gone (same_element e f) (meets how ds e p) i));
       risen = risen-more how f cs ds us own other h u copy.element;
-      tries = tries-more how f cs ds us own other h u (ap (λ (s : Shape). s.1) copy.shape_is ∙ both_first (is_trie c.1) _ parts) (ap (λ (s : Shape). has_some s.0) copy.shape_is ∙ both_second (is_trie c.1) _ parts);
+      tries = tries-more how f cs ds us own other h u (ap (λ (s : Shape). s.1) copy.shape_is
+          ∙ both_first (is_trie c.1) _ parts) (ap (λ (s : Shape). has_some s.0) copy.shape_is ∙ both_second (is_trie c.1) _ parts);
       lower = λ e a b. both _ _ (ap (λ g. is_lt (element_cmp e g)) copy.element ∙ both_first _ _ a) (h.lower e (both_second _ _ a) b);
     }
 
-pub own-dropped : (how : Combination) (c : Elem × Trie) (cs ds us : Children) → heads_order (c ∷ cs) ds ≡ Some Less → rises (elements (c ∷ cs)) ≡ true → rises (elements ds) ≡ true
+-- a head of the first list alone is left out, where the combination keeps no such path
+pub own-dropped : (how : Combination) (c : Elem × Trie) (cs ds us : Children) → heads_order (c ∷ cs) ds ≡ Some Less → rises (elements (c ∷ cs)) ≡ true
+    → rises (elements ds) ≡ true
     → keeps how true false ≡ false → IsCombined how cs ds us → IsCombined how (c ∷ cs) ds us
 own-dropped how c cs ds us order own_rise other_rise kept h =
     let f = element_view c.0 in
@@ -249,7 +278,8 @@ own-dropped how c cs ds us order own_rise other_rise kept h =
     }
 
 -- the other list's head has the first element
-pub other-kept : (how : Combination) (cs : Children) (d : Elem × Trie) (ds us : Children) (u : Elem × Trie) → heads_order cs (d ∷ ds) ≡ Some Greater → rises (elements cs) ≡ true → rises (elements (d ∷ ds)) ≡ true → are_filled_tries (d ∷ ds) ≡ true
+pub other-kept : (how : Combination) (cs : Children) (d : Elem × Trie) (ds us : Children) (u : Elem × Trie) → heads_order cs (d ∷ ds) ≡ Some Greater
+    → rises (elements cs) ≡ true → rises (elements (d ∷ ds)) ≡ true → are_filled_tries (d ∷ ds) ≡ true
     → keeps how false true ≡ true → IsCopy d u → IsCombined how cs ds us → IsCombined how cs (d ∷ ds) (u ∷ us)
 other-kept how cs d ds us u order own_rise other_rise tries kept copy h =
     let f = element_view d.0 in
@@ -263,11 +293,14 @@ other-kept how cs d ds us u order own_rise other_rise tries kept copy h =
           ∙ fronted how f cs ds us own other h nothing (is_concerned how (paths d.1)) (is_one_of (paths d.1)) (λ q. keeps-other how (paths d.1) q kept) e p
           ∙ (λ i. keeps how (gone (same_element e f) (holds cs e p) i) (sym (meets-child how e d ds p) i));
       risen = risen-more how f cs ds us own other h u copy.element;
-      tries = tries-more how f cs ds us own other h u (ap (λ (s : Shape). s.1) copy.shape_is ∙ both_first (is_trie d.1) _ parts) (ap (λ (s : Shape). has_some s.0) copy.shape_is ∙ both_second (is_trie d.1) _ parts);
+      tries = tries-more how f cs ds us own other h u (ap (λ (s : Shape). s.1) copy.shape_is
+          ∙ both_first (is_trie d.1) _ parts) (ap (λ (s : Shape). has_some s.0) copy.shape_is ∙ both_second (is_trie d.1) _ parts);
       lower = λ e a b. both _ _ (ap (λ g. is_lt (element_cmp e g)) copy.element ∙ both_first _ _ b) (h.lower e a (both_second _ _ b));
     }
 
-pub other-dropped : (how : Combination) (cs : Children) (d : Elem × Trie) (ds us : Children) → heads_order cs (d ∷ ds) ≡ Some Greater → rises (elements cs) ≡ true → rises (elements (d ∷ ds)) ≡ true
+-- a head of the second list alone is left out, where the combination keeps no such path
+pub other-dropped : (how : Combination) (cs : Children) (d : Elem × Trie) (ds us : Children) → heads_order cs (d ∷ ds) ≡ Some Greater
+    → rises (elements cs) ≡ true → rises (elements (d ∷ ds)) ≡ true
     → keeps how false true ≡ false → IsCombined how cs ds us → IsCombined how cs (d ∷ ds) us
 other-dropped how cs d ds us order own_rise other_rise kept h =
     let f = element_view d.0 in
@@ -283,14 +316,18 @@ other-dropped how cs d ds us order own_rise other_rise kept h =
       lower = λ e a b. h.lower e a (both_second _ _ b);
     }
 
-pub tied-heads : {A B : Type 0} (c : Elem × A) (d : Elem × B) (cs : List (Elem × A)) (ds : List (Elem × B)) → heads_order (c ∷ cs) (d ∷ ds) ≡ Some Equal → element_view c.0 ≡ element_view d.0
+-- heads that tie have one element
+pub tied-heads : {A B : Type 0} (c : Elem × A) (d : Elem × B) (cs : List (Elem × A)) (ds : List (Elem × B)) → heads_order (c ∷ cs) (d ∷ ds) ≡ Some Equal
+    → element_view c.0 ≡ element_view d.0
 tied-heads c d cs ds e =
     let tie : element_cmp (element_view c.0) (element_view d.0) ≡ Equal = cc in
     same_element-true (element_view c.0) (element_view d.0) (ap is_eq tie)
 
 -- both heads have the first element
-pub both-kept : (how : Combination) (c d : Elem × Trie) (cs ds us : Children) (u : Elem × Trie) → heads_order (c ∷ cs) (d ∷ ds) ≡ Some Equal → rises (elements (c ∷ cs)) ≡ true → rises (elements (d ∷ ds)) ≡ true
-    → element_view u.0 ≡ element_view c.0 → IsCombination how c.1 d.1 u.1 → is_filled u.1 ≡ true → IsCombined how cs ds us → IsCombined how (c ∷ cs) (d ∷ ds) (u ∷ us)
+pub both-kept : (how : Combination) (c d : Elem × Trie) (cs ds us : Children) (u : Elem × Trie) → heads_order (c ∷ cs) (d ∷ ds) ≡ Some Equal
+    → rises (elements (c ∷ cs)) ≡ true → rises (elements (d ∷ ds)) ≡ true
+    → element_view u.0 ≡ element_view c.0 → IsCombination how c.1 d.1 u.1 → is_filled u.1 ≡ true → IsCombined how cs ds us
+    → IsCombined how (c ∷ cs) (d ∷ ds) (u ∷ us)
 both-kept how c d cs ds us u order own_rise other_rise is made filled h =
     let f = element_view c.0 in
     let same = tied-heads c d cs ds order in
@@ -306,7 +343,9 @@ both-kept how c d cs ds us u order own_rise other_rise is made filled h =
       lower = λ e a b. both _ _ (ap (λ g. is_lt (element_cmp e g)) is ∙ both_first _ _ a) (h.lower e (both_second _ _ a) (both_second _ _ b));
     }
 
-pub both-dropped : (how : Combination) (c d : Elem × Trie) (cs ds us : Children) (t : Trie) → heads_order (c ∷ cs) (d ∷ ds) ≡ Some Equal → rises (elements (c ∷ cs)) ≡ true → rises (elements (d ∷ ds)) ≡ true
+-- heads of one element are left out, where their combination has no path
+pub both-dropped : (how : Combination) (c d : Elem × Trie) (cs ds us : Children) (t : Trie) → heads_order (c ∷ cs) (d ∷ ds) ≡ Some Equal
+    → rises (elements (c ∷ cs)) ≡ true → rises (elements (d ∷ ds)) ≡ true
     → IsCombination how c.1 d.1 t → is_filled t ≡ false → IsCombined how cs ds us → IsCombined how (c ∷ cs) (d ∷ ds) us
 both-dropped how c d cs ds us t order own_rise other_rise made none h =
     let f = element_view c.0 in
@@ -316,7 +355,8 @@ both-dropped how c d cs ds us t order own_rise other_rise made none h =
     record {
       paths_are = λ e p.
           sym (gone (same_element e f) (holds us e p))
-          ∙ fronted how f cs ds us own other h (is_one_of (paths c.1)) (is_concerned how (paths d.1)) nothing (λ q. ap (λ ps. is_one_of ps q) (sym (some-none (paths t) none)) ∙ made.paths_are q) e p
+          ∙ fronted how f cs ds us own other h (is_one_of (paths c.1)) (is_concerned how (paths d.1)) nothing
+          (λ q. ap (λ ps. is_one_of ps q) (sym (some-none (paths t) none)) ∙ made.paths_are q) e p
           ∙ (λ i. keeps how (sym (any-child same_path same_path-reading e c cs p) i) (sym (meets-first how d ds f e p (sym same)) i));
       risen = h.risen;
       tries = h.tries;
@@ -327,31 +367,37 @@ both-dropped how c d cs ds us t order own_rise other_rise made none h =
 
 -- whatever is made of what is left of both lists, behind what was made so far it is made of both lists
 pub record IsCombining (how : Combination) (cs0 ds0 cs ds out : Children) : Type 0 where
+  -- what is left of the first list rises
   pub own_rise : rises (elements cs) ≡ true
+  -- each of it is a trie with some path
   pub own_tries : are_filled_tries cs ≡ true
+  -- what is left of the second list rises
   pub others_rise : rises (elements ds) ≡ true
+  -- each of it is a trie with some path
   pub others_tries : are_filled_tries ds ≡ true
+  -- what is combined of what is left, behind what is there, is combined of both lists
   pub rest : (us : Children) → IsCombined how cs ds us → IsCombined how cs0 ds0 (out ++ us)
 
-pub combining-none : (how : Combination) (cs ds : Children) → rises (elements cs) ≡ true → are_filled_tries cs ≡ true → rises (elements ds) ≡ true → are_filled_tries ds ≡ true → IsCombining how cs ds cs ds []
-combining-none how cs ds a b d e = record { own_rise = a; own_tries = b; others_rise = d; others_tries = e; rest = λ us h. h }
-
+-- where nothing is left, what is there is combined of both lists
 pub combining-all : (how : Combination) (cs0 ds0 cs ds out : Children) → cs ≡ [] → ds ≡ [] → IsCombining how cs0 ds0 cs ds out → IsCombined how cs0 ds0 out
 combining-all how cs0 ds0 cs ds out e f h =
     let left : IsCombined how cs ds [] = rw (e, f) (combined-none how) in
     subst (IsCombined how cs0 ds0) (append-nil out) (h.rest [] left)
 
-pushed : (how : Combination) (cs0 ds0 : Children) (out us : Children) (u : Elem × Trie) → IsCombined how cs0 ds0 (out ++ u ∷ us) → IsCombined how cs0 ds0 ((out ++ u ∷ []) ++ us)
+pushed : (how : Combination) (cs0 ds0 : Children) (out us : Children) (u : Elem × Trie) → IsCombined how cs0 ds0 (out ++ u ∷ us)
+    → IsCombined how cs0 ds0 ((out ++ u ∷ []) ++ us)
 pushed how cs0 ds0 out us u h = subst (IsCombined how cs0 ds0) (sym (append_assoc out (u ∷ []) us)) h
 
-combining-own : (how : Combination) (cs0 ds0 : Children) (c : Elem × Trie) (cs ds out new : Children) (kept : Bool) → heads_order (c ∷ cs) ds ≡ Some Less → kept ≡ keeps how true false → IsKept kept c out new
+combining-own : (how : Combination) (cs0 ds0 : Children) (c : Elem × Trie) (cs ds out new : Children) (kept : Bool) → heads_order (c ∷ cs) ds ≡ Some Less
+    → kept ≡ keeps how true false → IsKept kept c out new
     → IsCombining how cs0 ds0 (c ∷ cs) ds out → IsCombining how cs0 ds0 cs ds new
 combining-own how cs0 ds0 c cs ds out new true order is (u, copy, items) h = record {
   own_rise = both_second _ _ h.own_rise;
   own_tries = both_second (is_trie c.1 && is_filled c.1) _ h.own_tries;
   others_rise = h.others_rise;
   others_tries = h.others_tries;
-  rest = λ us g. rw items (pushed how cs0 ds0 out us u (h.rest (u ∷ us) (own-kept how c cs ds us u order h.own_rise h.others_rise h.own_tries (sym is) copy g)));
+  rest = λ us g. rw items (pushed how cs0 ds0 out us u (h.rest (u ∷ us)
+      (own-kept how c cs ds us u order h.own_rise h.others_rise h.own_tries (sym is) copy g)));
 }
 combining-own how cs0 ds0 c cs ds out new false order is items h = record {
   own_rise = both_second _ _ h.own_rise;
@@ -361,14 +407,16 @@ combining-own how cs0 ds0 c cs ds out new false order is items h = record {
   rest = λ us g. rw items (h.rest us (own-dropped how c cs ds us order h.own_rise h.others_rise (sym is) g));
 }
 
-combining-other : (how : Combination) (cs0 ds0 cs : Children) (d : Elem × Trie) (ds out new : Children) (kept : Bool) → heads_order cs (d ∷ ds) ≡ Some Greater → kept ≡ keeps how false true → IsKept kept d out new
+combining-other : (how : Combination) (cs0 ds0 cs : Children) (d : Elem × Trie) (ds out new : Children) (kept : Bool) → heads_order cs (d ∷ ds) ≡ Some Greater
+    → kept ≡ keeps how false true → IsKept kept d out new
     → IsCombining how cs0 ds0 cs (d ∷ ds) out → IsCombining how cs0 ds0 cs ds new
 combining-other how cs0 ds0 cs d ds out new true order is (u, copy, items) h = record {
   own_rise = h.own_rise;
   own_tries = h.own_tries;
   others_rise = both_second _ _ h.others_rise;
   others_tries = both_second (is_trie d.1 && is_filled d.1) _ h.others_tries;
-  rest = λ us g. rw items (pushed how cs0 ds0 out us u (h.rest (u ∷ us) (other-kept how cs d ds us u order h.own_rise h.others_rise h.others_tries (sym is) copy g)));
+  rest = λ us g. rw items (pushed how cs0 ds0 out us u (h.rest (u ∷ us)
+      (other-kept how cs d ds us u order h.own_rise h.others_rise h.others_tries (sym is) copy g)));
 }
 combining-other how cs0 ds0 cs d ds out new false order is items h = record {
   own_rise = h.own_rise;
@@ -378,7 +426,8 @@ combining-other how cs0 ds0 cs d ds out new false order is items h = record {
   rest = λ us g. rw items (h.rest us (other-dropped how cs d ds us order h.own_rise h.others_rise (sym is) g));
 }
 
-grown-cases : (filled : Bool) (how : Combination) (cs0 ds0 : Children) (c d : Elem × Trie) (cs ds out new : Children) (t : Trie) → is_filled t ≡ filled → heads_order (c ∷ cs) (d ∷ ds) ≡ Some Equal → IsCombination how c.1 d.1 t
+grown-cases : (filled : Bool) (how : Combination) (cs0 ds0 : Children) (c d : Elem × Trie) (cs ds out new : Children) (t : Trie) → is_filled t ≡ filled
+    → heads_order (c ∷ cs) (d ∷ ds) ≡ Some Equal → IsCombination how c.1 d.1 t
     → MatchBool filled ((x : Elem) × (element_view x ≡ element_view c.0) × (new ≡ out ++ (x, t) ∷ [])) (new ≡ out)
     → IsCombining how cs0 ds0 (c ∷ cs) (d ∷ ds) out → (us : Children) → IsCombined how cs ds us → IsCombined how cs0 ds0 (new ++ us)
 grown-cases true how cs0 ds0 c d cs ds out new t is order made (x, same, items) h us g =
@@ -386,7 +435,8 @@ grown-cases true how cs0 ds0 c d cs ds out new t is order made (x, same, items) 
 grown-cases false how cs0 ds0 c d cs ds out new t is order made items h us g =
     rw items (h.rest us (both-dropped how c d cs ds us t order h.own_rise h.others_rise made is g))
 
-combining-both : (how : Combination) (cs0 ds0 : Children) (c d : Elem × Trie) (cs ds out new : Children) (t : Trie) → heads_order (c ∷ cs) (d ∷ ds) ≡ Some Equal → IsCombination how c.1 d.1 t → IsGrown (element_view c.0) t out new
+combining-both : (how : Combination) (cs0 ds0 : Children) (c d : Elem × Trie) (cs ds out new : Children) (t : Trie)
+    → heads_order (c ∷ cs) (d ∷ ds) ≡ Some Equal → IsCombination how c.1 d.1 t → IsGrown (element_view c.0) t out new
     → IsCombining how cs0 ds0 (c ∷ cs) (d ∷ ds) out → IsCombining how cs0 ds0 cs ds new
 combining-both how cs0 ds0 c d cs ds out new t order made grown h = record {
   own_rise = both_second _ _ h.own_rise;
@@ -398,19 +448,27 @@ combining-both how cs0 ds0 c d cs ds out new t order made grown h = record {
 
 -- ---- the same at places in the lists
 
-pub own-at : (how : Combination) (cs ds : Children) (i j : ℕ) (c : Elem × Trie) (out new : Children) (kept : Bool) → heads_order (drop i cs) (drop j ds) ≡ Some Less → c ≡ get_or cs i c → kept ≡ keeps how true false → IsKept kept c out new
+-- the next child of the first list alone is passed, and copied where it is kept
+pub own-at : (how : Combination) (cs ds : Children) (i j : ℕ) (c : Elem × Trie) (out new : Children) (kept : Bool)
+    → heads_order (drop i cs) (drop j ds) ≡ Some Less → c ≡ get_or cs i c → kept ≡ keeps how true false → IsKept kept c out new
     → IsCombining how cs ds (drop i cs) (drop j ds) out → IsCombining how cs ds (drop (i + 1) cs) (drop j ds) new
 own-at how cs ds i j c out new kept order is kept_is made h =
     let left = left-at cs i c (own-within cs (drop j ds) i order) is in
-    combining-own how cs ds c (drop (i + 1) cs) (drop j ds) out new kept (subst (λ l. heads_order l (drop j ds) ≡ Some Less) left order) kept_is made (subst (λ l. IsCombining how cs ds l (drop j ds) out) left h)
+    combining-own how cs ds c (drop (i + 1) cs) (drop j ds) out new kept (subst (λ l. heads_order l (drop j ds) ≡ Some Less) left order) kept_is made
+    (subst (λ l. IsCombining how cs ds l (drop j ds) out) left h)
 
-pub other-at : (how : Combination) (cs ds : Children) (i j : ℕ) (d : Elem × Trie) (out new : Children) (kept : Bool) → heads_order (drop i cs) (drop j ds) ≡ Some Greater → d ≡ get_or ds j d → kept ≡ keeps how false true → IsKept kept d out new
+-- the next child of the second list alone is passed, and copied where it is kept
+pub other-at : (how : Combination) (cs ds : Children) (i j : ℕ) (d : Elem × Trie) (out new : Children) (kept : Bool)
+    → heads_order (drop i cs) (drop j ds) ≡ Some Greater → d ≡ get_or ds j d → kept ≡ keeps how false true → IsKept kept d out new
     → IsCombining how cs ds (drop i cs) (drop j ds) out → IsCombining how cs ds (drop i cs) (drop (j + 1) ds) new
 other-at how cs ds i j d out new kept order is kept_is made h =
     let left = left-at ds j d (other-within (drop i cs) ds j order) is in
-    combining-other how cs ds (drop i cs) d (drop (j + 1) ds) out new kept (subst (λ l. heads_order (drop i cs) l ≡ Some Greater) left order) kept_is made (subst (λ l. IsCombining how cs ds (drop i cs) l out) left h)
+    combining-other how cs ds (drop i cs) d (drop (j + 1) ds) out new kept (subst (λ l. heads_order (drop i cs) l ≡ Some Greater) left order) kept_is made
+    (subst (λ l. IsCombining how cs ds (drop i cs) l out) left h)
 
-pub both-at : (how : Combination) (cs ds : Children) (i j : ℕ) (c d : Elem × Trie) (out new : Children) (t : Trie) → heads_order (drop i cs) (drop j ds) ≡ Some Equal → c ≡ get_or cs i c → d ≡ get_or ds j d
+-- the next child of both lists is passed, with their combination where it has some path
+pub both-at : (how : Combination) (cs ds : Children) (i j : ℕ) (c d : Elem × Trie) (out new : Children) (t : Trie)
+    → heads_order (drop i cs) (drop j ds) ≡ Some Equal → c ≡ get_or cs i c → d ≡ get_or ds j d
     → IsCombination how c.1 d.1 t → IsGrown (element_view c.0) t out new
     → IsCombining how cs ds (drop i cs) (drop j ds) out → IsCombining how cs ds (drop (i + 1) cs) (drop (j + 1) ds) new
 both-at how cs ds i j c d out new t order is_c is_d made grown h =
@@ -437,7 +495,8 @@ and_not true b h = ap not (sym h)
 and_not false b h = refl
 
 -- the other set has a path above all that is here, so nothing is left
-pub combined-covered : (how : Combination) (x : Trie-F Trie) (m n : Trie) → covers how n ≡ true → x.here ≡ false → x.below.items ≡ [] → IsCombination how m n (roll-Trie x)
+pub combined-covered : (how : Combination) (x : Trie-F Trie) (m n : Trie) → covers how n ≡ true → x.here ≡ false → x.below.items ≡ []
+    → IsCombination how m n (roll-Trie x)
 combined-covered Union x m n h here below = absurd (true≢false (sym h))
 combined-covered Minus x m n h here below = absurd (true≢false (sym h))
 combined-covered Meet x m n h here below = absurd (true≢false (sym h))
@@ -451,7 +510,8 @@ combined-covered WithoutUnder x m n h here below = record {
     none = paths-made x ∙ (λ i. here_path (here i) ++ paths_below (below i))
 
 -- what concerns a path with an element in front is what is below
-concerned-level : (how : Combination) (n : Trie) (e : Element) (p : Path) → covers how n ≡ false → is_concerned how (paths n) (e ∷ p) ≡ is_concerned how (paths_below (out-Trie n).below.items) (e ∷ p)
+concerned-level : (how : Combination) (n : Trie) (e : Element) (p : Path) → covers how n ≡ false
+    → is_concerned how (paths n) (e ∷ p) ≡ is_concerned how (paths_below (out-Trie n).below.items) (e ∷ p)
 concerned-level Union n e p h = any-level same_path same_path-reading n e p
 concerned-level Minus n e p h = any-level same_path same_path-reading n e p
 concerned-level Meet n e p h = any-level same_path same_path-reading n e p
@@ -460,7 +520,10 @@ concerned-level WithoutUnder n e p h =
     ap (list_any (λ q. under q (e ∷ p))) (paths-level n ∙ ap (λ b. here_path b ++ paths_below (out-Trie n).below.items) here)
 concerned-level WithoutOver n e p h = any-level under under-reading n e p
 
-pub combined-place : (how : Combination) (x : Trie-F Trie) (m n : Trie) → covers how n ≡ false → x.here ≡ keeps how (out-Trie m).here (is_concerned how (paths n) []) → IsCombined how (out-Trie m).below.items (out-Trie n).below.items x.below.items → IsCombination how m n (roll-Trie x)
+-- a place that is kept or not, with combined children, makes the combination, where the other does not cover it
+pub combined-place : (how : Combination) (x : Trie-F Trie) (m n : Trie) → covers how n ≡ false
+    → x.here ≡ keeps how (out-Trie m).here (is_concerned how (paths n) []) → IsCombined how (out-Trie m).below.items (out-Trie n).below.items x.below.items
+    → IsCombination how m n (roll-Trie x)
 combined-place how x m n left here h = record { paths_are = held; trie = is_trie-made x h.risen h.tries }
   where
     held : (p : Path) → is_one_of (paths (roll-Trie x)) p ≡ keeps how (is_one_of (paths m) p) (is_concerned how (paths n) p)
@@ -476,5 +539,6 @@ under-root [] = refl
 under-root ([] ∷ ps) = refl
 under-root ((e ∷ q) ∷ ps) = under-root ps
 
+-- the root is under a path of the other only where that has the root
 pub concerned-root : (n : Trie) → is_concerned WithoutUnder (paths n) [] ≡ (out-Trie n).here
 concerned-root n = under-root (paths n) ∙ one-level-root n

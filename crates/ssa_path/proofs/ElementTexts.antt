@@ -12,7 +12,7 @@ use Rattle.ssa_model.specs.definitions.ElementTexts.{ElementFault, bad_element, 
 use Rattle.ssa_json.specs.Reading.{json_reading}
 use Rattle.ssa_json.specs.Writable.{has_utf8, is_utf8_scalar, members_have_utf8}
 use Rattle.ssa_json.specs.Written.{is_narrow_scalar, members_narrow}
-use Rattle.ssa_json.proofs.ReadingBack.{compact-is-read}
+use Rattle.ssa_json.proofs.ReadingBack.{compact-is-read, IsUtf8-scalar as scalar_is_utf8, IsUtf8-comma as comma_is_utf8}
 use Rattle.ssa_json.proofs.Converting.{json_reading-none}
 use Rattle.ssa_path.specs.Keys.{Members, members_view}
 use Rattle.ssa_path.specs.OwnText.{element_json}
@@ -29,48 +29,35 @@ refused : (e : Element) → ◌≡◌ {A = Result Element ElementFault} (Err bad
 refused e is = cc
 
 -- what is read after a beginning is UTF-8
-read_utf8 : (u : Text) (e : Element) (told : Result Json ReadFault → Result Element ElementFault) → told (Err not_json) ≡ Err bad_element → told (json_reading u) ≡ Ok e → is_utf8 u ≡ true
+read_utf8 : (u : Text) (e : Element) (told : Result Json ReadFault → Result Element ElementFault) → told (Err not_json) ≡ Err bad_element
+    → told (json_reading u) ≡ Ok e → is_utf8 u ≡ true
 read_utf8 u e told none is =
     elim (is_utf8 u) as (λ b. is_utf8 u ≡ b → b ≡ true) [
       | true ↦ λ _. refl
       | false ↦ λ other. absurd (refused e (sym none ∙ ap told (sym (other_bytes u other)) ∙ is))
     ] refl
 
+-- the own text of an element whose texts are UTF-8 is UTF-8, where it is read as the element
 pub element_text-is-utf8 : (e : Element) → has_utf8 (element_json e) ≡ true → element_of json_reading (element_text e) ≡ Ok e → IsUtf8 (element_text e)
 element_text-is-utf8 (field n) texts is = IsUtf8-append (codes "f:") n (two_ascii 102 58 (omega arith) (omega arith)) (IsUtf8-from_is_utf8 n texts)
 element_text-is-utf8 (key ks) texts is =
     let u = compact (object (key_members ks)) in
     IsUtf8-append (codes "k:") u (two_ascii 107 58 (omega arith) (omega arith))
-    (IsUtf8-from_is_utf8 u (read_utf8 u (key ks) (λ r. elim (key_element r) [ None ↦ Err bad_element | Some e ↦ (if same_text (element_text e) (codes "k:" ++ u) then Ok e else Err not_canonical) ]) refl is))
+    (IsUtf8-from_is_utf8 u (read_utf8 u (key ks) (λ r. elim (key_element r)
+    [ None ↦ Err bad_element | Some e ↦ (if same_text (element_text e) (codes "k:" ++ u) then Ok e else Err not_canonical) ]) refl is))
 element_text-is-utf8 (value s) texts is =
     let u = scalar_text s in
     IsUtf8-append (codes "v:") u (two_ascii 118 58 (omega arith) (omega arith))
-    (IsUtf8-from_is_utf8 u (read_utf8 u (value s) (λ r. elim (value_element r) [ None ↦ Err bad_element | Some e ↦ (if same_text (element_text e) (codes "v:" ++ u) then Ok e else Err not_canonical) ]) refl is))
+    (IsUtf8-from_is_utf8 u (read_utf8 u (value s) (λ r. elim (value_element r)
+    [ None ↦ Err bad_element | Some e ↦ (if same_text (element_text e) (codes "v:" ++ u) then Ok e else Err not_canonical) ]) refl is))
 
 -- ---- key fields
-
-no_read : {A E : Type 0} (f : E) (v : A) → ◌≡◌ {A = Result A E} (Err f) (Ok v) → ⊥
-no_read f v is = cc
-
-what_is_read : (u : Text) (v : Json) → json_reading u ≡ Ok v → IsUtf8 u
-what_is_read u v is =
-    elim (is_utf8 u) as (λ b. is_utf8 u ≡ b → IsUtf8 u) [
-      | true ↦ λ h. IsUtf8-from_is_utf8 u h
-      | false ↦ λ other. absurd (no_read not_json v (sym (other_bytes u other) ∙ is))
-    ] refl
-
-scalar_is_utf8 : (s : Scalar) → is_narrow_scalar s ≡ true → is_utf8_scalar s ≡ true → IsUtf8 (scalar_text s)
-scalar_is_utf8 s narrow texts =
-    what_is_read (scalar_text s) (scalar s) (compact-is-read (scalar s) (record { of_program = record { narrow = narrow; texts = texts; names = refl }; shallow = omega arith }))
 
 one_ascii : (a : ℕ) → a < 128 → IsUtf8 (a ∷ [])
 one_ascii a small = IsUtf8-from_ascii (a ∷ []) (IsAscii-cons a [] small IsAscii-nil)
 
-comma_is_utf8 : (later : Bool) → IsUtf8 (comma_if later)
-comma_is_utf8 true = one_ascii 44 (omega arith)
-comma_is_utf8 false = IsUtf8-from_ascii [] IsAscii-nil
-
-members_are_utf8 : (later : Bool) (ks : Members) → members_narrow (key_members ks) ≡ true → members_have_utf8 (key_members ks) ≡ true → IsUtf8 (compact_members later (key_members ks))
+members_are_utf8 : (later : Bool) (ks : Members) → members_narrow (key_members ks) ≡ true → members_have_utf8 (key_members ks) ≡ true
+    → IsUtf8 (compact_members later (key_members ks))
 members_are_utf8 later [] narrow texts = one_ascii 125 (omega arith)
 members_are_utf8 later (k ∷ ks) narrow texts =
     let small = and_parts (is_narrow_scalar k.1) (members_narrow (key_members ks)) narrow in
@@ -81,6 +68,7 @@ members_are_utf8 later (k ∷ ks) narrow texts =
     (IsUtf8-append (58 ∷ []) _ (one_ascii 58 (omega arith))
     (IsUtf8-append (scalar_text k.1) _ (scalar_is_utf8 k.1 small.0 rest.0) (members_are_utf8 true ks small.1 rest.1))))
 
+-- the text of the program's key fields, with numbers of 64 bits, is UTF-8 in whatever order they stand
 pub key-text-is-utf8 : (ks : Fields) → members_narrow (key_members (members_view ks)) ≡ true → IsUtf8 (element_text (key (members_view ks)))
 key-text-is-utf8 ks narrow =
     IsUtf8-append (codes "k:") _ (two_ascii 107 58 (omega arith) (omega arith))

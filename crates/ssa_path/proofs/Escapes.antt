@@ -15,14 +15,16 @@ use Rattle.ssa_model.proofs.Texts.{element_text-injective}
 use Rattle.std.proofs.Math.Seq.{take-add}
 use Rattle.std.proofs.lemmas.List.{take-append-drop}
 use Rattle.ssa_path.specs.Order.{first, mark, BeginAlike}
-use Rattle.ssa_path.proofs.Parts.{text_cmp, AreWords, cmp-words, tails}
+use Rattle.ssa_path.proofs.Parts.{text_cmp, AreWords, cmp-words}
+use Rattle.ssa_model.proofs.Basics.{same-tails as tails}
 
 choice : (P : List ℕ → Type 0) (b : Bool) (u v : List ℕ) → P u → (b ≡ false → P v) → P (if b then u else v)
 choice P true u v p q = p
 choice P false u v p q = q refl
 
 -- the three forms that a byte of a text has in quotes
-escaped-cases : (P : List ℕ → Type 0) → ((c : ℕ) → (c == 117) ≡ false → P (92 ∷ c ∷ [])) → ((h l : ℕ) → P (92 ∷ 117 ∷ 48 ∷ 48 ∷ h ∷ l ∷ [])) → ((b : ℕ) → (b == 34) ≡ false → (b == 92) ≡ false → P (b ∷ [])) → (b : ℕ) → P (escaped_byte b)
+escaped-cases : (P : List ℕ → Type 0) → ((c : ℕ) → (c == 117) ≡ false → P (92 ∷ c ∷ [])) → ((h l : ℕ) → P (92 ∷ 117 ∷ 48 ∷ 48 ∷ h ∷ l ∷ []))
+    → ((b : ℕ) → (b == 34) ≡ false → (b == 92) ≡ false → P (b ∷ [])) → (b : ℕ) → P (escaped_byte b)
 escaped-cases P two six one b =
     choice P (b == 34) _ _ (two 34 refl) (λ quote.
     choice P (b == 92) _ _ (two 92 refl) (λ slash.
@@ -71,7 +73,7 @@ abbrev pub quoted_end : List ℕ → List ℕ
 quoted_end t = escaped t ++ 34 ∷ []
 
 -- ties are equal texts
-tied : (a b : List ℕ) → text_cmp a b ≡ Equal → a ≡ b
+pub tied : (a b : List ℕ) → text_cmp a b ≡ Equal → a ≡ b
 tied = slice_cmp-IsAntisymmetric nat_cmp-IsAntisymmetric
 
 not_tied : (o q : Ordering) → (o ≡ Equal → ⊥) → ordering_then o q ≡ o
@@ -88,9 +90,12 @@ itself a = tied_itself nat_list_cmp_total a
 parted : (b : ℕ) (a : List ℕ) → quoted_end (b ∷ a) ≡ escaped_byte b ++ quoted_end a
 parted b a = append_assoc (escaped_byte b) (escaped a) (34 ∷ [])
 
-cmp-escapes : (b c : ℕ) (a d : List ℕ) → text_cmp (quoted_end (b ∷ a)) (quoted_end (c ∷ d)) ≡ ordering_then (text_cmp (escaped_byte b) (escaped_byte c)) (text_cmp (quoted_end a) (quoted_end d))
-cmp-escapes b c a d = (λ i. text_cmp (parted b a i) (parted c d i)) ∙ cmp-words (escaped_byte b) (escaped_byte c) (quoted_end a) (quoted_end d) (escapes-words b c)
+cmp-escapes : (b c : ℕ) (a d : List ℕ) → text_cmp (quoted_end (b ∷ a)) (quoted_end (c ∷ d))
+    ≡ ordering_then (text_cmp (escaped_byte b) (escaped_byte c)) (text_cmp (quoted_end a) (quoted_end d))
+cmp-escapes b c a d = (λ i. text_cmp (parted b a i) (parted c d i))
+    ∙ cmp-words (escaped_byte b) (escaped_byte c) (quoted_end a) (quoted_end d) (escapes-words b c)
 
+-- behind one byte, what is left of both texts decides
 pub end-same : (b : ℕ) (a d : List ℕ) → text_cmp (quoted_end (b ∷ a)) (quoted_end (b ∷ d)) ≡ text_cmp (quoted_end a) (quoted_end d)
 end-same b a d = cmp-escapes b b a d ∙ ap (λ o. ordering_then o (text_cmp (quoted_end a) (quoted_end d))) (itself (escaped_byte b))
 
@@ -104,6 +109,7 @@ byte_of _ = 0
 escaped_byte-injective : (b c : ℕ) → escaped_byte b ≡ escaped_byte c → b ≡ c
 escaped_byte-injective b c e = ap byte_of (element_text-injective (one_byte b) (one_byte c) (ap (λ w. codes "v:" ++ 34 ∷ ((w ++ []) ++ 34 ∷ [])) e))
 
+-- where the first bytes differ, their escapes decide
 pub end-differ : (b c : ℕ) (a d : List ℕ) → (b ≡ c → ⊥) → text_cmp (quoted_end (b ∷ a)) (quoted_end (c ∷ d)) ≡ text_cmp (escaped_byte b) (escaped_byte c)
 end-differ b c a d apart = cmp-escapes b c a d ∙ not_tied _ _ (λ e. apart (escaped_byte-injective b c (tied (escaped_byte b) (escaped_byte c) e)))
 
@@ -139,12 +145,15 @@ words-append a b c d g h r s e =
 
 end-words : (a d : List ℕ) → AreWords (quoted_end a) (quoted_end d)
 end-words [] [] r s e = refl
-end-words [] (c ∷ d) r s e = absurd (quote_apart c (quote-words c r (quoted_end d ++ s) (e ∙ ap (λ w. w ++ s) (parted c d) ∙ append_assoc (escaped_byte c) (quoted_end d) s)))
-end-words (b ∷ a) [] r s e = absurd (quote_apart b (quote-words b s (quoted_end a ++ r) (sym e ∙ ap (λ w. w ++ r) (parted b a) ∙ append_assoc (escaped_byte b) (quoted_end a) r)))
+end-words [] (c ∷ d) r s e = absurd (quote_apart c (quote-words c r (quoted_end d ++ s) (e ∙ ap (λ w. w ++ s) (parted c d)
+    ∙ append_assoc (escaped_byte c) (quoted_end d) s)))
+end-words (b ∷ a) [] r s e = absurd (quote_apart b (quote-words b s (quoted_end a ++ r) (sym e ∙ ap (λ w. w ++ r) (parted b a)
+    ∙ append_assoc (escaped_byte b) (quoted_end a) r)))
 end-words (b ∷ a) (c ∷ d) r s e =
     let joined = words-append (escaped_byte b) (escaped_byte c) (quoted_end a) (quoted_end d) (escapes-words b c) (λ u v q. end-words a d u v q) in
     parted b a ∙ joined r s (ap (λ w. w ++ r) (sym (parted b a)) ∙ e ∙ ap (λ w. w ++ s) (parted c d)) ∙ sym (parted c d)
 
+-- where two quoted texts begin one text, they are one
 pub quoted-words : (a d : List ℕ) → AreWords (quoted a) (quoted d)
 quoted-words a d r s e = ap (λ w. 34 ∷ w) (end-words a d r s (tails 34 34 _ _ e))
 
@@ -153,24 +162,29 @@ quoted-words a d r s e = ap (λ w. 34 ∷ w) (end-words a d r s (tails 34 34 _ _
 same-heads : (b c : ℕ) (a d : List ℕ) → b ≡ c → text_cmp (quoted_end (b ∷ a)) (quoted_end (c ∷ d)) ≡ text_cmp (quoted_end a) (quoted_end d)
 same-heads b c a d e = ap (λ x. text_cmp (quoted_end (b ∷ a)) (quoted_end (x ∷ d))) (sym e) ∙ end-same b a d
 
+-- where the bytes at a place are one, what is behind it decides
 pub same-at : (a d : List ℕ) (i : ℕ) → i < length a → i < length d → get_or a i 0 ≡ get_or d i 0
     → text_cmp (quoted_end (drop i a)) (quoted_end (drop i d)) ≡ text_cmp (quoted_end (drop (i + 1) a)) (quoted_end (drop (i + 1) d))
 same-at a d i g h e =
     (λ j. text_cmp (quoted_end (drop_more a i 0 g j)) (quoted_end (drop_more d i 0 h j)))
     ∙ same-heads (get_or a i 0) (get_or d i 0) (drop (i + 1) a) (drop (i + 1) d) e
 
+-- where the bytes at a place differ, their escapes decide
 pub differ-at : (a d : List ℕ) (i : ℕ) → i < length a → i < length d → (get_or a i 0 ≡ get_or d i 0 → ⊥)
     → text_cmp (quoted_end (drop i a)) (quoted_end (drop i d)) ≡ text_cmp (escaped_byte (get_or a i 0)) (escaped_byte (get_or d i 0))
 differ-at a d i g h apart =
     (λ j. text_cmp (quoted_end (drop_more a i 0 g j)) (quoted_end (drop_more d i 0 h j)))
     ∙ end-differ (get_or a i 0) (get_or d i 0) (drop (i + 1) a) (drop (i + 1) d) apart
 
-pub marks-at : (a d : List ℕ) (i : ℕ) → (length a ≤ i) ⊎ (length d ≤ i) → text_cmp (quoted_end (drop i a)) (quoted_end (drop i d)) ≡ text_cmp (mark (first (drop i a))) (mark (first (drop i d)))
+-- where one text has ended, what comes next decides: an escape, or the closing quote
+pub marks-at : (a d : List ℕ) (i : ℕ) → (length a ≤ i) ⊎ (length d ≤ i)
+    → text_cmp (quoted_end (drop i a)) (quoted_end (drop i d)) ≡ text_cmp (mark (first (drop i a))) (mark (first (drop i d)))
 marks-at a d i (inl h) = end-marks (drop i a) (drop i d) (inl (drop_all i a h))
 marks-at a d i (inr h) = end-marks (drop i a) (drop i d) (inr (drop_all i d h))
 
 -- what `get` finds
-pub looked : (xs : List ℕ) (i : ℕ) (r : Option (Bor ℕ)) → is_some r ≡ ltb i (length xs) → IfSome r (λ x. x.now ≡ get_or xs i x.now) → option_copied r ≡ first (drop i xs)
+pub looked : (xs : List ℕ) (i : ℕ) (r : Option (Bor ℕ)) → is_some r ≡ ltb i (length xs) → IfSome r (λ x. x.now ≡ get_or xs i x.now)
+    → option_copied r ≡ first (drop i xs)
 looked xs i None e h = let past : length xs ≤ i = grind (arith, nat_tests) in ap first (sym (drop_all i xs past))
 looked xs i (Some x) e h = ap Some h ∙ ap first (sym (drop_more xs i x.now (ltb-true i (length xs) (sym e))))
 
@@ -188,7 +202,8 @@ past-alike a d n h =
     ∙ past-same (take n d) (drop n a) (drop n d)
 
 -- so many bytes more that are the same
-pub alike-more : (a d : List ℕ) (n m : ℕ) → BeginAlike a d n → n + m ≤ length a → n + m ≤ length d → take m (drop n a) ≡ take m (drop n d) → BeginAlike a d (n + m)
+pub alike-more : (a d : List ℕ) (n m : ℕ) → BeginAlike a d n → n + m ≤ length a → n + m ≤ length d → take m (drop n a) ≡ take m (drop n d)
+    → BeginAlike a d (n + m)
 alike-more a d n m h own others more = record {
   own = own;
   others = others;

@@ -30,7 +30,9 @@ use Rattle.ssa_path.proofs.OwnTexts.{own-text-is-read, element-of-program}
 
 -- the value has no fault there, and says the paths
 record IsBackBelow (ps : List Path) (v : Json) : Type 0 where
+  -- under an element the value has no fault
   pub no_fault : below_faults v ≡ []
+  -- under an element it says these paths
   pub said : ps ≡ said_below v
 
 alone-back : (ps : List Path) → ps ≡ [] ∷ [] → IsBackBelow ps (below_json ps)
@@ -42,7 +44,8 @@ no-object-inside (object (member n v ms)) = refl
 no-object-inside (scalar s) = refl
 no-object-inside (list vs) = refl
 
-place-back : (t : Trie) → is_trie t ≡ true → is_filled t ≡ true → has_some {A = Elem × Trie} (out-Trie t).below.items ≡ true → AreReadBack (paths t) → IsBackBelow (paths t) (below_json (paths t))
+place-back : (t : Trie) → is_trie t ≡ true → is_filled t ≡ true → has_some {A = Elem × Trie} (out-Trie t).below.items ≡ true → AreReadBack (paths t)
+    → IsBackBelow (paths t) (below_json (paths t))
 place-back t h filled some back =
     let cs = (out-Trie t).below.items in
     let more : is_place_alone (paths t) ≡ false = ap is_place_alone (paths-level t) ∙ more-than-place (out-Trie t).here cs some (trie-parts t _ refl h).1 in
@@ -57,11 +60,13 @@ place-back t h filled some back =
 
 below-back : (t : Trie) → is_trie t ≡ true → is_filled t ≡ true → AreReadBack (paths t) → IsBackBelow (paths t) (below_json (paths t))
 below-back t h filled back =
-    elim (has_some {A = Elem × Trie} (out-Trie t).below.items) as (λ b. has_some {A = Elem × Trie} (out-Trie t).below.items ≡ b → IsBackBelow (paths t) (below_json (paths t))) [
+    elim (has_some {A = Elem × Trie} (out-Trie t).below.items) as (λ b. has_some {A = Elem × Trie} (out-Trie t).below.items ≡ b
+    → IsBackBelow (paths t) (below_json (paths t))) [
       | true ↦ λ some. place-back t h filled some back
       | false ↦ λ none. alone-back (paths t) (alone-place t none filled)
     ] refl
 
+-- a place alone is read back
 pub alone-read-back : (ps : List Path) → ps ≡ [] ∷ [] → AreReadBack ps
 alone-read-back ps is = subst AreReadBack (sym is) (record { no_fault = refl; said = refl })
 
@@ -71,6 +76,7 @@ alone-read-back ps is = subst AreReadBack (sym is) (record { no_fault = refl; sa
 abbrev pub IsBackChild : Elem × Trie → Type 0
 IsBackChild c = IsElementOfProgram (element_view c.0) × AreReadBack (paths c.1)
 
+-- each child is read back
 abbrev pub AreBackChildren : List (Elem × Trie) → Type 0
 AreBackChildren [] = Unit {0}
 AreBackChildren (c ∷ cs) = IsBackChild c × AreBackChildren cs
@@ -79,12 +85,16 @@ back-push : (cs : List (Elem × Trie)) (c : Elem × Trie) → AreBackChildren cs
 back-push [] c h here = (here, tt)
 back-push (d ∷ cs) c h here = (h.0, back-push cs c h.1 here)
 
-pub back-more : (cs : List (Elem × Trie)) (i : ℕ) (c : Elem × Trie) → i < length cs → c ≡ get_or cs i c → AreBackChildren (take i cs) → IsElementOfProgram (element_view c.0) → AreReadBack (paths c.1) → AreBackChildren (take (i + 1) cs)
+-- the next child is read back, too
+pub back-more : (cs : List (Elem × Trie)) (i : ℕ) (c : Elem × Trie) → i < length cs → c ≡ get_or cs i c → AreBackChildren (take i cs)
+    → IsElementOfProgram (element_view c.0) → AreReadBack (paths c.1) → AreBackChildren (take (i + 1) cs)
 back-more cs i c lt is h own below = subst AreBackChildren (sym (taken cs i c lt is)) (back-push (take i cs) c h (own, below))
 
 -- the members of the children have no fault, and say what the children hold
 record AreBackMembers (cs : List (Elem × Trie)) : Type 0 where
+  -- these members have no fault
   pub no_fault : member_faults json_reading (child_members cs) ≡ []
+  -- they say the children's paths
   pub said : member_paths json_reading (child_members cs) ≡ paths_below cs
 
 children-back : (cs : List (Elem × Trie)) → are_filled_tries cs ≡ true → AreBackChildren cs → AreBackMembers cs
@@ -112,6 +122,7 @@ dotted-paths : (b : Bool) (ms : Members) → member_paths json_reading (dotted b
 dotted-paths true ms = refl
 dotted-paths false ms = refl
 
+-- where its children are read back, so are the paths of a trie
 pub paths-back : (t : Trie) (cs : List (Elem × Trie)) → cs ≡ (out-Trie t).below.items → is_trie t ≡ true → AreBackChildren cs → AreReadBack (paths t)
 paths-back t cs is h back =
     let here = (out-Trie t).here in
@@ -125,6 +136,7 @@ paths-back t cs is h back =
 
 -- ---- a set
 
+-- where the paths of a trie are read back, so is their set
 pub set-back : (t : Trie) (s : PathSet) → is_trie t ≡ true → listed (paths t) ≡ s → AreReadBack (paths t) → IsReadBack s
 set-back t s h same back =
     let json = json-of-set t s h same in
@@ -136,6 +148,7 @@ set-back t s h same back =
 -- ---- each canonical value
 
 mutual
+  -- a canonical value has no fault
   pub canonical-read : (v : Json) → IsCanonical v → fields_faults json_reading v ≡ []
   canonical-read (object ms) c = members-read ms c
   canonical-read (scalar s) c = absurd c

@@ -13,23 +13,20 @@ use Rattle.ssa_path.specs.declared.element.Elem.{Elem}
 use Rattle.ssa_path.specs.declared.trie.Trie.{Trie}
 use Rattle.ssa_path.specs.declared.trie.Trie.TheViews.{out-Trie}
 use Rattle.ssa_path.proofs.Levels.{one-below-root, paths-level, trie-parts}
-use Rattle.ssa_path.proofs.Orders.{both_first, both_second, not_tied, same_either_way, same_element-itself}
+use Rattle.ssa_path.proofs.Orders.{both_first, both_second, not_tied}
+use Rattle.ssa_model.proofs.ShownNames.{turned as same_either_way}
+use Rattle.ssa_model.proofs.Tables.{element-itself as same_element-itself}
+use Rattle.ssa_model.proofs.WritingsBack.{longest-tail as longest-tails}
 
 -- ---- as many levels as the longest path has are enough
-
-longest-tails : (e : Element) (ps : List Path) (n : ℕ) → longest ps ≤ suc n → longest (tails e ps) ≤ n
-longest-tails e [] n h = omega arith
-longest-tails e ([] ∷ ps) n h = longest-tails e ps n (omega arith)
-longest-tails e ((f ∷ p) ∷ ps) n h =
-    let rest = longest-tails e ps n (omega arith) in
-    elim (same_element e f) as (λ b. longest (cond b (p ∷ tails e ps) (tails e ps)) ≤ n) [ true ↦ omega arith | false ↦ rest ]
 
 no-heads : (ps : List Path) → longest ps ≤ 0 → heads ps ≡ []
 no-heads [] h = refl
 no-heads ([] ∷ ps) h = no-heads ps (omega arith)
 no-heads ((e ∷ p) ∷ ps) h = absurd (omega arith)
 
-same-fields : (w v : List Path → Json) (ps : List Path) (es : List Element) → ((e : Element) → w (tails e ps) ≡ v (tails e ps)) → field_members w ps es ≡ field_members v ps es
+same-fields : (w v : List Path → Json) (ps : List Path) (es : List Element) → ((e : Element) → w (tails e ps) ≡ v (tails e ps))
+    → field_members w ps es ≡ field_members v ps es
 same-fields w v ps [] h = refl
 same-fields w v ps (e ∷ es) h = λ i. member (element_text e) (cond (is_place_alone (tails e ps)) nothing_written (h e i)) (same-fields w v ps es h i)
 
@@ -79,6 +76,7 @@ head-below : (e : Element) (es : List Element) → is_below e es ≡ true → wi
 head-below e [] h = refl
 head-below e (f ∷ es) h = ap (λ b. cond b (f ∷ es) (e ∷ f ∷ es)) (not_tied _ (both_first _ _ h))
 
+-- the first elements of the children's paths are the children's elements
 pub heads-below : (cs : List (Elem × Trie)) → rises (elements cs) ≡ true → are_filled_tries cs ≡ true → heads (paths_below cs) ≡ elements cs
 heads-below [] h k = refl
 heads-below (c ∷ cs) h k =
@@ -88,22 +86,26 @@ heads-below (c ∷ cs) h k =
     heads-first e (paths c.1) (paths_below cs) filled (ap (with_head e) rest ∙ head-below e (elements cs) (both_first _ _ h) ∙ ap (λ es. e ∷ es) (sym rest))
     ∙ ap (λ es. e ∷ es) rest
 
+-- the place itself brings no first element
 pub heads-here : (b : Bool) (ps : List Path) → heads (here_path b ++ ps) ≡ heads ps
 heads-here true ps = refl
 heads-here false ps = refl
 
 -- ---- what goes on from each of them
 
+-- what goes on from an element in one list of paths, and behind it what does in another
 pub tails-append : (e : Element) (ps qs : List Path) → tails e (ps ++ qs) ≡ tails e ps ++ tails e qs
 tails-append e [] qs = refl
 tails-append e ([] ∷ ps) qs = tails-append e ps qs
 tails-append e ((f ∷ p) ∷ ps) qs =
     let rest = tails-append e ps qs in
-    elim (same_element e f) as (λ b. cond b (p ∷ tails e (ps ++ qs)) (tails e (ps ++ qs)) ≡ cond b (p ∷ tails e ps) (tails e ps) ++ tails e qs) [ true ↦ ap (λ l. p ∷ l) rest | false ↦ rest ]
+    elim (same_element e f) as (λ b. cond b (p ∷ tails e (ps ++ qs)) (tails e (ps ++ qs)) ≡ cond b (p ∷ tails e ps) (tails e ps) ++ tails e qs)
+    [ true ↦ ap (λ l. p ∷ l) rest | false ↦ rest ]
 
 tails-same : (e : Element) (ps : List Path) → tails e (paths_after e ps) ≡ ps
 tails-same e [] = refl
-tails-same e (p ∷ ps) = ap (λ b. cond b (p ∷ tails e (paths_after e ps)) (tails e (paths_after e ps))) (same_element-itself e) ∙ ap (λ l. p ∷ l) (tails-same e ps)
+tails-same e (p ∷ ps) = ap (λ b. cond b (p ∷ tails e (paths_after e ps)) (tails e (paths_after e ps))) (same_element-itself e)
+    ∙ ap (λ l. p ∷ l) (tails-same e ps)
 
 tails-other : (e f : Element) (ps : List Path) → same_element e f ≡ false → tails e (paths_after f ps) ≡ []
 tails-other e f [] h = refl
@@ -115,6 +117,7 @@ tails-none e (c ∷ cs) h =
     tails-append e (paths_after (element_view c.0) (paths c.1)) (paths_below cs)
     ∙ (λ i. tails-other e (element_view c.0) (paths c.1) (not_tied _ (both_first _ _ h)) i ++ tails-none e cs (both_second _ _ h) i)
 
+-- the place itself goes on from no element
 pub tails-here : (e : Element) (b : Bool) (ps : List Path) → tails e (here_path b ++ ps) ≡ tails e ps
 tails-here e true ps = refl
 tails-here e false ps = refl
@@ -124,7 +127,8 @@ abbrev AreBelow : List Path → List (Elem × Trie) → Type 0
 AreBelow ps [] = Unit {0}
 AreBelow ps (c ∷ cs) = (tails (element_view c.0) ps ≡ paths c.1) × AreBelow ps cs
 
-tails-skip : (e : Element) (qs ps : List Path) (cs : List (Elem × Trie)) → is_below e (elements cs) ≡ true → AreBelow ps cs → AreBelow (paths_after e qs ++ ps) cs
+tails-skip : (e : Element) (qs ps : List Path) (cs : List (Elem × Trie)) → is_below e (elements cs) ≡ true → AreBelow ps cs
+    → AreBelow (paths_after e qs ++ ps) cs
 tails-skip e qs ps [] h k = tt
 tails-skip e qs ps (c ∷ cs) h k =
     let f = element_view c.0 in
@@ -135,7 +139,8 @@ tails-below : (cs : List (Elem × Trie)) → rises (elements cs) ≡ true → Ar
 tails-below [] h = tt
 tails-below (c ∷ cs) h =
     let e = element_view c.0 in
-    let own = tails-append e (paths_after e (paths c.1)) (paths_below cs) ∙ (λ i. tails-same e (paths c.1) i ++ tails-none e cs (both_first _ _ h) i) ∙ append-nil (paths c.1) in
+    let own = tails-append e (paths_after e (paths c.1)) (paths_below cs) ∙ (λ i. tails-same e (paths c.1) i ++ tails-none e cs (both_first _ _ h) i)
+    ∙ append-nil (paths c.1) in
     (own, tails-skip e (paths c.1) (paths_below cs) cs (both_first _ _ h) (tails-below cs (both_second _ _ h)))
 
 tails-shown : (b : Bool) (ps : List Path) (cs : List (Elem × Trie)) → AreBelow ps cs → AreBelow (here_path b ++ ps) cs
@@ -153,6 +158,7 @@ fields-are : (ps : List Path) (cs : List (Elem × Trie)) → AreBelow ps cs → 
 fields-are ps [] h = refl
 fields-are ps (c ∷ cs) h = λ i. member (element_text (element_view c.0)) (below_json (h.0 i)) (fields-are ps cs h.1 i)
 
+-- some path is a root where the root is one of the paths
 pub any-root-is : (ps : List Path) → list_any is_root ps ≡ is_one_of ps []
 any-root-is [] = refl
 any-root-is ([] ∷ ps) = refl
@@ -162,13 +168,16 @@ root-shown : (b : Bool) (cs : List (Elem × Trie)) → list_any is_root (here_pa
 root-shown true cs = refl
 root-shown false cs = any-root-is (paths_below cs) ∙ one-below-root cs
 
-pub level-shown : (b : Bool) (cs : List (Elem × Trie)) → rises (elements cs) ≡ true → are_filled_tries cs ≡ true → paths_json (here_path b ++ paths_below cs) ≡ object (dotted b (child_members cs))
+-- a place and its children are written as an object: `.` where the place is in the set, and a member for each child
+pub level-shown : (b : Bool) (cs : List (Elem × Trie)) → rises (elements cs) ≡ true → are_filled_tries cs ≡ true
+    → paths_json (here_path b ++ paths_below cs) ≡ object (dotted b (child_members cs))
 level-shown b cs h k =
     let ps = here_path b ++ paths_below cs in
     level ps
     ∙ (λ i. object (dotted (root-shown b cs i) (field_members paths_json ps ((heads-here b (paths_below cs) ∙ heads-below cs h k) i))))
     ∙ ap (λ ms. object (dotted b ms)) (fields-are ps cs (tails-shown b (paths_below cs) cs (tails-below cs h)))
 
+-- so is a trie
 pub level-trie : (t : Trie) → is_trie t ≡ true → paths_json (paths t) ≡ object (dotted (out-Trie t).here (child_members (out-Trie t).below.items))
 level-trie t h =
     let parts = trie-parts t _ refl h in

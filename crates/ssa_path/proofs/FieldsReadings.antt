@@ -32,8 +32,8 @@ use Rattle.ssa_path.proofs.FieldsMembers.{Found, with_last, members-last, member
 use Rattle.ssa_path.proofs.FieldsSaid.{said-dot, said-more}
 use Rattle.ssa_path.proofs.Levels.{filled-is, is_trie-made, paths-level, paths-made}
 use Rattle.ssa_path.proofs.Lists.{filled-append}
-use Rattle.ssa_path.proofs.Orders.{both}
 use Rattle.ssa_path.proofs.OwnTexts.{own-text-is-read}
+use Rattle.ssa_model.proofs.Basics.{both-true as both}
 
 -- ---- the first fault
 
@@ -48,19 +48,17 @@ tells-before IndexElement fs gs h = first-before _ fs gs h
 tells-before NotCanonical fs gs h = first-before _ fs gs h
 tells-before OutOfMemory fs gs h = tt
 
-pub faults-dot : (n : Text) (v : Json) (ms : Members) (b : Bool) → same_text n (codes ".") ≡ true → is_nothing_inside v ≡ b → member_faults json_reading (member n v ms) ≡ cond b [] (bad_element ∷ []) ++ member_faults json_reading ms
+-- a member `.` is a fault where it has something inside, and then come those of the other members
+pub faults-dot : (n : Text) (v : Json) (ms : Members) (b : Bool) → same_text n (codes ".") ≡ true → is_nothing_inside v ≡ b
+    → member_faults json_reading (member n v ms) ≡ cond b [] (bad_element ∷ []) ++ member_faults json_reading ms
 faults-dot n v ms b dot inside = λ i. cond (dot i) (cond (inside i) [] (bad_element ∷ [])) (child_faults n v) ++ member_faults json_reading ms
 
-pub faults-child : (n : Text) (v : Json) (ms : Members) → same_text n (codes ".") ≡ false → member_faults json_reading (member n v ms) ≡ child_faults n v ++ member_faults json_reading ms
+-- the faults of a member that isn't `.` come first, and then those of the other members
+pub faults-child : (n : Text) (v : Json) (ms : Members) → same_text n (codes ".") ≡ false
+    → member_faults json_reading (member n v ms) ≡ child_faults n v ++ member_faults json_reading ms
 faults-child n v ms other = ap (λ b. cond b (cond (is_nothing_inside v) [] (bad_element ∷ [])) (child_faults n v) ++ member_faults json_reading ms) other
 
--- the fault of an element is the first of its member
-pub element-fault : (f : ElemFault) (n : Text) (v : Json) → ReadsElement (Err f) n → IsFirst f (child_faults n v)
-element-fault BadElement n v h = ap (λ r. first_fault (elim r [ Err f ↦ f ∷ [] | Ok e ↦ below_faults v ])) h
-element-fault IndexElement n v h = ap (λ r. first_fault (elim r [ Err f ↦ f ∷ [] | Ok e ↦ below_faults v ])) h
-element-fault NotCanonical n v h = ap (λ r. first_fault (elim r [ Err f ↦ f ∷ [] | Ok e ↦ below_faults v ])) h
-element-fault OutOfMemory n v h = tt
-
+-- where the name is an element's text, the faults are those of the value below it
 pub element-right : (e : Element) (n : Text) (v : Json) → element_of json_reading n ≡ Ok e → child_faults n v ≡ below_faults v
 element-right e n v h = ap (λ r. elim r [ Err f ↦ f ∷ [] | Ok d ↦ below_faults v ]) h
 
@@ -73,6 +71,7 @@ other-value v other =
       | false ↦ λ _. refl
     ] refl
 
+-- a value without faults has none under an element, unless it is `{".":{}}`
 pub below-none : (v : Json) → v ≢ dot_alone → fields_faults json_reading v ≡ [] → below_faults v ≡ []
 below-none v other none = ap (λ b. cond b (not_canonical ∷ []) (fields_faults json_reading v)) (other-value v other) ∙ none
 
@@ -82,14 +81,9 @@ below-first fault v h = ap (λ b. first_fault (cond b (not_canonical ∷ []) (fi
     other : v ≢ dot_alone
     other is = let none : None ≡ Some fault = sym (ap (λ w. first_fault (fields_faults json_reading w)) is) ∙ h in cc
 
-pub below-fault : (f : ElemFault) (v : Json) → IsFirst f (fields_faults json_reading v) → IsFirst f (below_faults v)
-below-fault BadElement v h = below-first _ v h
-below-fault IndexElement v h = below-first _ v h
-below-fault NotCanonical v h = below-first _ v h
-below-fault OutOfMemory v h = tt
-
 -- a place alone, written as at the root
-pub dot-refused : (v : Json) (place : Trie) → IsPlaceOf v place → has_some {A = Elem × Trie} (out-Trie place).below.items ≡ false → (out-Trie place).here ≡ true → first_fault (below_faults v) ≡ Some not_canonical
+pub dot-refused : (v : Json) (place : Trie) → IsPlaceOf v place → has_some {A = Elem × Trie} (out-Trie place).below.items ≡ false
+    → (out-Trie place).here ≡ true → first_fault (below_faults v) ≡ Some not_canonical
 dot-refused v place h none here =
     let filled = filled-is place h.trie ∙ ap (λ b. b || has_some {A = Elem × Trie} (out-Trie place).below.items) here in
     let is : v ≡ dot_alone = h.json ∙ ap paths_json (alone-place place none filled) ∙ level ([] ∷ []) in
@@ -100,7 +94,8 @@ no-children [] h = refl
 no-children (c ∷ cs) h = absurd (true≢false h)
 
 -- `{}` says the place alone
-pub alone-read : (v : Json) (place : Trie) (x : Trie-F Trie) → IsPlaceOf v place → has_some {A = Elem × Trie} (out-Trie place).below.items ≡ false → (out-Trie place).here ≡ false → x.here ≡ true → x.below.items ≡ []
+pub alone-read : (v : Json) (place : Trie) (x : Trie-F Trie) → IsPlaceOf v place → has_some {A = Elem × Trie} (out-Trie place).below.items ≡ false
+    → (out-Trie place).here ≡ false → x.here ≡ true → x.below.items ≡ []
     → (below_faults v ≡ []) × IsPlaceBelow v (roll-Trie x)
 alone-read v place x h none here own_here empty =
     let no_paths : paths place ≡ [] = paths-level place ∙ (λ i. here_path (here i) ++ paths_below (no-children _ none i)) in
@@ -129,7 +124,9 @@ some-inside v t filled said =
       | false ↦ λ _. said
     ] refl
 
-pub place-read : (v : Json) (place : Trie) → IsPlaceOf v place → has_some {A = Elem × Trie} (out-Trie place).below.items ≡ true → fields_faults json_reading v ≡ [] → (below_faults v ≡ []) × IsPlaceBelow v place
+-- a faultless value with something below its place is a place under an element, too
+pub place-read : (v : Json) (place : Trie) → IsPlaceOf v place → has_some {A = Elem × Trie} (out-Trie place).below.items ≡ true
+    → fields_faults json_reading v ≡ [] → (below_faults v ≡ []) × IsPlaceBelow v place
 place-read v place h some none =
     let written = place-written place v h.trie some h.json h.canonical in
     let filled = filled-is place h.trie ∙ ap (λ b. (out-Trie place).here || b) some ∙ or_true (out-Trie place).here in (
@@ -150,14 +147,22 @@ place-read v place h some none =
 
 -- the members so far are those of the place itself and of the children, and what is left has the faults
 pub record IsReading (es : List Found) (here : Bool) (cs : List (Elem × Trie)) (left : List Found) : Type 0 where
+  -- the members that are read
   pub done : List Found
+  -- they and what is left are all
   pub split : es ≡ done ++ left
+  -- they are the writing of the place itself and of the children
   pub json : members_view done ≡ dotted here (child_members cs)
+  -- they are canonical
   pub canonical : AreCanonical (members_view done)
+  -- each child is a trie with some path
   pub tries : are_filled_tries cs ≡ true
+  -- the place itself and the children have the paths that they say
   pub said : here_path here ++ paths_below cs ≡ member_paths json_reading (members_view done)
+  -- all members have the faults of what is left
   pub faults : member_faults json_reading (members_view es) ≡ member_faults json_reading (members_view left)
 
+-- before the first member nothing is read
 pub reading-none : (es left : List Found) (cs : List (Elem × Trie)) → cs ≡ [] → left ≡ es → IsReading es false cs left
 reading-none es left cs none all = record {
   done = [];
@@ -169,7 +174,8 @@ reading-none es left cs none all = record {
   faults = ap (λ l. member_faults json_reading (members_view l)) (sym all);
 }
 
-module _ (es : List Found) (here : Bool) (cs : List (Elem × Trie)) (e : Found) (left rest : List Found) (now : IsReading es here cs rest) (steps : rest ≡ e ∷ left) where
+module _ (es : List Found) (here : Bool) (cs : List (Elem × Trie)) (e : Found) (left rest : List Found) (now : IsReading es here cs rest)
+    (steps : rest ≡ e ∷ left) where
   whole : es ≡ now.done ++ e ∷ left
   whole = now.split ∙ ap (λ l. now.done ++ l) steps
 
@@ -180,14 +186,16 @@ module _ (es : List Found) (here : Bool) (cs : List (Elem × Trie)) (e : Found) 
   faults-now = now.faults ∙ ap (λ l. member_faults json_reading (members_view l)) steps
 
   -- the fault of the next child is the first of all
-  pub child-first : (n : Text) (f : ElemFault) → n ≡ string_bytes e.0 → same_text n (codes ".") ≡ false → IsFirst f (child_faults n (view e.1)) → IsFirst f (member_faults json_reading (members_view es))
+  pub child-first : (n : Text) (f : ElemFault) → n ≡ string_bytes e.0 → same_text n (codes ".") ≡ false → IsFirst f (child_faults n (view e.1))
+      → IsFirst f (member_faults json_reading (members_view es))
   child-first n f name other h =
       let n' = string_bytes e.0 in
       subst (IsFirst f) (sym (faults-now ∙ faults-child n' (view e.1) (members_view left) (ap (λ m. same_text m (codes ".")) (sym name) ∙ other)))
       (tells-before f (child_faults n' (view e.1)) _ (subst (λ m. IsFirst f (child_faults m (view e.1))) name h))
 
   -- one child more is read
-  pub child-more : (n : Text) (c : Elem × Trie) → n ≡ string_bytes e.0 → same_text n (codes ".") ≡ false → child_faults n (view e.1) ≡ [] → IsChildOf n (view e.1) c → IsReading es here (cs ++ c ∷ []) left
+  pub child-more : (n : Text) (c : Elem × Trie) → n ≡ string_bytes e.0 → same_text n (codes ".") ≡ false → child_faults n (view e.1) ≡ []
+      → IsChildOf n (view e.1) c → IsReading es here (cs ++ c ∷ []) left
   child-more n c name other none h =
       let place = h.place in
       record {
@@ -196,15 +204,12 @@ module _ (es : List Found) (here : Bool) (cs : List (Elem × Trie)) (e : Found) 
         json = members-more here now.done e cs c now.json (sym name ∙ sym h.name.1) place.written.json;
         canonical = canonical-more now.done e now.canonical (element_view c.0, h.name.0.lawful, h.name.1 ∙ name) place.written.not_dot place.written.canonical;
         tries = filled-append cs (c ∷ []) ∙ both _ _ now.tries (both _ _ (both _ _ place.trie place.filled) refl);
-        said = said-more here now.done e cs c now.said (ap (λ m. same_text m (codes ".")) (sym name) ∙ other) (ap (element_of json_reading) (sym name ∙ sym h.name.1) ∙ own-text-is-read (element_view c.0) h.name.0) place.said;
+        said = said-more here now.done e cs c now.said (ap (λ m. same_text m (codes ".")) (sym name)
+            ∙ other) (ap (element_of json_reading) (sym name ∙ sym h.name.1) ∙ own-text-is-read (element_view c.0) h.name.0) place.said;
         faults =
             faults-now ∙ faults-child (string_bytes e.0) (view e.1) (members_view left) (ap (λ m. same_text m (codes ".")) (sym name) ∙ other)
             ∙ ap (λ fs. fs ++ member_faults json_reading (members_view left)) (ap (λ m. child_faults m (view e.1)) (sym name) ∙ none);
       }
-
-  -- `.` has something inside
-  pub dot-first : (n : Text) → n ≡ string_bytes e.0 → same_text n (codes ".") ≡ true → is_nothing_inside (view e.1) ≡ false → IsFirst BadElement (member_faults json_reading (members_view es))
-  dot-first n name dot inside = ap first_fault (faults-now ∙ faults-dot (string_bytes e.0) (view e.1) (members_view left) false (ap (λ m. same_text m (codes ".")) (sym name) ∙ dot) inside)
 
 -- ---- the order of the names
 
@@ -214,7 +219,8 @@ below-dot (key ks) = refl
 below-dot (value s) = refl
 
 -- `.` stands first
-first-dot : (done : List Found) (here : Bool) (cs : List (Elem × Trie)) (n : Text) → n ≡ codes "." → IsAbove n (names done) → members_view done ≡ dotted here (child_members cs) → done ≡ []
+first-dot : (done : List Found) (here : Bool) (cs : List (Elem × Trie)) (n : Text) → n ≡ codes "." → IsAbove n (names done)
+    → members_view done ≡ dotted here (child_members cs) → done ≡ []
 first-dot [] here cs n dot above is = refl
 first-dot (d ∷ done) true cs n dot above is =
     let name : string_bytes d.0 ≡ codes "." = cc in
@@ -232,7 +238,8 @@ childless : (cs : List (Elem × Trie)) → no_members ≡ child_members cs → c
 childless [] h = refl
 childless (c ∷ cs) h = cc
 
-below-children : (k : String Global) (f : Element) (es : List Found) (cs : List (Elem × Trie)) → string_bytes k ≡ element_text f → AllByRecursion (λ y. string_cmp k y ≡ Less) (keys_of es) → members_view es ≡ child_members cs → is_below f (elements cs) ≡ true
+below-children : (k : String Global) (f : Element) (es : List Found) (cs : List (Elem × Trie)) → string_bytes k ≡ element_text f
+    → AllByRecursion (λ y. string_cmp k y ≡ Less) (keys_of es) → members_view es ≡ child_members cs → is_below f (elements cs) ≡ true
 below-children k f [] [] text h is = refl
 below-children k f [] (c ∷ cs) text h is = cc
 below-children k f (e ∷ es) [] text h is = cc
@@ -241,7 +248,8 @@ below-children k f (e ∷ es) (c ∷ cs) text h is =
     let rest : members_view es ≡ child_members cs = cc in
     both _ _ (sym (λ i. is_lt (slice_cmp nat_cmp (text i) (name i))) ∙ ap is_lt h.0) (below-children k f es cs text h.1 rest)
 
-children-rise : (es : List Found) (cs : List (Elem × Trie)) → IsStrictlySortedBy string_cmp (keys_of es) → members_view es ≡ child_members cs → rises (elements cs) ≡ true
+children-rise : (es : List Found) (cs : List (Elem × Trie)) → IsStrictlySortedBy string_cmp (keys_of es) → members_view es ≡ child_members cs
+    → rises (elements cs) ≡ true
 unfolding IsStrictlySortedBy
 children-rise [] [] h is = refl
 children-rise [] (c ∷ cs) h is = cc
@@ -251,7 +259,8 @@ children-rise (e ∷ es) (c ∷ cs) h is =
     let rest : members_view es ≡ child_members cs = cc in
     both _ _ (below-children e.0 (element_view c.0) es cs name h.0 rest) (children-rise es cs h.1 rest)
 
-elements-rise : (es : List Found) (here : Bool) (cs : List (Elem × Trie)) → IsStrictlySortedBy string_cmp (keys_of es) → members_view es ≡ dotted here (child_members cs) → rises (elements cs) ≡ true
+elements-rise : (es : List Found) (here : Bool) (cs : List (Elem × Trie)) → IsStrictlySortedBy string_cmp (keys_of es)
+    → members_view es ≡ dotted here (child_members cs) → rises (elements cs) ≡ true
 unfolding IsStrictlySortedBy
 elements-rise es false cs h is = children-rise es cs h is
 elements-rise [] true cs h is = cc
@@ -262,28 +271,33 @@ canonical-dot no_members n v h dot inside = (inl (dot, inside), tt)
 canonical-dot (member m w ms) n v h dot inside = (h.0, canonical-dot ms n v h.1 dot inside)
 
 -- the member `.` is read
-pub dot-more : (es : List Found) (here : Bool) (cs : List (Elem × Trie)) (e : Found) (left rest : List Found) (n : Text) → IsReading es here cs rest → rest ≡ e ∷ left → IsStrictlySortedBy string_cmp (keys_of es)
+pub dot-more : (es : List Found) (here : Bool) (cs : List (Elem × Trie)) (e : Found) (left rest : List Found) (n : Text) → IsReading es here cs rest
+    → rest ≡ e ∷ left → IsStrictlySortedBy string_cmp (keys_of es)
     → n ≡ string_bytes e.0 → same_text n (codes ".") ≡ true → is_nothing_inside (view e.1) ≡ true → IsReading es true cs left
 dot-more es here cs e left rest n now steps sorted name dot inside =
     let all = whole es here cs e left rest now steps in
     let text : string_bytes e.0 ≡ codes "." = sym name ∙ same_text-true n (codes ".") dot in
-    let none = first-dot now.done here cs (string_bytes e.0) text (above_before now.done e left (subst (λ l. IsStrictlySortedBy string_cmp (keys_of l)) all sorted)) now.json in
+    let none = first-dot now.done here cs (string_bytes e.0) text
+    (above_before now.done e left (subst (λ l. IsStrictlySortedBy string_cmp (keys_of l)) all sorted)) now.json in
     let empty = none-before here cs (ap members_view (sym none) ∙ now.json) in
     let nothing = nothing-inside (view e.1) inside in
     record {
       done = now.done ++ e ∷ [];
       split = split-more es here cs e left rest now steps;
       json = ap (λ l. members_view (l ++ e ∷ [])) none ∙ (λ i. member (text i) (nothing i) (empty i));
-      canonical = subst AreCanonical (sym (members-last now.done e)) (canonical-dot (members_view now.done) (string_bytes e.0) (view e.1) now.canonical text nothing);
+      canonical = subst AreCanonical (sym (members-last now.done e))
+          (canonical-dot (members_view now.done) (string_bytes e.0) (view e.1) now.canonical text nothing);
       tries = now.tries;
-      said = said-dot e cs (childless cs empty) (ap (λ m. same_text m (codes ".")) (sym name) ∙ dot) ∙ ap (λ l. member_paths json_reading (members_view (l ++ e ∷ []))) (sym none);
+      said = said-dot e cs (childless cs empty) (ap (λ m. same_text m (codes ".")) (sym name) ∙ dot)
+          ∙ ap (λ l. member_paths json_reading (members_view (l ++ e ∷ []))) (sym none);
       faults =
           faults-now es here cs e left rest now steps
           ∙ faults-dot (string_bytes e.0) (view e.1) (members_view left) true (ap (λ m. same_text m (codes ".")) (sym name) ∙ dot) inside;
     }
 
 -- all members are read
-pub reading-all : (es : List Found) (x : Trie-F Trie) (rest : List Found) → rest ≡ [] → IsStrictlySortedBy string_cmp (keys_of es) → IsReading es x.here x.below.items rest
+pub reading-all : (es : List Found) (x : Trie-F Trie) (rest : List Found) → rest ≡ [] → IsStrictlySortedBy string_cmp (keys_of es)
+    → IsReading es x.here x.below.items rest
     → (member_faults json_reading (members_view es) ≡ []) × IsPlaceOf (object (members_view es)) (roll-Trie x)
 reading-all es x rest none sorted now =
     let all : es ≡ now.done = now.split ∙ ap (λ l. now.done ++ l) none ∙ append-nil now.done in

@@ -12,8 +12,8 @@ use Rattle.ssa_path.specs.declared.trie.Trie.{Trie}
 use Rattle.ssa_path.proofs.FieldsLevels.{dotted, level, any-root-is}
 use Rattle.ssa_path.proofs.InOrder.{paths-listed, rise-trie}
 use Rattle.ssa_path.proofs.Levels.{same_path-reading}
-use Rattle.ssa_path.proofs.Orders.{same_element-true}
-use Rattle.ssa_path.proofs.Sets.{has-listed}
+use Rattle.ssa_model.proofs.Fitting.{same_element-true}
+use Rattle.ssa_model.proofs.Lists.{has-listed}
 
 -- ---- the member of an element
 
@@ -29,12 +29,14 @@ past-dot (field n) true ms = refl
 past-dot (key ks) true ms = refl
 past-dot (value s) true ms = refl
 
-member-found : (b : Bool) (e f : Element) (ps : List Path) (rest : Option Json) (c : Bool) → (b ≡ true → e ≡ f) → rest ≡ cond c (Some (below_json (tails e ps))) None
+member-found : (b : Bool) (e f : Element) (ps : List Path) (rest : Option Json) (c : Bool) → (b ≡ true → e ≡ f)
+    → rest ≡ cond c (Some (below_json (tails e ps))) None
     → cond b (Some (below_json (tails f ps))) rest ≡ cond (b || c) (Some (below_json (tails e ps))) None
 member-found true e f ps rest c same is = ap (λ g. Some (below_json (tails g ps))) (sym (same refl))
 member-found false e f ps rest c same is = is
 
-member-of-element : (e : Element) (ps : List Path) (es : List Element) → member_of (element_text e) (field_members paths_json ps es) ≡ cond (list_any (same_element e) es) (Some (below_json (tails e ps))) None
+member-of-element : (e : Element) (ps : List Path) (es : List Element)
+    → member_of (element_text e) (field_members paths_json ps es) ≡ cond (list_any (same_element e) es) (Some (below_json (tails e ps))) None
 member-of-element e ps [] = refl
 member-of-element e ps (f ∷ es) = member-found (same_element e f) e f ps _ (list_any (same_element e) es) (same_element-true e f) (member-of-element e ps es)
 
@@ -61,7 +63,8 @@ some-cond false p ps = refl
 begun : (e : Element) (ps : List Path) → list_any (same_element e) (heads ps) ≡ has_some (tails e ps)
 begun e [] = refl
 begun e ([] ∷ ps) = begun e ps
-begun e ((f ∷ p) ∷ ps) = any-head (same_element e) f (heads ps) ∙ ap (λ b. same_element e f || b) (begun e ps) ∙ sym (some-cond (same_element e f) p (tails e ps))
+begun e ((f ∷ p) ∷ ps) = any-head (same_element e) f (heads ps) ∙ ap (λ b. same_element e f || b) (begun e ps)
+    ∙ sym (some-cond (same_element e f) p (tails e ps))
 
 member-is : (e : Element) (ps : List Path) → member_at (element_text e) (paths_json ps) ≡ cond (has_some (tails e ps)) (Some (below_json (tails e ps))) None
 member-is e ps =
@@ -108,7 +111,8 @@ root-or-head ((e ∷ p) ∷ ps) h = ap (λ b. list_any is_root ps || b) (some-he
     or_true true = refl
     or_true false = refl
 
-not-empty : (b : Bool) (ps : List Path) (es : List Element) → (b || has_some es) ≡ true → is_no_object (Some (object (dotted b (field_members paths_json ps es)))) ≡ false
+not-empty : (b : Bool) (ps : List Path) (es : List Element) → (b || has_some es) ≡ true
+    → is_no_object (Some (object (dotted b (field_members paths_json ps es)))) ≡ false
 not-empty true ps es h = refl
 not-empty false ps [] h = absurd (true≢false (sym h))
 not-empty false ps (e ∷ es) h = refl
@@ -136,15 +140,18 @@ module _ (p : Path) (inside : (ps : List Path) → says (paths_json ps) p ≡ is
   says-member ([] ∷ q ∷ qs) = says-inside p refl ([] ∷ q ∷ qs) refl
   says-member ((e ∷ q) ∷ qs) = says-inside p refl ((e ∷ q) ∷ qs) refl
 
+-- the object of paths says those that are among them
 pub says-paths : (p : Path) (ps : List Path) → says (paths_json ps) p ≡ is_one_of ps p
 says-paths [] ps = has-dot-root ps
 says-paths (e ∷ p) ps = ap (λ o. is_said (value_in p o)) (member-is e ps) ∙ says-member p (λ qs. says-paths p qs) (tails e ps) ∙ sym (one-begun e ps p)
 
 -- ---- the set
 
+-- the set of a trie's paths is written as the object of these
 pub json-of-set : (t : Trie) (s : PathSet) → is_trie t ≡ true → listed (paths t) ≡ s → fields_json s ≡ paths_json (paths t)
 json-of-set t s h same = ap fields_json (sym same) ∙ ap paths_json (paths-listed (paths t) (rise-trie t h))
 
+-- the canonical object of a trie's paths is the writing of their set
 pub written-set : (t : Trie) (s : PathSet) (v : Json) → listed (paths t) ≡ s → v ≡ paths_json (paths t) → IsCanonical v → IsWritten s v
 written-set t s v same is canonical = record {
   canonical = canonical;

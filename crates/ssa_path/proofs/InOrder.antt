@@ -15,10 +15,10 @@ use Rattle.ssa_path.specs.declared.trie.Trie.{Trie}
 use Rattle.ssa_path.specs.declared.trie.Trie.TheFolds.{ind-Trie}
 use Rattle.ssa_path.specs.declared.trie.Trie.TheOpen.{Trie-F}
 use Rattle.ssa_path.specs.declared.trie.Trie.TheViews.{out-Trie}
-use Rattle.ssa_model.proofs.RisingNames.{lower}
-use Rattle.ssa_path.proofs.Orders.{element_cmp_total, both, both_first, both_second}
+use Rattle.ssa_path.proofs.Orders.{element_cmp_total, both_first, both_second}
 use Rattle.ssa_path.proofs.Levels.{paths-level, paths-made, shape-made, trie-parts}
 use Rattle.ssa_path.proofs.Lists.{paths_below-append}
+use Rattle.ssa_model.proofs.Basics.{both-true as both, lower}
 
 -- ---- in path order
 
@@ -32,7 +32,8 @@ root-before-after e (p ∷ ps) = root-before-after e ps
 
 root-before-below : (cs : List (Elem × Trie)) → stands_before [] (paths_below cs) ≡ true
 root-before-below [] = refl
-root-before-below (c ∷ cs) = before-append [] (paths_after (element_view c.0) (paths c.1)) (paths_below cs) (root-before-after (element_view c.0) (paths c.1)) (root-before-below cs)
+root-before-below (c ∷ cs) = before-append [] (paths_after (element_view c.0) (paths c.1)) (paths_below cs) (root-before-after (element_view c.0) (paths c.1))
+    (root-before-below cs)
 
 -- behind one element the order is that of what follows it
 before-same : (e : Element) (p : Path) (ps : List Path) → stands_before p ps ≡ true → stands_before (e ∷ p) (paths_after e ps) ≡ true
@@ -54,7 +55,8 @@ before-below e p (c ∷ cs) h =
     before-append (e ∷ p) (paths_after (element_view c.0) (paths c.1)) (paths_below cs)
     (before-other e (element_view c.0) p (paths c.1) (lower _ (both_first _ _ h))) (before-below e p cs (both_second _ _ h))
 
-rise-first : (e : Element) (ps : List Path) (cs : List (Elem × Trie)) → paths_rise (paths_after e ps) ≡ true → is_below e (elements cs) ≡ true → paths_rise (paths_below cs) ≡ true → paths_rise (paths_after e ps ++ paths_below cs) ≡ true
+rise-first : (e : Element) (ps : List Path) (cs : List (Elem × Trie)) → paths_rise (paths_after e ps) ≡ true → is_below e (elements cs) ≡ true
+    → paths_rise (paths_below cs) ≡ true → paths_rise (paths_after e ps ++ paths_below cs) ≡ true
 rise-first e [] cs g h k = k
 rise-first e (p ∷ ps) cs g h k =
     both _ _ (before-append (e ∷ p) (paths_after e ps) (paths_below cs) (both_first _ _ g) (before-below e p cs h)) (rise-first e ps cs (both_second _ _ g) h k)
@@ -67,14 +69,17 @@ children_rise (c ∷ cs) = paths_rise (paths c.1) && children_rise cs
 rise-below : (cs : List (Elem × Trie)) → rises (elements cs) ≡ true → children_rise cs ≡ true → paths_rise (paths_below cs) ≡ true
 rise-below [] h k = refl
 rise-below (c ∷ cs) h k =
-    rise-first (element_view c.0) (paths c.1) cs (rise-after (element_view c.0) (paths c.1) (both_first _ _ k)) (both_first _ _ h) (rise-below cs (both_second _ _ h) (both_second _ _ k))
+    rise-first (element_view c.0) (paths c.1) cs (rise-after (element_view c.0) (paths c.1) (both_first _ _ k)) (both_first _ _ h)
+    (rise-below cs (both_second _ _ h) (both_second _ _ k))
 
 rise-here : (b : Bool) (cs : List (Elem × Trie)) → paths_rise (paths_below cs) ≡ true → paths_rise (here_path b ++ paths_below cs) ≡ true
 rise-here true cs h = both _ _ (root-before-below cs) h
 rise-here false cs h = h
 
+-- the paths of a trie are in order where those of each child are
 pub rise-level : (t : Trie) → is_trie t ≡ true → children_rise (out-Trie t).below.items ≡ true → paths_rise (paths t) ≡ true
-rise-level t h k = ap paths_rise (paths-level t) ∙ rise-here (out-Trie t).here (out-Trie t).below.items (rise-below (out-Trie t).below.items (trie-parts t _ refl h).0 k)
+rise-level t h k = ap paths_rise (paths-level t) ∙ rise-here (out-Trie t).here (out-Trie t).below.items
+    (rise-below (out-Trie t).below.items (trie-parts t _ refl h).0 k)
 
 -- every trie lists its paths in order
 abbrev InOrder : Trie → Type 0
@@ -85,7 +90,8 @@ tries_of ys = map (λ c. (c.0, c.1.0)) ys
 
 children-rise : (ys : List (Elem × ((t : Trie) × InOrder t))) → are_filled_tries (tries_of ys) ≡ true → children_rise (tries_of ys) ≡ true
 children-rise [] h = refl
-children-rise (y ∷ ys) h = both _ _ (y.1.1 (both_first (is_trie y.1.0) _ (both_first _ _ h))) (children-rise ys (both_second (is_trie y.1.0 && is_filled y.1.0) _ h))
+children-rise (y ∷ ys) h = both _ _ (y.1.1 (both_first (is_trie y.1.0) _ (both_first _ _ h)))
+    (children-rise ys (both_second (is_trie y.1.0 && is_filled y.1.0) _ h))
 
 -- y is x with a proof beside each child
 pub rise-trie : (t : Trie) → is_trie t ≡ true → paths_rise (paths t) ≡ true
@@ -98,11 +104,13 @@ children-push : (cs : List (Elem × Trie)) (c : Elem × Trie) → children_rise 
 children-push [] c h k = both _ _ k refl
 children-push (d ∷ cs) c h k = both _ _ (both_first _ _ h) (children-push cs c (both_second _ _ h) k)
 
+-- the first children up to a place and the one there are the first up to the next place
 pub taken : (cs : List (Elem × Trie)) (i : ℕ) (c : Elem × Trie) → i < length cs → c ≡ get_or cs i c → take (i + 1) cs ≡ take i cs ++ c ∷ []
 taken cs i c lt is = take_more cs i c lt ∙ ap (λ x. take i cs ++ x ∷ []) (sym is)
 
 -- ---- the paths listed
 
+-- a beginning in front of two lists of paths is in front of each
 pub behind-append : (way : Path) (ps qs : List Path) → behind way (ps ++ qs) ≡ behind way ps ++ behind way qs
 behind-append way [] qs = refl
 behind-append way (p ∷ ps) qs = ap (λ l. (way ++ p) ∷ l) (behind-append way ps qs)
@@ -111,6 +119,7 @@ behind-after : (way : Path) (e : Element) (ps : List Path) → behind (way ++ e 
 behind-after way e [] = refl
 behind-after way e (p ∷ ps) = λ i. append_assoc way (e ∷ []) p i ∷ behind-after way e ps i
 
+-- without a beginning in front, paths are as they are
 pub behind-none : (ps : List Path) → behind [] ps ≡ ps
 behind-none [] = refl
 behind-none (p ∷ ps) = ap (λ l. p ∷ l) (behind-none ps)
@@ -126,13 +135,18 @@ shown-push here cs c =
 
 -- the place and the first children were added
 pub record IsListing (way : Path) (here : Bool) (cs : List (Elem × Trie)) (old now : List Path) : Type 0 where
+  -- the paths came behind the old ones, with the way in front
   pub added : now ≡ old ++ behind way (shown here cs)
+  -- the paths of each child are in order
   pub rise : children_rise cs ≡ true
 
+-- before the first child, the place itself was added, if it is in the set
 pub listing-none : (way : Path) (here : Bool) (old now : List Path) → now ≡ old ++ behind way (here_path here) → IsListing way here [] old now
 listing-none way here old now h = record { added = h ∙ ap (λ ps. old ++ behind way ps) (sym (append-nil (here_path here))); rise = refl }
 
-pub listing-more : (way : Path) (here : Bool) (cs : List (Elem × Trie)) (i : ℕ) (c : Elem × Trie) (old now new : List Path) (longer : Path) → i < length cs → c ≡ get_or cs i c → longer ≡ way ++ element_view c.0 ∷ []
+-- the paths of the next child were added, with its element behind the way
+pub listing-more : (way : Path) (here : Bool) (cs : List (Elem × Trie)) (i : ℕ) (c : Elem × Trie) (old now new : List Path) (longer : Path) → i < length cs
+    → c ≡ get_or cs i c → longer ≡ way ++ element_view c.0 ∷ []
     → IsListing way here (take i cs) old now → IsListed longer c.1 now new → IsListing way here (take (i + 1) cs) old new
 listing-more way here cs i c old now new longer lt is long h g =
     let front = take i cs in
@@ -146,7 +160,9 @@ listing-more way here cs i c old now new longer lt is long h g =
     } in
     subst (λ l. IsListing way here l old new) (sym (taken cs i c lt is)) more
 
-pub listing-all : (way : Path) (t : Trie) (i : ℕ) (cs : List (Elem × Trie)) (old new : List Path) → cs ≡ (out-Trie t).below.items → length cs ≤ i → is_trie t ≡ true → IsListing way (out-Trie t).here (take i cs) old new → IsListed way t old new
+-- behind the last child, all paths of the trie were added, in order
+pub listing-all : (way : Path) (t : Trie) (i : ℕ) (cs : List (Elem × Trie)) (old new : List Path) → cs ≡ (out-Trie t).below.items → length cs ≤ i
+    → is_trie t ≡ true → IsListing way (out-Trie t).here (take i cs) old new → IsListed way t old new
 listing-all way t i cs old new is le trie h =
     let all : take i cs ≡ (out-Trie t).below.items = take_all i cs le ∙ is in
     record {
@@ -168,6 +184,7 @@ keys-marked : (ps : List Path) → map (λ (e : Path × Unit {0}). e.0) (marked 
 keys-marked [] = refl
 keys-marked (p ∷ ps) = ap (λ l. p ∷ l) (keys-marked ps)
 
+-- a set of paths in order has just these, in this order
 pub paths-listed : (ps : List Path) → paths_rise ps ≡ true → set_paths (listed ps) ≡ ps
 paths-listed ps h = ap (map (λ (e : Path × Unit {0}). e.0)) (entries-listed ps h) ∙ keys-marked ps
 
@@ -175,6 +192,7 @@ length-marked : (ps : List Path) → length (marked ps) ≡ length ps
 length-marked [] = refl
 length-marked (p ∷ ps) = let rest = length-marked ps in omega arith
 
+-- a set of paths in order has as many
 pub size-listed : (ps : List Path) → paths_rise ps ≡ true → size (listed ps) ≡ length ps
 size-listed ps h = ap (λ (es : List (Path × Unit {0})). length es) (entries-listed ps h) ∙ length-marked ps
 
@@ -184,30 +202,34 @@ length-after : (e : Element) (ps : List Path) → length (paths_after e ps) ≡ 
 length-after e [] = refl
 length-after e (p ∷ ps) = let rest = length-after e ps in omega arith
 
+-- the place and the first children are counted
 pub record IsCounting (here : Bool) (cs : List (Elem × Trie)) (count : ℕ) : Type 0 where
+  -- the count is that of their paths, as far as 64 bits go
   pub total : count ≡ min (length (shown here cs)) (2 ^ 64 - 1)
+  -- the paths of each child are in order
   pub rise : children_rise cs ≡ true
-
-pub counting-none : (here : Bool) (count : ℕ) → count ≡ length (here_path here) → IsCounting here [] count
-counting-none true count h = record { total = h; rise = refl }
-counting-none false count h = record { total = h; rise = refl }
 
 sum-capped : (a b c d : ℕ) → a ≡ min b (2 ^ 64 - 1) → c ≡ min d (2 ^ 64 - 1) → min (a + c) (2 ^ 64 - 1) ≡ min (b + d) (2 ^ 64 - 1)
 sum-capped a b c d e f = omega arith
 
-pub counting-more : (here : Bool) (cs : List (Elem × Trie)) (i : ℕ) (c : Elem × Trie) (count more sum : ℕ) → i < length cs → c ≡ get_or cs i c → more ≡ min (length (paths c.1)) (2 ^ 64 - 1) → paths_rise (paths c.1) ≡ true → sum ≡ min (count + more) (2 ^ 64 - 1)
+-- the paths of the next child are counted, too
+pub counting-more : (here : Bool) (cs : List (Elem × Trie)) (i : ℕ) (c : Elem × Trie) (count more sum : ℕ) → i < length cs → c ≡ get_or cs i c
+    → more ≡ min (length (paths c.1)) (2 ^ 64 - 1) → paths_rise (paths c.1) ≡ true → sum ≡ min (count + more) (2 ^ 64 - 1)
     → IsCounting here (take i cs) count → IsCounting here (take (i + 1) cs) sum
 counting-more here cs i c count more sum lt is e k s h =
     let front = take i cs in
     let longer : length (shown here (front ++ c ∷ [])) ≡ length (shown here front) + length (paths c.1) =
-    ap length (shown-push here front c) ∙ length-append (shown here front) (paths_after (element_view c.0) (paths c.1)) ∙ ap (λ n. length (shown here front) + n) (length-after (element_view c.0) (paths c.1)) in
+    ap length (shown-push here front c) ∙ length-append (shown here front) (paths_after (element_view c.0) (paths c.1))
+    ∙ ap (λ n. length (shown here front) + n) (length-after (element_view c.0) (paths c.1)) in
     let next : IsCounting here (front ++ c ∷ []) sum = record {
       total = s ∙ sum-capped count (length (shown here front)) more (length (paths c.1)) h.total e ∙ ap (λ n. min n (2 ^ 64 - 1)) (sym longer);
       rise = children-push front c h.rise k;
     } in
     subst (λ l. IsCounting here l sum) (sym (taken cs i c lt is)) next
 
-pub counting-all : (t : Trie) (i : ℕ) (cs : List (Elem × Trie)) (count : ℕ) → cs ≡ (out-Trie t).below.items → length cs ≤ i → IsCounting (out-Trie t).here (take i cs) count
+-- behind the last child, the paths of the trie are counted, and those of each child are in order
+pub counting-all : (t : Trie) (i : ℕ) (cs : List (Elem × Trie)) (count : ℕ) → cs ≡ (out-Trie t).below.items → length cs ≤ i
+    → IsCounting (out-Trie t).here (take i cs) count
     → (count ≡ min (length (paths t)) (2 ^ 64 - 1)) × (children_rise (out-Trie t).below.items ≡ true)
 counting-all t i cs count is le h =
     let all : take i cs ≡ (out-Trie t).below.items = take_all i cs le ∙ is in

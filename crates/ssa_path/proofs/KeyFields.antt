@@ -17,7 +17,9 @@ use Rattle.ssa_path.specs.declared.trie.Trie.TheViews.{out-Trie, roll-Trie}
 use Rattle.ssa_path.proofs.Combining.{holds-first}
 use Rattle.ssa_path.proofs.Levels.{same_path-reading, any-child, any-made, any-level, is_trie-made, one-level-root, one-made-root, some-none, trie-parts}
 use Rattle.ssa_path.proofs.Lists.{left-at}
-use Rattle.ssa_path.proofs.Orders.{both, both_first, both_second, same_element-true}
+use Rattle.ssa_path.proofs.Orders.{both_first, both_second}
+use Rattle.ssa_model.proofs.Fitting.{same_element-true}
+use Rattle.ssa_model.proofs.Basics.{both-true as both}
 
 abbrev Children : Type 0
 Children = List (Elem × Trie)
@@ -42,12 +44,14 @@ names-none (field n) = refl
 names-none (key ks) = refl
 names-none (value s) = refl
 
+-- an item of no key fields has no key field below it
 pub key_field-root : (e : Element) (p : Path) → is_key_field (key [] ∷ e ∷ p) ≡ is_key_field (e ∷ p)
 key_field-root e [] = names-none e
 key_field-root e (f ∷ p) = refl
 
 -- what is left of the child of this element, below the item of these key fields
-pub child-left : (ks : Members) (e : Element) (c t : Trie) (stays : Bool) → stays ≡ (is_one_of (paths c) [] && not (names_key (key ks) e)) → IsWithoutKeyFields (keys_in e) c stays t
+pub child-left : (ks : Members) (e : Element) (c t : Trie) (stays : Bool) → stays ≡ (is_one_of (paths c) [] && not (names_key (key ks) e))
+    → IsWithoutKeyFields (keys_in e) c stays t
     → (p : Path) → is_one_of (paths t) p ≡ (is_one_of (paths c) p && not (is_key_field (key ks ∷ e ∷ p)))
 child-left ks e c t stays is h [] = h.root ∙ is
 child-left ks e c t stays is h (f ∷ p) = h.below f p ∙ ap (λ b. is_one_of (paths c) (f ∷ p) && not b) (key_field-keys e f p)
@@ -56,9 +60,13 @@ child-left ks e c t stays is h (f ∷ p) = h.below f p ∙ ap (λ b. is_one_of (
 
 -- those of the children's paths that pass the test
 pub record IsLeft (test : Path → Bool) (cs us : Children) : Type 0 where
+  -- their paths are those that pass
   pub paths_are : (e : Element) (p : Path) → is_one_of (paths_below us) (e ∷ p) ≡ (is_one_of (paths_below cs) (e ∷ p) && test (e ∷ p))
+  -- their elements rise
   pub risen : rises (elements us) ≡ true
+  -- each is a trie with some path
   pub tries : are_filled_tries us ≡ true
+  -- what is below the children's elements is below theirs
   pub lower : (e : Element) → is_below e (elements cs) ≡ true → is_below e (elements us) ≡ true
 
 left-none : (test : Path → Bool) → IsLeft test [] []
@@ -78,14 +86,18 @@ front true true a t u h = ap (λ b. b || (a && u)) (h refl) ∙ more u
         none false = refl
 front true false a t u h = refl
 
-module _ (test : Path → Bool) (c : Elem × Trie) (t : Trie) (cs us : Children) (made : (p : Path) → is_one_of (paths t) p ≡ (is_one_of (paths c.1) p && test (element_view c.0 ∷ p))) (h : IsLeft test cs us) where
-  fronted : (e : Element) (p : Path) → ((same_element e (element_view c.0) && is_one_of (paths t) p) || is_one_of (paths_below us) (e ∷ p)) ≡ (is_one_of (paths_below (c ∷ cs)) (e ∷ p) && test (e ∷ p))
+module _ (test : Path → Bool) (c : Elem × Trie) (t : Trie) (cs us : Children) (made : (p : Path)
+    → is_one_of (paths t) p ≡ (is_one_of (paths c.1) p && test (element_view c.0 ∷ p))) (h : IsLeft test cs us) where
+  fronted : (e : Element) (p : Path) → ((same_element e (element_view c.0) && is_one_of (paths t) p) || is_one_of (paths_below us) (e ∷ p))
+      ≡ (is_one_of (paths_below (c ∷ cs)) (e ∷ p) && test (e ∷ p))
   fronted e p =
       (λ i. (same_element e (element_view c.0) && made p i) || h.paths_are e p i)
-      ∙ front (same_element e (element_view c.0)) (is_one_of (paths c.1) p) (is_one_of (paths_below cs) (e ∷ p)) _ _ (λ s. ap (λ f. test (f ∷ p)) (sym (same_element-true e (element_view c.0) s)))
+      ∙ front (same_element e (element_view c.0)) (is_one_of (paths c.1) p) (is_one_of (paths_below cs) (e ∷ p)) _ _
+      (λ s. ap (λ f. test (f ∷ p)) (sym (same_element-true e (element_view c.0) s)))
       ∙ ap (λ b. b && test (e ∷ p)) (sym (any-child same_path same_path-reading e c cs p))
 
-  left-kept : (d : Elem) → rises (elements (c ∷ cs)) ≡ true → element_view d ≡ element_view c.0 → is_trie t ≡ true → is_filled t ≡ true → IsLeft test (c ∷ cs) ((d, t) ∷ us)
+  left-kept : (d : Elem) → rises (elements (c ∷ cs)) ≡ true → element_view d ≡ element_view c.0 → is_trie t ≡ true → is_filled t ≡ true
+      → IsLeft test (c ∷ cs) ((d, t) ∷ us)
   left-kept d rise is trie filled = record {
     paths_are = λ e p. holds-first (d, t) us (element_view c.0) e p is ∙ fronted e p;
     risen = both _ _ (ap (λ g. is_below g (elements us)) is ∙ h.lower (element_view c.0) (both_first _ _ rise)) h.risen;
@@ -95,7 +107,8 @@ module _ (test : Path → Bool) (c : Elem × Trie) (t : Trie) (cs us : Children)
 
   left-dropped : is_filled t ≡ false → IsLeft test (c ∷ cs) us
   left-dropped none = record {
-    paths_are = λ e p. sym (gone (same_element e (element_view c.0)) (is_one_of (paths_below us) (e ∷ p))) ∙ ap (λ ps. (same_element e (element_view c.0) && is_one_of ps p) || is_one_of (paths_below us) (e ∷ p)) (sym (some-none (paths t) none)) ∙ fronted e p;
+    paths_are = λ e p. sym (gone (same_element e (element_view c.0)) (is_one_of (paths_below us) (e ∷ p)))
+        ∙ ap (λ ps. (same_element e (element_view c.0) && is_one_of ps p) || is_one_of (paths_below us) (e ∷ p)) (sym (some-none (paths t) none)) ∙ fronted e p;
     risen = h.risen;
     tries = h.tries;
     lower = λ e a. h.lower e (both_second _ _ a);
@@ -109,25 +122,33 @@ module _ (test : Path → Bool) (c : Elem × Trie) (t : Trie) (cs us : Children)
 
 -- whatever is left of the rest of the children, behind what was left so far it is left of all
 pub record IsLeaving (test : Path → Bool) (all cs out : Children) : Type 0 where
+  -- the rest rises
   pub rise : rises (elements cs) ≡ true
+  -- each of the rest is a trie with some path
   pub tries : are_filled_tries cs ≡ true
+  -- what passes of the rest, behind what is there, is what passes of all
   pub rest : (us : Children) → IsLeft test cs us → IsLeft test all (out ++ us)
 
+-- before the walk all children of the trie are left
 pub leaving-none : (test : Path → Bool) (t : Trie) (cs : Children) → cs ≡ (out-Trie t).below.items → is_trie t ≡ true → IsLeaving test cs cs []
 leaving-none test t cs is trie =
     let parts = trie-parts t cs is trie in
     record { rise = parts.0; tries = parts.1; rest = λ us h. h }
 
-grown-cases : (filled : Bool) (test : Path → Bool) (all : Children) (c : Elem × Trie) (cs out new : Children) (t : Trie) → is_filled t ≡ filled → is_trie t ≡ true
+grown-cases : (filled : Bool) (test : Path → Bool) (all : Children) (c : Elem × Trie) (cs out new : Children) (t : Trie) → is_filled t ≡ filled
+    → is_trie t ≡ true
     → ((p : Path) → is_one_of (paths t) p ≡ (is_one_of (paths c.1) p && test (element_view c.0 ∷ p)))
     → MatchBool filled ((d : Elem) × (element_view d ≡ element_view c.0) × (new ≡ out ++ (d, t) ∷ [])) (new ≡ out)
     → IsLeaving test all (c ∷ cs) out → (us : Children) → IsLeft test cs us → IsLeft test all (new ++ us)
 grown-cases true test all c cs out new t is trie made (d, same, items) h us g =
-    let longer = subst (IsLeft test all) (sym (append_assoc out ((d, t) ∷ []) us)) (h.rest ((d, t) ∷ us) (left-kept test c t cs us made g d h.rise same trie is)) in
+    let longer = subst (IsLeft test all) (sym (append_assoc out ((d, t) ∷ []) us))
+    (h.rest ((d, t) ∷ us) (left-kept test c t cs us made g d h.rise same trie is)) in
     rw items longer
 grown-cases false test all c cs out new t is trie made items h us g = rw items (h.rest us (left-dropped test c t cs us made g is))
 
-pub leaving-more : (test : Path → Bool) (all : Children) (i : ℕ) (c : Elem × Trie) (out new : Children) (t : Trie) → i < length all → c ≡ get_or all i c → is_trie t ≡ true
+-- the next child is passed, with what passes of it where that is some path
+pub leaving-more : (test : Path → Bool) (all : Children) (i : ℕ) (c : Elem × Trie) (out new : Children) (t : Trie) → i < length all → c ≡ get_or all i c
+    → is_trie t ≡ true
     → ((p : Path) → is_one_of (paths t) p ≡ (is_one_of (paths c.1) p && test (element_view c.0 ∷ p)))
     → IsGrown (element_view c.0) t out new → IsLeaving test all (drop i all) out → IsLeaving test all (drop (i + 1) all) new
 leaving-more test all i c out new t lt is trie made grown was =
@@ -138,6 +159,7 @@ leaving-more test all i c out new t lt is trie made grown was =
       rest = grown-cases (is_filled t) test all c (drop (i + 1) all) out new t refl trie made grown h;
     }
 
+-- behind the last child, what is there is what passes of all
 pub leaving-all : (test : Path → Bool) (all : Children) (i : ℕ) (out : Children) → length all ≤ i → IsLeaving test all (drop i all) out → IsLeft test all out
 leaving-all test all i out le h =
     let none : IsLeft test (drop i all) [] = subst (λ l. IsLeft test l []) (sym (drop_all i all le)) (left-none test) in
@@ -145,17 +167,21 @@ leaving-all test all i out le h =
 
 -- ---- a place over what is left below
 
-pub left-place : (ks : Members) (own : Trie) (x : Trie-F Trie) (cs : Children) → cs ≡ (out-Trie own).below.items → IsLeft (λ p. not (is_key_field (key ks ∷ p))) cs x.below.items → IsWithoutKeyFields ks own x.here (roll-Trie x)
+-- a place that stays or goes, with what is left of its children, makes the trie without key fields
+pub left-place : (ks : Members) (own : Trie) (x : Trie-F Trie) (cs : Children) → cs ≡ (out-Trie own).below.items
+    → IsLeft (λ p. not (is_key_field (key ks ∷ p))) cs x.below.items → IsWithoutKeyFields ks own x.here (roll-Trie x)
 left-place ks own x cs is h = record {
   root = one-made-root x;
   below = λ e p.
       any-made same_path same_path-reading x e p ∙ h.paths_are e p
-      ∙ ap (λ b. b && not (is_key_field (key ks ∷ e ∷ p))) (ap (λ l. is_one_of (paths_below l) (e ∷ p)) is ∙ sym (any-level same_path same_path-reading own e p));
+      ∙ ap (λ b. b && not (is_key_field (key ks ∷ e ∷ p))) (ap (λ l. is_one_of (paths_below l) (e ∷ p)) is
+      ∙ sym (any-level same_path same_path-reading own e p));
   trie = is_trie-made x h.risen h.tries;
 }
 
 -- the whole trie, which stands at no item
-pub root-left : (own t : Trie) → IsWithoutKeyFields [] own (out-Trie own).here t → (p : Path) → is_one_of (paths t) p ≡ (is_one_of (paths own) p && not (is_key_field p))
+pub root-left : (own t : Trie) → IsWithoutKeyFields [] own (out-Trie own).here t → (p : Path)
+    → is_one_of (paths t) p ≡ (is_one_of (paths own) p && not (is_key_field p))
 root-left own t h [] = h.root ∙ sym (one-level-root own) ∙ and_true _
   where
     and_true : (b : Bool) → b ≡ (b && true)

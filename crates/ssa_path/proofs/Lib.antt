@@ -12,6 +12,7 @@ pub mod Numbers
 pub mod Orders
 pub mod Parts
 pub mod Readings
+pub mod Removing
 pub mod Searching
 pub mod Sameness
 pub mod Sets

@@ -16,8 +16,11 @@ use Rattle.ssa_path.specs.View.{element_view}
 use Rattle.ssa_path.specs.Trie.{is_one_of, paths, paths_after, paths_below, has_some, is_trie, is_filled, Exceeds, IsWithin}
 use Rattle.ssa_path.proofs.Levels.{any-after, any-below, any-level, found, one-level-root, same_path-reading, trie-parts}
 use Rattle.ssa_path.proofs.Lists.{one-between, parted, taken-at, paths_below-append}
-use Rattle.ssa_path.proofs.Sets.{has-listed}
-use Rattle.ssa_path.proofs.Orders.{and_false, both, both_first, both_second, or_false, same_element-itself, same_element-true}
+use Rattle.ssa_path.proofs.Orders.{both_first, both_second}
+use Rattle.ssa_model.proofs.Tables.{element-itself as same_element-itself}
+use Rattle.ssa_model.proofs.Fitting.{same_element-true}
+use Rattle.ssa_model.proofs.Lists.{has-listed}
+use Rattle.ssa_model.proofs.Basics.{and-false as and_false, or-false as or_false, both-true as both}
 
 -- each path of these children is one of the others' too
 abbrev pub AreWithin : List (Elem × Trie) → List (Elem × Trie) → Type 0
@@ -28,7 +31,8 @@ in-child : (e f : Element) (ps : List Path) (p : Path) → is_one_of (paths_afte
 in-child = any-after same_path same_path-reading
 
 -- the others' child of an element has what they have behind it
-at-child : (e : Element) (ds : List (Elem × Trie)) (place : Trie) (p : Path) → rises (elements ds) ≡ true → child_at e ds ≡ Some place → is_one_of (paths_below ds) (e ∷ p) ≡ is_one_of (paths place) p
+at-child : (e : Element) (ds : List (Elem × Trie)) (place : Trie) (p : Path) → rises (elements ds) ≡ true → child_at e ds ≡ Some place
+    → is_one_of (paths_below ds) (e ∷ p) ≡ is_one_of (paths place) p
 at-child e ds place p rise at = any-below same_path same_path-reading e ds p rise ∙ ap (λ x. found same_path x p) at
 
 or-by : (a b : Bool) (Q : Type 0) → (a || b) ≡ true → (a ≡ true → Q) → (b ≡ true → Q) → Q
@@ -57,23 +61,27 @@ child-has t cs i c p below lt is has =
     ∙ one-between (take i cs) (drop (i + 1) cs) c (e ∷ p)
     ∙ ap (λ b. b || is_one_of (paths_below (take i cs ++ drop (i + 1) cs)) (e ∷ p)) (in-child e e (paths c.1) p ∙ both _ _ (same_element-itself e) has)
 
-some-path : (ps : List Path) → has_some ps ≡ true → (p : Path) × (is_one_of ps p ≡ true)
+-- where there are paths, there is one of them
+pub some-path : (ps : List Path) → has_some ps ≡ true → (p : Path) × (is_one_of ps p ≡ true)
 some-path [] h = absurd (true≢false (sym h))
 some-path (p ∷ ps) h = (p, ap (λ b. b || is_one_of ps p) (same_path-itself p))
 
 -- a child of an element that the others have not has a path that they have not
-pub exceeds-none : (t o : Trie) (cs : List (Elem × Trie)) (i : ℕ) (c : Elem × Trie) → cs ≡ (out-Trie t).below.items → i < length cs → c ≡ get_or cs i c → is_filled c.1 ≡ true → is_trie o ≡ true
+pub exceeds-none : (t o : Trie) (cs : List (Elem × Trie)) (i : ℕ) (c : Elem × Trie) → cs ≡ (out-Trie t).below.items → i < length cs → c ≡ get_or cs i c
+    → is_filled c.1 ≡ true → is_trie o ≡ true
     → child_at (element_view c.0) (out-Trie o).below.items ≡ None → Exceeds (paths t) (paths o)
 exceeds-none t o cs i c below lt is filled trie none =
     let e = element_view c.0 in
     let some = some-path (paths c.1) filled in (
       e ∷ some.0,
       child-has t cs i c some.0 below lt is some.1,
-      any-level same_path same_path-reading o e some.0 ∙ any-below same_path same_path-reading e (out-Trie o).below.items some.0 (trie-parts o _ refl trie).0 ∙ ap (λ x. found same_path x some.0) none,
+      any-level same_path same_path-reading o e some.0 ∙ any-below same_path same_path-reading e (out-Trie o).below.items some.0 (trie-parts o _ refl trie).0
+          ∙ ap (λ x. found same_path x some.0) none,
     )
 
 -- and so has one that has more than theirs
-pub exceeds-child : (t o : Trie) (cs : List (Elem × Trie)) (i : ℕ) (c : Elem × Trie) (place : Trie) → cs ≡ (out-Trie t).below.items → i < length cs → c ≡ get_or cs i c → is_trie o ≡ true
+pub exceeds-child : (t o : Trie) (cs : List (Elem × Trie)) (i : ℕ) (c : Elem × Trie) (place : Trie) → cs ≡ (out-Trie t).below.items → i < length cs
+    → c ≡ get_or cs i c → is_trie o ≡ true
     → child_at (element_view c.0) (out-Trie o).below.items ≡ Some place → Exceeds (paths c.1) (paths place) → Exceeds (paths t) (paths o)
 exceeds-child t o cs i c place below lt is trie at more =
     let e = element_view c.0 in (
@@ -102,7 +110,8 @@ and-not true b h = ap not (h refl)
 and-not false b h = refl
 
 -- one trie lies within another where nothing is left of its paths without the other's
-pub within-empty : (m n : Trie) (b : Bool) → MatchBool b (IsWithin (paths m) (paths n)) (Exceeds (paths m) (paths n)) → b ≡ is_empty (minus (listed (paths m)) (listed (paths n)))
+pub within-empty : (m n : Trie) (b : Bool) → MatchBool b (IsWithin (paths m) (paths n)) (Exceeds (paths m) (paths n))
+    → b ≡ is_empty (minus (listed (paths m)) (listed (paths n)))
 within-empty m n true h =
     sym (no-path (minus (listed (paths m)) (listed (paths n))) (λ p.
     has-minus (listed (paths m)) (listed (paths n)) p

@@ -9,6 +9,7 @@ use Rattle.ssa_json.proofs.Printing.{decimal-is}
 use Rattle.ssa_path.proofs.Parts.{text_cmp, AreWords, cmp-words}
 use Rattle.std.specs.Ordering.{ordering_then}
 use Rattle.ssa_path.proofs.Escapes.{quoted-words, words-append}
+use Rattle.ssa_path.proofs.Orders.{both_first, both_second}
 
 -- ---- the first byte of a number
 
@@ -23,7 +24,8 @@ low-digit d r h = grind (arith, nat_tests)
 low-digits : (most n : ℕ) (r : List ℕ) → starts_low r ≡ true → starts_low (digits_before most n r) ≡ true
 low-digits zero n r h = h
 low-digits (suc most) n r h =
-    elim (nat_lt n 10) as (λ t. nat_lt n 10 ≡ t → starts_low (elim t [ true ↦ (48 + n) ∷ r | false ↦ digits_before most (n / 10) ((48 + n % 10) ∷ r) ]) ≡ true) [
+    elim (nat_lt n 10) as (λ t. nat_lt n 10 ≡ t → starts_low (elim t [ true ↦ (48 + n) ∷ r | false ↦ digits_before most (n / 10) ((48 + n % 10) ∷ r) ])
+    ≡ true) [
       | true ↦ λ t. low-digit n r (ltb-true n 10 t)
       | false ↦ λ t. low-digits most (n / 10) ((48 + n % 10) ∷ r) (low-digit (n % 10) r (omega arith))
     ] refl
@@ -39,17 +41,10 @@ low-append : (a r : List ℕ) → starts_low a ≡ true → starts_low (a ++ r) 
 low-append [] r h = absurd (true≢false (sym h))
 low-append (b ∷ a) r h = h
 
+-- the text of a whole number starts low
 pub low-whole : (z : ℤ) (r : List ℕ) → starts_low (whole_text z ++ r) ≡ true
 low-whole (pos n) r = low-append (decimal n) r (low-decimal n)
 low-whole (negsuc n) r = refl
-
-both_first : (a b : Bool) → (a && b) ≡ true → a ≡ true
-both_first true b e = refl
-both_first false b e = e
-
-both_second : (a b : Bool) → (a && b) ≡ true → b ≡ true
-both_second true b e = e
-both_second false b e = absurd (true≢false (sym e))
 
 first-below : (x y : ℕ) (a b : List ℕ) → nat_lt x y ≡ true → text_cmp (x ∷ a) (y ∷ b) ≡ Less
 first-below x y a b h = let e : nat_lt x y ≡ true = h in rw e
@@ -65,6 +60,7 @@ pub quote-low : (a v : List ℕ) → starts_low v ≡ true → text_cmp (34 ∷ 
 quote-low a [] h = absurd (true≢false (sym h))
 quote-low a (b ∷ v) h = first-below 34 b a v (both_first (nat_lt 34 b) (nat_lt b 102) h)
 
+-- what starts low stands behind a quote
 pub low-quote : (a v : List ℕ) → starts_low v ≡ true → text_cmp v (34 ∷ a) ≡ Greater
 low-quote a [] h = absurd (true≢false (sym h))
 low-quote a (b ∷ v) h = first-above b 34 v a (both_first (nat_lt 34 b) (nat_lt b 102) h)
@@ -77,12 +73,14 @@ pub low-letter : (x : ℕ) (a v : List ℕ) → nat_lt 101 x ≡ true → starts
 low-letter x a [] g h = absurd (true≢false (sym h))
 low-letter x a (b ∷ v) g h = first-below b x v a (letter_more b x (both_second (nat_lt 34 b) (nat_lt b 102) h) g)
 
+-- the letters of the truth values stand behind what starts low
 pub letter-low : (x : ℕ) (a v : List ℕ) → nat_lt 101 x ≡ true → starts_low v ≡ true → text_cmp (x ∷ a) v ≡ Greater
 letter-low x a [] g h = absurd (true≢false (sym h))
 letter-low x a (b ∷ v) g h = first-above x b a v (letter_more b x (both_second (nat_lt 34 b) (nat_lt b 102) h) g)
 
 -- ---- a scalar with what ends it in an object
 
+-- a comma or a closing brace
 abbrev pub is_end : ℕ → Bool
 is_end b = (b == 44) || (b == 125)
 
@@ -157,32 +155,40 @@ scalar-words (truth a) (whole b) t u d e = plain-words (scalar_text (truth a)) (
 scalar-words (text a) (whole b) t u d e = λ r s q. apart ((quoted a ++ t ∷ []) ++ r) ((whole_text b ++ u ∷ []) ++ s) refl (whole-no_quote b u s) q
 scalar-words (text a) (truth b) t u d e = λ r s q. apart ((quoted a ++ t ∷ []) ++ r) ((scalar_text (truth b) ++ u ∷ []) ++ s) refl (truth-no_quote b u s) q
 scalar-words (whole a) (text b) t u d e = λ r s q. apart ((quoted b ++ u ∷ []) ++ s) ((whole_text a ++ t ∷ []) ++ r) refl (whole-no_quote a t r) (sym q)
-scalar-words (truth a) (text b) t u d e = λ r s q. apart ((quoted b ++ u ∷ []) ++ s) ((scalar_text (truth a) ++ t ∷ []) ++ r) refl (truth-no_quote a t r) (sym q)
+scalar-words (truth a) (text b) t u d e = λ r s q. apart ((quoted b ++ u ∷ []) ++ s) ((scalar_text (truth a) ++ t ∷ []) ++ r) refl (truth-no_quote a t r)
+    (sym q)
 
 -- ---- what the code writes of a number
 
+-- a whole number of 64 bits is written as its text
 pub whole-is : (z : ℤ) → FitsSigned w64 z → signed_decimal z ≡ whole_text z
 whole-is (pos n) h = let fits = h.sfits in decimal-is n (omega arith)
 whole-is (negsuc n) h = let fits = h.sfits in ap (λ ds. 45 ∷ ds) (decimal-is (suc n) (omega arith))
 
+-- so it is when it is taken from its 64 bits
 pub written-is : (z : ℤ) → FitsSigned w64 z → signed_decimal (to_z w64 (of_z w64 z)) ≡ whole_text z
 written-is z h = ap signed_decimal (to_z-of_z w64 z h) ∙ whole-is z h
 
 -- ---- how scalars of different sorts compare
 
+-- quoted texts decide, and then what follows them
 pub quoted-cmp : (a b e f : List ℕ) → text_cmp (quoted a ++ e) (quoted b ++ f) ≡ ordering_then (text_cmp (quoted a) (quoted b)) (text_cmp e f)
 quoted-cmp a b e f = cmp-words (quoted a) (quoted b) e f (quoted-words a b)
 
+-- a number stands before a truth value, whatever follows
 pub number-before : (z : ℤ) (b : Bool) (e f : List ℕ) → text_cmp (scalar_text (whole z) ++ e) (scalar_text (truth b) ++ f) ≡ Less
 number-before z true e f = low-letter 116 (codes "rue" ++ f) (whole_text z ++ e) refl (low-whole z e)
 number-before z false e f = low-letter 102 (codes "alse" ++ f) (whole_text z ++ e) refl (low-whole z e)
 
+-- a truth value stands behind a number, whatever follows
 pub number-behind : (z : ℤ) (b : Bool) (e f : List ℕ) → text_cmp (scalar_text (truth b) ++ e) (scalar_text (whole z) ++ f) ≡ Greater
 number-behind z true e f = letter-low 116 (codes "rue" ++ e) (whole_text z ++ f) refl (low-whole z f)
 number-behind z false e f = letter-low 102 (codes "alse" ++ e) (whole_text z ++ f) refl (low-whole z f)
 
+-- a text stands before a number, whatever follows
 pub text-number : (a : List ℕ) (z : ℤ) (e f : List ℕ) → text_cmp (quoted a ++ e) (scalar_text (whole z) ++ f) ≡ Less
 text-number a z e f = quote-low ((escaped a ++ 34 ∷ []) ++ e) (whole_text z ++ f) (low-whole z f)
 
+-- a number stands behind a text, whatever follows
 pub number-text : (z : ℤ) (b e f : List ℕ) → text_cmp (scalar_text (whole z) ++ e) (quoted b ++ f) ≡ Greater
 number-text z b e f = low-quote ((escaped b ++ 34 ∷ []) ++ f) (whole_text z ++ e) (low-whole z e)

@@ -42,7 +42,8 @@ key_of-members (k ∷ ks) = ap (option_map (λ ls. k ∷ ls)) (key_of-members ks
 scalar-read : (s : Scalar) → IsElementOfProgram (value s) → json_reading (scalar_text s) ≡ Ok (scalar s)
 scalar-read s h = compact-is-read (scalar s) (record { of_program = record { narrow = h.narrow; texts = h.texts; names = refl }; shallow = omega arith })
 
-keys-read : (ks : Members) → names_rise ks ≡ true → IsElementOfProgram (key ks) → json_reading (compact (object (key_members ks))) ≡ Ok (object (key_members ks))
+keys-read : (ks : Members) → names_rise ks ≡ true → IsElementOfProgram (key ks)
+    → json_reading (compact (object (key_members ks))) ≡ Ok (object (key_members ks))
 keys-read ks rise h =
     compact-is-read (object (key_members ks))
     (record { of_program = record { narrow = h.narrow; texts = h.texts; names = rising ks rise }; shallow = omega (arith, flat-members ks) })
@@ -55,7 +56,8 @@ spelled (value s) h = ap value_element (scalar-read s h)
 spelled (key []) h = let never : false ≡ true = h.lawful in cc
 spelled (key (k ∷ ks)) h = ap key_element (keys-read (k ∷ ks) (and_parts (names_rise (k ∷ ks)) _ h.lawful).0 h) ∙ ap (option_map key) (key_of-members (k ∷ ks))
 
-own-if-spelled : (e : Element) → is_index (element_text e) ≡ false → spelled_element json_reading (element_text e) ≡ Some e → element_of json_reading (element_text e) ≡ Ok e
+own-if-spelled : (e : Element) → is_index (element_text e) ≡ false → spelled_element json_reading (element_text e) ≡ Some e
+    → element_of json_reading (element_text e) ≡ Ok e
 own-if-spelled e no_index is = rw (no_index, is, same_text-itself (element_text e)) refl
 
 no-index : (e : Element) → is_index (element_text e) ≡ false
@@ -63,15 +65,18 @@ no-index (field n) = refl
 no-index (key ks) = refl
 no-index (value s) = refl
 
+-- the own text of an element of the program is read as the element
 pub own-text-is-read : (e : Element) → IsElementOfProgram e → element_of json_reading (element_text e) ≡ Ok e
 own-text-is-read e h = own-if-spelled e (no-index e) (spelled e h)
 
 -- ---- the program's elements
 
+-- the whole numbers of these key fields have 64 bits
 abbrev pub are_narrow : Fields → Bool
 are_narrow ks = members_narrow (key_members (members_view ks))
 
-are_narrow-push : (ks : Fields) (k : String Global × json.Scalar) → are_narrow ks ≡ true → is_narrow_scalar (scalar_view k.1) ≡ true → are_narrow (ks ++ k ∷ []) ≡ true
+are_narrow-push : (ks : Fields) (k : String Global × json.Scalar) → are_narrow ks ≡ true → is_narrow_scalar (scalar_view k.1) ≡ true
+    → are_narrow (ks ++ k ∷ []) ≡ true
 are_narrow-push [] k before here = and_from (is_narrow_scalar (scalar_view k.1)) true here refl
 are_narrow-push (first ∷ ks) k before here =
     let parts = and_parts (is_narrow_scalar (scalar_view first.1)) (are_narrow ks) before in
@@ -88,6 +93,7 @@ scalar-is-utf8 (TextOf t) = string_is_utf8 t
 scalar-is-utf8 (Int n) = refl
 scalar-is-utf8 (BoolOf b) = refl
 
+-- the names and texts of the program's key fields are UTF-8
 pub texts-are-utf8 : (ks : Fields) → members_have_utf8 (key_members (members_view ks)) ≡ true
 texts-are-utf8 [] = refl
 texts-are-utf8 (k ∷ ks) =
@@ -147,6 +153,7 @@ element-of-program (value s) h = record { lawful = h; narrow = narrow-in-range s
 pub field-of-program : (n : String Global) → IsElementOfProgram (field (string_bytes n))
 field-of-program n = record { lawful = string_is_utf8 n; narrow = refl; texts = string_is_utf8 n }
 
+-- the value of a scalar of 64 bits is an element of the program
 pub value-of-program : (s : json.Scalar) → is_narrow_scalar (scalar_view s) ≡ true → IsElementOfProgram (value (scalar_view s))
 value-of-program s narrow = record { lawful = in-range (scalar_view s) narrow (scalar-is-utf8 s); narrow = narrow; texts = scalar-is-utf8 s }
 
@@ -160,6 +167,7 @@ lawful-keys : (ks : Members) → are_keys ks ≡ true → are_in_range ks ≡ tr
 lawful-keys [] h range = h
 lawful-keys (k ∷ ks) h range = and_from _ _ (rise-from-after k ks h) range
 
+-- key fields whose names rise, with numbers of 64 bits, are an element of the program
 pub key-of-program : (keys : Members) (ks : Fields) → members_view ks ≡ keys → are_keys keys ≡ true → are_narrow ks ≡ true → IsElementOfProgram (key keys)
 key-of-program keys ks same rise narrow =
     let small = ap (λ l. members_narrow (key_members l)) (sym same) ∙ narrow in

@@ -3,26 +3,15 @@ use Rattle.std.proofs.Common.{◌≡◌, ℕ, List, [], ◌∷◌, ◌++◌, Ord
 use Rattle.std.specs.Ordering.{nat_cmp, ordering_then}
 use Rattle.std.specs.Cmp.Lexicographic.{slice_cmp}
 use Rattle.std.specs.FinMap.{nat_cmp-IsAntisymmetric}
+use Rattle.ssa_model.proofs.Basics.{same-tails as tails, then_none}
 
+-- texts in the order of their bytes
 abbrev pub text_cmp : List ℕ → List ℕ → Ordering
 text_cmp = slice_cmp nat_cmp
-
-pub then_assoc : (o q r : Ordering) → ordering_then (ordering_then o q) r ≡ ordering_then o (ordering_then q r)
-then_assoc Less q r = refl
-then_assoc Equal q r = refl
-then_assoc Greater q r = refl
-
-pub then_none : (o : Ordering) → ordering_then o Equal ≡ o
-then_none Less = refl
-then_none Equal = refl
-then_none Greater = refl
 
 -- whatever follows them, the texts agree only where these beginnings are one
 abbrev pub AreWords : List ℕ → List ℕ → Type 0
 AreWords a b = (r s : List ℕ) → a ++ r ≡ b ++ s → a ≡ b
-
-pub tails : (x y : ℕ) (u v : List ℕ) → x ∷ u ≡ y ∷ v → u ≡ v
-tails x y u v e = cc
 
 none_first : (y : ℕ) (b : List ℕ) → [] ≡ y ∷ b → ⊥
 none_first y b e = cc

@@ -38,7 +38,8 @@ begins [] rest = refl
 begins (b ∷ p) rest = rw (same-nat b) (begins p rest)
 
 -- what `strip_prefix` answers
-pub stripped : (p s : Text) (r : Option (Bor Text)) → MatchOption r (FindsTextPrefix p s None) (λ x. StripsPrefix (FindsTextPrefix p) s x.now) → option_map (λ x. x.now) r ≡ after_beginning p s
+pub stripped : (p s : Text) (r : Option (Bor Text)) → MatchOption r (FindsTextPrefix p s None) (λ x. StripsPrefix (FindsTextPrefix p) s x.now)
+    → option_map (λ x. x.now) r ≡ after_beginning p s
 stripped p s None h = sym (lacks p s h)
 stripped p s (Some x) h = sym (ap (after_beginning p) (h.1.1 ∙ ap (λ t. p ++ t) (sym h.2)) ∙ begins p x.now)
 
@@ -48,10 +49,7 @@ stripped p s (Some x) h = sym (ap (after_beginning p) (h.1.1 ∙ ap (λ t. p ++ 
 abbrev pub with_keys : Members → Option Members → Option Members
 with_keys front rest = option_map (λ ks. front ++ ks) rest
 
-pub with_keys-none : (o : Option Members) → o ≡ with_keys [] o
-with_keys-none None = refl
-with_keys-none (Some ks) = refl
-
+-- where no member is left, the keys so far are all
 pub with_keys-all : (front : Members) → with_keys front (Some []) ≡ Some front
 with_keys-all front = ap Some (append-nil front)
 
@@ -59,11 +57,6 @@ add_key-scalar : (n : Text) (v : model.Json) (s : model.Scalar) (o : Option Memb
 add_key-scalar n (scalar t) s o e = let same : t ≡ s = cc in ap (λ u. option_map (λ ks. (n, u) ∷ ks) o) same
 add_key-scalar n (list vs) s o e = cc
 add_key-scalar n (object ms) s o e = cc
-
-add_key-other : (n : Text) (v : model.Json) (o : Option Members) → as_scalar v ≡ None → add_key n v o ≡ None
-add_key-other n (scalar t) o e = cc
-add_key-other n (list vs) o e = refl
-add_key-other n (object ms) o e = refl
 
 moved : (front : Members) (m : Text × model.Scalar) (o : Option Members) → with_keys front (option_map (λ ks. m ∷ ks) o) ≡ with_keys (front ++ m ∷ []) o
 moved front m None = refl
@@ -73,13 +66,6 @@ moved front m (Some ks) = ap Some (sym (append_assoc front (m ∷ []) ks))
 pub with_keys-more : (front : Members) (n : Text) (v : model.Json) (s : model.Scalar) (ms : model.Members) → as_scalar v ≡ Some s
     → with_keys front (key_of (member n v ms)) ≡ with_keys (front ++ (n, s) ∷ []) (key_of ms)
 with_keys-more front n v s ms e = ap (with_keys front) (add_key-scalar n v s (key_of ms) e) ∙ moved front (n, s) (key_of ms)
-
-pub with_keys-other : (front : Members) (n : Text) (v : model.Json) (ms : model.Members) → as_scalar v ≡ None → with_keys front (key_of (member n v ms)) ≡ None
-with_keys-other front n v ms e = ap (with_keys front) (add_key-other n v (key_of ms) e)
-
-pub key_element-other : (ms : model.Members) → key_of ms ≡ None → key_element (Ok (object ms)) ≡ None
-key_element-other no_members e = refl
-key_element-other (member n v ms) e = ap (option_map key) e
 
 -- ---- the names of a map's members rise
 
@@ -96,16 +82,19 @@ added n (scalar s) None ks e = cc
 added n (list vs) o ks e = cc
 added n (object ms) o ks e = cc
 
-rise-after : (e : String Global × Json) (es : List (String Global × Json)) (ks : Members) → IsStrictlySortedBy string_cmp (maps.keys_of (e ∷ es)) → key_of (members_view es) ≡ Some ks → names_rise_after (string_bytes e.0) ks ≡ true
+rise-after : (e : String Global × Json) (es : List (String Global × Json)) (ks : Members) → IsStrictlySortedBy string_cmp (maps.keys_of (e ∷ es))
+    → key_of (members_view es) ≡ Some ks → names_rise_after (string_bytes e.0) ks ≡ true
 unfolding IsStrictlySortedBy
 rise-after e [] ks h is = let none : [] ≡ ks = cc in ap (names_rise_after (string_bytes e.0)) (sym none)
 rise-after e (f ∷ es) ks h is =
     let a = added (string_bytes f.0) (view f.1) (key_of (members_view es)) ks is in
     ap (names_rise_after (string_bytes e.0)) a.keys
-    ∙ and_from (is_lt (slice_cmp nat_cmp (string_bytes e.0) (string_bytes f.0))) (names_rise_after (string_bytes f.0) a.rest) (ap is_lt h.0.0) (rise-after f es a.rest h.1 a.others)
+    ∙ and_from (is_lt (slice_cmp nat_cmp (string_bytes e.0) (string_bytes f.0))) (names_rise_after (string_bytes f.0) a.rest) (ap is_lt h.0.0)
+    (rise-after f es a.rest h.1 a.others)
 
 -- the scalars of a map are keys where there is one
-pub key_element-sorted : (es : List (String Global × Json)) (ks : Members) → IsStrictlySortedBy string_cmp (maps.keys_of es) → key_of (members_view es) ≡ Some ks
+pub key_element-sorted : (es : List (String Global × Json)) (ks : Members) → IsStrictlySortedBy string_cmp (maps.keys_of es)
+    → key_of (members_view es) ≡ Some ks
     → option_map key (keys_of ks) ≡ key_element (Ok (object (members_view es)))
 unfolding IsStrictlySortedBy
 key_element-sorted [] ks h is = let none : [] ≡ ks = cc in ap (λ l. option_map key (keys_of l)) (sym none)

@@ -23,6 +23,7 @@ abbrev keys_in : Element → Members
 keys_in (key ks) = ks
 keys_in _ = []
 
+-- two scalars are the same where their elements are
 pub same_values : (s t : Scalar) → same_scalar s t ≡ same_element (value s) (value t)
 same_values s t =
     agree (same_scalar s t) (value s) (value t) (λ h. ap value (same_scalar-true s t h))
@@ -36,6 +37,7 @@ same_key-true k j h =
 same_key-itself : (k : Text × Scalar) → same_key k k ≡ true
 same_key-itself k = λ i. text-itself k.0 i && same_scalar-itself k.1 i
 
+-- key fields are the same, one by one, where their elements are
 pub same_keys : (ks js : Members) → pointwise same_key ks js ≡ same_element (key ks) (key js)
 same_keys ks js =
     agree (pointwise same_key ks js) (key ks) (key js) (λ h. ap key (pointwise-true same_key same_key-true ks js h))

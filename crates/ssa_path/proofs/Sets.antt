@@ -13,18 +13,12 @@ use Rattle.ssa_path.specs.Trie.{has_some, is_one_of, paths}
 use Rattle.ssa_path.specs.declared.combine.Combination.{Combination}
 use Rattle.ssa_path.specs.declared.combine.Combination.TheVariants.{Union, Minus, Meet, WithoutUnder, WithoutOver}
 use Rattle.ssa_path.specs.declared.trie.Trie.{Trie}
-
-some_or : (b : Bool) (o : Option (Unit {0})) → is_some (cond b (Some tt) o) ≡ (b || is_some o)
-some_or true o = refl
-some_or false o = refl
+use Rattle.ssa_model.proofs.Lists.{has-listed}
+use Rattle.ssa_model.proofs.Basics.{or_twice, some_or}
 
 find-marked : (ps : List Path) (q : Path) → is_some (find path_cmp q (marked ps)) ≡ is_one_of ps q
 find-marked [] q = refl
 find-marked (p ∷ ps) q = some_or (same_path q p) (find path_cmp q (marked ps)) ∙ ap (λ b. same_path q p || b) (find-marked ps q)
-
--- the set has the paths of the list
-pub has-listed : (ps : List Path) (q : Path) → has (listed ps) q ≡ is_one_of ps q
-has-listed ps q = ap is_some (get-from_entries (marked ps) q) ∙ find-marked ps q
 
 -- ---- any test of paths
 
@@ -33,10 +27,6 @@ Entries = List (Path × Unit {0})
 
 abbrev keys : Entries → List Path
 keys = map (λ e. e.0)
-
-or_twice : (a b : Bool) → (a || b) ≡ (a || (a || b))
-or_twice true b = refl
-or_twice false b = refl
 
 or_swap : (a b c : Bool) → (b || (a || c)) ≡ (a || (b || c))
 or_swap true true c = refl
@@ -47,16 +37,19 @@ or_swap false false c = refl
 any-put : (test : Path → Bool) (p : Path) (es : Entries) → list_any test (keys (put path_cmp p tt es)) ≡ (test p || list_any test (keys es))
 any-put test p [] = refl
 any-put test p (e ∷ es) =
-    elim (path_cmp p e.0) as (λ o. path_cmp p e.0 ≡ o → list_any test (keys (by_order o ((p, tt) ∷ e ∷ es) ((e.0, tt) ∷ es) (e ∷ put path_cmp p tt es))) ≡ (test p || (test e.0 || list_any test (keys es)))) [
+    elim (path_cmp p e.0) as (λ o. path_cmp p e.0 ≡ o → list_any test (keys (by_order o ((p, tt) ∷ e ∷ es) ((e.0, tt) ∷ es) (e ∷ put path_cmp p tt es)))
+    ≡ (test p || (test e.0 || list_any test (keys es)))) [
       | Less ↦ λ t. refl
       | Equal ↦ λ t. or_twice (test e.0) (list_any test (keys es)) ∙ ap (λ x. test x || (test e.0 || list_any test (keys es))) (sym (same_path_same p e.0 t))
       | Greater ↦ λ t. ap (λ b. test e.0 || b) (any-put test p es) ∙ or_swap (test p) (test e.0) (list_any test (keys es))
     ] refl
 
+-- some path of a set passes a test where some that was listed does
 pub any-listed : (test : Path → Bool) (ps : List Path) → list_any test (set_paths (listed ps)) ≡ list_any test ps
 any-listed test [] = refl
 any-listed test (p ∷ ps) = any-put test p (listed ps).entries ∙ ap (λ b. test p || b) (any-listed test ps)
 
+-- a set has something at or below a path where what was listed has
 pub below-listed : (ps : List Path) (q : Path) → has_at_or_below (listed ps) q ≡ list_any (under q) ps
 below-listed ps q = any-listed (under q) ps
 
@@ -71,12 +64,15 @@ any-some : (ps : List Path) → list_any (λ p. true) ps ≡ has_some ps
 any-some [] = refl
 any-some (p ∷ ps) = refl
 
+-- a set is empty where nothing was listed
 pub empty-listed : (ps : List Path) → is_empty (listed ps) ≡ not (has_some ps)
 empty-listed ps = empty-any (listed ps) ∙ ap not (any-listed (λ p. true) ps ∙ any-some ps)
 
 -- ---- what is put into a set, and two sets put together
 
-pub listed-insert : (n m : Trie) (p : Path) → ((q : Path) → is_one_of (paths m) q ≡ (same_path q p || is_one_of (paths n) q)) → listed (paths m) ≡ insert p tt (listed (paths n))
+-- the set of a trie with one path more is the set with the path put in
+pub listed-insert : (n m : Trie) (p : Path) → ((q : Path) → is_one_of (paths m) q ≡ (same_path q p || is_one_of (paths n) q))
+    → listed (paths m) ≡ insert p tt (listed (paths n))
 listed-insert n m p e =
     same_sets _ _ (λ q. has-listed (paths m) q ∙ e q ∙ ap (λ b. same_path q p || b) (sym (has-listed (paths n) q)) ∙ sym (has-insert p (listed (paths n)) q))
 
@@ -87,13 +83,16 @@ has-combined Meet s t q = has-set_of (set_paths s) (has t) q ∙ (λ i. sym (has
 has-combined WithoutUnder s t q = has-set_of (set_paths s) (λ p. not (has_at_or_above t p)) q ∙ ap (λ b. b && not (has_at_or_above t q)) (sym (has-paths s q))
 has-combined WithoutOver s t q = has-set_of (set_paths s) (λ p. not (has_at_or_below t p)) q ∙ ap (λ b. b && not (has_at_or_below t q)) (sym (has-paths s q))
 
+-- the set of a combination of tries is the combination of their sets
 pub listed-combined : (how : Combination) (m n t : Trie) → IsCombination how m n t → listed (paths t) ≡ combined how (listed (paths m)) (listed (paths n))
 listed-combined how m n t h =
     same_sets _ _ (λ q.
     has-listed (paths t) q ∙ h.paths_are q ∙ (λ i. keeps how (sym (has-listed (paths m) q) i) (sym (any-listed (concerns how q) (paths n)) i))
     ∙ sym (has-combined how (listed (paths m)) (listed (paths n)) q))
 
-pub listed-tested : (m t : Trie) (test : Path → Bool) → ((q : Path) → is_one_of (paths t) q ≡ (is_one_of (paths m) q && test q)) → listed (paths t) ≡ set_of (set_paths (listed (paths m))) test
+-- the set of a trie's paths that pass a test is that of the set's paths that do
+pub listed-tested : (m t : Trie) (test : Path → Bool) → ((q : Path) → is_one_of (paths t) q ≡ (is_one_of (paths m) q && test q))
+    → listed (paths t) ≡ set_of (set_paths (listed (paths m))) test
 listed-tested m t test e =
     same_sets _ _ (λ q.
     has-listed (paths t) q ∙ e q ∙ ap (λ b. b && test q) (sym (has-listed (paths m) q) ∙ has-paths (listed (paths m)) q)

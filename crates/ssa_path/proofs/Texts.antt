@@ -7,11 +7,13 @@ use Rattle.ssa_json.specs.View.{scalar_view}
 use Rattle.ssa_path.specs.Keys.{members_view}
 use Rattle.ssa_path.proofs.Members.{keys_text, member-at, length-members}
 
+-- key fields as the program holds them
 abbrev pub Fields : Type 0
 Fields = List (String Global × Scalar)
 
 -- one field goes last
-pub pushed : (found : Fields) (name : String Global) (scalar : Scalar) (now : Fields) → now ≡ found ++ (name, scalar) ∷ [] → members_view found ++ (string_bytes name, scalar_view scalar) ∷ [] ≡ members_view now
+pub pushed : (found : Fields) (name : String Global) (scalar : Scalar) (now : Fields) → now ≡ found ++ (name, scalar) ∷ []
+    → members_view found ++ (string_bytes name, scalar_view scalar) ∷ [] ≡ members_view now
 pushed found name scalar now is = sym (map-append (λ m. (string_bytes m.0, scalar_view m.1)) found ((name, scalar) ∷ [])) ∙ ap members_view (sym is)
 
 -- the text of the members from the i-th on, with the closing bracket
@@ -26,7 +28,8 @@ split-piece : (comma name value rest : Text) → comma ++ (name ++ 58 ∷ (value
 split-piece comma name value rest =
     ap (λ t. comma ++ t) (sym (append_assoc name (58 ∷ value) rest)) ∙ sym (append_assoc comma (name ++ 58 ∷ value) rest)
 
-text_from-more : (later : Bool) (ks : Fields) (i : ℕ) (k : String Global × Scalar) → i < length ks → k ≡ get_or ks i k → text_from later ks i ≡ member_piece later k ++ text_from true ks (i + 1)
+text_from-more : (later : Bool) (ks : Fields) (i : ℕ) (k : String Global × Scalar) → i < length ks → k ≡ get_or ks i k
+    → text_from later ks i ≡ member_piece later k ++ text_from true ks (i + 1)
 text_from-more later ks i k within is =
     ap (keys_text later) (member-at ks i k within is)
     ∙ split-piece (comma_if later) (quoted (string_bytes k.0)) (scalar_text (scalar_view k.1)) (text_from true ks (i + 1))
@@ -42,8 +45,3 @@ member-written whole before after later ks i k within is so_far here =
 
 none-left : (ks : Fields) (i : ℕ) → length ks ≤ i → drop i (members_view ks) ≡ []
 none-left ks i past = drop_all i (members_view ks) (rw (length-members ks) past)
-
--- all members are written, and the bracket
-pub members-written : (whole before after : Text) (later : Bool) (ks : Fields) (i : ℕ) → length ks ≤ i → before ++ text_from later ks i ≡ whole → after ≡ before ++ 125 ∷ [] → after ≡ whole
-members-written whole before after later ks i past so_far bracket =
-    bracket ∙ ap (λ t. before ++ t) (sym (ap (keys_text later) (none-left ks i past))) ∙ so_far

@@ -41,7 +41,8 @@ pub record IsCombination (how : Combination) (own other t : Trie) : Type 0 where
 
 -- these children have what the combination keeps of those of two lists
 pub record IsCombined (how : Combination) (cs ds us : List (Elem × Trie)) : Type 0 where
-  pub paths_are : (e : Element) (p : Path) → is_one_of (paths_below us) (e ∷ p) ≡ keeps how (is_one_of (paths_below cs) (e ∷ p)) (is_concerned how (paths_below ds) (e ∷ p))
+  pub paths_are : (e : Element) (p : Path) → is_one_of (paths_below us) (e ∷ p)
+      ≡ keeps how (is_one_of (paths_below cs) (e ∷ p)) (is_concerned how (paths_below ds) (e ∷ p))
   pub risen : rises (elements us) ≡ true
   pub tries : are_filled_tries us ≡ true
   pub lower : (e : Element) → is_below e (elements cs) ≡ true → is_below e (elements ds) ≡ true → is_below e (elements us) ≡ true

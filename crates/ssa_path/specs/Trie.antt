@@ -1,5 +1,5 @@
 -- The paths that a trie holds.
-use Rattle.std.specs.Prelude.{◌≡◌, List, [], ◌∷◌, ◌++◌, map, Bool, true, false, ◌&&◌, ◌||◌}
+use Rattle.std.specs.Prelude.{◌≡◌, List, [], ◌∷◌, ◌++◌, map, Bool, true, false, not, ◌&&◌, ◌||◌}
 use Rattle.std.specs.List.{list_any}
 use Rattle.ssa_model.specs.definitions.Path.{Element, Path, same_path, under}
 use Rattle.ssa_path.specs.Children.{elements, rises}
@@ -86,6 +86,11 @@ pub record IsInserted (old : Trie) (path : Path) (new : Trie) : Type 0 where
   pub paths_are : (p : Path) → is_one_of (paths new) p ≡ (same_path p path || is_one_of (paths old) p)
   pub trie : is_trie new ≡ true
   pub filled : is_filled new ≡ true
+
+-- the trie without a path
+pub record IsRemoved (old : Trie) (path : Path) (new : Trie) : Type 0 where
+  pub paths_are : (p : Path) → is_one_of (paths new) p ≡ (is_one_of (paths old) p && not (same_path p path))
+  pub trie : is_trie new ≡ true
 
 -- the children have the paths that they had, and those of one more child
 pub record IsGathered (cs : List (Elem × Trie)) (e : Element) (t : Trie) (ds : List (Elem × Trie)) : Type 0 where

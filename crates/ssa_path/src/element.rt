@@ -12,7 +12,7 @@ use std::alloc::{AllocError, Global};
 use std::cmp::Ordering;
 
 /// A field of a record or an entry of a Dict, or an item of a list by its key fields or its value.
-#[derive(Drop)]
+#[derive(Debug, Drop)]
 pub enum Elem {
     Field(String),
     Key(Keys),

@@ -1,6 +1,6 @@
 // Sets of paths.
 ghost use Rattle.std.specs.Prelude.{◌≡◌, ◌-◌, ◌^◌, true, not, min, IfOk, OnOk, OnErr};
-ghost use Rattle.ssa_model.specs.definitions.Path.{is_key_field};
+ghost use Rattle.ssa_model.specs.definitions.Path.{is_key_field, same_path};
 ghost use Rattle.ssa_model.specs.definitions.PathMap.{empty, has, has_at_or_above, has_at_or_below, insert, is_empty, minus, same_set, set_of, size, union, listed};
 ghost use Rattle.ssa_model.specs.definitions.PathMap as set;
 ghost use Rattle.ssa_path.specs.Meet.{meet, combined};
@@ -15,7 +15,7 @@ use crate::trie::Trie;
 use crate::within::lies_within;
 use std::alloc::{AllocError, Global};
 use std::marker::Model;
-use std::mem;
+use std::{fmt, mem};
 
 /// A set of paths.
 ///
@@ -39,6 +39,13 @@ impl Model for FieldSet {
     ghost view = { λ s. listed (paths s.root) };
 
     ghost invariant = { λ s. is_trie s.root ≡ true };
+}
+
+// A set may have 20,000 paths: none is shown.
+impl fmt::Debug for FieldSet {
+    fn fmt<W: fmt::Write>(&self, f: &mut fmt::Formatter<W>) -> fmt::Result {
+        f.debug_struct("FieldSet").finish_non_exhaustive()
+    }
 }
 
 impl FieldSet {
@@ -138,6 +145,14 @@ impl FieldSet {
         ensures err { OnErr result (self.new ≡ self.old) }
     {
         self.root.insert(alloc, path.elements())
+    }
+
+    /// Takes a path out, and tells whether it was in the set. Takes no memory.
+    pub fn remove(&mut self, path: &Path) -> bool
+        ensures set { self.new ≡ set_of (set.paths self.old) (λ q. not (same_path q path.now)) }
+        ensures had { result ≡ has self.old path.now }
+    {
+        self.root.remove(path.elements())
     }
 
     /// The same set, with new memory.

@@ -12,7 +12,7 @@ use std::marker::Model;
 /// The key fields of an item of a list, at least one, in the order of their names' bytes.
 ///
 /// FieldsV1 writes an item of a map list by them, as `k:{"name":"web"}`.
-#[derive(Drop)]
+#[derive(Debug, Drop)]
 pub struct Keys {
     members: Vec<(String, Scalar)>,
 }

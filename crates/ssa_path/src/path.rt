@@ -9,7 +9,7 @@ use std::cmp::Ordering;
 use std::marker::Model;
 
 /// The way from the root of a value to a place in it.
-#[derive(Drop)]
+#[derive(Debug, Drop)]
 pub struct Path {
     elements: Vec<Elem>,
 }

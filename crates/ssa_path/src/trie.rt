@@ -4,11 +4,12 @@ ghost use Rattle.std.specs.List.{list_any};
 ghost use Rattle.ssa_model.specs.definitions.Path.{under};
 ghost use Rattle.ssa_path.specs.Children.{child_at, elements, rises, IsGapFor};
 ghost use Rattle.ssa_path.specs.View.{element_view, path_view};
-ghost use Rattle.ssa_path.specs.Trie.{is_one_of, paths, shape, is_trie, is_filled, are_filled_tries, IsCopy, IsGathered, IsInserted, IsOnly, IsPlace};
+ghost use Rattle.ssa_path.specs.Trie.{is_one_of, paths, shape, is_trie, is_filled, are_filled_tries, IsCopy, IsGathered, IsInserted, IsOnly, IsPlace, IsRemoved};
 
 use crate::children::{find_child, search};
 use crate::element::Elem;
 use std::alloc::{AllocError, Global};
+use std::mem;
 
 /// A place of a set of paths, with the places below it.
 ///
@@ -137,6 +138,31 @@ impl Trie {
                     let child = Trie::of_path(alloc, rest)?;
                     put_child(alloc, &mut self.below, place, first, child)
                 }
+            },
+        }
+    }
+
+    /// Takes a path out, and tells whether it was there. Takes no memory.
+    ///
+    /// No child is left without paths.
+    pub fn remove(&mut self, elements: &[Elem]) -> bool
+        requires { is_trie self.old ≡ true }
+        ensures removed { IsRemoved self.old (path_view elements.now) self.new }
+        ensures had { result ≡ is_one_of (paths self.old) (path_view elements.now) }
+    {
+        match elements {
+            [] => mem::replace(&mut self.here, false),
+            [first, rest @ ..] => match search(&self.below, first) {
+                Ok(i) => {
+                    let child = &mut self.below[i].1;
+                    let had = child.remove(rest);
+                    if child.has_paths() {
+                        return had;
+                    }
+                    drop(self.below.remove(i));
+                    had
+                }
+                Err(_) => false,
             },
         }
     }

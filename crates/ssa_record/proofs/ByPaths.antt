@@ -16,8 +16,11 @@ use Rattle.ssa_record.specs.PathOrder.{by_lent_path, value_at}
 module _ {V : Type 0} where
   -- of these entries the first are left, and those behind them are in the map
   pub record AreSorted (all rest sorted : List (LentPath × V)) : Type 0 where
+    -- the entries that are in the map already
     pub taken : List (LentPath × V)
+    -- those that are left and those in the map are all
     pub whole : all ≡ rest ++ taken
+    -- the map is made of those taken
     pub done : sorted ≡ by_lent_path taken
 
   -- at first none is taken
@@ -84,10 +87,12 @@ module _ {V X : Type 0} (f : V → X) where
 
 -- ---- what is lent of an option
 
+-- what is lent is there where it was
 pub copied-some : {A : Type 0} (o : Option (Bor A)) → is_some o ≡ is_some (option_copied o)
 copied-some None = refl
 copied-some (Some x) = refl
 
+-- what is shown by a function is there where it was
 pub mapped-some : {A B : Type 0} (f : A → B) (o : Option A) → is_some o ≡ is_some (option_map f o)
 mapped-some f None = refl
 mapped-some f (Some x) = refl

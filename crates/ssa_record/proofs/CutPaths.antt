@@ -16,19 +16,11 @@ use Rattle.ssa_turn_body.specs.declared.steps.Step.{Step}
 use Rattle.ssa_record.specs.LedStates.{path_after, paths_after}
 use Rattle.ssa_record.specs.Places.{told_paths}
 use Rattle.ssa_record.specs.ToldEntries.{AddsPaths}
-use Rattle.ssa_record.proofs.ToldLists.{adds-more}
-
-or-nothing : (b : Bool) → b ≡ (b || false)
-or-nothing true = refl
-or-nothing false = refl
+use Rattle.ssa_record.proofs.ToldLists.{adds-more, or-none as or-nothing}
 
 or-shift : (a b c : Bool) → ((a || b) || c) ≡ (a || (b || c))
 or-shift true b c = refl
 or-shift false b c = refl
-
--- no path adds nothing
-pub adds-none : (s : PathSet) → AddsPaths [] s s
-adds-none s q = or-nothing (has s q)
 
 -- other paths behind some
 adds-behind : (ps qs : List Path) (s t u : PathSet) → AddsPaths ps s t → AddsPaths qs t u → AddsPaths (ps ++ qs) s u
@@ -38,8 +30,10 @@ adds-behind ps qs s t u first second q =
 
 -- ---- children that go
 
+-- one child more that goes adds its path
 pub gone-more : (p : Path) (es : List Elem) (i : ℕ) (e : Elem) (s t u : PathSet) → i < length es → e ≡ get_or es i e
-    → AddsPaths (paths_after p (path_view (take i es))) s t → u ≡ insert (path_after p (element_view e)) tt t → AddsPaths (paths_after p (path_view (take (i + 1) es))) s u
+    → AddsPaths (paths_after p (path_view (take i es))) s t → u ≡ insert (path_after p (element_view e)) tt t
+    → AddsPaths (paths_after p (path_view (take (i + 1) es))) s u
 gone-more p es i e s t u lt is h more q =
     let next : paths_after p (path_view (take (i + 1) es)) ≡ paths_after p (path_view (take i es)) ++ path_after p (element_view e) ∷ [] =
     ap (λ xs. paths_after p (path_view xs)) (taken-at es i e lt is) ∙ ap (paths_after p) (map-append element_view (take i es) (e ∷ []))
@@ -59,13 +53,15 @@ told-last (r ∷ ss) s =
     ap (λ es. at_place (path_view r.path.items) (cuts_in r.change) ++ es) (told-last ss s)
     ∙ sym (append_assoc (at_place (path_view r.path.items) (cuts_in r.change)) (told_by cuts_in ss) (at_place (path_view s.path.items) (cuts_in s.change)))
 
+-- one change more adds the paths that it cuts
 pub cuts-more : (ss : List Step) (i : ℕ) (r : Step) (s t u : PathSet) → i < length ss → r ≡ get_or ss i r
     → AddsPaths (told_paths (told_by cuts_in (take i ss))) s t → AddsPaths (told_paths (at_place (path_view r.path.items) (cuts_in r.change))) t u
     → AddsPaths (told_paths (told_by cuts_in (take (i + 1) ss))) s u
 cuts-more ss i r s t u lt is h more q =
     let own = at_place (path_view r.path.items) (cuts_in r.change) in
     let next : told_paths (told_by cuts_in (take (i + 1) ss)) ≡ told_paths (told_by cuts_in (take i ss)) ++ told_paths own =
-    ap (λ xs. told_paths (told_by cuts_in xs)) (taken-at ss i r lt is) ∙ ap told_paths (told-last (take i ss) r) ∙ map-append (λ e. e.0) (told_by cuts_in (take i ss)) own in
+    ap (λ xs. told_paths (told_by cuts_in xs)) (taken-at ss i r lt is) ∙ ap told_paths (told-last (take i ss) r)
+    ∙ map-append (λ e. e.0) (told_by cuts_in (take i ss)) own in
     adds-behind (told_paths (told_by cuts_in (take i ss))) (told_paths own) s t u h more q ∙ ap (λ ps. has s q || is_one_of ps q) (sym next)
 
 -- the set of all paths that are cut

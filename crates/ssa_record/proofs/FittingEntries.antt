@@ -13,10 +13,12 @@ use Rattle.ssa_model.specs.definitions.Carry.{is_key_among, change_for}
 use Rattle.ssa_model.specs.laws.FittingRecords.{loses, ChangeFits, EntryFits}
 use Rattle.ssa_model.proofs.PathMaps.{is_one_of, has-minus, has-paths, has-set_of, has-union, same_sets, same_set-true}
 use Rattle.ssa_model.proofs.Pruned.{from_one, some_one}
-use Rattle.ssa_model.proofs.Tables.{first_false, no, or_true, second_false, true_or, yes_no}
+use Rattle.ssa_model.proofs.Tables.{true_or, yes_no}
 use Rattle.ssa_model.proofs.Tests.{by_test, same_tests}
 use Rattle.ssa_model.proofs.FittingTables.{no-path, same_set-itself}
 use Rattle.ssa_record.specs.EntryTests.{GivesUp, IsApart, ToldFits}
+use Rattle.ssa_model.proofs.TakenTables.{empty-has}
+use Rattle.ssa_model.proofs.Basics.{or_true, not_true as no, first_false, second_false}
 
 -- ---- answers of a test
 
@@ -37,13 +39,6 @@ pub not-so : {P : Type 0} (b : Bool) → Decides b P → b ≡ false → P → �
 not-so b h off p = true≢false (sym (h.1 p) ∙ off)
 
 -- ---- empty sets
-
-empty-has : (s : PathSet) (p : Path) → is_empty s ≡ true → has s p ≡ false
-empty-has s p h = has-paths s p ∙ go s.entries h
-  where
-    go : (es : List (Path × Unit {0})) → (elim es [ [] ↦ true | e ∷ rest ↦ false ]) ≡ true → is_one_of (map (λ (e : Path × Unit {0}). e.0) es) p ≡ false
-    go [] k = refl
-    go (e ∷ es) k = absurd (true≢false (sym k))
 
 -- no path of the first set is in the second
 pub lacks-decides : (s o both : PathSet) → both ≡ set_of (paths s) (has o) → Decides (is_empty both) ((p : Path) → has s p ≡ true → has o p ≡ false)
@@ -121,10 +116,6 @@ gives-up-decides d cut left e b stays here h = (
       (no lost (second_so (has e.owned p) (not lost) own)))
       (λ k. k)),
 )
-
--- the entry of a manager who is gone gives up all
-pub gone-gives-up : (d : TableRecord) (cut : PathSet) (e : Entry) → is_key_among d.gone e.manager ≡ true → GivesUp d cut e
-gone-gives-up d cut e gone p there above = true_or (is_key_among d.gone e.manager) (loses (change_for d.changed e.manager) p) gone
 
 -- ---- answers from others
 

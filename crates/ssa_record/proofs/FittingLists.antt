@@ -9,11 +9,12 @@ use Rattle.ssa_model.specs.definitions.Valid.{has_distinct_keys}
 use Rattle.ssa_model.specs.definitions.Record.{Change, TableRecord}
 use Rattle.ssa_model.specs.definitions.Carry.{is_key_among, change_for}
 use Rattle.ssa_model.specs.laws.FittingRecords.{staying_managers}
-use Rattle.ssa_model.proofs.Tables.{apart-back, first_false, manager-itself, no, same_manager-true, second_false}
+use Rattle.ssa_model.proofs.Tables.{apart-back, manager-itself, same_manager-true}
 use Rattle.ssa_model.proofs.Tests.{pointwise-true, pointwise-itself}
 use Rattle.ssa_model.proofs.ManagerEntries.{among-filter}
 use Rattle.ssa_model.proofs.FittingTables.{change-own}
 use Rattle.ssa_record.specs.TableTests.{same_keys, managers, changed_keys, has_change, HereStands, ListsFit}
+use Rattle.ssa_model.proofs.Basics.{not_true as no, first_false, second_false}
 
 -- ---- lists of managers
 

@@ -10,21 +10,16 @@ use Rattle.ssa_model.specs.definitions.Table.{ManagerKey, Entry, Table, is_in_ta
 use Rattle.ssa_model.specs.definitions.Valid.{AllEntries, has_distinct_keys}
 use Rattle.ssa_model.specs.definitions.Record.{TableRecord, placed}
 use Rattle.ssa_model.specs.definitions.Carry.{placed_at, filled, end_of, is_key_among, change_for, changed_entry, staying, carry_table}
-use Rattle.ssa_model.proofs.Tables.{KeepsKeys, all-filter, all-map, distinct-filter, no}
+use Rattle.ssa_model.proofs.Tables.{KeepsKeys, all-filter, all-map, distinct-filter}
 use Rattle.ssa_model.proofs.SharedManagers.{each-in}
 use Rattle.ssa_model.proofs.Tests.{filter-kept, filter-dropped}
 use Rattle.ssa_model.proofs.FilledLists.{filled_is, placed_gives, placed_end}
 use Rattle.ssa_model.proofs.FilledTables.{all-placed, changed-manager, managers-filter, managers-map, stay-are}
 use Rattle.ssa_record.proofs.FittingLists.{DistinctKeys, distinct-managers, distinct-parts, distinct-passing}
 use Rattle.ssa_record.specs.TableTests.{are_places, are_newcomers, managers, staying_count, HereStands}
+use Rattle.ssa_model.proofs.Basics.{not_true as no, le-of, nat_le-of as le-is}
 
 -- ---- those who are here among those who stay
-
-le-of : (a b : ℕ) → nat_le a b ≡ true → a ≤ b
-le-of a b h = grind (arith, nat_tests)
-
-le-is : (a b : ℕ) → a ≤ b → nat_le a b ≡ true
-le-is a b h = grind (arith, nat_tests)
 
 module _ {X : Type 0} (test : X → Bool) where
   -- each of some passes, or none does
@@ -34,8 +29,11 @@ module _ {X : Type 0} (test : X → Bool) where
 
   -- a list in which some stand at their places, from place i on, and the others in their order
   pub record Merged (i : ℕ) (hs : List (ℕ × X)) (xs : List X) : Type 0 where
+    -- the list in which all stand
     pub all : List X
+    -- those that pass the test, each at its place, are those told
     pub told : placed test i all ≡ hs
+    -- those that do not pass are the others
     pub others : filter (λ x. not (test x)) all ≡ xs
 
   alone : (i : ℕ) (xs : List X) → Pass false xs → Merged i [] xs
@@ -118,6 +116,7 @@ module _ {X : Type 0} (test : X → Bool) where
 
   -- ---- those who pass
 
+  -- those that have a place, without it, are those that pass the test
   pub placed-filter : (i : ℕ) (xs : List X) → map (λ h. h.1) (placed test i xs) ≡ filter test xs
   placed-filter i [] = refl
   placed-filter i (x ∷ xs) =
@@ -244,6 +243,7 @@ module _ (d : TableRecord) (t : Table) (distinct : has_distinct_keys t ≡ true)
           sym (length-parts comes m.all) ∙ (λ i. length (m.others i) + length (comes-are i))
           ∙ (λ i. stay-count i + length-map d.here (λ e. e.1) i)
 
+      -- those who are here stand in the table where they are told
       pub here-stands : HereStands d t
       here-stands = record {
         here = sym here-told;
@@ -266,15 +266,18 @@ module _ (d : TableRecord) (t : Table) (distinct : has_distinct_keys t ≡ true)
     u-count : staying_count d.gone t + length d.here ≡ length u
     u-count = (λ i. sym stay-count i + sym (length-map d.here (λ e. e.1)) i) ∙ (λ i. length (sym u-stay i) + length (sym u-here i)) ∙ length-parts comes u
 
+    -- where they stand as told, there are places for all
     pub here-few : staying_count d.gone t + length d.here ≤ most_managers
     here-few = subst (λ n. n ≤ most_managers) (sym u-count) h.few
 
+    -- where they stand as told, each place is reached
     pub here-reached : are_places 0 (staying_count d.gone t) places ≡ true
     here-reached =
         ap (λ n. are_places 0 n places) (sym stay-count)
         ∙ (λ i. are_places 0 (length (sym u-stay i)) (map (λ (e : ℕ × Entry). e.0) (h.here i)))
         ∙ places-of comes 0 u
 
+    -- where they stand as told, each is a newcomer, and none comes twice
     pub here-new : are_newcomers t heres ≡ true
     here-new =
         newcomers-back t heres

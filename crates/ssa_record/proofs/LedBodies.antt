@@ -14,7 +14,6 @@ use Rattle.ssa_model.specs.definitions.Takes.{BodyTakes}
 use Rattle.ssa_model.proofs.PathMaps.{get-from_entries, has-paths, same_path-true}
 use Rattle.ssa_path.specs.Trie as tries
 use Rattle.ssa_path.specs.declared.trie.Trie.{Trie}
-use Rattle.ssa_path.proofs.Sets.{has-listed}
 use Rattle.ssa_typed.specs.Rows.{body_of}
 use Rattle.ssa_typed.specs.declared.node.Node.{Node}
 use Rattle.ssa_typed.proofs.Looks.{get-body}
@@ -22,17 +21,21 @@ use Rattle.ssa_record.specs.LedValues.{told_leaf, told_part, IsHere, IsToldFor}
 use Rattle.ssa_record.specs.Places.{maps_told, IsTouchedBelow, ToldMaps}
 use Rattle.ssa_record.specs.Told.{told_of}
 use Rattle.ssa_record.proofs.Touched.{all-touched}
+use Rattle.ssa_model.proofs.Lists.{has-listed}
 
 -- what is found of entries that are told by a function of their paths
-find-told : {X Y : Type 0} (f : Path → X → Y) (es : List (Path × X)) (p : Path) → find path_cmp p (map (λ e. (e.0, f e.0 e.1)) es) ≡ option_map (f p) (find path_cmp p es)
+find-told : {X Y : Type 0} (f : Path → X → Y) (es : List (Path × X)) (p : Path)
+    → find path_cmp p (map (λ e. (e.0, f e.0 e.1)) es) ≡ option_map (f p) (find path_cmp p es)
 find-told f [] p = refl
 find-told f (e ∷ es) p =
-    elim (same_path p e.0) as (λ t. same_path p e.0 ≡ t → cond t (Some (f e.0 e.1)) (find path_cmp p (map (λ e. (e.0, f e.0 e.1)) es)) ≡ option_map (f p) (cond t (Some e.1) (find path_cmp p es))) [
+    elim (same_path p e.0) as (λ t. same_path p e.0 ≡ t → cond t (Some (f e.0 e.1)) (find path_cmp p (map (λ e. (e.0, f e.0 e.1)) es))
+    ≡ option_map (f p) (cond t (Some e.1) (find path_cmp p es))) [
       | true ↦ λ same. ap (λ q. Some (f q e.1)) (sym (same_path-true p e.0 same))
       | false ↦ λ other. find-told f es p
     ] refl
 
-get-told : {X Y : Type 0} (f : Path → X → Y) (m : PathMap X) (p : Path) → get (from_entries (map (λ e. (e.0, f e.0 e.1)) m.entries)) p ≡ option_map (f p) (get m p)
+get-told : {X Y : Type 0} (f : Path → X → Y) (m : PathMap X) (p : Path)
+    → get (from_entries (map (λ e. (e.0, f e.0 e.1)) m.entries)) p ≡ option_map (f p) (get m p)
 get-told f m p = get-from_entries (map (λ e. (e.0, f e.0 e.1)) m.entries) p ∙ find-told f m.entries p
 
 -- what is told of the record of two bodies is told for them
@@ -58,6 +61,7 @@ root-here kind d v w n takes is = record {
   place = refl;
 }
 
+-- at the root all that is touched is what the trie has
 pub root-touched : (m : ToldMaps) (t : Trie) → tries.is_trie t ≡ true → listed (tries.paths t) ≡ m.touched → IsTouchedBelow m [] t
 root-touched m t trie same = (trie, λ r. sym (has-listed (tries.paths t) r) ∙ ap (λ s. has s r) same)
 

@@ -37,22 +37,26 @@ field-below : (w : Body) (p : Path) (fs : Fields) (q : Place) (t : Text) → pla
 field-below w p fs q t is =
     let g = p ++ field t ∷ [] in
     ap (λ o. if has w g then option_map (λ s. value_at_place s w g) o else None) is
-    ∙ elim (kind_of t fs) as (λ o. (if has w g then option_map (λ s. value_at_place s w g) (option_map of_kind o) else None) ≡ cond (has w g) (option_map (λ k. shown k w g) o) None) [ None ↦ refl | Some k ↦ refl ]
+    ∙ elim (kind_of t fs) as (λ o. (if has w g then option_map (λ s. value_at_place s w g) (option_map of_kind o) else None)
+    ≡ cond (has w g) (option_map (λ k. shown k w g) o) None) [ None ↦ refl | Some k ↦ refl ]
 
 module _ (w : Body) (p : Path) (ms : Members) (rise : names_rise ms ≡ true) where
-  fields-led : (fs : Fields) (q : Place) → are_ordered fs ≡ true → ((t : Text) → place_below q (field t) ≡ option_map of_kind (kind_of t fs)) → ((t : Text) → member_of t ms ≡ value_below q w p (field t))
+  fields-led : (fs : Fields) (q : Place) → are_ordered fs ≡ true → ((t : Text) → place_below q (field t) ≡ option_map of_kind (kind_of t fs))
+      → ((t : Text) → member_of t ms ≡ value_below q w p (field t))
       → ms ≡ shown_fields fs w p
   fields-led fs q ordered like met =
       same-members ms (shown_fields fs w p) (sorted-is ms rise) (fields-rise w p fs ordered)
       (λ t. met t ∙ field-below w p fs q t (like t) ∙ sym (member_of-fields w p t fs))
 
-  entries-led : (k : Kind) → ((t : Text) → member_of t ms ≡ value_below (of_kind (dict_of k)) w p (field t)) → ms ≡ entry_members (shown k w) p (names_below w p)
+  entries-led : (k : Kind) → ((t : Text) → member_of t ms ≡ value_below (of_kind (dict_of k)) w p (field t))
+      → ms ≡ entry_members (shown k w) p (names_below w p)
   entries-led k met =
       same-members ms (entry_members (shown k w) p (names_below w p)) (sorted-is ms rise) (entries-rise (shown k w) p w)
       (λ t. met t ∙ sym (member_of-entries (shown k w) w p t))
 
   -- by the place
-  members-at : (q : Place) (c : Content) → content_fits q c ≡ true → has_members c ≡ true → is_ordered_place q ≡ true → ((t : Text) → member_of t ms ≡ value_below q w p (field t))
+  members-at : (q : Place) (c : Content) → content_fits q c ≡ true → has_members c ≡ true → is_ordered_place q ≡ true
+      → ((t : Text) → member_of t ms ≡ value_below q w p (field t))
       → object ms ≡ value_at_place q w p
   members-at (of_kind (record_of fs)) c fits is ordered met = ap object (fields-led fs (of_kind (record_of fs)) ordered (λ t. refl) met)
   members-at (of_kind (dict_of k)) c fits is ordered met = ap object (entries-led k met)
@@ -72,7 +76,8 @@ module _ (w : Body) (p : Path) (ms : Members) (rise : names_rise ms ≡ true) wh
   members-at q (list_branch es) fits is ordered met = absurd (true≢false (sym is))
 
 -- members that rise and are the second body's at the place are its value there
-pub members-led : (m : ToldMaps) (kind : Kind) (v w : Body) (f : IsToldFor m kind v w) (p : Path) (q : Place) (n : Node) (h : IsHere kind v w p q n) → is_tree n ≡ true → has_members (own_content n) ≡ true
+pub members-led : (m : ToldMaps) (kind : Kind) (v w : Body) (f : IsToldFor m kind v w) (p : Path) (q : Place) (n : Node) (h : IsHere kind v w p q n)
+    → is_tree n ≡ true → has_members (own_content n) ≡ true
     → (ms : Members) → names_rise ms ≡ true → ((t : Text) → member_of t ms ≡ value_below q w p (field t)) → object ms ≡ value_at_place q w p
 members-led m kind v w f p q n h tree is ms rise met =
     members-at w p ms rise q (own_content n) (own-fits m kind v w f p q n h tree) is (ordered-at p (of_kind kind) q f.ordered h.place) met

@@ -22,7 +22,7 @@ use Rattle.ssa_model.proofs.BodyLeads.{bodies_are_trees}
 use Rattle.ssa_model.proofs.Fitting.{some_there}
 use Rattle.ssa_model.proofs.PathMaps.{get-over_paths}
 use Rattle.ssa_model.proofs.Places.{list-place, set-place}
-use Rattle.ssa_model.proofs.Tables.{element-itself, or_true, true_or}
+use Rattle.ssa_model.proofs.Tables.{element-itself, true_or}
 use Rattle.ssa_model.proofs.Tests.{by_test}
 use Rattle.ssa_path.specs.Children.{child_at, elements}
 use Rattle.ssa_json.specs.declared.value.Json as program
@@ -38,7 +38,9 @@ use Rattle.ssa_record.specs.LedValues.{has_items, value_below, values_below, Are
 use Rattle.ssa_record.specs.Places.{IsOrderOf, IsRefilled, ToldMaps}
 use Rattle.ssa_record.proofs.LedLeaves.{own-fits}
 use Rattle.ssa_record.proofs.LedPlaces.{coming, cut-gone, here-below, no-child, no-value, none-missed, own-here, place-of, value-is}
-use Rattle.ssa_record.proofs.LedUntouched.{among-first, among-second, filter-alike, one-order}
+use Rattle.ssa_record.proofs.LedUntouched.{among-first, among-second, one-order}
+use Rattle.ssa_model.proofs.PutItems.{filter-members as filter-alike}
+use Rattle.ssa_model.proofs.Basics.{or_true, and-false as and-off}
 
 -- where the second body has all the elements, the items are its values at those so far
 abbrev pub AreItemsSoFar : ToldMaps → Path → Node → List Element → List Element → Items → Type 0
@@ -47,17 +49,21 @@ AreItemsSoFar m p n all es vs =
 
 -- ---- an item more
 
-pub values-last : (q : Place) (w : Body) (p : Path) (es : List Element) (e : Element) (j : Json) → value_below q w p e ≡ Some j → values_below q w p (es ++ e ∷ []) ≡ items_after (values_below q w p es) j
+-- one element more adds its value behind the others
+pub values-last : (q : Place) (w : Body) (p : Path) (es : List Element) (e : Element) (j : Json) → value_below q w p e ≡ Some j
+    → values_below q w p (es ++ e ∷ []) ≡ items_after (values_below q w p es) j
 values-last q w p [] e j is = ap (λ o. item (value_in o) no_items) is
 values-last q w p (f ∷ es) e j is = ap (item (value_in (value_below q w p f))) (values-last q w p es e j is)
 
 -- the body has an element that is among those that it has
-pub below-at : (q : Place) (w : Body) (p : Path) (es rest : List Element) (e : Element) → AreBelow q w p (es ++ e ∷ rest) → (j : Json) × (value_below q w p e ≡ Some j)
+pub below-at : (q : Place) (w : Body) (p : Path) (es rest : List Element) (e : Element) → AreBelow q w p (es ++ e ∷ rest) → (j : Json)
+    × (value_below q w p e ≡ Some j)
 below-at q w p [] rest e h = some_there (value_below q w p e) h.0
 below-at q w p (f ∷ es) rest e h = below-at q w p es rest e h.1
 
 -- ---- the values that are shown at the items of a list
 
+-- a list of the schema: a set of values or a map list
 abbrev pub is_list_place : Place → Bool
 is_list_place (of_kind (kinds.set_of k)) = true
 is_list_place (of_kind (items_of ns fs)) = true
@@ -77,7 +83,8 @@ list-fits q (atom j) fits is = absurd (true≢false (sym is))
 list-fits q record_branch fits is = absurd (true≢false (sym is))
 list-fits q dict_branch fits is = absurd (true≢false (sym is))
 
-shown-by : (q : Place) (w : Body) (p : Path) (shows : Path → Json) (es : List Element) → ((e : Element) (s : Place) → place_below q e ≡ Some s → value_at_place s w (p ++ e ∷ []) ≡ shows (p ++ e ∷ []))
+shown-by : (q : Place) (w : Body) (p : Path) (shows : Path → Json) (es : List Element)
+    → ((e : Element) (s : Place) → place_below q e ≡ Some s → value_at_place s w (p ++ e ∷ []) ≡ shows (p ++ e ∷ []))
     → AreBelow q w p es → values_below q w p es ≡ shown_items shows p es
 shown-by q w p shows [] each h = refl
 shown-by q w p shows (e ∷ es) each h =
@@ -86,14 +93,17 @@ shown-by q w p shows (e ∷ es) each h =
     elim (has w g) as (λ t. is_some (if t then option_map (λ s. value_at_place s w g) (place_below q e) else None) ≡ true
     → value_in (if t then option_map (λ s. value_at_place s w g) (place_below q e) else None) ≡ shows g) [
       | false ↦ λ k. absurd (true≢false (sym k))
-      | true ↦ λ k. elim (place_below q e) as (λ o. place_below q e ≡ o → is_some (option_map (λ s. value_at_place s w g) o) ≡ true → value_in (option_map (λ s. value_at_place s w g) o) ≡ shows g) [
-        | None ↦ λ is t. absurd (true≢false (sym t))
-        | Some s ↦ λ is t. each e s is
-      ] refl k
+      | true ↦ λ k. elim (place_below q e) as (λ o. place_below q e ≡ o → is_some (option_map (λ s. value_at_place s w g) o) ≡ true
+          → value_in (option_map (λ s. value_at_place s w g) o) ≡ shows g) [
+            | None ↦ λ is t. absurd (true≢false (sym t))
+            | Some s ↦ λ is t. each e s is
+          ] refl k
     ] h.0 in
     λ i. item (value i) (shown-by q w p shows es each h.1 i)
 
-pub items-shown : (q : Place) (w : Body) (p : Path) → is_list_place q ≡ true → AreBelow q w p (order_at (get w p)) → list (values_below q w p (order_at (get w p))) ≡ value_at_place q w p
+-- the values of a list's items, in the order of the body, are the value that is shown of the list
+pub items-shown : (q : Place) (w : Body) (p : Path) → is_list_place q ≡ true → AreBelow q w p (order_at (get w p))
+    → list (values_below q w p (order_at (get w p))) ≡ value_at_place q w p
 items-shown (of_kind (kinds.set_of k)) w p is all =
     ap list (shown-by (of_kind (kinds.set_of k)) w p (λ g. content_value (get w g)) (order_at (get w p))
     (λ e s at. ap (λ r. value_at_place r w (p ++ e ∷ [])) (sym (set-place k e s at).place)) all)
@@ -122,10 +132,6 @@ item-element (value_of x) (field n) s is at = absurd (true≢false (sym is))
 
 -- ---- the order of the second body
 
-and-off : (b : Bool) → (b && false) ≡ false
-and-off true = refl
-and-off false = refl
-
 is-listed : (c : Content) → has_items c ≡ true → c ≡ list_branch (order_at (Some c))
 is-listed (list_branch es) is = refl
 is-listed (leaf s) is = absurd (true≢false (sym is))
@@ -140,7 +146,8 @@ alike-list es (atom j) same = absurd (omega arith)
 alike-list es record_branch same = absurd (omega arith)
 alike-list es dict_branch same = absurd (omega arith)
 
-module _ (m : ToldMaps) (kind : Kind) (v w : Body) (f : IsToldFor m kind v w) (p : Path) (q : Place) (n : Node) (h : IsHere kind v w p q n) (tree : is_tree n ≡ true) (is : has_items (own_content n) ≡ true) where
+module _ (m : ToldMaps) (kind : Kind) (v w : Body) (f : IsToldFor m kind v w) (p : Path) (q : Place) (n : Node) (h : IsHere kind v w p q n)
+    (tree : is_tree n ≡ true) (is : has_items (own_content n) ≡ true) where
   place-is : is_list_place q ≡ true
   place-is = list-fits q (own_content n) (own-fits m kind v w f p q n h tree) is
 
@@ -163,11 +170,13 @@ module _ (m : ToldMaps) (kind : Kind) (v w : Body) (f : IsToldFor m kind v w) (p
   has-items : (es : List Element) → ((e : Element) → is_among e es ≡ true → is_among e after ≡ true) → AreBelow q w p es
   has-items [] all = tt
   has-items (e ∷ es) all =
-      let both : (is_item_element e && has w (p ++ e ∷ [])) ≡ true = sym (f.to.items p e) ∙ all e (true_or (same_element e e) (is_among e es) (element-itself e)) in
+      let both : (is_item_element e && has w (p ++ e ∷ [])) ≡ true = sym (f.to.items p e)
+      ∙ all e (true_or (same_element e e) (is_among e es) (element-itself e)) in
       let there = second_so (is_item_element e) (has w (p ++ e ∷ [])) both in
       let s = place-of m kind v w f p q e h.place there in
       (ap is_some (value-is m kind v w f p q e s.0 there s.1), has-items es (λ x among. all x (or_true (same_element x e) (is_among x es) among)))
 
+  -- the second body has, at the list, all the items of its order
   pub all-below : AreBelow q w p after
   all-below = has-items after (λ e among. among)
 
@@ -218,32 +227,39 @@ module _ (m : ToldMaps) (kind : Kind) (v w : Body) (f : IsToldFor m kind v w) (p
 -- ---- one item
 
 -- a value that is there is the second body's at a child of its own
-value-there : (m : ToldMaps) (kind : Kind) (v w : Body) (f : IsToldFor m kind v w) (p : Path) (q : Place) (e : Element) (j : Json) → value_below q w p e ≡ Some j → has w (p ++ e ∷ []) ≡ true
+value-there : (m : ToldMaps) (kind : Kind) (v w : Body) (f : IsToldFor m kind v w) (p : Path) (q : Place) (e : Element) (j : Json)
+    → value_below q w p e ≡ Some j → has w (p ++ e ∷ []) ≡ true
 value-there m kind v w f p q e j is = by_test (has w (p ++ e ∷ [])) (λ t. t) (λ k. absurd (none-some j (sym (no-value m kind v w f p q e k) ∙ is)))
 
 -- what is put
-pub item-put : (m : ToldMaps) (p : Path) (n : Node) (e : Element) (x : Json × Option ℕ) (u : program.Json) → get m.put (p ++ e ∷ []) ≡ Some x → view u ≡ x.0 → IsLedItem m p n e (Some u)
+pub item-put : (m : ToldMaps) (p : Path) (n : Node) (e : Element) (x : Json × Option ℕ) (u : program.Json) → get m.put (p ++ e ∷ []) ≡ Some x → view u ≡ x.0
+    → IsLedItem m p n e (Some u)
 item-put m p n e x u some same = λ kind v w q f h j is.
     let c = coming m kind v w f p q e x h.place some in
     same ∙ sym c.value ∙ same_Some _ j (sym (value-is m kind v w f p q e c.place c.there c.below) ∙ is)
 
 -- a child that stays
-pub item-stays : (m : ToldMaps) (p : Path) (n : Node) (e : Element) (c : Node) (o : Option program.Json) → is_tree n ≡ true → child_at e (below n) ≡ Some c → IsLed m (p ++ e ∷ []) c o → IsLedItem m p n e o
+pub item-stays : (m : ToldMaps) (p : Path) (n : Node) (e : Element) (c : Node) (o : Option program.Json) → is_tree n ≡ true → child_at e (below n) ≡ Some c
+    → IsLed m (p ++ e ∷ []) c o → IsLedItem m p n e o
 item-stays m p n e c o tree found led = λ kind v w q f h j is.
     let there = value-there m kind v w f p q e j is in
     let s = place-of m kind v w f p q e h.place there in
-    subst (IsGiven o) (same_Some _ j (sym (value-is m kind v w f p q e s.0 there s.1) ∙ is)) (led kind v w s.0 f (here-below m kind v w f p q n h tree e c s.0 found there s.1))
+    subst (IsGiven o) (same_Some _ j (sym (value-is m kind v w f p q e s.0 there s.1) ∙ is))
+    (led kind v w s.0 f (here-below m kind v w f p q n h tree e c s.0 found there s.1))
 
 -- the same of an answer of the walk into the child
-pub item-led : (m : ToldMaps) (p : Path) (n : Node) (e : Element) (d : Elem) (c : Node) (r : Result (Option program.Json) AllocError) → is_tree n ≡ true → child_at e (below n) ≡ Some c → element_view d ≡ e
+pub item-led : (m : ToldMaps) (p : Path) (n : Node) (e : Element) (d : Elem) (c : Node) (r : Result (Option program.Json) AllocError) → is_tree n ≡ true
+    → child_at e (below n) ≡ Some c → element_view d ≡ e
     → IfOk r (λ o. IsLed m (p ++ element_view d ∷ []) c o) → IfOk r (λ o. IsLedItem m p n e o)
 item-led m p n e d c (Ok o) tree found own led = item-stays m p n e c o tree found (subst (λ x. IsLed m (p ++ x ∷ []) c o) own led)
 item-led m p n e d c (Err x) tree found own led = tt
 
 -- there is no other item
-pub item-none : (m : ToldMaps) (p : Path) (n : Node) (e : Element) → is_tree n ≡ true → child_at e (below n) ≡ None → get m.put (p ++ e ∷ []) ≡ None → IsLedItem m p n e None
+pub item-none : (m : ToldMaps) (p : Path) (n : Node) (e : Element) → is_tree n ≡ true → child_at e (below n) ≡ None → get m.put (p ++ e ∷ []) ≡ None
+    → IsLedItem m p n e None
 item-none m p n e tree gone unput = λ kind v w q f h j is.
-    none-some j (sym (no-value m kind v w f p q e (none-missed m kind v w f p e (ap is_some (own-here m kind v w f p q n h tree)) (no-child m kind v w f p q n h tree e gone) unput)) ∙ is)
+    none-some j (sym (no-value m kind v w f p q e (none-missed m kind v w f p e (ap is_some (own-here m kind v w f p q n h tree))
+    (no-child m kind v w f p q n h tree e gone) unput)) ∙ is)
 
 -- ---- the order
 

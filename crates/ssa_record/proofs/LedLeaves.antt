@@ -23,9 +23,11 @@ use Rattle.ssa_record.specs.LedValues.{told_leaf, IsHere, IsToldFor}
 use Rattle.ssa_record.specs.Places.{ToldMaps}
 use Rattle.ssa_record.proofs.LedPlaces.{own-here}
 use Rattle.ssa_record.proofs.LedUntouched.{is-content}
+use Rattle.ssa_typed.proofs.OverNodes.{leaf-there as leaf-is}
 
 -- a leaf stands where the value is the content's
-leaf-place : (q : Place) (w : Body) (p : Path) (c : Content) → content_fits q c ≡ true → is_leaf (Some c) ≡ true → value_at_place q w p ≡ content_value (get w p)
+leaf-place : (q : Place) (w : Body) (p : Path) (c : Content) → content_fits q c ≡ true → is_leaf (Some c) ≡ true
+    → value_at_place q w p ≡ content_value (get w p)
 leaf-place (of_kind (scalar_kind k)) w p c fits is = refl
 leaf-place (of_kind (atomic_of s)) w p c fits is = refl
 leaf-place (value_of s) w p c fits is = refl
@@ -55,10 +57,6 @@ leaf-place (item_of ns fs) w p record_branch fits is = absurd (true≢false (sym
 leaf-place (item_of ns fs) w p dict_branch fits is = absurd (true≢false (sym is))
 leaf-place (item_of ns fs) w p (list_branch es) fits is = absurd (true≢false (sym is))
 
-leaf-is : (l : Leaf) → is_leaf (Some (leaf_content l)) ≡ true
-leaf-is (Scalar s) = refl
-leaf-is (Atomic v) = refl
-
 -- the value of a leaf is told as its content is
 leaf-said : (l : Leaf) (o : Option Content) → unwrap_or (option_map told_leaf o) (leaf_value l) ≡ told_leaf (unwrap_or o (leaf_content l))
 leaf-said (Scalar s) None = refl
@@ -70,7 +68,8 @@ leaf-carried : (l : Leaf) (v w : Body) (p : Path) → unwrap_or (get (new_leaves
 leaf-carried (Scalar s) v w p = refl
 leaf-carried (Atomic j) v w p = refl
 
-module _ (m : ToldMaps) (kind : Kind) (v w : Body) (f : IsToldFor m kind v w) (p : Path) (q : Place) (n : Node) (h : IsHere kind v w p q n) (tree : is_tree n ≡ true) where
+module _ (m : ToldMaps) (kind : Kind) (v w : Body) (f : IsToldFor m kind v w) (p : Path) (q : Place) (n : Node) (h : IsHere kind v w p q n)
+    (tree : is_tree n ≡ true) where
   -- what stands at the place fits it
   pub own-fits : content_fits q (own_content n) ≡ true
   own-fits =

@@ -25,7 +25,6 @@ use Rattle.ssa_model.proofs.Places.{place-after}
 use Rattle.ssa_model.proofs.PutParts.{AllAt, IsPut, all-puts, get-puts}
 use Rattle.ssa_model.proofs.RecordTurns.{some-put}
 use Rattle.ssa_model.proofs.TakenBodies.{taken_body_fits}
-use Rattle.ssa_model.proofs.Tables.{no}
 use Rattle.ssa_model.proofs.Tests.{by_test}
 use Rattle.ssa_path.specs.Children.{child_at}
 use Rattle.ssa_typed.specs.Points.{content_in}
@@ -34,6 +33,7 @@ use Rattle.ssa_typed.specs.declared.node.Node.{Node}
 use Rattle.ssa_typed.proofs.Lookups.{content-level, content-root}
 use Rattle.ssa_record.specs.LedValues.{told_part, value_below, IsHere, IsToldFor}
 use Rattle.ssa_record.specs.Places.{ToldMaps}
+use Rattle.ssa_model.proofs.Basics.{not_true as no}
 
 -- what holds of all entries holds of what is found
 all-found : {X : Type 0} (P : Path → X → Type 0) (es : List (Path × X)) (p : Path) (x : X) → AllAt P es → find path_cmp p es ≡ Some x → P p x
@@ -45,6 +45,7 @@ all-found P (e ∷ es) p x h is =
     ] refl is
 
 module _ (m : ToldMaps) (kind : Kind) (v w : Body) (f : IsToldFor m kind v w) where
+  -- the record of the two bodies takes the first to the second
   pub takes : BodyTakes kind (body_record v w) v w
   takes = record { from = f.from; to = f.to; is = refl }
 
@@ -52,34 +53,45 @@ module _ (m : ToldMaps) (kind : Kind) (v w : Body) (f : IsToldFor m kind v w) wh
   pub fits : BodyFits kind (body_record v w) v
   fits = taken_body_fits kind (body_record v w) v w takes
 
+  -- it leads the first body to the second
   pub leads : carry_body (body_record v w) v ≡ w
   leads = body_leads kind v w f.from f.to
 
   -- what is told to be put is the second body's value there, which the first body has not
   pub record IsComing (p : Path) (q : Place) (e : Element) (x : Json × Option ℕ) : Type 0 where
+    -- the second body has it
     pub there : has w (p ++ e ∷ []) ≡ true
+    -- the first has not
     pub new : has v (p ++ e ∷ []) ≡ false
+    -- its place in the schema
     pub place : Place
+    -- that place is the one below, by its element
     pub below : place_below q e ≡ Some place
+    -- the value that is put is the second body's there
     pub value : value_at_place place w (p ++ e ∷ []) ≡ x.0
+    -- it has a position where it is an item, the one in the second body's order
     pub position : x.1 ≡ position_from (same_element e) 0 (order_at (get w p))
 
   -- the place of a child that the second body has
-  pub place-of : (p : Path) (q : Place) (e : Element) → place_at (of_kind kind) p ≡ Some q → has w (p ++ e ∷ []) ≡ true → (s : Place) × (place_below q e ≡ Some s)
+  pub place-of : (p : Path) (q : Place) (e : Element) → place_at (of_kind kind) p ≡ Some q → has w (p ++ e ∷ []) ≡ true → (s : Place)
+      × (place_below q e ≡ Some s)
   place-of p q e at there =
       let c = some_there (get w (p ++ e ∷ [])) there in
       let found = f.to.fits (p ++ e ∷ []) c.0 c.1 in
       (found.place, sym (place-after p (of_kind kind) e q at) ∙ found.there)
 
   -- its value
-  pub value-is : (p : Path) (q : Place) (e : Element) (s : Place) → has w (p ++ e ∷ []) ≡ true → place_below q e ≡ Some s → value_below q w p e ≡ Some (value_at_place s w (p ++ e ∷ []))
+  pub value-is : (p : Path) (q : Place) (e : Element) (s : Place) → has w (p ++ e ∷ []) ≡ true → place_below q e ≡ Some s
+      → value_below q w p e ≡ Some (value_at_place s w (p ++ e ∷ []))
   value-is p q e s there below = (λ i. if there i then option_map (λ s. value_at_place s w (p ++ e ∷ [])) (below i) else None)
 
+  -- where the second body has no child, there is no value of it
   pub no-value : (p : Path) (q : Place) (e : Element) → has w (p ++ e ∷ []) ≡ false → value_below q w p e ≡ None
   no-value p q e off = ap (λ t. if t then option_map (λ s. value_at_place s w (p ++ e ∷ [])) (place_below q e) else None) off
 
   -- what is put
-  pub coming : (p : Path) (q : Place) (e : Element) (x : Json × Option ℕ) → place_at (of_kind kind) p ≡ Some q → get m.put (p ++ e ∷ []) ≡ Some x → IsComing p q e x
+  pub coming : (p : Path) (q : Place) (e : Element) (x : Json × Option ℕ) → place_at (of_kind kind) p ≡ Some q → get m.put (p ++ e ∷ []) ≡ Some x
+      → IsComing p q e x
   coming p q e x at is = by (get (puts v w) (p ++ e ∷ [])) refl
     where
       g : Path
@@ -90,7 +102,8 @@ module _ (m : ToldMaps) (kind : Kind) (v w : Body) (f : IsToldFor m kind v w) wh
       by (Some y) some =
           let put = all-found (IsPut v w) (puts v w).entries g y (all-puts v w) some in
           let told : told_part kind g y ≡ x = same_Some (told_part kind g y) x (sym (f.put g ∙ ap (option_map (told_part kind g)) some) ∙ is) in
-          let both = sym (some-put (has w g) (is_top v g) (part_at w g)) ∙ sym (ap is_some (get-over_paths w (λ p. if is_top v p then Some (part_at w p) else None) g)) ∙ ap is_some some in
+          let both = sym (some-put (has w g) (is_top v g) (part_at w g))
+          ∙ sym (ap is_some (get-over_paths w (λ p. if is_top v p then Some (part_at w p) else None) g)) ∙ ap is_some some in
           let there : has w g ≡ true = first_so (has w g) (is_top v g) both in
           let s = place-of p q e at there in
           let at_g : place_at (of_kind kind) g ≡ Some s.0 = place-after p (of_kind kind) e q at ∙ s.1 in
@@ -125,6 +138,7 @@ module _ (m : ToldMaps) (kind : Kind) (v w : Body) (f : IsToldFor m kind v w) wh
       (λ t. t)
       (λ off. absurd (true≢false (sym ((λ i. there i && (not (off i) && has w (parent-push p e i))) ∙ here) ∙ sym (get-cuts v w g) ∙ sym (f.cut g) ∙ uncut)))
 
+  -- a child that is told to be cut is none of the second body's
   pub cut-gone : (p : Path) (e : Element) → has m.cut (p ++ e ∷ []) ≡ true → has w (p ++ e ∷ []) ≡ false
   cut-gone p e cut =
       let g = p ++ e ∷ [] in
@@ -133,20 +147,25 @@ module _ (m : ToldMaps) (kind : Kind) (v w : Body) (f : IsToldFor m kind v w) wh
   -- ---- the children of a tree
 
   module _ (p : Path) (q : Place) (n : Node) (h : IsHere kind v w p q n) (tree : is_tree n ≡ true) where
+    -- the content of the tree is what the first body has at the path
     pub own-here : get v p ≡ Some (own_content n)
     own-here = ap (get v) (sym (append-nil p)) ∙ h.tells [] ∙ content-root n
 
+    -- below the path the first body has what the tree's children have
     pub child-told : (e : Element) (r : Path) → get v (p ++ e ∷ r) ≡ content_in (child_at e (below n)) r
     child-told e r = h.tells (e ∷ r) ∙ content-level n e r tree
 
+    -- a child of the tree stands in the first body
     pub child-is : (e : Element) (c : Node) → child_at e (below n) ≡ Some c → has v (p ++ e ∷ []) ≡ true
     child-is e c found = ap is_some (child-told e [] ∙ ap (λ x. content_in x []) found ∙ content-root c)
 
+    -- where the tree has no child, the first body has nothing
     pub no-child : (e : Element) → child_at e (below n) ≡ None → has v (p ++ e ∷ []) ≡ false
     no-child e none = ap is_some (child-told e [] ∙ ap (λ x. content_in x []) none)
 
     -- a child that the second body has too is a tree of its own
-    pub here-below : (e : Element) (c : Node) (s : Place) → child_at e (below n) ≡ Some c → has w (p ++ e ∷ []) ≡ true → place_below q e ≡ Some s → IsHere kind v w (p ++ e ∷ []) s c
+    pub here-below : (e : Element) (c : Node) (s : Place) → child_at e (below n) ≡ Some c → has w (p ++ e ∷ []) ≡ true → place_below q e ≡ Some s
+        → IsHere kind v w (p ++ e ∷ []) s c
     here-below e c s found there at = record {
       tells = λ r. ap (get v) (append_assoc p (e ∷ []) r) ∙ child-told e r ∙ ap (λ x. content_in x r) found;
       there = there;

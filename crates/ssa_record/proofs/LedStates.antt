@@ -8,7 +8,7 @@ use Rattle.ssa_model.specs.definitions.Operations.{State}
 use Rattle.ssa_model.specs.definitions.Carry.{carry, carry_body, carry_table}
 use Rattle.ssa_model.specs.definitions.Record.{BodyRecord, TableRecord, Record, body_record, table_record}
 use Rattle.ssa_model.specs.definitions.Takes.{BodyTakes, TableTakes, Takes}
-use Rattle.ssa_model.specs.definitions.Valid.{IsValidBody, IsValidState, KeepsOrder}
+use Rattle.ssa_model.specs.definitions.Valid.{IsRooted, IsValidBody, IsValidState, KeepsOrder}
 use Rattle.ssa_model.specs.laws.FittingRecords.{KeepsUncut, TableFits}
 use Rattle.ssa_model.proofs.BodyLeads.{bodies_are_trees, left, lost}
 use Rattle.ssa_model.proofs.RecordTakes.{body_laws, fixes_target}
@@ -17,16 +17,17 @@ use Rattle.ssa_model.proofs.Tables.{yes_no}
 use Rattle.ssa_model.proofs.Tests.{by_test}
 use Rattle.ssa_turn_body.specs.Rooms.{IsBodyTaken}
 use Rattle.ssa_turn_state.specs.States.{IsTaken}
+use Rattle.ssa_model.proofs.RecordPlaces.{led as leads-to}
 
--- a record of two bodies of a kind is taken, to where it leads
-pub taken-there : (kind : Kind) (d : BodyRecord) (v w : Body) → BodyTakes kind d v w → IsBodyTaken d v (carry_body d v)
-taken-there kind d v w takes = (kind, subst (BodyTakes kind d v) (sym (body_laws kind d v w takes).0) takes)
+-- a record of two rooted bodies of a kind is taken, to where it leads
+pub taken-there : (kind : Kind) (d : BodyRecord) (v w : Body) → BodyTakes kind d v w → IsRooted v → IsRooted w → IsBodyTaken d v (carry_body d v)
+taken-there kind d v w takes from to =
+    let led = sym (body_laws kind d v w takes).0 in
+    (kind, subst (BodyTakes kind d v) led takes, from, subst IsRooted led to)
 
+-- such a record leads from the first body to the second
 pub leads-there : (d : BodyRecord) (v w : Body) → IsBodyTaken d v w → carry_body d v ≡ w
 leads-there d v w taken = (body_laws taken.0 d v w taken.1).0
-
-pub leads-to : (kind : Kind) (d : BodyRecord) (v w : Body) → BodyTakes kind d v w → carry_body d v ≡ w
-leads-to kind d v w takes = (body_laws kind d v w takes).0
 
 -- what is cut is what the second body has not
 pub keeps-uncut : (kind : Kind) (d : BodyRecord) (v w : Body) → BodyTakes kind d v w → KeepsUncut d.cut v w
@@ -34,6 +35,7 @@ keeps-uncut kind d v w takes p there uncut =
     let h = bodies_are_trees kind v w takes.from takes.to in
     left v w h.0 h.1 h.2 p there (ap (λ (x : BodyRecord). has_at_or_above x.cut p) (sym takes.is) ∙ uncut)
 
+-- what the second body has lies under nothing that is cut
 pub lost-cut : (kind : Kind) (d : BodyRecord) (v w : Body) → BodyTakes kind d v w → (p : Path) → has w p ≡ true → has_at_or_above d.cut p ≡ false
 lost-cut kind d v w takes p there =
     let h = bodies_are_trees kind v w takes.from takes.to in
@@ -61,12 +63,10 @@ state-taken kind v s wb valid takes own fits =
     )
 
 -- what is told of a table that a record takes a valid one to
-pub table-taken : (kind : Kind) (v w : State) (d : TableRecord) → IsValidState kind v → IsValidState kind w → KeepsOrder v.table w.table → d ≡ table_record v.table w.table → TableTakes d v.table w.table
-table-taken kind v w d valid own order is = record { from = valid.table.distinct; to = own.table.distinct; order = order; is = is }
+pub table-taken : (kind : Kind) (v w : State) (d : TableRecord) → IsValidState kind v → IsValidState kind w → KeepsOrder v.table w.table
+    → d ≡ table_record v.table w.table → TableTakes d v.table w.table
+table-taken kind v w d valid own order is = record { from = valid.table.managers.distinct; to = own.table.managers.distinct; order = order; is = is }
 
+-- the record of the bodies of two valid states takes the first of these to the second
 pub body-taken : (kind : Kind) (v w : State) → IsValidState kind v → IsValidState kind w → BodyTakes kind (body_record v.body w.body) v.body w.body
 body-taken kind v w valid own = record { from = valid.fits; to = own.fits; is = refl }
-
--- a record of two states is taken, to where it leads
-pub there : (kind : Kind) (d : Record) (v w : State) → Takes kind d v w → IsTaken d v (carry d v)
-there kind d v w takes = (kind, subst (Takes kind d v) (sym (fixes_target kind d v w takes)) takes)

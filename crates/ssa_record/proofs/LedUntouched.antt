@@ -14,12 +14,12 @@ use Rattle.ssa_model.specs.definitions.Record.{body_record, common, are_in_one_o
 use Rattle.ssa_model.specs.definitions.RecordText.{value_at_place}
 use Rattle.ssa_model.specs.laws.RecordWalks.{AreAlike}
 use Rattle.ssa_model.proofs.BodyLeads.{bodies_are_trees, content_is}
-use Rattle.ssa_model.proofs.Fitting.{nothing_there, some_there}
+use Rattle.ssa_model.proofs.Fitting.{some_there}
 use Rattle.ssa_model.proofs.PartValues.{part_is_value}
 use Rattle.ssa_model.proofs.PathMaps.{get-over_paths, same_map}
 use Rattle.ssa_model.proofs.Pruned.{closed-above, under-append}
 use Rattle.ssa_model.proofs.PutParts.{get-below}
-use Rattle.ssa_model.proofs.Tables.{element-itself, or_true, true_or, yes_no}
+use Rattle.ssa_model.proofs.Tables.{element-itself, true_or, yes_no}
 use Rattle.ssa_model.proofs.Tests.{by_test, pointwise-true}
 use Rattle.ssa_model.proofs.Fitting.{same_element-true}
 use Rattle.ssa_typed.specs.Rows.{body_of, is_tree}
@@ -30,23 +30,15 @@ use Rattle.ssa_typed.proofs.Showing.{part-shown}
 use Rattle.ssa_record.specs.LedValues.{told_leaf, IsHere, IsToldFor}
 use Rattle.ssa_record.specs.Places.{ToldMaps}
 use Rattle.ssa_record.proofs.LedPlaces.{kept-there, none-missed}
+use Rattle.ssa_model.proofs.PutItems.{filter-members as filter-alike}
+use Rattle.ssa_typed.proofs.Reached.{all-pass as filter-whole}
+use Rattle.ssa_model.proofs.Basics.{or_true, none-there as nothing_there}
 
 -- ---- lists
-
--- tests that tell the elements of a list alike leave the same of it
-pub filter-alike : (test other : Element → Bool) (es : List Element) → ((e : Element) → is_among e es ≡ true → test e ≡ other e) → filter test es ≡ filter other es
-filter-alike test other [] alike = refl
-filter-alike test other (e ∷ es) alike =
-    (λ i. cond (alike e (true_or (same_element e e) (is_among e es) (element-itself e)) i) (e ∷ filter test es) (filter test es))
-    ∙ ap (λ xs. cond (other e) (e ∷ xs) xs) (filter-alike test other es (λ f among. alike f (or_true (same_element f e) (is_among f es) among)))
 
 all-left : (es : List Element) → filter (λ e. true) es ≡ es
 all-left [] = refl
 all-left (e ∷ es) = ap (λ xs. e ∷ xs) (all-left es)
-
--- a list all of whose elements pass
-pub filter-whole : (test : Element → Bool) (es : List Element) → ((e : Element) → is_among e es ≡ true → test e ≡ true) → filter test es ≡ es
-filter-whole test es all = filter-alike test (λ e. true) es all ∙ all-left es
 
 module _ (m : ToldMaps) (kind : Kind) (v w : Body) (f : IsToldFor m kind v w) where
   alike : AreAlike v w
@@ -57,7 +49,8 @@ module _ (m : ToldMaps) (kind : Kind) (v w : Body) (f : IsToldFor m kind v w) wh
   is-content q c e is_v is_w = let h = bodies_are_trees kind v w f.from f.to in content_is v w h.0 h.1 h.2 q c e is_v is_w (h.2 q c e is_v is_w)
 
   -- where no order is told, the common items stand in one order
-  pub one-order : (q : Path) (es fs : List Element) → get v q ≡ Some (list_branch es) → get w q ≡ Some (list_branch fs) → get m.order q ≡ None → common es fs ≡ common fs es
+  pub one-order : (q : Path) (es fs : List Element) → get v q ≡ Some (list_branch es) → get w q ≡ Some (list_branch fs) → get m.order q ≡ None
+      → common es fs ≡ common fs es
   one-order q es fs is_v is_w none =
       let order : get (new_orders v w) q ≡ new_order (Some (list_branch es)) (Some (list_branch fs)) =
       get-over_paths v (λ p. new_order (get v p) (get w p)) q ∙ (λ i. cond (is_some (is_v i)) (new_order (is_v i) (is_w i)) None) in
@@ -66,7 +59,8 @@ module _ (m : ToldMaps) (kind : Kind) (v w : Body) (f : IsToldFor m kind v w) wh
       (λ k. absurd (none-some fs (sym none ∙ f.order q ∙ order ∙ ap (λ b. if not b then Some fs else None) k)))
 
   -- an item of the first body is one of the second exactly where it is not told to be cut
-  pub among-second : (q : Path) (es fs : List Element) → get v q ≡ Some (list_branch es) → get w q ≡ Some (list_branch fs) → (e : Element) → is_among e es ≡ true
+  pub among-second : (q : Path) (es fs : List Element) → get v q ≡ Some (list_branch es) → get w q ≡ Some (list_branch fs) → (e : Element)
+      → is_among e es ≡ true
       → has m.cut (q ++ e ∷ []) ≡ false → is_among e fs ≡ true
   among-second q es fs is_v is_w e among uncut =
       let both : (is_item_element e && has v (q ++ e ∷ [])) ≡ true = sym (f.from.items q e) ∙ ap (λ o. is_among e (order_at o)) is_v ∙ among in
@@ -81,7 +75,8 @@ module _ (m : ToldMaps) (kind : Kind) (v w : Body) (f : IsToldFor m kind v w) wh
       let there : has v (q ++ e ∷ []) ≡ true =
       by_test (has v (q ++ e ∷ []))
       (λ t. t)
-      (λ off. yes_no (has w (q ++ e ∷ [])) (second_so (is_item_element e) (has w (q ++ e ∷ [])) both) (none-missed m kind v w f q e (ap is_some is_v) off (nothing_there (get m.put (q ++ e ∷ [])) unput))) in
+      (λ off. yes_no (has w (q ++ e ∷ [])) (second_so (is_item_element e) (has w (q ++ e ∷ [])) both)
+      (none-missed m kind v w f q e (ap is_some is_v) off (nothing_there (get m.put (q ++ e ∷ [])) unput))) in
       sym (ap (λ o. is_among e (order_at o)) is_v) ∙ f.from.items q e ∙ (λ i. first_so (is_item_element e) (has w (q ++ e ∷ [])) both i && there i)
 
   -- ---- nothing told at a path and right below it
@@ -106,7 +101,8 @@ module _ (m : ToldMaps) (kind : Kind) (v w : Body) (f : IsToldFor m kind v w) wh
   same-content p dict_branch e quiet is_v is_w = sym (is-content p dict_branch e is_v is_w)
   same-content p (list_branch es) e quiet is_v is_w =
       let fs = order_at (Some e) in
-      let list : e ≡ list_branch fs = ap (λ x. x) (sym (is-content p (list_branch es) e is_v is_w)) ∙ ap (λ x. list_branch (order_at (Some x))) (is-content p (list_branch es) e is_v is_w) in
+      let list : e ≡ list_branch fs = ap (λ x. x) (sym (is-content p (list_branch es) e is_v is_w))
+      ∙ ap (λ x. list_branch (order_at (Some x))) (is-content p (list_branch es) e is_v is_w) in
       let is_list : get w p ≡ Some (list_branch fs) = is_w ∙ ap (λ x. Some x) list in
       list
       ∙ ap list_branch
@@ -153,7 +149,9 @@ module _ (m : ToldMaps) (kind : Kind) (v w : Body) (f : IsToldFor m kind v w) wh
       ap (get w) (sym longer) ∙ closed-none w f.to.closed g r none ∙ sym (closed-none v f.from.closed g r k) ∙ ap (get v) longer)
 
   -- the value of a tree that nothing is told of is the second body's
-  pub untouched-value : (p : Path) (q : Place) (n : Node) → is_tree n ≡ true → IsHere kind v w p q n → has v p ≡ true → IsUntouched p → value_of n ≡ value_at_place q w p
+  pub untouched-value : (p : Path) (q : Place) (n : Node) → is_tree n ≡ true → IsHere kind v w p q n → has v p ≡ true → IsUntouched p
+      → value_of n ≡ value_at_place q w p
   untouched-value p q n tree h here off =
-      let same : body_of n ≡ map_below w p = same_map (body_of n) (map_below w p) (λ r. get-body n r ∙ sym (h.tells r) ∙ sym (untouched-same r p here h.there off) ∙ sym (get-below w p r)) in
+      let same : body_of n ≡ map_below w p = same_map (body_of n) (map_below w p) (λ r. get-body n r ∙ sym (h.tells r)
+      ∙ sym (untouched-same r p here h.there off) ∙ sym (get-below w p r)) in
       part-shown n kind q p w tree f.ordered f.to h.place same ∙ ap (λ b. value_at_place q b []) same ∙ part_is_value q w p

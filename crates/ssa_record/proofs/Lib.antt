@@ -12,7 +12,7 @@ mod LedLeaves
 mod LedMembers
 mod LedPlaces
 mod LedPuts
-mod LedStates
+pub mod LedStates
 mod LedUntouched
 pub mod MemberShapes
 pub mod Objects

@@ -14,7 +14,7 @@ use Rattle.ssa_record.specs.Telling.{are_named, fits}
 use Rattle.ssa_record.specs.declared.line_values.LineValues.{LineValues}
 use Rattle.ssa_record.specs.declared.member_names.Shape.TheVariants.{Line}
 use Rattle.ssa_record.proofs.MemberShapes.{AreApart, shape-fits}
-use Rattle.ssa_record.proofs.Objects.{or-false}
+use Rattle.ssa_model.proofs.Basics.{and-true, and-false, or-false}
 
 abbrev Found : Type 0
 Found = String Global × values.Json
@@ -22,14 +22,6 @@ Found = String Global × values.Json
 -- what the two members are, as a line asks
 abbrev have_both : Test → Test → Option Json → Option Json → Bool
 have_both s t c d = fits (must_have (codes "command") s) c && (fits (must_have (codes "record") t) d && true)
-
-and-true : (b : Bool) → (b && true) ≡ b
-and-true true = refl
-and-true false = refl
-
-and-false : (b : Bool) → (b && false) ≡ false
-and-false true = refl
-and-false false = refl
 
 module _ (s t : Test) where
   apart : AreApart (line_shape s t) (line_shape s t)
@@ -42,7 +34,8 @@ module _ (s t : Test) where
 
   line-is : (es : List Found) → IsStrictlySortedBy string_cmp (keys_of es)
       → has_members (line_shape s t) (object (members_view es))
-      ≡ (are_named (shapes_of Line) (members_view es) && have_both s t (member_of (codes "command") (members_view es)) (member_of (codes "record") (members_view es)))
+      ≡ (are_named (shapes_of Line) (members_view es) && have_both s t (member_of (codes "command") (members_view es))
+      (member_of (codes "record") (members_view es)))
   line-is es sorted =
       let ms = members_view es in
       shape-fits (line_shape s t) es sorted apart
@@ -55,15 +48,7 @@ module _ (s t : Test) where
       let ms = members_view es in
       line-is es sorted ∙ ap (λ b. b && have_both s t (member_of (codes "command") ms) (member_of (codes "record") ms)) named
 
-  -- a missing member
-  pub no-command : (es : List Found) → IsStrictlySortedBy string_cmp (keys_of es) → member_of (codes "command") (members_view es) ≡ None
-      → has_members (line_shape s t) (object (members_view es)) ≡ false
-  no-command es sorted none =
-      let ms = members_view es in
-      line-is es sorted
-      ∙ ap (λ c. are_named (shapes_of Line) ms && have_both s t c (member_of (codes "record") ms)) none
-      ∙ and-false (are_named (shapes_of Line) ms)
-
+  -- an object without a record is no line
   pub no-record : (es : List Found) → IsStrictlySortedBy string_cmp (keys_of es) → member_of (codes "record") (members_view es) ≡ None
       → has_members (line_shape s t) (object (members_view es)) ≡ false
   no-record es sorted none =
@@ -74,6 +59,7 @@ module _ (s t : Test) where
       ∙ ap (λ b. are_named (shapes_of Line) ms && b) (and-false (fits (must_have (codes "command") s) c))
       ∙ and-false (are_named (shapes_of Line) ms)
 
+  -- an object that has the two members of a line is one where both pass their tests
   pub both-there : (es : List Found) → IsStrictlySortedBy string_cmp (keys_of es) → are_named (shapes_of Line) (members_view es) ≡ true
       → (c d : Json) → member_of (codes "command") (members_view es) ≡ Some c → member_of (codes "record") (members_view es) ≡ Some d
       → has_members (line_shape s t) (object (members_view es)) ≡ (s c && t d)

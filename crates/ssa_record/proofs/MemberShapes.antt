@@ -81,7 +81,8 @@ any-fits n v whole (s ∷ ss) is named h =
     ap (fits s) (sym is ∙ ap (λ x. member_of x whole) (same_text-true n s.name t)) ∙ first_so (fits s (member_of s.name whole)) (all_fit ss whole) h in
     λ i. (t i && here i) || list_any (tests_at n v) ss)
     (λ f.
-    let rest = any-fits n v whole ss is (sym (ap (λ b. b || list_any (has_name n) ss) f) ∙ named) (second_so (fits s (member_of s.name whole)) (all_fit ss whole) h) in
+    let rest = any-fits n v whole ss is (sym (ap (λ b. b || list_any (has_name n) ss) f)
+    ∙ named) (second_so (fits s (member_of s.name whole)) (all_fit ss whole) h) in
     ap (λ b. (b && s.test v) || list_any (tests_at n v) ss) f ∙ rest)
 
 -- a member's value passes one of the tests of its name
@@ -93,7 +94,8 @@ member-tested shapes (member m w ms) n v are is =
     (λ t.
     let values : w ≡ v = same_Some w v (sym (ap (λ b. if b then Some w else member_of n ms) t) ∙ is) in
     (λ i. list_any (tests_at (same_text-true n m t i) (sym values i)) shapes) ∙ first_so (list_any (tests_at m w) shapes) (are_members_of shapes ms) are)
-    (λ f. member-tested shapes ms n v (second_so (list_any (tests_at m w) shapes) (are_members_of shapes ms) are) (sym (ap (λ b. if b then Some w else member_of n ms) f) ∙ is))
+    (λ f. member-tested shapes ms n v (second_so (list_any (tests_at m w) shapes) (are_members_of shapes ms) are)
+    (sym (ap (λ b. if b then Some w else member_of n ms) f) ∙ is))
 
 -- ---- the shape
 

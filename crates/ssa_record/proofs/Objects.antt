@@ -14,18 +14,10 @@ use Rattle.ssa_json.specs.declared.value.Json as values
 use Rattle.ssa_record.specs.Shapes.{is_leaf, is_order, are_body_lists, are_table_lists}
 use Rattle.ssa_record.specs.Telling.{passes, may_pass, are_named}
 use Rattle.ssa_record.proofs.MemberShapes.{AreApart, shape-fits}
+use Rattle.ssa_model.proofs.Basics.{and-false, or-false}
 
 abbrev Found : Type 0
 Found = String Global × values.Json
-
--- a test that may pass in no other way
-pub or-false : (b : Bool) → (b || false) ≡ b
-or-false true = refl
-or-false false = refl
-
-and-false : (b : Bool) → (b && false) ≡ false
-and-false true = refl
-and-false false = refl
 
 -- ---- tests one after another
 
@@ -129,22 +121,28 @@ module _ (es : List Found) (sorted : IsStrictlySortedBy string_cmp (keys_of es))
   change-is : is_change ≡ (named (change_shape readings) && (gain && (lose && (name && (operation && (renewed && true))))))
   change-is = shape-fits (change_shape readings) es sorted change-apart
 
+  -- with other members it is no change
   pub change-named : named (change_shape readings) ≡ false → is_change ≡ false
   change-named n = change-is ∙ (λ i. n i && (gain && (lose && (name && (operation && (renewed && true))))))
 
   module _ (n : named (change_shape readings) ≡ true) where
+    -- where the gained paths are none that are written so, it is no change
     pub change-gain : gain ≡ false → is_change ≡ false
     change-gain g = change-is ∙ (λ i. n i && (g i && (lose && (name && (operation && (renewed && true))))))
 
+    -- where the lost paths are none that are written so, it is no change
     pub change-lose : gain ≡ true → lose ≡ false → is_change ≡ false
     change-lose g l = change-is ∙ (λ i. n i && (g i && (l i && (name && (operation && (renewed && true))))))
 
+    -- without a manager's name or an operation it is no change
     pub change-key : gain ≡ true → lose ≡ true → (name && operation) ≡ false → is_change ≡ false
     change-key g l k = change-is ∙ (λ i. n i && (g i && (l i && both-refused name operation (renewed && true) k i)))
 
+    -- with a time that is no moment it is no change
     pub change-time : gain ≡ true → lose ≡ true → name ≡ true → operation ≡ true → renewed ≡ false → is_change ≡ false
     change-time g l m o t = change-is ∙ (λ i. n i && (g i && (l i && (m i && (o i && (t i && true))))))
 
+    -- where each member passes, it is a change
     pub change-all : gain ≡ true → lose ≡ true → name ≡ true → operation ≡ true → renewed ≡ true → is_change ≡ true
     change-all g l m o t = change-is ∙ (λ i. n i && (g i && (l i && (m i && (o i && (t i && true))))))
 
@@ -162,6 +160,7 @@ module _ (es : List Found) (sorted : IsStrictlySortedBy string_cmp (keys_of es))
   abbrev time : Bool
   time = passes (is_moment readings) (at (codes "time"))
 
+  -- the text of a time that is a moment is the one that stands there
   pub moment-there : time ≡ true → text_in (Some (value_in (at (codes "time")))) ≡ text_in (at (codes "time"))
   moment-there = text-there (is_moment readings) (at (codes "time"))
 
@@ -171,24 +170,31 @@ module _ (es : List Found) (sorted : IsStrictlySortedBy string_cmp (keys_of es))
   entry-is : is_entry ≡ (named (entry_shape readings) && (version && (type && (fields && (name && (operation && (time && true)))))))
   entry-is = shape-fits (entry_shape readings) es sorted entry-apart
 
+  -- with other members it is no entry
   pub entry-named : named (entry_shape readings) ≡ false → is_entry ≡ false
   entry-named n = entry-is ∙ (λ i. n i && (version && (type && (fields && (name && (operation && (time && true)))))))
 
   module _ (n : named (entry_shape readings) ≡ true) where
+    -- without a version or a type of the fields that are texts it is no entry
     pub entry-texts : (version && type) ≡ false → is_entry ≡ false
     entry-texts t = entry-is ∙ (λ i. n i && both-refused version type (fields && (name && (operation && (time && true)))) t i)
 
     module _ (t : (version && type) ≡ true) where
+      -- where the fields are none that are written so, it is no entry
       pub entry-fields : fields ≡ false → is_entry ≡ false
       entry-fields f = entry-is ∙ (λ i. n i && (first_so version type t i && (second_so version type t i && (f i && (name && (operation && (time && true)))))))
 
+      -- without a manager's name or an operation it is no entry
       pub entry-key : fields ≡ true → (name && operation) ≡ false → is_entry ≡ false
-      entry-key f k = entry-is ∙ (λ i. n i && (first_so version type t i && (second_so version type t i && (f i && both-refused name operation (time && true) k i))))
+      entry-key f k = entry-is ∙ (λ i. n i && (first_so version type t i
+          && (second_so version type t i && (f i && both-refused name operation (time && true) k i))))
 
+      -- with a time that is no moment it is no entry
       pub entry-time : fields ≡ true → name ≡ true → operation ≡ true → time ≡ false → is_entry ≡ false
       entry-time f m o at =
           entry-is ∙ (λ i. n i && (first_so version type t i && (second_so version type t i && (f i && (m i && (o i && (at i && true)))))))
 
+      -- where each member passes, it is an entry
       pub entry-all : fields ≡ true → name ≡ true → operation ≡ true → time ≡ true → is_entry ≡ true
       entry-all f m o at =
           entry-is ∙ (λ i. n i && (first_so version type t i && (second_so version type t i && (f i && (m i && (o i && (at i && true)))))))
@@ -207,10 +213,12 @@ module _ (es : List Found) (sorted : IsStrictlySortedBy string_cmp (keys_of es))
   here-is : is_here ≡ (named (here_shape readings) && (entry && (place && true)))
   here-is = shape-fits (here_shape readings) es sorted here-apart
 
+  -- with other members it is nobody who is here
   pub here-named : named (here_shape readings) ≡ false → is_here ≡ false
   here-named n = here-is ∙ (λ i. n i && (entry && (place && true)))
 
   module _ (n : named (here_shape readings) ≡ true) where
+    -- without a place that is a whole number it is nobody who is here
     pub here-place : place ≡ false → is_here ≡ false
     here-place p = here-is ∙ (λ i. n i && last entry place p i)
       where
@@ -218,9 +226,11 @@ module _ (es : List Found) (sorted : IsStrictlySortedBy string_cmp (keys_of es))
         last true b h = ap (λ c. c && true) h
         last false b h = refl
 
+    -- without an entry it is nobody who is here
     pub here-entry : place ≡ true → entry ≡ false → is_here ≡ false
     here-entry p e = here-is ∙ (λ i. n i && (e i && (p i && true)))
 
+    -- with a place and an entry it is one who is here
     pub here-all : place ≡ true → entry ≡ true → is_here ≡ true
     here-all p e = here-is ∙ (λ i. n i && (e i && (p i && true)))
 
@@ -255,15 +265,19 @@ module _ (es : List Found) (sorted : IsStrictlySortedBy string_cmp (keys_of es))
       (passes (is_list_of (has_members (here_shape readings))) (at (codes "here"))) (passes (is_list_of is_leaf) (at (codes "leaves")))
       (passes (is_list_of is_order) (at (codes "order"))) (passes (is_list_of (is_put readings)) (at (codes "put"))))
 
+  -- with other members it is no record
   pub record-named : named (record_shape readings) ≡ false → is_record ≡ false
   record-named n = record-is ∙ (λ i. n i && (body && table))
 
   module _ (n : named (record_shape readings) ≡ true) where
+    -- where the lists of a body do not pass, it is no record
     pub record-body : body ≡ false → is_record ≡ false
     record-body b = record-is ∙ (λ i. n i && (b i && table))
 
+    -- where the lists of a table do not pass, it is no record
     pub record-table : body ≡ true → table ≡ false → is_record ≡ false
     record-table b t = record-is ∙ (λ i. n i && (b i && t i))
 
+    -- where the lists of a body and those of a table pass, it is a record
     pub record-all : body ≡ true → table ≡ true → is_record ≡ true
     record-all b t = record-is ∙ (λ i. n i && (b i && t i))

@@ -7,13 +7,13 @@ use Rattle.std.specs.Ordering.{is_eq, is_lt, ordering_index, ordering_reverse}
 use Rattle.std.specs.Result.{MatchResult}
 use Rattle.ssa_model.specs.definitions.Path.{Path, path_cmp, path_cmp_total, same_path}
 use Rattle.ssa_model.specs.definitions.PathMap.{from_entries}
-use Rattle.ssa_model.proofs.RisingNames.{lower}
 use Rattle.ssa_model.proofs.Tests.{holds}
 use Rattle.ssa_model.proofs.Texts.{same_path_same}
 use Rattle.ssa_path.specs.TopPaths.{lent_path}
 use Rattle.ssa_path.specs.declared.top_path.LentPath.{LentPath}
 use Rattle.ssa_record.specs.PathOrder.{by_lent_path, lent_rise, value_at, IsPathSearch}
 use Rattle.ssa_record.proofs.ByPaths.{shown, shown-sorted}
+use Rattle.ssa_model.proofs.Basics.{lower}
 
 -- what stands behind a path or at it is followed by what stands behind it
 index_up : (e f g : Path) (o : Ordering) → path_cmp f e ≡ o → path_cmp f g ≡ Less → ordering_index o ≤ ordering_index (path_cmp g e)
@@ -32,6 +32,7 @@ other_way : (q x : Path) (o : Ordering) → path_cmp x q ≡ o → path_cmp q x 
 other_way q x o h = path_cmp_total.antisymm q x ∙ ap ordering_reverse h
 
 module _ {V : Type 0} where
+  -- how an entry's path compares with the path that is looked for
   abbrev pub compared : Path → LentPath × V → Ordering
   compared q e = path_cmp (lent_path e.0) q
 
@@ -81,6 +82,7 @@ module _ {V : Type 0} where
       passed q e es (ap is_eq (other_way q (lent_path e.0) Less (lows 0 e (omega arith) (omega arith))))
       ∙ absent-between q es i (λ k d lt in_range. lows (suc k) d (omega arith) (omega arith)) (λ k d le in_range. highs (suc k) d (omega arith) (omega arith))
 
+  -- what a binary search among rising paths answers is where the path stands, or that it is not there
   pub path-search : (q : Path) (es : List (LentPath × V)) (r : Result ℕ ℕ) → lent_rise es ≡ true → MatchResult r (λ i. i < length es) (λ i. i ≤ length es)
       → IsBinarySearchResult (compared q) es r → IsPathSearch q es r
   path-search q es (Ok i) h bound found = record { within = bound; is = λ e. found-at q es i e h bound (found e) }

@@ -24,7 +24,7 @@ use Rattle.ssa_model.proofs.Tables.{same_text-true}
 use Rattle.ssa_record.specs.PathTexts.{texts_or_none}
 use Rattle.ssa_record.specs.Said.{RecordTextsSay}
 use Rattle.ssa_record.specs.Told.{leaf_of, put_of, said_body, said_leaf, said_put, told_of}
-use Rattle.ssa_record.proofs.Objects.{or-false}
+use Rattle.ssa_model.proofs.Basics.{or-false}
 
 -- ---- lists whose items pass
 
@@ -170,6 +170,7 @@ module _ (readings : Readings) where
     others-pass : (a r : Bool) → ((a || false) && r) ≡ true → r ≡ true
     others-pass a r h = second_so (a || false) r h
 
+    -- the value of a record says of the bodies what the record tells of them
     pub body-said : said_body readings (record_json version kind d) ≡ told_of kind d.body
     body-said =
         let cuts = others-pass changed from_cut (first_so ((changed || false) && from_cut) true shaped) in
@@ -190,6 +191,7 @@ module _ (readings : Readings) where
         (first-passes put true (others-pass order from_put orders)) in
         λ i. record { cut = cut_is i; leaves = leaves_are i; order = order_is i; put = put_is i }
 
+-- the value of the record of two valid states whose paths are read says the record
 pub record_texts_say : RecordTextsSay
 record_texts_say readings version kind v w accepted a b h k = (
   body-said readings (text_json version) kind (record_of v w) (record_texts_have_shape readings version kind v w a b h k),

@@ -15,8 +15,8 @@ use Rattle.ssa_model.specs.definitions.Kind.{is_among}
 use Rattle.ssa_model.specs.definitions.Path.{Element, Path, same_element, same_path}
 use Rattle.ssa_model.specs.definitions.PathMap.{get, has}
 use Rattle.ssa_model.proofs.Fitting.{same_element-true}
-use Rattle.ssa_model.proofs.PutItems.{position-middle, position-stands}
-use Rattle.ssa_model.proofs.Tables.{either, element-itself, no, or_true, true_or, yes_no}
+use Rattle.ssa_model.proofs.PutItems.{position-middle, position-stands, among-middle}
+use Rattle.ssa_model.proofs.Tables.{either, element-itself, true_or, yes_no}
 use Rattle.ssa_model.proofs.Tests.{by_test, filter-kept, filter-dropped}
 use Rattle.ssa_path.specs.Children.{child_at, elements}
 use Rattle.ssa_path.specs.View.{element_view}
@@ -28,12 +28,9 @@ use Rattle.ssa_record.specs.Places.{ToldMaps, AllTouched, IsRefilled, IsTouchedB
 use Rattle.ssa_record.specs.Refilled.{IsLentOrder, all_below, lent_elements, lent_puts, place_told, puts_told, with_put, woven}
 use Rattle.ssa_record.proofs.ByPaths.{mapped-some}
 use Rattle.ssa_record.proofs.Slots.{chosen, placed-map, slot, slot-map, woven-is, woven-map}
+use Rattle.ssa_model.proofs.Basics.{or_true, not_true as no}
 
 -- ---- elements of a list
-
-among-middle : (xs ys : List Element) (y : Element) → is_among y (xs ++ y ∷ ys) ≡ true
-among-middle xs ys y =
-    list_any-append (same_element y) xs (y ∷ ys) ∙ or_true (is_among y xs) (is_among y (y ∷ ys)) (true_or (same_element y y) (is_among y ys) (element-itself y))
 
 among-position : (e : Element) (k : ℕ) (fs : List Element) → is_among e fs ≡ true → (i : ℕ) × (position_from (same_element e) k fs ≡ Some i)
 among-position e k [] h = absurd (true≢false (sym h))
@@ -253,9 +250,13 @@ module _ (at : Element → Option (Option ℕ)) (fs : List Element) where
 
 -- the puts that are told have places, below as many as these and those that stay are, and the list is woven of both
 pub record IsFilled (at : Element → Option (Option ℕ)) (cs stays fs : List Element) : Type 0 where
+  -- those that are put, each with its place
   pub ps : List (ℕ × Element)
+  -- they are told of the children
   pub told : puts_told at cs ≡ Some ps
+  -- each place is below the number of all
   pub below : all_below (length stays + length ps) ps ≡ true
+  -- slots in which they stand at their places, woven with those that stay, make the list
   pub all : (ss : List (Option Element)) → length ss ≡ length stays + length ps → ((j : ℕ) → slot ss j ≡ placed_at ps j) → woven ss stays ≡ fs
 
 filled : (m : ToldMaps) (p : Path) (es fs cs : List Element) → IsRefilled m p es fs
@@ -310,6 +311,7 @@ module _ (at : Element → Option (Option ℕ)) (cs stays fs : List Element) (f 
     pub places-below : all_below (length xs + length qs) qs ≡ true
     places-below = sym (below-lent (length xs + length qs) qs) ∙ (λ i. all_below (sym counts i) (own i)) ∙ f.below
 
+    -- woven of what is lent, it is the same order
     pub order-woven : (ss : List (Option (Bor Elem))) (all : List (Bor Elem)) → length ss ≡ length xs + length qs → ((j : ℕ) → slot ss j ≡ placed_at qs j)
         → all ≡ woven ss xs → IsLentOrder (Some all) fs
     order-woven ss all long put is =

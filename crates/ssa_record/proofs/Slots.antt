@@ -23,22 +23,25 @@ module _ {X : Type 0} where
 
   -- of these elements the first are left, and those behind them stand in the slots
   pub record AreInSlots (all rest : List (ℕ × X)) (n : ℕ) (ss : List (Option X)) : Type 0 where
+    -- the elements that stand in slots
     pub taken : List (ℕ × X)
+    -- those that are left and those in slots are all
     pub whole : all ≡ rest ++ taken
+    -- there are so many slots
     pub long : length ss ≡ n
+    -- each slot has the element of its place, if it is taken
     pub put : (j : ℕ) → slot ss j ≡ placed_at taken j
-
-  pub slots-none : (all : List (ℕ × X)) (n : ℕ) (ss : List (Option X)) → length ss ≡ n → ((j : ℕ) → slot ss j ≡ None) → AreInSlots all all n ss
-  slots-none all n ss long free = record { taken = []; whole = sym (append-nil all); long = long; put = free }
 
   module _ (all old new : List (ℕ × X)) (n : ℕ) (ss : List (Option X)) (x : ℕ × X) (below : all_below n all ≡ true) (h : AreInSlots all old n ss)
       (is : old ≡ new ++ x ∷ []) where
     parts : all ≡ new ++ x ∷ h.taken
     parts = h.whole ∙ ap (λ l. l ++ h.taken) is ∙ append_assoc new (x ∷ []) h.taken
 
+    -- an element's place is within the slots
     pub slot-within : x.0 < length ss
     slot-within = let one = below-last n new h.taken x (sym (ap (all_below n) parts) ∙ below) in let long = h.long in omega arith
 
+    -- an element more is put in the slot of its place
     pub slots-more : AreInSlots all new n (set ss x.0 (Some x.1))
     slots-more = record {
       taken = x ∷ h.taken;
@@ -54,9 +57,6 @@ module _ {X : Type 0} where
           let kept : get_or (set ss x.0 (Some x.1)) j None ≡ get_or ss j None = rw get_or-set_other refl in
           kept ∙ h.put j ∙ ap (λ b. if b then Some x.1 else placed_at h.taken j) (sym f));
     }
-
-  pub slots-all : (all rest : List (ℕ × X)) (n : ℕ) (ss : List (Option X)) → AreInSlots all rest n ss → rest ≡ [] → (j : ℕ) → slot ss j ≡ placed_at all j
-  slots-all all rest n ss h none j = h.put j ∙ ap (λ l. placed_at l j) (sym (h.whole ∙ ap (λ l. l ++ h.taken) none))
 
   -- ---- what is woven
 
@@ -75,6 +75,7 @@ module _ {X : Type 0} where
   step : (s : Option X) (ss : List (Option X)) (xs ys : List X) (y : X) → s ≡ Some y → woven ss xs ≡ ys → woven (s ∷ ss) xs ≡ y ∷ ys
   step s ss xs ys y is rest = ap (λ o. woven (o ∷ ss) xs) is ∙ ap (λ l. y ∷ l) rest
 
+  -- slots that have the chosen elements of a list, woven with the others, make the list
   pub woven-is : (test : X → Bool) (ss : List (Option X)) (ys : List X) → length ys ≤ length ss → ((j : ℕ) → slot ss j ≡ chosen test ys j)
       → woven ss (filter (λ y. not (test y)) ys) ≡ ys
   woven-is test [] [] le h = refl
@@ -94,17 +95,20 @@ module _ {X : Type 0} where
 -- ---- shown by a function
 
 module _ {X Y : Type 0} (f : X → Y) where
+  -- a list woven of what a function shows is what it shows of the woven list
   pub woven-map : (ss : List (Option X)) (xs : List X) → map f (woven ss xs) ≡ woven (map (option_map f) ss) (map f xs)
   woven-map [] xs = refl
   woven-map (Some y ∷ ss) xs = ap (λ l. f y ∷ l) (woven-map ss xs)
   woven-map (None ∷ ss) [] = woven-map ss []
   woven-map (None ∷ ss) (x ∷ xs) = ap (λ l. f x ∷ l) (woven-map ss xs)
 
+  -- a slot of what a function shows has what it shows of the slot
   pub slot-map : (ss : List (Option X)) (j : ℕ) → slot (map (option_map f) ss) j ≡ option_map f (slot ss j)
   slot-map [] j = refl
   slot-map (s ∷ ss) zero = refl
   slot-map (s ∷ ss) (suc j) = slot-map ss j
 
+  -- the element at a place, shown by a function, is that of the shown elements
   pub placed-map : (ps : List (ℕ × X)) (j : ℕ) → option_map f (placed_at ps j) ≡ placed_at (map (λ p. (p.0, f p.1)) ps) j
   placed-map [] j = refl
   placed-map (p ∷ ps) j =

@@ -35,6 +35,7 @@ use Rattle.ssa_record.specs.Spots.{IsFieldBelow, IsItemBelow, IsLower, IsOnlyChi
 use Rattle.ssa_record.specs.declared.spot.Item.{Item}
 use Rattle.ssa_record.specs.declared.spot.Spot.{Spot}
 use Rattle.ssa_record.proofs.LedChildren.{touched-child}
+use Rattle.ssa_model.proofs.KindPlaces.{below-key}
 
 -- ---- key fields
 
@@ -42,17 +43,6 @@ abbrev is_kind_place : Place → Bool
 is_kind_place (of_kind k) = true
 is_kind_place (item_of ns fs) = false
 is_kind_place (value_of s) = false
-
--- an item of a map list is at no place of a kind
-below-key : (q : Place) (ks : List (Text × Scalar)) (k : Kind) → place_below q (key ks) ≡ Some (of_kind k) → ⊥
-below-key (of_kind (items_of ns fs)) ks k h = true≢false (sym (ap is_kind_place (if-some (are_keys ns fs ks) (item_of ns fs) (of_kind k) h).1))
-below-key (of_kind (scalar_kind s)) ks k h = none-some (of_kind k) h
-below-key (of_kind (atomic_of s)) ks k h = none-some (of_kind k) h
-below-key (of_kind (record_of fs)) ks k h = none-some (of_kind k) h
-below-key (of_kind (dict_of j)) ks k h = none-some (of_kind k) h
-below-key (of_kind (kinds.set_of s)) ks k h = none-some (of_kind k) h
-below-key (item_of ns fs) ks k h = none-some (of_kind k) h
-below-key (value_of s) ks k h = none-some (of_kind k) h
 
 -- what is right below a place of a kind is no key field
 after-kind : (f e : Element) (q : Place) (k : Kind) → place_below q f ≡ Some (of_kind k) → is_key_field (f ∷ e ∷ []) ≡ false
@@ -65,7 +55,8 @@ then_at None p = None
 then_at (Some r) p = place_at r p
 
 level : (q : Place) (e : Element) (p : Path) → place_at q (e ∷ p) ≡ then_at (place_below q e) p
-level q e p = elim (place_below q e) as (λ o. ◌≡◌ {A = Option Place} (elim o [ None ↦ None | Some r ↦ place_at r p ]) (then_at o p)) [ None ↦ refl | Some r ↦ refl ]
+level q e p = elim (place_below q e) as (λ o. ◌≡◌ {A = Option Place} (elim o [ None ↦ None | Some r ↦ place_at r p ]) (then_at o p))
+    [ None ↦ refl | Some r ↦ refl ]
 
 past : (o : Option Place) (p : Path) (r : Place) → then_at o p ≡ Some r → (q : Place) × ((o ≡ Some q) × (place_at q p ≡ Some r))
 past None p r h = absurd (none-some r h)
@@ -116,10 +107,15 @@ module _ (m : ToldMaps) (p : Path) (t c : Trie) (el : Elem) (h : IsTouchedBelow 
 
 -- the tree is what the body has at the path, where the schema has the place, and all that is touched is there
 record IsThere (m : ToldMaps) (kind : Kind) (v : Body) (p : Path) (t : Trie) (n : Node) (q : Place) : Type 0 where
+  -- the node with all below is a tree
   pub tree : is_tree n ≡ true
+  -- it is what the body has at the path
   pub has_tree : HasTreeAt v p n
+  -- the schema has this place at the path
   pub place : place_at (of_kind kind) p ≡ Some q
+  -- the trie has what is touched from the path on
   pub touched : IsTouchedBelow m p t
+  -- nothing is touched but at and below the path
   pub within : (r : Path) → has m.touched r ≡ true → under p r ≡ true
 
 module _ (m : ToldMaps) (kind : Kind) (v : Body) where
@@ -154,7 +150,8 @@ module _ (m : ToldMaps) (kind : Kind) (v : Body) where
   }
 
 -- into a field or an entry
-pub field-lower : (m : ToldMaps) (p : Path) (s r : Spot) (el : Elem) → is_tree s.node.now ≡ true → IsSpotBelow m p s el r → IsLower m p s (p ++ element_view el ∷ []) r
+pub field-lower : (m : ToldMaps) (p : Path) (s r : Spot) (el : Elem) → is_tree s.node.now ≡ true → IsSpotBelow m p s el r
+    → IsLower m p s (p ++ element_view el ∷ []) r
 field-lower m p s r el tree b =
     let e = element_view el in
     record {
@@ -162,7 +159,8 @@ field-lower m p s r el tree b =
       fewer = smaller s.node.now e r.node.now b.node;
       leads = λ kind v fits h.
           let k = kind_view s.kind.now in
-          let next = further m kind v p s.touched.now r.touched.now s.node.now r.node.now (of_kind k) (of_kind (kind_view r.kind.now)) el (starting m kind v p s h) b.touched b.node b.place in
+          let next = further m kind v p s.touched.now r.touched.now s.node.now r.node.now (of_kind k) (of_kind (kind_view r.kind.now)) el
+          (starting m kind v p s h) b.touched b.node b.place in
           ending m kind v (p ++ e ∷ []) r next (no-key-field p (of_kind kind) k e h.place) b.uncut b.unput;
     }
 
@@ -198,19 +196,25 @@ module _ (m : ToldMaps) (p : Path) (s r : Spot) (i : Item) (el fl : Elem) (tree 
   place-there : (kind : Kind) (v : Body) → IsBodyOf kind v → IsSpot m kind v p s → place_below q outer ≡ Some (item_of a.names fs)
   place-there kind v fits h =
       let own : get v (p ++ outer ∷ []) ≡ Some (own_content i.node.now) =
-      h.has_tree (outer ∷ []) ∙ get-body s.node.now (outer ∷ []) ∙ content-level s.node.now outer [] h.tree ∙ ap (λ o. content_in o []) a.node ∙ content-root i.node.now in
+      h.has_tree (outer ∷ []) ∙ get-body s.node.now (outer ∷ []) ∙ content-level s.node.now outer [] h.tree ∙ ap (λ o. content_in o []) a.node
+      ∙ content-root i.node.now in
       let at = fits.fits (p ++ outer ∷ []) (own_content i.node.now) own in
-      item-place q outer a.names fs (members_view i.keys.now) at.place (ap of_kind a.kind) a.keys (sym (place-after p (of_kind kind) outer q h.place) ∙ at.there)
+      item-place q outer a.names fs (members_view i.keys.now) at.place (ap of_kind a.kind) a.keys (sym (place-after p (of_kind kind) outer q h.place)
+      ∙ at.there)
 
   leads-down : LeadsDown m p s ((p ++ outer ∷ []) ++ inner ∷ []) r
   leads-down kind v fits h =
-      let item = further m kind v p s.touched.now i.touched.now s.node.now i.node.now q (item_of a.names fs) el (starting m kind v p s h) a.touched a.node (place-there kind v fits h) in
-      let next = further m kind v (p ++ outer ∷ []) i.touched.now r.touched.now i.node.now r.node.now (item_of a.names fs) (of_kind (kind_view r.kind.now)) fl item b.touched b.node (b.place a.names) in
+      let item = further m kind v p s.touched.now i.touched.now s.node.now i.node.now q (item_of a.names fs) el (starting m kind v p s h) a.touched a.node
+      (place-there kind v fits h) in
+      let next = further m kind v (p ++ outer ∷ []) i.touched.now r.touched.now i.node.now r.node.now (item_of a.names fs) (of_kind (kind_view r.kind.now)) fl
+      item b.touched b.node (b.place a.names) in
       ending m kind v ((p ++ outer ∷ []) ++ inner ∷ []) r next (last-two p outer inner ∙ ap (λ x. names_key x inner) a.keys ∙ b.free) b.uncut b.unput
 
+  -- the item with all below is a tree
   pub item-tree : is_tree i.node.now ≡ true
   item-tree = tree-child s.node.now outer i.node.now tree a.node
 
+  -- the field's place lies lower than the list's, and all that is touched leads down to it
   pub item-lower : IsLower m p s ((p ++ outer ∷ []) ++ inner ∷ []) r
   item-lower = record {
     tree = tree-child i.node.now inner r.node.now item-tree b.node;

@@ -22,7 +22,6 @@ use Rattle.ssa_model.specs.definitions.Takes.{BodyTakes}
 use Rattle.ssa_model.proofs.BodyLeads.{get-cuts}
 use Rattle.ssa_model.proofs.PathMaps.{get-over_paths, same_path-itself}
 use Rattle.ssa_model.proofs.Pruned.{above}
-use Rattle.ssa_path.proofs.Orders.{same_element-itself}
 use Rattle.ssa_path.specs.View.{element_view, path_view}
 use Rattle.ssa_path.specs.declared.element.Elem.{Elem}
 use Rattle.ssa_typed.specs.Rows.{body_of, content_at, rows}
@@ -32,13 +31,10 @@ use Rattle.ssa_typed.proofs.Looks.{get-body}
 use Rattle.ssa_record.specs.Standing.{are_few, stand, stands}
 use Rattle.ssa_record.specs.Told.{leaf_of, put_of, told_body, told_leaf, told_of, told_order, told_put}
 use Rattle.ssa_record.specs.declared.told.ToldBody.{ToldBody}
+use Rattle.ssa_model.proofs.FittingTells.{parent_above as under-parent}
+use Rattle.ssa_model.proofs.Tables.{element-itself as same_element-itself}
 
 -- ---- a body has what stands above its paths
-
-under-parent : (p : Path) → under (parent p) p ≡ true
-under-parent [] = refl
-under-parent (e ∷ []) = refl
-under-parent (e ∷ f ∷ p) = and_from (same_element e e) _ (same_element-itself e) (under-parent (f ∷ p))
 
 stands-there : (kind : Kind) (v : Body) → IsBodyOf kind v → (p : Path) → has v p ≡ true → stands v p ≡ true
 stands-there kind v k p there = above kind v k (parent p) p there (under-parent p)
@@ -49,7 +45,8 @@ some-later : {X : Type 0} (b : Bool) (x : X) (o : Option X) → is_some o ≡ tr
 some-later true x o h = refl
 some-later false x o h = h
 
-all-by : {X : Type 0} (test : Path → Bool) (es : List (Path × X)) → ((p : Path) → is_some (find path_cmp p es) ≡ true → test p ≡ true) → list_all (λ e. test e.0) es ≡ true
+all-by : {X : Type 0} (test : Path → Bool) (es : List (Path × X)) → ((p : Path) → is_some (find path_cmp p es) ≡ true → test p ≡ true)
+    → list_all (λ e. test e.0) es ≡ true
 all-by test [] h = refl
 all-by test (e ∷ es) h =
     and_from (test e.0) (list_all (λ x. test x.0) es)
@@ -84,8 +81,10 @@ pub told-stands : (kind : Kind) (d : BodyRecord) (v w : Body) → BodyTakes kind
 told-stands kind d v w h =
     let here = stands-there kind v h.from in
     let r = body_record v w in
-    let cut = list_all-map (stands v) (λ e. e.0) r.cut.entries ∙ all-paths (stands v) r.cut (λ p there. here p (first_so (has v p) (is_top w p) (sym (get-cuts v w p) ∙ there))) in
-    let leaves = list_all-map (λ e. stands v e.0) leaf_of r.leaves.entries ∙ all-paths (stands v) r.leaves (λ p there. here p (over-there v (λ q. new_leaf (get v q) (get w q)) p there)) in
+    let cut = list_all-map (stands v) (λ e. e.0) r.cut.entries
+    ∙ all-paths (stands v) r.cut (λ p there. here p (first_so (has v p) (is_top w p) (sym (get-cuts v w p) ∙ there))) in
+    let leaves = list_all-map (λ e. stands v e.0) leaf_of r.leaves.entries
+    ∙ all-paths (stands v) r.leaves (λ p there. here p (over-there v (λ q. new_leaf (get v q) (get w q)) p there)) in
     let order = all-paths (stands v) r.order (λ p there. here p (over-there v (λ q. new_order (get v q) (get w q)) p there)) in
     let put = list_all-map (λ e. stands v e.0) (put_of kind) r.put.entries ∙ all-paths (stands v) r.put (put-stands v w) in
     ap (λ x. stand v (told_of kind x)) h.is ∙ and_from _ _ cut (and_from _ _ leaves (and_from _ _ order put))
@@ -106,6 +105,7 @@ walked n es None none some = sym (ap is_some (get-body n (path_view es) ∙ ap (
 walked n es (Some m) none some =
     sym (ap is_some (get-body n (path_view es) ∙ ap (content_at (rows n)) (sym (append-nil (path_view es))) ∙ some [] ∙ content-root m.now))
 
+-- the parent of a path is in the body where the walk to it, along all elements but the last, ends at something
 pub parent-walked : (n : Node) (v : Body) (p : Path) (es : List Elem) (k : ℕ) (r : Option (Bor Node)) → body_of n ≡ v → path_view es ≡ p → k ≡ length es - 1
     → IfNone r ((q : Path) → content_at (rows n) (path_view (take k es) ++ q) ≡ None)
     → IfSome r (λ m. (q : Path) → content_at (rows n) (path_view (take k es) ++ q) ≡ content_at (rows m.now) q) → is_some r ≡ stands v p
@@ -114,7 +114,9 @@ parent-walked n v p es k r body path few none some =
 
 -- ---- what is told, list by list
 
-pub told-parts : (v : Body) (t : ToldBody) (a b c d : Bool) → a ≡ list_all (stands v) t.cut.items → b ≡ list_all (λ e. stands v e.path) t.leaves.items → c ≡ list_all (λ e. stands v e.path) t.order.items
+-- what is told list by list stands in the body where each list of it does
+pub told-parts : (v : Body) (t : ToldBody) (a b c d : Bool) → a ≡ list_all (stands v) t.cut.items → b ≡ list_all (λ e. stands v e.path) t.leaves.items
+    → c ≡ list_all (λ e. stands v e.path) t.order.items
     → d ≡ list_all (λ e. stands v e.path) t.put.items → (a && (b && (c && d))) ≡ stand v (told_body t)
 told-parts v t a b c d cut leaves order put =
     let map_leaves = leaves ∙ sym (list_all-map (λ e. stands v e.0) told_leaf t.leaves.items) in
@@ -144,7 +146,8 @@ few-map : {X Y : Type 0} (f : X → Y) (xs : List X) → nat_le (length xs) most
 few-map f xs h = ap (λ n. nat_le n most_places) (length-map xs f) ∙ h
 
 -- what is told as the record of two valid bodies is no more than a body may have
-pub told-few : (kind : Kind) (d : BodyRecord) (v w : Body) → BodyTakes kind d v w → size v ≤ most_places → size w ≤ most_places → are_few (told_of kind d) ≡ true
+pub told-few : (kind : Kind) (d : BodyRecord) (v w : Body) → BodyTakes kind d v w → size v ≤ most_places → size w ≤ most_places
+    → are_few (told_of kind d) ≡ true
 told-few kind d v w h before after =
     let r = body_record v w in
     let cut = few-map (λ e. e.0) r.cut.entries (few-over v (λ p. cond (is_top w p) (Some tt) None) before) in

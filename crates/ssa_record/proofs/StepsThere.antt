@@ -56,9 +56,11 @@ module _ (m : ToldMaps) (kind : Kind) (v : Body) (p : Path) (s : Spot) (lawful :
   abbrev k : Kind
   k = kind_view s.kind.now
 
+  -- the body has the place
   pub here : has v p ≡ true
   here = ap (has v) (sym (append-nil p)) ∙ ap is_some (spot.has_tree []) ∙ tree-root s.node.now
 
+  -- each map list of the kind at the place has key fields
   pub keyed : is_keyed k ≡ true
   keyed = (lawful-at p (of_kind kind) (of_kind k) (lawful-kind kind lawful) spot.place).1
 
@@ -81,6 +83,7 @@ module _ (m : ToldMaps) (kind : Kind) (v : Body) (p : Path) (s : Spot) (lawful :
     after-fits : IsBodyOf kind after
     after-fits = replaced_fits kind v p (body_of n) valid.fits here spot.free (kinds_fit kind k p (body_of n) spot.place read.body)
 
+    -- the tree that comes and the one that stands there are alike
     pub alike-trees : AreAlikeTrees s.node.now n
     alike-trees q =
         (λ i. are_alike ((sym (get-body s.node.now q) ∙ sym (spot.has_tree q)) i) ((sym (get-body n q) ∙ sym (get-inside v p (body_of n) q)) i))
@@ -102,9 +105,11 @@ module _ (m : ToldMaps) (kind : Kind) (v : Body) (p : Path) (s : Spot) (lawful :
       after-valid = place_is_valid kind k v (body_of n) p valid spot.place here spot.free inner read.body after-few
 
       module _ (t : BodySteps) (say : SayAt t p s.node.now n) (serve : ServeAt t p s.node.now n) where
+        -- the changes lead to a valid body, and say the record of the two bodies
         pub steps-taken : (w : Body) × BodyTakes kind (body_told t) v w × IsValidBody kind w
         steps-taken = (after, record { from = valid.fits; to = after-fits; is = say v trees.0 spot.has_tree trees.2 }, after-valid)
 
+        -- the changes have the room for each turn of the body
         pub steps-room : HasBodyRoom t v
         steps-room = serve v trees.0 spot.has_tree trees.2
 
@@ -140,6 +145,7 @@ module _ (m : ToldMaps) (kind : Kind) (v : Body) (p : Path) (s : Spot) (lawful :
     pub value-given : (o : Option program.Json) → IsLed m p s.node.now o → IsGiven o (shown k w p)
     value-given o led = led kind v w (of_kind k) told (record { tells = λ r. spot.has_tree r ∙ get-body s.node.now r; there = there; place = spot.place })
 
+    -- the value that the second body shows at the place fits the kind there
     pub value-fits : faults k (shown k w p) [] ≡ []
     value-fits = reading.0
 
@@ -148,12 +154,14 @@ module _ (m : ToldMaps) (kind : Kind) (v : Body) (p : Path) (s : Spot) (lawful :
       target-is : with_tree v p n ≡ w
       target-is = ap (replaced v p) (read.places ∙ ap (λ x. from_entries (places k x [])) shows ∙ reading.1) ∙ sym target
 
+      -- the body with the new tree there has few enough places
       pub target-few : size v + length (rows n) ≤ most_places + length (rows s.node.now)
       target-few =
           let grown = after-size value n read in
           let small : size (with_tree v p n) ≤ most_places = subst (λ x. size x ≤ most_places) (sym target-is) own.few in
           omega (arith, grown, small)
 
+      -- changes that say what becomes of the place say the record
       pub steps-say : (t : BodySteps) → SayAt t p s.node.now n → body_told t ≡ d
       steps-say t say =
           let trees_are = trees value n read in

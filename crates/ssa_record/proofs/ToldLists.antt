@@ -20,7 +20,8 @@ or-last false true c = refl
 or-last false false true = refl
 or-last false false false = refl
 
-or-none : (a : Bool) → a ≡ (a || false)
+-- what is asked with nothing beside it is what is asked
+pub or-none : (a : Bool) → a ≡ (a || false)
 or-none true = refl
 or-none false = refl
 
@@ -33,12 +34,12 @@ adds-more ps p s t u h is q =
 module _ {A V X : Type 0} (tell : A → Path × X) (f : V → X) where
   -- the first i of the list are read into entries, and their paths are added to a set
   pub record IsReadTo (xs : List A) (i : ℕ) (s t : PathSet) (es : List (LentPath × V)) : Type 0 where
+    -- the entries read so far are those that the list tells
     pub told : shown f es ≡ map tell (take i xs)
+    -- their paths have been added to the set
     pub touched : AddsPaths (told_paths (map tell (take i xs))) s t
 
-  pub read-none : (xs : List A) (s : PathSet) (es : List (LentPath × V)) → es ≡ [] → IsReadTo xs 0 s s es
-  read-none xs s es none = record { told = ap (shown f) none; touched = λ q. or-none (has s q) }
-
+  -- one more of the list is read: an entry more, and its path in the set
   pub read-more : (xs : List A) (i : ℕ) (x : A) (s t u : PathSet) (es fs : List (LentPath × V)) (e : LentPath × V) → i < length xs → x ≡ get_or xs i x
       → IsReadTo xs i s t es → u ≡ insert (tell x).0 tt t → fs ≡ es ++ e ∷ [] → (lent_path e.0, f e.1) ≡ tell x → IsReadTo xs (i + 1) s u fs
   read-more xs i x s t u es fs e lt is h more pushed alike =
@@ -50,7 +51,3 @@ module _ {A V X : Type 0} (tell : A → Path × X) (f : V → X) where
         told = ap (shown f) pushed ∙ map-append (λ e. (lent_path e.0, f e.1)) es (e ∷ []) ∙ (λ k. h.told k ++ alike k ∷ []) ∙ sym next;
         touched = λ q. adds-more (told_paths (map tell (take i xs))) (tell x).0 s t u h.touched more q ∙ ap (λ ps. has s q || is_one_of ps q) (sym all);
       }
-
-  pub read-all : (xs : List A) (i : ℕ) (s t : PathSet) (es : List (LentPath × V)) → take i xs ≡ xs → IsReadTo xs i s t es
-      → (shown f es ≡ map tell xs) × AddsPaths (told_paths (map tell xs)) s t
-  read-all xs i s t es all h = (h.told ∙ ap (map tell) all, λ q. h.touched q ∙ ap (λ l. has s q || is_one_of (told_paths (map tell l)) q) all)

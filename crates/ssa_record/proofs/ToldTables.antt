@@ -11,6 +11,7 @@ made-more f g xs made x y rest all before one is =
     ap (λ zs. map f zs ++ map g rest) is ∙ ap (λ zs. zs ++ map g rest) (map-append f xs (x ∷ []))
     ∙ append_assoc (map f xs) (f x ∷ []) (map g rest) ∙ ap (λ z. map f xs ++ z ∷ map g rest) one ∙ before
 
+-- the places told of those who are here are those that the record has of them
 pub places-told : (hs : List ToldHere) → map (λ h. h.place) hs ≡ map (λ e. e.0) (map told_here hs)
 places-told [] = refl
 places-told (h ∷ hs) = ap (λ ps. h.place ∷ ps) (places-told hs)

@@ -16,7 +16,7 @@ use Rattle.ssa_model.specs.laws.RecordPlaces.{replaced}
 use Rattle.ssa_model.proofs.Beginnings.{parent-push}
 use Rattle.ssa_model.proofs.BodyLeads.{body_leads}
 use Rattle.ssa_model.proofs.CarriedPaths.{stayed, came, away, source, at_stay}
-use Rattle.ssa_model.proofs.Fitting.{nothing_there, same_element-true, some_there}
+use Rattle.ssa_model.proofs.Fitting.{same_element-true, some_there}
 use Rattle.ssa_model.proofs.FittingBodies.{stay-there}
 use Rattle.ssa_model.proofs.FittingTells.{split_last}
 use Rattle.ssa_model.proofs.PathMaps.{has-paths, same_map, same_path-true}
@@ -28,6 +28,7 @@ use Rattle.ssa_model.proofs.TakenBodies.{taken_body_fits}
 use Rattle.ssa_model.proofs.Tests.{by_test}
 use Rattle.ssa_model.proofs.UntouchedLists.{order-stays}
 use Rattle.ssa_record.specs.Spots.{IsWithin}
+use Rattle.ssa_model.proofs.Basics.{none-there as nothing_there}
 
 -- two paths each of which is under the other
 under-both : (g p : Path) → under g p ≡ true → under p g ≡ true → g ≡ p
@@ -104,13 +105,16 @@ module _ (kind : Kind) (d : BodyRecord) (v w : Body) (p : Path) (takes : BodyTak
     same-outside =
         elim (source kind d v takes.from fits r) [
           | stayed c is _ says ↦ says ∙ ap (λ x. Some x) (carried-same c is) ∙ sym is
-          | came g s x found is says ↦ absurd (yes_no (under p r) (under-trans p g r (all.put g (ap is_some found)) (ap (under g) (sym is) ∙ under-append g s)) off)
+          | came g s x found is says ↦ absurd (yes_no (under p r)
+              (under-trans p g r (all.put g (ap is_some found)) (ap (under g) (sym is) ∙ under-append g s)) off)
           | away none ↦ none
               ∙ sym (nothing_there (get v r) (by_test (has v r)
-              (λ t. let c = some_there (get v r) t in absurd (none-some (carried_content d r c.0) (sym none ∙ at_stay kind d v takes.from fits r c.0 c.1 uncut)))
+              (λ t. let c = some_there (get v r) t in absurd
+              (none-some (carried_content d r c.0) (sym none ∙ at_stay kind d v takes.from fits r c.0 c.1 uncut)))
               (λ k. k)))
         ]
 
+  -- the second body is the first, with what the second has at and below the path
   pub changes-within : w ≡ replaced v p (below w p)
   changes-within =
       same_map w (replaced v p (below w p)) (λ r.
@@ -131,5 +135,6 @@ module _ (kind : Kind) (d : BodyRecord) (v w : Body) (p : Path) (takes : BodyTak
       yes_no (has d.cut p) (ap (has d.cut) (sym (under-both x.0 p x.2 (all.cut x.0 cut))) ∙ cut) all.uncut)
       (λ k. k)
 
+  -- where the first body has the path, the second has it too
   pub place-stays : has v p ≡ true → has w p ≡ true
   place-stays here = ap (λ x. has x p) (sym led) ∙ stay-there kind d v takes.from fits p here uncut-above

@@ -17,7 +17,8 @@ use Rattle.ssa_record.specs.Told.{told_of}
 
 -- where a record is told that takes the body to another one, the value is that of the other
 abbrev pub IsShown : ToldMaps → Body → Option program.Json → Type 0
-IsShown m v o = (kind : Kind) (d : BodyRecord) (w : Body) → is_ordered kind ≡ true → BodyTakes kind d v w → m ≡ maps_told (told_of kind d) → IsGiven o (shown kind w [])
+IsShown m v o = (kind : Kind) (d : BodyRecord) (w : Body) → is_ordered kind ≡ true → BodyTakes kind d v w → m ≡ maps_told (told_of kind d)
+    → IsGiven o (shown kind w [])
 
 -- there is a body, and it is this one
 abbrev pub IsThis : Option Body → Body → Type 0

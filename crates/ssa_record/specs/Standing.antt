@@ -18,4 +18,5 @@ stand v t =
 
 -- no list has more paths than a body may have places
 abbrev pub are_few : BodyTold → Bool
-are_few t = nat_le (length t.cut) most_places && (nat_le (length t.leaves) most_places && (nat_le (length t.order) most_places && nat_le (length t.put) most_places))
+are_few t = nat_le (length t.cut) most_places && (nat_le (length t.leaves) most_places
+    && (nat_le (length t.order) most_places && nat_le (length t.put) most_places))

@@ -13,9 +13,9 @@ use Rattle.ssa_model.specs.definitions.Schema.{with_field, with_metadata, read_s
 use Rattle.ssa_model.specs.definitions.Limits.{most_levels}
 use Rattle.ssa_model.specs.definitions.Lawful.{names_none, fields_in, leaves_identity}
 use Rattle.ssa_model.proofs.Faults.{cons≢nil}
-use Rattle.ssa_model.proofs.Tables.{first_false, second_false}
 use Rattle.ssa_schema.proofs.Lawful.{root-is, told-kind}
 use Rattle.ssa_schema.proofs.Metadata.{kind_of-with_field}
+use Rattle.ssa_model.proofs.Basics.{first_false, second_false}
 
 abbrev root_names : List Text
 root_names = codes "apiVersion" ∷ codes "kind" ∷ []
@@ -31,7 +31,8 @@ two-of-three true b c h = h
 two-of-three false true c h = h
 two-of-three false false c h = refl
 
-unreserved : (read : Json → Kind) (ms : Members) → list_any (λ n. is_one_of_texts n reserved_names) (names ms) ≡ false → names_none root_names (kind_fields read ms) ≡ true
+unreserved : (read : Json → Kind) (ms : Members) → list_any (λ n. is_one_of_texts n reserved_names) (names ms) ≡ false
+    → names_none root_names (kind_fields read ms) ≡ true
 unreserved read no_members h = refl
 unreserved read (member n v ms) h =
     let first = two-of-three (same_text n (codes "apiVersion")) (same_text n (codes "kind")) _ (first_false (is_one_of_texts n reserved_names) _ h) in
@@ -45,12 +46,14 @@ root-bare n (object ms) e = let is = root-is n ms e in ap is_bare is.0 ∙ unres
 
 -- ---- with `metadata`
 
-none-with : (ns : List Text) (n : Text) (k : Kind) (fs : Fields) → list_any (same_text n) ns ≡ false → names_none ns fs ≡ true → names_none ns (with_field n k fs) ≡ true
+none-with : (ns : List Text) (n : Text) (k : Kind) (fs : Fields) → list_any (same_text n) ns ≡ false → names_none ns fs ≡ true
+    → names_none ns (with_field n k fs) ≡ true
 none-with ns n k no_fields other h = λ i. not (other i) && true
 none-with ns n k (kind_field m j fs) other h =
     let first = first_so (not (list_any (same_text m) ns)) _ h in
     let rest = second_so (not (list_any (same_text m) ns)) _ h in
-    elim (slice_cmp nat_cmp n m) as (λ o. names_none ns (elim o [ Less ↦ kind_field n k (kind_field m j fs) | Equal ↦ kind_field n k fs | Greater ↦ kind_field m j (with_field n k fs) ]) ≡ true) [
+    elim (slice_cmp nat_cmp n m) as (λ o. names_none ns (elim o
+    [ Less ↦ kind_field n k (kind_field m j fs) | Equal ↦ kind_field n k fs | Greater ↦ kind_field m j (with_field n k fs) ]) ≡ true) [
       | Less ↦ (λ i. not (other i) && h i)
       | Equal ↦ (λ i. not (other i) && rest i)
       | Greater ↦ (λ i. first i && none-with ns n k fs other rest i)
@@ -67,6 +70,7 @@ with_metadata-leaves hs (dict_of k) own h = absurd (true≢false (sym h))
 with_metadata-leaves hs (set_of k) own h = absurd (true≢false (sym h))
 with_metadata-leaves hs (items_of ns gs) own h = absurd (true≢false (sym h))
 
+-- the kind of an accepted schema has no field named as a part of the identity
 pub read-leaves : (v : Json) (k : Kind) → read_schema v ≡ Ok k → leaves_identity k ≡ true
 read-leaves v k e =
     told-kind leaves_identity (schema_faults most_levels at_root v) _ k

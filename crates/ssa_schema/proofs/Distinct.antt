@@ -11,6 +11,7 @@ use Rattle.ssa_model.specs.definitions.Schema.{is_one_of_texts, are_distinct_tex
 use Rattle.ssa_schema.proofs.Lawful.{same_turned}
 use Rattle.ssa_schema.specs.Words.{are_distinct_in, each_text}
 use Rattle.std.specs.List.{list_all}
+use Rattle.ssa_model.proofs.ReachedFits.{and-no as and_false}
 
 -- none of these is among those before, and they differ
 abbrev pub apart : List Text → List Text → Bool
@@ -54,23 +55,25 @@ abbrev pub apart_in : List Text → Option (List Text) → Bool
 apart_in before None = false
 apart_in before (Some ts) = apart before ts
 
+-- items are distinct texts where they are apart, with none before them
 pub apart-start : (r : Option (List Text)) → are_distinct_in r ≡ apart_in [] r
 apart-start None = refl
 apart-start (Some ts) = sym (apart_clear [] ts ∙ ap (λ b. b && are_distinct_texts ts) (all_clear ts))
 
-and_false : (b : Bool) → false ≡ (b && false)
-and_false true = refl
-and_false false = refl
-
-one_more : (before : List Text) (t : Text) (r : Option (List Text)) → apart_in before (option_map (λ ts. t ∷ ts) r) ≡ (not (is_one_of_texts t before) && apart_in (t ∷ before) r)
+one_more : (before : List Text) (t : Text) (r : Option (List Text))
+    → apart_in before (option_map (λ ts. t ∷ ts) r) ≡ (not (is_one_of_texts t before) && apart_in (t ∷ before) r)
 one_more before t None = and_false (not (is_one_of_texts t before))
 one_more before t (Some ts) = refl
 
-pub apart-text : (before : List Text) (t : Text) (v : Json) (vs : Items) → Some t ≡ as_text v → apart_in before (texts_of (item v vs)) ≡ (not (is_one_of_texts t before) && apart_in (t ∷ before) (texts_of vs))
+-- with a text in front, items are apart where it is none of those before and the others are apart from it, too
+pub apart-text : (before : List Text) (t : Text) (v : Json) (vs : Items) → Some t ≡ as_text v
+    → apart_in before (texts_of (item v vs)) ≡ (not (is_one_of_texts t before) && apart_in (t ∷ before) (texts_of vs))
 apart-text before t v vs e =
     ap (λ u. apart_in before (option_and_then (λ x. option_map (λ ts. x ∷ ts) (texts_of vs)) u)) (sym e) ∙ one_more before t (texts_of vs)
 
-some_keys : (v : Json) (vs : Items) (u : Option Text) (r : Option (List Text)) → are_distinct_in (option_and_then (λ x. option_map (λ ts. x ∷ ts) r) u) ≡ (elim (option_and_then (λ x. option_map (λ ts. x ∷ ts) r) u) [ None ↦ false | Some ts ↦ are_keys ts ])
+some_keys : (v : Json) (vs : Items) (u : Option Text) (r : Option (List Text))
+    → are_distinct_in (option_and_then (λ x. option_map (λ ts. x ∷ ts) r) u)
+    ≡ (elim (option_and_then (λ x. option_map (λ ts. x ∷ ts) r) u) [ None ↦ false | Some ts ↦ are_keys ts ])
 some_keys v vs None r = refl
 some_keys v vs (Some x) None = refl
 some_keys v vs (Some x) (Some ts) = refl
@@ -95,18 +98,23 @@ tests : (test : Text → Bool) (vs : Items) → Tests test vs (texts_of vs)
 tests test no_items = refl
 tests test (item v vs) = tests_more test v vs (as_text v) (texts_of vs) refl (tests test vs)
 
+-- items that are texts pass a test where all the texts do
 pub each_text-all : (test : Text → Bool) (vs : Items) (ts : List Text) → texts_of vs ≡ Some ts → each_text test vs ≡ list_all test ts
 each_text-all test vs ts e = subst (Tests test vs) e (tests test vs)
 
 -- ---- of values of the program
 
+-- a scalar of the program is seen as the scalar that it stands for
 pub view-Scalar : (s : value_scalar.Scalar) → view (value.Scalar s) ≡ scalar (scalar_view s)
 view-Scalar s = search (rules, value.the_lemmas)
 
+-- a list of the program is seen as a list of its items
 pub view-List : (v : Vec value.Json Global) → view (value.List v) ≡ list (items_view v.items)
 view-List v = search (rules, value.the_lemmas)
 
-pub key_list-some : (v : Vec value.Json Global) → vec_len v ≡ length v.items → false ≡ (vec_len v == 0) → are_distinct_in (texts_of (items_view v.items)) ≡ is_key_list (view (value.List v))
+-- a list with some item is a list of keys where its items are distinct texts
+pub key_list-some : (v : Vec value.Json Global) → vec_len v ≡ length v.items → false ≡ (vec_len v == 0)
+    → are_distinct_in (texts_of (items_view v.items)) ≡ is_key_list (view (value.List v))
 key_list-some v len some = all v.items (vec_len v) len some ∙ ap is_key_list (sym (view-List v))
   where
     all : (xs : List value.Json) (n : ℕ) → n ≡ length xs → false ≡ (n == 0) → are_distinct_in (texts_of (items_view xs)) ≡ is_key_list (list (items_view xs))

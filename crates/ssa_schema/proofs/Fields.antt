@@ -15,26 +15,33 @@ use Rattle.ssa_schema.specs.Kinds.{kind_view, fields_view, shape_view, shape_fie
 use Rattle.ssa_schema.specs.declared.kind.Kind.{Kind}
 use Rattle.ssa_schema.specs.declared.kind.Shape.{Shape}
 
-one_more : {X Y : Type 0} (f : X → Y) (b : Bool) (v : X) (rest : Option X) (r : Option Y) → option_map f rest ≡ r → option_map f (cond b (Some v) rest) ≡ cond b (Some (f v)) r
+one_more : {X Y : Type 0} (f : X → Y) (b : Bool) (v : X) (rest : Option X) (r : Option Y) → option_map f rest ≡ r
+    → option_map f (cond b (Some v) rest) ≡ cond b (Some (f v)) r
 one_more f true v rest r e = refl
 one_more f false v rest r e = e
 
+-- a value that is lent is seen as the value itself
 pub view_of_ref : {X Y : Type 0} (f : X → Y) (r : Option (Bor X)) → option_map (λ x. f x.now) r ≡ option_map f (option_map (λ x. x.now) r)
 view_of_ref f None = refl
 view_of_ref f (Some x) = refl
 
-pub fields-lookup : (name : Text) (es : List (String Global × Kind)) → option_map kind_view (lookup (is_at (λ k. slice_cmp nat_cmp name (string_bytes k))) es) ≡ model.kind_of name (fields_view es)
+-- looking a name up in the map, and then at the kind, is looking the name up among the fields
+pub fields-lookup : (name : Text) (es : List (String Global × Kind))
+    → option_map kind_view (lookup (is_at (λ k. slice_cmp nat_cmp name (string_bytes k))) es) ≡ model.kind_of name (fields_view es)
 fields-lookup name [] = refl
 fields-lookup name (e ∷ es) = one_more kind_view (is_eq (slice_cmp nat_cmp name (string_bytes e.0))) e.1 _ _ (fields-lookup name es)
 
-pub shape_fields-lookup : (name : Text) (es : List (String Global × Shape)) → option_map shape_view (lookup (is_at (λ k. slice_cmp nat_cmp name (string_bytes k))) es) ≡ model.shape_of name (shape_fields_view es)
+-- so it is with the shapes of an atomic value's fields
+pub shape_fields-lookup : (name : Text) (es : List (String Global × Shape))
+    → option_map shape_view (lookup (is_at (λ k. slice_cmp nat_cmp name (string_bytes k))) es) ≡ model.shape_of name (shape_fields_view es)
 shape_fields-lookup name [] = refl
 shape_fields-lookup name (e ∷ es) = one_more shape_view (is_eq (slice_cmp nat_cmp name (string_bytes e.0))) e.1 _ _ (shape_fields-lookup name es)
 
 -- ---- a field put into a map
 
 -- one step, after the order of the two names
-one_field : (k : String Global) (x : Kind) (e : String Global × Kind) (es rest : List (String Global × Kind)) (o : Ordering) → slice_cmp nat_cmp (string_bytes k) (string_bytes e.0) ≡ o
+one_field : (k : String Global) (x : Kind) (e : String Global × Kind) (es rest : List (String Global × Kind)) (o : Ordering)
+    → slice_cmp nat_cmp (string_bytes k) (string_bytes e.0) ≡ o
     → fields_view rest ≡ with_field (string_bytes k) (kind_view x) (fields_view es)
     → fields_view (match_ordering o ((k, x) ∷ e ∷ es) ((e.0, x) ∷ es) (e ∷ rest))
     ≡ (elim o [
@@ -43,9 +50,13 @@ one_field : (k : String Global) (x : Kind) (e : String Global × Kind) (es rest 
       | Greater ↦ model.kind_field (string_bytes e.0) (kind_view e.1) (with_field (string_bytes k) (kind_view x) (fields_view es))
     ])
 one_field k x e es rest Less is h = refl
-one_field k x e es rest Equal is h = ap (λ n. model.kind_field n (kind_view x) (fields_view es)) (sym (slice_cmp-IsAntisymmetric nat_cmp-IsAntisymmetric (string_bytes k) (string_bytes e.0) is))
+one_field k x e es rest Equal is h = ap (λ n. model.kind_field n (kind_view x) (fields_view es))
+    (sym (slice_cmp-IsAntisymmetric nat_cmp-IsAntisymmetric (string_bytes k) (string_bytes e.0) is))
 one_field k x e es rest Greater is h = ap (model.kind_field (string_bytes e.0) (kind_view e.1)) h
 
-pub fields-insert : (k : String Global) (x : Kind) (es : List (String Global × Kind)) → fields_view (insert_entry string_cmp es k x) ≡ with_field (string_bytes k) (kind_view x) (fields_view es)
+-- a kind put into the map is a field put in its place among the others
+pub fields-insert : (k : String Global) (x : Kind) (es : List (String Global × Kind))
+    → fields_view (insert_entry string_cmp es k x) ≡ with_field (string_bytes k) (kind_view x) (fields_view es)
 fields-insert k x [] = refl
-fields-insert k x (e ∷ es) = one_field k x e es (insert_entry string_cmp es k x) (slice_cmp nat_cmp (string_bytes k) (string_bytes e.0)) refl (fields-insert k x es)
+fields-insert k x (e ∷ es) = one_field k x e es (insert_entry string_cmp es k x) (slice_cmp nat_cmp (string_bytes k) (string_bytes e.0)) refl
+    (fields-insert k x es)

@@ -27,6 +27,7 @@ breaks_here f m fs is here h p =
     ap Some (λ i. (misfit_view (is i), (ap (λ xs. map element_text p ++ reverse (names_view xs)) here ∙ append-nil (map element_text p)) i))
     ∙ ap (option_map told) (h p)
 
+-- where no fault breaks the place, nothing is found
 pub breaks_none : (fs : Path → List FaultAt) → Breaks None fs → Finds None fs
 breaks_none fs h p = ap (option_map told) (h p)
 
@@ -40,7 +41,8 @@ one_up p e t path is =
     ∙ ap (λ xs. xs ++ reverse (names_view path)) (sym (map-append element_text p (e ∷ [])))
 
 -- the fault of a place below
-pub finds_below : (f g : Found) (e : Element) (t : String Global) (fs : Path → List FaultAt) → string_bytes t ≡ element_text e → g.misfit ≡ f.misfit → g.path.items ≡ f.path.items ++ t ∷ []
+pub finds_below : (f g : Found) (e : Element) (t : String Global) (fs : Path → List FaultAt) → string_bytes t ≡ element_text e → g.misfit ≡ f.misfit
+    → g.path.items ≡ f.path.items ++ t ∷ []
     → Finds (Some f) fs → Finds (Some g) (λ p. fs (p ++ e ∷ []))
 finds_below f g e t fs is misfit path h p =
     ap Some (λ i. (misfit_view (misfit i), (ap (λ xs. map element_text p ++ reverse (names_view xs)) path ∙ one_up p e t f.path.items is) i))
@@ -50,7 +52,8 @@ finds_below f g e t fs is misfit path h p =
 pub finds_child : (here below : Found) (m : Misfit) (e : Element) (t : String Global) → here.misfit ≡ m → here.path.items ≡ [] → string_bytes t ≡ element_text e
     → below.misfit ≡ here.misfit → below.path.items ≡ here.path.items ++ t ∷ [] → Finds (Some below) (λ p. fault_at (misfit_view m) (p ++ e ∷ []) ∷ [])
 finds_child here below m e t misfit path is same more =
-    finds_below here below e t (λ p. fault_at (misfit_view m) p ∷ []) is same more (breaks_here here m (λ p. fault_at (misfit_view m) p ∷ []) misfit path (λ p. refl))
+    finds_below here below e t (λ p. fault_at (misfit_view m) p ∷ []) is same more
+    (breaks_here here m (λ p. fault_at (misfit_view m) p ∷ []) misfit path (λ p. refl))
 
 -- the path the other way round
 pub names_reversed : (path : List (String Global)) → names_view (reverse path) ≡ reverse (names_view path)
@@ -63,6 +66,7 @@ names_reversed (t ∷ path) =
 pub finds_from : (o : Option Found) (whole part : Path → List FaultAt) → ((p : Path) → first_of (whole p) ≡ first_of (part p)) → Finds o part → Finds o whole
 finds_from o whole part same h p = h p ∙ ap (option_map told) (sym (same p))
 
+-- behind no fault, the first of the others is the first
 pub none_first : (xs ys : List FaultAt) → None ≡ option_map told (first_of xs) → first_of (xs ++ ys) ≡ first_of ys
 none_first [] ys e = refl
 none_first (x ∷ xs) ys e = absurd (true≢false (sym (ap is_some e)))
@@ -73,6 +77,7 @@ item_fits o inner rest is h p = none_first (inner p) (rest p) (subst (λ x. Find
 
 -- ---- whether there is a fault
 
+-- nothing is found exactly where there is no fault
 pub found-none : (o : Option Found) (fs : Path → List FaultAt) → Finds o fs → not (is_some o) ≡ is_none (fs [])
 found-none None fs h = by (fs []) (h [])
   where

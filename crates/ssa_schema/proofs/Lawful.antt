@@ -11,12 +11,12 @@ use Rattle.ssa_model.specs.definitions.Limits.{most_levels}
 use Rattle.ssa_model.specs.definitions.Json.{Text, Json, scalar, list, object, Members, no_members, member, member_of, same_text, as_text}
 use Rattle.ssa_model.specs.definitions.Kind as kinds
 use Rattle.ssa_model.proofs.Faults.{cons≢nil, nil_first, nil_second}
-use Rattle.ssa_model.proofs.SchemaMembers.{kept as not_false, behind, no-fault}
-use Rattle.ssa_model.proofs.Tables.{first_false, second_false}
+use Rattle.ssa_model.proofs.SchemaMembers.{behind, no-fault}
 use Rattle.ssa_model.proofs.Tables.{same_text-true}
-use Rattle.ssa_path.proofs.Orders.{both, both_first, both_second}
+use Rattle.ssa_path.proofs.Orders.{both_first, both_second}
 use Rattle.ssa_model.specs.definitions.Schema as model
 use Rattle.ssa_model.specs.definitions.Lawful.{names_rise_after, are_key_names, is_keyed, are_keyed, is_record, is_root_kind}
+use Rattle.ssa_model.proofs.Basics.{not_false, both-true as both, first_false, second_false}
 
 -- ---- sorted names rise
 
@@ -69,7 +69,8 @@ put-is t u us = by (slice_cmp nat_cmp t u)
     by Equal = refl
     by Greater = refl
 
-below-put : (n t u : Text) (us : List Text) (o : Ordering) → is_lt (slice_cmp nat_cmp n t) ≡ true → is_lt (slice_cmp nat_cmp n u) ≡ true → is_below n (put t u us o) ≡ true
+below-put : (n t u : Text) (us : List Text) (o : Ordering) → is_lt (slice_cmp nat_cmp n t) ≡ true → is_lt (slice_cmp nat_cmp n u) ≡ true
+    → is_below n (put t u us o) ≡ true
 unfolding put is_below
 below-put n t u us Less a b = a
 below-put n t u us Equal a b = b
@@ -80,7 +81,8 @@ unfolding is_below
 below-with n t [] a b = a
 below-with n t (u ∷ us) a b = ap (is_below n) (put-is t u us) ∙ below-put n t u us (slice_cmp nat_cmp t u) a b
 
-put-rises : (t u : Text) (us : List Text) (o : Ordering) → slice_cmp nat_cmp t u ≡ o → names_rise_after u us ≡ true → (rise us ≡ true → rise (model.with_text t us) ≡ true) → rise (put t u us o) ≡ true
+put-rises : (t u : Text) (us : List Text) (o : Ordering) → slice_cmp nat_cmp t u ≡ o → names_rise_after u us ≡ true
+    → (rise us ≡ true → rise (model.with_text t us) ≡ true) → rise (put t u us o) ≡ true
 unfolding put rise
 put-rises t u us Less is h more = both _ _ (lower_of _ is) h
 put-rises t u us Equal is h more = h
@@ -112,6 +114,7 @@ unfolding is_nil rise
 keys-of [] some h = absurd (true≢false some)
 keys-of (n ∷ ns) some h = h
 
+-- some texts, sorted, are names of keys: they rise, and there is at least one
 pub sorted-keys : (t : Text) (ts : List Text) → are_key_names (model.sorted_texts (t ∷ ts)) ≡ true
 sorted-keys t ts = keys-of (model.sorted_texts (t ∷ ts)) (with-some t (model.sorted_texts ts)) (sorted-rises (t ∷ ts))
 
@@ -122,10 +125,12 @@ eq_turned Less = refl
 eq_turned Equal = refl
 eq_turned Greater = refl
 
+-- whether two texts are the same is told in either order
 pub same_turned : (t u : Text) → same_text t u ≡ same_text u t
 same_turned t u = ap is_eq (nat_list_cmp_total.antisymm t u) ∙ eq_turned (slice_cmp nat_cmp u t)
 
-third : (a b c u : Text) → (same_text u a || (same_text u b || (same_text u c || false))) ≡ true → same_text a u ≡ false → same_text b u ≡ false → same_text c u ≡ true
+third : (a b c u : Text) → (same_text u a || (same_text u b || (same_text u c || false))) ≡ true → same_text a u ≡ false → same_text b u ≡ false
+    → same_text c u ≡ true
 third a b c u h not_a not_b =
     same_turned c u ∙ last (same_text u c) (sym (λ i. (same_turned u a ∙ not_a) i || ((same_turned u b ∙ not_b) i || (same_text u c || false))) ∙ h)
   where
@@ -140,7 +145,8 @@ is_it t o = elim (option_and_then as_text o) [ None ↦ false | Some u ↦ same_
 list_types : List Text
 list_types = codes "atomic" ∷ codes "set" ∷ codes "map" ∷ []
 
-map-type : (o : Option Json) → is_some o ≡ true → model.if_given (model.is_text_among list_types) o ≡ true → is_it (codes "atomic") o ≡ false → is_it (codes "set") o ≡ false → is_it (codes "map") o ≡ true
+map-type : (o : Option Json) → is_some o ≡ true → model.if_given (model.is_text_among list_types) o ≡ true → is_it (codes "atomic") o ≡ false
+    → is_it (codes "set") o ≡ false → is_it (codes "map") o ≡ true
 unfolding is_it list_types
 map-type None some among a s = absurd (true≢false (sym some))
 map-type (Some (scalar (Rattle.ssa_model.specs.definitions.Json.text u))) some among a s = third (codes "atomic") (codes "set") (codes "map") u among a s
@@ -157,7 +163,8 @@ names_in o = elim (option_and_then model.list_of_texts o) [ None ↦ [] | Some t
 lacks_keys : Option Json → Bool
 lacks_keys o = elim o [ None ↦ true | Some v ↦ not (model.is_key_list v) ]
 
-keys-in : (r : Option (List Text)) → (elim r [ None ↦ false | Some ts ↦ model.are_keys ts ]) ≡ true → are_key_names (model.sorted_texts (elim r [ None ↦ [] | Some ts ↦ ts ])) ≡ true
+keys-in : (r : Option (List Text)) → (elim r [ None ↦ false | Some ts ↦ model.are_keys ts ]) ≡ true
+    → are_key_names (model.sorted_texts (elim r [ None ↦ [] | Some ts ↦ ts ])) ≡ true
 keys-in None h = absurd (true≢false (sym h))
 keys-in (Some []) h = absurd (true≢false (sym h))
 keys-in (Some (t ∷ ts)) h = sorted-keys t ts
@@ -177,22 +184,28 @@ module _ (s : model.Standing) (ms : Members) (no_shape : model.has_wrong_shape s
   among-types : model.is_array_type ms ≡ true → model.if_given (model.is_text_among list_types) list_type ≡ true
   unfolding list_type list_types
   among-types array =
-      not_false _ (second_false (model.has_member (codes "x-kubernetes-map-type") ms) _ (second_false (model.has_member (codes "additionalProperties") ms) _ (second_false (model.has_member (codes "properties") ms) _
+      not_false _ (second_false (model.has_member (codes "x-kubernetes-map-type") ms) _
+      (second_false (model.has_member (codes "additionalProperties") ms) _ (second_false (model.has_member (codes "properties") ms) _
       (second_false (not (model.has_member (codes "items") ms)) _ (behind (model.is_array_type ms) _ array right-array)))))
 
   -- a list that is neither atomic nor a set
   is-map : model.is_array_type ms ≡ true → model.is_atomic ms ≡ false → model.list_type_is (codes "set") ms ≡ false → model.list_type_is (codes "map") ms ≡ true
   unfolding list_type is_it
   is-map array kept no_set =
-      let types = behind (model.is_array_type ms) _ array (second_false (model.is_object_type ms && model.member_is (codes "x-kubernetes-map-type") (codes "atomic") ms) _ kept) in
-      map-type list_type (not_false _ (first_false _ _ types)) (among-types array) (second_false (not (model.has_member (codes "x-kubernetes-list-type") ms)) _ types) no_set
+      let types = behind (model.is_array_type ms) _ array (second_false
+      (model.is_object_type ms && model.member_is (codes "x-kubernetes-map-type") (codes "atomic") ms) _ kept) in
+      map-type list_type (not_false _ (first_false _ _ types)) (among-types array)
+      (second_false (not (model.has_member (codes "x-kubernetes-list-type") ms)) _ types) no_set
 
-  pub map-keys : model.is_array_type ms ≡ true → model.is_atomic ms ≡ false → model.list_type_is (codes "set") ms ≡ false → are_key_names (model.sorted_texts (model.key_names ms)) ≡ true
+  -- without faults of shape and of keys, an array that is neither atomic nor a set has keys whose names rise
+  pub map-keys : model.is_array_type ms ≡ true → model.is_atomic ms ≡ false → model.list_type_is (codes "set") ms ≡ false
+      → are_key_names (model.sorted_texts (model.key_names ms)) ≡ true
   unfolding lacks_keys names_in
   map-keys array kept no_set =
       keys-there (member_of (codes "x-kubernetes-list-map-keys") ms)
       (behind (model.list_type_is (codes "map") ms) _ (is-map array kept no_set)
-      (second_false (model.has_member (codes "x-kubernetes-list-map-keys") ms && not (model.list_type_is (codes "map") ms)) _ (behind (model.is_array_type ms) _ array no_keys)))
+      (second_false (model.has_member (codes "x-kubernetes-list-map-keys") ms && not (model.list_type_is (codes "map") ms)) _
+      (behind (model.is_array_type ms) _ array no_keys)))
 
 -- ---- one level of a schema
 
@@ -225,7 +238,8 @@ is-clean n s ms e =
 abbrev Keeps : (Json → List model.SchemaFault) → (Json → kinds.Kind) → Type 0
 Keeps read kind = (v : Json) → read v ≡ [] → is_keyed (kind v) ≡ true
 
-fields-keyed : (read : Json → List model.SchemaFault) (kind : Json → kinds.Kind) → Keeps read kind → (ps : Members) → model.property_faults read ps ≡ [] → are_keyed (model.kind_fields kind ps) ≡ true
+fields-keyed : (read : Json → List model.SchemaFault) (kind : Json → kinds.Kind) → Keeps read kind → (ps : Members) → model.property_faults read ps ≡ []
+    → are_keyed (model.kind_fields kind ps) ≡ true
 fields-keyed read kind keeps no_members e = refl
 fields-keyed read kind keeps (member n v ps) e = both _ _ (keeps v (nil_first (read v) _ e)) (fields-keyed read kind keeps ps (nil_second (read v) _ e))
 
@@ -233,12 +247,15 @@ fields-keyed read kind keeps (member n v ps) e = both _ _ (keeps v (nil_first (r
 abbrev members_inside : Json → Members
 members_inside v = elim v [ object is ↦ is | list vs ↦ no_members | scalar s ↦ no_members ]
 
-items-keyed : (read : Json → List model.SchemaFault) (kind : Json → kinds.Kind) (o : Option Json) → ((v : Json) → read v ≡ [] → are_keyed (model.kind_fields kind (model.property_members (members_inside v))) ≡ true)
-    → model.optional_faults read o ≡ [] → are_keyed (model.kind_fields kind (model.property_members (elim o [ None ↦ no_members | Some v ↦ members_inside v ]))) ≡ true
+items-keyed : (read : Json → List model.SchemaFault) (kind : Json → kinds.Kind) (o : Option Json)
+    → ((v : Json) → read v ≡ [] → are_keyed (model.kind_fields kind (model.property_members (members_inside v))) ≡ true)
+    → model.optional_faults read o ≡ [] → are_keyed (model.kind_fields kind
+    (model.property_members (elim o [ None ↦ no_members | Some v ↦ members_inside v ]))) ≡ true
 items-keyed read kind None h e = refl
 items-keyed read kind (Some v) h e = h v e
 
-others-keyed : (read : Json → List model.SchemaFault) (kind : Json → kinds.Kind) (o : Option Json) (fs : kinds.Fields) → Keeps read kind → are_keyed fs ≡ true → model.optional_faults read o ≡ []
+others-keyed : (read : Json → List model.SchemaFault) (kind : Json → kinds.Kind) (o : Option Json) (fs : kinds.Fields) → Keeps read kind → are_keyed fs ≡ true
+    → model.optional_faults read o ≡ []
     → is_keyed (elim o [ None ↦ kinds.record_of fs | Some v ↦ kinds.dict_of (kind v) ]) ≡ true
 others-keyed read kind None fs keeps h e = h
 others-keyed read kind (Some v) fs keeps h e = keeps v e
@@ -249,16 +266,20 @@ keyed-if false j k h i = i refl
 
 object-keyed : (n m : ℕ) (s : model.Standing) (ms : Members) → IsClean n s ms
     → Keeps (model.schema_faults n (model.standing_inside s ms)) (model.kind_of_schema m)
-    → ((v : Json) → model.schema_faults n (model.standing_inside s ms) v ≡ [] → are_keyed (model.kind_fields (model.kind_of_schema m) (model.property_members (members_inside v))) ≡ true)
+    → ((v : Json) → model.schema_faults n (model.standing_inside s ms) v ≡ []
+    → are_keyed (model.kind_fields (model.kind_of_schema m) (model.property_members (members_inside v))) ≡ true)
     → is_keyed (model.kind_of_schema (suc m) (object ms)) ≡ true
 object-keyed n m s ms clean keeps inside =
     let read = model.schema_faults n (model.standing_inside s ms) in
     let kind = model.kind_of_schema m in
     keyed-if (model.is_atomic ms) (kinds.atomic_of (model.shape_of_schema (suc m) (object ms))) _ (λ atomic. refl) (λ kept.
-    keyed-if (model.is_array_type ms) _ _ (λ array. keyed-if (model.list_type_is (codes "set") ms) (kinds.set_of (model.scalar_kind_of (model.item_members ms))) _ (λ is_set. refl)
-    (λ no_set. both _ _ (map-keys s ms clean.no_shape clean.no_keys array kept no_set) (items-keyed read kind (member_of (codes "items") ms) inside clean.items)))
+    keyed-if (model.is_array_type ms) _ _ (λ array. keyed-if (model.list_type_is (codes "set") ms)
+    (kinds.set_of (model.scalar_kind_of (model.item_members ms))) _ (λ is_set. refl)
+    (λ no_set. both _ _ (map-keys s ms clean.no_shape clean.no_keys array kept no_set)
+    (items-keyed read kind (member_of (codes "items") ms) inside clean.items)))
     (λ no_array. keyed-if (model.is_object_type ms) _ (kinds.scalar_kind (model.scalar_kind_of ms))
-    (λ is_object. others-keyed read kind (member_of (codes "additionalProperties") ms) (model.kind_fields kind (model.property_members ms)) keeps (fields-keyed read kind keeps (model.property_members ms) clean.properties) clean.others)
+    (λ is_object. others-keyed read kind (member_of (codes "additionalProperties") ms) (model.kind_fields kind (model.property_members ms)) keeps
+    (fields-keyed read kind keeps (model.property_members ms) clean.properties) clean.others)
     (λ is_scalar. refl)))
 
 -- so many levels more
@@ -278,7 +299,8 @@ above-none (suc n) = ap suc (above-none n)
 
 -- Of a schema without faults at so many levels: its kind where more levels are left, and the kinds of its properties.
 levels-keyed : (n d : ℕ) (s : model.Standing) (v : Json) → model.schema_faults n s v ≡ []
-    → (is_keyed (model.kind_of_schema (above n d) v) ≡ true) × (are_keyed (model.kind_fields (model.kind_of_schema (above n d)) (model.property_members (members_inside v))) ≡ true)
+    → (is_keyed (model.kind_of_schema (above n d) v) ≡ true)
+    × (are_keyed (model.kind_fields (model.kind_of_schema (above n d)) (model.property_members (members_inside v))) ≡ true)
 unfolding above
 levels-keyed zero d s v e = absurd (cons≢nil e)
 levels-keyed (suc n) d s (scalar t) e = absurd (cons≢nil e)
@@ -288,7 +310,8 @@ levels-keyed (suc n) d s (object ms) e =
     let inner = model.standing_inside s ms in (
       object-keyed n (above n d) s ms clean (λ v h. (levels-keyed n d inner v h).0) (λ v h. (levels-keyed n d inner v h).1),
       fields-keyed (model.schema_faults n inner) (model.kind_of_schema (suc (above n d)))
-          (λ v h. ap (λ m. is_keyed (model.kind_of_schema m v)) (sym (above-suc n d)) ∙ (levels-keyed n (suc d) inner v h).0) (model.property_members ms) clean.properties,
+          (λ v h. ap (λ m. is_keyed (model.kind_of_schema m v)) (sym (above-suc n d))
+          ∙ (levels-keyed n (suc d) inner v h).0) (model.property_members ms) clean.properties,
     )
 
 -- ---- the root
@@ -298,16 +321,23 @@ put_field fs n k m j Less = kinds.kind_field n k (kinds.kind_field m j fs)
 put_field fs n k m j Equal = kinds.kind_field n k fs
 put_field fs n k m j Greater = kinds.kind_field m j (model.with_field n k fs)
 
-put_field-is : (fs : kinds.Fields) (n : Text) (k : kinds.Kind) (m : Text) (j : kinds.Kind) → model.with_field n k (kinds.kind_field m j fs) ≡ put_field fs n k m j (slice_cmp nat_cmp n m)
+put_field-is : (fs : kinds.Fields) (n : Text) (k : kinds.Kind) (m : Text) (j : kinds.Kind)
+    → model.with_field n k (kinds.kind_field m j fs) ≡ put_field fs n k m j (slice_cmp nat_cmp n m)
 unfolding put_field
 put_field-is fs n k m j = by (slice_cmp nat_cmp n m)
   where
-    by : (o : Ordering) → ◌≡◌ {A = kinds.Fields} (elim o [ Less ↦ kinds.kind_field n k (kinds.kind_field m j fs) | Equal ↦ kinds.kind_field n k fs | Greater ↦ kinds.kind_field m j (model.with_field n k fs) ]) (put_field fs n k m j o)
+    by : (o : Ordering) → ◌≡◌ {A = kinds.Fields} (elim o [
+      | Less ↦ kinds.kind_field n k (kinds.kind_field m j fs)
+      | Equal ↦ kinds.kind_field n k
+          fs
+      | Greater ↦ kinds.kind_field m j (model.with_field n k fs)
+    ]) (put_field fs n k m j o)
     by Less = refl
     by Equal = refl
     by Greater = refl
 
-put_field-keyed : (fs : kinds.Fields) (n : Text) (k : kinds.Kind) (m : Text) (j : kinds.Kind) (o : Ordering) → is_keyed k ≡ true → is_keyed j ≡ true → are_keyed fs ≡ true → are_keyed (model.with_field n k fs) ≡ true
+put_field-keyed : (fs : kinds.Fields) (n : Text) (k : kinds.Kind) (m : Text) (j : kinds.Kind) (o : Ordering) → is_keyed k ≡ true → is_keyed j ≡ true
+    → are_keyed fs ≡ true → are_keyed (model.with_field n k fs) ≡ true
     → are_keyed (put_field fs n k m j o) ≡ true
 unfolding put_field
 put_field-keyed fs n k m j Less own other rest more = both _ _ own (both _ _ other rest)
@@ -320,7 +350,8 @@ with_field-keyed n k (kinds.kind_field m j fs) own h =
     let rest = both_second (is_keyed j) _ h in
     ap are_keyed (put_field-is fs n k m j) ∙ put_field-keyed fs n k m j (slice_cmp nat_cmp n m) own (both_first _ _ h) rest (with_field-keyed n k fs own rest)
 
-with_metadata-root : (fs : kinds.Fields) (k : kinds.Kind) → are_keyed fs ≡ true → is_record k ≡ true → is_keyed k ≡ true → is_root_kind (model.with_metadata fs k) ≡ true
+with_metadata-root : (fs : kinds.Fields) (k : kinds.Kind) → are_keyed fs ≡ true → is_record k ≡ true → is_keyed k ≡ true
+    → is_root_kind (model.with_metadata fs k) ≡ true
 with_metadata-root fs (kinds.record_of gs) own r h = with_field-keyed (codes "metadata") (kinds.record_of fs) gs own h
 with_metadata-root fs (kinds.scalar_kind k) own r h = absurd (true≢false (sym r))
 with_metadata-root fs (kinds.atomic_of k) own r h = absurd (true≢false (sym r))
@@ -338,7 +369,8 @@ one-type (Some (scalar (Rattle.ssa_model.specs.definitions.Json.truth b))) h = r
 one-type (Some (list vs)) h = refl
 one-type (Some (object ms)) h = refl
 
-no-other : (o : Option Json) (fs : kinds.Fields) (kind : Json → kinds.Kind) → is_some o ≡ false → ◌≡◌ {A = kinds.Kind} (elim o [ None ↦ kinds.record_of fs | Some v ↦ kinds.dict_of (kind v) ]) (kinds.record_of fs)
+no-other : (o : Option Json) (fs : kinds.Fields) (kind : Json → kinds.Kind) → is_some o ≡ false
+    → ◌≡◌ {A = kinds.Kind} (elim o [ None ↦ kinds.record_of fs | Some v ↦ kinds.dict_of (kind v) ]) (kinds.record_of fs)
 no-other None fs kind h = refl
 no-other (Some v) fs kind h = absurd (true≢false h)
 
@@ -355,16 +387,19 @@ pub root-is : (n : ℕ) (ms : Members) → model.schema_faults (suc n) model.at_
 unfolding is_it
 root-is n ms e =
     let clean = is-clean n model.at_root ms e in
-    let right : model.is_wrong_root ms ≡ false = second_false (model.is_in_atomic model.at_root && model.has_marker ms) _ (second_false (model.is_wrong_array ms) _ (second_false (model.is_wrong_object ms) _ (second_false (model.is_wrong_scalar ms) _ clean.no_shape))) in
+    let right : model.is_wrong_root ms ≡ false = second_false (model.is_in_atomic model.at_root && model.has_marker ms) _
+    (second_false (model.is_wrong_array ms) _ (second_false (model.is_wrong_object ms) _ (second_false (model.is_wrong_scalar ms) _ clean.no_shape))) in
     let is_object : model.is_object_type ms ≡ true = not_false _ (first_false _ _ right) in
     let later = second_false (not (model.is_object_type ms)) _ right in
     let last = second_false (model.has_member (codes "additionalProperties") ms) _ later in (
       if-false (model.is_atomic ms) _ _ (first_false _ _ last) ∙ if-false (model.is_array_type ms) _ _ (one-type (member_of (codes "type") ms) is_object)
           ∙ if-true (model.is_object_type ms) _ _ is_object
-          ∙ no-other (member_of (codes "additionalProperties") ms) (model.kind_fields (model.kind_of_schema n) (model.property_members ms)) (model.kind_of_schema n) (first_false _ _ later),
+          ∙ no-other (member_of (codes "additionalProperties") ms) (model.kind_fields (model.kind_of_schema n) (model.property_members ms))
+          (model.kind_of_schema n) (first_false _ _ later),
       second_false (model.is_atomic ms) _ last,
     )
 
+-- the kind of a root schema without faults is a record
 pub root-record : (n : ℕ) (v : Json) → model.schema_faults (suc n) model.at_root v ≡ [] → is_record (model.kind_of_schema (suc n) v) ≡ true
 root-record n (scalar t) e = absurd (cons≢nil e)
 root-record n (list vs) e = absurd (cons≢nil e)
@@ -379,7 +414,8 @@ is_refused (Ok k) = false
 is_refused (Err f) = true
 
 -- a kind that is told passes a test that the one of a schema without faults passes
-pub told-kind : (test : kinds.Kind → Bool) (fs : List model.SchemaFault) (j k : kinds.Kind) → (fs ≡ [] → test j ≡ true) → ◌≡◌ {A = Result kinds.Kind model.SchemaFault} (elim fs [ [] ↦ Ok j | f ∷ gs ↦ Err f ]) (Ok k) → test k ≡ true
+pub told-kind : (test : kinds.Kind → Bool) (fs : List model.SchemaFault) (j k : kinds.Kind) → (fs ≡ [] → test j ≡ true)
+    → ◌≡◌ {A = Result kinds.Kind model.SchemaFault} (elim fs [ [] ↦ Ok j | f ∷ gs ↦ Err f ]) (Ok k) → test k ≡ true
 unfolding passes is_refused
 told-kind test [] j k h e = ap (passes test) (sym e) ∙ h refl
 told-kind test (f ∷ fs) j k h e = absurd (true≢false (ap is_refused e))

@@ -13,13 +13,14 @@ use Rattle.ssa_model.proofs.FaultlessKeys.{key-field}
 use Rattle.ssa_json.specs.View.{view, items_view, members_view}
 use Rattle.ssa_json.specs.declared.value.Json as json
 use Rattle.ssa_json.proofs.Views.{view-Object}
-use Rattle.ssa_path.proofs.Parts.{then_none}
-use Rattle.ssa_path.proofs.Orders.{same_element-true, same_element-itself}
 use Rattle.ssa_schema.specs.Finds.{scalar_of, scalar_in}
 use Rattle.ssa_schema.specs.Refusals.{first_of}
 use Rattle.ssa_schema.specs.Repeats.{Row, scalar_cmp, row_cmp, same_row, repeat_from, is_other, value_rows, leading_values, cons_row, key_row, item_rows, leading_keys}
 use Rattle.ssa_schema.proofs.Finding.{item_split}
 use Rattle.ssa_schema.proofs.Rows.{row_cmp_total, row-exact}
+use Rattle.ssa_model.proofs.Fitting.{same_element-true}
+use Rattle.ssa_model.proofs.Tables.{element-itself as same_element-itself}
+use Rattle.ssa_model.proofs.Basics.{then_none}
 
 -- ---- the first that repeats, among what stands for others
 
@@ -73,6 +74,7 @@ each-any (x ∷ xs) = (tt, each-any xs)
 row-single : (a b : Scalar) → same_row (single a) (single b) ≡ same_value a b
 row-single a b = ap is_eq (then_none (scalar_cmp a b))
 
+-- among the values of a set, the first scalar that repeats is the first element that does
 pub values-repeat : (k : ScalarKind) (vs : Items) → repeat_from same_row 0 [] (value_rows k vs) ≡ repeat_from same_element 0 [] (leading_values k vs)
 values-repeat k vs =
     let ss = scalars k vs in
@@ -186,6 +188,7 @@ are-rows names (item (object ms) vs) =
           }
     ] refl
 
+-- among the items of a map list, the first keys that repeat are the first element that does
 pub keys-repeat : (names : List Text) (vs : Items) → repeat_from same_row 0 [] (item_rows names vs) ≡ repeat_from same_element 0 [] (leading_keys names vs)
 keys-repeat names vs =
     let rows = are-rows names vs in
@@ -208,6 +211,7 @@ other-later j k before (e ∷ es) h =
       | false ↦ other-later (j + 1) k (e ∷ before) es (omega arith)
     ]
 
+-- an element is new exactly where the first that repeats is not at its place
 pub other-test : (k : ℕ) (e : Element) (before es : List Element) (found : Option ℕ) (is_new : Bool) → repeat_from same_element k before (e ∷ es) ≡ found
     → is_new ≡ is_other found k → is_new ≡ not (is_among e before)
 other-test k e before es found is_new is test =
@@ -216,6 +220,7 @@ other-test k e before es found is_new is test =
       | false ↦ λ h. test ∙ ap (λ o. is_other o k) (sym h) ∙ other-later (k + 1) k (e ∷ before) es (omega arith)
     ] is
 
+-- behind an element that is new, the first that repeats is the same
 pub repeat-next : (k : ℕ) (e : Element) (before es : List Element) (found : Option ℕ) → repeat_from same_element k before (e ∷ es) ≡ found
     → true ≡ not (is_among e before) → repeat_from same_element (k + 1) (e ∷ before) es ≡ found
 repeat-next k e before es found is new =
@@ -228,6 +233,7 @@ repeat-next k e before es found is new =
 
 -- ---- the item at an index, in front of those after it
 
+-- from the place of a scalar on, the leading values are its own and those of the next places
 pub lead-value : (k : ScalarKind) (xs : List json.Json) (i : ℕ) (x : json.Json) (s : Scalar) → i < length xs → x ≡ get_or xs i x → scalar_of k (view x) ≡ Some s
     → leading_values k (items_view (drop i xs)) ≡ value s ∷ leading_values k (items_view (drop (i + 1) xs))
 lead-value k xs i x s within is e =
@@ -249,6 +255,7 @@ row-there (n ∷ ns) fs ms p e =
     let rest = row-there ns fs ms p (nil_second (key_field_fault (kind_of n fs) (member_of n ms) p) _ e) in
     (here.own ∷ rest.0, ap₂ cons_row (ap scalar_in here.is_own) rest.1)
 
+-- from the place of an object with its keys on, the leading keys are its own and those of the next places
 pub lead-key : (names : List Text) (fs : Fields) (xs : List json.Json) (i : ℕ) (x : json.Json) (m : BTreeMap (String Global) json.Json) → i < length xs
     → x ≡ get_or xs i x → x ≡ json.Object m → None ≡ first_of (key_faults names fs (members_view m.entries) [])
     → leading_keys names (items_view (drop i xs)) ≡ item_key names (members_view m.entries) ∷ leading_keys names (items_view (drop (i + 1) xs))

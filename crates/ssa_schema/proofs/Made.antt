@@ -13,6 +13,7 @@ use Rattle.ssa_json.proofs.Ordered.{names, inserted-last}
 abbrev pub named : {X M : Type 0} → (X → M) → String Global × X → Text × M
 named seen m = (string_bytes m.0, seen m.1)
 
+-- what is asked for under a member's name: what is read of its value
 abbrev pub asked : {M : Type 0} → (Json → M) → Found → Text × M
 asked read e = (string_bytes e.0, read (view e.1))
 
@@ -24,12 +25,15 @@ asked_names : {M : Type 0} (read : Json → M) (es : List Found) → map (λ (x 
 asked_names read [] = refl
 asked_names read (e ∷ es) = ap (λ t. string_bytes e.0 ∷ t) (asked_names read es)
 
-names-made : {X M : Type 0} (seen : X → M) (read : Json → M) (ms : List (String Global × X)) (es : List Found) → map (named seen) ms ≡ map (asked read) es → names ms ≡ names es
+names-made : {X M : Type 0} (seen : X → M) (read : Json → M) (ms : List (String Global × X)) (es : List Found) → map (named seen) ms ≡ map (asked read) es
+    → names ms ≡ names es
 names-made {X} {M} seen read ms es same = sym (made_names seen ms) ∙ ap (map (λ (x : Text × M). x.0)) same ∙ asked_names read es
 
 -- one more is made, under a name above those before
-pub made-more : {X M : Type 0} (seen : X → M) (read : Json → M) (done : List Found) (e : Found) (left : List Found) (found now : List (String Global × X)) (k : String Global) (x : X)
-    → IsStrictlySortedBy string_cmp (keys_of (done ++ e ∷ left)) → map (named seen) found ≡ map (asked read) done → now ≡ insert_entry string_cmp found k x → string_bytes k ≡ string_bytes e.0 → seen x ≡ read (view e.1)
+pub made-more : {X M : Type 0} (seen : X → M) (read : Json → M) (done : List Found) (e : Found) (left : List Found) (found now : List (String Global × X))
+    (k : String Global) (x : X)
+    → IsStrictlySortedBy string_cmp (keys_of (done ++ e ∷ left)) → map (named seen) found ≡ map (asked read) done → now ≡ insert_entry string_cmp found k x
+    → string_bytes k ≡ string_bytes e.0 → seen x ≡ read (view e.1)
     → map (named seen) now ≡ map (asked read) (done ++ e ∷ [])
 made-more seen read done e left found now k x ordered same put key made =
     ap (map (named seen)) (put ∙ inserted-last done e left found k x ordered (names-made seen read found done same) key)

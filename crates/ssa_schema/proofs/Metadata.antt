@@ -16,7 +16,9 @@ use Rattle.ssa_schema.proofs.Lawful.{root-record, told-kind}
 pub kind_of-with_field : (n : Text) (k : Kind) (fs : Fields) → kind_of n (with_field n k fs) ≡ Some k
 kind_of-with_field n k no_fields = ap (λ b. if b then Some k else None) (same_text-itself n)
 kind_of-with_field n k (kind_field m j fs) =
-    elim (slice_cmp nat_cmp n m) as (λ o. slice_cmp nat_cmp n m ≡ o → kind_of n (elim o [ Less ↦ kind_field n k (kind_field m j fs) | Equal ↦ kind_field n k fs | Greater ↦ kind_field m j (with_field n k fs) ]) ≡ Some k) [
+    elim (slice_cmp nat_cmp n m) as (λ o. slice_cmp nat_cmp n m ≡ o
+    → kind_of n (elim o [ Less ↦ kind_field n k (kind_field m j fs) | Equal ↦ kind_field n k fs | Greater ↦ kind_field m j (with_field n k fs) ])
+    ≡ Some k) [
       | Less ↦ λ h. ap (λ b. if b then Some k else kind_of n (kind_field m j fs)) (same_text-itself n)
       | Equal ↦ λ h. ap (λ b. if b then Some k else kind_of n fs) (same_text-itself n)
       | Greater ↦ λ h. ap (λ b. if b then Some j else kind_of n (with_field n k fs)) (ap is_eq h) ∙ kind_of-with_field n k fs
@@ -30,6 +32,8 @@ with_metadata-has fs (dict_of k) h = absurd (true≢false (sym h))
 with_metadata-has fs (set_of k) h = absurd (true≢false (sym h))
 with_metadata-has fs (items_of ns gs) h = absurd (true≢false (sym h))
 
+-- the kind of an accepted schema has `metadata`, an object with fields
 pub read-metadata : (v : Json) (k : Kind) → read_schema v ≡ Ok k → has_metadata k ≡ true
 read-metadata v k e =
-    told-kind has_metadata (schema_faults most_levels at_root v) _ k (λ none. with_metadata-has metadata_fields (kind_of_schema most_levels v) (root-record 31 v none)) e
+    told-kind has_metadata (schema_faults most_levels at_root v) _ k
+    (λ none. with_metadata-has metadata_fields (kind_of_schema most_levels v) (root-record 31 v none)) e

@@ -34,17 +34,23 @@ reading : (v : Json) → schema_reading v ≡ told (faults_at most_levels model.
 unfolding schema_reading faults_at kind_at
 reading v = told_by (model.schema_faults most_levels model.at_root v) (model.with_metadata model.metadata_fields (model.kind_of_schema most_levels v))
 
+-- the reading of a schema is that of the definitions
 pub reading_is : (v : Json) → model.read_schema v ≡ schema_reading v
 unfolding schema_reading
 reading_is v = refl
 
-pub reading-none : (v : Json) → None ≡ first_of (faults_at most_levels model.at_root v) → schema_reading v ≡ Ok (model.with_metadata model.metadata_fields (kind_at most_levels v))
+-- a schema without faults is read as the kind that is made of it, with `metadata`
+pub reading-none : (v : Json) → None ≡ first_of (faults_at most_levels model.at_root v)
+    → schema_reading v ≡ Ok (model.with_metadata model.metadata_fields (kind_at most_levels v))
 reading-none v e = reading v ∙ told_none (faults_at most_levels model.at_root v) _ e
 
+-- a schema with a first fault is refused with this
 pub reading-first : (v : Json) (f : model.SchemaFault) → Some f ≡ first_of (faults_at most_levels model.at_root v) → schema_reading v ≡ Err f
 reading-first v f e = reading v ∙ told_first (faults_at most_levels model.at_root v) _ f e
 
-pub Faults-refusal : (r : Refusal) (v : Json) → Some (refusal_view r) ≡ first_of (faults_at most_levels model.at_root v) → Faults (fault_of r) (schema_reading v)
+-- a refusal with the first fault is the fault that is told
+pub Faults-refusal : (r : Refusal) (v : Json) → Some (refusal_view r) ≡ first_of (faults_at most_levels model.at_root v)
+    → Faults (fault_of r) (schema_reading v)
 Faults-refusal Keyword v e = reading-first v model.schema_keyword e
 Faults-refusal Shape v e = reading-first v model.schema_shape e
 Faults-refusal Keys v e = reading-first v model.schema_keys e

@@ -14,10 +14,6 @@ abbrev AtMost : Option ℕ → ℕ → Type 0
 AtMost None r = ⊥
 AtMost (Some n) r = n ≤ r
 
-at_most-trans : (o : Option ℕ) (m n : ℕ) → AtMost o m → m ≤ n → AtMost o n
-at_most-trans None m n h le = h
-at_most-trans (Some k) m n h le = omega arith
-
 lesser-here : (o : Option ℕ) (n : ℕ) → AtMost (lesser o n) n
 lesser-here None n = omega arith
 lesser-here (Some m) n = elim (nat_lt n m) as
@@ -36,7 +32,8 @@ lesser-is (Some m) n r e = elim (nat_lt n m) as
 none-number : (r : ℕ) → ◌≡◌ {A = Option ℕ} None (Some r) → ⊥
 none-number r e = cc
 
-some-number : (m n : ℕ) → ◌≡◌ {A = Option ℕ} (Some m) (Some n) → m ≡ n
+-- where what was found is the same, the numbers are the same
+pub some-number : (m n : ℕ) → ◌≡◌ {A = Option ℕ} (Some m) (Some n) → m ≡ n
 some-number m n e = cc
 
 -- numbers that bound each other
@@ -54,6 +51,7 @@ abbrev pub numbered : {A : Type 0} → ℕ → List A → List (ℕ × A)
 numbered k [] = []
 numbered k (x ∷ xs) = (k, x) ∷ numbered (k + 1) xs
 
+-- one more at the end has the next place
 pub numbered-more : {A : Type 0} (k : ℕ) (xs : List A) (x : A) → numbered k xs ++ (k + length xs, x) ∷ [] ≡ numbered k (xs ++ x ∷ [])
 numbered-more k [] x = let here : k + 0 ≡ k = omega arith in ap (λ n. (n, x) ∷ []) here
 numbered-more k (y ∷ xs) x = let next : k + suc (length xs) ≡ (k + 1) + length xs = omega arith in
@@ -77,6 +75,7 @@ module _ {X K : Type 0} (place : X → ℕ) (key : X → K) (cmp : K → K → O
   abbrev same : K → K → Bool
   same = eq_by_cmp cmp
 
+  -- the key of the one is below that of the other
   abbrev pub before : X → X → Bool
   before x y = is_lt (cmp (key x) (key y))
 
@@ -278,6 +277,7 @@ module _ {X K : Type 0} (place : X → ℕ) (key : X → K) (cmp : K → K → O
 
   -- ---- the first that repeats, in a list with its places
 
+  -- their places are k and those that follow
   abbrev pub Numbered : ℕ → List X → Type 0
   Numbered k [] = ⊤
   Numbered k (x ∷ xs) = ((place x) ≡ k) × Numbered (k + 1) xs
@@ -417,6 +417,7 @@ module _ {X K : Type 0} (place : X → ℕ) (key : X → K) (cmp : K → K → O
     least-bounds r h = subst (λ m. AtMost (least_repeat same (seen ys)) m) h.at
         (again-least None ys h.of h.one far (moved h.of xs ys h.one (alike xs ys stable h.of) h.again))
 
+    -- the least place of equal neighbours, once all is sorted, is that of the first key that repeats
     pub least-is-first : least_repeat same (seen ys) ≡ repeat_from same 0 [] ks
     least-is-first =
         same-number (least_repeat same (seen ys)) (first_in 0 [] xs) (λ r e. first-bounds r (least-again ys r e))

@@ -15,11 +15,17 @@ use Rattle.ssa_schema.specs.Builds.{sorted_items}
 -- one step, after the order of the two names
 one_name : (k x : String Global) (xs rest : List (String Global)) (o : Ordering) → names_view rest ≡ with_text (string_bytes k) (names_view xs)
     → names_view (match_ordering o (k ∷ x ∷ xs) (x ∷ xs) (x ∷ rest))
-    ≡ (elim o [ Less ↦ string_bytes k ∷ string_bytes x ∷ names_view xs | Equal ↦ string_bytes x ∷ names_view xs | Greater ↦ string_bytes x ∷ with_text (string_bytes k) (names_view xs) ])
+    ≡ (elim o [
+      | Less ↦ string_bytes k ∷ string_bytes x ∷ names_view xs
+      | Equal ↦ string_bytes x ∷ names_view xs
+      | Greater ↦ string_bytes x
+          ∷ with_text (string_bytes k) (names_view xs)
+    ])
 one_name k x xs rest Less h = refl
 one_name k x xs rest Equal h = refl
 one_name k x xs rest Greater h = ap (λ ns. string_bytes x ∷ ns) h
 
+-- a name put into the set is a text put in its place among the others
 pub names-insert : (k : String Global) (xs : List (String Global)) → names_view (insert_key string_cmp xs k) ≡ with_text (string_bytes k) (names_view xs)
 names-insert k [] = refl
 names-insert k (x ∷ xs) = one_name k x xs (insert_key string_cmp xs k) (slice_cmp nat_cmp (string_bytes k) (string_bytes x)) (names-insert k xs)
@@ -45,5 +51,6 @@ sorts : (vs : Items) → Sorts vs (texts_of vs)
 sorts no_items = refl
 sorts (item v vs) = sorts_more v vs (as_text v) (texts_of vs) refl (sorts vs)
 
+-- where the items are texts, sorting them is sorting the texts
 pub sorted_items-texts : (vs : Items) (ts : List Text) → texts_of vs ≡ Some ts → sorted_items vs ≡ sorted_texts ts
 sorted_items-texts vs ts e = subst (Sorts vs) e (sorts vs)

@@ -24,7 +24,8 @@ fields_shape_at levels ms =
     ]
 
 abbrev pub object_shape : ℕ → Members → Shape
-object_shape levels ms = if is_array_type ms then list_shape_at levels ms else (if is_object_type ms then fields_shape_at levels ms else scalar_shape (scalar_kind_of ms))
+object_shape levels ms = if is_array_type ms then list_shape_at levels
+    ms else (if is_object_type ms then fields_shape_at levels ms else scalar_shape (scalar_kind_of ms))
 
 -- ---- kinds of what is not atomic, where so many levels are left below
 
@@ -41,7 +42,8 @@ fields_kind_at levels ms =
     ]
 
 abbrev pub merged_kind : ℕ → Members → Kind
-merged_kind levels ms = if is_array_type ms then list_kind_at levels ms else (if is_object_type ms then fields_kind_at levels ms else scalar_kind (scalar_kind_of ms))
+merged_kind levels ms = if is_array_type ms then list_kind_at levels
+    ms else (if is_object_type ms then fields_kind_at levels ms else scalar_kind (scalar_kind_of ms))
 
 -- the texts among the items, sorted
 abbrev pub sorted_items : Items → List Text

@@ -58,4 +58,5 @@ scalar_in _ = None
 -- the faults of an item whose keys are right: an earlier one has them, or its fields have faults
 abbrev pub keyed_faults : Bool → List Text → model.Fields → Members → Path → List model.FaultAt
 keyed_faults is_new names fs ms p =
-    if is_new then model.field_faults fs ms (p ++ model.item_key names ms ∷ []) else model.fault_at model.duplicate_item (p ++ model.item_key names ms ∷ []) ∷ []
+    if is_new then model.field_faults fs ms (p ++ model.item_key names ms ∷ []) else model.fault_at model.duplicate_item (p ++ model.item_key names ms ∷ [])
+    ∷ []

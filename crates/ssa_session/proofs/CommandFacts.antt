@@ -36,6 +36,7 @@ by_rule ms word r = elim r [ None ↦ None | Some rule ↦ (if follows_rule ms r
 abbrev by_word : Members → Option Text → Option given.Command
 by_word ms w = elim w [ None ↦ None | Some word ↦ by_rule ms word (rule_of word) ]
 
+-- what is told of the command of a value: its shape, its moment, its path, or the command itself
 abbrev pub told : Option given.Command → Result answers.Command LineFault
 told o = elim o [
   | None ↦ Err command_shape
@@ -48,9 +49,6 @@ no_word : (ms : Members) (w : Option Text) → option_and_then (rule_of) w ≡ N
 no_word ms None none = refl
 no_word ms (Some word) none = ap (by_rule ms word) none
 
-pub meaning-no_word : (ms : Members) → option_and_then (rule_of) (word_of ms) ≡ None → meaning (object ms) ≡ Err command_shape
-meaning-no_word ms none = ap told (no_word ms (word_of ms) none)
-
 rule_of-word : (word : Word) → rule_of (word_text word) ≡ Some (rule_at word)
 rule_of-word Apply = refl
 rule_of-word Update = refl
@@ -61,6 +59,7 @@ rule_of-word Show = refl
 rule_of-word Owners = refl
 rule_of-word Log = refl
 
+-- an object with a word is read as the command of this word where its members follow the word's rule
 pub meaning-word : (ms : Members) (word : Word) (b : Bool) → word_of ms ≡ Some (word_text word) → follows_rule ms (rule_at word) ≡ b
     → meaning (object ms) ≡ told (if b then Some (command_with (word_text word) ms) else None)
 meaning-word ms word b is follows =
@@ -69,21 +68,29 @@ meaning-word ms word b is follows =
 
 -- ---- by the members
 
-pub known_member : (rules : List MemberRule) (ms : Members) (n : Text) (v : Json) → are_known_members rules ms ≡ true → member_of n ms ≡ Some v → is_known_member rules n v ≡ true
+-- a member of a value whose members are all known is a known member
+pub known_member : (rules : List MemberRule) (ms : Members) (n : Text) (v : Json) → are_known_members rules ms ≡ true → member_of n ms ≡ Some v
+    → is_known_member rules n v ≡ true
 known_member rules no_members n v known is = cc
 known_member rules (member m w rest) n v known is =
     let parts = and_parts (is_known_member rules m w) (are_known_members rules rest) known in
     elim (same_text n m) as (λ b. same_text n m ≡ b → cond b (Some w) (member_of n rest) ≡ Some v → is_known_member rules n v ≡ true) [
-      | true ↦ λ same here. let names : n ≡ m = same_text-true n m same in let values : w ≡ v = cc in (λ i. is_known_member rules (names i) (sym values i)) ∙ parts.0
+      | true ↦ λ same here. let names : n ≡ m = same_text-true n m same in let values : w ≡ v = cc in (λ i. is_known_member rules (names i) (sym values i))
+          ∙ parts.0
       | false ↦ λ _ later. known_member rules rest n v parts.1 later
     ] refl is
 
-pub meaning-show : (ms : Members) → word_of ms ≡ Some (codes "show") → follows_rule ms (rule_at Show) ≡ true → meaning (object ms) ≡ Ok (answers.show (truth_in (member_of (codes "managed") ms)))
+-- an object with the word show that follows its rule is read as a show
+pub meaning-show : (ms : Members) → word_of ms ≡ Some (codes "show") → follows_rule ms (rule_at Show) ≡ true
+    → meaning (object ms) ≡ Ok (answers.show (truth_in (member_of (codes "managed") ms)))
 meaning-show ms is follows = meaning-word ms Show true is follows
 
-pub rule_of-other : (t : Text) → same_text t (codes "apply") ≡ false → same_text t (codes "update") ≡ false → same_text t (codes "strip") ≡ false → same_text t (codes "undo") ≡ false → same_text t (codes "redo") ≡ false
+-- a text that is none of the eight words has no rule
+pub rule_of-other : (t : Text) → same_text t (codes "apply") ≡ false → same_text t (codes "update") ≡ false → same_text t (codes "strip") ≡ false
+    → same_text t (codes "undo") ≡ false → same_text t (codes "redo") ≡ false
     → same_text t (codes "show") ≡ false → same_text t (codes "owners") ≡ false → same_text t (codes "log") ≡ false → rule_of t ≡ None
-rule_of-other t not_apply not_update not_strip not_undo not_redo not_show not_owners not_log = rw (not_apply, not_update, not_strip, not_undo, not_redo, not_show, not_owners, not_log) refl
+rule_of-other t not_apply not_update not_strip not_undo not_redo not_show not_owners not_log =
+    rw (not_apply, not_update, not_strip, not_undo, not_redo, not_show, not_owners, not_log) refl
 
 -- ---- the members of an apply command and of an update command
 
@@ -91,7 +98,8 @@ is_true-or_false : (b : Bool) → (b || false) ≡ true → b ≡ true
 is_true-or_false b either = grind (arith, nat_tests)
 
 -- a member that is known to be a text
-text_there : (rules : List MemberRule) (ms : Members) (n : Text) → are_known_members rules ms ≡ true → ((v : Json) → is_known_member rules n v ≡ (is_text v || false)) → has_member n ms ≡ true
+text_there : (rules : List MemberRule) (ms : Members) (n : Text) → are_known_members rules ms ≡ true
+    → ((v : Json) → is_known_member rules n v ≡ (is_text v || false)) → has_member n ms ≡ true
     → is_some (option_and_then as_text (member_of n ms)) ≡ true
 text_there rules ms n known asked there =
     elim (member_of n ms) as (λ o. member_of n ms ≡ o → is_some o ≡ true → is_some (option_and_then as_text o) ≡ true) [
@@ -99,25 +107,35 @@ text_there rules ms n known asked there =
       | Some v ↦ λ is _. is_true-or_false (is_text v) (sym (asked v) ∙ known_member rules ms n v known is)
     ] refl there
 
+-- an apply command has a moment, a manager and an object
 pub request-from_apply : (ms : Members) → follows_rule ms (rule_at Apply) ≡ true → HasRequest ms
 request-from_apply ms follows =
     let parts = and_parts (are_known_members (member_rules Apply) ms) _ follows in
     let at = and_parts (has_member (codes "at") ms) _ parts.1 in
     let manager = and_parts (has_member (codes "manager") ms) _ at.1 in
-    let object = and_parts (has_member (codes "object") ms) _ manager.1 in
-    (text_there (member_rules Apply) ms (codes "at") parts.0 (λ v. refl) at.0, text_there (member_rules Apply) ms (codes "manager") parts.0 (λ v. refl) manager.0, object.0)
+    let object = and_parts (has_member (codes "object") ms) _ manager.1 in (
+      text_there (member_rules Apply) ms (codes "at") parts.0 (λ v. refl) at.0,
+      text_there (member_rules Apply) ms (codes "manager") parts.0 (λ v. refl) manager.0,
+      object.0,
+    )
 
+-- an update command has a moment, a manager and an object
 pub request-from_update : (ms : Members) → follows_rule ms (rule_at Update) ≡ true → HasRequest ms
 request-from_update ms follows =
     let parts = and_parts (are_known_members (member_rules Update) ms) _ follows in
     let at = and_parts (has_member (codes "at") ms) _ parts.1 in
     let manager = and_parts (has_member (codes "manager") ms) _ at.1 in
-    let object = and_parts (has_member (codes "object") ms) _ manager.1 in
-    (text_there (member_rules Update) ms (codes "at") parts.0 (λ v. refl) at.0, text_there (member_rules Update) ms (codes "manager") parts.0 (λ v. refl) manager.0, object.0)
+    let object = and_parts (has_member (codes "object") ms) _ manager.1 in (
+      text_there (member_rules Update) ms (codes "at") parts.0 (λ v. refl) at.0,
+      text_there (member_rules Update) ms (codes "manager") parts.0 (λ v. refl) manager.0,
+      object.0,
+    )
 
+-- what is there is not missing
 pub there : {A : Type 0} (o : Option A) → is_some o ≡ true → o ≡ None → ⊥
 there o some none = true≢false (sym some ∙ ap is_some none)
 
+-- a member that is read as a text has this text
 pub text_in-is : (o : Option Json) (t : Text) → option_and_then as_text o ≡ Some t → text_in o ≡ t
 text_in-is None t is = cc
 text_in-is (Some (scalar (text s))) t is = cc
@@ -125,19 +143,6 @@ text_in-is (Some (scalar (whole z))) t is = cc
 text_in-is (Some (scalar (truth b))) t is = cc
 text_in-is (Some (list vs)) t is = cc
 text_in-is (Some (object ms)) t is = cc
-
-pub meaning-apply : (ms : Members) (b : Bool) → word_of ms ≡ Some (codes "apply") → follows_rule ms (rule_at Apply) ≡ true → is_moment (given_moment ms) ≡ b
-    → meaning (object ms)
-    ≡ (if b then Ok (answers.apply (text_in (member_of (codes "manager") ms)) (truth_in (member_of (codes "force") ms)) (given_moment ms) (value_in (member_of (codes "object") ms))) else Err bad_moment)
-meaning-apply ms b is follows moment =
-    meaning-word ms Apply true is follows
-    ∙ ap (λ t. if t then Ok (answers.apply (text_in (member_of (codes "manager") ms)) (truth_in (member_of (codes "force") ms)) (given_moment ms) (value_in (member_of (codes "object") ms))) else Err bad_moment) moment
-
-pub meaning-update : (ms : Members) (b : Bool) → word_of ms ≡ Some (codes "update") → follows_rule ms (rule_at Update) ≡ true → is_moment (given_moment ms) ≡ b
-    → meaning (object ms) ≡ (if b then Ok (answers.update (text_in (member_of (codes "manager") ms)) (given_moment ms) (value_in (member_of (codes "object") ms))) else Err bad_moment)
-meaning-update ms b is follows moment =
-    meaning-word ms Update true is follows
-    ∙ ap (λ t. if t then Ok (answers.update (text_in (member_of (codes "manager") ms)) (given_moment ms) (value_in (member_of (codes "object") ms))) else Err bad_moment) moment
 
 -- ---- the members of an owners command
 
@@ -163,19 +168,20 @@ list-there (Some (scalar s)) some none = true≢false (sym some)
 list-there (Some (list vs)) some none = cc
 list-there (Some (object ms)) some none = true≢false (sym some)
 
+-- an owners command has a list as its path
 pub path-there : (ms : Members) → follows_rule ms (rule_at Owners) ≡ true → option_and_then as_list (member_of (codes "path") ms) ≡ None → ⊥
 path-there ms follows none = list-there (member_of (codes "path") ms) (texts_there ms follows) none
 
-pub path-texts : (ms : Members) (vs : Items) → follows_rule ms (rule_at Owners) ≡ true → option_and_then as_list (member_of (codes "path") ms) ≡ Some vs → is_some (texts_of vs) ≡ true
-path-texts ms vs follows is = sym (ap (λ o. is_some (option_and_then list_of_texts o)) (list-given (member_of (codes "path") ms) vs is)) ∙ texts_there ms follows
-
-pub meaning-owners : (ms : Members) (vs : Items) → word_of ms ≡ Some (codes "owners") → follows_rule ms (rule_at Owners) ≡ true → option_and_then as_list (member_of (codes "path") ms) ≡ Some vs
-    → meaning (object ms) ≡ owners_command (path_of json_reading (given_texts vs))
-meaning-owners ms vs is follows there =
-    meaning-word ms Owners true is follows ∙ ap (λ o. owners_command (path_of json_reading (texts_in o))) (list-given (member_of (codes "path") ms) vs there)
+-- each item of an owners command's path is a text
+pub path-texts : (ms : Members) (vs : Items) → follows_rule ms (rule_at Owners) ≡ true → option_and_then as_list (member_of (codes "path") ms) ≡ Some vs
+    → is_some (texts_of vs) ≡ true
+path-texts ms vs follows is = sym (ap (λ o. is_some (option_and_then list_of_texts o)) (list-given (member_of (codes "path") ms) vs is))
+    ∙ texts_there ms follows
 
 -- a member of another name stays where one is taken out
-pub other_member : (old new : BTreeMap (String Global) values.Json) (gone n : Text) → UpdatesBy string_cmp (λ k. slice_cmp nat_cmp gone (string_bytes k)) old new None → bytes_eq gone n ≡ false
+pub other_member : (old new : BTreeMap (String Global) values.Json) (gone n : Text)
+    → UpdatesBy string_cmp (λ k. slice_cmp nat_cmp gone (string_bytes k)) old new None → bytes_eq gone n ≡ false
     → member_of n (members_view new.entries) ≡ member_of n (members_view old.entries)
 other_member old new gone n updates other =
-    sym (view-lookup n new.entries) ∙ ap (option_map view) (btree_map_updates_text gone old new None updates n ∙ ap (λ t. cond t None (get_by_text old n)) other) ∙ view-lookup n old.entries
+    sym (view-lookup n new.entries) ∙ ap (option_map view) (btree_map_updates_text gone old new None updates n
+    ∙ ap (λ t. cond t None (get_by_text old n)) other) ∙ view-lookup n old.entries

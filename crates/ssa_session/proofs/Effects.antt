@@ -33,7 +33,8 @@ unfolding command_by
 after-line true old line = refl
 after-line false old line = after-read old (read_line readings line)
 
-told-by : AnswersAreTold → (long : Bool) (old : Bench) (line : Bytes) → same_text (if long then too_long_text else line_reply old line) out_of_memory_text ≡ false
+told-by : AnswersAreTold → (long : Bool) (old : Bench) (line : Bytes)
+    → same_text (if long then too_long_text else line_reply old line) out_of_memory_text ≡ false
 told-by laws true old line = laws.0
 told-by laws false old line = laws.1 readings old line
 
@@ -49,7 +50,8 @@ if-want : (b : Bool) (cs : List Command) → b ≡ true → (if b then [] else c
 if-want true cs h = refl
 if-want false cs h = cc
 
-answered : AnswersAreTold → (old new : Bench) (line text : Bytes) → IsAnswer line_reply bench_after old line text new ⊎ IsRefused line_reply bench_after old line text new → new ≡ (run old (given_by line text)).1
+answered : AnswersAreTold → (old new : Bench) (line text : Bytes) → IsAnswer line_reply bench_after old line text new
+    ⊎ IsRefused line_reply bench_after old line text new → new ≡ (run old (given_by line text)).1
 unfolding command_by
 answered laws old new line text (inl a) =
     let long = nat_lt most_line_bytes (length line) in
@@ -63,9 +65,13 @@ answered laws old new line text (inr r) =
 
 -- the laws of the model that a session's run rests on
 pub record Laws : Type 0 where
+  -- no answer to a line is told as want of memory is
   pub told : AnswersAreTold
+  -- a list of commands is carried out by one part of it after the other
   pub runs : RunsGoOn
+  -- the state at the place is the commands in effect, carried out on the first state
   pub effect : RunIsInEffect
+  -- a history whose states are made by commands stays one
   pub history : RunKeepsHistory
 
 module _ (laws : Laws) where
@@ -85,11 +91,15 @@ module _ (laws : Laws) where
       subst is_run (sym (replies-run old new ls ts r)) (record { run_is = refl; in_effect = laws.effect old cs; history = laws.history old cs })
 
   module _ (left left_after written written_after : Option (List ℕ)) (old new : Bench) where
+    -- where every line is answered, the bench is that of the lines' commands
     pub runs-all : AnswersAll line_reply bench_after left left_after written written_after old new → RunsAll left left_after written written_after old new
     runs-all a = record { answers = a; runs = replies-are_run old new (lines a.input) a.texts a.replies }
 
+    -- where every whole line is answered, the bench is that of the whole lines' commands
     pub runs-whole : AnswersWhole line_reply bench_after left left_after written written_after old new → RunsWhole left left_after written written_after old new
     runs-whole a = record { answers = a; runs = replies-are_run old new (whole_lines a.input) a.texts a.replies }
 
-    pub runs-partly : AnswersPartly line_reply bench_after left left_after written written_after old new → RunsPartly left left_after written written_after old new
+    -- where of the last reply a beginning was written, the bench is that of all the commands, the last one too
+    pub runs-partly : AnswersPartly line_reply bench_after left left_after written written_after old new
+        → RunsPartly left left_after written written_after old new
     runs-partly a = record { answers = a; runs = replies-are_run old new (lines a.input) (a.texts ++ a.last ∷ []) a.replies }

@@ -24,6 +24,7 @@ use Rattle.ssa_session.proofs.ReplyFacts.{items_json-map}
 
 -- ---- a code's text
 
+-- the text that is written of a code is the one of its value
 pub code-text : (c : Code) → 123 ∷ (code_members c ++ 125 ∷ []) ≡ compact (fault_json c)
 code-text code.not_json = refl
 code-text _ = refl
@@ -34,14 +35,16 @@ code-line code.not_json = refl
 code-line _ = refl
 
 -- and of a fault with a path
-pub code-text-at : (c : Code) (path : Json) → 123 ∷ (code_members c ++ (codes ",\"path\":" ++ (compact path ++ 125 ∷ []))) ≡ compact (object (with_fault c (member (codes "path") path no_members)))
+pub code-text-at : (c : Code) (path : Json) → 123 ∷ (code_members c ++ (codes ",\"path\":" ++ (compact path ++ 125 ∷ [])))
+    ≡ compact (object (with_fault c (member (codes "path") path no_members)))
 code-text-at code.not_json path = refl
 code-text-at _ path = refl
 
 -- ---- a fault with its path
 
 told_json-told : (f : kinds.BodyFault) (p : Path) → told_json (told (kinds.fault_at f p)) ≡ fault_reply (body_fault f p)
-told_json-told f p = ap (λ vs. object (with_fault (body_fault_code f) (member (codes "path") (list vs) no_members))) (sym (items_json-map text_json element_text p))
+told_json-told f p = ap (λ vs. object (with_fault (body_fault_code f) (member (codes "path") (list vs) no_members)))
+    (sym (items_json-map text_json element_text p))
 
 -- ---- faults of entries
 
@@ -53,12 +56,14 @@ entry_fault-json _ h is = ap entry_fault_json (sym is)
 -- ---- faults of commands and objects
 
 -- told by its number and its name alone
-pub plain-json : (f : engine.Fault) → ((b : BodyFault) → f ≢ Body b) → ((cs : _) → f ≢ Conflict cs) → ((e : EntryFault) → f ≢ Entry e) → fault_json (bench_code f) ≡ bench_json f
+pub plain-json : (f : engine.Fault) → ((b : BodyFault) → f ≢ Body b) → ((cs : _) → f ≢ Conflict cs) → ((e : EntryFault) → f ≢ Entry e)
+    → fault_json (bench_code f) ≡ bench_json f
 plain-json (Body b) body clashes entry = absurd (body b refl)
 plain-json (Conflict cs) body clashes entry = absurd (clashes cs refl)
 plain-json (Entry e) body clashes entry = absurd (entry e refl)
 plain-json _ body clashes entry = refl
 
+-- what the bench's fault is told as is the reply of the definitions' fault
 pub bench_json-told : (f : engine.Fault) (g : Fault) → IsFault f g → bench_json f ≡ fault_reply g
 bench_json-told (Body f) g is = ap told_json is.2 ∙ told_json-told is.0.fault is.0.path ∙ ap fault_reply (sym is.1)
 bench_json-told (Entry f) g is = entry_fault-json f is.0 is.2 ∙ ap fault_reply (sym is.1)
@@ -67,12 +72,16 @@ bench_json-told _ g is = ap fault_reply (sym is)
 
 -- ---- refused moves
 
-pub move-refused : {X E : Type 0} (r : Result X E) (text : X → Text) (f : Fault) (reply : Reply) → reply ≡ fault f → IfOk r (λ x. (g : Fault) → g ≡ f → text x ≡ compact (fault_reply g)) → IfOk r (λ x. text x ≡ reply_text reply)
+-- the text of a move's fault is that of the reply, which is the fault
+pub move-refused : {X E : Type 0} (r : Result X E) (text : X → Text) (f : Fault) (reply : Reply) → reply ≡ fault f
+    → IfOk r (λ x. (g : Fault) → g ≡ f → text x ≡ compact (fault_reply g)) → IfOk r (λ x. text x ≡ reply_text reply)
 move-refused (Ok x) text f reply is told = told f refl ∙ ap reply_text (sym is)
 move-refused (Err e) text f reply is told = tt
 
+-- an undo where nothing can be undone is answered so
 pub undo-refused : (bench : Bench) → past_len bench.timeline ≡ 0 → (answer bench undo).0 ≡ fault nothing_to_undo
 undo-refused bench none = rw none refl
 
+-- a redo where nothing can be redone is answered so
 pub redo-refused : (bench : Bench) → future_len bench.timeline ≡ 0 → (answer bench redo).0 ≡ fault nothing_to_redo
 redo-refused bench none = rw none refl

@@ -26,10 +26,13 @@ use Rattle.ssa_session.specs.Files.{IsGivenFile, object_fault, schema_fault}
 abbrev kind_or_fault : Json → Result Kind schemas.SchemaFault → Result Schema model.FileFault
 kind_or_fault v r = elim r [ Ok kind ↦ Ok (record { source = v; kind = kind }) | Err f ↦ Err (of_schema f) ]
 
-by-value : (bytes : Text) (v : Json) (r : Result Kind schemas.SchemaFault) → value_of_file readings bytes ≡ Ok v → read_schema v ≡ r → schema_of_file readings bytes ≡ kind_or_fault v r
+by-value : (bytes : Text) (v : Json) (r : Result Kind schemas.SchemaFault) → value_of_file readings bytes ≡ Ok v → read_schema v ≡ r
+    → schema_of_file readings bytes ≡ kind_or_fault v r
 by-value bytes v r is e = ap (λ x. elim x [ Ok w ↦ schema_of w | Err f ↦ Err f ]) is ∙ ap (kind_or_fault v) e
 
-pub schema-refused : (f : SchemaFault) (bytes : Text) (v : Json) → value_of_file readings bytes ≡ Ok v → Faults f (read_schema v) → IsGivenFile {A = Schema} (Err (schema_fault f)) (schema_of_file readings bytes)
+-- a schema that is refused is the fault of its file
+pub schema-refused : (f : SchemaFault) (bytes : Text) (v : Json) → value_of_file readings bytes ≡ Ok v → Faults f (read_schema v)
+    → IsGivenFile {A = Schema} (Err (schema_fault f)) (schema_of_file readings bytes)
 schema-refused schema.SchemaKeyword bytes v is h = (of_schema schema_keyword, by-value bytes v _ is h, refl)
 schema-refused schema.SchemaShape bytes v is h = (of_schema schema_shape, by-value bytes v _ is h, refl)
 schema-refused schema.SchemaKeys bytes v is h = (of_schema schema_keys, by-value bytes v _ is h, refl)
@@ -38,10 +41,13 @@ schema-refused schema.OutOfMemory bytes v is h = tt
 
 -- ---- an object file
 
-by-object : (s : Schema) (bytes : Text) (v : Json) (r : Result Bench answers.Fault) → value_of_file readings bytes ≡ Ok v → answers.bench_of readings s v ≡ r → bench_of_file readings s bytes ≡ bench_or_fault r
+by-object : (s : Schema) (bytes : Text) (v : Json) (r : Result Bench answers.Fault) → value_of_file readings bytes ≡ Ok v → answers.bench_of readings s v ≡ r
+    → bench_of_file readings s bytes ≡ bench_or_fault r
 by-object s bytes v r is e = ap (λ x. elim x [ Ok w ↦ bench_or_fault (answers.bench_of readings s w) | Err f ↦ Err f ]) is ∙ ap bench_or_fault e
 
-pub object-refused : (f : engine.Fault) (s : Schema) (bytes : Text) (v : Json) → value_of_file readings bytes ≡ Ok v → IsGiven {A = Bench} (Err f) (answers.bench_of readings s v)
+-- an object that is refused is the fault of its file
+pub object-refused : (f : engine.Fault) (s : Schema) (bytes : Text) (v : Json) → value_of_file readings bytes ≡ Ok v
+    → IsGiven {A = Bench} (Err f) (answers.bench_of readings s v)
     → IsGivenFile {A = Bench} (Err (object_fault f)) (bench_of_file readings s bytes)
 object-refused bench.OutOfMemory s bytes v is h = tt
 object-refused _ s bytes v is h = (of_object h.0, by-object s bytes v _ is h.1, (h.0, refl, h.2))
@@ -54,7 +60,8 @@ by-state s i (Ok state) b is =
     subst (λ x. IsAlone x.timeline) made (refl, refl)
 by-state s i (Err f) b is = absurd cc
 
-by-name : (named : Bool) (s : Schema) (i : Identity) (r : Result State answers.Fault) (b : Bench) → (if named then Err answers.identity_fault else answers.with_lone_state s i r) ≡ Ok b → IsAlone b.timeline
+by-name : (named : Bool) (s : Schema) (i : Identity) (r : Result State answers.Fault) (b : Bench)
+    → (if named then Err answers.identity_fault else answers.with_lone_state s i r) ≡ Ok b → IsAlone b.timeline
 by-name true s i r b is = absurd cc
 by-name false s i r b is = by-state s i r b is
 
@@ -63,13 +70,16 @@ made-alone s (object ms) b is = by-name _ s _ _ b is
 made-alone s (list vs) b is = absurd cc
 made-alone s (scalar x) b is = absurd cc
 
-or-fault : (s : Schema) (v : Json) (r : Result Bench answers.Fault) (b : Bench) → answers.bench_of readings s v ≡ r → bench_or_fault r ≡ Ok b → IsAlone b.timeline
+or-fault : (s : Schema) (v : Json) (r : Result Bench answers.Fault) (b : Bench) → answers.bench_of readings s v ≡ r → bench_or_fault r ≡ Ok b
+    → IsAlone b.timeline
 or-fault s v (Ok made) b e is = let same : made ≡ b = cc in made-alone s v b (e ∙ ap Ok same)
 or-fault s v (Err f) b e is = absurd cc
 
+-- a bench that a file makes has one state and no commands
 pub file-alone : (s : Schema) (bytes : Text) (b : Bench) → bench_of_file readings s bytes ≡ Ok b → IsAlone b.timeline
 file-alone s bytes b is = by (value_of_file readings bytes) is
   where
-    by : (r : Result Json model.FileFault) → ◌≡◌ {A = Result Bench model.FileFault} (elim r [ Ok w ↦ bench_or_fault (answers.bench_of readings s w) | Err f ↦ Err f ]) (Ok b) → IsAlone b.timeline
+    by : (r : Result Json model.FileFault) → ◌≡◌ {A = Result Bench model.FileFault}
+        (elim r [ Ok w ↦ bench_or_fault (answers.bench_of readings s w) | Err f ↦ Err f ]) (Ok b) → IsAlone b.timeline
     by (Ok v) h = or-fault s v (answers.bench_of readings s v) b refl h
     by (Err f) h = absurd cc

@@ -30,7 +30,8 @@ module _ (made : Result Bench model.FileFault) (line : Text) (Writes : List ℕ 
   abbrev Given : files.FileFault → Type 0
   Given f = (g : model.FileFault) × (made ≡ Err g) × IsFileFault f g
 
-  told-by : (f : files.FileFault) → Given f → ((g : model.FileFault) → IsFileFault f g → line ≡ model.file_fault_text g) → Writes (line ++ line_feed ∷ []) → IsRefusal made Writes
+  told-by : (f : files.FileFault) → Given f → ((g : model.FileFault) → IsFileFault f g → line ≡ model.file_fault_text g) → Writes (line ++ line_feed ∷ [])
+      → IsRefusal made Writes
   told-by f h told w = record { fault = h.0; is_refused = h.1; writes = subst (λ l. Writes (l ++ line_feed ∷ [])) (told h.0 h.2) w }
 
   refusal : (f : files.FileFault) → IsGivenFile {A = Bench} (Err f) made → IsTold f line → Writes (line ++ line_feed ∷ []) → IsRefusal made Writes
@@ -40,7 +41,8 @@ module _ (made : Result Bench model.FileFault) (line : Text) (Writes : List ℕ 
   refusal fault.OutOfMemory h told w = absurd told
   refusal f h told w = told-by f h told w
 
-module _ (made : Result Bench model.FileFault) (f : files.FileFault) (given : IsGivenFile {A = Bench} (Err f) made) (left written written_after : Option (List ℕ)) where
+module _ (made : Result Bench model.FileFault) (f : files.FileFault) (given : IsGivenFile {A = Bench} (Err f) made)
+    (left written written_after : Option (List ℕ)) where
   -- the fault was told
   pub told-held : (ending : Ending) → IsTelling f written written_after (Ok ending) → IsHeld made left left written written_after (Ok ending)
   told-held Done h = absurd h
@@ -55,9 +57,11 @@ module _ (made : Result Bench model.FileFault) (f : files.FileFault) (given : Is
 -- ---- a file that makes a bench
 
 module _ (s : Schema) (bytes : Text) (b : Bench) (is_made : bench_of_file readings s bytes ≡ Ok b) (after : Bench) where
+  -- a session on the bench that the file makes is a session on the file
   pub held : (Answered : Bench → Bench → Type 0) → Answered b after → IsSessionOn (bench_of_file readings s bytes) Answered
   held Answered answered = record { bench = b; is_made = is_made; is_new = file-alone s bytes b is_made; after = after; answered = answered }
 
+  -- a session that the reader or the writer broke off was held on the bench that the file makes
   pub broken-held : (left left_after written written_after : Option (List ℕ)) (e : SessionFault)
       → (◌≡◌ {A = Result (Unit {0}) SessionFault} (Err e) (Err Reader) → RunsWhole left left_after written written_after b after)
       → (◌≡◌ {A = Result (Unit {0}) SessionFault} (Err e) (Err Writer) → RunsPartly left left_after written written_after b after)

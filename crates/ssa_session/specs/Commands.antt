@@ -38,7 +38,8 @@ word_text Log = codes "log"
 
 -- the members beside `do`
 abbrev pub member_rules : Word → List MemberRule
-member_rules Apply = needs (codes "at") text_member ∷ needs (codes "manager") text_member ∷ needs (codes "object") any_member ∷ may_have (codes "force") truth_member ∷ []
+member_rules Apply = needs (codes "at") text_member ∷ needs (codes "manager") text_member ∷ needs (codes "object") any_member
+    ∷ may_have (codes "force") truth_member ∷ []
 member_rules Update = needs (codes "at") text_member ∷ needs (codes "manager") text_member ∷ needs (codes "object") any_member ∷ []
 member_rules Strip = []
 member_rules Undo = []

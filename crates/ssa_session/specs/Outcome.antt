@@ -5,7 +5,8 @@ use Rattle.std.specs.Io.KnownBytes.{Consumes, Appends, IsAtEnd}
 use Rattle.ssa_model.specs.definitions.Lines.{line_feed, lines, whole_lines, unfinished_line, ended}
 use Rattle.ssa_session.specs.Session.{Replies}
 
-module _ {M : Type 0} (reply : M → List ℕ → List ℕ) (after : M → List ℕ → M) (left left_after : Option (List ℕ)) (written written_after : Option (List ℕ)) (old new : M) where
+module _ {M : Type 0} (reply : M → List ℕ → List ℕ)
+    (after : M → List ℕ → M) (left left_after : Option (List ℕ)) (written written_after : Option (List ℕ)) (old new : M) where
   -- every line that was read was answered, an unfinished last one too
   pub record AnswersAll : Type 0 where
     pub input : List ℕ

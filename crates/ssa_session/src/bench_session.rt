@@ -1,5 +1,5 @@
 //! A session on a bench.
-ghost use Rattle.std.specs.Prelude.{◌≡◌, true, OnOk, OnSome, Err};
+ghost use Rattle.std.specs.Prelude.{◌≡◌, ◌<◌, true, OnOk, OnSome, Err};
 ghost use Rattle.std.specs.Io.KnownBytes.{IsAtEnd};
 ghost use Rattle.ssa_session.specs.Effects.{RunsAll, RunsWhole, RunsPartly};
 
@@ -24,7 +24,7 @@ pub fn session<R: Source, W: Sink>(
     ensures ok { OnOk result (RunsAll (R.remaining reader.old) (R.remaining reader.new)
         (W.contents writer.old) (W.contents writer.new) bench.old bench.new) }
     ensures at_end { OnOk result (OnSome (R.remaining reader.old) (IsAtEnd (R.remaining reader.new))) }
-    ensures met_end { OnOk result (R.has_met_end reader.new ≡ true) }
+    ensures met_end { OnOk result (R.ends_met reader.old < R.ends_met reader.new) }
 
     // All replies are handed on.
     ensures handed_on { OnOk result (W.is_handed_on writer.old ≡ true → W.is_handed_on writer.new ≡ true) }

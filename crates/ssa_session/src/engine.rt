@@ -1,5 +1,5 @@
 // The session: reads lines, has each answered, and writes the replies.
-ghost use Rattle.std.specs.Prelude.{◌≡◌, ℕ, List, true, OnOk, OnErr, OnSome, Err};
+ghost use Rattle.std.specs.Prelude.{◌≡◌, ◌<◌, ℕ, List, true, OnOk, OnErr, OnSome, Err};
 ghost use Rattle.std.specs.Io.KnownBytes.{IsAtEnd, Appends};
 ghost use Rattle.ssa_json.specs.Devices.{AppendsPart};
 ghost use Rattle.ssa_model.specs.definitions.Limits.{most_line_bytes};
@@ -16,13 +16,16 @@ use ssa_json::fault_code::FaultCode;
 use ssa_json::sink::Sink;
 use ssa_json::source::{DeviceFault, Source};
 use std::alloc::Global;
+use thiserror::Error;
 
 /// Which device has failed.
-#[derive(Clone, Copy, Debug, PartialEq, Eq)]
+#[derive(Clone, Copy, Debug, PartialEq, Eq, Error)]
 pub enum SessionFault {
     /// The one that lines are read from.
+    #[error("the reader has failed")]
     Reader,
     /// The one that replies are written to.
+    #[error("the writer has failed")]
     Writer,
 }
 
@@ -41,7 +44,7 @@ pub fn session<R: Source, W: Sink, M: Machine>(
     ensures ok { OnOk result (AnswersAll M.reply M.after (R.remaining reader.old) (R.remaining reader.new)
         (W.contents writer.old) (W.contents writer.new) machine.old machine.new) }
     ensures at_end { OnOk result (OnSome (R.remaining reader.old) (IsAtEnd (R.remaining reader.new))) }
-    ensures met_end { OnOk result (R.has_met_end reader.new ≡ true) }
+    ensures met_end { OnOk result (R.ends_met reader.old < R.ends_met reader.new) }
 
     // All replies are handed on.
     ensures handed_on { OnOk result (W.is_handed_on writer.old ≡ true → W.is_handed_on writer.new ≡ true) }

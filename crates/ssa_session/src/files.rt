@@ -1,5 +1,5 @@
 //! A bench from a schema file and an object file, and a session on it.
-ghost use Rattle.std.specs.Prelude.{◌≡◌, ◌++◌, ◌∷◌, [], ◌⊎◌, Ok, Err, IfOk, OnErr, OnOk, OnSome, true};
+ghost use Rattle.std.specs.Prelude.{◌≡◌, ◌<◌, ◌++◌, ◌∷◌, [], ◌⊎◌, Ok, Err, IfOk, OnErr, OnOk, OnSome, true};
 ghost use Rattle.std.specs.Io.KnownBytes.{Appends, IsAtEnd};
 ghost use Rattle.ssa_model.specs.definitions.Files.{bench_of_file, schema_of_file, value_of_file};
 ghost use Rattle.ssa_json.specs.Devices.{AppendsPart};
@@ -23,20 +23,25 @@ use ssa_json::value::Json;
 use ssa_schema::fault::SchemaFault;
 use ssa_schema::schema::Schema;
 use std::alloc::{AllocError, Global};
+use thiserror::Error;
 
 /// The most bytes of a schema file, and of an object file.
 pub const MOST_INPUT_BYTES: usize = 1_048_576;
 
 /// Why a schema file or an object file makes no bench.
-#[derive(Drop)]
+#[derive(Debug, Drop, Error)]
 pub enum FileFault {
     /// The bytes are no value, or more than [`MOST_INPUT_BYTES`].
+    #[error("no JSON value")]
     Json(JsonFault),
     /// The value is no schema.
+    #[error("no schema")]
     Schema(SchemaFault),
     /// The value is no object of the schema, or its managers' entries are no table.
+    #[error("no object of the schema")]
     Object(Fault),
     /// A growth of memory was refused.
+    #[error("out of memory")]
     OutOfMemory,
 }
 
@@ -176,7 +181,7 @@ pub fn session_on<R: Source, W: Sink>(
 
     // The session is done only at the end of its input, and a device's fault is told only where it failed.
     ensures at_end { result ≡ Ok Ending.Done → OnSome (R.remaining reader.old) (IsAtEnd (R.remaining reader.new)) }
-    ensures met_end { result ≡ Ok Ending.Done → R.has_met_end reader.new ≡ true }
+    ensures met_end { result ≡ Ok Ending.Done → R.ends_met reader.old < R.ends_met reader.new }
     ensures reader_failed { result ≡ Err SessionFault.Reader → R.has_failed reader.new ≡ true }
     ensures writer_failed { result ≡ Err SessionFault.Writer → W.has_failed writer.new ≡ true }
 

@@ -1,18 +1,38 @@
 //! Sessions: one command a line in, one reply a line out.
+//!
+//! [`session`] answers the lines of a source on a bench; [`session_on`] makes the bench of a schema and
+//! an object first.
+//!
+//! ```
+//! let mut bench = bench(rt.alloc())?;
+//! let mut reader = OfReader::new(b"{\"do\":\"undo\"}\n".as_slice());
+//! let mut writer = OfWriter::new(Vec::new(rt.alloc()));
+//! session(rt.alloc(), &mut reader, &mut writer, &mut bench)?;
+//! let replies = b"{\"fault\":64,\"name\":\"NothingToUndo\"}\n";
+//! assert_eq!(rt; writer.into_inner().as_slice(), replies.as_slice());
+//! ```
 #![tactic(auto)]
 
 pub mod bench_machine;
 pub mod bench_session;
 pub mod command;
-pub mod command_shape;
+mod command_shape;
 pub mod engine;
-pub mod entry_fault_text;
+mod entry_fault_text;
 pub mod fault_line;
 pub mod fault_text;
 pub mod files;
-pub mod json_text;
-pub mod log_text;
+mod json_text;
+mod log_text;
 pub mod machine;
 pub mod read_command;
 pub mod reply_text;
 pub mod write_line;
+
+pub use bench_machine::answer_command;
+pub use bench_session::session;
+pub use command::Command;
+pub use engine::{LINE_LIMIT, SessionFault};
+pub use files::{Ending, FileFault, bench_of, schema_of, session_on, tell};
+pub use machine::Machine;
+pub use read_command::LineFault;

@@ -28,15 +28,11 @@ fn prepare_and_commit(
     bench: &mut Bench,
     command: Command,
 ) -> Result<[usize; 4], Fail> {
-    match bench.prepare(alloc, command) {
-        Ok(prepared) => {
-            let told = prepared.changed().managers;
-            let before = bench.past_len();
-            let changed = bench.commit(prepared)?;
-            Ok([told, changed.managers, before, bench.past_len()])
-        }
-        Err(_) => Err(Fail::new("the command is refused")),
-    }
+    let prepared = bench.prepare(alloc, command)?;
+    let told = prepared.changed().managers;
+    let before = bench.past_len();
+    let changed = bench.commit(prepared)?;
+    Ok([told, changed.managers, before, bench.past_len()])
 }
 
 #[test]
@@ -51,18 +47,14 @@ fn prepared_commands_wait(rt: HostRuntime) -> Result<(), Fail> {
 
 // Carries out a command: how many managers and paths there are then.
 fn execute(alloc: Global, bench: &mut Bench, command: Command) -> Result<(usize, usize), Fail> {
-    match bench.execute(alloc, command) {
-        Ok(_changed) => Ok(bench.counts()),
-        Err(_) => Err(Fail::new("the command is refused")),
-    }
+    bench.execute(alloc, command)?;
+    Ok(bench.counts())
 }
 
 // How many commands can be undone and redone after a move.
 fn after(moved: Result<Counts, Fault>) -> Result<(usize, usize), Fail> {
-    match moved {
-        Ok(counts) => Ok((counts.past, counts.future)),
-        Err(_) => Err(Fail::new("nowhere to go")),
-    }
+    let counts = moved?;
+    Ok((counts.past, counts.future))
 }
 
 // An Apply, a Strip, an undo and a redo: what each tells.

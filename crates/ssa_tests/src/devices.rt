@@ -29,7 +29,7 @@ impl<'a> Source for Breaks<'a> {
 
     ghost consumable_len = { λ _. None };
 
-    ghost has_met_end = { λ _. false };
+    ghost ends_met = { λ _. 0 };
 
     ghost has_failed = { λ s. s.has_failed };
 

@@ -17,10 +17,7 @@ fn run(
     let mut reader = OfReader::new(input.as_bytes());
     let mut writer = OfWriter::new(Vec::new(alloc));
     let ending = match schema_of(alloc, schema) {
-        Ok(schema) => match session_on(alloc, schema, object, &mut reader, &mut writer) {
-            Ok(ending) => ending,
-            Err(_) => return Err(Fail::new("a device failed")),
-        },
+        Ok(schema) => session_on(alloc, schema, object, &mut reader, &mut writer)?,
         Err(fault) => tell(alloc, &mut writer, &fault)?,
     };
     Ok((ending, writer.into_inner()))

@@ -8,6 +8,8 @@ mod devices;
 #[cfg(test)]
 mod file_tests;
 #[cfg(test)]
+mod front_tests;
+#[cfg(test)]
 mod limit_tests;
 #[cfg(test)]
 mod loading_tests;

@@ -18,17 +18,13 @@ fn loaded(alloc: Global, file: &str) -> Result<Bench, LoadFault> {
 // The file of a bench.
 fn saved(alloc: Global, bench: &Bench) -> Result<Vec<u8>, Fail> {
     let mut sink = OfWriter::new(Vec::new(alloc));
-    match bench.save(alloc, &mut sink) {
-        Ok(()) => Ok(sink.into_inner()),
-        Err(_) => Err(Fail::new("the bench is not saved")),
-    }
+    bench.save(alloc, &mut sink)?;
+    Ok(sink.into_inner())
 }
 
 // What the bench of a file answers to a line, and its file afterwards.
 fn goes_on(alloc: Global, file: &str, line: &str) -> Result<(Vec<u8>, Vec<u8>), Fail> {
-    let Ok(mut bench) = loaded(alloc, file) else {
-        return Err(Fail::new("the file is refused"));
-    };
+    let mut bench = loaded(alloc, file)?;
     let reply = answers(alloc, &mut bench, line)?;
     let file = saved(alloc, &bench)?;
     Ok((reply, file))
@@ -109,6 +105,7 @@ fn is_taken(alloc: Global, file: &[u8]) -> Result<bool, Fail> {
 fn what_changes_in_one_place_is_loaded(rt: HostRuntime) -> Result<(), Fail> {
     for (before, after) in &CHANGES {
         let file = changed_file(rt.alloc(), before, after)?;
+        assert!(rt; file.starts_with(b"{\"format\":2,\"future\":0,\"past\":2}\n"));
         let taken = is_taken(rt.alloc(), file.as_slice())?;
         assert!(rt; taken, "after {after}");
     }

@@ -71,10 +71,8 @@ fn back_and_forth(
     let mut bench = bench_after(alloc, commands)?;
     let last = bench.past_len().saturating_sub(1);
     let back = held(&bench, last);
-    match bench.undo() {
-        Ok(_) => Ok((back, held(&bench, last))),
-        Err(_) => Err(Fail::new("nothing to undo")),
-    }
+    bench.undo()?;
+    Ok((back, held(&bench, last)))
 }
 
 const THREE: &str = ",\"spec\":{\"replicas\":3}";

@@ -86,29 +86,21 @@ pub fn schema(alloc: Global) -> Result<Schema, Fail> {
 
 /// The moment of all the lines and commands.
 pub fn moment() -> Result<Moment, Fail> {
-    match Moment::read("2024-05-01T10:00:01Z") {
-        Ok(at) => Ok(at),
-        Err(_) => Err(Fail::new("no moment")),
-    }
+    Ok(Moment::read("2024-05-01T10:00:01Z")?)
 }
 
 /// The bench of the object without further members.
 pub fn bench(alloc: Global) -> Result<Bench, Fail> {
     let object = json(alloc, web(alloc, "", "")?.as_str())?;
-    match Bench::new(alloc, schema(alloc)?, object) {
-        Ok(bench) => Ok(bench),
-        Err(_) => Err(Fail::new("the object is refused")),
-    }
+    Ok(Bench::new(alloc, schema(alloc)?, object)?)
 }
 
 /// What the bench answers to the lines.
 pub fn answers(alloc: Global, bench: &mut Bench, lines: &str) -> Result<Vec<u8>, Fail> {
     let mut reader = OfReader::new(lines.as_bytes());
     let mut writer = OfWriter::new(Vec::new(alloc));
-    match session(alloc, &mut reader, &mut writer, bench) {
-        Ok(()) => Ok(writer.into_inner()),
-        Err(_) => Err(Fail::new("the session broke off")),
-    }
+    session(alloc, &mut reader, &mut writer, bench)?;
+    Ok(writer.into_inner())
 }
 
 /// What the bench of an object file answers to the lines; where there is none, the fault line.

@@ -14,10 +14,8 @@ fn apply_and_save(alloc: Global, bench: &mut Bench) -> Result<Marks, Fail> {
     let line = line(alloc, "apply", "kubectl", object.as_str())?;
     drop(answers(alloc, bench, line.as_str())?);
     let mut sink = Marks::new(alloc);
-    match bench.save(alloc, &mut sink) {
-        Ok(()) => Ok(sink),
-        Err(_) => Err(Fail::new("the bench is not saved")),
-    }
+    bench.save(alloc, &mut sink)?;
+    Ok(sink)
 }
 
 #[test]

@@ -38,7 +38,7 @@ fn shown_again(alloc: Global, text: &str) -> Result<String, Fail> {
     let body = body(alloc, SPEC, text)?;
     body.points_tell_places();
     body.points_keep_all();
-    shown(alloc, &body.copy(alloc)?)
+    shown(alloc, &body.clone(alloc)?)
 }
 
 #[test]

@@ -7,8 +7,8 @@ use std::test::Fail;
 
 // A number that a record replaces.
 #[derive(Drop)]
-struct Counter {
-    count: u32,
+pub(crate) struct Counter {
+    pub(crate) count: u32,
 }
 
 impl Reversible for Counter {

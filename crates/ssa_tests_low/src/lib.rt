@@ -12,6 +12,8 @@ mod element_tests;
 #[cfg(test)]
 mod fields_tests;
 #[cfg(test)]
+mod front_tests;
+#[cfg(test)]
 mod journal_tests;
 #[cfg(test)]
 mod json_tests;

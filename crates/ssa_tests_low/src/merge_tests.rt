@@ -1,6 +1,11 @@
 //! Tests of bodies beside others, and beside sets of paths.
+ghost use Rattle.std.specs.Prelude.{◌≡◌, IfOk};
+ghost use Rattle.ssa_model.specs.definitions.Valid.{metadata_path};
+
 use crate::samples::PLACES;
 use crate::support::{are_told, body, listed, look_at, schema, set, shown, value};
+use ssa_path::element::Elem;
+use ssa_path::path::Path;
 use ssa_typed::body::Body;
 use std::alloc::Global;
 use std::test::Fail;
@@ -107,9 +112,24 @@ const BELOW: &str = r#"f:d/f:z f:l/k:{"n":2}/f:n f:q f:s/v:3 f:s/v:2"#;
 
 const ALONE: &str = r#"f:a f:d f:l/k:{"n":1} f:s"#;
 
-// What stays of the sample beside these paths.
+// The path of `metadata`.
+fn metadata(alloc: Global) -> Result<Path, Fail>
+    ensures { IfOk result (λ p. p ≡ metadata_path) }
+{
+    let mut elements = Vec::new(alloc);
+    elements.push(Elem::Field(String::from_str(alloc, "metadata")?))?;
+    Ok(Path::new(elements))
+}
+
+// What stays of the sample beside these paths. It has no `metadata`, so each part of it is rooted.
 fn left(alloc: Global, stay: &str) -> Result<Body, Fail> {
-    Ok(body(alloc, PLACES, SAMPLE)?.restricted_to(alloc, &set(alloc, stay)?)?)
+    let sample = body(alloc, PLACES, SAMPLE)?;
+    let stay = set(alloc, stay)?;
+    if sample.get(&metadata(alloc)?).is_some() {
+        return Err(Fail::new("the sample has metadata"));
+    }
+    sample.stands_rooted();
+    Ok(sample.restricted_to(alloc, &stay)?)
 }
 
 const LEFT: [(&str, &str); 3] = [

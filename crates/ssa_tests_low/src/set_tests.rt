@@ -107,6 +107,49 @@ fn copies_have_the_same_paths_and_grow_by_themselves(rt: HostRuntime) -> Result<
     Ok(())
 }
 
+// What is taken out of a set: the set, a path, whether it was there and what stays.
+const TAKEN_OUT: [((&str, &str), &str); 8] = [
+    (("/ f:a f:a/f:b f:c", "f:a/f:b"), "had: / f:a f:c"),
+    (("/ f:a f:a/f:b f:c", "f:a"), "had: / f:a/f:b f:c"),
+    (("f:a/f:b/f:c f:a/f:d", "f:a/f:b/f:c"), "had: f:a/f:d"),
+    (("/ f:a/f:b", "f:a"), "lacked: / f:a/f:b"),
+    (("/ f:a", "f:a/f:b"), "lacked: / f:a"),
+    (("f:a f:c", "f:b"), "lacked: f:a f:c"),
+    (("f:a/v:10", "f:a/v:10"), "had: "),
+    (("/", "/"), "had: "),
+];
+
+// Takes a path out, and tells whether it was there.
+fn taken_out(alloc: Global, own: &str, gone: &str) -> Result<String, Fail> {
+    let mut own = set(alloc, own)?;
+    let gone = path(alloc, gone)?;
+    let had = own.remove(&gone);
+    let left = listed(alloc, &own)?;
+    let mut text = String::from_str(alloc, if had { "had: " } else { "lacked: " })?;
+    text.push_str(left.as_str())?;
+    Ok(text)
+}
+
+#[test]
+fn paths_taken_out_go_alone(rt: HostRuntime) -> Result<(), Fail> {
+    are_told(
+        rt.alloc(),
+        &TAKEN_OUT,
+        |alloc, (own, gone)| taken_out(alloc, own, gone),
+    )
+}
+
+// A set without its last path is as one that never had any: no place is left behind.
+#[test]
+fn last_path_leaves_no_place(rt: HostRuntime) -> Result<(), Fail> {
+    let mut own = set(rt.alloc(), "f:a/f:b/v:10")?;
+    assert!(rt; own.remove(&path(rt.alloc(), "f:a/f:b/v:10")?));
+    assert!(rt; own.is_empty());
+    assert!(rt; own.root().below.is_empty());
+    assert!(rt; own.is_same(&FieldSet::new(rt.alloc())));
+    Ok(())
+}
+
 #[test]
 fn one_path_is_a_trie(rt: HostRuntime) -> Result<(), Fail> {
     let path = path(rt.alloc(), "f:a/v:10")?;

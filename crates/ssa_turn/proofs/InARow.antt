@@ -30,6 +30,7 @@ last_state-push : (s : State) (ts : List model.Step) (t : model.Step) → last_s
 last_state-push s [] t = refl
 last_state-push s (u ∷ ts) t = last_state-push u.state ts t
 
+-- there are as many steps as states in the past
 pub steps-many : (past : Past) (v : State) → length (steps_to past v) ≡ length past
 steps-many [] v = refl
 steps-many (s ∷ past) v =
@@ -49,6 +50,7 @@ future-is t =
     let steps = steps_to t.past t.present in
     ap (λ n. drop n (steps ++ map step_of t.future)) (sym (steps-many t.past t.present)) ∙ drop-append_seam steps (map step_of t.future)
 
+-- there are as many steps in all as states in the past and in the future
 pub all-many : (t : Timeline State Label) → length (in_a_row t).later ≡ length t.past + length t.future
 all-many t =
     let steps = steps_to t.past t.present in
@@ -57,19 +59,24 @@ all-many t =
     let both = length-append steps (map step_of t.future) in
     omega (arith, past, future, both)
 
+-- as many commands can be redone as states stand in the future
 pub future-many : (t : Timeline State Label) → future_len (in_a_row t) ≡ length t.future
 future-many t = let all = all-many t in omega (arith, all)
 
+-- the place is within the row
 pub place-within : (t : Timeline State Label) → length t.past ≤ length (in_a_row t).later
 place-within t = let all = all-many t in omega (arith, all)
 
+-- the last state of the steps of a past is the one that they lead to
 pub last-is : (past : Past) (v : State) → last_state (first_of past v) (steps_to past v) ≡ v
 last-is [] v = refl
 last-is (s ∷ past) v = last_state-push (first_of past s.0) (steps_to past s.0) (step_of (v, s.1))
 
+-- the present state of the row is the journal's
 pub present-is : (t : Timeline State Label) → present (in_a_row t) ≡ t.present
 present-is t = ap (last_state (first_of t.past t.present)) (past-is t) ∙ last-is t.past t.present
 
+-- what is recorded in the journal is appended to the row
 pub recorded-is : (t : Timeline State Label) (w : State) (l : Label) → in_a_row (recorded t w l) ≡ appended (in_a_row t) (label_view l) w
 recorded-is t w l =
     let later = append-nil (steps_to t.past t.present ++ step_of (w, l) ∷ []) ∙ ap (λ xs. xs ++ step_of (w, l) ∷ []) (sym (past-is t)) in
@@ -82,10 +89,12 @@ preceded-from : (past : Past) (v : State) (future : Past) (w : State) (l : Label
 preceded-from [] v future w l none = refl
 preceded-from (s ∷ past) v future w l none = absurd (omega (arith, none))
 
+-- what is put before all others, where there is no past, is put before the row
 pub preceded-is : (t : Timeline State Label) (w : State) (l : Label) → length t.past ≡ 0
     → in_a_row (moves.preceded t w l) ≡ preceded (in_a_row t) (label_view l) w
 preceded-is t w l none = preceded-from t.past t.present t.future w l none
 
+-- undo in the journal moves the place in the row one back
 pub undone-is : (past : Past) (v : State) (future : Past) → 0 < length past
     → in_a_row (undone_from past v future) ≡ moved_to (in_a_row (record { past = past; present = v; future = future })) (length past - 1)
 undone-is [] v future some = absurd (omega (arith, some))
@@ -94,6 +103,7 @@ undone-is (s ∷ past) v future some =
     let place : length past ≡ length (s ∷ past) - 1 = omega arith in
     λ i. record { first = first_of past s.0; later = later i; place = place i }
 
+-- redo in the journal moves the place in the row one on
 pub redone-is : (past : Past) (v : State) (future : Past) → 0 < length future
     → in_a_row (redone_from past v future) ≡ moved_to (in_a_row (record { past = past; present = v; future = future })) (length past + 1)
 redone-is past v [] some = absurd (omega (arith, some))
@@ -114,16 +124,19 @@ module _ {D : Type 0} (leads : D → State → State) where
       ∙ sym (map-append (λ q. label_view q.1) (reverse rs) (r ∷ []))
       ∙ sym (ap (map (λ q. label_view q.1)) (reverse_onto rs r []))
 
+  -- the labels of the steps of the past are those of the records, in their order
   pub past-labels : (rs : List (D × Label)) (v : State) → map (λ s. s.label) (steps_to (steps_along leads (reverse rs) v) v) ≡ map (λ r. label_view r.1) rs
   past-labels rs v = labels-back (reverse rs) v ∙ ap (map (λ r. label_view r.1)) (reverse-reverse rs)
 
+  -- the labels of the steps of the future are those of the records, in their order
   pub future-labels : (rs : List (D × Label)) (v : State) → map (λ s. s.label) (map step_of (steps_along leads rs v)) ≡ map (λ r. label_view r.1) rs
   future-labels [] v = refl
   future-labels (r ∷ rs) v = ap (λ ls. label_view r.1 ∷ ls) (future-labels rs (leads r.0 v))
 
   -- all labels, in the order of the states
   pub all-labels : (past future : List (D × Label)) (v : State)
-      → map (λ s. s.label) (in_a_row (record { past = steps_along leads (reverse past) v; present = v; future = steps_along leads future v })).later ≡ map (λ r. label_view r.1) (past ++ future)
+      → map (λ s. s.label) (in_a_row (record { past = steps_along leads (reverse past) v; present = v; future = steps_along leads future v })).later
+      ≡ map (λ r. label_view r.1) (past ++ future)
   all-labels past future v =
       map-append (λ s. s.label) (steps_to (steps_along leads (reverse past) v) v) (map step_of (steps_along leads future v))
       ∙ (λ i. past-labels past v i ++ future-labels future v i)
@@ -133,23 +146,32 @@ module _ {D : Type 0} (leads : D → State → State) where
 
 -- the histories whose tables, labels and paths are read back
 pub record IsReadBack (t : model.Timeline) : Type 0 where
+  -- each table is read back from its entries' texts
   pub back : AllTablesBack t
+  -- each label's moment is one that is read
   pub dated : All MakesDated t.later
+  -- each path is read from its texts
   pub read : HasReadHistory readings t
 
+-- the history of a whole timeline is read back
 pub whole-back : (t : Inside) → IsWhole t → IsReadBack (timeline_view t)
 whole-back t whole = record { back = whole.back; dated = whole.dated; read = whole.read }
 
+-- a history that is read back is so at any place
 pub moved-back : (t : model.Timeline) (n : ℕ) → IsReadBack t → IsReadBack (moved_to t n)
 moved-back t n h =
     record { back = record { first = h.back.first; later = h.back.later }; dated = h.dated; read = record { first = h.read.first; later = h.read.later } }
 
 -- the state and its label are read back
 pub record IsReadStep (l : model.Label) (w : State) : Type 0 where
+  -- the state's table is read back
   pub table : HasTableBack w
+  -- the label's moment is one that is read
   pub dated : is_dated l ≡ true
+  -- the state's paths are read from their texts
   pub paths : HasReadPaths readings w.body
 
+-- a history that is read back stays so with a state appended that is read back
 pub appended-back : (t : model.Timeline) (l : model.Label) (w : State) → IsReadBack t → IsReadStep l w → IsReadBack (appended t l w)
 appended-back t l w h new =
     let past = take t.place t.later in
@@ -157,9 +179,14 @@ appended-back t l w h new =
     record {
       back = record { first = h.back.first; later = All-push MakesTableBack past s (All-take MakesTableBack t.place t.later h.back.later) new.table };
       dated = All-push MakesDated past s (All-take MakesDated t.place t.later h.dated) new.dated;
-      read = record { first = h.read.first; later = All-push (HasReadStep readings) past s (All-take (HasReadStep readings) t.place t.later h.read.later) new.paths };
+      read = record {
+        first = h.read.first;
+        later = All-push (HasReadStep readings) past s (All-take (HasReadStep readings) t.place t.later h.read.later)
+            new.paths;
+      };
     }
 
+-- a history that is read back stays so with a state put before it that is read back
 pub preceded-back : (t : model.Timeline) (l : model.Label) (w : State) → IsReadBack t → IsReadStep l w → IsReadBack (preceded t l w)
 preceded-back t l w h new =
     let s : model.Step = record { label = l; state = t.first } in
@@ -172,9 +199,14 @@ preceded-back t l w h new =
 -- ---- moves
 
 -- a value and a journal that hold the same
-pub same-row : {T L D : Type 0} {g : Ghosts T D} (j k : Journal T L D g) (v w : T) → HoldsSame j k → v ≡ w → timeline_of j (g.meaning v) ≡ timeline_of k (g.meaning w)
+pub same-row : {T L D : Type 0} {g : Ghosts T D} (j k : Journal T L D g) (v w : T) → HoldsSame j k → v ≡ w
+    → timeline_of j (g.meaning v) ≡ timeline_of k (g.meaning w)
 same-row {g = g} j k v w same is =
-    λ i. record { past = steps_along (leads g) (reverse (same.0 i)) (g.meaning (is i)); present = g.meaning (is i); future = steps_along (leads g) (same.1 i) (g.meaning (is i)) }
+    λ i. record {
+      past = steps_along (leads g) (reverse (same.0 i)) (g.meaning (is i));
+      present = g.meaning (is i);
+      future = steps_along (leads g) (same.1 i) (g.meaning (is i));
+    }
 
 -- what was recorded, or what stays where memory was refused
 pub after-record : {A E : Type 0} (r : Result A E) (before after : Timeline State Label) (w : State) (l : Label)
@@ -196,26 +228,24 @@ after-precede (Ok a) before after w l none ok err h table dated paths =
     (preceded-back (in_a_row before) (label_view l) w h (record { table = table; dated = dated; paths = read }))
 after-precede (Err e) before after w l none ok err h table dated paths = subst IsReadBack (sym (ap in_a_row err)) h
 
-pub on-ok : {A E : Type 0} (r : Result A E) {P Q : Type 0} → (P → Q) → OnOk r P → OnOk r Q
-on-ok (Ok a) f h = f h
-on-ok (Err e) f h = tt
-
-pub on-err : {A E : Type 0} (r : Result A E) {P Q : Type 0} → (P → Q) → OnErr r P → OnErr r Q
-on-err (Ok a) f h = tt
-on-err (Err e) f h = f h
-
-pub undone-row : (before after : Timeline State Label) (now : model.Timeline) → in_a_row before ≡ now → 0 < past_len now → after ≡ undone before → in_a_row after ≡ moved_to now (past_len now - 1)
+-- after undo the row is that of before, its place one back
+pub undone-row : (before after : Timeline State Label) (now : model.Timeline) → in_a_row before ≡ now → 0 < past_len now → after ≡ undone before
+    → in_a_row after ≡ moved_to now (past_len now - 1)
 undone-row before after now is some moved =
-    ap in_a_row moved ∙ undone-is before.past before.present before.future (subst (λ t. 0 < past_len t) (sym is) some) ∙ ap (λ t. moved_to t (past_len t - 1)) is
+    ap in_a_row moved ∙ undone-is before.past before.present before.future (subst (λ t. 0 < past_len t) (sym is) some)
+    ∙ ap (λ t. moved_to t (past_len t - 1)) is
 
-pub redone-row : (before after : Timeline State Label) (now : model.Timeline) → in_a_row before ≡ now → 0 < future_len now → after ≡ redone before → in_a_row after ≡ moved_to now (past_len now + 1)
+-- after redo the row is that of before, its place one on
+pub redone-row : (before after : Timeline State Label) (now : model.Timeline) → in_a_row before ≡ now → 0 < future_len now → after ≡ redone before
+    → in_a_row after ≡ moved_to now (past_len now + 1)
 redone-row before after now is some moved =
     ap in_a_row moved
     ∙ redone-is before.past before.present before.future (subst (λ n. 0 < n) (future-many before) (subst (λ t. 0 < future_len t) (sym is) some))
     ∙ ap (λ t. moved_to t (past_len t + 1)) is
 
 -- a move keeps what is read back
-pub still-back : (before after : Timeline State Label) (now : model.Timeline) (n : ℕ) → in_a_row before ≡ now → in_a_row after ≡ moved_to now n → IsReadBack (in_a_row before) → IsReadBack (in_a_row after)
+pub still-back : (before after : Timeline State Label) (now : model.Timeline) (n : ℕ) → in_a_row before ≡ now → in_a_row after ≡ moved_to now n
+    → IsReadBack (in_a_row before) → IsReadBack (in_a_row after)
 still-back before after now n is moved h = subst IsReadBack (sym moved) (moved-back now n (subst IsReadBack is h))
 
 -- ---- labels, one after the other
@@ -232,4 +262,5 @@ from-place f xs from i x order here =
     ap (λ n. map f (take n (drop from xs))) one
     ∙ ap (map f) (take_more (drop from xs) (i - from) x behind)
     ∙ map-append f (take (i - from) (drop from xs)) (get_or (drop from xs) (i - from) x ∷ [])
-    ∙ ap (λ y. map f (take (i - from) (drop from xs)) ++ f y ∷ []) (get_or-drop from xs (i - from) x ∙ ap (λ n. get_or xs n x) place ∙ get_or_from_slice_get xs i x x here)
+    ∙ ap (λ y. map f (take (i - from) (drop from xs)) ++ f y ∷ []) (get_or-drop from xs (i - from) x ∙ ap (λ n. get_or xs n x) place
+    ∙ get_or_from_slice_get xs i x x here)

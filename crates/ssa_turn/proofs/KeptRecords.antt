@@ -48,7 +48,9 @@ last_state-append s (t ∷ ts) us = last_state-append t.state ts us
 module _ {D : Type 0} (leads : D → State → State) (Fits : D → State → Type 0) where
   -- the record fits the first state and leads to the second
   pub record LeadsBetween (d : D) (v w : State) : Type 0 where
+    -- the record fits the first state
     pub fits : Fits d v
+    -- it leads from the first state to the second
     pub to : leads d v ≡ w
 
   back-at : (rs : List (D × Label)) (v : State) → AllFit Fits leads rs v → (n : ℕ) (r : D × Label) → slice_get (reverse rs) n ≡ Some r
@@ -120,6 +122,7 @@ module _ {D : Type 0} (leads : D → State → State) (Fits : D → State → Ty
         ∙ last_state-append (first_of row.past v) steps (take m (map step_of row.future))
         ∙ ap (λ s. last_state s (take m (map step_of row.future))) (last-is row.past v)
 
+    -- the n-th record of past and future leads between the states of the n-th command
     pub record-at : AllFit Fits leads (reverse past) v → AllFit Fits leads future v → (n : ℕ) (r : D × Label) → slice_get (past ++ future) n ≡ Some r
         → LeadsBetween r.0 (kept_from (in_a_row row) n) (kept_to (in_a_row row) n)
     record-at back forward n r at =
@@ -154,12 +157,14 @@ module _ {D : Type 0} (leads : D → State → State) (Fits : D → State → Ty
 
 -- ---- of a history
 
+-- the state that a record leads to
 abbrev pub led_to : StateDelta → State → State
 led_to d v = carry (state_steps d) v
 
 abbrev FitsState : StateDelta → State → Type 0
 FitsState d v = IsTaken (state_steps d) v (led_to d v) × HasStateRoom d v
 
+-- the n-th record of a whole timeline leads between the states of the n-th command, and has room there
 pub record-between : (t : Inside) → IsWhole t → (n : ℕ) (r : StateDelta × Label) → slice_get (past_of t.journal ++ future_of t.journal) n ≡ Some r
     → LeadsBetween led_to FitsState r.0 (kept_from (timeline_view t) n) (kept_to (timeline_view t) n)
 record-between t whole n r at =
@@ -176,6 +181,7 @@ record-is t whole n r at =
 pub records-many : (t : Inside) → length (past_of t.journal ++ future_of t.journal) ≡ length (timeline_view t).later
 records-many t = sym (later-many led_to FitsState (past_of t.journal) (future_of t.journal) (state_view t.live.state))
 
+-- the size that is told of the n-th command is that of its record
 pub size-some : (t : Inside) → IsWhole t → (n : ℕ) (r : StateDelta × Label) → slice_get (past_of t.journal ++ future_of t.journal) n ≡ Some r
     → kept_size (timeline_view t) n ≡ Some (record_size (state_steps r.0))
 size-some t whole n r at =
@@ -185,6 +191,7 @@ size-some t whole n r at =
     (lt-ltb n (length (timeline_view t).later) (omega (arith, within, many)))
     ∙ ap (λ d. Some (record_size d)) (sym (record-is t whole n r at))
 
+-- where there is no n-th record, no size is told
 pub size-none : (t : Inside) (n : ℕ) → (n < length (past_of t.journal ++ future_of t.journal) → ⊥) → kept_size (timeline_view t) n ≡ None
 size-none t n beyond =
     let many = records-many t in

@@ -157,6 +157,7 @@ module _ (p : Path) (from to : Node) (ps : List Elem) (old : List Step) (s : Bod
       told-up (get c) (get b) ss p [] (λ r t is. let x = beginnings r t is in (x.1, x.0)) (λ q off. sym (get-outside b p (body_of to) q off))
       (subst (λ n. AreTold p n (λ q. get b (p ++ q)) ss) (sym after-is) (subst (λ n. AreTold p (contents (marks to)) n ss) (sym before-is) h))
 
+  -- the changes say the record of the body and of what it is with the second tree there
   pub at-record : body_told s ≡ body_record b c
   at-record = told-bodies s b c alike (told-whole s.steps.items saying.told).inside
 
@@ -179,6 +180,7 @@ module _ (p : Path) (from to : Node) (ps : List Elem) (old : List Step) (s : Bod
       marks-tell turned.after r turned.tree_after ∙ ap content_told (left.others r off) ∙ sym (marks-tell turned.before r turned.tree_before)
       ∙ ap (λ x. get x r) turned.body_before ∙ sym (get-outside b p (body_of to) r off)))
 
+  -- the changes serve each turn of the body
   pub at-room : HasBodyRoom s b
   at-room = record {
     fits = at-fits;

@@ -23,32 +23,39 @@ use Rattle.ssa_turn_body.proofs.BodyRecords.{told-record}
 use Rattle.ssa_turn_body.proofs.KeepingRoom.{alike-back, record-leads}
 use Rattle.ssa_turn_body.proofs.OnceOnly.{once-all}
 
-module _ (v w : Node) (ps : List Elem) (old : List Step) (s : BodySteps) (tree : is_tree v ≡ true) (tree_to : is_tree w ≡ true) (root : ps ≡ []) (none : old ≡ [])
+module _ (v w : Node) (ps : List Elem) (old : List Step) (s : BodySteps) (tree : is_tree v ≡ true) (tree_to : is_tree w ≡ true) (root : ps ≡ [])
+    (none : old ≡ [])
     (leading : AreLeading (path_view ps) (marks v) (marks w) old s.steps.items) where
   led : IsLed [] (marks v) (marks w) s.steps.items
-  led = subst (λ xs. IsLed [] (marks v) (marks w) xs) (ap (λ xs. xs ++ leading.made) (sym none) ∙ sym leading.added) (subst (λ qs. IsLed (path_view qs) (marks v) (marks w) leading.made) root leading.led)
+  led = subst (λ xs. IsLed [] (marks v) (marks w) xs) (ap (λ xs. xs ++ leading.made) (sym none)
+      ∙ sym leading.added) (subst (λ qs. IsLed (path_view qs) (marks v) (marks w) leading.made) root leading.led)
 
   saying : AreSaying [] (marks v) (marks w) s.steps.items
   saying =
       subst (λ xs. AreSaying [] (marks v) (marks w) xs) (ap (λ xs. xs ++ leading.made) (sym none) ∙ sym leading.added)
       (subst (λ qs. AreSaying (path_view qs) (marks v) (marks w) leading.made) root leading.saying)
 
+  -- the changes say the record of the two bodies
   pub between-record : (b c : Body) → body_of v ≡ b → body_of w ≡ c → AreAlike b c → body_told s ≡ body_record b c
   between-record b c is to alike =
       told-record v w s tree tree_to (subst (λ x. AreAlike (body_of v) x) (sym to) (subst (λ x. AreAlike x c) (sym is) alike)) saying.told
       ∙ (λ i. body_record (is i) (to i))
 
+  -- the changes fit each tree of the first body
   pub between-fits : (b : Body) → body_of v ≡ b → BodyStepsFit s b
   between-fits b is n tree_n same = led.fit n tree_n (body-marks n v tree_n tree (same ∙ sym is))
 
+  -- a turn of the first body leads to the second
   pub between-leads : (b c : Body) → body_of v ≡ b → body_of w ≡ c → (t : BodySteps) (d : Body) → IsBodyTurned s b t d → d ≡ c
   between-leads b c is to t d turned =
-      let left = led.lead turned.before turned.tree_before (body-marks turned.before v turned.tree_before tree (turned.body_before ∙ sym is)) (reverse t.steps.items) turned.after turned.turned in
+      let left = led.lead turned.before turned.tree_before (body-marks turned.before v turned.tree_before tree (turned.body_before ∙ sym is))
+      (reverse t.steps.items) turned.after turned.turned in
       sym turned.body_after ∙ body-same turned.after w turned.tree_after tree_to left.there ∙ to
 
   writable : AreWritable s.steps.items
   writable = subst AreWritable (ap (λ xs. xs ++ leading.made) (sym none) ∙ sym leading.added) leading.writable
 
+  -- the changes serve each turn of the first body
   pub between-room : (b c : Body) → body_of v ≡ b → body_of w ≡ c → AreAlike b c → HasBodyRoom s b
   between-room b c is to alike = record {
     fits = between-fits b is;

@@ -8,9 +8,8 @@ use Rattle.ssa_model.specs.definitions.Body.{Content, leaf, atom, record_branch,
 use Rattle.ssa_model.specs.definitions.Path.{Element, Path, element_cmp, same_element}
 use Rattle.ssa_model.specs.definitions.PathMap.{get}
 use Rattle.ssa_model.proofs.PathMaps.{same_map}
-use Rattle.ssa_model.proofs.RisingNames.{lower}
 use Rattle.ssa_path.specs.Children.{child_at, elements, is_below, rises}
-use Rattle.ssa_path.proofs.Orders.{element_cmp_total, same_element-itself, same_element-true, not_tied, both_first, both_second}
+use Rattle.ssa_path.proofs.Orders.{element_cmp_total, not_tied, both_first, both_second}
 use Rattle.ssa_typed.specs.Points.{content_in}
 use Rattle.ssa_typed.specs.Rows.{rows, below, body_of, own_content, leaf_content, content_at, is_tree, are_trees, are_fields}
 use Rattle.ssa_typed.specs.declared.node.Leaf.{Leaf}
@@ -26,17 +25,24 @@ use Rattle.ssa_turn_body.specs.Told.{content_told}
 use Rattle.ssa_turn_body.specs.Marks.{marks, marks_in, may_stand}
 use Rattle.ssa_turn_body.proofs.Marking.{marks-level}
 use Rattle.ssa_turn_body.proofs.Returning.{SameMarks}
+use Rattle.ssa_model.proofs.Fitting.{same_element-true}
+use Rattle.ssa_model.proofs.Tables.{element-itself as same_element-itself}
+use Rattle.ssa_model.proofs.Basics.{lower}
 
 -- ---- the content is part of the mark
 
-content-in : (o : Option Node) (p : Path) → ((c : Node) → o ≡ Some c → content_at (rows c) p ≡ content_told (marks c p)) → content_in o p ≡ content_told (marks_in (option_map marks o) p)
+content-in : (o : Option Node) (p : Path) → ((c : Node) → o ≡ Some c → content_at (rows c) p ≡ content_told (marks c p))
+    → content_in o p ≡ content_told (marks_in (option_map marks o) p)
 content-in None p h = refl
 content-in (Some c) p h = h c refl
 
+-- the content at a path of a tree is part of what it tells there
 pub content-marks : (p : Path) (n : Node) → is_tree n ≡ true → content_at (rows n) p ≡ content_told (marks n p)
 content-marks [] n tree = content-root n ∙ sym (ap content_told (marks-level n []))
-content-marks (e ∷ p) n tree = content-level n e p tree ∙ content-in (child_at e (below n)) p (λ c is. content-marks p c (tree-child n e c tree is)) ∙ sym (ap content_told (marks-level n (e ∷ p)))
+content-marks (e ∷ p) n tree = content-level n e p tree ∙ content-in (child_at e (below n)) p (λ c is. content-marks p c (tree-child n e c tree is))
+    ∙ sym (ap content_told (marks-level n (e ∷ p)))
 
+-- trees that tell the same have one body
 pub body-same : (n m : Node) → is_tree n ≡ true → is_tree m ≡ true → SameMarks n m → body_of n ≡ body_of m
 body-same n m tn tm same =
     same_map (body_of n) (body_of m) (λ p. get-body n p ∙ content-marks p n tn ∙ ap content_told (same p) ∙ sym (content-marks p m tm) ∙ sym (get-body m p))
@@ -63,7 +69,8 @@ or_other : (a b : Bool) → a ≡ false → (a || b) ≡ true → b ≡ true
 or_other true b h e = absurd (true≢false h)
 or_other false b h e = e
 
-first-same : (e f : Element) (es fs : List Element) → rises (e ∷ es) ≡ true → rises (f ∷ fs) ≡ true → SameMembers (e ∷ es) (f ∷ fs) → (b : Bool) → same_element e f ≡ b → b ≡ true
+first-same : (e f : Element) (es fs : List Element) → rises (e ∷ es) ≡ true → rises (f ∷ fs) ≡ true → SameMembers (e ∷ es) (f ∷ fs) → (b : Bool)
+    → same_element e f ≡ b → b ≡ true
 unfolding SameMembers
 first-same e f es fs re rf same true t = refl
 first-same e f es fs re rf same false t =
@@ -76,7 +83,8 @@ first-same e f es fs re rf same false t =
 rest-same : (e : Element) (es fs : List Element) → is_below e es ≡ true → is_below e fs ≡ true → SameMembers (e ∷ es) (e ∷ fs) → SameMembers es fs
 unfolding SameMembers
 rest-same e es fs be bf same x =
-    elim (same_element x e) as (λ b. same_element x e ≡ b → (b || list_any (same_element x) es) ≡ (b || list_any (same_element x) fs) → list_any (same_element x) es ≡ list_any (same_element x) fs) [
+    elim (same_element x e) as (λ b. same_element x e ≡ b → (b || list_any (same_element x) es) ≡ (b || list_any (same_element x) fs)
+    → list_any (same_element x) es ≡ list_any (same_element x) fs) [
       | true ↦ λ t u.
           let is : x ≡ e = same_element-true x e t in
           ap (λ y. list_any (same_element y) es) is ∙ below-apart e es be ∙ sym (below-apart e fs bf) ∙ sym (ap (λ y. list_any (same_element y) fs) is)
@@ -96,6 +104,7 @@ rising-same (e ∷ es) (f ∷ fs) re rf same =
 
 -- ---- the content tells the order of the children, or they rise
 
+-- children of these elements stand in the order that the content tells, or in that of their texts
 abbrev pub Ordered : Content → List Element → Type 0
 Ordered (leaf s) es = rises es ≡ true
 Ordered (atom v) es = rises es ≡ true
@@ -114,16 +123,20 @@ leaf-ordered : (l : Leaf) → Ordered (leaf_content l) []
 leaf-ordered (Scalar s) = refl
 leaf-ordered (Atomic v) = refl
 
-ordered-by : (n : Node) (c : Content) (es : List Element) → own_content n ≡ c → elements (below n) ≡ es → Ordered c es → Ordered (own_content n) (elements (below n))
+ordered-by : (n : Node) (c : Content) (es : List Element) → own_content n ≡ c → elements (below n) ≡ es → Ordered c es
+    → Ordered (own_content n) (elements (below n))
 ordered-by n c es own is h = subst (λ x. Ordered x (elements (below n))) (sym own) (subst (λ fs. Ordered c fs) (sym is) h)
 
 ordered-made : (x : Node-F Node) → is_tree (roll-Node x) ≡ true → Ordered (own_content (roll-Node x)) (elements (below (roll-Node x)))
 unfolding roll-Node denote.Hole.Carrier.roll
 ordered-made (Node-F.Leaf l) h = ordered-by (LeafOf l) (leaf_content l) [] (search (rules, the_lemmas)) (search (rules, the_lemmas)) (leaf-ordered l)
-ordered-made (Node-F.Branch v) h = ordered-by (Branch v) record_branch (elements v.items) (own-Branch v) (search (rules, the_lemmas)) (both_first _ (are_fields (elements v.items)) (both_first _ (are_trees v.items) (sym (tree-Branch v) ∙ h)))
-ordered-made (Node-F.Dict v) h = ordered-by (Dict v) dict_branch (elements v.items) (own-Dict v) (search (rules, the_lemmas)) (both_first _ (are_fields (elements v.items)) (both_first _ (are_trees v.items) (sym (tree-Dict v) ∙ h)))
+ordered-made (Node-F.Branch v) h = ordered-by (Branch v) record_branch (elements v.items) (own-Branch v) (search (rules, the_lemmas))
+    (both_first _ (are_fields (elements v.items)) (both_first _ (are_trees v.items) (sym (tree-Branch v) ∙ h)))
+ordered-made (Node-F.Dict v) h = ordered-by (Dict v) dict_branch (elements v.items) (own-Dict v) (search (rules, the_lemmas))
+    (both_first _ (are_fields (elements v.items)) (both_first _ (are_trees v.items) (sym (tree-Dict v) ∙ h)))
 ordered-made (Node-F.List v) h = ordered-by (ListOf v) (list_branch (elements v.items)) (elements v.items) (own-List v) (search (rules, the_lemmas)) refl
 
+-- the children of a tree stand in the order that its content asks for
 pub ordered : (n : Node) → is_tree n ≡ true → Ordered (own_content n) (elements (below n))
 ordered n h = subst (λ m. is_tree m ≡ true → Ordered (own_content m) (elements (below m))) (roll-out-Node n) (ordered-made (out-Node n)) h
 
@@ -151,6 +164,7 @@ stands-made (Node-F.List v) es h k =
     stands-by (ListOf v) (list_branch (elements v.items)) (elements v.items) (own-List v) (search (rules, the_lemmas))
     (both_first _ (are_trees v.items) (sym (tree-List v) ∙ h))
 
+-- where children may stand at the content of a tree, its own may stand there
 pub own-stands : (n : Node) (es : List Element) → is_tree n ≡ true → may_stand (own_content n) es ≡ true → may_stand (own_content n) (elements (below n)) ≡ true
 own-stands n es h k =
     subst (λ m. is_tree m ≡ true → may_stand (own_content m) es ≡ true → may_stand (own_content m) (elements (below m)) ≡ true) (roll-out-Node n)
@@ -169,20 +183,25 @@ unfolding SameContents SameMembers
 marks-same [] n m tn tm same =
     let own : own_content n ≡ own_content m = same_Some _ _ (sym (content-root n) ∙ same [] ∙ content-root m) in
     let members : SameMembers (elements (below n)) (elements (below m)) = λ e. sym (some-child n e) ∙ ap is_some (same (e ∷ [])) ∙ some-child m e in
-    let es : elements (below n) ≡ elements (below m) = same-ordered (own_content n) (elements (below n)) (elements (below m)) (ordered n tn) (subst (λ c. Ordered c (elements (below m))) (sym own) (ordered m tm)) members in
+    let es : elements (below n) ≡ elements (below m) = same-ordered (own_content n) (elements (below n)) (elements (below m)) (ordered n tn)
+    (subst (λ c. Ordered c (elements (below m))) (sym own) (ordered m tm)) members in
     marks-level n [] ∙ (λ i. Some (own i, es i)) ∙ sym (marks-level m [])
 marks-same (e ∷ p) n m tn tm same =
     marks-level n (e ∷ p)
-    ∙ in_both (child_at e (below n)) (child_at e (below m)) (λ c is. tree-child n e c tn is) (λ c is. tree-child m e c tm is) (λ q. sym (content-level n e q tn) ∙ same (e ∷ q) ∙ content-level m e q tm) (marks-same p)
+    ∙ in_both (child_at e (below n)) (child_at e (below m)) (λ c is. tree-child n e c tn is) (λ c is. tree-child m e c tm is)
+    (λ q. sym (content-level n e q tn) ∙ same (e ∷ q) ∙ content-level m e q tm) (marks-same p)
     ∙ sym (marks-level m (e ∷ p))
   where
-    in_both : (a b : Option Node) → ((c : Node) → a ≡ Some c → is_tree c ≡ true) → ((c : Node) → b ≡ Some c → is_tree c ≡ true) → ((q : Path) → content_in a q ≡ content_in b q)
-        → ((n m : Node) → is_tree n ≡ true → is_tree m ≡ true → SameContents n m → marks n p ≡ marks m p) → marks_in (option_map marks a) p ≡ marks_in (option_map marks b) p
+    in_both : (a b : Option Node) → ((c : Node) → a ≡ Some c → is_tree c ≡ true) → ((c : Node) → b ≡ Some c → is_tree c ≡ true)
+        → ((q : Path) → content_in a q ≡ content_in b q)
+        → ((n m : Node) → is_tree n ≡ true → is_tree m ≡ true → SameContents n m → marks n p ≡ marks m p)
+        → marks_in (option_map marks a) p ≡ marks_in (option_map marks b) p
     in_both None None ta tb h go = refl
     in_both None (Some d) ta tb h go = absurd (root-there d (sym (h [])))
     in_both (Some c) None ta tb h go = absurd (root-there c (h []))
     in_both (Some c) (Some d) ta tb h go = go c d (ta c refl) (tb d refl) h
 
+-- trees with one body tell the same
 pub body-marks : (n m : Node) → is_tree n ≡ true → is_tree m ≡ true → body_of n ≡ body_of m → SameMarks n m
 unfolding SameContents
 body-marks n m tn tm same p = marks-same p n m tn tm (λ q. sym (get-body n q) ∙ ap (λ b. get b q) same ∙ get-body m q)

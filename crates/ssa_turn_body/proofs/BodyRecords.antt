@@ -96,6 +96,7 @@ record-says v w alike q =
 pub told-bodies : (s : BodySteps) (v w : Body) → AreAlike v w → ((q : Path) → says s.steps.items q ≡ between (get v) (get w) q) → body_told s ≡ body_record v w
 told-bodies s v w alike same = records-same (body_told s) (body_record v w) (λ q. told-says s q ∙ same q ∙ sym (record-says v w alike q))
 
+-- changes that say what is other between two alike trees say the record of their bodies
 pub told-record : (v w : Node) (s : BodySteps) → is_tree v ≡ true → is_tree w ≡ true → AreAlike (body_of v) (body_of w)
     → AreTold [] (contents (marks v)) (contents (marks w)) s.steps.items → body_told s ≡ body_record (body_of v) (body_of w)
 told-record v w s tree_v tree_w alike told = told-bodies s (body_of v) (body_of w) alike (λ q.

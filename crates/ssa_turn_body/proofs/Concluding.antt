@@ -11,10 +11,9 @@ use Rattle.ssa_model.specs.definitions.Record.{are_in_one_order, common}
 use Rattle.ssa_model.proofs.Tests.{pointwise-true, symmetric}
 use Rattle.ssa_path.specs.Children.{child_at, elements}
 use Rattle.ssa_path.specs.View.{path_view}
-use Rattle.ssa_path.proofs.Orders.{both_first, both_second, same_element-true}
+use Rattle.ssa_path.proofs.Orders.{both_first, both_second}
 use Rattle.ssa_typed.specs.Rows.{are_apart, are_trees}
 use Rattle.ssa_typed.specs.declared.node.Node.{Node}
-use Rattle.ssa_typed.proofs.Laws.{not_true, neither_first, neither_second}
 use Rattle.ssa_turn_body.specs.Between.{IsEditBetween}
 use Rattle.ssa_turn_body.specs.Changes.{ChangeFits, ChangeGives}
 use Rattle.ssa_turn_body.specs.Edits.{EditGives, told_unless}
@@ -40,6 +39,8 @@ use Rattle.ssa_turn_body.proofs.OnceOnly.{once-added}
 use Rattle.ssa_turn_body.proofs.Recording.{leading-same}
 use Rattle.ssa_turn_body.proofs.Saying.{Joins, joins-first, joins-second, joins-still-first, joins-still-second, still-root, still-there}
 use Rattle.ssa_turn_body.proofs.Walking.{child-among, led, led_in, root-some}
+use Rattle.ssa_model.proofs.Fitting.{same_element-true}
+use Rattle.ssa_model.proofs.Basics.{not_true, first_false as neither_first, second_false as neither_second}
 
 abbrev Found : Type 0
 Found = List (Option ℕ)
@@ -142,6 +143,7 @@ module _ (o : Content) (cs ds : List Child) where
   joins-child e None b is_a is_b q = joins-alone e (λ r. (λ i. led_in (is_a i) None r) ∙ sym (λ i. led_in (is_a i) (child_at e ds) r)) q
   joins-child e (Some c) None is_a is_b q = joins-alone e (λ r. sym (λ i. led_in (child_at e cs) (is_b i) r)) q
 
+  -- what is said while the common children are led, and by the edit behind it, is what is said in all
   pub joins-final : (q : Path) → Joins (contents (led o cs [])) (contents (led o cs ds)) (contents (from_place (with_order o (elements ds), kids ds))) q
   joins-final [] = joins-still-first (contents begun) (contents now) (contents final) [] (still-root (contents begun) (contents now) (contents final)) refl
   joins-final (e ∷ q) = joins-child e (child_at e cs) (child_at e ds) refl refl q
@@ -293,7 +295,8 @@ module _ (o : Content) (cs ds : List Child) (fs : Found) (s : ChildrenEdit) (bet
         });
         once = once-added p (Children made) old new made-once a;
         writable = (
-          fit-writable a.0.change (o, ks) (subst (λ x. ChangeFits x (o, ks)) (sym a.2) (edit-fits o cs ds fs s between h own_apart apart found holds trees stand)),
+          fit-writable a.0.change (o, ks) (subst (λ x. ChangeFits x (o, ks)) (sym a.2)
+              (edit-fits o cs ds fs s between h own_apart apart found holds trees stand)),
           tt,
         );
       }

@@ -142,12 +142,18 @@ module _ (s c : ChildrenEdit) (copy : EditIsCopied s c) where
 
 -- ---- a change of any sort
 
+-- both changes say the same record of their place
 pub record SaySame (x y : PlaceChange) : Type 0 where
+  -- the same children are cut
   pub cut : cuts_in y ≡ cuts_in x
+  -- the same leaf is told
   pub leaf : leaves_in y ≡ leaves_in x
+  -- the same order is told
   pub order : orders_in y ≡ orders_in x
+  -- the same parts are put
   pub put : parts_in y ≡ parts_in x
 
+-- a copy of a change says the same record of its place
 pub say-same : (x y : PlaceChange) → ChangeIsCopied x y → SaySame x y
 say-same (Leaf s) (Leaf c) copy = record { cut = refl; leaf = ap (λ l. ([], l) ∷ []) copy; order = refl; put = refl }
 say-same (Leaf s) (Children c) copy = absurd copy
@@ -175,6 +181,7 @@ change-gives (Children s) (Children c) (Children t) v w copy h g = edit-gives s 
 
 -- ---- a change at a path
 
+-- a copy of a change fits where the change fits
 pub copy-fits : (s c : Step) (v : Node) → StepIsCopied s c → StepFits s v → StepFits c v
 copy-fits s c v copy h =
     subst (λ p. FitsIn (λ n. ChangeFits c.change (seen n)) (node_on p v)) (sym copy.path) (in_both (node_on (path_view s.path.items) v) h)
@@ -187,6 +194,7 @@ copy-fits s c v copy h =
 abbrev pub placed_as : Step → Step → Step
 placed_as s t = record { path = s.path; change = t.change }
 
+-- where a copy of a change leads, the change leads too
 pub copy-leads : (s c t : Step) (v w : Node) → StepIsCopied s c → StepFits s v → StepLeads c v t w → StepLeads s v (placed_as s t) w
 copy-leads s c t v w copy fits l =
     let change : IsChange (λ n m. ChangeGives c.change (seen n) t.change (seen m)) (path_view s.path.items) v w =

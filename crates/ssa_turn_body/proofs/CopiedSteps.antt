@@ -36,6 +36,7 @@ told-copied f same [] (c ∷ cs) z = absurd z
 told-copied f same (s ∷ ss) [] z = absurd z
 told-copied f same (s ∷ ss) (c ∷ cs) z = λ i. at_place (z.0.path i) (same s.change c.change z.0.change i) ++ told-copied f same ss cs z.1 i
 
+-- copies of changes say the same record
 pub body-copied : (s c : BodySteps) → AllZip StepIsCopied s.steps.items c.steps.items → body_told c ≡ body_told s
 body-copied s c z = λ i. record {
   cut = from_entries (told-copied _ (λ x y copy. (say-same x y copy).cut) s.steps.items c.steps.items z i);
@@ -175,6 +176,7 @@ module _ (s c : BodySteps) (z : AllZip StepIsCopied s.steps.items c.steps.items)
         leads = given.leads ∙ ap (λ r. carry_body r b) (sym told);
       }
 
+-- copies of changes serve each turn that the changes serve
 pub room-copied : (s c : BodySteps) → AllZip StepIsCopied s.steps.items c.steps.items → (b : Body) → HasBodyRoom s b → HasBodyRoom c b
 room-copied s c z b room = record {
   fits = λ n tree is. copies-fit s.steps.items c.steps.items n z (room.fits n tree is);

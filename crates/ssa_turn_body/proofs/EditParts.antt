@@ -26,21 +26,36 @@ no_kid = (field [], λ p. None)
 
 -- the parts of an edit make one
 pub record AreParts (cs ds : List Child) (fs back : List (Option ℕ)) (s : ChildrenEdit) : Type 0 where
+  -- the places of the first children are those of the second, turned round
   pub turned : IsTurnedRound (length cs) fs back
+  -- those that go are the first children whose places are not told
   pub gone : AreMissing back cs s.gone
+  -- those that come are the second children whose places are not told
   pub come : AreMissing fs ds s.come
+  -- the exchanges are within the first children
   pub range : SwapsInRange (length back) s.before.items
+  -- the exchanges bring what stays into the order of the second children
   pub order : reordered (range_with_len 0 (length back)) s.before.items ≡ filled 0 back (somes fs)
+  -- where all stand as wanted, nothing is exchanged
   pub exact : filled 0 back (somes fs) ≡ range_with_len 0 (length back) → s.before.items ≡ []
+  -- nothing is exchanged afterwards
   pub after : s.after.items ≡ []
+  -- the order before is that of the first children, unless nothing is exchanged
   pub order_before : path_view s.order.before.items ≡ told_unless (is_none s.before.items) (elements cs)
+  -- the order after is that of the second children, unless nothing is exchanged
   pub order_after : path_view s.order.after.items ≡ told_unless (is_none s.before.items) (elements ds)
+  -- nothing is held yet
   pub held : s.held.items ≡ []
+  -- the room for what goes is empty
   pub out_empty : s.out.items ≡ []
+  -- the room for what goes is enough
   pub out_room : length s.gone.places.items ≤ vec_capacity s.out
+  -- the room for the pass is empty
   pub room_empty : s.room.items ≡ []
+  -- the room for the pass is enough
   pub room : room_for s.gone.places.items s.come.places.items (length ds) ≤ vec_capacity s.room
 
+-- such parts make an edit that leads from the first children to the second
 pub edit-parts : (cs ds : List Child) (fs back : List (Option ℕ)) (s : ChildrenEdit) → AreFound cs ds fs → AreParts cs ds fs back s → IsEditBetween cs ds fs s
 edit-parts cs ds fs back s found h =
     let t = h.turned in
@@ -58,7 +73,8 @@ edit-parts cs ds fs back s found h =
       before = subst (λ n. SwapsInRange n before) t.long h.range;
       gone = subst (λ ps. ArePlaces 0 ps (length cs)) (sym h.gone.places) (places-nones back 0 (length cs) long);
       gone_named =
-          h.gone.named ∙ sym (gone-fresh back fs before h.order (field []) (elements cs) (length-elements cs ∙ sym t.long)) ∙ ap (λ ps. taken ps 0 (reordered (elements cs) before)) (sym h.gone.places);
+          h.gone.named ∙ sym (gone-fresh back fs before h.order (field []) (elements cs) (length-elements cs ∙ sym t.long))
+          ∙ ap (λ ps. taken ps 0 (reordered (elements cs) before)) (sym h.gone.places);
       come = h.come.places;
       come_named = h.come.named;
       after = h.after;

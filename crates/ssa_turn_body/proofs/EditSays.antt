@@ -11,7 +11,7 @@ use Rattle.ssa_model.specs.definitions.Kind.{is_among}
 use Rattle.ssa_model.specs.definitions.Path.{Element, Path, element_cmp, path_cmp, same_element, same_path, is_item_element}
 use Rattle.ssa_model.specs.definitions.Record.{are_in_one_order, common, new_order}
 use Rattle.ssa_path.specs.View.{element_view}
-use Rattle.ssa_path.proofs.Orders.{same_element-true, both_first, both_second}
+use Rattle.ssa_path.proofs.Orders.{both_first, both_second}
 use Rattle.ssa_typed.specs.Rows.{are_fields, are_items, are_trees, body_of, is_tree}
 use Rattle.ssa_turn_body.specs.Edits.{told_unless}
 use Rattle.ssa_turn_body.specs.Found.{AreKnown, fresh, nones}
@@ -22,22 +22,15 @@ use Rattle.ssa_turn_body.specs.Said.{Contents, between, contents, shown, silent,
 use Rattle.ssa_turn_body.specs.Told.{content_told, named}
 use Rattle.ssa_turn_body.proofs.Saying.{between-itself}
 use Rattle.ssa_turn_body.proofs.Telling.{marks-tell}
+use Rattle.ssa_model.proofs.Fitting.{same_element-true}
+use Rattle.ssa_model.proofs.Basics.{then_equal, then_greater}
 
 abbrev Found : Type 0
 Found = List (Option ℕ)
 
 -- ---- paths of one element
 
-then_equal : (o : Ordering) → is_eq (ordering_then o Equal) ≡ is_eq o
-then_equal Less = refl
-then_equal Equal = refl
-then_equal Greater = refl
-
-then_greater : (o : Ordering) → is_eq (ordering_then o Greater) ≡ false
-then_greater Less = refl
-then_greater Equal = refl
-then_greater Greater = refl
-
+-- two paths of one element are the same where the elements are
 pub same-one : (e x : Element) → same_path (e ∷ []) (x ∷ []) ≡ same_element e x
 same-one e x = then_equal (element_cmp e x)
 
@@ -46,6 +39,7 @@ longer e f x q = then_greater (element_cmp e x)
 
 -- ---- those that go
 
+-- the paths of one element each, as a set tells them
 abbrev pub singles : List Element → List (Path × Unit {0})
 singles es = map (λ e. (e ∷ [], tt)) es
 
@@ -53,25 +47,30 @@ either-found : (a b : Bool) → ◌≡◌ {A = Option (Unit {0})} (cond a (Some 
 either-found true b = refl
 either-found false b = refl
 
+-- of children that go, a path of one element is told where the element is among them
 pub cut-found : (es : List Element) (e : Element) → find path_cmp (e ∷ []) (singles es) ≡ (if is_among e es then Some tt else None)
 cut-found [] e = refl
 cut-found (x ∷ es) e = (λ i. cond (same-one e x i) (Some tt) (cut-found es e i)) ∙ either-found (same_element e x) (is_among e es)
 
+-- of children that go, the place itself is not told
 pub cut-root : (es : List Element) → find path_cmp [] (singles es) ≡ None
 cut-root [] = refl
 cut-root (x ∷ es) = cut-root es
 
+-- of children that go, nothing below them is told
 pub cut-deeper : (es : List Element) (e f : Element) (q : Path) → find path_cmp (e ∷ f ∷ q) (singles es) ≡ None
 cut-deeper [] e f q = refl
 cut-deeper (x ∷ es) e f q = λ i. cond (longer e f x q i) (Some tt) (cut-deeper es e f q i)
 
 -- ---- those that come
 
+-- of children that come, the place itself is not told
 pub part-root : (order : List Element) (ks : List ℕ) (hs : List Child) → find path_cmp [] (parts_of order ks hs) ≡ None
 part-root order [] hs = refl
 part-root order (k ∷ ks) [] = refl
 part-root order (k ∷ ks) (h ∷ hs) = part-root order ks hs
 
+-- of children that come, nothing below them is told
 pub part-deeper : (order : List Element) (ks : List ℕ) (hs : List Child) (e f : Element) (q : Path) → find path_cmp (e ∷ f ∷ q) (parts_of order ks hs) ≡ None
 part-deeper order [] hs e f q = refl
 part-deeper order (k ∷ ks) [] e f q = refl
@@ -94,14 +93,17 @@ map-cond : {A B : Type 0} (f : A → B) (b : Bool) (x : A) (o : Option A) → op
 map-cond f true x o = refl
 map-cond f false x o = refl
 
+-- the first of a list, or another where it is empty
 abbrev pub head_or : {X : Type 0} → X → List X → X
 head_or d [] = d
 head_or d (x ∷ xs) = x
 
+-- the list without its first
 abbrev pub rest_after : {X : Type 0} → List X → List X
 rest_after [] = []
 rest_after (x ∷ xs) = xs
 
+-- of children that come, what is told under an element is the first of that element, with its place
 pub parts-come : (order : List Element) (fs : Found) (j : ℕ) (ks : Kids) (hs : List Child) (e : Element) → kids hs ≡ fresh fs ks → are_trees hs ≡ true
     → option_map shown (find path_cmp (e ∷ []) (parts_of order (nones j fs) hs)) ≡ come_first order fs j ks e
 parts-come order [] j ks hs e is trees = refl
@@ -168,10 +170,14 @@ come-new order (Some n ∷ fs) j (k ∷ ks) os e f m known new is at =
       | false ↦ λ t u v. come-new order fs (j + 1) ks os e f m known.1 new u v
     ] refl is at
 
+-- the element stands in the list, counted from a number
 pub record IsPlace (e : Element) (j : ℕ) (es : List Element) : Type 0 where
+  -- the place at which it stands
   pub place : ℕ
+  -- it is the first at which it stands
   pub is : position_from (same_element e) j es ≡ Some place
 
+-- a child that has a name stands in the list of the names
 pub place-of : (ks : Kids) (j : ℕ) (e : Element) (f : Marks) → named ks e ≡ Some f → IsPlace e j (names ks)
 place-of [] j e f is = absurd (none-some f is)
 place-of (k ∷ ks) j e f is =
@@ -182,6 +188,7 @@ place-of (k ∷ ks) j e f is =
           record { place = rest.place; is = ap (λ b. cond b (Some j) (position_from (same_element e) (j + 1) (names ks))) t ∙ rest.is }
     ] refl is
 
+-- an element is among the names where a child has it
 pub named-among : (ks : Kids) (e : Element) → is_among e (names ks) ≡ is_some (named ks e)
 named-among [] e = refl
 named-among (k ∷ ks) e =
@@ -192,6 +199,7 @@ named-among (k ∷ ks) e =
 
 -- ---- the order of the items
 
+-- no order is told below the place
 pub order-below : (before after : List Element) (e : Element) (q : Path) → find path_cmp (e ∷ q) (told_order before after) ≡ None
 order-below before after e q =
     elim (are_some_items before && are_some_items after) as (λ b. find path_cmp (e ∷ q) (if b then ([], after) ∷ [] else []) ≡ None) [
@@ -239,6 +247,7 @@ list-order : (n : Bool) (es fs : List Element) → are_items es ≡ true → are
 list-order true es fs h k is = refl
 list-order false es fs h k is = ap (λ b. find path_cmp [] (if b then ([], fs) ∷ [] else [])) (both-items es fs h k (sym is))
 
+-- the order that is told is the new one of the second content, where there is one
 pub order-said : (o : Content) (n : Bool) (es fs : List Element) → may_stand o es ≡ true → may_stand o fs ≡ true → n ≡ are_in_one_order es fs
     → find path_cmp [] (told_order (told_unless n es) (told_unless n fs)) ≡ new_order (Some (with_order o es)) (Some (with_order o fs))
 order-said (leaf s) n es fs h k is = absurd (true≢false (sym h))
@@ -248,6 +257,7 @@ order-said dict_branch n es fs h k is = no-order (told_unless n es) (told_unless
 order-said (list_branch os) n es fs h k is =
     list-order n es fs (both_second _ (are_items es) h) (both_second _ (are_items fs) k) is ∙ ap (λ b. if not b then Some fs else None) is
 
+-- where children may stand, no other leaf is told
 pub no-swap : (o : Content) (es fs : List Element) → may_stand o es ≡ true → swapped (Some (with_order o es)) (Some (with_order o fs)) ≡ None
 no-swap (leaf s) es fs h = absurd (true≢false (sym h))
 no-swap (atom v) es fs h = absurd (true≢false (sym h))
@@ -293,6 +303,7 @@ field-place : (order es : List Element) (e : Element) (m : ℕ) → are_fields e
 field-place order es e m h at =
     ap (λ b. if b then (if is_none order then Some m else position_from (same_element e) 0 order) else None) (field-among e es m 0 h at)
 
+-- the place at which a child stands afterwards, as told, is that in the order of the content
 pub place-said : (o : Content) (n : Bool) (es : List Element) (e : Element) (m : ℕ) → may_stand o es ≡ true → position_from (same_element e) 0 es ≡ Some m
     → place_after (told_unless n es) e m ≡ position_from (same_element e) 0 (order_at (Some (with_order o es)))
 place-said (leaf s) n es e m h at = absurd (true≢false (sym h))
@@ -303,10 +314,12 @@ place-said (list_branch os) n es e m h at = list-place n es e m (both_second _ (
 
 -- ---- what two places say of a child
 
+-- where nothing stands afterwards, no leaf is told
 pub no-leaf : (c : Option Content) → swapped c None ≡ None
 no-leaf None = refl
 no-leaf (Some c) = refl
 
+-- where nothing stands afterwards, no order is told
 pub no-list : (c : Option Content) → new_order c None ≡ None
 no-list None = refl
 no-list (Some (leaf s)) = refl
@@ -322,6 +335,7 @@ no-cut false = refl
 nothing : Contents
 nothing q = None
 
+-- the content that is told at a path of a child, if there is the child
 abbrev pub told_in : Option Marks → Contents
 told_in x q = content_told (marks_in x q)
 

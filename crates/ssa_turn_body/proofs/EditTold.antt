@@ -24,21 +24,37 @@ use Rattle.ssa_turn_body.proofs.Saying.{order-itself, root-said, said_in, says-i
 
 -- an edit leads from the first children to the second, where the common ones are the same
 pub record IsEdit (o : Content) (n : Bool) (ks ls : Kids) (x : ChildrenEdit) : Type 0 where
+  -- of each of the first children its place among the second, if it has one
   pub back : List (Option ℕ)
+  -- of each of the second children its place among the first, if it has one
   pub found : List (Option ℕ)
+  -- the first children may stand at the place
   pub stand_before : may_stand o (names ks) ≡ true
+  -- the second children may stand at the place
   pub stand_after : may_stand o (names ls) ≡ true
+  -- no order is told just where the common children stand in one order
   pub in_order : n ≡ are_in_one_order (names ks) (names ls)
+  -- the order before is that of the first children, where one is told
   pub order_before : path_view x.order.before.items ≡ told_unless n (names ks)
+  -- the order after is that of the second children, where one is told
   pub order_after : path_view x.order.after.items ≡ told_unless n (names ls)
+  -- those that go are the first children that are not among the second
   pub gone : named_in x.gone ≡ fresh back (names ks)
+  -- the places told of the first children are of just those among the second
   pub gone_known : AreKnown back (names ks) (names ls)
+  -- the places of those that come are those of the second children that are not among the first
   pub come : x.come.places.items ≡ nones 0 found
+  -- the places told of the second children are of just those among the first
   pub come_known : AreKnown found (names ls) (names ks)
+  -- what is held is what comes
   pub held : kids x.held.items ≡ fresh found ls
+  -- what is held is made of trees
   pub trees : are_trees x.held.items ≡ true
+  -- a child that both have tells the same in both
   pub same : (e : Element) (f h : Marks) → named ks e ≡ Some f → named ls e ≡ Some h → (q : Path) → f q ≡ h q
+  -- each of the first children has something at its root
   pub root_before : (e : Element) (f : Marks) → named ks e ≡ Some f → is_some (content_told (f [])) ≡ true
+  -- each of the second children has something at its root
   pub root_after : (e : Element) (f : Marks) → named ls e ≡ Some f → is_some (content_told (f [])) ≡ true
 
 -- what two places say of one child
@@ -117,6 +133,7 @@ module _ (o : Content) (n : Bool) (ks ls : Kids) (x : ChildrenEdit) (h : IsEdit 
         put = put i;
       }
 
+  -- the edit says of each path from the place on what the two places say of it
   pub edit-says : (r : Path) → said_in (Children x) r ≡ between first second r
   edit-says [] =
       let order_is =
@@ -146,6 +163,7 @@ module _ (o : Content) (n : Bool) (ks ls : Kids) (x : ChildrenEdit) (h : IsEdit 
       })
       ∙ sym (deep-said (named ks e) (named ls e) g q (λ f k is_f is_k. h.same e f k is_f is_k))
 
+  -- a step with this edit says at and below its path what the two places say
   pub edit-step-told : (s : Step) → s.change ≡ Children x → AreTold (path_view s.path.items) first second (s ∷ [])
   edit-step-told s is = record {
     inside = λ r. says-inside s r ∙ ap (λ c. said_in c r) is ∙ edit-says r;

@@ -6,7 +6,7 @@ use Rattle.ssa_model.specs.definitions.Path.{Element}
 use Rattle.ssa_model.specs.definitions.Body.{Content, leaf, atom, record_branch, dict_branch, list_branch, is_leaf}
 use Rattle.ssa_path.specs.Children.{elements}
 use Rattle.ssa_path.specs.View.{element_view}
-use Rattle.ssa_path.proofs.Orders.{both, both_first, both_second}
+use Rattle.ssa_path.proofs.Orders.{both_first, both_second}
 use Rattle.ssa_typed.specs.Rows.{own_content, is_tree, are_trees}
 use Rattle.ssa_typed.specs.declared.node.Node.{Node}
 use Rattle.ssa_typed.proofs.Levels.{Children as Vecs}
@@ -21,6 +21,7 @@ use Rattle.ssa_turn_body.proofs.Marking.{names-kids}
 use Rattle.ssa_turn_body.proofs.Ordering.{length-reordered, map-reordered, range-reverse, there-and-back, trees-reordered}
 use Rattle.ssa_turn_body.proofs.Places.{IsKind}
 use Rattle.ssa_turn_body.proofs.Weaving.{whole-again, back-again, length-woven, length-taken, length-left, map-taken, map-left, map-woven}
+use Rattle.ssa_model.proofs.Basics.{both-true as both}
 
 -- ---- trees
 
@@ -63,7 +64,8 @@ trees-woven [] k hs ys h g = g
 trees-woven (p ∷ ps) k [] ys h g = g
 trees-woven (p ∷ ps) k (c ∷ hs) ys h g =
     trees-append (take (p - k) ys) (c ∷ woven ps (p + 1) hs (drop (p - k) ys)) (trees-take (p - k) ys g)
-    (both _ _ (both_first (is_tree c.1) (are_trees hs) h) (trees-woven ps (p + 1) hs (drop (p - k) ys) (both_second (is_tree c.1) (are_trees hs) h) (trees-drop (p - k) ys g)))
+    (both _ _ (both_first (is_tree c.1) (are_trees hs) h) (trees-woven ps (p + 1) hs (drop (p - k) ys) (both_second (is_tree c.1) (are_trees hs) h)
+    (trees-drop (p - k) ys g)))
 
 trees-going : (s : ChildrenEdit) (cs : List Child) → are_trees cs ≡ true → are_trees (going s cs) ≡ true
 trees-going s cs h = trees-taken s.gone.places.items 0 (reordered cs s.before.items) (trees-reordered cs s.before.items h)
@@ -71,19 +73,23 @@ trees-going s cs h = trees-taken s.gone.places.items 0 (reordered cs s.before.it
 trees-remade : (s : ChildrenEdit) (hs cs : List Child) → are_trees hs ≡ true → are_trees cs ≡ true → are_trees (remade s hs cs) ≡ true
 trees-remade s hs cs h t =
     trees-reordered (woven s.come.places.items 0 hs (staying s cs)) s.after.items
-    (trees-woven s.come.places.items 0 hs (staying s cs) h (trees-left s.gone.places.items 0 (reordered cs s.before.items) (trees-reordered cs s.before.items t)))
+    (trees-woven s.come.places.items 0 hs (staying s cs) h (trees-left s.gone.places.items 0 (reordered cs s.before.items)
+    (trees-reordered cs s.before.items t)))
 
 -- ---- what the children are seen as
 
 module _ {X Y : Type 0} (f : X → Y) (s : ChildrenEdit) where
+  -- what goes of elements that a function shows is what it shows of those that go
   pub map-going : (xs : List X) → going s (map f xs) ≡ map f (going s xs)
   map-going xs =
       ap (taken s.gone.places.items 0) (sym (map-reordered f xs s.before.items)) ∙ map-taken f s.gone.places.items 0 (reordered xs s.before.items)
 
+  -- what stays of elements that a function shows is what it shows of those that stay
   pub map-staying : (xs : List X) → staying s (map f xs) ≡ map f (staying s xs)
   map-staying xs =
       ap (left s.gone.places.items 0) (sym (map-reordered f xs s.before.items)) ∙ map-left f s.gone.places.items 0 (reordered xs s.before.items)
 
+  -- what an edit makes of elements that a function shows is what it shows of what the edit makes
   pub map-remade : (hs xs : List X) → remade s (map f hs) (map f xs) ≡ map f (remade s hs xs)
   map-remade hs xs =
       ap (λ ys. reordered ys s.after.items) (ap (woven s.come.places.items 0 (map f hs)) (map-staying xs) ∙ map-woven f s.come.places.items 0 hs (staying s xs))
@@ -91,6 +97,7 @@ module _ {X Y : Type 0} (f : X → Y) (s : ChildrenEdit) where
 
 -- ---- an edit of the children, seen as an edit of the place
 
+-- there are as many children seen as children
 pub length-kids : (cs : List Child) → length (kids cs) ≡ length cs
 length-kids [] = refl
 length-kids (c ∷ cs) = ap suc (length-kids cs)
@@ -107,6 +114,7 @@ kids-edited s cs = map-remade (λ (c : Child). (element_view c.0, marks c.1)) s 
 seen-kind : (kind : Vecs → Node) (is : IsKind kind) (n : Node) (v : Vecs) → n ≡ kind v → seen n ≡ (own_content (kind v), kids v.items)
 seen-kind kind is n v made = ap seen made ∙ ap (λ cs. (own_content (kind v), kids cs)) (is.children v)
 
+-- an edit that fits a place fits its children
 pub edit-enter : (kind : Vecs → Node) (is : IsKind kind) (s : ChildrenEdit) (n : Node) (v : Vecs) → n ≡ kind v → EditFits s (seen n) → EditFitsIn s v.items
 edit-enter kind is s n v made fits =
     let h : EditFits s (own_content (kind v), kids v.items) = subst (EditFits s) (seen-kind kind is n v made) fits in
@@ -125,12 +133,15 @@ edit-enter kind is s n v made fits =
 stands-own : (kind : Vecs → Node) (is : IsKind kind) (v : Vecs) → is_tree (kind v) ≡ true → may_stand (own_content (kind v)) (names (kids v.items)) ≡ true
 stands-own kind is v tree = is.asked v (names (kids v.items)) ∙ ap is.stands (names-kids v.items) ∙ both_first _ (are_trees v.items) (sym (is.tree v) ∙ tree)
 
-pub edit-leave : (kind : Vecs → Node) (is : IsKind kind) (s t : ChildrenEdit) (n m : Node) (v w : Vecs) → n ≡ kind v → m ≡ kind w → is_tree n ≡ true → EditFits s (seen n) → EditGivesIn s v.items t w.items → EditGives s (seen n) t (seen m)
+-- an edit of the children of a place is one of the place
+pub edit-leave : (kind : Vecs → Node) (is : IsKind kind) (s t : ChildrenEdit) (n m : Node) (v w : Vecs) → n ≡ kind v → m ≡ kind w → is_tree n ≡ true
+    → EditFits s (seen n) → EditGivesIn s v.items t w.items → EditGives s (seen n) t (seen m)
 edit-leave kind is s t n m v w made after tree fits given =
     let h : EditFits s (own_content (kind v), kids v.items) = subst (EditFits s) (seen-kind kind is n v made) fits in
     let tree_kind : is_tree (kind v) ≡ true = ap is_tree (sym made) ∙ tree in
     let trees : are_trees v.items ≡ true = both_second (is.stands (elements v.items)) _ (sym (is.tree v) ∙ tree_kind) in
-    subst (λ x. EditGives s x t (seen m)) (sym (seen-kind kind is n v made)) (subst (λ y. EditGives s (own_content (kind v), kids v.items) t y) (sym (seen-kind kind is m w after)) (record {
+    subst (λ x. EditGives s x t (seen m)) (sym (seen-kind kind is n v made))
+    (subst (λ y. EditGives s (own_content (kind v), kids v.items) t y) (sym (seen-kind kind is m w after)) (record {
       children = ap kids given.children ∙ sym (kids-edited s v.items);
       own = is.ordered v w ∙ ap (with_order (own_content (kind v))) (sym (names-kids w.items));
       stood = stands-own kind is v tree_kind;
@@ -151,18 +162,22 @@ edit-leave kind is s t n m v w made after tree fits given =
       room = subst (λ l. room_for t.gone.places.items t.come.places.items l ≤ vec_capacity t.room) (sym (length-kids v.items)) given.room;
     }))
 
-pub edited-tree : (kind : Vecs → Node) (is : IsKind kind) (s t : ChildrenEdit) (n m : Node) (v w : Vecs) → n ≡ kind v → m ≡ kind w → is_tree n ≡ true → EditFits s (seen n) → EditGivesIn s v.items t w.items → is_tree m ≡ true
+-- an edit that fits leaves a tree
+pub edited-tree : (kind : Vecs → Node) (is : IsKind kind) (s t : ChildrenEdit) (n m : Node) (v w : Vecs) → n ≡ kind v → m ≡ kind w → is_tree n ≡ true
+    → EditFits s (seen n) → EditGivesIn s v.items t w.items → is_tree m ≡ true
 edited-tree kind is s t n m v w made after tree fits given =
     let h : EditFits s (own_content (kind v), kids v.items) = subst (EditFits s) (seen-kind kind is n v made) fits in
     let tree_kind : is_tree (kind v) ≡ true = ap is_tree (sym made) ∙ tree in
     let trees : are_trees v.items ≡ true = both_second (is.stands (elements v.items)) _ (sym (is.tree v) ∙ tree_kind) in
     let stands : is.stands (elements w.items) ≡ true =
-    ap is.stands (sym (names-kids w.items) ∙ ap (λ cs. names (kids cs)) given.children ∙ ap names (sym (kids-edited s v.items))) ∙ sym (is.asked v (names (edited s (kids v.items)))) ∙ h.stands in
+    ap is.stands (sym (names-kids w.items) ∙ ap (λ cs. names (kids cs)) given.children ∙ ap names (sym (kids-edited s v.items)))
+    ∙ sym (is.asked v (names (edited s (kids v.items)))) ∙ h.stands in
     let trees_after : are_trees w.items ≡ true = ap are_trees given.children ∙ trees-remade s s.held.items v.items h.trees trees in
     ap is_tree after ∙ is.tree w ∙ both _ _ stands trees_after
 
 -- ---- the laws
 
+-- the order in a content does not matter to what may stand there
 pub stand-with : (c : Content) (es fs : List Element) → may_stand (with_order c es) fs ≡ may_stand c fs
 stand-with (leaf s) es fs = refl
 stand-with (atom v) es fs = refl
@@ -170,6 +185,7 @@ stand-with record_branch es fs = refl
 stand-with dict_branch es fs = refl
 stand-with (list_branch os) es fs = refl
 
+-- an order put into a content takes the place of the one before
 pub order-twice : (c : Content) (es fs : List Element) → with_order (with_order c es) fs ≡ with_order c fs
 order-twice (leaf s) es fs = refl
 order-twice (atom v) es fs = refl
@@ -178,7 +194,8 @@ order-twice dict_branch es fs = refl
 order-twice (list_branch os) es fs = refl
 
 -- so many stand together before the last exchanges
-pub middle-long : {X : Type 0} (s : ChildrenEdit) (hs xs : List X) → ArePlaces 0 s.come.places.items (length hs + length (staying s xs)) → length hs ≡ length s.come.places.items
+pub middle-long : {X : Type 0} (s : ChildrenEdit) (hs xs : List X) → ArePlaces 0 s.come.places.items (length hs + length (staying s xs))
+    → length hs ≡ length s.come.places.items
     → length (woven s.come.places.items 0 hs (staying s xs)) ≡ length hs + length (staying s xs)
 middle-long s hs xs places long =
     let n = length hs + length (staying s xs) in
@@ -200,8 +217,10 @@ returns s t v w h g =
     let total : n ≡ 0 + (length (kids s.held.items) + length (staying s v.1)) = omega arith in
     let same_long : length (kids s.held.items) ≡ length s.come.places.items = kids_long ∙ h.held in
     let middle = woven s.come.places.items 0 (kids s.held.items) (staying s v.1) in
-    let middle_long : length middle ≡ n = length-woven s.come.places.items 0 (kids s.held.items) (staying s v.1) n h.come total same_long ∙ ap (λ l. l + length (staying s v.1)) kids_long in
-    let again : reordered w.1 t.before.items ≡ middle = (λ i. reordered (g.children i) (g.before i)) ∙ there-and-back middle s.after.items (subst (λ m. SwapsInRange m s.after.items) (sym middle_long) h.after) in
+    let middle_long : length middle ≡ n = length-woven s.come.places.items 0 (kids s.held.items) (staying s v.1) n h.come total same_long
+    ∙ ap (λ l. l + length (staying s v.1)) kids_long in
+    let again : reordered w.1 t.before.items ≡ middle = (λ i. reordered (g.children i) (g.before i))
+    ∙ there-and-back middle s.after.items (subst (λ m. SwapsInRange m s.after.items) (sym middle_long) h.after) in
     let back = back-again s.come.places.items 0 (kids s.held.items) (staying s v.1) n h.come total same_long in
     let staying_is : staying t w.1 ≡ staying s v.1 = (λ i. left (g.gone i) 0 (again i)) ∙ back.1 in
     let first_long : length first ≡ length v.1 = length-reordered v.1 s.before.items in
@@ -211,7 +230,8 @@ returns s t v w h g =
       staying_is = staying_is;
       whole =
           (λ i. reordered (woven (g.come i) 0 (g.held i) (staying_is i)) (g.after i))
-          ∙ ap (λ xs. reordered xs (reverse s.before.items)) (whole-again s.gone.places.items 0 first (subst (λ m. ArePlaces 0 s.gone.places.items m) all h.gone))
+          ∙ ap (λ xs. reordered xs (reverse s.before.items))
+          (whole-again s.gone.places.items 0 first (subst (λ m. ArePlaces 0 s.gone.places.items m) all h.gone))
           ∙ there-and-back v.1 s.before.items h.before;
       long = ap length g.children ∙ length-reordered middle s.after.items ∙ middle_long;
     }
@@ -235,6 +255,7 @@ turned-keeps s t v w g =
     either-way (is_none s.before.items) (is_none s.after.items)
     ∙ (λ i. sym (ap is_none g.before ∙ none-reversed s.after.items) i && sym (ap is_none g.after ∙ none-reversed s.before.items) i)
 
+-- what an edit becomes fits what the edit left
 pub edit-back : (s t : ChildrenEdit) (v w : Place) → EditFits s v → EditGives s v t w → EditFits t w
 edit-back s t v w h g =
     let r = returns s t v w h g in
@@ -242,22 +263,28 @@ edit-back s t v w h g =
     let first_long : length first ≡ length v.1 = length-reordered v.1 s.before.items in
     let all : length v.1 ≡ 0 + length first = omega arith in
     let places : ArePlaces 0 s.gone.places.items (0 + length first) = subst (λ m. ArePlaces 0 s.gone.places.items m) all h.gone in
-    let held_long : length t.held.items ≡ length s.gone.places.items = sym (length-kids t.held.items) ∙ ap length g.held ∙ length-taken s.gone.places.items 0 first places in
+    let held_long : length t.held.items ≡ length s.gone.places.items = sym (length-kids t.held.items) ∙ ap length g.held
+    ∙ length-taken s.gone.places.items 0 first places in
     let left_long = length-left s.gone.places.items 0 first places in
     let left_same = ap length r.staying_is in
     let total : length v.1 ≡ length t.held.items + length (staying t w.1) = omega arith in
     let keeps : keeps_places s ≡ keeps_places t = turned-keeps s t v w g in
     record {
-      before = subst (λ ps. SwapsInRange (length w.1) ps) (sym g.before) (subst (λ m. SwapsInRange m (reverse s.after.items)) (sym r.long) (range-reverse (length s.held.items + length (staying s v.1)) s.after.items h.after));
+      before = subst (λ ps. SwapsInRange (length w.1) ps) (sym g.before)
+          (subst (λ m. SwapsInRange m (reverse s.after.items)) (sym r.long)
+          (range-reverse (length s.held.items + length (staying s v.1)) s.after.items h.after));
       gone = subst (λ ps. ArePlaces 0 ps (length w.1)) (sym g.gone) (subst (λ m. ArePlaces 0 s.come.places.items m) (sym r.long) h.come);
       gone_named = g.gone_named ∙ ap names (sym r.going_is);
-      come = subst (λ ps. ArePlaces 0 ps (length t.held.items + length (staying t w.1))) (sym g.come) (subst (λ m. ArePlaces 0 s.gone.places.items m) total h.gone);
+      come = subst (λ ps. ArePlaces 0 ps (length t.held.items + length (staying t w.1))) (sym g.come)
+          (subst (λ m. ArePlaces 0 s.gone.places.items m) total h.gone);
       come_named = g.come_named ∙ ap names (sym g.held);
       held = held_long ∙ ap length (sym g.come);
-      after = subst (λ ps. SwapsInRange (length t.held.items + length (staying t w.1)) ps) (sym g.after) (subst (λ m. SwapsInRange m (reverse s.before.items)) total (range-reverse (length v.1) s.before.items h.before));
+      after = subst (λ ps. SwapsInRange (length t.held.items + length (staying t w.1)) ps) (sym g.after)
+          (subst (λ m. SwapsInRange m (reverse s.before.items)) total (range-reverse (length v.1) s.before.items h.before));
       order_before = g.order_before ∙ h.order_after ∙ (λ i. told_unless (keeps i) (names (sym g.children i)));
       order_after = g.order_after ∙ h.order_before ∙ (λ i. told_unless (keeps i) (names (sym r.whole i)));
-      stands = ap (λ c. may_stand c (names (edited t w.1))) g.own ∙ stand-with v.0 (names w.1) (names (edited t w.1)) ∙ ap (λ ks. may_stand v.0 (names ks)) r.whole ∙ g.stood;
+      stands = ap (λ c. may_stand c (names (edited t w.1))) g.own ∙ stand-with v.0 (names w.1) (names (edited t w.1))
+          ∙ ap (λ ks. may_stand v.0 (names ks)) r.whole ∙ g.stood;
       trees = g.trees;
       out_empty = g.out_empty;
       out_room = subst (λ l. l ≤ vec_capacity t.out) (h.held ∙ ap length (sym g.gone)) g.out_room;
@@ -265,6 +292,7 @@ edit-back s t v w h g =
       room = subst (λ l. room_for t.gone.places.items t.come.places.items l ≤ vec_capacity t.room) total g.room;
     }
 
+-- an edit and what it becomes leave the place and the edit as they were
 pub edit-again : (s t u : ChildrenEdit) (v w x : Place) → EditFits s v → EditGives s v t w → EditGives t w u x → (x ≡ v) × (edit_steps u ≡ edit_steps s)
 edit-again s t u v w x h g k =
     let r = returns s t v w h g in
@@ -291,8 +319,10 @@ edit-again s t u v w x h g k =
 
 -- ---- a leaf
 
+-- what a change of a leaf becomes fits what the change left
 pub leaf-back : (s t : LeafSwap) (v w : Place) → LeafFits s v → LeafGives s v t w → LeafFits t w
 leaf-back s t v w h g = ap (λ c. is_leaf (Some c)) g.put ∙ leaf-there s.leaf
 
+-- a change of a leaf and what it becomes leave the leaf and the change as they were
 pub leaf-again : (s t u : LeafSwap) (v w x : Place) → LeafFits s v → LeafGives s v t w → LeafGives t w u x → (x ≡ v) × (leaf_steps u ≡ leaf_steps s)
 leaf-again s t u v w x h g k = ((λ i. ((k.put ∙ sym g.taken) i, (k.none_after ∙ sym g.none_before) i)), sym k.taken ∙ g.put)

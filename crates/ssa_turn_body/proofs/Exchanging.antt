@@ -42,17 +42,28 @@ other k j ne =
 
 -- at the first places stands what is wanted; `places` tells where each number stands
 pub record IsExchanging (wanted : List ℕ) (i : ℕ) (order places : List ℕ) (swaps : List (ℕ × ℕ)) : Type 0 where
+  -- the order is what the exchanges so far have made
   pub made : order ≡ reordered (range_with_len 0 (length wanted)) swaps
+  -- the exchanges are within the list
   pub range : SwapsInRange (length wanted) swaps
+  -- the order is as long as the list
   pub long : length order ≡ length wanted
+  -- there is a place for each number
   pub places_long : length places ≡ length wanted
+  -- each number in the order is within the list
   pub within : (k : ℕ) → k < length wanted → get_or order k 0 < length wanted
+  -- each place told is within the list
   pub there : (x : ℕ) → x < length wanted → get_or places x 0 < length wanted
+  -- at the place of each number stands the number
   pub stands : (x : ℕ) → x < length wanted → get_or order (get_or places x 0) 0 ≡ x
+  -- at the first places stands what is wanted
   pub done : (k : ℕ) → k < i → get_or order k 0 ≡ get_or wanted k 0
+  -- where all stand as wanted, nothing was exchanged
   pub idle : wanted ≡ range_with_len 0 (length wanted) → swaps ≡ []
 
-pub exchanging-init : (wanted order places : List ℕ) → order ≡ range_with_len 0 (length wanted) → places ≡ range_with_len 0 (length wanted) → IsExchanging wanted 0 order places []
+-- at first each number stands at its own place
+pub exchanging-init : (wanted order places : List ℕ) → order ≡ range_with_len 0 (length wanted) → places ≡ range_with_len 0 (length wanted)
+    → IsExchanging wanted 0 order places []
 exchanging-init wanted order places o p =
     let n = length wanted in
     let at : (xs : List ℕ) → xs ≡ range_with_len 0 n → (k : ℕ) → k < n → get_or xs k 0 ≡ k =
@@ -69,26 +80,10 @@ exchanging-init wanted order places o p =
       idle = λ e. refl;
     }
 
-module _ (wanted : List ℕ) (i : ℕ) (order places : List ℕ) (swaps : List (ℕ × ℕ)) (lt : i < length wanted) (in_range : AreWithin (length wanted) wanted) (h : IsExchanging wanted i order places swaps) where
+module _ (wanted : List ℕ) (i : ℕ) (order places : List ℕ) (swaps : List (ℕ × ℕ)) (lt : i < length wanted) (in_range : AreWithin (length wanted) wanted)
+    (h : IsExchanging wanted i order places swaps) where
   next-stands : get_or order (get_or places (get_or wanted i 0) 0) 0 ≡ get_or wanted i 0
   next-stands = h.stands (get_or wanted i 0) (in_range i lt)
-
-  -- what stands where it is wanted
-  pub exchanging-same : get_or places (get_or wanted i 0) 0 ≡ i → IsExchanging wanted (i + 1) order places swaps
-  exchanging-same e = record {
-    made = h.made;
-    range = h.range;
-    long = h.long;
-    places_long = h.places_long;
-    within = h.within;
-    there = h.there;
-    stands = h.stands;
-    done = λ k less. elim (eqb k i) as (λ b. eqb k i ≡ b → get_or order k 0 ≡ get_or wanted k 0) [
-      | true ↦ λ t. let same = eqb-true k i t in ap (λ j. get_or order j 0) (same ∙ sym e) ∙ next-stands ∙ ap (λ j. get_or wanted j 0) (sym same)
-      | false ↦ λ t. h.done k (grind (arith, nat_tests))
-    ] refl;
-    idle = h.idle;
-  }
 
   -- what stands elsewhere is exchanged
   module _ (apart : AreDistinct wanted) (moves : get_or places (get_or wanted i 0) 0 ≡ i → ⊥) where
@@ -108,13 +103,15 @@ module _ (wanted : List ℕ) (i : ℕ) (order places : List ℕ) (swaps : List (
     here-within : get_or order i 0 < length wanted
     here-within = h.within i lt
 
-    order-at : (k : ℕ) → get_or order_after k 0 ≡ cond (eqb k (get_or places (get_or wanted i 0) 0)) (get_or order i 0) (cond (eqb k i) (get_or wanted i 0) (get_or order k 0))
+    order-at : (k : ℕ) → get_or order_after k 0 ≡ cond (eqb k (get_or places (get_or wanted i 0) 0)) (get_or order i 0)
+        (cond (eqb k i) (get_or wanted i 0) (get_or order k 0))
     order-at k =
         let p = get_or places (get_or wanted i 0) 0 in
         get-swap order i p k 0 (subst (λ m. i < m) (sym h.long) lt) (subst (λ m. p < m) (sym h.long) place-within)
         ∙ ap (λ x. cond (eqb k p) (get_or order i 0) (cond (eqb k i) x (get_or order k 0))) next-stands
 
-    places-at : (x : ℕ) → get_or places_after x 0 ≡ cond (eqb x (get_or wanted i 0)) i (cond (eqb x (get_or order i 0)) (get_or places (get_or wanted i 0) 0) (get_or places x 0))
+    places-at : (x : ℕ) → get_or places_after x 0 ≡ cond (eqb x (get_or wanted i 0)) i
+        (cond (eqb x (get_or order i 0)) (get_or places (get_or wanted i 0) 0) (get_or places x 0))
     places-at x =
         let p = get_or places (get_or wanted i 0) 0 in
         let w = get_or wanted i 0 in
@@ -124,7 +121,8 @@ module _ (wanted : List ℕ) (i : ℕ) (order places : List ℕ) (swaps : List (
 
     order-here : get_or order_after i 0 ≡ get_or wanted i 0
     order-here =
-        order-at i ∙ passed (get_or order i 0) _ (other i (get_or places (get_or wanted i 0) 0) (λ e. moves (sym e))) ∙ picked (get_or wanted i 0) (get_or order i 0) (same_number i)
+        order-at i ∙ passed (get_or order i 0) _ (other i (get_or places (get_or wanted i 0) 0) (λ e. moves (sym e)))
+        ∙ picked (get_or wanted i 0) (get_or order i 0) (same_number i)
 
     order-there : get_or order_after (get_or places (get_or wanted i 0) 0) 0 ≡ get_or order i 0
     order-there =
@@ -132,7 +130,8 @@ module _ (wanted : List ℕ) (i : ℕ) (order places : List ℕ) (swaps : List (
 
     order-else : (k : ℕ) → (k ≡ get_or places (get_or wanted i 0) 0 → ⊥) → (k ≡ i → ⊥) → get_or order_after k 0 ≡ get_or order k 0
     order-else k ne mi =
-        order-at k ∙ passed (get_or order i 0) _ (other k (get_or places (get_or wanted i 0) 0) ne) ∙ passed (get_or wanted i 0) (get_or order k 0) (other k i mi)
+        order-at k ∙ passed (get_or order i 0) _ (other k (get_or places (get_or wanted i 0) 0) ne)
+        ∙ passed (get_or wanted i 0) (get_or order k 0) (other k i mi)
 
     both-within : (b d : Bool) (x y z m : ℕ) → x < m → y < m → z < m → cond b x (cond d y z) < m
     both-within true d x y z m a e f = a
@@ -180,20 +179,28 @@ module _ (wanted : List ℕ) (i : ℕ) (order places : List ℕ) (swaps : List (
         let wanted_is : get_or wanted i 0 ≡ i = ap (λ ys. get_or ys i 0) e ∙ get_or-range_with_len 0 n i 0 lt ∙ omega arith in
         moves (sym place_is ∙ next-stands ∙ wanted_is)
 
-    pub exchanging-step : (order2 places2 : List ℕ) (swaps2 : List (ℕ × ℕ)) → order2 ≡ order_after → places2 ≡ places_after → swaps2 ≡ swaps ++ (i, get_or places (get_or wanted i 0) 0) ∷ [] → IsExchanging wanted (i + 1) order2 places2 swaps2
+    -- with one exchange more, what is wanted stands at one place more
+    pub exchanging-step : (order2 places2 : List ℕ) (swaps2 : List (ℕ × ℕ)) → order2 ≡ order_after → places2 ≡ places_after
+        → swaps2 ≡ swaps ++ (i, get_or places (get_or wanted i 0) 0) ∷ [] → IsExchanging wanted (i + 1) order2 places2 swaps2
     exchanging-step order2 places2 swaps2 o p s =
         let q = get_or places (get_or wanted i 0) 0 in
         record {
-          made = o ∙ ap (λ ys. swap ys i q) h.made ∙ sym (reordered-push (range_with_len 0 (length wanted)) swaps (i, q)) ∙ ap (reordered (range_with_len 0 (length wanted))) (sym s);
+          made = o ∙ ap (λ ys. swap ys i q) h.made ∙ sym (reordered-push (range_with_len 0 (length wanted)) swaps (i, q))
+              ∙ ap (reordered (range_with_len 0 (length wanted))) (sym s);
           range = subst (SwapsInRange (length wanted)) (sym s) (range-append (length wanted) swaps ((i, q) ∷ []) h.range (lt, place-within, tt));
           long = ap length o ∙ length-swap order i q ∙ h.long;
-          places_long = ap length p ∙ length-set (set places (get_or order i 0) q) (get_or wanted i 0) i ∙ length-set places (get_or order i 0) q ∙ h.places_long;
-          within = λ k less. subst (λ x. x < length wanted) (sym (ap (λ xs. get_or xs k 0) o ∙ order-at k)) (both-within _ _ _ _ _ _ here-within next-within (h.within k less));
-          there = λ x less. subst (λ y. y < length wanted) (sym (ap (λ xs. get_or xs x 0) p ∙ places-at x)) (both-within _ _ _ _ _ _ lt place-within (h.there x less));
+          places_long = ap length p ∙ length-set (set places (get_or order i 0) q) (get_or wanted i 0) i ∙ length-set places (get_or order i 0) q
+              ∙ h.places_long;
+          within = λ k less. subst (λ x. x < length wanted) (sym (ap (λ xs. get_or xs k 0) o ∙ order-at k))
+              (both-within _ _ _ _ _ _ here-within next-within (h.within k less));
+          there = λ x less. subst (λ y. y < length wanted) (sym (ap (λ xs. get_or xs x 0) p ∙ places-at x))
+              (both-within _ _ _ _ _ _ lt place-within (h.there x less));
           stands = λ x less. (λ t. get_or (o t) (get_or (p t) x 0) 0) ∙ stands-after x less;
           done = λ k less. ap (λ xs. get_or xs k 0) o ∙ done-after k less;
           idle = λ e. absurd (never e);
         }
 
-pub exchanging-all : (wanted : List ℕ) (i : ℕ) (order places : List ℕ) (swaps : List (ℕ × ℕ)) → length wanted ≤ i → IsExchanging wanted i order places swaps → reordered (range_with_len 0 (length wanted)) swaps ≡ wanted
+-- at last the exchanges have made the wanted order
+pub exchanging-all : (wanted : List ℕ) (i : ℕ) (order places : List ℕ) (swaps : List (ℕ × ℕ)) → length wanted ≤ i → IsExchanging wanted i order places swaps
+    → reordered (range_with_len 0 (length wanted)) swaps ≡ wanted
 exchanging-all wanted i order places swaps le h = sym h.made ∙ ext_get_or 0 order wanted h.long (λ k lt. h.done k (let long = h.long in omega arith))

@@ -8,7 +8,7 @@ use Rattle.ssa_model.specs.definitions.Body.{Content, leaf, atom, record_branch,
 use Rattle.ssa_model.specs.definitions.Path.{Element, Path, same_element}
 use Rattle.ssa_path.specs.Children.{child_at, elements, IsChildAt}
 use Rattle.ssa_path.specs.View.{element_view}
-use Rattle.ssa_path.proofs.Orders.{same_element-true, both, both_first, both_second}
+use Rattle.ssa_path.proofs.Orders.{both_first, both_second}
 use Rattle.ssa_typed.specs.Alike.{are_alike}
 use Rattle.ssa_typed.specs.Over.{AreAlikeBelow, AreAlikeTrees}
 use Rattle.ssa_typed.specs.Rows.{below, own_content, is_tree, are_trees, are_apart, leaf_content}
@@ -16,7 +16,6 @@ use Rattle.ssa_typed.specs.declared.node.Leaf.{Leaf as LeafType}
 use Rattle.ssa_typed.specs.declared.node.Node.{Node, Leaf as LeafOf, Branch, Dict, List as ListOf, the_lemmas}
 use Rattle.ssa_typed.proofs.Levels.{Children as Vecs, level-below, own-Branch, own-Dict, own-List, rises-apart}
 use Rattle.ssa_typed.proofs.OverNodes.{leaf-there, own-Leaf}
-use Rattle.ssa_typed.proofs.Laws.{and_true}
 use Rattle.ssa_typed.proofs.Overlaying.{alike-child, alike-root}
 use Rattle.ssa_turn_body.proofs.Places.{IsKind}
 use Rattle.ssa_turn_body.specs.Changes.{ChangeGives}
@@ -35,20 +34,24 @@ use Rattle.ssa_turn_body.specs.declared.steps.Step.{Step}
 use Rattle.ssa_turn_body.proofs.Again.{AllFound, all-found, kids_from, marks-place, named-kids}
 use Rattle.ssa_turn_body.proofs.BodyMarks.{Ordered, ordered}
 use Rattle.ssa_turn_body.proofs.Descending.{child-here, found-at}
-use Rattle.ssa_turn_body.proofs.Edits.{map-going}
+use Rattle.ssa_turn_body.proofs.Edits.{map-going, length-kids}
 use Rattle.ssa_turn_body.proofs.Marking.{names-kids}
 use Rattle.ssa_turn_body.proofs.Matching.{found-length, length-fresh, length-kept, places-nones}
 use Rattle.ssa_turn_body.proofs.Missing.{length-elements}
 use Rattle.ssa_turn_body.proofs.Walking.{led, led_in, child-among}
+use Rattle.ssa_model.proofs.Fitting.{same_element-true}
+use Rattle.ssa_model.proofs.Basics.{and-true as and_true, both-true as both}
 
 abbrev Found : Type 0
 Found = List (Option ℕ)
 
 -- ---- the children at the time of the edit
 
+-- the first children, each with what it tells once the common ones are led
 abbrev pub led_kids : Content → List Child → List Child → Kids
 led_kids o cs ds = kids_from (λ e q. led o cs ds (e ∷ q)) (elements cs)
 
+-- children made of elements have these elements
 pub names-from : (f : Element → Marks) (es : List Element) → names (kids_from f es) ≡ es
 names-from f [] = refl
 names-from f (e ∷ es) = ap (λ xs. e ∷ xs) (names-from f es)
@@ -57,13 +60,15 @@ length-from : (f : Element → Marks) (es : List Element) → length (kids_from 
 length-from f [] = refl
 length-from f (e ∷ es) = ap suc (length-from f es)
 
-get-from : (f : Element → Marks) (cs : List Child) (k : ℕ) (c : Child) → slice_get cs k ≡ Some c → slice_get (kids_from f (elements cs)) k ≡ Some (element_view c.0, f (element_view c.0))
+get-from : (f : Element → Marks) (cs : List Child) (k : ℕ) (c : Child) → slice_get cs k ≡ Some c
+    → slice_get (kids_from f (elements cs)) k ≡ Some (element_view c.0, f (element_view c.0))
 get-from f [] k c e = absurd (none-some c e)
 get-from f (x ∷ cs) zero c e = ap (λ (y : Child). Some (element_view y.0, f (element_view y.0))) (same_Some x c e)
 get-from f (x ∷ cs) (suc k) c e = get-from f cs k c e
 
 module _ (o : Content) (cs ds : List Child) (own_apart : are_apart (elements cs) ≡ true) where
-  led-one : (d : Child) (k : ℕ) → IsChildAt (element_view d.0) cs k → child_at (element_view d.0) ds ≡ Some d.1 → slice_get (led_kids o cs ds) k ≡ Some (element_view d.0, marks d.1)
+  led-one : (d : Child) (k : ℕ) → IsChildAt (element_view d.0) cs k → child_at (element_view d.0) ds ≡ Some d.1
+      → slice_get (led_kids o cs ds) k ≡ Some (element_view d.0, marks d.1)
   led-one d k at there =
       let h = child-here (element_view d.0) cs k at in
       let e : element_view h.child.0 ≡ element_view d.0 = sym (same_element-true (element_view d.0) (element_view h.child.0) h.same) in
@@ -87,12 +92,14 @@ fresh-kids (f ∷ fs) [] = refl
 fresh-kids (None ∷ fs) (d ∷ ds) = ap (λ ks. (element_view d.0, marks d.1) ∷ ks) (fresh-kids fs ds)
 fresh-kids (Some k ∷ fs) (d ∷ ds) = fresh-kids fs ds
 
+-- the elements of what comes are those that come
 pub fresh-names : (fs : Found) (ds : List Child) → names (fresh fs (kids ds)) ≡ fresh fs (elements ds)
 fresh-names [] ds = refl
 fresh-names (f ∷ fs) [] = refl
 fresh-names (None ∷ fs) (d ∷ ds) = ap (λ es. element_view d.0 ∷ es) (fresh-names fs ds)
 fresh-names (Some k ∷ fs) (d ∷ ds) = fresh-names fs ds
 
+-- what comes of trees is made of trees
 pub fresh-trees : (fs : Found) (ds : List Child) → are_trees ds ≡ true → are_trees (fresh fs ds) ≡ true
 fresh-trees [] ds h = refl
 fresh-trees (f ∷ fs) [] h = refl
@@ -104,10 +111,6 @@ kept-somes [] ds e = refl
 kept-somes (f ∷ fs) [] e = absurd (omega (arith, e))
 kept-somes (None ∷ fs) (d ∷ ds) e = kept-somes fs ds (omega (arith, e))
 kept-somes (Some k ∷ fs) (d ∷ ds) e = ap suc (kept-somes fs ds (omega (arith, e)))
-
-length-kids : (cs : List Child) → length (kids cs) ≡ length cs
-length-kids [] = refl
-length-kids (c ∷ cs) = ap suc (length-kids cs)
 
 -- where both have the same elements in the same order, the children that are led are the second ones
 pub alike-told : (o : Content) (cs ds : List Child) → elements cs ≡ elements ds → with_order o (elements cs) ≡ o
@@ -128,17 +131,21 @@ alike-told o cs ds same_names order q = at q
 
 -- ---- the edit fits and leaves the second children
 
-module _ (o : Content) (cs ds : List Child) (fs : Found) (s : ChildrenEdit) (between : IsEditBetween cs ds fs s) (h : Vec Child Global) (own_apart : are_apart (elements cs) ≡ true) (apart : are_apart (elements ds) ≡ true)
+module _ (o : Content) (cs ds : List Child) (fs : Found) (s : ChildrenEdit) (between : IsEditBetween cs ds fs s) (h : Vec Child Global)
+    (own_apart : are_apart (elements cs) ≡ true) (apart : are_apart (elements ds) ≡ true)
     (found : AreFound cs ds fs) (holds : h.items ≡ fresh fs ds) where
+  -- there are as many children as before
   pub long : length (led_kids o cs ds) ≡ length cs
   long = length-from (λ e q. led o cs ds (e ∷ q)) (elements cs) ∙ length-elements cs
 
+  -- what is held is what comes
   pub held-kids : kids h.items ≡ fresh fs (kids ds)
   held-kids = ap kids holds ∙ fresh-kids fs ds
 
   led-all : AreLed fs (led_kids o cs ds) (kids ds)
   led-all = led-kids o cs ds own_apart ds fs found (all-found ds apart)
 
+  -- the edit leaves the second children
   pub edit-leaves : edited (record s { held = h }) (led_kids o cs ds) ≡ kids ds
   edit-leaves = ap (λ hs. remade s hs (led_kids o cs ds)) held-kids ∙ between.whole (led_kids o cs ds) (kids ds) long led-all
 
@@ -151,6 +158,7 @@ module _ (o : Content) (cs ds : List Child) (fs : Found) (s : ChildrenEdit) (bet
       let some = kept-somes fs ds (sym same) in
       omega arith
 
+  -- the edit fits the place whose common children are led
   pub edit-fits : are_trees ds ≡ true → may_stand o (elements ds) ≡ true → EditFits (record s { held = h }) (o, led_kids o cs ds)
   edit-fits trees stand =
       let same = found-length cs ds fs found in
@@ -194,9 +202,11 @@ module _ (o : Content) (cs ds : List Child) (fs : Found) (s : ChildrenEdit) (bet
       (λ i. reordered (woven (sym c i) 0 (fresh fs (kids ds)) (left (sym g i) 0 (reordered (led_kids o cs ds) (sym b i)))) (sym between.after i))
       ∙ between.whole (led_kids o cs ds) (kids ds) long led-all
 
+  -- where there is nothing to edit, the place tells what the second tells
   pub idle-told : with_order o (elements cs) ≡ o → is_idle s ≡ true → (q : Path) → led o cs ds q ≡ from_place (with_order o (elements ds), kids ds) q
   idle-told order idle = alike-told o cs ds (sym (names-from (λ e q. led o cs ds (e ∷ q)) (elements cs)) ∙ ap names (idle-same idle) ∙ names-kids ds) order
 
+  -- whatever the edit gives, the place tells what the second tells
   pub put : (t : PlaceChange) (y : Place) → ChangeGives (Children (record s { held = h })) (o, led_kids o cs ds) t y → (q : Path)
       → from_place y q ≡ from_place (with_order o (elements ds), kids ds) q
   put (Leaf t) y g q = absurd g
@@ -206,6 +216,7 @@ module _ (o : Content) (cs ds : List Child) (fs : Found) (s : ChildrenEdit) (bet
 
 -- ---- a place of the first tree and the same place of the second
 
+-- elements that may stand at a place are distinct
 pub stand-apart : (o : Content) (es : List Element) → may_stand o es ≡ true → are_apart es ≡ true
 stand-apart (leaf s) es h = absurd (true≢false (sym h))
 stand-apart (atom v) es h = absurd (true≢false (sym h))
@@ -220,6 +231,7 @@ order-kept record_branch es h = refl
 order-kept dict_branch es h = refl
 order-kept (list_branch os) es h = ap list_branch (sym h)
 
+-- the content of a tree has the order of its own children
 pub own-order : (v : Node) → is_tree v ≡ true → with_order (own_content v) (elements (below v)) ≡ own_content v
 own-order v tree = order-kept (own_content v) (elements (below v)) (ordered v tree)
 
@@ -253,7 +265,9 @@ branch-there (list_branch os) (list_branch es) h = refl
 
 -- what may stand at a branch, and its order, are told by the other place too
 pub record IsSameSort (c d : Content) : Type 0 where
+  -- children may stand at the one content where they may stand at the other
   pub stands : (es : List Element) → may_stand c es ≡ may_stand d es
+  -- with an order of children, the two contents are one
   pub order : (es : List Element) → with_order c es ≡ with_order d es
 
 same-sort : (c d : Content) → are_alike (Some c) (Some d) ≡ true → is_leaf (Some d) ≡ false → IsSameSort c d
@@ -278,25 +292,33 @@ same-sort (list_branch os) (list_branch es) h n = record { stands = λ es. refl;
 -- a leaf stands only where a leaf stood
 pub no-branch : (v w : Node) (l : LeafType) → w ≡ LeafOf l → is_leaf (Some (own_content v)) ≡ false → AreAlikeTrees v w → ⊥
 no-branch v w l is branch alike =
-    true≢false (sym (branch-there (own_content v) (own_content w) (alike-root v w alike) ∙ ap (λ n. is_leaf (Some (own_content n))) is ∙ ap (λ c. is_leaf (Some c)) (own-Leaf l) ∙ leaf-there l) ∙ branch)
+    true≢false (sym (branch-there (own_content v) (own_content w) (alike-root v w alike) ∙ ap (λ n. is_leaf (Some (own_content n))) is
+    ∙ ap (λ c. is_leaf (Some c)) (own-Leaf l) ∙ leaf-there l) ∙ branch)
 
-module _ (kind : Vecs → Node) (is : IsKind kind) (branch : (v : Vecs) → is_leaf (Some (own_content (kind v))) ≡ false) (from to : Node) (v : Vecs) (made : to ≡ kind v) (tree_from : is_tree from ≡ true) (tree : is_tree to ≡ true) (alike : AreAlikeTrees from to) where
+module _ (kind : Vecs → Node) (is : IsKind kind) (branch : (v : Vecs)
+    → is_leaf (Some (own_content (kind v))) ≡ false) (from to : Node) (v : Vecs) (made : to ≡ kind v) (tree_from : is_tree from ≡ true)
+    (tree : is_tree to ≡ true) (alike : AreAlikeTrees from to) where
   sort : IsSameSort (own_content from) (own_content (kind v))
-  sort = same-sort (own_content from) (own_content (kind v)) (subst (λ n. are_alike (Some (own_content from)) (Some (own_content n)) ≡ true) made (alike-root from to alike)) (branch v)
+  sort = same-sort (own_content from) (own_content (kind v))
+      (subst (λ n. are_alike (Some (own_content from)) (Some (own_content n)) ≡ true) made (alike-root from to alike)) (branch v)
 
   tree_kind : (is.stands (elements v.items) && are_trees v.items) ≡ true
   tree_kind = sym (is.tree v) ∙ ap is_tree (sym made) ∙ tree
 
+  -- the children of the second place are trees
   pub kind-trees : are_trees v.items ≡ true
   kind-trees = both_second (is.stands (elements v.items)) _ tree_kind
 
+  -- the children of the second place may stand at the first
   pub kind-stands : may_stand (own_content from) (elements v.items) ≡ true
   kind-stands = sort.stands (elements v.items) ∙ is.asked v (elements v.items) ∙ both_first _ (are_trees v.items) tree_kind
 
+  -- the children of both places are alike, where both have one
   pub kind-alike : AreAlikeBelow (below from) v.items
   kind-alike e c d is_c is_d =
       alike-child from to e c d tree_from tree is_c (ap (λ cs. child_at e cs) (ap below made ∙ is.children v) ∙ is_d) alike
 
+  -- the first content with the second children tells what the second place tells
   pub kind-told : (q : Path) → from_place (with_order (own_content from) (elements v.items), kids v.items) q ≡ marks to q
   kind-told q =
       ap (λ o. from_place (o, kids v.items) q) (sort.order (elements v.items) ∙ sym (is.ordered v v))
@@ -307,23 +329,29 @@ module _ (kind : Vecs → Node) (is : IsKind kind) (branch : (v : Vecs) → is_l
 pub alike-apart : (n : Node) (ds : List Child) → is_tree n ≡ true → elements (below n) ≡ elements ds → are_apart (elements ds) ≡ true
 alike-apart n ds tree same = ap are_apart (sym same) ∙ (level-below n).apart tree
 
+-- changes that lead to something lead to whatever tells the same
 pub leading-told : (p : Path) (M N O : Marks) (old new : List Step) → ((q : Path) → N q ≡ O q) → AreLeading p M N old new → AreLeading p M O old new
 leading-told p M N O old new same h = subst (λ (f : Marks). AreLeading p M f old new) (λ i q. same q i) h
 
+-- changes that lead from something lead from whatever tells the same
 pub leading-from : (p : Path) (M N O : Marks) (old new : List Step) → ((q : Path) → M q ≡ N q) → AreLeading p N O old new → AreLeading p M O old new
 leading-from p M N O old new same h = subst (λ (f : Marks). AreLeading p f O old new) (λ i q. sym (same q) i) h
 
 below-Leaf-is : (l : LeafType) → below (LeafOf l) ≡ []
 below-Leaf-is l = search (rules, the_lemmas)
 
+-- a leaf tells its content and no children
 pub leaf-told : (v : Node) (l : LeafType) → v ≡ LeafOf l → (q : Path) → marks v q ≡ from_place (leaf_content l, []) q
 leaf-told v l is q = ap (λ n. marks n q) is ∙ marks-place (LeafOf l) q ∙ (λ i. from_place (own-Leaf l i, kids (below-Leaf-is l i)) q)
 
+-- a record is no leaf
 pub branch-Branch : (v : Vecs) → is_leaf (Some (own_content (Branch v))) ≡ false
 branch-Branch v = ap (λ c. is_leaf (Some c)) (own-Branch v)
 
+-- a map is no leaf
 pub branch-Dict : (v : Vecs) → is_leaf (Some (own_content (Dict v))) ≡ false
 branch-Dict v = ap (λ c. is_leaf (Some c)) (own-Dict v)
 
+-- a list is no leaf
 pub branch-List : (v : Vecs) → is_leaf (Some (own_content (ListOf v))) ≡ false
 branch-List v = ap (λ c. is_leaf (Some c)) (own-List v)

@@ -25,10 +25,12 @@ use Rattle.ssa_turn_body.proofs.EditSays.{head_or, rest_after}
 
 -- ---- what is held is made of trees
 
+-- what the change holds is made of trees
 abbrev pub HoldsTrees : PlaceChange → Type 0
 HoldsTrees (Leaf s) = Unit {0}
 HoldsTrees (Children s) = are_trees s.held.items ≡ true
 
+-- what each of the changes holds is made of trees
 abbrev pub AllHoldTrees : List Step → Type 0
 AllHoldTrees [] = Unit {0}
 AllHoldTrees (s ∷ ss) = HoldsTrees s.change × AllHoldTrees ss
@@ -43,6 +45,7 @@ left-holds (Leaf s) (Children t) v w h = absurd h
 left-holds (Children s) (Leaf t) v w h = absurd h
 left-holds (Children s) (Children t) v w h = h.trees
 
+-- a change that fits somewhere holds trees
 pub fit-in : (x : PlaceChange) (o : Option Node) → FitsIn (λ n. ChangeFits x (seen n)) o → HoldsTrees x
 fit-in x None h = absurd h
 fit-in x (Some n) h = fit-holds x (seen n) h
@@ -52,11 +55,13 @@ left-in x y None b h = absurd h
 left-in x y (Some n) None h = absurd h
 left-in x y (Some n) (Some m) h = left-holds x y (seen n) (seen m) h
 
+-- changes that fit a tree and are made hold trees
 pub fit-hold : (ss : List Step) (v : Node) (ts : List Step) (w : Node) → StepsFit ss v → StepsLead ss v ts w → AllHoldTrees ss
 fit-hold [] v ts w h l = tt
 fit-hold (s ∷ ss) v [] w h l = absurd l
 fit-hold (s ∷ ss) v (t ∷ ts) w h l = (fit-in s.change (node_on (path_view s.path.items) v) h.0, fit-hold ss l.0 ts w (h.1 t l.0 l.1) l.2)
 
+-- what changes become holds trees
 pub left-hold : (ss : List Step) (v : Node) (ts : List Step) (w : Node) → StepsLead ss v ts w → AllHoldTrees ts
 left-hold [] v [] w l = tt
 left-hold [] v (t ∷ ts) w l = absurd l
@@ -68,6 +73,7 @@ both-hold : (ss ts : List Step) → AllHoldTrees ss → AllHoldTrees ts → AllH
 both-hold [] ts h g = g
 both-hold (s ∷ ss) ts h g = (h.0, both-hold ss ts h.1 g)
 
+-- changes that hold trees do so in the other order
 pub reverse-hold : (ss : List Step) → AllHoldTrees ss → AllHoldTrees (reverse ss)
 reverse-hold [] h = tt
 reverse-hold (s ∷ ss) h = subst AllHoldTrees (sym (reverse-append (s ∷ []) ss)) (both-hold (reverse ss) (s ∷ []) (reverse-hold ss h.1) (h.0, tt))
@@ -148,6 +154,7 @@ steps-one (u ∷ us) (s ∷ ss) e h g =
       put = λ i. at_place (path i) (one.put i) ++ rest.put i;
     }
 
+-- steps that say the same, and hold trees, say one record
 pub same-told : (u s : BodySteps) → SameSteps u s → AllHoldTrees u.steps.items → AllHoldTrees s.steps.items → body_told u ≡ body_told s
 same-told u s e h g =
     let one = steps-one u.steps.items s.steps.items e h g in

@@ -47,8 +47,10 @@ same-length ks ls e = sym (length-map ks (λ (k : Kid). k.0)) ∙ ap length e �
 
 edit-by : (s : ChildrenEdit) (v w : Place) → v.0 ≡ w.0 → names v.1 ≡ names w.1 → EditFits s v → EditFits s w
 edit-by s v w own ns h =
-    let staying_same : length (staying s v.1) ≡ length (staying s w.1) = sym (names-staying s v.1) ∙ ap (λ es. length (staying s es)) ns ∙ names-staying s w.1 in
-    let edited_same : names (edited s w.1) ≡ names (edited s v.1) = names-edited s w.1 ∙ ap (remade s (names (kids s.held.items))) (sym ns) ∙ sym (names-edited s v.1) in
+    let staying_same : length (staying s v.1) ≡ length (staying s w.1) = sym (names-staying s v.1) ∙ ap (λ es. length (staying s es)) ns
+    ∙ names-staying s w.1 in
+    let edited_same : names (edited s w.1) ≡ names (edited s v.1) = names-edited s w.1 ∙ ap (remade s (names (kids s.held.items))) (sym ns)
+    ∙ sym (names-edited s v.1) in
     record {
       before = subst (λ l. SwapsInRange l s.before.items) (same-length v.1 w.1 ns) h.before;
       gone = subst (λ l. ArePlaces 0 s.gone.places.items l) (same-length v.1 w.1 ns) h.gone;
@@ -76,7 +78,8 @@ fits-by (Children s) v w own ns h = edit-by s v w own ns h
 mark-on : (p : Path) (v : Node) → marks v p ≡ marks_in (option_map marks (node_on p v)) []
 mark-on p v = ap (marks v) (sym (append-nil p)) ∙ marks-on p v []
 
-fits-there : (c : PlaceChange) (a b : Option Node) → marks_in (option_map marks a) [] ≡ marks_in (option_map marks b) [] → FitsIn (λ n. ChangeFits c (seen n)) a → FitsIn (λ n. ChangeFits c (seen n)) b
+fits-there : (c : PlaceChange) (a b : Option Node) → marks_in (option_map marks a) [] ≡ marks_in (option_map marks b) []
+    → FitsIn (λ n. ChangeFits c (seen n)) a → FitsIn (λ n. ChangeFits c (seen n)) b
 fits-there c None b same h = absurd h
 fits-there c (Some n) None same h = absurd (none-some _ (sym same ∙ marks-level n []))
 fits-there c (Some n) (Some m) same h =
@@ -94,6 +97,7 @@ all-kept : (s t : Step) (v w : Node) → StepLeads s v t w → (us : List Step) 
 all-kept s t v w l [] elsewhere h = h
 all-kept s t v w l (u ∷ us) elsewhere h = (step-kept u v w (l.change.outside (path_view u.path.items) elsewhere.0) h.0, all-kept s t v w l us elsewhere.1 h.1)
 
+-- changes that each fit the first tree, the inner ones first, fit one after the other
 pub inner-steps-fit : InnerStepsFit
 inner-steps-fit [] v tree h inner = h
 inner-steps-fit (s ∷ ss) v tree h inner = (h.0, λ t w l. inner-steps-fit ss w l.change.tree (all-kept s t v w l ss inner.0 h.1) inner.1)

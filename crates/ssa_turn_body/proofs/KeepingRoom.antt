@@ -25,6 +25,7 @@ tree-is n h = record {
   items = λ p e. tree-items n h p e;
 }
 
+-- two bodies are alike either way round
 pub alike-back : (b c : Body) → AreAlike b c → AreAlike c b
 alike-back b c h p x y is_x is_y = sym (h p y x is_y is_x)
 
@@ -33,6 +34,7 @@ pub record-leads : (n m : Node) (b c : Body) → is_tree n ≡ true → is_tree 
     → carry_body (body_record b c) b ≡ c
 record-leads n m b c tn tm is_b is_c alike = tree_leads b c (subst IsTree is_b (tree-is n tn)) (subst IsTree is_c (tree-is m tm)) alike
 
+-- a turn leaves steps that serve the way back
 pub turns-keep-room : TurnsKeepRoom
 turns-keep-room s t b c room turned fits = record {
   fits = fits;

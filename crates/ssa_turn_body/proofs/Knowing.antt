@@ -8,7 +8,7 @@ use Rattle.ssa_model.specs.definitions.Path.{Element, same_element}
 use Rattle.ssa_model.proofs.Tests.{same_tests}
 use Rattle.ssa_path.specs.Children.{child_at, elements, IsChildAt}
 use Rattle.ssa_path.specs.View.{element_view}
-use Rattle.ssa_path.proofs.Orders.{same_element-true, same_element-itself, both_second}
+use Rattle.ssa_path.proofs.Orders.{both_second}
 use Rattle.ssa_typed.specs.Rows.{are_apart}
 use Rattle.ssa_turn_body.specs.Found.{AreFound, AreKnown, IsTurnedRound, fresh, is_in, is_told, kept, somes}
 use Rattle.ssa_turn_body.specs.Marks.{Child}
@@ -16,6 +16,8 @@ use Rattle.ssa_turn_body.proofs.Descending.{any-at, child-here, found-at, other-
 use Rattle.ssa_turn_body.proofs.Matching.{found-in}
 use Rattle.ssa_turn_body.proofs.Walking.{child-among}
 use Rattle.ssa_turn_body.proofs.Weaving.{same_number}
+use Rattle.ssa_model.proofs.Fitting.{same_element-true}
+use Rattle.ssa_model.proofs.Tables.{element-itself as same_element-itself}
 
 abbrev Found : Type 0
 Found = List (Option ℕ)
@@ -25,6 +27,7 @@ Found = List (Option ℕ)
 here-among : (e : Element) (cs : List Child) (k : ℕ) → IsChildAt e cs k → is_among e (elements cs) ≡ true
 here-among e cs k at = let h = child-here e cs k at in any-at e cs k h.child h.here h.same
 
+-- the places found for the second children are told for just those that are among the first
 pub known-found : (cs ds : List Child) (fs : Found) → AreFound cs ds fs → AreKnown fs (elements ds) (elements cs)
 known-found cs [] [] h = tt
 known-found cs [] (f ∷ fs) h = absurd h
@@ -90,6 +93,7 @@ known-from [] (c ∷ cs) os l h = absurd (omega (arith, l))
 known-from (b ∷ bs) [] os l h = absurd (omega (arith, l))
 known-from (b ∷ bs) (c ∷ cs) os l h = (h zero c refl, known-from bs cs os (omega (arith, l)) (λ x d g. h (suc x) d g))
 
+-- turned round, places are told for just those of the first children that are among the second
 pub known-back : (cs ds : List Child) (fs back : Found) → are_apart (elements cs) ≡ true → AreFound cs ds fs → IsTurnedRound (length cs) fs back
     → AreKnown back (elements cs) (elements ds)
 known-back cs ds fs back apart found turned = known-from back cs (elements ds) turned.long (λ x c g.
@@ -100,6 +104,7 @@ known-back cs ds fs back apart found turned = known-from back cs (elements ds) t
 
 -- ---- what goes or comes, and what stays
 
+-- what stays is what is among the others
 pub kept-known : (fs : Found) (es os : List Element) → AreKnown fs es os → kept fs es ≡ filter (λ e. is_among e os) es
 kept-known [] [] os h = refl
 kept-known [] (e ∷ es) os h = absurd h
@@ -108,6 +113,7 @@ kept-known (None ∷ fs) (e ∷ es) os h = kept-known fs es os h.1 ∙ ap (λ b.
 kept-known (Some k ∷ fs) (e ∷ es) os h =
     ap (λ xs. e ∷ xs) (kept-known fs es os h.1) ∙ ap (λ b. cond b (e ∷ filter (λ x. is_among x os) es) (filter (λ x. is_among x os) es)) h.0
 
+-- what goes or comes is what is not among the others
 pub fresh-known : (fs : Found) (es os : List Element) → AreKnown fs es os → fresh fs es ≡ filter (λ e. not (is_among e os)) es
 fresh-known [] [] os h = refl
 fresh-known [] (e ∷ es) os h = absurd h

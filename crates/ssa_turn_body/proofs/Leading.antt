@@ -6,7 +6,6 @@ use Rattle.ssa_model.specs.definitions.Path.{Element, Path, same_element, under}
 use Rattle.ssa_model.proofs.Pruned.{under-rest}
 use Rattle.ssa_path.specs.Children.{elements}
 use Rattle.ssa_path.specs.View.{path_view}
-use Rattle.ssa_path.proofs.Orders.{same_element-itself}
 use Rattle.ssa_typed.specs.Rows.{below, own_content, is_tree}
 use Rattle.ssa_typed.specs.declared.node.Node.{Node}
 use Rattle.ssa_typed.specs.Nodes.{node_on}
@@ -21,9 +20,11 @@ use Rattle.ssa_turn_body.specs.declared.steps.Step.{Step}
 use Rattle.ssa_turn_body.proofs.Again.{kids_from, kids-told, marks-on, marks-place, same-on, SameIn}
 use Rattle.ssa_turn_body.proofs.Marking.{marks-level}
 use Rattle.ssa_turn_body.proofs.Returning.{leads-tree}
+use Rattle.ssa_model.proofs.Tables.{element-itself as same_element-itself}
 
 -- ---- nothing to do
 
+-- where both tell the same, no changes lead from the one to the other
 pub led-same : (p : Path) (M N : Marks) → ((q : Path) → M q ≡ N q) → IsLed p M N []
 led-same p M N same = record { fit = λ v tree is. tt; lead = λ v tree is ts w l. none v is ts w l }
   where
@@ -37,14 +38,22 @@ fit-both : (xs ys : List Step) (v : Node) → StepsFit xs v → ((zs : List Step
 fit-both [] ys v h f = f [] v refl
 fit-both (x ∷ xs) ys v h f = (h.0, λ t w l. fit-both xs ys w (h.1 t w l) (λ zs z m. f (t ∷ zs) z (w, l, m)))
 
+-- changes made of two lists, one after the other, in parts
 pub record IsParted (xs ys : List Step) (v : Node) (us : List Step) (w : Node) : Type 0 where
+  -- what the first of them become
   pub front : List Step
+  -- what the second of them become
   pub back : List Step
+  -- the tree between them
   pub middle : Node
+  -- the two make all that they become
   pub whole : us ≡ front ++ back
+  -- the first lead to the tree between
   pub first : StepsLead xs v front middle
+  -- the second lead on from there
   pub second : StepsLead ys middle back w
 
+-- changes of two lists, made one after the other, part at a tree between
 pub lead-both : (xs ys : List Step) (v : Node) (us : List Step) (w : Node) → StepsLead (xs ++ ys) v us w → IsParted xs ys v us w
 lead-both [] ys v us w l = record { front = []; back = us; middle = v; whole = refl; first = refl; second = l }
 lead-both (x ∷ xs) ys v [] w l = absurd l
@@ -59,6 +68,7 @@ lead-both (x ∷ xs) ys v (u ∷ us) w l =
       second = rest.second;
     }
 
+-- changes that lead to something, and others that lead on from there, lead there together
 pub led-then : (p : Path) (M N O : Marks) (xs ys : List Step) → IsLed p M N xs → IsLed p N O ys → IsLed p M O (xs ++ ys)
 led-then p M N O xs ys g h = record {
   fit = λ v tree is. fit-both xs ys v (g.fit v tree is) (λ zs w l. h.fit w (leads-tree xs v zs w tree l) (g.lead v tree is zs w l).there);
@@ -71,10 +81,12 @@ led-then p M N O xs ys g h = record {
 
 -- ---- in a child
 
+-- behind a common beginning a path is under another as without it
 pub under-further : (p g q : Path) → under (p ++ g) (p ++ q) ≡ under g q
 under-further [] g q = refl
 under-further (e ∷ p) g q = ap (λ b. b && under (p ++ g) (p ++ q)) (same_element-itself e) ∙ under-further p g q
 
+-- a path that is not under the beginning is not under what goes on from it
 pub under-longer : (p g q : Path) → under p q ≡ false → under (p ++ g) q ≡ false
 under-longer [] g q h = absurd (true≢false h)
 under-longer (e ∷ p) g [] h = refl
@@ -84,11 +96,14 @@ under-longer (e ∷ p) g (f ∷ q) h =
       | false ↦ λ k. refl
     ] h
 
+-- what a tree tells below the element is what its child tells
 pub below-is : (p : Path) (e : Element) (M N : Marks) → ((q : Path) → M (e ∷ q) ≡ N q) → (v : Node) → ((q : Path) → marks v (p ++ q) ≡ M q) → (q : Path)
     → marks v ((p ++ e ∷ []) ++ q) ≡ N q
 below-is p e M N own v is q = ap (marks v) (append_assoc p (e ∷ []) q) ∙ is (e ∷ q) ∙ own q
 
-pub led-child : (p : Path) (e : Element) (M M2 N N2 : Marks) (ss : List Step) → ((q : Path) → M (e ∷ q) ≡ N q) → ((q : Path) → M2 (e ∷ q) ≡ N2 q) → ((q : Path) → under (e ∷ []) q ≡ false → M2 q ≡ M q)
+-- changes that lead a child to something else lead its parent there, where only this child differs
+pub led-child : (p : Path) (e : Element) (M M2 N N2 : Marks) (ss : List Step) → ((q : Path) → M (e ∷ q) ≡ N q) → ((q : Path) → M2 (e ∷ q) ≡ N2 q)
+    → ((q : Path) → under (e ∷ []) q ≡ false → M2 q ≡ M q)
     → IsLed (p ++ e ∷ []) N N2 ss → IsLed p M M2 ss
 led-child p e M M2 N N2 ss own own2 others h = record {
   fit = λ v tree is. h.fit v tree (below-is p e M N own v is);
@@ -100,7 +115,8 @@ led-child p e M M2 N N2 ss own own2 others h = record {
       };
 }
   where
-    at : (v w : Node) → ((q : Path) → marks v (p ++ q) ≡ M q) → IsLeft (p ++ e ∷ []) N2 v w → (q : Path) (b : Bool) → under (e ∷ []) q ≡ b → marks w (p ++ q) ≡ M2 q
+    at : (v w : Node) → ((q : Path) → marks v (p ++ q) ≡ M q) → IsLeft (p ++ e ∷ []) N2 v w → (q : Path) (b : Bool) → under (e ∷ []) q ≡ b
+        → marks w (p ++ q) ≡ M2 q
     at v w is left q true u =
         let rest = under-rest (e ∷ []) q u in
         ap (λ r. marks w (p ++ r)) rest.1 ∙ sym (ap (marks w) (append_assoc p (e ∷ []) rest.0)) ∙ left.there rest.0 ∙ sym (own2 rest.0) ∙ sym (ap M2 rest.1)
@@ -117,7 +133,8 @@ record IsPlaced (p : Path) (r : Node) (x : Place) : Type 0 where
   is : node_on p r ≡ Some node
   same : seen node ≡ x
 
-placed : (p : Path) (r : Node) (M : Marks) (c : Content) (es : List Element) → is_tree r ≡ true → ((q : Path) → marks r (p ++ q) ≡ M q) → M [] ≡ Some (c, es) → IsPlaced p r (place_of M c es)
+placed : (p : Path) (r : Node) (M : Marks) (c : Content) (es : List Element) → is_tree r ≡ true → ((q : Path) → marks r (p ++ q) ≡ M q) → M [] ≡ Some (c, es)
+    → IsPlaced p r (place_of M c es)
 placed p r M c es tree is root = on (node_on p r) refl (same-on p r r tree tree (λ q. refl))
   where
     on : (o : Option Node) → node_on p r ≡ o → SameIn o o → IsPlaced p r (place_of M c es)
@@ -131,8 +148,10 @@ placed p r M c es tree is root = on (node_on p r) refl (same-on p r r tree tree 
           same = λ i. (ap (λ (x : Mark). x.0) mark i, (kids-told n s.0 ∙ (λ j. kids_from (λ f q. told (f ∷ q) j) (ap (λ (x : Mark). x.1) mark j))) i);
         }
 
+-- one change leads from what its place tells to what all that it gives tells
 pub led-own : (s : Step) (M N : Marks) (c : Content) (es : List Element) → M [] ≡ Some (c, es) → ChangeFits s.change (place_of M c es)
-    → ((t : PlaceChange) (y : Place) → ChangeGives s.change (place_of M c es) t y → (q : Path) → from_place y q ≡ N q) → IsLed (path_view s.path.items) M N (s ∷ [])
+    → ((t : PlaceChange) (y : Place) → ChangeGives s.change (place_of M c es) t y → (q : Path) → from_place y q ≡ N q)
+    → IsLed (path_view s.path.items) M N (s ∷ [])
 led-own s M N c es root fits gives = record {
   fit = λ v tree is.
       let at = placed p v M c es tree is root in
@@ -143,19 +162,22 @@ led-own s M N c es root fits gives = record {
     p : Path
     p = path_view s.path.items
 
-    given : (a b : Option Node) (n : Node) (t : PlaceChange) → a ≡ Some n → seen n ≡ place_of M c es → GivesIn (λ n m. ChangeGives s.change (seen n) t (seen m)) a b → (q : Path) → marks_in (option_map marks b) q ≡ N q
+    given : (a b : Option Node) (n : Node) (t : PlaceChange) → a ≡ Some n → seen n ≡ place_of M c es
+        → GivesIn (λ n m. ChangeGives s.change (seen n) t (seen m)) a b → (q : Path) → marks_in (option_map marks b) q ≡ N q
     given a None n t e same g q = absurd (subst (λ o. GivesIn (λ n m. ChangeGives s.change (seen n) t (seen m)) o None) e g)
     given a (Some m) n t e same g q =
         let h : ChangeGives s.change (seen n) t (seen m) = subst (λ o. GivesIn (λ n m. ChangeGives s.change (seen n) t (seen m)) o (Some m)) e g in
         marks-place m q ∙ gives t (seen m) (subst (λ x. ChangeGives s.change x t (seen m)) same h) q
 
-    one : (v : Node) → IsPlaced (path_view s.path.items) v (place_of M c es) → (ts : List Step) (w : Node) → StepsLead (s ∷ []) v ts w → IsLeft (path_view s.path.items) N v w
+    one : (v : Node) → IsPlaced (path_view s.path.items) v (place_of M c es) → (ts : List Step) (w : Node) → StepsLead (s ∷ []) v ts w
+        → IsLeft (path_view s.path.items) N v w
     one v at [] w l = absurd l
     one v at (t ∷ u ∷ ts) w l = absurd l.2
     one v at (t ∷ []) w l =
         let step : StepLeads s v t w = subst (λ x. StepLeads s v t x) (sym l.2) l.1 in
         record {
-          there = λ q. marks-on (path_view s.path.items) w q ∙ given (node_on (path_view s.path.items) v) (node_on (path_view s.path.items) w) at.node t.change at.is at.same step.change.inside q;
+          there = λ q. marks-on (path_view s.path.items) w q
+              ∙ given (node_on (path_view s.path.items) v) (node_on (path_view s.path.items) w) at.node t.change at.is at.same step.change.inside q;
           others = step.change.outside;
         }
 

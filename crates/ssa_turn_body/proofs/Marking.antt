@@ -20,7 +20,8 @@ told c cs (e ∷ p) = marks_in (option_map marks (child_at e cs)) p
 child_at-map : (e : Element) (cs : List Child) → child_at e (map (λ c. (c.0, marks c.1)) cs) ≡ option_map marks (child_at e cs)
 child_at-map e [] = refl
 child_at-map e (c ∷ cs) =
-    elim (same_element e (element_view c.0)) as (λ b. cond b (Some (marks c.1)) (child_at e (map (λ c. (c.0, marks c.1)) cs)) ≡ option_map marks (cond b (Some c.1) (child_at e cs))) [
+    elim (same_element e (element_view c.0)) as (λ b. cond b (Some (marks c.1)) (child_at e (map (λ c. (c.0, marks c.1)) cs))
+    ≡ option_map marks (cond b (Some c.1) (child_at e cs))) [
       | true ↦ refl
       | false ↦ child_at-map e cs
     ]
@@ -35,9 +36,11 @@ told-step (Node-F.Dict v) (e ∷ p) = ap (λ o. marks_in o p) (child_at-map e v.
 told-step (Node-F.List v) [] = ap (λ es. Some (list_branch es, es)) (elements-map marks v.items)
 told-step (Node-F.List v) (e ∷ p) = ap (λ o. marks_in o p) (child_at-map e v.items)
 
+-- a tree tells what its content and its children tell
 pub marks-level : (n : Node) (p : Path) → marks n p ≡ told (own_content n) (below n) p
 marks-level n p = ap (λ (f : Marks). f p) (fold_out-Node Marks marks_step n) ∙ told-step (out-Node n) p
 
+-- children as they are seen have their elements
 pub names-kids : (cs : List Child) → names (kids cs) ≡ elements cs
 names-kids [] = refl
 names-kids (c ∷ cs) = ap (λ es. element_view c.0 ∷ es) (names-kids cs)

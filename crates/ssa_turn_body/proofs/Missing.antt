@@ -7,6 +7,7 @@ use Rattle.ssa_path.specs.Children.{elements}
 use Rattle.ssa_path.specs.View.{element_view}
 use Rattle.ssa_turn_body.specs.Found.{nones, fresh}
 use Rattle.ssa_turn_body.specs.Marks.{Child}
+use Rattle.ssa_typed.proofs.Building.{elements-push}
 
 abbrev Found : Type 0
 Found = List (Option ℕ)
@@ -35,13 +36,10 @@ fresh-push-some (f ∷ fs) [] e j l = absurd (omega (arith, l))
 fresh-push-some (None ∷ fs) (x ∷ es) e j l = ap (λ xs. x ∷ xs) (fresh-push-some fs es e j (omega (arith, l)))
 fresh-push-some (Some i ∷ fs) (x ∷ es) e j l = fresh-push-some fs es e j (omega (arith, l))
 
+-- there are as many elements as children
 pub length-elements : (cs : List Child) → length (elements cs) ≡ length cs
 length-elements [] = refl
 length-elements (c ∷ cs) = ap suc (length-elements cs)
-
-pub elements-push : (cs : List Child) (c : Child) → elements (cs ++ c ∷ []) ≡ elements cs ++ element_view c.0 ∷ []
-elements-push [] c = refl
-elements-push (d ∷ cs) c = ap (λ es. element_view d.0 ∷ es) (elements-push cs c)
 
 module _ (fs : Found) (cs : List Child) (i : ℕ) (c : Child) (lt : i < length fs) (long : length fs ≡ length cs) (is : c ≡ get_or cs i c) where
   heads-long : length (elements (take i cs)) ≡ length (take i fs)
@@ -50,6 +48,7 @@ module _ (fs : Found) (cs : List Child) (i : ℕ) (c : Child) (lt : i < length f
   elements-more : elements (take (i + 1) cs) ≡ elements (take i cs) ++ element_view c.0 ∷ []
   elements-more = ap elements (take_more cs i c (omega arith) ∙ ap (λ x. take i cs ++ x ∷ []) (sym is)) ∙ elements-push (take i cs) c
 
+  -- a child whose place is not told adds its number
   pub missing-place : is_some (get_or fs i None) ≡ false → nones 0 (take (i + 1) fs) ≡ nones 0 (take i fs) ++ i ∷ []
   missing-place none =
       let long_take = length-take-le i fs (omega arith) in
@@ -59,20 +58,26 @@ module _ (fs : Found) (cs : List Child) (i : ℕ) (c : Child) (lt : i < length f
       by None e l = nones-push-none (take i fs) 0 i l
       by (Some k) e l = absurd (true≢false e)
 
-  pub missing-element : is_some (get_or fs i None) ≡ false → fresh (take (i + 1) fs) (elements (take (i + 1) cs)) ≡ fresh (take i fs) (elements (take i cs)) ++ element_view c.0 ∷ []
+  -- a child whose place is not told adds its element
+  pub missing-element : is_some (get_or fs i None) ≡ false → fresh (take (i + 1) fs) (elements (take (i + 1) cs)) ≡ fresh (take i fs) (elements (take i cs))
+      ++ element_view c.0 ∷ []
   missing-element none = (λ t. fresh (take_more fs i None lt t) (elements-more t)) ∙ by (get_or fs i None) none
     where
-      by : (f : Option ℕ) → is_some f ≡ false → fresh (take i fs ++ f ∷ []) (elements (take i cs) ++ element_view c.0 ∷ []) ≡ fresh (take i fs) (elements (take i cs)) ++ element_view c.0 ∷ []
+      by : (f : Option ℕ) → is_some f ≡ false → fresh (take i fs ++ f ∷ []) (elements (take i cs) ++ element_view c.0 ∷ [])
+          ≡ fresh (take i fs) (elements (take i cs)) ++ element_view c.0 ∷ []
       by None e = fresh-push-none (take i fs) (elements (take i cs)) (element_view c.0) heads-long
       by (Some k) e = absurd (true≢false e)
 
+  -- a child whose place is told adds no element
   pub present-element : is_some (get_or fs i None) ≡ true → fresh (take (i + 1) fs) (elements (take (i + 1) cs)) ≡ fresh (take i fs) (elements (take i cs))
   present-element some = (λ t. fresh (take_more fs i None lt t) (elements-more t)) ∙ by (get_or fs i None) some
     where
-      by : (f : Option ℕ) → is_some f ≡ true → fresh (take i fs ++ f ∷ []) (elements (take i cs) ++ element_view c.0 ∷ []) ≡ fresh (take i fs) (elements (take i cs))
+      by : (f : Option ℕ) → is_some f ≡ true → fresh (take i fs ++ f ∷ []) (elements (take i cs) ++ element_view c.0 ∷ [])
+          ≡ fresh (take i fs) (elements (take i cs))
       by None e = absurd (true≢false (sym e))
       by (Some k) e = fresh-push-some (take i fs) (elements (take i cs)) (element_view c.0) k heads-long
 
+-- a child whose place is told adds no number
 pub present-place : (fs : Found) (i : ℕ) → i < length fs → is_some (get_or fs i None) ≡ true → nones 0 (take (i + 1) fs) ≡ nones 0 (take i fs)
 present-place fs i lt some = ap (nones 0) (take_more fs i None lt) ∙ by (get_or fs i None) some
   where
@@ -91,6 +96,7 @@ get-again [] i d e lt = absurd (omega arith)
 get-again (c ∷ cs) zero d e lt = refl
 get-again (c ∷ cs) (suc i) d e lt = get-again cs i d e (omega arith)
 
+-- a place that is told is read where it stands
 pub as-some : (fs : Found) (i k : ℕ) → i < length fs → get_or fs i None ≡ Some k → Some k ≡ get_or fs i (Some k)
 as-some [] i k lt e = absurd (omega arith)
 as-some (f ∷ fs) zero k lt e = sym e

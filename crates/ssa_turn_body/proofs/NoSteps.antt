@@ -25,6 +25,7 @@ use Rattle.ssa_turn_body.proofs.Saying.{between-itself}
 alike-itself : (b : Body) → AreAlike b b
 alike-itself b p c e is_c is_e = ap class_of (same_Some c e (sym is_c ∙ is_e))
 
+-- no steps say the record of a body and itself
 pub none-told : (s : BodySteps) (b : Body) → s.steps.items ≡ [] → body_told s ≡ body_record b b
 none-told s b none = told-bodies s b b (alike-itself b) (λ q. ap (λ ss. says ss q) none ∙ sym (between-itself (get b) q))
 
@@ -49,6 +50,7 @@ none-turned s t b c none turned =
       leads = sym (ap (λ d. carry_body d b) (none-told s b none) ∙ stays);
     })
 
+-- no steps serve each turn of a body
 pub none-room : (s : BodySteps) (b : Body) → s.steps.items ≡ [] → HasBodyRoom s b
 none-room s b none = record {
   fits = λ n tree is. none-fit s.steps.items n none;

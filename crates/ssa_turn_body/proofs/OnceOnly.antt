@@ -35,6 +35,7 @@ pub changes-append : (q : Path) (xs ys : List Step) → changes_at q (xs ++ ys) 
 changes-append q [] ys = omega arith
 changes-append q (x ∷ xs) ys = let rest = changes-append q xs ys in omega arith
 
+-- in the other order there are as many changes at a path
 pub changes-reverse : (q : Path) (xs : List Step) → changes_at q (reverse xs) ≡ changes_at q xs
 changes-reverse q [] = refl
 changes-reverse q (x ∷ xs) =
@@ -122,6 +123,7 @@ once-all p old new none h = record {
   names = h.names (subst AllNameOnce (sym none) tt);
 }
 
+-- no changes say nothing twice
 pub once-none : (ss : List Step) → ss ≡ [] → AreOnce ss
 once-none ss none = subst AreOnce (sym none) (record { places = λ q. omega arith; names = tt })
 
@@ -203,6 +205,7 @@ names-copied [] (c ∷ cs) z once = absurd z
 names-copied (s ∷ ss) [] z once = absurd z
 names-copied (s ∷ ss) (c ∷ cs) z once = (change-names-copied s.change c.change z.0.change once.0, names-copied ss cs z.1 once.1)
 
+-- copies of changes that say nothing twice say nothing twice
 pub once-copied : (ss cs : List Step) → AllZip StepIsCopied ss cs → AreOnce ss → AreOnce cs
 once-copied ss cs z once = record {
   places = λ q. let same = changes-copied q ss cs z in let more = once.places q in omega arith;

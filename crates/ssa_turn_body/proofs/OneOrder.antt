@@ -9,9 +9,8 @@ use Rattle.ssa_model.specs.definitions.Record.{are_in_one_order, common}
 use Rattle.ssa_model.proofs.Tests.{pointwise-true, same_tests}
 use Rattle.ssa_path.specs.Children.{elements}
 use Rattle.ssa_path.specs.View.{element_view}
-use Rattle.ssa_path.proofs.Orders.{same_element-true, same_element-itself, both_first, both_second}
+use Rattle.ssa_path.proofs.Orders.{both_first, both_second}
 use Rattle.ssa_typed.specs.Rows.{are_apart}
-use Rattle.ssa_typed.proofs.Laws.{not_true}
 use Rattle.ssa_turn_body.specs.Found.{AreBelow, AreFound, AreLed, IsTurnedRound, filled, kept, somes}
 use Rattle.ssa_turn_body.specs.Marks.{Child}
 use Rattle.ssa_turn_body.specs.Orders.{is_none, reordered}
@@ -20,6 +19,9 @@ use Rattle.ssa_turn_body.proofs.Knowing.{kept-known, known-back, known-found}
 use Rattle.ssa_turn_body.proofs.Matching.{found-below, kept-filled, kept-led}
 use Rattle.ssa_turn_body.proofs.Missing.{length-elements}
 use Rattle.ssa_turn_body.proofs.Saying.{elements-themselves}
+use Rattle.ssa_model.proofs.Tables.{element-itself as same_element-itself}
+use Rattle.ssa_model.proofs.Fitting.{same_element-true}
+use Rattle.ssa_model.proofs.Basics.{not_true}
 
 abbrev Found : Type 0
 Found = List (Option ℕ)
@@ -122,6 +124,7 @@ module _ (cs ds : List Child) (fs back : Found) (before : List (ℕ × ℕ)) (ap
       injective : (i j : ℕ) → i < length (elements cs) → j < length (elements cs) → at i ≡ at j → i ≡ j
       injective i j il jl is = one-place (elements cs) i j il jl apart is
 
+  -- nothing is exchanged just where the common children stand in one order
   pub one-order : is_none before ≡ are_in_one_order (elements cs) (elements ds)
   one-order =
       same_tests (is_none before) (are_in_one_order (elements cs) (elements ds))

@@ -19,15 +19,19 @@ module _ {X : Type 0} where
   some-of [] i lt = absurd (omega arith)
   some-of (x ∷ xs) i lt = x
 
+  -- exchanges keep a list's length
   pub length-reordered : (xs : List X) (ps : List (ℕ × ℕ)) → length (reordered xs ps) ≡ length xs
   length-reordered xs [] = refl
   length-reordered xs (p ∷ ps) = length-reordered (swap xs p.0 p.1) ps ∙ length-swap xs p.0 p.1
 
+  -- one exchange more is made last
   pub reordered-push : (xs : List X) (ps : List (ℕ × ℕ)) (p : ℕ × ℕ) → reordered xs (ps ++ p ∷ []) ≡ swap (reordered xs ps) p.0 p.1
   reordered-push xs [] p = refl
   reordered-push xs (q ∷ ps) p = reordered-push (swap xs q.0 q.1) ps p
 
-  pub get-swap : (xs : List X) (i j k : ℕ) (d : X) → i < length xs → j < length xs → get_or (swap xs i j) k d ≡ cond (eqb k j) (get_or xs i d) (cond (eqb k i) (get_or xs j d) (get_or xs k d))
+  -- after an exchange either place has the other's element, and the others have their own
+  pub get-swap : (xs : List X) (i j k : ℕ) (d : X) → i < length xs → j < length xs
+      → get_or (swap xs i j) k d ≡ cond (eqb k j) (get_or xs i d) (cond (eqb k i) (get_or xs j d) (get_or xs k d))
   get-swap xs i j k d il jl =
       let a = get_or xs i d in
       let b = get_or xs j d in
@@ -42,6 +46,7 @@ module _ {X : Type 0} where
             | false ↦ λ t. get_or-set_other ys j k a d (λ e. true≢false (sym (ap (λ n. eqb n j) e ∙ same_number j) ∙ t))
           ] refl
 
+  -- an exchange made twice leaves the list as it was
   pub swap-twice : (xs : List X) (i j : ℕ) → i < length xs → j < length xs → swap (swap xs i j) i j ≡ xs
   swap-twice xs i j il jl =
       let d = some-of xs i il in
@@ -55,12 +60,14 @@ module _ {X : Type 0} where
       ∙ back (eqb k j) (eqb k i) (eqb i j) (eqb i i) (eqb j j) (get_or xs i d) (get_or xs j d) (get_or xs k d) (same_number i) (same_number j)
       (λ t. ap (λ n. get_or xs n d) (eqb-true k j t)) (λ t. ap (λ n. get_or xs n d) (eqb-true k i t)) (λ t. ap (λ n. get_or xs n d) (eqb-true i j t)))
     where
-      back : (kj ki ij ii jj : Bool) (a b c : X) → ii ≡ true → jj ≡ true → (kj ≡ true → c ≡ b) → (ki ≡ true → c ≡ a) → (ij ≡ true → a ≡ b) → cond kj (cond ij a (cond ii b a)) (cond ki (cond jj a (cond (eqb j i) b b)) (cond kj a (cond ki b c))) ≡ c
+      back : (kj ki ij ii jj : Bool) (a b c : X) → ii ≡ true → jj ≡ true → (kj ≡ true → c ≡ b) → (ki ≡ true → c ≡ a) → (ij ≡ true → a ≡ b)
+          → cond kj (cond ij a (cond ii b a)) (cond ki (cond jj a (cond (eqb j i) b b)) (cond kj a (cond ki b c))) ≡ c
       back true ki true ii jj a b c e f h g l = l refl ∙ sym (h refl)
       back true ki false ii jj a b c e f h g l = ap (λ x. cond x b a) e ∙ sym (h refl)
       back false true ij ii jj a b c e f h g l = ap (λ x. cond x a (cond (eqb j i) b b)) f ∙ sym (g refl)
       back false false ij ii jj a b c e f h g l = refl
 
+  -- exchanges made again in the other order leave the list as it was
   pub there-and-back : (xs : List X) (ps : List (ℕ × ℕ)) → SwapsInRange (length xs) ps → reordered (reordered xs ps) (reverse ps) ≡ xs
   there-and-back xs [] h = refl
   there-and-back xs (p ∷ ps) h =
@@ -73,14 +80,18 @@ module _ {X : Type 0} where
 
 -- ---- places in range
 
+-- two lists of exchanges within range are so together
 pub range-append : (n : ℕ) (ps qs : List (ℕ × ℕ)) → SwapsInRange n ps → SwapsInRange n qs → SwapsInRange n (ps ++ qs)
 range-append n [] qs h g = g
 range-append n (p ∷ ps) qs h g = (h.0, h.1, range-append n ps qs h.2 g)
 
+-- exchanges within range are so in the other order
 pub range-reverse : (n : ℕ) (ps : List (ℕ × ℕ)) → SwapsInRange n ps → SwapsInRange n (reverse ps)
 range-reverse n [] h = tt
-range-reverse n (p ∷ ps) h = subst (SwapsInRange n) (sym (reverse-append (p ∷ []) ps)) (range-append n (reverse ps) (p ∷ []) (range-reverse n ps h.2) (h.0, h.1, tt))
+range-reverse n (p ∷ ps) h = subst (SwapsInRange n) (sym (reverse-append (p ∷ []) ps))
+    (range-append n (reverse ps) (p ∷ []) (range-reverse n ps h.2) (h.0, h.1, tt))
 
+-- each of some exchanges within range has both its places there
 pub range-at : (n : ℕ) (ps : List (ℕ × ℕ)) (i : ℕ) (d : ℕ × ℕ) → i < length ps → SwapsInRange n ps → ((get_or ps i d).0 < n) × ((get_or ps i d).1 < n)
 range-at n [] i d lt h = absurd (omega arith)
 range-at n (p ∷ ps) zero d lt h = (h.0, h.1)
@@ -95,6 +106,7 @@ map-swap f (d ∷ xs) i j =
     ∙ ap (λ ys. set ys j (f (get_or (d ∷ xs) i d))) (map-set f (d ∷ xs) i (get_or (d ∷ xs) j d))
     ∙ (λ t. set (set (map f (d ∷ xs)) i (sym (get_or-map f (d ∷ xs) j d) t)) j (sym (get_or-map f (d ∷ xs) i d) t))
 
+-- what a function shows of a list is exchanged as the list is
 pub map-reordered : {X Y : Type 0} (f : X → Y) (xs : List X) (ps : List (ℕ × ℕ)) → map f (reordered xs ps) ≡ reordered (map f xs) ps
 map-reordered f xs [] = refl
 map-reordered f xs (p ∷ ps) = map-reordered f (swap xs p.0 p.1) ps ∙ ap (λ ys. reordered ys ps) (map-swap f xs p.0 p.1)
@@ -113,12 +125,16 @@ trees-swap (d ∷ cs) i j h =
     trees-set (set (d ∷ cs) i (get_or (d ∷ cs) j d)) j (get_or (d ∷ cs) i d)
     (trees-set (d ∷ cs) i (get_or (d ∷ cs) j d) h (tree-or (d ∷ cs) j d h first)) (tree-or (d ∷ cs) i d h first)
 
+-- trees stay trees when they are exchanged
 pub trees-reordered : (cs : List Child) (ps : List (ℕ × ℕ)) → are_trees cs ≡ true → are_trees (reordered cs ps) ≡ true
 trees-reordered cs [] t = t
 trees-reordered cs (p ∷ ps) t = trees-reordered (swap cs p.0 p.1) ps (trees-swap cs p.0 p.1 t)
 
 -- ---- the loop
 
-pub reorder-step : {X : Type 0} (xs ys zs : List X) (ps : List (ℕ × ℕ)) (i : ℕ) (d : ℕ × ℕ) → i < length ps → ys ≡ reordered xs (take i ps) → zs ≡ swap ys (get_or ps i d).0 (get_or ps i d).1 → zs ≡ reordered xs (take (i + 1) ps)
+-- with one exchange more made, the first ones and this one are made
+pub reorder-step : {X : Type 0} (xs ys zs : List X) (ps : List (ℕ × ℕ)) (i : ℕ) (d : ℕ × ℕ) → i < length ps → ys ≡ reordered xs (take i ps)
+    → zs ≡ swap ys (get_or ps i d).0 (get_or ps i d).1 → zs ≡ reordered xs (take (i + 1) ps)
 reorder-step xs ys zs ps i d lt h e =
-    e ∙ ap (λ y. swap y (get_or ps i d).0 (get_or ps i d).1) h ∙ sym (reordered-push xs (take i ps) (get_or ps i d)) ∙ sym (ap (reordered xs) (take_more ps i d lt))
+    e ∙ ap (λ y. swap y (get_or ps i d).0 (get_or ps i d).1) h ∙ sym (reordered-push xs (take i ps) (get_or ps i d))
+    ∙ sym (ap (reordered xs) (take_more ps i d lt))

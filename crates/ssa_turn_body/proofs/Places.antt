@@ -11,12 +11,19 @@ use Rattle.ssa_typed.proofs.Levels.{Children, own-Branch, own-Dict, own-List, tr
 
 -- a kind of place: its content and what its invariant asks, both told by the elements of its children
 pub record IsKind (kind : Children → Node) : Type 0 where
+  -- the content of such a place, by its children's elements
   pub content : List Element → Content
+  -- whether children of these elements may stand there
   pub stands : List Element → Bool
+  -- the place has this content
   pub own : (v : Children) → own_content (kind v) ≡ content (elements v.items)
+  -- the place is a tree where its children may stand there and are trees
   pub tree : (v : Children) → is_tree (kind v) ≡ (stands (elements v.items) && are_trees v.items)
+  -- its children are those that it was made of
   pub children : (v : Children) → below (kind v) ≡ v.items
+  -- its content with other children is its own with their order
   pub ordered : (v w : Children) → own_content (kind w) ≡ with_order (own_content (kind v)) (elements w.items)
+  -- what may stand at its content is what may stand at such a place
   pub asked : (v : Children) (es : List Element) → may_stand (own_content (kind v)) es ≡ stands es
 
 asked-Branch : (v : Children) (es : List Element) → may_stand (own_content (Branch v)) es ≡ (rises es && are_fields es)
@@ -37,11 +44,38 @@ ordered-Dict v w = own-Dict w ∙ sym (ap (λ c. with_order c (elements w.items)
 ordered-List : (v w : Children) → own_content (ListOf w) ≡ with_order (own_content (ListOf v)) (elements w.items)
 ordered-List v w = own-List w ∙ sym (ap (λ c. with_order c (elements w.items)) (own-List v))
 
+-- records are such a kind
 pub kind-Branch : IsKind (λ v. Branch v)
-kind-Branch = record { content = λ es. record_branch; stands = λ es. rises es && are_fields es; own = own-Branch; tree = tree-Branch; children = below-Branch; ordered = ordered-Branch; asked = asked-Branch }
+kind-Branch = record {
+  content = λ es. record_branch;
+  stands = λ es. rises es && are_fields es;
+  own = own-Branch;
+  tree = tree-Branch;
+  children = below-Branch;
+  ordered = ordered-Branch;
+  asked = asked-Branch;
+}
 
+-- maps are such a kind
 pub kind-Dict : IsKind (λ v. Dict v)
-kind-Dict = record { content = λ es. dict_branch; stands = λ es. rises es && are_fields es; own = own-Dict; tree = tree-Dict; children = below-Dict; ordered = ordered-Dict; asked = asked-Dict }
+kind-Dict = record {
+  content = λ es. dict_branch;
+  stands = λ es. rises es && are_fields es;
+  own = own-Dict;
+  tree = tree-Dict;
+  children = below-Dict;
+  ordered = ordered-Dict;
+  asked = asked-Dict;
+}
 
+-- lists are such a kind
 pub kind-List : IsKind (λ v. ListOf v)
-kind-List = record { content = list_branch; stands = λ es. are_apart es && are_items es; own = own-List; tree = tree-List; children = below-List; ordered = ordered-List; asked = asked-List }
+kind-List = record {
+  content = list_branch;
+  stands = λ es. are_apart es && are_items es;
+  own = own-List;
+  tree = tree-List;
+  children = below-List;
+  ordered = ordered-List;
+  asked = asked-List;
+}

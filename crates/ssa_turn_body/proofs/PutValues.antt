@@ -39,6 +39,7 @@ paths-items : {X : Type 0} (es : List (Path × X)) → items_json path_alone es 
 paths-items [] = refl
 paths-items (e ∷ es) = ap (item (path_json e.0)) (paths-items es)
 
+-- entries written by their paths alone are written as the list of the paths
 pub paths-listed : {X : Type 0} (es : List (Path × X)) → list_json path_alone es ≡ list_json path_json (map (λ e. e.0) es)
 paths-listed es = ap list (paths-items es)
 

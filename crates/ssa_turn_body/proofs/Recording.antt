@@ -33,6 +33,7 @@ use Rattle.ssa_turn_body.proofs.Returning.{leads-tree}
 use Rattle.ssa_turn_body.proofs.Writables.{both-writable}
 use Rattle.ssa_turn_body.specs.Writable.{IsWritable}
 use Rattle.ssa_turn_body.proofs.Saying.{Joins, root-said, said_in, says-inside, says-outside, told-child, told-none, told-then}
+use Rattle.ssa_model.proofs.Basics.{not_false as not_not}
 
 -- ---- nothing to do
 
@@ -46,6 +47,7 @@ saying-same p M N same = record {
     none v [] w l = subst (λ (n : Marks). AreTold p (contents n) (contents M) []) (λ i q. same q i) (told-none p (contents M))
     none v (t ∷ ts) w l = absurd l
 
+-- where both tell the same, no change more leads from the one to the other
 pub leading-same : (p : Path) (M N : Marks) (xs ys : List Step) → ys ≡ xs → ((q : Path) → M q ≡ N q) → AreLeading p M N xs ys
 leading-same p M N xs ys e same = record {
   made = [];
@@ -71,6 +73,7 @@ saying-then p M N O xs ys led g h joins = record {
       (λ q. (joins q).back));
 }
 
+-- changes that lead to something, and others that lead on from there, lead there together
 pub leading-then : (p : Path) (M N O : Marks) (xs ys zs : List Step) → ((q : Path) → Joins (contents M) (contents N) (contents O) q) → AreLeading p M N xs ys
     → AreLeading p N O ys zs → ((q : Path) → changes_at q zs ≤ changes_at q xs + 1) → AreLeading p M O xs zs
 leading-then p M N O xs ys zs joins g h places = record {
@@ -84,6 +87,7 @@ leading-then p M N O xs ys zs joins g h places = record {
 
 -- ---- in a child
 
+-- changes that say what is other in a child say what is other at its parent, where only this child differs
 pub saying-child : (p : Path) (e : Element) (M M2 N N2 : Marks) (ss : List Step) → ((q : Path) → M (e ∷ q) ≡ N q) → ((q : Path) → M2 (e ∷ q) ≡ N2 q)
     → ((q : Path) → under (e ∷ []) q ≡ false → M2 q ≡ M q)
     → is_some (contents N []) ≡ true → is_some (contents N2 []) ≡ true → AreSaying (p ++ e ∷ []) N N2 ss → AreSaying p M M2 ss
@@ -137,6 +141,7 @@ leaf-step-back s t own to y is path other given = by t.change refl (subst (λ x.
         (leaf-step-told t to u e (ap (is_swapped (leaf_content to)) (sym g.taken) ∙ other)))
     by (ChildrenChange u) e g = absurd g
 
+-- a change of a leaf that differs leads from the one leaf to the other, and says so
 pub leading-leaf : (p : Path) (own to : Leaf) (old new : List Step) → is_swapped (leaf_content own) (leaf_content to) ≡ true
     → is_swapped (leaf_content to) (leaf_content own) ≡ true → MayAdd false p (LeafChange (record { leaf = to })) old new
     → AreLeading p (from_place (leaf_content own, [])) (from_place (leaf_content to, [])) old new
@@ -165,16 +170,14 @@ leading-leaf p own to old new other other_back h = record {
 
 -- ---- whether leaves differ
 
-not_not : (b : Bool) → not b ≡ false → b ≡ true
-not_not true h = refl
-not_not false h = absurd (true≢false h)
-
+-- leaves that are not told to differ have one content
 pub leaves-same : (l m : Leaf) → is_swapped (leaf_content l) (leaf_content m) ≡ false → leaf_content l ≡ leaf_content m
 leaves-same (Scalar s) (Scalar t) h = ap leaf (same_scalar-true (scalar_view s) (scalar_view t) (not_not _ h))
 leaves-same (Scalar s) (Atomic v) h = absurd (true≢false h)
 leaves-same (Atomic v) (Scalar t) h = absurd (true≢false h)
 leaves-same (Atomic v) (Atomic w) h = ap atom (same_json-true (view v) (view w) (not_not _ h))
 
+-- two leaves differ the same either way round
 pub swapped-back : (l m : Leaf) → is_swapped (leaf_content m) (leaf_content l) ≡ is_swapped (leaf_content l) (leaf_content m)
 swapped-back (Scalar s) (Scalar t) = ap not (symmetric same_scalar same_scalar-true (scalar_view t) (scalar_view s))
 swapped-back (Scalar s) (Atomic v) = refl

@@ -15,19 +15,19 @@ use Rattle.ssa_model.proofs.Pruned.{under-append}
 use Rattle.ssa_model.proofs.Scalars.{same_scalar-itself}
 use Rattle.ssa_model.proofs.SameValues.{same_json-itself}
 use Rattle.ssa_path.specs.View.{path_view}
-use Rattle.ssa_path.proofs.Orders.{element_cmp_total, same_element-itself, same_element-true}
+use Rattle.ssa_path.proofs.Orders.{element_cmp_total}
 use Rattle.ssa_turn_body.specs.Records.{at_place, cuts_in, leaves_in, orders_in, parts_in, told_by}
 use Rattle.ssa_turn_body.specs.Said.{AreTold, Contents, Said, between, is_topmost, says, shown, silent, stands_in, swapped}
 use Rattle.ssa_turn_body.specs.declared.change.PlaceChange.{PlaceChange}
 use Rattle.ssa_turn_body.specs.declared.steps.Step.{Step}
 use Rattle.ssa_turn_body.proofs.Leading.{under-further, under-longer}
+use Rattle.ssa_model.proofs.Fitting.{same_element-true}
+use Rattle.ssa_model.proofs.PartValues.{same-below}
+use Rattle.ssa_model.proofs.Tables.{element-itself as same_element-itself}
 
 -- ---- entries at a place
 
-pub same-below : (p q r : Path) → same_path (p ++ q) (p ++ r) ≡ same_path q r
-same-below [] q r = refl
-same-below (e ∷ p) q r = ap (λ o. is_eq (ordering_then o (path_cmp (p ++ q) (p ++ r)))) (tied_itself element_cmp_total e) ∙ same-below p q r
-
+-- a path that is not under another is none that goes on from it
 pub not-below : (p q r : Path) → under p q ≡ false → same_path q (p ++ r) ≡ false
 not-below p q r u =
     elim (same_path q (p ++ r)) as (λ b. same_path q (p ++ r) ≡ b → b ≡ false) [
@@ -51,6 +51,7 @@ module _ {X : Type 0} where
   find-outside p q (e ∷ es) u = λ i. cond (not-below p q e.0 u i) (Some e.1) (find-outside p q es u i)
 
   module _ (f : PlaceChange → List (Path × X)) where
+    -- what two lists of changes tell is what the first tells and what the second tells behind it
     pub told-append : (ss ts : List Step) → told_by f (ss ++ ts) ≡ told_by f ss ++ told_by f ts
     told-append [] ts = refl
     told-append (s ∷ ss) ts =
@@ -72,6 +73,7 @@ module _ {X : Type 0} where
 
 -- ---- some changes, and then others
 
+-- what the first says, and where it says nothing what the second says
 abbrev pub or_said : Said → Said → Said
 or_said x y = record { cut = option_or x.cut y.cut; leaf = option_or x.leaf y.leaf; order = option_or x.order y.order; put = option_or x.put y.put }
 
@@ -83,9 +85,11 @@ or-none : {A : Type 0} (a : Option A) → option_or a None ≡ a
 or-none None = refl
 or-none (Some x) = refl
 
+-- with nothing said behind it, it is what was said
 pub or-silent : (x : Said) → or_said x silent ≡ x
 or-silent x = λ i. record { cut = or-none x.cut i; leaf = or-none x.leaf i; order = or-none x.order i; put = or-none x.put i }
 
+-- two lists of changes say of a path what the first says, and else what the second says
 pub says-both : (ss ts : List Step) (q : Path) → says (ss ++ ts) q ≡ or_said (says ss q) (says ts q)
 says-both ss ts q =
     let cut = find-told cuts_in ss ts q in
@@ -104,6 +108,7 @@ said_in x r = record {
   put = option_map shown (find path_cmp r (parts_in x));
 }
 
+-- a change says at and below its place what it says from there on
 pub says-inside : (s : Step) (r : Path) → says (s ∷ []) (path_view s.path.items ++ r) ≡ said_in s.change r
 says-inside s r =
     λ i. record {
@@ -114,6 +119,7 @@ says-inside s r =
           (one-inside parts_in s r i);
     }
 
+-- a change says nothing of a path elsewhere
 pub says-outside : (s : Step) (q : Path) → under (path_view s.path.items) q ≡ false → says (s ∷ []) q ≡ silent
 says-outside s q u =
     λ i. record {
@@ -126,6 +132,7 @@ says-outside s q u =
 
 -- ---- what two bodies say of a path of both
 
+-- what two contents say: another leaf, another order, nothing cut and nothing put
 abbrev pub content_said : Option Content → Option Content → Said
 content_said a b = record { cut = None; leaf = swapped a b; order = new_order a b; put = None }
 
@@ -142,6 +149,7 @@ root-shut true true = refl
 root-shut true false = refl
 root-shut false b = refl
 
+-- of the root two bodies say what its two contents say
 pub root-said : (m n : Contents) → between m n [] ≡ content_said (m []) (n [])
 root-said m n = shut m n [] (root-shut (is_some (m [])) (is_some (n []))) (root-shut (is_some (n [])) (is_some (m [])))
 
@@ -150,10 +158,12 @@ there-shut true true c e = refl
 there-shut true false c e = absurd (true≢false (sym e))
 there-shut false b c e = refl
 
+-- of a path of both two bodies say what its two contents say
 pub there-said : (m n : Contents) (p : Path) → is_some (m p) ≡ true → is_some (n p) ≡ true → between m n p ≡ content_said (m p) (n p)
 there-said m n p a b =
     shut m n p (there-shut (is_some (m p)) (is_some (n p)) (is_some (n (parent p))) b) (there-shut (is_some (n p)) (is_some (m p)) (is_some (m (parent p))) a)
 
+-- a content is no other leaf than itself
 pub swap-itself : (a : Option Content) → swapped a a ≡ None
 swap-itself None = refl
 swap-itself (Some (leaf s)) = ap (λ b. if not b then Some (leaf s) else None) (same_scalar-itself s)
@@ -162,10 +172,12 @@ swap-itself (Some record_branch) = refl
 swap-itself (Some dict_branch) = refl
 swap-itself (Some (list_branch es)) = refl
 
+-- a list has the same elements as itself
 pub elements-themselves : (es : List Element) → pointwise same_element es es ≡ true
 elements-themselves [] = refl
 elements-themselves (e ∷ es) = λ i. same_element-itself e i && elements-themselves es i
 
+-- a content has no other order than itself
 pub order-itself : (a : Option Content) → new_order a a ≡ None
 order-itself None = refl
 order-itself (Some (leaf s)) = refl
@@ -174,6 +186,7 @@ order-itself (Some record_branch) = refl
 order-itself (Some dict_branch) = refl
 order-itself (Some (list_branch es)) = ap (λ b. if not b then Some es else None) (elements-themselves (common es es))
 
+-- a content and itself say nothing
 pub content-itself : (a : Option Content) → content_said a a ≡ silent
 content-itself a = λ i. record { cut = None; leaf = swap-itself a i; order = order-itself a i; put = None }
 
@@ -181,7 +194,9 @@ content-itself a = λ i. record { cut = None; leaf = swap-itself a i; order = or
 
 -- both have the same at the place above, and from the path on
 pub record IsAround (m n : Contents) (p : Path) : Type 0 where
+  -- both have the same at the place above
   pub above : m (parent p) ≡ n (parent p)
+  -- both have the same from the path on
   pub from : (q : Path) → m (p ++ q) ≡ n (p ++ q)
 
 around-back : (m n : Contents) (p : Path) → IsAround m n p → IsAround n m p
@@ -216,23 +231,29 @@ same-shut : (a c : Bool) → (a && (not a && c)) ≡ false
 same-shut true c = refl
 same-shut false c = refl
 
+-- a body and itself say nothing of any path
 pub between-itself : (m : Contents) (p : Path) → between m m p ≡ silent
 between-itself m p = shut m m p (same-shut (is_some (m p)) (is_some (m (parent p)))) (same-shut (is_some (m p)) (is_some (m (parent p)))) ∙ content-itself (m p)
 
+-- where two bodies have the same around a path, they say nothing of it
 pub around-silent : (m n : Contents) (p : Path) → IsAround m n p → between m n p ≡ silent
 around-silent m n p h = around-first m n n p h ∙ between-itself n p
 
 -- what the first and the second say, and then the second and the third, is what the first and the third say, and so the other way
 pub record Joins (m n o : Contents) (p : Path) : Type 0 where
+  -- there, both together say what the first and the third say
   pub there : or_said (between m n p) (between n o p) ≡ between m o p
+  -- and so they do the other way
   pub back : or_said (between o n p) (between n m p) ≡ between o m p
 
+-- where the first two are the same around a path, it joins
 pub joins-first : (m n o : Contents) (p : Path) → IsAround m n p → Joins m n o p
 joins-first m n o p h = record {
   there = ap (λ x. or_said x (between n o p)) (around-silent m n p h) ∙ sym (around-first m n o p h);
   back = ap (or_said (between o n p)) (around-silent n m p (around-back m n p h)) ∙ or-silent (between o n p) ∙ around-second o n m p (around-back m n p h);
 }
 
+-- where the last two are the same around a path, it joins
 pub joins-second : (m n o : Contents) (p : Path) → IsAround n o p → Joins m n o p
 joins-second m n o p h = record {
   there = ap (or_said (between m n p)) (around-silent n o p h) ∙ or-silent (between m n p) ∙ around-second m n o p h;
@@ -241,13 +262,20 @@ joins-second m n o p h = record {
 
 -- a path of all three, or the root
 pub record AreStill (m n o : Contents) (p : Path) : Type 0 where
+  -- the first and the second say what their contents say
   pub first : between m n p ≡ content_said (m p) (n p)
+  -- the second and the third say what their contents say
   pub second : between n o p ≡ content_said (n p) (o p)
+  -- the first and the third say what their contents say
   pub whole : between m o p ≡ content_said (m p) (o p)
+  -- the second and the first say what their contents say
   pub first_back : between n m p ≡ content_said (n p) (m p)
+  -- the third and the second say what their contents say
   pub second_back : between o n p ≡ content_said (o p) (n p)
+  -- the third and the first say what their contents say
   pub whole_back : between o m p ≡ content_said (o p) (m p)
 
+-- the root is such a path
 pub still-root : (m n o : Contents) → AreStill m n o []
 still-root m n o = record {
   first = root-said m n;
@@ -258,6 +286,7 @@ still-root m n o = record {
   whole_back = root-said o m;
 }
 
+-- a path that all three have is such a path
 pub still-there : (m n o : Contents) (p : Path) → is_some (m p) ≡ true → is_some (n p) ≡ true → is_some (o p) ≡ true → AreStill m n o p
 still-there m n o p a b c = record {
   first = there-said m n p a b;
@@ -276,12 +305,14 @@ content-second a b c e =
     ap (λ x. or_said (content_said a b) (content_said b x)) (sym e) ∙ ap (or_said (content_said a b)) (content-itself b) ∙ or-silent (content_said a b)
     ∙ ap (content_said a) e
 
+-- where such a path has one content in the first two, it joins
 pub joins-still-first : (m n o : Contents) (p : Path) → AreStill m n o p → m p ≡ n p → Joins m n o p
 joins-still-first m n o p s e = record {
   there = (λ i. or_said (s.first i) (s.second i)) ∙ content-first (m p) (n p) (o p) e ∙ sym s.whole;
   back = (λ i. or_said (s.second_back i) (s.first_back i)) ∙ content-second (o p) (n p) (m p) (sym e) ∙ sym s.whole_back;
 }
 
+-- where such a path has one content in the last two, it joins
 pub joins-still-second : (m n o : Contents) (p : Path) → AreStill m n o p → n p ≡ o p → Joins m n o p
 joins-still-second m n o p s e = record {
   there = (λ i. or_said (s.first i) (s.second i)) ∙ content-second (m p) (n p) (o p) e ∙ sym s.whole;
@@ -290,9 +321,11 @@ joins-still-second m n o p s e = record {
 
 -- ---- changes
 
+-- no changes say that nothing is other
 pub told-none : (p : Path) (m : Contents) → AreTold p m m []
 told-none p m = record { inside = λ q. sym (between-itself m q); outside = λ q u. refl }
 
+-- changes that say what is other, and others that go on from there, say together what is other in all
 pub told-then : (p : Path) (m n o : Contents) (xs ys : List Step) → AreTold p m n xs → AreTold p n o ys
     → ((q : Path) → or_said (between m n q) (between n o q) ≡ between m o q) → AreTold p m o (xs ++ ys)
 told-then p m n o xs ys g h joins = record {
@@ -327,6 +360,7 @@ module _ (e : Element) (m m2 n n2 : Contents) (own : (q : Path) → m (e ∷ q) 
 other-below : (e f : Element) (q : Path) → same_element e f ≡ false → under (e ∷ []) (f ∷ q) ≡ false
 other-below e f q t = ap (λ b. b && true) t
 
+-- where only one child differs, both have the same around each path below another
 pub other-around : (m m2 : Contents) (e f : Element) (q : Path) → same_element e f ≡ false → ((r : Path) → under (e ∷ []) r ≡ false → m2 r ≡ m r)
     → IsAround m m2 (f ∷ q)
 other-around m m2 e f [] t others = record { above = sym (others [] refl); from = λ r. sym (others (f ∷ r) (other-below e f r t)) }
@@ -337,6 +371,7 @@ other-around m m2 e f (g ∷ q) t others =
           (others (f ∷ g ∷ (q ++ r)) (other-below e f (g ∷ (q ++ r)) t));
     }
 
+-- changes that say what is other in a child say what is other at its parent, where only this child differs
 pub told-child : (p : Path) (e : Element) (m m2 n n2 : Contents) (ss : List Step) → ((q : Path) → m (e ∷ q) ≡ n q) → ((q : Path) → m2 (e ∷ q) ≡ n2 q)
     → ((q : Path) → under (e ∷ []) q ≡ false → m2 q ≡ m q)
     → is_some (n []) ≡ true → is_some (n2 []) ≡ true → AreTold (p ++ e ∷ []) n n2 ss → AreTold p m m2 ss

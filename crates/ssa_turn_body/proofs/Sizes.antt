@@ -19,7 +19,6 @@ use Rattle.ssa_path.specs.View.{element_view, path_view}
 use Rattle.ssa_path.proofs.Lists.{taken-at}
 use Rattle.ssa_path.proofs.Orders.{both_first, both_second}
 use Rattle.ssa_typed.specs.Rows.{are_apart, are_trees, body_of, is_tree, leaf_content, rows}
-use Rattle.ssa_typed.proofs.Laws.{not_true, neither_first, neither_second}
 use Rattle.ssa_typed.proofs.Sizes.{size-body}
 use Rattle.ssa_turn_body.specs.Edits.{named_in}
 use Rattle.ssa_turn_body.specs.Marks.{Child}
@@ -31,7 +30,8 @@ use Rattle.ssa_turn_body.specs.declared.change.PlaceChange.TheVariants.{Leaf, Ch
 use Rattle.ssa_turn_body.specs.declared.steps.BodySteps.{BodySteps}
 use Rattle.ssa_turn_body.specs.declared.steps.Step.{Step}
 use Rattle.ssa_turn_body.proofs.EditSays.{same-one, singles}
-use Rattle.ssa_turn_body.proofs.Saying.{same-below}
+use Rattle.ssa_model.proofs.PartValues.{same-below}
+use Rattle.ssa_model.proofs.Basics.{not_true, first_false as neither_first, second_false as neither_second}
 
 -- ---- entries of which no two are at one path
 
@@ -243,6 +243,7 @@ size-told s once =
 
 -- ---- sums so far
 
+-- one more adds its number to a sum that stops at the largest number
 pub sum-more : {X : Type 0} (f : X → ℕ) (xs : List X) (i : ℕ) (x : X) (so_far more sum : ℕ) → i < length xs → x ≡ get_or xs i x
     → so_far ≡ min (sum_by f (take i xs)) (2 ^ 64 - 1) → more ≡ min (f x) (2 ^ 64 - 1) → sum ≡ min (so_far + more) (2 ^ 64 - 1)
     → sum ≡ min (sum_by f (take (i + 1) xs)) (2 ^ 64 - 1)

@@ -43,7 +43,8 @@ writable-at (t ∷ ss) (suc i) s lt is h = writable-at ss i s (omega arith) is h
 
 -- one child more that comes
 pub comes-more : (order : List Element) (ks : List ℕ) (hs : List Child) (i k n : ℕ) (h : Child) → i < length ks → i < length hs
-    → k ≡ get_or ks i n → h ≡ get_or hs i h → comes_of order (take (i + 1) ks) (take (i + 1) hs) ≡ comes_of order (take i ks) (take i hs) ++ coming_at order k h ∷ []
+    → k ≡ get_or ks i n → h ≡ get_or hs i h → comes_of order (take (i + 1) ks) (take (i + 1) hs) ≡ comes_of order (take i ks) (take i hs)
+    ++ coming_at order k h ∷ []
 comes-more order [] hs i k n h lk lh ik ih = absurd (omega arith)
 comes-more order (x ∷ ks) [] i k n h lk lh ik ih = absurd (omega arith)
 comes-more order (x ∷ ks) (y ∷ hs) zero k n h lk lh ik ih = λ i. coming_at order (sym ik i) (sym ih i) ∷ []
@@ -52,6 +53,7 @@ comes-more order (x ∷ ks) (y ∷ hs) (suc i) k n h lk lh ik ih =
     ap (λ j. comes_of order (take j (x ∷ ks)) (take j (y ∷ hs))) next
     ∙ ap (λ l. coming_at order x y ∷ l) (comes-more order ks hs i k n h (omega arith) (omega arith) ik ih)
 
+-- one child more that comes adds its value, with its path and the place where it stands afterwards
 pub comes-on : (p : Path) (order : List Element) (ks : List ℕ) (hs : List Child) (i k n : ℕ) (h : Child) (place : Option ℕ) (first old new : List (Path × Json))
     → length hs ≡ length ks → i < length hs → k ≡ get_or ks i n → h ≡ get_or hs i h → place ≡ place_after order (element_view h.0) k
     → old ≡ first ++ as_values coming_json (at_place p (comes_of order (take i ks) (take i hs)))
@@ -78,5 +80,6 @@ pub placed-from : (e : Element) (es : List Elem) (k : ℕ)
 placed-from e [] k = refl
 placed-from e (x ∷ es) k = ap (cond (same_element e (element_view x)) (Some k)) (placed-from e es (k + 1))
 
+-- the place of an element among those of the program is that among the elements that they stand for
 pub placed-in : (e : Element) (es : List Elem) → position (λ x. same_element e (element_view x)) es ≡ position_from (same_element e) 0 (path_view es)
 placed-in e es = position_from-zero (λ (x : Elem). same_element e (element_view x)) es ∙ placed-from e es 0

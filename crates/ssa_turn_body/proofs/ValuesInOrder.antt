@@ -26,7 +26,8 @@ entry-put p v [] = refl
 entry-put p v (e ∷ es) =
     let own : Path × Json = (lent_path p, view v) in
     let here : Path × Json = (lent_path e.0, view e.1) in
-    elim (path_cmp (lent_path p) (lent_path e.0)) as (λ o. told_view (match_ordering o ((p, v) ∷ e ∷ es) ((e.0, v) ∷ es) (e ∷ insert_entry (on lent_path path_cmp) es p v))
+    elim (path_cmp (lent_path p) (lent_path e.0)) as (λ o. told_view
+    (match_ordering o ((p, v) ∷ e ∷ es) ((e.0, v) ∷ es) (e ∷ insert_entry (on lent_path path_cmp) es p v))
     ≡ by_order o (own ∷ here ∷ told_view es) ((lent_path e.0, view v) ∷ told_view es) (here ∷ put path_cmp (lent_path p) (view v) (told_view es))) [
       | Less ↦ refl
       | Equal ↦ refl
@@ -34,6 +35,7 @@ entry-put p v (e ∷ es) =
     ]
 
 module _ {X Y : Type 0} (f : Path × X → Y) where
+  -- the entries with what a function makes of each
   abbrev pub with : List (Path × X) → List (Path × Y)
   with = map (λ e. (e.0, f e))
 
@@ -67,8 +69,11 @@ told-listed f told es is =
 
 -- of these entries the first are left, and those behind them are in the map
 pub record AreSorted (all rest sorted : List Entry) : Type 0 where
+  -- the entries that are in the map already
   pub taken : List Entry
+  -- those that are left and those in the map are all
   pub whole : all ≡ rest ++ taken
+  -- the map is made of those taken
   pub done : told_view sorted ≡ (from_entries (told_view taken)).entries
 
 -- at first none is taken
@@ -90,10 +95,12 @@ sorted-all all rest sorted h none = h.done ∙ ap (λ l. (from_entries (told_vie
 
 -- ---- the values alone
 
+-- a list whose elements are shown as themselves is itself
 pub itself : {A : Type 0} (xs : List A) → map (λ x. x) xs ≡ xs
 itself [] = refl
 itself (x ∷ xs) = ap (λ l. x ∷ l) (itself xs)
 
+-- the values alone, as they are seen, are those of the entries
 pub values-shown : (es : List Entry) → map view (values_of es) ≡ map (λ e. e.1) (told_view es)
 values-shown [] = refl
 values-shown (e ∷ es) = ap (λ l. view e.1 ∷ l) (values-shown es)

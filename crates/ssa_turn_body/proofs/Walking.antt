@@ -9,10 +9,9 @@ use Rattle.ssa_model.specs.definitions.Path.{Element, Path, same_element, parent
 use Rattle.ssa_path.specs.Children.{child_at, elements, IsChildAt}
 use Rattle.ssa_model.proofs.Pruned.{under-rest}
 use Rattle.ssa_path.specs.View.{element_view}
-use Rattle.ssa_path.proofs.Orders.{same_element-true, same_element-itself, same_either_way, both_first, both_second}
+use Rattle.ssa_path.proofs.Orders.{both_first, both_second}
 use Rattle.ssa_typed.specs.Rows.{below, own_content, is_tree, are_trees, are_apart}
 use Rattle.ssa_typed.specs.declared.node.Node.{Node}
-use Rattle.ssa_typed.proofs.Laws.{not_true, neither_first, neither_second}
 use Rattle.ssa_turn_body.specs.Found.{AreFound, fresh}
 use Rattle.ssa_typed.specs.Over.{AreAlikeBelow}
 use Rattle.ssa_turn_body.specs.Led.{AreLeading, IsAlikeChild, IsChildLed}
@@ -28,17 +27,18 @@ use Rattle.ssa_turn_body.proofs.Recording.{leading-same, leading-then, saying-ch
 use Rattle.ssa_turn_body.proofs.Saying.{IsAround, Joins, joins-first, joins-second, joins-still-first, other-around, still-root}
 use Rattle.ssa_turn_body.proofs.Marking.{marks-level}
 use Rattle.ssa_turn_body.proofs.Matching.{found-length}
+use Rattle.ssa_model.proofs.Tables.{element-itself as same_element-itself}
+use Rattle.ssa_model.proofs.Fitting.{same_element-true}
+use Rattle.ssa_model.proofs.ReplacedParts.{longer as under-above}
+use Rattle.ssa_model.proofs.ShownNames.{turned as same_either_way}
+use Rattle.ssa_model.proofs.Basics.{not_true, first_false as neither_first, second_false as neither_second}
 
 abbrev Found : Type 0
 Found = List (Option ℕ)
 
--- a path is not below a child of its own
-under-above : (p : Path) (e : Element) → under (p ++ e ∷ []) p ≡ false
-under-above [] e = refl
-under-above (f ∷ p) e = ap (λ b. b && under (p ++ e ∷ []) p) (same_element-itself f) ∙ under-above p e
-
 -- ---- children of a list
 
+-- a child is found under an element where the element is one of the children's
 pub child-among : (e : Element) (cs : List Child) → is_some (child_at e cs) ≡ list_any (same_element e) (elements cs)
 child-among e [] = refl
 child-among e (c ∷ cs) =
@@ -47,16 +47,20 @@ child-among e (c ∷ cs) =
       | false ↦ child-among e cs
     ]
 
-any-middle : (x : Element) (done : List Child) (d : Child) (rest : List Child) → list_any (same_element x) (elements (done ++ d ∷ rest)) ≡ false → same_element x (element_view d.0) ≡ false
+any-middle : (x : Element) (done : List Child) (d : Child) (rest : List Child) → list_any (same_element x) (elements (done ++ d ∷ rest)) ≡ false
+    → same_element x (element_view d.0) ≡ false
 any-middle x [] d rest h = neither_first (same_element x (element_view d.0)) _ h
 any-middle x (c ∷ done) d rest h = any-middle x done d rest (neither_second (same_element x (element_view c.0)) _ h)
 
-other-first : (x : Child) (done : List Child) (d : Child) (rest : List Child) → are_apart (elements (x ∷ (done ++ d ∷ rest))) ≡ true → same_element (element_view d.0) (element_view x.0) ≡ false
+other-first : (x : Child) (done : List Child) (d : Child) (rest : List Child) → are_apart (elements (x ∷ (done ++ d ∷ rest))) ≡ true
+    → same_element (element_view d.0) (element_view x.0) ≡ false
 other-first x done d rest apart =
     same_either_way (element_view x.0) (element_view d.0)
-    ∙ any-middle (element_view x.0) done d rest (not_true _ (both_first (not (list_any (same_element (element_view x.0)) (elements (done ++ d ∷ rest)))) _ apart))
+    ∙ any-middle (element_view x.0) done d rest (not_true _ (both_first (not (list_any (same_element (element_view x.0)) (elements (done ++ d ∷ rest)))) _
+    apart))
 
-middle-found : (done : List Child) (d : Child) (rest : List Child) → are_apart (elements (done ++ d ∷ rest)) ≡ true → child_at (element_view d.0) (done ++ d ∷ rest) ≡ Some d.1
+middle-found : (done : List Child) (d : Child) (rest : List Child) → are_apart (elements (done ++ d ∷ rest)) ≡ true
+    → child_at (element_view d.0) (done ++ d ∷ rest) ≡ Some d.1
 middle-found [] d rest apart = ap (λ b. cond b (Some d.1) (child_at (element_view d.0) rest)) (same_element-itself (element_view d.0))
 middle-found (x ∷ done) d rest apart =
     ap (λ b. cond b (Some x.1) (child_at (element_view d.0) (done ++ d ∷ rest))) (other-first x done d rest apart)
@@ -71,7 +75,8 @@ none-before (x ∷ done) d rest apart =
 push-same : (done : List Child) (d : Child) → child_at (element_view d.0) done ≡ None → child_at (element_view d.0) (done ++ d ∷ []) ≡ Some d.1
 push-same [] d h = ap (λ b. cond b (Some d.1) None) (same_element-itself (element_view d.0))
 push-same (x ∷ done) d h =
-    elim (same_element (element_view d.0) (element_view x.0)) as (λ b. cond b (Some x.1) (child_at (element_view d.0) done) ≡ None → cond b (Some x.1) (child_at (element_view d.0) (done ++ d ∷ [])) ≡ Some d.1) [
+    elim (same_element (element_view d.0) (element_view x.0)) as (λ b. cond b (Some x.1) (child_at (element_view d.0) done) ≡ None
+    → cond b (Some x.1) (child_at (element_view d.0) (done ++ d ∷ [])) ≡ Some d.1) [
       | true ↦ λ k. absurd (none-some x.1 (sym k))
       | false ↦ λ k. push-same done d k
     ] h
@@ -86,15 +91,18 @@ push-other e (x ∷ done) d h =
 
 -- ---- what a place tells where some of its children are led
 
+-- what a child tells, where it is led already: what the second child of its element tells
 abbrev pub led_in : Option Node → Option Node → Marks
 led_in None d q = None
 led_in (Some c) None q = marks c q
 led_in (Some c) (Some d) q = marks d q
 
+-- what a place tells while some of its children are led
 abbrev pub led : Content → List Child → List Child → Marks
 led o cs ds [] = Some (o, elements cs)
 led o cs ds (e ∷ q) = led_in (child_at e cs) (child_at e ds) q
 
+-- at first, while none is led, it is what the tree tells
 pub led-start : (v : Node) (q : Path) → marks v q ≡ led (own_content v) (below v) [] q
 led-start v [] = marks-level v []
 led-start v (e ∷ q) = marks-level v (e ∷ q) ∙ by (child_at e (below v))
@@ -109,21 +117,34 @@ root-some n = ap (λ m. is_some (content_told m)) (marks-level n [])
 
 -- changes are put behind the others below the path alone, and below these children
 pub record AreAmong (p : Path) (done : List Child) (old new : List Step) : Type 0 where
+  -- at the place itself there are as many changes as before
   pub here : changes_at p new ≡ changes_at p old
+  -- below other children there are as many changes as before
   pub others : (e : Element) (q : Path) → child_at e done ≡ None → changes_at (p ++ e ∷ q) new ≡ changes_at (p ++ e ∷ q) old
 
 -- so far: the children before the rest are led, or held where they come
-pub record IsWalking (p : Path) (o : Content) (cs ds : List Child) (fs : Found) (old : List Step) (i : ℕ) (rest held : List Child) (steps : List Step) : Type 0 where
+pub record IsWalking (p : Path) (o : Content) (cs ds : List Child) (fs : Found) (old : List Step) (i : ℕ) (rest held : List Child) (steps : List Step) : Type
+    0 where
+  -- the children that were led or held so far
   pub done : List Child
+  -- those and the rest are all of the second children
   pub whole : ds ≡ done ++ rest
+  -- so many of the second children were met
   pub count : i + length rest ≡ length ds
+  -- the rest is made of trees
   pub trees : are_trees rest ≡ true
+  -- the places found are those of the rest
   pub found : AreFound cs rest (drop i fs)
+  -- what is held so far, with what comes of the rest, is all that comes
   pub held_is : fresh fs ds ≡ held ++ fresh (drop i fs) rest
+  -- the changes so far lead the children so far, and say so
   pub leading : AreLeading p (led o cs []) (led o cs done) old steps
+  -- the changes so far are at places below these children alone
   pub among : AreAmong p done old steps
 
-pub walking-start : (p : Path) (o : Content) (cs ds : List Child) (fs : Found) (old : List Step) → are_trees ds ≡ true → AreFound cs ds fs → IsWalking p o cs ds fs old 0 ds [] old
+-- at first no child is led or held
+pub walking-start : (p : Path) (o : Content) (cs ds : List Child) (fs : Found) (old : List Step) → are_trees ds ≡ true → AreFound cs ds fs
+    → IsWalking p o cs ds fs old 0 ds [] old
 walking-start p o cs ds fs old trees found = record {
   done = [];
   whole = refl;
@@ -135,17 +156,20 @@ walking-start p o cs ds fs old trees found = record {
   among = record { here = refl; others = λ e q none. refl };
 }
 
-module _ (p : Path) (o : Content) (cs ds : List Child) (fs : Found) (old : List Step) (i : ℕ) (d : Child) (all rest held : List Child) (steps : List Step) (is : all ≡ d ∷ rest) (apart : are_apart (elements ds) ≡ true)
+module _ (p : Path) (o : Content) (cs ds : List Child) (fs : Found) (old : List Step) (i : ℕ) (d : Child) (all rest held : List Child) (steps : List Step)
+    (is : all ≡ d ∷ rest) (apart : are_apart (elements ds) ≡ true)
     (w : IsWalking p o cs ds fs old i all held steps) where
   here : IsWalking p o cs ds fs old i (d ∷ rest) held steps
   here = subst (λ l. IsWalking p o cs ds fs old i l held steps) is w
 
+  -- a place is found for the next child, or none
   pub walking-index : i < length fs
   walking-index =
       let long = found-length cs (d ∷ rest) (drop i fs) here.found in
       let dropped = length-drop i fs in
       omega arith
 
+  -- so many with the next one are no more than all
   pub walking-count : i + 1 ≤ length ds
   walking-count = let c = here.count in omega arith
 
@@ -155,15 +179,18 @@ module _ (p : Path) (o : Content) (cs ds : List Child) (fs : Found) (old : List 
   apart_now : are_apart (elements (here.done ++ d ∷ rest)) ≡ true
   apart_now = ap (λ l. are_apart (elements l)) (sym here.whole) ∙ apart
 
+  -- the next child is a tree
   pub walking-tree : is_tree d.1 ≡ true
   walking-tree = both_first (is_tree d.1) _ here.trees
 
   found_now : (f : Option ℕ) → get_or fs i None ≡ f → AreFound cs (d ∷ rest) (f ∷ drop (i + 1) fs)
   found_now f e = subst (AreFound cs (d ∷ rest)) (split f e) here.found
 
+  -- the place found for the next child is that of its element
   pub walking-place : (k : ℕ) → get_or fs i None ≡ Some k → IsChildAt (element_view d.0) cs k
   walking-place k e = (found_now (Some k) e).0
 
+  -- the next child is alike to the one of its element, as all are
   pub walking-alike : AreAlikeBelow cs ds → IsAlikeChild cs d
   walking-alike alike c there = alike (element_view d.0) c d.1 there (ap (child_at (element_view d.0)) here.whole ∙ middle-found here.done d rest apart_now)
 
@@ -253,7 +280,9 @@ module _ (p : Path) (o : Content) (cs ds : List Child) (fs : Found) (old : List 
         once.others (p ++ f ∷ q) (under-further p (element_view d.0 ∷ []) (f ∷ q) ∙ ap (λ b. b && true) other.0) ∙ here.among.others f q other.1;
   }
 
-  pub walking-led : (k : ℕ) (steps2 : List Step) → are_apart (elements cs) ≡ true → get_or fs i None ≡ Some k → IsChildLed p cs d steps steps2 → IsWalking p o cs ds fs old (i + 1) rest held steps2
+  -- with the next child led, the walk goes on
+  pub walking-led : (k : ℕ) (steps2 : List Step) → are_apart (elements cs) ≡ true → get_or fs i None ≡ Some k → IsChildLed p cs d steps steps2
+      → IsWalking p o cs ds fs old (i + 1) rest held steps2
   walking-led k steps2 own_apart e child =
       let at = child-here (element_view d.0) cs k (walking-place k e) in
       let there : child_at (element_view d.0) cs ≡ Some at.child.1 = found-at (element_view d.0) cs k at.child at.here at.same own_apart in
@@ -287,6 +316,7 @@ module _ (p : Path) (o : Content) (cs ds : List Child) (fs : Found) (old : List 
         among = among-here steps2 one.once;
       }
 
+  -- with the next child held, since it comes, the walk goes on
   pub walking-held : (held2 : List Child) → get_or fs i None ≡ None → held2 ≡ held ++ d ∷ [] → IsWalking p o cs ds fs old (i + 1) rest held2 steps
   walking-held held2 e pushed =
       let absent : child_at (element_view d.0) cs ≡ None = (found_now None e).0 in
@@ -310,7 +340,8 @@ module _ (p : Path) (o : Content) (cs ds : List Child) (fs : Found) (old : List 
       same-led : child_at (element_view d.0) cs ≡ None → (q : Path) → led o cs here.done q ≡ led o cs (here.done ++ d ∷ []) q
       same-led absent [] = refl
       same-led absent (f ∷ q) =
-          elim (same_element f (element_view d.0)) as (λ b. same_element f (element_view d.0) ≡ b → led_in (child_at f cs) (child_at f here.done) q ≡ led_in (child_at f cs) (child_at f (here.done ++ d ∷ [])) q) [
+          elim (same_element f (element_view d.0)) as (λ b. same_element f (element_view d.0) ≡ b
+          → led_in (child_at f cs) (child_at f here.done) q ≡ led_in (child_at f cs) (child_at f (here.done ++ d ∷ [])) q) [
             | true ↦ λ t.
                 let gone : child_at f cs ≡ None = ap (λ x. child_at x cs) (same_element-true f (element_view d.0) t) ∙ absent in
                 ap (λ x. led_in x (child_at f here.done) q) gone ∙ sym (ap (λ x. led_in x (child_at f (here.done ++ d ∷ [])) q) gone)
@@ -321,7 +352,9 @@ nothing-fresh : (gs : Found) → fresh {X = Child} gs [] ≡ []
 nothing-fresh [] = refl
 nothing-fresh (g ∷ gs) = refl
 
-pub walking-end : (p : Path) (o : Content) (cs ds : List Child) (fs : Found) (old : List Step) (i : ℕ) (rest held : List Child) (steps : List Step) → rest ≡ [] → IsWalking p o cs ds fs old i rest held steps
+-- at the end all that comes is held, and the changes lead the common children
+pub walking-end : (p : Path) (o : Content) (cs ds : List Child) (fs : Found) (old : List Step) (i : ℕ) (rest held : List Child) (steps : List Step)
+    → rest ≡ [] → IsWalking p o cs ds fs old i rest held steps
     → (held ≡ fresh fs ds) × AreLeading p (led o cs []) (led o cs ds) old steps × (changes_at p steps ≡ changes_at p old)
 walking-end p o cs ds fs old i rest held steps none w = (
   sym (w.held_is ∙ ap (λ l. held ++ fresh (drop i fs) l) none ∙ ap (λ l. held ++ l) (nothing-fresh (drop i fs)) ∙ append-nil held),
@@ -331,13 +364,15 @@ walking-end p o cs ds fs old i rest held steps none w = (
 
 -- ---- what is read
 
+-- the place that is read is the one that was found
 pub found-read : (fs : Found) (i : ℕ) (x y : Option ℕ) → i < length fs → x ≡ get_or fs i x → x ≡ y → get_or fs i None ≡ y
 found-read [] i x y lt is e = absurd (omega arith)
 found-read (f ∷ fs) zero x y lt is e = sym is ∙ e
 found-read (f ∷ fs) (suc i) x y lt is e = found-read fs i x y (omega arith) is e
 
 -- the child at the place of an element is the element's
-pub child-there : (e : Element) (cs own : List Child) (k : ℕ) (c : Child) → own ≡ cs → IsChildAt e cs k → c ≡ get_or own k c → are_apart (elements cs) ≡ true → child_at e cs ≡ Some c.1
+pub child-there : (e : Element) (cs own : List Child) (k : ℕ) (c : Child) → own ≡ cs → IsChildAt e cs k → c ≡ get_or own k c → are_apart (elements cs) ≡ true
+    → child_at e cs ≡ Some c.1
 child-there e cs own k c lent at is apart =
     let read : get_or cs k c ≡ c = sym (is ∙ ap (λ l. get_or l k c) lent) in
     found-at e cs k c (slice_get-get_or cs k c at.within ∙ ap Some read) (ap (λ (x : Child). same_element e (element_view x.0)) (sym read) ∙ at.same c) apart

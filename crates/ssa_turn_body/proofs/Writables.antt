@@ -31,6 +31,7 @@ places-small gs [] n c h room small = tt
 places-small [] (k ∷ ks) n c h room small = places-below 0 (k ∷ ks) n (2 ^ 63) h (omega arith)
 places-small (g ∷ gs) (k ∷ ks) n c h room small = places-below 0 (k ∷ ks) n (2 ^ 63) h (omega arith)
 
+-- a change that fits can be written
 pub fit-writable : (x : PlaceChange) (v : Place) → ChangeFits x v → IsWritable x
 fit-writable (Leaf s) v h = tt
 fit-writable (Children s) v h = record {
@@ -43,10 +44,12 @@ fit-in : (x : PlaceChange) (o : Option Node) → FitsIn (λ n. ChangeFits x (see
 fit-in x None h = absurd h
 fit-in x (Some n) h = fit-writable x (seen n) h
 
+-- two lists of changes that can be written can be written together
 pub both-writable : (ss ts : List Step) → AreWritable ss → AreWritable ts → AreWritable (ss ++ ts)
 both-writable [] ts h g = g
 both-writable (s ∷ ss) ts h g = (h.0, both-writable ss ts h.1 g)
 
+-- changes that can be written can be written in the other order
 pub reverse-writable : (ss : List Step) → AreWritable ss → AreWritable (reverse ss)
 reverse-writable [] h = tt
 reverse-writable (s ∷ ss) h =

@@ -1,6 +1,7 @@
 -- What the turn of a body needs and does.
 use Rattle.std.specs.Prelude.{◌≡◌, true}
 use Rattle.ssa_model.specs.definitions.Body.{Body}
+use Rattle.ssa_model.specs.definitions.Valid.{IsRooted}
 use Rattle.ssa_typed.specs.Rows.{body_of, is_tree}
 use Rattle.ssa_typed.specs.declared.node.Node.{Node}
 use Rattle.ssa_turn_body.specs.Steps.{StepsFit}
@@ -20,6 +21,10 @@ pub record IsBodyTurned (r : BodySteps) (b : Body) (s : BodySteps) (c : Body) : 
   pub body_before : body_of before ≡ b
   pub body_after : body_of after ≡ c
   pub turned : IsTurned r before s after
+
+-- each body to which the changes lead is rooted
+abbrev pub LeadsToRooted : BodySteps → Body → Type 0
+LeadsToRooted r b = (s : BodySteps) (c : Body) → IsBodyTurned r b s c → IsRooted c
 
 -- a second turn leaves the body and the steps as they were
 abbrev pub TurnsLeadBack : Type 0

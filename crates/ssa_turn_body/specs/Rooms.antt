@@ -5,6 +5,7 @@ use Rattle.ssa_model.specs.definitions.Carry.{carry_body}
 use Rattle.ssa_model.specs.definitions.Kind.{Kind}
 use Rattle.ssa_model.specs.definitions.Record.{BodyRecord, body_record}
 use Rattle.ssa_model.specs.definitions.Takes.{BodyTakes}
+use Rattle.ssa_model.specs.definitions.Valid.{IsRooted}
 use Rattle.ssa_model.specs.laws.RecordWalks.{AreAlike}
 use Rattle.ssa_turn_body.specs.Bodies.{BodyStepsFit, IsBodyTurned}
 use Rattle.ssa_turn_body.specs.Once.{AreOnce}
@@ -30,6 +31,6 @@ pub record HasBodyRoom (s : BodySteps) (b : Body) : Type 0 where
 abbrev pub TurnsKeepRoom : Type 0
 TurnsKeepRoom = (s t : BodySteps) (b c : Body) → HasBodyRoom s b → IsBodyTurned s b t c → BodyStepsFit t c → HasBodyRoom t c
 
--- the record is that of two bodies that fit one schema
+-- the record is that of two rooted bodies that fit one schema
 abbrev pub IsBodyTaken : BodyRecord → Body → Body → Type 0
-IsBodyTaken d v w = (kind : Kind) × BodyTakes kind d v w
+IsBodyTaken d v w = (kind : Kind) × BodyTakes kind d v w × IsRooted v × IsRooted w

@@ -36,7 +36,8 @@ pub record IsLeafTold (s : LeafSwap) (t : LeafSwap) (p : Path) (b c : Body) : Ty
   pub others : (q : Path) → same_path q p ≡ false → get c q ≡ get b q
 
 abbrev pub LeafTurnTold : Type 0
-LeafTurnTold = (s t : LeafSwap) (p : Path) (v w : Node) → is_tree v ≡ true → IsChange (λ n m. LeafGives s (seen n) t (seen m)) p v w → IsLeafTold s t p (body_of v) (body_of w)
+LeafTurnTold = (s t : LeafSwap) (p : Path) (v w : Node) → is_tree v ≡ true → IsChange (λ n m. LeafGives s (seen n) t (seen m)) p v w
+    → IsLeafTold s t p (body_of v) (body_of w)
 
 -- the children at the path are others, and nothing else is
 pub record AreChildrenTold (change : Kids → Kids) (p : Path) (b c : Body) : Type 0 where
@@ -47,4 +48,5 @@ pub record AreChildrenTold (change : Kids → Kids) (p : Path) (b c : Body) : Ty
   pub others : (q : Path) → under p q ≡ false → get c q ≡ get b q
 
 abbrev pub EditTurnTold : Type 0
-EditTurnTold = (s t : ChildrenEdit) (p : Path) (v w : Node) → is_tree v ≡ true → IsChange (λ n m. EditGives s (seen n) t (seen m)) p v w → AreChildrenTold (edited s) p (body_of v) (body_of w)
+EditTurnTold = (s t : ChildrenEdit) (p : Path) (v w : Node) → is_tree v ≡ true → IsChange (λ n m. EditGives s (seen n) t (seen m)) p v w
+    → AreChildrenTold (edited s) p (body_of v) (body_of w)

@@ -17,4 +17,5 @@ SameSteps s t = map step_says s.steps.items ≡ map step_says t.steps.items
 
 -- a second turn leaves the tree and the steps as they were
 abbrev pub TreeTurnsLeadBack : Type 0
-TreeTurnsLeadBack = (s t u : BodySteps) (v w x : Node) → is_tree v ≡ true → StepsFit s.steps.items v → IsTurned s v t w → IsTurned t w u x → ((p : Path) → marks x p ≡ marks v p) × SameSteps u s
+TreeTurnsLeadBack = (s t u : BodySteps) (v w x : Node) → is_tree v ≡ true → StepsFit s.steps.items v → IsTurned s v t w → IsTurned t w u x
+    → ((p : Path) → marks x p ≡ marks v p) × SameSteps u s

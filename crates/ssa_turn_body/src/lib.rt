@@ -1,23 +1,48 @@
 //! Bodies changed in place by steps that become those that lead back, with no memory taken.
+//!
+//! [`steps_between`] tells what two bodies differ in, with the room for every later turn;
+//! [`turn_recorded`] takes a body there and back.
+//!
+//! ```
+//! let schema = schema(rt.alloc())?;
+//! let before = Body::from_json(
+//!     rt.alloc(),
+//!     &schema,
+//!     json(rt.alloc(), r#"{"spec":{"replicas":3}}"#)?,
+//! )?;
+//! let after = Body::from_json(
+//!     rt.alloc(),
+//!     &schema,
+//!     json(rt.alloc(), r#"{"spec":{"replicas":5}}"#)?,
+//! )?;
+//! let steps = steps_between(rt.alloc(), &before, after)?;
+//! let leaves = steps.leaves_to_json(rt.alloc())?.to_string(rt.alloc())?;
+//! assert_eq!(rt; leaves.as_str(), r#"[[["f:spec","f:replicas"],5]]"#);
+//! ```
 #![tactic(auto)]
 
 pub mod between;
 pub mod between_at;
-pub mod body;
+mod body;
 pub mod change;
-pub mod children;
-pub mod copying;
-pub mod descent;
-pub mod exchanges;
-pub mod found;
+mod children;
+mod copying;
+mod descent;
+mod exchanges;
+mod found;
 pub mod live_body;
-pub mod record_values;
-pub mod reorder;
-pub mod size;
+mod record_values;
+mod reorder;
+mod size;
 pub mod steps;
-pub mod told;
-pub mod told_values;
-pub mod walk;
-pub mod weave;
-pub mod writing;
-pub mod writing_parts;
+mod told;
+mod told_values;
+mod walk;
+mod weave;
+mod writing;
+mod writing_parts;
+
+pub use between::steps_between;
+pub use between_at::steps_at;
+pub use live_body::{LiveBody, turn_recorded};
+pub use steps::BodySteps;

@@ -68,5 +68,5 @@ impl Reversible for LiveBody {
 
     ghost fixes_steps = { λ d e v w h k. h.1.is ∙ sym k.1.is };
 
-    ghost leads_back = { λ d v w h. (turned_body d v, (h.0, (body_laws h.0 d v w h.1).2)) };
+    ghost leads_back = { λ d v w h. (turned_body d v, (h.0, (body_laws h.0 d v w h.1).2, h.3, h.2)) };
 }

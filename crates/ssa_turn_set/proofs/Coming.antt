@@ -10,7 +10,7 @@ use Rattle.ssa_path.specs.Children.{elements, is_below, rises, IsChildAt, IsGapF
 use Rattle.ssa_path.specs.View.{element_view}
 use Rattle.ssa_path.specs.Trie.{is_one_of, paths_after, paths_below, paths, has_some, is_trie, is_filled, are_filled_tries, IsGathered}
 use Rattle.ssa_path.proofs.Lists.{elements-append, filled-append, filled-without, parted, paths_below-append, rises-drop}
-use Rattle.ssa_path.proofs.Orders.{element_cmp_total, both, both_first, both_second, same_element-itself, same_element-true}
+use Rattle.ssa_path.proofs.Orders.{element_cmp_total, both_first, both_second}
 use Rattle.ssa_turn_set.specs.declared.room.Room.{Room}
 use Rattle.ssa_turn_set.specs.declared.spare.Spare.{Spare}
 use Rattle.ssa_turn_set.specs.Room.{fresh, gain_room, lose_room}
@@ -21,6 +21,9 @@ use Rattle.ssa_turn_set.proofs.Keeping.{at-middle}
 use Rattle.ssa_turn_set.proofs.Places.{filled-more, found-paths, fresh-filled, gap-paths}
 use Rattle.ssa_turn_set.proofs.Tails.{tails-apart}
 use Rattle.ssa_turn_set.proofs.Reaching.{is_below-before, rises-front, rises-joined}
+use Rattle.ssa_model.proofs.Fitting.{same_element-true}
+use Rattle.ssa_model.proofs.Tables.{element-itself as same_element-itself}
+use Rattle.ssa_model.proofs.Basics.{both-true as both}
 
 -- ---- those that are passed
 
@@ -34,6 +37,7 @@ pass-more e front c behind h before =
     (rises-front (elements front ++ element_view c.0 ∷ []) (elements behind) (ap rises (sym named) ∙ h))
     (both _ _ (both _ _ before refl) refl)
 
+-- a child that is passed moves from those that are left to those that are passed
 pub passed-items : {A : Type 0} (old passed new : List A) (c : A) (left behind : List A) → new ≡ passed ++ c ∷ [] → left ≡ c ∷ behind → passed ++ left ≡ old
     → new ++ behind ≡ old
 passed-items old passed new c left behind is next h = ap (λ l. l ++ behind) is ∙ append_assoc passed (c ∷ []) behind ∙ ap (λ l. passed ++ l) (sym next) ∙ h
@@ -65,6 +69,7 @@ module _ (e : Element) (old front : List (Elem × Trie)) (c : Elem × Trie) (beh
       ∙ found-paths e (front ++ c ∷ behind) (length front) c h.risen lt (at-middle front behind c c)
       (ap (λ (x : Elem × Trie). same_element e (element_view x.0)) (sym (at-middle front behind c c)) ∙ tie)
 
+  -- a child that stands among the old ones is a set with some path
   pub middle-filled : front ++ c ∷ behind ≡ old → are_filled_tries old ≡ true → (is_trie c.1 && is_filled c.1) ≡ true
   middle-filled is tries = both_first _ _ (both_second (are_filled_tries front) _ (sym (filled-append front (c ∷ behind)) ∙ ap are_filled_tries is ∙ tries))
 
@@ -145,6 +150,7 @@ module _ (e : Element) (old front : List (Elem × Trie)) (c : Elem × Trie) (beh
 abbrev pub HavePassed : List (Elem × Trie) → List (Elem × Trie) → Type 0
 HavePassed front left = rises (elements front ++ elements left) ≡ true
 
+-- the next child's element is behind all that are passed
 pub passed-next : (front : List (Elem × Trie)) (d : Elem × Trie) (left : List (Elem × Trie)) → HavePassed front (d ∷ left)
     → rises (elements front ++ element_view d.0 ∷ []) ≡ true
 passed-next front d left h =
@@ -170,11 +176,13 @@ gap-fits cs done left filled rooms now capacity d h place gap =
 module _ (cs done left : List (Elem × Trie)) (filled rooms : List (Spare × Room)) (now : List (Elem × Trie)) (capacity : ℕ) (d : Elem × Trie) (r : Spare × Room)
     (h : IsGaining cs done (d ∷ left) filled (r ∷ rooms) now capacity) where
   module _ (front : List (Elem × Trie)) (c : Elem × Trie) (behind : List (Elem × Trie)) (o : IsOpened (element_view d.0) now front c behind) where
+    -- the room of the next child is enough to put it into the child that was opened
     pub opened-room : gain_room d.1 (paths c.1) r.1 ≡ true
     opened-room =
         ap (λ l. gain_room d.1 l r.1) (sym (opened-tails (element_view d.0) now front c behind o))
         ∙ both_second _ _ (gaining-fits cs done left filled rooms now capacity d r h).1
 
+    -- the children, with the one that was opened, are no more than the place's capacity
     pub opened-fits : length (front ++ c ∷ behind) ≤ capacity
     opened-fits =
         let fits = (gaining-fits cs done left filled rooms now capacity d r h).0 in
@@ -182,11 +190,13 @@ module _ (cs done left : List (Elem × Trie)) (filled rooms : List (Spare × Roo
         let own = ap fresh (opened-tails (element_view d.0) now front c behind o) in
         omega arith
 
+    -- where the opened child has some path, no spare element is kept for it
     pub opened-nothing : has_some (paths c.1) ≡ true → is_nothing r.0 ≡ true
     opened-nothing some =
         ap (λ b. cond b (is_nothing r.0) (fits (element_view d.0) r.0)) (sym (ap has_some (opened-tails (element_view d.0) now front c behind o) ∙ some))
         ∙ both_first _ _ (gaining-fits cs done left filled rooms now capacity d r h).1
 
+    -- the opened child, whatever it has by now, is passed, before those that are left
     pub passed-one : (x : Elem × Trie) → element_view x.0 ≡ element_view c.0 → HavePassed (front ++ x ∷ []) left
     passed-one x same =
         let named : elements (front ++ x ∷ []) ≡ elements front ++ element_view d.0 ∷ [] =
@@ -195,6 +205,7 @@ module _ (cs done left : List (Elem × Trie)) (filled rooms : List (Spare × Roo
         let own = ap (λ f. rises (elements front ++ f ∷ [])) (sym o.element) ∙ rises-front (elements front ++ element_view c.0 ∷ []) (elements behind) before in
         ap (λ es. rises (es ++ elements left)) named ∙ rises-joined (elements front) (element_view d.0) (elements left) own h.left_rise
 
+    -- with the paths put into the opened child, one child more is put in
     pub opened-more : (m : Trie) (s : Spare × Room) (longer : ℕ) → ((p : Path) → is_one_of (paths m) p ≡ (is_one_of (paths d.1) p || is_one_of (paths c.1) p))
         → is_trie m ≡ true → is_nothing s.0 ≡ true → lose_room d.1 (paths c.1) s.1 ≡ true → capacity ≤ longer
         → IsGaining cs (done ++ d ∷ []) left (filled ++ s ∷ []) rooms (front ++ (c.0, m) ∷ behind) longer

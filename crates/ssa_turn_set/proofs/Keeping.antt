@@ -11,16 +11,19 @@ use Rattle.ssa_path.specs.View.{element_view}
 use Rattle.ssa_path.specs.Trie.{is_one_of, paths_after, paths_below, paths, is_trie, is_filled, are_filled_tries}
 use Rattle.ssa_path.proofs.Levels.{filled-is, some-none}
 use Rattle.ssa_path.proofs.Orders.{both_first, both_second}
+use Rattle.ssa_path.proofs.Removing.{child-goes, child-stays, goes-rises, goes-tries, set-rises, set-tries}
 use Rattle.ssa_turn_set.specs.Room.{fresh}
 use Rattle.ssa_turn_set.specs.Siblings.{has_any, kept}
 use Rattle.ssa_turn_set.proofs.Places.{found-paths, fresh-filled, set-apart}
-use Rattle.ssa_turn_set.proofs.Taking.{child-goes, child-stays, goes-apart, goes-rises, goes-tails, goes-tries, set-rises, set-tries}
+use Rattle.ssa_turn_set.proofs.Taking.{goes-apart, goes-tails}
 
 -- ---- those that have some path
 
+-- a child has some path just where its set has
 pub has-any-is : (c : Elem × Trie) → is_trie c.1 ≡ true → has_any c ≡ is_filled c.1
 has-any-is c h = sym (filled-is c.1 h)
 
+-- where each child has some path, all are kept
 pub kept-all : (cs : List (Elem × Trie)) → are_filled_tries cs ≡ true → kept cs ≡ cs
 kept-all [] h = refl
 kept-all (c ∷ cs) h =
@@ -28,14 +31,17 @@ kept-all (c ∷ cs) h =
     let any = has-any-is c (both_first _ _ own) ∙ both_second (is_trie c.1) _ own in
     ap (λ b. cond b (c ∷ kept cs) (kept cs)) any ∙ ap (λ l. c ∷ l) (kept-all cs (both_second (is_trie c.1 && is_filled c.1) _ h))
 
+-- a child with some path is kept among the others
 pub kept-stays : (front back : List (Elem × Trie)) (c : Elem × Trie) → has_any c ≡ true → kept (front ++ c ∷ back) ≡ kept front ++ c ∷ kept back
 kept-stays front back c any = filter-append has_any front (c ∷ back) ∙ ap (λ b. kept front ++ cond b (c ∷ kept back) (kept back)) any
 
+-- a child without a path is not kept
 pub kept-goes : (front back : List (Elem × Trie)) (c : Elem × Trie) → has_any c ≡ false → kept (front ++ c ∷ back) ≡ kept front ++ kept back
 kept-goes front back c any = filter-append has_any front (c ∷ back) ∙ ap (λ b. kept front ++ cond b (c ∷ kept back) (kept back)) any
 
 -- ---- one among others
 
+-- what stands behind a front of some length is found at that place
 pub at-middle : {A : Type 0} (front back : List A) (c d : A) → d ≡ get_or (front ++ d ∷ back) (length front) c
 at-middle [] back c d = refl
 at-middle (x ∷ front) back c d = at-middle front back c d
@@ -55,11 +61,17 @@ take-middle (x ∷ front) back c =
 
 -- the children cs without the paths of t below f, where m is what is left of its child
 pub record IsLessened (cs : List (Elem × Trie)) (f : Element) (t m : Trie) (new : List (Elem × Trie)) : Type 0 where
+  -- there are the paths of before without those that the child lost
   pub paths_are : (p : Path) → is_one_of (paths_below new) p ≡ (is_one_of (paths_below cs) p && not (is_one_of (paths_after f (paths t)) p))
+  -- the elements stand in order
   pub risen : rises (elements new) ≡ true
+  -- each child is a set with some path
   pub tries : are_filled_tries new ≡ true
+  -- below other elements nothing has changed
   pub apart : (e : Element) → same_element e f ≡ false → tails e (paths_below new) ≡ tails e (paths_below cs)
+  -- there are as many as before, or one less where the child has gone
   pub len : length new + fresh (tails f (paths_below new)) ≡ length cs
+  -- below the element there is what is left of its child
   pub tails_are : tails f (paths_below new) ≡ paths m
 
 module _ (front back : List (Elem × Trie)) (c : Elem × Trie) (f : Element) (t m : Trie) (rise : rises (elements (front ++ c ∷ back)) ≡ true)
@@ -74,12 +86,13 @@ module _ (front back : List (Elem × Trie)) (c : Elem × Trie) (f : Element) (t 
   is : c ≡ get_or cs (length front) c
   is = at-middle front back c c
 
+  -- a child that keeps some path stays among the others
   pub less-stays : is_trie m ≡ true → is_filled m ≡ true → IsLessened cs f t m (front ++ (c.0, m) ∷ back)
   less-stays trie some =
       let new : set cs (length front) (c.0, m) ≡ front ++ (c.0, m) ∷ back = set-middle front back c (c.0, m) in
       subst (λ l. IsLessened cs f t m l) new
       (record {
-        paths_are = child-stays cs (length front) f t c rise lt is tie m made;
+        paths_are = child-stays cs (length front) f (paths t) c rise lt is tie m made;
         risen = set-rises cs (length front) c m lt is rise;
         tries = set-tries cs (length front) c m lt is trie some filled;
         apart = λ e apart. set-apart e f cs (length front) c m lt is tie apart;
@@ -95,18 +108,19 @@ module _ (front back : List (Elem × Trie)) (c : Elem × Trie) (f : Element) (t 
           found-paths f (set cs (length front) (c.0, m)) (length front) (c.0, m) (set-rises cs (length front) c m lt is rise) long here
           (ap (λ (x : Elem × Trie). same_element f (element_view x.0)) (sym here) ∙ tie)
 
+  -- a child that keeps no path goes from among the others
   pub less-goes : is_filled m ≡ false → IsLessened cs f t m (front ++ back)
   less-goes bare =
       let none = some-none (paths m) bare in
-      let left = goes-tails cs (length front) f t c rise lt is tie ∙ sym none in
+      let left = goes-tails cs (length front) f c rise lt is tie ∙ sym none in
       subst (λ l. IsLessened cs f t m l) (take-middle front back c)
       (record {
-        paths_are = child-goes cs (length front) f t c rise lt is tie (λ q. sym (made q) ∙ ap (λ l. is_one_of l q) none);
-        risen = goes-rises cs (length front) f t c rise lt is tie;
+        paths_are = child-goes cs (length front) f (paths t) c rise lt is tie (λ q. sym (made q) ∙ ap (λ l. is_one_of l q) none);
+        risen = goes-rises cs (length front) c rise lt is;
         tries = goes-tries cs (length front) c lt is filled;
-        apart = goes-apart cs (length front) f t c rise lt is tie;
+        apart = goes-apart cs (length front) f c rise lt is tie;
         len =
-            let one = ap fresh (goes-tails cs (length front) f t c rise lt is tie) in
+            let one = ap fresh (goes-tails cs (length front) f c rise lt is tie) in
             let short = ap length (take-middle front back c) in
             let a = length-append front back in
             let b = length-append front (c ∷ back) in

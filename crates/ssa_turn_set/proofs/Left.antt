@@ -14,7 +14,7 @@ use Rattle.ssa_path.specs.Children.{child_at, elements, is_below, rises}
 use Rattle.ssa_path.specs.View.{element_view}
 use Rattle.ssa_path.specs.Trie.{here_path, is_one_of, is_trie, paths, paths_after, paths_below, Exceeds, IsWithin}
 use Rattle.ssa_path.proofs.Levels.{any-paths, found, paths-level, same_path-reading, some-one, trie-parts}
-use Rattle.ssa_path.proofs.Orders.{both, both_first, both_second, same_element-itself, same_element-true}
+use Rattle.ssa_path.proofs.Orders.{both_first, both_second}
 use Rattle.ssa_path.proofs.Lists.{taken-at}
 use Rattle.ssa_path.proofs.Searching.{absent-below}
 use Rattle.ssa_turn_set.specs.declared.room.Room.{Room}
@@ -24,6 +24,9 @@ use Rattle.ssa_turn_set.specs.declared.spare.Spare.{Spare}
 use Rattle.ssa_turn_set.specs.Room.{fresh, freshes, going, left, lose_one, lose_room, loses, losses}
 use Rattle.ssa_turn_set.proofs.Places.{fresh-filled, place-tails, roomy-holds}
 use Rattle.ssa_turn_set.proofs.Rooms.{lose_room-level}
+use Rattle.ssa_model.proofs.Fitting.{same_element-true}
+use Rattle.ssa_model.proofs.Tables.{element-itself as same_element-itself}
+use Rattle.ssa_model.proofs.Basics.{both-true as both}
 
 -- ---- behind an element
 
@@ -37,7 +40,8 @@ first-filter : (e f : Element) (p : Path) (ps : List Path) (test : Path → Bool
     → tails e (cond b ((f ∷ p) ∷ filter test ps) (filter test ps)) ≡ filter (λ q. test (e ∷ q)) (cond s (p ∷ tails e ps) (tails e ps))
 first-filter e f p ps test true same true passes rest =
     let here = ap (λ g. test (g ∷ p)) (same_element-true e f same) ∙ passes in
-    (λ i. cond (same i) (p ∷ rest i) (rest i)) ∙ sym (ap (λ b. cond b (p ∷ filter (λ q. test (e ∷ q)) (tails e ps)) (filter (λ q. test (e ∷ q)) (tails e ps))) here)
+    (λ i. cond (same i) (p ∷ rest i) (rest i)) ∙ sym (ap (λ b. cond b (p ∷ filter (λ q. test (e ∷ q)) (tails e ps)) (filter (λ q. test (e ∷ q)) (tails e ps)))
+    here)
 first-filter e f p ps test true same false fails rest =
     let here = ap (λ g. test (g ∷ p)) (same_element-true e f same) ∙ fails in
     rest ∙ sym (ap (λ b. cond b (p ∷ filter (λ q. test (e ∷ q)) (tails e ps)) (filter (λ q. test (e ∷ q)) (tails e ps))) here)
@@ -57,11 +61,14 @@ abbrev pub AllChildren : (Element → Trie → Type 0) → List (Elem × Trie) �
 AllChildren P [] = Unit {0}
 AllChildren P (c ∷ cs) = P (element_view c.0) c.1 × AllChildren P cs
 
-skip : (b : Bool) (e : Element) (c : Elem × Trie) (cs : List (Elem × Trie)) (d : Trie) → same_element e (element_view c.0) ≡ b → is_below (element_view c.0) (elements cs) ≡ true → child_at e cs ≡ Some d → cond b (Some c.1) (child_at e cs) ≡ Some d
+skip : (b : Bool) (e : Element) (c : Elem × Trie) (cs : List (Elem × Trie)) (d : Trie) → same_element e (element_view c.0) ≡ b
+    → is_below (element_view c.0) (elements cs) ≡ true → child_at e cs ≡ Some d → cond b (Some c.1) (child_at e cs) ≡ Some d
 skip true e c cs d same below at = let none : ◌≡◌ {A = Option Trie} None (Some d) = sym (absent-below e (element_view c.0) cs same below) ∙ at in cc
 skip false e c cs d same below at = at
 
-pub all-children : (P : Element → Trie → Type 0) (cs : List (Elem × Trie)) → rises (elements cs) ≡ true → ((e : Element) (c : Trie) → child_at e cs ≡ Some c → P e c) → AllChildren P cs
+-- what holds of whatever child is found under an element holds of each child
+pub all-children : (P : Element → Trie → Type 0) (cs : List (Elem × Trie)) → rises (elements cs) ≡ true
+    → ((e : Element) (c : Trie) → child_at e cs ≡ Some c → P e c) → AllChildren P cs
 all-children P [] rise h = tt
 all-children P (c ∷ cs) rise h = (
   h (element_view c.0) c.1 (ap (λ b. cond b (Some c.1) (child_at (element_view c.0) cs)) (same_element-itself (element_view c.0))),
@@ -72,10 +79,12 @@ all-children P (c ∷ cs) rise h = (
 abbrev pub IsLeft : List Path → List Path → Element → Trie → Type 0
 IsLeft ps qs e c = tails e qs ≡ left (tails e ps) (paths c)
 
+-- the children that go whole are those with which none of the paths that are left begins
 pub going-is : (ds : List (Elem × Trie)) (ps qs : List Path) → AllChildren (IsLeft ps qs) ds → going ds ps ≡ freshes ds qs
 going-is [] ps qs h = refl
 going-is (d ∷ ds) ps qs h = λ i. fresh (sym h.0 i) + going-is ds ps qs h.1 i
 
+-- rooms that are enough for the children to be lost are enough to take them out, told by the paths that are left
 pub losses-are : (ds : List (Elem × Trie)) (ps qs : List Path) (rs : List (Spare × Room)) → AllChildren (IsLeft ps qs) ds → losses ds ps rs ≡ loses ds qs rs
 losses-are [] ps qs [] h = refl
 losses-are [] ps qs (r ∷ rs) h = refl
@@ -83,13 +92,15 @@ losses-are (d ∷ ds) ps qs [] h = refl
 losses-are (d ∷ ds) ps qs (r ∷ rs) h = λ i. lose_one d (sym h.0 i) r && losses-are ds ps qs rs h.1 i
 
 -- of a set without some of its paths, behind each child of those
-pub left-below : (lost own : Trie) → is_trie lost ≡ true → AllChildren (IsLeft (paths_below (out-Trie own).below.items) (left (paths own) (paths lost))) (out-Trie lost).below.items
+pub left-below : (lost own : Trie) → is_trie lost ≡ true → AllChildren (IsLeft (paths_below (out-Trie own).below.items) (left (paths own) (paths lost)))
+    (out-Trie lost).below.items
 left-below lost own trie =
     all-children _ (out-Trie lost).below.items (trie-parts lost _ refl trie).0 (λ e c at.
     tails-filter e (λ p. not (is_one_of (paths lost) p)) (paths own)
     ∙ (λ i. filter (λ p. not ((any-paths same_path same_path-reading lost e p trie ∙ ap (λ x. found same_path x p) at) i)) (place-tails own e i)))
 
-going-more : (ds : List (Elem × Trie)) (d : Elem × Trie) (ps : List Path) → going (ds ++ d ∷ []) ps ≡ going ds ps + fresh (left (tails (element_view d.0) ps) (paths d.1))
+going-more : (ds : List (Elem × Trie)) (d : Elem × Trie) (ps : List Path)
+    → going (ds ++ d ∷ []) ps ≡ going ds ps + fresh (left (tails (element_view d.0) ps) (paths d.1))
 going-more [] d ps = let n = fresh (left (tails (element_view d.0) ps) (paths d.1)) in omega arith
 going-more (c ∷ ds) d ps = let rest = going-more ds d ps in omega arith
 
@@ -119,8 +130,10 @@ block-more : (e : Element) (ps qs : List Path) → length (heads (paths_after e 
 block-more e [] qs = omega arith
 block-more e (p ∷ ps) qs = let is = ap length (block-heads e p ps qs) in let more = head-more e (heads qs) in omega arith
 
-one-after : (f : Element) (p : Path) (ps : List Path) (test : Path → Bool) (b : Bool) → filter test (paths_after f ps) ≡ paths_after f (filter (λ q. test (f ∷ q)) ps)
-    → cond b ((f ∷ p) ∷ filter test (paths_after f ps)) (filter test (paths_after f ps)) ≡ paths_after f (cond b (p ∷ filter (λ q. test (f ∷ q)) ps) (filter (λ q. test (f ∷ q)) ps))
+one-after : (f : Element) (p : Path) (ps : List Path) (test : Path → Bool) (b : Bool)
+    → filter test (paths_after f ps) ≡ paths_after f (filter (λ q. test (f ∷ q)) ps)
+    → cond b ((f ∷ p) ∷ filter test (paths_after f ps)) (filter test (paths_after f ps))
+    ≡ paths_after f (cond b (p ∷ filter (λ q. test (f ∷ q)) ps) (filter (λ q. test (f ∷ q)) ps))
 one-after f p ps test true rest = ap (λ l. (f ∷ p) ∷ l) rest
 one-after f p ps test false rest = rest
 
@@ -132,7 +145,8 @@ heads-filter : (test : Path → Bool) (cs : List (Elem × Trie)) → length (hea
 heads-filter test [] = omega arith
 heads-filter test (c ∷ cs) =
     let e = element_view c.0 in
-    let split = ap (λ l. length (heads l)) (filter-append test (paths_after e (paths c.1)) (paths_below cs) ∙ ap (λ l. l ++ filter test (paths_below cs)) (after-filter e test (paths c.1))) in
+    let split = ap (λ l. length (heads l)) (filter-append test (paths_after e (paths c.1)) (paths_below cs)
+    ∙ ap (λ l. l ++ filter test (paths_below cs)) (after-filter e test (paths c.1))) in
     let first = block-more e (filter (λ p. test (e ∷ p)) (paths c.1)) (filter test (paths_below cs)) in
     let rest = heads-filter test cs in
     omega arith
@@ -150,12 +164,15 @@ pub heads-left : (own : Trie) (qs : List Path) → length (heads (left (paths ow
 heads-left own qs =
     let test : Path → Bool = λ p. not (is_one_of qs p) in
     let cs = (out-Trie own).below.items in
-    let is = ap (λ l. length (heads (filter test l))) (paths-level own) ∙ ap (λ l. length (heads l)) (filter-append test (here_path (out-Trie own).here) (paths_below cs)) ∙ ap length (here-filter (out-Trie own).here test (filter test (paths_below cs))) in
+    let is = ap (λ l. length (heads (filter test l))) (paths-level own)
+    ∙ ap (λ l. length (heads l)) (filter-append test (here_path (out-Trie own).here) (paths_below cs))
+    ∙ ap length (here-filter (out-Trie own).here test (filter test (paths_below cs))) in
     let most = heads-filter test cs in
     omega arith
 
 -- ---- whether some path is left
 
+-- where all of the paths are lost, nothing is left
 pub all-goes : (ps qs : List Path) → IsWithin ps qs → fresh (left ps qs) ≡ 1
 all-goes ps qs h = by (left ps qs) refl
   where
@@ -165,6 +182,7 @@ all-goes ps qs h = by (left ps qs) refl
         let there = sym (is_one_of-filter (λ q. not (is_one_of qs q)) ps p) ∙ ap (λ l. is_one_of l p) is ∙ ap (λ b. b || is_one_of xs p) (same_path-itself p) in
         absurd (true≢false (sym (both_second (is_one_of ps p) _ there) ∙ ap not (h p (both_first (is_one_of ps p) _ there))))
 
+-- where the paths have more than is lost, something is left
 pub some-stays : (ps qs : List Path) → Exceeds ps qs → fresh (left ps qs) ≡ 0
 some-stays ps qs h =
     let there = is_one_of-filter (λ q. not (is_one_of qs q)) ps h.0 ∙ (λ i. h.1 i && not (h.2 i)) in
@@ -172,10 +190,13 @@ some-stays ps qs h =
 
 -- ---- one more
 
-pub going-one-more : (cs : List (Elem × Trie)) (ps : List Path) (i count one : ℕ) (c : Elem × Trie) → i < length cs → c ≡ get_or cs i c → count ≡ going (take i cs) ps
+-- one child more that goes whole, or does not, counts as one more or as none
+pub going-one-more : (cs : List (Elem × Trie)) (ps : List Path) (i count one : ℕ) (c : Elem × Trie) → i < length cs → c ≡ get_or cs i c
+    → count ≡ going (take i cs) ps
     → one ≡ fresh (left (tails (element_view c.0) ps) (paths c.1)) → count + one ≡ going (take (i + 1) cs) ps
 going-one-more cs ps i count one c lt is e f = (λ j. e j + f j) ∙ sym (ap (λ l. going l ps) (taken-at cs i c lt is) ∙ going-more (take i cs) c ps)
 
+-- one room more is enough for one child more to be lost
 pub losses-more : (ds : List (Elem × Trie)) (d : Elem × Trie) (ps : List Path) (rs : List (Spare × Room)) (r : Spare × Room) → losses ds ps rs ≡ true
     → lose_one d (left (tails (element_view d.0) ps) (paths d.1)) r ≡ true → losses (ds ++ d ∷ []) ps (rs ++ r ∷ []) ≡ true
 losses-more [] d ps [] r h k = both _ _ k refl
@@ -200,6 +221,7 @@ loss-rolled t s x h empty fits l =
     ∙ both _ _
     (roomy-holds (freshes ds new) (length (heads new)) (roll-Room x) (record {
       empty = ap (λ y. y.children.items) is ∙ empty;
-      fits = λ lt. subst (λ n. length (heads new) ≤ n) (sym (ap (λ y. vec_capacity y.children) is)) (let enough = fits (subst (λ n. 0 < n) (sym (going-is ds old new each)) lt) in omega arith);
+      fits = λ lt. subst (λ n. length (heads new) ≤ n) (sym (ap (λ y. vec_capacity y.children) is)) (let enough =
+          fits (subst (λ n. 0 < n) (sym (going-is ds old new each)) lt) in omega arith);
     }))
     (ap (λ y. loses ds new y.below.items) is ∙ sym (losses-are ds old new x.below.items each) ∙ l)

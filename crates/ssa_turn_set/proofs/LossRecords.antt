@@ -8,12 +8,12 @@ use Rattle.ssa_path.specs.declared.trie.Trie.{Trie}
 use Rattle.ssa_path.specs.Trie.{is_one_of, is_trie, paths}
 use Rattle.ssa_path.specs.Combine.{IsCombination}
 use Rattle.ssa_path.specs.declared.combine.Combination.TheVariants.{Meet}
-use Rattle.ssa_path.proofs.Orders.{both}
-use Rattle.ssa_path.proofs.Sets.{has-listed}
 use Rattle.ssa_turn_set.specs.declared.turn.SetDelta.{SetDelta}
 use Rattle.ssa_turn_set.specs.Room.{gain_room, left, lose_room}
 use Rattle.ssa_turn_set.specs.Turn.{IsBetween, IsLed, set_between, set_steps}
 use Rattle.ssa_turn_set.proofs.Turning.{led-between, listed-paths, meets}
+use Rattle.ssa_model.proofs.Lists.{has-listed}
+use Rattle.ssa_model.proofs.Basics.{both-true as both}
 
 nothing-new : (s l : Bool) → ((s && not l) && not s) ≡ false
 nothing-new true true = refl
@@ -35,7 +35,8 @@ loss-between s o d trie none bare lost gain lose =
     let other : PathSet = listed (paths o) in
     let rest : PathSet = minus own other in
     let gained : listed (paths d.gain) ≡ minus rest own =
-    ap listed none ∙ same_sets _ _ (λ p. has-listed [] p ∙ sym (has-minus rest own p ∙ ap (λ b. b && not (has own p)) (has-minus own other p) ∙ nothing-new (has own p) (has other p))) in
+    ap listed none ∙ same_sets _ _ (λ p. has-listed [] p ∙ sym (has-minus rest own p ∙ ap (λ b. b && not (has own p)) (has-minus own other p)
+    ∙ nothing-new (has own p) (has other p))) in
     let taken : listed (paths d.lose) ≡ minus own rest =
     same_sets _ _ (λ p.
     has-listed (paths d.lose) p ∙ lost.paths_are p ∙ (λ i. sym (has-listed (paths s) p) i && sym (has-listed (paths o) p) i) ∙ meets (has own p) (has other p)
@@ -52,5 +53,7 @@ loss-between s o d trie none bare lost gain lose =
       };
     }
 
-pub loss-sets : (s o : Trie) (u v : PathSet) (d : SetDelta) → listed (paths s) ≡ u → listed (paths o) ≡ v → IsBetween (listed (paths s)) (minus (listed (paths s)) (listed (paths o))) d → IsBetween u (minus u v) d
+-- a record of a loss between the sets of two tries is one between equal sets
+pub loss-sets : (s o : Trie) (u v : PathSet) (d : SetDelta) → listed (paths s) ≡ u → listed (paths o) ≡ v
+    → IsBetween (listed (paths s)) (minus (listed (paths s)) (listed (paths o))) d → IsBetween u (minus u v) d
 loss-sets s o u v d own other h = subst (λ y. IsBetween u (minus u y) d) other (subst (λ x. IsBetween x (minus x (listed (paths o))) d) own h)

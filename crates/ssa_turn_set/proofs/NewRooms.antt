@@ -18,10 +18,12 @@ use Rattle.ssa_model.specs.definitions.FieldsV1.{tails}
 use Rattle.ssa_turn_set.proofs.Places.{coming, gain-made}
 use Rattle.ssa_turn_set.proofs.Losing.{freshes-more}
 
-child-is : (b : Bool) (x c : Trie) (rest : Option Trie) → (is_trie x && is_filled x) ≡ true → (rest ≡ Some c → (is_trie c && is_filled c) ≡ true) → cond b (Some x) rest ≡ Some c → (is_trie c && is_filled c) ≡ true
+child-is : (b : Bool) (x c : Trie) (rest : Option Trie) → (is_trie x && is_filled x) ≡ true → (rest ≡ Some c → (is_trie c && is_filled c) ≡ true)
+    → cond b (Some x) rest ≡ Some c → (is_trie c && is_filled c) ≡ true
 child-is true x c rest here later e = let same : x ≡ c = cc in ap (λ y. is_trie y && is_filled y) (sym same) ∙ here
 child-is false x c rest here later e = later e
 
+-- a child that is found among sets with some path is one of them
 pub found-child : (e : Element) (cs : List (Elem × Trie)) (c : Trie) → are_filled_tries cs ≡ true → child_at e cs ≡ Some c → (is_trie c && is_filled c) ≡ true
 found-child e [] c h s = cc
 found-child e (x ∷ cs) c h s = child-is (same_element e (element_view x.0)) x.1 c (child_at e cs) (both_first _ _ h) (found-child e cs c (both_second _ _ h)) s
@@ -30,11 +32,14 @@ at-most-one : (ps : List Path) → fresh ps ≤ 1
 at-most-one [] = omega arith
 at-most-one (p ∷ ps) = omega arith
 
+-- no more children come than there are
 pub freshes-most : (ds : List (Elem × Trie)) (ps : List Path) → freshes ds ps ≤ length ds
 freshes-most [] ps = omega arith
 freshes-most (d ∷ ds) ps = let a = at-most-one (tails (element_view d.0) ps) in let b = freshes-most ds ps in omega arith
 
-pub gain-rolled : (t s : Trie) (x : Room-F Room) → is_trie s ≡ true → x.children.items ≡ [] → (0 < coming t s → length (out-Trie s).below.items + coming t s ≤ vec_capacity x.children)
+-- a room is enough to put a set in where its own vector is and each child's room is
+pub gain-rolled : (t s : Trie) (x : Room-F Room) → is_trie s ≡ true → x.children.items ≡ []
+    → (0 < coming t s → length (out-Trie s).below.items + coming t s ≤ vec_capacity x.children)
     → gains (out-Trie t).below.items (paths_below (out-Trie s).below.items) x.below.items ≡ true → gain_room t (paths s) (roll-Room x) ≡ true
 gain-rolled t s x h empty fits l =
     let is : out-Room (roll-Room x) ≡ x = out-roll-Room x in
@@ -45,5 +50,7 @@ gain-rolled t s x h empty fits l =
     })
     (ap (λ y. gains (out-Trie t).below.items (paths_below (out-Trie s).below.items) y.below.items) is ∙ l)
 
-pub counted-more : (cs : List (Elem × Trie)) (ps : List Path) (i count one : ℕ) (c : Elem × Trie) → i < length cs → c ≡ get_or cs i c → count ≡ freshes (take i cs) ps → one ≡ fresh (tails (element_view c.0) ps) → count + one ≡ freshes (take (i + 1) cs) ps
+-- one child more that comes, or does not, counts as one more or as none
+pub counted-more : (cs : List (Elem × Trie)) (ps : List Path) (i count one : ℕ) (c : Elem × Trie) → i < length cs → c ≡ get_or cs i c
+    → count ≡ freshes (take i cs) ps → one ≡ fresh (tails (element_view c.0) ps) → count + one ≡ freshes (take (i + 1) cs) ps
 counted-more cs ps i count one c lt is e f = (λ j. e j + f j) ∙ sym (ap (λ l. freshes l ps) (taken-at cs i c lt is) ∙ freshes-more (take i cs) c ps)

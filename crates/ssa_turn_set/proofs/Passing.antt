@@ -11,7 +11,8 @@ use Rattle.ssa_path.specs.Trie.{is_one_of, paths_after, paths_below, paths, is_t
 use Rattle.ssa_path.proofs.FieldsMembers.{child-filled}
 use Rattle.ssa_path.proofs.Levels.{same_path-reading, any-after, any-below, found}
 use Rattle.ssa_path.proofs.Lists.{child-trie, elements-append, left-at, parted, parted-set, rises-drop, taken-at}
-use Rattle.ssa_path.proofs.Orders.{both, both_first, both_second, same_element-itself, same_element-true}
+use Rattle.ssa_path.proofs.Orders.{both_first, both_second}
+use Rattle.ssa_path.proofs.Removing.{found-one, set-tries}
 use Rattle.ssa_path.proofs.Searching.{apart-before, below-middle}
 use Rattle.ssa_turn_set.specs.declared.room.Room.{Room}
 use Rattle.ssa_turn_set.specs.declared.spare.Spare.{Spare}
@@ -19,20 +20,30 @@ use Rattle.ssa_turn_set.specs.Room.{gain_one, lose_one, loses}
 use Rattle.ssa_turn_set.specs.Siblings.{kept}
 use Rattle.ssa_turn_set.proofs.Keeping.{IsLessened, has-any-is, kept-all, kept-goes, kept-stays, less-goes, less-stays}
 use Rattle.ssa_turn_set.proofs.Losing.{IsLosing, losing-more, losing-none}
-use Rattle.ssa_turn_set.proofs.Places.{a_path, left-set}
+use Rattle.ssa_turn_set.proofs.Places.{left-set}
 use Rattle.ssa_turn_set.proofs.Reaching.{rises-joined, rises-near}
-use Rattle.ssa_turn_set.proofs.Taking.{found-one, set-tries}
+use Rattle.ssa_model.proofs.Basics.{both-true as both}
+use Rattle.ssa_model.proofs.Tables.{element-itself as same_element-itself}
+use Rattle.ssa_model.proofs.Fitting.{same_element-true}
+use Rattle.ssa_path.proofs.LyingWithin.{some-path as a_path}
 
 -- Those of `done` are taken out of the children cs, which have become `now`: those before `start` have been passed, and those from there on are as
 -- they were. Where `any` is false, none of them is without paths.
 pub record IsPassing (cs done left : List (Elem × Trie)) (old filled rooms : List (Spare × Room)) (now : List (Elem × Trie)) (start : ℕ)
     (any : Bool) : Type 0 where
+  -- without the children that have no path left, they are taken out as told
   pub losing : IsLosing cs done left old filled rooms (kept now)
+  -- those not passed are as they were
   pub same : drop start now ≡ drop start cs
+  -- there are as many as there were
   pub long : length now ≡ length cs
+  -- what is passed is within the children
   pub within : start ≤ length cs
+  -- those that are passed are before those still to be taken out
   pub passed : rises (elements (take start cs) ++ elements left) ≡ true
+  -- what is still to be taken out lies within the children
   pub inside : (p : Path) → is_one_of (paths_below left) p ≡ true → is_one_of (paths_below cs) p ≡ true
+  -- where none is without paths, each has some
   pub all_filled : any ≡ false → are_filled_tries now ≡ true
 
 -- ---- where the next child is
@@ -74,12 +85,14 @@ not-bare a false h k = absurd (true≢false (sym h ∙ k))
 module _ (cs : List (Elem × Trie)) (rise : rises (elements cs) ≡ true) (tries : are_filled_tries cs ≡ true) (done left : List (Elem × Trie))
     (old filled rest : List (Spare × Room)) (now : List (Elem × Trie)) (start : ℕ) (any : Bool)
     (d : Elem × Trie) (h : IsPassing cs done (d ∷ left) old filled rest now start any) where
+  -- those not passed stand in order
   pub next-rises : rises (elements (drop start now)) ≡ true
   next-rises =
       ap (λ l. rises (elements l)) h.same
       ∙ rises-drop (elements (take start cs)) (elements (drop start cs))
       (ap rises (sym (elements-append (take start cs) (drop start cs))) ∙ ap (λ l. rises (elements l)) (take-append-drop start cs) ∙ rise)
 
+  -- the next child is found among those not passed
   pub next-present : child_at (element_view d.0) (drop start now) ≡ None → ⊥
   next-present none =
       let e = element_view d.0 in
@@ -102,12 +115,15 @@ module _ (cs : List (Elem × Trie)) (rise : rises (elements cs) ≡ true) (tries
         is ∙ ap (λ n. get_or now n c) (sym there) ∙ sym (get_or-drop start now (place - start) c) ∙ ap (λ l. get_or l (place - start) c) h.same
         ∙ get_or-drop start cs (place - start) c ∙ ap (λ n. get_or cs n c) there
 
+    -- the child found there has the next element
     pub child-tie : same_element (element_view d.0) (element_view c.0) ≡ true
     child-tie = ap (λ (x : Elem × Trie). same_element (element_view d.0) (element_view x.0)) is ∙ at.same c
 
+    -- its set is a trie
     pub child-is-trie : is_trie c.1 ≡ true
     child-is-trie = child-trie cs place c in_old as_was tries
 
+    -- what is to be taken out lies within it
     pub child-within : (p : Path) → is_one_of (paths d.1) p ≡ true → is_one_of (paths c.1) p ≡ true
     child-within p k = sym (found-one (element_view d.0) cs place c p rise in_old as_was child-tie) ∙ h.inside (element_view d.0 ∷ p) (left-one d left p k)
 
@@ -156,6 +172,7 @@ module _ (cs : List (Elem × Trie)) (rise : rises (elements cs) ≡ true) (tries
               subst (λ l. IsLessened (kept front ++ c ∷ kept back) (element_view d.0) d.1 m.1 l) (sym new)
               (less-goes (kept front) (kept back) c (element_view d.0) d.1 m.1 risen tries_now child-tie made none)
 
+      -- with the paths taken out of the child found there, it is passed
       pub passing-more : (more : Bool) → more ≡ (any || bare)
           → IsPassing cs (done ++ d ∷ []) left (old ++ r ∷ []) (filled ++ s ∷ []) rooms (set now place m) (place + 1) more
       passing-more more is_more =
@@ -182,6 +199,7 @@ module _ (cs : List (Elem × Trie)) (rise : rises (elements cs) ≡ true) (tries
 
 -- ---- in a loop
 
+-- at first nothing is passed
 pub passing-none : (cs ds : List (Elem × Trie)) (rooms : List (Spare × Room)) (ps : List Path) → rises (elements cs) ≡ true → are_filled_tries cs ≡ true
     → rises (elements ds) ≡ true → are_filled_tries ds ≡ true
     → ((p : Path) → is_one_of (paths_below ds) p ≡ true → is_one_of (paths_below cs) p ≡ true)
@@ -196,12 +214,14 @@ passing-none cs ds rooms ps risen tries left_rise left_tries within form = recor
   all_filled = λ j. tries;
 }
 
+-- the next child is the first of those still to be taken out
 pub passing-at : (cs ds : List (Elem × Trie)) (old filled rooms : List (Spare × Room)) (now : List (Elem × Trie)) (start : ℕ) (any : Bool) (i : ℕ)
     (d : Elem × Trie)
     → i < length ds → d ≡ get_or ds i d → IsPassing cs (take i ds) (drop i ds) old filled rooms now start any
     → IsPassing cs (take i ds) (d ∷ drop (i + 1) ds) old filled rooms now start any
 passing-at cs ds old filled rooms now start any i d lt is h = subst (λ l. IsPassing cs (take i ds) l old filled rooms now start any) (left-at ds i d lt is) h
 
+-- after a step one child and one room more are done
 pub passing-next : (cs ds : List (Elem × Trie)) (rs ns : List (Spare × Room)) (now : List (Elem × Trie)) (start : ℕ) (any : Bool) (i : ℕ) (d : Elem × Trie)
     (r s : Spare × Room)
     → i < length ds → d ≡ get_or ds i d → i < length rs → r ≡ get_or rs i r → i < length ns

@@ -13,7 +13,7 @@ use Rattle.ssa_path.specs.declared.trie.Trie.TheViews.{out-Trie}
 use Rattle.ssa_path.specs.Children.{elements, rises}
 use Rattle.ssa_path.specs.View.{element_view}
 use Rattle.ssa_path.specs.Trie.{has_some, is_one_of, paths_below, paths, is_trie}
-use Rattle.ssa_path.proofs.Orders.{both, both_first, both_second, same_element-true}
+use Rattle.ssa_path.proofs.Orders.{both_first, both_second}
 use Rattle.ssa_path.proofs.Searching.{child-found, child-absent}
 use Rattle.ssa_path.proofs.Lists.{parted, parted-set}
 use Rattle.ssa_path.proofs.Levels.{paths-level, trie-parts, some-one}
@@ -24,6 +24,9 @@ use Rattle.ssa_turn_set.specs.Room.{fresh, freshes, holds, if_any, gain_room, lo
 use Rattle.ssa_turn_set.proofs.Tails.{heads-count, tails-below, tails-apart, paths_of}
 use Rattle.ssa_path.proofs.FieldsLevels.{tails-here}
 use Rattle.ssa_turn_set.proofs.Rooms.{gain_room-level, lose_room-level, AreAlike, all-alike, gains-alike, loses-alike, freshes-alike}
+use Rattle.ssa_model.proofs.Fitting.{same_element-true}
+use Rattle.ssa_path.proofs.LyingWithin.{some-path as a_path}
+use Rattle.ssa_model.proofs.Basics.{both-true as both}
 
 -- ---- what is told of the place's own room
 
@@ -44,12 +47,19 @@ fits_any (suc f) n c h = le-leb n c (h (omega arith))
 
 -- room for n children, where f come or go
 pub record IsRoomy (f n : ℕ) (r : Room) : Type 0 where
+  -- the place's own vector is empty
   pub empty : (out-Room r).children.items ≡ []
+  -- where some come or go, the vector has place for so many
   pub fits : 0 < f → n ≤ vec_capacity (out-Room r).children
 
+-- what is tested of the place's own room holds
 pub roomy : (f n : ℕ) (r : Room) → holds f n r ≡ true → IsRoomy f n r
-roomy f n r h = record { empty = no_items (out-Room r).children.items (both_first _ _ h); fits = any_fits f n _ (both_second (not (has_some {A = Elem × Trie} (out-Room r).children.items)) _ h) }
+roomy f n r h = record {
+  empty = no_items (out-Room r).children.items (both_first _ _ h);
+  fits = any_fits f n _ (both_second (not (has_some {A = Elem × Trie} (out-Room r).children.items)) _ h);
+}
 
+-- room of which this holds passes the test
 pub roomy-holds : (f n : ℕ) (r : Room) → IsRoomy f n r → holds f n r ≡ true
 roomy-holds f n r h = both _ _ (items_none (out-Room r).children.items h.empty) (fits_any f n _ h.fits)
 
@@ -57,11 +67,13 @@ roomy-holds f n r h = both _ _ (items_none (out-Room r).children.items h.empty) 
 pub place-tails : (s : Trie) (e : Element) → tails e (paths s) ≡ tails e (paths_below (out-Trie s).below.items)
 place-tails s e = ap (tails e) (paths-level s) ∙ tails-here e (out-Trie s).here (paths_below (out-Trie s).below.items)
 
+-- the paths of a set begin with as many elements as it has children
 pub place-heads : (s : Trie) → is_trie s ≡ true → length (heads (paths s)) ≡ length (out-Trie s).below.items
 place-heads s h =
     let parts = trie-parts s _ refl h in
     ap (λ ps. length (heads ps)) (paths-level s) ∙ heads-count (out-Trie s).here (out-Trie s).below.items parts.0 parts.1
 
+-- below children the paths of a set are as those below its place
 pub place-alike : (ds : List (Elem × Trie)) (s : Trie) → AreAlike ds (paths s) (paths_below (out-Trie s).below.items)
 place-alike ds s = all-alike ds (paths s) (paths_below (out-Trie s).below.items) (place-tails s)
 
@@ -72,40 +84,62 @@ coming t s = freshes (out-Trie t).below.items (paths_below (out-Trie s).below.it
 same-coming : (t s : Trie) → freshes (out-Trie t).below.items (paths s) ≡ coming t s
 same-coming t s = freshes-alike (out-Trie t).below.items (paths s) (paths_below (out-Trie s).below.items) (place-alike (out-Trie t).below.items s)
 
-gain-holds : (t s : Trie) (r : Room) → is_trie s ≡ true → holds (freshes (out-Trie t).below.items (paths s)) (length (heads (paths s)) + freshes (out-Trie t).below.items (paths s)) r ≡ holds (coming t s) (length (out-Trie s).below.items + coming t s) r
+gain-holds : (t s : Trie) (r : Room) → is_trie s ≡ true → holds (freshes (out-Trie t).below.items (paths s))
+    (length (heads (paths s)) + freshes (out-Trie t).below.items (paths s)) r ≡ holds (coming t s) (length (out-Trie s).below.items + coming t s) r
 gain-holds t s r h = λ i. holds (same-coming t s i) (place-heads s h i + same-coming t s i) r
 
-lose-holds : (t s : Trie) (r : Room) → is_trie s ≡ true → holds (freshes (out-Trie t).below.items (paths s)) (length (heads (paths s))) r ≡ holds (coming t s) (length (out-Trie s).below.items) r
+lose-holds : (t s : Trie) (r : Room) → is_trie s ≡ true → holds (freshes (out-Trie t).below.items (paths s)) (length (heads (paths s))) r
+    ≡ holds (coming t s) (length (out-Trie s).below.items) r
 lose-holds t s r h = λ i. holds (same-coming t s i) (place-heads s h i) r
 
-pub gain-own : (t s : Trie) (r : Room) → is_trie s ≡ true → gain_room t (paths s) r ≡ true → IsRoomy (coming t s) (length (out-Trie s).below.items + coming t s) r
+-- room to put a set in has place for the children that stand there and those that come
+pub gain-own : (t s : Trie) (r : Room) → is_trie s ≡ true → gain_room t (paths s) r ≡ true
+    → IsRoomy (coming t s) (length (out-Trie s).below.items + coming t s) r
 gain-own t s r h k = roomy _ _ r (sym (gain-holds t s r h) ∙ both_first _ _ (sym (gain_room-level t (paths s) r) ∙ k))
 
-pub gain-below : (t s : Trie) (r : Room) → gain_room t (paths s) r ≡ true → gains (out-Trie t).below.items (paths_below (out-Trie s).below.items) (out-Room r).below.items ≡ true
+-- of room to put a set in, each child's room is enough
+pub gain-below : (t s : Trie) (r : Room) → gain_room t (paths s) r ≡ true
+    → gains (out-Trie t).below.items (paths_below (out-Trie s).below.items) (out-Room r).below.items ≡ true
 gain-below t s r k =
     let ds = (out-Trie t).below.items in
-    sym (gains-alike ds _ _ _ (place-alike ds s)) ∙ both_second (holds (freshes ds (paths s)) (length (heads (paths s)) + freshes ds (paths s)) r) _ (sym (gain_room-level t (paths s) r) ∙ k)
+    sym (gains-alike ds _ _ _ (place-alike ds s)) ∙ both_second (holds (freshes ds (paths s)) (length (heads (paths s)) + freshes ds (paths s)) r) _
+    (sym (gain_room-level t (paths s) r) ∙ k)
 
+-- where the place's own room and each child's are enough, the room is enough to put the set in
 pub gain-made : (t s : Trie) (r : Room) → is_trie s ≡ true → IsRoomy (coming t s) (length (out-Trie s).below.items + coming t s) r
     → gains (out-Trie t).below.items (paths_below (out-Trie s).below.items) (out-Room r).below.items ≡ true → gain_room t (paths s) r ≡ true
-gain-made t s r h k l = gain_room-level t (paths s) r ∙ both _ _ (gain-holds t s r h ∙ roomy-holds _ _ r k) (gains-alike (out-Trie t).below.items _ _ _ (place-alike (out-Trie t).below.items s) ∙ l)
+gain-made t s r h k l = gain_room-level t (paths s) r ∙ both _ _ (gain-holds t s r h
+    ∙ roomy-holds _ _ r k) (gains-alike (out-Trie t).below.items _ _ _ (place-alike (out-Trie t).below.items s) ∙ l)
 
-pub lose-made : (t s : Trie) (r : Room) → is_trie s ≡ true → IsRoomy (coming t s) (length (out-Trie s).below.items) r → loses (out-Trie t).below.items (paths_below (out-Trie s).below.items) (out-Room r).below.items ≡ true → lose_room t (paths s) r ≡ true
-lose-made t s r h k l = lose_room-level t (paths s) r ∙ both _ _ (lose-holds t s r h ∙ roomy-holds _ _ r k) (loses-alike (out-Trie t).below.items _ _ _ (place-alike (out-Trie t).below.items s) ∙ l)
+-- where the place's own room and each child's are enough, the room is enough to take the set out
+pub lose-made : (t s : Trie) (r : Room) → is_trie s ≡ true → IsRoomy (coming t s) (length (out-Trie s).below.items) r
+    → loses (out-Trie t).below.items (paths_below (out-Trie s).below.items) (out-Room r).below.items ≡ true → lose_room t (paths s) r ≡ true
+lose-made t s r h k l = lose_room-level t (paths s) r ∙ both _ _ (lose-holds t s r h
+    ∙ roomy-holds _ _ r k) (loses-alike (out-Trie t).below.items _ _ _ (place-alike (out-Trie t).below.items s) ∙ l)
 
+-- room to take a set out has place for the children that stay
 pub lose-own : (t s : Trie) (r : Room) → is_trie s ≡ true → lose_room t (paths s) r ≡ true → IsRoomy (coming t s) (length (out-Trie s).below.items) r
 lose-own t s r h k = roomy _ _ r (sym (lose-holds t s r h) ∙ both_first _ _ (sym (lose_room-level t (paths s) r) ∙ k))
 
-pub lose-below : (t s : Trie) (r : Room) → lose_room t (paths s) r ≡ true → loses (out-Trie t).below.items (paths_below (out-Trie s).below.items) (out-Room r).below.items ≡ true
+-- of room to take a set out, each child's room is enough
+pub lose-below : (t s : Trie) (r : Room) → lose_room t (paths s) r ≡ true
+    → loses (out-Trie t).below.items (paths_below (out-Trie s).below.items) (out-Room r).below.items ≡ true
 lose-below t s r k =
     let ds = (out-Trie t).below.items in
-    sym (loses-alike ds _ _ _ (place-alike ds s)) ∙ both_second (holds (freshes ds (paths s)) (length (heads (paths s))) r) _ (sym (lose_room-level t (paths s) r) ∙ k)
+    sym (loses-alike ds _ _ _ (place-alike ds s)) ∙ both_second (holds (freshes ds (paths s)) (length (heads (paths s))) r) _
+    (sym (lose_room-level t (paths s) r) ∙ k)
 
-pub lose-rolled : (t s : Trie) (x : Room-F Room) → is_trie s ≡ true → x.children.items ≡ [] → (0 < coming t s → length (out-Trie s).below.items ≤ vec_capacity x.children) → loses (out-Trie t).below.items (paths_below (out-Trie s).below.items) x.below.items ≡ true → lose_room t (paths s) (roll-Room x) ≡ true
+-- a room is enough to take a set out where its own vector is and each child's room is
+pub lose-rolled : (t s : Trie) (x : Room-F Room) → is_trie s ≡ true → x.children.items ≡ []
+    → (0 < coming t s → length (out-Trie s).below.items ≤ vec_capacity x.children)
+    → loses (out-Trie t).below.items (paths_below (out-Trie s).below.items) x.below.items ≡ true → lose_room t (paths s) (roll-Room x) ≡ true
 lose-rolled t s x h empty fits l =
     let is : out-Room (roll-Room x) ≡ x = out-roll-Room x in
     lose-made t s (roll-Room x) h
-    (record { empty = ap (λ y. y.children.items) is ∙ empty; fits = λ lt. subst (λ n. length (out-Trie s).below.items ≤ n) (sym (ap (λ y. vec_capacity y.children) is)) (fits lt) })
+    (record {
+      empty = ap (λ y. y.children.items) is ∙ empty;
+      fits = λ lt. subst (λ n. length (out-Trie s).below.items ≤ n) (sym (ap (λ y. vec_capacity y.children) is)) (fits lt);
+    })
     (ap (λ y. loses (out-Trie t).below.items (paths_below (out-Trie s).below.items) y.below.items) is ∙ l)
 
 -- where there is room for more children than there are, there is room for those that come; else none comes
@@ -113,28 +147,30 @@ pub comes-within : (f n c : ℕ) → (0 < f → n + f ≤ c) → n < c → n + f
 comes-within zero n c own lt = omega arith
 comes-within (suc f) n c own lt = own (omega arith)
 
+-- where some come, there is place for more than there are: so with no such place none comes
 pub none-comes : (f n c : ℕ) → (0 < f → n + f ≤ c) → c ≤ n → f ≡ 0
 none-comes zero n c own le = refl
 none-comes (suc f) n c own le = let a = own (omega arith) in absurd (omega arith)
 
 -- ---- a child that is found, or not
 
-pub found-paths : (e : Element) (cs : List (Elem × Trie)) (i : ℕ) (c : Elem × Trie) → rises (elements cs) ≡ true → i < length cs → c ≡ get_or cs i c → same_element e (element_view (get_or cs i c).0) ≡ true → tails e (paths_below cs) ≡ paths c.1
+-- behind the element of a child that is found there are that child's paths
+pub found-paths : (e : Element) (cs : List (Elem × Trie)) (i : ℕ) (c : Elem × Trie) → rises (elements cs) ≡ true → i < length cs → c ≡ get_or cs i c
+    → same_element e (element_view (get_or cs i c).0) ≡ true → tails e (paths_below cs) ≡ paths c.1
 found-paths e cs i c h lt is same = tails-below e cs h ∙ ap paths_of (child-found e cs i c h lt same) ∙ ap (λ x. paths x.1) (sym is)
 
-pub gap-paths : (e : Element) (cs : List (Elem × Trie)) (i : ℕ) → rises (elements cs) ≡ true → rises (elements (take i cs) ++ e ∷ elements (drop i cs)) ≡ true → tails e (paths_below cs) ≡ []
+-- behind an element that stands nowhere there is no path
+pub gap-paths : (e : Element) (cs : List (Elem × Trie)) (i : ℕ) → rises (elements cs) ≡ true → rises (elements (take i cs) ++ e ∷ elements (drop i cs)) ≡ true
+    → tails e (paths_below cs) ≡ []
 gap-paths e cs i h gap = tails-below e cs h ∙ ap paths_of (child-absent e cs i gap)
 
--- a path of what has some
-pub a_path : (ps : List Path) → has_some ps ≡ true → (p : Path) × (is_one_of ps p ≡ true)
-a_path [] h = absurd (true≢false (sym h))
-a_path (p ∷ ps) h = (p, ap (λ o. is_eq o || is_one_of ps p) (tied_itself path_cmp_total p))
-
+-- what has each path of a list with some path has some path
 pub filled-more : (ps qs : List Path) → ((p : Path) → is_one_of ps p ≡ true → is_one_of qs p ≡ true) → has_some ps ≡ true → has_some qs ≡ true
 filled-more ps qs h k = let one = a_path ps k in some-one qs one.0 (h one.0 one.1)
 
 -- ---- one step of a loop over two lists
 
+-- what is put at a place changes nothing behind it
 pub left-set : {A : Type 0} (xs : List A) (i : ℕ) (x : A) → drop (i + 1) (set xs i x) ≡ drop (i + 1) xs
 left-set xs i x = drop-set-lt (i + 1) xs i x (omega arith)
 
@@ -148,11 +184,13 @@ all-taken xs ys i le e =
     let none : drop i ys ≡ [] = nothing-left (drop i ys) (sym e ∙ ap length (drop_all i xs le)) in
     sym (append-nil (take i ys)) ∙ ap (λ l. take i ys ++ l) (sym none) ∙ take-append-drop i ys
 
+-- of two lists of which as much is left, both have the place or none
 pub within-both : {A B : Type 0} (xs : List A) (ys : List B) (i : ℕ) → i < length xs → length (drop i xs) ≡ length (drop i ys) → i < length ys
 within-both xs ys i lt e = let a = length-drop i xs in let b = length-drop i ys in omega arith
 
 -- ---- a child that has some path
 
+-- paths that are some count for no child that comes
 pub fresh-filled : (ps : List Path) → has_some ps ≡ true → fresh ps ≡ 0
 fresh-filled ps h = ap (λ b. cond b 0 1) h
 
@@ -161,7 +199,9 @@ fresh-filled ps h = ap (λ b. cond b 0 1) h
 apart-from : (f e : Element) (d : Elem) → same_element e (element_view d) ≡ true → same_element f e ≡ false → same_element f (element_view d) ≡ false
 apart-from f e d tie apart = ap (same_element f) (sym (same_element-true e (element_view d) tie)) ∙ apart
 
-pub set-apart : (f e : Element) (cs : List (Elem × Trie)) (i : ℕ) (c : Elem × Trie) (m : Trie) → i < length cs → c ≡ get_or cs i c → same_element e (element_view c.0) ≡ true → same_element f e ≡ false
+-- another tree for one child changes nothing below other elements
+pub set-apart : (f e : Element) (cs : List (Elem × Trie)) (i : ℕ) (c : Elem × Trie) (m : Trie) → i < length cs → c ≡ get_or cs i c
+    → same_element e (element_view c.0) ≡ true → same_element f e ≡ false
     → tails f (paths_below (set cs i (c.0, m))) ≡ tails f (paths_below cs)
 set-apart f e cs i c m lt is tie apart =
     let away = apart-from f e c.0 tie apart in

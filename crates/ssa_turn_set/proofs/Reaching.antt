@@ -4,13 +4,14 @@ use Rattle.std.proofs.lemmas.List.{get_or-drop, get_or-take, length-drop, length
 use Rattle.std.specs.Prelude.{◌==◌}
 use Rattle.std.specs.Ordering.{is_lt, is_eq, ordering_index, ordering_reverse}
 use Rattle.ssa_model.specs.definitions.Path.{Element, element_cmp, same_element}
-use Rattle.ssa_model.proofs.RisingNames.{lower}
 use Rattle.ssa_path.specs.declared.element.Elem.{Elem}
 use Rattle.ssa_path.specs.Children.{child_at, elements, is_below, rises, IsChildAt}
 use Rattle.ssa_path.specs.View.{element_view}
-use Rattle.ssa_path.proofs.Orders.{element_cmp_total, same_element-itself, both, both_first, both_second}
+use Rattle.ssa_path.proofs.Orders.{element_cmp_total, both_first, both_second}
 use Rattle.ssa_path.proofs.Lists.{elements-append}
 use Rattle.ssa_path.proofs.Searching.{absent-below}
+use Rattle.ssa_model.proofs.Tables.{element-itself as same_element-itself}
+use Rattle.ssa_model.proofs.Basics.{both-true as both, lower}
 
 -- what is before an element is before all behind it
 pub is_below-before : (e f : Element) (es : List Element) → is_lt (element_cmp e f) ≡ true → is_below f es ≡ true → is_below e es ≡ true
@@ -24,11 +25,13 @@ below-joined : (x : Element) (es : List Element) (e : Element) (fs : List Elemen
 below-joined x [] e fs h k = both _ _ (both_first _ _ h) (is_below-before x e fs (both_first _ _ h) k)
 below-joined x (y ∷ es) e fs h k = both _ _ (both_first _ _ h) (below-joined x es e fs (both_second _ _ h) k)
 
+-- elements in order up to one, and from it on, are in order together
 pub rises-joined : (es : List Element) (e : Element) (fs : List Element) → rises (es ++ e ∷ []) ≡ true → rises (e ∷ fs) ≡ true
     → rises ((es ++ e ∷ []) ++ fs) ≡ true
 rises-joined [] e fs h k = k
 rises-joined (x ∷ es) e fs h k = both _ _ (below-joined x es e fs (both_first _ _ h) (both_first _ _ k)) (rises-joined es e fs (both_second _ _ h) k)
 
+-- an order that is not less is told so
 pub not_before : (o : Ordering) → (ordering_index o == 0) ≡ false → is_lt o ≡ false
 not_before Less h = absurd (true≢false h)
 not_before Equal h = refl
@@ -64,6 +67,7 @@ below-front : (e : Element) (es fs : List Element) → is_below e (es ++ fs) ≡
 below-front e [] fs h = refl
 below-front e (f ∷ es) fs h = both _ _ (both_first _ _ h) (below-front e es fs (both_second _ _ h))
 
+-- the first of elements in order are in order
 pub rises-front : (es fs : List Element) → rises (es ++ fs) ≡ true → rises es ≡ true
 rises-front [] fs h = refl
 rises-front (e ∷ es) fs h = both _ _ (below-front e es fs (both_first _ _ h)) (rises-front es fs (both_second _ _ h))
@@ -73,11 +77,13 @@ module _ {A : Type 0} where
   pub left-all : (cs : List A) (start : ℕ) → take (length cs - start) (drop start cs) ≡ drop start cs
   left-all cs start = take_all (length cs - start) (drop start cs) (let l = length-drop start cs in omega arith)
 
+  -- the first children of some in order are in order
   pub rises-near : (cs : List (Elem × A)) (n : ℕ) → rises (elements cs) ≡ true → rises (elements (take n cs)) ≡ true
   rises-near cs n h =
       rises-front (elements (take n cs)) (elements (drop n cs))
       (ap rises (sym (elements-append (take n cs) (drop n cs))) ∙ ap (λ l. rises (elements l)) (take-append-drop n cs) ∙ h)
 
+  -- the place of a child among those that are left is one among all of them
   pub near-child : (e : Element) (cs : List (Elem × A)) (start n k : ℕ) → n ≤ length (drop start cs) → IsChildAt e (take n (drop start cs)) k
       → IsChildAt e cs (start + k)
   near-child e cs start n k le at =

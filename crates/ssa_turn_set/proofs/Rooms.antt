@@ -7,11 +7,12 @@ use Rattle.ssa_path.specs.declared.trie.Trie.{Trie}
 use Rattle.ssa_path.specs.declared.trie.Trie.TheViews.{out-Trie}
 use Rattle.ssa_path.specs.declared.trie.Trie.TheFolds.{fold_out-Trie}
 use Rattle.ssa_path.specs.View.{element_view}
-use Rattle.ssa_path.proofs.Orders.{both, both_first, both_second}
+use Rattle.ssa_path.proofs.Orders.{both_first, both_second}
 use Rattle.ssa_turn_set.specs.declared.room.Room.{Room}
 use Rattle.ssa_turn_set.specs.declared.room.Room.TheViews.{out-Room}
 use Rattle.ssa_turn_set.specs.declared.spare.Spare.{Spare}
 use Rattle.ssa_turn_set.specs.Room.{fresh, freshes, holds, Need, gain_step, gain_room, lose_step, lose_room, gains, loses, gain_one, lose_one}
+use Rattle.ssa_model.proofs.Basics.{both-true as both}
 
 -- ---- one level
 
@@ -19,15 +20,21 @@ freshes-map : {A B : Type 0} (f : A → B) (ds : List (Elem × A)) (ps : List Pa
 freshes-map f [] ps = refl
 freshes-map f (d ∷ ds) ps = ap (λ n. fresh (tails (element_view d.0) ps) + n) (freshes-map f ds ps)
 
-pub lose_room-level : (t : Trie) (ps : List Path) (r : Room) → lose_room t ps r ≡ (holds (freshes (out-Trie t).below.items ps) (length (heads ps)) r && loses (out-Trie t).below.items ps (out-Room r).below.items)
+-- room to take a set out of a place is the place's own room, and that of each child
+pub lose_room-level : (t : Trie) (ps : List Path) (r : Room)
+    → lose_room t ps r ≡ (holds (freshes (out-Trie t).below.items ps) (length (heads ps)) r && loses (out-Trie t).below.items ps (out-Room r).below.items)
 lose_room-level t ps r =
     (λ i. fold_out-Trie Need lose_step t i ps r)
     ∙ ap (λ n. holds n (length (heads ps)) r && loses (out-Trie t).below.items ps (out-Room r).below.items) (freshes-map lose_room (out-Trie t).below.items ps)
 
-pub gain_room-level : (t : Trie) (ps : List Path) (r : Room) → gain_room t ps r ≡ (holds (freshes (out-Trie t).below.items ps) (length (heads ps) + freshes (out-Trie t).below.items ps) r && gains (out-Trie t).below.items ps (out-Room r).below.items)
+-- room to put a set into a place is the place's own room, and that of each child
+pub gain_room-level : (t : Trie) (ps : List Path) (r : Room)
+    → gain_room t ps r ≡ (holds (freshes (out-Trie t).below.items ps) (length (heads ps) + freshes (out-Trie t).below.items ps) r
+    && gains (out-Trie t).below.items ps (out-Room r).below.items)
 gain_room-level t ps r =
     (λ i. fold_out-Trie Need gain_step t i ps r)
-    ∙ ap (λ n. holds n (length (heads ps) + n) r && gains (out-Trie t).below.items ps (out-Room r).below.items) (freshes-map gain_room (out-Trie t).below.items ps)
+    ∙ ap (λ n. holds n (length (heads ps) + n) r && gains (out-Trie t).below.items ps (out-Room r).below.items)
+    (freshes-map gain_room (out-Trie t).below.items ps)
 
 -- ---- what matters of the paths
 
@@ -36,20 +43,24 @@ abbrev pub AreAlike : {A : Type 0} → List (Elem × A) → List Path → List P
 AreAlike [] ps qs = Unit {0}
 AreAlike (d ∷ ds) ps qs = (tails (element_view d.0) ps ≡ tails (element_view d.0) qs) × AreAlike ds ps qs
 
+-- where the same paths are left behind each element, so they are behind each child's
 pub all-alike : {A : Type 0} (ds : List (Elem × A)) (ps qs : List Path) → ((e : Element) → tails e ps ≡ tails e qs) → AreAlike ds ps qs
 all-alike [] ps qs h = tt
 all-alike (d ∷ ds) ps qs h = (h (element_view d.0), all-alike ds ps qs h)
 
+-- as many children come to paths that are alike
 pub freshes-alike : {A : Type 0} (ds : List (Elem × A)) (ps qs : List Path) → AreAlike ds ps qs → freshes ds ps ≡ freshes ds qs
 freshes-alike [] ps qs h = refl
 freshes-alike (d ∷ ds) ps qs h = λ i. fresh (h.0 i) + freshes-alike ds ps qs h.1 i
 
+-- the same rooms are enough to take children out of paths that are alike
 pub loses-alike : (ds : List (Elem × Trie)) (ps qs : List Path) (rs : List (Spare × Room)) → AreAlike ds ps qs → loses ds ps rs ≡ loses ds qs rs
 loses-alike [] ps qs [] h = refl
 loses-alike [] ps qs (r ∷ rs) h = refl
 loses-alike (d ∷ ds) ps qs [] h = refl
 loses-alike (d ∷ ds) ps qs (r ∷ rs) h = λ i. lose_one d (h.0 i) r && loses-alike ds ps qs rs h.1 i
 
+-- the same rooms are enough to put children into paths that are alike
 pub gains-alike : (ds : List (Elem × Trie)) (ps qs : List Path) (rs : List (Spare × Room)) → AreAlike ds ps qs → gains ds ps rs ≡ gains ds qs rs
 gains-alike [] ps qs [] h = refl
 gains-alike [] ps qs (r ∷ rs) h = refl
@@ -58,13 +69,17 @@ gains-alike (d ∷ ds) ps qs (r ∷ rs) h = λ i. gain_one d (h.0 i) r && gains-
 
 -- ---- one more
 
-pub loses-more : (ds : List (Elem × Trie)) (d : Elem × Trie) (ps : List Path) (rs : List (Spare × Room)) (r : Spare × Room) → loses ds ps rs ≡ true → lose_one d (tails (element_view d.0) ps) r ≡ true → loses (ds ++ d ∷ []) ps (rs ++ r ∷ []) ≡ true
+-- one room more is enough to take one child more out
+pub loses-more : (ds : List (Elem × Trie)) (d : Elem × Trie) (ps : List Path) (rs : List (Spare × Room)) (r : Spare × Room) → loses ds ps rs ≡ true
+    → lose_one d (tails (element_view d.0) ps) r ≡ true → loses (ds ++ d ∷ []) ps (rs ++ r ∷ []) ≡ true
 loses-more [] d ps [] r h k = both _ _ k refl
 loses-more [] d ps (x ∷ rs) r h k = absurd (true≢false (sym h))
 loses-more (c ∷ ds) d ps [] r h k = absurd (true≢false (sym h))
 loses-more (c ∷ ds) d ps (x ∷ rs) r h k = both _ _ (both_first _ _ h) (loses-more ds d ps rs r (both_second _ _ h) k)
 
-pub gains-more : (ds : List (Elem × Trie)) (d : Elem × Trie) (ps : List Path) (rs : List (Spare × Room)) (r : Spare × Room) → gains ds ps rs ≡ true → gain_one d (tails (element_view d.0) ps) r ≡ true → gains (ds ++ d ∷ []) ps (rs ++ r ∷ []) ≡ true
+-- one room more is enough to put one child more in
+pub gains-more : (ds : List (Elem × Trie)) (d : Elem × Trie) (ps : List Path) (rs : List (Spare × Room)) (r : Spare × Room) → gains ds ps rs ≡ true
+    → gain_one d (tails (element_view d.0) ps) r ≡ true → gains (ds ++ d ∷ []) ps (rs ++ r ∷ []) ≡ true
 gains-more [] d ps [] r h k = both _ _ k refl
 gains-more [] d ps (x ∷ rs) r h k = absurd (true≢false (sym h))
 gains-more (c ∷ ds) d ps [] r h k = absurd (true≢false (sym h))
@@ -72,12 +87,14 @@ gains-more (c ∷ ds) d ps (x ∷ rs) r h k = both _ _ (both_first _ _ h) (gains
 
 -- ---- as many rooms as children
 
+-- rooms that are enough to put children in are as many as the children
 pub gains-some : (ds : List (Elem × Trie)) (ps : List Path) (rs : List (Spare × Room)) → gains ds ps rs ≡ true → length ds ≡ length rs
 gains-some [] ps [] h = refl
 gains-some [] ps (r ∷ rs) h = absurd (true≢false (sym h))
 gains-some (d ∷ ds) ps [] h = absurd (true≢false (sym h))
 gains-some (d ∷ ds) ps (r ∷ rs) h = ap suc (gains-some ds ps rs (both_second _ _ h))
 
+-- rooms that are enough to take children out are as many as the children
 pub loses-some : (ds : List (Elem × Trie)) (ps : List Path) (rs : List (Spare × Room)) → loses ds ps rs ≡ true → length ds ≡ length rs
 loses-some [] ps [] h = refl
 loses-some [] ps (r ∷ rs) h = absurd (true≢false (sym h))

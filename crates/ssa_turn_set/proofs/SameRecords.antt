@@ -2,17 +2,20 @@
 use Rattle.std.proofs.Common.{◌≡◌, true, ap, ◌∙◌}
 use Rattle.ssa_model.specs.definitions.PathMap.{PathSet, listed, minus, paths as set_paths}
 use Rattle.ssa_path.specs.Trie.{Shape, is_trie, paths, shape}
-use Rattle.ssa_path.proofs.Orders.{both, both_first, both_second}
+use Rattle.ssa_path.proofs.Orders.{both_first, both_second}
 use Rattle.ssa_turn_set.specs.Copies.{RoomServes}
 use Rattle.ssa_turn_set.specs.Room.{gain_room}
 use Rattle.ssa_turn_set.specs.Turn.{HasRoom, holds_room, set_steps}
 use Rattle.ssa_turn_set.specs.declared.turn.SetDelta.{SetDelta}
 use Rattle.ssa_turn_set.proofs.Twins.{twins-need}
+use Rattle.ssa_model.proofs.Basics.{both-true as both}
 
 module _ (d c : SetDelta) (gain : shape c.gain ≡ shape d.gain) (lose : shape c.lose ≡ shape d.lose) where
+  -- the copy gains and loses the same paths
   pub same-steps : set_steps c ≡ set_steps d
   same-steps = λ i. record { gain = listed (gain i).0; lose = listed (lose i).0 }
 
+  -- the copy has room for each set that the record has room for
   pub has-room : RoomServes d.room.gain c.room.gain → RoomServes d.room.lose c.room.lose → (s : PathSet) → HasRoom d s → HasRoom c s
   has-room gains loses s h =
       let without = set_paths (minus s (listed (paths d.lose))) in

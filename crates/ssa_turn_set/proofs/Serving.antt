@@ -14,7 +14,7 @@ use Rattle.ssa_path.specs.declared.element.Elem.{Elem}
 use Rattle.ssa_path.specs.declared.trie.Trie.{Trie}
 use Rattle.ssa_path.specs.declared.trie.Trie.TheViews.{out-Trie}
 use Rattle.ssa_path.proofs.Lists.{taken-at}
-use Rattle.ssa_path.proofs.Orders.{both, both_first, both_second}
+use Rattle.ssa_path.proofs.Orders.{both_first, both_second}
 use Rattle.ssa_turn_set.specs.Copies.{ChildServes, MemberServes, RoomServes, SpareServes, TextServes}
 use Rattle.ssa_turn_set.specs.Room.{below_child, gains, gain_one, holds, if_any, loses, lose_one, serves}
 use Rattle.ssa_turn_set.specs.Spare.{fits, holds_members, is_nothing}
@@ -24,6 +24,7 @@ use Rattle.ssa_turn_set.specs.declared.room.Room.TheViews.{out-Room, roll-Room, 
 use Rattle.ssa_turn_set.specs.declared.spare.Spare.{Spare}
 use Rattle.ssa_turn_set.specs.declared.spare.Spare.TheVariants.{Nothing, Text, Keys}
 use Rattle.ssa_turn_set.proofs.Rooms.{gain_room-level, lose_room-level}
+use Rattle.ssa_model.proofs.Basics.{both-true as both}
 
 -- the room for key fields
 abbrev Rooms : Type 0
@@ -31,6 +32,7 @@ Rooms = Vec (String Global × Scalar) Global
 
 -- ---- one more copy
 
+-- one copy more of a list stands beside its original
 pub each-pushed : {X : Type 0} (R : X → X → Type 0) (xs : List X) (i : ℕ) (x : X) → i < length xs → x ≡ get_or xs i x
     → (ys zs : List X) (y : X) → zs ≡ ys ++ y ∷ [] → AllZip R (take i xs) ys → R x y → AllZip R (take (i + 1) xs) zs
 each-pushed R xs i x lt is ys zs y pushed each serve =
@@ -39,13 +41,9 @@ each-pushed R xs i x lt is ys zs y pushed each serve =
 
 -- ---- texts
 
-pub text-serves : (s c : String Global) → string_bytes c ≡ [] → string_capacity c ≡ string_capacity s → TextServes s c
-text-serves s c empty as_large t h =
-    both _ _ (ap (λ l. not (has_some l)) empty)
-    (ap (nat_le (length t)) as_large ∙ both_second (not (has_some (string_bytes s))) _ h)
-
 -- ---- the room for an element
 
+-- room for the members of a key, copied, is enough for each that the first is enough for
 pub members-serve : (ms : Members) (rs cs : List (String Global × Scalar)) → AllZip MemberServes rs cs → holds_members ms rs ≡ true → holds_members ms cs ≡ true
 members-serve [] [] [] z h = refl
 members-serve [] [] (c ∷ cs) z h = absurd z
@@ -56,19 +54,7 @@ members-serve (m ∷ ms) (r ∷ rs) (c ∷ cs) z h =
     let here = both_first _ _ h in
     both _ _ (both _ _ (z.0.0 m.0 (both_first _ _ here)) (z.0.1 m.1 (both_second _ _ here))) (members-serve ms rs cs z.1 (both_second _ _ h))
 
-pub nothing-serves : SpareServes Nothing Nothing
-nothing-serves = record { nothing = λ h. h; fits = λ e h. h }
-
-pub texts-serve : (s c : String Global) → TextServes s c → SpareServes (Text s) (Text c)
-texts-serve s c serve = record { nothing = λ h. h; fits = fitting }
-  where
-    fitting : (e : Element) → fits e (Text s) ≡ true → fits e (Text c) ≡ true
-    fitting (field n) h = serve n h
-    fitting (key ks) h = h
-    fitting (value (json.text t)) h = serve t h
-    fitting (value (json.whole n)) h = h
-    fitting (value (json.truth b)) h = h
-
+-- copied room for a key's members serves for each element that the first does
 pub keys-serve : (rs cs : Rooms) → AllZip MemberServes rs.items cs.items → SpareServes (Keys rs) (Keys cs)
 keys-serve rs cs z = record { nothing = λ h. h; fits = fitting }
   where
@@ -124,6 +110,7 @@ module _ (r : Room) (x : Room-F Room) (empty : x.children.items ≡ []) (as_larg
       ∙ both _ _ (ap (λ l. not (has_some l)) empty)
       (ap (λ m. if_any f (nat_le n m)) as_large ∙ both_second (not (has_some {A = Elem × Trie} (out-Room r).children.items)) _ h)
 
+  -- room that is as large, at the place and for each child, serves wherever the first does
   pub room-serves : RoomServes r (roll-Room x)
   room-serves = record {
     gain = λ t ps h.

@@ -15,6 +15,7 @@ use Rattle.ssa_path.proofs.FieldsLevels.{heads-below, heads-here, tails-append}
 
 -- ---- the paths of a child
 
+-- behind an element the paths of a child are what they were below it, and those of another child are none
 pub tails-after : (e f : Element) (ps : List Path) → tails e (paths_after f ps) ≡ cond (same_element e f) ps []
 tails-after e f ps = after (same_element e f) refl ps
   where
@@ -35,6 +36,7 @@ first-or-rest : (b : Bool) (c : Trie) (x : Option Trie) → (b ≡ true → x �
 first-or-rest true c x h = ap (λ y. paths c ++ paths_of y) (h refl) ∙ append-nil (paths c)
 first-or-rest false c x h = refl
 
+-- behind an element the paths of children in order are those of its child
 pub tails-below : (e : Element) (cs : List (Elem × Trie)) → rises (elements cs) ≡ true → tails e (paths_below cs) ≡ paths_of (child_at e cs)
 tails-below e [] h = refl
 tails-below e (c ∷ cs) h =
@@ -43,14 +45,18 @@ tails-below e (c ∷ cs) h =
     ∙ first-or-rest (same_element e (element_view c.0)) c.1 (child_at e cs) (λ s. absent-below e (element_view c.0) cs s (both_first _ _ h))
 
 -- another child leaves what is left of the paths that begin with e
-pub tails-apart : (e : Element) (front left : List (Elem × Trie)) (d : Elem) (c : Trie) → same_element e (element_view d) ≡ false → tails e (paths_below (front ++ (d, c) ∷ left)) ≡ tails e (paths_below (front ++ left))
+pub tails-apart : (e : Element) (front left : List (Elem × Trie)) (d : Elem) (c : Trie) → same_element e (element_view d) ≡ false
+    → tails e (paths_below (front ++ (d, c) ∷ left)) ≡ tails e (paths_below (front ++ left))
 tails-apart e front left d c apart =
     ap (tails e) (paths_below-append front ((d, c) ∷ left))
     ∙ tails-append e (paths_below front) _
-    ∙ ap (λ l. tails e (paths_below front) ++ l) (tails-append e (paths_after (element_view d) (paths c)) (paths_below left) ∙ (λ i. tails-after e (element_view d) (paths c) i ++ tails e (paths_below left)) ∙ ap (λ b. cond b (paths c) [] ++ tails e (paths_below left)) apart)
+    ∙ ap (λ l. tails e (paths_below front) ++ l) (tails-append e (paths_after (element_view d) (paths c)) (paths_below left)
+    ∙ (λ i. tails-after e (element_view d) (paths c) i ++ tails e (paths_below left)) ∙ ap (λ b. cond b (paths c) [] ++ tails e (paths_below left)) apart)
     ∙ sym (ap (tails e) (paths_below-append front left) ∙ tails-append e (paths_below front) (paths_below left))
 
 -- ---- how many children
 
-pub heads-count : (b : Bool) (cs : List (Elem × Trie)) → rises (elements cs) ≡ true → are_filled_tries cs ≡ true → length (heads (here_path b ++ paths_below cs)) ≡ length cs
+-- as many elements begin the paths as there are children
+pub heads-count : (b : Bool) (cs : List (Elem × Trie)) → rises (elements cs) ≡ true → are_filled_tries cs ≡ true
+    → length (heads (here_path b ++ paths_below cs)) ≡ length cs
 heads-count b cs h f = ap length (heads-here b (paths_below cs) ∙ heads-below cs h f) ∙ length-elements cs

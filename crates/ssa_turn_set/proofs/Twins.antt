@@ -13,7 +13,7 @@ use Rattle.ssa_path.specs.declared.trie.Trie.TheOpen.{Trie-F}
 use Rattle.ssa_path.specs.declared.trie.Trie.TheViews.{out-Trie, roll-Trie, out-roll-Trie}
 use Rattle.ssa_path.proofs.FieldsLevels.{heads-below}
 use Rattle.ssa_path.proofs.Levels.{paths-level, trie-parts}
-use Rattle.ssa_path.proofs.Orders.{both_first, both_second, same_element-itself}
+use Rattle.ssa_path.proofs.Orders.{both_first, both_second}
 use Rattle.ssa_turn_set.specs.Room.{fresh, freshes, gain_room, gains, holds, lose_room, loses, serves}
 use Rattle.ssa_turn_set.specs.Spare.{is_nothing}
 use Rattle.ssa_turn_set.specs.declared.room.Room.{Room}
@@ -21,6 +21,7 @@ use Rattle.ssa_turn_set.specs.declared.room.Room.TheViews.{out-Room}
 use Rattle.ssa_turn_set.specs.declared.spare.Spare.{Spare}
 use Rattle.ssa_turn_set.proofs.Rooms.{gain_room-level, lose_room-level}
 use Rattle.ssa_turn_set.proofs.Tails.{paths_of, tails-below}
+use Rattle.ssa_model.proofs.Tables.{element-itself as same_element-itself}
 
 -- ---- children of the same paths
 
@@ -98,7 +99,9 @@ below-same t u same =
 
 -- both need the same room, for either way
 pub record NeedSame (t u : Trie) : Type 0 where
+  -- both need the same room to be put in
   pub gain : (ps : List Path) (r : Room) → gain_room t ps r ≡ gain_room u ps r
+  -- both need the same room to be taken out
   pub lose : (ps : List Path) (r : Room) → lose_room t ps r ≡ lose_room u ps r
 
 -- every trie with the same paths needs the same room

@@ -13,8 +13,10 @@ module _ (v w : Body) (to : Option Body) (is : to ≡ Some w) (h : (kind : Kind)
   after_fits : IsBodyOf h.0 w
   after_fits = subst (λ o. IsBodyOf h.0 (body_after o v)) is h.2
 
+  -- the two bodies have contents of one sort wherever both have a path
   pub after_alike : AreAlike v w
   after_alike = bodies_alike h.0 v w h.1 after_fits
 
+  -- where both have a path, they have contents of one class
   pub after_of_one_class : AreOfOneClass v w
   after_of_one_class = (bodies_are_trees h.0 v w h.1 after_fits).2

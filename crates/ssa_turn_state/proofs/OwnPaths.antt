@@ -15,7 +15,7 @@ use Rattle.ssa_path.specs.declared.element.Elem.{Elem}
 use Rattle.ssa_path.specs.OwnText.{IsElementOfProgram}
 use Rattle.ssa_path.specs.View.{element_view}
 use Rattle.ssa_path.proofs.Lists.{taken-at}
-use Rattle.ssa_path.proofs.Orders.{both_first, both_second, same_element-true}
+use Rattle.ssa_path.proofs.Orders.{both_first, both_second}
 use Rattle.ssa_path.proofs.OwnTexts.{own-text-is-read}
 use Rattle.ssa_merge.specs.Managers.{entry_view, table_view}
 use Rattle.ssa_merge.specs.declared.managers.Entry.{Entry}
@@ -23,14 +23,18 @@ use Rattle.ssa_typed.specs.Rows.{rows, rows_below, under_element, content_at, ow
 use Rattle.ssa_typed.specs.declared.node.Node.{Node}
 use Rattle.ssa_typed.proofs.Looks.{get-body}
 use Rattle.ssa_typed.proofs.Lookups.{or_else, content_at-append, content_at-under}
+use Rattle.ssa_model.proofs.Fitting.{same_element-true}
 
 -- ---- children
 
 -- the child's element is one of the program's, and the paths below it are read
 pub record IsReadChild (c : Elem × Node) : Type 0 where
+  -- the child's element is one of the program's
   pub own : IsElementOfProgram (element_view c.0)
+  -- the paths below the child are read
   pub below : HasReadPaths readings (body_of c.1)
 
+-- so it is with each of these children
 abbrev pub AreReadChildren : List (Elem × Node) → Type 0
 AreReadChildren [] = Unit {0}
 AreReadChildren (c ∷ cs) = IsReadChild c × AreReadChildren cs
@@ -65,7 +69,8 @@ child-read c e p h there =
       h.below p (ap is_some (get-body c.1 p) ∙ both_second (same_element e s) _ parts),
     )
 
-children-read : (cs : List (Elem × Node)) (e : Element) (p : Path) → AreReadChildren cs → is_some (content_at (rows_below cs) (e ∷ p)) ≡ true → IsReadPath readings (e ∷ p)
+children-read : (cs : List (Elem × Node)) (e : Element) (p : Path) → AreReadChildren cs → is_some (content_at (rows_below cs) (e ∷ p)) ≡ true
+    → IsReadPath readings (e ∷ p)
 children-read [] e p h there = absurd (true≢false (sym there))
 children-read (c ∷ cs) e p h there =
     let first = under_element (element_view c.0) (rows c.1) in
@@ -84,11 +89,13 @@ tree-read n cs is h (e ∷ p) there =
 abbrev IsDated : model.Entry → Type 0
 IsDated e = readings.moment e.moment ≡ true
 
+-- each entry has a moment that is one
 abbrev pub AreDated : List Entry → Type 0
 AreDated es = AllEntries IsDated (table_view es)
 
 -- one entry more has a moment
-pub dated-more : (es : List Entry) (i : ℕ) (e : Entry) → i < length es → e ≡ get_or es i e → AreDated (take i es) → IsDated (entry_view e) → AreDated (take (i + 1) es)
+pub dated-more : (es : List Entry) (i : ℕ) (e : Entry) → i < length es → e ≡ get_or es i e → AreDated (take i es) → IsDated (entry_view e)
+    → AreDated (take (i + 1) es)
 dated-more es i e within is before here =
     subst (AllEntries IsDated) (sym (ap table_view (taken-at es i e within is) ∙ map-append entry_view (take i es) (e ∷ [])))
     (all-push IsDated (table_view (take i es)) (entry_view e) before here)

@@ -8,7 +8,7 @@ use std::alloc::{AllocError, Global};
 
 impl StateDelta {
     /// The same record, its room as well, with new memory.
-    pub fn copy(&self, alloc: Global) -> Result<StateDelta, AllocError>
+    pub fn clone(&self, alloc: Global) -> Result<StateDelta, AllocError>
         ensures steps { IfOk result (λ d. state_steps d ≡ state_steps self.now) }
         ensures room { IfOk result (λ d. (v : State) → HasStateRoom self.now v → HasStateRoom d v) }
     {

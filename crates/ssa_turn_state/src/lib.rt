@@ -1,10 +1,14 @@
-//! States changed in place by a record that becomes the record of the way back, with no memory taken, and the making of
-//! such a record with all the memory that it will want.
+//! States changed in place by a record that becomes the record of the way back, with no memory taken,
+//! and the making of such a record with all the memory that it will want.
+//!
+//! A [`StateDelta`] is what a command of the history keeps.
 #![tactic(auto)]
 
-pub mod copying;
+mod copying;
 pub mod live_state;
-pub mod making;
+mod making;
 pub mod own_paths;
-pub mod size;
-pub mod to_json;
+mod size;
+mod to_json;
+
+pub use live_state::{LiveState, StateDelta, turn_state};

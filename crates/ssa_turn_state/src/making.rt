@@ -12,6 +12,7 @@ ghost use Rattle.ssa_turn_body.specs.Rooms.{HasBodyRoom};
 ghost use Rattle.ssa_turn_state.specs.States.{HasStateRoom, state_steps};
 
 use crate::live_state::StateDelta;
+use ssa_merge::plan::Plan;
 use ssa_merge::state::State;
 use ssa_merge::table_change::TableChange;
 use ssa_turn_body::between::steps_between;
@@ -68,5 +69,18 @@ impl StateDelta {
         let body = body_steps(alloc, &from.body, Some(body))?;
         let table = table_between(alloc, from.managers.entries(), managers.entries())?;
         Ok(StateDelta { body, table })
+    }
+
+    /// The record that leads from a state to a plan's target, with room for every turn of it.
+    ///
+    /// All memory that its turns want is taken here; `Err` comes where it is refused. The sets of a
+    /// manager of both states are compared.
+    pub fn between(alloc: Global, state: &State, plan: Plan) -> Result<StateDelta, AllocError>
+        requires valid { (kind : Kind) × IsValidState kind (state_view state.now) × IsValidState kind (state_view plan.target) }
+        requires order { KeepsOrder (state_view state.now).table (state_view plan.target).table }
+        ensures record { IfOk result (λ d. state_steps d ≡ record_of (state_view state.now) (state_view plan.target)) }
+        ensures room { IfOk result (λ d. HasStateRoom d (state_view state.now)) }
+    {
+        StateDelta::leading(alloc, state, plan.target)
     }
 }

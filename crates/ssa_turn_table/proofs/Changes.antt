@@ -8,13 +8,14 @@ use Rattle.ssa_model.specs.definitions.PathMap.{PathSet}
 use Rattle.ssa_model.specs.definitions.Table.{ManagerKey, Entry, Table, same_manager, is_in_table, entry_of, owned_by}
 use Rattle.ssa_model.specs.definitions.Valid.{has_distinct_keys}
 use Rattle.ssa_model.specs.definitions.Record.{Change, change_of, change_to, changes, is_unchanged}
-use Rattle.ssa_model.proofs.Tables.{first_false, second_false, manager-itself, same_manager-true, no}
+use Rattle.ssa_model.proofs.Tables.{manager-itself, same_manager-true}
 use Rattle.ssa_merge.specs.Managers.{key_view}
 use Rattle.ssa_turn_set.specs.Turn.{SetSteps, HasRoom, IsLed, set_between, set_steps, set_target}
 use Rattle.ssa_turn_set.proofs.Turning.{led-between}
 use Rattle.ssa_turn_table.specs.declared.delta.EntryChange.{EntryChange}
 use Rattle.ssa_turn_table.specs.Tables.{change_view, changes_view}
 use Rattle.ssa_turn_table.specs.Changing.{AreChanges, change_in, is_first}
+use Rattle.ssa_model.proofs.Basics.{not_true as no, first_false, second_false}
 
 -- the parts of two equal lists
 pub heads : {X : Type 0} (x y : X) (xs ys : List X) → x ∷ xs ≡ y ∷ ys → (x ≡ y) × (xs ≡ ys)
@@ -60,11 +61,13 @@ pub passed : (u : Table) (e : Entry) (es : List Entry) (ds : List Change) → ds
 passed u e es ds told first =
     elim (change_in u e) as (λ o. change_in u e ≡ o → ds ≡ cons_option o (changes es u) → (o ≡ None) × (ds ≡ changes es u)) [
       | None ↦ λ q h. (refl, h)
-      | Some c ↦ λ q h. absurd (true≢false (sym (ap (λ m. same_manager m e.manager) (change-manager u e c q) ∙ manager-itself e.manager) ∙ sym (ap (λ cs. is_first cs e.manager) h) ∙ first))
+      | Some c ↦ λ q h. absurd (true≢false (sym (ap (λ m. same_manager m e.manager) (change-manager u e c q) ∙ manager-itself e.manager)
+          ∙ sym (ap (λ cs. is_first cs e.manager) h) ∙ first))
     ] refl told
 
 -- ---- sets
 
+-- what a manager owns is what its entry owns
 pub owned-entry : (u : Table) (k : ManagerKey) (f : Entry) → entry_of u k ≡ Some f → owned_by u k ≡ f.owned
 owned-entry [] k f h = absurd (none-some f h)
 owned-entry (e ∷ es) k f h =
@@ -73,6 +76,7 @@ owned-entry (e ∷ es) k f h =
       | false ↦ λ g. owned-entry es k f g
     ] h
 
+-- the record between two sets leads the first to where it leads
 pub led-steps : (d : SetSteps) (s r : PathSet) → d ≡ set_between s r → IsLed d s (set_target d s)
 led-steps d s r e = subst (λ x. IsLed x s (set_target x s)) (sym e) (subst (IsLed (set_between s r) s) (sym (led-between s r).leads) (led-between s r))
 
@@ -80,15 +84,24 @@ led-steps d s r e = subst (λ x. IsLed x s (set_target x s)) (sym e) (subst (IsL
 
 -- the entry's change, which leads it to the one of its manager in u, and the changes of the entries after it
 pub record IsMet (t u : Table) (e : Entry) (es : List Entry) (c : EntryChange) (cs : List EntryChange) : Type 0 where
+  -- the entry of the same manager in the second table
   pub to : Entry
+  -- the second table has it
   pub there : entry_of u e.manager ≡ Some to
+  -- the change is the one of the two entries
   pub change : change_in u e ≡ Some (change_view c)
+  -- the change is under the entry's manager
   pub key : key_view c.key ≡ e.manager
+  -- what is gained and lost is a record of the entry's own set
   pub led : IsLed (set_steps c.set) e.owned (set_target (set_steps c.set) e.owned)
+  -- the set that it leads to is that of the second entry
   pub leads : set_target (set_steps c.set) e.owned ≡ to.owned
+  -- there is room for a turn of the set
   pub room : HasRoom c.set e.owned
+  -- the changes behind it are those of the entries behind it
   pub rest : AreChanges t u es cs
 
+-- where the first change is of the first entry's manager, the two have met
 pub is_met : (t u : Table) (e : Entry) (es : List Entry) (c : EntryChange) (cs : List EntryChange) → AreChanges t u (e ∷ es) (c ∷ cs)
     → is_first (changes_view (c ∷ cs)) e.manager ≡ true → IsMet t u e es c cs
 is_met t u e es c cs h first =

@@ -23,10 +23,12 @@ use Rattle.ssa_turn_table.proofs.Taking.{is_off}
 
 -- ---- one entry more
 
+-- the first entries with the next one are the first entries and that one
 pub table-more : (es : List merge.Entry) (i : ℕ) (e : merge.Entry) → i < length es → e ≡ get_or es i e
     → table_view (take (i + 1) es) ≡ table_view (take i es) ++ entry_view e ∷ []
 table-more es i e lt is = ap table_view (taken-at es i e lt is) ∙ map-append entry_view (take i es) (e ∷ [])
 
+-- the places of two lists that follow each other are those of the first, and those of the second behind it
 pub placed-append : {X : Type 0} (test : X → Bool) (i : ℕ) (xs ys : List X) → placed test i (xs ++ ys) ≡ placed test i xs ++ placed test (i + length xs) ys
 placed-append test i [] ys = ap (λ n. placed test n ys) (sym (add-zero i))
 placed-append test i (x ∷ xs) ys =
@@ -58,6 +60,7 @@ here-more t es i e hs ks h lt is off before one made =
     ∙ ap (λ b. placed (is_off t) 0 (table_view (take i es)) ++ (if not b then (i, entry_view e) ∷ [] else [])) (sym off)
     ∙ sym (placed-more (is_off t) es i e lt is)
 
+-- an entry whose manager the other table has adds nothing to those that have a place
 pub here-passed : (t : Table) (es : List merge.Entry) (i : ℕ) (e : merge.Entry) (hs ks : List Here) → i < length es → e ≡ get_or es i e
     → is_in_table t (key_view e.key) ≡ true → heres_view hs ≡ placed (is_off t) 0 (table_view (take i es)) → ks ≡ hs
     → heres_view ks ≡ placed (is_off t) 0 (table_view (take (i + 1) es))
@@ -68,6 +71,7 @@ here-passed t es i e hs ks lt is there before made =
 
 -- ---- changes
 
+-- a record made between two sets says what the one has gained and lost against the other
 pub steps-between : (s t : PathSet) (d : SetDelta) → IsBetween s t d → set_steps d ≡ set_between s t
 steps-between s t d h = h.led.between ∙ ap (set_between s) h.leads
 

@@ -45,11 +45,17 @@ module _ {X : Type 0} (comes : X → Bool) where
 
   -- the first of those who come, behind others who stand already
   pub record IsNext (i : ℕ) (xs : List X) (h : ℕ × X) (hs : List (ℕ × X)) : Type 0 where
+    -- those before the next one who comes
     pub passed : List X
+    -- those behind it
     pub left : List X
+    -- together they are the list
     pub split : xs ≡ passed ++ h.1 ∷ left
+    -- those before it stand already, with those behind it who do not come
     pub stand : others xs ≡ passed ++ others left
+    -- its place is behind those who stand before it
     pub place : h.0 ≡ i + length passed
+    -- the others who come are those behind it, each at its place
     pub told : hs ≡ placed comes (h.0 + 1) left
 
   next : (i : ℕ) (xs : List X) (h : ℕ × X) (hs : List (ℕ × X)) → h ∷ hs ≡ placed comes i xs → IsNext i xs h hs
@@ -81,21 +87,31 @@ module _ {X : Type 0} (comes : X → Bool) where
 
   -- a front stands already; of the rest those stand who do not come
   pub record IsInserting (u now : List X) (heres : List (ℕ × X)) : Type 0 where
+    -- those at whose places all stand
     pub front : List X
+    -- those of whom only some stand
     pub rest : List X
+    -- front and rest are the whole list
     pub whole : front ++ rest ≡ u
+    -- what stands is the front, and those of the rest who do not come
     pub stand : now ≡ front ++ others rest
+    -- those still to be put in are those of the rest who come, each at its place
     pub told : heres ≡ placed comes (length front) rest
 
+  -- where nobody is left to be put in, what stands is the whole list
   pub inserting_ends : (u now : List X) → IsInserting u now [] → now ≡ u
   inserting_ends u now h = h.stand ∙ ap (λ zs. h.front ++ zs) (none-come (length h.front) h.rest h.told) ∙ h.whole
 
   -- the next one's place is within what stands, for which there is a place left
   pub record IsStep (u now : List X) (h : ℕ × X) (hs : List (ℕ × X)) : Type 0 where
+    -- the place is within the list that stands
     pub within : h.0 ≤ length now
+    -- what stands is shorter than the whole
     pub fewer : length now < length u
+    -- with the next one put in at its place, the others are still to be put in
     pub more : IsInserting u (insert now h.0 h.1) hs
 
+  -- the next one's place is there, and the list goes on with it put in
   pub inserting_step : (u now : List X) (h : ℕ × X) (hs : List (ℕ × X)) → IsInserting u now (h ∷ hs) → IsStep u now h hs
   inserting_step u now h hs was =
       let n = next (length was.front) was.rest h hs was.told in
@@ -121,33 +137,37 @@ module _ {X : Type 0} (comes : X → Bool) where
 
 -- ---- of the program's lists
 
-pub inserting_begins : (u now : Table) (heres : List (ℕ × Entry)) (h : AreComing u now heres) → IsInserting h.comes u now heres
-inserting_begins u now heres h = record { front = []; rest = u; whole = refl; stand = h.stand; told = h.told }
-
 -- what is inserted is inserted in the view
 pub view-insert : (es : List merge.Entry) (i : ℕ) (e : merge.Entry) → table_view (insert es i e) ≡ insert (table_view es) i (entry_view e)
 view-insert es i e =
     map-append entry_view (take i es) (e ∷ drop i es)
     ∙ (λ j. sym (take-map entry_view i es) j ++ entry_view e ∷ sym (drop-map entry_view i es) j)
 
+-- a list that has an element is its first one and the list without it
 pub first-of : {X : Type 0} (xs : List X) (x : X) → 0 < length xs → x ≡ get_or xs 0 x → xs ≡ x ∷ remove xs 0
 first-of [] x lt e = absurd (omega arith)
 first-of (y ∷ ys) x lt e = λ i. sym e i ∷ ys
 
+-- a list counted as none is empty
 pub none-left : {X : Type 0} (n : ℕ) (xs : List X) → true ≡ eqb n 0 → n ≡ length xs → xs ≡ []
 none-left n [] e l = refl
 none-left n (x ∷ xs) e l = let zero : n ≡ 0 = eqb-true n 0 (sym e) in absurd (omega (arith, zero, l))
 
 -- the next of those who are here is put in
 pub record IsHereStep (comes : Entry → Bool) (u : Table) (es : List merge.Entry) (hs : List Here) (h : Here) : Type 0 where
+  -- the place is within the entries that stand
   pub within : h.place ≤ length es
+  -- there are fewer entries than in the whole table
   pub fewer : length es < length u
+  -- with the entry put in at its place, the others are still to be put in
   pub more : IsInserting comes u (table_view (insert es h.place h.entry)) (heres_view (remove hs 0))
 
+-- the next entry's place is there, and the table goes on with it put in
 pub here_step : (comes : Entry → Bool) (u : Table) (es : List merge.Entry) (hs : List Here) (h : Here) → hs ≡ h ∷ remove hs 0
     → IsInserting comes u (table_view es) (heres_view hs) → IsHereStep comes u es hs h
 here_step comes u es hs h front was =
-    let step = inserting_step comes u (table_view es) (here_view h) (heres_view (remove hs 0)) (subst (λ ks. IsInserting comes u (table_view es) (heres_view ks)) front was) in
+    let step = inserting_step comes u (table_view es) (here_view h) (heres_view (remove hs 0))
+    (subst (λ ks. IsInserting comes u (table_view es) (heres_view ks)) front was) in
     let long = length-map es entry_view in
     let within = step.within in
     let fewer = step.fewer in
@@ -167,5 +187,6 @@ listed_step out hs h front agree =
     ∙ (λ j. keys_view out ++ own j ∷ map (λ g. g.1.manager) (heres_view (remove hs 0)))
     ∙ ap (λ ks. keys_view out ++ map (λ g. g.1.manager) (heres_view ks)) (sym front)
 
+-- without the first, each manager listed is still its entry's
 pub agree_step : (hs : List Here) (h : Here) → hs ≡ h ∷ remove hs 0 → AllKeysAgree hs → AllKeysAgree (remove hs 0)
 agree_step hs h front agree = (subst AllKeysAgree front agree).1

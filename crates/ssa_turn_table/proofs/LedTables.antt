@@ -12,7 +12,7 @@ use Rattle.ssa_model.specs.definitions.Valid.{AllEntries, has_distinct_keys}
 use Rattle.ssa_model.specs.definitions.Record.{TableRecord, change_of, changes, gone_from, new_in, placed, table_record}
 use Rattle.ssa_model.proofs.ManagerEntries.{entry-absent}
 use Rattle.ssa_model.proofs.SharedManagers.{Each, each-apart, each-in}
-use Rattle.ssa_model.proofs.Tables.{apart-back, first_false, second_false, manager-itself, no}
+use Rattle.ssa_model.proofs.Tables.{apart-back, manager-itself}
 use Rattle.ssa_merge.specs.Managers.{entry_view, key_view, table_view}
 use Rattle.ssa_merge.specs.TableChanges.{changed_entry, changed_entries, leaves, lone}
 use Rattle.ssa_merge.specs.declared.manager.ManagerKey.{ManagerKey as Key}
@@ -23,6 +23,7 @@ use Rattle.ssa_path.proofs.Lists.{parted}
 use Rattle.ssa_turn_table.specs.Tables.{keys_view}
 use Rattle.ssa_turn_table.proofs.Compared.{placed-append, table-more}
 use Rattle.ssa_turn_table.proofs.Taking.{is_off}
+use Rattle.ssa_model.proofs.Basics.{not_true as no, first_false, second_false}
 
 -- ---- a table behind another
 
@@ -81,6 +82,7 @@ module _ (f : Fate) (e : Entry) (gs : List Fate) (ds : Table) where
       (apart-changed g d e.manager (apart-back e.manager d.manager (apart d.manager es off)))
       ∙ own-among fs es same (second_so (not (is_in_table rest d.manager)) (has_distinct_keys rest) distinct)
 
+-- among distinct managers the entry of each, after the change, is what becomes of its own entry
 pub own-changed : (es : List merge.Entry) (fs : List Fate) (i : ℕ) (e : merge.Entry) (f : Fate) → has_distinct_keys (table_view es) ≡ true
     → length fs ≡ length es → i < length es → e ≡ get_or es i e → f ≡ get_or fs i f
     → entry_of (changed_entries fs (table_view es)) (key_view e.key) ≡ entry_of (changed_entry f (entry_view e)) (key_view e.key)
@@ -116,6 +118,7 @@ gone-more u es i e lt is =
     ∙ ap (filter (λ k. not (is_in_table u k))) (map-append (λ (x : Entry). x.manager) (table_view (take i es)) (entry_view e ∷ []))
     ∙ filter-append (λ k. not (is_in_table u k)) (map (λ x. x.manager) (table_view (take i es))) (key_view e.key ∷ [])
 
+-- a manager that the other table has not is one more of those that go
 pub gone-goes : (u : Table) (es : List merge.Entry) (i : ℕ) (e : merge.Entry) (ks js : List Key) (k : Key) → i < length es → e ≡ get_or es i e
     → is_in_table u (key_view e.key) ≡ false → keys_view ks ≡ gone_from (table_view (take i es)) u → key_view k ≡ key_view e.key → js ≡ ks ++ k ∷ []
     → keys_view js ≡ gone_from (table_view (take (i + 1) es)) u
@@ -124,6 +127,7 @@ gone-goes u es i e ks js k lt is off before same made =
     ∙ ap (λ b. gone_from (table_view (take i es)) u ++ cond (not b) (key_view e.key ∷ []) []) (sym off)
     ∙ sym (gone-more u es i e lt is)
 
+-- a manager that the other table has is none of those that go
 pub gone-stays : (u : Table) (es : List merge.Entry) (i : ℕ) (e : merge.Entry) (ks js : List Key) → i < length es → e ≡ get_or es i e
     → is_in_table u (key_view e.key) ≡ true → keys_view ks ≡ gone_from (table_view (take i es)) u → js ≡ ks
     → keys_view js ≡ gone_from (table_view (take (i + 1) es)) u
@@ -134,6 +138,7 @@ gone-stays u es i e ks js lt is there before made =
 
 -- ---- with a newcomer, who stands last
 
+-- the second table's managers are none of the first's
 abbrev pub AreNew : Table → Table → Type 0
 AreNew t n = AllEntries (λ x. is_in_table t x.manager ≡ false) n
 
@@ -166,6 +171,7 @@ module _ (v n : Table) where
 pub changes-behind : (t v n : Table) → AreNew t n → changes t (v ++ n) ≡ changes t v
 changes-behind t v n h = changes-along v n t (none-new t n h)
 
+-- with newcomers behind it, a table has the same managers gone
 pub gone-behind : (t v n : Table) → AreNew t n → gone_from t (v ++ n) ≡ gone_from t v
 gone-behind t v n h = gone-along v n t (none-new t n h)
 
@@ -203,6 +209,7 @@ new-behind t fs o h =
 
 -- ---- the record
 
+-- what is told entry by entry, with the newcomer behind those who stay, is the record of the two tables
 pub led-record : (t : Table) (fs : List Fate) (o : Option merge.Entry) (u : Table) → AreNew t (lone o) → changed_entries fs t ++ lone o ≡ u → (d : TableRecord)
     → d.changed ≡ changes t (changed_entries fs t) → d.gone ≡ gone_from t (changed_entries fs t)
     → d.here ≡ map (λ e. (length (changed_entries fs t), e)) (lone o)

@@ -1,7 +1,7 @@
 -- Whether a set that loses paths is another set.
-use Rattle.std.proofs.Common.{◌≡◌, true, false, not, Bool, refl, sym, ap, ◌∙◌, subst, true≢false}
+use Rattle.std.proofs.Common.{◌≡◌, true, false, not, Bool, refl, sym, ap, ◌∙◌, true≢false}
 use Rattle.ssa_model.specs.definitions.Path.{Path}
-use Rattle.ssa_model.specs.definitions.PathMap.{PathSet, has, is_empty, listed, minus, same_set}
+use Rattle.ssa_model.specs.definitions.PathMap.{PathSet, has, is_empty, minus, same_set}
 use Rattle.ssa_model.proofs.FittingTables.{same_set-itself}
 use Rattle.ssa_model.proofs.PathMaps.{has-minus, same_set-true, same_sets}
 use Rattle.ssa_model.proofs.Tables.{apart_by}
@@ -23,7 +23,8 @@ same-by true s t none below =
     alike false true f g = g refl
     alike false false f g = refl
 same-by false s t some below =
-    sym (apart_by (same_set s t) (λ same. true≢false (sym (sym (ap (λ x. is_empty (minus s x)) (same_set-true s t same)) ∙ ap is_empty (sym (minus-itself s))) ∙ some)))
+    sym (apart_by (same_set s t) (λ same. true≢false (sym (sym (ap (λ x. is_empty (minus s x)) (same_set-true s t same)) ∙ ap is_empty (sym (minus-itself s)))
+    ∙ some)))
 
 -- a set that loses paths stays where the record loses none
 pub lessened : (s l : PathSet) (d : SetDelta) → set_steps d ≡ set_between s (minus s l) → not (has_some (paths d.lose)) ≡ same_set s (minus s l)

@@ -22,7 +22,8 @@ timed None a b c d = refl
 timed (Some at) a b c d = refl
 
 -- each change has room
-pub room-at : (t : Table) (cs : List EntryChange) (i : ℕ) (c : EntryChange) → i < length cs → c ≡ get_or cs i c → AllHaveRoom t cs → (s : PathSet) × HasRoom c.set s
+pub room-at : (t : Table) (cs : List EntryChange) (i : ℕ) (c : EntryChange) → i < length cs → c ≡ get_or cs i c → AllHaveRoom t cs → (s : PathSet)
+    × HasRoom c.set s
 room-at t [] i c lt is h = absurd (omega arith)
 room-at t (x ∷ cs) zero c lt is h = subst (λ y. (s : PathSet) × HasRoom y.set s) (sym is) (owned_by t (key_view x.key), h.0)
 room-at t (x ∷ cs) (suc i) c lt is h = room-at t cs i c (omega arith) is h.1

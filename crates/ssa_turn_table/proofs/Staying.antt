@@ -1,5 +1,5 @@
 -- A set that stays, and what becomes of its entry.
-use Rattle.std.proofs.Common.{◌≡◌, ◌+◌, List, [], ◌∷◌, ◌++◌, Bool, true, false, not, ◌&&◌, Some, None, refl, ap, sym, ◌∙◌, length}
+use Rattle.std.proofs.Common.{◌≡◌, List, [], ◌∷◌, Bool, true, false, not, ◌&&◌, Some, None, refl, ap, sym, ◌∙◌}
 use Rattle.std.specs.Cmp.Lexicographic.{pointwise}
 use Rattle.std.specs.Prelude.{if◌then◌else◌}
 use Rattle.ssa_model.specs.definitions.Json.{Text, same_text}
@@ -13,8 +13,6 @@ use Rattle.ssa_path.specs.declared.trie.Trie.{Trie}
 use Rattle.ssa_path.specs.declared.trie.Trie.TheOpen.{Trie-F}
 use Rattle.ssa_path.specs.declared.trie.Trie.TheViews.{roll-Trie}
 use Rattle.ssa_path.specs.Trie.{paths}
-use Rattle.ssa_path.proofs.Orders.{both}
-use Rattle.ssa_path.proofs.Sets.{has-listed}
 use Rattle.ssa_merge.specs.TableChanges.{changed_entry}
 use Rattle.ssa_merge.specs.declared.table_change.EntryChange.TheVariants.{Stays}
 use Rattle.ssa_turn_set.specs.declared.room.Room.{Room}
@@ -25,6 +23,8 @@ use Rattle.ssa_turn_set.proofs.Bare.{IsBare, IsEmptyRoom, bare-gain, bare-lose, 
 use Rattle.ssa_turn_set.proofs.Turning.{led-between}
 use Rattle.ssa_turn_table.specs.Changing.{change_in, owning}
 use Rattle.ssa_turn_table.proofs.Changes.{led-steps}
+use Rattle.ssa_model.proofs.Lists.{has-listed}
+use Rattle.ssa_model.proofs.Basics.{both-true as both}
 
 -- ---- its record
 
@@ -65,6 +65,7 @@ paths-themselves (p ∷ ps) = λ i. same_path-itself p i && paths-themselves ps 
 pub moment-tells : (e : Entry) (at : Text) → is_unchanged e (owning e e.owned at) ≡ same_text e.moment at
 moment-tells e at = ap (λ b. b && same_text e.moment at) (paths-themselves (set_paths e.owned))
 
+-- an entry that keeps its set and its moment has no change
 pub renewed-none : (e : Entry) (at : Text) → same_text e.moment at ≡ true → None ≡ change_of e (Some (owning e e.owned at))
 renewed-none e at same = sym (ap (λ b. if b then None else Some (change_to e (owning e e.owned at))) (moment-tells e at ∙ same))
 

@@ -53,6 +53,7 @@ all-keys-agree (x ∷ hs) (g ∷ gs) z h = (
 
 module _ (d c : TableDelta) (changed : AllZip ChangeIsCopied d.changed.items c.changed.items) (gone : AllZip KeyIsCopied d.gone.items c.gone.items)
     (here : AllZip HereIsCopied d.here.items c.here.items) where
+  -- the copy says the same of the two tables
   pub same-steps : table_steps c ≡ table_steps d
   same-steps = λ i. record {
     changed = same-views change_view ChangeIsCopied (λ x y copy. copy.same) d.changed.items c.changed.items changed i;
@@ -60,6 +61,7 @@ module _ (d c : TableDelta) (changed : AllZip ChangeIsCopied d.changed.items c.c
     here = same-views here_view HereIsCopied (λ x y copy. copy.same) d.here.items c.here.items here i;
   }
 
+  -- the copy has room for a turn of each table that the record has room for
   pub has-table-room : c.room.gone.items ≡ [] → vec_capacity c.room.gone ≡ vec_capacity d.room.gone → c.room.here.items ≡ []
       → vec_capacity c.room.here ≡ vec_capacity d.room.here → (t : model.Table) → HasTableRoom d t → HasTableRoom c t
   has-table-room gone_empty gone_room here_empty here_room t h =

@@ -14,6 +14,7 @@ use Rattle.ssa_turn_table.specs.declared.delta.Here.{Here}
 use Rattle.ssa_merge.specs.declared.managers.Entry as merge
 use Rattle.ssa_turn_table.specs.Tables.{keys_view, here_view, heres_view}
 use Rattle.ssa_turn_table.specs.Going.{AllKeysAgree, is_first_key, is_in}
+use Rattle.ssa_model.proofs.Basics.{not_true as not-true}
 
 -- ---- lists
 
@@ -30,6 +31,7 @@ module _ {X : Type 0} where
 
 -- ---- the first of those gone
 
+-- the other table has nobody of the entry's name and operation
 abbrev pub is_off : Table → Entry → Bool
 is_off u e = not (is_in_table u e.manager)
 
@@ -42,14 +44,11 @@ first-passes q k (j ∷ js) h =
       | false ↦ λ t g. first-passes q k js g
     ] refl h
 
-not-true : (b : Bool) → not b ≡ true → b ≡ false
-not-true true h = absurd (true≢false (sym h))
-not-true false h = refl
-
 -- where the first of those gone is the entry's manager, it goes, and else it stays
 goes : (u : Table) (e : Entry) (es : List Entry) (ks : List ManagerKey) → ks ≡ gone_from (e ∷ es) u → is_first_key ks e.manager ≡ true
     → is_in_table u e.manager ≡ false
-goes u e es ks told first = not-true _ (first-passes (λ k. not (is_in_table u k)) e.manager (map (λ x. x.manager) (e ∷ es)) (ap (λ js. is_first_key js e.manager) (sym told) ∙ first))
+goes u e es ks told first = not-true _ (first-passes (λ k. not (is_in_table u k)) e.manager (map (λ x. x.manager) (e ∷ es))
+    (ap (λ js. is_first_key js e.manager) (sym told) ∙ first))
 
 stays : (u : Table) (e : Entry) (es : List Entry) (ks : List ManagerKey) → ks ≡ gone_from (e ∷ es) u → is_first_key ks e.manager ≡ false
     → is_in_table u e.manager ≡ true
@@ -64,18 +63,14 @@ stays u e es ks told first =
 
 -- the entries before i have been looked at; those that are left, looked at from i on, give the rest of what the whole table gives
 pub record IsTaking (u : Table) (all now : List merge.Entry) (gone : List Key) (out : List Here) (i place : ℕ) : Type 0 where
+  -- those who stay, of all that was looked at and of what is left, are those of the whole table
   pub kept : table_view (take i now) ++ filter (is_in u) (table_view (drop i now)) ≡ filter (is_in u) (table_view all)
+  -- those taken out, with those to come, are those of the whole table, each at its place
   pub came : heres_view out ++ placed (is_off u) place (table_view (drop i now)) ≡ new_in u (table_view all)
+  -- the managers still listed are those to go of what is left
   pub told : keys_view gone ≡ gone_from (table_view (drop i now)) u
 
-pub taking_begins : (u : Table) (all : List merge.Entry) (gone : List Key) (out : List Here) → out ≡ [] → keys_view gone ≡ gone_from (table_view all) u
-    → IsTaking u all all gone out 0 0
-taking_begins u all gone out none told = record {
-  kept = refl;
-  came = ap (λ hs. heres_view hs ++ placed (is_off u) 0 (table_view all)) none;
-  told = told;
-}
-
+-- an entry whose manager is not the next to go stays, and the next entry is looked at
 pub taking_passes : (u : Table) (all now : List merge.Entry) (gone : List Key) (out : List Here) (i place : ℕ) (e : merge.Entry)
     → IsTaking u all now gone out i place → take (i + 1) now ≡ take i now ++ e ∷ [] → drop i now ≡ e ∷ drop (i + 1) now
     → is_first_key (keys_view gone) (entry_view e).manager ≡ false → IsTaking u all now gone out (i + 1) (place + 1)
@@ -92,7 +87,8 @@ taking_passes u all now gone out i place e h taken left first =
           ∙ ap (λ es. table_view (take i now) ++ filter (is_in u) (table_view es)) (sym left)
           ∙ h.kept;
       came =
-          ap (λ b. heres_view out ++ (if not b then (place, entry_view e) ∷ placed (is_off u) (place + 1) rest else placed (is_off u) (place + 1) rest)) (sym in_u)
+          ap (λ b. heres_view out ++ (if not b then (place, entry_view e) ∷ placed (is_off u) (place + 1) rest else placed (is_off u) (place + 1) rest))
+          (sym in_u)
           ∙ ap (λ es. heres_view out ++ placed (is_off u) place (table_view es)) (sym left)
           ∙ h.came;
       told = told ∙ filter-dropped (λ k. not (is_in_table u k)) (entry_view e).manager (map (λ x. x.manager) rest) (ap not in_u);
@@ -102,6 +98,7 @@ keys_left : (gone : List Key) (k : ManagerKey) (ks : List ManagerKey) → keys_v
 keys_left [] k ks h = cc
 keys_left (g ∷ gs) k ks h = cc
 
+-- an entry whose manager is the next to go is taken out, with its place in the whole table
 pub taking_takes : (u : Table) (all now : List merge.Entry) (gone : List Key) (out : List Here) (i place : ℕ) (e : merge.Entry) (h : Here) → i < length now
     → IsTaking u all now gone out i place → drop i now ≡ e ∷ drop (i + 1) now → here_view h ≡ (place, entry_view e)
     → is_first_key (keys_view gone) (entry_view e).manager ≡ true → IsTaking u all (remove now i) (remove gone 0) (out ++ h ∷ []) i (place + 1)
@@ -121,14 +118,17 @@ taking_takes u all now gone out i place e h lt was left is first =
           (λ j. map-append here_view out (h ∷ []) j ++ placed (is_off u) (place + 1) (table_view (after j)))
           ∙ append_assoc (heres_view out) (here_view h ∷ []) (placed (is_off u) (place + 1) rest)
           ∙ (λ j. heres_view out ++ is j ∷ placed (is_off u) (place + 1) rest)
-          ∙ ap (λ b. heres_view out ++ (if not b then (place, entry_view e) ∷ placed (is_off u) (place + 1) rest else placed (is_off u) (place + 1) rest)) (sym off)
+          ∙ ap (λ b. heres_view out ++ (if not b then (place, entry_view e) ∷ placed (is_off u) (place + 1) rest else placed (is_off u) (place + 1) rest))
+          (sym off)
           ∙ ap (λ es. heres_view out ++ placed (is_off u) place (table_view es)) (sym left)
           ∙ was.came;
       told =
-          keys_left gone (entry_view e).manager (gone_from rest u) (told ∙ filter-kept (λ k. not (is_in_table u k)) (entry_view e).manager (map (λ x. x.manager) rest) (ap not off))
+          keys_left gone (entry_view e).manager (gone_from rest u) (told
+          ∙ filter-kept (λ k. not (is_in_table u k)) (entry_view e).manager (map (λ x. x.manager) rest) (ap not off))
           ∙ ap (λ es. gone_from (table_view es) u) (sym after);
     }
 
+-- where each manager listed is its entry's, so it is with one more of whom this holds
 pub keys-push : (hs : List Here) (h : Here) → AllKeysAgree hs → AllKeysAgree (h ∷ []) → AllKeysAgree (hs ++ h ∷ [])
 keys-push [] h a b = b
 keys-push (g ∷ gs) h a b = (a.0, keys-push gs h a.1 b)
@@ -142,6 +142,7 @@ first-key (x ∷ xs) g k is h = ap key_view is ∙ same_manager-true (key_view x
 pub same-at : {X : Type 0} (xs : List X) (i : ℕ) (x y : X) → i < length xs → x ≡ get_or xs i x → y ≡ get_or xs i y → x ≡ y
 same-at xs i x y lt a b = let both = sym (left-at xs i x lt a) ∙ left-at xs i y lt b in cc
 
+-- the state of the walk may be told by other words for the same lists and places
 pub taking_same : (u : Table) (all now after : List merge.Entry) (gone left : List Key) (out more : List Here) (i p q : ℕ) → after ≡ now → left ≡ gone
     → more ≡ out → q ≡ p
     → IsTaking u all now gone out i p → IsTaking u all after left more i q

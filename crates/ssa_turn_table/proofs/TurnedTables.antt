@@ -66,6 +66,7 @@ own_sets t u distinct = all-filter (λ e. owned_by t e.manager ≡ e.owned) (is_
     each [] h = tt
     each (e ∷ es) h = (owned-entry t e.manager e h.0, each es h.1)
 
+-- the managers of the entries that stay are distinct
 pub distinct_stay : (t u : Table) → has_distinct_keys t ≡ true → has_distinct_keys (filter (is_in u) t) ≡ true
 distinct_stay t u h = distinct-filter (is_in u) t h
 
@@ -91,7 +92,8 @@ back-along : (t u : Table) (es : Table) → AllEntries (λ e. entry_of t e.manag
 back-along t u [] h = refl
 back-along t u (e ∷ es) h =
     let rest = back-along t u es h.1 in
-    elim (change_in u e) as (λ o. change_in u e ≡ o → cons_option (option_map (changed_back e.moment) o) (changes_back u es) ≡ map (turned_change t) (cons_option o (changes es u))) [
+    elim (change_in u e) as (λ o. change_in u e ≡ o → cons_option (option_map (changed_back e.moment) o) (changes_back u es)
+    ≡ map (turned_change t) (cons_option o (changes es u))) [
       | None ↦ λ q. rest
       | Some d ↦ λ q i. back-of t u e d h.0 q i ∷ rest i
     ] refl
@@ -126,6 +128,7 @@ module _ (turns : TableTurns) (led : StayersAreLed) (d : TableRecord) (t u : Tab
 -- ---- the turn
 
 module _ (d : TableDelta) (t u : Table) (takes : TableTakes (table_steps d) t u) where
+  -- the managers that the record tells as gone are those of the first table that the second has not
   pub gone_told : keys_view d.gone.items ≡ gone_from t u
   gone_told = ap (λ (r : TableRecord). r.gone) takes.is
 

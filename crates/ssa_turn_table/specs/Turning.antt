@@ -4,6 +4,8 @@ use Rattle.ssa_model.specs.definitions.Limits.{most_managers}
 use Rattle.ssa_model.specs.definitions.Table.{Table}
 use Rattle.ssa_model.specs.definitions.Record.{TableRecord}
 use Rattle.ssa_model.specs.definitions.Carry.{carry_table}
+use Rattle.ssa_model.specs.definitions.Takes.{TableTakes}
+use Rattle.ssa_model.specs.definitions.Valid.{IsManagers}
 use Rattle.ssa_turn_table.specs.declared.delta.TableDelta.{TableDelta}
 use Rattle.ssa_turn_table.specs.Changing.{AllHaveRoom}
 use Rattle.ssa_turn_table.specs.Going.{AllKeysAgree}
@@ -12,6 +14,12 @@ use Rattle.ssa_turn_table.specs.Tables.{changes_view, keys_view, heres_view}
 -- what the record says, its room left out
 abbrev pub table_steps : TableDelta → TableRecord
 table_steps d = record { changed = changes_view d.changed.items; gone = keys_view d.gone.items; here = heres_view d.here.items }
+
+-- the record takes one table to another, each of which is one by itself
+pub record IsTableTaken (d : TableRecord) (t u : Table) : Type 0 where
+  pub takes : TableTakes d t u
+  pub from : IsManagers t
+  pub to : IsManagers u
 
 -- the record carries the room for a turn of the table, and there are places for all who are in the table then
 pub record HasTableRoom (d : TableDelta) (t : Table) : Type 0 where

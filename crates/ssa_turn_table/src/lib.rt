@@ -1,14 +1,21 @@
 //! The table of managers, changed in place by a record, without memory.
+//!
+//! A [`TableDelta`] says who goes, who comes and whose entry changes; [`turn_managers`] takes a table
+//! there and back.
 #![tactic(auto)]
 
 pub mod between;
-pub mod changing;
-pub mod coming;
-pub mod copying;
+mod changing;
+mod coming;
+mod copying;
 pub mod delta;
-pub mod going;
+mod going;
 pub mod live_table;
-pub mod size;
+mod size;
 pub mod table;
 pub mod table_delta;
-pub mod to_json;
+mod to_json;
+
+pub use delta::TableDelta;
+pub use live_table::LiveTable;
+pub use table::turn_managers;

@@ -16,9 +16,9 @@ impl Reversible for LiveTable {
     ghost use Rattle.ssa_model.specs.definitions.Record.{TableRecord};
     ghost use Rattle.ssa_model.specs.definitions.Carry.{carry_table};
     ghost use Rattle.ssa_model.specs.definitions.Table.{Table};
-    ghost use Rattle.ssa_model.specs.definitions.Takes.{TableTakes, turned_table};
+    ghost use Rattle.ssa_model.specs.definitions.Takes.{turned_table};
     ghost use Rattle.ssa_model.proofs.RecordTakes.{table_laws};
-    ghost use Rattle.ssa_turn_table.specs.Turning.{HasTableRoom, table_steps};
+    ghost use Rattle.ssa_turn_table.specs.Turning.{HasTableRoom, IsTableTaken, table_steps};
 
     type Delta = TableDelta;
 
@@ -34,7 +34,7 @@ impl Reversible for LiveTable {
 
     ghost steps = { table_steps };
 
-    ghost takes = { TableTakes };
+    ghost takes = { IsTableTaken };
 
     ghost target = { λ d t. carry_table d t };
 
@@ -45,9 +45,9 @@ impl Reversible for LiveTable {
         Ok(())
     }
 
-    ghost fixes_target = { λ d t u h. (table_laws d t u h).0 };
+    ghost fixes_target = { λ d t u h. (table_laws d t u h.takes).0 };
 
-    ghost fixes_steps = { λ c d t u h k. (table_laws c t u h).1 d k };
+    ghost fixes_steps = { λ c d t u h k. (table_laws c t u h.takes).1 d k.takes };
 
-    ghost leads_back = { λ d t u h. (turned_table d t, (table_laws d t u h).2) };
+    ghost leads_back = { λ d t u h. (turned_table d t, record { takes = (table_laws d t u h.takes).2; from = h.to; to = h.from }) };
 }

@@ -7,7 +7,7 @@ ghost use Rattle.ssa_model.specs.definitions.Takes.{TableTakes};
 ghost use Rattle.ssa_merge.specs.Managers.{table_view};
 ghost use Rattle.ssa_turn_table.specs.Changing.{AllHaveRoom, AreChanges, changes_back, led_to};
 ghost use Rattle.ssa_turn_table.specs.Tables.{changes_view};
-ghost use Rattle.ssa_turn_table.specs.Turning.{HasTableRoom, table_steps};
+ghost use Rattle.ssa_turn_table.specs.Turning.{HasTableRoom, IsTableTaken, table_steps};
 
 use crate::changing::change_entries;
 use crate::coming::insert_here;
@@ -59,10 +59,10 @@ fn turn_table(entries: &mut ArrayVec<Entry, MOST_MANAGERS, Global>, delta: &mut 
 
 /// Changes the table as the record says, and leaves the record that leads back. Takes no memory.
 pub fn turn_managers(managers: &mut Managers, delta: &mut TableDelta)
-    requires fits { TableTakes (table_steps delta.old) managers.old (carry_table (table_steps delta.old) managers.old) }
+    requires fits { IsTableTaken (table_steps delta.old) managers.old (carry_table (table_steps delta.old) managers.old) }
     requires room { HasTableRoom delta.old managers.old }
     ensures value { managers.new ≡ carry_table (table_steps delta.old) managers.old }
-    ensures back { TableTakes (table_steps delta.new) managers.new managers.old }
+    ensures back { IsTableTaken (table_steps delta.new) managers.new managers.old }
     ensures room { HasTableRoom delta.new managers.new }
 {
     let mut entries = managers.take_entries(*delta.gone.allocator());

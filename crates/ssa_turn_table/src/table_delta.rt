@@ -187,7 +187,7 @@ pub fn table_delta(
     change: TableChange,
 ) -> Result<TableDelta, AllocError>
     requires distinct { has_distinct_keys (table_view entries.now) ≡ true }
-    requires leads { (u : Table) × LeadsTo (table_view entries.now) change u × (has_distinct_keys u ≡ true) × KeepsOrder (table_view entries.now) u }
+    requires leads { (u : Table) × LeadsTo (table_view entries.now) change u × KeepsOrder (table_view entries.now) u }
     ensures record { IfOk result (λ d. (u : Table) → LeadsTo (table_view entries.now) change u → table_steps d ≡ table_record (table_view entries.now) u) }
     ensures room { IfOk result (λ d. HasTableRoom d (table_view entries.now)) }
 {

@@ -7,7 +7,7 @@ use Rattle.ssa_model.specs.definitions.Kind.{is_among}
 use Rattle.ssa_model.specs.definitions.Body.{order_at}
 use Rattle.ssa_model.specs.definitions.Fitting.{are_distinct}
 use Rattle.ssa_path.specs.Children.{child_at, elements}
-use Rattle.ssa_path.proofs.Orders.{same_element-true, both_first, both_second}
+use Rattle.ssa_path.proofs.Orders.{both_first, both_second}
 use Rattle.ssa_typed.specs.Rows.{rows, below, body_of, leaf_content, own_content, content_at, is_tree, are_apart, are_items, are_fields}
 use Rattle.ssa_typed.specs.Nodes.{node_on, then_on}
 use Rattle.ssa_typed.specs.Points.{content_in}
@@ -16,21 +16,28 @@ use Rattle.ssa_typed.specs.declared.node.Leaf.TheVariants.{Scalar, Atomic}
 use Rattle.ssa_typed.specs.declared.node.Node.{Node, Leaf as LeafOf, Branch, Dict, List as ListOf, the_lemmas}
 use Rattle.ssa_typed.specs.declared.node.Node.TheOpen.{Node-F}
 use Rattle.ssa_typed.specs.declared.node.Node.TheViews.{out-Node, roll-Node, roll-out-Node}
-use Rattle.ssa_typed.proofs.Laws.{not_true}
-use Rattle.ssa_typed.proofs.Levels.{apart-distinct, own-Branch, own-Dict, own-List, level-below, tree-Branch, tree-Dict, tree-List}
+use Rattle.ssa_typed.proofs.Levels.{own-Branch, own-Dict, own-List, level-below, tree-Branch, tree-Dict, tree-List}
 use Rattle.ssa_typed.proofs.Looks.{get-body, some-below}
 use Rattle.ssa_typed.proofs.Lookups.{content-root, content-level, tree-child}
+use Rattle.ssa_model.proofs.Fitting.{same_element-true}
+use Rattle.ssa_typed.proofs.Showing.{leaf-order}
+use Rattle.ssa_typed.proofs.OverNodes.{own-Leaf}
+use Rattle.ssa_typed.proofs.Fitting.{apart-distinct}
+use Rattle.ssa_model.proofs.Basics.{not_true}
 
 -- ---- the node at a path
 
+-- where a node is found, it is a tree
 abbrev pub IsTreeIn : Option Node → Type 0
 IsTreeIn None = Unit {0}
 IsTreeIn (Some n) = is_tree n ≡ true
 
-on-child : (c : Option Node) (p q : Path) → ((n : Node) → c ≡ Some n → content_at (rows n) (p ++ q) ≡ content_in (node_on p n) q) → content_in c (p ++ q) ≡ content_in (then_on c (node_on p)) q
+on-child : (c : Option Node) (p q : Path) → ((n : Node) → c ≡ Some n → content_at (rows n) (p ++ q) ≡ content_in (node_on p n) q)
+    → content_in c (p ++ q) ≡ content_in (then_on c (node_on p)) q
 on-child None p q h = refl
 on-child (Some n) p q h = h n refl
 
+-- what stands at a path with more behind it is what the node at the path has at the rest
 pub content-on : (p : Path) (n : Node) (q : Path) → is_tree n ≡ true → content_at (rows n) (p ++ q) ≡ content_in (node_on p n) q
 content-on [] n q h = refl
 content-on (e ∷ p) n q h = content-level n e (p ++ q) h ∙ on-child (child_at e (below n)) p q (λ c is. content-on p c q (tree-child n e c h is))
@@ -39,6 +46,7 @@ tree-in : (c : Option Node) (p : Path) → ((n : Node) → c ≡ Some n → IsTr
 tree-in None p h = tt
 tree-in (Some n) p h = h n refl
 
+-- the node at a path of a tree is a tree
 pub tree-on : (p : Path) (n : Node) → is_tree n ≡ true → IsTreeIn (node_on p n)
 tree-on [] n h = h
 tree-on (e ∷ p) n h = tree-in (child_at e (below n)) p (λ c is. tree-on p c (tree-child n e c h is))
@@ -83,25 +91,23 @@ ordered-named n es none is h = record {
   items = λ e. ap (is_among e) none ∙ sym (ap (λ fs. is_item_element e && is_among e fs) is ∙ none-among e (is_item_element e) es h refl);
 }
 
-ordered-listed : (n : Node) (es : List Element) → order_at (Some (own_content n)) ≡ es → elements (below n) ≡ es → (are_apart es && are_items es) ≡ true → IsOrdered n
+ordered-listed : (n : Node) (es : List Element) → order_at (Some (own_content n)) ≡ es → elements (below n) ≡ es → (are_apart es && are_items es) ≡ true
+    → IsOrdered n
 ordered-listed n es own is h = record {
   once = ap are_distinct own ∙ sym (apart-distinct es) ∙ both_first _ _ h;
-  items = λ e. ap (is_among e) own ∙ only-items e (is_item_element e) es (both_second (are_apart es) _ h) refl ∙ ap (λ fs. is_item_element e && is_among e fs) (sym is);
+  items = λ e. ap (is_among e) own ∙ only-items e (is_item_element e) es (both_second (are_apart es) _ h) refl
+      ∙ ap (λ fs. is_item_element e && is_among e fs) (sym is);
 }
-
-leaf-order : (l : Leaf) → order_at (Some (leaf_content l)) ≡ []
-leaf-order (Scalar s) = refl
-leaf-order (Atomic v) = refl
-
-own-Leaf : (l : Leaf) → own_content (LeafOf l) ≡ leaf_content l
-own-Leaf l = search (rules, the_lemmas)
 
 ordered-made : (x : Node-F Node) → is_tree (roll-Node x) ≡ true → IsOrdered (roll-Node x)
 unfolding roll-Node denote.Hole.Carrier.roll
 ordered-made (Node-F.Leaf l) h = ordered-named (LeafOf l) [] (ap (λ c. order_at (Some c)) (own-Leaf l) ∙ leaf-order l) (search (rules, the_lemmas)) refl
-ordered-made (Node-F.Branch v) h = ordered-named (Branch v) (elements v.items) (ap (λ c. order_at (Some c)) (own-Branch v)) (search (rules, the_lemmas)) (both_second _ _ (both_first _ _ (sym (tree-Branch v) ∙ h)))
-ordered-made (Node-F.Dict v) h = ordered-named (Dict v) (elements v.items) (ap (λ c. order_at (Some c)) (own-Dict v)) (search (rules, the_lemmas)) (both_second _ _ (both_first _ _ (sym (tree-Dict v) ∙ h)))
-ordered-made (Node-F.List v) h = ordered-listed (ListOf v) (elements v.items) (ap (λ c. order_at (Some c)) (own-List v)) (search (rules, the_lemmas)) (both_first _ _ (sym (tree-List v) ∙ h))
+ordered-made (Node-F.Branch v) h = ordered-named (Branch v) (elements v.items) (ap (λ c. order_at (Some c)) (own-Branch v)) (search (rules, the_lemmas))
+    (both_second _ _ (both_first _ _ (sym (tree-Branch v) ∙ h)))
+ordered-made (Node-F.Dict v) h = ordered-named (Dict v) (elements v.items) (ap (λ c. order_at (Some c)) (own-Dict v)) (search (rules, the_lemmas))
+    (both_second _ _ (both_first _ _ (sym (tree-Dict v) ∙ h)))
+ordered-made (Node-F.List v) h = ordered-listed (ListOf v) (elements v.items) (ap (λ c. order_at (Some c)) (own-List v)) (search (rules, the_lemmas))
+    (both_first _ _ (sym (tree-List v) ∙ h))
 
 ordered : (n : Node) → is_tree n ≡ true → IsOrdered n
 ordered n h = subst (λ m. is_tree m ≡ true → IsOrdered m) (roll-out-Node n) (ordered-made (out-Node n)) h
@@ -111,6 +117,7 @@ ordered n h = subst (λ m. is_tree m ≡ true → IsOrdered m) (roll-out-Node n)
 root-there : (n : Node) → is_some (content_at (rows n) []) ≡ true
 root-there n = ap is_some (content-root n)
 
+-- a tree's body has the root
 pub tree-root : (n : Node) → has (body_of n) [] ≡ true
 tree-root n = ap is_some (get-body n []) ∙ root-there n
 
@@ -124,6 +131,7 @@ tree-beginning n h p q there =
     ap is_some (get-body n p ∙ content-here p n h)
     ∙ closed-in (node_on p n) q (sym (ap is_some (get-body n (p ++ q) ∙ content-on p n q h)) ∙ there)
 
+-- above each place of a tree's body stands another of its places
 pub tree-closed : (n : Node) → is_tree n ≡ true → (p : Path) (e : Element) → has (body_of n) (p ++ e ∷ []) ≡ true → has (body_of n) p ≡ true
 tree-closed n h p e there = tree-beginning n h p (e ∷ []) there
 
@@ -131,6 +139,7 @@ once-in : (c : Option Node) → IsTreeIn c → are_distinct (order_at (content_i
 once-in None h = refl
 once-in (Some n) h = ap (λ c. are_distinct (order_at c)) (content-root n) ∙ (ordered n h).once
 
+-- a list of a tree's body names no item twice
 pub tree-once : (n : Node) → is_tree n ≡ true → (p : Path) → are_distinct (order_at (get (body_of n) p)) ≡ true
 tree-once n h p = ap (λ c. are_distinct (order_at c)) (get-body n p ∙ content-here p n h) ∙ once-in (node_on p n) (tree-on p n h)
 
@@ -143,7 +152,9 @@ items-in (Some n) e h =
     ap (λ c. is_among e (order_at c)) (content-root n) ∙ (ordered n h).items e
     ∙ ap (λ b. is_item_element e && b) (sym (ap (λ rs. is_some (content_at rs (e ∷ []))) (level-below n).rows_are ∙ some-below e (below n)))
 
-pub tree-items : (n : Node) → is_tree n ≡ true → (p : Path) (e : Element) → is_among e (order_at (get (body_of n) p)) ≡ (is_item_element e && has (body_of n) (p ++ e ∷ []))
+-- the order at a path names just those items that the body has there
+pub tree-items : (n : Node) → is_tree n ≡ true → (p : Path) (e : Element)
+    → is_among e (order_at (get (body_of n) p)) ≡ (is_item_element e && has (body_of n) (p ++ e ∷ []))
 tree-items n h p e =
     ap (λ c. is_among e (order_at c)) (get-body n p ∙ content-here p n h) ∙ items-in (node_on p n) e (tree-on p n h)
     ∙ ap (λ c. is_item_element e && is_some c) (sym (get-body n (p ++ e ∷ []) ∙ content-on p n (e ∷ []) h))

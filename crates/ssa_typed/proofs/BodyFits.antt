@@ -28,16 +28,20 @@ module _ (k : Kind) (v : Json) (n : Node) (fit : Fits k v) (made : IsTreeOf k v 
   one-row : (p : Path) (c : Content) → get (body_of n) p ≡ Some c → IsKindRow k (rows n) (p, c)
   one-row p c is = each-row (IsKindRow k (rows n)) (rows n) (p, c) all-rows (row-of (rows n) p c (sym (get-body n p) ∙ is))
 
-  key-there : (p : Path) (m : Text) (s : Scalar) (o : Option Content) → get (body_of n) p ≡ o → is_some o ≡ true → scalar_of m (last_keys p) ≡ Some s → get (body_of n) (p ++ field m ∷ []) ≡ Some (leaf s)
+  key-there : (p : Path) (m : Text) (s : Scalar) (o : Option Content) → get (body_of n) p ≡ o → is_some o ≡ true → scalar_of m (last_keys p) ≡ Some s
+      → get (body_of n) (p ++ field m ∷ []) ≡ Some (leaf s)
   key-there p m s None is there found = absurd (true≢false (sym there))
-  key-there p m s (Some c) is there found = get-body n (p ++ field m ∷ []) ∙ row-found (p ++ field m ∷ []) (leaf s) n made.tree ((one-row p c is).keys m s found)
+  key-there p m s (Some c) is there found = get-body n (p ++ field m ∷ [])
+      ∙ row-found (p ++ field m ∷ []) (leaf s) n made.tree ((one-row p c is).keys m s found)
 
+  -- the body of the tree of a fitting value is a body of its kind
   pub body-fits : IsBodyOf k (body_of n)
   body-fits = record {
     root = tree-root n;
     closed = tree-closed n made.tree;
     fits = λ p c is. (one-row p c is).at;
     once = tree-once n made.tree;
-    keys = λ p ks m s found there. key-there (p ++ key ks ∷ []) m s (get (body_of n) (p ++ key ks ∷ [])) refl there (ap (scalar_of m) (last_keys-push p (key ks)) ∙ found);
+    keys = λ p ks m s found there. key-there (p ++ key ks ∷ []) m s (get (body_of n) (p ++ key ks ∷ [])) refl there
+        (ap (scalar_of m) (last_keys-push p (key ks)) ∙ found);
     items = tree-items n made.tree;
   }

@@ -54,15 +54,21 @@ content-kept : (cs : List Child) (e : Element) (p : Path) → content_in (child_
 unfolding content_of child_of
 content-kept [] e p = refl
 content-kept (c ∷ cs) e p =
-    elim (same_element e (element_view c.0)) as (λ b. content_in (cond b (Some c.1) (child_at e cs)) p ≡ content_of (cond b (Some (rows c.1)) (child_of e (kept_below cs))) p) [ true ↦ refl | false ↦ content-kept cs e p ]
+    elim (same_element e (element_view c.0)) as (λ b. content_in (cond b (Some c.1) (child_at e cs)) p
+    ≡ content_of (cond b (Some (rows c.1)) (child_of e (kept_below cs))) p) [ true ↦ refl | false ↦ content-kept cs e p ]
 
 -- children that keep the same have the same rows, elements and contents, and are trees alike
 pub record AreSame (cs ds : List Child) : Type 0 where
+  -- they have the same rows
   pub rows_same : rows_below cs ≡ rows_below ds
+  -- they stand under the same elements
   pub elements_same : elements cs ≡ elements ds
+  -- what is found below an element is the same
   pub contents_same : (e : Element) (p : Path) → content_in (child_at e cs) p ≡ content_in (child_at e ds) p
+  -- all are trees in both lists, or in neither
   pub trees_same : are_trees cs ≡ are_trees ds
 
+-- children that keep the same are the same in rows, elements and contents, and whether they are trees
 pub kept-same : (cs ds : List Child) → kept_below cs ≡ kept_below ds → AreSame cs ds
 kept-same cs ds e_same = record {
   rows_same = rows-kept cs ∙ ap rows_of e_same ∙ sym (rows-kept ds);
@@ -71,15 +77,19 @@ kept-same cs ds e_same = record {
   trees_same = trees-kept cs ∙ ap are_trees_of e_same ∙ sym (trees-kept ds);
 }
 
+-- nodes with the same rows, both of which are trees or neither, keep the same
 pub kept-pair : (n m : Node) → rows n ≡ rows m → is_tree n ≡ is_tree m → kept n ≡ kept m
 kept-pair n m e f = let pairs : ◌≡◌ {A = List Row × Bool} _ _ = λ i. (e i, f i) in pairs
 
+-- nodes that keep the same have the same rows
 pub kept-rows : (n m : Node) → kept n ≡ kept m → rows n ≡ rows m
 kept-rows n m e = ap (λ (k : List Row × Bool). k.0) e
 
+-- of nodes that keep the same both are trees, or neither is
 pub kept-tree : (n m : Node) → kept n ≡ kept m → is_tree n ≡ is_tree m
 kept-tree n m e = ap (λ (k : List Row × Bool). k.1) e
 
+-- each leaf is a tree
 pub tree-Leaf : (l : Leaf) → is_tree (LeafOf l) ≡ true
 tree-Leaf l = search (rules, the_lemmas)
 
@@ -87,6 +97,7 @@ module _ (v w : Children) (n : Node) (e : kept_below v.items ≡ kept_below w.it
   same : AreSame v.items w.items
   same = kept-same v.items w.items e
 
+  -- a record of copied fields keeps what the record keeps
   pub kept-Branch : n ≡ Branch w → kept (Branch v) ≡ kept n
   kept-Branch is =
       kept-pair (Branch v) (Branch w)
@@ -94,6 +105,7 @@ module _ (v w : Children) (n : Node) (e : kept_below v.items ≡ kept_below w.it
       (tree-Branch v ∙ (λ i. (rises (same.elements_same i) && are_fields (same.elements_same i)) && same.trees_same i) ∙ sym (tree-Branch w))
       ∙ ap kept (sym is)
 
+  -- a Dict of copied entries keeps what the Dict keeps
   pub kept-Dict : n ≡ Dict w → kept (Dict v) ≡ kept n
   kept-Dict is =
       kept-pair (Dict v) (Dict w)
@@ -101,9 +113,11 @@ module _ (v w : Children) (n : Node) (e : kept_below v.items ≡ kept_below w.it
       (tree-Dict v ∙ (λ i. (rises (same.elements_same i) && are_fields (same.elements_same i)) && same.trees_same i) ∙ sym (tree-Dict w))
       ∙ ap kept (sym is)
 
+  -- a list of copied items keeps what the list keeps
   pub kept-List : n ≡ ListOf w → kept (ListOf v) ≡ kept n
   kept-List is =
       kept-pair (ListOf v) (ListOf w)
-      ((level-List v).rows_are ∙ (λ i. ([], (own-List v ∙ ap list_branch same.elements_same ∙ sym (own-List w)) i) ∷ same.rows_same i) ∙ sym (level-List w).rows_are)
+      ((level-List v).rows_are ∙ (λ i. ([], (own-List v ∙ ap list_branch same.elements_same ∙ sym (own-List w)) i) ∷ same.rows_same i)
+      ∙ sym (level-List w).rows_are)
       (tree-List v ∙ (λ i. (are_apart (same.elements_same i) && are_items (same.elements_same i)) && same.trees_same i) ∙ sym (tree-List w))
       ∙ ap kept (sym is)

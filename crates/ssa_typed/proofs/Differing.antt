@@ -15,8 +15,7 @@ use Rattle.ssa_path.specs.Trie.{is_one_of, paths}
 use Rattle.ssa_path.specs.View.{element_view}
 use Rattle.ssa_path.proofs.Combining.{own-within, other-within, both-within}
 use Rattle.ssa_path.proofs.Levels.{any-made, is_trie-made, one-made-root, same_path-reading}
-use Rattle.ssa_path.proofs.Orders.{and_false, both_second}
-use Rattle.ssa_path.proofs.Sets.{has-listed}
+use Rattle.ssa_path.proofs.Orders.{both_second}
 use Rattle.ssa_typed.specs.Differences.{Difference, Added, Modified, Removed, differs, differs_here, differs_below, differs_at, told_of_lost, told_of_new, AreDifferences, AreDiffering, IsDiffering, IsDifference, IsToldAlone}
 use Rattle.ssa_typed.specs.InOrder.{referred, IsInOrder}
 use Rattle.ssa_typed.specs.Points.{point_in, collects_of, is_in_dict, is_point_of}
@@ -26,12 +25,13 @@ use Rattle.ssa_typed.specs.declared.compare.PartsBelow.{PartsBelow}
 use Rattle.ssa_typed.specs.declared.node.Node.{Node}
 use Rattle.ssa_typed.specs.declared.points.Collected.TheVariants.{Points, All}
 use Rattle.ssa_typed.proofs.Collecting.{point-level}
-use Rattle.ssa_typed.proofs.Laws.{and_true}
 use Rattle.ssa_typed.proofs.Lookups.{content-level, content-root}
 use Rattle.ssa_typed.proofs.Looks.{get-body}
 use Rattle.ssa_typed.proofs.Making.{TellsNothing, IsMaking, making-all, making-more, making-skip, front-own, front-other, front-both}
 use Rattle.ssa_typed.proofs.References.{Reference, child-of, left-referred, length-referred}
 use Rattle.ssa_typed.proofs.Stands.{points-body}
+use Rattle.ssa_model.proofs.Lists.{has-listed}
+use Rattle.ssa_model.proofs.Basics.{and-true as and_true, and-false as and_false}
 
 -- ---- what differs, told of children that only one tree has
 
@@ -43,19 +43,22 @@ other-none (Some record_branch) = refl
 other-none (Some dict_branch) = refl
 other-none (Some (list_branch es)) = refl
 
+-- of a child that neither tree has nothing is told
 pub tells-nothing : (what : Difference) (d : Bool) → TellsNothing (differs what d)
 tells-nothing Added d e [] = refl
 tells-nothing Added d e (f ∷ p) = refl
 tells-nothing Modified d e p = refl
 tells-nothing Removed d e p = refl
 
-lost-differs : (what : Difference) (d : Bool) (e : Element) (c : Node) (p : Path) → collects_of (told_of_lost what) d e (Some c) p ≡ differs what d e (Some c) None p
+lost-differs : (what : Difference) (d : Bool) (e : Element) (c : Node) (p : Path)
+    → collects_of (told_of_lost what) d e (Some c) p ≡ differs what d e (Some c) None p
 lost-differs Added d e c [] = refl
 lost-differs Added d e c (f ∷ p) = refl
 lost-differs Modified d e c p = sym (other-none (content_at (rows c) p))
 lost-differs Removed d e c p = sym (and_true _)
 
-new-differs : (what : Difference) (d : Bool) (e : Element) (c : Node) (p : Path) → collects_of (told_of_new what) d e (Some c) p ≡ differs what d e None (Some c) p
+new-differs : (what : Difference) (d : Bool) (e : Element) (c : Node) (p : Path)
+    → collects_of (told_of_new what) d e (Some c) p ≡ differs what d e None (Some c) p
 new-differs Added d e c p = sym (and_true _)
 new-differs Modified d e c p = refl
 new-differs Removed d e c p = refl
@@ -63,6 +66,7 @@ new-differs Removed d e c p = refl
 -- ---- what differs at and below two nodes
 
 module _ (n m : Node) (before : is_tree n ≡ true) (after : is_tree m ≡ true) where
+  -- what differs at a path that goes on below both nodes is told by their children there
   pub differs-level : (what : Difference) (d : Bool) (e f : Element) (p : Path) → differs what d e (Some n) (Some m) (f ∷ p) ≡ differs_below what n m f p
   differs-level Added d e f p = (λ i. point-level m after d e f p i && not (is_some (content-level n f p before i)))
   differs-level Modified d e f p = (λ i. is_other_leaf (content-level n f p before i) (content-level m f p after i))
@@ -74,46 +78,61 @@ differs-root n m Modified d e = (λ i. is_other_leaf (content-root n i) (content
 differs-root n m Removed d e = (λ i. is_some (content-root n i) && not (is_some (content-root m i)))
 
 -- a place over what differs below it
-pub difference-made : (what : Difference) (n m : Node) (x : Trie-F Trie) → x.here ≡ differs_here what n m → IsDiffering what n m x.below.items → IsDifference what n m (roll-Trie x)
+pub difference-made : (what : Difference) (n m : Node) (x : Trie-F Trie) → x.here ≡ differs_here what n m → IsDiffering what n m x.below.items
+    → IsDifference what n m (roll-Trie x)
 difference-made what n m x here h = record { paths_are = held; trie = is_trie-made x h.risen h.tries }
   where
     held : (p : Path) → is_one_of (paths (roll-Trie x)) p ≡ differs_at what n m p
     held [] = one-made-root x ∙ here
     held (f ∷ p) = any-made same_path same_path-reading x f p ∙ h.paths_are f p
 
-differs-whole : (what : Difference) (d : Bool) (e : Element) (n m : Node) → is_tree n ≡ true → is_tree m ≡ true → (p : Path) → differs_at what n m p ≡ differs what d e (Some n) (Some m) p
+differs-whole : (what : Difference) (d : Bool) (e : Element) (n m : Node) → is_tree n ≡ true → is_tree m ≡ true → (p : Path)
+    → differs_at what n m p ≡ differs what d e (Some n) (Some m) p
 differs-whole what d e n m before after [] = sym (differs-root n m what d e)
 differs-whole what d e n m before after (f ∷ p) = sym (differs-level n m before after what d e f p)
 
 -- ---- the walk over the children of both
 
 -- how the next children compare, told of lists that were lent
-pub heads-are : (rs ss own others : List Reference) (i j : ℕ) (o q : Option Ordering) → own ≡ rs → others ≡ ss → o ≡ heads_order (drop i (referred own)) (drop j (referred others)) → o ≡ q
+pub heads-are : (rs ss own others : List Reference) (i j : ℕ) (o q : Option Ordering) → own ≡ rs → others ≡ ss
+    → o ≡ heads_order (drop i (referred own)) (drop j (referred others)) → o ≡ q
     → heads_order (drop i (referred rs)) (drop j (referred ss)) ≡ q
-heads-are rs ss own others i j o q lent other_lent is found = sym (is ∙ (λ k. heads_order (drop i (referred (lent k))) (drop j (referred (other_lent k))))) ∙ found
+heads-are rs ss own others i j o q lent other_lent is found = sym (is ∙ (λ k. heads_order (drop i (referred (lent k))) (drop j (referred (other_lent k)))))
+    ∙ found
 
 -- the next children are children of the nodes
 module _ (n m : Node) (rs ss : List Reference) (i j : ℕ) (own : IsInOrder (below n) (referred rs)) (other : IsInOrder (below m) (referred ss)) where
   within : (ts : List Reference) (k : ℕ) → k < length (referred ts) → k < length ts
   within ts k lt = subst (λ l. k < l) (length-referred ts) lt
 
-  pub lost-child : (r : Reference) → heads_order (drop i (referred rs)) (drop j (referred ss)) ≡ Some Less → r ≡ get_or rs i r → child_at (element_view r.now.0) (below n) ≡ Some r.now.1
+  -- a head that only the tree before has is its child of that element
+  pub lost-child : (r : Reference) → heads_order (drop i (referred rs)) (drop j (referred ss)) ≡ Some Less → r ≡ get_or rs i r
+      → child_at (element_view r.now.0) (below n) ≡ Some r.now.1
   lost-child r order is = child-of (below n) rs i r (within rs i (own-within (referred rs) (drop j (referred ss)) i order)) is own
 
-  pub new-child : (s : Reference) → heads_order (drop i (referred rs)) (drop j (referred ss)) ≡ Some Greater → s ≡ get_or ss j s → child_at (element_view s.now.0) (below m) ≡ Some s.now.1
+  -- a head that only the tree after has is its child of that element
+  pub new-child : (s : Reference) → heads_order (drop i (referred rs)) (drop j (referred ss)) ≡ Some Greater → s ≡ get_or ss j s
+      → child_at (element_view s.now.0) (below m) ≡ Some s.now.1
   new-child s order is = child-of (below m) ss j s (within ss j (other-within (drop i (referred rs)) (referred ss) j order)) is other
 
-  pub own-child : (r : Reference) → heads_order (drop i (referred rs)) (drop j (referred ss)) ≡ Some Equal → r ≡ get_or rs i r → child_at (element_view r.now.0) (below n) ≡ Some r.now.1
+  -- of heads that both trees have, the first is the child of the tree before
+  pub own-child : (r : Reference) → heads_order (drop i (referred rs)) (drop j (referred ss)) ≡ Some Equal → r ≡ get_or rs i r
+      → child_at (element_view r.now.0) (below n) ≡ Some r.now.1
   own-child r order is = child-of (below n) rs i r (within rs i (both-within (referred rs) (referred ss) i j order).0) is own
 
-  pub other-child : (s : Reference) → heads_order (drop i (referred rs)) (drop j (referred ss)) ≡ Some Equal → s ≡ get_or ss j s → child_at (element_view s.now.0) (below m) ≡ Some s.now.1
+  -- of heads that both trees have, the second is the child of the tree after
+  pub other-child : (s : Reference) → heads_order (drop i (referred rs)) (drop j (referred ss)) ≡ Some Equal → s ≡ get_or ss j s
+      → child_at (element_view s.now.0) (below m) ≡ Some s.now.1
   other-child s order is = child-of (below m) ss j s (within ss j (both-within (referred rs) (referred ss) i j order).1) is other
 
 module _ (what : Difference) (d : Bool) (rs ss : List Reference) where
+  -- the tries so far hold what is told of the children before those that are left
   abbrev pub IsComparing : List (Elem × Node) → List (Elem × Node) → List (Elem × Trie) → Type 0
   IsComparing cs ds out = IsMaking (differs what d) (referred rs) (referred ss) cs ds out
 
-  pub comparing-lost : (i j : ℕ) (r : Reference) (out new : List (Elem × Trie)) → heads_order (drop i (referred rs)) (drop j (referred ss)) ≡ Some Less → r ≡ get_or rs i r
+  -- a child that only the tree before has is passed, with what is told of a lost one
+  pub comparing-lost : (i j : ℕ) (r : Reference) (out new : List (Elem × Trie)) → heads_order (drop i (referred rs)) (drop j (referred ss)) ≡ Some Less
+      → r ≡ get_or rs i r
       → IsToldAlone (told_of_lost what) d r.now out new
       → IsComparing (drop i (referred rs)) (drop j (referred ss)) out → IsComparing (drop (i + 1) (referred rs)) (drop j (referred ss)) new
   comparing-lost i j r out new order is (t, made, grown) h =
@@ -126,9 +145,12 @@ module _ (what : Difference) (d : Bool) (rs ss : List Reference) where
       let now = subst (λ l. IsComparing l ds out) left h in
       let heads = subst (λ l. heads_order l ds ≡ Some Less) left order in
       making-more (differs what d) e (Some c.1) None (referred rs) (referred ss) (c ∷ cs) ds cs ds out new t (tells-nothing what d)
-      (front-own c cs ds heads now.own_rise now.others_rise) (both_second _ _ now.own_rise) now.others_rise (λ p. made.paths_are p ∙ lost-differs what d e c.1 p) made.trie grown now
+      (front-own c cs ds heads now.own_rise now.others_rise) (both_second _ _ now.own_rise) now.others_rise (λ p. made.paths_are p
+      ∙ lost-differs what d e c.1 p) made.trie grown now
 
-  pub comparing-new : (i j : ℕ) (s : Reference) (out new : List (Elem × Trie)) → heads_order (drop i (referred rs)) (drop j (referred ss)) ≡ Some Greater → s ≡ get_or ss j s
+  -- a child that only the tree after has is passed, with what is told of a new one
+  pub comparing-new : (i j : ℕ) (s : Reference) (out new : List (Elem × Trie)) → heads_order (drop i (referred rs)) (drop j (referred ss)) ≡ Some Greater
+      → s ≡ get_or ss j s
       → IsToldAlone (told_of_new what) d s.now out new
       → IsComparing (drop i (referred rs)) (drop j (referred ss)) out → IsComparing (drop i (referred rs)) (drop (j + 1) (referred ss)) new
   comparing-new i j s out new order is (t, made, grown) h =
@@ -141,10 +163,12 @@ module _ (what : Difference) (d : Bool) (rs ss : List Reference) where
       let now = subst (λ l. IsComparing cs l out) left h in
       let heads = subst (λ l. heads_order cs l ≡ Some Greater) left order in
       making-more (differs what d) e None (Some c.1) (referred rs) (referred ss) cs (c ∷ ds) cs ds out new t (tells-nothing what d)
-      (front-other cs c ds heads now.own_rise now.others_rise) now.own_rise (both_second _ _ now.others_rise) (λ p. made.paths_are p ∙ new-differs what d e c.1 p) made.trie grown now
+      (front-other cs c ds heads now.own_rise now.others_rise) now.own_rise (both_second _ _ now.others_rise) (λ p. made.paths_are p
+      ∙ new-differs what d e c.1 p) made.trie grown now
 
   -- nothing is told of a child that only one of the trees has
-  pub comparing-past-lost : (i j : ℕ) (r : Reference) (out : List (Elem × Trie)) → heads_order (drop i (referred rs)) (drop j (referred ss)) ≡ Some Less → r ≡ get_or rs i r → told_of_lost what ≡ None
+  pub comparing-past-lost : (i j : ℕ) (r : Reference) (out : List (Elem × Trie)) → heads_order (drop i (referred rs)) (drop j (referred ss)) ≡ Some Less
+      → r ≡ get_or rs i r → told_of_lost what ≡ None
       → IsComparing (drop i (referred rs)) (drop j (referred ss)) out → IsComparing (drop (i + 1) (referred rs)) (drop j (referred ss)) out
   comparing-past-lost i j r out order is none h =
       let c = r.now in
@@ -156,9 +180,12 @@ module _ (what : Difference) (d : Bool) (rs ss : List Reference) where
       let now = subst (λ l. IsComparing l ds out) left h in
       let heads = subst (λ l. heads_order l ds ≡ Some Less) left order in
       making-skip (differs what d) e (Some c.1) None (referred rs) (referred ss) (c ∷ cs) ds cs ds out (tells-nothing what d)
-      (front-own c cs ds heads now.own_rise now.others_rise) (both_second _ _ now.own_rise) now.others_rise (λ p. sym (lost-differs what d e c.1 p) ∙ ap (λ o. collects_of o d e (Some c.1) p) none) now
+      (front-own c cs ds heads now.own_rise now.others_rise) (both_second _ _ now.own_rise) now.others_rise (λ p. sym (lost-differs what d e c.1 p)
+      ∙ ap (λ o. collects_of o d e (Some c.1) p) none) now
 
-  pub comparing-past-new : (i j : ℕ) (s : Reference) (out : List (Elem × Trie)) → heads_order (drop i (referred rs)) (drop j (referred ss)) ≡ Some Greater → s ≡ get_or ss j s → told_of_new what ≡ None
+  -- where nothing is told of new children, one is passed and nothing comes
+  pub comparing-past-new : (i j : ℕ) (s : Reference) (out : List (Elem × Trie)) → heads_order (drop i (referred rs)) (drop j (referred ss)) ≡ Some Greater
+      → s ≡ get_or ss j s → told_of_new what ≡ None
       → IsComparing (drop i (referred rs)) (drop j (referred ss)) out → IsComparing (drop i (referred rs)) (drop (j + 1) (referred ss)) out
   comparing-past-new i j s out order is none h =
       let c = s.now in
@@ -170,9 +197,12 @@ module _ (what : Difference) (d : Bool) (rs ss : List Reference) where
       let now = subst (λ l. IsComparing cs l out) left h in
       let heads = subst (λ l. heads_order cs l ≡ Some Greater) left order in
       making-skip (differs what d) e None (Some c.1) (referred rs) (referred ss) cs (c ∷ ds) cs ds out (tells-nothing what d)
-      (front-other cs c ds heads now.own_rise now.others_rise) now.own_rise (both_second _ _ now.others_rise) (λ p. sym (new-differs what d e c.1 p) ∙ ap (λ o. collects_of o d e (Some c.1) p) none) now
+      (front-other cs c ds heads now.own_rise now.others_rise) now.own_rise (both_second _ _ now.others_rise) (λ p. sym (new-differs what d e c.1 p)
+      ∙ ap (λ o. collects_of o d e (Some c.1) p) none) now
 
-  pub comparing-both : (i j : ℕ) (r s : Reference) (out new : List (Elem × Trie)) (t : Trie) → heads_order (drop i (referred rs)) (drop j (referred ss)) ≡ Some Equal → r ≡ get_or rs i r → s ≡ get_or ss j s
+  -- a child that both trees have is passed, with what differs in it
+  pub comparing-both : (i j : ℕ) (r s : Reference) (out new : List (Elem × Trie)) (t : Trie)
+      → heads_order (drop i (referred rs)) (drop j (referred ss)) ≡ Some Equal → r ≡ get_or rs i r → s ≡ get_or ss j s
       → is_tree r.now.1 ≡ true → is_tree s.now.1 ≡ true → IsDifference what r.now.1 s.now.1 t → IsGrown (element_view r.now.0) t out new
       → IsComparing (drop i (referred rs)) (drop j (referred ss)) out → IsComparing (drop (i + 1) (referred rs)) (drop (j + 1) (referred ss)) new
   comparing-both i j r s out new t order is_r is_s before after made grown h =
@@ -190,20 +220,30 @@ module _ (what : Difference) (d : Bool) (rs ss : List Reference) where
       (front-both c b cs ds heads now.own_rise now.others_rise) (both_second _ _ now.own_rise) (both_second _ _ now.others_rise)
       (λ p. made.paths_are p ∙ differs-whole what d e c.1 b.1 before after p) made.trie grown now
 
-  pub comparing-all : (n m : Node) (cs ds : List (Elem × Node)) (out : List (Elem × Trie)) → d ≡ is_in_dict m → IsInOrder (below n) (referred rs) → IsInOrder (below m) (referred ss) → cs ≡ [] → ds ≡ [] → IsComparing cs ds out → IsDiffering what n m out
+  -- where no child is left, the tries hold what differs below the two nodes
+  pub comparing-all : (n m : Node) (cs ds : List (Elem × Node)) (out : List (Elem × Trie)) → d ≡ is_in_dict m → IsInOrder (below n) (referred rs)
+      → IsInOrder (below m) (referred ss) → cs ≡ [] → ds ≡ [] → IsComparing cs ds out → IsDiffering what n m out
   comparing-all n m cs ds out is own other none_own none_other h =
       let made = making-all (differs what d) (referred rs) (referred ss) cs ds out (tells-nothing what d) none_own none_other h in
       record { paths_are = λ e p. made.paths_are e p ∙ (λ i. differs what (is i) e (own.same e i) (other.same e i) p); risen = made.risen; tries = made.tries }
 
 -- ---- all that is told, by one walk
 
-pub record AreComparing (d : Bool) (rs ss : List Reference) (cs ds : List (Elem × Node)) (own_added own_modified own_removed : List (Elem × Trie)) : Type 0 where
-  pub added_so_far : IsComparing Added d rs ss cs ds own_added
-  pub modified_so_far : IsComparing Modified d rs ss cs ds own_modified
-  pub removed_so_far : IsComparing Removed d rs ss cs ds own_removed
+-- so far all three are told: what is added, modified and removed
+pub record AreComparing (d : Bool) (rs ss : List Reference) (cs ds : List (Elem × Node)) (own_added own_modified own_removed : List (Elem × Trie)) : Type 0
+  where
+    -- what is added among the children passed
+    pub added_so_far : IsComparing Added d rs ss cs ds own_added
+    -- what is modified among them
+    pub modified_so_far : IsComparing Modified d rs ss cs ds own_modified
+    -- what is removed among them
+    pub removed_so_far : IsComparing Removed d rs ss cs ds own_removed
 
-module _ (d : Bool) (rs ss : List Reference) (i j : ℕ) (a m x : List (Elem × Trie)) (h : AreComparing d rs ss (drop i (referred rs)) (drop j (referred ss)) a m x) where
-  pub past-lost : (r : Reference) (new : List (Elem × Trie)) → heads_order (drop i (referred rs)) (drop j (referred ss)) ≡ Some Less → r ≡ get_or rs i r → IsToldAlone (Some All) d r.now x new
+module _ (d : Bool) (rs ss : List Reference) (i j : ℕ) (a m x : List (Elem × Trie))
+    (h : AreComparing d rs ss (drop i (referred rs)) (drop j (referred ss)) a m x) where
+  -- a lost child is passed: more is removed
+  pub past-lost : (r : Reference) (new : List (Elem × Trie)) → heads_order (drop i (referred rs)) (drop j (referred ss)) ≡ Some Less → r ≡ get_or rs i r
+      → IsToldAlone (Some All) d r.now x new
       → AreComparing d rs ss (drop (i + 1) (referred rs)) (drop j (referred ss)) a m new
   past-lost r new order is told = record {
     added_so_far = comparing-past-lost Added d rs ss i j r a order is refl h.added_so_far;
@@ -211,7 +251,9 @@ module _ (d : Bool) (rs ss : List Reference) (i j : ℕ) (a m x : List (Elem × 
     removed_so_far = comparing-lost Removed d rs ss i j r x new order is told h.removed_so_far;
   }
 
-  pub past-new : (s : Reference) (new : List (Elem × Trie)) → heads_order (drop i (referred rs)) (drop j (referred ss)) ≡ Some Greater → s ≡ get_or ss j s → IsToldAlone (Some Points) d s.now a new
+  -- a new child is passed: more is added
+  pub past-new : (s : Reference) (new : List (Elem × Trie)) → heads_order (drop i (referred rs)) (drop j (referred ss)) ≡ Some Greater → s ≡ get_or ss j s
+      → IsToldAlone (Some Points) d s.now a new
       → AreComparing d rs ss (drop i (referred rs)) (drop (j + 1) (referred ss)) new m x
   past-new s new order is told = record {
     added_so_far = comparing-new Added d rs ss i j s a new order is told h.added_so_far;
@@ -219,7 +261,9 @@ module _ (d : Bool) (rs ss : List Reference) (i j : ℕ) (a m x : List (Elem × 
     removed_so_far = comparing-past-new Removed d rs ss i j s x order is refl h.removed_so_far;
   }
 
-  pub past-both : (r s : Reference) (v : Parts) (new_a new_m new_x : List (Elem × Trie)) → heads_order (drop i (referred rs)) (drop j (referred ss)) ≡ Some Equal → r ≡ get_or rs i r → s ≡ get_or ss j s
+  -- a child of both trees is passed, with all that is told of it
+  pub past-both : (r s : Reference) (v : Parts) (new_a new_m new_x : List (Elem × Trie))
+      → heads_order (drop i (referred rs)) (drop j (referred ss)) ≡ Some Equal → r ≡ get_or rs i r → s ≡ get_or ss j s
       → is_tree r.now.1 ≡ true → is_tree s.now.1 ≡ true → AreDifferences r.now.1 s.now.1 v
       → IsGrown (element_view r.now.0) v.added a new_a → IsGrown (element_view r.now.0) v.modified m new_m → IsGrown (element_view r.now.0) v.removed x new_x
       → AreComparing d rs ss (drop (i + 1) (referred rs)) (drop (j + 1) (referred ss)) new_a new_m new_x
@@ -229,7 +273,9 @@ module _ (d : Bool) (rs ss : List Reference) (i j : ℕ) (a m x : List (Elem × 
     removed_so_far = comparing-both Removed d rs ss i j r s x new_x v.removed order is_r is_s before after made.removed_trie grown_x h.removed_so_far;
   }
 
-pub past-all : (d : Bool) (rs ss : List Reference) (n m : Node) (cs ds : List (Elem × Node)) (v : PartsBelow) → d ≡ is_in_dict m → IsInOrder (below n) (referred rs) → IsInOrder (below m) (referred ss) → cs ≡ [] → ds ≡ []
+-- where no child is left, all that differs below the two nodes is told
+pub past-all : (d : Bool) (rs ss : List Reference) (n m : Node) (cs ds : List (Elem × Node)) (v : PartsBelow) → d ≡ is_in_dict m
+    → IsInOrder (below n) (referred rs) → IsInOrder (below m) (referred ss) → cs ≡ [] → ds ≡ []
     → AreComparing d rs ss cs ds v.added.items v.modified.items v.removed.items → AreDiffering n m v
 past-all d rs ss n m cs ds v is own other none_own none_other h = record {
   added_below = comparing-all Added d rs ss n m cs ds v.added.items is own other none_own none_other h.added_so_far;
@@ -239,6 +285,7 @@ past-all d rs ss n m cs ds v is own other none_own none_other h = record {
 
 -- ---- THE BRIDGE: the comparison of the bodies that the trees stand for
 
+-- the paths of two bodies that are told, as the definitions have them
 abbrev pub difference_of : Difference → Body → Body → PathSet
 difference_of Added before after = added before after
 difference_of Modified before after = modified before after
@@ -249,7 +296,12 @@ leaf_there None y = refl
 leaf_there (Some c) y = refl
 
 has-difference : (what : Difference) (n m : Node) (q : Path) → has (difference_of what (body_of n) (body_of m)) q
-    ≡ elim what [ Added ↦ is_point_of (rows m) q && not (is_some (content_at (rows n) q)) | Modified ↦ is_other_leaf (content_at (rows n) q) (content_at (rows m) q) | Removed ↦ is_some (content_at (rows n) q) && not (is_some (content_at (rows m) q)) ]
+    ≡ elim what [
+      | Added ↦ is_point_of (rows m) q && not (is_some (content_at (rows n) q))
+      | Modified ↦ is_other_leaf (content_at (rows n) q)
+          (content_at (rows m) q)
+      | Removed ↦ is_some (content_at (rows n) q) && not (is_some (content_at (rows m) q))
+    ]
 has-difference Added n m q =
     has-set_of (set_paths (points (body_of m))) (λ p. not (has (body_of n) p)) q
     ∙ (λ i. (sym (has-paths (points (body_of m)) q) ∙ points-body m q) i && not (is_some (get-body n q i)))
@@ -261,7 +313,8 @@ has-difference Removed n m q =
     has-set_of (set_paths (body_of n)) (λ p. not (has (body_of m) p)) q
     ∙ ap (λ b. b && not (has (body_of m) q)) (sym (has-paths (body_of n) q)) ∙ (λ i. is_some (get-body n q i) && not (is_some (get-body m q i)))
 
-has-differing : (what : Difference) (n m : Node) → is_tree n ≡ true → is_tree m ≡ true → (q : Path) → has (difference_of what (body_of n) (body_of m)) q ≡ differs_at what n m q
+has-differing : (what : Difference) (n m : Node) → is_tree n ≡ true → is_tree m ≡ true → (q : Path)
+    → has (difference_of what (body_of n) (body_of m)) q ≡ differs_at what n m q
 has-differing Added n m before after [] = has-difference Added n m []
 has-differing Modified n m before after [] = has-difference Modified n m [] ∙ (λ i. is_other_leaf (content-root n i) (content-root m i))
 has-differing Removed n m before after [] = has-difference Removed n m [] ∙ (λ i. is_some (content-root n i) && not (is_some (content-root m i)))
@@ -270,5 +323,6 @@ has-differing Modified n m before after (f ∷ p) = has-difference Modified n m 
 has-differing Removed n m before after (f ∷ p) = has-difference Removed n m (f ∷ p) ∙ differs-level n m before after Removed false f f p
 
 -- the listed paths of the trie are the difference of the bodies
-pub difference-listed : (what : Difference) (n m : Node) (t : Trie) → is_tree n ≡ true → is_tree m ≡ true → IsDifference what n m t → listed (paths t) ≡ difference_of what (body_of n) (body_of m)
+pub difference-listed : (what : Difference) (n m : Node) (t : Trie) → is_tree n ≡ true → is_tree m ≡ true → IsDifference what n m t
+    → listed (paths t) ≡ difference_of what (body_of n) (body_of m)
 difference-listed what n m t before after h = same_sets _ _ (λ q. has-listed (paths t) q ∙ h.paths_are q ∙ sym (has-differing what n m before after q))

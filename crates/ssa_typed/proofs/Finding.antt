@@ -43,15 +43,18 @@ module _ {X A : Type 0} (entry : X → Elem × A) where
           λ k d le lt. let x = some-value xs k (omega arith) in ap (compared e) (at-entry xs k x d (omega arith)) ∙ parts.1 k x le (omega arith),
         )
 
+    -- what a binary search among the values answers is a search result for the children
     pub search-found : (r : Result ℕ ℕ) → rises (elements (map entry xs)) ≡ true → MatchResult r (λ i. i < length xs) (λ i. i ≤ length xs)
         → IsBinarySearchResult (compared_with e) xs r → IsSearchResult e (map entry xs) r
     search-found r rise bound found = search-result e (map entry xs) r rise (in_range r bound) (search-entries r bound found)
 
+    -- the value at the place that was found is the child of the element
     pub entry-found : (i : ℕ) (x : X) → rises (elements (map entry xs)) ≡ true → IsSearchResult e (map entry xs) (Ok i) → i < length xs → x ≡ get_or xs i x
         → child_at e (map entry xs) ≡ Some (entry x).1
     entry-found i x rise found lt is =
         child-found e (map entry xs) i (entry x) rise found.within (found.same (entry x))
         ∙ ap (λ (c : Elem × A). Some c.1) (at-entry xs i x (entry x) lt ∙ ap entry (sym is))
 
+    -- where a gap was found, there is no child of the element
     pub entry-absent : (i : ℕ) → IsSearchResult e (map entry xs) (Err i) → child_at e (map entry xs) ≡ None
     entry-absent i gap = child-absent e (map entry xs) i gap.between

@@ -14,13 +14,16 @@ use Rattle.ssa_typed.specs.Rows.{are_apart}
 
 -- ---- no item stands twice
 
-apart-distinct : (es : List Element) → are_apart es ≡ are_distinct es
+-- being apart and being distinct are one test of elements
+pub apart-distinct : (es : List Element) → are_apart es ≡ are_distinct es
 apart-distinct [] = refl
 apart-distinct (e ∷ es) = ap (λ b. not (is_among e es) && b) (apart-distinct es)
 
+-- the values of a fitting set are apart
 pub values-apart : (k : ScalarKind) (vs : Items) → ValuesFit k vs → are_apart (value_order vs) ≡ true
 values-apart k vs h = apart-distinct (value_order vs) ∙ values-distinct k vs h
 
+-- the keys of a fitting map list's items are apart
 pub items-apart : (ns : List Text) (fs : Fields) (vs : Items) → ItemsFit ns fs vs → are_apart (key_order ns vs) ≡ true
 items-apart ns fs vs h = apart-distinct (key_order ns vs) ∙ items-distinct ns fs vs h
 
@@ -30,6 +33,7 @@ is_there : {A : Type 0} → Option A → Bool
 is_there None = false
 is_there (Some x) = true
 
+-- where no fault is told as the first, there is none
 pub no-first : (fs : List FaultAt) → None ≡ option_map told (first_of fs) → fs ≡ []
 unfolding is_there
 no-first [] e = refl

@@ -23,6 +23,7 @@ pub mod Reached
 pub mod References
 pub mod Restricting
 pub mod Rooted
+pub mod RootedBodies
 pub mod SameMembers
 pub mod Showing
 pub mod ShownMembers

@@ -7,7 +7,7 @@ use Rattle.ssa_model.specs.definitions.Kind.{Kind, scalar_kind, atomic_of, recor
 use Rattle.ssa_model.specs.definitions.Path.{Path}
 use Rattle.ssa_model.specs.definitions.PathMap.{get}
 use Rattle.ssa_typed.specs.Alike.{are_alike, AreAlike}
-use Rattle.ssa_typed.proofs.Laws.{some-same}
+use Rattle.ssa_model.proofs.Basics.{some-same}
 
 data Sort : Type 0 where
   leaves : Sort

@@ -8,7 +8,7 @@ use Rattle.ssa_model.specs.definitions.Path.{Element, same_element, is_item_elem
 use Rattle.ssa_model.proofs.PathMaps.{same_map, get-over}
 use Rattle.ssa_path.specs.Children.{child_at, elements, rises}
 use Rattle.ssa_path.specs.View.{element_view}
-use Rattle.ssa_path.proofs.Orders.{same_element-true, same_element-itself, both, both_first, both_second}
+use Rattle.ssa_path.proofs.Orders.{both_first, both_second}
 use Rattle.ssa_typed.specs.Alike.{are_alike, AreAlike}
 use Rattle.ssa_typed.specs.InOrder.{IsInOrder}
 use Rattle.ssa_typed.specs.Over.{AreAlikeBelow, AreAlikeTrees, IsOver, AreOver, AreOverInOrder}
@@ -24,7 +24,10 @@ use Rattle.ssa_typed.proofs.Levels.{Children, level-below, own-Branch, own-Dict,
 use Rattle.ssa_typed.proofs.Looks.{get-body}
 use Rattle.ssa_typed.proofs.Lookups.{child_at-rest, child-tree}
 use Rattle.ssa_typed.proofs.Sizes.{length-level}
-use Rattle.ssa_typed.proofs.Overlaying.{alike-below, alike-root, over-apart, over-level, some-none}
+use Rattle.ssa_typed.proofs.Overlaying.{alike-below, alike-root, over-apart, over-level}
+use Rattle.ssa_model.proofs.Fitting.{same_element-true}
+use Rattle.ssa_model.proofs.Tables.{element-itself as same_element-itself}
+use Rattle.ssa_model.proofs.Basics.{both-true as both, some≢none as some-none}
 
 -- ---- contents of one sort
 
@@ -110,24 +113,29 @@ rolled n h = ap is_tree (roll-out-Node n) ∙ h
 
 -- ---- a test that each element passes
 
+-- each of the elements passes the test
 pub all_of : (Element → Bool) → List Element → Bool
 all_of test [] = true
 all_of test (e ∷ es) = test e && all_of test es
 
+-- the element is no item's
 abbrev pub is_field : Element → Bool
 is_field e = not (is_item_element e)
 
+-- elements are those of fields where each passes the test for one
 pub fields-all : (es : List Element) → are_fields es ≡ all_of is_field es
 unfolding all_of
 fields-all [] = refl
 fields-all (e ∷ es) = ap (λ b. is_field e && b) (fields-all es)
 
+-- elements are those of items where each passes the test for one
 pub items-all : (es : List Element) → are_items es ≡ all_of is_item_element es
 unfolding all_of
 items-all [] = refl
 items-all (e ∷ es) = ap (λ b. is_item_element e && b) (items-all es)
 
 module _ (test : Element → Bool) where
+  -- elements that all pass a test do so, too, where some are left out
   pub all-filter : (q : Element → Bool) (es : List Element) → all_of test es ≡ true → all_of test (filter q es) ≡ true
   unfolding all_of
   all-filter q [] h = refl
@@ -158,7 +166,8 @@ module _ (test : Element → Bool) where
 head-child : (d : Child) (ds : List Child) → child_at (element_view d.0) (d ∷ ds) ≡ Some d.1
 head-child d ds = ap (λ b. cond b (Some d.1) (child_at (element_view d.0) ds)) (same_element-itself (element_view d.0))
 
-later-child : (d : Child) (ds : List Child) (e : Element) (c : Node) → are_apart (elements (d ∷ ds)) ≡ true → child_at e ds ≡ Some c → child_at e (d ∷ ds) ≡ Some c
+later-child : (d : Child) (ds : List Child) (e : Element) (c : Node) → are_apart (elements (d ∷ ds)) ≡ true → child_at e ds ≡ Some c
+    → child_at e (d ∷ ds) ≡ Some c
 later-child d ds e c apart found =
     elim (same_element e (element_view d.0)) as (λ b. same_element e (element_view d.0) ≡ b → cond b (Some d.1) (child_at e ds) ≡ Some c) [
       | true ↦ λ s. absurd (some-none c (sym found ∙ child_at-rest e d ds s apart))
@@ -168,7 +177,8 @@ later-child d ds e c apart found =
 later-apart : (d : Child) (ds : List Child) → are_apart (elements (d ∷ ds)) ≡ true → are_apart (elements ds) ≡ true
 later-apart d ds apart = both_second (not (list_any (same_element (element_view d.0)) (elements ds))) _ apart
 
-all-found : (test : Element → Bool) (ds : List Child) → are_apart (elements ds) ≡ true → ((e : Element) (c : Node) → child_at e ds ≡ Some c → test e ≡ true) → all_of test (elements ds) ≡ true
+all-found : (test : Element → Bool) (ds : List Child) → are_apart (elements ds) ≡ true → ((e : Element) (c : Node) → child_at e ds ≡ Some c → test e ≡ true)
+    → all_of test (elements ds) ≡ true
 unfolding all_of
 all-found test [] apart h = refl
 all-found test (d ∷ ds) apart h =
@@ -190,18 +200,23 @@ module _ (cs ds : List Child) (order : IsInOrder cs ds) where
 
 -- ---- each sort of node
 
+-- a leaf itself is what it holds
 pub own-Leaf : (l : Leaf) → own_content (LeafOf l) ≡ leaf_content l
 own-Leaf l = search (rules, the_lemmas)
 
+-- below a record are its fields
 pub below-Branch : (v : Children) → below (Branch v) ≡ v.items
 below-Branch v = search (rules, the_lemmas)
 
+-- below a Dict are its entries
 pub below-Dict : (v : Children) → below (Dict v) ≡ v.items
 below-Dict v = search (rules, the_lemmas)
 
+-- below a list are its items
 pub below-List : (v : Children) → below (ListOf v) ≡ v.items
 below-List v = search (rules, the_lemmas)
 
+-- what a leaf holds is a leaf's content: a scalar or an atomic value
 pub leaf-there : (l : Leaf) → is_leaf (Some (leaf_content l)) ≡ true
 leaf-there (Scalar s) = refl
 leaf-there (Atomic v) = refl
@@ -217,8 +232,10 @@ module _ (n m : Node) (live : is_tree n ≡ true) (config : is_tree m ≡ true) 
   no-children : (l : Leaf) → m ≡ LeafOf l → below n ≡ []
   no-children l is =
       below-leaf (out-Node n)
-      (leaf-alike (own_content n) (own_content m) (alike-root n m alike) (ap (λ x. is_leaf (Some (own_content x))) is ∙ ap (λ c. is_leaf (Some c)) (own-Leaf l) ∙ leaf-there l))
+      (leaf-alike (own_content n) (own_content m) (alike-root n m alike) (ap (λ x. is_leaf (Some (own_content x))) is
+      ∙ ap (λ c. is_leaf (Some c)) (own-Leaf l) ∙ leaf-there l))
 
+  -- a leaf of the configuration stands over the live node as it is
   pub leaf-over : (l : Leaf) → m ≡ LeafOf l → IsOver n m m
   leaf-over l is =
       let none_live = no-children l is in
@@ -240,7 +257,8 @@ module _ (n m : Node) (live : is_tree n ≡ true) (config : is_tree m ≡ true) 
       let es = elements (below n) in
       let fs = elements (below m) in
       ap (all_of is_field) h.elements_are
-      ∙ all-joined is_field es fs (sym (fields-all es) ∙ fields-made (out-Node n) (rolled n live) a) (sym (fields-all fs) ∙ fields-made (out-Node m) (rolled m config) b)
+      ∙ all-joined is_field es fs (sym (fields-all es) ∙ fields-made (out-Node n) (rolled n live) a) (sym (fields-all fs)
+      ∙ fields-made (out-Node m) (rolled m config) b)
 
   -- children of two nodes, put in the order of their elements
   stand-named : (cs ds : List Child) → is_listing (own_content n) ≡ false → is_listing (own_content m) ≡ false → AreOver (below n) (below m) cs
@@ -252,6 +270,7 @@ module _ (n m : Node) (live : is_tree n ≡ true) (config : is_tree m ≡ true) 
   apart-over cs h = over-apart (below n) (below m) cs ((level-below n).apart live) ((level-below m).apart config) h
 
   module _ (v w : Children) where
+    -- a record of the fields of both, in order, is the configuration's over the live node
     pub record-over : m ≡ Branch w → AreOverInOrder (below n) w.items v.items → IsOver n m (Branch v)
     unfolding is_listing
     record-over is put =
@@ -263,6 +282,7 @@ module _ (n m : Node) (live : is_tree n ≡ true) (config : is_tree m ≡ true) 
         (ap (λ c. Some c) (own-Branch v) ∙ sym (ap (λ c. over_content (Some (own_content n)) (Some c)) own))
         (λ e. ap (child_at e) (below-Branch v) ∙ put.order.same e) h
 
+    -- a Dict of the entries of both, in order, is the configuration's over the live node
     pub dict-over : m ≡ Dict w → AreOverInOrder (below n) w.items v.items → IsOver n m (Dict v)
     unfolding is_listing
     dict-over is put =
@@ -274,6 +294,7 @@ module _ (n m : Node) (live : is_tree n ≡ true) (config : is_tree m ≡ true) 
         (ap (λ c. Some c) (own-Dict v) ∙ sym (ap (λ c. over_content (Some (own_content n)) (Some c)) own))
         (λ e. ap (child_at e) (below-Dict v) ∙ put.order.same e) h
 
+    -- a list of the items of both, the live ones first, is the configuration's over the live node
     pub list-over : m ≡ ListOf w → AreOver (below n) w.items v.items → IsOver n m (ListOf v)
     unfolding is_listing
     list-over is put =
@@ -295,45 +316,57 @@ module _ (n m : Node) (live : is_tree n ≡ true) (config : is_tree m ≡ true) 
 
 -- ---- going down to the children
 
+-- a success gives what follows from what it gives
 pub ok-gives : {A E : Type 0} {P Q : Type 0} (r : Result A E) → OnOk r P → (P → Q) → OnOk r Q
 ok-gives (Ok x) h f = f h
 ok-gives (Err e) h f = tt
 
+-- children over live ones are over equal live ones
 pub over-live : (cs bs ds xs : List Child) → cs ≡ bs → AreOver cs ds xs → AreOver bs ds xs
 over-live cs bs ds xs e h = subst (λ l. AreOver l ds xs) e h
 
+-- so it is where they are put in order
 pub order-live : (cs bs ds xs : List Child) → cs ≡ bs → AreOverInOrder cs ds xs → AreOverInOrder bs ds xs
 order-live cs bs ds xs e h = subst (λ l. AreOverInOrder l ds xs) e h
 
+-- what equals one node over another is that, too
 pub left-over : (n m x y : Node) → x ≡ y → IsOver n m y → IsOver n m x
 left-over n m x y e h = subst (IsOver n m) (sym e) h
 
 module _ (n m : Node) (cs ds : List Child) (own : cs ≡ below n) (is : below m ≡ ds) (live : is_tree n ≡ true) (config : is_tree m ≡ true)
     (alike : AreAlikeTrees n m) where
+  -- the walk over the live children is shorter than the walk at their node
   pub live-smaller : 4 * length (rows_below cs) + 2 < 4 * length (rows n)
   live-smaller = let long = length-level n ∙ ap (λ l. suc (length (rows_below l))) (sym own) in omega arith
 
+  -- the configuration's children are trees
   pub config-trees : are_trees ds ≡ true
   config-trees = ap are_trees (sym is) ∙ (level-below m).trees config
 
+  -- the configuration's children are apart
   pub config-apart : are_apart (elements ds) ≡ true
   config-apart = ap (λ l. are_apart (elements l)) (sym is) ∙ (level-below m).apart config
 
+  -- where both nodes have a child, the two trees are alike
   pub children-alike : AreAlikeBelow cs ds
   children-alike = subst (AreAlikeBelow cs) is (subst (λ l. AreAlikeBelow l (below m)) (sym own) (alike-below n m live config alike))
 
+-- the fields of a record that is a tree rise
 pub record-rises : (m : Node) (v : Children) → m ≡ Branch v → is_tree m ≡ true → rises (elements v.items) ≡ true
 record-rises m v is tree = both_first _ (are_fields (elements v.items)) (both_first _ (are_trees v.items) (sym (tree-Branch v) ∙ sym (ap is_tree is) ∙ tree))
 
+-- the entries of a Dict that is a tree rise
 pub dict-rises : (m : Node) (v : Children) → m ≡ Dict v → is_tree m ≡ true → rises (elements v.items) ≡ true
 dict-rises m v is tree = both_first _ (are_fields (elements v.items)) (both_first _ (are_trees v.items) (sym (tree-Dict v) ∙ sym (ap is_tree is) ∙ tree))
 
 -- ---- THE BRIDGE: one body over another
 
+-- the body of one tree over another is the one body over the other
 pub over-body : (n m made : Node) → IsOver n m made → body_of made ≡ over (body_of n) (body_of m)
 over-body n m made h =
     same_map (body_of made) (over (body_of n) (body_of m)) (λ p.
     get-body made p ∙ h.content p ∙ sym (get-over (body_of n) (body_of m) p ∙ (λ i. over_content (get-body n p i) (get-body m p i))))
 
+-- where two bodies are alike, so are their trees
 pub alike-bodies : (n m : Node) → AreAlike (body_of n) (body_of m) → AreAlikeTrees n m
 alike-bodies n m h p = sym (λ i. are_alike (get-body n p i) (get-body m p i)) ∙ h p

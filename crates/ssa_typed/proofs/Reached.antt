@@ -8,12 +8,13 @@ use Rattle.ssa_model.specs.definitions.Body.{Body, Content, leaf, atom, record_b
 use Rattle.ssa_model.proofs.Tests.{same_tests}
 use Rattle.ssa_model.proofs.PathMaps.{get-restricted, has-paths, has-points, is_one_of, same_map, same_path-true}
 use Rattle.ssa_model.proofs.Pruned.{from_one, some_one, under-rest, under-trans}
-use Rattle.ssa_model.proofs.Tables.{either, here_below, or_true, true_or}
-use Rattle.ssa_path.proofs.Orders.{both, both_first, both_second, same_element-itself}
+use Rattle.ssa_model.proofs.Tables.{either, here_below, true_or, element-itself as same_element-itself}
+use Rattle.ssa_path.proofs.Orders.{both_first, both_second}
 use Rattle.ssa_typed.specs.Rows.{body_of, is_tree}
 use Rattle.ssa_typed.specs.declared.node.Node.{Node}
 use Rattle.ssa_typed.proofs.AnyTree.{tree-beginning, tree-items, tree-root}
 use Rattle.ssa_typed.proofs.Stands.{one_level}
+use Rattle.ssa_model.proofs.Basics.{or_true, not_false, both-true as both}
 
 -- ---- how long the paths are
 
@@ -37,10 +38,6 @@ within-total (p ∷ ps) q h =
     (λ later. let rest = within-total ps q later in omega arith)
 
 -- ---- a point at or below each place
-
-not_false : (a : Bool) → not a ≡ false → a ≡ true
-not_false true h = refl
-not_false false h = absurd (true≢false h)
 
 longer-root : (p : Path) → 0 < length p → is_root p ≡ false
 longer-root [] h = absurd (omega arith)
@@ -67,6 +64,7 @@ module _ (b : Body) where
             from_one (under p) (paths (points b)) x.0 x.1 (under-trans p q.0 x.0 (both_first (under p q.0) _ q.2) x.2)
       ] refl
 
+  -- each place of a body is the root, or at or above a point
   pub reached : (p : Path) → has b p ≡ true → (is_root p || has_at_or_below (points b) p) ≡ true
   reached p there =
       elim (is_root p) as (λ t. is_root p ≡ t → (t || has_at_or_below (points b) p) ≡ true) [
@@ -88,6 +86,7 @@ module _ (n : Node) (tree : is_tree n ≡ true) where
       let there = both_first (has (body_of n) x.0) _ (sym (has-points (body_of n) x.0) ∙ has-paths (points (body_of n)) x.0 ∙ x.1) in
       tree-beginning n tree p rest.0 (ap (has (body_of n)) (sym rest.1) ∙ there)
 
+  -- a tree's body has the root, what is at or above its points, and nothing else
   pub tree-places : (p : Path) → has (body_of n) p ≡ (is_root p || has_at_or_below (points (body_of n)) p)
   tree-places p =
       same_tests (has (body_of n) p) (is_root p || has_at_or_below (points (body_of n)) p) (reached (body_of n) p)
@@ -95,13 +94,15 @@ module _ (n : Node) (tree : is_tree n ≡ true) where
 
 -- ---- a set with all the points
 
-all-pass : (test : Element → Bool) (es : List Element) → ((e : Element) → is_among e es ≡ true → test e ≡ true) → filter test es ≡ es
+-- where all elements pass a test, it leaves none of them out
+pub all-pass : (test : Element → Bool) (es : List Element) → ((e : Element) → is_among e es ≡ true → test e ≡ true) → filter test es ≡ es
 all-pass test [] h = refl
 all-pass test (e ∷ es) h =
     ap (λ b. cond b (e ∷ filter test es) (filter test es)) (h e (true_or (same_element e e) (is_among e es) (same_element-itself e)))
     ∙ ap (λ fs. e ∷ fs) (all-pass test es (λ f among. h f (or_true (same_element f e) (is_among f es) among)))
 
-whole-content : (test : Path → Bool) (p : Path) (c : Content) → ((e : Element) → is_among e (order_at (Some c)) ≡ true → test (p ++ e ∷ []) ≡ true) → restricted_content test p c ≡ c
+whole-content : (test : Path → Bool) (p : Path) (c : Content) → ((e : Element) → is_among e (order_at (Some c)) ≡ true → test (p ++ e ∷ []) ≡ true)
+    → restricted_content test p c ≡ c
 whole-content test p (leaf s) h = refl
 whole-content test p (atom v) h = refl
 whole-content test p record_branch h = refl
@@ -118,7 +119,8 @@ module _ (n : Node) (tree : is_tree n ≡ true) (stay : PathSet) (all : (p : Pat
       (true_or (is_root p) (has_at_or_below stay p))
       (λ below.
       let x = some_one (under p) (paths (points (body_of n))) below in
-      or_true (is_root p) (has_at_or_below stay p) (from_one (under p) (paths stay) x.0 (sym (has-paths stay x.0) ∙ all x.0 (has-paths (points (body_of n)) x.0 ∙ x.1)) x.2))
+      or_true (is_root p) (has_at_or_below stay p) (from_one (under p) (paths stay) x.0 (sym (has-paths stay x.0)
+      ∙ all x.0 (has-paths (points (body_of n)) x.0 ∙ x.1)) x.2))
 
   item-stays : (p : Path) (e : Element) → is_among e (order_at (get (body_of n) p)) ≡ true → test (p ++ e ∷ []) ≡ true
   item-stays p e among = place-stays (p ++ e ∷ []) (both_second (is_item_element e) _ (sym (tree-items n tree p e) ∙ among))
@@ -129,5 +131,6 @@ module _ (n : Node) (tree : is_tree n ≡ true) (stay : PathSet) (all : (p : Pat
       ap (λ b. if b then Some (restricted_content test p c) else None) (place-stays p (ap is_some is))
       ∙ ap (λ d. Some d) (whole-content test p c (λ e among. item-stays p e (ap (λ o. is_among e (order_at o)) is ∙ among)))
 
+  -- where all points of a tree stay, all of its body stays
   pub tree-kept : restricted (body_of n) test ≡ body_of n
   tree-kept = same_map (restricted (body_of n) test) (body_of n) (λ p. get-restricted (body_of n) test p ∙ part-whole p (get (body_of n) p) refl)

@@ -6,7 +6,7 @@ use Rattle.std.specs.Ordering.{is_lt}
 use Rattle.ssa_model.specs.definitions.Body.{Content, leaf, atom, record_branch, dict_branch, list_branch, restricted, restricted_content}
 use Rattle.ssa_model.specs.definitions.Path.{Element, Path, element_cmp, is_item_element, is_root, same_element, under}
 use Rattle.ssa_model.specs.definitions.PathMap.{has_at_or_below, listed}
-use Rattle.ssa_model.proofs.Fitting.{distinct-filter}
+use Rattle.ssa_model.proofs.Fitting.{distinct-filter, same_element-true}
 use Rattle.ssa_model.proofs.PathMaps.{get-restricted, same_map}
 use Rattle.ssa_path.specs.Children.{child_at, elements, is_below, rises}
 use Rattle.ssa_path.specs.declared.element.Elem.{Elem}
@@ -15,7 +15,7 @@ use Rattle.ssa_path.specs.declared.trie.Trie.TheViews.{out-Trie}
 use Rattle.ssa_path.specs.Trie.{are_filled_tries, is_filled, is_trie, paths, paths_below}
 use Rattle.ssa_path.specs.View.{element_view}
 use Rattle.ssa_path.proofs.Levels.{any-below, any-level, any-root, found, under-reading}
-use Rattle.ssa_path.proofs.Orders.{both, both_first, both_second, same_element-true}
+use Rattle.ssa_path.proofs.Orders.{both_first, both_second}
 use Rattle.ssa_path.proofs.Sets.{below-listed}
 use Rattle.ssa_typed.specs.Points.{content_in}
 use Rattle.ssa_typed.specs.Restricted.{stays, part_at, AreRestricted, IsRestricted}
@@ -25,15 +25,18 @@ use Rattle.ssa_typed.specs.declared.node.Leaf.TheVariants.{Scalar, Atomic}
 use Rattle.ssa_typed.specs.declared.node.Node.{Node, Leaf as LeafOf, Branch, Dict, List as ListOf, the_lemmas}
 use Rattle.ssa_typed.proofs.Building.{Child}
 use Rattle.ssa_typed.proofs.Copying.{tree-Leaf}
-use Rattle.ssa_typed.proofs.Levels.{Children, own-Branch, own-Dict, own-List, tree-Branch, tree-Dict, tree-List, apart-distinct, level-below}
+use Rattle.ssa_typed.proofs.Levels.{Children, own-Branch, own-Dict, own-List, tree-Branch, tree-Dict, tree-List, level-below}
 use Rattle.ssa_typed.proofs.Lookups.{content-level, content-root}
 use Rattle.ssa_typed.proofs.Looks.{get-body}
 use Rattle.ssa_typed.proofs.Sizes.{length-first, length-level}
 use Rattle.ssa_typed.proofs.OverNodes.{own-Leaf, below-Branch, below-Dict, below-List, all-filter, fields-all, items-all, is_field}
+use Rattle.ssa_typed.proofs.Fitting.{apart-distinct}
+use Rattle.ssa_model.proofs.Basics.{both-true as both}
 
 -- ---- the content that stays, told by another test or from another place
 
-content-shift : (f g : Path → Bool) (e : Element) (p : Path) (c : Content) → ((q : Path) → f (e ∷ q) ≡ g q) → restricted_content f (e ∷ p) c ≡ restricted_content g p c
+content-shift : (f g : Path → Bool) (e : Element) (p : Path) (c : Content) → ((q : Path) → f (e ∷ q) ≡ g q)
+    → restricted_content f (e ∷ p) c ≡ restricted_content g p c
 content-shift f g e p (leaf s) h = refl
 content-shift f g e p (atom v) h = refl
 content-shift f g e p record_branch h = refl
@@ -62,6 +65,7 @@ module _ (ts : List (Elem × Trie)) (rise : rises (elements ts) ≡ true) (tries
       ] s
 
   module _ (e : Element) (t : Trie) (there : child_at e ts ≡ Some t) where
+    -- what the set has under an element is a trie
     pub trie-there : is_trie t ≡ true
     trie-there = both_first (is_trie t) _ (child-passes e ts t tries there)
 
@@ -82,25 +86,30 @@ none-stay ps = record { elements_are = refl; contents = λ e p. sym (part-none (
 
 -- whatever stays of what is left, behind what was made so far it is what stays of all
 pub record IsRestricting (ps : List Path) (cs left made : List Child) : Type 0 where
+  -- what is left are trees
   pub trees : are_trees left ≡ true
+  -- what is left has no more rows than all have
   pub no_more : length (rows_below left) ≤ length (rows_below cs)
+  -- what stays of the rest, behind what is there, is what stays of all
   pub rest : (xs : List Child) → AreRestricted ps left xs → AreRestricted ps cs (made ++ xs)
 
-pub restricting-none : (ps : List Path) (cs : List Child) → are_trees cs ≡ true → IsRestricting ps cs cs []
-restricting-none ps cs trees = record { trees = trees; no_more = omega arith; rest = λ xs h. h }
-
+-- where no child is left, what is there is what stays of all
 pub restricting-all : (ps : List Path) (cs left made : List Child) → left ≡ [] → IsRestricting ps cs left made → AreRestricted ps cs made
-restricting-all ps cs left made none h = subst (AreRestricted ps cs) (append-nil made) (h.rest [] (subst (λ l. AreRestricted ps l []) (sym none) (none-stay ps)))
+restricting-all ps cs left made none h = subst (AreRestricted ps cs) (append-nil made)
+    (h.rest [] (subst (λ l. AreRestricted ps l []) (sym none) (none-stay ps)))
 
 module _ (ps : List Path) (c : Child) (left : List Child) where
-  first-stays : (n : Node) (xs : List Child) → stays ps (element_view c.0 ∷ []) ≡ true → ((p : Path) → content_at (rows n) p ≡ part_at (stays ps) (element_view c.0 ∷ p) (content_at (rows c.1) p)) → is_tree n ≡ true
+  first-stays : (n : Node) (xs : List Child) → stays ps (element_view c.0 ∷ []) ≡ true
+      → ((p : Path) → content_at (rows n) p ≡ part_at (stays ps) (element_view c.0 ∷ p) (content_at (rows c.1) p)) → is_tree n ≡ true
       → AreRestricted ps left xs → AreRestricted ps (c ∷ left) ((c.0, n) ∷ xs)
   first-stays n xs stay content tree h =
       let f = element_view c.0 in
       record {
-        elements_are = (λ i. f ∷ h.elements_are i) ∙ sym (ap (λ b. cond b (f ∷ filter (λ e. stays ps (e ∷ [])) (elements left)) (filter (λ e. stays ps (e ∷ [])) (elements left))) stay);
+        elements_are = (λ i. f ∷ h.elements_are i) ∙ sym (ap
+            (λ b. cond b (f ∷ filter (λ e. stays ps (e ∷ [])) (elements left)) (filter (λ e. stays ps (e ∷ [])) (elements left))) stay);
         contents = λ e p.
-            elim (same_element e f) as (λ b. same_element e f ≡ b → content_in (cond b (Some n) (child_at e xs)) p ≡ part_at (stays ps) (e ∷ p) (content_in (cond b (Some c.1) (child_at e left)) p)) [
+            elim (same_element e f) as (λ b. same_element e f ≡ b
+            → content_in (cond b (Some n) (child_at e xs)) p ≡ part_at (stays ps) (e ∷ p) (content_in (cond b (Some c.1) (child_at e left)) p)) [
               | true ↦ λ s. content p ∙ ap (λ g. part_at (stays ps) (g ∷ p) (content_at (rows c.1) p)) (sym (same_element-true e f s))
               | false ↦ λ s. h.contents e p
             ] refl;
@@ -111,10 +120,13 @@ module _ (ps : List Path) (c : Child) (left : List Child) where
   first-goes xs goes h =
       let f = element_view c.0 in
       record {
-        elements_are = h.elements_are ∙ sym (ap (λ b. cond b (f ∷ filter (λ e. stays ps (e ∷ [])) (elements left)) (filter (λ e. stays ps (e ∷ [])) (elements left))) (goes []));
+        elements_are = h.elements_are ∙ sym (ap (λ b. cond b (f ∷ filter (λ e. stays ps (e ∷ [])) (elements left))
+            (filter (λ e. stays ps (e ∷ [])) (elements left))) (goes []));
         contents = λ e p.
             h.contents e p
-            ∙ elim (same_element e f) as (λ b. same_element e f ≡ b → part_at (stays ps) (e ∷ p) (content_in (child_at e left) p) ≡ part_at (stays ps) (e ∷ p) (content_in (cond b (Some c.1) (child_at e left)) p)) [
+            ∙ elim (same_element e f) as (λ b. same_element e f ≡ b
+            → part_at (stays ps) (e ∷ p) (content_in (child_at e left) p)
+            ≡ part_at (stays ps) (e ∷ p) (content_in (cond b (Some c.1) (child_at e left)) p)) [
               | true ↦ λ s.
                   let gone = ap (λ g. stays ps (g ∷ p)) (same_element-true e f s) ∙ goes p in
                   part-false (stays ps) (e ∷ p) (content_in (child_at e left) p) gone ∙ sym (part-false (stays ps) (e ∷ p) (content_at (rows c.1) p) gone)
@@ -123,10 +135,12 @@ module _ (ps : List Path) (c : Child) (left : List Child) where
         trees = h.trees;
       }
 
-module _ (ts : List (Elem × Trie)) (rise : rises (elements ts) ≡ true) (tries : are_filled_tries ts ≡ true) (cs : List Child) (c : Child) (all left made : List Child) (is : all ≡ c ∷ left) (h : IsRestricting (paths_below ts) cs all made) where
+module _ (ts : List (Elem × Trie)) (rise : rises (elements ts) ≡ true) (tries : are_filled_tries ts ≡ true) (cs : List Child) (c : Child)
+    (all left made : List Child) (is : all ≡ c ∷ left) (h : IsRestricting (paths_below ts) cs all made) where
   now : IsRestricting (paths_below ts) cs (c ∷ left) made
   now = subst (λ l. IsRestricting (paths_below ts) cs l made) is h
 
+  -- the next child is a tree
   pub next-tree : is_tree c.1 ≡ true
   next-tree = both_first (is_tree c.1) _ now.trees
 
@@ -136,13 +150,16 @@ module _ (ts : List (Elem × Trie)) (rise : rises (elements ts) ≡ true) (tries
       let bound = now.no_more in
       omega arith
 
+  -- the walk at the next child is shorter than the walk over all
   pub next-smaller : 2 * length (rows c.1) < 2 * length (rows_below cs) + 1
   next-smaller =
       let first = length-first c left in
       let bound = now.no_more in
       omega arith
 
-  pub restricting-kept : (t : Trie) (n : Node) (new : List Child) → child_at (element_view c.0) ts ≡ Some t → IsRestricted (paths t) c.1 n → new ≡ made ++ (c.0, n) ∷ [] → IsRestricting (paths_below ts) cs left new
+  -- the next child stays, as far as the set has paths under its element
+  pub restricting-kept : (t : Trie) (n : Node) (new : List Child) → child_at (element_view c.0) ts ≡ Some t → IsRestricted (paths t) c.1 n
+      → new ≡ made ++ (c.0, n) ∷ [] → IsRestricting (paths_below ts) cs left new
   restricting-kept t n new there part pushed =
       let ps = paths_below ts in
       let f = element_view c.0 in
@@ -152,9 +169,11 @@ module _ (ts : List (Elem × Trie)) (rise : rises (elements ts) ≡ true) (tries
         no_more = fewer;
         rest = λ xs g.
             subst (AreRestricted ps cs) (sym (append_assoc made ((c.0, n) ∷ []) xs) ∙ ap (λ l. l ++ xs) (sym pushed))
-            (now.rest ((c.0, n) ∷ xs) (first-stays ps c left n xs (stay []) (λ p. part.content p ∙ sym (part-shift (stays ps) (stays (paths t)) f p (content_at (rows c.1) p) stay)) part.tree g));
+            (now.rest ((c.0, n) ∷ xs) (first-stays ps c left n xs (stay []) (λ p. part.content p
+            ∙ sym (part-shift (stays ps) (stays (paths t)) f p (content_at (rows c.1) p) stay)) part.tree g));
       }
 
+  -- the next child goes, where the set has nothing under its element
   pub restricting-dropped : child_at (element_view c.0) ts ≡ None → IsRestricting (paths_below ts) cs left made
   restricting-dropped none =
       record {
@@ -194,9 +213,11 @@ filter-items test es h = items-all (filter test es) ∙ all-filter is_item_eleme
 -- ---- the children of a node
 
 module _ (n : Node) (cs : List Child) (is : below n ≡ cs) where
+  -- the children of a tree are trees
   pub children-trees : is_tree n ≡ true → are_trees cs ≡ true
   children-trees tree = ap are_trees (sym is) ∙ (level-below n).trees tree
 
+  -- the walk over the children is shorter than the walk at their node
   pub children-smaller : 2 * length (rows_below cs) + 1 < 2 * length (rows n)
   children-smaller = let long = length-level n ∙ ap (λ l. suc (length (rows_below l))) is in omega arith
 
@@ -205,7 +226,8 @@ module _ (n : Node) (cs : List Child) (is : below n ≡ cs) where
 abbrev below_set : Trie → List (Elem × Trie)
 below_set t = (out-Trie t).below.items
 
-restricted-level : (t : Trie) (n made : Node) (cs xs : List Child) → is_tree n ≡ true → is_tree made ≡ true → Some (own_content made) ≡ part_at (stays (paths t)) [] (Some (own_content n))
+restricted-level : (t : Trie) (n made : Node) (cs xs : List Child) → is_tree n ≡ true → is_tree made ≡ true
+    → Some (own_content made) ≡ part_at (stays (paths t)) [] (Some (own_content n))
     → below n ≡ cs → below made ≡ xs → AreRestricted (paths_below (below_set t)) cs xs → IsRestricted (paths t) n made
 restricted-level t n made cs xs tree new own is new_is h = record { content = at; tree = new }
   where
@@ -220,19 +242,6 @@ restricted-level t n made cs xs tree new own is new_is h = record { content = at
         ∙ part-shift f (λ q. g (e ∷ q)) e p c (λ q. sym (any-level under under-reading t e q))
         ∙ sym (part-shift g (λ q. g (e ∷ q)) e p c (λ q. refl))
 
-part-leaf : (ps : List Path) (l : Leaf) → part_at (stays ps) [] (Some (leaf_content l)) ≡ Some (leaf_content l)
-part-leaf ps (Scalar s) = refl
-part-leaf ps (Atomic v) = refl
-
-below-Leaf : (l : Leaf) → below (LeafOf l) ≡ []
-below-Leaf l = search (rules, the_lemmas)
-
-pub leaf-restricted : (t : Trie) (n : Node) (l : Leaf) → n ≡ LeafOf l → is_tree n ≡ true → IsRestricted (paths t) n (LeafOf l)
-leaf-restricted t n l is tree =
-    let own = ap own_content is ∙ own-Leaf l in
-    restricted-level t n (LeafOf l) [] [] tree (tree-Leaf l) (ap (λ c. Some c) (own-Leaf l) ∙ sym (ap (λ c. part_at (stays (paths t)) [] (Some c)) own ∙ part-leaf (paths t) l))
-    (ap below is ∙ below-Leaf l) (below-Leaf l) (none-stay (paths_below (below_set t)))
-
 module _ (t : Trie) (n : Node) (v w : Children) (tree : is_tree n ≡ true) where
   abbrev AreLeft : Type 0
   AreLeft = AreRestricted (paths_below (below_set t)) v.items w.items
@@ -240,24 +249,29 @@ module _ (t : Trie) (n : Node) (v w : Children) (tree : is_tree n ≡ true) wher
   abbrev test_below : Element → Bool
   test_below e = stays (paths_below (below_set t)) (e ∷ [])
 
-  named-stand : AreLeft → ((rises (elements v.items) && are_fields (elements v.items)) && are_trees v.items) ≡ true → ((rises (elements w.items) && are_fields (elements w.items)) && are_trees w.items) ≡ true
+  named-stand : AreLeft → ((rises (elements v.items) && are_fields (elements v.items)) && are_trees v.items) ≡ true
+      → ((rises (elements w.items) && are_fields (elements w.items)) && are_trees w.items) ≡ true
   named-stand h old =
       let es = elements v.items in
       let stand = both_first (rises es && are_fields es) _ old in
-      both _ _ (both _ _ (ap rises h.elements_are ∙ filter-rises test_below es (both_first (rises es) _ stand)) (ap are_fields h.elements_are ∙ filter-fields test_below es (both_second (rises es) _ stand))) h.trees
+      both _ _ (both _ _ (ap rises h.elements_are ∙ filter-rises test_below es (both_first (rises es) _ stand)) (ap are_fields h.elements_are
+      ∙ filter-fields test_below es (both_second (rises es) _ stand))) h.trees
 
+  -- a record of the fields that stay is what stays of the record
   pub record-restricted : n ≡ Branch v → AreLeft → IsRestricted (paths t) n (Branch w)
   record-restricted is h =
       restricted-level t n (Branch w) v.items w.items tree (tree-Branch w ∙ named-stand h (sym (tree-Branch v) ∙ sym (ap is_tree is) ∙ tree))
       (ap (λ c. Some c) (own-Branch w) ∙ sym (ap (λ c. part_at (stays (paths t)) [] (Some c)) (ap own_content is ∙ own-Branch v)))
       (ap below is ∙ below-Branch v) (below-Branch w) h
 
+  -- a Dict of the entries that stay is what stays of the Dict
   pub dict-restricted : n ≡ Dict v → AreLeft → IsRestricted (paths t) n (Dict w)
   dict-restricted is h =
       restricted-level t n (Dict w) v.items w.items tree (tree-Dict w ∙ named-stand h (sym (tree-Dict v) ∙ sym (ap is_tree is) ∙ tree))
       (ap (λ c. Some c) (own-Dict w) ∙ sym (ap (λ c. part_at (stays (paths t)) [] (Some c)) (ap own_content is ∙ own-Dict v)))
       (ap below is ∙ below-Dict v) (below-Dict w) h
 
+  -- a list of the items that stay is what stays of the list
   pub list-restricted : n ≡ ListOf v → AreLeft → IsRestricted (paths t) n (ListOf w)
   list-restricted is h =
       let es = elements v.items in
@@ -272,7 +286,9 @@ module _ (t : Trie) (n : Node) (v w : Children) (tree : is_tree n ≡ true) wher
 
 -- ---- THE BRIDGE: the part of a body
 
-pub restricted-body : (t : Trie) (n made : Node) → IsRestricted (paths t) n made → body_of made ≡ restricted (body_of n) (λ p. is_root p || has_at_or_below (listed (paths t)) p)
+-- the body of what stays is the body's part at or above the set's paths, with the root
+pub restricted-body : (t : Trie) (n made : Node) → IsRestricted (paths t) n made
+    → body_of made ≡ restricted (body_of n) (λ p. is_root p || has_at_or_below (listed (paths t)) p)
 restricted-body t n made h =
     let test = λ (p : Path). is_root p || has_at_or_below (listed (paths t)) p in
     same_map (body_of made) (restricted (body_of n) test) (λ p.

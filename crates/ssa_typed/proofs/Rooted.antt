@@ -14,13 +14,12 @@ use Rattle.ssa_model.specs.definitions.Valid.{IsRooted, metadata_path}
 use Rattle.ssa_model.proofs.EmptyMetadata.{record-in}
 use Rattle.ssa_model.proofs.Reaching.{found-field}
 use Rattle.ssa_model.proofs.PathMaps.{has-paths, has-points}
-use Rattle.ssa_model.proofs.Fitting.{some_there}
+use Rattle.ssa_model.proofs.Fitting.{some_there, same_element-true}
 use Rattle.ssa_model.proofs.Pruned.{from_one}
-use Rattle.ssa_model.proofs.Tables.{apart_by, yes_no}
+use Rattle.ssa_model.proofs.Tables.{apart_by, yes_no, element-itself as same_element-itself}
 use Rattle.ssa_model.proofs.ValidStates.{leaf_place}
 use Rattle.std.specs.Cmp.{first_so}
 use Rattle.ssa_model.proofs.Tables.{text-itself as same_text-itself}
-use Rattle.ssa_path.proofs.Orders.{same_element-true, same_element-itself}
 use Rattle.ssa_model.proofs.Faults.{cons≢nil}
 use Rattle.ssa_model.proofs.Places.{place-push}
 use Rattle.ssa_model.specs.laws.Faultless.{Fits, FieldsFit}
@@ -31,10 +30,10 @@ use Rattle.ssa_typed.specs.declared.node.Node.{Node}
 use Rattle.ssa_typed.proofs.BodyFits.{body-fits, value-of-tree}
 use Rattle.ssa_model.proofs.FaultlessParts.{member-first}
 use Rattle.ssa_typed.proofs.KindRows.{member-row}
-use Rattle.ssa_typed.proofs.Laws.{some-same}
 use Rattle.ssa_typed.proofs.Looks.{get-body}
 use Rattle.ssa_typed.proofs.Trees.{known-is}
 use Rattle.ssa_typed.proofs.TreeRows.{IsRow, all-append, each-row, row-found, row-of, row-split}
+use Rattle.ssa_model.proofs.Basics.{some-same}
 
 -- ---- places begin as the place that they are below
 
@@ -59,12 +58,14 @@ mutual
   field_begin fs no_members e p = tt
   field_begin fs (member n v ms) e p =
       all-append (Begins e) (member_places fs n v (e ∷ (p ++ field n ∷ []))) (field_places fs ms (e ∷ p))
-      (elim (kind_of n fs) as (λ o. AllByRecursion (Begins e) (elim o [ None ↦ [] | Some k ↦ places k v (e ∷ (p ++ field n ∷ [])) ])) [ None ↦ tt | Some k ↦ value_begin k v e (p ++ field n ∷ []) ])
+      (elim (kind_of n fs) as (λ o. AllByRecursion (Begins e) (elim o [ None ↦ [] | Some k ↦ places k v (e ∷ (p ++ field n ∷ [])) ]))
+      [ None ↦ tt | Some k ↦ value_begin k v e (p ++ field n ∷ []) ])
       (field_begin fs ms e p)
 
   entry_begin : (k : Kind) (ms : Members) (e : Element) (p : Path) → AllByRecursion (Begins e) (entry_places k ms (e ∷ p))
   entry_begin k no_members e p = tt
-  entry_begin k (member n v ms) e p = all-append (Begins e) (places k v (e ∷ (p ++ field n ∷ []))) (entry_places k ms (e ∷ p)) (value_begin k v e (p ++ field n ∷ [])) (entry_begin k ms e p)
+  entry_begin k (member n v ms) e p = all-append (Begins e) (places k v (e ∷ (p ++ field n ∷ []))) (entry_places k ms (e ∷ p))
+      (value_begin k v e (p ++ field n ∷ [])) (entry_begin k ms e p)
 
   set_begin : (vs : Items) (e : Element) (p : Path) → AllByRecursion (Begins e) (value_places vs (e ∷ p))
   set_begin no_items e p = tt
@@ -77,8 +78,11 @@ mutual
   item_begin ns fs (item (scalar s) vs) e p = item_begin ns fs vs e p
   item_begin ns fs (item (list ws) vs) e p = item_begin ns fs vs e p
   item_begin ns fs (item (object ms) vs) e p =
-      let at = p ++ item_key ns ms ∷ [] in
-      (same_element-itself e, all-append (Begins e) (field_places fs ms (e ∷ at)) (item_places ns fs vs (e ∷ p)) (field_begin fs ms e at) (item_begin ns fs vs e p))
+      let at = p ++ item_key ns ms ∷ [] in (
+        same_element-itself e,
+        all-append (Begins e) (field_places fs ms (e ∷ at)) (item_places ns fs vs (e ∷ p)) (field_begin fs ms e at)
+            (item_begin ns fs vs e p),
+      )
 
 -- ---- members
 
@@ -102,7 +106,8 @@ named-row fs (member m v ms) n p c h =
     ]
   where
     first : AllByRecursion (Begins (field m)) (member_places fs m v (field m ∷ []))
-    first = elim (kind_of m fs) as (λ o. AllByRecursion (Begins (field m)) (elim o [ None ↦ [] | Some k ↦ places k v (field m ∷ []) ])) [ None ↦ tt | Some k ↦ value_begin k v (field m) [] ]
+    first = elim (kind_of m fs) as (λ o. AllByRecursion (Begins (field m)) (elim o [ None ↦ [] | Some k ↦ places k v (field m ∷ []) ]))
+        [ None ↦ tt | Some k ↦ value_begin k v (field m) [] ]
 
 -- a fitting value has a place at its own path
 own-row : (k : Kind) (v : Json) (p : Path) → Fits k v → (c : Content) × IsRow (p, c) (places k v p)
@@ -115,18 +120,28 @@ own-row (items_of ns fs) (list vs) p h = (list_branch (key_order ns vs), inl ref
 own-row _ _ p h = absurd (cons≢nil h.1)
 
 -- a fitting object that is not empty has a place below its path
-below-row : (fs : Fields) (v : Json) (p : Path) → Fits (record_of fs) v → is_empty_object v ≡ false → (n : Text) × ((c : Content) × IsRow (p ++ field n ∷ [], c) (places (record_of fs) v p))
+below-row : (fs : Fields) (v : Json) (p : Path) → Fits (record_of fs) v → is_empty_object v ≡ false → (n : Text)
+    × ((c : Content) × IsRow (p ++ field n ∷ [], c) (places (record_of fs) v p))
 below-row fs (scalar s) p fits some = absurd (cons≢nil fits.1)
 below-row fs (list vs) p fits some = absurd (cons≢nil fits.1)
 below-row fs (object no_members) p fits some = absurd (true≢false some)
 below-row fs (object (member n v ms)) p fits some =
     let fit = member-first fs n v ms fits in
-    let row = own-row fit.0 v (p ++ field n ∷ []) fit.1.1 in
-    (n, (row.0, inr (member-row fs (member n v ms) p n v fit.0 (p ++ field n ∷ [], row.0) fit.1.0 (ap (λ b. if b then Some v else member_of n ms) (same_text-itself n)) row.1)))
+    let row = own-row fit.0 v (p ++ field n ∷ []) fit.1.1 in (
+      n,
+      (
+        row.0,
+        inr (member-row fs (member n v ms) p n v fit.0 (
+          p ++ field n ∷ [],
+          row.0,
+        ) fit.1.0 (ap (λ b. if b then Some v else member_of n ms) (same_text-itself n)) row.1),
+      ),
+    )
 
 -- ---- the body
 
-module _ (fs : Fields) (ms : Members) (n : Node) (lawful : has_metadata (record_of fs) ≡ true) (fits : FieldsFit fs ms) (kept : has_empty_metadata ms ≡ false) (made : IsTreeOf (record_of fs) (object ms) n) where
+module _ (fs : Fields) (ms : Members) (n : Node) (lawful : has_metadata (record_of fs) ≡ true) (fits : FieldsFit fs ms) (kept : has_empty_metadata ms ≡ false)
+    (made : IsTreeOf (record_of fs) (object ms) n) where
   abbrev body : Body
   body = body_of n
 
@@ -142,7 +157,8 @@ module _ (fs : Fields) (ms : Members) (n : Node) (lawful : has_metadata (record_
   no_leaf : (c : Content) → get body metadata_path ≡ Some c → is_leaf (get body metadata_path) ≡ false
   no_leaf c is =
       let at = (body-fits (record_of fs) (object ms) n fits made).fits metadata_path c is in
-      let there = place-push [] (of_kind (record_of fs)) (field (codes "metadata")) (of_kind (record_of fs)) (of_kind (record_of own.0)) refl (ap (option_map of_kind) own.1) in
+      let there = place-push [] (of_kind (record_of fs)) (field (codes "metadata")) (of_kind (record_of fs)) (of_kind (record_of own.0)) refl
+      (ap (option_map of_kind) own.1) in
       let place : at.place ≡ of_kind (record_of own.0) = some-same at.place (of_kind (record_of own.0)) (sym at.there ∙ there) in
       ap is_leaf is ∙ leaf_place (of_kind (record_of own.0)) c (ap (λ q. content_fits q c) (sym place) ∙ at.fits)
 
@@ -160,7 +176,8 @@ module _ (fs : Fields) (ms : Members) (n : Node) (lawful : has_metadata (record_
       some_there (member_of (codes "metadata") ms) (named-row fs ms (codes "metadata") [] c (metadata_row c (subst (IsRow (metadata_path, c)) rows_are row)))
 
   member_fits : (v : Json) → member_of (codes "metadata") ms ≡ Some v → Fits (record_of own.0) v
-  member_fits v found = let fit = found-field fs ms (codes "metadata") v fits found in subst (λ k. Fits k v) (known-is (codes "metadata") fs fit.0 (record_of own.0) fit.1.0 own.1) fit.1.1
+  member_fits v found = let fit = found-field fs ms (codes "metadata") v fits found in
+      subst (λ k. Fits k v) (known-is (codes "metadata") fs fit.0 (record_of own.0) fit.1.0 own.1) fit.1.1
 
   something_below : (c : Content) → get body metadata_path ≡ Some c → list_any (strictly_under metadata_path) (paths body) ≡ true
   something_below c is =
@@ -170,6 +187,7 @@ module _ (fs : Fields) (ms : Members) (n : Node) (lawful : has_metadata (record_
       let found = row_there at low.1.0 (member-row fs ms [] (codes "metadata") v.0 (record_of own.0) (at, low.1.0) own.1 v.1 low.1.1) in
       from_one (strictly_under metadata_path) (paths body) at (sym (has-paths body at) ∙ ap is_some found) refl
 
+  -- the body of a fitting object is rooted, where it has no empty `metadata`
   pub body-rooted : IsRooted body
   body-rooted = record {
     root = ap is_leaf root_is;

@@ -16,7 +16,7 @@ use Rattle.ssa_model.proofs.PutParts.{get-below}
 use Rattle.ssa_model.proofs.Places.{record-branch, item-branch, dict-branch, set-branch, list-branch, value-leaf, set-place, list-place, kind-placed}
 use Rattle.ssa_path.specs.Children.{child_at, elements, rises}
 use Rattle.ssa_path.specs.View.{element_view}
-use Rattle.ssa_path.proofs.Orders.{both_first, both_second, same_element-itself}
+use Rattle.ssa_path.proofs.Orders.{both_first, both_second}
 use Rattle.ssa_model.specs.definitions.Lawful.{is_before_all, is_ordered, are_ordered}
 use Rattle.ssa_typed.specs.Points.{content_in}
 use Rattle.ssa_typed.specs.Rows.{rows, below, below_of, body_of, content_at, content_of, own_content, leaf_content, is_tree, are_apart}
@@ -35,6 +35,8 @@ use Rattle.ssa_typed.proofs.SameMembers.{same-members}
 use Rattle.ssa_model.proofs.ShownNames.{member_of-fields}
 use Rattle.ssa_typed.proofs.ShownMembers.{fields-rise, member_of-children, children-rise, member_of-entries, entries-rise}
 use Rattle.ssa_typed.proofs.Values.{value-Leaf, value-Branch, value-Dict, value-List}
+use Rattle.ssa_model.proofs.KindPlaces.{place-on as place-joined}
+use Rattle.ssa_model.proofs.Tables.{element-itself as same_element-itself}
 
 -- ---- one level
 
@@ -63,15 +65,24 @@ leaf-value : (l : Leaf) → leaf_value l ≡ of_content (leaf_content l) []
 leaf-value (ScalarLeaf s) = refl
 leaf-value (Atomic v) = refl
 
-leaf-order : (l : Leaf) → order_at (Some (leaf_content l)) ≡ []
+-- at a leaf there is no order of items
+pub leaf-order : (l : Leaf) → order_at (Some (leaf_content l)) ≡ []
 leaf-order (ScalarLeaf s) = refl
 leaf-order (Atomic v) = refl
 
 made : (x : Node-F Node) → IsLevelOf (roll-Node x) (content_of x) (below_of x)
 unfolding roll-Node denote.Hole.Carrier.roll
 made (Node-F.Leaf l) = record { value_is = value-Leaf l ∙ leaf-value l; rise = λ t h. refl; order_is = λ h. leaf-order l }
-made (Node-F.Branch v) = record { value_is = value-Branch v; rise = λ t h. both_first _ _ (both_first _ _ (sym (tree-Branch v) ∙ t)); order_is = λ h. absurd (true≢false (sym h)) }
-made (Node-F.Dict v) = record { value_is = value-Dict v; rise = λ t h. both_first _ _ (both_first _ _ (sym (tree-Dict v) ∙ t)); order_is = λ h. absurd (true≢false (sym h)) }
+made (Node-F.Branch v) = record {
+  value_is = value-Branch v;
+  rise = λ t h. both_first _ _ (both_first _ _ (sym (tree-Branch v) ∙ t));
+  order_is = λ h. absurd (true≢false (sym h));
+}
+made (Node-F.Dict v) = record {
+  value_is = value-Dict v;
+  rise = λ t h. both_first _ _ (both_first _ _ (sym (tree-Dict v) ∙ t));
+  order_is = λ h. absurd (true≢false (sym h));
+}
 made (Node-F.List v) = record { value_is = value-List v; rise = λ t h. absurd (true≢false (sym h)); order_is = λ h. refl }
 
 level-of : (m : Node) → IsLevelOf m (own_content m) (below m)
@@ -169,33 +180,40 @@ EachShows fs b = (n : Text) (k : Kind) → kind_of n fs ≡ Some k → Shows k b
 
 module _ (b : Body) (r : Place) (p : Path) (m : Node) (h : IsShownAt b r p m) where
   alike-record : (fs : Fields) → ((n : Text) → place_below r (field n) ≡ option_map of_kind (kind_of n fs)) → EachShows fs b → (n : Text)
-      → cond (has b (p ++ field n ∷ [])) (option_map (λ k. shown k b (p ++ field n ∷ [])) (kind_of n fs)) None ≡ option_map value_of (child_at (field n) (below m))
+      → cond (has b (p ++ field n ∷ [])) (option_map (λ k. shown k b (p ++ field n ∷ [])) (kind_of n fs)) None
+      ≡ option_map value_of (child_at (field n) (below m))
   alike-record fs like each n =
       let e = field n in
       let told = has-child b r p m h e in
-      elim (child_at e (below m)) as (λ x. child_at e (below m) ≡ x → cond (has b (p ++ e ∷ [])) (option_map (λ k. shown k b (p ++ e ∷ [])) (kind_of n fs)) None ≡ option_map value_of x) [
+      elim (child_at e (below m)) as (λ x. child_at e (below m) ≡ x
+      → cond (has b (p ++ e ∷ [])) (option_map (λ k. shown k b (p ++ e ∷ [])) (kind_of n fs)) None ≡ option_map value_of x) [
         | None ↦ λ found. ap (λ t. cond t (option_map (λ k. shown k b (p ++ e ∷ [])) (kind_of n fs)) None) (told ∙ ap (λ x. is_some (content_in x [])) found)
         | Some c ↦ λ found.
             let d = down b r p m h e c found in
             let k = kind-placed (kind_of n fs) d.place (sym (like n) ∙ d.there) in
-            ap (λ t. cond t (option_map (λ k. shown k b (p ++ e ∷ [])) (kind_of n fs)) None) (told ∙ ap (λ x. is_some (content_in x [])) found ∙ ap is_some (content-root c))
+            ap (λ t. cond t (option_map (λ k. shown k b (p ++ e ∷ [])) (kind_of n fs)) None) (told ∙ ap (λ x. is_some (content_in x [])) found
+            ∙ ap is_some (content-root c))
             ∙ ap (option_map (λ k. shown k b (p ++ e ∷ []))) k.1.0
             ∙ ap Some (each n k.0 k.1.0 (p ++ e ∷ []) c (subst (λ s. IsShownAt b s (p ++ e ∷ []) c) (sym k.1.1) d.shows))
       ] refl
 
-  record-at : (fs : Fields) → ((n : Text) → place_below r (field n) ≡ option_map of_kind (kind_of n fs)) → are_ordered fs ≡ true → own_content m ≡ record_branch → EachShows fs b
+  record-at : (fs : Fields) → ((n : Text) → place_below r (field n) ≡ option_map of_kind (kind_of n fs)) → are_ordered fs ≡ true
+      → own_content m ≡ record_branch → EachShows fs b
       → object (shown_fields fs b p) ≡ value_of m
   record-at fs like ordered is each =
       let level = level-of m in
-      ap object (same-members (shown_fields fs b p) (members_of (values_of (below m))) (fields-rise b p fs ordered) (children-rise (below m) (level.rise h.tree (ap is_object is)))
+      ap object (same-members (shown_fields fs b p) (members_of (values_of (below m))) (fields-rise b p fs ordered)
+      (children-rise (below m) (level.rise h.tree (ap is_object is)))
       (λ n. member_of-fields b p n fs ∙ alike-record fs like each n ∙ sym (member_of-children n (below m))))
       ∙ sym (level.value_is ∙ ap (λ c. of_content c (below m)) is)
 
-  alike-dict : (k : Kind) → r ≡ of_kind (dict_of k) → Shows k b → (n : Text) → cond (has b (p ++ field n ∷ [])) (Some (shown k b (p ++ field n ∷ []))) None ≡ option_map value_of (child_at (field n) (below m))
+  alike-dict : (k : Kind) → r ≡ of_kind (dict_of k) → Shows k b → (n : Text)
+      → cond (has b (p ++ field n ∷ [])) (Some (shown k b (p ++ field n ∷ []))) None ≡ option_map value_of (child_at (field n) (below m))
   alike-dict k own each n =
       let e = field n in
       let told = has-child b r p m h e in
-      elim (child_at e (below m)) as (λ x. child_at e (below m) ≡ x → cond (has b (p ++ e ∷ [])) (Some (shown k b (p ++ e ∷ []))) None ≡ option_map value_of x) [
+      elim (child_at e (below m)) as (λ x. child_at e (below m) ≡ x
+      → cond (has b (p ++ e ∷ [])) (Some (shown k b (p ++ e ∷ []))) None ≡ option_map value_of x) [
         | None ↦ λ found. ap (λ t. cond t (Some (shown k b (p ++ e ∷ []))) None) (told ∙ ap (λ x. is_some (content_in x [])) found)
         | Some c ↦ λ found.
             let d = down b r p m h e c found in
@@ -207,7 +225,8 @@ module _ (b : Body) (r : Place) (p : Path) (m : Node) (h : IsShownAt b r p m) wh
   dict-at : (k : Kind) → r ≡ of_kind (dict_of k) → own_content m ≡ dict_branch → Shows k b → object (entry_members (shown k b) p (names_below b p)) ≡ value_of m
   dict-at k own is each =
       let level = level-of m in
-      ap object (same-members (entry_members (shown k b) p (names_below b p)) (members_of (values_of (below m))) (entries-rise (shown k b) p b) (children-rise (below m) (level.rise h.tree (ap is_object is)))
+      ap object (same-members (entry_members (shown k b) p (names_below b p)) (members_of (values_of (below m))) (entries-rise (shown k b) p b)
+      (children-rise (below m) (level.rise h.tree (ap is_object is)))
       (λ n. member_of-entries (shown k b) b p n ∙ alike-dict k own each n ∙ sym (member_of-children n (below m))))
       ∙ sym (level.value_is ∙ ap (λ c. of_content c (below m)) is)
 
@@ -220,23 +239,27 @@ skip e c cs d apart found =
       | false ↦ λ h. found
     ] refl
 
-all-children : (P : Element → Node → Type 0) (cs : List Child) → are_apart (elements cs) ≡ true → ((e : Element) (c : Node) → child_at e cs ≡ Some c → P e c) → AllByRecursion (λ (c : Child). P (element_view c.0) c.1) cs
+all-children : (P : Element → Node → Type 0) (cs : List Child) → are_apart (elements cs) ≡ true → ((e : Element) (c : Node) → child_at e cs ≡ Some c → P e c)
+    → AllByRecursion (λ (c : Child). P (element_view c.0) c.1) cs
 all-children P [] apart h = tt
 all-children P (c ∷ cs) apart h = (
   h (element_view c.0) c.1 (ap (λ t. if t then Some c.1 else child_at (element_view c.0) cs) (same_element-itself (element_view c.0))),
   all-children P cs (both_second _ _ apart) (λ e d found. h e d (skip e c cs d apart found)),
 )
 
-items-shown : (shows : Path → Json) (p : Path) (cs : List Child) → AllByRecursion (λ (c : Child). shows (p ++ element_view c.0 ∷ []) ≡ value_of c.1) cs → shown_items shows p (elements cs) ≡ values.items_of (values_of cs)
+items-shown : (shows : Path → Json) (p : Path) (cs : List Child) → AllByRecursion (λ (c : Child). shows (p ++ element_view c.0 ∷ []) ≡ value_of c.1) cs
+    → shown_items shows p (elements cs) ≡ values.items_of (values_of cs)
 items-shown shows p [] h = refl
 items-shown shows p (c ∷ cs) h = λ i. item (h.0 i) (items-shown shows p cs h.1 i)
 
-list-at : (b : Body) (r : Place) (p : Path) (m : Node) (shows : Path → Json) → IsShownAt b r p m → is_list (own_content m) ≡ true → ((e : Element) (c : Node) → IsBelow b r p e c → shows (p ++ e ∷ []) ≡ value_of c)
+list-at : (b : Body) (r : Place) (p : Path) (m : Node) (shows : Path → Json) → IsShownAt b r p m → is_list (own_content m) ≡ true
+    → ((e : Element) (c : Node) → IsBelow b r p e c → shows (p ++ e ∷ []) ≡ value_of c)
     → list (shown_items shows p (order_at (get b p))) ≡ value_of m
 list-at b r p m shows h is each =
     let level = level-of m in
     ap list (ap (shown_items shows p) (ap order_at (own-here b r p m h) ∙ level.order_is is)
-    ∙ items-shown shows p (below m) (all-children (λ e c. shows (p ++ e ∷ []) ≡ value_of c) (below m) ((level-below m).apart h.tree) (λ e c found. each e c (down b r p m h e c found))))
+    ∙ items-shown shows p (below m) (all-children (λ e c. shows (p ++ e ∷ []) ≡ value_of c) (below m) ((level-below m).apart h.tree)
+    (λ e c found. each e c (down b r p m h e c found))))
     ∙ sym (level.value_is ∙ list-shown (own_content m) (below m) is)
 
 -- ---- what stands at a place of a kind
@@ -257,13 +280,16 @@ atomic-leaf s (list_branch es) h = absurd (true≢false (sym h))
 
 -- ---- any kind
 
-set-child : (b : Body) (k : ScalarKind) (p : Path) (e : Element) (c : Node) → IsBelow b (of_kind (kinds.set_of k)) p e c → content_value (get b (p ++ e ∷ [])) ≡ value_of c
+set-child : (b : Body) (k : ScalarKind) (p : Path) (e : Element) (c : Node) → IsBelow b (of_kind (kinds.set_of k)) p e c
+    → content_value (get b (p ++ e ∷ [])) ≡ value_of c
 set-child b k p e c d =
     let fits = own-fits b d.place (p ++ e ∷ []) c d.shows in
     let x = set-place k e d.place d.there in
-    leaf-at b d.place (p ++ e ∷ []) c d.shows (ap (λ o. is_leaf (Some o)) (value-leaf x.own (own_content c) (ap (λ s. content_fits s (own_content c)) x.place ∙ fits)))
+    leaf-at b d.place (p ++ e ∷ []) c d.shows (ap (λ o. is_leaf (Some o))
+    (value-leaf x.own (own_content c) (ap (λ s. content_fits s (own_content c)) x.place ∙ fits)))
 
-item-child : (b : Body) (ns : List Text) (fs : Fields) (p : Path) (e : Element) (c : Node) → are_ordered fs ≡ true → EachShows fs b → IsBelow b (of_kind (items_of ns fs)) p e c
+item-child : (b : Body) (ns : List Text) (fs : Fields) (p : Path) (e : Element) (c : Node) → are_ordered fs ≡ true → EachShows fs b
+    → IsBelow b (of_kind (items_of ns fs)) p e c
     → object (shown_fields fs b (p ++ e ∷ [])) ≡ value_of c
 item-child b ns fs p e c ordered each d =
     let h : IsShownAt b (item_of ns fs) (p ++ e ∷ []) c = subst (λ s. IsShownAt b s (p ++ e ∷ []) c) (sym (list-place ns fs e d.place d.there).place) d.shows in
@@ -284,7 +310,8 @@ mutual
       list-at b r p m (λ q. content_value (get b q)) h (ap is_list (set-branch k (own_content m) (own-fits b r p m h))) (λ e c d. set-child b k p e c d)
   kind-shown (items_of ns fs) b o p m h =
       let r = of_kind (items_of ns fs) in
-      list-at b r p m (λ q. object (shown_fields fs b q)) h (ap is_list (list-branch ns fs (own_content m) (own-fits b r p m h))) (λ e c d. item-child b ns fs p e c o (fields-shown fs b o) d)
+      list-at b r p m (λ q. object (shown_fields fs b q)) h (ap is_list (list-branch ns fs (own_content m) (own-fits b r p m h)))
+      (λ e c d. item-child b ns fs p e c o (fields-shown fs b o) d)
 
   fields-shown : (fs : Fields) (b : Body) → are_ordered fs ≡ true → EachShows fs b
   fields-shown no_fields b o n k is p m h = absurd (none-some k is)
@@ -348,20 +375,11 @@ ordered-below (fitting.value_of t) e s o h = absurd (none-some s h)
 pub ordered-at : (p : Path) (q r : Place) → is_ordered_place q ≡ true → place_at q p ≡ Some r → is_ordered_place r ≡ true
 ordered-at [] q r o h = subst (λ s. is_ordered_place s ≡ true) (some-is q r h) o
 ordered-at (e ∷ p) q r o h =
-    elim (place_below q e) as (λ b. place_below q e ≡ b → ◌≡◌ {A = Option Place} (elim b [ None ↦ None | Some s ↦ place_at s p ]) (Some r) → is_ordered_place r ≡ true) [
+    elim (place_below q e) as (λ b. place_below q e ≡ b → ◌≡◌ {A = Option Place} (elim b [ None ↦ None | Some s ↦ place_at s p ]) (Some r)
+    → is_ordered_place r ≡ true) [
       | None ↦ λ is g. absurd (none-some r g)
       | Some s ↦ λ is g. ordered-at p s r (ordered-below q e s o is) g
     ] refl h
-
--- the place of a path that goes on from a place
-place-joined : (p t : Path) (q r : Place) → place_at q p ≡ Some r → place_at q (p ++ t) ≡ place_at r t
-place-joined [] t q r h = ap (λ s. place_at s t) (some-is q r h)
-place-joined (e ∷ p) t q r h =
-    elim (place_below q e) as (λ b. ◌≡◌ {A = Option Place} (elim b [ None ↦ None | Some s ↦ place_at s p ]) (Some r)
-    → ◌≡◌ {A = Option Place} (elim b [ None ↦ None | Some s ↦ place_at s (p ++ t) ]) (place_at r t)) [
-      | None ↦ λ g. absurd (none-some r g)
-      | Some s ↦ λ g. place-joined p t s r g
-    ] h
 
 place-shown : (r : Place) (b : Body) (p : Path) (m : Node) → is_ordered_place r ≡ true → IsShownAt b r p m → value_at_place r b p ≡ value_of m
 place-shown (of_kind k) b p m o h = kind-shown k b o p m h
@@ -369,6 +387,19 @@ place-shown (item_of ns fs) b p m o h =
     record-at b (item_of ns fs) p m h fs (λ n. refl) o (item-branch ns fs (own_content m) (own-fits b (item_of ns fs) p m h)) (fields-shown fs b o)
 place-shown (fitting.value_of s) b p m o h =
     leaf-at b (fitting.value_of s) p m h (ap (λ c. is_leaf (Some c)) (value-leaf s (own_content m) (own-fits b (fitting.value_of s) p m h)))
+
+-- what a body shows at a place is the value of the tree that stands there
+pub shown-there : (n : Node) (kind : Kind) (r : Place) (p : Path) (w : Body) → is_tree n ≡ true → is_ordered kind ≡ true → IsBodyOf kind w
+    → place_at (of_kind kind) p ≡ Some r → body_of n ≡ map_below w p → value_of n ≡ value_at_place r w p
+shown-there n kind r p w tree ordered body at is =
+    let here = λ (q : Path). sym (get-below w p q) ∙ ap (λ b. get b q) (sym is) ∙ get-body n q in
+    sym (place-shown r w p n (ordered-at p (of_kind kind) r ordered at) (record {
+      same = here;
+      tree = tree;
+      fits = λ q c there.
+          let found = body.fits (p ++ q) c (here q ∙ there) in
+          record { place = found.place; there = sym (place-joined p q (of_kind kind) r at) ∙ found.there; fits = found.fits };
+    }))
 
 -- the value of a tree whose body is what another body has at a place and below
 pub part-shown : (n : Node) (kind : Kind) (r : Place) (p : Path) (w : Body) → is_tree n ≡ true → is_ordered kind ≡ true → IsBodyOf kind w

@@ -11,23 +11,28 @@ use Rattle.ssa_path.proofs.Lists.{taken-at}
 use Rattle.ssa_path.specs.Children.{elements, child_at}
 use Rattle.ssa_path.specs.declared.element.Elem.{Elem}
 use Rattle.ssa_path.specs.View.{element_view}
-use Rattle.ssa_path.proofs.Orders.{both, both_first, both_second, same_element-itself}
+use Rattle.ssa_path.proofs.Orders.{both_first, both_second}
 use Rattle.ssa_typed.specs.Rows.{Row, rows, rows_below, under_element, below, content_at, body_of, are_apart, is_tree, are_trees}
 use Rattle.ssa_typed.specs.Points.{content_in}
 use Rattle.ssa_typed.specs.declared.node.Node.{Node}
-use Rattle.ssa_typed.proofs.Laws.{not_true}
 use Rattle.ssa_typed.proofs.Levels.{level-below}
-use Rattle.ssa_typed.proofs.Lookups.{or_else, content_at-append, content_at-under, content-below, child_at-none}
+use Rattle.ssa_typed.proofs.Lookups.{or_else, content_at-append, content_at-under, content-below, child_at-none, or_none}
+use Rattle.ssa_model.proofs.Tables.{element-itself as same_element-itself}
+use Rattle.ssa_model.proofs.Basics.{not_true, both-true as both}
 
 -- ---- counting the rows
 
+-- rows under an element are as many as without it
 pub length-under : (e : Element) (rs : List Row) → length (under_element e rs) ≡ length rs
 length-under e [] = refl
 length-under e (r ∷ rs) = ap suc (length-under e rs)
 
+-- children have the rows of the first and those of the others
 pub length-first : (c : Elem × Node) (cs : List (Elem × Node)) → length (rows_below (c ∷ cs)) ≡ length (rows c.1) + length (rows_below cs)
-length-first c cs = length-append (under_element (element_view c.0) (rows c.1)) (rows_below cs) ∙ ap (λ n. n + length (rows_below cs)) (length-under (element_view c.0) (rows c.1))
+length-first c cs = length-append (under_element (element_view c.0) (rows c.1)) (rows_below cs)
+    ∙ ap (λ n. n + length (rows_below cs)) (length-under (element_view c.0) (rows c.1))
 
+-- a node has one row more than all its children
 pub length-level : (n : Node) → length (rows n) ≡ suc (length (rows_below (below n)))
 length-level n = ap length (level-below n).rows_are
 
@@ -46,7 +51,9 @@ IsCount cs count = count ≡ min (suc (length (rows_below cs))) (2 ^ 64 - 1)
 sum-capped : (a b c d e : ℕ) → a ≡ min (suc b) (2 ^ 64 - 1) → c ≡ min d (2 ^ 64 - 1) → e ≡ min (a + c) (2 ^ 64 - 1) → e ≡ min (suc (b + d)) (2 ^ 64 - 1)
 sum-capped a b c d e f g h = omega arith
 
-pub count-more : (cs : List (Elem × Node)) (i : ℕ) (c : Elem × Node) (count more sum : ℕ) → i < length cs → c ≡ get_or cs i c → more ≡ min (length (rows c.1)) (2 ^ 64 - 1) → sum ≡ min (count + more) (2 ^ 64 - 1)
+-- the places of the next child are counted too, as far as 64 bits go
+pub count-more : (cs : List (Elem × Node)) (i : ℕ) (c : Elem × Node) (count more sum : ℕ) → i < length cs → c ≡ get_or cs i c
+    → more ≡ min (length (rows c.1)) (2 ^ 64 - 1) → sum ≡ min (count + more) (2 ^ 64 - 1)
     → IsCount (take i cs) count → IsCount (take (i + 1) cs) sum
 count-more cs i c count more sum lt is e s h =
     let longer : length (rows_below (take (i + 1) cs)) ≡ length (rows_below (take i cs)) + length (rows c.1) =
@@ -59,16 +66,15 @@ abbrev are_rows_apart : List Row → Bool
 are_rows_apart [] = true
 are_rows_apart (r ∷ rs) = not (is_some (content_at rs r.0)) && are_rows_apart rs
 
-or_none : (x : Option Content) → or_else x None ≡ x
-or_none None = refl
-or_none (Some c) = refl
-
-apart-first : (s : Element) (rs ys : List Row) → are_rows_apart rs ≡ true → ((p : Path) → content_at ys (s ∷ p) ≡ None) → are_rows_apart ys ≡ true → are_rows_apart (under_element s rs ++ ys) ≡ true
+apart-first : (s : Element) (rs ys : List Row) → are_rows_apart rs ≡ true → ((p : Path) → content_at ys (s ∷ p) ≡ None) → are_rows_apart ys ≡ true
+    → are_rows_apart (under_element s rs ++ ys) ≡ true
 apart-first s [] ys h none rest = rest
 apart-first s (r ∷ rs) ys h none rest =
     let there : content_at (under_element s rs ++ ys) (s ∷ r.0) ≡ content_at rs r.0 =
-    content_at-append (under_element s rs) ys (s ∷ r.0) ∙ (λ i. or_else (content_at-under s s rs r.0 i) (none r.0 i)) ∙ or_none _ ∙ ap (λ b. cond b (content_at rs r.0) None) (same_element-itself s) in
-    both _ _ (ap (λ o. not (is_some o)) there ∙ both_first _ (are_rows_apart rs) h) (apart-first s rs ys (both_second (not (is_some (content_at rs r.0))) _ h) none rest)
+    content_at-append (under_element s rs) ys (s ∷ r.0) ∙ (λ i. or_else (content_at-under s s rs r.0 i) (none r.0 i)) ∙ or_none _
+    ∙ ap (λ b. cond b (content_at rs r.0) None) (same_element-itself s) in
+    both _ _ (ap (λ o. not (is_some o)) there ∙ both_first _ (are_rows_apart rs) h)
+    (apart-first s rs ys (both_second (not (is_some (content_at rs r.0))) _ h) none rest)
 
 root-under : (s : Element) (rs : List Row) → content_at (under_element s rs) [] ≡ None
 root-under s [] = refl
@@ -76,10 +82,12 @@ root-under s (r ∷ rs) = root-under s rs
 
 root-below : (cs : List (Elem × Node)) → content_at (rows_below cs) [] ≡ None
 root-below [] = refl
-root-below (c ∷ cs) = content_at-append (under_element (element_view c.0) (rows c.1)) (rows_below cs) [] ∙ (λ i. or_else (root-under (element_view c.0) (rows c.1) i) (root-below cs i))
+root-below (c ∷ cs) = content_at-append (under_element (element_view c.0) (rows c.1)) (rows_below cs) []
+    ∙ (λ i. or_else (root-under (element_view c.0) (rows c.1) i) (root-below cs i))
 
 -- trees with less rows than the bound
-apart-below : (k : ℕ) (cs : List (Elem × Node)) → length (rows_below cs) < k → are_apart (elements cs) ≡ true → are_trees cs ≡ true → are_rows_apart (rows_below cs) ≡ true
+apart-below : (k : ℕ) (cs : List (Elem × Node)) → length (rows_below cs) < k → are_apart (elements cs) ≡ true → are_trees cs ≡ true
+    → are_rows_apart (rows_below cs) ≡ true
 apart-below zero cs lt apart trees = absurd (omega arith)
 apart-below (suc k) [] lt apart trees = refl
 apart-below (suc k) (c ∷ cs) lt apart trees =
@@ -99,7 +107,8 @@ apart-tree : (n : Node) → is_tree n ≡ true → are_rows_apart (rows n) ≡ t
 apart-tree n tree =
     let level = level-below n in
     ap are_rows_apart level.rows_are
-    ∙ both _ _ (ap (λ o. not (is_some o)) (root-below (below n))) (apart-below (suc (length (rows_below (below n)))) (below n) (omega arith) (level.apart tree) (level.trees tree))
+    ∙ both _ _ (ap (λ o. not (is_some o)) (root-below (below n)))
+    (apart-below (suc (length (rows_below (below n)))) (below n) (omega arith) (level.apart tree) (level.trees tree))
 
 size-apart : (rs : List Row) → are_rows_apart rs ≡ true → size (from_entries rs) ≡ length rs
 size-apart [] h = refl
@@ -120,6 +129,7 @@ size-body n tree = size-apart (rows n) (apart-tree n tree)
 
 -- ---- a tree is larger than what is below it
 
+-- a child has no more rows than all children
 pub larger-children : (e : Element) (cs : List (Elem × Node)) (c : Node) → child_at e cs ≡ Some c → length (rows c) ≤ length (rows_below cs)
 larger-children e [] c h = cc
 larger-children e (x ∷ cs) c h =
@@ -129,6 +139,7 @@ larger-children e (x ∷ cs) c h =
       | false ↦ λ k. let rest = larger-children e cs c k in omega arith
     ] h
 
+-- a child has fewer rows than the node above it
 pub smaller : (n : Node) (e : Element) (c : Node) → child_at e (below n) ≡ Some c → length (rows c) < length (rows n)
 smaller n e c h =
     let long = length-level n in

@@ -10,7 +10,7 @@ use Rattle.ssa_path.specs.Children.{child_at, elements}
 use Rattle.ssa_path.specs.declared.element.Elem.{Elem}
 use Rattle.ssa_path.specs.View.{element_view}
 use Rattle.ssa_path.proofs.Lists.{elements-append, left-at, taken-at}
-use Rattle.ssa_path.proofs.Orders.{same_either_way, same_element-true, both_first, both_second}
+use Rattle.ssa_path.proofs.Orders.{both_first, both_second}
 use Rattle.ssa_typed.specs.Copies.{kept}
 use Rattle.ssa_typed.specs.InOrder.{IsInOrder}
 use Rattle.ssa_typed.specs.MergedOrder.{beside, is_new, lent_place, live_child, next_place, places, whole_child}
@@ -18,15 +18,20 @@ use Rattle.ssa_typed.specs.Over.{AreOver, IsOver}
 use Rattle.ssa_typed.specs.Rows.{are_apart, are_trees, is_tree}
 use Rattle.ssa_typed.specs.declared.node.Node.{Node}
 use Rattle.ssa_typed.proofs.Building.{Child}
-use Rattle.ssa_typed.proofs.Laws.{not_true, neither_first, neither_second}
 use Rattle.ssa_typed.proofs.Overlaying.{AreMade, IsMade, child-at-index, made-all, made-copied, made-over, made-push}
+use Rattle.ssa_model.proofs.Fitting.{same_element-true}
+use Rattle.ssa_model.proofs.ShownNames.{turned as same_either_way}
+use Rattle.ssa_schema.proofs.Repeats.{some-number}
+use Rattle.ssa_model.proofs.Basics.{not_true, first_false as neither_first, second_false as neither_second}
 
 -- ---- places
 
+-- one child more stands at the next place
 pub places-push : (cs : List Child) (c : Child) → places (cs ++ c ∷ []) ≡ places cs ++ (c.0, length cs) ∷ []
 places-push [] c = refl
 places-push (d ∷ cs) c = ap (λ ps. (d.0, 0) ∷ ps) (ap (map next_place) (places-push cs c) ∙ map-append next_place (places cs) ((c.0, length cs) ∷ []))
 
+-- one place more is lent, that of the next child
 pub places-more : (cs : List Child) (i : ℕ) (c : Child) (own : Bor Elem) (sorted more : List (Bor Elem × ℕ)) → i < length cs → c ≡ get_or cs i c
     → own.now ≡ c.0 → map lent_place sorted ≡ places (take i cs)
     → more ≡ sorted ++ (own, i) ∷ [] → map lent_place more ≡ places (take (i + 1) cs)
@@ -35,10 +40,12 @@ places-more cs i c own sorted more lt is lent h pushed =
     ap (map lent_place) pushed ∙ map-append lent_place sorted ((own, i) ∷ []) ∙ (λ j. h j ++ (lent j, sym long j) ∷ [])
     ∙ sym (ap places (taken-at cs i c lt is) ∙ places-push (take i cs) c)
 
+-- one place further, the elements are the same
 pub elements-next : (ps : List (Elem × ℕ)) → elements (map next_place ps) ≡ elements ps
 elements-next [] = refl
 elements-next (p ∷ ps) = ap (λ es. element_view p.0 ∷ es) (elements-next ps)
 
+-- children and their places have the same elements
 pub elements-places : (cs : List Child) → elements (places cs) ≡ elements cs
 elements-places [] = refl
 elements-places (c ∷ cs) = ap (λ es. element_view c.0 ∷ es) (elements-next (places cs) ∙ elements-places cs)
@@ -52,25 +59,28 @@ child-next e (p ∷ ps) =
 
 -- a place further on
 pub record IsNext (o : Option ℕ) (i : ℕ) : Type 0 where
+  -- what was found
   pub before : ℕ
+  -- it is found
   pub there : o ≡ Some before
+  -- this place is the next
   pub next : i ≡ suc before
 
+-- a place found one further is the next behind one that is found
 pub next-of : (o : Option ℕ) (i : ℕ) → option_map suc o ≡ Some i → IsNext o i
 next-of None i h = cc
 next-of (Some j) i h = record { before = j; there = refl; next = cc }
 
-pub some-number : (i j : ℕ) → ◌≡◌ {A = Option ℕ} (Some i) (Some j) → i ≡ j
-some-number i j h = cc
-
 -- ---- the configuration's child beside a live one
 
+-- the child of an element is the node that is found with its element
 pub whole-child : (e : Element) (ds : List Child) → child_at e ds ≡ option_map (λ d. d.1) (whole_child e ds)
 whole-child e [] = refl
 whole-child e (d ∷ ds) =
     elim (same_element e (element_view d.0)) as (λ b. cond b (Some d.1) (child_at e ds) ≡ option_map (λ x. x.1) (cond b (Some d) (whole_child e ds)))
     [ true ↦ refl | false ↦ whole-child e ds ]
 
+-- what is found for an element has this element
 pub whole-element : (e : Element) (ds : List Child) (d : Child) → whole_child e ds ≡ Some d → element_view d.0 ≡ e
 whole-element e [] d h = cc
 whole-element e (x ∷ ds) d h =
@@ -195,21 +205,16 @@ place-found e cs sorted vs o lent h found = sym (h.same e) ∙ sym (ap (λ l. ch
 
 -- ---- the walk over the configuration's children
 
+-- of the configuration's children some are sorted out, into slots beside the live ones or among the new
 pub record IsSortingOut (cs ds left : List Child) (slots : List (Option Child)) (new : List Child) : Type 0 where
+  -- those sorted out
   pub done : List Child
+  -- they and what is left are all
   pub parted : done ++ left ≡ ds
+  -- beside each live child stands the one of its element, if it is sorted out
   pub slots_are : slots ≡ map (beside done) cs
+  -- the new ones are those whose elements no live child has
   pub new_are : new ≡ filter (is_new cs) done
-
-pub sorting-none : (cs ds : List Child) (slots : List (Option Child)) (new : List Child) → slots ≡ map (beside []) cs → new ≡ []
-    → IsSortingOut cs ds ds slots new
-sorting-none cs ds slots new is none = record { done = []; parted = refl; slots_are = is; new_are = none }
-
-pub sorting-all : (cs ds left : List Child) (slots : List (Option Child)) (new : List Child) → left ≡ [] → IsSortingOut cs ds left slots new
-    → (slots ≡ map (beside ds) cs) × (new ≡ filter (is_new cs) ds)
-sorting-all cs ds left slots new none h =
-    let all : h.done ≡ ds = sym (append-nil h.done) ∙ ap (λ l. h.done ++ l) (sym none) ∙ h.parted in
-    (h.slots_are ∙ ap (λ l. map (beside l) cs) all, h.new_are ∙ ap (filter (is_new cs)) all)
 
 module _ (cs ds all left : List Child) (slots : List (Option Child)) (new : List Child) (d : Child) (live : are_apart (elements cs) ≡ true)
     (config : are_apart (elements ds) ≡ true) (is : all ≡ d ∷ left) (h : IsSortingOut cs ds all slots new) where
@@ -226,12 +231,14 @@ module _ (cs ds all left : List Child) (slots : List (Option Child)) (new : List
   filtered : (b : Bool) → is_new cs d ≡ b → filter (is_new cs) (h.done ++ d ∷ []) ≡ filter (is_new cs) h.done ++ cond b (d ∷ []) []
   filtered b e = filter-append (is_new cs) h.done (d ∷ []) ∙ ap (λ t. filter (is_new cs) h.done ++ cond t (d ∷ []) []) e
 
+  -- the place of a live child is that of a slot
   pub slot-within : (i : ℕ) → child_at (element_view d.0) (places cs) ≡ Some i → i < length slots
   slot-within i found =
       let short = place-within (element_view d.0) cs i found in
       let long : length slots ≡ length cs = ap length h.slots_are ∙ length-map cs (beside h.done) in
       omega arith
 
+  -- the next child goes into the slot of the live child of its element
   pub sorting-beside : (i : ℕ) (more : List (Option Child)) → child_at (element_view d.0) (places cs) ≡ Some i → more ≡ set slots i (Some d)
       → IsSortingOut cs ds left more new
   sorting-beside i more found put = record {
@@ -242,6 +249,7 @@ module _ (cs ds all left : List Child) (slots : List (Option Child)) (new : List
         ∙ append-nil (filter (is_new cs) h.done));
   }
 
+  -- the next child goes among the new, where no live child has its element
   pub sorting-new : (more : List Child) → child_at (element_view d.0) (places cs) ≡ None → more ≡ new ++ d ∷ [] → IsSortingOut cs ds left slots more
   sorting-new more none_found put =
       let absent : is_absent (child_at (element_view d.0) cs) ≡ true = sym (new-place (element_view d.0) cs) ∙ ap is_absent none_found in
@@ -254,8 +262,11 @@ module _ (cs ds all left : List Child) (slots : List (Option Child)) (new : List
 
 -- ---- the walk over the live children
 
+-- up to a place, each live child was merged with what its slot held
 pub record IsMerging (cs ds : List Child) (slots : List (Option Child)) (xs : List Child) (i : ℕ) : Type 0 where
+  -- a child is made of each
   pub made : AreMade (map (live_child ds) (take i cs)) xs
+  -- behind the place, the slots hold the configuration's children
   pub left : drop i slots ≡ map (beside ds) (drop i cs)
 
 first-slot : (x y : Option Child) (xs ys : List (Option Child)) → x ∷ xs ≡ y ∷ ys → x ≡ y
@@ -266,6 +277,7 @@ rest-slots x y xs ys h = cc
 
 module _ (cs ds : List Child) (slots : List (Option Child)) (xs : List Child) (i : ℕ) (c : Child) (o : Option Child) (live : are_apart (elements cs) ≡ true)
     (lt : i < length cs) (is : c ≡ get_or cs i c) (h : IsMerging cs ds slots xs i) where
+  -- at the place there is a slot
   pub slot-there : i < length slots
   slot-there =
       let sizes : length slots - i ≡ length cs - i = sym (length-drop i slots) ∙ ap length h.left ∙ length-map (drop i cs) (beside ds) ∙ length-drop i cs in
@@ -274,6 +286,7 @@ module _ (cs ds : List Child) (slots : List (Option Child)) (xs : List Child) (i
   parts : get_or slots i o ∷ drop (i + 1) slots ≡ beside ds c ∷ map (beside ds) (drop (i + 1) cs)
   parts = sym (drop_more slots i o slot-there) ∙ h.left ∙ ap (map (beside ds)) (left-at cs i c lt is)
 
+  -- the live child at the place is the one of its element
   pub own-child : child_at (element_view c.0) cs ≡ Some c.1
   own-child = child-at-index cs i c lt is live
 
@@ -281,6 +294,7 @@ module _ (cs ds : List Child) (slots : List (Option Child)) (xs : List Child) (i
     slot : o ≡ beside ds c
     slot = read ∙ first-slot _ _ _ _ parts
 
+    -- what the slot holds is the configuration's child of this element
     pub config-child : (d : Child) → o ≡ Some d → child_at (element_view c.0) ds ≡ Some d.1
     config-child d found = whole-child (element_view c.0) ds ∙ ap (option_map (λ x. x.1)) (sym slot ∙ found)
 
@@ -294,12 +308,14 @@ module _ (cs ds : List Child) (slots : List (Option Child)) (xs : List Child) (i
       left = ap (drop (i + 1)) emptied ∙ drop-set-lt (i + 1) slots i None (omega arith) ∙ rest-slots _ _ _ _ parts;
     }
 
+    -- the next live child is merged with the configuration's child in its slot
     pub merging-own : (d : Child) (n : Node) (new : List Child) (after : List (Option Child)) → o ≡ Some d → IsOver c.1 d.1 n → new ≡ xs ++ (d.0, n) ∷ []
         → after ≡ set slots i None → IsMerging cs ds after new (i + 1)
     merging-own d n new after found over pushed emptied =
         more (d.0, n) new after (made-over (live_child ds c) (d.0, n) (whole-element (element_view c.0) ds d (sym slot ∙ found)) d.1
         (config-child d found) over) pushed emptied
 
+    -- the next live child is copied, where its slot is empty
     pub merging-copied : (x : Child) (new : List Child) (after : List (Option Child)) → o ≡ None → is_tree c.1 ≡ true → element_view x.0 ≡ element_view c.0
         → kept x.1 ≡ kept c.1 → new ≡ xs ++ x ∷ [] → after ≡ set slots i None
         → IsMerging cs ds after new (i + 1)
@@ -307,6 +323,7 @@ module _ (cs ds : List Child) (slots : List (Option Child)) (xs : List Child) (i
         more x new after (made-copied (live_child ds c) x same (whole-child (element_view c.0) ds ∙ ap (option_map (λ d. d.1)) (sym slot ∙ none)) tree copy)
         pushed emptied
 
+-- behind the last place, the merged children and the new ones are the configuration's over the live ones
 pub merging-all : (cs ds : List Child) (slots : List (Option Child)) (xs new ys : List Child) (i : ℕ) → length cs ≤ i → are_trees ds ≡ true
     → IsMerging cs ds slots xs i → new ≡ filter (is_new cs) ds → ys ≡ xs ++ new → AreOver cs ds ys
 merging-all cs ds slots xs new ys i done trees h is all = made-all cs ds xs new ys trees

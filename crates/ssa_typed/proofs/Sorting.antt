@@ -10,11 +10,13 @@ use Rattle.ssa_model.specs.definitions.Path.{Element, element_cmp, same_element}
 use Rattle.ssa_path.specs.Children.{child_at, elements, is_below, rises}
 use Rattle.ssa_path.specs.declared.element.Elem.{Elem}
 use Rattle.ssa_path.specs.View.{element_view}
-use Rattle.ssa_path.proofs.Orders.{element_cmp_total, same_element-true, same_element-itself, both, both_first, both_second}
+use Rattle.ssa_path.proofs.Orders.{element_cmp_total, both_first, both_second}
 use Rattle.ssa_typed.specs.InOrder.{IsInOrder}
 use Rattle.ssa_typed.specs.Rows.{are_apart}
 use Rattle.ssa_typed.specs.declared.node.Node.{Node}
-use Rattle.ssa_typed.proofs.Laws.{not_true, neither_first, neither_second}
+use Rattle.ssa_model.proofs.Tables.{element-itself as same_element-itself}
+use Rattle.ssa_model.proofs.Fitting.{same_element-true}
+use Rattle.ssa_model.proofs.Basics.{not_true, both-true as both, first_false as neither_first, second_false as neither_second}
 
 -- ---- a filter of a list
 
@@ -38,6 +40,7 @@ module _ {X : Type 0} where
 -- ---- elements of a list of keyed values
 
 module _ {X : Type 0} (key : X → Element) where
+  -- the element of the one is below that of the other
   abbrev pub before : X → X → Bool
   before x y = is_lt (element_cmp (key x) (key y))
 
@@ -53,7 +56,8 @@ module _ {X : Type 0} (key : X → Element) where
   tied Greater = refl
 
   ties_are : (x y : X) → ties before x y ≡ of_element (key x) y
-  ties_are x y = ap (λ o. not (is_lt (element_cmp (key x) (key y))) && not (is_lt o)) (element_cmp_total.antisymm (key y) (key x)) ∙ tied (element_cmp (key x) (key y))
+  ties_are x y = ap (λ o. not (is_lt (element_cmp (key x) (key y))) && not (is_lt o)) (element_cmp_total.antisymm (key y) (key x))
+      ∙ tied (element_cmp (key x) (key y))
 
   module _ (xs ys : List X) (stable : IsStableBy before xs ys) where
     like : (x : X) → filter (of_element (key x)) ys ≡ filter (of_element (key x)) xs
@@ -78,7 +82,8 @@ module _ {X : Type 0} (key : X → Element) where
   none-of : (e : Element) (xs : List X) → list_any (same_element e) (keys xs) ≡ false → filter (of_element e) xs ≡ []
   none-of e [] h = refl
   none-of e (x ∷ xs) h =
-      ap (λ b. cond b (x ∷ filter (of_element e) xs) (filter (of_element e) xs)) (neither_first (of_element e x) _ h) ∙ none-of e xs (neither_second (of_element e x) _ h)
+      ap (λ b. cond b (x ∷ filter (of_element e) xs) (filter (of_element e) xs)) (neither_first (of_element e x) _ h)
+      ∙ none-of e xs (neither_second (of_element e x) _ h)
 
   once : (e : Element) (xs : List X) → are_apart (keys xs) ≡ true → length (filter (of_element e) xs) ≤ 1
   once e [] h = omega arith
@@ -94,29 +99,35 @@ module _ {X : Type 0} (key : X → Element) where
 
   -- ---- values in order, each element once
 
-  only-first : (x : X) (xs : List X) → length (filter (of_element (key x)) (x ∷ xs)) ≤ 1 → same_element (key x) (key x) ≡ true → length (filter (of_element (key x)) xs) ≤ 0
+  only-first : (x : X) (xs : List X) → length (filter (of_element (key x)) (x ∷ xs)) ≤ 1 → same_element (key x) (key x) ≡ true
+      → length (filter (of_element (key x)) xs) ≤ 0
   only-first x xs h same =
-      let more : length (filter (of_element (key x)) (x ∷ xs)) ≡ suc (length (filter (of_element (key x)) xs)) = ap (λ b. length (cond b (x ∷ filter (of_element (key x)) xs) (filter (of_element (key x)) xs))) same in
+      let more : length (filter (of_element (key x)) (x ∷ xs)) ≡ suc (length (filter (of_element (key x)) xs)) =
+      ap (λ b. length (cond b (x ∷ filter (of_element (key x)) xs) (filter (of_element (key x)) xs))) same in
       omega arith
 
   longer : (e : Element) (x : X) (xs : List X) → length (filter (of_element e) (x ∷ xs)) ≤ 1 → length (filter (of_element e) xs) ≤ 1
   longer e x xs h =
-      elim (of_element e x) as (λ b. length (cond b (x ∷ filter (of_element e) xs) (filter (of_element e) xs)) ≤ 1 → length (filter (of_element e) xs) ≤ 1) [ true ↦ λ k. omega arith | false ↦ λ k. k ] h
+      elim (of_element e x) as (λ b. length (cond b (x ∷ filter (of_element e) xs) (filter (of_element e) xs)) ≤ 1
+      → length (filter (of_element e) xs) ≤ 1) [ true ↦ λ k. omega arith | false ↦ λ k. k ] h
 
   above : (o : Ordering) → is_lt (ordering_reverse o) ≡ false → is_eq o ≡ false → is_lt o ≡ true
   above Less a b = refl
   above Equal a b = absurd (true≢false b)
   above Greater a b = absurd (true≢false a)
 
-  below-first : (x : X) (xs : List X) → ((k : ℕ) → k < length xs → before (get_or xs k x) x ≡ false) → length (filter (of_element (key x)) xs) ≤ 0 → is_below (key x) (keys xs) ≡ true
+  below-first : (x : X) (xs : List X) → ((k : ℕ) → k < length xs → before (get_or xs k x) x ≡ false) → length (filter (of_element (key x)) xs) ≤ 0
+      → is_below (key x) (keys xs) ≡ true
   below-first x xs up none = go xs up none
     where
-      go : (zs : List X) → ((k : ℕ) → k < length zs → before (get_or zs k x) x ≡ false) → length (filter (of_element (key x)) zs) ≤ 0 → is_below (key x) (keys zs) ≡ true
+      go : (zs : List X) → ((k : ℕ) → k < length zs → before (get_or zs k x) x ≡ false) → length (filter (of_element (key x)) zs) ≤ 0
+          → is_below (key x) (keys zs) ≡ true
       go [] up none = refl
       go (z ∷ zs) up none =
           let o = element_cmp (key x) (key z) in
           let first : is_lt (ordering_reverse o) ≡ false = ap is_lt (sym (element_cmp_total.antisymm (key z) (key x))) ∙ up 0 (omega arith) in
-          elim (of_element (key x) z) as (λ b. of_element (key x) z ≡ b → length (cond b (z ∷ filter (of_element (key x)) zs) (filter (of_element (key x)) zs)) ≤ 0 → is_below (key x) (keys (z ∷ zs)) ≡ true) [
+          elim (of_element (key x) z) as (λ b. of_element (key x) z ≡ b
+          → length (cond b (z ∷ filter (of_element (key x)) zs) (filter (of_element (key x)) zs)) ≤ 0 → is_below (key x) (keys (z ∷ zs)) ≡ true) [
             | true ↦ λ s k. absurd (omega arith)
             | false ↦ λ s k. both _ _ (above o first s) (go zs (λ j lt. up (suc j) (omega arith)) k)
           ] refl none
@@ -124,11 +135,15 @@ module _ {X : Type 0} (key : X → Element) where
   weak : IsStrictWeakOrder before
   weak = ranks_by element_cmp_total key
 
-  pub in_order_rises : (xs : List X) → ((e : Element) → same_element e e ≡ true) → IsSortedBy before xs → ((e : Element) → length (filter (of_element e) xs) ≤ 1) → rises (keys xs) ≡ true
+  -- the elements of sorted values rise, where no two values have one element
+  pub in_order_rises : (xs : List X) → ((e : Element) → same_element e e ≡ true) → IsSortedBy before xs
+      → ((e : Element) → length (filter (of_element e) xs) ≤ 1) → rises (keys xs) ≡ true
   in_order_rises [] itself up one = refl
   in_order_rises (x ∷ xs) itself up one =
-      both _ _ (below-first x xs (λ k lt. sorted_far before weak (x ∷ xs) up 0 (suc k) x (omega arith) (omega arith)) (only-first x xs (one (key x)) (itself (key x))))
-      (in_order_rises xs itself (λ k d le lt. ap (λ j. before (get_or (x ∷ xs) j d) (get_or xs k d)) (next k) ∙ up (suc k) d (omega arith) (omega arith)) (λ e. longer e x xs (one e)))
+      both _ _ (below-first x xs (λ k lt. sorted_far before weak (x ∷ xs) up 0 (suc k) x (omega arith) (omega arith))
+      (only-first x xs (one (key x)) (itself (key x))))
+      (in_order_rises xs itself (λ k d le lt. ap (λ j. before (get_or (x ∷ xs) j d) (get_or xs k d)) (next k)
+      ∙ up (suc k) d (omega arith) (omega arith)) (λ e. longer e x xs (one e)))
     where
       next : (k : ℕ) → suc (k + 1) ≡ suc k + 1
       next k = omega arith
@@ -136,6 +151,7 @@ module _ {X : Type 0} (key : X → Element) where
 -- ---- values that stand for children under elements
 
 module _ {X A : Type 0} (entry : X → Elem × A) where
+  -- the element of the child that a value stands for
   abbrev pub entry_element : X → Element
   entry_element x = element_view (entry x).0
 
@@ -172,11 +188,13 @@ module _ {X A : Type 0} (entry : X → Elem × A) where
 abbrev Reference : Type 0
 Reference = Bor (Elem × Node)
 
+-- the element of a child that is lent
 abbrev pub element_of : Reference → Element
 element_of r = element_view r.now.0
 
 -- ---- children themselves
 
+-- the element of a child
 abbrev pub own_element : Elem × Node → Element
 own_element c = element_view c.0
 
@@ -185,5 +203,6 @@ themselves [] = refl
 themselves (c ∷ cs) = ap (λ ds. c ∷ ds) (themselves cs)
 
 -- what a stable sort of the children leaves
-pub sorted-own : (cs ds : List (Elem × Node)) → are_apart (elements cs) ≡ true → IsStableBy (before own_element) cs ds → IsSortedBy (before own_element) ds → IsInOrder cs ds
+pub sorted-own : (cs ds : List (Elem × Node)) → are_apart (elements cs) ≡ true → IsStableBy (before own_element) cs ds → IsSortedBy (before own_element) ds
+    → IsInOrder cs ds
 sorted-own cs ds apart stable up = subst (IsInOrder cs) (themselves ds) (sorted-entries (λ (c : Elem × Node). c) cs cs ds (themselves cs) apart stable up)

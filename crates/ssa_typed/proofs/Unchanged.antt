@@ -6,7 +6,7 @@ use Rattle.ssa_model.specs.definitions.Body.{Content, is_other_leaf}
 use Rattle.ssa_path.specs.Children.{child_at, elements}
 use Rattle.ssa_path.specs.declared.trie.Trie.{Trie}
 use Rattle.ssa_path.specs.View.{element_view}
-use Rattle.ssa_path.proofs.Orders.{and_false, none_first}
+use Rattle.ssa_path.proofs.Orders.{none_first}
 use Rattle.ssa_typed.specs.Differences.{Difference, Added, Modified, Removed, differs, differs_here, AreUnchanged, IsDiffering, IsUntold}
 use Rattle.ssa_typed.specs.Points.{content_in, point_in}
 use Rattle.ssa_typed.specs.Rows.{rows, below, own_content, content_at, is_tree}
@@ -15,9 +15,11 @@ use Rattle.ssa_typed.proofs.Building.{Child}
 use Rattle.ssa_typed.proofs.Lookups.{content-level, content-root}
 use Rattle.ssa_path.proofs.Lists.{taken-at}
 use Rattle.ssa_typed.proofs.Pairs.{same-head, same-tail}
+use Rattle.ssa_model.proofs.Basics.{and-false as and_false}
 
 -- ---- children beside each other
 
+-- child by child, as many on both sides, nothing is told
 abbrev pub EachUnchanged : List Child → List Child → Type 0
 EachUnchanged [] [] = Unit {0}
 EachUnchanged [] (d ∷ ds) = ⊥
@@ -30,7 +32,9 @@ each-push [] (y ∷ ds) c d one h = absurd h
 each-push (x ∷ cs) [] c d one h = absurd h
 each-push (x ∷ cs) (y ∷ ds) c d one h = (h.0, each-push cs ds c d one h.1)
 
-pub unchanged-more : (cs ds : List Child) (i : ℕ) (c d : Child) → i < length cs → i < length ds → c ≡ get_or cs i c → d ≡ get_or ds i d → AreUnchanged c.1 d.1 → EachUnchanged (take i cs) (take i ds) → EachUnchanged (take (i + 1) cs) (take (i + 1) ds)
+-- of the next two children nothing is told, too
+pub unchanged-more : (cs ds : List Child) (i : ℕ) (c d : Child) → i < length cs → i < length ds → c ≡ get_or cs i c → d ≡ get_or ds i d → AreUnchanged c.1 d.1
+    → EachUnchanged (take i cs) (take i ds) → EachUnchanged (take (i + 1) cs) (take (i + 1) ds)
 unchanged-more cs ds i c d lt other_lt is other_is one h =
     subst₂ (λ xs ys. EachUnchanged xs ys) (sym (taken-at cs i c lt is)) (sym (taken-at ds i d other_lt other_is)) (each-push (take i cs) (take i ds) c d one h)
 
@@ -39,7 +43,8 @@ unchanged-more cs ds i c d lt other_lt is other_is one h =
 untold-by : (o q x y : Option Content) → o ≡ x → q ≡ y → IsUntold x y → IsUntold o q
 untold-by o q x y is other_is h = (ap is_some is ∙ h.0 ∙ sym (ap is_some other_is), (λ i. is_other_leaf (is i) (other_is i)) ∙ h.1)
 
-untold-in : (cs ds : List Child) (e : Element) (p : Path) → elements cs ≡ elements ds → EachUnchanged cs ds → IsUntold (content_in (child_at e cs) p) (content_in (child_at e ds) p)
+untold-in : (cs ds : List Child) (e : Element) (p : Path) → elements cs ≡ elements ds → EachUnchanged cs ds
+    → IsUntold (content_in (child_at e cs) p) (content_in (child_at e ds) p)
 untold-in [] [] e p same h = (refl, refl)
 untold-in [] (d ∷ ds) e p same h = absurd h
 untold-in (c ∷ cs) [] e p same h = absurd h
@@ -50,12 +55,16 @@ untold-in (c ∷ cs) (d ∷ ds) e p same h =
     let later = untold-in cs ds e p (same-tail f g (elements cs) (elements ds) same) h.1 in
     untold-by _ _ (content_in (cond (same_element e f) (Some c.1) (child_at e cs)) p) (content_in (cond (same_element e f) (Some d.1) (child_at e ds)) p) refl
     (ap (λ x. content_in (cond (same_element e x) (Some d.1) (child_at e ds)) p) (sym head))
-    (elim (same_element e f) as (λ b. IsUntold (content_in (cond b (Some c.1) (child_at e cs)) p) (content_in (cond b (Some d.1) (child_at e ds)) p)) [ true ↦ h.0 p | false ↦ later ])
+    (elim (same_element e f) as (λ b. IsUntold (content_in (cond b (Some c.1) (child_at e cs)) p) (content_in (cond b (Some d.1) (child_at e ds)) p))
+    [ true ↦ h.0 p | false ↦ later ])
 
-pub unchanged-level : (n m : Node) → is_tree n ≡ true → is_tree m ≡ true → is_other_leaf (Some (own_content n)) (Some (own_content m)) ≡ false → elements (below n) ≡ elements (below m) → EachUnchanged (below n) (below m) → AreUnchanged n m
+-- of two nodes nothing is told where nothing is of themselves and of their children, under the same elements
+pub unchanged-level : (n m : Node) → is_tree n ≡ true → is_tree m ≡ true → is_other_leaf (Some (own_content n)) (Some (own_content m)) ≡ false
+    → elements (below n) ≡ elements (below m) → EachUnchanged (below n) (below m) → AreUnchanged n m
 unchanged-level n m before after own same each [] = untold-by _ _ (Some (own_content n)) (Some (own_content m)) (content-root n) (content-root m) (refl, own)
 unchanged-level n m before after own same each (e ∷ p) =
-    untold-by _ _ (content_in (child_at e (below n)) p) (content_in (child_at e (below m)) p) (content-level n e p before) (content-level m e p after) (untold-in (below n) (below m) e p same each)
+    untold-by _ _ (content_in (child_at e (below n)) p) (content_in (child_at e (below m)) p) (content-level n e p before) (content-level m e p after)
+    (untold-in (below n) (below m) e p same each)
 
 -- ---- nothing is told
 
@@ -68,24 +77,30 @@ both-or-neither true true h = refl
 both-or-neither true false h = h
 both-or-neither false b h = refl
 
-no-new-point : (in_dict : Bool) (e : Element) (c : Option Node) (p : Path) (there : Bool) → is_some (content_in c p) ≡ there → (point_in in_dict e c p && not there) ≡ false
+no-new-point : (in_dict : Bool) (e : Element) (c : Option Node) (p : Path) (there : Bool) → is_some (content_in c p) ≡ there
+    → (point_in in_dict e c p && not there) ≡ false
 no-new-point in_dict e c p true is = and_false (point_in in_dict e c p)
 no-new-point in_dict e c p false is = ap (λ b. b && true) (no-point in_dict e c p is)
 
-untold : (what : Difference) (in_dict : Bool) (e : Element) (c d : Option Node) (p : Path) → IsUntold (content_in c p) (content_in d p) → differs what in_dict e c d p ≡ false
+untold : (what : Difference) (in_dict : Bool) (e : Element) (c d : Option Node) (p : Path) → IsUntold (content_in c p) (content_in d p)
+    → differs what in_dict e c d p ≡ false
 untold Added in_dict e c d p h = no-new-point in_dict e d p (is_some (content_in c p)) (sym h.0)
 untold Modified in_dict e c d p h = h.1
 untold Removed in_dict e c d p h = both-or-neither (is_some (content_in c p)) (is_some (content_in d p)) h.0
 
 module _ (n m : Node) (before : is_tree n ≡ true) (after : is_tree m ≡ true) (h : AreUnchanged n m) where
+  -- of unchanged trees nothing is told at the root
   pub nothing-here : (what : Difference) → false ≡ differs_here what n m
   nothing-here Added = refl
   nothing-here Modified = sym ((λ i. is_other_leaf (sym (content-root n) i) (sym (content-root m) i)) ∙ (h []).1)
   nothing-here Removed = refl
 
+  -- below unchanged trees nothing differs
   pub nothing-below : (what : Difference) (ts : List (Rattle.ssa_path.specs.declared.element.Elem.Elem × Trie)) → ts ≡ [] → IsDiffering what n m ts
   nothing-below what [] none = record {
-    paths_are = λ e p. sym (untold what _ e (child_at e (below n)) (child_at e (below m)) p (untold-by _ _ (content_at (rows n) (e ∷ p)) (content_at (rows m) (e ∷ p)) (sym (content-level n e p before)) (sym (content-level m e p after)) (h (e ∷ p))));
+    paths_are = λ e p. sym (untold what _ e (child_at e (below n)) (child_at e (below m)) p
+        (untold-by _ _ (content_at (rows n) (e ∷ p)) (content_at (rows m) (e ∷ p)) (sym (content-level n e p before)) (sym (content-level m e p after))
+        (h (e ∷ p))));
     risen = refl;
     tries = refl;
   }

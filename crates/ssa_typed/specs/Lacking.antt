@@ -10,7 +10,8 @@ use Rattle.ssa_typed.specs.declared.node.Node.{Node}
 
 -- tries that hold the paths of the set at which nothing stands below the node
 pub record AreLacking (n : Node) (set ts : List (Elem × Trie)) : Type 0 where
-  pub paths_are : (e : Element) (p : Path) → is_one_of (paths_below ts) (e ∷ p) ≡ (is_one_of (paths_below set) (e ∷ p) && not (is_some (content_at (rows n) (e ∷ p))))
+  pub paths_are : (e : Element) (p : Path) → is_one_of (paths_below ts) (e ∷ p)
+      ≡ (is_one_of (paths_below set) (e ∷ p) && not (is_some (content_at (rows n) (e ∷ p))))
   pub risen : rises (elements ts) ≡ true
   pub tries : are_filled_tries ts ≡ true
 

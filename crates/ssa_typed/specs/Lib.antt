@@ -1,4 +1,5 @@
 pub mod Alike
+pub mod BodyTrees
 pub mod Copies
 pub mod Differences
 pub mod Flats

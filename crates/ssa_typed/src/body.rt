@@ -31,7 +31,8 @@ use std::mem;
 /// How many places a body may have, the root among them: 20,000 paths.
 pub const MOST_PLACES: usize = 20_001;
 
-/// An object without its identity.
+/// An object without its identity. Its root is a branch, and so is `metadata`, which has something
+/// below it where it is there.
 ///
 /// Two bodies are equal in every contract where they have the same contents at the same paths, with
 /// the same orders of their lists.
@@ -41,10 +42,10 @@ pub struct Body {
 }
 
 impl Model for Body {
-    ghost use Rattle.std.specs.Prelude.{◌≡◌, true};
     ghost use Rattle.ssa_model.specs.definitions.Body as model;
     ghost use Rattle.ssa_model.specs.codes.Codes.{coded_body};
-    ghost use Rattle.ssa_typed.specs.Rows.{body_of, is_tree};
+    ghost use Rattle.ssa_typed.specs.BodyTrees.{IsBodyTree};
+    ghost use Rattle.ssa_typed.specs.Rows.{body_of};
 
     ghost Value = { model.Body };
 
@@ -52,13 +53,14 @@ impl Model for Body {
 
     ghost view = { λ b. body_of b.root };
 
-    ghost invariant = { λ b. is_tree b.root ≡ true };
+    ghost invariant = { λ b. IsBodyTree b.root };
 }
 
 impl Body {
     /// The body of this tree.
     pub fn new(root: Node) -> Body
-        requires { is_tree root ≡ true }
+        requires tree { is_tree root ≡ true }
+        requires rooted { IsRooted (body_of root) }
         ensures { result ≡ body_of root }
     {
         Body { root }
@@ -68,8 +70,16 @@ impl Body {
     pub fn root(&self) -> &Node
         ensures seen { body_of result.now ≡ self.now }
         ensures tree { is_tree result.now ≡ true }
+        ensures rooted { IsRooted self.now }
     {
         &self.root
+    }
+
+    /// The root of the body is a branch, and where `metadata` is there, so is something below it.
+    pub fn stands_rooted(&self)
+        ensures { IsRooted self.now }
+    {
+        let _root = self.root();
     }
 
     /// What stands at a path, if anything does. Takes no memory.
@@ -93,7 +103,7 @@ impl Body {
     /// and the body is its flattening.
     pub fn to_json(&self, alloc: Global) -> Result<Json, AllocError>
         ensures shown { IfOk result (λ v. (kind : Kind) → is_ordered kind ≡ true → IsBodyOf kind self.now → view v ≡ shown kind self.now []) }
-        ensures back { IfOk result (λ v. (kind : Kind) → is_lawful kind ≡ true → IsBodyOf kind self.now → IsRooted self.now → IsFlattening kind (view v) self.now) }
+        ensures back { IfOk result (λ v. (kind : Kind) → is_lawful kind ≡ true → IsBodyOf kind self.now → IsFlattening kind (view v) self.now) }
     {
         let value = self.root.to_json(alloc)?;
         Ok(value)
@@ -122,7 +132,7 @@ impl Body {
     }
 
     /// The same body, with new memory.
-    pub fn copy(&self, alloc: Global) -> Result<Body, AllocError>
+    pub fn clone(&self, alloc: Global) -> Result<Body, AllocError>
         ensures { IfOk result (λ b. b ≡ self.now) }
     {
         let root = self.root.copy(alloc)?;
@@ -160,6 +170,7 @@ impl Body {
     /// Items of lists keep their order. Takes about n log m comparisons for n children of a place
     /// of which m stay; what stays is moved, with no copies.
     pub fn restricted_to(self, alloc: Global, stay: &FieldSet) -> Result<Body, AllocError>
+        requires { IsRooted (restricted self (λ p. is_root p || has_at_or_below stay.now p)) }
         ensures { IfOk result (λ b. b ≡ restricted self (λ p. is_root p || has_at_or_below stay.now p)) }
     {
         let root = restricted_node(alloc, self.root, stay.root())?;
@@ -182,24 +193,16 @@ impl Body {
     pub fn take_root(&mut self, alloc: Global) -> Node
         ensures seen { body_of result ≡ self.old }
         ensures tree { is_tree result ≡ true }
+        ensures rooted { IsRooted (body_of result) }
         ensures left { self.new ≡ from_entries (([], record_branch) ∷ []) }
     {
         mem::replace(&mut self.root, Node::Branch(Vec::new(alloc)))
     }
 
-    /// Exchanges the body's tree for another, which takes no memory.
-    pub fn swap_root(&mut self, root: &mut Node)
-        requires { is_tree root.old ≡ true }
-        ensures seen { body_of root.new ≡ self.old }
-        ensures tree { is_tree root.new ≡ true }
-        ensures put { self.new ≡ body_of root.old }
-    {
-        mem::swap(&mut self.root, root);
-    }
-
     /// Puts a tree in place of the body's.
     pub fn set_root(&mut self, root: Node)
-        requires { is_tree root ≡ true }
+        requires tree { is_tree root ≡ true }
+        requires rooted { IsRooted (body_of root) }
         ensures { self.new ≡ body_of root }
     {
         self.root = root;

@@ -4,7 +4,7 @@ ghost use Rattle.ssa_json.specs.View.{view, items_view, members_view};
 ghost use Rattle.ssa_path.specs.Children.{elements, rises};
 ghost use Rattle.ssa_path.specs.View.{element_view};
 ghost use Rattle.ssa_typed.specs.Rows.{is_tree, are_trees};
-ghost use Rattle.ssa_typed.specs.Values.{items_of, leaf_value, members_of, value_of, values_of, with_member_under};
+ghost use Rattle.ssa_typed.specs.Values.{IsShownThere, items_of, leaf_value, members_of, value_of, values_of, with_member_under};
 
 use crate::node::{Leaf, Node};
 use ssa_json::value::Json;
@@ -16,9 +16,11 @@ impl Node {
     /// The value of this place with all that is below it, in memory of its own.
     pub fn to_json(&self, alloc: Global) -> Result<Json, AllocError>
         requires { is_tree self.now ≡ true }
-        ensures { IfOk result (λ v. view v ≡ value_of self.now) }
+        ensures value { IfOk result (λ v. view v ≡ value_of self.now) }
+        ensures shown { IfOk result (λ v. IsShownThere self.now (view v)) }
     {
-        value_of(alloc, self)
+        let value = value_of(alloc, self)?;
+        Ok(value)
     }
 }
 

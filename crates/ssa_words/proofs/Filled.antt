@@ -21,10 +21,12 @@ use Rattle.clap.proofs.WalkLemmas.{both}
 
 -- ---- rows with values
 
+-- a row's values are at least one
 abbrev pub HasValue : List Text → Type 0
 HasValue [] = ⊥
 HasValue (v ∷ vs) = Unit {0}
 
+-- each row has a value
 abbrev pub Filled : List Row → Type 0
 Filled [] = Unit {0}
 Filled (r ∷ rs) = HasValue r.values × Filled rs
@@ -59,6 +61,7 @@ without_filled id rows f = at_row_filled id (λ _. []) [] rows (λ r h. tt) tt f
 
 -- ---- one use of an argument
 
+-- where one fault and another together are none, neither is there
 pub or_else_nil : (a b : Kinds) → or_else a b ≡ [] → (a ≡ []) × (b ≡ [])
 or_else_nil [] b e = (refl, e)
 or_else_nil (k ∷ ks) b e = cc
@@ -94,7 +97,8 @@ used_as_filled : (x : ArgAction) (a : Rule) (values : List Text) (rows : List Ro
     → range_kinds (unwrap_or_range a.range).start_inclusive (most_values a) (length values) ≡ [] → Filled rows
     → Filled (used_as x a.id (reading_by a) (values_or_missing a values) rows)
 used_as_filled action.Set a values rows is e f =
-    with_values_filled a.id (reading_by a) CommandLine (values_or_missing a values) (without a.id rows) (wanted_value a values is e) (without_filled a.id rows f)
+    with_values_filled a.id (reading_by a) CommandLine (values_or_missing a values) (without a.id rows) (wanted_value a values is e)
+    (without_filled a.id rows f)
 used_as_filled action.SetTrue a values rows is e f =
     with_values_filled a.id (reading_by a) CommandLine (values_or_missing a values) (without a.id rows) (own_value a values is) (without_filled a.id rows f)
 used_as_filled action.Help a values rows is e f = f
@@ -105,7 +109,8 @@ used_as_filled action.Append a values rows is e f = absurd (true≢false (sym is
 used_as_filled action.SetFalse a values rows is e f = absurd (true≢false (sym is))
 used_as_filled action.Count a values rows is e f = absurd (true≢false (sym is))
 
-use_filled : (a : Rule) (again : Bool) (values : List Text) (rows : List Row) → fed a ≡ true → use_fault again a values rows ≡ [] → Filled rows → Filled (used a values rows)
+use_filled : (a : Rule) (again : Bool) (values : List Text) (rows : List Row) → fed a ≡ true → use_fault again a values rows ≡ [] → Filled rows
+    → Filled (used a values rows)
 use_filled a again values rows is e f = used_as_filled (action_of a) a values rows is (or_else_nil _ _ e).0 f
 
 abbrev FedIf : Option Rule → Type 0
@@ -131,10 +136,12 @@ module _ (c : List Rule) (again : Bool) (is_fed : list_all fed c ≡ true) where
   settle_pending None rows e f = f
   settle_pending (Some p) rows e f = settle_found (arg_by_id c p.0) p.1 rows (found_fed (λ a. bytes_eq a.id p.0) c is_fed) e f
 
+  -- the argument that was still waiting, once settled without a fault, leaves each row with a value
   pub settle_filled : (h : Held) → settle_fault c again h ≡ [] → Filled h.rows → Filled (settled c h).rows
   settle_filled h e f = settle_pending h.pending h.rows e f
 
-  react_filled : (a : Rule) (values : List Text) (h : Held) → fed a ≡ true → react_fault c again a values h ≡ [] → Filled h.rows → Filled (reacted c a values h).rows
+  react_filled : (a : Rule) (values : List Text) (h : Held) → fed a ≡ true → react_fault c again a values h ≡ [] → Filled h.rows
+      → Filled (reacted c a values h).rows
   react_filled a values h is e f =
       let faults = or_else_nil (settle_fault c again h) (use_fault again a values (settled c h).rows) e in
       use_filled a again values (settled c h).rows is faults.1 (settle_filled h faults.0 f)
@@ -202,7 +209,8 @@ module _ (c : List Rule) (again : Bool) (is_fed : list_all fed c ≡ true) where
   after_filled waiting word h plain f = plain_filled waiting word h f
   after_filled waiting word h refused f = plain_filled waiting word h f
 
-  short_word_filled : (o : Option Text) (waiting : Waiting) (word : Text) (h : Held) → option_map_or (λ flags. bundle_fault c again flags h) o [] ≡ [] → Filled h.rows
+  short_word_filled : (o : Option Text) (waiting : Waiting) (word : Text) (h : Held) → option_map_or (λ flags. bundle_fault c again flags h) o [] ≡ []
+      → Filled h.rows
       → Filled (short_or_plain c waiting word o h).0.rows
   short_word_filled None waiting word h e f = plain_filled waiting word h f
   short_word_filled (Some flags) waiting word h e f =
@@ -233,7 +241,8 @@ module _ (s : Shape) (names : Names) (is_fed : list_all fed s.rules ≡ true) wh
       go true e = f
       go false e = flag_word_filled s.rules s.args_override_self is_fed (long_of word) waiting word h e f
 
-  word_filled : (is_trailing : Bool) (waiting : Waiting) (position : ℕ) (word : Text) (h : Held) → word_fault s names is_trailing waiting word h ≡ [] → Filled h.rows
+  word_filled : (is_trailing : Bool) (waiting : Waiting) (position : ℕ) (word : Text) (h : Held) → word_fault s names is_trailing waiting word h ≡ []
+      → Filled h.rows
       → Filled (word_met s.rules names is_trailing waiting position word h).0.rows
   word_filled true waiting position word h e f = f
   word_filled false waiting position word h e f = other_filled (subcommand_met names waiting word) waiting position word h e f
@@ -244,13 +253,15 @@ module _ (s : Shape) (names : Names) (is_fed : list_all fed s.rules ≡ true) wh
   place_filled None word w h stray e f = f
   place_filled (Some a) word w h stray e f = positional_filled s.rules s.args_override_self is_fed a word h e f
 
-  taken_filled : (word : Text) (w : Walk) (h : Held) (step : Step) → step_fault s w.position h step ≡ [] → Filled h.rows → Filled (after_step s.rules word w h step).held.rows
+  taken_filled : (word : Text) (w : Walk) (h : Held) (step : Step) → step_fault s w.position h step ≡ [] → Filled h.rows
+      → Filled (after_step s.rules word w h step).held.rows
   taken_filled word w h (next waiting) e f = f
   taken_filled word w h (trailing position) e f = f
   taken_filled word w h (subcommand name) e f = f
   taken_filled word w h value e f = place_filled (arg_by_index s.rules w.position) word w h _ e f
 
-  turn_filled : (stopped : Option (Text × List Text)) (w : Walk) (word : Text) → turn_fault s names (record w { stopped = stopped }) word ≡ [] → Filled w.held.rows
+  turn_filled : (stopped : Option (Text × List Text)) (w : Walk) (word : Text) → turn_fault s names (record w { stopped = stopped }) word ≡ []
+      → Filled w.held.rows
       → Filled (walked_from s.rules names stopped (record w { stopped = stopped }) word).held.rows
   turn_filled (Some p) w word e f = f
   turn_filled None w word e f =
@@ -258,6 +269,7 @@ module _ (s : Shape) (names : Names) (is_fed : list_all fed s.rules ≡ true) wh
       let faults = or_else_nil (word_fault s names w.is_trailing w.waiting word w.held) (step_fault s w.position met.0 met.1) e in
       taken_filled word (record w { stopped = None }) met.0 met.1 faults.1 (word_filled w.is_trailing w.waiting w.position word w.held faults.0 f)
 
+  -- a walk over the words without a fault leaves each row with a value
   pub walk_filled : (w : Walk) (words : List Text) → walk_fault s names w words ≡ [] → Filled w.held.rows
       → Filled (fold (walked s.rules names) w words).held.rows
   unfolding walked walk_fault
@@ -272,6 +284,7 @@ defaulted_filled : (values : List Text) (id : Text) (how : Reading) (rows : List
 defaulted_filled [] id how rows f = f
 defaulted_filled (v ∷ vs) id how rows f = with_values_filled id how DefaultValue (v ∷ vs) rows tt f
 
+-- with the defaults put in, each row still has a value
 pub defaults_filled : (c : List Rule) (rows : List Row) → Filled rows → Filled (fold with_default rows c)
 defaults_filled [] rows f = f
 defaults_filled (a ∷ c) rows f =

@@ -18,9 +18,12 @@ use Rattle.ssa_words.specs.Calls.{HasTexts, IsWhole, by_words, wanted, was_given
 
 -- ---- a text
 
-pub text_is : (o : Option (Bor Text)) (f : Found) (id : Text) → option_map (λ s. s.now) o ≡ first_value f id → option_map (λ s. s.now) o ≡ first_of id (rows_of f)
+-- the text that is read under a name is the first value of its row
+pub text_is : (o : Option (Bor Text)) (f : Found) (id : Text) → option_map (λ s. s.now) o ≡ first_value f id
+    → option_map (λ s. s.now) o ≡ first_of id (rows_of f)
 text_is o f id e = e ∙ first_value-rows f id
 
+-- where a row of the name has a value, a text is read
 pub text_there : (o : Option (Bor Text)) (f : Found) (id : Text) → option_map (λ s. s.now) o ≡ first_value f id → is_some (first_of id (rows_of f)) ≡ true
     → is_some o ≡ true
 text_there o f id e there = go o (ap is_some (text_is o f id e) ∙ there)
@@ -31,12 +34,14 @@ text_there o f id e there = go o (ap is_some (text_is o f id e) ∙ there)
 
 -- ---- where a value came from
 
+-- a value that is said to be given by the words was given
 pub given_is : (f : Found) (id : Text) (o : Option ValueSource) → o ≡ option_and_then (λ a. a.source) (matched_of f id) → by_words o ≡ was_given id (rows_of f)
 given_is f id o e =
     ap by_words e ∙ go (find (λ e. bytes_eq e.0.now id) f.entries.items)
     ∙ ap (λ (r : Option Row). by_words (option_and_then (λ r. r.source) r)) (sym (find_row f.entries.items id))
   where
-    go : (o : Option Entry) → by_words (option_and_then (λ a. a.source) (option_map (λ e. e.1) o)) ≡ by_words (option_and_then (λ r. r.source) (option_map row_of o))
+    go : (o : Option Entry) → by_words (option_and_then (λ a. a.source) (option_map (λ e. e.1) o))
+        ≡ by_words (option_and_then (λ r. r.source) (option_map row_of o))
     go None = refl
     go (Some e) = refl
 
@@ -54,10 +59,12 @@ none_found name (w ∷ ws) n = go (none_found name ws n.1) (bytes_eq w.0 name) r
     go rest true t = absurd (n.0 (sym ((bytes_eq-Decides w.0 name).0 t)))
     go rest false t = rest
 
+-- no match that is whole names a word that is none of the table's
 pub no_word : (name : Text) (rows : List Row) → NamesNone name wanted → IsWhole name rows → ⊥
 no_word name rows n whole = subst (HasTexts rows) (none_found name wanted n) whole
 
 module _ {Z : Type 0} where
+  -- the subcommand that was met is the one of the matches, with its rows
   pub met_is : (sub : Option (Box SubCommand Z)) (name : Text) (rows : List Row) → Some name ≡ option_map (λ b. (out-SubCommand (box_value b)).name.now) sub
       → Some rows ≡ option_map (λ p. p.1) (subcommand_rows sub) → subcommand_rows sub ≡ Some (name, rows)
   met_is None name rows n r = cc

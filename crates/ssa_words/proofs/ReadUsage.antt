@@ -18,6 +18,8 @@ usage_of words fault (Asked text) (inr among) is = (kind_of fault, among, is)
 usage_of words fault (Refused text) (inl e) is = absurd (is.1 e)
 usage_of words fault (Refused text) (inr among) is = (kind_of fault, among, is)
 
-pub usage_by : (words : List Text) (fault : Error) (u : Usage) {kinds : Kinds} → kinds ≡ fault_of table words → HasKind kinds fault → IsUsageOf (kind_of fault) u
+-- a fault of a kind that clap's definitions tell of the words is told as the usage of the words
+pub usage_by : (words : List Text) (fault : Error) (u : Usage) {kinds : Kinds} → kinds ≡ fault_of table words → HasKind kinds fault
+    → IsUsageOf (kind_of fault) u
     → IsUsage words u
 usage_by words fault u same has is = usage_of words fault u (subst (λ k. HasKind k fault) same has) is

@@ -36,7 +36,8 @@ text_of_row : (id : Text) (rows : List Row) → is_some (find (λ r. bytes_eq r.
 text_of_row id [] e f = absurd (true≢false (sym e))
 text_of_row id (r ∷ rs) e f = go (λ t. text_of_row id rs t f.1) (bytes_eq r.id id) e
   where
-    go : (is_some (find (λ x. bytes_eq x.id id) rs) ≡ true → is_some (first_of id rs) ≡ true) → (b : Bool) → is_some (cond b (Some r) (find (λ x. bytes_eq x.id id) rs)) ≡ true
+    go : (is_some (find (λ x. bytes_eq x.id id) rs) ≡ true → is_some (first_of id rs) ≡ true) → (b : Bool)
+        → is_some (cond b (Some r) (find (λ x. bytes_eq x.id id) rs)) ≡ true
         → is_some (option_and_then (λ x. slice_get x.values 0) (cond b (Some r) (find (λ x. bytes_eq x.id id) rs))) ≡ true
     go rest true e = text_of_values r.values f.0
     go rest false e = rest e
@@ -52,12 +53,14 @@ found_row : (id : Text) (rows : List Row) → has_row id rows ≡ true → is_so
 found_row id [] e = absurd (true≢false (sym e))
 found_row id (r ∷ rs) e = go (found_row id rs) (bytes_eq r.id id) e
   where
-    go : (has_row id rs ≡ true → is_some (find (λ x. bytes_eq x.id id) rs) ≡ true) → (b : Bool) → (b || has_row id rs) ≡ true → is_some (cond b (Some r) (find (λ x. bytes_eq x.id id) rs)) ≡ true
+    go : (has_row id rs ≡ true → is_some (find (λ x. bytes_eq x.id id) rs) ≡ true) → (b : Bool) → (b || has_row id rs) ≡ true
+        → is_some (cond b (Some r) (find (λ x. bytes_eq x.id id) rs)) ≡ true
     go rest true e = refl
     go rest false e = rest e
 
 -- ---- what is required was given
 
+-- one of these arguments has the name and is required
 abbrev pub requires_it : Text → List Rule → Bool
 requires_it id = list_any (λ a. bytes_eq a.id id && a.required)
 
@@ -71,7 +74,8 @@ required_given (a ∷ c) rows id e w = go (required_given c rows id) (bytes_eq a
     here false x e = absurd (true≢false e)
 
     go : (list_any (λ (x : Rule). x.required && not (is_given x.id rows)) c ≡ false → requires_it id c ≡ true → is_given id rows ≡ true)
-        → (b : Bool) → bytes_eq a.id id ≡ b → (r : Bool) → ((r && not (is_given a.id rows)) || list_any (λ (x : Rule). x.required && not (is_given x.id rows)) c) ≡ false
+        → (b : Bool) → bytes_eq a.id id ≡ b → (r : Bool) → ((r && not (is_given a.id rows))
+        || list_any (λ (x : Rule). x.required && not (is_given x.id rows)) c) ≡ false
         → ((b && r) || requires_it id c) ≡ true → is_given id rows ≡ true
     go rest true t true e w =
         subst (λ i. is_given i rows ≡ true) ((bytes_eq-Decides a.id id).0 t)
@@ -81,6 +85,7 @@ required_given (a ∷ c) rows id e w = go (required_given c rows id) (bytes_eq a
 
 -- ---- a default makes a row
 
+-- one of these arguments has the name and a default
 abbrev pub defaults_it : Text → List Rule → Bool
 defaults_it id = list_any (λ a. bytes_eq a.id id && not (is_empty a.defaults))
 
@@ -107,7 +112,8 @@ at_row_put : (id : Text) (values : List Text) (missing : Row) (rows : List Row) 
 at_row_put id values missing [] is = rw (is, same_text id) refl
 at_row_put id values missing (r ∷ rs) is = go (at_row_put id values missing rs is) (bytes_eq r.id id) refl
   where
-    go : has_row id (at_row id (more_values DefaultValue values) (missing ∷ []) rs) ≡ true → (b : Bool) → bytes_eq r.id id ≡ b → has_row id (cond b (more_values DefaultValue values r ++ rs) (r ∷ at_row id (more_values DefaultValue values) (missing ∷ []) rs)) ≡ true
+    go : has_row id (at_row id (more_values DefaultValue values) (missing ∷ []) rs) ≡ true → (b : Bool) → bytes_eq r.id id ≡ b
+        → has_row id (cond b (more_values DefaultValue values r ++ rs) (r ∷ at_row id (more_values DefaultValue values) (missing ∷ []) rs)) ≡ true
     go rest true t = rw t refl
     go rest false t = or_right (bytes_eq r.id id) _ rest
 
@@ -144,7 +150,8 @@ default_made : (c : List Rule) (rows : List Row) (id : Text) → defaults_it id 
 default_made [] rows id e = absurd (true≢false (sym e))
 default_made (a ∷ c) rows id e = go (default_made c (with_default rows a) id) (bytes_eq a.id id) refl (not (is_empty a.defaults)) refl e
   where
-    go : (defaults_it id c ≡ true → has_row id (fold with_default (with_default rows a) c) ≡ true) → (b : Bool) → bytes_eq a.id id ≡ b → (d : Bool) → not (is_empty a.defaults) ≡ d → ((b && d) || defaults_it id c) ≡ true
+    go : (defaults_it id c ≡ true → has_row id (fold with_default (with_default rows a) c) ≡ true) → (b : Bool) → bytes_eq a.id id ≡ b → (d : Bool)
+        → not (is_empty a.defaults) ≡ d → ((b && d) || defaults_it id c) ≡ true
         → has_row id (fold with_default (with_default rows a) c) ≡ true
     go rest true t true u e =
         defaults_kept c (with_default rows a) id (subst (λ i. has_row i (with_default rows a) ≡ true) ((bytes_eq-Decides a.id id).0 t) (default_put a rows u))
@@ -153,6 +160,7 @@ default_made (a ∷ c) rows id e = go (default_made c (with_default rows a) id) 
 
 -- ---- one level
 
+-- the argument of the name is required or has a default
 abbrev pub wants : Text → List Rule → Bool
 wants id c = requires_it id c || defaults_it id c
 
@@ -162,6 +170,7 @@ last_check false true x e = cc
 last_check false false true e = cc
 last_check false false false e = (refl, refl)
 
+-- where no fault is found on a level, each argument that is wanted has a text
 pub level_text : (s : Shape) (words : List Text) (id : Text) → list_all fed s.rules ≡ true → level_fault s [] nothing_held words false [] ≡ []
     → wants id s.rules ≡ true → is_some (first_of id (rows_after s.rules [] words)) ≡ true
 level_text s words id is_fed e w =
@@ -189,6 +198,7 @@ level_text s words id is_fed e w =
 
 -- ---- the word that was met
 
+-- each text that the word's reading wants is required or has a default
 abbrev pub are_wanted : List Rule → Option (Text × List Text) → Bool
 are_wanted c None = false
 are_wanted c (Some w) = list_all (λ id. wants id c) w.1

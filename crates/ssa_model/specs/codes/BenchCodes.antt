@@ -66,7 +66,8 @@ mutual
   shape_fields-inj (shape_field n k fs) no_shape_fields e = cc
   shape_fields-inj (shape_field m j fs) (shape_field n k gs) e =
       let rest : gcons (code_shape j) (code_shape_fields fs) ≡ gcons (code_shape k) (code_shape_fields gs) = second_part _ _ _ _ e in
-      λ i. shape_field (coded_text.inj m n (first_part _ _ _ _ e) i) (shape-inj j k (first_part _ _ _ _ rest) i) (shape_fields-inj fs gs (second_part _ _ _ _ rest) i)
+      λ i. shape_field (coded_text.inj m n (first_part _ _ _ _ e) i) (shape-inj j k (first_part _ _ _ _ rest) i)
+      (shape_fields-inj fs gs (second_part _ _ _ _ rest) i)
 
 abbrev pub coded_shape : Coded Shape
 coded_shape = record { code = code_shape; inj = shape-inj }
@@ -158,18 +159,22 @@ cases_label-label_cases stripped = refl
 
 abbrev pub coded_label : Coded Label
 coded_label =
-    code_by ((Text × (Bool × Text)) ⊎ ((Text × Text) ⊎ Bool)) (coded⊎ (coded× coded_text (coded× coded_bool coded_text)) (coded⊎ (coded× coded_text coded_text) coded_bool)) label_cases cases_label cases_label-label_cases
+    code_by ((Text × (Bool × Text)) ⊎ ((Text × Text) ⊎ Bool))
+    (coded⊎ (coded× coded_text (coded× coded_bool coded_text)) (coded⊎ (coded× coded_text coded_text) coded_bool)) label_cases cases_label
+    cases_label-label_cases
 
 abbrev pub coded_step : Coded Step
 coded_step = code_by (Label × State) (coded× coded_label coded_state) (λ s. (s.label, s.state)) (λ p. record { label = p.0; state = p.1 }) (λ _. refl)
 
 abbrev pub coded_timeline : Coded Timeline
 coded_timeline =
-    code_by (State × (List Step × ℕ)) (coded× coded_state (coded× (coded_list coded_step) coded_ℕ)) (λ t. (t.first, (t.later, t.place))) (λ p. record { first = p.0; later = p.1.0; place = p.1.1 }) (λ _. refl)
+    code_by (State × (List Step × ℕ)) (coded× coded_state (coded× (coded_list coded_step) coded_ℕ)) (λ t. (t.first, (t.later, t.place)))
+    (λ p. record { first = p.0; later = p.1.0; place = p.1.1 }) (λ _. refl)
 
 abbrev pub coded_identity : Coded Identity
 coded_identity =
-    code_by (Option Json × (Option Json × (Option Json × Option Json))) (coded× (coded_option coded_json) (coded× (coded_option coded_json) (coded× (coded_option coded_json) (coded_option coded_json))))
+    code_by (Option Json × (Option Json × (Option Json × Option Json)))
+    (coded× (coded_option coded_json) (coded× (coded_option coded_json) (coded× (coded_option coded_json) (coded_option coded_json))))
     (λ i. (i.version, (i.kind, (i.name, i.namespace)))) (λ p. record { version = p.0; kind = p.1.0; name = p.1.1.0; namespace = p.1.1.1 }) (λ _. refl)
 
 abbrev pub coded_schema : Coded Schema
@@ -177,4 +182,5 @@ coded_schema = code_by (Json × Kind) (coded× coded_json coded_kind) (λ s. (s.
 
 abbrev pub coded_bench : Coded Bench
 coded_bench =
-    code_by (Schema × (Identity × Timeline)) (coded× coded_schema (coded× coded_identity coded_timeline)) (λ b. (b.schema, (b.identity, b.timeline))) (λ p. record { schema = p.0; identity = p.1.0; timeline = p.1.1 }) (λ _. refl)
+    code_by (Schema × (Identity × Timeline)) (coded× coded_schema (coded× coded_identity coded_timeline)) (λ b. (b.schema, (b.identity, b.timeline)))
+    (λ p. record { schema = p.0; identity = p.1.0; timeline = p.1.1 }) (λ _. refl)

@@ -48,7 +48,8 @@ cases_element-element_cases (key ks) = refl
 cases_element-element_cases (value s) = refl
 
 abbrev pub coded_element : Coded Element
-coded_element = code_by (Text ⊎ (List (Text × Scalar) ⊎ Scalar)) (coded⊎ coded_text (coded⊎ (coded_list (coded× coded_text coded_scalar)) coded_scalar)) element_cases cases_element cases_element-element_cases
+coded_element = code_by (Text ⊎ (List (Text × Scalar) ⊎ Scalar)) (coded⊎ coded_text (coded⊎ (coded_list (coded× coded_text coded_scalar)) coded_scalar))
+    element_cases cases_element cases_element-element_cases
 
 abbrev pub coded_path : Coded Path
 coded_path = coded_list coded_element
@@ -134,7 +135,8 @@ cases_content-content_cases dict_branch = refl
 cases_content-content_cases (list_branch es) = refl
 
 abbrev pub coded_content : Coded Content
-coded_content = code_by (Scalar ⊎ (Json ⊎ (Bool ⊎ List Element))) (coded⊎ coded_scalar (coded⊎ coded_json (coded⊎ coded_bool (coded_list coded_element)))) content_cases cases_content cases_content-content_cases
+coded_content = code_by (Scalar ⊎ (Json ⊎ (Bool ⊎ List Element))) (coded⊎ coded_scalar (coded⊎ coded_json (coded⊎ coded_bool (coded_list coded_element))))
+    content_cases cases_content cases_content-content_cases
 
 abbrev pub coded_body : Coded Body
 coded_body = coded_map coded_content
@@ -155,10 +157,12 @@ pub key_back : (k : ManagerKey) → ◌≡◌ {A = ManagerKey} (record { name = 
 key_back k = λ i. record { name = k.name; operation = bit_operation-operation_bit k.operation i }
 
 abbrev pub coded_key : Coded ManagerKey
-coded_key = code_by (Text × Bool) (coded× coded_text coded_bool) (λ k. (k.name, operation_bit k.operation)) (λ p. record { name = p.0; operation = bit_operation p.1 }) key_back
+coded_key = code_by (Text × Bool) (coded× coded_text coded_bool) (λ k. (k.name, operation_bit k.operation))
+    (λ p. record { name = p.0; operation = bit_operation p.1 }) key_back
 
 abbrev pub coded_entry : Coded Entry
-coded_entry = code_by (ManagerKey × (PathSet × Text)) (coded× coded_key (coded× coded_set coded_text)) (λ e. (e.manager, (e.owned, e.moment))) (λ p. record { manager = p.0; owned = p.1.0; moment = p.1.1 }) (λ _. refl)
+coded_entry = code_by (ManagerKey × (PathSet × Text)) (coded× coded_key (coded× coded_set coded_text)) (λ e. (e.manager, (e.owned, e.moment)))
+    (λ p. record { manager = p.0; owned = p.1.0; moment = p.1.1 }) (λ _. refl)
 
 abbrev pub coded_state : Coded State
 coded_state = code_by (Body × Table) (coded× coded_body (coded_list coded_entry)) (λ s. (s.body, s.table)) (λ p. record { body = p.0; table = p.1 }) (λ _. refl)

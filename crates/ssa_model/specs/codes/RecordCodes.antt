@@ -15,7 +15,8 @@ coded_change =
     (λ c. (c.manager, (c.gain, (c.lose, c.moment)))) (λ p. record { manager = p.0; gain = p.1.0; lose = p.1.1.0; moment = p.1.1.1 }) (λ _. refl)
 
 abbrev pub coded_part : Coded Part
-coded_part = code_by (Body × Option ℕ) (coded× coded_body (coded_option coded_ℕ)) (λ c. (c.below, c.place)) (λ p. record { below = p.0; place = p.1 }) (λ _. refl)
+coded_part = code_by (Body × Option ℕ) (coded× coded_body (coded_option coded_ℕ)) (λ c. (c.below, c.place)) (λ p. record { below = p.0; place = p.1 })
+    (λ _. refl)
 
 abbrev pub coded_body_record : Coded BodyRecord
 coded_body_record =
@@ -25,8 +26,10 @@ coded_body_record =
 
 abbrev pub coded_table_record : Coded TableRecord
 coded_table_record =
-    code_by (List Change × (List ManagerKey × List (ℕ × Entry))) (coded× (coded_list coded_change) (coded× (coded_list coded_key) (coded_list (coded× coded_ℕ coded_entry))))
+    code_by (List Change × (List ManagerKey × List (ℕ × Entry)))
+    (coded× (coded_list coded_change) (coded× (coded_list coded_key) (coded_list (coded× coded_ℕ coded_entry))))
     (λ d. (d.changed, (d.gone, d.here))) (λ p. record { changed = p.0; gone = p.1.0; here = p.1.1 }) (λ _. refl)
 
 abbrev pub coded_record : Coded Record
-coded_record = code_by (BodyRecord × TableRecord) (coded× coded_body_record coded_table_record) (λ d. (d.body, d.table)) (λ p. record { body = p.0; table = p.1 }) (λ _. refl)
+coded_record = code_by (BodyRecord × TableRecord) (coded× coded_body_record coded_table_record) (λ d. (d.body, d.table))
+    (λ p. record { body = p.0; table = p.1 }) (λ _. refl)

@@ -157,21 +157,29 @@ labels_of bench = map (λ s. s.label) bench.timeline.later
 
 abbrev pub apply_answer : Bench → Text → Bool → Text → Body → Answer
 apply_answer bench who force at config =
-    accept_or_refuse bench (codes "apply") (applied who force at) (operations.apply (present bench.timeline) (record { name = who; operation = applies }) config force at)
+    accept_or_refuse bench (codes "apply") (applied who force at)
+    (operations.apply (present bench.timeline) (record { name = who; operation = applies }) config force at)
 
 abbrev pub answer : Bench → Command → Answer
 answer bench (apply who force at v) = with_body bench who v (apply_answer bench who force at)
 answer bench (update who at v) =
-    with_body bench who v (λ body. accept_or_refuse bench (codes "update") (updated who at) (operations.update (present bench.timeline) (record { name = who; operation = updates }) body at))
+    with_body bench who v (λ body. accept_or_refuse bench (codes "update") (updated who at)
+    (operations.update (present bench.timeline) (record { name = who; operation = updates }) body at))
 answer bench strip =
     if nat_le most_past (past_len bench.timeline) then (fault history_full, bench)
     else accept bench (codes "strip") stripped (operations.strip (present bench.timeline))
 answer bench undo =
     if past_len bench.timeline == 0 then (fault nothing_to_undo, bench)
-    else (moved (codes "undo") (past_len bench.timeline - 1) (future_len bench.timeline + 1), with_timeline bench (moved_to bench.timeline (bench.timeline.place - 1)))
+    else (
+      moved (codes "undo") (past_len bench.timeline - 1) (future_len bench.timeline + 1),
+      with_timeline bench (moved_to bench.timeline (bench.timeline.place - 1)),
+    )
 answer bench redo =
     if future_len bench.timeline == 0 then (fault nothing_to_redo, bench)
-    else (moved (codes "redo") (past_len bench.timeline + 1) (future_len bench.timeline - 1), with_timeline bench (moved_to bench.timeline (bench.timeline.place + 1)))
+    else (
+      moved (codes "redo") (past_len bench.timeline + 1) (future_len bench.timeline - 1),
+      with_timeline bench (moved_to bench.timeline (bench.timeline.place + 1)),
+    )
 answer bench (show managed) = (shown (object_of_state bench.identity bench.schema.kind managed (present bench.timeline)), bench)
 answer bench (owners p) = (owned_by (owners_of (present bench.timeline).table p), bench)
 answer bench log = (logged (take bench.timeline.place (labels_of bench)) (drop bench.timeline.place (labels_of bench)), bench)

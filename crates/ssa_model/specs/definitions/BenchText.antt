@@ -11,7 +11,8 @@ line v = compact v ++ 10 ∷ []
 
 -- the format, the place of the present state, and how many states there are
 abbrev pub head_of : ℕ → ℕ → Json
-head_of place states = object (member (codes "format") (number_json 1) (member (codes "place") (number_json place) (member (codes "states") (number_json states) no_members)))
+head_of place states = object (member (codes "format") (number_json 1)
+    (member (codes "place") (number_json place) (member (codes "states") (number_json states) no_members)))
 
 abbrev pub head_json : Timeline → Json
 head_json t = head_of t.place (length t.later + 1)

@@ -70,7 +70,11 @@ word_of ms = option_and_then as_text (member_of (codes "do") ms)
 -- the commands of a session
 abbrev pub session_rules : List CommandRule
 session_rules =
-    record { word = codes "apply"; members = needs (codes "at") text_member ∷ needs (codes "manager") text_member ∷ needs (codes "object") any_member ∷ may_have (codes "force") truth_member ∷ [] }
+    record {
+      word = codes "apply";
+      members = needs (codes "at") text_member ∷ needs (codes "manager") text_member ∷ needs (codes "object") any_member
+          ∷ may_have (codes "force") truth_member ∷ [];
+    }
     ∷ record { word = codes "update"; members = needs (codes "at") text_member ∷ needs (codes "manager") text_member ∷ needs (codes "object") any_member ∷ [] }
     ∷ record { word = codes "strip"; members = [] }
     ∷ record { word = codes "undo"; members = [] }
@@ -110,8 +114,10 @@ texts_in None = []
 -- the command of a word and members that follow its rule
 abbrev pub command_with : Text → Members → Command
 command_with word ms =
-    if same_text word (codes "apply") then apply (text_in (member_of (codes "manager") ms)) (truth_in (member_of (codes "force") ms)) (text_in (member_of (codes "at") ms)) (value_in (member_of (codes "object") ms))
-    else (if same_text word (codes "update") then update (text_in (member_of (codes "manager") ms)) (text_in (member_of (codes "at") ms)) (value_in (member_of (codes "object") ms))
+    if same_text word (codes "apply") then apply (text_in (member_of (codes "manager") ms)) (truth_in (member_of (codes "force") ms))
+    (text_in (member_of (codes "at") ms)) (value_in (member_of (codes "object") ms))
+    else (if same_text word (codes "update") then update (text_in (member_of (codes "manager") ms)) (text_in (member_of (codes "at") ms))
+    (value_in (member_of (codes "object") ms))
     else (if same_text word (codes "strip") then strip
     else (if same_text word (codes "undo") then undo
     else (if same_text word (codes "redo") then redo

@@ -108,7 +108,8 @@ nothing_written = object no_members
 
 abbrev pub field_members : (List Path → Json) → List Path → List Element → Members
 field_members written ps [] = no_members
-field_members written ps (e ∷ es) = member (element_text e) (if is_place_alone (tails e ps) then nothing_written else written (tails e ps)) (field_members written ps es)
+field_members written ps (e ∷ es) = member (element_text e) (if is_place_alone (tails e ps) then nothing_written else written (tails e ps))
+    (field_members written ps es)
 
 -- the object of paths of at most so many elements
 abbrev pub written_paths : ℕ → List Path → Json

@@ -69,5 +69,6 @@ pub record IsBodyOf (kind : Kind) (body : Body) : Type 0 where
   -- the order at a path names each item below it once, and nothing else
   pub once : (p : Path) → are_distinct (order_at (get body p)) ≡ true
   -- an item has its key fields
-  pub keys : (p : Path) (ks : List (Text × Scalar)) (n : Text) (s : Scalar) → scalar_of n ks ≡ Some s → has body (p ++ key ks ∷ []) ≡ true → get body ((p ++ key ks ∷ []) ++ field n ∷ []) ≡ Some (leaf s)
+  pub keys : (p : Path) (ks : List (Text × Scalar)) (n : Text) (s : Scalar) → scalar_of n ks ≡ Some s → has body (p ++ key ks ∷ []) ≡ true
+      → get body ((p ++ key ks ∷ []) ++ field n ∷ []) ≡ Some (leaf s)
   pub items : (p : Path) (e : Element) → is_among e (order_at (get body p)) ≡ (is_item_element e && has body (p ++ e ∷ []))

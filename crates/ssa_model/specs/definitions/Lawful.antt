@@ -80,7 +80,8 @@ abbrev pub leaves_identity : Kind → Bool
 leaves_identity (record_of fs) = names_none (codes "apiVersion" ∷ codes "kind" ∷ []) fs && names_none file_names (fields_in (kind_of (codes "metadata") fs))
 leaves_identity _ = false
 
--- The kind of an accepted schema: an object with fields whose names rise and `metadata` among them, each map list with key fields, and no field in the identity's place.
+-- The kind of an accepted schema: an object with fields whose names rise and `metadata` among them, each map list with
+-- key fields, and no field in the identity's place.
 pub record IsSchemaKind (kind : Kind) : Type 0 where
   pub lawful : is_lawful kind ≡ true
   pub apart : leaves_identity kind ≡ true

@@ -138,7 +138,8 @@ abbrev mutual
 -- the member in its place among members whose names rise
 abbrev pub with_member : Text → Json → Members → Members
 with_member n v no_members = member n v no_members
-with_member n v (member m w ms) = elim (slice_cmp nat_cmp n m) [ Less ↦ member n v (member m w ms) | Equal ↦ member n v ms | Greater ↦ member m w (with_member n v ms) ]
+with_member n v (member m w ms) = elim (slice_cmp nat_cmp n m)
+    [ Less ↦ member n v (member m w ms) | Equal ↦ member n v ms | Greater ↦ member m w (with_member n v ms) ]
 
 abbrev pub with_given : Text → Option Json → Members → Members
 with_given n None ms = ms
@@ -155,7 +156,8 @@ members_of_value v = members_in (Some v)
 abbrev pub with_identity : Identity → Members → Members
 with_identity i ms =
     with_given (codes "apiVersion") i.version (with_given (codes "kind") i.kind
-    (with_member (codes "metadata") (object (with_given (codes "name") i.name (with_given (codes "namespace") i.namespace (members_in (member_of (codes "metadata") ms))))) ms))
+    (with_member (codes "metadata") (object (with_given (codes "name") i.name
+    (with_given (codes "namespace") i.namespace (members_in (member_of (codes "metadata") ms))))) ms))
 
 -- the object of an identity and a body
 abbrev pub object_of_body : Identity → Kind → Body → Json

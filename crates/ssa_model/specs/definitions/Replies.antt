@@ -77,7 +77,8 @@ moved_json word past future =
 
 abbrev pub label_json : Label → Json
 label_json (applied who force at) =
-    object (member (codes "at") (text_json at) (member (codes "do") (text_json (codes "apply")) (member (codes "force") (scalar (truth force)) (member (codes "manager") (text_json who) no_members))))
+    object (member (codes "at") (text_json at) (member (codes "do") (text_json (codes "apply"))
+    (member (codes "force") (scalar (truth force)) (member (codes "manager") (text_json who) no_members))))
 label_json (updated who at) =
     object (member (codes "at") (text_json at) (member (codes "do") (text_json (codes "update")) (member (codes "manager") (text_json who) no_members)))
 label_json stripped = object (member (codes "do") (text_json (codes "strip")) no_members)
@@ -88,7 +89,8 @@ reply_json (moved word past future) = moved_json word past future
 reply_json (shown v) = object (member (codes "done") (text_json (codes "show")) (member (codes "object") v no_members))
 reply_json (owned_by ks) = object (member (codes "done") (text_json (codes "owners")) (member (codes "owners") (list_json key_json ks) no_members))
 reply_json (logged past future) =
-    object (member (codes "done") (text_json (codes "log")) (member (codes "future") (list_json label_json future) (member (codes "past") (list_json label_json past) no_members)))
+    object (member (codes "done") (text_json (codes "log")) (member (codes "future") (list_json label_json future)
+    (member (codes "past") (list_json label_json past) no_members)))
 reply_json (fault f) = fault_reply f
 
 abbrev pub reply_text : Reply → Text

@@ -91,7 +91,8 @@ abbrev pub is_key_list : Json → Bool
 is_key_list v = elim (list_of_texts v) [ None ↦ false | Some ts ↦ are_keys ts ]
 
 abbrev pub is_scalar_type : Members → Bool
-is_scalar_type ms = member_is (codes "type") (codes "string") ms || (member_is (codes "type") (codes "integer") ms || member_is (codes "type") (codes "boolean") ms)
+is_scalar_type ms = member_is (codes "type") (codes "string") ms
+    || (member_is (codes "type") (codes "integer") ms || member_is (codes "type") (codes "boolean") ms)
 
 abbrev pub is_object_type : Members → Bool
 is_object_type = member_is (codes "type") (codes "object")
@@ -100,7 +101,8 @@ abbrev pub is_array_type : Members → Bool
 is_array_type = member_is (codes "type") (codes "array")
 
 abbrev pub has_marker : Members → Bool
-has_marker ms = has_member (codes "x-kubernetes-list-type") ms || (has_member (codes "x-kubernetes-list-map-keys") ms || has_member (codes "x-kubernetes-map-type") ms)
+has_marker ms = has_member (codes "x-kubernetes-list-type") ms
+    || (has_member (codes "x-kubernetes-list-map-keys") ms || has_member (codes "x-kubernetes-map-type") ms)
 
 abbrev pub list_type_is : Text → Members → Bool
 list_type_is = member_is (codes "x-kubernetes-list-type")
@@ -160,7 +162,8 @@ reserved_names = codes "apiVersion" ∷ codes "kind" ∷ codes "metadata" ∷ []
 
 -- the members of `properties`, none where it is absent
 abbrev pub property_members : Members → Members
-property_members ms = elim (member_of (codes "properties") ms) [ None ↦ no_members | Some v ↦ (elim v [ object ps ↦ ps | list vs ↦ no_members | scalar s ↦ no_members ]) ]
+property_members ms = elim (member_of (codes "properties") ms)
+    [ None ↦ no_members | Some v ↦ (elim v [ object ps ↦ ps | list vs ↦ no_members | scalar s ↦ no_members ]) ]
 
 abbrev pub is_wrong_root : Members → Bool
 is_wrong_root ms =
@@ -180,7 +183,11 @@ has_wrong_keys ms =
 
 -- the members of `items`
 abbrev pub item_members : Members → Members
-item_members ms = elim (member_of (codes "items") ms) [ None ↦ no_members | Some v ↦ (elim v [ object is ↦ is | list vs ↦ no_members | scalar s ↦ no_members ]) ]
+item_members ms = elim (member_of (codes "items") ms) [
+  | None ↦ no_members
+  | Some
+      v ↦ (elim v [ object is ↦ is | list vs ↦ no_members | scalar s ↦ no_members ])
+]
 
 -- the items are objects whose fields are merged one by one
 abbrev pub is_granular_record : Members → Bool
@@ -188,7 +195,8 @@ is_granular_record ms = is_object_type ms && (not (has_member (codes "additional
 
 -- the property is a scalar
 abbrev pub is_scalar_property : Members → Text → Bool
-is_scalar_property ms n = elim (member_of n (property_members ms)) [ None ↦ false | Some v ↦ (elim v [ object ps ↦ is_scalar_type ps | list vs ↦ false | scalar s ↦ false ]) ]
+is_scalar_property ms n = elim (member_of n (property_members ms))
+    [ None ↦ false | Some v ↦ (elim v [ object ps ↦ is_scalar_type ps | list vs ↦ false | scalar s ↦ false ]) ]
 
 abbrev pub key_names : Members → List Text
 key_names ms = elim (option_and_then list_of_texts (member_of (codes "x-kubernetes-list-map-keys") ms)) [ None ↦ [] | Some ts ↦ ts ]
@@ -244,7 +252,8 @@ abbrev pub shape_of_schema : ℕ → Json → Shape
 shape_of_schema zero v = record_shape no_shape_fields
 shape_of_schema (suc levels) (object ms) =
     if is_array_type ms then elim (member_of (codes "items") ms) [ None ↦ record_shape no_shape_fields | Some v ↦ list_shape (shape_of_schema levels v) ]
-    else (if is_object_type ms then elim (member_of (codes "additionalProperties") ms) [ None ↦ record_shape (shape_fields (shape_of_schema levels) (property_members ms)) | Some v ↦ dict_shape (shape_of_schema levels v) ]
+    else (if is_object_type ms then elim (member_of (codes "additionalProperties") ms)
+    [ None ↦ record_shape (shape_fields (shape_of_schema levels) (property_members ms)) | Some v ↦ dict_shape (shape_of_schema levels v) ]
     else scalar_shape (scalar_kind_of ms))
 shape_of_schema (suc levels) (list vs) = record_shape no_shape_fields
 shape_of_schema (suc levels) (scalar s) = record_shape no_shape_fields
@@ -265,7 +274,8 @@ kind_of_schema (suc levels) (object ms) =
     else (if is_array_type ms then
     (if list_type_is (codes "set") ms then set_of (scalar_kind_of (item_members ms))
     else items_of (sorted_texts (key_names ms)) (kind_fields (kind_of_schema levels) (property_members (item_members ms))))
-    else (if is_object_type ms then elim (member_of (codes "additionalProperties") ms) [ None ↦ record_of (kind_fields (kind_of_schema levels) (property_members ms)) | Some v ↦ dict_of (kind_of_schema levels v) ]
+    else (if is_object_type ms then elim (member_of (codes "additionalProperties") ms)
+    [ None ↦ record_of (kind_fields (kind_of_schema levels) (property_members ms)) | Some v ↦ dict_of (kind_of_schema levels v) ]
     else scalar_kind (scalar_kind_of ms)))
 kind_of_schema (suc levels) (list vs) = record_of no_fields
 kind_of_schema (suc levels) (scalar s) = record_of no_fields
@@ -273,7 +283,8 @@ kind_of_schema (suc levels) (scalar s) = record_of no_fields
 -- the field among fields whose names rise
 abbrev pub with_field : Text → Kind → Fields → Fields
 with_field n k no_fields = kind_field n k no_fields
-with_field n k (kind_field m j fs) = elim (slice_cmp nat_cmp n m) [ Less ↦ kind_field n k (kind_field m j fs) | Equal ↦ kind_field n k fs | Greater ↦ kind_field m j (with_field n k fs) ]
+with_field n k (kind_field m j fs) = elim (slice_cmp nat_cmp n m)
+    [ Less ↦ kind_field n k (kind_field m j fs) | Equal ↦ kind_field n k fs | Greater ↦ kind_field m j (with_field n k fs) ]
 
 abbrev pub with_metadata : Fields → Kind → Kind
 with_metadata metadata (record_of fs) = record_of (with_field (codes "metadata") (record_of metadata) fs)

@@ -68,7 +68,8 @@ owners_of_value v = elim (list_of_texts v) [ Some ts ↦ Ok (given.owners ts) | 
 module _ (readings : Readings) where
   -- the value that bytes are
   abbrev pub asked_value : Text → Result Json AskedFault
-  asked_value bytes = if nat_lt most_input_bytes (length bytes) then Err too_long else (elim (readings.value bytes) [ Ok v ↦ Ok v | Err f ↦ Err (of_line (unread f)) ])
+  asked_value bytes = if nat_lt most_input_bytes (length bytes) then Err
+      too_long else (elim (readings.value bytes) [ Ok v ↦ Ok v | Err f ↦ Err (of_line (unread f)) ])
 
   -- the command, its moment and its path not yet read
   abbrev pub given_command : Asked → Result given.Command AskedFault

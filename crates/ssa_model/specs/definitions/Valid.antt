@@ -26,11 +26,16 @@ abbrev pub AllEntries : (Entry → Type 0) → Table → Type 0
 AllEntries P [] = Unit {0}
 AllEntries P (e ∷ es) = P e × AllEntries P es
 
-pub record IsTable (body : Body) (table : Table) : Type 0 where
+-- what a table is by itself, whatever body it stands beside
+pub record IsManagers (table : Table) : Type 0 where
   pub distinct : has_distinct_keys table ≡ true
   pub few : length table ≤ most_managers
   pub names : AllEntries (λ e. is_manager_name e.manager.name ≡ true) table
   pub own_some : AllEntries (λ e. is_empty e.owned ≡ false) table
+
+-- a table whose managers own what can be owned in the body
+pub record IsTable (body : Body) (table : Table) : Type 0 where
+  pub managers : IsManagers table
   pub ownable : AllEntries (OwnsOwnable body) table
 
 abbrev pub metadata_path : Path

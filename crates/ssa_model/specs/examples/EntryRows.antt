@@ -43,7 +43,8 @@ items_of (v ∷ vs) = item v (items_of vs)
 abbrev pub file_of : Members → List Json → Json
 file_of spec entries =
     object (member (codes "apiVersion") (string_json version) (member (codes "kind") (string_json (codes "App"))
-    (member (codes "metadata") (object (member (codes "managedFields") (list (items_of entries)) (member (codes "name") (string_json (codes "web")) no_members)))
+    (member (codes "metadata") (object (member (codes "managedFields") (list (items_of entries))
+    (member (codes "name") (string_json (codes "web")) no_members)))
     (member (codes "spec") (object spec) no_members))))
 
 abbrev pub file_with : List Json → Json
@@ -67,11 +68,13 @@ EntriesAreTaken =
 abbrev pub BadEntriesAreTold : Type 0
 BadEntriesAreTold =
     (given (entry_with version (fields_at replicas_texts) m1 (codes "Patch") (at_moment (codes "t1")) ∷ []) ≡ Err (entry_fault bad_entry))
-    × (given (entry_with version (fields_at replicas_texts) m1 (codes "Apply") (member (codes "subresource") (string_json (codes "x")) (at_moment (codes "t1"))) ∷ []) ≡ Err (entry_fault bad_entry))
+    × (given (entry_with version (fields_at replicas_texts) m1 (codes "Apply")
+    (member (codes "subresource") (string_json (codes "x")) (at_moment (codes "t1"))) ∷ []) ≡ Err (entry_fault bad_entry))
     × (given (object no_members ∷ []) ≡ Err (entry_fault bad_entry))
     × (given (entry_with version (fields_at replicas_texts) m1 (codes "Apply") no_members ∷ []) ≡ Err (entry_fault bad_entry))
     × (given (owner [] (fields_at replicas_texts) ∷ []) ≡ Err (entry_fault manager_name))
-    × (given (entry_with (codes "example.com/v2") (fields_at replicas_texts) m1 (codes "Apply") (at_moment (codes "t1")) ∷ []) ≡ Err (entry_fault other_version))
+    × (given (entry_with (codes "example.com/v2") (fields_at replicas_texts) m1 (codes "Apply") (at_moment (codes "t1")) ∷ [])
+    ≡ Err (entry_fault other_version))
     × (given (entry_with (codes "example.com/v2") (object no_members) m1 (codes "Apply") (at_moment (codes "t1")) ∷ []) ≡ Err (entry_fault other_version))
     × (given (entry_with version (fields_at replicas_texts) m1 (codes "Apply") (at_moment (codes "t2")) ∷ []) ≡ Err (entry_fault bad_moment))
 

@@ -36,8 +36,10 @@ one_apply = apply m1 false (codes "2024-05-01T10:00:01Z") (with_replicas 3)
 abbrev pub BenchesAreWritten : Type 0
 BenchesAreWritten =
     (bench_text new_bench ≡ codes "{\"format\":1,\"place\":0,\"states\":1}" ++ feed ++ compact sample_schema.source ++ feed ++ bare_line ++ feed)
-    × (bench_text (after (one_apply ∷ [])) ≡ codes "{\"format\":1,\"place\":1,\"states\":2}" ++ feed ++ compact sample_schema.source ++ feed ++ bare_line ++ feed ++ applied_line ++ feed)
-    × (bench_text (after (one_apply ∷ undo ∷ [])) ≡ codes "{\"format\":1,\"place\":0,\"states\":2}" ++ feed ++ compact sample_schema.source ++ feed ++ bare_line ++ feed ++ applied_line ++ feed)
+    × (bench_text (after (one_apply ∷ [])) ≡ codes "{\"format\":1,\"place\":1,\"states\":2}" ++ feed ++ compact sample_schema.source ++ feed ++ bare_line
+    ++ feed ++ applied_line ++ feed)
+    × (bench_text (after (one_apply ∷ undo ∷ [])) ≡ codes "{\"format\":1,\"place\":0,\"states\":2}" ++ feed ++ compact sample_schema.source ++ feed
+    ++ bare_line ++ feed ++ applied_line ++ feed)
 
 -- ---- the bench of a file's values
 

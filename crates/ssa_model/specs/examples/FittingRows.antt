@@ -75,12 +75,22 @@ WrongLeafMisfits = BodyMisfits (record { cut = empty; leaves = insert replicas_p
 abbrev pub WrongPartMisfits : Type 0
 WrongPartMisfits =
     let image = field (codes "spec") ∷ field (codes "image") ∷ [] in
-    BodyMisfits (record { cut = empty; leaves = empty; order = empty; put = insert image (record { below = insert [] (leaf (whole (pos 1))) empty; place = None }) empty }) applied
+    BodyMisfits (record {
+      cut = empty;
+      leaves = empty;
+      order = empty;
+      put = insert image (record { below = insert [] (leaf (whole (pos 1))) empty; place = None }) empty;
+    }) applied
 
 -- a path that the body has, put again
 abbrev pub PutAgainMisfits : Type 0
 PutAgainMisfits =
-    BodyMisfits (record { cut = empty; leaves = empty; order = empty; put = insert replicas_path (record { below = insert [] (leaf (whole (pos 4))) empty; place = None }) empty })
+    BodyMisfits (record {
+      cut = empty;
+      leaves = empty;
+      order = empty;
+      put = insert replicas_path (record { below = insert [] (leaf (whole (pos 4))) empty; place = None }) empty;
+    })
     applied
 
 -- the key field of an item that stays, cut
@@ -95,4 +105,5 @@ CutNothingMisfits = BodyMisfits (record { cut = listed (ports_path ∷ []); leav
 -- a manager that is none of the table's, gone
 abbrev pub GoneNobodyMisfits : Type 0
 GoneNobodyMisfits =
-    RecordFits sample_kind (record { body = no_change; table = record { changed = []; gone = record { name = m2; operation = applies } ∷ []; here = [] } }) applied → ⊥
+    RecordFits sample_kind (record { body = no_change; table = record { changed = []; gone = record { name = m2; operation = applies } ∷ []; here = [] } })
+    applied → ⊥

@@ -28,7 +28,8 @@ abbrev pub plain : Text → Json
 plain word = does word no_members
 
 abbrev pub applies_at : Text → Text → Json → Json
-applies_at at who v = object (member (codes "at") (string_json at) (member (codes "do") (string_json (codes "apply")) (member (codes "manager") (string_json who) (member (codes "object") v no_members))))
+applies_at at who v = object (member (codes "at") (string_json at)
+    (member (codes "do") (string_json (codes "apply")) (member (codes "manager") (string_json who) (member (codes "object") v no_members))))
 
 abbrev pub applied_by_m1 : Json → Json
 applied_by_m1 v = applies_at (codes "t1") m1 v
@@ -53,14 +54,20 @@ NoCommandsAreTold =
 abbrev pub WrongObjectsAreTold : Type 0
 WrongObjectsAreTold =
     (replied (applied_by_m1 (object no_members)) ≡ codes "{\"fault\":60,\"name\":\"Identity\"}")
-    × (replied (applied_by_m1 (sample_object (member (codes "namespace") (string_json (codes "here")) no_members) no_members)) ≡ codes "{\"fault\":60,\"name\":\"Identity\"}")
+    × (replied (applied_by_m1 (sample_object (member (codes "namespace") (string_json (codes "here")) no_members) no_members))
+    ≡ codes "{\"fault\":60,\"name\":\"Identity\"}")
     × (replied (applied_by_m1 (object (member (codes "apiVersion") (string_json (codes "example.com/v1")) (member (codes "kind") (string_json (codes "App"))
-    (member (codes "metadata") (object (member (codes "managedFields") (list no_items) (member (codes "name") (string_json (codes "web")) no_members))) no_members))))) ≡ codes "{\"fault\":61,\"name\":\"ManagedFieldsGiven\"}")
+    (member (codes "metadata") (object (member (codes "managedFields") (list no_items) (member (codes "name") (string_json (codes "web")) no_members)))
+    no_members))))) ≡ codes "{\"fault\":61,\"name\":\"ManagedFieldsGiven\"}")
     × (replied (applied_by_m1 (list no_items)) ≡ codes "{\"fault\":21,\"name\":\"WrongType\",\"path\":[]}")
-    × (replied (applied_by_m1 (object_with (member (codes "size") (number_json 1) no_members))) ≡ codes "{\"fault\":20,\"name\":\"UnknownField\",\"path\":[\"f:spec\",\"f:size\"]}")
-    × (replied (applied_by_m1 (object_with (member (codes "replicas") (string_json (codes "3")) no_members))) ≡ codes "{\"fault\":21,\"name\":\"WrongType\",\"path\":[\"f:spec\",\"f:replicas\"]}")
-    × (replied (applied_by_m1 (with_ports (item (object (member (codes "port") (number_json 1) no_members)) no_items))) ≡ codes "{\"fault\":22,\"name\":\"MissingKey\",\"path\":[\"f:spec\",\"f:ports\"]}")
-    × (replied (applied_by_m1 (with_hosts (codes "x" ∷ codes "x" ∷ []))) ≡ codes "{\"fault\":23,\"name\":\"DuplicateItem\",\"path\":[\"f:spec\",\"f:hosts\",\"v:\\\"x\\\"\"]}")
+    × (replied (applied_by_m1 (object_with (member (codes "size") (number_json 1) no_members)))
+    ≡ codes "{\"fault\":20,\"name\":\"UnknownField\",\"path\":[\"f:spec\",\"f:size\"]}")
+    × (replied (applied_by_m1 (object_with (member (codes "replicas") (string_json (codes "3")) no_members)))
+    ≡ codes "{\"fault\":21,\"name\":\"WrongType\",\"path\":[\"f:spec\",\"f:replicas\"]}")
+    × (replied (applied_by_m1 (with_ports (item (object (member (codes "port") (number_json 1) no_members)) no_items)))
+    ≡ codes "{\"fault\":22,\"name\":\"MissingKey\",\"path\":[\"f:spec\",\"f:ports\"]}")
+    × (replied (applied_by_m1 (with_hosts (codes "x" ∷ codes "x" ∷ [])))
+    ≡ codes "{\"fault\":23,\"name\":\"DuplicateItem\",\"path\":[\"f:spec\",\"f:hosts\",\"v:\\\"x\\\"\"]}")
 
 -- so many equal things
 abbrev pub times : {X : Type 0} → ℕ → X → List X
@@ -70,7 +77,11 @@ times (suc n) x = x ∷ times n x
 -- a bench with so many commands in its past
 abbrev pub with_past : ℕ → Bench
 with_past n =
-    with_timeline new_bench (record { first = present new_bench.timeline; later = times n (record { label = applied m1 false (codes "t1"); state = present new_bench.timeline }); place = n })
+    with_timeline new_bench (record {
+      first = present new_bench.timeline;
+      later = times n (record { label = applied m1 false (codes "t1"); state = present new_bench.timeline });
+      place = n;
+    })
 
 -- commands that are refused before they are carried out, and moves where there is nothing to move to
 abbrev pub RefusedCommandsAreTold : Type 0
@@ -88,9 +99,13 @@ after_shared = (run new_bench shared).1
 -- commands that are carried out, looks, and a conflict
 abbrev pub RepliesAreWritten : Type 0
 RepliesAreWritten =
-    (replied (applied_by_m1 (with_replicas 3)) ≡ codes "{\"added\":[[\"f:spec\",\"f:replicas\"]],\"done\":\"apply\",\"managers\":1,\"modified\":[],\"removed\":[]}")
-    × (written_for after_shared (Ok (applied_by_m1 (with_replicas 5))) ≡ codes "{\"conflicts\":[{\"fields\":[[\"f:spec\",\"f:replicas\"]],\"manager\":\"m2\",\"operation\":\"Apply\"}],\"fault\":50,\"name\":\"Conflict\"}")
-    × (written_for after_shared (Ok (at_path (codes "f:spec" ∷ codes "f:replicas" ∷ []))) ≡ codes "{\"done\":\"owners\",\"owners\":[{\"manager\":\"m1\",\"operation\":\"Apply\"},{\"manager\":\"m2\",\"operation\":\"Apply\"}]}")
+    (replied (applied_by_m1 (with_replicas 3)) ≡ codes
+    "{\"added\":[[\"f:spec\",\"f:replicas\"]],\"done\":\"apply\",\"managers\":1,\"modified\":[],\"removed\":[]}")
+    × (written_for after_shared (Ok (applied_by_m1 (with_replicas 5)))
+    ≡ codes "{\"conflicts\":[{\"fields\":[[\"f:spec\",\"f:replicas\"]],\"manager\":\"m2\",\"operation\":\"Apply\"}],\"fault\":50,\"name\":\"Conflict\"}")
+    × (written_for after_shared (Ok (at_path (codes "f:spec" ∷ codes "f:replicas" ∷ [])))
+    ≡ codes "{\"done\":\"owners\",\"owners\":[{\"manager\":\"m1\",\"operation\":\"Apply\"},{\"manager\":\"m2\",\"operation\":\"Apply\"}]}")
     × (written_for after_shared (Ok (plain (codes "undo"))) ≡ codes "{\"done\":\"undo\",\"future\":1,\"past\":1}")
-    × (written_for after_shared (Ok (plain (codes "show"))) ≡ codes "{\"done\":\"show\",\"object\":{\"apiVersion\":\"example.com/v1\",\"kind\":\"App\",\"metadata\":{\"name\":\"web\"},\"spec\":{\"replicas\":3}}}")
+    × (written_for after_shared (Ok (plain (codes "show"))) ≡ codes
+    "{\"done\":\"show\",\"object\":{\"apiVersion\":\"example.com/v1\",\"kind\":\"App\",\"metadata\":{\"name\":\"web\"},\"spec\":{\"replicas\":3}}}")
     × (written_for after_shared (Ok (plain (codes "log"))) ≡ codes "{\"done\":\"log\",\"future\":[],\"past\":[{\"at\":\"t1\",\"do\":\"apply\",\"force\":false,\"manager\":\"m1\"},{\"at\":\"t2\",\"do\":\"apply\",\"force\":false,\"manager\":\"m2\"}]}")

@@ -51,7 +51,8 @@ RepeatRenewsNothing =
 
 abbrev pub three_managers : List Command
 three_managers =
-    apply m1 false (codes "t1") (with_image (codes "a:1")) ∷ apply m2 false (codes "t2") (with_replicas 3) ∷ apply (codes "m3") false (codes "t3") (with_hosts (codes "h" ∷ [])) ∷ []
+    apply m1 false (codes "t1") (with_image (codes "a:1")) ∷ apply m2 false (codes "t2") (with_replicas 3)
+    ∷ apply (codes "m3") false (codes "t3") (with_hosts (codes "h" ∷ [])) ∷ []
 
 -- strip empties the table
 abbrev pub StripEmptiesTable : Type 0
@@ -80,14 +81,16 @@ SetsBackAndForth =
 -- live items keep their order, and the configuration's own follow
 abbrev pub LiveHostsFirst : Type 0
 LiveHostsFirst =
-    let cs = apply m1 false (codes "t1") (with_hosts (codes "a" ∷ codes "b" ∷ [])) ∷ apply m2 false (codes "t2") (with_hosts (codes "c" ∷ codes "a" ∷ [])) ∷ [] in
+    let cs = apply m1 false (codes "t1") (with_hosts (codes "a" ∷ codes "b" ∷ [])) ∷ apply m2 false (codes "t2") (with_hosts (codes "c" ∷ codes "a" ∷ []))
+    ∷ [] in
     (replies cs ≡ done (host_texts (codes "a") ∷ host_texts (codes "b") ∷ []) 1 [] [] ∷ done (host_texts (codes "c") ∷ []) 2 [] [] ∷ [])
     × (hosts_after cs ≡ codes "v:\"a\"" ∷ codes "v:\"b\"" ∷ codes "v:\"c\"" ∷ [])
 
 -- an empty map is a point until it has an entry
 abbrev pub EmptyMapIsOwned : Type 0
 EmptyMapIsOwned =
-    replies (apply m1 false (codes "t1") (with_env no_members) ∷ apply m2 false (codes "t2") (with_env (member (codes "A") (string_json (codes "1")) no_members)) ∷ [])
+    replies (apply m1 false (codes "t1") (with_env no_members)
+    ∷ apply m2 false (codes "t2") (with_env (member (codes "A") (string_json (codes "1")) no_members)) ∷ [])
     ≡ done ((codes "f:spec" ∷ codes "f:env" ∷ []) ∷ []) 1 [] [] ∷ done (env_texts (codes "A") ∷ []) 2 [] [] ∷ []
 
 -- an entry that is given up goes, one that another manager owns stays

@@ -91,7 +91,11 @@ four_hosts = record { body = flat sample_kind (body_value (with_hosts (codes "a"
 abbrev pub hosts_led : State
 hosts_led = record {
   body = flat sample_kind (body_value (with_hosts (codes "d" ∷ codes "b" ∷ codes "c" ∷ codes "a" ∷ codes "x" ∷ [])));
-  table = record { manager = record { name = m1; operation = applies }; owned = listed (host_path (codes "a") ∷ host_path (codes "d") ∷ host_path (codes "x") ∷ []); moment = codes "t2" } ∷ [];
+  table = record {
+    manager = record { name = m1; operation = applies };
+    owned = listed (host_path (codes "a") ∷ host_path (codes "d") ∷ host_path (codes "x") ∷ []);
+    moment = codes "t2";
+  } ∷ [];
 }
 
 abbrev pub LedRecord : Type 0
@@ -136,7 +140,8 @@ forced = apply m1 true (codes "2024-05-01T10:00:04Z") (with_replicas 5)
 
 abbrev pub FirstApplyText : Type 0
 FirstApplyText =
-    (record_text (state_after first_applied) (state_after []) ≡ codes "{\"changed\":[],\"cut\":[[\"f:spec\"]],\"gone\":[[\"m1\",\"Apply\"]],\"here\":[],\"leaves\":[],\"order\":[],\"put\":[]}")
+    (record_text (state_after first_applied) (state_after [])
+    ≡ codes "{\"changed\":[],\"cut\":[[\"f:spec\"]],\"gone\":[[\"m1\",\"Apply\"]],\"here\":[],\"leaves\":[],\"order\":[],\"put\":[]}")
     × (record_text (state_after []) (state_after first_applied) ≡ codes "{\"changed\":[],\"cut\":[],\"gone\":[],\"here\":[{\"entry\":{\"apiVersion\":\"example.com/v1\",\"fieldsType\":\"FieldsV1\",\"fieldsV1\":{\"f:spec\":{\"f:replicas\":{}}},\"manager\":\"m1\",\"operation\":\"Apply\",\"time\":\"2024-05-01T10:00:01Z\"},\"place\":0}],\"leaves\":[],\"order\":[],\"put\":[[[\"f:spec\"],{\"replicas\":3}]]}")
 
 abbrev pub ForcedText : Type 0

@@ -35,7 +35,11 @@ abbrev pub with_ports : Items → Json
 with_ports ports = object_with (member (codes "ports") (list ports) no_members)
 
 abbrev pub new_bench : Bench
-new_bench = record { schema = sample_schema; identity = identity_of bare_object; timeline = record { first = record { body = flat sample_kind (object no_members); table = [] }; later = []; place = 0 } }
+new_bench = record {
+  schema = sample_schema;
+  identity = identity_of bare_object;
+  timeline = record { first = record { body = flat sample_kind (object no_members); table = [] }; later = []; place = 0 };
+}
 
 abbrev pub texts_of : PathSet → List (List Text)
 texts_of s = map (λ p. map element_text p) (paths s)
@@ -101,13 +105,16 @@ abbrev pub SharedOwnership : Type 0
 SharedOwnership = replies (shared ++ owners replicas_path ∷ []) ≡ done (replicas_texts ∷ []) 1 [] [] ∷ done [] 2 [] [] ∷ owned (m1 ∷ m2 ∷ []) ∷ []
 
 abbrev pub ConflictNamesOwner : Type 0
-ConflictNamesOwner = replies (shared ++ apply m1 false (codes "t3") (with_replicas 5) ∷ []) ≡ done (replicas_texts ∷ []) 1 [] [] ∷ done [] 2 [] [] ∷ clash ((m2, replicas_texts ∷ []) ∷ []) ∷ []
+ConflictNamesOwner = replies (shared ++ apply m1 false (codes "t3") (with_replicas 5) ∷ []) ≡ done (replicas_texts ∷ []) 1 [] [] ∷ done [] 2 [] []
+    ∷ clash ((m2, replicas_texts ∷ []) ∷ []) ∷ []
 
 abbrev pub ForceAndUndo : Type 0
 ForceAndUndo =
-    (replies (shared ++ apply m1 true (codes "t4") (with_replicas 5) ∷ undo ∷ []) ≡ done (replicas_texts ∷ []) 1 [] [] ∷ done [] 2 [] [] ∷ done [] 1 (replicas_texts ∷ []) [] ∷ at 2 1 ∷ [])
+    (replies (shared ++ apply m1 true (codes "t4") (with_replicas 5) ∷ undo ∷ []) ≡ done (replicas_texts ∷ []) 1 [] [] ∷ done [] 2 [] []
+    ∷ done [] 1 (replicas_texts ∷ []) [] ∷ at 2 1 ∷ [])
     × (table_after (shared ++ apply m1 true (codes "t4") (with_replicas 5) ∷ []) ≡ (m1, replicas_texts ∷ [], codes "t4") ∷ [])
-    × (table_after (shared ++ apply m1 true (codes "t4") (with_replicas 5) ∷ undo ∷ []) ≡ (m1, replicas_texts ∷ [], codes "t1") ∷ (m2, replicas_texts ∷ [], codes "t2") ∷ [])
+    × (table_after (shared ++ apply m1 true (codes "t4") (with_replicas 5) ∷ undo ∷ []) ≡ (m1, replicas_texts ∷ [], codes "t1")
+    ∷ (m2, replicas_texts ∷ [], codes "t2") ∷ [])
 
 abbrev pub GivenUp : Type 0
 GivenUp =
@@ -119,14 +126,16 @@ port_texts n = codes "f:spec" ∷ codes "f:ports" ∷ (codes "k:{\"name\":\"" ++
 
 abbrev pub port_with_proto : Text → ℕ → Json
 port_with_proto name number =
-    object (member (codes "name") (string_json name) (member (codes "port") (number_json number) (member (codes "proto") (string_json (codes "TCP")) no_members)))
+    object (member (codes "name") (string_json name) (member (codes "port") (number_json number)
+    (member (codes "proto") (string_json (codes "TCP")) no_members)))
 
 abbrev pub KeyFieldsStay : Type 0
 KeyFieldsStay =
     replies (apply m1 false (codes "t1") (with_ports (item (port_with_proto (codes "a") 80) no_items))
     ∷ update (codes "u") (codes "t2") (with_ports (item (port_with_proto (codes "a") 81) no_items))
     ∷ apply m1 false (codes "t3") bare_object ∷ [])
-    ≡ done ((port_texts (codes "a")) ∷ (port_texts (codes "a") ++ codes "f:name" ∷ []) ∷ (port_texts (codes "a") ++ codes "f:port" ∷ []) ∷ (port_texts (codes "a") ++ codes "f:proto" ∷ []) ∷ []) 1 [] []
+    ≡ done ((port_texts (codes "a")) ∷ (port_texts (codes "a") ++ codes "f:name" ∷ []) ∷ (port_texts (codes "a") ++ codes "f:port" ∷ [])
+    ∷ (port_texts (codes "a") ++ codes "f:proto" ∷ []) ∷ []) 1 [] []
     ∷ done [] 2 ((port_texts (codes "a") ++ codes "f:port" ∷ []) ∷ []) []
     ∷ done [] 1 [] ((port_texts (codes "a") ++ codes "f:proto" ∷ []) ∷ []) ∷ []
 
@@ -195,11 +204,13 @@ EmptyDictIsPoint =
 abbrev pub RefusedKeepsFuture : Type 0
 RefusedKeepsFuture =
     replies (shared ++ undo ∷ apply m2 false (codes "t5") (with_replicas 9) ∷ redo ∷ undo ∷ apply m2 false (codes "t6") (with_replicas 3) ∷ redo ∷ [])
-    ≡ done (replicas_texts ∷ []) 1 [] [] ∷ done [] 2 [] [] ∷ at 1 1 ∷ clash ((m1, replicas_texts ∷ []) ∷ []) ∷ at 2 0 ∷ at 1 1 ∷ done [] 2 [] [] ∷ refusal nothing_to_redo ∷ []
+    ≡ done (replicas_texts ∷ []) 1 [] [] ∷ done [] 2 [] [] ∷ at 1 1 ∷ clash ((m1, replicas_texts ∷ []) ∷ []) ∷ at 2 0 ∷ at 1 1 ∷ done [] 2 [] []
+    ∷ refusal nothing_to_redo ∷ []
 
 -- `{"f:spec":{".":{},"f:replicas":{}}}`
 abbrev pub written : Json
-written = object (member (codes "f:spec") (object (member (codes ".") (object no_members) (member (codes "f:replicas") (object no_members) no_members))) no_members)
+written = object (member (codes "f:spec") (object (member (codes ".") (object no_members) (member (codes "f:replicas") (object no_members) no_members)))
+    no_members)
 
 abbrev pub FieldsV1Says : Type 0
 FieldsV1Says =
@@ -210,7 +221,8 @@ FieldsV1Says =
 abbrev pub FieldsV1Faultless : Type 0
 FieldsV1Faultless =
     (reading : Text → Result Json ReadFault)
-    → (fields_faults reading written ≡ []) × (has_distinct_names written ≡ true) × (said_paths reading written ≡ (field (codes "spec") ∷ []) ∷ replicas_path ∷ [])
+    → (fields_faults reading written ≡ []) × (has_distinct_names written ≡ true)
+    × (said_paths reading written ≡ (field (codes "spec") ∷ []) ∷ replicas_path ∷ [])
 
 -- the premise on bodies is met, with `metadata` and without it
 abbrev pub BodiesAreRooted : Type 0

@@ -20,4 +20,5 @@ abbrev pub PremisesAreMet : Type 0
 PremisesAreMet = IsSchemaKind sample_kind × AllEntries (IsReadBack row_readings) applied_state.table
 
 abbrev pub AppliedIsTaken : Type 0
-AppliedIsTaken = table_in (bench_of row_readings sample_schema (object_of_state new_bench.identity sample_kind true applied_state)) ≡ Ok ((m1, replicas_texts ∷ [], codes "t1") ∷ [])
+AppliedIsTaken = table_in (bench_of row_readings sample_schema (object_of_state new_bench.identity sample_kind true applied_state))
+    ≡ Ok ((m1, replicas_texts ∷ [], codes "t1") ∷ [])

@@ -19,7 +19,8 @@ IsShallow v = depth v ≤ most_depth
 
 -- the head and the states of a valid bench
 abbrev pub StateValuesAreShallow : Type 0
-StateValuesAreShallow = (readings : Readings) (bench : Bench) → IsValidBench readings bench → All IsShallow (head_json bench.timeline ∷ first_json bench ∷ map (step_json bench) bench.timeline.later)
+StateValuesAreShallow = (readings : Readings) (bench : Bench) → IsValidBench readings bench
+    → All IsShallow (head_json bench.timeline ∷ first_json bench ∷ map (step_json bench) bench.timeline.later)
 
 -- a schema that is read, where no object of it names a member twice
 abbrev pub SchemaIsShallow : Type 0
@@ -27,7 +28,8 @@ SchemaIsShallow = (v : Json) (kind : Kind) → has_distinct_names v ≡ true →
 
 -- all values of a valid bench with such a schema
 abbrev pub DistinctBenchIsShallow : Type 0
-DistinctBenchIsShallow = (readings : Readings) (bench : Bench) → IsValidBench readings bench → has_distinct_names bench.schema.source ≡ true → All IsShallow (bench_values bench)
+DistinctBenchIsShallow = (readings : Readings) (bench : Bench) → IsValidBench readings bench → has_distinct_names bench.schema.source ≡ true
+    → All IsShallow (bench_values bench)
 
 -- all values of the file of records of such a bench
 abbrev pub RecordedBenchIsShallow : Type 0

@@ -54,7 +54,8 @@ pub record Head : Type 0 where
 
 abbrev pub head_in : Json → Option Head
 head_in v =
-    option_and_then (λ place. option_and_then (λ states. given_if (is_written_as (head_of place states) v) (record { place = place; states = states })) (number_in (member_at (codes "states") v)))
+    option_and_then (λ place. option_and_then (λ states. given_if (is_written_as (head_of place states) v) (record { place = place; states = states }))
+    (number_in (member_at (codes "states") v)))
     (number_in (member_at (codes "place") v))
 
 abbrev pub schema_in : Json → Option Schema
@@ -100,7 +101,8 @@ step_in readings bench before v =
 
 abbrev pub steps_in : Readings → Bench → State → List Json → Option (List Step)
 steps_in readings bench before [] = Some []
-steps_in readings bench before (v ∷ vs) = option_and_then (λ s. option_map (λ ss. s ∷ ss) (steps_in readings bench s.state vs)) (step_in readings bench before v)
+steps_in readings bench before (v ∷ vs) = option_and_then (λ s. option_map (λ ss. s ∷ ss) (steps_in readings bench s.state vs))
+    (step_in readings bench before v)
 
 -- the bench with these steps, where the head counts them and its place is among them
 abbrev pub with_steps : Head → Bench → List Step → Option Bench
@@ -112,7 +114,8 @@ with_steps head lone steps =
 
 abbrev pub values_bench : Readings → List Json → Option Bench
 values_bench readings (head ∷ source ∷ first ∷ later) =
-    option_and_then (λ h. option_and_then (λ schema. option_and_then (λ lone. option_and_then (with_steps h lone) (steps_in readings lone lone.timeline.first later))
+    option_and_then (λ h. option_and_then (λ schema. option_and_then (λ lone. option_and_then (with_steps h lone)
+    (steps_in readings lone lone.timeline.first later))
     (lone_in readings schema first)) (schema_in source)) (head_in head)
 values_bench readings _ = None
 

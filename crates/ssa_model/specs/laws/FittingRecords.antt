@@ -48,7 +48,8 @@ pub record IsPartOf (kind : Kind) (p : Path) (b : Body) : Type 0 where
   pub closed : (q : Path) (e : Element) → has b (q ++ e ∷ []) ≡ true → has b q ≡ true
   pub fits : (q : Path) (c : Content) → get b q ≡ Some c → IsAt kind (p ++ q) c
   pub once : (q : Path) → are_distinct (order_at (get b q)) ≡ true
-  pub keys : (q g : Path) (ks : List (Text × Scalar)) (n : Text) (s : Scalar) → p ++ q ≡ g ++ key ks ∷ [] → scalar_of n ks ≡ Some s → has b q ≡ true → get b (q ++ field n ∷ []) ≡ Some (leaf s)
+  pub keys : (q g : Path) (ks : List (Text × Scalar)) (n : Text) (s : Scalar) → p ++ q ≡ g ++ key ks ∷ [] → scalar_of n ks ≡ Some s → has b q ≡ true
+      → get b (q ++ field n ∷ []) ≡ Some (leaf s)
   pub items : (q : Path) (e : Element) → is_among e (order_at (get b q)) ≡ (is_item_element e && has b (q ++ e ∷ []))
 
 -- What is put: a part of the kind, at a path that the body has not, of a parent that stays. An item has a place.

@@ -1,5 +1,6 @@
 -- The flattening of a value without faults that names no member twice fits its kind place by place, and is rooted.
--- With the laws of `ShownBodies`: a body whose atomic values name no member twice fits a lawful kind and is rooted exactly where it is the flattening of such a value.
+-- With the laws of `ShownBodies`: a body whose atomic values name no member twice fits a lawful kind and is rooted
+-- exactly where it is the flattening of such a value.
 use Rattle.std.specs.Prelude.{◌≡◌, [], true, Some}
 use Rattle.ssa_model.specs.definitions.MemberNames.{has_distinct_names}
 use Rattle.ssa_model.specs.definitions.Json.{Json}
@@ -25,7 +26,8 @@ abbrev pub HasDistinctAtoms : Body → Type 0
 HasDistinctAtoms body = (p : Path) (v : Json) → get body p ≡ Some (atom v) → has_distinct_names v ≡ true
 
 abbrev pub ShownIsDistinct : Type 0
-ShownIsDistinct = (kind : Kind) (body : Body) → is_lawful kind ≡ true → IsBodyOf kind body → HasDistinctAtoms body → has_distinct_names (shown kind body []) ≡ true
+ShownIsDistinct = (kind : Kind) (body : Body) → is_lawful kind ≡ true → IsBodyOf kind body → HasDistinctAtoms body
+    → has_distinct_names (shown kind body []) ≡ true
 
 abbrev pub FlatHasDistinctAtoms : Type 0
 FlatHasDistinctAtoms = (kind : Kind) (v : Json) → is_lawful kind ≡ true → has_distinct_names v ≡ true → faults kind v [] ≡ [] → HasDistinctAtoms (flat kind v)

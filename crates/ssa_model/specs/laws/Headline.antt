@@ -20,7 +20,8 @@ RunsGoOn = (bench : Bench) (cs ds : List Command) → run bench (cs ++ ds) ≡ (
 
 -- the state at the place is the commands in effect, carried out one after the other on the state that the bench was made from
 abbrev pub RunIsInEffect : Type 0
-RunIsInEffect = (bench : Bench) (cs : List Command) → IsAlone bench.timeline → all_carried_out bench.timeline.first (in_effect bench cs) ≡ Ok (present (run bench cs).1.timeline)
+RunIsInEffect = (bench : Bench) (cs : List Command) → IsAlone bench.timeline
+    → all_carried_out bench.timeline.first (in_effect bench cs) ≡ Ok (present (run bench cs).1.timeline)
 
 -- After a list of commands on a bench whose states are made by deeds, so are the states: by these and the accepted commands'.
 pub record KeepsRun (bench : Bench) (before : List Deed) (cs : List Command) : Type 0 where
@@ -45,11 +46,13 @@ pub record IsRestored (bench : Bench) (given : Answer) : Type 0 where
 
 -- undo after an accepted command restores everything; that command alone can then be done again
 abbrev pub UndoRestoresAll : Type 0
-UndoRestoresAll = (bench : Bench) (c : Command) → bench.timeline.place ≤ length bench.timeline.later → is_accepted (answer bench c).0 ≡ true → IsRestored bench (answer (answer bench c).1 undo)
+UndoRestoresAll = (bench : Bench) (c : Command) → bench.timeline.place ≤ length bench.timeline.later → is_accepted (answer bench c).0 ≡ true
+    → IsRestored bench (answer (answer bench c).1 undo)
 
 -- redo after undo restores the whole timeline
 abbrev pub RedoRestoresAll : Type 0
-RedoRestoresAll = (bench : Bench) → 0 < past_len bench.timeline → bench.timeline.place ≤ length bench.timeline.later → (answer (answer bench undo).1 redo).1 ≡ bench
+RedoRestoresAll = (bench : Bench) → 0 < past_len bench.timeline → bench.timeline.place ≤ length bench.timeline.later
+    → (answer (answer bench undo).1 redo).1 ≡ bench
 
 -- every refusal changes nothing
 abbrev pub RefusalsChangeNothing : Type 0

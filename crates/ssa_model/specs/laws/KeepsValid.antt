@@ -1,8 +1,8 @@
 -- The operations keep what is valid: bodies fit their kind, tables are of their body, managers stay in order.
-use Rattle.ssa_model.specs.definitions.Valid.{IsTable, IsRooted, IsValidState, has_distinct_keys, KeepsOrder, IsValidHistory, IsNextStep}
+use Rattle.ssa_model.specs.definitions.Valid.{IsManagers, IsTable, IsRooted, IsValidState, has_distinct_keys, KeepsOrder, IsValidHistory, IsNextStep}
 use Rattle.std.specs.Prelude.{◌≡◌, ◌≤◌, ◌+◌, Bool, true, length, Ok}
 use Rattle.ssa_model.specs.definitions.Json.{Text}
-use Rattle.ssa_model.specs.definitions.Limits.{most_places}
+use Rattle.ssa_model.specs.definitions.Limits.{most_places, most_managers}
 use Rattle.ssa_model.specs.definitions.PathMap.{PathSet, size}
 use Rattle.ssa_model.specs.definitions.Kind.{Kind}
 use Rattle.ssa_model.specs.definitions.Body.{Body, over}
@@ -20,6 +20,13 @@ abbrev pub PrunedFits : Type 0
 PrunedFits =
     (kind : Kind) (state : State) (a : ManagerKey) (config : Body)
     → IsBodyOf kind state.body → IsBodyOf kind config → IsBodyOf kind (pruned state a config)
+
+-- what a command of a named manager makes of a table, where it has not too many managers
+abbrev pub SeatKeepsManagers : Type 0
+SeatKeepsManagers =
+    (table : Table) (a : ManagerKey) (owned lost modified : PathSet) (at : Text)
+    → IsManagers table → is_manager_name a.name ≡ true → length (seat table a owned lost modified at) ≤ most_managers
+    → IsManagers (seat table a owned lost modified at)
 
 abbrev pub UpdateKeepsTable : Type 0
 UpdateKeepsTable =

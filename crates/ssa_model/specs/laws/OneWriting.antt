@@ -34,4 +34,5 @@ OrderTells =
 -- The set has just the paths that the value says. Where an object named a member twice, a path would lead to the first of the
 -- two alone.
 abbrev pub SaidSetSays : Type 0
-SaidSetSays = (reading : Text → Result Json ReadFault) (v : Json) (p : Path) → has_distinct_names v ≡ true → fields_faults reading v ≡ [] → says v p ≡ has (said_set reading v) p
+SaidSetSays = (reading : Text → Result Json ReadFault) (v : Json) (p : Path) → has_distinct_names v ≡ true → fields_faults reading v ≡ []
+    → says v p ≡ has (said_set reading v) p

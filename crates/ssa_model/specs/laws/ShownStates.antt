@@ -14,4 +14,5 @@ abbrev pub ShownStateIsTaken : Type 0
 ShownStateIsTaken =
     (readings : Readings) (schema : Schema) (identity : Identity) (state : State)
     → is_identity identity ≡ true → IsSchemaKind schema.kind → IsValidState schema.kind state → AllEntries (IsReadBack readings) state.table
-    → bench_of readings schema (object_of_state identity schema.kind true state) ≡ Ok (record { schema = schema; identity = identity; timeline = lone_state state })
+    → bench_of readings schema (object_of_state identity schema.kind true state)
+    ≡ Ok (record { schema = schema; identity = identity; timeline = lone_state state })

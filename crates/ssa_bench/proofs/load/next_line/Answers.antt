@@ -13,10 +13,12 @@ returns-in_err-line-clause-read g c =
 
 pub returns-in-Some-clause-read : goal.returns-in-Some-clause-read
 returns-in-Some-clause-read g c =
-    let told : Option FileLine → _ = λ o. ReadsValue (g.R.Source.remaining c.args.reader.now) (g.R.Source.remaining c.read_value.new.reader) c.args.room.now c.read_value.new.room (Ok o) in
+    let told : Option FileLine → _ = λ o. ReadsValue (g.R.Source.remaining c.args.reader.now) (g.R.Source.remaining c.read_value.new.reader) c.args.room.now
+    c.read_value.new.room (Ok o) in
     line-found _ _ _ _ c.in-Some.line (subst told c.in-Some.is c.in_ok-line.ensures.read)
 
 pub returns-in-None-clause-read : goal.returns-in-None-clause-read
 returns-in-None-clause-read g c =
-    let told : Option FileLine → _ = λ o. ReadsValue (g.R.Source.remaining c.args.reader.now) (g.R.Source.remaining c.read_value.new.reader) c.args.room.now c.read_value.new.room (Ok o) in
+    let told : Option FileLine → _ = λ o. ReadsValue (g.R.Source.remaining c.args.reader.now) (g.R.Source.remaining c.read_value.new.reader) c.args.room.now
+    c.read_value.new.room (Ok o) in
     line-missing _ _ _ _ (subst told c.in-None.is c.in_ok-line.ensures.read)

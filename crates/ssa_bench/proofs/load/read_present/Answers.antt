@@ -8,11 +8,15 @@ use Rattle.ssa_bench.proofs.load.read_present.Goals as goal
 pub returns-in_err-line-clause-read : goal.returns-in_err-line-clause-read
 returns-in_err-line-clause-read g c =
     let fault = c.in_err-line.field-0.0 in
-    let told = ReadsPart (present_in readings c.args.schema) (g.R.Source.remaining c.args.reader.now) (g.R.Source.remaining c.next_line.new.reader) c.args.room.now c.next_line.new.room in
-    fault-handed c.from_residual.result fault told c.from_residual.ensures.1 (part-unread (present_in readings c.args.schema) _ _ _ _ fault c.in_err-line.ensures.read)
+    let told = ReadsPart (present_in readings c.args.schema) (g.R.Source.remaining c.args.reader.now) (g.R.Source.remaining c.next_line.new.reader)
+    c.args.room.now c.next_line.new.room in
+    fault-handed c.from_residual.result fault told c.from_residual.ensures.1
+    (part-unread (present_in readings c.args.schema) _ _ _ _ fault c.in_err-line.ensures.read)
 
 pub returns-clause-read : goal.returns-clause-read
-returns-clause-read g c = part-read (present_in readings c.args.schema) _ _ _ _ c.in_ok-line.line c.of_present_line.result c.in_ok-line.ensures.read c.of_present_line.ensures.taken
+returns-clause-read g c = part-read (present_in readings c.args.schema) _ _ _ _ c.in_ok-line.line c.of_present_line.result c.in_ok-line.ensures.read
+    c.of_present_line.ensures.taken
 
 pub returns-clause-failed : goal.returns-clause-failed
-returns-clause-failed g c = λ e. absurd (taken-no-io c.of_present_line.result ((present_in readings c.args.schema) (view c.in_ok-line.line.value)) c.of_present_line.ensures.taken e)
+returns-clause-failed g c = λ e. absurd (taken-no-io c.of_present_line.result ((present_in readings c.args.schema) (view c.in_ok-line.line.value))
+    c.of_present_line.ensures.taken e)

@@ -7,7 +7,8 @@ use Rattle.ssa_bench.proofs.load.read_schema.Goals as goal
 pub returns-in_err-line-clause-read : goal.returns-in_err-line-clause-read
 returns-in_err-line-clause-read g c =
     let fault = c.in_err-line.field-0.0 in
-    let told = ReadsPart schema_in (g.R.Source.remaining c.args.reader.now) (g.R.Source.remaining c.next_line.new.reader) c.args.room.now c.next_line.new.room in
+    let told = ReadsPart schema_in (g.R.Source.remaining c.args.reader.now) (g.R.Source.remaining c.next_line.new.reader) c.args.room.now
+    c.next_line.new.room in
     fault-handed c.from_residual.result fault told c.from_residual.ensures.1 (part-unread schema_in _ _ _ _ fault c.in_err-line.ensures.read)
 
 pub returns-clause-read : goal.returns-clause-read

@@ -14,7 +14,8 @@ returns-then-branch c =
     let l = label_view c.in-Some.label in
     let said : label_in readings v ≡ Some l = sym c.in_ok-label.ensures ∙ ap (option_map label_view) c.in-Some.is in
     let is : true ≡ same_text (compact (label_json l)) (compact v) =
-    sym c.if-branch.true ∙ c.in_ok-is_text_of.ensures ∙ (λ i. same_text (compact (c.in_ok-written.ensures i)) ((c.deref.ensures.value ∙ c.in_ok-text.ensures.text) i)) in
+    sym c.if-branch.true ∙ c.in_ok-is_text_of.ensures ∙ (λ i. same_text (compact (c.in_ok-written.ensures i))
+    ((c.deref.ensures.value ∙ c.in_ok-text.ensures.text) i)) in
     sym (said-written v l true said is)
 
 pub returns-else-branch : goal.returns-else-branch
@@ -23,5 +24,6 @@ returns-else-branch c =
     let l = label_view c.in-Some.label in
     let said : label_in readings v ≡ Some l = sym c.in_ok-label.ensures ∙ ap (option_map label_view) c.in-Some.is in
     let is : false ≡ same_text (compact (label_json l)) (compact v) =
-    sym c.if-branch.false ∙ c.in_ok-is_text_of.ensures ∙ (λ i. same_text (compact (c.in_ok-written.ensures i)) ((c.deref.ensures.value ∙ c.in_ok-text.ensures.text) i)) in
+    sym c.if-branch.false ∙ c.in_ok-is_text_of.ensures ∙ (λ i. same_text (compact (c.in_ok-written.ensures i))
+    ((c.deref.ensures.value ∙ c.in_ok-text.ensures.text) i)) in
     sym (said-written v l false said is)

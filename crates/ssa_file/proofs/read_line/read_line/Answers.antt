@@ -1,10 +1,10 @@
 use Rattle.std.proofs.Common.{arith, rules, ap, Ok, ◌<◌, []}
 use Rattle.std.proofs.lemmas.Result.{err_from_is_err_and}
-use Rattle.ssa_file.proofs.ReadingFacts.{TakesLine-none, TakesLine-more}
+use Rattle.ssa_file.proofs.ReadingFacts.{TakesLine-none, TakesLine-more, ok-some}
 use Rattle.ssa_file.proofs.read_line.read_line.Goals as goal
 
 pub loop-end-init : goal.loop-end-init
-loop-end-init g c = record { taken = TakesLine-none _ _ _ (c.new.ensures c.args.most); turns = search rules }
+loop-end-init g c = record { taken = TakesLine-none _ _ _ (c.new.ensures c.args.most); turns = search rules; ends = search rules }
 
 pub returns-in_err-end-clause-takes : goal.returns-in_err-end-clause-takes
 returns-in_err-end-clause-takes g c =
@@ -21,4 +21,16 @@ loop-end-preserved g c =
     record {
       taken = TakesLine-more _ _ _ _ _ _ _ c.loop-end.invariant.taken (rw c.in_default.is at c.in_ok-end.ensures.takes);
       turns = omega (arith, c.loop-end.invariant.turns);
+      ends = omega (arith, c.in_ok-end.ensures.ends, c.loop-end.invariant.ends);
     }
+
+pub returns-in_err-end-clause-ends : goal.returns-in_err-end-clause-ends
+returns-in_err-end-clause-ends g c = omega (arith, c.in_err-end.ensures.ends, c.loop-end.invariant.ends)
+
+pub returns-in-Some-clause-ends : goal.returns-in-Some-clause-ends
+returns-in-Some-clause-ends g c = omega (arith, c.in_ok-end.ensures.ends, c.loop-end.invariant.ends)
+
+pub returns-in-Some-clause-met_end : goal.returns-in-Some-clause-met_end
+returns-in-Some-clause-met_end g c = λ is.
+    let less = (rw c.in-Some.is at c.in_ok-end.ensures.met_end) (ok-some c.in-Some.end _ is) in
+    omega (arith, less, c.loop-end.invariant.ends)

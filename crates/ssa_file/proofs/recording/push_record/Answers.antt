@@ -7,8 +7,9 @@ use Rattle.ssa_turn.specs.Histories.{label_view}
 use Rattle.ssa_turn_state.specs.States.{state_steps}
 use Rattle.ssa_file.specs.Saving.{CannotHold}
 use Rattle.ssa_file.proofs.RecordingFacts.{kept-is, kept-takes}
-use Rattle.ssa_file.proofs.Walking.{if-err, on-ok, step-there}
+use Rattle.ssa_file.proofs.Walking.{if-err, step-there}
 use Rattle.ssa_file.proofs.recording.push_record.Goals as goal
+use Rattle.std.proofs.lemmas.Result.{on_ok_weaker as on-ok}
 
 pub record_line-requires-clause-taken : goal.record_line-requires-clause-taken
 record_line-requires-clause-taken c =

@@ -16,7 +16,9 @@ copied_members-loop-name-preserved t c =
     let all : c.args.members.now.entries ≡ done ++ e ∷ left = l.invariant.split ∙ ap (λ es. done ++ es) c.in-Some.ensures.steps in
     let j = c.in_ok-copied.field-0 in
     let key : string_bytes c.in_ok-key.key ≡ string_bytes e.0 = c.in_ok-key.ensures.ok ∙ c.as_str.ensures.value in
-    let last = c.in_ok-insert.ensures.entries ∙ inserted-last done e left l.found.entries c.in_ok-key.key j (subst (λ es. IsStrictlySortedBy string_cmp (keys_of es)) all c.iter-name-items.ensures.ordered) (same_names l.found.entries done l.invariant.same) key in
+    let last = c.in_ok-insert.ensures.entries ∙ inserted-last done e left l.found.entries c.in_ok-key.key j
+    (subst (λ es. IsStrictlySortedBy string_cmp (keys_of es)) all c.iter-name-items.ensures.ordered) (same_names l.found.entries done l.invariant.same)
+    key in
     record {
       done = done ++ e ∷ [];
       split = all ∙ sym (append_assoc done (e ∷ []) left);
@@ -29,5 +31,7 @@ copied_members-loop-name-preserved t c =
 pub copied_members-returns : goal.copied_members-returns
 copied_members-returns t c =
     let l = c.loop-name in
-    let all : l.invariant.done ≡ c.args.members.now.entries = sym (append-nil l.invariant.done) ∙ ap (λ es. l.invariant.done ++ es) (sym c.in-None.ensures.steps.0) ∙ sym l.invariant.split in
-    sym (members_after-none l.found.entries) ∙ ap (λ ns. members_after ns no_members) (l.invariant.same ∙ ap (map named) all) ∙ members_after-none c.args.members.now.entries
+    let all : l.invariant.done ≡ c.args.members.now.entries = sym (append-nil l.invariant.done)
+    ∙ ap (λ es. l.invariant.done ++ es) (sym c.in-None.ensures.steps.0) ∙ sym l.invariant.split in
+    sym (members_after-none l.found.entries) ∙ ap (λ ns. members_after ns no_members) (l.invariant.same ∙ ap (map named) all)
+    ∙ members_after-none c.args.members.now.entries

@@ -21,7 +21,8 @@ converted_items-returns-in_err-converted t c =
     let l = c.loop-item in
     let p = err_from_is_err_and c.from_residual-in_err-converted.result c.from_residual-in_err-converted.ensures.1 in
     let so_far = l.invariant ∙ ap (λ ys. with_items (map view l.found.items) (items_value (data_items ys))) c.in-Some.ensures.steps.0 in
-    rw (p.1, p.2) (items-fault c.in_err-converted.field-0.0 (map view l.found.items) (data_view c.in-Some.item) (data_items (into_iter_items c.next.new.self)) _ so_far c.in_err-converted.ensures)
+    rw (p.1, p.2) (items-fault c.in_err-converted.field-0.0 (map view l.found.items) (data_view c.in-Some.item) (data_items (into_iter_items c.next.new.self))
+    _ so_far c.in_err-converted.ensures)
 
 pub converted_items-loop-item-preserved : goal.converted_items-loop-item-preserved
 converted_items-loop-item-preserved t c =
@@ -36,7 +37,8 @@ converted_items-loop-item-preserved t c =
 pub converted_items-returns : goal.converted_items-returns
 converted_items-returns t c =
     let l = c.loop-item in
-    let none : into_iter_items l.item-iterator ≡ [] = nil_from_length (into_iter_items l.item-iterator) (omega (arith, c.in-None.ensures.steps.0, l.item-iterator.rest.ok)) in
+    let none : into_iter_items l.item-iterator ≡ [] = nil_from_length (into_iter_items l.item-iterator)
+    (omega (arith, c.in-None.ensures.steps.0, l.item-iterator.rest.ok)) in
     l.invariant ∙ ap (λ ys. with_items (map view l.found.items) (items_value (data_items ys))) none ∙ ap Ok (items_after-none (map view l.found.items))
 
 pub converted_members-loop-name-init : goal.converted_members-loop-name-init
@@ -46,7 +48,8 @@ converted_members-loop-name-init t c =
       done = [];
       split = same;
       names = ap names c.new-found.ensures.empty;
-      converted = rw c.new-found.ensures.empty (with_members-none (members_value (data_members c.args.members.entries)) ∙ ap (λ es. with_members [] (members_value (data_members es))) same);
+      converted = rw c.new-found.ensures.empty (with_members-none (members_value (data_members c.args.members.entries))
+          ∙ ap (λ es. with_members [] (members_value (data_members es))) same);
     }
 
 pub converted_members-returns-in_err-converted : goal.converted_members-returns-in_err-converted
@@ -54,7 +57,8 @@ converted_members-returns-in_err-converted t c =
     let l = c.loop-name in
     let p = err_from_is_err_and c.from_residual.result c.from_residual.ensures.1 in
     let so_far = l.invariant.converted ∙ ap (λ es. with_members (map named l.found.entries) (members_value (data_members es))) c.in-Some.ensures.steps in
-    rw (p.1, p.2) (members-fault c.in_err-converted.field-0.0 (map named l.found.entries) (string_bytes c.in-Some.name) (data_view c.in-Some.member) (data_members c.next.new.self) _ so_far c.in_err-converted.ensures)
+    rw (p.1, p.2) (members-fault c.in_err-converted.field-0.0 (map named l.found.entries) (string_bytes c.in-Some.name) (data_view c.in-Some.member)
+    (data_members c.next.new.self) _ so_far c.in_err-converted.ensures)
 
 pub converted_members-loop-name-preserved : goal.converted_members-loop-name-preserved
 converted_members-loop-name-preserved t c =
@@ -66,7 +70,8 @@ converted_members-loop-name-preserved t c =
     let all : c.args.members.entries ≡ done ++ e ∷ left = l.invariant.split ∙ ap (λ es. done ++ es) step in
     let j = c.in_ok-converted.field-0 in
     let sorted : IsStrictlySortedBy string_cmp (keys_of c.args.members.entries) = c.into_iter-name-iterator.ensures.into_iter_gives.5 in
-    let last = c.in_ok-insert.ensures.entries ∙ inserted-last done e left l.found.entries e.0 j (subst (λ es. IsStrictlySortedBy string_cmp (keys_of es)) all sorted) l.invariant.names refl in
+    let last = c.in_ok-insert.ensures.entries ∙ inserted-last done e left l.found.entries e.0 j
+    (subst (λ es. IsStrictlySortedBy string_cmp (keys_of es)) all sorted) l.invariant.names refl in
     record {
       done = done ++ e ∷ [];
       split = all ∙ sym (append_assoc done (e ∷ []) left);
@@ -82,4 +87,5 @@ converted_members-loop-name-preserved t c =
 pub converted_members-returns : goal.converted_members-returns
 converted_members-returns t c =
     let l = c.loop-name in
-    l.invariant.converted ∙ ap (λ es. with_members (map named l.found.entries) (members_value (data_members es))) c.in-None.ensures.steps.0 ∙ ap Ok (members_after-none l.found.entries)
+    l.invariant.converted ∙ ap (λ es. with_members (map named l.found.entries) (members_value (data_members es))) c.in-None.ensures.steps.0
+    ∙ ap Ok (members_after-none l.found.entries)

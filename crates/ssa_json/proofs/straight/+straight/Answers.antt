@@ -38,19 +38,24 @@ pub read_value-returns-in-Bool-clause-ok : goal.read_value-returns-in-Bool-claus
 read_value-returns-in-Bool-clause-ok t c =
     let first : c.args.reader.now ≡ token_of c.in_ok-token.token ∷ c.next.new.self = grind arith in
     let is : c.args.reader.now ≡ Token.boolean c.in-Bool.b ∷ c.next.new.self = grind (arith, first) in
-    ap (converted of_json) (ap (value c.args.depth) is ∙ value_is c.args.depth _) ∙ ap (λ d. Some (d, c.next.new.self)) (sym (ap data_of (view-Scalar (Bool c.in-Bool.b))))
+    ap (converted of_json) (ap (value c.args.depth) is ∙ value_is c.args.depth _)
+    ∙ ap (λ d. Some (d, c.next.new.self)) (sym (ap data_of (view-Scalar (Bool c.in-Bool.b))))
 
 pub read_value-returns-in_ok-read_items-in-BeginArray-clause-ok : goal.read_value-returns-in_ok-read_items-in-BeginArray-clause-ok
 read_value-returns-in_ok-read_items-in-BeginArray-clause-ok t c =
     let first : c.args.reader.now ≡ token_of c.in_ok-token.token ∷ c.next.new.self = grind arith in
-    let opened = ap (converted of_json) (ap (value c.args.depth) (first ∙ ap (λ k. token_of k ∷ c.next.new.self) c.in-BeginArray.is) ∙ value-begin_array c.args.depth c.next.new.self (omega arith)) ∙ array-read (items (value (c.args.depth - 1)) (length c.next.new.self) c.next.new.self) in
+    let opened = ap (converted of_json) (ap (value c.args.depth) (first ∙ ap (λ k. token_of k ∷ c.next.new.self) c.in-BeginArray.is)
+    ∙ value-begin_array c.args.depth c.next.new.self (omega arith))
+    ∙ array-read (items (value (c.args.depth - 1)) (length c.next.new.self) c.next.new.self) in
     let found = c.in_ok-read_items-in-BeginArray in
     opened ∙ ap (parse_map array) found.ensures.ok ∙ ap (λ d. Some (data_of d, c.read_items.new.reader)) (sym (view-List found.field-0))
 
 pub read_value-returns-in_ok-read_members-in-BeginObject-clause-ok : goal.read_value-returns-in_ok-read_members-in-BeginObject-clause-ok
 read_value-returns-in_ok-read_members-in-BeginObject-clause-ok t c =
     let first : c.args.reader.now ≡ token_of c.in_ok-token.token ∷ c.next.new.self = grind arith in
-    let opened = ap (converted of_json) (ap (value c.args.depth) (first ∙ ap (λ k. token_of k ∷ c.next.new.self) c.in-BeginObject.is) ∙ value-begin_object c.args.depth c.next.new.self (omega arith)) ∙ object-read (members (value (c.args.depth - 1)) (length c.next.new.self) c.next.new.self) in
+    let opened = ap (converted of_json) (ap (value c.args.depth) (first ∙ ap (λ k. token_of k ∷ c.next.new.self) c.in-BeginObject.is)
+    ∙ value-begin_object c.args.depth c.next.new.self (omega arith))
+    ∙ object-read (members (value (c.args.depth - 1)) (length c.next.new.self) c.next.new.self) in
     let found = c.in_ok-read_members-in-BeginObject in
     opened ∙ ap (parse_map object) found.ensures.ok ∙ ap (λ d. Some (data_of d, c.read_members.new.reader)) (sym (view-Object found.field-0))
 
@@ -71,7 +76,8 @@ read_items-items-preserved t c =
       read = l.invariant.read ∙ ap (parse_map (before l.found.items)) turn ∙ one_more l.found.items v _
           ∙ ap (λ vs. parse_map (before vs) (converted of_items (items p (n - 1) r))) (sym c.in_ok-push.ensures.items);
       shorter = omega (arith, l.invariant.shorter);
-      narrow = subst (λ vs. items_narrow (items_view vs) ≡ true) (sym c.in_ok-push.ensures.items) (items_narrow-push l.found.items v l.invariant.narrow done.narrow);
+      narrow = subst (λ vs. items_narrow (items_view vs) ≡ true) (sym c.in_ok-push.ensures.items)
+          (items_narrow-push l.found.items v l.invariant.narrow done.narrow);
     }
 
 pub read_items-returns-clause-ok : goal.read_items-returns-clause-ok
@@ -80,7 +86,8 @@ read_items-returns-clause-ok t c =
     let l = c.items in
     let n = l.invariant.most in
     let r = c.take_end_array.new.self in
-    l.invariant.read ∙ ap (parse_map (before l.found.items)) (items_over p n l.reader r l.invariant.enough (grind arith)) ∙ ap (λ ds. Some (ds, r)) (before-none l.found.items)
+    l.invariant.read ∙ ap (parse_map (before l.found.items)) (items_over p n l.reader r l.invariant.enough (grind arith))
+    ∙ ap (λ ds. Some (ds, r)) (before-none l.found.items)
 
 pub read_members-members-preserved : goal.read_members-members-preserved
 read_members-members-preserved t c =
@@ -98,14 +105,16 @@ read_members-members-preserved t c =
     let lesser = done.shorter in
     let copied : string_bytes c.in_ok-key.key ≡ k = search rules in
     let put_in : members_data (members_view c.insert.new.self.entries) ≡ put k (data_of (view v)) old =
-    ap (λ es. members_data (members_view es)) c.in_ok-insert.ensures.entries ∙ inserted l.found.entries c.in_ok-key.key v ∙ ap (λ name. put name (data_of (view v)) old) copied in
+    ap (λ es. members_data (members_view es)) c.in_ok-insert.ensures.entries ∙ inserted l.found.entries c.in_ok-key.key v
+    ∙ ap (λ name. put name (data_of (view v)) old) copied in
     record {
       most = n - 1;
       enough = omega (arith, l.invariant.enough);
       read = l.invariant.read ∙ member_read p old n k l.reader s r (data_of (view v)) (omega (arith, l.invariant.enough)) named done.ok
           ∙ ap (λ found. converted (λ ms. of_members ms found) (members p (n - 1) r)) (sym put_in);
       shorter = omega (arith, l.invariant.shorter);
-      narrow = subst (λ es. members_narrow (members_view es) ≡ true) (sym c.in_ok-insert.ensures.entries) (inserted_narrow l.found.entries c.in_ok-key.key v l.invariant.narrow done.narrow);
+      narrow = subst (λ es. members_narrow (members_view es) ≡ true) (sym c.in_ok-insert.ensures.entries)
+          (inserted_narrow l.found.entries c.in_ok-key.key v l.invariant.narrow done.narrow);
     }
 
 pub read_members-returns-clause-ok : goal.read_members-returns-clause-ok

@@ -20,7 +20,8 @@ abbrev pub invariant-read_items-items : goal.invariant-read_items-items
 invariant-read_items-items l = record {
   most : ℕ;
   enough : length l.reader ≤ most;
-  read : converted of_items (items (value l.depth) (length l.initial.reader) l.initial.reader) ≡ parse_map (before l.found.items) (converted of_items (items (value l.depth) most l.reader));
+  read : converted of_items (items (value l.depth) (length l.initial.reader) l.initial.reader)
+      ≡ parse_map (before l.found.items) (converted of_items (items (value l.depth) most l.reader));
   shorter : length l.reader ≤ length l.initial.reader;
   narrow : items_narrow (items_view l.found.items) ≡ true;
 }
@@ -32,7 +33,8 @@ abbrev pub invariant-read_members-members : goal.invariant-read_members-members
 invariant-read_members-members l = record {
   most : ℕ;
   enough : length l.reader ≤ most;
-  read : converted (λ ms. of_members ms no_members) (members (value l.depth) (length l.initial.reader) l.initial.reader) ≡ converted (λ ms. of_members ms (members_data (members_view l.found.entries))) (members (value l.depth) most l.reader);
+  read : converted (λ ms. of_members ms no_members) (members (value l.depth) (length l.initial.reader) l.initial.reader)
+      ≡ converted (λ ms. of_members ms (members_data (members_view l.found.entries))) (members (value l.depth) most l.reader);
   shorter : length l.reader ≤ length l.initial.reader;
   narrow : members_narrow (members_view l.found.entries) ≡ true;
 }

@@ -10,4 +10,5 @@ pub returns-in-Ok-read_whole : goal.returns-in-Ok-read_whole
 returns-in-Ok-read_whole c =
     let v = view c.in-Ok-read_whole.value in
     let text = c.in-Ok.ensures.cases in
-    json_reading-data c.args.bytes.now (data_of v) text.1 (ap read (sym text.0) ∙ c.in-Ok-read_whole.ensures.ok) ∙ value_of-data_of v c.in-Ok-read_whole.ensures.narrow
+    json_reading-data c.args.bytes.now (data_of v) text.1 (ap read (sym text.0) ∙ c.in-Ok-read_whole.ensures.ok)
+    ∙ value_of-data_of v c.in-Ok-read_whole.ensures.narrow

@@ -27,7 +27,8 @@ items_to_values-loop-item-preserved t c =
     let x = c.item-item.result in
     let v = c.in_ok-to_value.field-0 in
     let f : Json → Data = λ j. data_of (view j) in
-    let more : take (l.item-index + 1) xs ≡ take l.item-index xs ++ x ∷ [] = take_more xs l.item-index x (omega arith) ∙ ap (λ y. take l.item-index xs ++ y ∷ []) (sym c.item-item.is) in
+    let more : take (l.item-index + 1) xs ≡ take l.item-index xs ++ x ∷ [] = take_more xs l.item-index x (omega arith)
+    ∙ ap (λ y. take l.item-index xs ++ y ∷ []) (sym c.item-item.is) in
     record {
       written =
           ap (map data_view) c.in_ok-push.ensures.items ∙ map-append data_view l.found.items (v ∷ [])
@@ -51,7 +52,8 @@ members_to_values-loop-key-preserved t c =
     record {
       done = done ++ e ∷ [];
       split = all ∙ sym (append_assoc done (e ∷ []) left);
-      written = ap data_members c.in_ok-insert.ensures.entries ∙ members_view-insert_entry l.found.entries c.in_ok-name.name c.in_ok-to_value.field-0 ∙ rw (key, c.in_ok-to_value.ensures.data, l.invariant.written) last;
+      written = ap data_members c.in_ok-insert.ensures.entries ∙ members_view-insert_entry l.found.entries c.in_ok-name.name c.in_ok-to_value.field-0
+          ∙ rw (key, c.in_ok-to_value.ensures.data, l.invariant.written) last;
       narrow = members_narrow-push done e l.invariant.narrow c.in_ok-to_value.ensures.narrow;
       texts = members_have_utf8-push done e l.invariant.texts c.in_ok-to_value.ensures.texts;
       names = members_rise-push done e left sorted l.invariant.names c.in_ok-to_value.ensures.names;

@@ -23,7 +23,8 @@ returns-then-has_conflict c =
     let changed = modified state.body body in
     let table = seat state.table a (points config) changed changed c.args.at in
     let clash_is = c.in_ok-found.ensures ∙ (λ i. clashes a (c.in_ok-comparison.ensures.modified_are i) (c.entries.ensures.same i)) in
-    let unforced = ap (λ cs. not (c.args.force || is_none (clashes_view cs))) (sym c.deref.ensures.value) ∙ sym c.has_conflict.ensures ∙ c.if-has_conflict.true in (
+    let unforced = ap (λ cs. not (c.args.force || is_none (clashes_view cs))) (sym c.deref.ensures.value) ∙ sym c.has_conflict.ensures
+    ∙ c.if-has_conflict.true in (
       conflict found,
       apply-decided state a config c.args.force c.args.at body found (size body) table c.in_ok-body.ensures clash_is refl refl
           ∙ decided-conflict c.args.force found (size body) body table unforced,
@@ -40,7 +41,8 @@ returns-then-size-gt-MOST_PLACES c =
     let changed = modified state.body body in
     let table = seat state.table a (points config) changed changed c.args.at in
     let clash_is = c.in_ok-found.ensures ∙ (λ i. clashes a (c.in_ok-comparison.ensures.modified_are i) (c.entries.ensures.same i)) in
-    let quiet = ap (λ cs. not (c.args.force || is_none (clashes_view cs))) (sym c.deref.ensures.value) ∙ sym c.has_conflict.ensures ∙ c.if-has_conflict.false in (
+    let quiet = ap (λ cs. not (c.args.force || is_none (clashes_view cs))) (sym c.deref.ensures.value) ∙ sym c.has_conflict.ensures
+    ∙ c.if-has_conflict.false in (
       too_many_paths,
       apply-decided state a config c.args.force c.args.at body found (size body) table c.in_ok-body.ensures clash_is refl refl
           ∙ decided-paths c.args.force found (size body) body table quiet (more_places c.size.result (size body) c.size.ensures c.if-size-gt-MOST_PLACES.true),
@@ -59,13 +61,15 @@ returns-in-Ok c =
     let clash_is = c.in_ok-found.ensures ∙ (λ i. clashes a (c.in_ok-comparison.ensures.modified_are i) (c.entries.ensures.same i)) in
     let quiet = ap (λ cs. not (c.args.force || is_none (clashes_view cs))) (sym c.deref.ensures.value) ∙ sym c.has_conflict.ensures ∙ c.if-has_conflict.false in
     let few = few_places c.size.result (size body) c.size.ensures c.if-size-gt-MOST_PLACES.false in
-    let seats : ◌≡◌ {A = Table} (seat state.table a c.in_ok-points.points c.in_ok-comparison.comparison.modified c.in_ok-comparison.comparison.modified c.args.at) table
+    let seats : ◌≡◌ {A = Table} (seat state.table a c.in_ok-points.points c.in_ok-comparison.comparison.modified c.in_ok-comparison.comparison.modified
+    c.args.at) table
     = λ i. seat state.table a (c.in_ok-points.ensures i) (c.in_ok-comparison.ensures.modified_are i) (c.in_ok-comparison.ensures.modified_are i) c.args.at in
     let given = apply-decided state a config c.args.force c.args.at body found (size body) table c.in_ok-body.ensures clash_is refl refl in
     let change : Change = record { body = Some body; table = c.in-Ok.table; comparison = c.in_ok-comparison.comparison } in
     let is_seated : Table → Type 0 = IsSeated state.table (Ok c.in-Ok.table) in
     let is_changed : Result State model.Refusal → Type 0 = IsChanged state (Ok change) in
-    subst is_changed (sym given) (seated state c.args.force found (size body) change body table quiet few refl (subst is_seated seats c.in-Ok.ensures) c.in_ok-comparison.ensures)
+    subst is_changed (sym given) (seated state c.args.force found (size body) change body table quiet few refl (subst is_seated seats c.in-Ok.ensures)
+    c.in_ok-comparison.ensures)
 
 pub returns : goal.returns
 returns c =
@@ -79,7 +83,8 @@ returns c =
     let clash_is = c.in_ok-found.ensures ∙ (λ i. clashes a (c.in_ok-comparison.ensures.modified_are i) (c.entries.ensures.same i)) in
     let quiet = ap (λ cs. not (c.args.force || is_none (clashes_view cs))) (sym c.deref.ensures.value) ∙ sym c.has_conflict.ensures ∙ c.if-has_conflict.false in
     let few = few_places c.size.result (size body) c.size.ensures c.if-size-gt-MOST_PLACES.false in
-    let seats : ◌≡◌ {A = Table} (seat state.table a c.in_ok-points.points c.in_ok-comparison.comparison.modified c.in_ok-comparison.comparison.modified c.args.at) table
+    let seats : ◌≡◌ {A = Table} (seat state.table a c.in_ok-points.points c.in_ok-comparison.comparison.modified c.in_ok-comparison.comparison.modified
+    c.args.at) table
     = λ i. seat state.table a (c.in_ok-points.ensures i) (c.in_ok-comparison.ensures.modified_are i) (c.in_ok-comparison.ensures.modified_are i) c.args.at in
     let given = apply-decided state a config c.args.force c.args.at body found (size body) table c.in_ok-body.ensures clash_is refl refl in
     let is_seated : Table → Type 0 = IsSeated state.table (Err c.in-Err.refusal) in

@@ -14,7 +14,8 @@ returns-clause-change c =
 
 pub returns-clause-valid : goal.returns-clause-valid
 returns-clause-valid c =
-    applied_valid (state_view c.args.state.now) (applier c.args.who.now) c.args.config c.args.force c.args.at c.applied.result (returns-clause-change c)
+    applied_valid (state_view c.args.state.now) (applier c.args.who.now) c.args.config c.args.force c.args.at c.applied.result c.requires.named
+    c.stands_rooted.ensures (returns-clause-change c)
 
 pub returns-clause-order : goal.returns-clause-order
 returns-clause-order c =

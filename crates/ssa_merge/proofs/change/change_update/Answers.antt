@@ -13,7 +13,9 @@ returns-clause-change c =
     subst changed c.in_ok-key.ensures c.updated.ensures
 
 pub returns-clause-valid : goal.returns-clause-valid
-returns-clause-valid c = updated_valid (state_view c.args.state.now) (updater c.args.who.now) c.args.object c.args.at c.updated.result (returns-clause-change c)
+returns-clause-valid c =
+    updated_valid (state_view c.args.state.now) (updater c.args.who.now) c.args.object c.args.at c.updated.result c.requires
+    c.stands_rooted.ensures (returns-clause-change c)
 
 pub returns-clause-order : goal.returns-clause-order
 returns-clause-order c = updated_order (state_view c.args.state.now) (updater c.args.who.now) c.args.object c.args.at c.updated.result (returns-clause-change c)

@@ -10,7 +10,8 @@ returns-in_ok-owned-in-Some c =
     let comparison = c.args.comparison.now in
     c.in_ok-owned-in-Some.ensures
     ∙ (λ i. union (c.in_ok-stayed-in-Some.ensures i) (c.in_ok-gained.ensures i))
-    ∙ owned-after c.args.state.now.managers (key_view c.args.key.now) (Some (entry_view c.in-Some.entry.now)) comparison.removed (union comparison.modified comparison.added) c.in-Some.ensures
+    ∙ owned-after c.args.state.now.managers (key_view c.args.key.now) (Some (entry_view c.in-Some.entry.now)) comparison.removed
+    (union comparison.modified comparison.added) c.in-Some.ensures
 
 pub returns-in-None : goal.returns-in-None
 returns-in-None c =

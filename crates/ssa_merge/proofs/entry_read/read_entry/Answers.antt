@@ -17,7 +17,8 @@ returns-in_err-check_owned-clause-answers c =
     let named = sym c.is_manager_name.ensures ∙ c.if-not-is_manager_name.false in
     let same = sym c.is_same_text.ensures ∙ c.if-not-is_same_text.false in
     let timed = c.in-Ok.ensures.succeeds.0 refl in
-    let is = passed body version before v said (string_bytes c.in_ok-name.name) c.in_ok-set.set c.in-Ok.at c.in-Some.ensures named same timed c.in_ok-set.ensures.answers c.in_ok-name.ensures.ok c.in_ok-set.ensures.said c.in-Ok.ensures.value in
+    let is = passed body version before v said (string_bytes c.in_ok-name.name) c.in_ok-set.set c.in-Ok.at c.in-Some.ensures named same timed
+    c.in_ok-set.ensures.answers c.in_ok-name.ensures.ok c.in_ok-set.ensures.said c.in-Ok.ensures.value in
     let p = err_from_is_err_and c.from_residual-in_err-check_owned.result c.from_residual-in_err-check_owned.ensures.1 in
     rw (p.1, p.2) (owned-fault body version before v _ _ c.in_err-check_owned.field-0.0 is c.in_err-check_owned.ensures)
 
@@ -31,7 +32,8 @@ returns-clause-answers c =
     let named = sym c.is_manager_name.ensures ∙ c.if-not-is_manager_name.false in
     let same = sym c.is_same_text.ensures ∙ c.if-not-is_same_text.false in
     let timed = c.in-Ok.ensures.succeeds.0 refl in
-    let is = passed body version before v said (string_bytes c.in_ok-name.name) c.in_ok-set.set c.in-Ok.at c.in-Some.ensures named same timed c.in_ok-set.ensures.answers c.in_ok-name.ensures.ok c.in_ok-set.ensures.said c.in-Ok.ensures.value in
+    let is = passed body version before v said (string_bytes c.in_ok-name.name) c.in_ok-set.set c.in-Ok.at c.in-Some.ensures named same timed
+    c.in_ok-set.ensures.answers c.in_ok-name.ensures.ok c.in_ok-set.ensures.said c.in-Ok.ensures.value in
     no-fault body version before v _ _ is c.in_ok-check_owned.ensures
 
 pub returns-clause-back : goal.returns-clause-back

@@ -10,7 +10,8 @@ pub returns-in_ok-gone-in-Some : goal.returns-in_ok-gone-in-Some
 returns-in_ok-gone-in-Some c =
     let e = entry_view c.in-Some.entry.now in
     c.in_ok-gone-in-Some.ensures
-    ∙ ap (λ s. set_of (paths s) (λ p. not (is_root p))) (c.in_ok-unreached-in-Some.ensures ∙ ap (λ t. set_of (paths e.owned) (λ p. not (has_at_or_below t p))) c.requires)
+    ∙ ap (λ s. set_of (paths s) (λ p. not (is_root p))) (c.in_ok-unreached-in-Some.ensures
+    ∙ ap (λ t. set_of (paths e.owned) (λ p. not (has_at_or_below t p))) c.requires)
     ∙ unreached e.owned c.args.config.now c.points_tell_places.ensures
     ∙ absent-of (state_view c.args.state.now) (key_view c.args.key.now) c.args.config.now (Some e) c.in-Some.ensures
 

@@ -11,4 +11,5 @@ returns c =
     let first = c.in_ok-insert.ensures.ok ∙ ap₂ (λ (p : Path) (s : PathSet). insert p tt s) (c.new-2.ensures ∙ root) c.new-never.ensures in
     let name = c.in_ok-from_str.field-0 in
     let elements = ap path_view c.in_ok-push.ensures.items ∙ ap (λ es. path_view (es ++ Field name ∷ [])) c.new-elements.ensures.items in
-    c.in_ok-insert-2.ensures.ok ∙ ap₂ (λ (p : Path) (s : PathSet). insert p tt s) (c.new-3.ensures ∙ elements ∙ ap (λ n. field n ∷ []) c.in_ok-from_str.ensures.ok) first
+    c.in_ok-insert-2.ensures.ok ∙ ap₂ (λ (p : Path) (s : PathSet). insert p tt s) (c.new-3.ensures ∙ elements
+    ∙ ap (λ n. field n ∷ []) c.in_ok-from_str.ensures.ok) first

@@ -5,4 +5,5 @@ use Rattle.ssa_merge.proofs.owned.clashes.Given as goal
 
 -- what was found, and then what is left to find
 abbrev pub invariant-loop-entry : goal.invariant-loop-entry
-invariant-loop-entry l = clashes (key_view l.key) l.changed (table_view l.table) ≡ clashes_view l.found.items ++ clashes (key_view l.key) l.changed (table_view (drop l.entry-index l.table))
+invariant-loop-entry l = clashes (key_view l.key) l.changed (table_view l.table) ≡ clashes_view l.found.items
+    ++ clashes (key_view l.key) l.changed (table_view (drop l.entry-index l.table))

@@ -16,11 +16,13 @@ pub returns-clause-valid : goal.returns-clause-valid
 returns-clause-valid c = λ kind valid.
     let state = state_view c.args.state.now in
     let led = c.in_ok-change.ensures.change in
-    subst (IsValidState kind) (target_of state c.in_ok-change.change c.in_ok-plan.plan (strip state) led (c.in_ok-plan.ensures (strip state) led)) (c.in_ok-change.ensures.valid kind valid)
+    subst (IsValidState kind) (target_of state c.in_ok-change.change c.in_ok-plan.plan (strip state) led (c.in_ok-plan.ensures (strip state) led))
+    (c.in_ok-change.ensures.valid kind valid)
 
 pub returns-clause-order : goal.returns-clause-order
 returns-clause-order c = λ distinct.
     let state = state_view c.args.state.now in
     let led = c.in_ok-change.ensures.change in
     let keeps : State → Type 0 = λ s. KeepsOrder state.table s.table in
-    subst keeps (target_of state c.in_ok-change.change c.in_ok-plan.plan (strip state) led (c.in_ok-plan.ensures (strip state) led)) (c.in_ok-change.ensures.order distinct)
+    subst keeps (target_of state c.in_ok-change.change c.in_ok-plan.plan (strip state) led (c.in_ok-plan.ensures (strip state) led))
+    (c.in_ok-change.ensures.order distinct)

@@ -12,14 +12,16 @@ pub returns-clause-fits : goal.returns-clause-fits
 returns-clause-fits c =
     let state = state_view c.args.state.now in
     let given = update state (updater c.args.who.now) c.args.object c.args.at in
-    let planned : IsPlanned state (Ok c.in_ok-plan.plan) given = completed state c.in_ok-change.change c.in_ok-plan.plan given c.in_ok-change.ensures.change c.in_ok-plan.ensures in
+    let planned : IsPlanned state (Ok c.in_ok-plan.plan) given =
+    completed state c.in_ok-change.change c.in_ok-plan.plan given c.in_ok-change.ensures.change c.in_ok-plan.ensures in
     updated_fits state (updater c.args.who.now) c.args.object c.args.at (Ok c.in_ok-plan.plan) planned
 
 pub returns-clause-valid : goal.returns-clause-valid
-returns-clause-valid c = λ kind valid fits rooted few name.
+returns-clause-valid c = λ kind valid fits few.
     let state = state_view c.args.state.now in
     let led = c.in_ok-change.ensures.change in
-    subst (IsValidState kind) (target_of state c.in_ok-change.change c.in_ok-plan.plan led.0 led.2 (c.in_ok-plan.ensures led.0 led.2)) (c.in_ok-change.ensures.valid kind valid fits rooted few name)
+    subst (IsValidState kind) (target_of state c.in_ok-change.change c.in_ok-plan.plan led.0 led.2 (c.in_ok-plan.ensures led.0 led.2))
+    (c.in_ok-change.ensures.valid kind valid fits few)
 
 pub returns-clause-order : goal.returns-clause-order
 returns-clause-order c = λ distinct.

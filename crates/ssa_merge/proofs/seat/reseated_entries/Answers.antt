@@ -13,7 +13,8 @@ loop-entry-preserved c =
     let pushed = c.in_ok-push.ensures.items in
     let made = c.in_ok-reseated.ensures in
     let before = c.loop-entry.invariant in
-    let more = reseated-more c.args.table.now c.loop-entry.entry-index c.entry-item.result one cs c.in_ok-reseated.field-0 c.loop-entry-test.true c.entry-item.is before.0 before.1 made in (
+    let more = reseated-more c.args.table.now c.loop-entry.entry-index c.entry-item.result one cs c.in_ok-reseated.field-0 c.loop-entry-test.true
+    c.entry-item.is before.0 before.1 made in (
       ap (λ ds. changed_entries ds (table_view (take (c.loop-entry.entry-index + 1) c.args.table.now))) pushed ∙ more,
       ap length pushed ∙ length-append cs (c.in_ok-reseated.field-0 ∷ []) ∙ ap (λ n. n + 1) before.1,
     )

@@ -7,6 +7,7 @@ use Rattle.ssa_merge.proofs.table_change.changed_entries.Given as goal
 
 abbrev pub invariant-loop-change : goal.invariant-loop-change
 invariant-loop-change l =
-    (table_view l.made.items ++ changed_entries (into_iter_items l.change-iterator) (table_view (drop l.place l.table)) ≡ changed_entries l.fn.changes.items (table_view l.table))
+    (table_view l.made.items ++ changed_entries (into_iter_items l.change-iterator) (table_view (drop l.place l.table))
+    ≡ changed_entries l.fn.changes.items (table_view l.table))
     × (array_vec_len l.made ≤ l.place)
     × (l.place + length (into_iter_items l.change-iterator) ≡ length l.table)

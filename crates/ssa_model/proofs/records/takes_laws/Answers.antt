@@ -2,4 +2,12 @@ use Rattle.ssa_model.proofs.RecordTakes.{fixes_target, fixes_record, leads_back,
 use Rattle.ssa_model.proofs.records.takes_laws.Goals as goal
 
 pub returns : goal.returns
-returns c = record { target = fixes_target; steps = fixes_record; back = leads_back; twice = turns_twice; body = body_laws; table = table_laws; parts = takes_by_parts }
+returns c = record {
+  target = fixes_target;
+  steps = fixes_record;
+  back = leads_back;
+  twice = turns_twice;
+  body = body_laws;
+  table = table_laws;
+  parts = takes_by_parts;
+}

@@ -8,4 +8,5 @@ use Rattle.ssa_object.proofs.body_value.file_parts.Goals as goal
 pub returns-in-Object-clause-value : goal.returns-in-Object-clause-value
 returns-in-Object-clause-value c =
     c.file_value.ensures ∙ ap file_value (c.objects_are_members.ensures c.take_entries-entries.new.members ∙ ap object c.take_entries-entries.ensures.rest)
-    ∙ without_entries (members_view c.in-Object.members.entries) ∙ sym (ap file_value (ap view c.in-Object.is ∙ c.objects_are_members.ensures c.in-Object.members))
+    ∙ without_entries (members_view c.in-Object.members.entries)
+    ∙ sym (ap file_value (ap view c.in-Object.is ∙ c.objects_are_members.ensures c.in-Object.members))

@@ -5,4 +5,5 @@ use Rattle.ssa_object.proofs.body_value.remove_members.Given as goal
 
 -- what is left to take out decides
 abbrev pub invariant-loop-name : goal.invariant-loop-name
-invariant-loop-name l = without (map (λ n. n.now) (drop l.name-index l.names)) (members_view l.members.entries) ≡ without (map (λ n. n.now) l.names) (members_view l.initial.members.entries)
+invariant-loop-name l = without (map (λ n. n.now) (drop l.name-index l.names)) (members_view l.members.entries)
+    ≡ without (map (λ n. n.now) l.names) (members_view l.initial.members.entries)

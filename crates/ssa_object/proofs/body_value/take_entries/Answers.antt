@@ -17,12 +17,15 @@ returns-clause-rest c =
     let names = codes "managedFields" ∷ [] in
     let after = c.get_mut.follows.holds c.without_member-rest.result.0 in
     let stripped = c.without_member-rest.ensures.rest ∙ ap (λ v. without_names names (view v)) c.replace-whole.ensures.value in
-    ap members_view after.0 ∙ written names c.args.members.now.entries c.in-Some.metadata.now c.without_member-rest.result.0 c.get_mut.ensures.ordered (sym c.in-Some.ensures.value) stripped
+    ap members_view after.0 ∙ written names c.args.members.now.entries c.in-Some.metadata.now c.without_member-rest.result.0 c.get_mut.ensures.ordered
+    (sym c.in-Some.ensures.value) stripped
 
 pub returns-in_default-clause-entries : goal.returns-in_default-clause-entries
 returns-in_default-clause-entries c =
-    ap (option_and_then (value_at (codes "managedFields" ∷ []))) (ap (option_map view) c.in_default.ensures.value ∙ view-lookup (codes "metadata") c.args.members.now.entries)
+    ap (option_and_then (value_at (codes "managedFields" ∷ []))) (ap (option_map view) c.in_default.ensures.value
+    ∙ view-lookup (codes "metadata") c.args.members.now.entries)
 
 pub returns-in_default-clause-rest : goal.returns-in_default-clause-rest
 returns-in_default-clause-rest c =
-    ap (λ m. members_view m.entries) c.get_mut.follows.holds-at-none ∙ no_metadata (codes "managedFields" ∷ []) c.args.members.now.entries (sym c.in_default.ensures.value)
+    ap (λ m. members_view m.entries) c.get_mut.follows.holds-at-none
+    ∙ no_metadata (codes "managedFields" ∷ []) c.args.members.now.entries (sym c.in_default.ensures.value)

@@ -23,5 +23,6 @@ pub returns : goal.returns
 returns c =
     let l = c.loop-name in
     let es = c.args.members.entries in
-    let is = l.invariant ∙ ap (λ es. with_keys (members_view l.found.items) (key_of (json_members es))) c.in-None.ensures.steps.0 ∙ with_keys-all (members_view l.found.items) in
+    let is = l.invariant ∙ ap (λ es. with_keys (members_view l.found.items) (key_of (json_members es))) c.in-None.ensures.steps.0
+    ∙ with_keys-all (members_view l.found.items) in
     ap (option_map key) c.new.ensures ∙ key_element-sorted es (members_view l.found.items) c.into_iter-name-iterator.ensures.into_iter_gives.5 is

@@ -9,10 +9,13 @@ pub loop-member-preserved : goal.loop-member-preserved
 loop-member-preserved c =
     let l = c.loop-member in
     let k = c.member-item.result in
-    let here = c.in_ok-push_member.ensures.text ∙ ap (λ n. l.text.items ++ (comma_if l.is_later ++ (quoted n ++ 58 ∷ scalar_text (scalar_view k.1)))) c.as_str.ensures.value in
+    let here = c.in_ok-push_member.ensures.text ∙ ap (λ n. l.text.items ++ (comma_if l.is_later ++ (quoted n ++ 58 ∷ scalar_text (scalar_view k.1))))
+    c.as_str.ensures.value in
     record {
-      whole = member-written _ l.text.items c.push_member.new.text.items l.is_later c.args.members.now l.member-index k c.loop-member-test.true c.member-item.is l.invariant.whole here;
-      narrow = are_narrow-more c.args.members.now l.member-index k c.loop-member-test.true c.member-item.is l.invariant.narrow c.in_ok-push_member.ensures.narrow;
+      whole = member-written _ l.text.items c.push_member.new.text.items l.is_later c.args.members.now l.member-index k c.loop-member-test.true
+          c.member-item.is l.invariant.whole here;
+      narrow = are_narrow-more c.args.members.now l.member-index k c.loop-member-test.true c.member-item.is l.invariant.narrow
+          c.in_ok-push_member.ensures.narrow;
     }
 
 pub returns-clause-narrow : goal.returns-clause-narrow

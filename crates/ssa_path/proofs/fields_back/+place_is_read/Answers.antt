@@ -12,7 +12,8 @@ place_is_read-requires t c =
 
 pub loop-child-preserved : goal.loop-child-preserved
 loop-child-preserved t c =
-    back-more c.deref-child-items.result.now c.loop-child.child-index c.child-item.result (omega arith) c.child-item.is c.loop-child.invariant c.is_of_program.ensures c.place_is_read.ensures
+    back-more c.deref-child-items.result.now c.loop-child.child-index c.child-item.result (omega arith) c.child-item.is c.loop-child.invariant
+    c.is_of_program.ensures c.place_is_read.ensures
 
 pub returns : goal.returns
 returns t c =

@@ -8,7 +8,8 @@ use Rattle.ssa_path.proofs.FieldsReadings.{IsReading, reading-none, child-first,
 use Rattle.ssa_path.proofs.fields_read.+read.Goals as goal
 
 pub read_members-loop-name-init : goal.read_members-loop-name-init
-read_members-loop-name-init t c = reading-none c.args.members.now.entries _ _ c.new-below.ensures.items (c.into_iter-name-iterator.ensures.into_iter_gives ∙ c.iter-name-items.ensures.rest)
+read_members-loop-name-init t c = reading-none c.args.members.now.entries _ _ c.new-below.ensures.items (c.into_iter-name-iterator.ensures.into_iter_gives
+    ∙ c.iter-name-items.ensures.rest)
 
 pub read_members-returns-in_err-child-clause-answers : goal.read_members-returns-in_err-child-clause-answers
 read_members-returns-in_err-child-clause-answers t c =
@@ -17,7 +18,8 @@ read_members-returns-in_err-child-clause-answers t c =
     let fault = c.in_err-child.field-0.0 in
     let other : same_text c.as_str.result.now (codes ".") ≡ false = sym c.is_dot.ensures ∙ c.if-not-is_dot.true in
     let same : c.as_str-then-not-is_dot.result.now ≡ c.as_str.result.now = c.as_str-then-not-is_dot.ensures.value ∙ sym c.as_str.ensures.value in
-    let first = child-first c.args.members.now.entries l.here l.below.items e c.next.new.self l.name-iterator l.invariant c.in-Some.ensures.steps c.as_str-then-not-is_dot.result.now fault
+    let first = child-first c.args.members.now.entries l.here l.below.items e c.next.new.self l.name-iterator l.invariant c.in-Some.ensures.steps
+    c.as_str-then-not-is_dot.result.now fault
     c.as_str-then-not-is_dot.ensures.value (ap (λ n. same_text n (codes ".")) same ∙ other) c.in_err-child.ensures.answers in
     let p = err_from_is_err_and c.from_residual.result c.from_residual.ensures.1 in
     rw (p.1, p.2) first
@@ -28,7 +30,8 @@ read_members-loop-name-preserved-then-not-is_dot t c =
     let e : Found = (c.in-Some.name.now, c.in-Some.member.now) in
     let other : same_text c.as_str.result.now (codes ".") ≡ false = sym c.is_dot.ensures ∙ c.if-not-is_dot.true in
     let same : c.as_str-then-not-is_dot.result.now ≡ c.as_str.result.now = c.as_str-then-not-is_dot.ensures.value ∙ sym c.as_str.ensures.value in
-    let more = child-more c.args.members.now.entries l.here l.below.items e c.next.new.self l.name-iterator l.invariant c.in-Some.ensures.steps c.as_str-then-not-is_dot.result.now c.in_ok-child.child
+    let more = child-more c.args.members.now.entries l.here l.below.items e c.next.new.self l.name-iterator l.invariant c.in-Some.ensures.steps
+    c.as_str-then-not-is_dot.result.now c.in_ok-child.child
     c.as_str-then-not-is_dot.ensures.value (ap (λ n. same_text n (codes ".")) same ∙ other) c.in_ok-child.ensures.answers c.in_ok-child.ensures.child in
     let pushed : c.push.new.self.items ≡ l.below.items ++ c.in_ok-child.child ∷ [] = c.in-Ok.ensures.items in
     subst (λ cs. IsReading c.args.members.now.entries l.here cs c.next.new.self) (sym pushed) more
@@ -37,7 +40,8 @@ pub read_members-loop-name-preserved : goal.read_members-loop-name-preserved
 read_members-loop-name-preserved t c =
     let l = c.loop-name in
     let e : Found = (c.in-Some.name.now, c.in-Some.member.now) in
-    dot-more c.args.members.now.entries l.here l.below.items e c.next.new.self l.name-iterator c.as_str.result.now l.invariant c.in-Some.ensures.steps c.iter-name-items.ensures.ordered
+    dot-more c.args.members.now.entries l.here l.below.items e c.next.new.self l.name-iterator c.as_str.result.now l.invariant c.in-Some.ensures.steps
+    c.iter-name-items.ensures.ordered
     c.as_str.ensures.value (sym c.is_dot.ensures ∙ c.if-not-is_dot.false) (sym c.is_nothing_inside.ensures ∙ c.if-not-is_nothing_inside.false)
 
 pub read_members-returns-clause-place : goal.read_members-returns-clause-place
@@ -67,10 +71,12 @@ pub read_below-returns-clause-answers : goal.read_below-returns-clause-answers
 read_below-returns-clause-answers t c =
     let place = c.in_ok-place.place in
     let none = below-some place c.is_empty.result c.is_empty.ensures ∙ ap not c.if-not-is_empty.false in
-    (alone-read (view c.args.value.now) place (record { here = true; below = c.new.result }) c.in_ok-place.ensures.place none c.if-place.false refl c.new.ensures.items).0
+    (alone-read (view c.args.value.now) place (record { here = true; below = c.new.result }) c.in_ok-place.ensures.place none c.if-place.false refl
+    c.new.ensures.items).0
 
 pub read_below-returns-clause-place : goal.read_below-returns-clause-place
 read_below-returns-clause-place t c =
     let place = c.in_ok-place.place in
     let none = below-some place c.is_empty.result c.is_empty.ensures ∙ ap not c.if-not-is_empty.false in
-    (alone-read (view c.args.value.now) place (record { here = true; below = c.new.result }) c.in_ok-place.ensures.place none c.if-place.false refl c.new.ensures.items).1
+    (alone-read (view c.args.value.now) place (record { here = true; below = c.new.result }) c.in_ok-place.ensures.place none c.if-place.false refl
+    c.new.ensures.items).1

@@ -21,13 +21,22 @@ use Rattle.ssa_path.proofs.fields_v1.+place.Goals as goal
 pub place_members-loop-child-init : goal.place_members-loop-child-init
 place_members-loop-child-init t c =
     let made = c.in_ok-members.ensures in
-    record { json = made ∙ dot-dotted (out-Trie c.args.place.now).here; canonical = subst AreCanonical (sym made) (dot-canonical (out-Trie c.args.place.now).here); back = tt }
+    record {
+      json = made ∙ dot-dotted (out-Trie c.args.place.now).here;
+      canonical = subst AreCanonical (sym made) (dot-canonical (out-Trie c.args.place.now).here);
+      back = tt;
+    }
 
 pub place_members-below_value-requires : goal.place_members-below_value-requires
 place_members-below_value-requires t c =
     let cs = c.deref-child-items.result.now in
-    let filled = (trie-parts c.args.place.now cs c.deref-child-items.ensures.value c.requires).1 in
-    (search (rules, the_lemmas), (child-trie cs c.loop-child.child-index c.child-item.result (omega arith) c.child-item.is filled, child-filled cs c.loop-child.child-index c.child-item.result (omega arith) c.child-item.is filled))
+    let filled = (trie-parts c.args.place.now cs c.deref-child-items.ensures.value c.requires).1 in (
+      search (rules, the_lemmas),
+      (
+        child-trie cs c.loop-child.child-index c.child-item.result (omega arith) c.child-item.is filled,
+        child-filled cs c.loop-child.child-index c.child-item.result (omega arith) c.child-item.is filled,
+      ),
+    )
 
 pub place_members-loop-child-preserved : goal.place_members-loop-child-preserved
 place_members-loop-child-preserved t c =
@@ -42,14 +51,16 @@ place_members-loop-child-preserved t c =
     let value = c.in_ok-value.ensures.written in
     let rise = (trie-parts c.args.place.now cs c.deref-child-items.ensures.value c.requires).0 in
     let whole = parted cs i child (omega arith) c.child-item.is in
-    let above = above-found here l.members.entries (take i cs) (drop (i + 1) cs) child (string_bytes name) l.invariant.json (ap (λ ds. rises (elements ds)) (sym whole) ∙ rise) text in
+    let above = above-found here l.members.entries (take i cs) (drop (i + 1) cs) child (string_bytes name) l.invariant.json
+    (ap (λ ds. rises (elements ds)) (sym whole) ∙ rise) text in
     let last = c.in_ok-insert.ensures.entries ∙ insert_entry-last l.members.entries name c.in_ok-value.value above in
     record {
       json =
           ap members_view last ∙ members-more here l.members.entries e (take i cs) child l.invariant.json text value.json
           ∙ ap (λ ds. dotted here (child_members ds)) (sym (taken cs i child (omega arith) c.child-item.is));
       canonical = subst (λ es. AreCanonical (members_view es)) (sym last)
-          (canonical-more l.members.entries e l.invariant.canonical (text-of-element (element_view child.0) (string_bytes name) c.in_ok-name.ensures.of_program text) value.not_dot value.canonical);
+          (canonical-more l.members.entries e l.invariant.canonical
+          (text-of-element (element_view child.0) (string_bytes name) c.in_ok-name.ensures.of_program text) value.not_dot value.canonical);
       back = back-more cs i child (omega arith) c.child-item.is l.invariant.back c.in_ok-name.ensures.of_program c.in_ok-value.ensures.back;
     }
 
@@ -62,15 +73,19 @@ place_members-returns-clause-json t c =
 pub below_value-returns-then-is_alone-clause-written : goal.below_value-returns-then-is_alone-clause-written
 below_value-returns-then-is_alone-clause-written t c =
     let place = c.args.place.now in
-    let none : has_some {A = Elem × Trie} (out-Trie place).below.items ≡ false = below-some place c.is_empty-is_alone.result c.is_empty-is_alone.ensures ∙ ap not c.if-is_alone.true in
-    alone-written (paths place) _ (alone-place place none c.requires.filled) (view-Object c.new.result ∙ ap (λ es. object (members_view es)) c.new.ensures.empty)
+    let none : has_some {A = Elem × Trie} (out-Trie place).below.items ≡ false = below-some place c.is_empty-is_alone.result c.is_empty-is_alone.ensures
+    ∙ ap not c.if-is_alone.true in
+    alone-written (paths place) _ (alone-place place none c.requires.filled) (view-Object c.new.result
+    ∙ ap (λ es. object (members_view es)) c.new.ensures.empty)
 
 pub below_value-returns-clause-written : goal.below_value-returns-clause-written
 below_value-returns-clause-written t c =
     let place = c.args.place.now in
-    let some : has_some {A = Elem × Trie} (out-Trie place).below.items ≡ true = below-some place c.is_empty-is_alone.result c.is_empty-is_alone.ensures ∙ ap not c.if-is_alone.false in
+    let some : has_some {A = Elem × Trie} (out-Trie place).below.items ≡ true = below-some place c.is_empty-is_alone.result c.is_empty-is_alone.ensures
+    ∙ ap not c.if-is_alone.false in
     let members = c.in_ok-members.members in
-    place-written place _ c.requires.trie some (view-Object members ∙ c.in_ok-members.ensures.json) (subst IsCanonical (sym (view-Object members)) c.in_ok-members.ensures.canonical)
+    place-written place _ c.requires.trie some (view-Object members
+    ∙ c.in_ok-members.ensures.json) (subst IsCanonical (sym (view-Object members)) c.in_ok-members.ensures.canonical)
 
 pub place_members-returns-clause-back : goal.place_members-returns-clause-back
 place_members-returns-clause-back t c =
@@ -81,5 +96,6 @@ place_members-returns-clause-back t c =
 pub below_value-returns-then-is_alone-clause-back : goal.below_value-returns-then-is_alone-clause-back
 below_value-returns-then-is_alone-clause-back t c =
     let place = c.args.place.now in
-    let none : has_some {A = Elem × Trie} (out-Trie place).below.items ≡ false = below-some place c.is_empty-is_alone.result c.is_empty-is_alone.ensures ∙ ap not c.if-is_alone.true in
+    let none : has_some {A = Elem × Trie} (out-Trie place).below.items ≡ false = below-some place c.is_empty-is_alone.result c.is_empty-is_alone.ensures
+    ∙ ap not c.if-is_alone.true in
     alone-read-back (paths place) (alone-place place none c.requires.filled)

@@ -13,11 +13,15 @@ count_paths-requires t c =
 
 pub loop-child-preserved : goal.loop-child-preserved
 loop-child-preserved t c =
-    counting-more (out-Trie c.args.trie.now).here c.deref-child-items.result.now c.loop-child.child-index c.child-item.result c.loop-child.count c.count_paths.result c.saturating_add-count.result (omega arith) c.child-item.is
+    counting-more (out-Trie c.args.trie.now).here c.deref-child-items.result.now c.loop-child.child-index c.child-item.result c.loop-child.count
+    c.count_paths.result c.saturating_add-count.result (omega arith) c.child-item.is
     c.count_paths.ensures.count c.count_paths.ensures.rise c.saturating_add-count.ensures c.loop-child.invariant
 
 pub returns-clause-count : goal.returns-clause-count
-returns-clause-count t c = (counting-all c.args.trie.now c.loop-child.child-index c.deref-child-items.result.now c.loop-child.count c.deref-child-items.ensures.value c.loop-child-test.false c.loop-child.invariant).0
+returns-clause-count t c = (counting-all c.args.trie.now c.loop-child.child-index c.deref-child-items.result.now c.loop-child.count
+    c.deref-child-items.ensures.value c.loop-child-test.false c.loop-child.invariant).0
 
 pub returns-clause-rise : goal.returns-clause-rise
-returns-clause-rise t c = rise-level c.args.trie.now c.requires (counting-all c.args.trie.now c.loop-child.child-index c.deref-child-items.result.now c.loop-child.count c.deref-child-items.ensures.value c.loop-child-test.false c.loop-child.invariant).1
+returns-clause-rise t c = rise-level c.args.trie.now c.requires
+    (counting-all c.args.trie.now c.loop-child.child-index c.deref-child-items.result.now c.loop-child.count c.deref-child-items.ensures.value
+    c.loop-child-test.false c.loop-child.invariant).1

@@ -15,8 +15,10 @@ list_paths-requires t c =
 pub loop-child-preserved : goal.loop-child-preserved
 loop-child-preserved t c =
     let long = ap path_view c.deref.ensures.value ∙ c.in_ok-longer.ensures in
-    listing-more (path_view c.args.way.now) (out-Trie c.args.trie.now).here c.deref-child-items.result.now c.loop-child.child-index c.child-item.result c.args.listed.now.items c.loop-child.listed.items c.list_paths.new.listed.items
+    listing-more (path_view c.args.way.now) (out-Trie c.args.trie.now).here c.deref-child-items.result.now c.loop-child.child-index c.child-item.result
+    c.args.listed.now.items c.loop-child.listed.items c.list_paths.new.listed.items
     (path_view c.deref.result.now) (omega arith) c.child-item.is long c.loop-child.invariant c.in_ok-list_paths.ensures
 
 pub returns : goal.returns
-returns t c = listing-all (path_view c.args.way.now) c.args.trie.now c.loop-child.child-index c.deref-child-items.result.now c.args.listed.now.items c.loop-child.listed.items c.deref-child-items.ensures.value c.loop-child-test.false c.requires c.loop-child.invariant
+returns t c = listing-all (path_view c.args.way.now) c.args.trie.now c.loop-child.child-index c.deref-child-items.result.now c.args.listed.now.items
+    c.loop-child.listed.items c.deref-child-items.ensures.value c.loop-child-test.false c.requires c.loop-child.invariant

@@ -14,8 +14,10 @@ returns-in-Equal c =
     let k = c.index-keys-i.result in
     let l = c.index-others-i.result in
     c.order_scalars.ensures
-    ∙ (λ j. ordering_then (sym c.in-Equal.is j) (text_cmp (scalar_text (scalar_view k.1) ++ c.end_at.ensures j) (scalar_text (scalar_view l.1) ++ c.end_at-in-Equal.ensures j)))
-    ∙ ap (λ o. ordering_then o (text_cmp (scalar_text (scalar_view k.1) ++ key_end (drop (c.args.i + 1) (members_view c.args.keys.now))) (scalar_text (scalar_view l.1) ++ key_end (drop (c.args.i + 1) (members_view c.args.others.now))))) names
+    ∙ (λ j. ordering_then (sym c.in-Equal.is j) (text_cmp (scalar_text (scalar_view k.1) ++ c.end_at.ensures j)
+    (scalar_text (scalar_view l.1) ++ c.end_at-in-Equal.ensures j)))
+    ∙ ap (λ o. ordering_then o (text_cmp (scalar_text (scalar_view k.1) ++ key_end (drop (c.args.i + 1) (members_view c.args.keys.now)))
+    (scalar_text (scalar_view l.1) ++ key_end (drop (c.args.i + 1) (members_view c.args.others.now))))) names
     ∙ sym (members-at c.args.keys.now c.args.others.now c.args.i k l c.requires.own c.requires.others c.index-keys-i.is c.index-others-i.is)
 
 pub returns-in_default : goal.returns-in_default
@@ -23,7 +25,8 @@ returns-in_default c =
     let names = c.order_quoted.ensures ∙ (λ j. text_cmp (quoted (c.as_bytes.ensures.value j)) (quoted (c.as_bytes-2.ensures.value j))) in
     let k = c.index-keys-i.result in
     let l = c.index-others-i.result in
-    let rest = text_cmp (scalar_text (scalar_view k.1) ++ key_end (drop (c.args.i + 1) (members_view c.args.keys.now))) (scalar_text (scalar_view l.1) ++ key_end (drop (c.args.i + 1) (members_view c.args.others.now))) in
+    let rest = text_cmp (scalar_text (scalar_view k.1) ++ key_end (drop (c.args.i + 1) (members_view c.args.keys.now)))
+    (scalar_text (scalar_view l.1) ++ key_end (drop (c.args.i + 1) (members_view c.args.others.now))) in
     then_found c.order_quoted.result rest c.in_default.not-Equal
     ∙ ap (λ o. ordering_then o rest) names
     ∙ sym (members-at c.args.keys.now c.args.others.now c.args.i k l c.requires.own c.requires.others c.index-keys-i.is c.index-others-i.is)

@@ -17,7 +17,9 @@ returns-then-text-i c =
 
 pub returns : goal.returns
 returns c =
-    let past : (length c.args.text.now ≤ c.loop-i.i) ⊎ (length c.args.other.now ≤ c.loop-i.i) = elim c.loop-i-test.branch [ then-loop-i-test+else-i-other w ↦ inr w.if-i-other.false | else-loop-i-test w ↦ inl w.loop-i-test.false ] in
+    let past : (length c.args.text.now ≤ c.loop-i.i) ⊎ (length c.args.other.now ≤ c.loop-i.i) =
+    elim c.loop-i-test.branch [ then-loop-i-test+else-i-other w ↦ inr w.if-i-other.false | else-loop-i-test w ↦ inl w.loop-i-test.false ] in
     let own = c.copied.ensures ∙ looked c.args.text.now c.loop-i.i c.get.result c.get.ensures.lookup.0 c.get.ensures.lookup.1 in
     let others = c.copied-2.ensures ∙ looked c.args.other.now c.loop-i.i c.get-2.result c.get-2.ensures.lookup.0 c.get-2.ensures.lookup.1 in
-    c.order_marks-2.ensures ∙ (λ i. text_cmp (mark (own i)) (mark (others i))) ∙ sym (c.loop-i.invariant ∙ marks-at c.args.text.now c.args.other.now c.loop-i.i past)
+    c.order_marks-2.ensures ∙ (λ i. text_cmp (mark (own i)) (mark (others i)))
+    ∙ sym (c.loop-i.invariant ∙ marks-at c.args.text.now c.args.other.now c.loop-i.i past)

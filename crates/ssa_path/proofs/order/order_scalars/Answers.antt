@@ -9,37 +9,45 @@ use Rattle.ssa_path.proofs.order.order_scalars.Goals as goal
 
 pub returns-in-Equal : goal.returns-in-Equal
 returns-in-Equal c =
-    let texts = c.order_quoted.ensures ∙ (λ j. text_cmp (scalar_text (text (c.as_bytes.ensures.value j))) (scalar_text (text (c.as_bytes-in-Text-Text.ensures.value j)))) in
+    let texts = c.order_quoted.ensures ∙ (λ j. text_cmp (scalar_text (text (c.as_bytes.ensures.value j)))
+    (scalar_text (text (c.as_bytes-in-Text-Text.ensures.value j)))) in
     c.cmp.ensures
     ∙ (λ i. ordering_then ((sym c.in-Equal.is ∙ texts) i) (text_cmp c.args.end.now c.args.other_end.now))
     ∙ sym (quoted-cmp (string_bytes c.in-Text-Text.text) (string_bytes c.in-Text-Text.other_text) c.args.end.now c.args.other_end.now)
-    ∙ (λ i. text_cmp (scalar_text (scalar_view (sym c.in-Text-Text.is-0 i)) ++ c.args.end.now) (scalar_text (scalar_view (sym c.in-Text-Text.is-1 i)) ++ c.args.other_end.now))
+    ∙ (λ i. text_cmp (scalar_text (scalar_view (sym c.in-Text-Text.is-0 i)) ++ c.args.end.now)
+    (scalar_text (scalar_view (sym c.in-Text-Text.is-1 i)) ++ c.args.other_end.now))
 
 pub returns-in_default : goal.returns-in_default
 returns-in_default c =
-    let texts = c.order_quoted.ensures ∙ (λ j. text_cmp (scalar_text (text (c.as_bytes.ensures.value j))) (scalar_text (text (c.as_bytes-in-Text-Text.ensures.value j)))) in
+    let texts = c.order_quoted.ensures ∙ (λ j. text_cmp (scalar_text (text (c.as_bytes.ensures.value j)))
+    (scalar_text (text (c.as_bytes-in-Text-Text.ensures.value j)))) in
     let rest = text_cmp c.args.end.now c.args.other_end.now in
     then_found c.order_quoted.result rest c.in_default.not-Equal
     ∙ (λ i. ordering_then (texts i) rest)
     ∙ sym (quoted-cmp (string_bytes c.in-Text-Text.text) (string_bytes c.in-Text-Text.other_text) c.args.end.now c.args.other_end.now)
-    ∙ (λ i. text_cmp (scalar_text (scalar_view (sym c.in-Text-Text.is-0 i)) ++ c.args.end.now) (scalar_text (scalar_view (sym c.in-Text-Text.is-1 i)) ++ c.args.other_end.now))
+    ∙ (λ i. text_cmp (scalar_text (scalar_view (sym c.in-Text-Text.is-0 i)) ++ c.args.end.now)
+    (scalar_text (scalar_view (sym c.in-Text-Text.is-1 i)) ++ c.args.other_end.now))
 
 pub returns-in-Text-Int : goal.returns-in-Text-Int
 returns-in-Text-Int c =
     sym (text-number (string_bytes c.in-Text-Int.field-0-0) c.in-Text-Int.field-0-1 c.args.end.now c.args.other_end.now)
-    ∙ (λ i. text_cmp (scalar_text (scalar_view (sym c.in-Text-Int.is-0 i)) ++ c.args.end.now) (scalar_text (scalar_view (sym c.in-Text-Int.is-1 i)) ++ c.args.other_end.now))
+    ∙ (λ i. text_cmp (scalar_text (scalar_view (sym c.in-Text-Int.is-0 i)) ++ c.args.end.now)
+    (scalar_text (scalar_view (sym c.in-Text-Int.is-1 i)) ++ c.args.other_end.now))
 
 pub returns-in-Int-Text : goal.returns-in-Int-Text
 returns-in-Int-Text c =
     sym (number-text c.in-Int-Text.field-0-0 (string_bytes c.in-Int-Text.field-0-1) c.args.end.now c.args.other_end.now)
-    ∙ (λ i. text_cmp (scalar_text (scalar_view (sym c.in-Int-Text.is-0 i)) ++ c.args.end.now) (scalar_text (scalar_view (sym c.in-Int-Text.is-1 i)) ++ c.args.other_end.now))
+    ∙ (λ i. text_cmp (scalar_text (scalar_view (sym c.in-Int-Text.is-0 i)) ++ c.args.end.now)
+    (scalar_text (scalar_view (sym c.in-Int-Text.is-1 i)) ++ c.args.other_end.now))
 
 pub returns-in-Int-Bool : goal.returns-in-Int-Bool
 returns-in-Int-Bool c =
     sym (number-before c.in-Int-Bool.field-0-0 c.in-Int-Bool.field-0-1 c.args.end.now c.args.other_end.now)
-    ∙ (λ i. text_cmp (scalar_text (scalar_view (sym c.in-Int-Bool.is-0 i)) ++ c.args.end.now) (scalar_text (scalar_view (sym c.in-Int-Bool.is-1 i)) ++ c.args.other_end.now))
+    ∙ (λ i. text_cmp (scalar_text (scalar_view (sym c.in-Int-Bool.is-0 i)) ++ c.args.end.now)
+    (scalar_text (scalar_view (sym c.in-Int-Bool.is-1 i)) ++ c.args.other_end.now))
 
 pub returns-in-Bool-Int : goal.returns-in-Bool-Int
 returns-in-Bool-Int c =
     sym (number-behind c.in-Bool-Int.field-0-1 c.in-Bool-Int.field-0-0 c.args.end.now c.args.other_end.now)
-    ∙ (λ i. text_cmp (scalar_text (scalar_view (sym c.in-Bool-Int.is-0 i)) ++ c.args.end.now) (scalar_text (scalar_view (sym c.in-Bool-Int.is-1 i)) ++ c.args.other_end.now))
+    ∙ (λ i. text_cmp (scalar_text (scalar_view (sym c.in-Bool-Int.is-0 i)) ++ c.args.end.now)
+    (scalar_text (scalar_view (sym c.in-Bool-Int.is-1 i)) ++ c.args.other_end.now))

@@ -11,4 +11,5 @@ pub returns : goal.returns
 returns c =
     let p = path_view c.args.elements.now in
     view-List c.push_texts.new.texts
-    ∙ ap (λ vs. list (items_of vs)) (c.in_ok-push_texts.ensures ∙ ap (λ xs. map view xs ++ map text_of p) c.in_ok-texts.ensures.items) ∙ ap list (items-made text_of p)
+    ∙ ap (λ vs. list (items_of vs)) (c.in_ok-push_texts.ensures ∙ ap (λ xs. map view xs ++ map text_of p) c.in_ok-texts.ensures.items)
+    ∙ ap list (items-made text_of p)

@@ -27,32 +27,44 @@ find_child-requires t c = (trie-parts c.args.other.now c.deref.result.now c.dere
 pub returns-in_default : goal.returns-in_default
 returns-in_default t c =
     let cs = c.deref-child-items.result.now in
-    let filled = filled-at cs c.loop-child.child-index c.child-item.result (omega arith) c.child-item.is (trie-parts c.args.own.now cs c.deref-child-items.ensures.value c.requires.own).1 in
-    exceeds-none c.args.own.now c.args.other.now cs c.loop-child.child-index c.child-item.result c.deref-child-items.ensures.value (omega arith) c.child-item.is (both_second (is_trie c.child-item.result.1) _ filled) c.requires.other
+    let filled = filled-at cs c.loop-child.child-index c.child-item.result (omega arith) c.child-item.is
+    (trie-parts c.args.own.now cs c.deref-child-items.ensures.value c.requires.own).1 in
+    exceeds-none c.args.own.now c.args.other.now cs c.loop-child.child-index c.child-item.result c.deref-child-items.ensures.value (omega arith)
+    c.child-item.is (both_second (is_trie c.child-item.result.1) _ filled) c.requires.other
     (ap (child_at (element_view c.child-item.result.0)) (sym c.deref.ensures.value) ∙ sym c.find_child.ensures ∙ ap option_copied c.in_default.is)
 
 pub lies_within-requires : goal.lies_within-requires
 lies_within-requires t c =
     let cs = c.deref-child-items.result.now in
-    let filled = filled-at cs c.loop-child.child-index c.child-item.result (omega arith) c.child-item.is (trie-parts c.args.own.now cs c.deref-child-items.ensures.value c.requires.own).1 in
-    let at = ap (child_at (element_view c.child-item.result.0)) (sym c.deref.ensures.value) ∙ sym c.find_child.ensures ∙ ap option_copied c.in-Some.is in
-    (search (rules, the_lemmas), (both_first (is_trie c.child-item.result.1) _ filled, is_trie-child c.args.other.now (element_view c.child-item.result.0) c.in-Some.place.now c.requires.other at))
+    let filled = filled-at cs c.loop-child.child-index c.child-item.result (omega arith) c.child-item.is
+    (trie-parts c.args.own.now cs c.deref-child-items.ensures.value c.requires.own).1 in
+    let at = ap (child_at (element_view c.child-item.result.0)) (sym c.deref.ensures.value) ∙ sym c.find_child.ensures ∙ ap option_copied c.in-Some.is in (
+      search (rules, the_lemmas),
+      (
+        both_first (is_trie c.child-item.result.1) _ filled,
+        is_trie-child c.args.other.now (element_view c.child-item.result.0) c.in-Some.place.now c.requires.other at,
+      ),
+    )
 
 pub returns-then-not-lies_within : goal.returns-then-not-lies_within
 returns-then-not-lies_within t c =
     let cs = c.deref-child-items.result.now in
     let place = c.in-Some.place.now in
-    exceeds-child c.args.own.now c.args.other.now cs c.loop-child.child-index c.child-item.result place c.deref-child-items.ensures.value (omega arith) c.child-item.is c.requires.other
+    exceeds-child c.args.own.now c.args.other.now cs c.loop-child.child-index c.child-item.result place c.deref-child-items.ensures.value (omega arith)
+    c.child-item.is c.requires.other
     (ap (child_at (element_view c.child-item.result.0)) (sym c.deref.ensures.value) ∙ sym c.find_child.ensures ∙ ap option_copied c.in-Some.is)
-    (subst (λ b. MatchBool b (IsWithin (paths c.child-item.result.1) (paths place)) (Exceeds (paths c.child-item.result.1) (paths place))) c.if-not-lies_within.true c.lies_within.ensures)
+    (subst (λ b. MatchBool b (IsWithin (paths c.child-item.result.1) (paths place)) (Exceeds (paths c.child-item.result.1) (paths place)))
+    c.if-not-lies_within.true c.lies_within.ensures)
 
 pub loop-child-preserved : goal.loop-child-preserved
 loop-child-preserved t c =
     let cs = c.deref-child-items.result.now in
     let place = c.in-Some.place.now in
-    within-more cs (out-Trie c.args.other.now).below.items c.loop-child.child-index c.child-item.result place (omega arith) c.child-item.is (trie-parts c.args.other.now _ refl c.requires.other).0
+    within-more cs (out-Trie c.args.other.now).below.items c.loop-child.child-index c.child-item.result place (omega arith) c.child-item.is
+    (trie-parts c.args.other.now _ refl c.requires.other).0
     (ap (child_at (element_view c.child-item.result.0)) (sym c.deref.ensures.value) ∙ sym c.find_child.ensures ∙ ap option_copied c.in-Some.is)
-    (subst (λ b. MatchBool b (IsWithin (paths c.child-item.result.1) (paths place)) (Exceeds (paths c.child-item.result.1) (paths place))) c.if-not-lies_within.false c.lies_within.ensures)
+    (subst (λ b. MatchBool b (IsWithin (paths c.child-item.result.1) (paths place)) (Exceeds (paths c.child-item.result.1) (paths place)))
+    c.if-not-lies_within.false c.lies_within.ensures)
     c.loop-child.invariant
 
 pub returns : goal.returns

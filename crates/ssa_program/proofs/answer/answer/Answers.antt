@@ -11,6 +11,7 @@ returns-after-answered-clause-unchanged c kept =
     let told = sym c.in_ok-answered-in-Ok.ensures.accepted in
     c.in_ok-answered-in-Ok.ensures.after
     ∙ elim c.if-answered.branch [
-      | then-answered w ↦ unchanged c.args.bench.now command (λ i. (told ∙ w.if-answered.true) i && (sym c.is_change-is_change.ensures ∙ sym w.result-is ∙ kept) i)
+      | then-answered w ↦ unchanged c.args.bench.now command
+          (λ i. (told ∙ w.if-answered.true) i && (sym c.is_change-is_change.ensures ∙ sym w.result-is ∙ kept) i)
       | else-answered w ↦ unchanged c.args.bench.now command (λ i. (told ∙ w.if-answered.false) i && is_change command)
     ]

@@ -7,7 +7,8 @@ use Rattle.ssa_program.proofs.perform.answer_and_save.Goals as goal
 
 pub returns-clause-reply : goal.returns-clause-reply
 returns-clause-reply g c =
-    let written : List ℕ → _ = λ t. OnOk c.write_answer.result (Appends (g.W.Sink.contents c.args.writer.now) (g.W.Sink.contents c.write_answer.new.writer) (t ++ line_feed ∷ [])) in
+    let written : List ℕ → _ = λ t. OnOk c.write_answer.result
+    (Appends (g.W.Sink.contents c.args.writer.now) (g.W.Sink.contents c.write_answer.new.writer) (t ++ line_feed ∷ [])) in
     subst written c.in_ok-reply.ensures.reply c.write_answer.ensures.reply
 
 pub returns-clause-ended : goal.returns-clause-ended

@@ -19,7 +19,8 @@ returns-in_ok-push-in-Some-field_below c =
     let item = c.in-Some.item in
     let below = c.in-Some-field_below.below in
     let at : path_view c.push.new.self.items ≡ p ++ element_view outer ∷ [] =
-    ap path_view c.in_ok-push.ensures.items ∙ map-append element_view c.args.path.now.items (c.in_ok-copied.copied ∷ []) ∙ ap (λ e. p ++ e ∷ []) c.in_ok-copied.ensures in
+    ap path_view c.in_ok-push.ensures.items ∙ map-append element_view c.args.path.now.items (c.in_ok-copied.copied ∷ [])
+    ∙ ap (λ e. p ++ e ∷ []) c.in_ok-copied.ensures in
     let there : path_view c.push-in-Some-field_below.new.self.items ≡ (p ++ element_view outer ∷ []) ++ element_view inner ∷ [] =
     ap path_view c.in_ok-push-in-Some-field_below.ensures.items
     ∙ map-append element_view c.push.new.self.items (c.in_ok-copied-in-Some-field_below.copied ∷ [])

@@ -60,8 +60,16 @@ kept_members-led_child-requires t c =
     let within : i < length (below n) = subst (λ xs. i < length xs) lent c.loop-child-test.true in
     let is = c.child-item.is ∙ ap (λ xs. get_or xs i child) lent in
     let found = child-at-index (below n) i child within is ((level-below n).apart c.requires.tree) in
-    let small : 8 * length (rows child.1) + 6 < 8 * length (rows n) + 3 = let part = falls-into n (element_view child.0) child.1 found in omega arith in
-    (search (rules, small), (tree-child n (element_view child.0) child.1 c.requires.tree found, (subst (λ xs. IsTouchedBelow (maps_of c.args.told.now) (path_view xs) c.args.touched.now) (sym c.loop-child.invariant.path) c.requires.touched, c.requires.all)))
+    let small : 8 * length (rows child.1) + 6 < 8 * length (rows n) + 3 = let part = falls-into n (element_view child.0) child.1 found in omega arith in (
+      search (rules, small),
+      (
+        tree-child n (element_view child.0) child.1 c.requires.tree found,
+        (
+          subst (λ xs. IsTouchedBelow (maps_of c.args.told.now) (path_view xs) c.args.touched.now) (sym c.loop-child.invariant.path) c.requires.touched,
+          c.requires.all,
+        ),
+      ),
+    )
 
 pub kept_members-returns-in-None-clause-kept : goal.kept_members-returns-in-None-clause-kept
 kept_members-returns-in-None-clause-kept t c = λ kind v w q f h.
@@ -109,7 +117,8 @@ kept_members-loop-child-preserved t c =
           (subst (λ x. AreKeptSoFar m p n (take i (below n) ++ child ∷ []) x) (sym made)
           (kept-add m p n (take i (below n)) child ms c.loop-child.invariant.kept (view value) (new-at-index (below n) i child within is apart)
           (λ kind v w q f h.
-          let g = led-given m p n e child.1 (Some value) c.requires.tree found uncut (subst (λ o. IsLed m (p ++ e ∷ []) child.1 o) c.in-Some.is led) kind v w q f h in
+          let g = led-given m p n e child.1 (Some value) c.requires.tree found uncut (subst (λ o. IsLed m (p ++ e ∷ []) child.1 o) c.in-Some.is led) kind v w
+          q f h in
           g.1.0 ∙ ap (λ j. Some j) (sym g.1.1))));
     }
 
@@ -124,7 +133,8 @@ kept_members-returns-clause-kept t c =
     kept-end m p n ms c.requires.tree (subst (λ xs. AreKeptSoFar m p n xs ms) all c.loop-child.invariant.kept)
 
 pub led_child-find_child-requires : goal.led_child-find_child-requires
-led_child-find_child-requires t c = ap (λ xs. Rattle.ssa_path.specs.Children.rises (elements xs)) c.deref.ensures.value ∙ (trie-parts c.args.touched.now _ refl c.requires.touched.0).0
+led_child-find_child-requires t c = ap (λ xs. Rattle.ssa_path.specs.Children.rises (elements xs)) c.deref.ensures.value
+    ∙ (trie-parts c.args.touched.now _ refl c.requires.touched.0).0
 
 pub led_child-led_value-requires : goal.led_child-led_value-requires
 led_child-led_value-requires t c =
@@ -134,7 +144,8 @@ led_child-led_value-requires t c =
     let small : 8 * length (rows n) + 5 < 8 * length (rows n) + 6 = omega arith in
     let is = sym (ap (child_at e) c.deref.ensures.value) ∙ sym c.find_child.ensures ∙ ap option_copied c.in-Some.is in
     let below = touched-child m (path_view c.args.path.now.items) c.args.touched.now c.in-Some.below.now e c.requires.touched is in
-    let path = ap path_view c.in_ok-push-in-Some.ensures.items ∙ map-append element_view c.args.path.now.items (c.in_ok-element-in-Some.element ∷ []) ∙ ap (λ d. path_view c.args.path.now.items ++ d ∷ []) c.in_ok-element-in-Some.ensures in
+    let path = ap path_view c.in_ok-push-in-Some.ensures.items ∙ map-append element_view c.args.path.now.items (c.in_ok-element-in-Some.element ∷ [])
+    ∙ ap (λ d. path_view c.args.path.now.items ++ d ∷ []) c.in_ok-element-in-Some.ensures in
     (search (rules, small), (c.requires.tree, (subst (λ g. IsTouchedBelow m g c.in-Some.below.now) (sym path) below, c.requires.all)))
 
 pub led_child-returns-in_ok-to_json-in-None-clause-led : goal.led_child-returns-in_ok-to_json-in-None-clause-led
@@ -142,7 +153,7 @@ led_child-returns-in_ok-to_json-in-None-clause-led t c = λ kind v w q f h.
     let m = maps_of c.args.told.now in
     let e = element_view c.args.child.now.0 in
     let none = sym (ap (child_at e) c.deref.ensures.value) ∙ sym c.find_child.ensures ∙ ap option_copied c.in-None.is in
-    c.in_ok-to_json-in-None.ensures
+    c.in_ok-to_json-in-None.ensures.value
     ∙ untouched-led m (path_view c.args.path.now.items) c.args.touched.now e c.args.child.now.1 c.requires.tree c.requires.touched none kind v w q f h
 
 -- ---- one item
@@ -161,7 +172,8 @@ led_item-offset_bounds-children-place t c =
     let e = element_view c.args.element.now in
     let place = place-told e cs c.find_place.result (c.find_place.ensures ∙ c.requires.sorted.same e) in
     let at = subst (λ o. IfSome o (IsChildAt e cs)) c.in-Some-find_place.is place.0 in
-    let within : c.in-Some-find_place.place < length c.children.result.now = subst (λ xs. c.in-Some-find_place.place < length xs) (sym c.children.ensures.own) at.within in
+    let within : c.in-Some-find_place.place < length c.children.result.now =
+    subst (λ xs. c.in-Some-find_place.place < length xs) (sym c.children.ensures.own) at.within in
     omega (arith, within, c.children.type_inv.1)
 
 pub led_item-led_child-requires : goal.led_item-led_child-requires
@@ -172,7 +184,8 @@ led_item-led_child-requires t c =
     let child = c.index-children-place.result in
     let place = place-told e cs c.find_place.result (c.find_place.ensures ∙ c.requires.sorted.same e) in
     let at = subst (λ o. IfSome o (IsChildAt e cs)) c.in-Some-find_place.is place.0 in
-    let there = child-there e cs c.children.result.now c.in-Some-find_place.place child c.children.ensures.own at c.index-children-place.is ((level-below n).apart c.requires.tree) in
+    let there = child-there e cs c.children.result.now c.in-Some-find_place.place child c.children.ensures.own at c.index-children-place.is
+    ((level-below n).apart c.requires.tree) in
     let small : 8 * length (rows child.1) + 6 < 8 * length (rows n) + 2 = falls-into n e child.1 there in
     (search (rules, small), (tree-child n e child.1 c.requires.tree there, (c.requires.touched, c.requires.all)))
 
@@ -183,7 +196,8 @@ led_item-returns-in_ok-copy-in-Some-clause-led t c =
     let e = element_view c.args.element.now in
     let put = c.in-Some.put.now in
     let told : get m.put (p ++ e ∷ []) ≡ Some (view put.value, put.place) =
-    ap (λ g. get m.put (path_view g ++ e ∷ [])) (sym c.deref.ensures.value) ∙ sym c.put_at.ensures ∙ ap (option_map (λ x. (view x.now.value, x.now.place))) c.in-Some.is in
+    ap (λ g. get m.put (path_view g ++ e ∷ [])) (sym c.deref.ensures.value) ∙ sym c.put_at.ensures
+    ∙ ap (option_map (λ x. (view x.now.value, x.now.place))) c.in-Some.is in
     item-put m p c.args.node.now e (view put.value, put.place) c.in_ok-copy-in-Some.field-0 told c.in_ok-copy-in-Some.ensures
 
 pub led_item-returns-in-Some-find_place-clause-led : goal.led_item-returns-in-Some-find_place-clause-led
@@ -196,8 +210,10 @@ led_item-returns-in-Some-find_place-clause-led t c =
     let child = c.index-children-place.result in
     let place = place-told e cs c.find_place.result (c.find_place.ensures ∙ c.requires.sorted.same e) in
     let at = subst (λ o. IfSome o (IsChildAt e cs)) c.in-Some-find_place.is place.0 in
-    let there = child-there e cs c.children.result.now c.in-Some-find_place.place child c.children.ensures.own at c.index-children-place.is ((level-below n).apart c.requires.tree) in
-    let read : child ≡ get_or cs c.in-Some-find_place.place child = c.index-children-place.is ∙ ap (λ xs. get_or xs c.in-Some-find_place.place child) c.children.ensures.own in
+    let there = child-there e cs c.children.result.now c.in-Some-find_place.place child c.children.ensures.own at c.index-children-place.is
+    ((level-below n).apart c.requires.tree) in
+    let read : child ≡ get_or cs c.in-Some-find_place.place child = c.index-children-place.is
+    ∙ ap (λ xs. get_or xs c.in-Some-find_place.place child) c.children.ensures.own in
     let own : element_view child.0 ≡ e = sym (same_element-true e (element_view child.0) (child-named e cs c.in-Some-find_place.place child at read)) in
     item-led m p n e child.0 child.1 c.led_child.result c.requires.tree there own c.led_child.ensures.led
 
@@ -211,7 +227,8 @@ led_item-returns-in-None-find_place-clause-led t c =
     let place = place-told e cs c.find_place.result (c.find_place.ensures ∙ c.requires.sorted.same e) in
     let none = subst (λ o. IfNone o (child_at e cs ≡ None)) c.in-None-find_place.is place.1 in
     let untold : get m.put (p ++ e ∷ []) ≡ None =
-    ap (λ g. get m.put (path_view g ++ e ∷ [])) (sym c.deref.ensures.value) ∙ sym c.put_at.ensures ∙ ap (option_map (λ x. (view x.now.value, x.now.place))) c.in-None.is in
+    ap (λ g. get m.put (path_view g ++ e ∷ [])) (sym c.deref.ensures.value) ∙ sym c.put_at.ensures
+    ∙ ap (option_map (λ x. (view x.now.value, x.now.place))) c.in-None.is in
     item-none m p n e c.requires.tree none untold
 
 -- ---- the items of a list
@@ -263,7 +280,8 @@ led_list-returns-in_default-clause-led t c = λ kind v w q f h.
     let order = order-led m p n (option_map (λ es. es.items) c.in_ok-order.field-0) c.requires.tree c.requires.items
     (λ gs some. c.in_ok-order.ensures.told gs (ap (λ g. get m.order (path_view g)) c.deref.ensures.value ∙ some))
     (λ none fs re. c.in_ok-order.ensures.refilled (ap (λ g. get m.order (path_view g)) c.deref.ensures.value ∙ none) fs
-    (subst (λ g. IsRefilled m (path_view g) (elements c.children.result.now) fs) (sym c.deref.ensures.value) (subst (λ xs. IsRefilled m p (elements xs) fs) (sym c.children.ensures.own) re)))
+    (subst (λ g. IsRefilled m (path_view g) (elements c.children.result.now) fs) (sym c.deref.ensures.value)
+    (subst (λ xs. IsRefilled m p (elements xs) fs) (sym c.children.ensures.own) re)))
     kind v w q f h in
     subst (λ o. IsOrderOf (option_map (λ es. es.items) o) (order_at (get w p))) c.in_default.is order
 
@@ -275,7 +293,8 @@ led_list-returns-in-Some-2-clause-led t c = λ kind v w q f h.
     let order = order-led m p n (option_map (λ es. es.items) c.in_ok-order.field-0) c.requires.tree c.requires.items
     (λ gs some. c.in_ok-order.ensures.told gs (ap (λ g. get m.order (path_view g)) c.deref.ensures.value ∙ some))
     (λ none fs re. c.in_ok-order.ensures.refilled (ap (λ g. get m.order (path_view g)) c.deref.ensures.value ∙ none) fs
-    (subst (λ g. IsRefilled m (path_view g) (elements c.children.result.now) fs) (sym c.deref.ensures.value) (subst (λ xs. IsRefilled m p (elements xs) fs) (sym c.children.ensures.own) re)))
+    (subst (λ g. IsRefilled m (path_view g) (elements c.children.result.now) fs) (sym c.deref.ensures.value)
+    (subst (λ xs. IsRefilled m p (elements xs) fs) (sym c.children.ensures.own) re)))
     kind v w q f h in
     let names : path_view c.deref-2.result.now ≡ order_at (get w p) =
     ap path_view c.deref-2.ensures.value ∙ subst (λ o. IsOrderOf (option_map (λ es. es.items) o) (order_at (get w p))) c.in-Some.is order in
@@ -291,7 +310,8 @@ led_list-returns-clause-led t c = λ kind v w q f h.
     let order = order-led m p n (option_map (λ es. es.items) c.in_ok-order.field-0) c.requires.tree c.requires.items
     (λ gs some. c.in_ok-order.ensures.told gs (ap (λ g. get m.order (path_view g)) c.deref.ensures.value ∙ some))
     (λ none fs re. c.in_ok-order.ensures.refilled (ap (λ g. get m.order (path_view g)) c.deref.ensures.value ∙ none) fs
-    (subst (λ g. IsRefilled m (path_view g) (elements c.children.result.now) fs) (sym c.deref.ensures.value) (subst (λ xs. IsRefilled m p (elements xs) fs) (sym c.children.ensures.own) re)))
+    (subst (λ g. IsRefilled m (path_view g) (elements c.children.result.now) fs) (sym c.deref.ensures.value)
+    (subst (λ xs. IsRefilled m p (elements xs) fs) (sym c.children.ensures.own) re)))
     kind v w q f h in
     let names : path_view c.deref-2.result.now ≡ order_at (get w p) =
     ap path_view c.deref-2.ensures.value ∙ subst (λ o. IsOrderOf (option_map (λ es. es.items) o) (order_at (get w p))) c.in-Some.is order in
@@ -305,8 +325,10 @@ led_object-returns-clause-led t c = λ kind v w q f h.
     let n = c.args.node.now in
     let kept = members_view c.in-Some.members.entries in
     let all = members_view c.put_members.new.members.entries in
-    let have : HaveKept v w q p (Some kept) = subst (λ o. HaveKept v w q p (option_map (λ x. members_view x.entries) o)) c.in-Some.is (c.in_ok-members.ensures.kept kind v w q f h) in
-    let put : ArePut m p kept all = subst (λ g. ArePut m (path_view g) kept all) (c.deref.ensures.value ∙ c.in_ok-members.ensures.path) c.in_ok-put_members.ensures in
+    let have : HaveKept v w q p (Some kept) = subst (λ o. HaveKept v w q p (option_map (λ x. members_view x.entries) o)) c.in-Some.is
+    (c.in_ok-members.ensures.kept kind v w q f h) in
+    let put : ArePut m p kept all = subst (λ g. ArePut m (path_view g) kept all) (c.deref.ensures.value
+    ∙ c.in_ok-members.ensures.path) c.in_ok-put_members.ensures in
     let met = all-met m p n kept all kind v w q c.requires.tree f h have put in
     view-Object c.put_members.new.members ∙ members-led m kind v w f p q n h c.requires.tree c.requires.members all met.0 met.1
 

@@ -39,5 +39,6 @@ invariant-kept_members-loop-child l = record {
 abbrev pub invariant-led_items-loop-element : goal.invariant-led_items-loop-element
 invariant-led_items-loop-element l = record {
   path : l.path.items ≡ l.fn.path.items;
-  items : AreItemsSoFar (maps_of l.told) (path_view l.fn.path.items) l.node (path_view l.order) (path_view (take l.element-index l.order)) (items_view l.items.items);
+  items : AreItemsSoFar (maps_of l.told) (path_view l.fn.path.items) l.node (path_view l.order) (path_view (take l.element-index l.order))
+      (items_view l.items.items);
 }

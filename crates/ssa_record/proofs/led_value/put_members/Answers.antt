@@ -27,13 +27,16 @@ loop-child-preserved c =
       | in-Some+in_ok-value-in-Some+in_ok-put_under-in-Some w ↦
           let told = sym c.put_at.ensures ∙ ap (option_map (λ x. (view x.now.value, x.now.place))) w.in-Some.is in
           let made : members_view c.match-put_at.members.entries ≡ with_member_under (element_view child.0) (view w.in-Some.put.now.value) now =
-          ap (λ x. members_view x.entries) w.members-is ∙ w.in_ok-put_under-in-Some.ensures ∙ ap (λ j. with_member_under (element_view child.0) j now) w.in_ok-value-in-Some.ensures in
+          ap (λ x. members_view x.entries) w.members-is ∙ w.in_ok-put_under-in-Some.ensures
+          ∙ ap (λ j. with_member_under (element_view child.0) j now) w.in_ok-value-in-Some.ensures in
           subst (λ xs. ArePutSoFar m p xs before (members_view c.match-put_at.members.entries)) (sym more)
-          (subst (λ x. ArePutSoFar m p (take i ts ++ child ∷ []) before x) (sym made) (puts-add m p (take i ts) child before now c.loop-child.invariant (view w.in-Some.put.now.value, w.in-Some.put.now.place) told))
+          (subst (λ x. ArePutSoFar m p (take i ts ++ child ∷ []) before x) (sym made)
+          (puts-add m p (take i ts) child before now c.loop-child.invariant (view w.in-Some.put.now.value, w.in-Some.put.now.place) told))
       | in-None w ↦
           let told = sym c.put_at.ensures ∙ ap (option_map (λ x. (view x.now.value, x.now.place))) w.in-None.is in
           subst (λ xs. ArePutSoFar m p xs before (members_view c.match-put_at.members.entries)) (sym more)
-          (subst (λ x. ArePutSoFar m p (take i ts ++ child ∷ []) before x) (ap (λ x. members_view x.entries) (sym w.members-is)) (puts-skip m p (take i ts) child before now c.loop-child.invariant told))
+          (subst (λ x. ArePutSoFar m p (take i ts ++ child ∷ []) before x) (ap (λ x. members_view x.entries) (sym w.members-is))
+          (puts-skip m p (take i ts) child before now c.loop-child.invariant told))
     ]
 
 pub returns : goal.returns

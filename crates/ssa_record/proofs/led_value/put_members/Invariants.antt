@@ -8,4 +8,5 @@ use Rattle.ssa_record.proofs.led_value.put_members.Given as goal
 
 -- what is put at the children so far stands there
 abbrev pub invariant-loop-child : goal.invariant-loop-child
-invariant-loop-child l = ArePutSoFar (maps_of l.told) (path_view l.path) (take l.child-index (out-Trie l.touched).below.items) (members_view l.fn.members.entries) (members_view l.members.entries)
+invariant-loop-child l = ArePutSoFar (maps_of l.told) (path_view l.path) (take l.child-index (out-Trie l.touched).below.items)
+    (members_view l.fn.members.entries) (members_view l.members.entries)

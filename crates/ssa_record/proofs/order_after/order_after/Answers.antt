@@ -10,4 +10,5 @@ returns-in_ok-order-in-Some-2-clause-refilled c = λ none fs r.
     c.in_ok-order-in-Some-2.ensures ∙ ap lent_elements c.deref.ensures.value ∙ same_Some _ _ lent
 
 pub returns-in-None-clause-refilled : goal.returns-in-None-clause-refilled
-returns-in-None-clause-refilled c = λ none fs r. none-some _ (subst (λ o. IsLentOrder (option_map (λ v. v.items) o) fs) c.in-None.is (c.in_ok-lent.ensures fs r))
+returns-in-None-clause-refilled c = λ none fs r. none-some _
+    (subst (λ o. IsLentOrder (option_map (λ v. v.items) o) fs) c.in-None.is (c.in_ok-lent.ensures fs r))

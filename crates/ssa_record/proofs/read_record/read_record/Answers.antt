@@ -19,7 +19,7 @@ use Rattle.ssa_turn_state.specs.States.{HasStateRoom, IsTaken, state_steps}
 use Rattle.ssa_record.specs.LedStates.{IsSaidState}
 use Rattle.ssa_record.specs.Told.{said_body, said_table, told_body, told_table}
 use Rattle.ssa_record.proofs.LedBodies.{lawful-ordered}
-use Rattle.ssa_record.proofs.LedStates.{there}
+use Rattle.ssa_model.proofs.RecordTakes.{taken-there as there}
 use Rattle.ssa_record.proofs.RecordTextsSay.{record_texts_say}
 use Rattle.ssa_record.proofs.read_record.read_record.Goals as goal
 
@@ -33,8 +33,10 @@ returns-in_default-2-clause-answer c =
       shape = sym c.in_ok-told.ensures.shape ∙ ap is_some c.in-Some.is;
       none = λ w h.
           let say = record_texts_say readings version kind v w c.kind-kind.ensures.accepted c.requires h.valid h.read_from h.read_to in
-          let body = subst (λ o. IfSome o (λ r. told_body r.body ≡ said_body readings j)) c.in-Some.is c.in_ok-told.ensures.body ∙ ap (said_body readings) h.value ∙ say.0 in
-          let table = subst (λ o. IfSome o (λ r. told_table r.table ≡ said_table readings j)) c.in-Some.is c.in_ok-told.ensures.table ∙ ap (said_table readings) h.value ∙ say.1 in
+          let body = subst (λ o. IfSome o (λ r. told_body r.body ≡ said_body readings j)) c.in-Some.is c.in_ok-told.ensures.body
+          ∙ ap (said_body readings) h.value ∙ say.0 in
+          let table = subst (λ o. IfSome o (λ r. told_table r.table ≡ said_table readings j)) c.in-Some.is c.in_ok-told.ensures.table
+          ∙ ap (said_table readings) h.value ∙ say.1 in
           subst (λ o. IsSaidState o (record_of v w)) c.in_default-2.is (c.in_ok-delta.ensures.whole w h.valid h.order body table);
     }
 
@@ -60,9 +62,12 @@ returns-then-not-same-clause-answer c =
       shape = sym c.in_ok-told.ensures.shape ∙ ap is_some c.in-Some.is;
       none = λ w h.
           let say = record_texts_say readings version kind v w c.kind-kind.ensures.accepted c.requires h.valid h.read_from h.read_to in
-          let body = subst (λ o. IfSome o (λ r. told_body r.body ≡ said_body readings j)) c.in-Some.is c.in_ok-told.ensures.body ∙ ap (said_body readings) h.value ∙ say.0 in
-          let table = subst (λ o. IfSome o (λ r. told_table r.table ≡ said_table readings j)) c.in-Some.is c.in_ok-told.ensures.table ∙ ap (said_table readings) h.value ∙ say.1 in
-          let is : state_steps c.in-Some-2.delta ≡ record_of v w = subst (λ o. IsSaidState o (record_of v w)) c.in-Some-2.is (c.in_ok-delta.ensures.whole w h.valid h.order body table) in
+          let body = subst (λ o. IfSome o (λ r. told_body r.body ≡ said_body readings j)) c.in-Some.is c.in_ok-told.ensures.body
+          ∙ ap (said_body readings) h.value ∙ say.0 in
+          let table = subst (λ o. IfSome o (λ r. told_table r.table ≡ said_table readings j)) c.in-Some.is c.in_ok-told.ensures.table
+          ∙ ap (said_table readings) h.value ∙ say.1 in
+          let is : state_steps c.in-Some-2.delta ≡ record_of v w =
+          subst (λ o. IsSaidState o (record_of v w)) c.in-Some-2.is (c.in_ok-delta.ensures.whole w h.valid h.order body table) in
           let takes : Takes kind (state_steps c.in-Some-2.delta) v w = record { from = c.requires; to = h.valid; order = h.order; is = is } in
           let made = c.in_ok-made.ensures kind v w (lawful-ordered kind c.kind-kind.ensures.accepted.lawful) takes in
           let same : view c.in_ok-made.made ≡ j = made ∙ ap (record_json (text_json version) kind) is ∙ sym h.value in
@@ -97,7 +102,8 @@ returns-clause-answer c =
     let led : state_view c.turn_state.new.state ≡ w = c.turn_state.ensures.value ∙ ap (carry d) c.in_ok-delta.ensures.same ∙ fixes_target kind d v w taken.1 in
     let back = c.turn_state.ensures.back in
     let home : state_view c.turn_state-2.new.state ≡ v =
-    c.turn_state-2.ensures.value ∙ fixes_target back.0 (state_steps c.turn_state.new.delta) (state_view c.turn_state.new.state) (state_view c.told_delta.new.state) back.1 ∙ c.in_ok-delta.ensures.same in
+    c.turn_state-2.ensures.value ∙ fixes_target back.0 (state_steps c.turn_state.new.delta) (state_view c.turn_state.new.state)
+    (state_view c.told_delta.new.state) back.1 ∙ c.in_ok-delta.ensures.same in
     let is : state_steps c.turn_state-2.new.delta ≡ record_of v w = c.turn_state-2.ensures.back.1.is ∙ (λ i. record_of (home i) (led i)) in
     let alike : d ≡ state_steps c.turn_state-2.new.delta = taken.1.is ∙ sym is in (
       w,
@@ -113,4 +119,5 @@ returns-clause-answer c =
 pub returns-clause-same : goal.returns-clause-same
 returns-clause-same c =
     let back = c.turn_state.ensures.back in
-    c.turn_state-2.ensures.value ∙ fixes_target back.0 (state_steps c.turn_state.new.delta) (state_view c.turn_state.new.state) (state_view c.told_delta.new.state) back.1 ∙ c.in_ok-delta.ensures.same
+    c.turn_state-2.ensures.value ∙ fixes_target back.0 (state_steps c.turn_state.new.delta) (state_view c.turn_state.new.state)
+    (state_view c.told_delta.new.state) back.1 ∙ c.in_ok-delta.ensures.same

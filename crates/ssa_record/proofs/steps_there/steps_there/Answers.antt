@@ -29,7 +29,8 @@ returns-in_default c =
       taken = tt;
       room = tt;
       whole = λ d w to own is.
-          subst (λ o. IsGiven o (shown k w p)) c.in_default.is (value-given m kind v p s r.lawful r.valid r.spot r.inner d w to own is c.in_ok-value.field-0 c.in_ok-value.ensures.led);
+          subst (λ o. IsGiven o (shown k w p)) c.in_default.is
+          (value-given m kind v p s r.lawful r.valid r.spot r.inner d w to own is c.in_ok-value.field-0 c.in_ok-value.ensures.led);
     }
 
 pub tree_at-requires : goal.tree_at-requires
@@ -52,7 +53,8 @@ returns-in_default-2 c =
       room = tt;
       whole = λ d w to own is.
           let shows : value ≡ shown k w p =
-          subst (λ o. IsGiven o (shown k w p)) c.in-Some.is (value-given m kind v p s r.lawful r.valid r.spot r.inner d w to own is c.in_ok-value.field-0 c.in_ok-value.ensures.led) in
+          subst (λ o. IsGiven o (shown k w p)) c.in-Some.is (value-given m kind v p s r.lawful r.valid r.spot r.inner d w to own is c.in_ok-value.field-0
+          c.in_ok-value.ensures.led) in
           let none : faults k value [] ≡ [] = ap (λ x. faults k x []) shows ∙ value-fits m kind v p s r.lawful r.valid r.spot r.inner d w to own is in
           true≢false (sym (ap is_none none) ∙ subst (λ o. ReadsTree o k value) c.in_default-2.is c.in_ok-after.ensures);
     }
@@ -60,7 +62,8 @@ returns-in_default-2 c =
 pub has_room-requires-clause-part : goal.has_room-requires-clause-part
 has_room-requires-clause-part c =
     let r = c.requires in
-    part-small (maps_of c.args.told.now) c.args.schema.now.kind c.args.body.now (path_view c.args.path.now.items) c.args.spot.now r.lawful r.valid r.spot r.inner
+    part-small (maps_of c.args.told.now) c.args.schema.now.kind c.args.body.now (path_view c.args.path.now.items) c.args.spot.now r.lawful r.valid r.spot
+    r.inner
 
 pub returns-then-not-has_room : goal.returns-then-not-has_room
 returns-then-not-has_room c =
@@ -79,7 +82,8 @@ returns-then-not-has_room c =
       room = tt;
       whole = λ d w to own is.
           let shows : value ≡ shown k w p =
-          subst (λ o. IsGiven o (shown k w p)) c.in-Some.is (value-given m kind v p s r.lawful r.valid r.spot r.inner d w to own is c.in_ok-value.field-0 c.in_ok-value.ensures.led) in
+          subst (λ o. IsGiven o (shown k w p)) c.in-Some.is (value-given m kind v p s r.lawful r.valid r.spot r.inner d w to own is c.in_ok-value.field-0
+          c.in_ok-value.ensures.led) in
           let few = target-few m kind v p s r.lawful r.valid r.spot r.inner d w to own is value n shows read in
           let many = sym c.has_room.ensures ∙ c.if-not-has_room.true in
           grind (arith, nat_tests, few, many);
@@ -91,7 +95,8 @@ steps_at-requires-clause-alike c =
     let k = kind_view c.args.spot.now.kind.now in
     let value = view c.in-Some.value in
     let read = subst (λ o. ReadsTree o k value) c.in-Some-2.is c.in_ok-after.ensures in
-    alike-trees (maps_of c.args.told.now) c.args.schema.now.kind c.args.body.now (path_view c.args.path.now.items) c.args.spot.now r.lawful r.valid r.spot r.inner
+    alike-trees (maps_of c.args.told.now) c.args.schema.now.kind c.args.body.now (path_view c.args.path.now.items) c.args.spot.now r.lawful r.valid r.spot
+    r.inner
     value c.in-Some-2.after read
 
 pub returns : goal.returns
@@ -117,6 +122,7 @@ returns c =
       room = steps-room m kind v p s r.lawful r.valid r.spot r.inner value n read few t say serve;
       whole = λ d w to own is.
           let shows : value ≡ shown k w p =
-          subst (λ o. IsGiven o (shown k w p)) c.in-Some.is (value-given m kind v p s r.lawful r.valid r.spot r.inner d w to own is c.in_ok-value.field-0 c.in_ok-value.ensures.led) in
+          subst (λ o. IsGiven o (shown k w p)) c.in-Some.is (value-given m kind v p s r.lawful r.valid r.spot r.inner d w to own is c.in_ok-value.field-0
+          c.in_ok-value.ensures.led) in
           steps-say m kind v p s r.lawful r.valid r.spot r.inner d w to own is value n shows read t say;
     }

@@ -14,8 +14,10 @@ loop-step-preserved c =
     let i = c.loop-step.step-index in
     let r = c.step-item.result in
     let lent = c.deref-step-items.ensures.value in
-    let own = subst (λ es. AddsPaths (told_paths (at_place (path_view es) (cuts_in r.change))) c.loop-step.cut c.add_cut.new.cut) c.deref.ensures.value c.in_ok-add_cut.ensures in
-    cuts-more ss i r empty c.loop-step.cut c.add_cut.new.cut (subst (λ xs. i < length xs) lent c.loop-step-test.true) (c.step-item.is ∙ ap (λ xs. get_or xs i r) lent) c.loop-step.invariant own
+    let own = subst (λ es. AddsPaths (told_paths (at_place (path_view es) (cuts_in r.change))) c.loop-step.cut c.add_cut.new.cut) c.deref.ensures.value
+    c.in_ok-add_cut.ensures in
+    cuts-more ss i r empty c.loop-step.cut c.add_cut.new.cut (subst (λ xs. i < length xs) lent c.loop-step-test.true) (c.step-item.is
+    ∙ ap (λ xs. get_or xs i r) lent) c.loop-step.invariant own
 
 pub returns : goal.returns
 returns c =

@@ -29,7 +29,8 @@ returns-in-Err-Body-clause-read c = λ w valid shows.
 pub returns-clause-read : goal.returns-clause-read
 returns-clause-read c = λ w valid shows.
     let kind = c.args.schema.now.kind in
-    let read = subst (λ r. ReadsBody r kind (view c.args.value)) (c.in-Err-TooManyPaths.is ∙ ap Err c.in-Err-TooManyPaths.field-0-is) c.from_json.ensures.read in
+    let read = subst (λ r. ReadsBody r kind (view c.args.value)) (c.in-Err-TooManyPaths.is
+    ∙ ap Err c.in-Err-TooManyPaths.field-0-is) c.from_json.ensures.read in
     let same = ap (flat kind) shows ∙ flat_of_shown kind w c.kind-kind.ensures.accepted.lawful valid.fits valid.rooted in
     let many : most_places < size w = subst (λ b. most_places < size b) same read.1 in
     omega (arith, many, valid.few)

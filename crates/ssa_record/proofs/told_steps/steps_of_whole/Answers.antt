@@ -18,7 +18,8 @@ returns-in_default c =
       taken = tt;
       room = tt;
       whole = λ d w takes valid is.
-          subst (λ o. IsGiven o (shown kind w [])) c.in_default.is (c.in_ok-value.ensures kind d w (lawful-ordered kind c.kind-kind.ensures.accepted.lawful) takes is);
+          subst (λ o. IsGiven o (shown kind w [])) c.in_default.is
+          (c.in_ok-value.ensures kind d w (lawful-ordered kind c.kind-kind.ensures.accepted.lawful) takes is);
     }
 
 pub steps_between-requires : goal.steps_between-requires
@@ -37,7 +38,8 @@ returns-in_ok-steps_between-in-Some-2 c =
       room = c.in_ok-steps_between-in-Some-2.ensures.room alike;
       whole = λ d w takes own is.
           let shows : view c.in-Some.value ≡ shown kind w [] =
-          subst (λ o. IsGiven o (shown kind w [])) c.in-Some.is (c.in_ok-value.ensures kind d w (lawful-ordered kind c.kind-kind.ensures.accepted.lawful) takes is) in
+          subst (λ o. IsGiven o (shown kind w [])) c.in-Some.is
+          (c.in_ok-value.ensures kind d w (lawful-ordered kind c.kind-kind.ensures.accepted.lawful) takes is) in
           let same : c.in-Some-2.after ≡ w = subst (λ o. IsThis o w) c.in-Some-2.is (c.in_ok-after.ensures.read w own shows) in
           c.in_ok-steps_between-in-Some-2.ensures.record alike ∙ ap (body_record c.args.body.now) same ∙ sym takes.is;
     }
@@ -50,6 +52,7 @@ returns-in-None c =
       room = tt;
       whole = λ d w takes own is.
           let shows : view c.in-Some.value ≡ shown kind w [] =
-          subst (λ o. IsGiven o (shown kind w [])) c.in-Some.is (c.in_ok-value.ensures kind d w (lawful-ordered kind c.kind-kind.ensures.accepted.lawful) takes is) in
+          subst (λ o. IsGiven o (shown kind w [])) c.in-Some.is
+          (c.in_ok-value.ensures kind d w (lawful-ordered kind c.kind-kind.ensures.accepted.lawful) takes is) in
           subst (λ o. IsThis o w) c.in-None.is (c.in_ok-after.ensures.read w own shows);
     }

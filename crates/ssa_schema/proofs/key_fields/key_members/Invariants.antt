@@ -8,4 +8,5 @@ use Rattle.ssa_schema.proofs.key_fields.key_members.Given as goal
 -- the scalars so far, and those of the names that are left
 abbrev pub invariant-loop-name : goal.invariant-loop-name
 invariant-loop-name l =
-    keys.members_view l.found.items ++ key_scalars (names_view (drop l.name-index l.names)) (members_view l.members.entries) ≡ key_scalars (names_view l.names) (members_view l.members.entries)
+    keys.members_view l.found.items ++ key_scalars (names_view (drop l.name-index l.names)) (members_view l.members.entries)
+    ≡ key_scalars (names_view l.names) (members_view l.members.entries)

@@ -10,7 +10,8 @@ use Rattle.ssa_schema.proofs.schema.read_kind.Goals as goal
 pub returns-in-Some-clause-kind : goal.returns-in-Some-clause-kind
 returns-in-Some-clause-kind c =
     let v = view c.args.schema.now in
-    subst (λ f. Faults f (schema_reading v)) (sym c.fault_of.ensures) (Faults-refusal c.in-Some.refusal v (ap (option_map refusal_view) (sym c.in-Some.is) ∙ c.in_ok-refusal.ensures))
+    subst (λ f. Faults f (schema_reading v)) (sym c.fault_of.ensures)
+    (Faults-refusal c.in-Some.refusal v (ap (option_map refusal_view) (sym c.in-Some.is) ∙ c.in_ok-refusal.ensures))
 
 pub returns-clause-kind : goal.returns-clause-kind
 returns-clause-kind c =

@@ -7,7 +7,8 @@ use Rattle.ssa_session.proofs.bench_machine.answer_change.Goals as goal
 
 pub returns-in_ok-commit-in-Ok-clause-reply : goal.returns-in_ok-commit-in-Ok-clause-reply
 returns-in_ok-commit-in-Ok-clause-reply c =
-    (λ i. (c.accepted.ensures.text i).items) ∙ c.in_ok-text-in-Ok.ensures ∙ (λ i. reply_text (model.changed (c.change_word-word.ensures i) (changed_view (c.changed.ensures i)))) ∙ ap reply_text (sym c.in-Ok.ensures.reply)
+    (λ i. (c.accepted.ensures.text i).items) ∙ c.in_ok-text-in-Ok.ensures
+    ∙ (λ i. reply_text (model.changed (c.change_word-word.ensures i) (changed_view (c.changed.ensures i)))) ∙ ap reply_text (sym c.in-Ok.ensures.reply)
 
 -- what was prepared is the answer to the change
 pub commit-requires : goal.commit-requires

@@ -29,7 +29,8 @@ returns-then-is_same_text-8 c = same_text-true _ _ (sym c.is_same_text-else-is_s
 
 pub returns-else-is_same_text-8 : goal.returns-else-is_same_text-8
 returns-else-is_same_text-8 c =
-    rule_of-other c.args.text.now (sym c.is_same_text.ensures ∙ c.if-is_same_text.false) (sym c.is_same_text-else-is_same_text.ensures ∙ c.if-is_same_text-2.false)
+    rule_of-other c.args.text.now (sym c.is_same_text.ensures ∙ c.if-is_same_text.false) (sym c.is_same_text-else-is_same_text.ensures
+    ∙ c.if-is_same_text-2.false)
     (sym c.is_same_text-else-is_same_text-2.ensures ∙ c.if-is_same_text-3.false) (sym c.is_same_text-else-is_same_text-3.ensures ∙ c.if-is_same_text-4.false)
     (sym c.is_same_text-else-is_same_text-4.ensures ∙ c.if-is_same_text-5.false) (sym c.is_same_text-else-is_same_text-5.ensures ∙ c.if-is_same_text-6.false)
     (sym c.is_same_text-else-is_same_text-6.ensures ∙ c.if-is_same_text-7.false) (sym c.is_same_text-else-is_same_text-7.ensures ∙ c.if-is_same_text-8.false)

@@ -13,16 +13,20 @@ returns-in-TooLong-clause-err g c =
 
 pub returns-in-OutOfMemory-clause-ok : goal.returns-in-OutOfMemory-clause-ok
 returns-in-OutOfMemory-clause-ok g c =
-    on_ok_weaker c.write_fault-in-OutOfMemory.result (λ writes text held. AnswersLine-refused _ _ _ _ text _ refl writes) c.write_fault-in-OutOfMemory.ensures.ok
+    on_ok_weaker c.write_fault-in-OutOfMemory.result (λ writes text held. AnswersLine-refused _ _ _ _ text _ refl writes)
+    c.write_fault-in-OutOfMemory.ensures.ok
 
 pub returns-in-OutOfMemory-clause-err : goal.returns-in-OutOfMemory-clause-err
 returns-in-OutOfMemory-clause-err g c =
-    on_err_weaker c.write_fault-in-OutOfMemory.result (λ writes text held. AnswersLine-refused _ _ _ _ text _ refl writes) c.write_fault-in-OutOfMemory.ensures.err
+    on_err_weaker c.write_fault-in-OutOfMemory.result (λ writes text held. AnswersLine-refused _ _ _ _ text _ refl writes)
+    c.write_fault-in-OutOfMemory.ensures.err
 
 pub returns-in-Err-clause-ok : goal.returns-in-Err-clause-ok
 returns-in-Err-clause-ok g c =
-    on_ok_weaker c.write_fault-in-Err.result (λ writes text held. AnswersLine-refused _ _ _ _ text _ c.in-Err.ensures.err writes) c.write_fault-in-Err.ensures.ok
+    on_ok_weaker c.write_fault-in-Err.result (λ writes text held. AnswersLine-refused _ _ _ _ text _ c.in-Err.ensures.err writes)
+    c.write_fault-in-Err.ensures.ok
 
 pub returns-in-Err-clause-err : goal.returns-in-Err-clause-err
 returns-in-Err-clause-err g c =
-    on_err_weaker c.write_fault-in-Err.result (λ writes text held. AnswersLine-refused _ _ _ _ text _ c.in-Err.ensures.err writes) c.write_fault-in-Err.ensures.err
+    on_err_weaker c.write_fault-in-Err.result (λ writes text held. AnswersLine-refused _ _ _ _ text _ c.in-Err.ensures.err writes)
+    c.write_fault-in-Err.ensures.err

@@ -1,10 +1,10 @@
-use Rattle.std.proofs.Common.{◌≢◌, [], true≢false, Ok, ap, sym, ◌∙◌}
+use Rattle.std.proofs.Common.{arith, rules, ◌≢◌, [], true≢false, Ok, ap, sym, ◌∙◌}
 use Rattle.ssa_model.specs.definitions.Limits.{most_line_bytes}
 use Rattle.ssa_session.proofs.SessionFacts.{IsAtEnd-consumed, SoFar-none, SoFar-more, AnswersWhole-fault, AnswersAll-last, AnswersPartly-whole, AnswersPartly-last}
 use Rattle.ssa_session.proofs.engine.session.Goals as goal
 
 pub loop-end-init : goal.loop-end-init
-loop-end-init g c = record { answered = SoFar-none _ _ _ _ _; handed_on = λ h. h }
+loop-end-init g c = record { answered = SoFar-none _ _ _ _ _; handed_on = λ h. h; ends = search rules }
 
 pub returns-in_default-clause-reader : goal.returns-in_default-clause-reader
 returns-in_default-clause-reader g c =
@@ -17,6 +17,7 @@ loop-end-preserved g c =
     record {
       answered = SoFar-more _ _ _ _ _ _ _ _ _ _ _ _ c.loop-end.invariant.answered taken (c.in-Ok-answer_line.ensures.ok taken.text taken.held);
       handed_on = λ _. c.in-Ok-answer_line.ensures.handed_on;
+      ends = omega (arith, c.in-Ok.ensures.ends, c.loop-end.invariant.ends);
     }
 
 pub returns-in_default-answer_line-clause-writer : goal.returns-in_default-answer_line-clause-writer

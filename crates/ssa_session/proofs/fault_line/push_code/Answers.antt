@@ -10,4 +10,5 @@ pub returns : goal.returns
 returns c =
     let told = code_members (code_view c.args.code) in
     let closed = joined _ told (codes "}") c.in_ok-push_members.ensures c.in_ok-push-2.ensures.items in
-    joined c.args.text.now.items (codes "{") (told ++ codes "}") c.in_ok-push.ensures.items closed ∙ ap (λ t. c.args.text.now.items ++ t) (code-text (code_view c.args.code))
+    joined c.args.text.now.items (codes "{") (told ++ codes "}") c.in_ok-push.ensures.items closed
+    ∙ ap (λ t. c.args.text.now.items ++ t) (code-text (code_view c.args.code))

@@ -14,4 +14,5 @@ returns c =
     let closed = joined _ (compact path) (codes "}") c.in_ok-push_names.ensures c.in_ok-push-2.ensures.items in
     let placed = joined _ (codes ",\"path\":") _ c.in_ok-extend_from_slice.ensures.items closed in
     let told = joined _ (code_members (code_view c.args.code)) _ c.in_ok-push_members.ensures placed in
-    joined c.args.text.now.items (codes "{") _ c.in_ok-push.ensures.items told ∙ ap (λ t. c.args.text.now.items ++ t) (code-text-at (code_view c.args.code) path)
+    joined c.args.text.now.items (codes "{") _ c.in_ok-push.ensures.items told
+    ∙ ap (λ t. c.args.text.now.items ++ t) (code-text-at (code_view c.args.code) path)

@@ -22,10 +22,12 @@ pub returns-clause-ok : goal.returns-clause-ok
 returns-clause-ok g c =
     let k = code_view c.args.code in
     let whole = ap (λ n. (codes "{\"fault\":" ++ n) ++ name_end k) (c.as_bytes.ensures.value ∙ c.number.ensures) ∙ code-line k in
-    on_ok_weaker c.write_name.result (λ writes. subst (Appends _ _) whole (Appends-trans _ _ _ _ _ c.in_ok-write_both.ensures.ok writes)) c.write_name.ensures.ok
+    on_ok_weaker c.write_name.result (λ writes. subst (Appends _ _) whole (Appends-trans _ _ _ _ _ c.in_ok-write_both.ensures.ok writes))
+    c.write_name.ensures.ok
 
 pub returns-clause-err : goal.returns-clause-err
 returns-clause-err g c =
     let k = code_view c.args.code in
     let whole = ap (λ n. (codes "{\"fault\":" ++ n) ++ name_end k) (c.as_bytes.ensures.value ∙ c.number.ensures) ∙ code-line k in
-    on_err_weaker c.write_name.result (λ part. subst (AppendsPart _ _) whole (AppendsPart-after _ _ _ _ _ c.in_ok-write_both.ensures.ok part)) c.write_name.ensures.err
+    on_err_weaker c.write_name.result (λ part. subst (AppendsPart _ _) whole (AppendsPart-after _ _ _ _ _ c.in_ok-write_both.ensures.ok part))
+    c.write_name.ensures.err

@@ -7,7 +7,8 @@ use Rattle.ssa_session.proofs.files.session_on.Goals.{in-Ok-tell, in-Err-tell}
 pub returns-in-Err-clause-held : goal.returns-in-Err-clause-held
 returns-in-Err-clause-held g c =
     elim c.match-tell.branch [
-      | in-Ok-tell w ↦ subst (IsHeld _ _ _ _ _) (sym w.result-is) (told-held _ c.in-Err.fault c.in-Err.ensures _ _ _ w.in-Ok-tell.ending w.in-Ok-tell.ensures.telling)
+      | in-Ok-tell w ↦ subst (IsHeld _ _ _ _ _) (sym w.result-is)
+          (told-held _ c.in-Err.fault c.in-Err.ensures _ _ _ w.in-Ok-tell.ending w.in-Ok-tell.ensures.telling)
       | in-Err-tell w ↦ subst (IsHeld _ _ _ _ _) (sym w.result-is) (partly-held _ c.in-Err.fault c.in-Err.ensures _ _ _ _ w.in-Err-tell.ensures.telling)
     ]
 
@@ -16,4 +17,5 @@ returns-in-Ok-session-clause-held g c = held c.args.schema c.args.object.now c.i
 
 pub returns-clause-held : goal.returns-clause-held
 returns-clause-held g c =
-    broken-held c.args.schema c.args.object.now c.in-Ok.bench c.in-Ok.ensures c.session.new.bench _ _ _ _ c.in-Err-session.fault c.in-Err-session.ensures.reader c.in-Err-session.ensures.writer
+    broken-held c.args.schema c.args.object.now c.in-Ok.bench c.in-Ok.ensures c.session.new.bench _ _ _ _ c.in-Err-session.fault
+    c.in-Err-session.ensures.reader c.in-Err-session.ensures.writer

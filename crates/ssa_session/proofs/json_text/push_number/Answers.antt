@@ -4,4 +4,5 @@ use Rattle.ssa_session.proofs.json_text.push_number.Goals as goal
 
 pub returns : goal.returns
 returns c =
-    appended c.extend_from_slice.result _ _ _ _ c.extend_from_slice.ensures.items (c.as_bytes.ensures.value ∙ search rules ∙ c.decimals_are_printed.ensures c.args.number (omega arith))
+    appended c.extend_from_slice.result _ _ _ _ c.extend_from_slice.ensures.items (c.as_bytes.ensures.value ∙ search rules
+    ∙ c.decimals_are_printed.ensures c.args.number (omega arith))

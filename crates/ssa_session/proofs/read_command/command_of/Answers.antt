@@ -10,5 +10,6 @@ pub returns-in-Show : goal.returns-in-Show
 returns-in-Show c =
     let ms = members_view c.in-Object.members.entries in
     ap (λ v. meaning (view v)) c.in-Object.is ∙ ap meaning (c.objects_are_members.ensures c.in-Object.members)
-    ∙ meaning-show ms (c.in-Some.ensures ∙ ap (λ w. Some (word_text w)) c.in-Show.is) (ap (λ w. follows_rule ms (rule_at w)) (sym c.in-Show.is) ∙ sym c.follows_rule.ensures ∙ c.if-not-follows_rule.false)
+    ∙ meaning-show ms (c.in-Some.ensures ∙ ap (λ w. Some (word_text w)) c.in-Show.is) (ap (λ w. follows_rule ms (rule_at w)) (sym c.in-Show.is)
+    ∙ sym c.follows_rule.ensures ∙ c.if-not-follows_rule.false)
     ∙ ap (λ b. Ok (answers.show b)) (sym c.truth_of.ensures)

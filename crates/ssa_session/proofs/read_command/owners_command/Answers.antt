@@ -9,4 +9,5 @@ unreachable-requires c =
 
 pub path_of_texts-requires : goal.path_of_texts-requires
 path_of_texts-requires c =
-    path-texts (members_view c.args.members.now.entries) (items_view c.in-Some.texts.now) c.requires.shape (sym c.list_of.ensures ∙ ap (option_map (λ t. items_view t.now)) c.in-Some.is)
+    path-texts (members_view c.args.members.now.entries) (items_view c.in-Some.texts.now) c.requires.shape (sym c.list_of.ensures
+    ∙ ap (option_map (λ t. items_view t.now)) c.in-Some.is)

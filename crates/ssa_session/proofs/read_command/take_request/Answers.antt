@@ -12,7 +12,8 @@ unreachable-requires c = there _ c.requires.0 (sym c.text_of.ensures ∙ ap (opt
 
 pub unreachable-requires-in_default-remove : goal.unreachable-requires-in_default-remove
 unreachable-requires-in_default-remove c =
-    there _ c.requires.2 (sym (ap (option_map view) c.remove.ensures.value ∙ view-lookup (codes "object") c.args.members.now.entries) ∙ ap (option_map view) c.in_default-remove.is)
+    there _ c.requires.2 (sym (ap (option_map view) c.remove.ensures.value ∙ view-lookup (codes "object") c.args.members.now.entries)
+    ∙ ap (option_map view) c.in_default-remove.is)
 
 pub unreachable-requires-in_default-take_text : goal.unreachable-requires-in_default-take_text
 unreachable-requires-in_default-take_text c =

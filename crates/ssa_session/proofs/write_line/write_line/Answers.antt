@@ -10,4 +10,5 @@ returns-in_err-write_all-2-clause-err g c =
 
 pub returns-clause-err : goal.returns-clause-err
 returns-clause-err g c =
-    OnErr-always c.flush.result _ (AppendsPart-whole _ _ _ (Appends-kept _ _ _ _ (Appends-trans _ _ _ _ _ c.in_ok-write_all.ensures.ok c.in_ok-write_all-2.ensures.ok) c.flush.ensures.bytes))
+    OnErr-always c.flush.result _ (AppendsPart-whole _ _ _ (Appends-kept _ _ _ _
+    (Appends-trans _ _ _ _ _ c.in_ok-write_all.ensures.ok c.in_ok-write_all-2.ensures.ok) c.flush.ensures.bytes))

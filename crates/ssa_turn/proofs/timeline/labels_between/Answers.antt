@@ -13,6 +13,9 @@ loop-place-preserved c =
       found = ap lent_labels c.in_ok-push-in-Some.ensures.items
           ∙ map-append (λ l. label_view l.now) c.loop-place.found.items (one ∷ [])
           ∙ ap (λ ls. ls ++ label_view one.now ∷ []) c.loop-place.invariant.found
-          ∙ sym (from-place (λ r. label_view r.1) (past_of journal ++ future_of journal) c.args.from c.loop-place.place (c.in-Some.entry.0.now, one.now) c.loop-place.invariant.order c.in-Some.ensures.value);
+          ∙ sym (from-place (λ r. label_view r.1) (past_of journal ++ future_of journal) c.args.from c.loop-place.place (
+            c.in-Some.entry.0.now,
+            one.now,
+          ) c.loop-place.invariant.order c.in-Some.ensures.value);
       order = omega (arith, c.loop-place.invariant.order);
     }

@@ -9,7 +9,8 @@ read : (xs : List ℕ) (i x : ℕ) → i < length xs → x ≡ get_or xs i x →
 read xs i x lt e = e ∙ get_or_default_zero xs i x lt
 
 pub loop-i-init : goal.loop-i-init
-loop-i-init c = subst (IsExchanging c.args.wanted.now 0 c.in_ok-order.order.items c.in_ok-places.places.items) (sym c.new-swaps.ensures.items) (exchanging-init c.args.wanted.now _ _ c.in_ok-order.ensures c.in_ok-places.ensures)
+loop-i-init c = subst (IsExchanging c.args.wanted.now 0 c.in_ok-order.order.items c.in_ok-places.places.items) (sym c.new-swaps.ensures.items)
+    (exchanging-init c.args.wanted.now _ _ c.in_ok-order.ensures c.in_ok-places.ensures)
 
 pub index_mut-requires : goal.index_mut-requires
 index_mut-requires c =
@@ -27,13 +28,15 @@ loop-i-preserved c =
     let next = c.requires.within i c.loop-i-test.true in
     let here_is = read c.loop-i.order.items i c.index-here.result.now (omega (arith, inv.long, c.loop-i-test.true)) c.index-here.ensures in
     let place_is = read c.loop-i.places.items w c.index-place.result.now (omega (arith, inv.places_long, next)) c.index-place.ensures in
-    exchanging-step wanted i c.loop-i.order.items c.loop-i.places.items c.loop-i.swaps.items c.loop-i-test.true c.requires.within inv c.requires.apart (λ e. c.if-place-i.false (place_is ∙ e)) _ _ _
+    exchanging-step wanted i c.loop-i.order.items c.loop-i.places.items c.loop-i.swaps.items c.loop-i-test.true c.requires.within inv c.requires.apart
+    (λ e. c.if-place-i.false (place_is ∙ e)) _ _ _
     (c.swap.ensures.items ∙ ap (swap c.loop-i.order.items i) place_is)
     (λ t. set (set c.loop-i.places.items (here_is t) (place_is t)) w i)
     (c.in_ok-push.ensures.items ∙ ap (λ p. c.loop-i.swaps.items ++ (i, p) ∷ []) place_is)
 
 pub returns-clause-order : goal.returns-clause-order
-returns-clause-order c = exchanging-all c.args.wanted.now c.loop-i.i c.loop-i.order.items c.loop-i.places.items c.loop-i.swaps.items c.loop-i-test.false c.loop-i.invariant
+returns-clause-order c = exchanging-all c.args.wanted.now c.loop-i.i c.loop-i.order.items c.loop-i.places.items c.loop-i.swaps.items c.loop-i-test.false
+    c.loop-i.invariant
 
 pub returns-clause-none : goal.returns-clause-none
 returns-clause-none c = c.loop-i.invariant.idle

@@ -23,21 +23,24 @@ pub exchanges_between-requires-clause-within : goal.exchanges_between-requires-c
 exchanges_between-requires-clause-within c =
     let fs = c.args.found.now in
     let below = found-below c.args.own.now c.args.others.now fs c.requires.found in
-    let is = c.deref-4.ensures.value ∙ c.in_ok-wanted.ensures ∙ (λ t. filled 0 (c.deref-2.ensures.value t) ((c.deref-3.ensures.value ∙ c.in_ok-told.ensures) t)) in
+    let is = c.deref-4.ensures.value ∙ c.in_ok-wanted.ensures
+    ∙ (λ t. filled 0 (c.deref-2.ensures.value t) ((c.deref-3.ensures.value ∙ c.in_ok-told.ensures) t)) in
     subst (λ ks. AreWithin (length ks) ks) (sym is) (wanted-within (length c.args.own.now) fs c.in_ok-back.back.items c.in_ok-back.ensures below)
 
 pub exchanges_between-requires-clause-apart : goal.exchanges_between-requires-clause-apart
 exchanges_between-requires-clause-apart c =
     let fs = c.args.found.now in
     let differ = found-differ c.args.own.now c.args.others.now fs c.requires.apart c.requires.found in
-    let is = c.deref-4.ensures.value ∙ c.in_ok-wanted.ensures ∙ (λ t. filled 0 (c.deref-2.ensures.value t) ((c.deref-3.ensures.value ∙ c.in_ok-told.ensures) t)) in
+    let is = c.deref-4.ensures.value ∙ c.in_ok-wanted.ensures
+    ∙ (λ t. filled 0 (c.deref-2.ensures.value t) ((c.deref-3.ensures.value ∙ c.in_ok-told.ensures) t)) in
     subst AreDistinct (sym is) (wanted-distinct (length c.args.own.now) fs c.in_ok-back.back.items c.in_ok-back.ensures differ)
 
 pub returns : goal.returns
 returns c =
     let fs = c.args.found.now in
     let back = c.in_ok-back.back.items in
-    let is = c.deref-4.ensures.value ∙ c.in_ok-wanted.ensures ∙ (λ t. filled 0 (c.deref-2.ensures.value t) ((c.deref-3.ensures.value ∙ c.in_ok-told.ensures) t)) in
+    let is = c.deref-4.ensures.value ∙ c.in_ok-wanted.ensures
+    ∙ (λ t. filled 0 (c.deref-2.ensures.value t) ((c.deref-3.ensures.value ∙ c.in_ok-told.ensures) t)) in
     let long = ap length is ∙ length-filled back 0 (somes fs) in
     edit-parts c.args.own.now c.args.others.now fs back _ c.requires.found (record {
       turned = c.in_ok-back.ensures;

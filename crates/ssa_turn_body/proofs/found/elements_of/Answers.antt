@@ -2,8 +2,8 @@ use Rattle.std.proofs.Common.{[], ◌∷◌, ◌++◌, take, sym, ap, ◌∙◌}
 use Rattle.std.proofs.lemmas.List.{map-append, take_more}
 use Rattle.ssa_path.specs.Children.{elements}
 use Rattle.ssa_path.specs.View.{element_view, path_view}
-use Rattle.ssa_turn_body.proofs.Missing.{elements-push}
 use Rattle.ssa_turn_body.proofs.found.elements_of.Goals as goal
+use Rattle.ssa_typed.proofs.Building.{elements-push}
 
 pub loop-child-preserved : goal.loop-child-preserved
 loop-child-preserved c =

@@ -28,7 +28,8 @@ loop-i-preserved c =
     let none = sym c.is_some.ensures ∙ c.if-is_some.false in
     let inv = c.loop-i.invariant in
     record {
-      places = c.in_ok-push-2.ensures.items ∙ ap (λ xs. xs ++ i ∷ []) inv.places ∙ sym (missing-place fs cs i child c.loop-i-test.true c.requires c.index-children-i.is none);
+      places = c.in_ok-push-2.ensures.items ∙ ap (λ xs. xs ++ i ∷ []) inv.places
+          ∙ sym (missing-place fs cs i child c.loop-i-test.true c.requires c.index-children-i.is none);
       named =
           ap (λ xs. map element_view xs) c.in_ok-push.ensures.items ∙ map-append element_view c.loop-i.elements.items (c.in_ok-element.element ∷ [])
           ∙ (λ t. inv.named t ++ (c.in_ok-element.ensures ∙ ap (λ (d : Child). element_view d.0) (sym c.index-children-i.is)) t ∷ [])

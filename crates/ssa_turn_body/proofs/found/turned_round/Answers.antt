@@ -11,7 +11,8 @@ loop-i-init c = turned-none c.args.count _ c.in_ok-back.ensures
 pub index_mut-requires : goal.index_mut-requires
 index_mut-requires c =
     let fs = c.args.found.now in
-    let below = told-below c.args.count fs c.loop-i.i c.in-Some.place c.loop-i-test.true (as-some fs c.loop-i.i c.in-Some.place c.loop-i-test.true c.in-Some.is) c.requires.below in
+    let below = told-below c.args.count fs c.loop-i.i c.in-Some.place c.loop-i-test.true
+    (as-some fs c.loop-i.i c.in-Some.place c.loop-i-test.true c.in-Some.is) c.requires.below in
     let inv = c.loop-i.invariant in
     omega (arith, below, inv.long, c.loop-i.back.ok.0)
 
@@ -23,7 +24,8 @@ loop-i-preserved c =
       | in-Some w ↦
           let k = w.in-Some.place in
           subst (λ (v : Vec (Option ℕ) Global). IsTurnedRound c.args.count (take (i + 1) fs) v.items) (sym w.back-is)
-          (turned-more c.args.count fs c.loop-i.back.items i k c.loop-i-test.true (as-some fs i k c.loop-i-test.true w.in-Some.is) c.requires.below c.requires.differ c.loop-i.invariant)
+          (turned-more c.args.count fs c.loop-i.back.items i k c.loop-i-test.true (as-some fs i k c.loop-i-test.true w.in-Some.is) c.requires.below
+          c.requires.differ c.loop-i.invariant)
       | in-None w ↦
           subst (λ (v : Vec (Option ℕ) Global). IsTurnedRound c.args.count (take (i + 1) fs) v.items) (sym w.back-is)
           (turned-same c.args.count fs c.loop-i.back.items i c.loop-i-test.true (sym w.in-None.is) c.loop-i.invariant)

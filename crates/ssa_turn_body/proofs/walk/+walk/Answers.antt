@@ -35,7 +35,8 @@ walk_child-steps_below-requires t c =
     let n = c.args.from.now in
     let e = element_view c.args.to.0 in
     let child = c.index-children-place.result in
-    let there = child-there e (below n) c.children.result.now c.args.place child c.children.ensures.own c.requires.place c.index-children-place.is ((level-below n).apart c.requires.from) in
+    let there = child-there e (below n) c.children.result.now c.args.place child c.children.ensures.own c.requires.place c.index-children-place.is
+    ((level-below n).apart c.requires.from) in
     let part = smaller n e child.1 there in
     let small : 4 * length (rows child.1) + 3 < 4 * length (rows n) = omega arith in
     (search (rules, small), (tree-child n e child.1 c.requires.from there, (c.requires.to, c.requires.alike child.1 there)))
@@ -45,10 +46,12 @@ walk_child-returns-clause-led t c = λ d is.
     let n = c.args.from.now in
     let e = element_view c.args.to.0 in
     let child = c.index-children-place.result in
-    let there = child-there e (below n) c.children.result.now c.args.place child c.children.ensures.own c.requires.place c.index-children-place.is ((level-below n).apart c.requires.from) in
+    let there = child-there e (below n) c.children.result.now c.args.place child c.children.ensures.own c.requires.place c.index-children-place.is
+    ((level-below n).apart c.requires.from) in
     let path = ap path_view c.in_ok-push.ensures.items ∙ map-append element_view c.args.path.now.items (c.args.to.0 ∷ []) in
     subst (λ p. AreLeading p (marks d) (marks c.args.to.1) c.args.steps.now.items c.steps_below.new.steps.items) path
-    (subst (λ m. AreLeading (path_view c.push.new.self.items) (marks m) (marks c.args.to.1) c.args.steps.now.items c.steps_below.new.steps.items) (same_Some child.1 d (sym there ∙ is)) c.in_ok-steps_below.ensures.led)
+    (subst (λ m. AreLeading (path_view c.push.new.self.items) (marks m) (marks c.args.to.1) c.args.steps.now.items c.steps_below.new.steps.items)
+    (same_Some child.1 d (sym there ∙ is)) c.in_ok-steps_below.ensures.led)
 
 -- ---- children that stand alike
 
@@ -76,8 +79,16 @@ walk_alike-walk_child-requires t c =
     let apart = alike-apart n ds c.requires.from c.requires.same in
     let within = walking-count _ _ _ _ _ _ _ _ _ _ _ _ is apart w in
     let some = counted-at 0 (length ds) c.loop-child.i (omega arith) ∙ ap Some (zero-add c.loop-child.i) in
-    let small : 4 * length (rows n) < 4 * length (rows n) + 1 = omega arith in
-    (search (rules, small), (c.requires.from, (walking-tree _ _ _ _ _ _ _ _ _ _ _ _ is apart w, (walking-place _ _ _ _ _ _ _ _ _ _ _ _ is apart w c.loop-child.i some, walking-alike _ _ _ _ _ _ _ _ _ _ _ _ is apart w c.requires.alike))))
+    let small : 4 * length (rows n) < 4 * length (rows n) + 1 = omega arith in (
+      search (rules, small),
+      (
+        c.requires.from,
+        (
+          walking-tree _ _ _ _ _ _ _ _ _ _ _ _ is apart w,
+          (walking-place _ _ _ _ _ _ _ _ _ _ _ _ is apart w c.loop-child.i some, walking-alike _ _ _ _ _ _ _ _ _ _ _ _ is apart w c.requires.alike),
+        ),
+      ),
+    )
 
 pub walk_alike-loop-child-preserved : goal.walk_alike-loop-child-preserved
 walk_alike-loop-child-preserved t c =
@@ -91,7 +102,8 @@ walk_alike-loop-child-preserved t c =
     let within = walking-count _ _ _ _ _ _ _ _ _ _ _ _ is apart w in
     let some = counted-at 0 (length ds) i (omega arith) ∙ ap Some (zero-add i) in
     let given = c.in_ok-walk_child.ensures in
-    let child = subst (λ q. IsChildLed q cs c.in-Some.child c.loop-child.steps.items c.walk_child.new.steps.items) (ap path_view c.loop-child.invariant.path) given.led in
+    let child = subst (λ q. IsChildLed q cs c.in-Some.child c.loop-child.steps.items c.walk_child.new.steps.items) (ap path_view c.loop-child.invariant.path)
+    given.led in
     record {
       path = given.path ∙ c.loop-child.invariant.path;
       walking = walking-led _ _ _ _ _ _ _ _ _ _ _ _ is apart w i c.walk_child.new.steps.items ((level-below n).apart c.requires.from) some child;
@@ -112,7 +124,8 @@ walk_alike-returns-clause-led t c =
     (leading-told p (led o cs []) (led o cs ds) _ old l.steps.items (alike-told o cs ds c.requires.same (own-order n c.requires.from)) end.1)
 
 pub walk_children-edit_between-requires-clause-apart : goal.walk_children-edit_between-requires-clause-apart
-walk_children-edit_between-requires-clause-apart t c = ap (λ ds. are_apart (elements ds)) c.deref-3.ensures.value ∙ stand-apart (own_content c.args.from.now) (elements c.args.to.items) c.requires.stand
+walk_children-edit_between-requires-clause-apart t c = ap (λ ds. are_apart (elements ds)) c.deref-3.ensures.value
+    ∙ stand-apart (own_content c.args.from.now) (elements c.args.to.items) c.requires.stand
 
 pub walk_children-loop-child-init : goal.walk_children-loop-child-init
 walk_children-loop-child-init t c =
@@ -127,7 +140,8 @@ walk_children-loop-child-init t c =
       path = refl;
       walking =
           subst (λ hs. IsWalking p o cs ds fs old 0 (into_iter_items c.into_iter-child-iterator.result) hs old) (sym c.in_ok-held.ensures.items)
-          (subst (λ rest. IsWalking p o cs ds fs old 0 rest [] old) (sym c.into_iter-child-iterator.ensures.into_iter_gives.0) (walking-start p o cs ds fs old c.requires.to found));
+          (subst (λ rest. IsWalking p o cs ds fs old 0 rest [] old) (sym c.into_iter-child-iterator.ensures.into_iter_gives.0)
+          (walking-start p o cs ds fs old c.requires.to found));
     }
 
 pub walk_children-walk_child-requires : goal.walk_children-walk_child-requires
@@ -139,8 +153,16 @@ walk_children-walk_child-requires t c =
     let apart = stand-apart (own_content n) (elements c.args.to.items) c.requires.stand in
     let within = walking-index _ _ _ _ _ _ _ _ _ _ _ _ is apart w in
     let some = found-read fs c.loop-child.i c.index.result.now (Some c.in-Some-index.place) within c.index.ensures c.in-Some-index.is in
-    let small : 4 * length (rows n) < 4 * length (rows n) + 2 = omega arith in
-    (search (rules, small), (c.requires.from, (walking-tree _ _ _ _ _ _ _ _ _ _ _ _ is apart w, (walking-place _ _ _ _ _ _ _ _ _ _ _ _ is apart w c.in-Some-index.place some, walking-alike _ _ _ _ _ _ _ _ _ _ _ _ is apart w c.requires.alike))))
+    let small : 4 * length (rows n) < 4 * length (rows n) + 2 = omega arith in (
+      search (rules, small),
+      (
+        c.requires.from,
+        (
+          walking-tree _ _ _ _ _ _ _ _ _ _ _ _ is apart w,
+          (walking-place _ _ _ _ _ _ _ _ _ _ _ _ is apart w c.in-Some-index.place some, walking-alike _ _ _ _ _ _ _ _ _ _ _ _ is apart w c.requires.alike),
+        ),
+      ),
+    )
 
 pub walk_children-loop-child-preserved : goal.walk_children-loop-child-preserved
 walk_children-loop-child-preserved t c =
@@ -163,7 +185,8 @@ walk_children-loop-child-preserved t c =
           let k = v.in-Some-index.place in
           let some = found-read fs i c.index.result.now (Some k) within c.index.ensures v.in-Some-index.is in
           let given = v.in_ok-walk_child-in-Some-index.ensures in
-          let child = subst (λ q. IsChildLed q cs c.in-Some.child c.loop-child.steps.items v.walk_child.new.steps.items) (ap path_view c.loop-child.invariant.path) given.led in
+          let child = subst (λ q. IsChildLed q cs c.in-Some.child c.loop-child.steps.items v.walk_child.new.steps.items)
+          (ap path_view c.loop-child.invariant.path) given.led in
           let next = walking-led _ _ _ _ _ _ _ _ _ _ _ _ is apart w k v.walk_child.new.steps.items ((level-below n).apart c.requires.from) some child in
           record {
             path = ap (λ (x : Vec Elem Global). x.items) v.path-is ∙ given.path ∙ c.loop-child.invariant.path;
@@ -199,27 +222,33 @@ walk_children-returns-clause-led t c =
     let end = walking-end p o cs ds fs old l.i (into_iter_items l.child-iterator) l.held.items l.steps.items none l.invariant.walking in
     let between : IsEditBetween cs ds fs s =
     subst (λ xs. IsEditBetween xs ds fs s) c.children-2.ensures.own
-    (subst (λ xs. IsEditBetween c.children-2.result.now xs fs s) c.deref-3.ensures.value (subst (λ gs. IsEditBetween c.children-2.result.now c.deref-3.result.now gs s) c.deref-4.ensures.value c.in_ok-edit.ensures)) in
+    (subst (λ xs. IsEditBetween c.children-2.result.now xs fs s) c.deref-3.ensures.value
+    (subst (λ gs. IsEditBetween c.children-2.result.now c.deref-3.result.now gs s) c.deref-4.ensures.value c.in_ok-edit.ensures)) in
     let added =
-    subst (λ q. MayAdd (is_idle s) q (Children (record s { held = l.held })) l.steps.items c.push_edit.new.steps.items) (ap path_view (c.deref-5.ensures.value ∙ l.invariant.path)) c.in_ok-push_edit.ensures in
+    subst (λ q. MayAdd (is_idle s) q (Children (record s { held = l.held })) l.steps.items c.push_edit.new.steps.items)
+    (ap path_view (c.deref-5.ensures.value ∙ l.invariant.path)) c.in_ok-push_edit.ensures in
     let last =
     finish o cs ds fs s between l.held ((level-below n).apart c.requires.from) apart found end.0 c.requires.to
     (own-stands n (elements ds) c.requires.from c.requires.stand) c.requires.stand (own-order n c.requires.from) p l.steps.items c.push_edit.new.steps.items
     added in
     leading-from p (marks n) (led o cs []) _ old c.push_edit.new.steps.items (led-start n)
     (leading-then p (led o cs []) (led o cs ds) _ old l.steps.items c.push_edit.new.steps.items (joins-final o cs ds) end.1 last
-    (once-last (is_idle s) p (Children (record s { held = l.held })) old l.steps.items c.push_edit.new.steps.items end.2 end.1.once.places added last.once.places))
+    (once-last (is_idle s) p (Children (record s { held = l.held })) old l.steps.items c.push_edit.new.steps.items end.2 end.1.once.places added
+    last.once.places))
 
 -- ---- a place
 
 pub steps_below-unreachable-requires : goal.steps_below-unreachable-requires
-steps_below-unreachable-requires t c = no-branch c.args.from.now c.args.to c.in-Leaf.leaf c.in-Leaf.is (ap (λ n. is_leaf (Some (own_content n))) c.in-Branch-from.is ∙ branch-Branch c.in-Branch-from.field-0) c.requires.alike
+steps_below-unreachable-requires t c = no-branch c.args.from.now c.args.to c.in-Leaf.leaf c.in-Leaf.is
+    (ap (λ n. is_leaf (Some (own_content n))) c.in-Branch-from.is ∙ branch-Branch c.in-Branch-from.field-0) c.requires.alike
 
 pub steps_below-unreachable-requires-in-Dict-from : goal.steps_below-unreachable-requires-in-Dict-from
-steps_below-unreachable-requires-in-Dict-from t c = no-branch c.args.from.now c.args.to c.in-Leaf.leaf c.in-Leaf.is (ap (λ n. is_leaf (Some (own_content n))) c.in-Dict-from.is ∙ branch-Dict c.in-Dict-from.field-0) c.requires.alike
+steps_below-unreachable-requires-in-Dict-from t c = no-branch c.args.from.now c.args.to c.in-Leaf.leaf c.in-Leaf.is
+    (ap (λ n. is_leaf (Some (own_content n))) c.in-Dict-from.is ∙ branch-Dict c.in-Dict-from.field-0) c.requires.alike
 
 pub steps_below-unreachable-requires-in-List-from : goal.steps_below-unreachable-requires-in-List-from
-steps_below-unreachable-requires-in-List-from t c = no-branch c.args.from.now c.args.to c.in-Leaf.leaf c.in-Leaf.is (ap (λ n. is_leaf (Some (own_content n))) c.in-List-from.is ∙ branch-List c.in-List-from.field-0) c.requires.alike
+steps_below-unreachable-requires-in-List-from t c = no-branch c.args.from.now c.args.to c.in-Leaf.leaf c.in-Leaf.is
+    (ap (λ n. is_leaf (Some (own_content n))) c.in-List-from.is ∙ branch-List c.in-List-from.field-0) c.requires.alike
 
 pub steps_below-walk_children-requires : goal.steps_below-walk_children-requires
 steps_below-walk_children-requires t c =
@@ -228,7 +257,16 @@ steps_below-walk_children-requires t c =
     let from = c.args.from.now in
     let v = c.in-Branch.children in (
       search rules,
-      (r.from, (kind-trees _ kind-Branch branch-Branch from to v c.in-Branch.is r.from r.to r.alike, (kind-stands _ kind-Branch branch-Branch from to v c.in-Branch.is r.from r.to r.alike, kind-alike _ kind-Branch branch-Branch from to v c.in-Branch.is r.from r.to r.alike))),
+      (
+        r.from,
+        (
+          kind-trees _ kind-Branch branch-Branch from to v c.in-Branch.is r.from r.to r.alike,
+          (
+            kind-stands _ kind-Branch branch-Branch from to v c.in-Branch.is r.from r.to r.alike,
+            kind-alike _ kind-Branch branch-Branch from to v c.in-Branch.is r.from r.to r.alike,
+          ),
+        ),
+      ),
     )
 
 pub steps_below-walk_children-requires-in-Dict : goal.steps_below-walk_children-requires-in-Dict
@@ -238,7 +276,16 @@ steps_below-walk_children-requires-in-Dict t c =
     let from = c.args.from.now in
     let v = c.in-Dict.children in (
       search rules,
-      (r.from, (kind-trees _ kind-Dict branch-Dict from to v c.in-Dict.is r.from r.to r.alike, (kind-stands _ kind-Dict branch-Dict from to v c.in-Dict.is r.from r.to r.alike, kind-alike _ kind-Dict branch-Dict from to v c.in-Dict.is r.from r.to r.alike))),
+      (
+        r.from,
+        (
+          kind-trees _ kind-Dict branch-Dict from to v c.in-Dict.is r.from r.to r.alike,
+          (
+            kind-stands _ kind-Dict branch-Dict from to v c.in-Dict.is r.from r.to r.alike,
+            kind-alike _ kind-Dict branch-Dict from to v c.in-Dict.is r.from r.to r.alike,
+          ),
+        ),
+      ),
     )
 
 pub steps_below-walk_children-requires-in-List : goal.steps_below-walk_children-requires-in-List
@@ -248,14 +295,24 @@ steps_below-walk_children-requires-in-List t c =
     let from = c.args.from.now in
     let v = c.in-List.children in (
       search rules,
-      (r.from, (kind-trees _ kind-List branch-List from to v c.in-List.is r.from r.to r.alike, (kind-stands _ kind-List branch-List from to v c.in-List.is r.from r.to r.alike, kind-alike _ kind-List branch-List from to v c.in-List.is r.from r.to r.alike))),
+      (
+        r.from,
+        (
+          kind-trees _ kind-List branch-List from to v c.in-List.is r.from r.to r.alike,
+          (
+            kind-stands _ kind-List branch-List from to v c.in-List.is r.from r.to r.alike,
+            kind-alike _ kind-List branch-List from to v c.in-List.is r.from r.to r.alike,
+          ),
+        ),
+      ),
     )
 
 pub steps_below-returns-in_ok-walk_children-in-Branch-clause-led : goal.steps_below-returns-in_ok-walk_children-in-Branch-clause-led
 steps_below-returns-in_ok-walk_children-in-Branch-clause-led t c =
     let r = c.requires in
     leading-told (path_view c.args.path.now.items) (marks c.args.from.now) _ (marks c.args.to) c.args.steps.now.items c.walk_children.new.steps.items
-    (kind-told _ kind-Branch branch-Branch c.args.from.now c.args.to c.in-Branch.children c.in-Branch.is r.from r.to r.alike) c.in_ok-walk_children-in-Branch.ensures.led
+    (kind-told _ kind-Branch branch-Branch c.args.from.now c.args.to c.in-Branch.children c.in-Branch.is r.from r.to r.alike)
+    c.in_ok-walk_children-in-Branch.ensures.led
 
 pub steps_below-returns-in_ok-walk_children-in-Dict-clause-led : goal.steps_below-returns-in_ok-walk_children-in-Dict-clause-led
 steps_below-returns-in_ok-walk_children-in-Dict-clause-led t c =

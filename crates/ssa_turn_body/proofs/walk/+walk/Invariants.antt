@@ -18,7 +18,8 @@ decreases-steps_below l = 4 * length (rows l.from.now) + 3
 abbrev pub invariant-walk_children-loop-child : goal.invariant-walk_children-loop-child
 invariant-walk_children-loop-child l = record {
   path : l.path.items ≡ l.fn.path.items;
-  walking : IsWalking (path_view l.fn.path.items) (own_content l.from) (below l.from) l.fn.to.items l.found.items l.fn.steps.items l.i (into_iter_items l.child-iterator) l.held.items l.steps.items;
+  walking : IsWalking (path_view l.fn.path.items) (own_content l.from) (below l.from) l.fn.to.items l.found.items l.fn.steps.items l.i
+      (into_iter_items l.child-iterator) l.held.items l.steps.items;
 }
 
 abbrev pub decreases-walk_alike : goal.decreases-walk_alike
@@ -27,5 +28,6 @@ decreases-walk_alike l = 4 * length (rows l.from.now) + 1
 abbrev pub invariant-walk_alike-loop-child : goal.invariant-walk_alike-loop-child
 invariant-walk_alike-loop-child l = record {
   path : l.path.items ≡ l.fn.path.items;
-  walking : IsWalking (path_view l.fn.path.items) (own_content l.from) (below l.from) l.fn.to.items (counted 0 (length l.fn.to.items)) l.fn.steps.items l.i (into_iter_items l.child-iterator) [] l.steps.items;
+  walking : IsWalking (path_view l.fn.path.items) (own_content l.from) (below l.from) l.fn.to.items (counted 0 (length l.fn.to.items)) l.fn.steps.items l.i
+      (into_iter_items l.child-iterator) [] l.steps.items;
 }

@@ -6,4 +6,5 @@ use Rattle.ssa_turn_body.proofs.writing.push_paths.Given as goal
 
 abbrev pub invariant-loop-element : goal.invariant-loop-element
 invariant-loop-element l =
-    told_view l.told.items ≡ told_view l.initial.told.items ++ as_values path_alone (at_place (path_view l.place) (singles (path_view (take l.element-index l.elements))))
+    told_view l.told.items ≡ told_view l.initial.told.items ++ as_values path_alone
+    (at_place (path_view l.place) (singles (path_view (take l.element-index l.elements))))

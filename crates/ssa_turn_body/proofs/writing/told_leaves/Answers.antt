@@ -6,5 +6,6 @@ use Rattle.ssa_turn_body.proofs.writing.told_leaves.Goals as goal
 
 pub loop-step-preserved : goal.loop-step-preserved
 loop-step-preserved c =
-    told-on leaves_in leaf_json c.args.steps.now c.loop-step.step-index c.step-item.result (told_view c.loop-step.told.items) (told_view c.push_leaves.new.told.items) c.loop-step-test.true
+    told-on leaves_in leaf_json c.args.steps.now c.loop-step.step-index c.step-item.result (told_view c.loop-step.told.items)
+    (told_view c.push_leaves.new.told.items) c.loop-step-test.true
     c.step-item.is c.loop-step.invariant c.in_ok-push_leaves.ensures

@@ -7,7 +7,7 @@ use Rattle.ssa_path.specs.View.{element_view}
 use Rattle.ssa_path.specs.Trie.{paths, paths_below, is_one_of, is_filled}
 use Rattle.ssa_path.proofs.Levels.{is_trie-made, trie-parts}
 use Rattle.ssa_path.proofs.Lists.{left-at}
-use Rattle.ssa_path.proofs.Orders.{both, both_first, both_second, same_element-true}
+use Rattle.ssa_path.proofs.Orders.{both_first, both_second}
 use Rattle.ssa_turn_set.specs.declared.room.Room.TheViews.{out-Room}
 use Rattle.ssa_turn_set.specs.Room.{gain_room, loses}
 use Rattle.ssa_turn_set.specs.Spare.{fits, is_nothing}
@@ -18,6 +18,8 @@ use Rattle.ssa_turn_set.proofs.Passing.{child-is-trie, child-tie, child-within, 
 use Rattle.ssa_turn_set.proofs.Places.{left-set}
 use Rattle.ssa_turn_set.proofs.lose.+lose.Goals.{lose-then-here, lose-else-here}
 use Rattle.ssa_turn_set.proofs.lose.+lose.Goals as goal
+use Rattle.ssa_model.proofs.Fitting.{same_element-true}
+use Rattle.ssa_model.proofs.Basics.{both-true as both}
 
 pub lose-loop-i-init : goal.lose-loop-i-init
 lose-loop-i-init t c =

@@ -5,7 +5,7 @@ use Rattle.ssa_path.specs.declared.trie.Trie.{the_lemmas}
 use Rattle.ssa_path.specs.declared.trie.Trie.TheViews.{out-Trie}
 use Rattle.ssa_path.specs.View.{element_view}
 use Rattle.ssa_path.specs.Trie.{paths, paths_below}
-use Rattle.ssa_path.proofs.Orders.{both, both_first}
+use Rattle.ssa_path.proofs.Orders.{both_first}
 use Rattle.ssa_path.proofs.Levels.{trie-parts, paths-made}
 use Rattle.ssa_path.proofs.Lists.{taken-at, child-trie}
 use Rattle.ssa_turn_set.specs.Room.{going, left, losses, lose_one, lose_room}
@@ -14,12 +14,18 @@ use Rattle.ssa_turn_set.proofs.Tails.{tails-below, paths_of}
 use Rattle.ssa_turn_set.proofs.Left.{loss-rolled, losses-more}
 use Rattle.ssa_turn_set.proofs.NewRooms.{found-child}
 use Rattle.ssa_turn_set.proofs.loss.+loss_room.Goals as goal
+use Rattle.ssa_model.proofs.Basics.{both-true as both}
 
 pub make_loss_room-make_child_loss_room-requires : goal.make_loss_room-make_child_loss_room-requires
 make_loss_room-make_child_loss_room-requires t c =
     let lost = trie-parts c.args.lost.now c.deref-child-items.result.now c.deref-child-items.ensures.value c.requires.lost in
-    let own = trie-parts c.args.own.now c.deref.result.now c.deref.ensures.value c.requires.own in
-    (search (rules, the_lemmas), (child-trie c.deref-child-items.result.now c.loop-child.child-index c.child-item.result (omega arith) c.child-item.is lost.1, (own.0, own.1)))
+    let own = trie-parts c.args.own.now c.deref.result.now c.deref.ensures.value c.requires.own in (
+      search (rules, the_lemmas),
+      (
+        child-trie c.deref-child-items.result.now c.loop-child.child-index c.child-item.result (omega arith) c.child-item.is lost.1,
+        (own.0, own.1),
+      ),
+    )
 
 pub make_loss_room-loop-child-preserved : goal.make_loss_room-loop-child-preserved
 make_loss_room-loop-child-preserved t c =
@@ -28,8 +34,10 @@ make_loss_room-loop-child-preserved t c =
     let ps = paths_below (out-Trie c.args.own.now).below.items in
     let d = c.child-item.result in
     let r = c.in_ok-make_child_loss_room.field-0 in
-    let one = ap (λ l. lose_one d (left (tails (element_view d.0) (paths_below l)) (paths d.1)) r) (sym c.deref.ensures.value) ∙ c.in_ok-make_child_loss_room.ensures in
-    (λ j. losses (taken-at cs i d (omega arith) c.child-item.is j) ps (c.in_ok-push.ensures.items j)) ∙ losses-more (take i cs) d ps c.loop-child.below.items r c.loop-child.invariant one
+    let one = ap (λ l. lose_one d (left (tails (element_view d.0) (paths_below l)) (paths d.1)) r) (sym c.deref.ensures.value)
+    ∙ c.in_ok-make_child_loss_room.ensures in
+    (λ j. losses (taken-at cs i d (omega arith) c.child-item.is j) ps (c.in_ok-push.ensures.items j))
+    ∙ losses-more (take i cs) d ps c.loop-child.below.items r c.loop-child.invariant one
 
 pub make_loss_room-returns : goal.make_loss_room-returns
 make_loss_room-returns t c =
@@ -38,7 +46,8 @@ make_loss_room-returns t c =
     let len = c.len.ensures in
     let counted : c.count_going-going.result ≡ going (out-Trie c.args.lost.now).below.items (paths_below (out-Trie c.args.own.now).below.items) =
     c.count_going-going.ensures.count ∙ (λ i. going (c.deref-2.ensures.value i) (paths_below (c.deref-3.ensures.value i))) in
-    loss-rolled c.args.lost.now c.args.own.now _ c.requires.lost c.in_ok-children.ensures.items (λ lt. let fits = c.in_ok-children.ensures.fits (omega arith) in omega arith)
+    loss-rolled c.args.lost.now c.args.own.now _ c.requires.lost c.in_ok-children.ensures.items (λ lt. let fits =
+    c.in_ok-children.ensures.fits (omega arith) in omega arith)
     (ap (λ l. losses l (paths_below (out-Trie c.args.own.now).below.items) c.loop-child.below.items) (sym all) ∙ c.loop-child.invariant)
 
 pub make_loss_room-count_going-going-requires-clause-children : goal.make_loss_room-count_going-going-requires-clause-children
@@ -70,4 +79,5 @@ make_child_loss_room-returns-in_ok-room-in-None t c =
     let at = sym c.find_child.ensures ∙ ap option_copied c.in-None.is in
     let behind = tails-below e c.args.own.now c.requires.rise ∙ ap paths_of at in
     let none = paths-made _ ∙ ap paths_below c.new.ensures.items in
-    both _ _ refl (ap (λ l. lose_room c.args.lost.now.1 (left l (paths c.args.lost.now.1)) c.in_ok-room-in-None.room) (behind ∙ sym none) ∙ c.in_ok-room-in-None.ensures)
+    both _ _ refl (ap (λ l. lose_room c.args.lost.now.1 (left l (paths c.args.lost.now.1)) c.in_ok-room-in-None.room) (behind ∙ sym none)
+    ∙ c.in_ok-room-in-None.ensures)

@@ -20,7 +20,8 @@ returns-then-lies_within-clause-one c =
     let e = element_view c.args.child.now.0 in
     let at = sym c.find_child.ensures ∙ ap option_copied c.in-Some.is in
     let behind = tails-below e c.args.own.now c.requires.rise ∙ ap paths_of at in
-    let within = subst (λ b. MatchBool b (IsWithin (paths c.in-Some.place.now) (paths c.args.child.now.1)) (Exceeds (paths c.in-Some.place.now) (paths c.args.child.now.1))) c.if-lies_within.true c.lies_within.ensures in
+    let within = subst (λ b. MatchBool b (IsWithin (paths c.in-Some.place.now) (paths c.args.child.now.1))
+    (Exceeds (paths c.in-Some.place.now) (paths c.args.child.now.1))) c.if-lies_within.true c.lies_within.ensures in
     sym (ap (λ l. fresh (left l (paths c.args.child.now.1))) behind ∙ all-goes (paths c.in-Some.place.now) (paths c.args.child.now.1) within)
 
 pub returns-else-lies_within-clause-one : goal.returns-else-lies_within-clause-one
@@ -28,7 +29,8 @@ returns-else-lies_within-clause-one c =
     let e = element_view c.args.child.now.0 in
     let at = sym c.find_child.ensures ∙ ap option_copied c.in-Some.is in
     let behind = tails-below e c.args.own.now c.requires.rise ∙ ap paths_of at in
-    let more = subst (λ b. MatchBool b (IsWithin (paths c.in-Some.place.now) (paths c.args.child.now.1)) (Exceeds (paths c.in-Some.place.now) (paths c.args.child.now.1))) c.if-lies_within.false c.lies_within.ensures in
+    let more = subst (λ b. MatchBool b (IsWithin (paths c.in-Some.place.now) (paths c.args.child.now.1))
+    (Exceeds (paths c.in-Some.place.now) (paths c.args.child.now.1))) c.if-lies_within.false c.lies_within.ensures in
     sym (ap (λ l. fresh (left l (paths c.args.child.now.1))) behind ∙ some-stays (paths c.in-Some.place.now) (paths c.args.child.now.1) more)
 
 pub returns-in-None-clause-one : goal.returns-in-None-clause-one

@@ -5,7 +5,7 @@ use Rattle.ssa_path.specs.declared.trie.Trie.{the_lemmas}
 use Rattle.ssa_path.specs.declared.trie.Trie.TheViews.{out-Trie}
 use Rattle.ssa_path.specs.View.{element_view}
 use Rattle.ssa_path.specs.Trie.{paths_below, is_trie}
-use Rattle.ssa_path.proofs.Orders.{both, both_first, both_second}
+use Rattle.ssa_path.proofs.Orders.{both_first, both_second}
 use Rattle.ssa_path.proofs.Levels.{trie-parts, paths-made}
 use Rattle.ssa_path.proofs.Lists.{taken-at, child-trie}
 use Rattle.ssa_turn_set.specs.Spare.{fits}
@@ -17,12 +17,19 @@ use Rattle.ssa_turn_set.proofs.Rooms.{gains-more}
 use Rattle.ssa_turn_set.proofs.Places.{coming}
 use Rattle.ssa_turn_set.proofs.NewRooms.{found-child, gain-rolled}
 use Rattle.ssa_turn_set.proofs.making.+gain_room.Goals as goal
+use Rattle.ssa_model.proofs.Basics.{both-true as both}
 
 pub make_gain_room-make_child_gain_room-requires : goal.make_gain_room-make_child_gain_room-requires
 make_gain_room-make_child_gain_room-requires t c =
     let gained = trie-parts c.args.gained.now c.deref-child-items.result.now c.deref-child-items.ensures.value c.requires.gained in
-    let without = trie-parts c.args.without.now c.deref.result.now c.deref.ensures.value c.requires.without in
-    (search (rules, the_lemmas), (child-trie c.deref-child-items.result.now c.loop-child.child-index c.child-item.result (omega arith) c.child-item.is gained.1, (without.0, without.1)))
+    let without = trie-parts c.args.without.now c.deref.result.now c.deref.ensures.value c.requires.without in (
+      search (rules, the_lemmas),
+      (
+        child-trie c.deref-child-items.result.now c.loop-child.child-index c.child-item.result (omega arith) c.child-item.is
+            gained.1,
+        (without.0, without.1),
+      ),
+    )
 
 pub make_gain_room-loop-child-preserved : goal.make_gain_room-loop-child-preserved
 make_gain_room-loop-child-preserved t c =
@@ -32,15 +39,18 @@ make_gain_room-loop-child-preserved t c =
     let d = c.child-item.result in
     let r = c.in_ok-make_child_gain_room.field-0 in
     let one = ap (λ l. gain_one d (tails (element_view d.0) (paths_below l)) r) (sym c.deref.ensures.value) ∙ c.in_ok-make_child_gain_room.ensures in
-    (λ j. gains (taken-at cs i d (omega arith) c.child-item.is j) ps (c.in_ok-push.ensures.items j)) ∙ gains-more (take i cs) d ps c.loop-child.below.items r c.loop-child.invariant one
+    (λ j. gains (taken-at cs i d (omega arith) c.child-item.is j) ps (c.in_ok-push.ensures.items j))
+    ∙ gains-more (take i cs) d ps c.loop-child.below.items r c.loop-child.invariant one
 
 pub make_gain_room-returns : goal.make_gain_room-returns
 make_gain_room-returns t c =
     let all = take_all c.loop-child.child-index c.deref-child-items.result.now c.loop-child-test.false ∙ c.deref-child-items.ensures.value in
     let own = (out-Trie c.args.without.now).below.ok.0 in
     let len = c.len.ensures in
-    let counted : c.count_fresh-fresh.result ≡ coming c.args.gained.now c.args.without.now = c.count_fresh-fresh.ensures.count ∙ (λ i. freshes (c.deref-2.ensures.value i) (paths_below (c.deref-3.ensures.value i))) in
-    gain-rolled c.args.gained.now c.args.without.now _ c.requires.without c.in_ok-children.ensures.items (λ lt. let fits = c.in_ok-children.ensures.fits (omega arith) in omega arith)
+    let counted : c.count_fresh-fresh.result ≡ coming c.args.gained.now c.args.without.now = c.count_fresh-fresh.ensures.count
+    ∙ (λ i. freshes (c.deref-2.ensures.value i) (paths_below (c.deref-3.ensures.value i))) in
+    gain-rolled c.args.gained.now c.args.without.now _ c.requires.without c.in_ok-children.ensures.items (λ lt. let fits =
+    c.in_ok-children.ensures.fits (omega arith) in omega arith)
     (ap (λ l. gains l (paths_below (out-Trie c.args.without.now).below.items) c.loop-child.below.items) (sym all) ∙ c.loop-child.invariant)
 
 pub make_gain_room-count_fresh-fresh-requires-clause-rise : goal.make_gain_room-count_fresh-fresh-requires-clause-rise
@@ -62,7 +72,8 @@ make_child_gain_room-returns-in_ok-room-in-Some t c =
     let at = sym c.find_child.ensures ∙ ap option_copied c.in-Some.is in
     let child = found-child e c.args.without.now c.in-Some.place.now c.requires.tries at in
     let left = tails-below e c.args.without.now c.requires.rise ∙ ap paths_of at in
-    both _ _ (ap (λ l. serves e l spare.Nothing) left ∙ ap (λ b. cond b true (fits e spare.Nothing)) (both_second (is_trie c.in-Some.place.now) _ child)) (ap (λ l. gain_room c.args.gained.now.1 l c.in_ok-room-in-Some.room) left ∙ c.in_ok-room-in-Some.ensures)
+    both _ _ (ap (λ l. serves e l spare.Nothing) left ∙ ap (λ b. cond b true (fits e spare.Nothing)) (both_second (is_trie c.in-Some.place.now) _ child))
+    (ap (λ l. gain_room c.args.gained.now.1 l c.in_ok-room-in-Some.room) left ∙ c.in_ok-room-in-Some.ensures)
 
 pub make_child_gain_room-returns-in_ok-spare-in-None : goal.make_child_gain_room-returns-in_ok-spare-in-None
 make_child_gain_room-returns-in_ok-spare-in-None t c =
@@ -70,4 +81,5 @@ make_child_gain_room-returns-in_ok-spare-in-None t c =
     let at = sym c.find_child.ensures ∙ ap option_copied c.in-None.is in
     let left = tails-below e c.args.without.now c.requires.rise ∙ ap paths_of at in
     let none = paths-made _ ∙ ap paths_below c.new.ensures.items in
-    both _ _ (ap (λ l. serves e l c.in_ok-spare-in-None.spare) left ∙ c.in_ok-spare-in-None.ensures) (ap (λ l. gain_room c.args.gained.now.1 l c.in_ok-room-in-None.room) (left ∙ sym none) ∙ c.in_ok-room-in-None.ensures)
+    both _ _ (ap (λ l. serves e l c.in_ok-spare-in-None.spare) left
+    ∙ c.in_ok-spare-in-None.ensures) (ap (λ l. gain_room c.args.gained.now.1 l c.in_ok-room-in-None.room) (left ∙ sym none) ∙ c.in_ok-room-in-None.ensures)

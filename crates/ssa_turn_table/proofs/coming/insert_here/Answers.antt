@@ -25,7 +25,8 @@ loop-here-preserved c =
     let front = first-of here h lt c.remove-place.ensures.value in
     record {
       coming = λ u told.
-          subst (λ (t : Type 0). t) (λ j. IsInserting told.comes u (table_view (sym c.insert.ensures.items j)) (heres_view (sym c.remove-place.ensures.items j)))
+          subst (λ (t : Type 0). t) (λ j. IsInserting told.comes u (table_view (sym c.insert.ensures.items j))
+          (heres_view (sym c.remove-place.ensures.items j)))
           (here_step told.comes u c.loop-here.entries.items here h front (c.loop-here.invariant.coming u told)).more;
       told = c.loop-here.invariant.told;
       listed =

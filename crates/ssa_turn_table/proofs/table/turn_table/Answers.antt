@@ -55,7 +55,11 @@ returns-clause-back c =
     (c.change_table.ensures.changed t u met ∙ ap (changes_back u) taken)
     (ap (λ v. keys_view v.items) c.swap.ensures.x_after ∙ c.insert_here.ensures.out)
     (ap (λ v. heres_view v.items) c.swap-2.ensures.x_after ∙ c.take_gone.ensures.out u (gone_told d t u takes)) in
-    subst (λ v. TableTakes (record { changed = changes_view c.change_table.new.changed.items; gone = keys_view c.swap.new.x.items; here = heres_view c.swap-2.new.x.items }) v t) (sym value) back
+    subst (λ v. TableTakes (record {
+      changed = changes_view c.change_table.new.changed.items;
+      gone = keys_view c.swap.new.x.items;
+      here = heres_view c.swap-2.new.x.items;
+    }) v t) (sym value) back
 
 pub returns-clause-room : goal.returns-clause-room
 returns-clause-room c =
@@ -67,7 +71,11 @@ returns-clause-room c =
     let met = met_of d t u takes (table_view c.take_gone.new.entries.items) taken c.requires.room.sets in
     let stay = c.change_table.ensures.entries t u met ∙ ap (map (led_to u)) taken in
     let value = c.insert_here.ensures.entries u (coming_of d t u takes (table_view c.change_table.new.entries.items) stay) in
-    let steps : TableRecord = record { changed = changes_view c.change_table.new.changed.items; gone = keys_view c.swap.new.x.items; here = heres_view c.swap-2.new.x.items } in
+    let steps : TableRecord = record {
+      changed = changes_view c.change_table.new.changed.items;
+      gone = keys_view c.swap.new.x.items;
+      here = heres_view c.swap-2.new.x.items;
+    } in
     let out = c.take_gone.ensures.out u (gone_told d t u takes) in
     let back = back_of d t u takes c.change_table.new.changed.items c.swap.new.x.items c.swap-2.new.x.items
     (c.change_table.ensures.changed t u met ∙ ap (changes_back u) taken)
@@ -87,7 +95,9 @@ returns-clause-room c =
       sets = subst (λ v. AllHaveRoom v c.change_table.new.changed.items) (sym value) (c.change_table.ensures.room t u met);
       keys = subst (λ v. AllKeysAgree v.items) (sym x2) c.take_gone.ensures.keys;
       gone_empty = ap (λ v. v.items) y ∙ c.take_gone.ensures.empty;
-      gone_room = subst (λ (s : Type 0). s) (λ j. vec_len (sym x2 j) ≤ vec_capacity (sym y j)) (omega (arith, c.take_gone.new.out.ok.0, d.gone.ok.0, d.gone.ok.1, gone, c.take_gone.ensures.room));
+      gone_room = subst (λ (s : Type 0). s) (λ j. vec_len (sym x2 j) ≤ vec_capacity (sym y j))
+          (omega (arith, c.take_gone.new.out.ok.0, d.gone.ok.0, d.gone.ok.1, gone, c.take_gone.ensures.room));
       here_empty = ap (λ v. v.items) y2 ∙ c.insert_here.ensures.empty;
-      here_room = subst (λ (s : Type 0). s) (λ j. vec_len (sym x j) ≤ vec_capacity (sym y2 j)) (omega (arith, c.insert_here.new.out.ok.0, d.here.ok.0, d.here.ok.1, here, c.insert_here.ensures.room));
+      here_room = subst (λ (s : Type 0). s) (λ j. vec_len (sym x j) ≤ vec_capacity (sym y2 j))
+          (omega (arith, c.insert_here.new.out.ok.0, d.here.ok.0, d.here.ok.1, here, c.insert_here.ensures.room));
     }

@@ -29,4 +29,5 @@ pub returns-in-Loses-clause-change : goal.returns-in-Loses-clause-change
 returns-in-Loses-clause-change c =
     let e = entry_view c.args.entry.now in
     subst (λ o. IfOk c.losing.result (λ d. option_map change_view d ≡ o))
-    (sym (lone-owning e (minus c.args.entry.now.set c.in-Loses.lost) c.in-Loses.at) ∙ ap (λ f. change_in (changed_entry f e) e) (sym c.in-Loses.is)) c.losing.ensures.change
+    (sym (lone-owning e (minus c.args.entry.now.set c.in-Loses.lost) c.in-Loses.at)
+    ∙ ap (λ f. change_in (changed_entry f e) e) (sym c.in-Loses.is)) c.losing.ensures.change

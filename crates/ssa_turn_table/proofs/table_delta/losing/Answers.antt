@@ -18,7 +18,8 @@ returns-then-is_kept-clause-change c =
     let e = entry_view c.args.entry.now in
     let s = c.args.entry.now.set in
     let steps = steps-between s (minus s c.args.lost.now) c.in_ok-delta.delta c.in_ok-delta.ensures in
-    let kept = sym (c.is_kept.ensures ∙ ap (λ b. b && same_text e.moment c.args.at) (lessened s c.args.lost.now c.in_ok-delta.delta steps)) ∙ c.if-is_kept.true in
+    let kept = sym (c.is_kept.ensures ∙ ap (λ b. b && same_text e.moment c.args.at) (lessened s c.args.lost.now c.in_ok-delta.delta steps))
+    ∙ c.if-is_kept.true in
     sym (ap (λ b. if b then None else Some (change_to e (owning e (minus s c.args.lost.now) c.args.at))) kept)
 
 pub returns-clause-change : goal.returns-clause-change
@@ -26,7 +27,8 @@ returns-clause-change c =
     let e = entry_view c.args.entry.now in
     let s = c.args.entry.now.set in
     let steps = steps-between s (minus s c.args.lost.now) c.in_ok-delta.delta c.in_ok-delta.ensures in
-    let other = sym (c.is_kept.ensures ∙ ap (λ b. b && same_text e.moment c.args.at) (lessened s c.args.lost.now c.in_ok-delta.delta steps)) ∙ c.if-is_kept.false in
+    let other = sym (c.is_kept.ensures ∙ ap (λ b. b && same_text e.moment c.args.at) (lessened s c.args.lost.now c.in_ok-delta.delta steps))
+    ∙ c.if-is_kept.false in
     let made : EntryChange = record { key = c.in_ok-key.key; set = c.in_ok-delta.delta; at = c.new_moment.result } in
     change-made e (owning e (minus s c.args.lost.now) c.args.at) made other c.in_ok-key.ensures steps c.new_moment.ensures
 

@@ -28,7 +28,7 @@ returns-clause-room c =
     let d : TableDelta = record { changed = c.in_ok-changed.changed; gone = c.in_ok-gone.gone; here = c.in_ok-here.here; room = c.in_ok-room.room } in
     let is : table_steps d ≡ table_record t u = returns-clause-record c u h in
     record {
-      few = few_led (table_steps d) t u (record { from = c.requires.distinct; to = c.requires.leads.2; order = c.requires.leads.3; is = is }) h.few;
+      few = few_led (table_steps d) t u (record { from = c.requires.distinct; to = h.managers.distinct; order = c.requires.leads.2; is = is }) h.managers.few;
       sets = c.in_ok-changed.ensures.room;
       keys = c.in_ok-here.ensures.keys;
       gone_empty = c.in_ok-room.ensures.gone_empty;

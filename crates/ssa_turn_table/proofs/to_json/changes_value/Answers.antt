@@ -13,7 +13,8 @@ pub returns : goal.returns
 returns c =
     let f = change_json in
     let xs = c.args.changed.now in
-    view-List c.loop-change.values ∙ ap (λ vs. list (items_of vs)) (c.loop-change.invariant ∙ ap (λ ys. map f (changes_view ys)) (take_all c.loop-change.change-index xs c.loop-change-test.false))
+    view-List c.loop-change.values ∙ ap (λ vs. list (items_of vs)) (c.loop-change.invariant
+    ∙ ap (λ ys. map f (changes_view ys)) (take_all c.loop-change.change-index xs c.loop-change-test.false))
     ∙ ap list (items-made f (changes_view xs))
 
 pub change_value-requires : goal.change_value-requires

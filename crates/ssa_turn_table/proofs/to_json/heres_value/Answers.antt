@@ -14,7 +14,8 @@ pub returns : goal.returns
 returns c =
     let f = here_json (text_json c.args.version.now) in
     let xs = c.args.here.now in
-    view-List c.loop-one.values ∙ ap (λ vs. list (items_of vs)) (c.loop-one.invariant ∙ ap (λ ys. map f (heres_view ys)) (take_all c.loop-one.one-index xs c.loop-one-test.false))
+    view-List c.loop-one.values ∙ ap (λ vs. list (items_of vs)) (c.loop-one.invariant
+    ∙ ap (λ ys. map f (heres_view ys)) (take_all c.loop-one.one-index xs c.loop-one-test.false))
     ∙ ap list (items-made f (heres_view xs))
 
 pub here_value-requires : goal.here_value-requires

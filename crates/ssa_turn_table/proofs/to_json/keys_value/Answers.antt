@@ -12,5 +12,6 @@ pub returns : goal.returns
 returns c =
     let f = gone_json in
     let xs = c.args.gone.now in
-    view-List c.loop-key.values ∙ ap (λ vs. list (items_of vs)) (c.loop-key.invariant ∙ ap (λ ys. map f (keys_view ys)) (take_all c.loop-key.key-index xs c.loop-key-test.false))
+    view-List c.loop-key.values ∙ ap (λ vs. list (items_of vs)) (c.loop-key.invariant
+    ∙ ap (λ ys. map f (keys_view ys)) (take_all c.loop-key.key-index xs c.loop-key-test.false))
     ∙ ap list (items-made f (keys_view xs))

@@ -1,4 +1,4 @@
-use Rattle.std.proofs.Common.{◌≡◌, [], true, sym, ap, ◌∙◌}
+use Rattle.std.proofs.Common.{[], sym, ap, ◌∙◌}
 use Rattle.ssa_model.specs.definitions.Kind.{faults}
 use Rattle.ssa_model.specs.definitions.PathMap.{from_entries}
 use Rattle.ssa_json.specs.View.{view}

@@ -28,7 +28,8 @@ entry_children-tree_of-requires t c =
       search (rules, kind.the_lemmas),
       (
         c.requires.keyed,
-        entry-first k (string_bytes c.in-Some.name) (view c.in-Some.member) (members_view c.next.new.self) (subst (λ es. EntriesFit k (members_view es)) c.in-Some.ensures.steps l.invariant.fits),
+        entry-first k (string_bytes c.in-Some.name) (view c.in-Some.member) (members_view c.next.new.self)
+            (subst (λ es. EntriesFit k (members_view es)) c.in-Some.ensures.steps l.invariant.fits),
       ),
     )
 
@@ -43,7 +44,10 @@ entry_children-loop-name-preserved t c =
     record {
       done = l.invariant.done ++ e ∷ [];
       split = l.invariant.split ∙ ap (λ es. l.invariant.done ++ es) steps ∙ sym (append_assoc l.invariant.done (e ∷ []) left);
-      naming = naming-step (string_bytes e.0) (places k (view e.1)) (Field e.0, c.in_ok-child.child) l.children.items c.push.new.self.items (names l.invariant.done) (names (l.invariant.done ++ e ∷ []))
+      naming = naming-step (string_bytes e.0) (places k (view e.1)) (
+        Field e.0,
+        c.in_ok-child.child,
+      ) l.children.items c.push.new.self.items (names l.invariant.done) (names (l.invariant.done ++ e ∷ []))
           (entry_places k (members_view l.name-iterator)) (entry_places k (members_view left)) (entry_places k (members_view c.args.members.entries))
           (record { element = refl; placed = made.placed; tree = made.tree })
           (λ p. ap (λ es. entry_places k (members_view es) p) steps)
@@ -57,7 +61,8 @@ entry_children-returns t c =
     let l = c.loop-name in
     let k = kind_view c.args.inside.now in
     let none : l.name-iterator ≡ [] = c.in-None.ensures.steps.0 in
-    naming-end c.args.members.entries (names l.invariant.done) (entry_places k (members_view l.name-iterator)) (entry_places k (members_view c.args.members.entries)) l.children.items
+    naming-end c.args.members.entries (names l.invariant.done) (entry_places k (members_view l.name-iterator))
+    (entry_places k (members_view c.args.members.entries)) l.children.items
     c.into_iter-name-iterator.ensures.into_iter_gives.5
     (ap names (sym (append-nil l.invariant.done) ∙ ap (λ es. l.invariant.done ++ es) (sym none) ∙ sym l.invariant.split))
     (λ p. ap (λ es. entry_places k (members_view es) p) none)
@@ -70,7 +75,9 @@ field_child-tree_of-requires t c =
     let k = kind_view c.in-Some.kind.now in
     let fit = c.requires.fits in
     let found : model.kind_of n fs ≡ Some k =
-    ap (λ m. model.kind_of m fs) (sym c.as_str.ensures.value) ∙ sym (field-found c.get.result c.as_str.result.now c.args.fields.now.entries c.get.ensures.value) ∙ ap (option_map (λ k. kind_view k.now)) c.in-Some.is in (
+    ap (λ m. model.kind_of m fs) (sym c.as_str.ensures.value)
+    ∙ sym (field-found c.get.result c.as_str.result.now c.args.fields.now.entries c.get.ensures.value)
+    ∙ ap (option_map (λ k. kind_view k.now)) c.in-Some.is in (
       search (rules, kind.the_lemmas),
       (
         keyed-at n fs k c.requires.keyed found,
@@ -83,7 +90,9 @@ field_child-unreachable-requires t c =
     let fs = fields_view c.args.fields.now.entries in
     let n = string_bytes c.args.name in
     known-there n fs c.requires.fits.0 c.requires.fits.1.0
-    (ap (λ m. model.kind_of m fs) (sym c.as_str.ensures.value) ∙ sym (field-found c.get.result c.as_str.result.now c.args.fields.now.entries c.get.ensures.value) ∙ ap (option_map (λ k. kind_view k.now)) c.in-None.is)
+    (ap (λ m. model.kind_of m fs) (sym c.as_str.ensures.value)
+    ∙ sym (field-found c.get.result c.as_str.result.now c.args.fields.now.entries c.get.ensures.value)
+    ∙ ap (option_map (λ k. kind_view k.now)) c.in-None.is)
 
 pub field_child-returns : goal.field_child-returns
 field_child-returns t c =
@@ -93,7 +102,9 @@ field_child-returns t c =
     let k = kind_view c.in-Some.kind.now in
     let made = c.in_ok-child-in-Some.ensures in
     let found : model.kind_of n fs ≡ Some k =
-    ap (λ m. model.kind_of m fs) (sym c.as_str.ensures.value) ∙ sym (field-found c.get.result c.as_str.result.now c.args.fields.now.entries c.get.ensures.value) ∙ ap (option_map (λ k. kind_view k.now)) c.in-Some.is in
+    ap (λ m. model.kind_of m fs) (sym c.as_str.ensures.value)
+    ∙ sym (field-found c.get.result c.as_str.result.now c.args.fields.now.entries c.get.ensures.value)
+    ∙ ap (option_map (λ k. kind_view k.now)) c.in-Some.is in
     record { element = refl; placed = λ p. made.placed p ∙ sym (known-places n fs v k p found); tree = made.tree }
 
 pub field_children-field_child-requires : goal.field_children-field_child-requires
@@ -103,7 +114,8 @@ field_children-field_child-requires t c =
       search (rules, kind.the_lemmas),
       (
         c.requires.keyed,
-        member-first fs (string_bytes c.in-Some.name) (view c.in-Some.member) (members_view c.next.new.self) (subst (λ es. FieldsFit fs (members_view es)) c.in-Some.ensures.steps l.invariant.fits),
+        member-first fs (string_bytes c.in-Some.name) (view c.in-Some.member) (members_view c.next.new.self)
+            (subst (λ es. FieldsFit fs (members_view es)) c.in-Some.ensures.steps l.invariant.fits),
       ),
     )
 
@@ -117,10 +129,12 @@ field_children-loop-name-preserved t c =
     record {
       done = l.invariant.done ++ e ∷ [];
       split = l.invariant.split ∙ ap (λ es. l.invariant.done ++ es) steps ∙ sym (append_assoc l.invariant.done (e ∷ []) left);
-      naming = naming-step (string_bytes e.0) (member_places fs (string_bytes e.0) (view e.1)) c.in_ok-field_child.field-0 l.children.items c.push.new.self.items (names l.invariant.done) (names (l.invariant.done ++ e ∷ []))
+      naming = naming-step (string_bytes e.0) (member_places fs (string_bytes e.0) (view e.1)) c.in_ok-field_child.field-0 l.children.items
+          c.push.new.self.items (names l.invariant.done) (names (l.invariant.done ++ e ∷ []))
           (field_places fs (members_view l.name-iterator)) (field_places fs (members_view left)) (field_places fs (members_view c.args.members.entries))
           c.in_ok-field_child.ensures
-          (λ p. ap (λ es. field_places fs (members_view es) p) steps ∙ ap (λ rs. rs ++ field_places fs (members_view left) p) (member-places fs (string_bytes e.0) (view e.1) p (model.kind_of (string_bytes e.0) fs)))
+          (λ p. ap (λ es. field_places fs (members_view es) p) steps
+          ∙ ap (λ rs. rs ++ field_places fs (members_view left) p) (member-places fs (string_bytes e.0) (view e.1) p (model.kind_of (string_bytes e.0) fs)))
           (map-append (λ (m : Found). string_bytes m.0) l.invariant.done (e ∷ []))
           c.in_ok-push.ensures.items l.invariant.naming;
       fits = member-rest fs (string_bytes e.0) (view e.1) (members_view left) (subst (λ es. FieldsFit fs (members_view es)) steps l.invariant.fits);
@@ -131,7 +145,8 @@ field_children-returns t c =
     let l = c.loop-name in
     let fs = fields_view c.args.fields.now.entries in
     let none : l.name-iterator ≡ [] = c.in-None.ensures.steps.0 in
-    naming-end c.args.members.entries (names l.invariant.done) (field_places fs (members_view l.name-iterator)) (field_places fs (members_view c.args.members.entries)) l.children.items
+    naming-end c.args.members.entries (names l.invariant.done) (field_places fs (members_view l.name-iterator))
+    (field_places fs (members_view c.args.members.entries)) l.children.items
     c.into_iter-name-iterator.ensures.into_iter_gives.5
     (ap names (sym (append-nil l.invariant.done) ∙ ap (λ es. l.invariant.done ++ es) (sym none) ∙ sym l.invariant.split))
     (λ p. ap (λ es. field_places fs (members_view es) p) none)
@@ -162,7 +177,8 @@ item_children-item_child-requires t c =
         c.requires.names,
         (
           c.requires.keyed,
-          item-first ns fs (view c.in-Some.item) (items_view (into_iter_items c.next.new.self)) (subst (λ xs. ItemsFitAfter ns fs (items_view xs)) c.in-Some.ensures.steps.0 l.invariant.fits),
+          item-first ns fs (view c.in-Some.item) (items_view (into_iter_items c.next.new.self))
+              (subst (λ xs. ItemsFitAfter ns fs (items_view xs)) c.in-Some.ensures.steps.0 l.invariant.fits),
         ),
       ),
     )
@@ -177,9 +193,11 @@ item_children-loop-item-preserved t c =
     let steps : into_iter_items l.item-iterator ≡ x ∷ left = c.in-Some.ensures.steps.0 in
     let is = c.in_ok-item_child.ensures in
     record {
-      listing = listing-step (model.item_key ns is.own) (λ p. (p, record_branch) ∷ field_places fs is.own p) c.in_ok-item_child.field-0 l.children.items c.push.new.self.items
+      listing = listing-step (model.item_key ns is.own) (λ p. (p, record_branch) ∷ field_places fs is.own p) c.in_ok-item_child.field-0 l.children.items
+          c.push.new.self.items
           (key_order ns (items_view (into_iter_items l.item-iterator))) (key_order ns (items_view left)) (key_order ns (items_view c.args.items.items))
-          (item_places ns fs (items_view (into_iter_items l.item-iterator))) (item_places ns fs (items_view left)) (item_places ns fs (items_view c.args.items.items))
+          (item_places ns fs (items_view (into_iter_items l.item-iterator))) (item_places ns fs (items_view left))
+          (item_places ns fs (items_view c.args.items.items))
           is.child refl
           (λ p. ap (λ xs. item_places ns fs (items_view xs) p) steps ∙ ap (λ v. item_places ns fs (values.item v (items_view left)) p) is.is_own)
           (ap (λ xs. key_order ns (items_view xs)) steps ∙ ap (λ v. key_order ns (values.item v (items_view left))) is.is_own)
@@ -189,19 +207,22 @@ item_children-loop-item-preserved t c =
 
 pub tree_of-returns-in_ok-children-in-Record : goal.tree_of-returns-in_ok-children-in-Record
 tree_of-returns-in_ok-children-in-Record t c =
-    record-made c.in_ok-children-in-Record.children (kind_view c.args.kind.now) (view c.args.value) (fields_view c.in-Record.fields.entries) (members_view c.into_members.result.entries)
+    record-made c.in_ok-children-in-Record.children (kind_view c.args.kind.now) (view c.args.value) (fields_view c.in-Record.fields.entries)
+    (members_view c.into_members.result.entries)
     (sym (kind_view-Record c.in-Record.fields) ∙ ap kind_view (sym c.in-Record.is)) (sym c.into_members.ensures) c.in_ok-children-in-Record.ensures
 
 pub tree_of-returns-in_ok-children-in-Dict : goal.tree_of-returns-in_ok-children-in-Dict
 tree_of-returns-in_ok-children-in-Dict t c =
-    dict-made c.in_ok-children-in-Dict.children (kind_view c.args.kind.now) (view c.args.value) (kind_view c.deref.result.now) (members_view c.into_members-in-Dict.result.entries)
+    dict-made c.in_ok-children-in-Dict.children (kind_view c.args.kind.now) (view c.args.value) (kind_view c.deref.result.now)
+    (members_view c.into_members-in-Dict.result.entries)
     (ap (λ k. model.dict_of (kind_view k)) c.deref.ensures ∙ sym (kind_view-Dict c.in-Dict.inside) ∙ ap kind_view (sym c.in-Dict.is))
     (sym c.into_members-in-Dict.ensures) c.in_ok-children-in-Dict.ensures
 
 pub tree_of-returns-in_ok-children-in-SetOf : goal.tree_of-returns-in_ok-children-in-SetOf
 tree_of-returns-in_ok-children-in-SetOf t c =
     let is : kind_view c.args.kind.now ≡ model.set_of (scalar_kind_view c.in-SetOf.inside) = ap kind_view c.in-SetOf.is ∙ kind_view-SetOf c.in-SetOf.inside in
-    set-made c.in_ok-children-in-SetOf.children (kind_view c.args.kind.now) (view c.args.value) (scalar_kind_view c.in-SetOf.inside) (items_view c.into_items.result.items)
+    set-made c.in_ok-children-in-SetOf.children (kind_view c.args.kind.now) (view c.args.value) (scalar_kind_view c.in-SetOf.inside)
+    (items_view c.into_items.result.items)
     (sym is) (sym c.into_items.ensures) (subst₂ Fits is c.into_items.ensures c.requires.fits) c.in_ok-children-in-SetOf.ensures
 
 pub tree_of-returns-in_ok-children-in-ItemsOf : goal.tree_of-returns-in_ok-children-in-ItemsOf
@@ -209,7 +230,8 @@ tree_of-returns-in_ok-children-in-ItemsOf t c =
     let ns = names_view c.deref-in-ItemsOf.result.now in
     let fs = fields_view c.in-ItemsOf.fields.entries in
     let is : kind_view c.args.kind.now ≡ model.items_of ns fs =
-    ap kind_view c.in-ItemsOf.is ∙ kind_view-ItemsOf c.in-ItemsOf.keys c.in-ItemsOf.fields ∙ ap (λ xs. model.items_of (names_view xs) fs) (sym c.deref-in-ItemsOf.ensures.value) in
+    ap kind_view c.in-ItemsOf.is ∙ kind_view-ItemsOf c.in-ItemsOf.keys c.in-ItemsOf.fields
+    ∙ ap (λ xs. model.items_of (names_view xs) fs) (sym c.deref-in-ItemsOf.ensures.value) in
     items-made c.in_ok-children-in-ItemsOf.children (kind_view c.args.kind.now) (view c.args.value) ns fs (items_view c.into_items-in-ItemsOf.result.items)
     (sym is) (sym c.into_items-in-ItemsOf.ensures) (subst₂ Fits is c.into_items-in-ItemsOf.ensures c.requires.fits) c.in_ok-children-in-ItemsOf.ensures
 
@@ -218,6 +240,12 @@ tree_of-item_children-requires t c =
     let ns = names_view c.deref-in-ItemsOf.result.now in
     let fs = fields_view c.in-ItemsOf.fields.entries in
     let is : kind_view c.args.kind.now ≡ model.items_of ns fs =
-    ap kind_view c.in-ItemsOf.is ∙ kind_view-ItemsOf c.in-ItemsOf.keys c.in-ItemsOf.fields ∙ ap (λ xs. model.items_of (names_view xs) fs) (sym c.deref-in-ItemsOf.ensures.value) in
-    let keyed = sym (ap is_keyed is) ∙ c.requires.keyed in
-    (search (rules, kind.the_lemmas), (both_first _ _ keyed, (both_second (are_key_names ns) _ keyed, subst₂ Fits is c.into_items-in-ItemsOf.ensures c.requires.fits)))
+    ap kind_view c.in-ItemsOf.is ∙ kind_view-ItemsOf c.in-ItemsOf.keys c.in-ItemsOf.fields
+    ∙ ap (λ xs. model.items_of (names_view xs) fs) (sym c.deref-in-ItemsOf.ensures.value) in
+    let keyed = sym (ap is_keyed is) ∙ c.requires.keyed in (
+      search (rules, kind.the_lemmas),
+      (
+        both_first _ _ keyed,
+        (both_second (are_key_names ns) _ keyed, subst₂ Fits is c.into_items-in-ItemsOf.ensures c.requires.fits),
+      ),
+    )

@@ -15,7 +15,8 @@ abbrev pub invariant-field_children-loop-name : goal.invariant-field_children-lo
 invariant-field_children-loop-name l = record {
   done : List Found;
   split : l.fn.members.entries ≡ done ++ l.name-iterator;
-  naming : IsNaming (names done) (field_places (fields_view l.fields.entries) (members_view l.name-iterator)) (field_places (fields_view l.fields.entries) (members_view l.fn.members.entries)) l.children.items;
+  naming : IsNaming (names done) (field_places (fields_view l.fields.entries) (members_view l.name-iterator))
+      (field_places (fields_view l.fields.entries) (members_view l.fn.members.entries)) l.children.items;
   fits : FieldsFit (fields_view l.fields.entries) (members_view l.name-iterator);
 }
 
@@ -24,14 +25,17 @@ abbrev pub invariant-entry_children-loop-name : goal.invariant-entry_children-lo
 invariant-entry_children-loop-name l = record {
   done : List Found;
   split : l.fn.members.entries ≡ done ++ l.name-iterator;
-  naming : IsNaming (names done) (entry_places (kind_view l.inside) (members_view l.name-iterator)) (entry_places (kind_view l.inside) (members_view l.fn.members.entries)) l.children.items;
+  naming : IsNaming (names done) (entry_places (kind_view l.inside) (members_view l.name-iterator))
+      (entry_places (kind_view l.inside) (members_view l.fn.members.entries)) l.children.items;
   fits : EntriesFit (kind_view l.inside) (members_view l.name-iterator);
 }
 
 -- the items so far, and those that are left
 abbrev pub invariant-item_children-loop-item : goal.invariant-item_children-loop-item
 invariant-item_children-loop-item l = record {
-  listing : IsListing (key_order (names_view l.keys) (items_view (into_iter_items l.item-iterator))) (item_places (names_view l.keys) (fields_view l.fields.entries) (items_view (into_iter_items l.item-iterator)))
-      (key_order (names_view l.keys) (items_view l.fn.items.items)) (item_places (names_view l.keys) (fields_view l.fields.entries) (items_view l.fn.items.items)) l.children.items;
+  listing : IsListing (key_order (names_view l.keys) (items_view (into_iter_items l.item-iterator)))
+      (item_places (names_view l.keys) (fields_view l.fields.entries) (items_view (into_iter_items l.item-iterator)))
+      (key_order (names_view l.keys) (items_view l.fn.items.items))
+      (item_places (names_view l.keys) (fields_view l.fields.entries) (items_view l.fn.items.items)) l.children.items;
   fits : ItemsFitAfter (names_view l.keys) (fields_view l.fields.entries) (items_view (into_iter_items l.item-iterator));
 }

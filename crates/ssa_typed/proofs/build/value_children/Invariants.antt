@@ -9,6 +9,7 @@ use Rattle.ssa_typed.proofs.build.value_children.Given as goal
 -- the items so far, and those that are left
 abbrev pub invariant-loop-item : goal.invariant-loop-item
 invariant-loop-item l = record {
-  listing : IsListing (value_order (items_view (into_iter_items l.item-iterator))) (value_places (items_view (into_iter_items l.item-iterator))) (value_order (items_view l.fn.items.items)) (value_places (items_view l.fn.items.items)) l.children.items;
+  listing : IsListing (value_order (items_view (into_iter_items l.item-iterator))) (value_places (items_view (into_iter_items l.item-iterator)))
+      (value_order (items_view l.fn.items.items)) (value_places (items_view l.fn.items.items)) l.children.items;
   fits : ValuesFitAfter (scalar_kind_view l.kind) (items_view (into_iter_items l.item-iterator));
 }

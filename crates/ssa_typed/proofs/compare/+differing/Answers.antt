@@ -17,7 +17,8 @@ differing_below-push_alone-requires t c =
     let ss = c.in_ok-others.others.items in
     let own = order-below n c.children.result.now rs rs c.children.ensures.own refl c.in_ok-own.ensures in
     let other = order-below m c.children-2.result.now ss ss c.children-2.ensures.own refl c.in_ok-others.ensures in
-    let heads = heads-are rs ss _ _ c.loop-order.i c.loop-order.j _ _ c.deref.ensures.value c.deref-in-loop-order.ensures.value c.order_at.ensures (c.in-Some.is ∙ ap Some c.in-Less.is) in
+    let heads = heads-are rs ss _ _ c.loop-order.i c.loop-order.j _ _ c.deref.ensures.value c.deref-in-loop-order.ensures.value c.order_at.ensures
+    (c.in-Some.is ∙ ap Some c.in-Less.is) in
     let r = c.index.result.now in
     tree-child n (element_view r.now.0) r.now.1 c.requires.before (lost-child n m rs ss c.loop-order.i c.loop-order.j own other r heads c.index.ensures)
 
@@ -29,9 +30,11 @@ differing_below-push_alone-requires-in-Greater t c =
     let ss = c.in_ok-others.others.items in
     let own = order-below n c.children.result.now rs rs c.children.ensures.own refl c.in_ok-own.ensures in
     let other = order-below m c.children-2.result.now ss ss c.children-2.ensures.own refl c.in_ok-others.ensures in
-    let heads = heads-are rs ss _ _ c.loop-order.i c.loop-order.j _ _ c.deref.ensures.value c.deref-in-loop-order.ensures.value c.order_at.ensures (c.in-Some.is ∙ ap Some c.in-Greater.is) in
+    let heads = heads-are rs ss _ _ c.loop-order.i c.loop-order.j _ _ c.deref.ensures.value c.deref-in-loop-order.ensures.value c.order_at.ensures
+    (c.in-Some.is ∙ ap Some c.in-Greater.is) in
     let s = c.index-in-Greater.result.now in
-    tree-child m (element_view s.now.0) s.now.1 c.requires.after (new-child n m rs ss c.loop-order.i c.loop-order.j own other s heads c.index-in-Greater.ensures)
+    tree-child m (element_view s.now.0) s.now.1 c.requires.after
+    (new-child n m rs ss c.loop-order.i c.loop-order.j own other s heads c.index-in-Greater.ensures)
 
 pub differing_below-differing-requires : goal.differing_below-differing-requires
 differing_below-differing-requires t c =
@@ -41,12 +44,14 @@ differing_below-differing-requires t c =
     let ss = c.in_ok-others.others.items in
     let own = order-below n c.children.result.now rs rs c.children.ensures.own refl c.in_ok-own.ensures in
     let other = order-below m c.children-2.result.now ss ss c.children-2.ensures.own refl c.in_ok-others.ensures in
-    let heads = heads-are rs ss _ _ c.loop-order.i c.loop-order.j _ _ c.deref.ensures.value c.deref-in-loop-order.ensures.value c.order_at.ensures (c.in-Some.is ∙ ap Some c.in-Equal.is) in
+    let heads = heads-are rs ss _ _ c.loop-order.i c.loop-order.j _ _ c.deref.ensures.value c.deref-in-loop-order.ensures.value c.order_at.ensures
+    (c.in-Some.is ∙ ap Some c.in-Equal.is) in
     let r = c.index-mine.result.now in
     let s = c.index-in-Equal.result.now in
     let child = own-child n m rs ss c.loop-order.i c.loop-order.j own other r heads c.index-mine.ensures in
     let before = tree-child n (element_view r.now.0) r.now.1 c.requires.before child in
-    let after = tree-child m (element_view s.now.0) s.now.1 c.requires.after (other-child n m rs ss c.loop-order.i c.loop-order.j own other s heads c.index-in-Equal.ensures) in
+    let after = tree-child m (element_view s.now.0) s.now.1 c.requires.after
+    (other-child n m rs ss c.loop-order.i c.loop-order.j own other s heads c.index-in-Equal.ensures) in
     let small = smaller n (element_view r.now.0) r.now.1 child in
     let falls : 2 * length (rows r.now.1) + 1 < 2 * length (rows n) = omega arith in
     (search (rules, falls), (before, after))
@@ -67,16 +72,20 @@ differing_below-loop-order-preserved-in-Less t c =
     let l = c.loop-order in
     let rs = c.in_ok-own.own.items in
     let ss = c.in_ok-others.others.items in
-    let heads = heads-are rs ss _ _ c.loop-order.i c.loop-order.j _ _ c.deref.ensures.value c.deref-in-loop-order.ensures.value c.order_at.ensures (c.in-Some.is ∙ ap Some c.in-Less.is) in
-    past-lost c.is_dict-in_dict.result rs ss l.i l.j l.added.items l.modified.items l.removed.items l.invariant c.index.result.now c.push_alone.new.told.items heads c.index.ensures c.in_ok-push_alone-in-Less.ensures
+    let heads = heads-are rs ss _ _ c.loop-order.i c.loop-order.j _ _ c.deref.ensures.value c.deref-in-loop-order.ensures.value c.order_at.ensures
+    (c.in-Some.is ∙ ap Some c.in-Less.is) in
+    past-lost c.is_dict-in_dict.result rs ss l.i l.j l.added.items l.modified.items l.removed.items l.invariant c.index.result.now c.push_alone.new.told.items
+    heads c.index.ensures c.in_ok-push_alone-in-Less.ensures
 
 pub differing_below-loop-order-preserved-in-Greater : goal.differing_below-loop-order-preserved-in-Greater
 differing_below-loop-order-preserved-in-Greater t c =
     let l = c.loop-order in
     let rs = c.in_ok-own.own.items in
     let ss = c.in_ok-others.others.items in
-    let heads = heads-are rs ss _ _ c.loop-order.i c.loop-order.j _ _ c.deref.ensures.value c.deref-in-loop-order.ensures.value c.order_at.ensures (c.in-Some.is ∙ ap Some c.in-Greater.is) in
-    past-new c.is_dict-in_dict.result rs ss l.i l.j l.added.items l.modified.items l.removed.items l.invariant c.index-in-Greater.result.now c.push_alone-in-Greater.new.told.items heads c.index-in-Greater.ensures c.in_ok-push_alone-in-Greater.ensures
+    let heads = heads-are rs ss _ _ c.loop-order.i c.loop-order.j _ _ c.deref.ensures.value c.deref-in-loop-order.ensures.value c.order_at.ensures
+    (c.in-Some.is ∙ ap Some c.in-Greater.is) in
+    past-new c.is_dict-in_dict.result rs ss l.i l.j l.added.items l.modified.items l.removed.items l.invariant c.index-in-Greater.result.now
+    c.push_alone-in-Greater.new.told.items heads c.index-in-Greater.ensures c.in_ok-push_alone-in-Greater.ensures
 
 pub differing_below-loop-order-preserved : goal.differing_below-loop-order-preserved
 differing_below-loop-order-preserved t c =
@@ -87,7 +96,8 @@ differing_below-loop-order-preserved t c =
     let ss = c.in_ok-others.others.items in
     let own = order-below n c.children.result.now rs rs c.children.ensures.own refl c.in_ok-own.ensures in
     let other = order-below m c.children-2.result.now ss ss c.children-2.ensures.own refl c.in_ok-others.ensures in
-    let heads = heads-are rs ss _ _ c.loop-order.i c.loop-order.j _ _ c.deref.ensures.value c.deref-in-loop-order.ensures.value c.order_at.ensures (c.in-Some.is ∙ ap Some c.in-Equal.is) in
+    let heads = heads-are rs ss _ _ c.loop-order.i c.loop-order.j _ _ c.deref.ensures.value c.deref-in-loop-order.ensures.value c.order_at.ensures
+    (c.in-Some.is ∙ ap Some c.in-Equal.is) in
     let r = c.index-mine.result.now in
     let s = c.index-in-Equal.result.now in
     let child = own-child n m rs ss l.i l.j own other r heads c.index-mine.ensures in
@@ -106,7 +116,8 @@ differing_below-returns t c =
     let ss = c.in_ok-others.others.items in
     let own = order-below n c.children.result.now rs rs c.children.ensures.own refl c.in_ok-own.ensures in
     let other = order-below m c.children-2.result.now ss ss c.children-2.ensures.own refl c.in_ok-others.ensures in
-    let none = heads-none _ _ (heads-are rs ss _ _ c.loop-order.i c.loop-order.j _ _ c.deref.ensures.value c.deref-in-loop-order.ensures.value c.order_at.ensures c.in_default.is) in
+    let none = heads-none _ _ (heads-are rs ss _ _ c.loop-order.i c.loop-order.j _ _ c.deref.ensures.value c.deref-in-loop-order.ensures.value
+    c.order_at.ensures c.in_default.is) in
     past-all c.is_dict-in_dict.result rs ss n m _ _ _ c.is_dict-in_dict.ensures own other none.0 none.1 c.loop-order.invariant
 
 pub differing-returns-then-is_unchanged : goal.differing-returns-then-is_unchanged

@@ -24,8 +24,10 @@ is_unchanged-requires t c =
     let ds = c.children-others.result.now in
     let i = c.loop-i.i in
     let same = c.stand_alike.ensures c.if-not-stand_alike.false in
-    let own = ap (child_at e) (sym c.children-own.ensures.own) ∙ child-at-index cs i child c.loop-i-test.true c.index-own-i.is (c.children-own.ensures.apart c.requires.before) in
-    let other = beside m cs ds i child c.index-others-i.result c.children-others.ensures.own (c.children-others.ensures.apart c.requires.after) same c.loop-i-test.true c.index-own-i.is c.index-others-i.is in
+    let own = ap (child_at e) (sym c.children-own.ensures.own)
+    ∙ child-at-index cs i child c.loop-i-test.true c.index-own-i.is (c.children-own.ensures.apart c.requires.before) in
+    let other = beside m cs ds i child c.index-others-i.result c.children-others.ensures.own (c.children-others.ensures.apart c.requires.after) same
+    c.loop-i-test.true c.index-own-i.is c.index-others-i.is in
     let small = smaller n e child.1 own in
     (search (rules, small), (tree-child n e child.1 c.requires.before own, tree-child m e (get_or ds i c.index-others-i.result).1 c.requires.after other))
 
@@ -37,7 +39,8 @@ loop-i-preserved t c =
     let long = same-length cs ds (c.stand_alike.ensures c.if-not-stand_alike.false) in
     let lt : i < length ds = omega arith in
     let one = c.is_unchanged.ensures c.if-not-is_unchanged.false in
-    unchanged-more cs ds i c.index-own-i.result (get_or ds i c.index-others-i.result) c.loop-i-test.true lt c.index-own-i.is (ap (get_or ds i) c.index-others-i.is) one c.loop-i.invariant
+    unchanged-more cs ds i c.index-own-i.result (get_or ds i c.index-others-i.result) c.loop-i-test.true lt c.index-own-i.is
+    (ap (get_or ds i) c.index-others-i.is) one c.loop-i.invariant
 
 pub returns : goal.returns
 returns t c =

@@ -6,7 +6,8 @@ use Rattle.ssa_typed.proofs.copy.+copy.Goals as goal
 
 pub copied_children-returns : goal.copied_children-returns
 copied_children-returns t c =
-    c.loop-child.invariant ∙ ap kept_below (take_all c.loop-child.child-index c.deref-child-items.result.now c.loop-child-test.false ∙ c.deref-child-items.ensures.value)
+    c.loop-child.invariant ∙ ap kept_below (take_all c.loop-child.child-index c.deref-child-items.result.now c.loop-child-test.false
+    ∙ c.deref-child-items.ensures.value)
 
 pub copied-returns-in_ok-copied_children-in-Branch : goal.copied-returns-in_ok-copied_children-in-Branch
 copied-returns-in_ok-copied_children-in-Branch t c =

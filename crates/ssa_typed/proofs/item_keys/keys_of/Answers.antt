@@ -7,5 +7,6 @@ use Rattle.ssa_typed.proofs.item_keys.keys_of.Goals as goal
 
 pub unreachable-requires : goal.unreachable-requires
 unreachable-requires c =
-    keys-some (names_view c.args.names.now) (fields_view c.args.fields.now.entries) (members_view c.args.members.now.entries) c.requires.fits.0 c.requires.names c.requires.fits.1
+    keys-some (names_view c.args.names.now) (fields_view c.args.fields.now.entries) (members_view c.args.members.now.entries) c.requires.fits.0
+    c.requires.names c.requires.fits.1
     (sym c.in-None.is ∙ c.new.ensures ∙ ap keys.keys_of c.in_ok-key_members.ensures)

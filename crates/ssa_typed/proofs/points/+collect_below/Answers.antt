@@ -14,7 +14,8 @@ collect_below-requires t c =
     let n = c.args.node.now in
     let r = c.child-item.result in
     let rs = c.deref-child-items.result.now in
-    let order = order-below n c.children.result.now c.in_ok-children.children.items rs c.children.ensures.own c.deref-child-items.ensures.value c.in_ok-children.ensures in
+    let order = order-below n c.children.result.now c.in_ok-children.children.items rs c.children.ensures.own c.deref-child-items.ensures.value
+    c.in_ok-children.ensures in
     let child = child-of (below n) rs c.loop-child.child-index r (omega arith) c.child-item.is order in
     let small : length (rows r.now.1) < length (rows n) = smaller n (element_view r.now.0) r.now.1 child in
     (search (rules, small), tree-child n (element_view r.now.0) r.now.1 c.requires child)
@@ -24,7 +25,8 @@ push_filled-requires t c =
     let n = c.args.node.now in
     let r = c.child-item.result in
     let rs = c.deref-child-items.result.now in
-    let order = order-below n c.children.result.now c.in_ok-children.children.items rs c.children.ensures.own c.deref-child-items.ensures.value c.in_ok-children.ensures in
+    let order = order-below n c.children.result.now c.in_ok-children.children.items rs c.children.ensures.own c.deref-child-items.ensures.value
+    c.in_ok-children.ensures in
     let child = child-of (below n) rs c.loop-child.child-index r (omega arith) c.child-item.is order in
     let tree = tree-child n (element_view r.now.0) r.now.1 c.requires child in
     (child-trie c.args.what c.is_dict-in_dict.result (element_view r.now.0) r.now.1 _ tree c.has_place-here.ensures c.in_ok-below.ensures).trie
@@ -34,7 +36,8 @@ loop-child-preserved t c =
     let n = c.args.node.now in
     let r = c.child-item.result in
     let rs = c.deref-child-items.result.now in
-    let order = order-below n c.children.result.now c.in_ok-children.children.items rs c.children.ensures.own c.deref-child-items.ensures.value c.in_ok-children.ensures in
+    let order = order-below n c.children.result.now c.in_ok-children.children.items rs c.children.ensures.own c.deref-child-items.ensures.value
+    c.in_ok-children.ensures in
     let child = child-of (below n) rs c.loop-child.child-index r (omega arith) c.child-item.is order in
     let tree = tree-child n (element_view r.now.0) r.now.1 c.requires child in
     let within : c.loop-child.child-index < length rs = omega arith in
@@ -46,6 +49,8 @@ pub returns : goal.returns
 returns t c =
     let n = c.args.node.now in
     let rs = c.deref-child-items.result.now in
-    let order = order-below n c.children.result.now c.in_ok-children.children.items rs c.children.ensures.own c.deref-child-items.ensures.value c.in_ok-children.ensures in
+    let order = order-below n c.children.result.now c.in_ok-children.children.items rs c.children.ensures.own c.deref-child-items.ensures.value
+    c.in_ok-children.ensures in
     let none = drop-referred c.loop-child.child-index rs ∙ ap referred (drop_all c.loop-child.child-index rs c.loop-child-test.false) in
-    collecting-all c.args.what c.is_dict-in_dict.result n (referred rs) _ c.loop-child.collected.items c.is_dict-in_dict.ensures order none c.loop-child.invariant
+    collecting-all c.args.what c.is_dict-in_dict.result n (referred rs) _ c.loop-child.collected.items c.is_dict-in_dict.ensures order none
+    c.loop-child.invariant

@@ -11,7 +11,6 @@ use Rattle.ssa_typed.specs.Flats.{AreNamed}
 use Rattle.ssa_typed.specs.declared.node.Node.{Branch}
 use Rattle.ssa_typed.proofs.BodyFits.{body-fits}
 use Rattle.ssa_model.specs.definitions.Lawful.{has_metadata}
-use Rattle.ssa_model.specs.definitions.Valid.{IsRooted}
 use Rattle.ssa_typed.specs.Reads.{has_empty_metadata}
 use Rattle.ssa_model.proofs.FlatFits.{without-fits}
 use Rattle.ssa_typed.proofs.Rooted.{body-rooted}
@@ -25,10 +24,24 @@ field_children-requires-clause-fits c =
     let is : kind_view c.args.kind.now ≡ model.record_of fs = ap kind_view c.in-Record.is ∙ kind_view-Record c.in-Record.fields in
     subst (FieldsFit fs) (sym c.without_empty_metadata-members.ensures.members) (without-fits fs ms (subst₂ Fits is c.into_members.ensures c.requires.fits))
 
-pub new-requires : goal.new-requires
-new-requires c =
+pub new-requires-clause-tree : goal.new-requires-clause-tree
+new-requires-clause-tree c =
     let fs = fields_view c.in-Record.fields.entries in
-    record-tree c.in_ok-children-in-Record.children (field_places fs (members_view c.without_empty_metadata-members.result.entries)) c.in_ok-children-in-Record.ensures
+    record-tree c.in_ok-children-in-Record.children (field_places fs (members_view c.without_empty_metadata-members.result.entries))
+    c.in_ok-children-in-Record.ensures
+
+pub new-requires-clause-rooted : goal.new-requires-clause-rooted
+new-requires-clause-rooted c =
+    let fs = fields_view c.in-Record.fields.entries in
+    let ms = members_view c.into_members.result.entries in
+    let cs = c.in_ok-children-in-Record.children in
+    let left = c.without_empty_metadata-members.ensures in
+    let is : kind_view c.args.kind.now ≡ model.record_of fs = ap kind_view c.in-Record.is ∙ kind_view-Record c.in-Record.fields in
+    let named = subst (λ ns. AreNamed (field_places fs ns) cs.items) left.members c.in_ok-children-in-Record.ensures in
+    body-rooted fs (without_empty_metadata ms) (Branch cs) (ap has_metadata (sym is) ∙ c.requires.metadata)
+    (without-fits fs ms (subst₂ Fits is c.into_members.ensures c.requires.fits))
+    (ap has_empty_metadata (sym left.members) ∙ left.gone)
+    (record-made cs (model.record_of fs) (object (without_empty_metadata ms)) fs (without_empty_metadata ms) refl refl named)
 
 pub returns-clause-exact : goal.returns-clause-exact
 returns-clause-exact c =
@@ -36,7 +49,8 @@ returns-clause-exact c =
     let ms = members_view c.into_members.result.entries in
     let cs = c.in_ok-children-in-Record.children in
     c.new.ensures
-    ∙ record-flat cs fs ms (subst (λ ns. AreNamed (field_places fs ns) cs.items) c.without_empty_metadata-members.ensures.members c.in_ok-children-in-Record.ensures)
+    ∙ record-flat cs fs ms (subst (λ ns. AreNamed (field_places fs ns) cs.items) c.without_empty_metadata-members.ensures.members
+    c.in_ok-children-in-Record.ensures)
     ∙ (λ i. flat (sym (ap kind_view c.in-Record.is ∙ kind_view-Record c.in-Record.fields) i) (sym c.into_members.ensures i))
 
 pub returns-clause-fits : goal.returns-clause-fits
@@ -47,18 +61,6 @@ returns-clause-fits c =
     let is : kind_view c.args.kind.now ≡ model.record_of fs = ap kind_view c.in-Record.is ∙ kind_view-Record c.in-Record.fields in
     let named = subst (λ ns. AreNamed (field_places fs ns) cs.items) c.without_empty_metadata-members.ensures.members c.in_ok-children-in-Record.ensures in
     subst₂ IsBodyOf (sym is) (sym c.new.ensures)
-    (body-fits (model.record_of fs) (object (without_empty_metadata ms)) (Branch cs) (without-fits fs ms (subst₂ Fits is c.into_members.ensures c.requires.fits))
-    (record-made cs (model.record_of fs) (object (without_empty_metadata ms)) fs (without_empty_metadata ms) refl refl named))
-
-pub returns-clause-rooted : goal.returns-clause-rooted
-returns-clause-rooted c =
-    let fs = fields_view c.in-Record.fields.entries in
-    let ms = members_view c.into_members.result.entries in
-    let cs = c.in_ok-children-in-Record.children in
-    let left = c.without_empty_metadata-members.ensures in
-    let is : kind_view c.args.kind.now ≡ model.record_of fs = ap kind_view c.in-Record.is ∙ kind_view-Record c.in-Record.fields in
-    let named = subst (λ ns. AreNamed (field_places fs ns) cs.items) left.members c.in_ok-children-in-Record.ensures in
-    subst IsRooted (sym c.new.ensures)
-    (body-rooted fs (without_empty_metadata ms) (Branch cs) (ap has_metadata (sym is) ∙ c.requires.metadata) (without-fits fs ms (subst₂ Fits is c.into_members.ensures c.requires.fits))
-    (ap has_empty_metadata (sym left.members) ∙ left.gone)
+    (body-fits (model.record_of fs) (object (without_empty_metadata ms)) (Branch cs)
+    (without-fits fs ms (subst₂ Fits is c.into_members.ensures c.requires.fits))
     (record-made cs (model.record_of fs) (object (without_empty_metadata ms)) fs (without_empty_metadata ms) refl refl named))

@@ -14,22 +14,28 @@ pub restricted_children-restricted_node-requires : goal.restricted_children-rest
 restricted_children-restricted_node-requires t c =
     let ts = c.args.stay.now in
     let child : Child = (c.in-Some.element, c.in-Some.child) in
-    let tree = next-tree ts c.requires.rise c.requires.tries c.args.children.items child _ (into_iter_items c.next.new.self) c.loop-element.kept.items c.in-Some.ensures.steps.0 c.loop-element.invariant in
-    let trie = trie-there ts c.requires.rise c.requires.tries (element_view c.in-Some.element) c.in-Some-find_child.below.now (sym c.in-Some-find_child.ensures) in
-    let small = next-smaller ts c.requires.rise c.requires.tries c.args.children.items child _ (into_iter_items c.next.new.self) c.loop-element.kept.items c.in-Some.ensures.steps.0 c.loop-element.invariant in
+    let tree = next-tree ts c.requires.rise c.requires.tries c.args.children.items child _ (into_iter_items c.next.new.self) c.loop-element.kept.items
+    c.in-Some.ensures.steps.0 c.loop-element.invariant in
+    let trie = trie-there ts c.requires.rise c.requires.tries (element_view c.in-Some.element) c.in-Some-find_child.below.now
+    (sym c.in-Some-find_child.ensures) in
+    let small = next-smaller ts c.requires.rise c.requires.tries c.args.children.items child _ (into_iter_items c.next.new.self) c.loop-element.kept.items
+    c.in-Some.ensures.steps.0 c.loop-element.invariant in
     (search (rules, small), (tree, trie))
 
 pub restricted_children-loop-element-preserved-in-Continue-branch-2 : goal.restricted_children-loop-element-preserved-in-Continue-branch-2
 restricted_children-loop-element-preserved-in-Continue-branch-2 t c =
     let ts = c.args.stay.now in
     let child : Child = (c.in-Some.element, c.in-Some.child) in
-    restricting-kept ts c.requires.rise c.requires.tries c.args.children.items child _ (into_iter_items c.next.new.self) c.loop-element.kept.items c.in-Some.ensures.steps.0 c.loop-element.invariant
-    c.in-Some-find_child.below.now c.in_ok-node-in-Some-find_child.node c.push.new.self.items (sym c.in-Some-find_child.ensures) c.in_ok-node-in-Some-find_child.ensures c.in_ok-push-in-Some-find_child.ensures.items
+    restricting-kept ts c.requires.rise c.requires.tries c.args.children.items child _ (into_iter_items c.next.new.self) c.loop-element.kept.items
+    c.in-Some.ensures.steps.0 c.loop-element.invariant
+    c.in-Some-find_child.below.now c.in_ok-node-in-Some-find_child.node c.push.new.self.items (sym c.in-Some-find_child.ensures)
+    c.in_ok-node-in-Some-find_child.ensures c.in_ok-push-in-Some-find_child.ensures.items
 
 pub restricted_children-loop-element-preserved : goal.restricted_children-loop-element-preserved
 restricted_children-loop-element-preserved t c =
     let child : Child = (c.in-Some.element, c.in-Some.child) in
-    restricting-dropped c.args.stay.now c.requires.rise c.requires.tries c.args.children.items child _ (into_iter_items c.next.new.self) c.loop-element.kept.items c.in-Some.ensures.steps.0 c.loop-element.invariant
+    restricting-dropped c.args.stay.now c.requires.rise c.requires.tries c.args.children.items child _ (into_iter_items c.next.new.self)
+    c.loop-element.kept.items c.in-Some.ensures.steps.0 c.loop-element.invariant
     (sym c.in-None-find_child.ensures)
 
 pub restricted_children-returns : goal.restricted_children-returns
@@ -61,12 +67,15 @@ restricted_node-restricted_children-requires-in-List t c =
 
 pub restricted_node-returns-in_ok-kept-in-Branch : goal.restricted_node-returns-in_ok-kept-in-Branch
 restricted_node-returns-in_ok-kept-in-Branch t c =
-    record-restricted c.args.stay.now c.args.node c.in-Branch.children c.in_ok-kept-in-Branch.kept c.requires.tree c.in-Branch.is (rw c.deref.ensures.value at c.in_ok-kept-in-Branch.ensures)
+    record-restricted c.args.stay.now c.args.node c.in-Branch.children c.in_ok-kept-in-Branch.kept c.requires.tree c.in-Branch.is
+    (rw c.deref.ensures.value at c.in_ok-kept-in-Branch.ensures)
 
 pub restricted_node-returns-in_ok-kept-in-Dict : goal.restricted_node-returns-in_ok-kept-in-Dict
 restricted_node-returns-in_ok-kept-in-Dict t c =
-    dict-restricted c.args.stay.now c.args.node c.in-Dict.children c.in_ok-kept-in-Dict.kept c.requires.tree c.in-Dict.is (rw c.deref-in-Dict.ensures.value at c.in_ok-kept-in-Dict.ensures)
+    dict-restricted c.args.stay.now c.args.node c.in-Dict.children c.in_ok-kept-in-Dict.kept c.requires.tree c.in-Dict.is
+    (rw c.deref-in-Dict.ensures.value at c.in_ok-kept-in-Dict.ensures)
 
 pub restricted_node-returns-in_ok-kept-in-List : goal.restricted_node-returns-in_ok-kept-in-List
 restricted_node-returns-in_ok-kept-in-List t c =
-    list-restricted c.args.stay.now c.args.node c.in-List.children c.in_ok-kept-in-List.kept c.requires.tree c.in-List.is (rw c.deref-in-List.ensures.value at c.in_ok-kept-in-List.ensures)
+    list-restricted c.args.stay.now c.args.node c.in-List.children c.in_ok-kept-in-List.kept c.requires.tree c.in-List.is
+    (rw c.deref-in-List.ensures.value at c.in_ok-kept-in-List.ensures)

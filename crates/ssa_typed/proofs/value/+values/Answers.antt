@@ -12,7 +12,10 @@ use Rattle.ssa_typed.proofs.Values.{items_after, items_view-push, items-more, me
 use Rattle.ssa_typed.proofs.value.+values.Goals as goal
 
 pub items_of-value_of-requires : goal.items_of-value_of-requires
-items_of-value_of-requires t c = (search (rules, the_lemmas), tree-at c.args.children.now c.loop-child.child-index c.child-item.result (omega arith) c.child-item.is c.requires)
+items_of-value_of-requires t c = (
+  search (rules, the_lemmas),
+  tree-at c.args.children.now c.loop-child.child-index c.child-item.result (omega arith) c.child-item.is c.requires,
+)
 
 pub items_of-loop-child-preserved : goal.items_of-loop-child-preserved
 items_of-loop-child-preserved t c =
@@ -23,7 +26,10 @@ items_of-loop-child-preserved t c =
     ∙ sym (items-more c.args.children.now c.loop-child.child-index c.child-item.result (omega arith) c.child-item.is)
 
 pub members_of-value_of-requires : goal.members_of-value_of-requires
-members_of-value_of-requires t c = (search (rules, the_lemmas), tree-at c.args.children.now c.loop-element.element-index c.loop-element-item.result (omega arith) c.loop-element-item.is c.requires.trees)
+members_of-value_of-requires t c = (
+  search (rules, the_lemmas),
+  tree-at c.args.children.now c.loop-element.element-index c.loop-element-item.result (omega arith) c.loop-element-item.is c.requires.trees,
+)
 
 pub members_of-loop-element-preserved : goal.members_of-loop-element-preserved
 members_of-loop-element-preserved t c =
@@ -39,8 +45,13 @@ value_of-members_of-requires t c =
 
 pub value_of-members_of-requires-in-Dict : goal.value_of-members_of-requires-in-Dict
 value_of-members_of-requires-in-Dict t c =
-    let level = sym (ap is_tree c.in-Dict.is ∙ tree-Dict c.in-Dict.entries) ∙ c.requires in
-    (search (rules, the_lemmas), (rw c.deref-in-Dict.ensures.value (both_first _ _ (both_first _ _ level)), rw c.deref-in-Dict.ensures.value (both_second _ _ level)))
+    let level = sym (ap is_tree c.in-Dict.is ∙ tree-Dict c.in-Dict.entries) ∙ c.requires in (
+      search (rules, the_lemmas),
+      (
+        rw c.deref-in-Dict.ensures.value (both_first _ _ (both_first _ _ level)),
+        rw c.deref-in-Dict.ensures.value (both_second _ _ level),
+      ),
+    )
 
 pub value_of-returns-in_ok-members_of-in-Branch : goal.value_of-returns-in_ok-members_of-in-Branch
 value_of-returns-in_ok-members_of-in-Branch t c =

@@ -24,6 +24,7 @@ returns-clause-given c =
     let same = ap (λ b. same_identity (identity_of v) b.identity) (sym c.self.view_is) ∙ sym c.is_same_as.ensures ∙ c.if-not-is_same_as.false in
     subst given
     ((λ i. body_or_fault (c.self.view_is i).schema.kind (c.body_value.ensures i))
-    ∙ sym (command_body-taken c.args.self.now v (sym c.is_object.ensures ∙ c.if-not-is_object.false) (regrouped _ _ _ (sym c.has_identity.ensures ∙ c.if-not-has_identity.false) same)
+    ∙ sym (command_body-taken c.args.self.now v (sym c.is_object.ensures
+    ∙ c.if-not-is_object.false) (regrouped _ _ _ (sym c.has_identity.ensures ∙ c.if-not-has_identity.false) same)
     (sym c.gives_managed_fields.ensures ∙ c.if-gives_managed_fields.false)))
     c.body_or_fault.ensures.given

@@ -30,7 +30,7 @@ invariant_of-self-2 c =
     let label = label_view c.args.prepared.step.label in
     let state = led_to bench c.args.prepared in
     let prepared : IsPreparedOn bench c.args.prepared = subst (λ n. IsPreparedOn n c.args.prepared) (sym c.self.view_is) c.requires in
-    let distinct = (present_valid b.schema.kind b.timeline c.self.invariant.states).table.distinct in
+    let distinct = (present_valid b.schema.kind b.timeline c.self.invariant.states).table.managers.distinct in
     let next : IsNextStep b.timeline label state = accepted_goes_on bench prepared.0 prepared.1 _ label state distinct prepared.2.reply prepared.2.next in
     subst (IsValidHistory b.schema.kind) (sym c.in_ok-append.ensures.ok)
     (next_keeps_history b.schema.kind b.timeline label state c.self.invariant c.place_is_within.ensures prepared.2.valid next)

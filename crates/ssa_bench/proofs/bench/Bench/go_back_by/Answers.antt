@@ -14,26 +14,30 @@ use Rattle.ssa_turn.specs.TablesBack.{HasTableBack}
 use Rattle.ssa_turn_state.specs.States.{HasStateRoom, state_steps}
 use Rattle.ssa_bench.specs.BenchView.{bench_view}
 use Rattle.ssa_bench.specs.Taking.{IsToldMove, TellsMove}
-use Rattle.ssa_bench.proofs.TakenLines.{preceded-history, taken-there}
+use Rattle.ssa_bench.proofs.TakenLines.{preceded-history}
 use Rattle.ssa_bench.proofs.bench.Bench.go_back_by.Goals as goal
+use Rattle.ssa_model.proofs.RecordTakes.{taken-there}
 
 pub precede-requires-clause-fits : goal.precede-requires-clause-fits
 precede-requires-clause-fits c =
     let bench : model.Bench = bench_view c.self.inside in
     let v = view c.args.line.now.value in
-    let told = subst (λ (b : model.Bench). TellsMove b (Ok c.in_ok-label.field-0) v) (sym (c.self.view_is ∙ c.in_ok-label.ensures.same)) c.in_ok-label.ensures.told in
+    let told = subst (λ (b : model.Bench). TellsMove b (Ok c.in_ok-label.field-0) v) (sym (c.self.view_is ∙ c.in_ok-label.ensures.same))
+    c.in_ok-label.ensures.told in
     taken-there bench.schema.kind (state_steps c.in_ok-label.field-0.delta) (present bench.timeline) told.0 told.1.takes
 
 pub precede-requires-clause-room : goal.precede-requires-clause-room
 precede-requires-clause-room c =
     let v = view c.args.line.now.value in
-    (subst (λ (b : model.Bench). TellsMove b (Ok c.in_ok-label.field-0) v) (sym (c.self.view_is ∙ c.in_ok-label.ensures.same)) c.in_ok-label.ensures.told).1.room
+    (subst (λ (b : model.Bench). TellsMove b (Ok c.in_ok-label.field-0) v) (sym (c.self.view_is ∙ c.in_ok-label.ensures.same))
+    c.in_ok-label.ensures.told).1.room
 
 pub precede-requires-clause-back : goal.precede-requires-clause-back
 precede-requires-clause-back c =
     let bench : model.Bench = bench_view c.self.inside in
     let v = view c.args.line.now.value in
-    let told = subst (λ (b : model.Bench). TellsMove b (Ok c.in_ok-label.field-0) v) (sym (c.self.view_is ∙ c.in_ok-label.ensures.same)) c.in_ok-label.ensures.told in
+    let told = subst (λ (b : model.Bench). TellsMove b (Ok c.in_ok-label.field-0) v) (sym (c.self.view_is ∙ c.in_ok-label.ensures.same))
+    c.in_ok-label.ensures.told in
     subst HasTableBack (sym (fixes_target bench.schema.kind (state_steps c.in_ok-label.field-0.delta) (present bench.timeline) told.0 told.1.takes)) told.1.back
 
 pub invariant_of-self-2 : goal.invariant_of-self-2
@@ -67,5 +71,6 @@ returns c =
     let goes = c.in_ok-precede.ensures.ok ∙ ap (preceded b.timeline label) led in (
       (label, w),
       own.1.move,
-      (λ i. record { schema = b.schema; identity = b.identity; timeline = goes i }) ∙ ap (λ (n : model.Bench). with_timeline n (preceded n.timeline label w)) (sym same),
+      (λ i. record { schema = b.schema; identity = b.identity; timeline = goes i })
+          ∙ ap (λ (n : model.Bench). with_timeline n (preceded n.timeline label w)) (sym same),
     )

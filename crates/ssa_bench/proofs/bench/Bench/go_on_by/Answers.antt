@@ -13,14 +13,15 @@ use Rattle.ssa_turn.specs.TablesBack.{HasTableBack}
 use Rattle.ssa_turn_state.specs.States.{HasStateRoom, state_steps}
 use Rattle.ssa_bench.specs.BenchView.{bench_view}
 use Rattle.ssa_bench.specs.Taking.{IsToldMove, TellsMove}
-use Rattle.ssa_bench.proofs.TakenLines.{taken-there}
 use Rattle.ssa_bench.proofs.bench.Bench.go_on_by.Goals as goal
+use Rattle.ssa_model.proofs.RecordTakes.{taken-there}
 
 pub append-requires-clause-fits : goal.append-requires-clause-fits
 append-requires-clause-fits c =
     let bench : model.Bench = bench_view c.self-2.inside in
     let v = view c.args.line.now.value in
-    let told = subst (λ (b : model.Bench). TellsMove b (Ok c.in_ok-step.step) v) (sym (c.self-2.view_is ∙ c.in_ok-step.ensures.same)) c.in_ok-step.ensures.told in
+    let told = subst (λ (b : model.Bench). TellsMove b (Ok c.in_ok-step.step) v) (sym (c.self-2.view_is ∙ c.in_ok-step.ensures.same))
+    c.in_ok-step.ensures.told in
     taken-there bench.schema.kind (state_steps c.in_ok-step.step.delta) (present bench.timeline) told.0 told.1.takes
 
 pub append-requires-clause-room : goal.append-requires-clause-room
@@ -32,7 +33,8 @@ pub append-requires-clause-back : goal.append-requires-clause-back
 append-requires-clause-back c =
     let bench : model.Bench = bench_view c.self-2.inside in
     let v = view c.args.line.now.value in
-    let told = subst (λ (b : model.Bench). TellsMove b (Ok c.in_ok-step.step) v) (sym (c.self-2.view_is ∙ c.in_ok-step.ensures.same)) c.in_ok-step.ensures.told in
+    let told = subst (λ (b : model.Bench). TellsMove b (Ok c.in_ok-step.step) v) (sym (c.self-2.view_is ∙ c.in_ok-step.ensures.same))
+    c.in_ok-step.ensures.told in
     subst HasTableBack (sym (fixes_target bench.schema.kind (state_steps c.in_ok-step.step.delta) (present bench.timeline) told.0 told.1.takes)) told.1.back
 
 pub invariant_of-self-2 : goal.invariant_of-self-2
@@ -65,5 +67,6 @@ returns c =
     let goes = c.in_ok-append.ensures.ok ∙ ap (appended b.timeline label) led in (
       (label, w),
       own.1.move,
-      (λ i. record { schema = b.schema; identity = b.identity; timeline = goes i }) ∙ ap (λ (n : model.Bench). with_timeline n (appended n.timeline label w)) (sym same),
+      (λ i. record { schema = b.schema; identity = b.identity; timeline = goes i })
+          ∙ ap (λ (n : model.Bench). with_timeline n (appended n.timeline label w)) (sym same),
     )

@@ -31,7 +31,8 @@ file_state-requires c =
 pub returns-in-Ok : goal.returns-in-Ok
 returns-in-Ok c =
     let some : ◌≡◌ {A = Option Identity} (Some c.in-Some.identity) (identity_in (view c.args.object)) = sym c.in-Some.is ∙ c.in_ok-identity.ensures in
-    bench_of-state c.args.schema (view c.args.object) c.in-Some.identity (Ok (state_view c.in-Ok.state)) (sym c.is_object.ensures ∙ c.if-not-is_object.false) some c.in-Ok.ensures.given
+    bench_of-state c.args.schema (view c.args.object) c.in-Some.identity (Ok (state_view c.in-Ok.state)) (sym c.is_object.ensures
+    ∙ c.if-not-is_object.false) some c.in-Ok.ensures.given
     ∙ ap Ok (sym c.with_lone_state.ensures)
 
 pub returns-in-Err : goal.returns-in-Err

@@ -13,7 +13,8 @@ returns-in-Ok c =
     let v = view c.args.object in
     let prepares : Answer → Type 0 = λ a. IsPrepared bench c.prepare_configuration.result a (codes "apply") in
     let named = ap (λ n. tested_body bench n v) (sym c.as_str.ensures.value) ∙ c.in-Ok.ensures.given in
-    subst prepares (sym (with_body-tested bench who v (apply_answer bench who c.args.force c.args.at) (Ok c.in-Ok.config) named)) c.prepare_configuration.ensures
+    subst prepares (sym (with_body-tested bench who v (apply_answer bench who c.args.force c.args.at) (Ok c.in-Ok.config) named))
+    c.prepare_configuration.ensures
 
 pub returns-in-Err : goal.returns-in-Err
 returns-in-Err c =
@@ -21,4 +22,5 @@ returns-in-Err c =
     let who = string_bytes c.args.who in
     let v = view c.args.object in
     told-first bench (codes "apply") c.in-Err.fault (tested_body bench c.as_str.result.now v) _
-    (λ g e. with_body-tested bench who v (apply_answer bench who c.args.force c.args.at) (Err g) (ap (λ n. tested_body bench n v) (sym c.as_str.ensures.value) ∙ e)) c.in-Err.ensures.given
+    (λ g e. with_body-tested bench who v (apply_answer bench who c.args.force c.args.at) (Err g) (ap (λ n. tested_body bench n v) (sym c.as_str.ensures.value)
+    ∙ e)) c.in-Err.ensures.given

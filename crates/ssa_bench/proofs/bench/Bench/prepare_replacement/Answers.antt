@@ -16,6 +16,9 @@ use Rattle.ssa_bench.proofs.Planned.{IsKept, IsRecorded, accepted, leads-itself,
 use Rattle.ssa_model.proofs.ValidTimelines.{present_valid}
 use Rattle.ssa_bench.proofs.bench.Bench.prepare_replacement.Goals as goal
 
+pub change_update-requires : goal.change_update-requires
+change_update-requires c = ap is_manager_name c.as_str.ensures.value ∙ c.requires.named
+
 pub accepted-requires-clause-valid : goal.accepted-requires-clause-valid
 accepted-requires-clause-valid c =
     let b = c.self.inside in
@@ -23,8 +26,7 @@ accepted-requires-clause-valid c =
     let valid : model.Bench → Type 0 = λ n. IsValidBody n.schema.kind c.args.body in
     let live = subst (IsValidState kind) (sym c.present-now.ensures) (present_valid kind b.timeline c.self.invariant.states) in
     let body = subst valid (sym c.self.view_is) c.requires.valid in
-    let named = ap is_manager_name c.as_str.ensures.value ∙ c.requires.named in
-    (kind, live, c.in-Ok.ensures.valid kind live body.fits body.rooted body.few named)
+    (kind, live, c.in-Ok.ensures.valid kind live body.fits body.few)
 
 pub accepted-requires-clause-read : goal.accepted-requires-clause-read
 accepted-requires-clause-read c =
@@ -38,7 +40,7 @@ pub accepted-requires-clause-order : goal.accepted-requires-clause-order
 accepted-requires-clause-order c =
     let b = c.self.inside in
     let live = subst (IsValidState b.schema.kind) (sym c.present-now.ensures) (present_valid b.schema.kind b.timeline c.self.invariant.states) in
-    c.in-Ok.ensures.order live.table.distinct
+    c.in-Ok.ensures.order live.table.managers.distinct
 
 pub returns-in_ok-prepared-in-Ok : goal.returns-in_ok-prepared-in-Ok
 returns-in_ok-prepared-in-Ok c =
@@ -50,15 +52,23 @@ returns-in_ok-prepared-in-Ok c =
     let valid : model.Bench → Type 0 = λ n. IsValidBody n.schema.kind c.args.body in
     let live = subst (IsValidState kind) (sym c.present-now.ensures) (present_valid kind b.timeline c.self.invariant.states) in
     let body = subst valid (sym c.self.view_is) c.requires.valid in
-    let named = ap is_manager_name c.as_str.ensures.value ∙ c.requires.named in
     let before = state_view c.present-now.result.now in
     let now_is = c.present-now.ensures ∙ ap (λ n. present n.timeline) c.self.view_is in
     let change = c.in-Ok.change in
     let p = c.in_ok-prepared-in-Ok.prepared in
     let label = Update c.args.at c.args.who in
-    let made : IsRecorded before label change p = record { label_is = c.in_ok-prepared-in-Ok.ensures.label; record_is = c.in_ok-prepared-in-Ok.ensures.record; room = c.in_ok-prepared-in-Ok.ensures.room; changed_is = c.in_ok-prepared-in-Ok.ensures.changed } in
+    let made : IsRecorded before label change p = record {
+      label_is = c.in_ok-prepared-in-Ok.ensures.label;
+      record_is = c.in_ok-prepared-in-Ok.ensures.record;
+      room = c.in_ok-prepared-in-Ok.ensures.room;
+      changed_is = c.in_ok-prepared-in-Ok.ensures.changed;
+    } in
     let back = subst HasTableBack (sym c.present-now.ensures) (present-back b.timeline c.own_entries_are_read.ensures) in
-    let kept : IsKept kind before change = record { valid = c.in-Ok.ensures.valid kind live body.fits body.rooted body.few named; order = c.in-Ok.ensures.order live.table.distinct; back = c.in_ok-prepared-in-Ok.ensures.back back } in
+    let kept : IsKept kind before change = record {
+      valid = c.in-Ok.ensures.valid kind live body.fits body.few;
+      order = c.in-Ok.ensures.order live.table.managers.distinct;
+      back = c.in_ok-prepared-in-Ok.ensures.back back;
+    } in
     let on_kind : model.Bench → Type 0 = λ n. IsKept n.schema.kind (present bench.timeline) change in
     let now_kind : model.Bench → Type 0 = λ n. IsValidState n.schema.kind (present bench.timeline) in
     accepted bench (codes "update") label change p (to (present bench.timeline) who)
@@ -76,4 +86,5 @@ returns-in-Err c =
     let tells : Fault → Type 0 = λ f. IsPrepared bench (Err f) (update_answer bench who c.args.at c.args.body) (codes "update") in
     subst tells (sym c.from.ensures)
     (refused-planned bench (codes "update") (Update c.args.at c.args.who) c.in-Err.refusal (to (present bench.timeline) who)
-    (planned-at to (Err c.in-Err.refusal) (state_view c.present-now.result.now) (present bench.timeline) c.as_str.result.now who now_is c.as_str.ensures.value c.in-Err.ensures.change))
+    (planned-at to (Err c.in-Err.refusal) (state_view c.present-now.result.now) (present bench.timeline) c.as_str.result.now who now_is c.as_str.ensures.value
+    c.in-Err.ensures.change))

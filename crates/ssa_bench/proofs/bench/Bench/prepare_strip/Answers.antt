@@ -32,7 +32,7 @@ pub accepted-requires-clause-order : goal.accepted-requires-clause-order
 accepted-requires-clause-order c =
     let b = c.self.inside in
     let live = subst (IsValidState b.schema.kind) (sym c.present-now.ensures) (present_valid b.schema.kind b.timeline c.self.invariant.states) in
-    c.in_ok-change.ensures.order live.table.distinct
+    c.in_ok-change.ensures.order live.table.managers.distinct
 
 pub returns : goal.returns
 returns c =
@@ -46,9 +46,18 @@ returns c =
     let live = subst (IsValidState kind) (sym c.present-now.ensures) (present_valid kind b.timeline c.self.invariant.states) in
     let now_is = c.present-now.ensures ∙ ap (λ n. present n.timeline) c.self.view_is in
     let count = c.past_len.ensures.count ∙ ap (λ n. past_len n.timeline) c.self.view_is in
-    let made : IsRecorded before Strip change p = record { label_is = c.in_ok-prepared.ensures.label; record_is = c.in_ok-prepared.ensures.record; room = c.in_ok-prepared.ensures.room; changed_is = c.in_ok-prepared.ensures.changed } in
+    let made : IsRecorded before Strip change p = record {
+      label_is = c.in_ok-prepared.ensures.label;
+      record_is = c.in_ok-prepared.ensures.record;
+      room = c.in_ok-prepared.ensures.room;
+      changed_is = c.in_ok-prepared.ensures.changed;
+    } in
     let back = subst HasTableBack (sym c.present-now.ensures) (present-back b.timeline c.own_entries_are_read.ensures) in
-    let kept : IsKept kind before change = record { valid = c.in_ok-change.ensures.valid kind live; order = c.in_ok-change.ensures.order live.table.distinct; back = c.in_ok-prepared.ensures.back back } in
+    let kept : IsKept kind before change = record {
+      valid = c.in_ok-change.ensures.valid kind live;
+      order = c.in_ok-change.ensures.order live.table.managers.distinct;
+      back = c.in_ok-prepared.ensures.back back;
+    } in
     let on_kind : model.Bench → Type 0 = λ n. IsKept n.schema.kind (present bench.timeline) change in
     let now_kind : model.Bench → Type 0 = λ n. IsValidState n.schema.kind (present bench.timeline) in
     stripped-accepted bench change p c.past_len.result count c.if-past_len-ge-MOST_PAST.false

@@ -21,4 +21,5 @@ returns-in-Err c =
     let who = string_bytes c.args.who in
     let v = view c.args.object in
     told-first bench (codes "update") c.in-Err.fault (tested_body bench c.as_str.result.now v) _
-    (λ g e. with_body-tested bench who v (update_answer bench who c.args.at) (Err g) (ap (λ n. tested_body bench n v) (sym c.as_str.ensures.value) ∙ e)) c.in-Err.ensures.given
+    (λ g e. with_body-tested bench who v (update_answer bench who c.args.at) (Err g) (ap (λ n. tested_body bench n v) (sym c.as_str.ensures.value) ∙ e))
+    c.in-Err.ensures.given

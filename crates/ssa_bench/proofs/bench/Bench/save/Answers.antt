@@ -13,16 +13,19 @@ use Rattle.ssa_model.proofs.Results.{handed-on}
 use Rattle.ssa_bench.proofs.SavedBench.{is-file, source-names}
 use Rattle.ssa_bench.proofs.bench.Bench.save.Goals as goal
 
-broken_off : {S : Type 0} (contents : S → Option (List ℕ)) (has_failed : S → Bool) (old new : S) (written text : Text) → written ≡ text → length written ≤ most_bench_bytes
+broken_off : {S : Type 0} (contents : S → Option (List ℕ)) (has_failed : S → Bool) (old new : S) (written text : Text) → written ≡ text
+    → length written ≤ most_bench_bytes
     → AppendsPart (contents old) (contents new) written → has_failed new ≡ true → NotSaved contents has_failed old new text Io
-broken_off contents has_failed old new written text is fits part failed = subst (λ (t : Text). NotSaved contents has_failed old new t Io) is (part, (fits, failed))
+broken_off contents has_failed old new written text is fits part failed =
+    subst (λ (t : Text). NotSaved contents has_failed old new t Io) is (part, (fits, failed))
 
 pub returns-in_err-write_text-clause-refused : goal.returns-in_err-write_text-clause-refused
 returns-in_err-write_text-clause-refused g c =
     let whole = c.deref.ensures.value ∙ c.in_ok-text.ensures.ok in
     handed-on c.from_residual-in_err-write_text.result Io _ c.from_residual-in_err-write_text.ensures.1
     (broken_off g.S.Sink.contents g.S.Sink.has_failed c.args.sink.now c.write_text.new.sink c.deref.result.now (recorded_text c.args.self.now) whole
-    (subst (λ (t : Text). length t ≤ most_bench_bytes) (sym c.deref.ensures.value) c.in_ok-text.ensures.fits) c.in_err-write_text.ensures.err c.in_err-write_text.ensures.failed)
+    (subst (λ (t : Text). length t ≤ most_bench_bytes) (sym c.deref.ensures.value) c.in_ok-text.ensures.fits) c.in_err-write_text.ensures.err
+    c.in_err-write_text.ensures.failed)
 
 pub returns-clause-ok : goal.returns-clause-ok
 returns-clause-ok g c =
@@ -34,6 +37,7 @@ returns-clause-file g c =
     let bench = c.args.self.now in
     let made = c.in_ok-text.ensures.of_program in
     is-file bench c.compact_is_read.ensures
-    (c.recorded_values_are_shallow.ensures.recorded readings bench c.is_valid.ensures (c.rising_names_are_distinct.ensures bench.schema.source (source-names bench made)))
+    (c.recorded_values_are_shallow.ensures.recorded readings bench c.is_valid.ensures
+    (c.rising_names_are_distinct.ensures bench.schema.source (source-names bench made)))
     c.is_valid.ensures c.paths_are_read.ensures made
     (subst (λ (t : Text). length t ≤ most_bench_bytes) c.in_ok-text.ensures.ok c.in_ok-text.ensures.fits)

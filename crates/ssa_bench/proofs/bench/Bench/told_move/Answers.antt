@@ -35,12 +35,16 @@ returns-clause-told c =
     let bench : model.Bench = bench_view c.self.inside in
     let line : IsLine c.in-Some.values v = subst (λ o. TellsLine o v) c.in-Some.is c.line_values.ensures in
     let label = c.in-Some-2.label in
-    let written : written_label (view c.in-Some.values.command.now) ≡ Some (label_view label) = sym c.in_ok-label.ensures ∙ ap (option_map label_view) c.in-Some-2.is in
+    let written : written_label (view c.in-Some.values.command.now) ≡ Some (label_view label) = sym c.in_ok-label.ensures
+    ∙ ap (option_map label_view) c.in-Some-2.is in
     let version = c.version-version.result.now in
     let here : version_in bench.identity.version ≡ text_json version = ap version_in c.version-version.ensures in
-    let named : version_in c.args.self.now.identity.version ≡ text_json version = subst (λ (b : model.Bench). version_in b.identity.version ≡ text_json version) c.self.view_is here in
+    let named : version_in c.args.self.now.identity.version ≡ text_json version =
+    subst (λ (b : model.Bench). version_in b.identity.version ≡ text_json version) c.self.view_is here in
     let answer = c.in_ok-answer.answer in
-    let told = subst (λ (b : model.Bench). IsAnswer b.schema.kind version (present b.timeline) (view c.in-Some.values.record.now) answer) c.self.view_is c.in_ok-answer.ensures.answer in
+    let told = subst (λ (b : model.Bench). IsAnswer b.schema.kind version (present b.timeline) (view c.in-Some.values.record.now) answer) c.self.view_is
+    c.in_ok-answer.ensures.answer in
     subst (λ r. TellsMove c.args.self.now r v) (sym c.answered_step.ensures)
-    (told-answer c.args.self.now c.in-Some.values v label version c.recorded_moves.ensures.line c.recorded_moves.ensures.shapeless c.recorded_moves.ensures.misfit c.recorded_moves.ensures.parts
+    (told-answer c.args.self.now c.in-Some.values v label version c.recorded_moves.ensures.line c.recorded_moves.ensures.shapeless
+    c.recorded_moves.ensures.misfit c.recorded_moves.ensures.parts
     c.is_valid.ensures c.paths_are_read.ensures named c.requires line written answer told)

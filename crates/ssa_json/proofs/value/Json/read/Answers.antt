@@ -6,7 +6,8 @@ use Rattle.ssa_json.proofs.value.Json.read.Goals as goal
 
 pub returns-in-Ok-clause-answers : goal.returns-in-Ok-clause-answers
 returns-in-Ok-clause-answers c =
-    Answers-converted c.converted.result c.args.bytes.now c.args.most (data_view c.in-Ok.value) (omega arith) c.in-Ok.ensures.ok.0 c.in-Ok.ensures.ok.1 c.converted.ensures
+    Answers-converted c.converted.result c.args.bytes.now c.args.most (data_view c.in-Ok.value) (omega arith) c.in-Ok.ensures.ok.0 c.in-Ok.ensures.ok.1
+    c.converted.ensures
 
 pub returns-in-Err-2-clause-answers : goal.returns-in-Err-2-clause-answers
 returns-in-Err-2-clause-answers c =

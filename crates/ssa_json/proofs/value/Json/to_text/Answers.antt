@@ -11,7 +11,8 @@ use Rattle.ssa_json.proofs.value.Json.to_text.Goals as goal
 pub returns-clause-text : goal.returns-clause-text
 returns-clause-text c =
     IfOk-weaker c.to_vec.result _ _
-    (λ b text. text (ap has_float c.in_ok-value.ensures.data ∙ data_of-plain (view c.args.self.now)) ∙ ap compact_text c.in_ok-value.ensures.data ∙ compact_text-data_of (view c.args.self.now) c.in_ok-value.ensures.narrow)
+    (λ b text. text (ap has_float c.in_ok-value.ensures.data ∙ data_of-plain (view c.args.self.now)) ∙ ap compact_text c.in_ok-value.ensures.data
+    ∙ compact_text-data_of (view c.args.self.now) c.in_ok-value.ensures.narrow)
     c.to_vec.ensures.text
 
 pub returns-clause-is_read : goal.returns-clause-is_read

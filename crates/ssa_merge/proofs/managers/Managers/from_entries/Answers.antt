@@ -8,6 +8,12 @@ use Rattle.ssa_json.specs.View.{items_view}
 use Rattle.ssa_merge.specs.Managers.{table_view}
 use Rattle.ssa_merge.proofs.managers.Managers.from_entries.Goals as goal
 
+pub of_entries-requires : goal.of_entries-requires
+of_entries-requires c =
+    let body = c.args.body.now in
+    (given_table readings body c.args.api_version.now (items_view c.as_slice.result.now) [] (table_view c.in_ok-table-in-List.table.items)
+    (strip_keeps (record { body = body; table = [] })) c.in_ok-table-in-List.ensures.answers).managers
+
 pub returns-in_ok-table-in-List-clause-lawful : goal.returns-in_ok-table-in-List-clause-lawful
 returns-in_ok-table-in-List-clause-lawful c =
     let body = c.args.body.now in

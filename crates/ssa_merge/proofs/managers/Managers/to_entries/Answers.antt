@@ -13,5 +13,6 @@ returns c =
     let version = text_json c.args.api_version.now in
     let es = c.entries-entry-items.result.now in
     view-List c.loop-entry.entries
-    ∙ ap (λ vs. list (items_of vs)) (c.loop-entry.invariant ∙ ap (λ xs. map (entry_json version) (table_view xs)) (take_all c.loop-entry.entry-index es c.loop-entry-test.false))
+    ∙ ap (λ vs. list (items_of vs)) (c.loop-entry.invariant ∙ ap (λ xs. map (entry_json version) (table_view xs))
+    (take_all c.loop-entry.entry-index es c.loop-entry-test.false))
     ∙ ap list (entry_items-map version (table_view es)) ∙ ap (λ t. list (entry_items version t)) c.entries-entry-items.ensures.same

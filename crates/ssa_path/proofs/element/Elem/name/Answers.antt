@@ -9,5 +9,6 @@ pub unreachable-requires : goal.unreachable-requires
 unreachable-requires c =
     let e = element_view c.args.self.now in
     let text = c.in_ok-text.ensures.text in
-    let utf8 : IsUtf8 c.in_ok-text.text.items = subst IsUtf8 (sym text) (element_text-is-utf8 e c.in_ok-text.ensures.of_program.texts (ap (element_of json_reading) (sym text) ∙ c.in_ok-text.ensures.is_read)) in
+    let utf8 : IsUtf8 c.in_ok-text.text.items = subst IsUtf8 (sym text)
+    (element_text-is-utf8 e c.in_ok-text.ensures.of_program.texts (ap (element_of json_reading) (sym text) ∙ c.in_ok-text.ensures.is_read)) in
     true≢false (sym (c.in-Err.ensures.succeeds utf8))

@@ -13,7 +13,8 @@ returns-clause-of_program c = elim c.match-self.branch [
   | in-Field+in_ok-extend_from_slice-in-Field+in_ok-extend_from_slice-in-Field-2 w ↦ rw w.in-Field.is (field-of-program w.in-Field.name)
   | in-Key+in_ok-extend_from_slice-in-Key+in_ok-push_members-in-Key w ↦
       rw w.in-Key.is (key-of-program _ w.members.result.now w.members.ensures.same w.members.ensures.rise w.in_ok-push_members-in-Key.ensures.narrow)
-  | in-Value+in_ok-extend_from_slice-in-Value+in_ok-push_scalar-in-Value w ↦ rw w.in-Value.is (value-of-program w.in-Value.scalar w.in_ok-push_scalar-in-Value.ensures.narrow)
+  | in-Value+in_ok-extend_from_slice-in-Value+in_ok-push_scalar-in-Value w ↦ rw w.in-Value.is
+      (value-of-program w.in-Value.scalar w.in_ok-push_scalar-in-Value.ensures.narrow)
 ]
 
 pub returns-clause-is_read : goal.returns-clause-is_read

@@ -2,8 +2,8 @@ use Rattle.std.proofs.Common.{◌∙◌, ap, sym}
 use Rattle.ssa_model.specs.definitions.PathMap.{has}
 use Rattle.ssa_path.specs.Trie.{is_one_of, paths}
 use Rattle.ssa_path.proofs.Levels.{one-level-root}
-use Rattle.ssa_path.proofs.Sets.{has-listed}
 use Rattle.ssa_path.proofs.field_set.FieldSet.has.Goals as goal
+use Rattle.ssa_model.proofs.Lists.{has-listed}
 
 pub returns-in-Some : goal.returns-in-Some
 returns-in-Some c =

@@ -13,7 +13,8 @@ returns-clause-json c =
 pub returns-clause-written : goal.returns-clause-written
 returns-clause-written c =
     let members = c.in_ok-members.members in
-    written-set c.root.result.now c.args.self.now _ c.root.ensures.same (view-Object members ∙ c.in_ok-members.ensures.json) (subst IsCanonical (sym (view-Object members)) c.in_ok-members.ensures.canonical)
+    written-set c.root.result.now c.args.self.now _ c.root.ensures.same (view-Object members
+    ∙ c.in_ok-members.ensures.json) (subst IsCanonical (sym (view-Object members)) c.in_ok-members.ensures.canonical)
 
 pub returns-clause-is_read : goal.returns-clause-is_read
 returns-clause-is_read c = set-back c.root.result.now c.args.self.now c.root.ensures.trie c.root.ensures.same c.in_ok-members.ensures.back

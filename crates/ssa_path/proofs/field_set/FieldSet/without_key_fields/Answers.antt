@@ -9,4 +9,5 @@ pub returns : goal.returns
 returns c =
     let own = c.self.inside.root in
     let left = c.in_ok-root.root in
-    listed-tested own left (λ p. not (is_key_field p)) (root-left own left c.in_ok-root.ensures) ∙ ap (λ s. set_of (set_paths s) (λ p. not (is_key_field p))) c.self.view_is
+    listed-tested own left (λ p. not (is_key_field p)) (root-left own left c.in_ok-root.ensures)
+    ∙ ap (λ s. set_of (set_paths s) (λ p. not (is_key_field p))) c.self.view_is

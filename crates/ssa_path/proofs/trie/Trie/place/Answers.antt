@@ -15,7 +15,8 @@ returns-in-None-clause-none c =
     let e = element_view c.element-item.result in
     let left = path_view-drop es c.loop-element.element-index c.element-item.result (omega arith) c.element-item.is in
     let none = ap (child_at e) (sym c.deref.ensures.value) ∙ sym c.find_child.ensures ∙ ap option_copied c.in-None.is in
-    way-none c.args.self.now (path_view es) c.loop-element.place.now e (path_view (drop (c.loop-element.element-index + 1) es)) _ left none c.loop-element.invariant
+    way-none c.args.self.now (path_view es) c.loop-element.place.now e (path_view (drop (c.loop-element.element-index + 1) es)) _ left none
+    c.loop-element.invariant
 
 pub loop-element-preserved : goal.loop-element-preserved
 loop-element-preserved c =
@@ -23,9 +24,11 @@ loop-element-preserved c =
     let e = element_view c.element-item.result in
     let left = path_view-drop es c.loop-element.element-index c.element-item.result (omega arith) c.element-item.is in
     let some = ap (child_at e) (sym c.deref.ensures.value) ∙ sym c.find_child.ensures ∙ ap option_copied c.in-Some.is in
-    way-more c.args.self.now (path_view es) c.loop-element.place.now c.in-Some.child.now e (path_view (drop (c.loop-element.element-index + 1) es)) _ left some c.loop-element.invariant
+    way-more c.args.self.now (path_view es) c.loop-element.place.now c.in-Some.child.now e (path_view (drop (c.loop-element.element-index + 1) es)) _ left
+    some c.loop-element.invariant
 
 pub returns-clause-some : goal.returns-clause-some
 returns-clause-some c =
     let es = c.args.elements.now in
-    way-end c.args.self.now (path_view es) c.loop-element.place.now _ (ap path_view (drop_all c.loop-element.element-index es c.loop-element-test.false)) c.loop-element.invariant
+    way-end c.args.self.now (path_view es) c.loop-element.place.now _ (ap path_view (drop_all c.loop-element.element-index es c.loop-element-test.false))
+    c.loop-element.invariant

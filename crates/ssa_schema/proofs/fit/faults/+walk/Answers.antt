@@ -42,7 +42,8 @@ pub value_fault-returns-in-ItemsOf-List : goal.value_fault-returns-in-ItemsOf-Li
 value_fault-returns-in-ItemsOf-List t c =
     let w = c.in-ItemsOf-List in
     let kind : kind_view c.args.kind.now ≡ items_of (names_view c.deref-in-ItemsOf-List-2.result.now) (fields_view w.fields.entries) =
-    ap kind_view w.is-0 ∙ kind_view-ItemsOf w.keys w.fields ∙ ap (λ ks. items_of (names_view ks) (fields_view w.fields.entries)) (sym c.deref-in-ItemsOf-List-2.ensures.value) in
+    ap kind_view w.is-0 ∙ kind_view-ItemsOf w.keys w.fields ∙ ap (λ ks. items_of (names_view ks) (fields_view w.fields.entries))
+    (sym c.deref-in-ItemsOf-List-2.ensures.value) in
     let value : view c.args.value.now ≡ list (items_view c.deref-in-ItemsOf-List.result.now) =
     ap view w.is-1 ∙ view-List w.items ∙ ap (λ xs. list (items_view xs)) (sym c.deref-in-ItemsOf-List.ensures.value) in
     IfOk-weaker c.items_fault.result _ _ (λ f is p. is p ∙ (λ i. option_map told (first_of (faults (sym kind i) (sym value i) p)))) c.items_fault.ensures
@@ -55,7 +56,8 @@ fields_fault-returns-in_default t c =
     finds_from (Some c.in_ok-below.field-0) (field_faults fs (members_view c.args.members.now.entries)) (λ p. fault_at unknown_field (p ++ field n ∷ []) ∷ [])
     (λ p. c.loop-name.invariant p ∙ ap (λ es. first_of (field_faults fs (members_view es) p)) c.in-Some.ensures.steps
     ∙ field_unknown fs n c.as_str.result.now (view c.in-Some.member.now) (members_view c.next.new.self) p c.as_str.ensures.value (sym c.in_default.ensures))
-    (finds_child c.here-unknown.result c.in_ok-below.field-0 UnknownField (field n) c.in_ok-field_name.field-0 c.here-unknown.ensures.misfit c.here-unknown.ensures.path text c.in_ok-below.ensures.misfit c.in_ok-below.ensures.path)
+    (finds_child c.here-unknown.result c.in_ok-below.field-0 UnknownField (field n) c.in_ok-field_name.field-0 c.here-unknown.ensures.misfit
+    c.here-unknown.ensures.path text c.in_ok-below.ensures.misfit c.in_ok-below.ensures.path)
 
 pub fields_fault-returns-in-Some-2 : goal.fields_fault-returns-in-Some-2
 fields_fault-returns-in-Some-2 t c =
@@ -68,7 +70,8 @@ fields_fault-returns-in-Some-2 t c =
     (field_faults fs (members_view c.args.members.now.entries)) (faults k v) (field_faults fs left)
     (λ p. c.loop-name.invariant p ∙ ap (λ es. first_of (field_faults fs (members_view es) p)) c.in-Some.ensures.steps
     ∙ ap first_of (field_split fs k n c.as_str.result.now v left p c.as_str.ensures.value (sym c.in-Some-find_field.ensures)))
-    c.in-Some-2.is c.in_ok-found.ensures c.as_str-in-Some-2.ensures.value c.in_ok-field_name-2.ensures c.in_ok-below-2.ensures.misfit c.in_ok-below-2.ensures.path
+    c.in-Some-2.is c.in_ok-found.ensures c.as_str-in-Some-2.ensures.value c.in_ok-field_name-2.ensures c.in_ok-below-2.ensures.misfit
+    c.in_ok-below-2.ensures.path
 
 pub fields_fault-loop-name-preserved : goal.fields_fault-loop-name-preserved
 fields_fault-loop-name-preserved t c =
@@ -107,7 +110,8 @@ items_fault-returns-in-Some t c =
     let xs = c.args.items.now in
     c.at_place-in-Some.ensures (item_faults names fs [] (items_view xs)) (λ p.
     item_key_wrong names fs l.invariant.before ms (items_view (drop (l.i + 1) xs)) p _ (c.in-Some.ensures p)
-    ∙ sym (l.invariant.left p ∙ ap first_of (object_split names fs l.invariant.before xs l.i c.index-items-i.result c.in-Object.members p c.loop-i-test.true c.index-items-i.is c.in-Object.is)))
+    ∙ sym (l.invariant.left p ∙ ap first_of (object_split names fs l.invariant.before xs l.i c.index-items-i.result c.in-Object.members p c.loop-i-test.true
+    c.index-items-i.is c.in-Object.is)))
 
 pub items_fault-returns-in-Some-2 : goal.items_fault-returns-in-Some-2
 items_fault-returns-in-Some-2 t c =
@@ -120,11 +124,14 @@ items_fault-returns-in-Some-2 t c =
     let xs = c.args.items.now in
     let left = items_view (drop (l.i + 1) xs) in
     let rest = leading_keys names left in
-    let known = ap (repeat_from same_element l.i l.invariant.before) (sym (lead-key names fs xs l.i c.index-items-i.result c.in-Object.members c.loop-i-test.true c.index-items-i.is c.in-Object.is (c.in_default-keys_misfit.ensures []))) ∙ l.invariant.known in
+    let known = ap (repeat_from same_element l.i l.invariant.before)
+    (sym (lead-key names fs xs l.i c.index-items-i.result c.in-Object.members c.loop-i-test.true c.index-items-i.is c.in-Object.is
+    (c.in_default-keys_misfit.ensures []))) ∙ l.invariant.known in
     let is_new = other-test l.i e l.invariant.before rest c.in_ok-repeated.repeated c.is_other-is_new.result known c.is_other-is_new.ensures in
     finds_from (Some c.in-Some-2.found) (item_faults names fs [] (items_view xs)) (λ p. own p ++ item_faults names fs (e ∷ l.invariant.before) left p)
     (λ p. l.invariant.left p
-    ∙ ap first_of (object_split names fs l.invariant.before xs l.i c.index-items-i.result c.in-Object.members p c.loop-i-test.true c.index-items-i.is c.in-Object.is)
+    ∙ ap first_of (object_split names fs l.invariant.before xs l.i c.index-items-i.result c.in-Object.members p c.loop-i-test.true c.index-items-i.is
+    c.in-Object.is)
     ∙ ap first_of (keyed_split names fs l.invariant.before ms left p c.is_other-is_new.result (c.in_default-keys_misfit.ensures p) is_new))
     (finds_first c.in-Some-2.found own (item_faults names fs (e ∷ l.invariant.before) left) (subst (λ o. Finds o own) c.in-Some-2.is c.in_ok-found.ensures))
 
@@ -138,7 +145,9 @@ items_fault-loop-i-preserved t c =
     let xs = c.args.items.now in
     let left = items_view (drop (l.i + 1) xs) in
     let rest = leading_keys names left in
-    let known = ap (repeat_from same_element l.i l.invariant.before) (sym (lead-key names fs xs l.i c.index-items-i.result c.in-Object.members c.loop-i-test.true c.index-items-i.is c.in-Object.is (c.in_default-keys_misfit.ensures []))) ∙ l.invariant.known in
+    let known = ap (repeat_from same_element l.i l.invariant.before)
+    (sym (lead-key names fs xs l.i c.index-items-i.result c.in-Object.members c.loop-i-test.true c.index-items-i.is c.in-Object.is
+    (c.in_default-keys_misfit.ensures []))) ∙ l.invariant.known in
     let is_new = other-test l.i e l.invariant.before rest c.in_ok-repeated.repeated c.is_other-is_new.result known c.is_other-is_new.ensures in
     record {
       before = e ∷ l.invariant.before;
@@ -146,9 +155,11 @@ items_fault-loop-i-preserved t c =
           repeat-next l.i e l.invariant.before rest c.in_ok-repeated.repeated known
           (sym (kept-new c.is_other-is_new.result c.in_ok-found.field-0 names fs ms c.in_default-2.is c.in_ok-found.ensures) ∙ is_new);
       left = λ p. l.invariant.left p
-          ∙ ap first_of (object_split names fs l.invariant.before xs l.i c.index-items-i.result c.in-Object.members p c.loop-i-test.true c.index-items-i.is c.in-Object.is)
+          ∙ ap first_of (object_split names fs l.invariant.before xs l.i c.index-items-i.result c.in-Object.members p c.loop-i-test.true c.index-items-i.is
+          c.in-Object.is)
           ∙ ap first_of (keyed_split names fs l.invariant.before ms left p c.is_other-is_new.result (c.in_default-keys_misfit.ensures p) is_new)
-          ∙ item_fits c.in_ok-found.field-0 (keyed_faults c.is_other-is_new.result names fs ms) (item_faults names fs (e ∷ l.invariant.before) left) c.in_default-2.is c.in_ok-found.ensures p;
+          ∙ item_fits c.in_ok-found.field-0 (keyed_faults c.is_other-is_new.result names fs ms) (item_faults names fs (e ∷ l.invariant.before) left)
+          c.in_default-2.is c.in_ok-found.ensures p;
     }
 
 pub keyed_fault-returns-in-Some : goal.keyed_fault-returns-in-Some
@@ -156,6 +167,8 @@ keyed_fault-returns-in-Some t c =
     let names = names_view c.args.keys.now in
     let fs = fields_view c.args.fields.now.entries in
     let ms = members_view c.args.members.now.entries in
-    finds_from (Some c.in_ok-below-2.field-0) (keyed_faults c.args.is_new names fs ms) (λ p. field_faults fs ms (p ++ item_key names ms ∷ [])) (λ p. ap (λ b. first_of (keyed_faults b names fs ms p)) c.if-not-is_new.false)
-    (finds_below c.in-Some.found c.in_ok-below-2.field-0 (item_key names ms) c.in_ok-key_name-2.field-0 (field_faults fs ms) c.in_ok-key_name-2.ensures c.in_ok-below-2.ensures.misfit c.in_ok-below-2.ensures.path
+    finds_from (Some c.in_ok-below-2.field-0) (keyed_faults c.args.is_new names fs ms) (λ p. field_faults fs ms (p ++ item_key names ms ∷ []))
+    (λ p. ap (λ b. first_of (keyed_faults b names fs ms p)) c.if-not-is_new.false)
+    (finds_below c.in-Some.found c.in_ok-below-2.field-0 (item_key names ms) c.in_ok-key_name-2.field-0 (field_faults fs ms) c.in_ok-key_name-2.ensures
+    c.in_ok-below-2.ensures.misfit c.in_ok-below-2.ensures.path
     (subst (λ o. Finds o (field_faults fs ms)) c.in-Some.is c.in_ok-found.ensures))

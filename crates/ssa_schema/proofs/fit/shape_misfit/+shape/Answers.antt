@@ -32,7 +32,8 @@ fields_misfit-returns-in-Some-shape_misfit t c p =
     let fs = shape_fields_view c.args.fields.now.entries in
     let left = members_view c.next.new.self in
     first_here (shape_faults s (view c.in-Some.member.now) p) (shape_field_faults fs left p) _ (c.in-Some-shape_misfit.ensures p)
-    ∙ ap first_of (sym (shape_field_split fs s (string_bytes c.in-Some.name.now) c.as_str.result.now (view c.in-Some.member.now) left p c.as_str.ensures.value (sym c.in-Some-find_shape.ensures)))
+    ∙ ap first_of (sym (shape_field_split fs s (string_bytes c.in-Some.name.now) c.as_str.result.now (view c.in-Some.member.now) left p c.as_str.ensures.value
+    (sym c.in-Some-find_shape.ensures)))
     ∙ ap (λ es. first_of (shape_field_faults fs (members_view es) p)) (sym c.in-Some.ensures.steps)
     ∙ sym (c.loop-name.invariant p)
 
@@ -43,7 +44,8 @@ fields_misfit-loop-name-preserved t c p =
     let left = members_view c.next.new.self in
     c.loop-name.invariant p
     ∙ ap (λ es. first_of (shape_field_faults fs (members_view es) p)) c.in-Some.ensures.steps
-    ∙ ap first_of (shape_field_split fs s (string_bytes c.in-Some.name.now) c.as_str.result.now (view c.in-Some.member.now) left p c.as_str.ensures.value (sym c.in-Some-find_shape.ensures))
+    ∙ ap first_of (shape_field_split fs s (string_bytes c.in-Some.name.now) c.as_str.result.now (view c.in-Some.member.now) left p c.as_str.ensures.value
+    (sym c.in-Some-find_shape.ensures))
     ∙ sym (first_later (shape_faults s (view c.in-Some.member.now) p) (shape_field_faults fs left p) _ (c.in_default-shape_misfit.ensures p) refl)
 
 pub fields_misfit-returns : goal.fields_misfit-returns

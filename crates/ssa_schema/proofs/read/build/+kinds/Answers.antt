@@ -27,16 +27,20 @@ kinds_of-loop-name-preserved t c =
     record {
       done = done ++ e ∷ [];
       split = all ∙ sym (append_assoc done (e ∷ []) left);
-      same = made-more kind_view (kind_at n) done e left l.found.entries c.insert.new.self.entries c.in_ok-key.key c.in_ok-kind_of.field-0 (subst (λ es. IsStrictlySortedBy string_cmp (keys_of es)) all c.iter-name-items.ensures.ordered) l.invariant.same c.in_ok-insert.ensures.entries key c.in_ok-kind_of.ensures.kind;
+      same = made-more kind_view (kind_at n) done e left l.found.entries c.insert.new.self.entries c.in_ok-key.key c.in_ok-kind_of.field-0
+          (subst (λ es. IsStrictlySortedBy string_cmp (keys_of es)) all c.iter-name-items.ensures.ordered) l.invariant.same c.in_ok-insert.ensures.entries key
+          c.in_ok-kind_of.ensures.kind;
       sorted = c.insert.ensures.ordered;
-      ordered = subst (λ fs. all_ordered fs ≡ true) (sym c.in_ok-insert.ensures.entries) (ordered-insert c.in_ok-key.key c.in_ok-kind_of.field-0 l.found.entries c.in_ok-kind_of.ensures.ordered l.invariant.ordered);
+      ordered = subst (λ fs. all_ordered fs ≡ true) (sym c.in_ok-insert.ensures.entries)
+          (ordered-insert c.in_ok-key.key c.in_ok-kind_of.field-0 l.found.entries c.in_ok-kind_of.ensures.ordered l.invariant.ordered);
     }
 
 pub kinds_of-returns-clause-kind : goal.kinds_of-returns-clause-kind
 kinds_of-returns-clause-kind t c =
     let l = c.loop-name in
     let n = c.args.levels in
-    let all : l.invariant.done ≡ c.args.schemas.now.entries = sym (append-nil l.invariant.done) ∙ ap (λ es. l.invariant.done ++ es) (sym c.in-None.ensures.steps.0) ∙ sym l.invariant.split in
+    let all : l.invariant.done ≡ c.args.schemas.now.entries = sym (append-nil l.invariant.done)
+    ∙ ap (λ es. l.invariant.done ++ es) (sym c.in-None.ensures.steps.0) ∙ sym l.invariant.split in
     fields-made n l.found.entries c.args.schemas.now.entries (l.invariant.same ∙ ap (map (asked (kind_at n))) all)
 
 pub kinds_of-returns-clause-ordered : goal.kinds_of-returns-clause-ordered

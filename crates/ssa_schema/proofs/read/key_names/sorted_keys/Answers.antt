@@ -8,5 +8,6 @@ use Rattle.ssa_schema.proofs.read.key_names.sorted_keys.Goals as goal
 pub returns : goal.returns
 returns c =
     IfOk-weaker c.list_of_names.result _ _
-    (λ v made. made ∙ c.in_ok-sorted.ensures ∙ sorted_items-texts (items_view c.key_items.result.now) (key_names (members_view c.args.members.now.entries)) c.key_items.ensures)
+    (λ v made. made ∙ c.in_ok-sorted.ensures ∙ sorted_items-texts (items_view c.key_items.result.now) (key_names (members_view c.args.members.now.entries))
+    c.key_items.ensures)
     c.list_of_names.ensures

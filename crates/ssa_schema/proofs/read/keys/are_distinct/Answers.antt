@@ -21,7 +21,8 @@ returns-then-not-is_new c =
     let xs = c.args.items.now in
     let x = c.item-item.result in
     let left = items_view (drop (l.item-index + 1) xs) in
-    let is_new = holds_test l.earlier.keys l.invariant.before c.in_ok-from_str.field-0 t c.in_ok-is_new.is_new c.in_ok-from_str.ensures.ok l.invariant.known c.in_ok-is_new.ensures.added in
+    let is_new = holds_test l.earlier.keys l.invariant.before c.in_ok-from_str.field-0 t c.in_ok-is_new.is_new c.in_ok-from_str.ensures.ok l.invariant.known
+    c.in_ok-is_new.ensures.added in
     sym (l.invariant.left
     ∙ ap (λ es. apart_in l.invariant.before (texts_of (items_view es))) (item_split xs l.item-index x c.loop-item-test.true c.item-item.is)
     ∙ apart-text l.invariant.before t (view x) left c.in-Some.ensures
@@ -35,10 +36,12 @@ loop-item-preserved c =
     let x = c.item-item.result in
     let left = items_view (drop (l.item-index + 1) xs) in
     let text = c.in_ok-from_str.field-0 in
-    let is_new = holds_test l.earlier.keys l.invariant.before text t c.in_ok-is_new.is_new c.in_ok-from_str.ensures.ok l.invariant.known c.in_ok-is_new.ensures.added in
+    let is_new = holds_test l.earlier.keys l.invariant.before text t c.in_ok-is_new.is_new c.in_ok-from_str.ensures.ok l.invariant.known
+    c.in_ok-is_new.ensures.added in
     record {
       before = t ∷ l.invariant.before;
-      known = holds_more l.earlier.keys c.insert.new.self.keys l.invariant.before text t c.in_ok-from_str.ensures.ok c.in_ok-is_new.ensures.keys l.invariant.known;
+      known = holds_more l.earlier.keys c.insert.new.self.keys l.invariant.before text t c.in_ok-from_str.ensures.ok c.in_ok-is_new.ensures.keys
+          l.invariant.known;
       left =
           l.invariant.left
           ∙ ap (λ es. apart_in l.invariant.before (texts_of (items_view es))) (item_split xs l.item-index x c.loop-item-test.true c.item-item.is)

@@ -14,4 +14,5 @@ pub returns-clause-ordered : goal.returns-clause-ordered
 returns-clause-ordered c own rest =
     let made = c.insert.new.self.entries in
     fields-ordered made c.insert.ensures.ordered
-    (subst (λ fs. all_ordered fs ≡ true) (sym c.in_ok-insert.ensures.entries) (ordered-insert c.in_ok-key.key c.args.kind c.args.fields.entries own (ordered-inside c.args.fields.entries rest)))
+    (subst (λ fs. all_ordered fs ≡ true) (sym c.in_ok-insert.ensures.entries)
+    (ordered-insert c.in_ok-key.key c.args.kind c.args.fields.entries own (ordered-inside c.args.fields.entries rest)))

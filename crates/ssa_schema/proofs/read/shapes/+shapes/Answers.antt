@@ -24,14 +24,17 @@ shapes_of-loop-name-preserved t c =
     record {
       done = done ++ e ∷ [];
       split = all ∙ sym (append_assoc done (e ∷ []) left);
-      same = made-more shape_view (shape_at n) done e left l.found.entries c.insert.new.self.entries c.in_ok-key.key c.in_ok-shape_of.field-0 (subst (λ es. IsStrictlySortedBy string_cmp (keys_of es)) all c.iter-name-items.ensures.ordered) l.invariant.same c.in_ok-insert.ensures.entries key c.in_ok-shape_of.ensures;
+      same = made-more shape_view (shape_at n) done e left l.found.entries c.insert.new.self.entries c.in_ok-key.key c.in_ok-shape_of.field-0
+          (subst (λ es. IsStrictlySortedBy string_cmp (keys_of es)) all c.iter-name-items.ensures.ordered) l.invariant.same c.in_ok-insert.ensures.entries key
+          c.in_ok-shape_of.ensures;
     }
 
 pub shapes_of-returns : goal.shapes_of-returns
 shapes_of-returns t c =
     let l = c.loop-name in
     let n = c.args.levels in
-    let all : l.invariant.done ≡ c.args.schemas.now.entries = sym (append-nil l.invariant.done) ∙ ap (λ es. l.invariant.done ++ es) (sym c.in-None.ensures.steps.0) ∙ sym l.invariant.split in
+    let all : l.invariant.done ≡ c.args.schemas.now.entries = sym (append-nil l.invariant.done)
+    ∙ ap (λ es. l.invariant.done ++ es) (sym c.in-None.ensures.steps.0) ∙ sym l.invariant.split in
     fields-made n l.found.entries c.args.schemas.now.entries (l.invariant.same ∙ ap (map (asked (shape_at n))) all)
 
 pub shape_of-returns-then-levels-eq0 : goal.shape_of-returns-then-levels-eq0

@@ -53,7 +53,8 @@ inner_refusal-returns-in-Some-2 t c =
     let ms = members_view c.args.members.now.entries in
     let read = faults_at c.args.levels (standing_view c.args.standing) in
     first_later (property_faults read (property_members ms)) _ _ (ap seen (sym c.in_default.is) ∙ c.in_ok-refusal.ensures)
-    (first_here (optional_faults read (member_of (codes "additionalProperties") ms)) (optional_faults read (member_of (codes "items") ms)) _ (ap seen (sym c.in-Some-2.is) ∙ c.in_ok-refusal-2.ensures))
+    (first_here (optional_faults read (member_of (codes "additionalProperties") ms)) (optional_faults read (member_of (codes "items") ms)) _
+    (ap seen (sym c.in-Some-2.is) ∙ c.in_ok-refusal-2.ensures))
 
 pub inner_refusal-returns : goal.inner_refusal-returns
 inner_refusal-returns t c =
@@ -61,14 +62,16 @@ inner_refusal-returns t c =
     let read = faults_at c.args.levels (standing_view c.args.standing) in
     IfOk-weaker c.member_refusal-2.result _ _
     (λ r is. first_later (property_faults read (property_members ms)) _ _ (ap seen (sym c.in_default.is) ∙ c.in_ok-refusal.ensures)
-    (first_later (optional_faults read (member_of (codes "additionalProperties") ms)) (optional_faults read (member_of (codes "items") ms)) _ (ap seen (sym c.in_default-2.is) ∙ c.in_ok-refusal-2.ensures) is))
+    (first_later (optional_faults read (member_of (codes "additionalProperties") ms)) (optional_faults read (member_of (codes "items") ms)) _
+    (ap seen (sym c.in_default-2.is) ∙ c.in_ok-refusal-2.ensures) is))
     c.member_refusal-2.ensures
 
 pub object_refusal-returns-in-Some : goal.object_refusal-returns-in-Some
 object_refusal-returns-in-Some t c =
     let ms = members_view c.args.members.now.entries in
     let s = standing_view c.args.standing in
-    first_here (own_faults s ms) (child_faults (faults_at c.args.levels (standing_inside s ms)) ms ++ item_faults ms) _ (ap seen (sym c.in-Some.is) ∙ c.in_ok-refusal.ensures)
+    first_here (own_faults s ms) (child_faults (faults_at c.args.levels (standing_inside s ms)) ms ++ item_faults ms) _ (ap seen (sym c.in-Some.is)
+    ∙ c.in_ok-refusal.ensures)
 
 pub object_refusal-returns-in-Some-2 : goal.object_refusal-returns-in-Some-2
 object_refusal-returns-in-Some-2 t c =
@@ -76,7 +79,8 @@ object_refusal-returns-in-Some-2 t c =
     let s = standing_view c.args.standing in
     let inner = child_faults (faults_at c.args.levels (standing_inside s ms)) ms in
     first_later (own_faults s ms) (inner ++ item_faults ms) _ (ap seen (sym c.in_default.is) ∙ c.in_ok-refusal.ensures)
-    (first_here inner (item_faults ms) _ (ap seen (sym c.in-Some-2.is) ∙ c.in_ok-refusal-2.ensures ∙ ap (λ s'. first_of (child_faults (faults_at c.args.levels s') ms)) c.inside.ensures))
+    (first_here inner (item_faults ms) _ (ap seen (sym c.in-Some-2.is) ∙ c.in_ok-refusal-2.ensures
+    ∙ ap (λ s'. first_of (child_faults (faults_at c.args.levels s') ms)) c.inside.ensures))
 
 pub object_refusal-returns : goal.object_refusal-returns
 object_refusal-returns t c =
@@ -84,4 +88,5 @@ object_refusal-returns t c =
     let s = standing_view c.args.standing in
     let inner = child_faults (faults_at c.args.levels (standing_inside s ms)) ms in
     first_later (own_faults s ms) (inner ++ item_faults ms) _ (ap seen (sym c.in_default.is) ∙ c.in_ok-refusal.ensures)
-    (first_later inner (item_faults ms) _ (ap seen (sym c.in_default-2.is) ∙ c.in_ok-refusal-2.ensures ∙ ap (λ s'. first_of (child_faults (faults_at c.args.levels s') ms)) c.inside.ensures) c.items_refusal.ensures)
+    (first_later inner (item_faults ms) _ (ap seen (sym c.in_default-2.is) ∙ c.in_ok-refusal-2.ensures
+    ∙ ap (λ s'. first_of (child_faults (faults_at c.args.levels s') ms)) c.inside.ensures) c.items_refusal.ensures)

@@ -5,7 +5,8 @@ use Rattle.ssa_model.specs.definitions.History.{present, appended}
 use Rattle.ssa_reverse.specs.Journals.{timeline_of}
 use Rattle.ssa_turn.specs.Histories.{in_a_row, label_view}
 use Rattle.ssa_turn.specs.TablesBack.{HasTableBack}
-use Rattle.ssa_turn.proofs.InARow.{after-record, on-err, on-ok, present-is, recorded-is, same-row, whole-back}
+use Rattle.std.proofs.lemmas.Result.{on_err_weaker as on-err, on_ok_weaker as on-ok}
+use Rattle.ssa_turn.proofs.InARow.{after-record, present-is, recorded-is, same-row, whole-back}
 use Rattle.ssa_turn_state.specs.States.{HasStateRoom, IsTaken, state_steps}
 use Rattle.ssa_turn.proofs.timeline.Timeline.append.Goals as goal
 

@@ -7,7 +7,8 @@ use Rattle.ssa_reverse.specs.Journals.{past_of, timeline_of}
 use Rattle.ssa_reverse.specs.Timeline.{steps-length}
 use Rattle.ssa_turn.specs.Histories.{in_a_row, label_view, preceded}
 use Rattle.ssa_turn.specs.TablesBack.{HasTableBack}
-use Rattle.ssa_turn.proofs.InARow.{after-precede, on-err, on-ok, preceded-is, present-is, same-row, whole-back}
+use Rattle.std.proofs.lemmas.Result.{on_err_weaker as on-err, on_ok_weaker as on-ok}
+use Rattle.ssa_turn.proofs.InARow.{after-precede, preceded-is, present-is, same-row, whole-back}
 use Rattle.ssa_turn_state.specs.States.{HasStateRoom, IsTaken, state_steps}
 use Rattle.ssa_turn.proofs.timeline.Timeline.precede.Goals as goal
 

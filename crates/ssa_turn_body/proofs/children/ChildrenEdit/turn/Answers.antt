@@ -12,8 +12,10 @@ use Rattle.ssa_turn_body.proofs.children.ChildrenEdit.turn.Goals as goal
 
 pub weave-requires-clause-gone : goal.weave-requires-clause-gone
 weave-requires-clause-gone c =
-    let long : length c.reorder.new.items.items ≡ length c.args.children.now.items = ap length c.reorder.ensures ∙ length-reordered c.args.children.now.items c.deref.result.now in
-    subst (ArePlaces 0 c.deref-2.result.now) (sym long) (subst (λ ps. ArePlaces 0 ps (length c.args.children.now.items)) (sym c.deref-2.ensures.value) c.requires.gone)
+    let long : length c.reorder.new.items.items ≡ length c.args.children.now.items = ap length c.reorder.ensures
+    ∙ length-reordered c.args.children.now.items c.deref.result.now in
+    subst (ArePlaces 0 c.deref-2.result.now) (sym long) (subst (λ ps. ArePlaces 0 ps (length c.args.children.now.items)) (sym c.deref-2.ensures.value)
+    c.requires.gone)
 
 pub reorder-requires-2 : goal.reorder-requires-2
 reorder-requires-2 c =
@@ -22,8 +24,10 @@ reorder-requires-2 c =
     let first : c.reorder.new.items.items ≡ reordered cs s.before.items = c.reorder.ensures ∙ ap (reordered cs) c.deref.ensures.value in
     let middle : c.weave.new.items.items ≡ woven s.come.places.items 0 s.held.items (staying s cs) =
     c.weave.ensures.items ∙ (λ i. woven (c.deref-3.ensures.value i) 0 s.held.items (left (c.deref-2.ensures.value i) 0 (first i))) in
-    let long : length c.weave.new.items.items ≡ length s.held.items + length (staying s cs) = ap length middle ∙ middle-long s s.held.items cs c.requires.come c.requires.held in
-    subst (λ n. SwapsInRange n c.deref-4.result.now) (sym long) (subst (SwapsInRange (length s.held.items + length (staying s cs))) (sym c.deref-4.ensures.value) c.requires.after)
+    let long : length c.weave.new.items.items ≡ length s.held.items + length (staying s cs) = ap length middle
+    ∙ middle-long s s.held.items cs c.requires.come c.requires.held in
+    subst (λ n. SwapsInRange n c.deref-4.result.now) (sym long)
+    (subst (SwapsInRange (length s.held.items + length (staying s cs))) (sym c.deref-4.ensures.value) c.requires.after)
 
 pub returns : goal.returns
 returns c =
@@ -34,7 +38,8 @@ returns c =
     c.weave.ensures.items ∙ (λ i. woven (c.deref-3.ensures.value i) 0 s.held.items (left (c.deref-2.ensures.value i) 0 (first i))) in
     let room_after : room_for s.come.places.items s.gone.places.items (length c.reorder.new.items.items) ≤ vec_capacity c.weave.new.room =
     subst (λ ps. room_for s.come.places.items ps (length c.reorder.new.items.items) ≤ vec_capacity c.weave.new.room) c.deref-2.ensures.value
-    (subst (λ qs. room_for qs c.deref-2.result.now (length c.reorder.new.items.items) ≤ vec_capacity c.weave.new.room) c.deref-3.ensures.value c.weave.ensures.room) in
+    (subst (λ qs. room_for qs c.deref-2.result.now (length c.reorder.new.items.items) ≤ vec_capacity c.weave.new.room) c.deref-3.ensures.value
+    c.weave.ensures.room) in
     record {
       children = c.reorder-2.ensures ∙ (λ i. reordered (middle i) (c.deref-4.ensures.value i));
       held = c.weave.ensures.held ∙ (λ i. taken (c.deref-2.ensures.value i) 0 (first i));
@@ -52,5 +57,6 @@ returns c =
       room =
           subst (λ (x : Placed). room_for x.places.items c.swap.new.y.places.items (length cs) ≤ vec_capacity c.weave.new.room) (sym c.swap.ensures.x_after)
           (subst (λ (x : Placed). room_for s.come.places.items x.places.items (length cs) ≤ vec_capacity c.weave.new.room) (sym c.swap.ensures.y_after)
-          (subst (λ n. room_for s.come.places.items s.gone.places.items n ≤ vec_capacity c.weave.new.room) (ap length first ∙ length-reordered cs s.before.items) room_after));
+          (subst (λ n. room_for s.come.places.items s.gone.places.items n ≤ vec_capacity c.weave.new.room) (ap length first
+          ∙ length-reordered cs s.before.items) room_after));
     }

@@ -20,6 +20,7 @@ returns c = λ kind v w ordered takes.
     let put =
     c.in_ok-put.ensures kind v.body w.body ordered (record { from = takes.from.fits; to = takes.to.fits; is = ap (λ (r : Record). r.body) takes.is }) in
     c.in_ok-value.ensures
-    ∙ (λ i. object (member (codes "changed") (c.in_ok-changed.ensures i) (member (codes "cut") (c.in_ok-cut.ensures i) (member (codes "gone") (c.in_ok-gone.ensures i)
+    ∙ (λ i. object (member (codes "changed") (c.in_ok-changed.ensures i)
+    (member (codes "cut") (c.in_ok-cut.ensures i) (member (codes "gone") (c.in_ok-gone.ensures i)
     (member (codes "here") (c.in_ok-here.ensures i) (member (codes "leaves") (c.in_ok-leaves.ensures i) (member (codes "order") (c.in_ok-order.ensures i)
     (member (codes "put") (put i) no_members))))))))

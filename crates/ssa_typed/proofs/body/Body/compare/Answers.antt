@@ -10,7 +10,13 @@ returns c =
     let m = c.after.inside.root in
     let told = c.in_ok-told.told in
     record {
-      added_are = c.from_root.ensures ∙ difference-listed Added n m told.added c.self.invariant c.after.invariant c.in_ok-told.ensures.added_trie ∙ (λ i. added (c.self.view_is i) (c.after.view_is i));
-      modified_are = c.from_root-2.ensures ∙ difference-listed Modified n m told.modified c.self.invariant c.after.invariant c.in_ok-told.ensures.modified_trie ∙ (λ i. modified (c.self.view_is i) (c.after.view_is i));
-      removed_are = c.from_root-3.ensures ∙ difference-listed Removed n m told.removed c.self.invariant c.after.invariant c.in_ok-told.ensures.removed_trie ∙ (λ i. removed (c.self.view_is i) (c.after.view_is i));
+      added_are = c.from_root.ensures
+          ∙ difference-listed Added n m told.added c.self.invariant.tree c.after.invariant.tree c.in_ok-told.ensures.added_trie
+          ∙ (λ i. added (c.self.view_is i) (c.after.view_is i));
+      modified_are = c.from_root-2.ensures
+          ∙ difference-listed Modified n m told.modified c.self.invariant.tree c.after.invariant.tree c.in_ok-told.ensures.modified_trie
+          ∙ (λ i. modified (c.self.view_is i) (c.after.view_is i));
+      removed_are = c.from_root-3.ensures
+          ∙ difference-listed Removed n m told.removed c.self.invariant.tree c.after.invariant.tree c.in_ok-told.ensures.removed_trie
+          ∙ (λ i. removed (c.self.view_is i) (c.after.view_is i));
     }

@@ -14,8 +14,11 @@ use Rattle.ssa_typed.proofs.body.Body.from_json.Goals as goal
 
 pub body_of-requires-clause-fits : goal.body_of-requires-clause-fits
 body_of-requires-clause-fits c =
-    let v = view c.args.value in
-    ([], ap (λ k. faults k v []) c.kind.ensures.same ∙ no-first (faults c.args.schema.now.kind v []) (ap (option_map told_view) (sym c.in_default.is) ∙ c.in_ok-fault.ensures))
+    let v = view c.args.value in (
+      [],
+      ap (λ k. faults k v []) c.kind.ensures.same ∙ no-first (faults c.args.schema.now.kind v []) (ap (option_map told_view) (sym c.in_default.is)
+          ∙ c.in_ok-fault.ensures),
+    )
 
 pub body_of-requires-clause-root : goal.body_of-requires-clause-root
 body_of-requires-clause-root c =
@@ -25,7 +28,8 @@ body_of-requires-clause-root c =
 pub body_of-requires-clause-metadata : goal.body_of-requires-clause-metadata
 body_of-requires-clause-metadata c =
     let kind = c.args.schema.now.kind in
-    ap has_metadata c.kind.ensures.same ∙ second_so (is_ordered kind) (has_metadata kind) (second_so (is_root_kind kind) (is_ordered kind && has_metadata kind) c.kind.ensures.accepted.lawful)
+    ap has_metadata c.kind.ensures.same ∙ second_so (is_ordered kind) (has_metadata kind)
+    (second_so (is_root_kind kind) (is_ordered kind && has_metadata kind) c.kind.ensures.accepted.lawful)
 
 few-places : (n m : ℕ) → n ≡ min m (2 ^ 64 - 1) → n ≤ most_places → m ≤ most_places
 few-places n m is h = grind (arith, min-eq_left, min-eq_right)
@@ -34,5 +38,10 @@ pub returns-clause-read : goal.returns-clause-read
 returns-clause-read c =
     let v = view c.args.value in
     let kind = c.args.schema.now.kind in
-    let fine = no-first (faults kind v []) (ap (option_map told_view) (sym c.in_default.is) ∙ c.in_ok-fault.ensures) in
-    (fine, (c.in_ok-body.ensures.exact ∙ ap (λ k. flat k v) c.kind.ensures.same, few-places c.size.result (size c.in_ok-body.body) c.size.ensures c.if-size-gt-MOST_PLACES.false))
+    let fine = no-first (faults kind v []) (ap (option_map told_view) (sym c.in_default.is) ∙ c.in_ok-fault.ensures) in (
+      fine,
+      (
+        c.in_ok-body.ensures.exact ∙ ap (λ k. flat k v) c.kind.ensures.same,
+        few-places c.size.result (size c.in_ok-body.body) c.size.ensures c.if-size-gt-MOST_PLACES.false,
+      ),
+    )

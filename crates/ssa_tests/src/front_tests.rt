@@ -1,0 +1,167 @@
+//! The examples on the crates' first pages, as `tools/fronts` finds them there.
+use crate::sample::{IMAGE, bench, json, moment, schema, web};
+use ssa_bench::{Bench, Command};
+use ssa_explain::push_members;
+use ssa_file::{RecordCounts, record_counts};
+use ssa_json::{OfReader, OfWriter};
+use ssa_merge::{Managers, is_manager_name};
+use ssa_object::body_value::body_value;
+use ssa_object::has_identity;
+use ssa_path::{Elem, FieldSet, Path};
+use ssa_program::{Asked, command_of};
+use ssa_record::line_values::line_values;
+use ssa_session::session;
+use ssa_turn::Label;
+use ssa_turn_body::steps_between;
+use ssa_turn_set::{between, turn_field_set};
+use ssa_typed::Body;
+use ssa_words::{Call, read_words};
+use std::test::Fail;
+
+#[test]
+fn ssa_turn_set_example(rt: HostRuntime) -> Result<(), Fail> {
+    let path = Path::new(Vec::from_array(rt.alloc(), [Elem::read(rt.alloc(), "f:spec")?])?);
+    let mut set = FieldSet::new(rt.alloc());
+    let mut wanted = FieldSet::new(rt.alloc());
+    wanted.insert(rt.alloc(), &path)?;
+    let mut delta = between(rt.alloc(), &set, &wanted)?;
+    turn_field_set(&mut set, &mut delta);
+    assert!(rt; set.has(&path));
+    turn_field_set(&mut set, &mut delta);
+    assert!(rt; set.is_empty());
+    Ok(())
+}
+
+#[test]
+fn ssa_turn_body_example(rt: HostRuntime) -> Result<(), Fail> {
+    let schema = schema(rt.alloc())?;
+    let before = Body::from_json(
+        rt.alloc(),
+        &schema,
+        json(rt.alloc(), r#"{"spec":{"replicas":3}}"#)?,
+    )?;
+    let after = Body::from_json(
+        rt.alloc(),
+        &schema,
+        json(rt.alloc(), r#"{"spec":{"replicas":5}}"#)?,
+    )?;
+    let steps = steps_between(rt.alloc(), &before, after)?;
+    let leaves = steps.leaves_to_json(rt.alloc())?.to_string(rt.alloc())?;
+    assert_eq!(rt; leaves.as_str(), r#"[[["f:spec","f:replicas"],5]]"#);
+    Ok(())
+}
+
+#[test]
+fn ssa_merge_example(rt: HostRuntime) -> Result<(), Fail> {
+    let body = Body::from_json(
+        rt.alloc(),
+        &schema(rt.alloc())?,
+        json(rt.alloc(), r#"{"spec":{"image":"a"}}"#)?,
+    )?;
+    let text =
+        r#"[{"apiVersion":"v1","fieldsType":"FieldsV1","fieldsV1":{"f:spec":{"f:image":{}}},"manager":"kubectl","operation":"Apply","time":"2024-05-01T10:00:01Z"}]"#;
+    let entries = json(rt.alloc(), text)?;
+    let managers = Managers::from_entries(rt.alloc(), &entries, &body, "v1")?;
+    assert_eq!(rt; managers.len(), 1);
+    assert!(rt; managers.to_entries(rt.alloc(), "v1")?.same(&entries));
+    assert!(rt; !is_manager_name("two\nlines"));
+    Ok(())
+}
+
+#[test]
+fn ssa_object_example(rt: HostRuntime) -> Result<(), Fail> {
+    let object = json(rt.alloc(), web(rt.alloc(), "", IMAGE)?.as_str())?;
+    assert!(rt; has_identity(&object));
+    let body = body_value(object).to_string(rt.alloc())?;
+    assert_eq!(rt; body.as_str(), r#"{"metadata":{},"spec":{"image":"a"}}"#);
+    Ok(())
+}
+
+#[test]
+fn ssa_turn_example(rt: HostRuntime) -> Result<(), Fail> {
+    let value = json(
+        rt.alloc(),
+        r#"{"at":"2024-05-01T10:00:01Z","do":"update","manager":"u"}"#,
+    )?;
+    let label = Label::from_json(rt.alloc(), &value)?;
+    assert!(rt; matches!(label, Some(Label::Update { .. })));
+    Ok(())
+}
+
+#[test]
+fn ssa_record_example(rt: HostRuntime) -> Result<(), Fail> {
+    let line = json(rt.alloc(), r#"{"command":{"do":"strip"},"record":{}}"#)?;
+    let command = line_values(&line).map(|values| values.command);
+    assert_eq!(rt;
+        command
+            .and_then(|value| value.member("do"))
+            .and_then(|word| word.as_text()),
+        Some("strip")
+    );
+    Ok(())
+}
+
+#[test]
+fn ssa_file_example(rt: HostRuntime) -> Result<(), Fail> {
+    let head = json(rt.alloc(), r#"{"format":2,"future":0,"past":1}"#)?;
+    let counts = record_counts(rt.alloc(), &head)?;
+    assert_eq!(rt; counts, Some(RecordCounts { past: 1, future: 0 }));
+    Ok(())
+}
+
+#[test]
+fn ssa_bench_example(rt: HostRuntime) -> Result<(), Fail> {
+    let object = json(rt.alloc(), web(rt.alloc(), "", "")?.as_str())?;
+    let mut bench = Bench::new(rt.alloc(), schema(rt.alloc())?, object)?;
+    let command = Command::Apply {
+        who: String::from_str(rt.alloc(), "kubectl")?,
+        force: false,
+        at: moment()?,
+        object: json(rt.alloc(), web(rt.alloc(), "", IMAGE)?.as_str())?,
+    };
+    let changed = bench.execute(rt.alloc(), command)?;
+    assert_eq!(rt; changed.added.len(), 1);
+    assert!(rt; bench.undo().is_ok());
+    assert!(rt; bench.undo().is_err());
+    Ok(())
+}
+
+#[test]
+fn ssa_session_example(rt: HostRuntime) -> Result<(), Fail> {
+    let mut bench = bench(rt.alloc())?;
+    let mut reader = OfReader::new(b"{\"do\":\"undo\"}\n".as_slice());
+    let mut writer = OfWriter::new(Vec::new(rt.alloc()));
+    session(rt.alloc(), &mut reader, &mut writer, &mut bench)?;
+    let replies = b"{\"fault\":64,\"name\":\"NothingToUndo\"}\n";
+    assert_eq!(rt; writer.into_inner().as_slice(), replies.as_slice());
+    Ok(())
+}
+
+#[test]
+fn ssa_words_example(rt: HostRuntime) -> Result<(), Fail> {
+    let call = read_words(rt.alloc(), &["undo", "web.bench"])?;
+    assert_eq!(rt; call, Call::Undo { bench: "web.bench" });
+    assert!(rt; read_words(rt.alloc(), &["undo"]).is_err());
+    Ok(())
+}
+
+#[test]
+fn ssa_explain_example(rt: HostRuntime) -> Result<(), Fail> {
+    let mut text = Vec::new(rt.alloc());
+    push_members(rt.alloc(), &mut text, &["spec", "a key"])?;
+    assert_eq!(rt; text.as_slice(), br#".spec["a key"]"#.as_slice());
+    Ok(())
+}
+
+#[test]
+fn ssa_program_example(rt: HostRuntime) -> Result<(), Fail> {
+    let asked = Asked::Owners {
+        path: r#"["f:spec"]"#,
+    };
+    assert!(rt; command_of(rt.alloc(), asked).is_ok());
+    let asked = Asked::Owners {
+        path: r#"["spec"]"#,
+    };
+    assert!(rt; command_of(rt.alloc(), asked).is_err());
+    Ok(())
+}
