@@ -13,11 +13,11 @@ use Rattle.ssa_model.specs.definitions.Valid.{AllEntries, IsRooted, OwnsOwnable,
 use Rattle.ssa_model.proofs.PathMaps.{get-restricted, has-paths, has-points, has-set_of, has-union, is_one_of}
 use Rattle.ssa_model.proofs.Fitting.{same_element-true}
 use Rattle.ssa_model.proofs.Pruned.{from_one, some_one}
-use Rattle.ssa_model.proofs.Tables.{either, has-over, has-restricted, kept-stays, ownable-has, spared, true_or, yes_no}
+use Rattle.ssa_model.proofs.Tables.{either, has-over, has-restricted, kept-stays, ownable-has, spared, true_or}
 use Rattle.ssa_model.proofs.ValidStates.{in_no_dict, no_leaf}
 use Rattle.ssa_typed.proofs.RootedBodies.{part-dict, part-leaf, rooted-by}
 use Rattle.ssa_typed.proofs.Stands.{one_level}
-use Rattle.ssa_model.proofs.Basics.{or_true}
+use Rattle.ssa_model.proofs.Basics.{or_true, yes_no}
 
 -- what holds of each path of each entry holds of what the others own
 others-all : (P : Path → Type 0) (es : Table) (a : ManagerKey)

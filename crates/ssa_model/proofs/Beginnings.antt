@@ -5,7 +5,8 @@ use Rattle.std.specs.Cmp.{first_so, second_so}
 use Rattle.std.specs.Prelude.{if◌then◌else◌}
 use Rattle.ssa_model.specs.definitions.Path.{Element, Path, same_element, under, parent, rest_of, last_element}
 use Rattle.ssa_model.proofs.Fitting.{same_element-true}
-use Rattle.ssa_model.proofs.Tables.{element-itself, yes_no}
+use Rattle.ssa_model.proofs.Tables.{element-itself}
+use Rattle.ssa_model.proofs.Basics.{yes_no}
 use Rattle.ssa_model.proofs.Tests.{by_test}
 
 -- ---- what follows a beginning

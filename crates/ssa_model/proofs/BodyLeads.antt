@@ -18,14 +18,13 @@ use Rattle.ssa_model.specs.laws.RecordWalks.{class_of, IsTree, AreAlike, BodiesA
 use Rattle.ssa_model.proofs.Fitting.{same_element-true, some_place, some_there}
 use Rattle.ssa_model.proofs.PathMaps.{is_one_of, get-map_of, has-paths, has-set_of, same_map, get-over_paths}
 use Rattle.ssa_model.proofs.Pruned.{some_one, from_one, closed-above}
-use Rattle.ssa_model.proofs.Tables.{yes_no}
 use Rattle.ssa_model.proofs.Scalars.{same_scalar-true}
 use Rattle.ssa_model.proofs.SameValues.{same_json-true}
 use Rattle.ssa_model.proofs.Tests.{by_test, pointwise-true}
 use Rattle.ssa_model.proofs.Beginnings.{departs, rest_of-under}
 use Rattle.ssa_model.proofs.PutParts.{all-puts, get-puts, put_case, put_missed, put_nothing}
 use Rattle.ssa_model.proofs.PutItems.{refilled-is}
-use Rattle.ssa_model.proofs.Basics.{not_true as no, first_false, second_false, none-there as nothing_there}
+use Rattle.ssa_model.proofs.Basics.{not_true as no, first_false, second_false, none-there as nothing_there, yes_no}
 
 -- ---- two contents that fit one place are of one kind
 

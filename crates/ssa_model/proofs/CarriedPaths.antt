@@ -14,7 +14,7 @@ use Rattle.ssa_model.specs.definitions.Carry.{put_content, carried_content, kept
 use Rattle.ssa_model.specs.laws.FittingRecords.{BodyFits}
 use Rattle.ssa_model.proofs.PathMaps.{same_path-true, same_path-itself}
 use Rattle.ssa_model.proofs.Pruned.{under-append, closed-above}
-use Rattle.ssa_model.proofs.Tables.{yes_no}
+use Rattle.ssa_model.proofs.Basics.{yes_no}
 use Rattle.ssa_model.proofs.Tests.{by_test}
 use Rattle.ssa_model.proofs.Beginnings.{rest_of-is, rest_of-append}
 use Rattle.ssa_model.proofs.PutParts.{first_put, put_missed}

@@ -27,9 +27,9 @@ use Rattle.ssa_model.proofs.Places.{place-after, stands, if-some}
 use Rattle.ssa_model.proofs.Reaching.{Standing, member_level, item_at, item_level, level, reached, content_of, content_at}
 use Rattle.ssa_model.proofs.ShownItems.{each-among, set-item, list-item}
 use Rattle.ssa_model.proofs.ShownNames.{name_of, name-is, among-names, names-there, member_of-fields}
-use Rattle.ssa_model.proofs.Tables.{yes_no, text-itself, element-itself}
+use Rattle.ssa_model.proofs.Tables.{text-itself, element-itself}
 use Rattle.ssa_model.proofs.Tests.{holds}
-use Rattle.ssa_model.proofs.Basics.{not_true as no, first_false, second_false, lower}
+use Rattle.ssa_model.proofs.Basics.{not_true as no, first_false, second_false, lower, yes_no}
 
 -- ---- the names below a path
 

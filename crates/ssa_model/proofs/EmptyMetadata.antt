@@ -18,8 +18,8 @@ use Rattle.ssa_model.proofs.PathMaps.{has-paths, has-points}
 use Rattle.ssa_model.proofs.Places.{below, record-place}
 use Rattle.ssa_model.proofs.Pruned.{some_one, under-rest, beginning}
 use Rattle.ssa_model.proofs.ShownNames.{member_of-fields}
-use Rattle.ssa_model.proofs.Tables.{same_text-true, yes_no, under-itself}
-use Rattle.ssa_model.proofs.Basics.{or_true, not_true as no}
+use Rattle.ssa_model.proofs.Tables.{same_text-true, under-itself}
+use Rattle.ssa_model.proofs.Basics.{or_true, not_true as no, yes_no}
 
 -- ---- a record that shows nothing is bare
 

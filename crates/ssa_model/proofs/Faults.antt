@@ -8,7 +8,8 @@ use Rattle.ssa_model.specs.definitions.Operations.{is_none}
 
 -- ---- lists of faults
 
-is_nil : {X : Type 0} → List X → Bool
+-- a list without elements
+pub is_nil : {X : Type 0} → List X → Bool
 is_nil [] = true
 is_nil (x ∷ xs) = false
 

@@ -16,14 +16,14 @@ use Rattle.ssa_model.specs.definitions.Carry.{carried_content, carry_body}
 use Rattle.ssa_model.specs.laws.FittingRecords.{is_touched, order_after, ListFits, BodyFits}
 use Rattle.ssa_model.proofs.PathMaps.{has-paths}
 use Rattle.ssa_model.proofs.Pruned.{some_one, from_one, closed-above, under-append, under-rest, under-trans, under-push, named, key_field_is}
-use Rattle.ssa_model.proofs.Tables.{yes_no, under-itself}
+use Rattle.ssa_model.proofs.Tables.{under-itself}
 use Rattle.ssa_model.proofs.Tests.{by_test}
 use Rattle.ssa_model.proofs.Fitting.{is_list, is_list_place, list_place, any_order, some_there, among-filter}
 use Rattle.ssa_model.proofs.Places.{place-after}
 use Rattle.ssa_model.proofs.Beginnings.{parent-push}
 use Rattle.ssa_model.proofs.UntouchedLists.{untouched-fits}
 use Rattle.ssa_model.proofs.CarriedPaths.{Source, stayed, came, away, source, at_put, at_stay, at_cut, parent_there}
-use Rattle.ssa_model.proofs.Basics.{not_true as no}
+use Rattle.ssa_model.proofs.Basics.{not_true as no, yes_no}
 
 -- ---- places of lists
 

@@ -18,12 +18,12 @@ use Rattle.ssa_model.specs.definitions.Carry.{placed_at, end_of, is_key_among, c
 use Rattle.ssa_model.specs.definitions.Takes.{TableTakes}
 use Rattle.ssa_model.specs.laws.FittingRecords.{tells_something, ChangeFits, loses, EntryFits, HereFits, TableFits, KeepsUncut, FittingTableLeads}
 use Rattle.ssa_model.proofs.PathMaps.{has-union, has-minus, same_sets, same_set-true, same_path-itself}
-use Rattle.ssa_model.proofs.Tables.{yes_no, either, text-itself, same_manager-true, ownable-has, ownable_there}
+use Rattle.ssa_model.proofs.Tables.{either, text-itself, same_manager-true, ownable-has, ownable_there}
 use Rattle.ssa_model.proofs.SharedManagers.{Each}
 use Rattle.ssa_model.proofs.Tests.{by_test, pointwise-itself}
 use Rattle.ssa_model.proofs.ManagerEntries.{entry-absent}
 use Rattle.ssa_model.proofs.FilledTables.{all-places, all-filled, found-of-managers, keeps-order, gone-is, stays-in, entry-after}
-use Rattle.ssa_model.proofs.Basics.{or_true, not_true as no}
+use Rattle.ssa_model.proofs.Basics.{or_true, not_true as no, yes_no}
 
 -- ---- sets
 

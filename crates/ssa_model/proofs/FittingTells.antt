@@ -15,7 +15,7 @@ use Rattle.ssa_model.specs.definitions.Carry.{refilled, carried_order, carried_c
 use Rattle.ssa_model.specs.laws.FittingRecords.{order_after, BodyFits, FittingBodyLeads}
 use Rattle.ssa_model.proofs.PathMaps.{has-paths, same_map, same_sets, get-over_paths}
 use Rattle.ssa_model.proofs.Pruned.{some_one, from_one, closed-above, under-append, under-push}
-use Rattle.ssa_model.proofs.Tables.{yes_no, under-itself}
+use Rattle.ssa_model.proofs.Tables.{under-itself}
 use Rattle.ssa_model.proofs.Tests.{by_test, same_tests}
 use Rattle.ssa_model.proofs.Scalars.{same_scalar-itself}
 use Rattle.ssa_model.proofs.SameValues.{same_json-itself}
@@ -26,7 +26,7 @@ use Rattle.ssa_model.proofs.RecordTurns.{nothing}
 use Rattle.ssa_model.proofs.BodyLeads.{get-cuts}
 use Rattle.ssa_model.proofs.CarriedPaths.{stayed, came, away, source, at_put, at_stay, at_cut, parent_there}
 use Rattle.ssa_model.proofs.FittingBodies.{plain, listed, carried, no-item, list-fits, root-there, stay-there, parent_uncut, body-after}
-use Rattle.ssa_model.proofs.Basics.{not_true as no, none-there as nothing_there}
+use Rattle.ssa_model.proofs.Basics.{not_true as no, none-there as nothing_there, yes_no}
 
 -- ---- paths
 

@@ -25,7 +25,8 @@ use Rattle.ssa_model.proofs.Pruned.{from_one}
 use Rattle.ssa_model.proofs.Reaching.{Standing, level, reached, content_of, content_at, reached_one, found-field}
 use Rattle.ssa_model.proofs.ReachedFits.{own-content}
 use Rattle.ssa_model.proofs.ReachedPlaces.{missing}
-use Rattle.ssa_model.proofs.Tables.{apart_by, yes_no, same_text-true, text-itself}
+use Rattle.ssa_model.proofs.Tables.{apart_by, same_text-true, text-itself}
+use Rattle.ssa_model.proofs.Basics.{yes_no}
 
 abbrev metadata : Text
 metadata = codes "metadata"

@@ -26,9 +26,9 @@ use Rattle.ssa_model.proofs.Basics.{nat_le-of}
 
 -- ---- back along moves
 
--- these states, the place at the first of them
-abbrev from_first : State → List Step → Timeline
-from_first v later = record { first = v; later = later; place = 0 }
+-- these states, the place after so many of their steps
+abbrev standing_after : ℕ → State → List Step → Timeline
+standing_after n v later = record { first = v; later = later; place = n }
 
 preceded-lands : Lands preceded
 preceded-lands t l s placed = (refl, omega arith)
@@ -36,11 +36,11 @@ preceded-lands t l s placed = (refl, omega arith)
 -- what stands in a row after moves back
 record IsBack (v : State) (acc : List Step) (ms : List (Label × State)) : Type 0 where
   -- the place is at the first state
-  pub place : (all_moved preceded (from_first v acc) ms).place ≡ 0
+  pub place : (all_moved preceded (standing_after 0 v acc) ms).place ≡ 0
   -- the first state has as many behind it as there are moves, and those that stood there
-  pub many : length (all_moved preceded (from_first v acc) ms).later ≡ length ms + length acc
+  pub many : length (all_moved preceded (standing_after 0 v acc) ms).later ≡ length ms + length acc
   -- the last state is still the last
-  pub last : last_state (all_moved preceded (from_first v acc) ms).first (all_moved preceded (from_first v acc) ms).later ≡ last_state v acc
+  pub last : last_state (all_moved preceded (standing_after 0 v acc) ms).first (all_moved preceded (standing_after 0 v acc) ms).later ≡ last_state v acc
 
 is-back : (v : State) (acc : List Step) (ms : List (Label × State)) → IsBack v acc ms
 is-back v acc [] = record { place = refl; many = omega arith; last = refl }
@@ -51,16 +51,16 @@ is-back v acc (m ∷ ms) =
 
 past-moved : (readings : Readings) (now : Bench) (v : State) (js : List Json) (acc : List Step) (ms : List (Label × State))
     → moves_in readings now v js ≡ Some ms
-    → past_in readings now v js acc ≡ Some ((all_moved preceded (from_first v acc) ms).first, (all_moved preceded (from_first v acc) ms).later)
+    → past_in readings now v js acc ≡ Some ((all_moved preceded (standing_after 0 v acc) ms).first, (all_moved preceded (standing_after 0 v acc) ms).later)
 past-moved readings now v [] acc ms is =
-    ap (λ ns. Some ((all_moved preceded (from_first v acc) ns).first, (all_moved preceded (from_first v acc) ns).later)) (same_Some [] ms is)
+    ap (λ ns. Some ((all_moved preceded (standing_after 0 v acc) ns).first, (all_moved preceded (standing_after 0 v acc) ns).later)) (same_Some [] ms is)
 past-moved readings now v (j ∷ js) acc ms is =
     let first = and_then-back (λ m. option_map (λ ns. m ∷ ns) (moves_in readings now m.1 js)) (move_in readings now v j) ms is in
     let m = first.0 in
     let later = map-back (λ ns. m ∷ ns) (moves_in readings now m.1 js) ms first.2 in
     ap (option_and_then (λ m. past_in readings now m.1 js (record { label = m.0; state = v } ∷ acc))) first.1
     ∙ past-moved readings now m.1 js (record { label = m.0; state = v } ∷ acc) later.0 later.1
-    ∙ ap (λ ns. Some ((all_moved preceded (from_first v acc) ns).first, (all_moved preceded (from_first v acc) ns).later)) later.2
+    ∙ ap (λ ns. Some ((all_moved preceded (standing_after 0 v acc) ns).first, (all_moved preceded (standing_after 0 v acc) ns).later)) later.2
 
 moves-of-past : (readings : Readings) (now : Bench) (v : State) (js : List Json) (acc : List Step) (r : State × List Step)
     → past_in readings now v js acc ≡ Some r
@@ -88,7 +88,7 @@ moves-many readings now v (j ∷ js) ms is =
 
 -- these states, the place at the last of them
 abbrev to_last : State → List Step → Timeline
-to_last v later = record { first = v; later = later; place = length later }
+to_last v later = standing_after (length later) v later
 
 abbrev step_of : Label × State → Step
 step_of m = record { label = m.0; state = m.1 }
@@ -162,15 +162,15 @@ ended-fault made f (value_then v zs rest) h = same-fault no_move_text f h
 
 -- ---- all moves of a file
 
-module _ (readings : Readings) (now : Bench) (alone : now.timeline ≡ from_first now.timeline.first []) where
+module _ (readings : Readings) (now : Bench) (alone : now.timeline ≡ standing_after 0 now.timeline.first []) where
   abbrev v : State
   v = now.timeline.first
 
-  here : now ≡ with_timeline now (from_first v [])
+  here : now ≡ with_timeline now (standing_after 0 v [])
   here = ap (with_timeline now) alone
 
   abbrev before : List (Label × State) → Timeline
-  before ms = all_moved preceded (from_first v []) ms
+  before ms = all_moved preceded (standing_after 0 v []) ms
 
   before-many : (ms : List (Label × State)) (n : ℕ) → length ms ≡ n → n ≡ length (before ms).later
   before-many ms n e = let many = (is-back v [] ms).many in omega (arith, e, many)
@@ -227,7 +227,7 @@ module _ (readings : Readings) (now : Bench) (alone : now.timeline ≡ from_firs
 
     lines-read : (xs : List ℕ) (room : ℕ) (bench : Bench) → moves_from readings past future now xs room ≡ Ok bench → AreRead xs room bench
     lines-read xs room bench is =
-        let a = went readings now preceded preceded-lands (on_from readings past future) past (from_first v []) xs room bench (omega arith)
+        let a = went readings now preceded preceded-lands (on_from readings past future) past (standing_after 0 v []) xs room bench (omega arith)
         (ap (λ (b : Bench). along readings preceded (on_from readings past future) past b xs room) (sym here) ∙ is) in
         let many = moves-many readings now v a.js a.ms a.moves ∙ a.many in
         let b = went readings now appended appended-lands (last_read past) future (moved_to (before a.ms) past) a.ys a.left bench
@@ -263,7 +263,7 @@ module _ (readings : Readings) (now : Bench) (alone : now.timeline ≡ from_firs
         let counted = a.2 ∙ many in
         let c = moves-of-future readings now v (drop past js) f.0 f.1 in
         let onward = ap (λ s. moves_in readings now s (drop past js)) (before-present a.0 past counted) ∙ c.1 in
-        let r = reaches readings now preceded preceded-lands (on_from readings past future) (take past js) (drop past js) a.0 (from_first v []) xs room
+        let r = reaches readings now preceded preceded-lands (on_from readings past future) (take past js) (drop past js) a.0 (standing_after 0 v []) xs room
         (omega arith) a.1
         (values ∙ ap Some (sym (take-append-drop past js))) fits in
         let q = reaches readings now appended appended-lands (last_read past) (drop past js) [] c.0 (moved_to (before a.0) past) r.ys r.left
@@ -274,7 +274,7 @@ module _ (readings : Readings) (now : Bench) (alone : now.timeline ≡ from_firs
         let same : whole past a.0 c.0 ≡ bench =
         whole-is past a.0 c.0 counted ∙ (λ i. with_timeline now (record { first = (back i).0; later = (back i).1 ++ on i; place = past })) ∙ g.1 in
         ap (λ (b : Bench). along readings preceded (on_from readings past future) past b xs room) here
-        ∙ ap (λ n. along readings preceded (on_from readings past future) n (with_timeline now (from_first v [])) xs room) (sym many)
+        ∙ ap (λ n. along readings preceded (on_from readings past future) n (with_timeline now (standing_after 0 v [])) xs room) (sym many)
         ∙ r.is
         ∙ ap (λ n. along readings appended (last_read past) n (with_timeline now (moved_to (before a.0) past)) r.ys r.left) (sym more)
         ∙ q.is
@@ -288,7 +288,7 @@ module _ (readings : Readings) (now : Bench) (alone : now.timeline ≡ from_firs
         let behind = lines_fault readings now no_move_text v (take future (drop past ts)) in
         let none : length ts < past → behind ≡ no_move_text =
         λ less. ap (λ us. lines_fault readings now no_move_text v us) (ap (take future) (drop_all past ts (omega (arith, less))) ∙ take-none future) in
-        fault-along readings now preceded preceded-lands (on_from readings past future) past (from_first v []) xs room behind f (omega arith) none
+        fault-along readings now preceded preceded-lands (on_from readings past future) past (standing_after 0 v []) xs room behind f (omega arith) none
         (λ ms ys left many lines failed.
         ap (λ s. lines_fault readings now no_move_text s (take future (drop past ts))) (sym (before-present ms past many))
         ∙ ap (λ us. lines_fault readings now no_move_text (present (moved_to (before ms) past)) (take future us)) (sym lines)
@@ -301,7 +301,7 @@ module _ (readings : Readings) (now : Bench) (alone : now.timeline ≡ from_firs
 
 -- a present object makes a bench of one state
 present-alone : (readings : Readings) (schema : Schema) (v : Json) (now : Bench) → present_in readings schema v ≡ Some now
-    → now.timeline ≡ from_first now.timeline.first []
+    → now.timeline ≡ standing_after 0 now.timeline.first []
 present-alone readings schema v now is =
     let made = lone-parts readings schema v now (present-from v (bench_of readings schema v) now is).0 in
     made.alone

@@ -13,8 +13,8 @@ use Rattle.ssa_model.proofs.Fitting.{same_element-true}
 use Rattle.ssa_model.proofs.PathMaps.{same_path-true, same_path-itself}
 use Rattle.ssa_model.proofs.Places.{below}
 use Rattle.ssa_model.proofs.Pruned.{under-append, under-rest, under-trans, beginning, above}
-use Rattle.ssa_model.proofs.Tables.{either, true_or, yes_no, under-itself}
-use Rattle.ssa_model.proofs.Basics.{or_true}
+use Rattle.ssa_model.proofs.Tables.{either, true_or, under-itself}
+use Rattle.ssa_model.proofs.Basics.{or_true, yes_no}
 
 -- paths with their contents
 abbrev pub Entries : Type 0

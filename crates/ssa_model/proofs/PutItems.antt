@@ -17,12 +17,12 @@ use Rattle.ssa_model.specs.definitions.Carry.{filled, end_of, place_in, is_place
 use Rattle.ssa_model.specs.laws.RecordWalks.{IsTree}
 use Rattle.ssa_model.proofs.Fitting.{same_element-true}
 use Rattle.ssa_model.proofs.PathMaps.{same_path-true, same_path-itself, has-set_of, has-paths}
-use Rattle.ssa_model.proofs.Tables.{true_or, yes_no, element-itself}
+use Rattle.ssa_model.proofs.Tables.{true_or, element-itself}
 use Rattle.ssa_model.proofs.Tests.{by_test}
 use Rattle.ssa_model.proofs.FilledLists.{Gives, filled_is}
 use Rattle.ssa_model.proofs.Beginnings.{parent-push, last-push, parent-last}
 use Rattle.ssa_model.proofs.PutParts.{AllAt, IsPut, all-puts, get-puts}
-use Rattle.ssa_model.proofs.Basics.{or_true, not_true as no}
+use Rattle.ssa_model.proofs.Basics.{or_true, not_true as no, yes_no}
 
 -- ---- orders
 

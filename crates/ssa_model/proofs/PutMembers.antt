@@ -9,8 +9,8 @@ use Rattle.std.specs.Cmp.Lexicographic.{slice_cmp, nat_list_cmp_total}
 use Rattle.ssa_model.specs.definitions.Json.{Text, Json, object, Members, no_members, member, member_of, same_text}
 use Rattle.ssa_model.specs.definitions.Objects.{with_member, without, without_names, without_in_metadata}
 use Rattle.ssa_model.proofs.RisingNames.{before}
-use Rattle.ssa_model.proofs.Tables.{same_text-true, yes_no}
-use Rattle.ssa_model.proofs.Basics.{not_true as no, lower}
+use Rattle.ssa_model.proofs.Tables.{same_text-true}
+use Rattle.ssa_model.proofs.Basics.{not_true as no, lower, yes_no}
 
 abbrev order : Text → Text → Ordering
 order = slice_cmp nat_cmp

@@ -11,10 +11,10 @@ use Rattle.ssa_model.specs.definitions.Record.{Part, is_top, part_at, puts}
 use Rattle.ssa_model.specs.definitions.Carry.{put_content, put_paths}
 use Rattle.ssa_model.proofs.PathMaps.{is_one_of, get-map_of, has-paths, same_path-true, same_path-itself, get-over_paths}
 use Rattle.ssa_model.proofs.Texts.{same_path_same}
-use Rattle.ssa_model.proofs.Tables.{either, true_or, yes_no}
+use Rattle.ssa_model.proofs.Tables.{either, true_or}
 use Rattle.ssa_model.proofs.Tests.{by_test}
 use Rattle.ssa_model.proofs.Beginnings.{rest_of-is, rest_of-append}
-use Rattle.ssa_model.proofs.Basics.{or_true, none-there as nothing_there}
+use Rattle.ssa_model.proofs.Basics.{or_true, none-there as nothing_there, yes_no}
 
 -- ---- entries of maps
 

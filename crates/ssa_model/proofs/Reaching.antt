@@ -168,7 +168,8 @@ abbrev pub own_scalar : Element → Option Scalar
 own_scalar (value s) = Some s
 own_scalar _ = None
 
-abbrev own_keys : Element → List (Text × Scalar)
+-- the key fields of an element that is an item of a map list
+abbrev pub own_keys : Element → List (Text × Scalar)
 own_keys (key ks) = ks
 own_keys _ = []
 

@@ -16,7 +16,7 @@ use Rattle.ssa_model.specs.laws.RecordPlaces.{replaced, tells_of, TellsBelow, Ch
 use Rattle.ssa_model.proofs.PathMaps.{has-paths, same_map, same_path-true}
 use Rattle.ssa_model.proofs.PutParts.{get-below}
 use Rattle.ssa_model.proofs.Pruned.{from_one, some_one, under-append, under-rest, under-trans}
-use Rattle.ssa_model.proofs.Tables.{true_or, yes_no}
+use Rattle.ssa_model.proofs.Tables.{true_or}
 use Rattle.ssa_model.proofs.Tests.{by_test}
 use Rattle.ssa_model.proofs.Fitting.{some_there}
 use Rattle.ssa_model.proofs.FittingBodies.{stay-there}
@@ -26,7 +26,7 @@ use Rattle.ssa_model.proofs.UntouchedLists.{order-stays}
 use Rattle.ssa_model.proofs.BodyLeads.{body_leads}
 use Rattle.ssa_model.proofs.TakenBodies.{taken_body_fits}
 use Rattle.ssa_model.proofs.ReplacedParts.{get-inside, get-outside}
-use Rattle.ssa_model.proofs.Basics.{or_true, none-there as nothing_there}
+use Rattle.ssa_model.proofs.Basics.{or_true, none-there as nothing_there, yes_no}
 
 -- ---- what a record tells of
 

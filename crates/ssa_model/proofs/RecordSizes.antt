@@ -17,13 +17,13 @@ use Rattle.ssa_model.specs.laws.RecordSizes.{BodyBound, TableBound, SizeBound}
 use Rattle.ssa_model.proofs.Fitting.{same_element-true}
 use Rattle.ssa_model.proofs.PathMaps.{is_one_of, same_path-itself}
 use Rattle.ssa_model.proofs.Pruned.{above}
-use Rattle.ssa_model.proofs.Tables.{yes_no, element-itself}
+use Rattle.ssa_model.proofs.Tables.{element-itself}
 use Rattle.ssa_model.proofs.DistinctNames.{are_distinct_paths, sorted-distinct}
 use Rattle.ssa_model.proofs.SharedManagers.{managers}
 use Rattle.ssa_model.proofs.Tests.{by_test, holds}
 use Rattle.ssa_model.proofs.Sums.{total, sum-total, total-add, total-le, total-zero, total-if}
 use Rattle.ssa_model.proofs.MapEntries.{counted, total-map, size-map}
-use Rattle.ssa_model.proofs.Basics.{not_true as no, first_false, second_false}
+use Rattle.ssa_model.proofs.Basics.{not_true as no, first_false, second_false, yes_no}
 
 -- ---- the size of a part
 

@@ -16,14 +16,13 @@ use Rattle.ssa_model.proofs.PathMaps.{get-map_of, has-paths, has-points, is_one_
 use Rattle.ssa_model.proofs.PutParts.{where_true, prefixed, one-append, one-later}
 use Rattle.ssa_model.proofs.Pruned.{IsClosed, closed-above, from_one, some_one, under-append, under-push, under-rest, under-trans}
 use Rattle.ssa_model.proofs.RecordSizes.{begins_parent, rest-under}
-use Rattle.ssa_model.proofs.Tables.{yes_no}
 use Rattle.ssa_model.proofs.Tests.{by_test}
 use Rattle.ssa_model.proofs.FittingBodies.{key-named}
 use Rattle.ssa_model.proofs.FittingTells.{parent_above}
 use Rattle.ssa_model.proofs.Beginnings.{rest_of-append, rest_of-is}
 use Rattle.ssa_model.proofs.TakenBodies.{part-of}
 use Rattle.ssa_model.proofs.ValidStates.{in_no_dict, no_leaf, something_below}
-use Rattle.ssa_model.proofs.Basics.{none-there as nothing_there}
+use Rattle.ssa_model.proofs.Basics.{none-there as nothing_there, yes_no}
 
 -- ---- answers
 

@@ -15,10 +15,10 @@ use Rattle.ssa_model.proofs.PutParts.{get-below, has-below, prefixed}
 use Rattle.ssa_model.proofs.Pruned.{under-append, under-rest}
 use Rattle.ssa_model.proofs.RecordSizes.{length-entries, size-below}
 use Rattle.ssa_model.proofs.Lists.{has-listed}
-use Rattle.ssa_model.proofs.Tables.{either, true_or, yes_no}
+use Rattle.ssa_model.proofs.Tables.{either, true_or}
 use Rattle.ssa_model.proofs.Tests.{by_test, same_tests}
 use Rattle.ssa_model.proofs.ReplacedParts.{get-inside, get-outside}
-use Rattle.ssa_model.proofs.Basics.{or_true}
+use Rattle.ssa_model.proofs.Basics.{or_true, yes_no}
 
 -- ---- the paths that pass a test
 

@@ -16,7 +16,6 @@ use Rattle.ssa_model.specs.laws.RecordWalks.{IsTree, AreAlike}
 use Rattle.ssa_model.specs.laws.FittingRecords.{stays, CutFits, LeafFits, IsPartOf, PutFits, order_after, ListFits, IsListAt, BodyFits, TakenBodyFits}
 use Rattle.ssa_model.proofs.PathMaps.{get-over_paths}
 use Rattle.ssa_model.proofs.Pruned.{closed-above}
-use Rattle.ssa_model.proofs.Tables.{yes_no}
 use Rattle.ssa_model.proofs.Tests.{by_test}
 use Rattle.ssa_model.proofs.Scalars.{same_scalar-itself}
 use Rattle.ssa_model.proofs.Fitting.{list_place, some_there, among-filter}
@@ -29,7 +28,7 @@ use Rattle.ssa_model.proofs.BodyLeads.{get-cuts, lost, left, content_is, bodies_
 use Rattle.ssa_model.proofs.CarryBelow.{part_is_tree}
 use Rattle.ssa_model.proofs.FittingBodies.{list-item}
 use Rattle.ssa_model.proofs.FittingTells.{split_last, parent_above, item-push}
-use Rattle.ssa_model.proofs.Basics.{not_true as no}
+use Rattle.ssa_model.proofs.Basics.{not_true as no, yes_no}
 
 -- ---- key fields
 

@@ -17,14 +17,14 @@ use Rattle.ssa_model.specs.definitions.Record.{Change, TableRecord, placed, new_
 use Rattle.ssa_model.specs.definitions.Carry.{is_key_among, change_for, carry_table}
 use Rattle.ssa_model.specs.laws.FittingRecords.{tells_something, ChangeFits, loses, is_given_up, EntryFits, HereFits, TableFits, TakenTableFits}
 use Rattle.ssa_model.proofs.PathMaps.{has-minus, same_sets, same_set-true}
-use Rattle.ssa_model.proofs.Tables.{yes_no, true_or, ownable-has}
+use Rattle.ssa_model.proofs.Tables.{true_or, ownable-has}
 use Rattle.ssa_model.proofs.SharedManagers.{managers, Each, each-more, each-in, filter-alike}
 use Rattle.ssa_model.proofs.Tests.{by_test, same_tests}
 use Rattle.ssa_model.proofs.ManagerEntries.{among-filter, entry-there, entry-absent}
 use Rattle.ssa_model.proofs.TableLeads.{set_leads, change-found, table_leads}
 use Rattle.ssa_model.proofs.FilledTables.{all-placed-of, found-of-managers}
 use Rattle.ssa_model.proofs.FittingTables.{same_set-itself, all-both, all-more}
-use Rattle.ssa_model.proofs.Basics.{or_true, not_true as no}
+use Rattle.ssa_model.proofs.Basics.{or_true, not_true as no, yes_no}
 
 -- what holds of all entries holds of the entry of a manager
 all-entry : (P : Entry → Type 0) (es : Table) (k : ManagerKey) (f : Entry) → AllEntries P es → entry_of es k ≡ Some f → P f

@@ -13,10 +13,10 @@ use Rattle.ssa_model.specs.definitions.Carry.{filled, end_of, place_in, put_item
 use Rattle.ssa_model.specs.laws.FittingRecords.{has_below, is_touched, order_after, ListFits}
 use Rattle.ssa_model.proofs.PathMaps.{has-paths, same_path-itself}
 use Rattle.ssa_model.proofs.Pruned.{from_one}
-use Rattle.ssa_model.proofs.Tables.{yes_no, element-itself}
+use Rattle.ssa_model.proofs.Tables.{element-itself}
 use Rattle.ssa_model.proofs.Tests.{by_test, pointwise-itself, filter-all}
 use Rattle.ssa_model.proofs.Beginnings.{parent-push}
-use Rattle.ssa_model.proofs.Basics.{or-false, first_false, second_false, none-there as nothing_there}
+use Rattle.ssa_model.proofs.Basics.{or-false, first_false, second_false, none-there as nothing_there, yes_no}
 
 -- a map with nothing right below a path has no path right below it
 none-below : {X : Type 0} (m : PathMap X) (p : Path) (e : Element) → has_below m p ≡ false → has m (p ++ e ∷ []) ≡ false

@@ -16,10 +16,10 @@ use Rattle.ssa_model.specs.definitions.Valid.{OwnedOwnable, OwnsOwnable, AllEntr
 use Rattle.ssa_model.specs.laws.KeepsValid.{ApplyKeepsValid, UpdateKeepsValid, StripKeepsValid}
 use Rattle.ssa_model.proofs.Accepted.{applied_is, updated_is}
 use Rattle.ssa_model.proofs.PathMaps.{has-set_of, has-union, has-points, has-paths, is_one_of}
-use Rattle.ssa_model.proofs.Tables.{apart_by, true_or, yes_no, either, ownable-has, leaf-point, leaf-has, has-over, has-restricted, kept-stays, spared, apply_keeps, update_keeps, strip_keeps}
+use Rattle.ssa_model.proofs.Tables.{apart_by, true_or, either, ownable-has, leaf-point, leaf-has, has-over, has-restricted, kept-stays, spared, apply_keeps, update_keeps, strip_keeps}
 use Rattle.ssa_model.proofs.Fitting.{some_place, some_there, same_element-true, over_fits}
 use Rattle.ssa_model.proofs.Pruned.{some_one, from_one, pruned_fits}
-use Rattle.ssa_model.proofs.Basics.{or_true, first_false, second_false}
+use Rattle.ssa_model.proofs.Basics.{or_true, first_false, second_false, yes_no}
 
 -- ---- contents that fit one place
 

@@ -14,6 +14,7 @@ use Rattle.ssa_path.proofs.InOrder.{paths-listed, rise-trie}
 use Rattle.ssa_path.proofs.Levels.{same_path-reading}
 use Rattle.ssa_model.proofs.Fitting.{same_element-true}
 use Rattle.ssa_model.proofs.Lists.{has-listed}
+use Rattle.ssa_model.proofs.SaidSets.{is_said, value_in}
 
 -- ---- the member of an element
 
@@ -87,10 +88,6 @@ one-begun e ((f ∷ q) ∷ ps) p =
 
 -- ---- what a place says
 
--- something stands there, and it is `{}` or has `.`
-abbrev is_said : Option Json → Bool
-is_said v = is_no_object v || has_dot v
-
 dot-is : (b : Bool) (ps : List Path) (es : List Element) → has_dot (Some (object (dotted b (field_members paths_json ps es)))) ≡ b
 dot-is true ps es = refl
 dot-is false ps es = ap is_some (no-dot ps es)
@@ -120,9 +117,6 @@ not-empty false ps (e ∷ es) h = refl
 -- where there is a path, something is written
 pub written-some : (ps : List Path) → has_some ps ≡ true → is_no_object (Some (paths_json ps)) ≡ false
 written-some ps h = ap (λ v. is_no_object (Some v)) (level ps) ∙ not-empty (list_any is_root ps) ps (heads ps) (root-or-head ps h)
-
-abbrev value_in : Path → Option Json → Option Json
-value_in p o = elim o [ None ↦ None | Some v ↦ value_below v p ]
 
 -- what a path says below a member, where the paths that are written there say what they should
 module _ (p : Path) (inside : (ps : List Path) → says (paths_json ps) p ≡ is_one_of ps p) where

@@ -13,12 +13,12 @@ use Rattle.ssa_model.specs.definitions.Carry.{is_key_among, change_for}
 use Rattle.ssa_model.specs.laws.FittingRecords.{loses, ChangeFits, EntryFits}
 use Rattle.ssa_model.proofs.PathMaps.{is_one_of, has-minus, has-paths, has-set_of, has-union, same_sets, same_set-true}
 use Rattle.ssa_model.proofs.Pruned.{from_one, some_one}
-use Rattle.ssa_model.proofs.Tables.{true_or, yes_no}
+use Rattle.ssa_model.proofs.Tables.{true_or}
 use Rattle.ssa_model.proofs.Tests.{by_test, same_tests}
 use Rattle.ssa_model.proofs.FittingTables.{no-path, same_set-itself}
 use Rattle.ssa_record.specs.EntryTests.{GivesUp, IsApart, ToldFits}
 use Rattle.ssa_model.proofs.TakenTables.{empty-has}
-use Rattle.ssa_model.proofs.Basics.{or_true, not_true as no, first_false, second_false}
+use Rattle.ssa_model.proofs.Basics.{or_true, not_true as no, first_false, second_false, yes_no}
 
 -- ---- answers of a test
 

@@ -4,7 +4,6 @@ use Rattle.ssa_model.specs.definitions.Json.{Text, Json, Members, member_of}
 use Rattle.ssa_model.specs.definitions.Path.{Element, field, Path, same_element}
 use Rattle.ssa_model.specs.definitions.PathMap.{get, has}
 use Rattle.ssa_model.proofs.Fitting.{same_element-true}
-use Rattle.ssa_model.proofs.Tables.{yes_no}
 use Rattle.ssa_model.proofs.Tests.{by_test}
 use Rattle.ssa_path.specs.Children.{child_at}
 use Rattle.ssa_path.specs.View.{element_view}
@@ -17,7 +16,7 @@ use Rattle.ssa_typed.specs.Values.{with_member_under}
 use Rattle.ssa_record.specs.LedValues.{names_rise, put_or, ArePut}
 use Rattle.ssa_record.specs.Places.{ToldMaps, AllTouched, IsTouchedBelow}
 use Rattle.ssa_record.proofs.LedMembers.{child_at-last, or_last, rise-under, under-name}
-use Rattle.ssa_model.proofs.Basics.{none-there as nothing_there}
+use Rattle.ssa_model.proofs.Basics.{none-there as nothing_there, yes_no}
 
 -- ---- what has been put
 

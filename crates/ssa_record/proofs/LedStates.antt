@@ -13,7 +13,7 @@ use Rattle.ssa_model.specs.laws.FittingRecords.{KeepsUncut, TableFits}
 use Rattle.ssa_model.proofs.BodyLeads.{bodies_are_trees, left, lost}
 use Rattle.ssa_model.proofs.RecordTakes.{body_laws, fixes_target}
 use Rattle.ssa_model.proofs.FittingTables.{fitting_table_leads}
-use Rattle.ssa_model.proofs.Tables.{yes_no}
+use Rattle.ssa_model.proofs.Basics.{yes_no}
 use Rattle.ssa_model.proofs.Tests.{by_test}
 use Rattle.ssa_turn_body.specs.Rooms.{IsBodyTaken}
 use Rattle.ssa_turn_state.specs.States.{IsTaken}

@@ -19,7 +19,7 @@ use Rattle.ssa_model.proofs.PartValues.{part_is_value}
 use Rattle.ssa_model.proofs.PathMaps.{get-over_paths, same_map}
 use Rattle.ssa_model.proofs.Pruned.{closed-above, under-append}
 use Rattle.ssa_model.proofs.PutParts.{get-below}
-use Rattle.ssa_model.proofs.Tables.{element-itself, true_or, yes_no}
+use Rattle.ssa_model.proofs.Tables.{element-itself, true_or}
 use Rattle.ssa_model.proofs.Tests.{by_test, pointwise-true}
 use Rattle.ssa_model.proofs.Fitting.{same_element-true}
 use Rattle.ssa_typed.specs.Rows.{body_of, is_tree}
@@ -32,7 +32,7 @@ use Rattle.ssa_record.specs.Places.{ToldMaps}
 use Rattle.ssa_record.proofs.LedPlaces.{kept-there, none-missed}
 use Rattle.ssa_model.proofs.PutItems.{filter-members as filter-alike}
 use Rattle.ssa_typed.proofs.Reached.{all-pass as filter-whole}
-use Rattle.ssa_model.proofs.Basics.{or_true, none-there as nothing_there}
+use Rattle.ssa_model.proofs.Basics.{or_true, none-there as nothing_there, yes_no}
 
 -- ---- lists
 

@@ -9,10 +9,10 @@ use Rattle.ssa_model.specs.definitions.PathMap.{PathSet, has, paths}
 use Rattle.ssa_model.specs.definitions.Valid.{OwnedOwnable}
 use Rattle.ssa_model.proofs.PathMaps.{has-paths, is_one_of, same_path-itself}
 use Rattle.ssa_model.proofs.Lists.{is_one_of-filter}
-use Rattle.ssa_model.proofs.Tables.{true_or, yes_no}
+use Rattle.ssa_model.proofs.Tables.{true_or}
 use Rattle.ssa_model.proofs.Tests.{by_test}
 use Rattle.ssa_merge.specs.EntryReading.{first_of}
-use Rattle.ssa_model.proofs.Basics.{not_true as no}
+use Rattle.ssa_model.proofs.Basics.{not_true as no, yes_no}
 
 first-in : (ps : List Path) (p : Path) → first_of ps ≡ Some p → is_one_of ps p ≡ true
 first-in [] p h = absurd (none-some p h)

@@ -16,7 +16,7 @@ use Rattle.ssa_model.specs.definitions.Path.{Element, Path, same_element, same_p
 use Rattle.ssa_model.specs.definitions.PathMap.{get, has}
 use Rattle.ssa_model.proofs.Fitting.{same_element-true}
 use Rattle.ssa_model.proofs.PutItems.{position-middle, position-stands, among-middle}
-use Rattle.ssa_model.proofs.Tables.{either, element-itself, true_or, yes_no}
+use Rattle.ssa_model.proofs.Tables.{either, element-itself, true_or}
 use Rattle.ssa_model.proofs.Tests.{by_test, filter-kept, filter-dropped}
 use Rattle.ssa_path.specs.Children.{child_at, elements}
 use Rattle.ssa_path.specs.View.{element_view}
@@ -28,7 +28,7 @@ use Rattle.ssa_record.specs.Places.{ToldMaps, AllTouched, IsRefilled, IsTouchedB
 use Rattle.ssa_record.specs.Refilled.{IsLentOrder, all_below, lent_elements, lent_puts, place_told, puts_told, with_put, woven}
 use Rattle.ssa_record.proofs.ByPaths.{mapped-some}
 use Rattle.ssa_record.proofs.Slots.{chosen, placed-map, slot, slot-map, woven-is, woven-map}
-use Rattle.ssa_model.proofs.Basics.{or_true, not_true as no}
+use Rattle.ssa_model.proofs.Basics.{or_true, not_true as no, yes_no}
 
 -- ---- elements of a list
 

@@ -23,12 +23,11 @@ use Rattle.ssa_model.proofs.PathMaps.{has-paths, same_map, same_path-true}
 use Rattle.ssa_model.proofs.Pruned.{some_one, under-append, under-push, under-rest, under-trans}
 use Rattle.ssa_model.proofs.PutParts.{get-below}
 use Rattle.ssa_model.proofs.ReplacedParts.{get-inside, get-outside}
-use Rattle.ssa_model.proofs.Tables.{yes_no}
 use Rattle.ssa_model.proofs.TakenBodies.{taken_body_fits}
 use Rattle.ssa_model.proofs.Tests.{by_test}
 use Rattle.ssa_model.proofs.UntouchedLists.{order-stays}
 use Rattle.ssa_record.specs.Spots.{IsWithin}
-use Rattle.ssa_model.proofs.Basics.{none-there as nothing_there}
+use Rattle.ssa_model.proofs.Basics.{none-there as nothing_there, yes_no}
 
 -- two paths each of which is under the other
 under-both : (g p : Path) → under g p ≡ true → under p g ≡ true → g ≡ p

@@ -13,13 +13,14 @@ use Rattle.ssa_schema.specs.Words.{are_distinct_in, each_text}
 use Rattle.std.specs.List.{list_all}
 use Rattle.ssa_model.proofs.ReachedFits.{and-no as and_false}
 
+-- a text is none of those before
+abbrev is_new : List Text → Text → Bool
+is_new before t = not (is_one_of_texts t before)
+
 -- none of these is among those before, and they differ
 abbrev pub apart : List Text → List Text → Bool
 apart before [] = true
-apart before (t ∷ ts) = not (is_one_of_texts t before) && apart (t ∷ before) ts
-
-abbrev clear : List Text → List Text → Bool
-clear before ts = list_all (λ t. not (is_one_of_texts t before)) ts
+apart before (t ∷ ts) = is_new before t && apart (t ∷ before) ts
 
 swapped : (s b c e : Bool) → (not (s || b) && (not c && e)) ≡ (not (s || c) && (not b && e))
 swapped true b c e = refl
@@ -28,11 +29,11 @@ swapped false true false e = refl
 swapped false false true e = refl
 swapped false false false e = refl
 
-clear_more : (t : Text) (before ts : List Text) → clear (t ∷ before) ts ≡ (not (is_one_of_texts t ts) && clear before ts)
+clear_more : (t : Text) (before ts : List Text) → list_all (is_new (t ∷ before)) ts ≡ (not (is_one_of_texts t ts) && list_all (is_new before) ts)
 clear_more t before [] = refl
 clear_more t before (u ∷ us) =
     ap₂ (λ s r. not (s || is_one_of_texts u before) && r) (same_turned u t) (clear_more t before us)
-    ∙ swapped (same_text t u) (is_one_of_texts u before) (is_one_of_texts t us) (clear before us)
+    ∙ swapped (same_text t u) (is_one_of_texts u before) (is_one_of_texts t us) (list_all (is_new before) us)
 
 regrouped : (a n c d : Bool) → (a && ((n && c) && d)) ≡ ((a && c) && (n && d))
 regrouped true true c d = refl
@@ -40,13 +41,13 @@ regrouped true false true d = refl
 regrouped true false false d = refl
 regrouped false n c d = refl
 
-apart_clear : (before ts : List Text) → apart before ts ≡ (clear before ts && are_distinct_texts ts)
+apart_clear : (before ts : List Text) → apart before ts ≡ (list_all (is_new before) ts && are_distinct_texts ts)
 apart_clear before [] = refl
 apart_clear before (t ∷ ts) =
     ap (λ r. not (is_one_of_texts t before) && r) (apart_clear (t ∷ before) ts ∙ ap (λ r. r && are_distinct_texts ts) (clear_more t before ts))
-    ∙ regrouped (not (is_one_of_texts t before)) (not (is_one_of_texts t ts)) (clear before ts) (are_distinct_texts ts)
+    ∙ regrouped (not (is_one_of_texts t before)) (not (is_one_of_texts t ts)) (list_all (is_new before) ts) (are_distinct_texts ts)
 
-all_clear : (ts : List Text) → clear [] ts ≡ true
+all_clear : (ts : List Text) → list_all (is_new []) ts ≡ true
 all_clear [] = refl
 all_clear (t ∷ ts) = all_clear ts
 

@@ -10,7 +10,7 @@ use Rattle.std.proofs.lemmas.Cmp.{nat_list_cmp_total}
 use Rattle.ssa_model.specs.definitions.Limits.{most_levels}
 use Rattle.ssa_model.specs.definitions.Json.{Text, Json, scalar, list, object, Members, no_members, member, member_of, same_text, as_text}
 use Rattle.ssa_model.specs.definitions.Kind as kinds
-use Rattle.ssa_model.proofs.Faults.{cons≢nil, nil_first, nil_second}
+use Rattle.ssa_model.proofs.Faults.{cons≢nil, is_nil, nil_first, nil_second}
 use Rattle.ssa_model.proofs.SchemaMembers.{behind, no-fault}
 use Rattle.ssa_model.proofs.Tables.{same_text-true}
 use Rattle.ssa_path.proofs.Orders.{both_first, both_second}
@@ -19,10 +19,6 @@ use Rattle.ssa_model.specs.definitions.Lawful.{names_rise_after, are_key_names, 
 use Rattle.ssa_model.proofs.Basics.{not_false, both-true as both, first_false, second_false}
 
 -- ---- sorted names rise
-
-is_nil : {X : Type 0} → List X → Bool
-is_nil [] = true
-is_nil (x ∷ xs) = false
 
 -- the name is below the first of these, if there is one
 is_below : Text → List Text → Bool

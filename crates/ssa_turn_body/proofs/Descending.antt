@@ -34,7 +34,8 @@ pub record IsHere (e : Element) (cs : List Child) (i : ℕ) : Type 0 where
   -- it has the element
   pub same : same_element e (element_view child.0) ≡ true
 
-first-child : (cs : List Child) (i : ℕ) → i < length cs → Child
+-- the first of children, where there is one
+pub first-child : (cs : List Child) (i : ℕ) → i < length cs → Child
 first-child [] i lt = absurd (omega arith)
 first-child (c ∷ cs) i lt = c
 

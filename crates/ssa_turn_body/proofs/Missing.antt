@@ -85,11 +85,6 @@ present-place fs i lt some = ap (nones 0) (take_more fs i None lt) ∙ by (get_o
     by None e = absurd (true≢false (sym e))
     by (Some k) e = nones-push-some (take i fs) 0 k
 
--- some child, where there is one
-pub child-or : (cs : List Child) (i : ℕ) → i < length cs → Child
-child-or [] i lt = absurd (omega arith)
-child-or (c ∷ cs) i lt = c
-
 -- what is read stands there, whatever is read past the end
 pub get-again : (cs : List Child) (i : ℕ) (d e : Child) → i < length cs → get_or cs i e ≡ get_or cs i d
 get-again [] i d e lt = absurd (omega arith)

@@ -22,6 +22,7 @@ use Rattle.ssa_turn_body.proofs.Saying.{elements-themselves}
 use Rattle.ssa_model.proofs.Tables.{element-itself as same_element-itself}
 use Rattle.ssa_model.proofs.Fitting.{same_element-true}
 use Rattle.ssa_model.proofs.Basics.{not_true}
+use Rattle.ssa_turn_body.proofs.EditSays.{head_or}
 
 abbrev Found : Type 0
 Found = List (Option ℕ)
@@ -55,10 +56,6 @@ one-place (e ∷ es) (suc i) (suc j) il jl apart is =
 
 -- ---- what stays in its order stays at its place
 
-abbrev first_or : {X : Type 0} → X → List X → X
-first_or d [] = d
-first_or d (x ∷ xs) = x
-
 filled-range : (g : ℕ → Element) (n k : ℕ) (bs : Found) (xs : List Element) (os : List ℕ) → ((i j : ℕ) → i < n → j < n → g i ≡ g j → i ≡ j) → k + length bs ≡ n
     → xs ≡ map g (range_with_len k (length bs)) → AreBelow n os → kept bs xs ≡ map g os
     → filled k bs os ≡ range_with_len k (length bs)
@@ -69,7 +66,7 @@ filled-range g n k (None ∷ bs) xs os inj long is below e =
 filled-range g n k (Some j ∷ bs) xs [] inj long is below e = absurd (omega (arith, ap length (ap (kept (Some j ∷ bs)) (sym is) ∙ e)))
 filled-range g n k (Some j ∷ bs) xs (o ∷ os) inj long is below e =
     let both : (g k ∷ kept bs (map g (range_with_len (k + 1) (length bs)))) ≡ (g o ∷ map g os) = ap (kept (Some j ∷ bs)) (sym is) ∙ e in
-    let same : k ≡ o = inj k o (omega (arith, long)) below.0 (ap (first_or (g k)) both) in
+    let same : k ≡ o = inj k o (omega (arith, long)) below.0 (ap (head_or (g k)) both) in
     (λ i. sym same i ∷ filled-range g n (k + 1) bs (map g (range_with_len (k + 1) (length bs))) os inj (omega (arith, long)) refl below.1
     (ap (λ ys. drop 1 ys) both) i)
 

@@ -146,12 +146,8 @@ module _ (e : Element) (old front : List (Elem × Trie)) (c : Elem × Trie) (beh
 
 -- ---- in the loop
 
--- those that are passed are before those that are left
-abbrev pub HavePassed : List (Elem × Trie) → List (Elem × Trie) → Type 0
-HavePassed front left = rises (elements front ++ elements left) ≡ true
-
 -- the next child's element is behind all that are passed
-pub passed-next : (front : List (Elem × Trie)) (d : Elem × Trie) (left : List (Elem × Trie)) → HavePassed front (d ∷ left)
+pub passed-next : (front : List (Elem × Trie)) (d : Elem × Trie) (left : List (Elem × Trie)) → rises (elements front ++ elements (d ∷ left)) ≡ true
     → rises (elements front ++ element_view d.0 ∷ []) ≡ true
 passed-next front d left h =
     rises-front (elements front ++ element_view d.0 ∷ []) (elements left) (ap rises (append_assoc (elements front) (element_view d.0 ∷ []) (elements left)) ∙ h)
@@ -197,7 +193,7 @@ module _ (cs done left : List (Elem × Trie)) (filled rooms : List (Spare × Roo
         ∙ both_first _ _ (gaining-fits cs done left filled rooms now capacity d r h).1
 
     -- the opened child, whatever it has by now, is passed, before those that are left
-    pub passed-one : (x : Elem × Trie) → element_view x.0 ≡ element_view c.0 → HavePassed (front ++ x ∷ []) left
+    pub passed-one : (x : Elem × Trie) → element_view x.0 ≡ element_view c.0 → rises (elements (front ++ x ∷ []) ++ elements left) ≡ true
     passed-one x same =
         let named : elements (front ++ x ∷ []) ≡ elements front ++ element_view d.0 ∷ [] =
         elements-append front (x ∷ []) ∙ ap (λ f. elements front ++ f ∷ []) (same ∙ o.element) in

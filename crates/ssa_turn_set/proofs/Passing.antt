@@ -26,6 +26,7 @@ use Rattle.ssa_model.proofs.Basics.{both-true as both}
 use Rattle.ssa_model.proofs.Tables.{element-itself as same_element-itself}
 use Rattle.ssa_model.proofs.Fitting.{same_element-true}
 use Rattle.ssa_path.proofs.LyingWithin.{some-path as a_path}
+use Rattle.std.proofs.lemmas.Bool.{or_parts}
 
 -- Those of `done` are taken out of the children cs, which have become `now`: those before `start` have been passed, and those from there on are as
 -- they were. Where `any` is false, none of them is without paths.
@@ -73,10 +74,6 @@ left-more d left p k =
     or_true : (b : Bool) → (b || true) ≡ true
     or_true true = refl
     or_true false = refl
-
-neither : (a b : Bool) → (a || b) ≡ false → (a ≡ false) × (b ≡ false)
-neither true b h = absurd (true≢false h)
-neither false b h = (refl, h)
 
 not-bare : (a b : Bool) → a ≡ not b → a ≡ false → b ≡ true
 not-bare a true h k = refl
@@ -191,7 +188,7 @@ module _ (cs : List (Elem × Trie)) (rise : rises (elements cs) ≡ true) (tries
             passed = passed-more;
             inside = λ p j. h.inside p (left-more d left p j);
             all_filled = λ j.
-                let both_none = neither any bare (sym is_more ∙ j) in
+                let both_none = or_parts any bare (sym is_more ∙ j) in
                 let some = not-bare bare (is_filled m.1) told both_none.1 in
                 ap (λ f. are_filled_tries (set now place (f, m.1))) (element some)
                 ∙ set-tries now place c m.1 at.within is trie some (h.all_filled both_none.0);

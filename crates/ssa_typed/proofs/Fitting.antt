@@ -1,5 +1,5 @@
 -- Values without faults: their items are apart, and there is no first fault.
-use Rattle.std.proofs.Common.{◌≡◌, List, [], ◌∷◌, Bool, true, false, not, ◌&&◌, refl, sym, ap, ◌∙◌, true≢false}
+use Rattle.std.proofs.Common.{◌≡◌, List, [], ◌∷◌, Bool, true, false, not, ◌&&◌, refl, sym, ap, ◌∙◌, true≢false, is_some}
 use Rattle.std.specs.Prelude.{Option, None, Some, option_map}
 use Rattle.ssa_schema.specs.Finds.{told}
 use Rattle.ssa_schema.specs.Refusals.{first_of}
@@ -29,12 +29,7 @@ items-apart ns fs vs h = apart-distinct (key_order ns vs) ∙ items-distinct ns 
 
 -- ---- no first fault
 
-is_there : {A : Type 0} → Option A → Bool
-is_there None = false
-is_there (Some x) = true
-
 -- where no fault is told as the first, there is none
 pub no-first : (fs : List FaultAt) → None ≡ option_map told (first_of fs) → fs ≡ []
-unfolding is_there
 no-first [] e = refl
-no-first (f ∷ fs) e = absurd (true≢false (sym (ap is_there e)))
+no-first (f ∷ fs) e = absurd (true≢false (sym (ap is_some e)))

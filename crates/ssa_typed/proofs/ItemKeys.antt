@@ -1,5 +1,5 @@
 -- The key fields of items that have them.
-use Rattle.std.proofs.Common.{◌≡◌, List, [], ◌∷◌, map, Bool, true, false, ◌&&◌, refl, sym, ap, ◌∙◌, true≢false}
+use Rattle.std.proofs.Common.{◌≡◌, List, [], ◌∷◌, map, Bool, true, false, ◌&&◌, refl, sym, ap, ◌∙◌, true≢false, is_some}
 use Rattle.std.specs.Prelude.{Option, None, Some, if◌then◌else◌}
 use Rattle.ssa_model.specs.definitions.Json.{Text, Json, Members, member_of}
 use Rattle.ssa_model.specs.definitions.Kind.{Kind, Fields, kind_of, key_scalars, cons_scalar, key_faults, key_field_fault}
@@ -37,13 +37,8 @@ pub keys-there : (ns : List Text) (fs : Fields) (ms : Members) (p : Path) → ar
     → keys.are_keys (key_scalars ns ms) ≡ true
 keys-there ns fs ms p names e = are_keys-names (key_scalars ns ms) ∙ ap are_key_names (names-there ns fs ms p e) ∙ names
 
-is_there : {A : Type 0} → Option A → Bool
-is_there None = false
-is_there (Some x) = true
-
 -- where a list's keys rise, the key fields of an item without key faults are not refused
 pub keys-some : (ns : List Text) (fs : Fields) (ms : Members) (p : Path) → are_key_names ns ≡ true → key_faults ns fs ms p ≡ []
     → None ≡ keys.keys_of (key_scalars ns ms) → ⊥
-unfolding is_there
 keys-some ns fs ms p names e none =
-    true≢false (sym (ap is_there (none ∙ ap (λ b. if b then Some (key_scalars ns ms) else None) (keys-there ns fs ms p names e))))
+    true≢false (sym (ap is_some (none ∙ ap (λ b. if b then Some (key_scalars ns ms) else None) (keys-there ns fs ms p names e))))

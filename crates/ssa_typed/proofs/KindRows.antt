@@ -22,22 +22,18 @@ use Rattle.ssa_typed.proofs.Laws.{none≢some}
 use Rattle.ssa_typed.proofs.TreeRows.{IsRow, all-append, row-left, row-right}
 use Rattle.ssa_typed.proofs.Trees.{known-places}
 use Rattle.ssa_model.proofs.Basics.{some-same}
+use Rattle.ssa_model.proofs.Reaching.{own_keys}
 
 -- ---- the key that a path ends with
-
-abbrev keys_in : Element → List (Text × Scalar)
-keys_in (field n) = []
-keys_in (key ks) = ks
-keys_in (value s) = []
 
 -- the key fields of the item at a path, none where no item of a map list stands there
 abbrev pub last_keys : Path → List (Text × Scalar)
 last_keys [] = []
-last_keys (e ∷ []) = keys_in e
+last_keys (e ∷ []) = own_keys e
 last_keys (e ∷ f ∷ p) = last_keys (f ∷ p)
 
 -- with an element behind a path, the key fields are those of the element
-pub last_keys-push : (p : Path) (e : Element) → last_keys (p ++ e ∷ []) ≡ keys_in e
+pub last_keys-push : (p : Path) (e : Element) → last_keys (p ++ e ∷ []) ≡ own_keys e
 last_keys-push [] e = refl
 last_keys-push (f ∷ []) e = refl
 last_keys-push (f ∷ g ∷ p) e = last_keys-push (g ∷ p) e

@@ -16,7 +16,7 @@ use Rattle.ssa_model.proofs.Reaching.{found-field}
 use Rattle.ssa_model.proofs.PathMaps.{has-paths, has-points}
 use Rattle.ssa_model.proofs.Fitting.{some_there, same_element-true}
 use Rattle.ssa_model.proofs.Pruned.{from_one}
-use Rattle.ssa_model.proofs.Tables.{apart_by, yes_no, element-itself as same_element-itself}
+use Rattle.ssa_model.proofs.Tables.{apart_by, element-itself as same_element-itself}
 use Rattle.ssa_model.proofs.ValidStates.{leaf_place}
 use Rattle.std.specs.Cmp.{first_so}
 use Rattle.ssa_model.proofs.Tables.{text-itself as same_text-itself}
@@ -33,7 +33,7 @@ use Rattle.ssa_typed.proofs.KindRows.{member-row}
 use Rattle.ssa_typed.proofs.Looks.{get-body}
 use Rattle.ssa_typed.proofs.Trees.{known-is}
 use Rattle.ssa_typed.proofs.TreeRows.{IsRow, all-append, each-row, row-found, row-of, row-split}
-use Rattle.ssa_model.proofs.Basics.{some-same}
+use Rattle.ssa_model.proofs.Basics.{some-same, yes_no}
 
 -- ---- places begin as the place that they are below
 

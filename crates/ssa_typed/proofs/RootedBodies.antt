@@ -10,10 +10,10 @@ use Rattle.ssa_model.specs.definitions.Valid.{IsRooted, metadata_path}
 use Rattle.ssa_model.proofs.PathMaps.{get-over, get-restricted, has-paths, has-points}
 use Rattle.ssa_model.proofs.Fitting.{some_there}
 use Rattle.ssa_model.proofs.Pruned.{from_one, some_one}
-use Rattle.ssa_model.proofs.Tables.{apart_by, either, has-over, has-restricted, true_or, yes_no}
+use Rattle.ssa_model.proofs.Tables.{apart_by, either, has-over, has-restricted, true_or}
 use Rattle.ssa_model.proofs.ValidStates.{in_no_dict, no_leaf, something_below}
 use Rattle.ssa_typed.specs.Alike.{AreAlike, are_alike}
-use Rattle.ssa_model.proofs.Basics.{or_true}
+use Rattle.ssa_model.proofs.Basics.{or_true, yes_no}
 
 -- a body is rooted whose root is no leaf, and whose `metadata`, where it is there, is no leaf and no entry of a Dict and has something below it
 pub rooted-by : (b : Body) → is_leaf (get b []) ≡ false → is_leaf (get b metadata_path) ≡ false

@@ -123,13 +123,8 @@ record IsBelow (b : Body) (r : Place) (p : Path) (e : Element) (c : Node) : Type
 some-is : {A : Type 0} (x y : A) → Some x ≡ Some y → x ≡ y
 some-is x y e = ap (λ o. elim o [ None ↦ x | Some z ↦ z ]) e
 
-is_there : {A : Type 0} → Option A → Bool
-is_there None = false
-is_there (Some x) = true
-
 none-some : {A : Type 0} (x : A) → None ≡ Some x → ⊥
-unfolding is_there
-none-some x e = true≢false (sym (ap is_there e))
+none-some x e = true≢false (sym (ap is_some e))
 
 below-found : (r : Place) (e : Element) (place : Place) → place_at r (e ∷ []) ≡ Some place → (s : Place) × (place_below r e ≡ Some s)
 below-found r e place h = by (place_below r e) h

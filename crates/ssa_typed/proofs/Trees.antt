@@ -1,5 +1,5 @@
 -- Trees of values of each kind.
-use Rattle.std.proofs.Common.{◌≡◌, List, [], ◌∷◌, ◌++◌, Bool, true, false, Box, String, Global, string_bytes, nat_cmp, refl, sym, ap, ◌∙◌, subst₂, append-nil, true≢false, rules}
+use Rattle.std.proofs.Common.{◌≡◌, List, [], ◌∷◌, ◌++◌, Bool, true, false, Box, String, Global, string_bytes, nat_cmp, refl, sym, ap, ◌∙◌, subst₂, append-nil, true≢false, rules, is_some}
 use Rattle.std.specs.Prelude.{Option, None, Some, if◌then◌else◌, option_map}
 use Rattle.std.specs.Borrow.{Bor}
 use Rattle.std.specs.Map.{lookup}
@@ -37,10 +37,6 @@ kind_view-Dict b = search (rules, kind.the_lemmas)
 pub kind_view-SetOf : (k : ScalarKind) → kind_view (kind.SetOf k) ≡ model.set_of (scalar_kind_view k)
 kind_view-SetOf k = search (rules, kind.the_lemmas)
 
-is_there : {A : Type 0} → Option A → Bool
-is_there None = false
-is_there (Some x) = true
-
 keyed-if : (b : Bool) (j k : model.Kind) (o : Option model.Kind) → is_keyed j ≡ true → (o ≡ Some k → is_keyed k ≡ true) → (if b then Some j else o) ≡ Some k
     → is_keyed k ≡ true
 keyed-if true j k o keyed later e = ap (λ x. elim x [ None ↦ true | Some i ↦ is_keyed i ]) (sym e) ∙ keyed
@@ -48,8 +44,7 @@ keyed-if false j k o keyed later e = later e
 
 -- where each map list inside the fields has key fields, so has each inside the kind of one
 pub keyed-at : (n : Text) (fs : model.Fields) (k : model.Kind) → are_keyed fs ≡ true → model.kind_of n fs ≡ Some k → is_keyed k ≡ true
-unfolding is_there
-keyed-at n model.no_fields k h e = absurd (true≢false (sym (ap is_there e)))
+keyed-at n model.no_fields k h e = absurd (true≢false (sym (ap is_some e)))
 keyed-at n (model.kind_field m j fs) k h e = keyed-if (same_text n m) j k (model.kind_of n fs) (both_first _ _ h)
     (λ later. keyed-at n fs k (both_second (is_keyed j) _ h) later) e
 
@@ -71,8 +66,7 @@ known-is n fs j k e f = ap (λ o. known o j) (sym e ∙ f)
 
 -- a name that has a kind does not lack one
 pub known-there : (n : Text) (fs : model.Fields) (k : model.Kind) → model.kind_of n fs ≡ Some k → model.kind_of n fs ≡ None → ⊥
-unfolding is_there
-known-there n fs k e f = true≢false (ap is_there (sym e ∙ f))
+known-there n fs k e f = true≢false (ap is_some (sym e ∙ f))
 
 -- ---- the places of a member
 

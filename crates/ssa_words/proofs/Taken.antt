@@ -17,14 +17,7 @@ use Rattle.clap.specs.declared.builder.value_parser.Reading.{Reading}
 use Rattle.clap.proofs.WalkLemmas.{both}
 use Rattle.ssa_words.specs.Calls.{HasTexts, IsWhole, IsWholeMatch, has_texts, wanted}
 use Rattle.ssa_words.proofs.Filled.{Filled, HasValue, defaults_filled, fed, or_else_nil, settle_filled, walk_filled}
-
-neither : (a b : Bool) → (a || b) ≡ false → (a ≡ false) × (b ≡ false)
-neither true b e = absurd (true≢false e)
-neither false b e = (refl, e)
-
-or_right : (a b : Bool) → b ≡ true → (a || b) ≡ true
-or_right true b e = refl
-or_right false b e = e
+use Rattle.std.proofs.lemmas.Bool.{or_parts, or_right}
 
 -- ---- the text of a row
 
@@ -81,7 +74,7 @@ required_given (a ∷ c) rows id e w = go (required_given c rows id) (bytes_eq a
         subst (λ i. is_given i rows ≡ true) ((bytes_eq-Decides a.id id).0 t)
         (here (is_given a.id rows) (list_any (λ (x : Rule). x.required && not (is_given x.id rows)) c) e)
     go rest true t false e w = rest e w
-    go rest false t r e w = rest (neither (r && not (is_given a.id rows)) _ e).1 w
+    go rest false t r e w = rest (or_parts (r && not (is_given a.id rows)) _ e).1 w
 
 -- ---- a default makes a row
 

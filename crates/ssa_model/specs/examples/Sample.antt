@@ -77,9 +77,6 @@ spec_properties =
 abbrev pub sample_schema : Schema
 sample_schema = record { source = with_properties (member (codes "spec") (with_properties spec_properties) no_members); kind = sample_kind }
 
-abbrev pub object_of : Members → Json
-object_of spec = object (member (codes "spec") (object spec) no_members)
-
 abbrev pub port : Text → ℕ → Json
 port name number = object (member (codes "name") (string_json name) (member (codes "port") (number_json number) no_members))
 

@@ -1,5 +1,5 @@
 use Rattle.std.proofs.Common.{◌≡◌, ◌+◌, length, Some, None, ◌∙◌, rules, arith}
-use Rattle.ssa_model.proofs.Tables.{yes_no}
+use Rattle.ssa_model.proofs.Basics.{yes_no}
 use Rattle.ssa_path.specs.Children.{elements}
 use Rattle.ssa_path.specs.View.{path_view}
 use Rattle.ssa_record.specs.Places.{maps_of, items_left}

@@ -2,8 +2,9 @@ use Rattle.std.proofs.Common.{◌<◌, length, get_or, arith, ap, sym, map, ◌�
 use Rattle.std.proofs.lemmas.List.{map-append}
 use Rattle.ssa_path.specs.View.{element_view}
 use Rattle.ssa_turn_body.specs.Marks.{Child}
-use Rattle.ssa_turn_body.proofs.Missing.{missing-place, missing-element, present-place, present-element, child-or, get-again}
+use Rattle.ssa_turn_body.proofs.Missing.{missing-place, missing-element, present-place, present-element, get-again}
 use Rattle.ssa_turn_body.proofs.found.missing.Goals as goal
+use Rattle.ssa_turn_body.proofs.Descending.{first-child}
 
 pub loop-i-preserved-then-is_some : goal.loop-i-preserved-then-is_some
 loop-i-preserved-then-is_some c =
@@ -13,10 +14,10 @@ loop-i-preserved-then-is_some c =
     let some = sym c.is_some.ensures ∙ c.if-is_some.true in
     let inv = c.loop-i.invariant in
     let within : i < length cs = omega (arith, c.requires, c.loop-i-test.true) in
-    let child = get_or cs i (child-or cs i within) in
+    let child = get_or cs i (first-child cs i within) in
     record {
       places = inv.places ∙ sym (present-place fs i c.loop-i-test.true some);
-      named = inv.named ∙ sym (present-element fs cs i child c.loop-i-test.true c.requires (get-again cs i child (child-or cs i within) within) some);
+      named = inv.named ∙ sym (present-element fs cs i child c.loop-i-test.true c.requires (get-again cs i child (first-child cs i within) within) some);
     }
 
 pub loop-i-preserved : goal.loop-i-preserved

@@ -1,4 +1,4 @@
-use Rattle.std.proofs.Common.{rules, ◌≡◌, ◌+◌, ◌≤◌, ◌||◌, ◌++◌, ◌∷◌, [], ap, sym, refl, ◌∙◌, length, reverse, set, take, drop, arith, subst, append_assoc, length-set}
+use Rattle.std.proofs.Common.{rules, ◌≡◌, ◌+◌, ◌≤◌, ◌||◌, ◌++◌, ◌∷◌, [], ap, sym, refl, ◌∙◌, length, reverse, set, take, drop, arith, subst, append_assoc, length-set, true}
 use Rattle.std.proofs.lemmas.List.{length-append, reverse-reverse}
 use Rattle.std.specs.Prelude.{vec_capacity}
 use Rattle.ssa_path.specs.declared.element.Elem.{Elem}
@@ -15,7 +15,7 @@ use Rattle.ssa_turn_set.specs.declared.room.Room.{Room}
 use Rattle.ssa_turn_set.specs.declared.spare.Spare.{Spare}
 use Rattle.ssa_turn_set.specs.declared.room.Room.TheViews.{out-Room}
 use Rattle.ssa_turn_set.specs.Room.{freshes, gains, loses}
-use Rattle.ssa_turn_set.proofs.Coming.{HavePassed, gap-fits, opened-at, opened-fits, opened-more, opened-nothing, opened-room, passed-next, passed-one}
+use Rattle.ssa_turn_set.proofs.Coming.{gap-fits, opened-at, opened-fits, opened-more, opened-nothing, opened-room, passed-next, passed-one}
 use Rattle.ssa_turn_set.proofs.Gaining.{IsGaining, gaining-all, gaining-at, gaining-fits, gaining-next, gaining-none, gaining-within, gained-place}
 use Rattle.ssa_turn_set.proofs.Places.{coming, comes-within, gain-below, gain-own, lose-rolled, none-comes}
 use Rattle.ssa_turn_set.proofs.gain.+gain.Goals.{gain-then-gained, gain-else-gained}
@@ -179,7 +179,7 @@ weave_in-open_place-place-requires-clause-passed t c =
     let i = c.loop-i.i in
     let d = c.index-gained-i.result in
     passed-next c.loop-i.children.items d (drop (i + 1) ds)
-    (subst (HavePassed c.loop-i.children.items) (left-at ds i d c.loop-i-test.true c.index-gained-i.is) c.loop-i.invariant.1)
+    (subst (λ l. rises (elements c.loop-i.children.items ++ elements l) ≡ true) (left-at ds i d c.loop-i-test.true c.index-gained-i.is) c.loop-i.invariant.1)
 
 pub weave_in-open_place-place-requires-clause-spare : goal.weave_in-open_place-place-requires-clause-spare
 weave_in-open_place-place-requires-clause-spare t c =
