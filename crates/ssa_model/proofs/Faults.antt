@@ -9,7 +9,7 @@ use Rattle.ssa_model.specs.definitions.Operations.{is_none}
 -- ---- lists of faults
 
 -- a list without elements
-pub is_nil : {X : Type 0} → List X → Bool
+unfoldable pub is_nil : {X : Type 0} → List X → Bool
 is_nil [] = true
 is_nil (x ∷ xs) = false
 
