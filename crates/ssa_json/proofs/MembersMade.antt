@@ -7,7 +7,7 @@ use Rattle.std.specs.Cmp.Lexicographic.{slice_cmp}
 use Rattle.std.specs.FinMap.{slice_cmp-IsAntisymmetric, nat_cmp-IsAntisymmetric}
 use Rattle.std.specs.FinMap.Entries.{find, put, is_sorted, below_all, is_sorted-put, find-put, same_entries, by_order}
 use Rattle.std.specs.Map.{lookup, keys_of, update_all}
-use Rattle.std.specs.BTreeMap.{IsFromIterResult, is_at}
+use Rattle.std.specs.BTreeMap.{InsertsAll, IsFromIterResult, get, is_at}
 use Rattle.std.specs.Ordering.{eq_by_cmp, is_eq, is_lt}
 use Rattle.std.specs.List.{AllByRecursion}
 use Rattle.std.specs.List.Sorted.{IsStrictlySortedBy}
@@ -148,18 +148,26 @@ alike rs bs g h same q =
 
 -- ---- the map
 
--- the map made of pairs has the members that it would have with each pair put in turn
-made-at_once : (ps : List Found) (m : BTreeMap (String Global) Json) → IsFromIterResult string_cmp ps m
-    → members_view m.entries ≡ put_in_turn ps no_members
-unfolding members_after
-made-at_once ps m is =
-    let same = same_entries order nat_list_cmp_total (slice_cmp-IsAntisymmetric nat_cmp-IsAntisymmetric) (map named m.entries) (rows_with ps [])
-    (subst T (sym (map-rises m.entries is.1)) tt) (rows-rise ps [] tt)
-    (alike (map named m.entries) (rows_with ps []) (map-spelled m.entries) (rows-spelled ps [] tt)
-    (λ q. find-map q m.entries ∙ ap (option_map view) (is.0 q) ∙ sym (find-rows ps [] (λ _. None) (λ _. refl) q))) in
-    sym (members_after-none m.entries) ∙ ap (λ rows. members_after rows no_members) same ∙ rows-put ps []
+-- a map whose look-ups are those of entries with pairs put in turn has those members
+made : (es ps : List Found) (f : String Global → Option Json) (m : BTreeMap (String Global) Json) → IsStrictlySortedBy string_cmp (keys_of es)
+    → ((q : String Global) → lookup (is_at (string_cmp q)) es ≡ f q) → ((q : String Global) → get string_cmp m q ≡ update_all (eq_by_cmp string_cmp) f ps q) × IsStrictlySortedBy string_cmp (keys_of m.entries)
+    → members_view m.entries ≡ put_in_turn ps (members_view es)
+made es ps f m rises base is =
+    let rows = map named es in
+    let same = same_entries order nat_list_cmp_total (slice_cmp-IsAntisymmetric nat_cmp-IsAntisymmetric) (map named m.entries) (rows_with ps rows)
+    (subst T (sym (map-rises m.entries is.1)) tt) (rows-rise ps rows (subst T (sym (map-rises es rises)) tt))
+    (alike (map named m.entries) (rows_with ps rows) (map-spelled m.entries) (rows-spelled ps rows (map-spelled es))
+    (λ q. find-map q m.entries ∙ ap (option_map view) (is.0 q) ∙ sym (find-rows ps rows f (λ q. find-map q es ∙ ap (option_map view) (base q)) q))) in
+    sym (members_after-none m.entries) ∙ ap (λ rows. members_after rows no_members) same ∙ rows-put ps rows ∙ ap (put_in_turn ps) (members_after-none es)
 
--- so has the map made of a map's entries and of pairs behind them: those of the map, with each pair put in turn
-pub made-on : (es ps : List Found) (m : BTreeMap (String Global) Json) → IsStrictlySortedBy string_cmp (keys_of es)
+-- a map with pairs put in turn has the members so put
+pub made-more : (old m : BTreeMap (String Global) Json) (ps : List Found) → IsStrictlySortedBy string_cmp (keys_of old.entries)
+    → InsertsAll string_cmp old ps m → members_view m.entries ≡ put_in_turn ps (members_view old.entries)
+made-more old m ps rises is = made old.entries ps (get string_cmp old) m rises (λ q. refl) is
+
+-- so has the map made of a map's entries and of pairs behind them
+pub made-anew : (es ps : List Found) (m : BTreeMap (String Global) Json) → IsStrictlySortedBy string_cmp (keys_of es)
     → IsFromIterResult string_cmp (es ++ ps) m → members_view m.entries ≡ put_in_turn ps (members_view es)
-made-on es ps m rises is = made-at_once (es ++ ps) m is ∙ put-append es ps no_members ∙ ap (put_in_turn ps) (put-rising [] es rises)
+unfolding IsStrictlySortedBy
+made-anew es ps m rises is =
+    made [] (es ++ ps) (λ _. None) m tt (λ q. refl) is ∙ put-append es ps no_members ∙ ap (put_in_turn ps) (put-rising [] es rises)

@@ -141,16 +141,17 @@ fn read_items(
     Ok(found)
 }
 
-// The map of the entries found first and of the rest, put in one after another. The rest is sorted in, which costs
-// less than a search for each where they are many.
+// The entries found first, with the rest put among them one after another. Where the rest is long and its names rise,
+// a map made anew of all costs less than a search for each; else it costs more.
 fn joined(
     alloc: Global,
-    found: BTreeMap<String, Json>,
+    mut found: BTreeMap<String, Json>,
     rest: Vec<(String, Json)>,
 ) -> Result<BTreeMap<String, Json>, AllocError>
     ensures ok { IfOk result (λ m. members_view m.entries ≡ put_in_turn rest.items (members_view found.entries)) }
 {
-    if rest.is_empty() {
+    if rest.len() / 2 < found.len() || !rest.is_sorted_by(|one, next| one.0 <= next.0) {
+        found.extend(rest)?;
         return Ok(found);
     }
     found.into_iter().chain(rest).collect(alloc)
