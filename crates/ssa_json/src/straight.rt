@@ -18,8 +18,8 @@ use std::collections::BTreeMap;
 
 const MOST_DEPTH: usize = 127;
 
-// So many members go into a map one by one: as many as fit into one node of it.
-const MOST_PUT_SINGLY: usize = 15;
+// The first members go into a map one by one: for so few, no other way costs less.
+const MOST_PUT_SINGLY: usize = 32;
 
 // The text is not read straight: it is no JSON text, has a part that is left out here, or memory ran out.
 #[derive(Drop)]
@@ -150,7 +150,7 @@ fn joined(
 ) -> Result<BTreeMap<String, Json>, AllocError>
     ensures ok { IfOk result (λ m. members_view m.entries ≡ put_in_turn rest.items (members_view found.entries)) }
 {
-    if rest.len() / 2 < found.len() || !rest.is_sorted_by(|one, next| one.0 <= next.0) {
+    if rest.len() < found.len() || !rest.is_sorted_by(|one, next| one.0 <= next.0) {
         found.extend(rest)?;
         return Ok(found);
     }
@@ -195,7 +195,7 @@ fn read_rest(
     ensures narrow { IfOk result (λ v. (found : Members) → members_narrow found ≡ true
         → members_narrow (put_in_turn v.items found) ≡ true) }
 {
-    let mut rest = Vec::new(alloc);
+    let mut rest = Vec::with_capacity(alloc, MOST_PUT_SINGLY)?;
     'members: while let Some(name) = reader.next_key()? {
         let key = String::from_str(alloc, name)?;
         let member = read_value(alloc, reader, depth)?;

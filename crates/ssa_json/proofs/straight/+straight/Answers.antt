@@ -140,7 +140,7 @@ pub read_rest-members-init : goal.read_rest-members-init
 read_rest-members-init t c =
     let p = value c.args.depth in
     let ts = c.args.reader.now in
-    let none : c.new-rest.result.items ≡ [] = search rules in
+    let none : c.in_ok-rest.rest.items ≡ [] = search rules in
     record {
       read = λ found most enough.
           (most, enough, ap (λ ps. converted (λ ms. of_members ms (members_data (put_in_turn ps found))) (members p most ts)) (sym none));
