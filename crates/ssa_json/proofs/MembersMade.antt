@@ -150,24 +150,28 @@ alike rs bs g h same q =
 
 -- a map whose look-ups are those of entries with pairs put in turn has those members
 made : (es ps : List Found) (f : String Global → Option Json) (m : BTreeMap (String Global) Json) → IsStrictlySortedBy string_cmp (keys_of es)
-    → ((q : String Global) → lookup (is_at (string_cmp q)) es ≡ f q) → ((q : String Global) → get string_cmp m q ≡ update_all (eq_by_cmp string_cmp) f ps q) × IsStrictlySortedBy string_cmp (keys_of m.entries)
+    → ((q : String Global) → lookup (is_at (string_cmp q)) es ≡ f q)
+    → ((q : String Global) → get string_cmp m q ≡ update_all (eq_by_cmp string_cmp) f ps q) → IsStrictlySortedBy string_cmp (keys_of m.entries)
     → members_view m.entries ≡ put_in_turn ps (members_view es)
-made es ps f m rises base is =
-    let rows = map named es in
-    let same = same_entries order nat_list_cmp_total (slice_cmp-IsAntisymmetric nat_cmp-IsAntisymmetric) (map named m.entries) (rows_with ps rows)
-    (subst T (sym (map-rises m.entries is.1)) tt) (rows-rise ps rows (subst T (sym (map-rises es rises)) tt))
-    (alike (map named m.entries) (rows_with ps rows) (map-spelled m.entries) (rows-spelled ps rows (map-spelled es))
-    (λ q. find-map q m.entries ∙ ap (option_map view) (is.0 q) ∙ sym (find-rows ps rows f (λ q. find-map q es ∙ ap (option_map view) (base q)) q))) in
-    sym (members_after-none m.entries) ∙ ap (λ rows. members_after rows no_members) same ∙ rows-put ps rows ∙ ap (put_in_turn ps) (members_after-none es)
+made es ps f m rises base found sorted =
+    let old = map named es in
+    let new = map named m.entries in
+    let seen : (q : String Global) → find order (string_bytes q) old ≡ option_map view (f q) = λ q. find-map q es ∙ ap (option_map view) (base q) in
+    let same = same_entries order nat_list_cmp_total (slice_cmp-IsAntisymmetric nat_cmp-IsAntisymmetric) new (rows_with ps old)
+    (subst T (sym (map-rises m.entries sorted)) tt) (rows-rise ps old (subst T (sym (map-rises es rises)) tt))
+    (alike new (rows_with ps old) (map-spelled m.entries) (rows-spelled ps old (map-spelled es))
+    (λ q. find-map q m.entries ∙ ap (option_map view) (found q) ∙ sym (find-rows ps old f seen q))) in
+    sym (members_after-none m.entries) ∙ ap (λ rows. members_after rows no_members) same ∙ rows-put ps old
+    ∙ ap (put_in_turn ps) (members_after-none es)
 
 -- a map with pairs put in turn has the members so put
 pub made-more : (old m : BTreeMap (String Global) Json) (ps : List Found) → IsStrictlySortedBy string_cmp (keys_of old.entries)
     → InsertsAll string_cmp old ps m → members_view m.entries ≡ put_in_turn ps (members_view old.entries)
-made-more old m ps rises is = made old.entries ps (get string_cmp old) m rises (λ q. refl) is
+made-more old m ps rises is = made old.entries ps (get string_cmp old) m rises (λ q. refl) is.0 is.1
 
 -- so has the map made of a map's entries and of pairs behind them
 pub made-anew : (es ps : List Found) (m : BTreeMap (String Global) Json) → IsStrictlySortedBy string_cmp (keys_of es)
     → IsFromIterResult string_cmp (es ++ ps) m → members_view m.entries ≡ put_in_turn ps (members_view es)
 unfolding IsStrictlySortedBy
 made-anew es ps m rises is =
-    made [] (es ++ ps) (λ _. None) m tt (λ q. refl) is ∙ put-append es ps no_members ∙ ap (put_in_turn ps) (put-rising [] es rises)
+    made [] (es ++ ps) (λ _. None) m tt (λ q. refl) is.0 is.1 ∙ put-append es ps no_members ∙ ap (put_in_turn ps) (put-rising [] es rises)
