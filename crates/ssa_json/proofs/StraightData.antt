@@ -1,14 +1,18 @@
 -- Values read straight from tokens, beside the data that the tokens spell.
-use Rattle.std.proofs.Common.{◌≡◌, List, [], ◌∷◌, ◌++◌, true, Option, Some, None, String, Global, Ordering, Less, Equal, Greater, string_bytes, string_cmp, refl, ap, ◌∙◌}
+use Rattle.std.proofs.Common.{◌≡◌, List, [], ◌∷◌, ◌++◌, true, Option, Some, None, Less, Equal, Greater, refl, ap}
 use Rattle.std.specs.Ordering.{match_ordering}
-use Rattle.std.specs.BTreeMap.{insert_entry}
+use Rattle.std.specs.Ordering.{nat_cmp}
+use Rattle.std.specs.Cmp.Lexicographic.{slice_cmp}
+use Rattle.std.specs.FinMap.{slice_cmp-IsAntisymmetric, nat_cmp-IsAntisymmetric}
 use Rattle.json.specs.Token.{Token}
 use Rattle.json.specs.Json.{parse_map}
-use Rattle.serde_json.specs.Data.{Items, no_items, item, put}
+use Rattle.serde_json.specs.Data.{Items, no_items, item, member, put}
 use Rattle.ssa_json.specs.Written.{data_of, items_data, members_data, is_narrow, members_narrow}
-use Rattle.ssa_json.specs.View.{view, items_view, members_view}
+use Rattle.ssa_json.specs.View.{view, items_view}
 use Rattle.ssa_json.specs.declared.value.Json.{Json}
-use Rattle.ssa_json.proofs.Converting.{Found}
+use Rattle.ssa_model.specs.definitions.Json as model
+use Rattle.ssa_model.specs.definitions.Json.{Text}
+use Rattle.ssa_model.specs.definitions.Objects.{with_member}
 use Rattle.std.proofs.Common.{ℤ, pos, negsuc, ◌^◌, ltb-true, arith}
 use Rattle.std.proofs.lemmas.Bool.{and_parts, and_from}
 use Rattle.std.specs.Fmt.{signed_decimal}
@@ -37,34 +41,38 @@ pub one_more : (vs : List Json) (v : Json) (r : Option (Items × List Token))
 one_more vs v None = refl
 one_more vs v (Some p) = ap (λ ds. Some (ds, p.1)) (before-push vs v p.0)
 
-matched : (o : Ordering) (a b c : List Found) → members_data (members_view (match_ordering o a b c))
-    ≡ match_ordering o (members_data (members_view a)) (members_data (members_view b)) (members_data (members_view c))
-matched Less a b c = refl
-matched Equal a b c = refl
-matched Greater a b c = refl
-
--- a member that is put among others
-pub inserted : (es : List Found) (k : String Global) (v : Json)
-    → members_data (members_view (insert_entry string_cmp es k v)) ≡ put (string_bytes k) (data_of (view v)) (members_data (members_view es))
-inserted [] k v = refl
-inserted (e ∷ es) k v = matched (string_cmp k e.0) _ _ _ ∙ rw (inserted es k v)
-
-matched_narrow : (o : Ordering) (a b c : List Found) → members_narrow (members_view a) ≡ true → members_narrow (members_view b) ≡ true
-    → members_narrow (members_view c) ≡ true → members_narrow (members_view (match_ordering o a b c)) ≡ true
-matched_narrow Less a b c f g h = f
-matched_narrow Equal a b c f g h = g
-matched_narrow Greater a b c f g h = h
+-- a member that is put among others, as data
+pub put-data : (k : Text) (v : model.Json) (ms : model.Members) → members_data (with_member k v ms) ≡ put k (data_of v) (members_data ms)
+put-data k v model.no_members = refl
+put-data k v (model.member l w ms) =
+    elim (slice_cmp nat_cmp k l) as (λ o. slice_cmp nat_cmp k l ≡ o
+    → members_data (elim o [
+      | Less ↦ model.member k v (model.member l w ms)
+      | Equal ↦ model.member k v ms
+      | Greater ↦ model.member l w (with_member k v ms)
+    ])
+    ≡ match_ordering o (member k (data_of v) (member l (data_of w) (members_data ms))) (member l (data_of v) (members_data ms))
+    (member l (data_of w) (put k (data_of v) (members_data ms)))) [
+      | Less ↦ λ o. refl
+      | Equal ↦ λ o. ap (λ n. member n (data_of v) (members_data ms)) (slice_cmp-IsAntisymmetric nat_cmp-IsAntisymmetric k l o)
+      | Greater ↦ λ o. ap (member l (data_of w)) (put-data k v ms)
+    ] refl
 
 -- with one member more of numbers of 64 bits put in, the numbers of all members have 64 bits
-pub inserted_narrow : (es : List Found) (k : String Global) (v : Json) → members_narrow (members_view es) ≡ true → is_narrow (view v) ≡ true
-    → members_narrow (members_view (insert_entry string_cmp es k v)) ≡ true
-inserted_narrow [] k v others own = rw own refl
-inserted_narrow (e ∷ es) k v others own =
-    let parts = and_parts (is_narrow (view e.1)) (members_narrow (members_view es)) others in
-    matched_narrow (string_cmp k e.0) _ _ _
-    (and_from (is_narrow (view v)) _ own others)
-    (and_from (is_narrow (view v)) _ own parts.1)
-    (and_from (is_narrow (view e.1)) _ parts.0 (inserted_narrow es k v parts.1 own))
+pub put-narrow : (k : Text) (v : model.Json) (ms : model.Members) → members_narrow ms ≡ true → is_narrow v ≡ true
+    → members_narrow (with_member k v ms) ≡ true
+put-narrow k v model.no_members others own = and_from (is_narrow v) _ own others
+put-narrow k v (model.member l w ms) others own =
+    let parts = and_parts (is_narrow w) (members_narrow ms) others in
+    elim (slice_cmp nat_cmp k l) as (λ o. members_narrow (elim o [
+      | Less ↦ model.member k v (model.member l w ms)
+      | Equal ↦ model.member k v ms
+      | Greater ↦ model.member l w (with_member k v ms)
+    ]) ≡ true) [
+      | Less ↦ and_from (is_narrow v) _ own others
+      | Equal ↦ and_from (is_narrow v) _ own parts.1
+      | Greater ↦ and_from (is_narrow w) _ parts.0 (put-narrow k v ms parts.1 own)
+    ]
 
 -- the decimal text of a whole number of 64 bits with sign is that number
 pub number_is : (z : ℤ) → is_narrow_whole z ≡ true → number_of (signed_decimal z) ≡ Some (of_integer z)

@@ -9,3 +9,4 @@ pub mod Writable
 pub mod FaultCodes
 pub mod Lookups
 pub mod Parts
+pub mod PutInTurn

@@ -10,16 +10,17 @@ use Rattle.ssa_model.specs.definitions.Json.{Text, object, member_of}
 use Rattle.ssa_json.specs.View.{view, members_view}
 use Rattle.ssa_json.specs.declared.value.Json.{Json, Object}
 
-one_more : (b : Bool) (v : Json) (rest : Option Json) (r : Option Rattle.ssa_model.specs.definitions.Json.Json) → option_map view rest ≡ r
+-- a value or another, by a test, as it is seen
+pub view-either : (b : Bool) (v : Json) (rest : Option Json) (r : Option Rattle.ssa_model.specs.definitions.Json.Json) → option_map view rest ≡ r
     → option_map view (cond b (Some v) rest) ≡ cond b (Some (view v)) r
-one_more true v rest r e = refl
-one_more false v rest r e = e
+view-either true v rest r e = refl
+view-either false v rest r e = e
 
 -- looking a name up in the map, and then at the value, is looking the name up among the members
 pub view-lookup : (name : Text) (es : List (String Global × Json))
     → option_map view (lookup (is_at (λ k. slice_cmp nat_cmp name (string_bytes k))) es) ≡ member_of name (members_view es)
 view-lookup name [] = refl
-view-lookup name (e ∷ es) = one_more (is_eq (slice_cmp nat_cmp name (string_bytes e.0))) e.1 _ _ (view-lookup name es)
+view-lookup name (e ∷ es) = view-either (is_eq (slice_cmp nat_cmp name (string_bytes e.0))) e.1 _ _ (view-lookup name es)
 
 -- a value that is lent is seen as the value itself
 pub view_of_ref : (r : Option (Bor Json)) → option_map (λ x. view x.now) r ≡ option_map view (option_map (λ x. x.now) r)
