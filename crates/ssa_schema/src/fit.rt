@@ -8,3 +8,4 @@ pub mod leading;
 pub mod names;
 pub mod repeated;
 pub mod shape_misfit;
+pub mod tag;
