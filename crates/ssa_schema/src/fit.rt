@@ -9,3 +9,4 @@ pub mod names;
 pub mod repeated;
 pub mod shape_misfit;
 pub mod tag;
+pub mod tagged_key;

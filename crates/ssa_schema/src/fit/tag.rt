@@ -34,7 +34,7 @@ fn tail_number(bytes: &[u8]) -> u64
     }
 }
 
-// Texts that end alike differ by their lengths at least.
+// Texts that end alike have other tags where their lengths differ.
 fn text_tag(bytes: &[u8]) -> u64
     ensures { result ≡ text_tag bytes.now }
 {
