@@ -57,7 +57,8 @@ same-as-rows r s =
     then_both (nat_cmp (row_tag r) (row_tag s)) (row_cmp r s)
     ∙ elim (row_cmp r s) as (λ o. row_cmp r s ≡ o → (is_eq (nat_cmp (row_tag r) (row_tag s)) && is_eq o) ≡ is_eq o) [
       | Less ↦ λ h. and-false _
-      | Equal ↦ λ h. and-true _ ∙ ap (λ t. is_eq (nat_cmp (row_tag r) (row_tag t))) (sym (row-exact r s h)) ∙ ap is_eq (tied_itself nat_cmp_total (row_tag r))
+      | Equal ↦ λ h. and-true _ ∙ ap (λ t. is_eq (nat_cmp (row_tag r) (row_tag t))) (sym (row-exact r s h))
+          ∙ ap is_eq (tied_itself nat_cmp_total (row_tag r))
       | Greater ↦ λ h. and-false _
     ] refl
 

@@ -1,4 +1,4 @@
-use Rattle.std.proofs.Common.{rules, tests, refl, ap, ◌∙◌, map}
+use Rattle.std.proofs.Common.{rules, tests, ap, ◌∙◌, map}
 use Rattle.std.proofs.lemmas.List.{take_all}
 use Rattle.std.proofs.lemmas.List.Sorted.{ranks_by}
 use Rattle.std.proofs.lemmas.Fn.{always_returns_same}
