@@ -1,16 +1,22 @@
 -- The keys of items: their order, and their places while they are sorted.
-use Rattle.std.proofs.Common.{◌≡◌, ℕ, ◌+◌, ◌<◌, List, [], ◌∷◌, ◌++◌, length, get_or, take, map, Bool, Equal, sym, ap, ap₂, ◌∙◌, arith, Bor}
+use Rattle.std.proofs.Common.{◌≡◌, ℕ, ◌+◌, ◌<◌, List, [], ◌∷◌, ◌++◌, length, get_or, take, map, Bool, ◌&&◌, ◌||◌, Some, Ordering, Less, Equal, Greater, refl, sym, ap, ap₂, ◌∙◌, arith, true≢false}
 use Rattle.std.proofs.lemmas.List.{map-append, take_more, length-map, length-take-le}
 use Rattle.std.specs.List.Sorted.{IsSortedBy, IsStableBy}
-use Rattle.std.specs.Ordering.{is_lt}
-use Rattle.std.specs.Cmp.{IsTotalOrder, on_total}
+use Rattle.std.proofs.lemmas.Map.Lookups.{exact_unsigned}
+use Rattle.std.specs.Prelude.{if◌then◌else◌}
+use Rattle.std.specs.List.{list_any}
+use Rattle.std.specs.Ordering.{is_eq, is_lt, nat_cmp, ordering_then}
+use Rattle.std.specs.Cmp.{IsTotalOrder, nat_cmp_total, on_total, then_total, tied_itself}
 use Rattle.std.specs.Cmp.Lexicographic.{lists_total, nat_list_cmp_total}
 use Rattle.std.specs.FinMap.{slice_cmp-IsAntisymmetric}
 use Rattle.ssa_model.specs.definitions.Json.{Scalar, scalar_text}
 use Rattle.ssa_model.specs.definitions.Path.{value}
 use Rattle.ssa_model.proofs.Texts.{same_element_same}
-use Rattle.ssa_schema.specs.Repeats.{Row, row_view, scalar_cmp, row_cmp, same_row, repeat_from, least_repeat, placed_view}
+use Rattle.ssa_model.proofs.Basics.{and-true, and-false, then_both}
+use Rattle.ssa_schema.specs.Tags.{row_tag}
+use Rattle.ssa_schema.specs.Repeats.{Row, row_view, scalar_cmp, row_cmp, same_row, repeat_from, least_repeat, TaggedRow, tagged, tagged_view, tagged_cmp, same_tagged, placed_view}
 use Rattle.ssa_schema.specs.declared.fit.item_key.ItemKey.{ItemKey}
+use Rattle.ssa_schema.specs.declared.fit.tagged_key.TaggedKey.{TaggedKey}
 use Rattle.ssa_schema.proofs.Repeats.{numbered, numbered-more, least-is-first}
 
 -- the order of rows is total
@@ -28,39 +34,75 @@ scalar-exact a b e = same-value a b (same_element_same (value a) (value b) e)
 pub row-exact : (a b : Row) → row_cmp a b ≡ Equal → a ≡ b
 row-exact = slice_cmp-IsAntisymmetric scalar-exact
 
+-- ---- rows behind their tags
+
+-- the order of rows behind tags is total
+pub tagged_cmp_total : IsTotalOrder tagged_cmp
+tagged_cmp_total = then_total (on_total (λ (t : TaggedRow). t.0) nat_cmp_total) (on_total (λ (t : TaggedRow). t.1) row_cmp_total)
+
+then-parts : (o q : Ordering) → ordering_then o q ≡ Equal → (o ≡ Equal) × (q ≡ Equal)
+then-parts Less q e = absurd (true≢false (sym (ap is_eq e)))
+then-parts Equal q e = (refl, e)
+then-parts Greater q e = absurd (true≢false (sym (ap is_eq e)))
+
+-- rows behind tags that tie are one, and their tags are
+pub tagged-exact : (a b : TaggedRow) → tagged_cmp a b ≡ Equal → a ≡ b
+tagged-exact a b e =
+    let parts = then-parts (nat_cmp a.0 b.0) (row_cmp a.1 b.1) e in
+    λ i. (exact_unsigned a.0 b.0 parts.0 i, row-exact a.1 b.1 parts.1 i)
+
+-- rows behind their own tags are the same where the rows are
+same-as-rows : (r s : Row) → same_tagged (tagged r) (tagged s) ≡ same_row r s
+same-as-rows r s =
+    then_both (nat_cmp (row_tag r) (row_tag s)) (row_cmp r s)
+    ∙ elim (row_cmp r s) as (λ o. row_cmp r s ≡ o → (is_eq (nat_cmp (row_tag r) (row_tag s)) && is_eq o) ≡ is_eq o) [
+      | Less ↦ λ h. and-false _
+      | Equal ↦ λ h. and-true _ ∙ ap (λ t. is_eq (nat_cmp (row_tag r) (row_tag t))) (sym (row-exact r s h))
+          ∙ ap is_eq (tied_itself nat_cmp_total (row_tag r))
+      | Greater ↦ λ h. and-false _
+    ] refl
+
+-- what a key shows, behind its tag
+abbrev pub tagged_of : ItemKey → TaggedRow
+tagged_of k = tagged (row_view k)
+
+any-as-rows : (r : Row) (ks : List ItemKey) → list_any (same_tagged (tagged r)) (map tagged_of ks) ≡ list_any (same_row r) (map row_view ks)
+any-as-rows r [] = refl
+any-as-rows r (k ∷ ks) = λ i. same-as-rows r (row_view k) i || any-as-rows r ks i
+
+-- the first that repeats is the same behind tags
+repeat-as-rows : (n : ℕ) (before ks : List ItemKey)
+    → repeat_from same_tagged n (map tagged_of before) (map tagged_of ks) ≡ repeat_from same_row n (map row_view before) (map row_view ks)
+repeat-as-rows n before [] = refl
+repeat-as-rows n before (k ∷ ks) = λ i. if any-as-rows (row_view k) before i then Some n else repeat-as-rows (n + 1) (k ∷ before) ks i
+
 -- ---- keys with their places
 
--- an item's key, lent, with its place
-abbrev pub Placed : Type 0
-Placed = ℕ × Bor ItemKey
+-- the one is below the other
+abbrev pub before : TaggedKey → TaggedKey → Bool
+before p q = is_lt (tagged_cmp (tagged_view p) (tagged_view q))
 
--- the scalars of an item's key
-abbrev pub row_of : Placed → Row
-row_of p = row_view p.1.now
+length-rows : (ks : List ItemKey) (i : ℕ) → i < length ks → length (map tagged_of (take i ks)) ≡ i
+length-rows ks i within = length-map (take i ks) tagged_of ∙ length-take-le i ks (omega arith)
 
--- the scalars of the one are below those of the other
-abbrev pub before : Placed → Placed → Bool
-before p q = is_lt (row_cmp (row_of p) (row_of q))
-
-length-rows : (ks : List ItemKey) (i : ℕ) → i < length ks → length (map row_view (take i ks)) ≡ i
-length-rows ks i within = length-map (take i ks) row_view ∙ length-take-le i ks (omega arith)
-
--- the next item's key is lent, with its place
-pub placed-more : (ks : List ItemKey) (i : ℕ) (k : ItemKey) (b : Bor ItemKey) (xs now : List Placed) → i < length ks → k ≡ get_or ks i k → b.now ≡ k
-    → placed_view xs ≡ numbered 0 (map row_view (take i ks)) → now ≡ xs ++ (i, b) ∷ []
-    → placed_view now ≡ numbered 0 (map row_view (take (i + 1) ks))
-placed-more ks i k b xs now within is of made more =
-    let rows = map row_view (take i ks) in
+-- the next item's key is lent, with its tag and its place
+pub placed-more : (ks : List ItemKey) (i : ℕ) (k : ItemKey) (b : TaggedKey) (xs now : List TaggedKey) → i < length ks → k ≡ get_or ks i k
+    → b.place ≡ i → tagged_view b ≡ tagged_of k → placed_view xs ≡ numbered 0 (map tagged_of (take i ks)) → now ≡ xs ++ b ∷ []
+    → placed_view now ≡ numbered 0 (map tagged_of (take (i + 1) ks))
+placed-more ks i k b xs now within is at of made more =
+    let rows = map tagged_of (take i ks) in
     let long = length-rows ks i within in
     let here : i ≡ 0 + length rows = omega arith in
-    let next : map row_view (take (i + 1) ks) ≡ rows ++ row_view k ∷ [] =
-    ap (map row_view) (take_more ks i k within) ∙ map-append row_view (take i ks) _ ∙ ap (λ x. rows ++ row_view x ∷ []) (sym is) in
-    ap placed_view more ∙ map-append (λ (p : Placed). (p.0, row_of p)) xs ((i, b) ∷ [])
-    ∙ ap₂ (λ ps x. ps ++ (i, row_view x) ∷ []) made of
-    ∙ ap (λ n. numbered 0 rows ++ (n, row_view k) ∷ []) here
-    ∙ numbered-more 0 rows (row_view k) ∙ ap (numbered 0) (sym next)
+    let next : map tagged_of (take (i + 1) ks) ≡ rows ++ tagged_of k ∷ [] =
+    ap (map tagged_of) (take_more ks i k within) ∙ map-append tagged_of (take i ks) _ ∙ ap (λ x. rows ++ tagged_of x ∷ []) (sym is) in
+    ap placed_view more ∙ map-append (λ (p : TaggedKey). (p.place, tagged_view p)) xs (b ∷ [])
+    ∙ ap₂ (λ ps n. ps ++ (n, tagged_view b) ∷ []) made (at ∙ here)
+    ∙ ap (λ r. numbered 0 rows ++ (0 + length rows, r) ∷ []) of
+    ∙ numbered-more 0 rows (tagged_of k) ∙ ap (numbered 0) (sym next)
 
 -- the least place of equal neighbours among the sorted keys is that of the first that repeats
-pub first-place : (ks : List ItemKey) (xs ys : List Placed) → placed_view xs ≡ numbered 0 (map row_view ks) → IsStableBy before xs ys → IsSortedBy before ys
-    → least_repeat same_row (placed_view ys) ≡ repeat_from same_row 0 [] (map row_view ks)
-first-place ks xs ys is stable up = least-is-first (λ p. p.0) row_of row_cmp row_cmp_total row-exact xs ys (map row_view ks) is stable up
+pub first-place : (ks : List ItemKey) (xs ys : List TaggedKey) → placed_view xs ≡ numbered 0 (map tagged_of ks) → IsStableBy before xs ys
+    → IsSortedBy before ys → least_repeat same_tagged (placed_view ys) ≡ repeat_from same_row 0 [] (map row_view ks)
+first-place ks xs ys is stable up =
+    least-is-first (λ p. p.place) tagged_view tagged_cmp tagged_cmp_total tagged-exact xs ys (map tagged_of ks) is stable up
+    ∙ repeat-as-rows 0 [] ks

@@ -5,5 +5,6 @@ pub mod Refusals
 pub mod Repeats
 pub mod Schemas
 pub mod Standings
+pub mod Tags
 pub mod Words
 pub mod FaultCodes

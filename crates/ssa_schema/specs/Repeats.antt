@@ -3,7 +3,7 @@ use Rattle.std.specs.Prelude.{ℕ, ◌+◌, List, [], ◌∷◌, map, Bool, true
 use Rattle.std.specs.Borrow.{Bor}
 use Rattle.std.specs.List.{list_any}
 use Rattle.std.specs.declared.cmp.Ordering.{Ordering}
-use Rattle.std.specs.Ordering.{eq_by_cmp, nat_cmp, on}
+use Rattle.std.specs.Ordering.{eq_by_cmp, nat_cmp, on, then_cmp}
 use Rattle.std.specs.Cmp.Lexicographic.{slice_cmp}
 use Rattle.ssa_model.specs.definitions.Json.{Text, Scalar, scalar_text, Json, object, Items, no_items, item, Members, member_of}
 use Rattle.ssa_model.specs.definitions.Path.{Element, value}
@@ -11,8 +11,10 @@ use Rattle.ssa_model.specs.definitions.Kind.{ScalarKind, item_key}
 use Rattle.ssa_json.specs.View.{scalar_view}
 use Rattle.ssa_json.specs.declared.value.Scalar as json
 use Rattle.ssa_schema.specs.Finds.{scalar_of, scalar_in}
+use Rattle.ssa_schema.specs.Tags.{row_tag}
 use Rattle.ssa_schema.specs.declared.fit.item_key.ItemKey.{ItemKey}
 use Rattle.ssa_schema.specs.declared.fit.item_key.ItemKey.TheVariants.{One, Many}
+use Rattle.ssa_schema.specs.declared.fit.tagged_key.TaggedKey.{TaggedKey}
 
 -- the scalars that tell items apart
 abbrev pub Row : Type 0
@@ -54,8 +56,25 @@ abbrev pub least_repeat : {A : Type 0} → (A → A → Bool) → List (ℕ × A
 least_repeat same [] = None
 least_repeat same (x ∷ xs) = least_from same None x.1 xs
 
-abbrev pub placed_view : List (ℕ × (Bor ItemKey)) → List (ℕ × Row)
-placed_view = map (λ p. (p.0, row_view p.1.now))
+-- a row behind its tag
+abbrev pub TaggedRow : Type 0
+TaggedRow = ℕ × Row
+
+abbrev pub tagged : Row → TaggedRow
+tagged row = (row_tag row, row)
+
+abbrev pub tagged_view : TaggedKey → TaggedRow
+tagged_view t = (t.tag, row_view t.key.now)
+
+-- the order of the tags, and of the rows where the tags are one
+abbrev pub tagged_cmp : TaggedRow → TaggedRow → Ordering
+tagged_cmp = then_cmp (on (λ t. t.0) nat_cmp) (on (λ t. t.1) row_cmp)
+
+abbrev pub same_tagged : TaggedRow → TaggedRow → Bool
+same_tagged = eq_by_cmp tagged_cmp
+
+abbrev pub placed_view : List TaggedKey → List (ℕ × TaggedRow)
+placed_view = map (λ t. (t.place, tagged_view t))
 
 -- it is not the one of that place
 abbrev pub is_other : Option ℕ → ℕ → Bool

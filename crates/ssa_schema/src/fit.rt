@@ -8,3 +8,5 @@ pub mod leading;
 pub mod names;
 pub mod repeated;
 pub mod shape_misfit;
+pub mod tag;
+pub mod tagged_key;

@@ -35,7 +35,7 @@ fn fault_of_spec(alloc: Global, spec: &str) -> Result<String, Fail> {
     fault_under(alloc, SPEC, &body)
 }
 
-const SPECS: [(&str, &str); 29] = [
+const SPECS: [(&str, &str); 32] = [
     (r#"{"image":"a","replicas":3}"#, "fits"),
     (r#"{"image":1,"zzz":1}"#, "WrongType f:spec f:image"),
     (r#"{"aaa":1,"image":1}"#, "UnknownField f:spec f:aaa"),
@@ -52,6 +52,12 @@ const SPECS: [(&str, &str); 29] = [
     (
         r#"{"hosts":["x","w","v","u","t","s","r","q","p","o","n","m","l","k","j","i","h","g","f","e","d","m","x"]}"#,
         r#"DuplicateItem f:spec f:hosts v:"m""#,
+    ),
+    // Different texts of one length that end in the same eight bytes.
+    (r#"{"hosts":["b-12345678","a-12345678"]}"#, "fits"),
+    (
+        r#"{"hosts":["b-12345678","a-12345678","b-12345678","a-12345678"]}"#,
+        r#"DuplicateItem f:spec f:hosts v:"b-12345678""#,
     ),
     (
         r#"{"hosts":["x","x",1]}"#,
@@ -78,6 +84,10 @@ const SPECS: [(&str, &str); 29] = [
     ),
     (
         r#"{"routes":[{"name":"x","port":1},{"name":"x","port":2}]}"#,
+        "fits",
+    ),
+    (
+        r#"{"routes":[{"name":"x","port":-1},{"name":"x","port":1}]}"#,
         "fits",
     ),
     (

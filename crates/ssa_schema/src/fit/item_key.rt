@@ -1,7 +1,9 @@
 //! What tells the items of a list apart.
 ghost use Rattle.std.specs.Prelude.{◌≡◌};
 ghost use Rattle.ssa_schema.specs.Repeats.{row_cmp, scalars_view, row_view};
+ghost use Rattle.ssa_schema.specs.Tags.{row_tag};
 
+use crate::fit::tag::{row_tag, scalar_tag};
 use ssa_json::value::Scalar;
 use ssa_path::order::order_values;
 use std::cmp::Ordering;
@@ -39,6 +41,15 @@ impl<'a> ItemKey<'a> {
             (ItemKey::One(scalar), ItemKey::Many(others)) => order_rows(&[*scalar], others),
             (ItemKey::Many(scalars), ItemKey::One(other)) => order_rows(scalars, &[*other]),
             (ItemKey::Many(scalars), ItemKey::Many(others)) => order_rows(scalars, others),
+        }
+    }
+    /// A number that keys that are one share, and others mostly do not.
+    pub fn tag(&self) -> u64
+        ensures { result ≡ row_tag (row_view self.now) }
+    {
+        match self {
+            ItemKey::One(scalar) => scalar_tag(scalar),
+            ItemKey::Many(scalars) => row_tag(scalars),
         }
     }
 }

@@ -1,8 +1,9 @@
 //! The first item of a list that equals an earlier one.
 ghost use Rattle.std.specs.Prelude.{◌≡◌, [], map, IfOk};
-ghost use Rattle.ssa_schema.specs.Repeats.{row_view, same_row, repeat_from, is_other, lesser, least_repeat, placed_view};
+ghost use Rattle.ssa_schema.specs.Repeats.{row_view, same_row, repeat_from, is_other, lesser, least_repeat, same_tagged, placed_view};
 
 use crate::fit::item_key::ItemKey;
+use crate::fit::tagged_key::TaggedKey;
 use std::alloc::{AllocError, Global};
 
 // The lesser of the numbers, where the first is there.
@@ -22,32 +23,33 @@ fn lesser(least: Option<usize>, place: usize) -> Option<usize>
 }
 
 // The least place of one that equals the one in front of it.
-fn least_repeat(sorted: &[(usize, &ItemKey)]) -> Option<usize>
-    ensures { result ≡ least_repeat same_row (placed_view sorted.now) }
+fn least_repeat(sorted: &[TaggedKey]) -> Option<usize>
+    ensures { result ≡ least_repeat same_tagged (placed_view sorted.now) }
 {
     let [first, rest @ ..] = sorted else {
         return None;
     };
     let mut least = None;
-    let mut last = first.1;
+    let mut last = first;
     for next in rest {
-        if last.order(next.1).is_eq() {
-            least = lesser(least, next.0);
+        if last.order(next).is_eq() {
+            least = lesser(least, next.place);
         }
-        last = next.1;
+        last = next;
     }
     least
 }
 
-/// The place of the first key that equals an earlier one. Takes about n log n comparisons.
+/// The place of the first key that equals an earlier one. Takes about n log n comparisons, most of
+/// them of tags alone.
 pub fn first_repeat(alloc: Global, keys: &[ItemKey]) -> Result<Option<usize>, AllocError>
     ensures { IfOk result (λ place. place ≡ repeat_from same_row 0 [] (map row_view keys.now)) }
 {
     let mut placed = Vec::with_capacity(alloc, keys.len())?;
     for (place, key) in keys.iter().enumerate() {
-        placed.push((place, key))?;
+        placed.push(TaggedKey::new(place, key))?;
     }
-    placed.sort_by(|own, other| own.1.order(other.1))?;
+    placed.sort_by(|own, other| own.order(other))?;
     Ok(least_repeat(&placed))
 }
 

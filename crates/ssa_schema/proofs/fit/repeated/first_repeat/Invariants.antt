@@ -1,8 +1,9 @@
 use Rattle.std.proofs.Common.{◌≡◌, take, map}
-use Rattle.ssa_schema.specs.Repeats.{row_view, placed_view}
+use Rattle.ssa_schema.specs.Repeats.{placed_view}
 use Rattle.ssa_schema.proofs.Repeats.{numbered}
+use Rattle.ssa_schema.proofs.Rows.{tagged_of}
 use Rattle.ssa_schema.proofs.fit.repeated.first_repeat.Given as goal
 
--- the keys so far, with their places
+-- the keys so far, with their tags and places
 abbrev pub invariant-loop-place : goal.invariant-loop-place
-invariant-loop-place l = placed_view l.placed.items ≡ numbered 0 (map row_view (take l.place l.keys))
+invariant-loop-place l = placed_view l.placed.items ≡ numbered 0 (map tagged_of (take l.place l.keys))
