@@ -1,5 +1,5 @@
 -- Texts that were met before, in a set.
-use Rattle.std.proofs.Common.{◌≡◌, List, [], ◌∷◌, Bool, true, false, not, ◌||◌, refl, sym, ap, ap₂, ◌∙◌, String, Global, string_bytes, string_cmp, nat_cmp, Less, Equal, Greater}
+use Rattle.std.proofs.Common.{◌≡◌, List, [], ◌∷◌, Bool, not, ◌||◌, refl, sym, ap, ap₂, ◌∙◌, String, Global, string_bytes, string_cmp, nat_cmp, Less, Equal, Greater}
 use Rattle.std.specs.List.{list_any}
 use Rattle.std.specs.declared.cmp.Ordering.{Ordering}
 use Rattle.std.specs.Ordering.{match_ordering}

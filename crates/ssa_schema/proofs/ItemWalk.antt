@@ -1,6 +1,6 @@
 -- The faults of a list's items, one item after another.
-use Rattle.std.proofs.Common.{◌≡◌, ℕ, ◌+◌, ◌<◌, length, get_or, drop, List, [], ◌∷◌, ◌++◌, Bool, true, false, not, refl, sym, ap, ◌∙◌, true≢false, rules, BTreeMap, String, Global}
-use Rattle.std.specs.Prelude.{Option, None, Some, is_some, option_map, if◌then◌else◌}
+use Rattle.std.proofs.Common.{◌≡◌, ℕ, ◌+◌, ◌<◌, length, get_or, drop, List, [], ◌∷◌, ◌++◌, Bool, true, false, not, refl, sym, ap, ◌∙◌, rules, BTreeMap, String, Global}
+use Rattle.std.specs.Prelude.{Option, None, Some, option_map, if◌then◌else◌}
 use Rattle.ssa_model.specs.definitions.Json.{Text, Json, scalar, list, object, Scalar, Items, item, Members}
 use Rattle.ssa_model.specs.definitions.Path.{Path, Element, value}
 use Rattle.ssa_model.specs.definitions.Kind.{FaultAt, ScalarKind, Fields, is_of, is_among, wrong_type, duplicate_item, item_key, fault_unless, or_else, key_faults, field_faults, value_faults, item_faults, fault_at}

@@ -46,7 +46,7 @@ then-parts Equal q e = (refl, e)
 then-parts Greater q e = absurd (true≢false (sym (ap is_eq e)))
 
 -- rows behind tags that tie are one, and their tags are
-pub tagged-exact : (a b : TaggedRow) → tagged_cmp a b ≡ Equal → a ≡ b
+tagged-exact : (a b : TaggedRow) → tagged_cmp a b ≡ Equal → a ≡ b
 tagged-exact a b e =
     let parts = then-parts (nat_cmp a.0 b.0) (row_cmp a.1 b.1) e in
     λ i. (exact_unsigned a.0 b.0 parts.0 i, row-exact a.1 b.1 parts.1 i)

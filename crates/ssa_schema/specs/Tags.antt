@@ -28,7 +28,7 @@ scalar_tag (text bs) = text_tag bs
 scalar_tag (whole z) = unsigned_abs z
 scalar_tag (truth b) = from_bool b
 
--- the tag of a single scalar is the scalar's
+-- each scalar has a part in it; of a single one it is the scalar's
 abbrev pub row_tag : List Scalar → ℕ
 row_tag [] = 0
 row_tag (s ∷ row) = in_64 (scalar_tag s + spread (row_tag row))

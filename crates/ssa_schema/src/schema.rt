@@ -123,7 +123,7 @@ impl Schema {
     /// The members of an object are looked at in the order of their names' bytes and the items of a
     /// list in their order, each with all below it before the next. Items of a set are one where
     /// their values are, and items of a map list where their key fields are. A list of `n` items
-    /// costs about `n log n` comparisons of texts.
+    /// costs about `n log n` comparisons, most of them of numbers and at worst all of texts.
     pub fn first_fault(&self, alloc: Global, body: &Json) -> Result<Option<BodyFault>, AllocError>
         ensures { IfOk result (λ f. option_map told_view f ≡ option_map told (first_of (faults self.now.kind (view body.now) []))) }
     {

@@ -6,7 +6,8 @@ ghost use Rattle.ssa_schema.specs.Tags.{spread, short_number, tail_number, text_
 
 use ssa_json::value::Scalar;
 
-// Moves small differences into all bits, by an odd factor: no two numbers become one.
+// Moves small differences into all bits: the factor is odd, so no two numbers become one, and near
+// 2 ^ 64 over the golden ratio.
 fn spread(number: u64) -> u64
     ensures { result ≡ spread number }
 {
@@ -41,7 +42,7 @@ fn text_tag(bytes: &[u8]) -> u64
     tail_number(bytes).wrapping_add(spread(bytes.len() as u64))
 }
 
-/// The tag of a text, a number or a truth value.
+/// The tag of a text, a number or a truth value. A number and the same below zero share theirs.
 pub fn scalar_tag(scalar: &Scalar) -> u64
     ensures { result ≡ scalar_tag (scalar_view scalar.now) }
 {
