@@ -1,5 +1,6 @@
 //! The table of words, from which the program's command is built.
 ghost use Rattle.std.specs.Prelude.{[], ◌++◌, IfOk};
+ghost use Rattle.clap.specs.Words.{App, with_subcommand};
 ghost use Rattle.ssa_words.specs.Table as spec;
 
 use clap::{Arg, ArgAction, Command};
@@ -134,40 +135,49 @@ fn bare<'a>(alloc: Global) -> Result<Command<'a>, AllocError>
         .bin_name("ssabench")
 }
 
+// The program with a word more, where memory gave both.
+fn with_word<'a>(
+    program: Result<Command<'a>, AllocError>,
+    word: Result<Command<'a>, AllocError>,
+) -> Result<Command<'a>, AllocError>
+    ensures { (a b : App) → IfOk program.entry (spec.IsCommand a) → IfOk word.entry (spec.IsCommand b)
+        → IfOk result (spec.IsCommand (with_subcommand a b.top)) }
+{
+    let program = program?;
+    program.subcommand(word?)
+}
+
 fn writes<'a>(alloc: Global) -> Result<Command<'a>, AllocError>
     ensures { IfOk result (spec.IsCommand (spec.with_words spec.writes)) }
 {
-    bare(alloc)?
-        .subcommand(init(alloc)?)?
-        .subcommand(apply(alloc)?)?
-        .subcommand(update(alloc)?)
+    let with_init = with_word(bare(alloc), init(alloc));
+    let with_apply = with_word(with_init, apply(alloc));
+    with_word(with_apply, update(alloc))
 }
 
 fn moves<'a>(alloc: Global) -> Result<Command<'a>, AllocError>
     ensures { IfOk result (spec.IsCommand (spec.with_words (spec.writes ++ spec.moves))) }
 {
-    let strip = of_bench(alloc, "strip", "Strips the object of its managers")?;
-    let undo = of_bench(alloc, "undo", "Takes the last command back")?;
-    let redo = of_bench(alloc, "redo", "Carries out again what was taken back")?;
-    writes(alloc)?
-        .subcommand(strip)?
-        .subcommand(undo)?
-        .subcommand(redo)
+    let strip = of_bench(alloc, "strip", "Strips the object of its managers");
+    let undo = of_bench(alloc, "undo", "Takes the last command back");
+    let redo = of_bench(alloc, "redo", "Carries out again what was taken back");
+    let with_strip = with_word(writes(alloc), strip);
+    let with_undo = with_word(with_strip, undo);
+    with_word(with_undo, redo)
 }
 
 /// The program with all its words.
 pub(crate) fn program<'a>(alloc: Global) -> Result<Command<'a>, AllocError>
     ensures { IfOk result (spec.IsCommand spec.table) }
 {
-    let log = of_bench(alloc, "log", "Tells the commands of the history")?;
+    let log = of_bench(alloc, "log", "Tells the commands of the history");
     let session = of_bench(
         alloc,
         "session",
         "Holds a session over standard input and output",
-    )?;
-    moves(alloc)?
-        .subcommand(show(alloc)?)?
-        .subcommand(owners(alloc)?)?
-        .subcommand(log)?
-        .subcommand(session)
+    );
+    let with_show = with_word(moves(alloc), show(alloc));
+    let with_owners = with_word(with_show, owners(alloc));
+    let with_log = with_word(with_owners, log);
+    with_word(with_log, session)
 }

@@ -1,10 +1,10 @@
-use Rattle.std.proofs.lemmas.Result.{IfOk-weaker}
-use Rattle.ssa_words.proofs.TableLemmas.{adds_word}
+use Rattle.std.specs.Prelude.{codes, ◌++◌}
+use Rattle.ssa_words.specs.Table as spec
 use Rattle.ssa_words.proofs.table.program.Goals as goal
 
 pub returns : goal.returns
 returns c =
-    let with_show = adds_word _ _ _ _ _ c.in_ok-moves.ensures c.in_ok-show.ensures c.in_ok-subcommand.ensures in
-    let with_owners = adds_word _ _ _ _ _ with_show c.in_ok-owners.ensures c.in_ok-subcommand-2.ensures in
-    let with_log = adds_word _ _ _ _ _ with_owners c.in_ok-log.ensures c.in_ok-subcommand-3.ensures in
-    IfOk-weaker _ _ _ (λ r h. adds_word _ _ r _ _ with_log c.in_ok-session.ensures h) c.subcommand-4.ensures
+    let with_show = c.with_word-with_show.ensures (spec.with_words (spec.writes ++ spec.moves)) spec.show c.moves.ensures c.show.ensures in
+    let with_owners = c.with_word-with_owners.ensures _ spec.owners with_show c.owners.ensures in
+    let with_log = c.with_word-with_log.ensures _ (spec.of_bench (codes "log")) with_owners c.of_bench-log.ensures in
+    c.with_word.ensures _ (spec.of_bench (codes "session")) with_log c.of_bench-session.ensures
