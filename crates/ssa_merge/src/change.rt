@@ -1,5 +1,6 @@
 //! What a command changes of a state, told without what stays.
 ghost use Rattle.std.specs.Prelude.{◌≡◌, ◌≤◌, ◌||◌, not, true, IfOk};
+ghost use Rattle.ssa_model.specs.definitions.Body.{points};
 ghost use Rattle.ssa_model.specs.definitions.Fitting.{IsBodyOf};
 ghost use Rattle.ssa_model.specs.definitions.History.{is_manager_name};
 ghost use Rattle.ssa_model.specs.definitions.Kind.{Kind};
@@ -77,7 +78,44 @@ fn has_conflict(force: bool, found: &[(ManagerKey, FieldSet)]) -> bool
     }
 }
 
-// What an Apply of a configuration by a manager changes.
+// What an Apply of a configuration with these points changes: the manager then owns them.
+fn applied_with(
+    alloc: Global,
+    state: &State,
+    key: &ManagerKey,
+    config: Body,
+    owned: &FieldSet,
+    force: bool,
+    at: Moment,
+) -> Result<Change, Refusal>
+    requires alike { AreAlike state.now.body config }
+    requires named { is_manager_name (key_view key.now).name ≡ true }
+    requires owned { AllEntries (OwnsOwnable state.now.body) state.now.managers }
+    requires points { owned.now ≡ points config }
+    ensures { IsChanged (state_view state.now) result (apply (state_view state.now) (key_view key.now) config force at) }
+{
+    let body = pruned(alloc, state, key, config, owned)?;
+    let comparison = state.body.compare(alloc, &body)?;
+    let changed = &comparison.modified;
+    let found = clashes(alloc, state.managers.entries(), key, changed)?;
+    if has_conflict(force, &found) {
+        return Err(Refusal::Conflict(found));
+    }
+    if body.size() > MOST_PLACES {
+        return Err(Refusal::TooManyPaths);
+    }
+    match seat(alloc, &state.managers, key, owned, changed, changed, at) {
+        Ok(table) => Ok(Change {
+            body: Some(body),
+            table,
+            comparison,
+        }),
+        Err(refusal) => Err(refusal),
+    }
+}
+
+// What an Apply of a configuration by a manager changes. Mostly the manager owns the points of its
+// configuration already, and they are not made anew.
 fn applied(
     alloc: Global,
     state: &State,
@@ -91,25 +129,13 @@ fn applied(
     requires owned { AllEntries (OwnsOwnable state.now.body) state.now.managers }
     ensures { IsChanged (state_view state.now) result (apply (state_view state.now) (key_view key.now) config force at) }
 {
+    if let Some(entry) = state.managers.get(key) {
+        if config.has_points(alloc, &entry.set)? {
+            return applied_with(alloc, state, key, config, &entry.set, force, at);
+        }
+    }
     let points = config.points(alloc)?;
-    let body = pruned(alloc, state, key, config, &points)?;
-    let comparison = state.body.compare(alloc, &body)?;
-    let changed = &comparison.modified;
-    let found = clashes(alloc, state.managers.entries(), key, changed)?;
-    if has_conflict(force, &found) {
-        return Err(Refusal::Conflict(found));
-    }
-    if body.size() > MOST_PLACES {
-        return Err(Refusal::TooManyPaths);
-    }
-    match seat(alloc, &state.managers, key, &points, changed, changed, at) {
-        Ok(table) => Ok(Change {
-            body: Some(body),
-            table,
-            comparison,
-        }),
-        Err(refusal) => Err(refusal),
-    }
+    applied_with(alloc, state, key, config, &points, force, at)
 }
 
 /// What an Apply of a configuration by a manager changes, or why it is refused: see

@@ -10,6 +10,7 @@ pub mod Finding
 pub mod Fitting
 pub mod ItemKeys
 pub mod KindRows
+pub mod KnownPoints
 pub mod LackingPaths
 pub mod Laws
 pub mod Levels

@@ -117,6 +117,18 @@ impl Body {
         Ok(FieldSet::from_root(root))
     }
 
+    /// Whether the set has the points of the body and nothing else, so that it serves in place of
+    /// [`points`](Body::points). Of a set of which it answers `false` nothing is promised.
+    ///
+    /// No element is copied: memory is taken for references to the children of a place alone, and
+    /// none where the set has another number of children there.
+    pub fn has_points(&self, alloc: Global, set: &FieldSet) -> Result<bool, AllocError>
+        ensures { IfOk result (λ b. b ≡ true → set.now ≡ points self.now) }
+    {
+        let same = self.root.has_points(alloc, set.root())?;
+        Ok(same)
+    }
+
     /// The places of the body are its root and what is at or above one of its points.
     pub fn points_tell_places(&self)
         ensures { PointsTellPlaces self.now }

@@ -20,7 +20,7 @@ pub(crate) enum Collected {
 
 impl Collected {
     // Whether a child's own place is collected.
-    fn has_place(self, child: &(Elem, Node), in_dict: bool) -> bool
+    pub(crate) fn has_place(self, child: &(Elem, Node), in_dict: bool) -> bool
         ensures { result ≡ collects self in_dict (element_view child.now.0) (Some child.now.1) [] }
     {
         match self {

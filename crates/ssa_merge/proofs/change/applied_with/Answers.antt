@@ -1,3 +1,4 @@
+-- What an Apply of a configuration with these points changes, where it conflicts, has too many paths, is seated or is refused a seat.
 use Rattle.std.proofs.Common.{◌≡◌, ap, ◌∙◌, sym, subst, refl, not, ◌||◌}
 use Rattle.std.specs.Prelude.{Result, Ok, Err, Some}
 use Rattle.ssa_model.specs.definitions.PathMap.{size}
@@ -11,7 +12,7 @@ use Rattle.ssa_merge.specs.TableChanges.{IsSeated}
 use Rattle.ssa_merge.specs.Plans.{IsChanged}
 use Rattle.ssa_merge.specs.declared.change.Change.{Change}
 use Rattle.ssa_merge.proofs.Applied.{apply-decided, decided-conflict, decided-paths, seated, unseated, more_places, few_places}
-use Rattle.ssa_merge.proofs.change.applied.Goals as goal
+use Rattle.ssa_merge.proofs.change.applied_with.Goals as goal
 
 pub returns-then-has_conflict : goal.returns-then-has_conflict
 returns-then-has_conflict c =
@@ -61,9 +62,9 @@ returns-in-Ok c =
     let clash_is = c.in_ok-found.ensures ∙ (λ i. clashes a (c.in_ok-comparison.ensures.modified_are i) (c.entries.ensures.same i)) in
     let quiet = ap (λ cs. not (c.args.force || is_none (clashes_view cs))) (sym c.deref.ensures.value) ∙ sym c.has_conflict.ensures ∙ c.if-has_conflict.false in
     let few = few_places c.size.result (size body) c.size.ensures c.if-size-gt-MOST_PLACES.false in
-    let seats : ◌≡◌ {A = Table} (seat state.table a c.in_ok-points.points c.in_ok-comparison.comparison.modified c.in_ok-comparison.comparison.modified
+    let seats : ◌≡◌ {A = Table} (seat state.table a c.args.owned.now c.in_ok-comparison.comparison.modified c.in_ok-comparison.comparison.modified
     c.args.at) table
-    = λ i. seat state.table a (c.in_ok-points.ensures i) (c.in_ok-comparison.ensures.modified_are i) (c.in_ok-comparison.ensures.modified_are i) c.args.at in
+    = λ i. seat state.table a (c.requires.points i) (c.in_ok-comparison.ensures.modified_are i) (c.in_ok-comparison.ensures.modified_are i) c.args.at in
     let given = apply-decided state a config c.args.force c.args.at body found (size body) table c.in_ok-body.ensures clash_is refl refl in
     let change : Change = record { body = Some body; table = c.in-Ok.table; comparison = c.in_ok-comparison.comparison } in
     let is_seated : Table → Type 0 = IsSeated state.table (Ok c.in-Ok.table) in
@@ -71,8 +72,8 @@ returns-in-Ok c =
     subst is_changed (sym given) (seated state c.args.force found (size body) change body table quiet few refl (subst is_seated seats c.in-Ok.ensures)
     c.in_ok-comparison.ensures)
 
-pub returns : goal.returns
-returns c =
+pub returns-in-Err : goal.returns-in-Err
+returns-in-Err c =
     let state = state_view c.args.state.now in
     let a = key_view c.args.key.now in
     let config = c.args.config in
@@ -83,9 +84,9 @@ returns c =
     let clash_is = c.in_ok-found.ensures ∙ (λ i. clashes a (c.in_ok-comparison.ensures.modified_are i) (c.entries.ensures.same i)) in
     let quiet = ap (λ cs. not (c.args.force || is_none (clashes_view cs))) (sym c.deref.ensures.value) ∙ sym c.has_conflict.ensures ∙ c.if-has_conflict.false in
     let few = few_places c.size.result (size body) c.size.ensures c.if-size-gt-MOST_PLACES.false in
-    let seats : ◌≡◌ {A = Table} (seat state.table a c.in_ok-points.points c.in_ok-comparison.comparison.modified c.in_ok-comparison.comparison.modified
+    let seats : ◌≡◌ {A = Table} (seat state.table a c.args.owned.now c.in_ok-comparison.comparison.modified c.in_ok-comparison.comparison.modified
     c.args.at) table
-    = λ i. seat state.table a (c.in_ok-points.ensures i) (c.in_ok-comparison.ensures.modified_are i) (c.in_ok-comparison.ensures.modified_are i) c.args.at in
+    = λ i. seat state.table a (c.requires.points i) (c.in_ok-comparison.ensures.modified_are i) (c.in_ok-comparison.ensures.modified_are i) c.args.at in
     let given = apply-decided state a config c.args.force c.args.at body found (size body) table c.in_ok-body.ensures clash_is refl refl in
     let is_seated : Table → Type 0 = IsSeated state.table (Err c.in-Err.refusal) in
     let is_changed : Result State model.Refusal → Type 0 = IsChanged state (Err c.in-Err.refusal) in
