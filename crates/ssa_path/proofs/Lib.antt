@@ -25,3 +25,5 @@ pub mod FieldsSaid
 pub mod FieldsSays
 pub mod FieldsBack
 pub mod LyingWithin
+pub mod SortKeys
+pub mod LeadingTexts

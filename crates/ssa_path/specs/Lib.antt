@@ -14,3 +14,4 @@ pub mod FieldsWriting
 pub mod FieldsBack
 pub mod FaultCodes
 pub mod TopPaths
+pub mod SortKeys

@@ -109,9 +109,9 @@ fn four_at(bytes: &[u8], i: usize) -> u32
     u32::from_le_bytes([bytes[i], bytes[i + 1], bytes[i + 2], bytes[i + 3]])
 }
 
-// How many bytes both texts begin with alike, in whole eights: eight are one comparison.
+/// How many bytes both texts begin with alike, in whole eights: eight are one comparison.
 #[inline(always)]
-fn alike_in_eights(text: &[u8], other: &[u8]) -> usize
+pub fn alike_in_eights(text: &[u8], other: &[u8]) -> usize
     ensures { BeginAlike text.now other.now result }
 {
     let mut i = 0;
@@ -121,9 +121,9 @@ fn alike_in_eights(text: &[u8], other: &[u8]) -> usize
     i
 }
 
-// Passes four bytes that both texts have alike at the place.
+/// Passes four bytes that both texts have alike at the place.
 #[inline(always)]
-fn past_four(text: &[u8], other: &[u8], i: usize) -> usize
+pub fn past_four(text: &[u8], other: &[u8], i: usize) -> usize
     requires { BeginAlike text.now other.now i }
     ensures { BeginAlike text.now other.now result }
 {
