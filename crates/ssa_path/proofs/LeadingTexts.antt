@@ -42,7 +42,10 @@ nothing t e = absurd (none≢some e)
 
 text-leads : (lead behind : Text) (s : Scalar) (e : Element) (t : Text) → ((u : Text) → s ≡ text u → element_text e ≡ lead ++ (quoted u ++ behind))
     → text_in s ≡ Some t → Leads lead t e
-text-leads lead behind (text u) e t is h = record { behind = behind; is = subst (λ x. element_text e ≡ lead ++ (quoted x ++ behind)) (some-same u t h) (is u refl) }
+text-leads lead behind (text u) e t is h = record {
+  behind = behind;
+  is = subst (λ x. element_text e ≡ lead ++ (quoted x ++ behind)) (some-same u t h) (is u refl);
+}
 text-leads lead behind (whole z) e t is h = nothing t h
 text-leads lead behind (truth b) e t is h = nothing t h
 
@@ -138,4 +141,4 @@ begins-more {A = A} first cs i c start shared lt is all h =
     let shorter = λ (d : Elem × A) (b : BeginsWith start first (element_view d.0)).
     subst (λ s. BeginsWith s first (element_view d.0)) (sym h.is) (begins-shorter first (element_view d.0) start h.count h.within b) in
     let begins = λ (s : Text) (d : Elem × A). BeginsWith s first (element_view d.0) in
-    All-more (begins shared) cs i c lt (All-weaker (begins start) (begins shared) shorter (take i cs) all) (subst (λ (d : Elem × A). BeginsWith shared first (element_view d.0)) is h.begins)
+    All-more (begins shared) cs i c lt (All-weaker (begins start) (begins shared) shorter (take i cs) all) (subst (begins shared) is h.begins)

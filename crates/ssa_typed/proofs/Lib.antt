@@ -36,3 +36,4 @@ pub mod TreeRows
 pub mod Trees
 pub mod Unchanged
 pub mod Values
+pub mod NumberedChildren

@@ -1,7 +1,8 @@
 -- References to children, sorted by their elements.
 use Rattle.std.proofs.Common.{◌≡◌, ℕ, suc, ◌+◌, ◌<◌, ◌≤◌, List, [], ◌∷◌, length, get_or, map, Bool, true, false, not, ◌&&◌, cond, Option, Some, None, Ordering, Less, Equal, Greater, refl, sym, ap, ◌∙◌, subst, arith, true≢false, Bor}
 use Rattle.std.specs.Prelude.{filter, option_map}
-use Rattle.std.specs.List.{list_any}
+use Rattle.std.specs.List.{list_any, All}
+use Rattle.std.proofs.lemmas.List.Elements.{All-filter, All-get_or, All-head, All-same, All-tail}
 use Rattle.std.specs.List.Sorted.{IsSortedBy, IsStableBy, ties}
 use Rattle.std.specs.Ordering.{is_lt, is_eq, ordering_reverse}
 use Rattle.std.specs.Cmp.{IsStrictWeakOrder}
@@ -59,12 +60,16 @@ module _ {X : Type 0} (key : X → Element) where
   ties_are x y = ap (λ o. not (is_lt (element_cmp (key x) (key y))) && not (is_lt o)) (element_cmp_total.antisymm (key y) (key x))
       ∙ tied (element_cmp (key x) (key y))
 
-  module _ (xs ys : List X) (stable : IsStableBy before xs ys) where
-    like : (x : X) → filter (of_element (key x)) ys ≡ filter (of_element (key x)) xs
-    like x = (λ i. filter (λ y. sym (ties_are x y) i) ys) ∙ stable x ∙ (λ i. filter (λ y. ties_are x y i) xs)
+  module _ (Is : X → Type 0) (xs ys : List X) (are_xs : All Is xs) (are_ys : All Is ys)
+      (stable : (x : X) → Is x → filter (ties before x) ys ≡ filter (ties before x) xs) where
+    like : (x : X) → Is x → filter (of_element (key x)) ys ≡ filter (of_element (key x)) xs
+    like x is = (λ i. filter (λ y. sym (ties_are x y) i) ys) ∙ stable x is ∙ (λ i. filter (λ y. ties_are x y i) xs)
 
-    like_first : (e : Element) (x : X) → of_element e x ≡ true → filter (of_element e) ys ≡ filter (of_element e) xs
-    like_first e x h = subst (λ f. filter (of_element f) ys ≡ filter (of_element f) xs) (sym (same_element-true e (key x) h)) (like x)
+    like_first : (e : Element) (x : X) → of_element e x ≡ true → Is x → filter (of_element e) ys ≡ filter (of_element e) xs
+    like_first e x h is = subst (λ f. filter (of_element f) ys ≡ filter (of_element f) xs) (sym (same_element-true e (key x) h)) (like x is)
+
+    is-first : (e : Element) (zs : List X) (x : X) (rest : List X) → All Is zs → filter (of_element e) zs ≡ x ∷ rest → Is x
+    is-first e zs x rest are h = All-head Is x rest (All-same Is (x ∷ rest) (filter (of_element e) zs) (sym h) (All-filter (of_element e) Is zs are))
 
     -- as many values of each element, in the same order
     alike : (e : Element) → filter (of_element e) ys ≡ filter (of_element e) xs
@@ -72,9 +77,9 @@ module _ {X : Type 0} (key : X → Element) where
         elim (filter (of_element e) ys) as (λ us. filter (of_element e) ys ≡ us → us ≡ filter (of_element e) xs) [
           | [] ↦ λ h. elim (filter (of_element e) xs) as (λ vs. filter (of_element e) xs ≡ vs → [] ≡ vs) [
             | [] ↦ λ k. refl
-            | v ∷ vs ↦ λ k. sym h ∙ like_first e v (filter_passes (of_element e) xs v vs k) ∙ k
+            | v ∷ vs ↦ λ k. sym h ∙ like_first e v (filter_passes (of_element e) xs v vs k) (is-first e xs v vs are_xs k) ∙ k
           ] refl
-          | u ∷ us ↦ λ h. sym h ∙ like_first e u (filter_passes (of_element e) ys u us h)
+          | u ∷ us ↦ λ h. sym h ∙ like_first e u (filter_passes (of_element e) ys u us h) (is-first e ys u us are_ys h)
         ] refl
 
   -- ---- values whose elements differ
@@ -168,20 +173,40 @@ module _ {X A : Type 0} (entry : X → Elem × A) where
         | false ↦ child-first e xs
       ]
 
+  -- what a stable sort of values that stand for the children leaves, where its test agrees on them with that of their elements
+  pub sorted-agreeing : (Is : X → Type 0) (lt : X → X → Bool) → ((x y : X) → Is x → Is y → lt x y ≡ before entry_element x y) → (cs : List (Elem × A))
+      (rs ss : List X) → map entry rs ≡ cs → are_apart (elements cs) ≡ true → All Is rs → All Is ss → IsStableBy lt rs ss → IsSortedBy lt ss
+      → IsInOrder cs (map entry ss)
+  sorted-agreeing Is lt agree cs rs ss is apart are_rs are_ss stable up =
+      let differ : are_apart (map entry_element rs) ≡ true = ap are_apart (sym (elements-entries rs)) ∙ ap (λ l. are_apart (elements l)) is ∙ apart in
+      let same = alike entry_element Is rs ss are_rs are_ss stable-alike in
+      record {
+        rise =
+            ap rises (elements-entries ss)
+            ∙ in_order_rises entry_element ss same_element-itself up-alike (λ e. subst (λ l. length l ≤ 1) (sym (same e)) (once entry_element e rs differ));
+        same = λ e. child-first e ss ∙ ap (λ l. option_map (λ x. (entry x).1) (first l)) (same e) ∙ sym (child-first e rs) ∙ ap (child_at e) is;
+      }
+    where
+      tied-alike : (x : X) → Is x → (zs : List X) → All Is zs → filter (ties (before entry_element) x) zs ≡ filter (ties lt x) zs
+      tied-alike x one [] are = refl
+      tied-alike x one (z ∷ zs) are =
+          let other = All-head Is z zs are in
+          λ i. cond (not (sym (agree x z one other) i) && not (sym (agree z x other one) i)) (z ∷ tied-alike x one zs (All-tail Is z zs are) i)
+          (tied-alike x one zs (All-tail Is z zs are) i)
+
+      stable-alike : (x : X) → Is x → filter (ties (before entry_element) x) ss ≡ filter (ties (before entry_element) x) rs
+      stable-alike x one = tied-alike x one ss are_ss ∙ stable x ∙ sym (tied-alike x one rs are_rs)
+
+      up-alike : IsSortedBy (before entry_element) ss
+      up-alike k d low high =
+          sym (agree (get_or ss (k + 1) d) (get_or ss k d) (All-get_or Is ss (k + 1) d high are_ss)
+          (All-get_or Is ss k d (omega arith) are_ss)) ∙ up k d low high
+
   -- what a stable sort of values that stand for the children leaves
   pub sorted-entries : (cs : List (Elem × A)) (rs ss : List X) → map entry rs ≡ cs → are_apart (elements cs) ≡ true
       → IsStableBy (before entry_element) rs ss → IsSortedBy (before entry_element) ss → IsInOrder cs (map entry ss)
   sorted-entries cs rs ss is apart stable up =
-      let differ : are_apart (map entry_element rs) ≡ true = ap are_apart (sym (elements-entries rs)) ∙ ap (λ l. are_apart (elements l)) is ∙ apart in
-      record {
-        rise =
-            ap rises (elements-entries ss)
-            ∙ in_order_rises entry_element ss same_element-itself up (λ e. subst (λ l. length l ≤ 1) (sym (alike entry_element rs ss stable e))
-            (once entry_element e rs differ));
-        same = λ e.
-            child-first e ss ∙ ap (λ l. option_map (λ x. (entry x).1) (first l)) (alike entry_element rs ss stable e)
-            ∙ sym (child-first e rs) ∙ ap (child_at e) is;
-      }
+      sorted-agreeing (λ x. Unit {0}) (before entry_element) (λ x y _ _. refl) cs rs ss is apart (λ k d lt. tt) (λ k d lt. tt) stable up
 
 -- ---- references to children
 

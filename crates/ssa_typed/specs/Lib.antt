@@ -15,3 +15,4 @@ pub mod Reads
 pub mod Restricted
 pub mod Rows
 pub mod Values
+pub mod Keyed

@@ -6,15 +6,29 @@ ghost use Rattle.ssa_path.specs.View.{element_view};
 ghost use Rattle.ssa_typed.specs.InOrder.{referred, IsInOrder};
 ghost use Rattle.ssa_typed.specs.Rows.{are_apart};
 
+use crate::keyed::by_keys;
 use crate::node::Node;
 use ssa_path::element::Elem;
 use std::alloc::{AllocError, Global};
 
-/// The children by the bytes of their elements' texts, as sets of paths hold them.
-///
-/// The fields of a record and the entries of a Dict stand so already, the items of a list stand in
-/// the list's order. Takes about n log n comparisons.
-pub fn in_order<'a>(
+// Whether the children are so many, and their order at first so far from that of their elements, that
+// numbers for them are worth the making.
+fn are_mixed(children: &[(Elem, Node)]) -> bool {
+    if children.len() < 24 {
+        return false;
+    }
+    let mut last = &children[0].0;
+    for child in &children[1..24] {
+        if last.order(&child.0).is_gt() {
+            return true;
+        }
+        last = &child.0;
+    }
+    false
+}
+
+// The children in the order of their elements, each two compared by their texts.
+fn by_texts<'a>(
     alloc: Global,
     children: &'a [(Elem, Node)],
 ) -> Result<Vec<&'a (Elem, Node)>, AllocError>
@@ -27,6 +41,26 @@ pub fn in_order<'a>(
     }
     sorted.sort_by(|own, other| own.0.order(&other.0))?;
     Ok(sorted)
+}
+
+/// The children by the bytes of their elements' texts, as sets of paths hold them.
+///
+/// The fields of a record and the entries of a Dict stand so already, the items of a list stand in
+/// the list's order. Takes about n log n comparisons, mostly of numbers in a long list whose elements
+/// have texts that begin alike.
+pub fn in_order<'a>(
+    alloc: Global,
+    children: &'a [(Elem, Node)],
+) -> Result<Vec<&'a (Elem, Node)>, AllocError>
+    requires { are_apart (elements children.now) ≡ true }
+    ensures { IfOk result (λ v. IsInOrder children.now (referred v.items)) }
+{
+    if are_mixed(children) {
+        if let Some(sorted) = by_keys(alloc, children)? {
+            return Ok(sorted);
+        }
+    }
+    by_texts(alloc, children)
 }
 
 /// The child of this element, among references to children in the order of their elements.

@@ -5,7 +5,7 @@ use Rattle.std.proofs.lemmas.Fn.{always_returns_same}
 use Rattle.ssa_path.proofs.Orders.{element_cmp_total}
 use Rattle.ssa_typed.proofs.References.{Reference}
 use Rattle.ssa_typed.proofs.Sorting.{sorted-entries, before, element_of}
-use Rattle.ssa_typed.proofs.in_order.in_order.Goals as goal
+use Rattle.ssa_typed.proofs.in_order.by_texts.Goals as goal
 
 pub returns : goal.returns
 returns c =
