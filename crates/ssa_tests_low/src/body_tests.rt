@@ -1,6 +1,6 @@
 //! Tests of bodies: of values, their places and their points.
 use crate::samples::{PLACES, SPEC};
-use crate::support::{are_told, body, listed, look_at, path, printed, schema, shown, value};
+use crate::support::{are_told, body, listed, look_at, path, printed, schema, set, shown, value};
 use ssa_schema::body_fault::BodyFault;
 use ssa_typed::body::Body;
 use ssa_typed::fault::TypedFault;
@@ -92,12 +92,12 @@ fn places_have_their_values(rt: HostRuntime) -> Result<(), Fail> {
     are_told(rt.alloc(), &PARTS, part)
 }
 
+const SAMPLE_POINTS: &str =
+    r#"f:a f:d/f:x f:d/f:z f:e/f:x f:l/k:{"n":1} f:l/k:{"n":1}/f:n f:l/k:{"n":2} f:l/k:{"n":2}/f:n f:l/k:{"n":2}/f:t f:s/v:10 f:s/v:9 f:v"#;
+
 const POINTS: [(&str, &str); 4] = [
     ("{}", ""),
-    (
-        SAMPLE,
-        r#"f:a f:d/f:x f:d/f:z f:e/f:x f:l/k:{"n":1} f:l/k:{"n":1}/f:n f:l/k:{"n":2} f:l/k:{"n":2}/f:n f:l/k:{"n":2}/f:t f:s/v:10 f:s/v:9 f:v"#,
-    ),
+    (SAMPLE, SAMPLE_POINTS),
     (
         r#"{"d":{},"l":[],"r":{},"s":[9,10]}"#,
         "f:d f:l f:r f:s/v:10 f:s/v:9",
@@ -110,6 +110,36 @@ fn leaves_items_entries_and_empty_branches_are_points(rt: HostRuntime) -> Result
     are_told(rt.alloc(), &POINTS, |alloc, text| {
         listed(alloc, &body(alloc, PLACES, text)?.points(alloc)?)
     })
+}
+
+// Whether the sample's points are told to be its own, once these paths were put in or, where they
+// were there, taken out.
+fn known(alloc: Global, turned: &str) -> Result<String, Fail> {
+    let mut points = set(alloc, SAMPLE_POINTS)?;
+    for path in &set(alloc, turned)?.paths(alloc)? {
+        if !points.remove(path) {
+            points.insert(alloc, path)?;
+        }
+    }
+    let told = body(alloc, PLACES, SAMPLE)?.has_points(alloc, &points)?;
+    Ok(format!(in alloc; "{told}")?)
+}
+
+const KNOWN: [(&str, &str); 9] = [
+    ("", "true"),
+    ("/", "false"),
+    ("f:d", "false"),
+    ("f:q", "false"),
+    (r#"f:l/k:{"n":2}"#, "false"),
+    (r#"f:l/k:{"n":2}/f:t"#, "false"),
+    (r#"f:l/k:{"n":3}"#, "false"),
+    ("f:s/v:10 f:s/v:11", "false"),
+    ("f:v/f:v", "false"),
+];
+
+#[test]
+fn a_body_knows_its_own_points(rt: HostRuntime) -> Result<(), Fail> {
+    are_told(rt.alloc(), &KNOWN, known)
 }
 
 #[test]
