@@ -130,8 +130,18 @@ fn init<'a, T: Files + AllocGlobal, W: Sink>(
     let read = made_schema(alloc, notes, schema, &schema_bytes)?;
     let object_bytes = read_file(rt, object)?;
     let made = made_bench(alloc, notes, read, &schema_bytes, object, &object_bytes)?;
-    let reply = init_text(alloc, &made)?;
-    save_bench(rt, bench, &made)?;
+    save_and_tell(rt, writer, bench, &made)
+}
+
+// Saves a bench that was made, and writes the reply.
+fn save_and_tell<'a, T: Files + AllocGlobal, W: Sink>(
+    rt: &T,
+    writer: &mut W,
+    name: &'a str,
+    bench: &Bench,
+) -> Result<Status, Trouble<'a>> {
+    let reply = init_text(rt.alloc(), bench)?;
+    save_bench(rt, name, bench)?;
     write_reply(writer, reply)?;
     Ok(Status::Done)
 }
@@ -147,6 +157,23 @@ fn apply<'a, T: Files + AllocGlobal, W: Sink>(
     force: bool,
 ) -> Result<Status, Trouble<'a>> {
     let mut held = load_bench(rt, bench)?;
+    apply_file(
+        rt, writer, notes, bench, file, &mut held, at, manager, force,
+    )
+}
+
+// Applies the object of a file.
+fn apply_file<'a, T: Files + AllocGlobal, W: Sink>(
+    rt: &T,
+    writer: &mut W,
+    notes: &mut Notes,
+    name: &'a str,
+    file: &'a str,
+    bench: &mut Bench,
+    at: &str,
+    manager: &str,
+    force: bool,
+) -> Result<Status, Trouble<'a>> {
     let object = read_file(rt, file)?;
     let asked = Asked::Apply {
         manager,
@@ -154,7 +181,7 @@ fn apply<'a, T: Files + AllocGlobal, W: Sink>(
         at,
         object: &object,
     };
-    answer_and_save(rt, writer, notes, bench, file, &mut held, asked)
+    answer_and_save(rt, writer, notes, name, file, bench, asked)
 }
 
 fn update<'a, T: Files + AllocGlobal, W: Sink>(
@@ -167,13 +194,27 @@ fn update<'a, T: Files + AllocGlobal, W: Sink>(
     manager: &str,
 ) -> Result<Status, Trouble<'a>> {
     let mut held = load_bench(rt, bench)?;
+    update_to_file(rt, writer, notes, bench, file, &mut held, at, manager)
+}
+
+// Updates the object to that of a file.
+fn update_to_file<'a, T: Files + AllocGlobal, W: Sink>(
+    rt: &T,
+    writer: &mut W,
+    notes: &mut Notes,
+    name: &'a str,
+    file: &'a str,
+    bench: &mut Bench,
+    at: &str,
+    manager: &str,
+) -> Result<Status, Trouble<'a>> {
     let object = read_file(rt, file)?;
     let asked = Asked::Update {
         manager,
         at,
         object: &object,
     };
-    answer_and_save(rt, writer, notes, bench, file, &mut held, asked)
+    answer_and_save(rt, writer, notes, name, file, bench, asked)
 }
 
 // Asks the bench of a file what needs no other file.
@@ -231,7 +272,6 @@ fn answer_and_save<'a, T: Files + AllocGlobal, W: Sink>(
     write_answer(writer, reply)
 }
 
-// Holds a session on the bench of a file, and saves it at the end of the input.
 fn hold_session<'a, T: Files + AllocGlobal, R: Source, W: Sink>(
     rt: &T,
     reader: &mut R,
@@ -239,9 +279,20 @@ fn hold_session<'a, T: Files + AllocGlobal, R: Source, W: Sink>(
     name: &'a str,
 ) -> Result<Status, Trouble<'a>> {
     let mut bench = load_bench(rt, name)?;
-    let Ok(()) = session(rt.alloc(), reader, writer, &mut bench) else {
+    hold_and_save(rt, reader, writer, name, &mut bench)
+}
+
+// Holds a session on the bench of a file, and saves it at the end of the input.
+fn hold_and_save<'a, T: Files + AllocGlobal, R: Source, W: Sink>(
+    rt: &T,
+    reader: &mut R,
+    writer: &mut W,
+    name: &'a str,
+    bench: &mut Bench,
+) -> Result<Status, Trouble<'a>> {
+    let Ok(()) = session(rt.alloc(), reader, writer, bench) else {
         return Err(Trouble::SessionBroken);
     };
-    save_bench(rt, name, &bench)?;
+    save_bench(rt, name, bench)?;
     Ok(Status::Done)
 }
