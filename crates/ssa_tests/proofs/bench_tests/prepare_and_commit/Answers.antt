@@ -3,4 +3,4 @@ use Rattle.ssa_tests.proofs.bench_tests.prepare_and_commit.Goals as goal
 
 -- what was prepared is the answer to the command
 pub commit-requires : goal.commit-requires
-commit-requires c = (command_view c.args.command, command_word c.args.command, c.in-Ok.ensures)
+commit-requires c = (command_view c.args.command, command_word c.args.command, c.in_ok-prepared.ensures)
