@@ -5,7 +5,7 @@ use Rattle.std.specs.Ordering.{is_lt, is_eq, ordering_reverse}
 use Rattle.std.specs.List.{list_any}
 use Rattle.ssa_model.specs.definitions.Path.{Element, Path, element_cmp, same_element, same_path, under}
 use Rattle.ssa_path.specs.declared.combine.Combination.{Combination}
-use Rattle.ssa_path.specs.declared.combine.Combination.TheVariants.{Union, Minus, Meet, WithoutUnder, WithoutOver}
+use Rattle.ssa_path.specs.declared.combine.Combination.TheVariants.{Union, Minus, Meet, WithoutUnder, WithoutOver, Over}
 use Rattle.ssa_path.specs.declared.element.Elem.{Elem}
 use Rattle.ssa_path.specs.declared.trie.Trie.{Trie}
 use Rattle.ssa_path.specs.declared.trie.Trie.TheOpen.{Trie-F}
@@ -126,6 +126,7 @@ concerns-more Minus = same_path-reading.more
 concerns-more Meet = same_path-reading.more
 concerns-more WithoutUnder = λ e f p q. ap (λ b. b && under q p) (same_either_way e f)
 concerns-more WithoutOver = under-reading.more
+concerns-more Over = under-reading.more
 
 -- ---- one element more in front: s says whether the path begins with it, x and y what the lists hold there, v what is made of that
 
@@ -135,6 +136,7 @@ keeps-none Minus = refl
 keeps-none Meet = refl
 keeps-none WithoutUnder = refl
 keeps-none WithoutOver = refl
+keeps-none Over = refl
 
 front : (how : Combination) (s x y a b u v : Bool) → v ≡ keeps how x y → (s ≡ true → (a ≡ false) × (b ≡ false)) → u ≡ keeps how a b
     → ((s && v) || u) ≡ keeps how ((s && x) || a) ((s && y) || b)
@@ -156,6 +158,7 @@ keeps-own WithoutUnder true h = refl
 keeps-own WithoutUnder false h = refl
 keeps-own WithoutOver true h = refl
 keeps-own WithoutOver false h = refl
+keeps-own Over x h = absurd (true≢false (sym h))
 
 drops-own : (how : Combination) (x : Bool) → keeps how true false ≡ false → false ≡ keeps how x false
 drops-own Union x h = absurd (true≢false h)
@@ -164,6 +167,8 @@ drops-own Meet true h = refl
 drops-own Meet false h = refl
 drops-own WithoutUnder x h = absurd (true≢false h)
 drops-own WithoutOver x h = absurd (true≢false h)
+drops-own Over true h = refl
+drops-own Over false h = refl
 
 keeps-other : (how : Combination) (ps : List Path) (p : Path) → keeps how false true ≡ true → is_one_of ps p ≡ keeps how false (is_concerned how ps p)
 keeps-other Union ps p h = refl
@@ -171,6 +176,7 @@ keeps-other Minus ps p h = absurd (true≢false (sym h))
 keeps-other Meet ps p h = absurd (true≢false (sym h))
 keeps-other WithoutUnder ps p h = absurd (true≢false (sym h))
 keeps-other WithoutOver ps p h = absurd (true≢false (sym h))
+keeps-other Over ps p h = absurd (true≢false (sym h))
 
 drops-other : (how : Combination) (y : Bool) → keeps how false true ≡ false → false ≡ keeps how false y
 drops-other Union y h = absurd (true≢false h)
@@ -178,6 +184,7 @@ drops-other Minus y h = refl
 drops-other Meet y h = refl
 drops-other WithoutUnder y h = refl
 drops-other WithoutOver y h = refl
+drops-other Over y h = refl
 
 -- a test that never passes adds nothing to another
 pub gone : (s a : Bool) → ((s && false) || a) ≡ a
@@ -501,6 +508,7 @@ combined-covered Union x m n h here below = absurd (true≢false (sym h))
 combined-covered Minus x m n h here below = absurd (true≢false (sym h))
 combined-covered Meet x m n h here below = absurd (true≢false (sym h))
 combined-covered WithoutOver x m n h here below = absurd (true≢false (sym h))
+combined-covered Over x m n h here below = absurd (true≢false (sym h))
 combined-covered WithoutUnder x m n h here below = record {
   paths_are = λ p. ap (λ ps. is_one_of ps p) none ∙ and_not (is_one_of (paths m) p) _ (above-all (paths n) p h);
   trie = is_trie-made x (ap (λ l. rises (elements l)) below) (ap are_filled_tries below);
@@ -519,6 +527,7 @@ concerned-level WithoutUnder n e p h =
     let here : (out-Trie n).here ≡ false = sym (one-level-root n) ∙ h in
     ap (list_any (λ q. under q (e ∷ p))) (paths-level n ∙ ap (λ b. here_path b ++ paths_below (out-Trie n).below.items) here)
 concerned-level WithoutOver n e p h = any-level under under-reading n e p
+concerned-level Over n e p h = any-level under under-reading n e p
 
 -- a place that is kept or not, with combined children, makes the combination, where the other does not cover it
 pub combined-place : (how : Combination) (x : Trie-F Trie) (m n : Trie) → covers how n ≡ false

@@ -11,7 +11,7 @@ use Rattle.ssa_path.specs.Combine.{concerns, is_concerned, keeps, IsCombination}
 use Rattle.ssa_path.specs.Meet.{combined}
 use Rattle.ssa_path.specs.Trie.{has_some, is_one_of, paths}
 use Rattle.ssa_path.specs.declared.combine.Combination.{Combination}
-use Rattle.ssa_path.specs.declared.combine.Combination.TheVariants.{Union, Minus, Meet, WithoutUnder, WithoutOver}
+use Rattle.ssa_path.specs.declared.combine.Combination.TheVariants.{Union, Minus, Meet, WithoutUnder, WithoutOver, Over}
 use Rattle.ssa_path.specs.declared.trie.Trie.{Trie}
 use Rattle.ssa_model.proofs.Lists.{has-listed}
 use Rattle.ssa_model.proofs.Basics.{or_twice, some_or}
@@ -82,6 +82,7 @@ has-combined Minus s t q = has-minus s t q ∙ ap (λ b. has s q && not b) (has-
 has-combined Meet s t q = has-set_of (set_paths s) (has t) q ∙ (λ i. sym (has-paths s q) i && has-paths t q i)
 has-combined WithoutUnder s t q = has-set_of (set_paths s) (λ p. not (has_at_or_above t p)) q ∙ ap (λ b. b && not (has_at_or_above t q)) (sym (has-paths s q))
 has-combined WithoutOver s t q = has-set_of (set_paths s) (λ p. not (has_at_or_below t p)) q ∙ ap (λ b. b && not (has_at_or_below t q)) (sym (has-paths s q))
+has-combined Over s t q = has-set_of (set_paths s) (has_at_or_below t) q ∙ ap (λ b. b && has_at_or_below t q) (sym (has-paths s q))
 
 -- the set of a combination of tries is the combination of their sets
 pub listed-combined : (how : Combination) (m n t : Trie) → IsCombination how m n t → listed (paths t) ≡ combined how (listed (paths m)) (listed (paths n))

@@ -4,7 +4,7 @@ use Rattle.std.specs.Bool.{MatchBool}
 use Rattle.std.specs.List.{list_any}
 use Rattle.ssa_model.specs.definitions.Path.{Element, Path, same_path, under}
 use Rattle.ssa_path.specs.declared.combine.Combination.{Combination}
-use Rattle.ssa_path.specs.declared.combine.Combination.TheVariants.{Union, Minus, Meet, WithoutUnder, WithoutOver}
+use Rattle.ssa_path.specs.declared.combine.Combination.TheVariants.{Union, Minus, Meet, WithoutUnder, WithoutOver, Over}
 use Rattle.ssa_path.specs.declared.element.Elem.{Elem}
 use Rattle.ssa_path.specs.declared.trie.Trie.{Trie}
 use Rattle.ssa_path.specs.Children.{elements, is_below, rises}
@@ -18,6 +18,7 @@ concerns Minus p q = same_path p q
 concerns Meet p q = same_path p q
 concerns WithoutUnder p q = under q p
 concerns WithoutOver p q = under p q
+concerns Over p q = under p q
 
 abbrev pub is_concerned : Combination → List Path → Path → Bool
 is_concerned how qs p = list_any (concerns how p) qs
@@ -34,6 +35,7 @@ keeps Minus own other = own && not other
 keeps Meet own other = own && other
 keeps WithoutUnder own other = own && not other
 keeps WithoutOver own other = own && not other
+keeps Over own other = own && other
 
 pub record IsCombination (how : Combination) (own other t : Trie) : Type 0 where
   pub paths_are : (p : Path) → is_one_of (paths t) p ≡ keeps how (is_one_of (paths own) p) (is_concerned how (paths other) p)

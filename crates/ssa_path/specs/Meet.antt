@@ -2,7 +2,7 @@
 use Rattle.std.specs.Prelude.{not}
 use Rattle.ssa_model.specs.definitions.PathMap.{PathSet, has, has_at_or_above, has_at_or_below, paths, set_of, minus, union}
 use Rattle.ssa_path.specs.declared.combine.Combination.{Combination}
-use Rattle.ssa_path.specs.declared.combine.Combination.TheVariants.{Union, Minus, Meet, WithoutUnder, WithoutOver}
+use Rattle.ssa_path.specs.declared.combine.Combination.TheVariants.{Union, Minus, Meet, WithoutUnder, WithoutOver, Over}
 
 abbrev pub meet : PathSet → PathSet → PathSet
 meet s t = set_of (paths s) (has t)
@@ -15,9 +15,14 @@ without_under s t = set_of (paths s) (λ p. not (has_at_or_above t p))
 abbrev pub without_over : PathSet → PathSet → PathSet
 without_over s t = set_of (paths s) (λ p. not (has_at_or_below t p))
 
+-- the paths that have one of the other set's at or below them
+abbrev pub over : PathSet → PathSet → PathSet
+over s t = set_of (paths s) (has_at_or_below t)
+
 abbrev pub combined : Combination → PathSet → PathSet → PathSet
 combined Union s t = union s t
 combined Minus s t = minus s t
 combined Meet s t = meet s t
 combined WithoutUnder s t = without_under s t
 combined WithoutOver s t = without_over s t
+combined Over s t = over s t

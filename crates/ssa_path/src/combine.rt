@@ -20,6 +20,8 @@ pub enum Combination {
     WithoutUnder,
     /// The paths that have none of the other set's at or below them.
     WithoutOver,
+    /// The paths that have one of the other set's at or below them.
+    Over,
 }
 
 impl Combination {
@@ -34,6 +36,7 @@ impl Combination {
             Combination::Meet => other.here,
             Combination::WithoutUnder => other.here,
             Combination::WithoutOver => other.has_paths(),
+            Combination::Over => other.has_paths(),
         }
     }
 
@@ -47,6 +50,7 @@ impl Combination {
             Combination::Meet => false,
             Combination::WithoutUnder => other.here,
             Combination::WithoutOver => false,
+            Combination::Over => false,
         }
     }
 
@@ -60,6 +64,7 @@ impl Combination {
             Combination::Meet => own && other,
             Combination::WithoutUnder => own && !other,
             Combination::WithoutOver => own && !other,
+            Combination::Over => own && other,
         }
     }
 }

@@ -211,6 +211,13 @@ impl FieldSet {
         self.combined(alloc, held, Combination::WithoutOver)
     }
 
+    /// The paths of this set that have a path of the other at or below them.
+    pub fn over(&self, alloc: Global, held: &FieldSet) -> Result<FieldSet, AllocError>
+        ensures { IfOk result (λ s. s ≡ set_of (set.paths self.now) (has_at_or_below held.now)) }
+    {
+        self.combined(alloc, held, Combination::Over)
+    }
+
     /// The paths of this set that are no key fields of items.
     ///
     /// A key field is told from the path alone: its name is one of those that the element before
