@@ -109,7 +109,7 @@ other-first (c ∷ cs) d ds e h =
     both _ _ (ap is_lt less) (below-trans (element_view d.0) (element_view c.0) (elements cs) less (both_first _ _ h))
 
 -- children behind an element have no path that begins with it
-absent : (R : Path → Path → Bool) → GoesOn R → (e f : Element) (cs : List (Elem × Trie)) (p : Path) → same_element e f ≡ true
+pub absent : (R : Path → Path → Bool) → GoesOn R → (e f : Element) (cs : List (Elem × Trie)) (p : Path) → same_element e f ≡ true
     → is_below f (elements cs) ≡ true → list_any (R (e ∷ p)) (paths_below cs) ≡ false
 absent R more e f [] p s h = refl
 absent R more e f (c ∷ cs) p s h =
@@ -120,7 +120,7 @@ absent R more e f (c ∷ cs) p s h =
 
 -- ---- how the other set concerns a path
 
-concerns-more : (how : Combination) → GoesOn (concerns how)
+pub concerns-more : (how : Combination) → GoesOn (concerns how)
 concerns-more Union = same_path-reading.more
 concerns-more Minus = same_path-reading.more
 concerns-more Meet = same_path-reading.more
@@ -148,7 +148,7 @@ front how true x y a b u v made none rest =
     ap (λ w. v || w) empty ∙ or_false v ∙ made ∙ (λ i. keeps how (sym (or_false x) i) (sym (or_false y) i))
     ∙ (λ i. keeps how (x || sym own i) (y || sym other i))
 
-keeps-own : (how : Combination) (x : Bool) → keeps how true false ≡ true → x ≡ keeps how x false
+pub keeps-own : (how : Combination) (x : Bool) → keeps how true false ≡ true → x ≡ keeps how x false
 keeps-own Union true h = refl
 keeps-own Union false h = refl
 keeps-own Minus true h = refl
@@ -160,7 +160,7 @@ keeps-own WithoutOver true h = refl
 keeps-own WithoutOver false h = refl
 keeps-own Over x h = absurd (true≢false (sym h))
 
-drops-own : (how : Combination) (x : Bool) → keeps how true false ≡ false → false ≡ keeps how x false
+pub drops-own : (how : Combination) (x : Bool) → keeps how true false ≡ false → false ≡ keeps how x false
 drops-own Union x h = absurd (true≢false h)
 drops-own Minus x h = absurd (true≢false h)
 drops-own Meet true h = refl
@@ -178,7 +178,7 @@ keeps-other WithoutUnder ps p h = absurd (true≢false (sym h))
 keeps-other WithoutOver ps p h = absurd (true≢false (sym h))
 keeps-other Over ps p h = absurd (true≢false (sym h))
 
-drops-other : (how : Combination) (y : Bool) → keeps how false true ≡ false → false ≡ keeps how false y
+pub drops-other : (how : Combination) (y : Bool) → keeps how false true ≡ false → false ≡ keeps how false y
 drops-other Union y h = absurd (true≢false h)
 drops-other Minus y h = refl
 drops-other Meet y h = refl
@@ -197,14 +197,14 @@ gone false a = refl
 pub combined-none : (how : Combination) → IsCombined how [] [] []
 combined-none how = record { paths_are = λ e p. sym (keeps-none how); risen = refl; tries = refl; lower = λ e g h. refl }
 
-abbrev Children : Type 0
+abbrev pub Children : Type 0
 Children = List (Elem × Trie)
 
-abbrev holds : Children → Element → Path → Bool
+abbrev pub holds : Children → Element → Path → Bool
 holds cs e p = is_one_of (paths_below cs) (e ∷ p)
 
 -- the other list's paths concern the path
-abbrev meets : Combination → Children → Element → Path → Bool
+abbrev pub meets : Combination → Children → Element → Path → Bool
 meets how ds e p = is_concerned how (paths_below ds) (e ∷ p)
 
 meets-child : (how : Combination) (e : Element) (d : Elem × Trie) (ds : Children) (p : Path)
@@ -238,7 +238,7 @@ pub holds-first : (u : Elem × Trie) (us : Children) (f : Element) (e : Element)
     → holds (u ∷ us) e p ≡ ((same_element e f && is_one_of (paths u.1) p) || holds us e p)
 holds-first u us f e p is = any-child same_path same_path-reading e u us p ∙ ap (λ g. (same_element e g && is_one_of (paths u.1) p) || holds us e p) is
 
-abbrev nothing : Path → Bool
+abbrev pub nothing : Path → Bool
 nothing p = false
 
 meets-first : (how : Combination) (d : Elem × Trie) (ds : Children) (f : Element) (e : Element) (p : Path) → element_view d.0 ≡ f

@@ -1,8 +1,7 @@
 -- A trie, level by level. A reading of paths goes on below the child of its first element: `same_path` and `under` are two.
-use Rattle.std.proofs.Common.{◌≡◌, ℕ, ◌+◌, ◌<◌, List, [], ◌∷◌, ◌++◌, length, get_or, drop, map, Bool, true, false, ◌&&◌, ◌||◌, cond, Option, Some, None, Ordering, Less, Equal, Greater, refl, sym, ap, ◌∙◌, true≢false}
+use Rattle.std.proofs.Common.{◌≡◌, ℕ, ◌+◌, ◌<◌, List, [], ◌∷◌, ◌++◌, length, get_or, drop, map, Bool, true, false, ◌&&◌, ◌||◌, cond, Option, Some, None, refl, sym, ap, ◌∙◌, true≢false}
 use Rattle.std.proofs.lemmas.List.{drop_more}
 use Rattle.std.proofs.lemmas.List.Folds.{list_any-append}
-use Rattle.std.specs.Ordering.{is_eq, ordering_then}
 use Rattle.std.specs.List.{list_any}
 use Rattle.std.specs.Prelude.{◌==◌, not}
 use Rattle.std.proofs.Common.{arith}
@@ -109,6 +108,20 @@ module _ (R : Path → Path → Bool) (more : GoesOn R) where
       list_any-append (R (e ∷ p)) (paths_after (element_view c.0) (paths c.1)) (paths_below cs)
       ∙ ap (λ b. b || list_any (R (e ∷ p)) (paths_below cs)) (after-more e (element_view c.0) (paths c.1) p)
 
+  found-first : (b : Bool) (c : Trie) (x : Option Trie) (p : Path) → (b ≡ true → x ≡ None)
+      → ((b && list_any (R p) (paths c)) || found R x p) ≡ found R (cond b (Some c) x) p
+  found-first true c x p h = ap (λ y. list_any (R p) (paths c) || found R y p) (h refl) ∙ or_false _
+  found-first false c x p h = refl
+
+  -- a test that goes on goes into the child of the first element
+  pub below-more : (e : Element) (cs : List (Elem × Trie)) (p : Path) → rises (elements cs) ≡ true
+      → list_any (R (e ∷ p)) (paths_below cs) ≡ found R (child_at e cs) p
+  below-more e [] p h = refl
+  below-more e (c ∷ cs) p h =
+      child-more e c cs p
+      ∙ ap (λ b. (same_element e (element_view c.0) && list_any (R p) (paths c.1)) || b) (below-more e cs p (both_second _ _ h))
+      ∙ found-first (same_element e (element_view c.0)) c.1 (child_at e cs) p (λ s. absent-below e (element_view c.0) cs s (both_first _ _ h))
+
 module _ (R : Path → Path → Bool) (r : IsReading R) where
   -- among paths with an element in front, a path is read that begins with it and whose rest is read among theirs
   pub any-after : (e f : Element) (ps : List Path) (p : Path) → list_any (R (e ∷ p)) (paths_after f ps) ≡ (same_element e f && list_any (R p) ps)
@@ -117,11 +130,6 @@ module _ (R : Path → Path → Bool) (r : IsReading R) where
   any-here : (b : Bool) (e : Element) (p : Path) → list_any (R (e ∷ p)) (here_path b) ≡ false
   any-here true e p = ap (λ t. t || false) (r.none e p)
   any-here false e p = refl
-
-  found-first : (b : Bool) (c : Trie) (x : Option Trie) (p : Path) → (b ≡ true → x ≡ None)
-      → ((b && list_any (R p) (paths c)) || found R x p) ≡ found R (cond b (Some c) x) p
-  found-first true c x p h = ap (λ y. list_any (R p) (paths c) || found R y p) (h refl) ∙ or_false _
-  found-first false c x p h = refl
 
   -- a path is read in the first child, where it begins with its element, or among the others
   pub any-child : (e : Element) (c : Elem × Trie) (cs : List (Elem × Trie)) (p : Path)
@@ -132,11 +140,7 @@ module _ (R : Path → Path → Bool) (r : IsReading R) where
   -- a path goes into the child of its first element
   pub any-below : (e : Element) (cs : List (Elem × Trie)) (p : Path) → rises (elements cs) ≡ true
       → list_any (R (e ∷ p)) (paths_below cs) ≡ found R (child_at e cs) p
-  any-below e [] p h = refl
-  any-below e (c ∷ cs) p h =
-      any-child e c cs p
-      ∙ ap (λ b. (same_element e (element_view c.0) && list_any (R p) (paths c.1)) || b) (any-below e cs p (both_second _ _ h))
-      ∙ found-first (same_element e (element_view c.0)) c.1 (child_at e cs) p (λ s. absent-below e (element_view c.0) cs s (both_first _ _ h))
+  any-below = below-more R r.more
 
   -- a path with a first element is read in a trie that is made where it is among the children
   pub any-made : (x : Trie-F Trie) (e : Element) (p : Path) → list_any (R (e ∷ p)) (paths (roll-Trie x)) ≡ list_any (R (e ∷ p)) (paths_below x.below.items)
@@ -190,7 +194,8 @@ child-is : (b : Bool) (x c : Trie) (rest : Option Trie) → is_trie x ≡ true �
 child-is true x c rest here later e = let same : x ≡ c = cc in ap is_trie (sym same) ∙ here
 child-is false x c rest here later e = later e
 
-child-tests : (e : Element) (cs : List (Elem × Trie)) (c : Trie) → are_filled_tries cs ≡ true → child_at e cs ≡ Some c → is_trie c ≡ true
+-- a child of filled tries is a trie
+pub child-tests : (e : Element) (cs : List (Elem × Trie)) (c : Trie) → are_filled_tries cs ≡ true → child_at e cs ≡ Some c → is_trie c ≡ true
 child-tests e [] c h s = cc
 child-tests e (x ∷ cs) c h s = child-is (same_element e (element_view x.0)) x.1 c (child_at e cs) (both_first _ _ (both_first _ _ h))
     (child-tests e cs c (both_second _ _ h)) s

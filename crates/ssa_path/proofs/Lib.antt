@@ -1,4 +1,5 @@
 pub mod Combining
+pub mod Finding
 pub mod Comparing
 pub mod ElementTexts
 pub mod Escapes

@@ -1,14 +1,15 @@
 -- The set of a list of paths, by what it answers.
-use Rattle.std.proofs.Common.{◌≡◌, List, [], ◌∷◌, map, Bool, true, false, ◌&&◌, ◌||◌, not, cond, Option, Some, Less, Equal, Greater, refl, sym, ap, ◌∙◌}
+use Rattle.std.proofs.Common.{◌≡◌, List, [], ◌∷◌, map, Bool, true, false, ◌&&◌, ◌||◌, not, Less, Equal, Greater, refl, sym, ap, ◌∙◌}
+use Rattle.std.proofs.Math.Bool.{and_comm}
 use Rattle.std.specs.Prelude.{is_some}
 use Rattle.std.specs.List.{list_any}
 use Rattle.std.specs.FinMap.Entries.{find, put, by_order}
 use Rattle.ssa_model.specs.definitions.Path.{Path, path_cmp, same_path, under}
 use Rattle.ssa_model.specs.definitions.PathMap.{PathSet, has, has_at_or_above, has_at_or_below, insert, is_empty, set_of, paths as set_paths, listed, marked}
-use Rattle.ssa_model.proofs.PathMaps.{get-from_entries, has-insert, has-minus, has-paths, has-set_of, has-union, same_sets}
+use Rattle.ssa_model.proofs.PathMaps.{has-insert, has-minus, has-paths, has-set_of, has-union, same_sets}
 use Rattle.ssa_model.proofs.Texts.{same_path_same}
 use Rattle.ssa_path.specs.Combine.{concerns, is_concerned, keeps, IsCombination}
-use Rattle.ssa_path.specs.Meet.{combined}
+use Rattle.ssa_path.specs.Meet.{combined, meet}
 use Rattle.ssa_path.specs.Trie.{has_some, is_one_of, paths}
 use Rattle.ssa_path.specs.declared.combine.Combination.{Combination}
 use Rattle.ssa_path.specs.declared.combine.Combination.TheVariants.{Union, Minus, Meet, WithoutUnder, WithoutOver, Over}
@@ -76,10 +77,18 @@ pub listed-insert : (n m : Trie) (p : Path) → ((q : Path) → is_one_of (paths
 listed-insert n m p e =
     same_sets _ _ (λ q. has-listed (paths m) q ∙ e q ∙ ap (λ b. same_path q p || b) (sym (has-listed (paths n) q)) ∙ sym (has-insert p (listed (paths n)) q))
 
+-- a path is in the meet of two sets where it is in both
+has-meet : (s t : PathSet) (q : Path) → has (meet s t) q ≡ (has s q && has t q)
+has-meet s t q = has-set_of (set_paths s) (has t) q ∙ ap (λ b. b && has t q) (sym (has-paths s q))
+
+-- either set may come first in a meet
+pub meet-comm : (s t : PathSet) → meet s t ≡ meet t s
+meet-comm s t = same_sets (meet s t) (meet t s) (λ q. has-meet s t q ∙ and_comm (has s q) (has t q) ∙ sym (has-meet t s q))
+
 has-combined : (how : Combination) (s t : PathSet) (q : Path) → has (combined how s t) q ≡ keeps how (has s q) (is_concerned how (set_paths t) q)
 has-combined Union s t q = has-union s t q ∙ ap (λ b. has s q || b) (has-paths t q)
 has-combined Minus s t q = has-minus s t q ∙ ap (λ b. has s q && not b) (has-paths t q)
-has-combined Meet s t q = has-set_of (set_paths s) (has t) q ∙ (λ i. sym (has-paths s q) i && has-paths t q i)
+has-combined Meet s t q = has-meet s t q ∙ ap (λ b. has s q && b) (has-paths t q)
 has-combined WithoutUnder s t q = has-set_of (set_paths s) (λ p. not (has_at_or_above t p)) q ∙ ap (λ b. b && not (has_at_or_above t q)) (sym (has-paths s q))
 has-combined WithoutOver s t q = has-set_of (set_paths s) (λ p. not (has_at_or_below t p)) q ∙ ap (λ b. b && not (has_at_or_below t q)) (sym (has-paths s q))
 has-combined Over s t q = has-set_of (set_paths s) (has_at_or_below t) q ∙ ap (λ b. b && has_at_or_below t q) (sym (has-paths s q))

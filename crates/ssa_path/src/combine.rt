@@ -1,14 +1,19 @@
-// Two sets of paths put together, by one walk over both tries.
-ghost use Rattle.std.specs.Prelude.{◌≡◌, [], true, drop, IfOk, OnOk, OnErr};
+// Two sets of paths put together, by one walk over both tries, or by a search for each of few children among many others.
+ghost use Rattle.std.specs.Prelude.{◌≡◌, [], true, false, drop, IfOk, OnOk, OnErr};
+ghost use Rattle.std.specs.Bool.{OnTrue};
 ghost use Rattle.ssa_path.specs.Children.{elements, rises, heads_order};
 ghost use Rattle.ssa_path.specs.View.{element_view};
 ghost use Rattle.ssa_path.specs.Trie.{is_trie, are_filled_tries, paths};
 ghost use Rattle.ssa_path.specs.Combine.{covers, is_concerned, keeps, IsCombination, IsCombined, IsKept, IsGrown};
 
+use crate::children::find_child;
 use crate::element::Elem;
 use crate::trie::{Trie, copy_child};
 use std::alloc::{AllocError, Global};
 use std::cmp::Ordering;
+
+// Among more than so many children for each of the own, a search for each of these is taken to cost less than a walk over all.
+const FEW_AMONG: usize = 16;
 
 /// How two sets are put together.
 #[derive(Clone, Copy, Drop)]
@@ -66,6 +71,13 @@ impl Combination {
             Combination::WithoutOver => own && !other,
             Combination::Over => own && other,
         }
+    }
+
+    // Whether the counterparts of so few children are searched for among so many others.
+    fn searches(self, own: usize, others: usize) -> bool
+        ensures { OnTrue result (keeps self false true ≡ false) }
+    {
+        !self.keeps(false, true) && own < others / FEW_AMONG
     }
 }
 
@@ -159,6 +171,35 @@ fn combine_children(
     Ok(combined)
 }
 
+// The combination of what is below two places, where nothing that the other place has alone is kept: each child finds its
+// counterpart, so that few children among many others cost a search each.
+#[cycle(combine)]
+fn combine_found(
+    alloc: Global,
+    own: &[(Elem, Trie)],
+    others: &[(Elem, Trie)],
+    how: Combination,
+) -> Result<Vec<(Elem, Trie)>, AllocError>
+    requires own_rise { rises (elements own.now) ≡ true }
+    requires own_tries { are_filled_tries own.now ≡ true }
+    requires others_rise { rises (elements others.now) ≡ true }
+    requires others_tries { are_filled_tries others.now ≡ true }
+    requires own_alone { keeps how false true ≡ false }
+    ensures { IfOk result (λ v. IsCombined how own.now others.now v.items) }
+{
+    let mut combined = Vec::new(alloc);
+    for mine in own {
+        match find_child(others, &mine.0) {
+            None => push_copy(alloc, &mut combined, mine, how.keeps(true, false))?,
+            Some(theirs) => {
+                let child = combine(alloc, &mine.1, theirs, how)?;
+                push_filled(alloc, &mut combined, &mine.0, child)?;
+            }
+        }
+    }
+    Ok(combined)
+}
+
 /// The paths that the combination keeps of those of two tries.
 #[cycle(combine)]
 pub fn combine(
@@ -177,7 +218,11 @@ pub fn combine(
             below: Vec::new(alloc),
         });
     }
-    let below = combine_children(alloc, &own.below, &other.below, how)?;
+    let below = if how.searches(own.below.len(), other.below.len()) {
+        combine_found(alloc, &own.below, &other.below, how)?
+    } else {
+        combine_children(alloc, &own.below, &other.below, how)?
+    };
     let concerned = how.is_concerned(other);
     Ok(Trie {
         here: how.keeps(own.here, concerned),

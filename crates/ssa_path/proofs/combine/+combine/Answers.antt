@@ -1,21 +1,35 @@
-use Rattle.std.proofs.Common.{◌≡◌, refl, ap, sym, ◌∙◌, drop, Some, Less, Equal, Greater, rules}
+use Rattle.std.proofs.Common.{◌≡◌, ◌+◌, refl, ap, sym, subst, ◌∙◌, drop, Some, Less, Equal, Greater, rules}
+use Rattle.std.proofs.lemmas.List.{drop_all}
+use Rattle.std.specs.Option.{option_copied}
 use Rattle.ssa_path.specs.Children.{heads_order}
-use Rattle.ssa_path.specs.Combine.{keeps}
+use Rattle.ssa_path.specs.Combine.{keeps, IsCombined}
+use Rattle.ssa_path.specs.View.{element_view}
 use Rattle.ssa_path.specs.declared.trie.Trie.{the_lemmas}
 use Rattle.ssa_path.specs.declared.trie.Trie.TheViews.{out-Trie}
-use Rattle.ssa_path.proofs.Levels.{trie-parts}
-use Rattle.ssa_path.proofs.Combining.{combining-all, combined-place, combined-covered, heads-none, own-at, other-at, both-at}
+use Rattle.ssa_path.proofs.Levels.{child-tests, trie-parts}
+use Rattle.ssa_path.proofs.Lists.{child-trie}
+use Rattle.ssa_path.proofs.Combining.{Children, combining-all, combined-place, combined-covered, heads-none, own-at, other-at, both-at}
+use Rattle.ssa_path.proofs.Finding.{IsFinding, finding-all, none-at, some-at}
 use Rattle.ssa_path.proofs.combine.+combine.Goals as goal
+use Rattle.ssa_path.proofs.combine.+combine.Goals.{combine-then-searches+in_ok-below, combine-else-searches+in_ok-below-2, combine_found-in-None+in_ok-push_copy-in-None, combine_found-in-Some+in_ok-child-in-Some+in_ok-push_filled-in-Some}
 
 pub combine-combine_children-requires : goal.combine-combine_children-requires
 combine-combine_children-requires t c =
-    let own = trie-parts c.args.own.now c.deref.result.now c.deref.ensures.value c.requires.own in
-    let others = trie-parts c.args.other.now c.deref-2.result.now c.deref-2.ensures.value c.requires.other in
+    let own = trie-parts c.args.own.now c.deref-else-searches.result.now c.deref-else-searches.ensures.value c.requires.own in
+    let others = trie-parts c.args.other.now c.deref-else-searches-2.result.now c.deref-else-searches-2.ensures.value c.requires.other in
     (search (rules, the_lemmas), (own.0, (own.1, (others.0, others.1))))
 
 pub combine-returns : goal.combine-returns
 combine-returns t c =
-    let below = rw (c.deref.ensures.value, c.deref-2.ensures.value) at c.in_ok-below.ensures in
+    let Below : Children → Type 0 = IsCombined c.args.how (out-Trie c.args.own.now).below.items (out-Trie c.args.other.now).below.items in
+    let below : Below c.if-searches.below.items =
+    elim c.if-searches.branch [
+      | combine-then-searches+in_ok-below w ↦
+          subst Below (sym (ap (λ v. v.items) w.below-is)) (rw (w.deref.ensures.value, w.deref-then-searches.ensures.value) at w.in_ok-below.ensures)
+      | combine-else-searches+in_ok-below-2 w ↦
+          subst Below (sym (ap (λ v. v.items) w.below-is))
+          (rw (w.deref-else-searches.ensures.value, w.deref-else-searches-2.ensures.value) at w.in_ok-below-2.ensures)
+    ] in
     let left = sym c.covers.ensures ∙ c.if-covers.false in
     let here = c.keeps.ensures ∙ ap (keeps c.args.how (out-Trie c.args.own.now).here) c.is_concerned-concerned.ensures in
     combined-place c.args.how _ c.args.own.now c.args.other.now left here below
@@ -51,3 +65,41 @@ pub combine_children-returns : goal.combine_children-returns
 combine_children-returns t c =
     let none = heads-none _ _ (sym c.order_at.ensures ∙ c.in_default.is) in
     combining-all c.args.how c.args.own.now c.args.others.now _ _ _ none.0 none.1 c.loop-order.invariant
+
+pub combine-combine_found-requires : goal.combine-combine_found-requires
+combine-combine_found-requires t c =
+    let own = trie-parts c.args.own.now c.deref.result.now c.deref.ensures.value c.requires.own in
+    let others = trie-parts c.args.other.now c.deref-then-searches.result.now c.deref-then-searches.ensures.value c.requires.other in
+    (search (rules, the_lemmas), (own.0, (own.1, (others.0, (others.1, c.if-searches.ensures)))))
+
+pub combine_found-combine-requires : goal.combine_found-combine-requires
+combine_found-combine-requires t c =
+    let theirs = sym c.find_child.ensures ∙ ap option_copied c.in-Some.is in (
+      search (rules, the_lemmas),
+      (
+        child-trie c.args.own.now c.loop-mine.mine-index c.mine-item.result c.loop-mine-test.true c.mine-item.is c.requires.own_tries,
+        child-tests (element_view c.mine-item.result.0) c.args.others.now c.in-Some.theirs.now c.requires.others_tries theirs,
+      ),
+    )
+
+pub combine_found-loop-mine-preserved : goal.combine_found-loop-mine-preserved
+combine_found-loop-mine-preserved t c =
+    let Next : Children → Type 0 = IsFinding c.args.how c.args.own.now c.args.others.now (drop (c.loop-mine.mine-index + 1) c.args.own.now) in
+    elim c.match-find_child.branch [
+      | combine_found-in-None+in_ok-push_copy-in-None w ↦
+          subst Next (sym (ap (λ v. v.items) w.combined-is))
+          (none-at c.args.how c.args.own.now c.args.others.now c.loop-mine.mine-index c.mine-item.result c.loop-mine.combined.items
+          w.push_copy.new.children.items w.keeps.result c.requires.own_alone c.requires.others_rise c.loop-mine-test.true c.mine-item.is
+          (sym c.find_child.ensures ∙ ap option_copied w.in-None.is) w.keeps.ensures w.in_ok-push_copy-in-None.ensures c.loop-mine.invariant)
+      | combine_found-in-Some+in_ok-child-in-Some+in_ok-push_filled-in-Some w ↦
+          subst Next (sym (ap (λ v. v.items) w.combined-is))
+          (some-at c.args.how c.args.own.now c.args.others.now c.loop-mine.mine-index c.mine-item.result c.loop-mine.combined.items
+          w.push_filled.new.children.items w.in-Some.theirs.now w.in_ok-child-in-Some.child c.requires.own_alone c.requires.others_rise c.loop-mine-test.true
+          c.mine-item.is (sym c.find_child.ensures ∙ ap option_copied w.in-Some.is) w.in_ok-child-in-Some.ensures w.in_ok-push_filled-in-Some.ensures.ok
+          c.loop-mine.invariant)
+    ]
+
+pub combine_found-returns : goal.combine_found-returns
+combine_found-returns t c =
+    finding-all c.args.how c.args.own.now c.args.others.now _ _ c.requires.own_alone (drop_all c.loop-mine.mine-index c.args.own.now c.loop-mine-test.false)
+    c.loop-mine.invariant
