@@ -5,14 +5,14 @@ use Rattle.std.specs.Str.{is_utf8}
 use Rattle.std.proofs.lemmas.Bool.{and_parts}
 use Rattle.std.proofs.lemmas.Str.Ascii.{IsAscii-nil, IsAscii-cons}
 use Rattle.std.proofs.lemmas.Str.{IsUtf8-append, IsUtf8-from_ascii, IsUtf8-from_is_utf8, is_utf8-from_IsUtf8}
-use Rattle.ssa_model.specs.definitions.Json.{Text, Scalar, text, Json, scalar, object, same_text, comma_if, quoted, compact, compact_members, scalar_text}
+use Rattle.ssa_model.specs.definitions.Json.{Text, text, Json, object, same_text, comma_if, quoted, compact, compact_members, scalar_text}
 use Rattle.ssa_model.specs.definitions.Path.{Element, field, key, value, key_members, element_text}
 use Rattle.ssa_model.specs.definitions.Readings.{ReadFault, not_json}
 use Rattle.ssa_model.specs.definitions.ElementTexts.{ElementFault, bad_element, not_canonical, element_of, key_element, value_element}
 use Rattle.ssa_json.specs.Reading.{json_reading}
 use Rattle.ssa_json.specs.Writable.{has_utf8, is_utf8_scalar, members_have_utf8}
 use Rattle.ssa_json.specs.Written.{is_narrow_scalar, members_narrow}
-use Rattle.ssa_json.proofs.ReadingBack.{compact-is-read, IsUtf8-scalar as scalar_is_utf8, IsUtf8-comma as comma_is_utf8}
+use Rattle.ssa_json.proofs.ReadingBack.{IsUtf8-scalar as scalar_is_utf8, IsUtf8-comma as comma_is_utf8}
 use Rattle.ssa_json.proofs.Converting.{json_reading-none}
 use Rattle.ssa_path.specs.Keys.{Members, members_view}
 use Rattle.ssa_path.specs.OwnText.{element_json}

@@ -16,7 +16,6 @@ use Rattle.ssa_model.proofs.Tables.{same_text-true}
 use Rattle.ssa_model.proofs.SameValues.{same_json-true}
 use Rattle.ssa_json.proofs.Ordered.{IsAbove, names, above_before}
 use Rattle.ssa_path.specs.Children.{elements, is_below, rises}
-use Rattle.ssa_path.specs.ElementReading.{ReadsElement}
 use Rattle.ssa_path.specs.FieldsReading.{first_fault, IsFirst, below_faults, child_faults, said_below, IsPlaceOf, IsPlaceBelow, IsChildOf}
 use Rattle.ssa_path.specs.FieldsWriting.{paths_json}
 use Rattle.ssa_path.specs.Trie.{are_filled_tries, has_some, here_path, is_filled, paths, paths_below}

@@ -12,7 +12,7 @@ use Rattle.ssa_path.specs.declared.trie.Trie.TheViews.{out-Trie, roll-Trie}
 use Rattle.ssa_path.specs.Children.{elements, rises}
 use Rattle.ssa_path.specs.View.{element_view, path_view}
 use Rattle.ssa_path.specs.Trie.{is_one_of, paths_after, paths_below, paths, shape, is_trie, is_filled, are_filled_tries, IsOnly, IsInserted, IsGathered}
-use Rattle.ssa_path.proofs.Levels.{same_path-reading, any-after, any-made, any-level, one-made-root, one-level-root, is_trie-made, trie-parts, some-one, some-none}
+use Rattle.ssa_path.proofs.Levels.{same_path-reading, any-after, any-made, any-level, one-made-root, one-level-root, is_trie-made, trie-parts, some-one}
 use Rattle.ssa_path.proofs.Lists.{elements-append, one-between, filled-between, filled-without, same-shape, shapes, shapes-append}
 use Rattle.ssa_model.proofs.Fitting.{same_element-true}
 use Rattle.ssa_model.proofs.Basics.{or-false as or_false, both-true as both}

@@ -1,5 +1,5 @@
 -- One trie within another, child by child.
-use Rattle.std.proofs.Common.{◌≡◌, ℕ, ◌+◌, ◌<◌, List, [], ◌∷◌, ◌++◌, length, get_or, take, drop, Bool, true, false, ◌&&◌, ◌||◌, Option, Some, None, refl, sym, ap, ◌∙◌, subst, true≢false}
+use Rattle.std.proofs.Common.{◌≡◌, ℕ, ◌+◌, ◌<◌, List, [], ◌∷◌, ◌++◌, length, get_or, take, drop, Bool, true, false, ◌&&◌, ◌||◌, Some, None, refl, sym, ap, ◌∙◌, true≢false}
 use Rattle.std.proofs.lemmas.List.Folds.{list_any-append}
 use Rattle.std.specs.Prelude.{not, is_some}
 use Rattle.std.specs.Bool.{MatchBool}
@@ -20,7 +20,7 @@ use Rattle.ssa_path.proofs.Orders.{both_first, both_second}
 use Rattle.ssa_model.proofs.Tables.{element-itself as same_element-itself}
 use Rattle.ssa_model.proofs.Fitting.{same_element-true}
 use Rattle.ssa_model.proofs.Lists.{has-listed}
-use Rattle.ssa_model.proofs.Basics.{and-false as and_false, or-false as or_false, both-true as both}
+use Rattle.ssa_model.proofs.Basics.{or-false as or_false, both-true as both}
 
 -- each path of these children is one of the others' too
 abbrev pub AreWithin : List (Elem × Trie) → List (Elem × Trie) → Type 0

@@ -4,7 +4,6 @@ use Rattle.std.proofs.lemmas.List.{drop_all, drop_more, drop-map, length-map, le
 use Rattle.std.specs.Prelude.{nat_lt}
 use Rattle.std.specs.Ordering.{nat_cmp, ordering_then, is_ne}
 use Rattle.std.proofs.lemmas.Bool.Decides.{nat_tests}
-use Rattle.std.specs.FinMap.{slice_cmp-IsAntisymmetric, nat_cmp-IsAntisymmetric}
 use Rattle.ssa_model.specs.definitions.Json.{Text, Scalar, quoted, scalar_text, compact_members}
 use Rattle.ssa_model.specs.definitions.Path.{key_members}
 use Rattle.ssa_json.specs.declared.value.Scalar as json

@@ -1,14 +1,9 @@
 -- The order of elements tells them apart, and small laws of tests.
-use Rattle.std.proofs.Common.{◌≡◌, Bool, true, false, ◌&&◌, ◌||◌, Ordering, Less, Equal, Greater, refl, sym, ap, ◌∙◌, true≢false}
-use Rattle.std.specs.Cmp.{Equal-is, tied_itself, on_total, IsTotalOrder}
+use Rattle.std.proofs.Common.{◌≡◌, Bool, true, false, ◌&&◌, ◌||◌, Ordering, Less, Equal, Greater, refl, sym, ap, true≢false}
+use Rattle.std.specs.Cmp.{on_total, IsTotalOrder}
 use Rattle.std.specs.Cmp.Lexicographic.{nat_list_cmp_total}
-use Rattle.std.specs.Ordering.{is_eq, is_lt, ordering_reverse}
-use Rattle.ssa_model.specs.definitions.Path.{Element, element_text, element_cmp, same_element}
-use Rattle.ssa_model.proofs.Texts.{same_element_same}
-use Rattle.ssa_model.proofs.Tables.{element-itself as same_element-itself}
-use Rattle.ssa_model.proofs.Fitting.{same_element-true}
-use Rattle.ssa_model.proofs.ShownNames.{turned as same_either_way}
-use Rattle.ssa_model.proofs.Basics.{and-false as and_false, or-false as or_false, both-true as both, reversed}
+use Rattle.std.specs.Ordering.{is_eq, is_lt}
+use Rattle.ssa_model.specs.definitions.Path.{element_text, element_cmp}
 
 -- the order of elements is total
 pub element_cmp_total : IsTotalOrder element_cmp

@@ -3,7 +3,7 @@ use Rattle.std.proofs.Common.{◌≡◌, ℕ, List, [], ◌∷◌, ◌++◌, Ord
 use Rattle.std.specs.Ordering.{nat_cmp, ordering_then}
 use Rattle.std.specs.Cmp.Lexicographic.{slice_cmp}
 use Rattle.std.specs.FinMap.{nat_cmp-IsAntisymmetric}
-use Rattle.ssa_model.proofs.Basics.{same-tails as tails, then_none}
+use Rattle.ssa_model.proofs.Basics.{same-tails as tails}
 
 -- texts in the order of their bytes
 abbrev pub text_cmp : List ℕ → List ℕ → Ordering

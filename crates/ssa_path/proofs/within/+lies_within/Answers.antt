@@ -1,13 +1,12 @@
-use Rattle.std.proofs.Common.{◌≡◌, ◌∙◌, ◌∷◌, [], true, refl, ap, sym, subst, arith, rules, true≢false, length, take}
+use Rattle.std.proofs.Common.{◌∙◌, [], refl, ap, sym, subst, arith, rules, true≢false}
 use Rattle.std.proofs.lemmas.List.{take_all}
 use Rattle.std.specs.Bool.{MatchBool}
 use Rattle.std.specs.Option.{option_copied}
-use Rattle.ssa_model.specs.definitions.Path.{same_path}
 use Rattle.ssa_path.specs.declared.trie.Trie.{the_lemmas}
 use Rattle.ssa_path.specs.declared.trie.Trie.TheViews.{out-Trie}
 use Rattle.ssa_path.specs.Children.{child_at}
 use Rattle.ssa_path.specs.View.{element_view}
-use Rattle.ssa_path.specs.Trie.{is_one_of, paths, is_trie, is_filled, Exceeds, IsWithin}
+use Rattle.ssa_path.specs.Trie.{paths, is_trie, Exceeds, IsWithin}
 use Rattle.ssa_path.proofs.Levels.{one-level-root, is_trie-child, trie-parts}
 use Rattle.ssa_path.proofs.Orders.{both_first, both_second}
 use Rattle.ssa_path.proofs.Lists.{filled-at}
