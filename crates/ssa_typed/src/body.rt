@@ -13,7 +13,7 @@ ghost use Rattle.ssa_typed.specs.Alike.{AreAlike};
 ghost use Rattle.ssa_typed.specs.Differences.{IsComparison};
 ghost use Rattle.ssa_typed.specs.Look.{look_of, look_at};
 ghost use Rattle.ssa_typed.specs.Flats.{IsFlattening};
-ghost use Rattle.ssa_typed.specs.Reached.{PointsKeepAll, PointsTellPlaces};
+ghost use Rattle.ssa_typed.specs.Reached.{PartsAreOfPlaces, PointsKeepAll, PointsTellPlaces};
 ghost use Rattle.ssa_typed.specs.Rows.{body_of, is_tree};
 
 use crate::compare::{Comparison, differing};
@@ -139,6 +139,13 @@ impl Body {
     /// Where all the points of the body stay, by themselves or by a path below, all of it stays.
     pub fn points_keep_all(&self)
         ensures { PointsKeepAll self.now }
+    {
+        let _root = self.root();
+    }
+
+    /// Where two sets have paths at or below the same places of the body, the same part of it stays.
+    pub fn parts_are_of_places(&self)
+        ensures { PartsAreOfPlaces self.now }
     {
         let _root = self.root();
     }
