@@ -110,6 +110,17 @@ whole-content test p record_branch h = refl
 whole-content test p dict_branch h = refl
 whole-content test p (list_branch es) h = ap list_branch (all-pass (λ e. test (p ++ e ∷ [])) es h)
 
+module _ (n : Node) (tree : is_tree n ≡ true) (test : Path → Bool) (all : (p : Path) → has (body_of n) p ≡ true → test p ≡ true) where
+  item-stays : (p : Path) (e : Element) → is_among e (order_at (get (body_of n) p)) ≡ true → test (p ++ e ∷ []) ≡ true
+  item-stays p e among = all (p ++ e ∷ []) (both_second (is_item_element e) _ (sym (tree-items n tree p e) ∙ among))
+
+  -- where all places of a tree pass a test, what it has at a path stays whole
+  pub part-whole : (p : Path) (o : Option Content) → get (body_of n) p ≡ o → (if test p then option_map (restricted_content test p) o else None) ≡ o
+  part-whole p None is = elim (test p) as (λ b. ◌≡◌ {A = Option Content} (if b then None else None) None) [ true ↦ refl | false ↦ refl ]
+  part-whole p (Some c) is =
+      ap (λ b. if b then Some (restricted_content test p c) else None) (all p (ap is_some is))
+      ∙ ap (λ d. Some d) (whole-content test p c (λ e among. item-stays p e (ap (λ o. is_among e (order_at o)) is ∙ among)))
+
 module _ (n : Node) (tree : is_tree n ≡ true) (stay : PathSet) (all : (p : Path) → has (points (body_of n)) p ≡ true → has stay p ≡ true) where
   abbrev test : Path → Bool
   test p = is_root p || has_at_or_below stay p
@@ -123,18 +134,11 @@ module _ (n : Node) (tree : is_tree n ≡ true) (stay : PathSet) (all : (p : Pat
       or_true (is_root p) (has_at_or_below stay p) (from_one (under p) (paths stay) x.0 (sym (has-paths stay x.0)
       ∙ all x.0 (has-paths (points (body_of n)) x.0 ∙ x.1)) x.2))
 
-  item-stays : (p : Path) (e : Element) → is_among e (order_at (get (body_of n) p)) ≡ true → test (p ++ e ∷ []) ≡ true
-  item-stays p e among = place-stays (p ++ e ∷ []) (both_second (is_item_element e) _ (sym (tree-items n tree p e) ∙ among))
-
-  part-whole : (p : Path) (o : Option Content) → get (body_of n) p ≡ o → (if test p then option_map (restricted_content test p) o else None) ≡ o
-  part-whole p None is = elim (test p) as (λ b. ◌≡◌ {A = Option Content} (if b then None else None) None) [ true ↦ refl | false ↦ refl ]
-  part-whole p (Some c) is =
-      ap (λ b. if b then Some (restricted_content test p c) else None) (place-stays p (ap is_some is))
-      ∙ ap (λ d. Some d) (whole-content test p c (λ e among. item-stays p e (ap (λ o. is_among e (order_at o)) is ∙ among)))
-
   -- where all points of a tree stay, all of its body stays
   pub tree-kept : restricted (body_of n) test ≡ body_of n
-  tree-kept = same_map (restricted (body_of n) test) (body_of n) (λ p. get-restricted (body_of n) test p ∙ part-whole p (get (body_of n) p) refl)
+  tree-kept =
+      same_map (restricted (body_of n) test) (body_of n) (λ p. get-restricted (body_of n) test p
+      ∙ part-whole n tree test place-stays p (get (body_of n) p) refl)
 
 -- ---- tests that agree at each place
 
