@@ -26,7 +26,7 @@ use Rattle.ssa_path.proofs.Searching.{absent-below}
 use Rattle.ssa_typed.specs.Cut.{uncut, goes, stays_by, AreUncut, is_point_at, IsUncut, AreCut, IsCut, IsLeft, IsChildCut, paths_of, is_filled_in}
 use Rattle.ssa_typed.specs.Points.{content_in, is_in_dict, is_point_of, point_in, stands_below}
 use Rattle.ssa_typed.specs.Restricted.{stays, part_at, AreRestricted, IsRestricted}
-use Rattle.ssa_typed.specs.Rows.{are_apart, are_trees, below, body_of, content_at, is_tree, own_content, rows, rows_below}
+use Rattle.ssa_typed.specs.Rows.{are_apart, are_trees, below, body_of, content_at, is_tree, rows, rows_below}
 use Rattle.ssa_typed.specs.declared.node.Node.{Node, Branch, Dict, List as ListOf}
 use Rattle.ssa_typed.proofs.Building.{Child}
 use Rattle.ssa_typed.proofs.Collecting.{point-level}

@@ -1,5 +1,5 @@
 -- The part of a tree that stays, level by level.
-use Rattle.std.proofs.Common.{◌≡◌, suc, ◌+◌, ◌*◌, ◌<◌, ◌≤◌, length, List, [], ◌∷◌, ◌++◌, Bool, true, false, ◌&&◌, ◌||◌, cond, Option, Some, None, refl, sym, ap, subst, ◌∙◌, append_assoc, append-nil, arith, rules}
+use Rattle.std.proofs.Common.{◌≡◌, suc, ◌+◌, ◌*◌, ◌<◌, ◌≤◌, length, List, [], ◌∷◌, ◌++◌, Bool, true, false, ◌&&◌, ◌||◌, cond, Option, Some, None, refl, sym, ap, subst, ◌∙◌, append_assoc, append-nil, arith}
 use Rattle.std.specs.Prelude.{filter, option_map, if◌then◌else◌}
 use Rattle.std.specs.List.{list_any}
 use Rattle.std.specs.Ordering.{is_lt}
@@ -19,17 +19,14 @@ use Rattle.ssa_path.proofs.Orders.{both_first, both_second}
 use Rattle.ssa_path.proofs.Sets.{below-listed}
 use Rattle.ssa_typed.specs.Points.{content_in}
 use Rattle.ssa_typed.specs.Restricted.{stays, part_at, AreRestricted, IsRestricted}
-use Rattle.ssa_typed.specs.Rows.{body_of, rows, rows_below, below, own_content, leaf_content, content_at, is_tree, are_trees, are_apart, are_fields, are_items}
-use Rattle.ssa_typed.specs.declared.node.Leaf.{Leaf}
-use Rattle.ssa_typed.specs.declared.node.Leaf.TheVariants.{Scalar, Atomic}
-use Rattle.ssa_typed.specs.declared.node.Node.{Node, Leaf as LeafOf, Branch, Dict, List as ListOf, the_lemmas}
+use Rattle.ssa_typed.specs.Rows.{body_of, rows, rows_below, below, own_content, content_at, is_tree, are_trees, are_apart, are_fields, are_items}
+use Rattle.ssa_typed.specs.declared.node.Node.{Node, Branch, Dict, List as ListOf}
 use Rattle.ssa_typed.proofs.Building.{Child}
-use Rattle.ssa_typed.proofs.Copying.{tree-Leaf}
 use Rattle.ssa_typed.proofs.Levels.{Children, own-Branch, own-Dict, own-List, tree-Branch, tree-Dict, tree-List, level-below}
 use Rattle.ssa_typed.proofs.Lookups.{content-level, content-root}
 use Rattle.ssa_typed.proofs.Looks.{get-body}
 use Rattle.ssa_typed.proofs.Sizes.{length-first, length-level}
-use Rattle.ssa_typed.proofs.OverNodes.{own-Leaf, below-Branch, below-Dict, below-List, all-filter, fields-all, items-all, is_field}
+use Rattle.ssa_typed.proofs.OverNodes.{below-Branch, below-Dict, below-List, all-filter, fields-all, items-all, is_field}
 use Rattle.ssa_typed.proofs.Fitting.{apart-distinct}
 use Rattle.ssa_model.proofs.Basics.{both-true as both}
 
