@@ -1,7 +1,6 @@
 -- What stays of a tree where places go.
 use Rattle.std.proofs.Common.{◌≡◌, ◌+◌, ◌*◌, ◌<◌, ◌≤◌, length, List, [], ◌∷◌, ◌++◌, Bool, true, false, not, ◌&&◌, ◌||◌, cond, Option, Some, None, refl, sym, ap, subst, ◌∙◌, suc, append_assoc, append-nil, true≢false, arith}
-use Rattle.std.proofs.lemmas.Bool.Decides.{nat_tests}
-use Rattle.std.specs.Prelude.{◌==◌, is_some, option_map, if◌then◌else◌}
+use Rattle.std.specs.Prelude.{is_some, option_map, if◌then◌else◌}
 use Rattle.std.specs.List.{list_any}
 use Rattle.ssa_model.specs.definitions.Body.{Content, is_dict, points, restricted, restricted_content, strictly_under}
 use Rattle.ssa_model.specs.definitions.Path.{Element, Path, is_root, same_element, same_path, under}
@@ -380,14 +379,6 @@ first-child (c ∷ cs) h =
 no-child : (cs : List Child) → has_some {A = Child} cs ≡ false → cs ≡ []
 no-child [] h = refl
 no-child (c ∷ cs) h = absurd (true≢false h)
-
--- there are children where their number is not zero
-pub some-children : (n : Node) (cs : List Child) (empty : Bool) → cs ≡ below n → empty ≡ (length cs == 0) → not empty ≡ has_some {A = Child} (below n)
-some-children n cs empty is e = ap not e ∙ long cs ∙ ap (has_some {A = Child}) is
-  where
-    long : (ds : List Child) → not (length ds == 0) ≡ has_some {A = Child} ds
-    long [] = refl
-    long (d ∷ ds) = let more : (length (d ∷ ds) == 0) ≡ false = grind (arith, nat_tests) in ap not more
 
 point-of : (point goes : Bool) → stays_by point goes false ≡ true → point ≡ true
 point-of true goes h = refl

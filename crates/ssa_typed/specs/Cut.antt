@@ -44,11 +44,11 @@ IsUncut root n gone held ps = (p : Path) → is_one_of ps p ≡ stays_by (is_poi
 
 -- ---- what stays
 
--- what stays of these children is at or above a path that stays by itself
+-- what stays of these children: what is at or above a path that stays by itself
 abbrev pub AreCut : Bool → List Path → List Path → List (Elem × Node) → List (Elem × Node) → Type 0
 AreCut in_dict gone held cs made = (ps : List Path) → AreUncut in_dict cs gone held ps → AreRestricted ps cs made
 
--- so is what stays of a tree, but for its root
+-- what stays of a tree: its root, and what is at or above a path that stays by itself
 abbrev pub IsCut : List Path → List Path → Node → Node → Type 0
 IsCut gone held n made = (ps : List Path) → AreUncut (is_in_dict n) (below n) gone held ps → IsRestricted ps n made
 
@@ -57,7 +57,7 @@ pub record IsLeft (ps : List Path) (n : Node) (made : Option Node) : Type 0 wher
   pub content : (p : Path) → content_in made p ≡ part_at (λ q. list_any (under q) ps) p (content_at (rows n) p)
   pub trees : (m : Node) → made ≡ Some m → is_tree m ≡ true
 
--- so is what stays of a child, which is a point by itself or not
+-- what stays of a child, which is a point or not: what is at or above a path that stays by itself, if anything is
 abbrev pub IsChildCut : Bool → List Path → List Path → Node → Option Node → Type 0
 IsChildCut point gone held n made = (ps : List Path) → IsUncut point n gone held ps → IsLeft ps n made
 

@@ -1,9 +1,9 @@
 //! The part of a tree that stays where places go. What stays is moved, with no copies, and a child
 //! that has nothing of what goes is not looked into.
-ghost use Rattle.std.specs.Prelude.{◌≡◌, [], true, IfOk};
+ghost use Rattle.std.specs.Prelude.{◌≡◌, [], ◌||◌, true, IfOk};
 ghost use Rattle.std.specs.Option.{option_copied};
 ghost use Rattle.ssa_path.specs.Children.{elements, rises};
-ghost use Rattle.ssa_path.specs.Trie.{are_filled_tries, is_trie, paths, paths_below};
+ghost use Rattle.ssa_path.specs.Trie.{are_filled_tries, has_some, is_trie, paths, paths_below};
 ghost use Rattle.ssa_typed.specs.Cut.{is_filled_in, paths_of, AreCut, IsChildCut, IsCut};
 ghost use Rattle.ssa_typed.specs.Rows.{are_apart, are_trees, is_tree};
 
@@ -14,6 +14,13 @@ use ssa_path::children::find_child;
 use ssa_path::element::Elem;
 use ssa_path::trie::Trie;
 use std::alloc::{AllocError, Global};
+
+// Whether a child of which nothing is held stays, with these children left.
+fn stays_with(point: bool, left: &[(Elem, Node)]) -> bool
+    ensures { result ≡ (point || has_some left.now) }
+{
+    point || !left.is_empty()
+}
 
 // What stays of the children, in their order.
 #[cycle(cutting)]
@@ -73,8 +80,7 @@ fn cut_node(
     }
 }
 
-// What stays of a child of which nothing is held: one that is no point stays where something below
-// it does.
+// What stays of a child of which nothing is held.
 #[cycle(cutting)]
 fn cut_unheld(
     alloc: Global,
@@ -91,9 +97,7 @@ fn cut_unheld(
         return Ok(None);
     }
     let left = cut_below(alloc, node, &gone.below, &[])?;
-    let kept = !left.children().is_empty();
-    let stays = point || kept;
-    if stays {
+    if stays_with(point, left.children()) {
         return Ok(Some(left));
     }
     drop(left);

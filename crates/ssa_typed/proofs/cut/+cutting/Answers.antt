@@ -1,4 +1,4 @@
-use Rattle.std.proofs.Common.{◌≡◌, ◌||◌, Some, refl, subst, sym, ◌∙◌, ap, arith, rules}
+use Rattle.std.proofs.Common.{◌||◌, Some, refl, subst, sym, ◌∙◌, ap, arith, rules}
 use Rattle.std.proofs.lemmas.List.{nil_from_length}
 use Rattle.std.specs.Option.{option_copied}
 use Rattle.std.specs.Vec.Iter.{into_iter_items}
@@ -9,10 +9,9 @@ use Rattle.ssa_path.proofs.Orders.{both_second}
 use Rattle.ssa_typed.specs.Cut.{is_filled_in, paths_of, IsChildCut}
 use Rattle.ssa_typed.specs.Rows.{below}
 use Rattle.ssa_typed.proofs.Building.{Child}
-use Rattle.ssa_typed.proofs.Cutting.{children-apart, children-less, child-filled, child-smaller, child-tree, cutting-all, cutting-gone, cutting-part, cutting-whole, dict-cut, held-cut, list-cut, record-cut, root-cut, root-gone, some-children, unheld-bare, unheld-gone, unheld-left}
+use Rattle.ssa_typed.proofs.Cutting.{children-apart, children-less, child-filled, child-smaller, child-tree, cutting-all, cutting-gone, cutting-part, cutting-whole, dict-cut, held-cut, list-cut, record-cut, root-cut, root-gone, unheld-bare, unheld-gone, unheld-left}
 use Rattle.ssa_typed.proofs.OverNodes.{below-Branch, below-Dict, below-List}
 use Rattle.ssa_typed.proofs.Restricting.{children-trees, trie-there}
-use Rattle.ssa_typed.proofs.cut.+cutting.Goals.{cut_unheld-then-point, cut_unheld-else-point}
 use Rattle.ssa_typed.proofs.cut.+cutting.Goals as goal
 
 pub cut_below-cut_children-requires : goal.cut_below-cut_children-requires
@@ -145,26 +144,14 @@ cut_root-returns t c =
     let cut = rw c.deref-2.ensures.value at (rw c.deref.ensures.value at c.in_ok-part-2.ensures) in
     root-cut c.args.root c.in_ok-part-2.part c.args.gone.now c.args.held.now c.if-gone.false cut
 
-pub cut_unheld-returns-then-stays : goal.cut_unheld-returns-then-stays
-cut_unheld-returns-then-stays t c =
-    let left = c.in_ok-left.left in
-    let told : c.if-point.stays ≡ (c.args.point || has_some {A = Child} (below left)) = elim c.if-point.branch [
-      | cut_unheld-then-point w ↦ w.stays-is ∙ w.if-point.true ∙ ap (λ b. b || has_some {A = Child} (below left)) (sym w.if-point.true)
-      | cut_unheld-else-point w ↦
-          w.stays-is ∙ some-children left c.children.result.now c.is_empty-kept.result c.children.ensures.own c.is_empty-kept.ensures
-          ∙ ap (λ b. b || has_some {A = Child} (below left)) (sym w.if-point.false)
-    ] in
-    unheld-left c.args.point c.args.node left c.args.gone.now c.requires.tree c.if-gone.false (rw c.deref.ensures.value at c.in_ok-left.ensures)
-    (sym told ∙ c.if-stays.true)
+pub cut_unheld-returns-then-stays_with : goal.cut_unheld-returns-then-stays_with
+cut_unheld-returns-then-stays_with t c =
+    unheld-left c.args.point c.args.node c.in_ok-left.left c.args.gone.now c.requires.tree c.if-gone.false
+    (rw c.deref.ensures.value at c.in_ok-left.ensures)
+    (ap (λ cs. c.args.point || has_some {A = Child} cs) (sym c.children.ensures.own) ∙ sym c.stays_with.ensures ∙ c.if-stays_with.true)
 
 pub cut_unheld-returns : goal.cut_unheld-returns
 cut_unheld-returns t c =
-    let left = c.in_ok-left.left in
-    let told : c.if-point.stays ≡ (c.args.point || has_some {A = Child} (below left)) = elim c.if-point.branch [
-      | cut_unheld-then-point w ↦ w.stays-is ∙ w.if-point.true ∙ ap (λ b. b || has_some {A = Child} (below left)) (sym w.if-point.true)
-      | cut_unheld-else-point w ↦
-          w.stays-is ∙ some-children left c.children.result.now c.is_empty-kept.result c.children.ensures.own c.is_empty-kept.ensures
-          ∙ ap (λ b. b || has_some {A = Child} (below left)) (sym w.if-point.false)
-    ] in
-    unheld-bare c.args.point c.args.node left c.args.gone.now c.requires.tree c.if-gone.false (rw c.deref.ensures.value at c.in_ok-left.ensures)
-    (sym told ∙ c.if-stays.false)
+    unheld-bare c.args.point c.args.node c.in_ok-left.left c.args.gone.now c.requires.tree c.if-gone.false
+    (rw c.deref.ensures.value at c.in_ok-left.ensures)
+    (ap (λ cs. c.args.point || has_some {A = Child} cs) (sym c.children.ensures.own) ∙ sym c.stays_with.ensures ∙ c.if-stays_with.false)
