@@ -4,6 +4,7 @@ pub mod BodyFits
 pub mod Building
 pub mod Collecting
 pub mod Copying
+pub mod Cutting
 pub mod Differing
 pub mod EmptyMetadata
 pub mod Finding

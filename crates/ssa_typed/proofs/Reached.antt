@@ -1,4 +1,4 @@
--- Each place of a body but its root is at or above one of its points, so a set with the points keeps it whole.
+-- Each place of a body but its root is at or above one of its points, so a set with the points keeps it whole; a part is told by the places.
 use Rattle.std.proofs.Common.{◌≡◌, ℕ, zero, suc, ◌+◌, ◌<◌, ◌≤◌, List, [], ◌∷◌, ◌++◌, length, Bool, true, false, not, ◌||◌, cond, Option, Some, None, refl, sym, ap, ◌∙◌, true≢false, arith}
 use Rattle.std.specs.Prelude.{filter, option_map, is_some, if◌then◌else◌}
 use Rattle.ssa_model.specs.definitions.Path.{Element, Path, is_item, is_item_element, is_root, parent, same_element, same_path, under}
@@ -10,6 +10,7 @@ use Rattle.ssa_model.proofs.PathMaps.{get-restricted, has-paths, has-points, is_
 use Rattle.ssa_model.proofs.Pruned.{from_one, some_one, under-rest, under-trans}
 use Rattle.ssa_model.proofs.Tables.{either, here_below, true_or, element-itself as same_element-itself}
 use Rattle.ssa_path.proofs.Orders.{both_first, both_second}
+use Rattle.ssa_typed.specs.Reached.{PartsAreOfPlaces}
 use Rattle.ssa_typed.specs.Rows.{body_of, is_tree}
 use Rattle.ssa_typed.specs.declared.node.Node.{Node}
 use Rattle.ssa_typed.proofs.AnyTree.{tree-beginning, tree-items, tree-root}
@@ -109,6 +110,17 @@ whole-content test p record_branch h = refl
 whole-content test p dict_branch h = refl
 whole-content test p (list_branch es) h = ap list_branch (all-pass (λ e. test (p ++ e ∷ [])) es h)
 
+module _ (n : Node) (tree : is_tree n ≡ true) (test : Path → Bool) (all : (p : Path) → has (body_of n) p ≡ true → test p ≡ true) where
+  item-stays : (p : Path) (e : Element) → is_among e (order_at (get (body_of n) p)) ≡ true → test (p ++ e ∷ []) ≡ true
+  item-stays p e among = all (p ++ e ∷ []) (both_second (is_item_element e) _ (sym (tree-items n tree p e) ∙ among))
+
+  -- where all places of a tree pass a test, what it has at a path stays whole
+  pub part-whole : (p : Path) (o : Option Content) → get (body_of n) p ≡ o → (if test p then option_map (restricted_content test p) o else None) ≡ o
+  part-whole p None is = elim (test p) as (λ b. ◌≡◌ {A = Option Content} (if b then None else None) None) [ true ↦ refl | false ↦ refl ]
+  part-whole p (Some c) is =
+      ap (λ b. if b then Some (restricted_content test p c) else None) (all p (ap is_some is))
+      ∙ ap (λ d. Some d) (whole-content test p c (λ e among. item-stays p e (ap (λ o. is_among e (order_at o)) is ∙ among)))
+
 module _ (n : Node) (tree : is_tree n ≡ true) (stay : PathSet) (all : (p : Path) → has (points (body_of n)) p ≡ true → has stay p ≡ true) where
   abbrev test : Path → Bool
   test p = is_root p || has_at_or_below stay p
@@ -122,15 +134,52 @@ module _ (n : Node) (tree : is_tree n ≡ true) (stay : PathSet) (all : (p : Pat
       or_true (is_root p) (has_at_or_below stay p) (from_one (under p) (paths stay) x.0 (sym (has-paths stay x.0)
       ∙ all x.0 (has-paths (points (body_of n)) x.0 ∙ x.1)) x.2))
 
-  item-stays : (p : Path) (e : Element) → is_among e (order_at (get (body_of n) p)) ≡ true → test (p ++ e ∷ []) ≡ true
-  item-stays p e among = place-stays (p ++ e ∷ []) (both_second (is_item_element e) _ (sym (tree-items n tree p e) ∙ among))
-
-  part-whole : (p : Path) (o : Option Content) → get (body_of n) p ≡ o → (if test p then option_map (restricted_content test p) o else None) ≡ o
-  part-whole p None is = elim (test p) as (λ b. ◌≡◌ {A = Option Content} (if b then None else None) None) [ true ↦ refl | false ↦ refl ]
-  part-whole p (Some c) is =
-      ap (λ b. if b then Some (restricted_content test p c) else None) (place-stays p (ap is_some is))
-      ∙ ap (λ d. Some d) (whole-content test p c (λ e among. item-stays p e (ap (λ o. is_among e (order_at o)) is ∙ among)))
-
   -- where all points of a tree stay, all of its body stays
   pub tree-kept : restricted (body_of n) test ≡ body_of n
-  tree-kept = same_map (restricted (body_of n) test) (body_of n) (λ p. get-restricted (body_of n) test p ∙ part-whole p (get (body_of n) p) refl)
+  tree-kept =
+      same_map (restricted (body_of n) test) (body_of n) (λ p. get-restricted (body_of n) test p
+      ∙ part-whole n tree test place-stays p (get (body_of n) p) refl)
+
+-- ---- tests that agree at each place
+
+-- tests that agree on all the elements leave the same ones
+pub same-filter : (f g : Element → Bool) (es : List Element) → ((e : Element) → is_among e es ≡ true → f e ≡ g e) → filter f es ≡ filter g es
+same-filter f g [] h = refl
+same-filter f g (e ∷ es) h =
+    let first = h e (true_or (same_element e e) (is_among e es) (same_element-itself e)) in
+    let rest = same-filter f g es (λ x among. h x (or_true (same_element x e) (is_among x es) among)) in
+    λ i. cond (first i) (e ∷ rest i) (rest i)
+
+-- tests that agree on the items leave the same of a content
+pub same-content : (f g : Path → Bool) (p : Path) (c : Content) → ((e : Element) → is_among e (order_at (Some c)) ≡ true → f (p ++ e ∷ []) ≡ g (p ++ e ∷ []))
+    → restricted_content f p c ≡ restricted_content g p c
+same-content f g p (leaf s) h = refl
+same-content f g p (atom v) h = refl
+same-content f g p record_branch h = refl
+same-content f g p dict_branch h = refl
+same-content f g p (list_branch es) h = ap list_branch (same-filter (λ e. f (p ++ e ∷ [])) (λ e. g (p ++ e ∷ [])) es h)
+
+module _ (n : Node) (tree : is_tree n ≡ true) (f g : Path → Bool) (agree : (p : Path) → has (body_of n) p ≡ true → f p ≡ g p) where
+  items-agree : (p : Path) (e : Element) → is_among e (order_at (get (body_of n) p)) ≡ true → f (p ++ e ∷ []) ≡ g (p ++ e ∷ [])
+  items-agree p e among = agree (p ++ e ∷ []) (both_second (is_item_element e) _ (sym (tree-items n tree p e) ∙ among))
+
+  part-agrees : (p : Path) (o : Option Content) → get (body_of n) p ≡ o
+      → (if f p then option_map (restricted_content f p) o else None) ≡ (if g p then option_map (restricted_content g p) o else None)
+  part-agrees p None is =
+      let none = λ (b : Bool). elim b as (λ t. ◌≡◌ {A = Option Content} (if t then None else None) None) [ true ↦ refl | false ↦ refl ] in
+      none (f p) ∙ sym (none (g p))
+  part-agrees p (Some c) is =
+      let same = same-content f g p c (λ e among. items-agree p e (ap (λ o. is_among e (order_at o)) is ∙ among)) in
+      let test = agree p (ap is_some is) in
+      λ i. if test i then Some (same i) else None
+
+  -- where tests agree at each place of a tree, the same part of its body passes them
+  pub parts-agree : restricted (body_of n) f ≡ restricted (body_of n) g
+  parts-agree =
+      same_map (restricted (body_of n) f) (restricted (body_of n) g) (λ p.
+      get-restricted (body_of n) f p ∙ part-agrees p (get (body_of n) p) refl ∙ sym (get-restricted (body_of n) g p))
+
+-- the part of a tree's body is told by its places alone
+pub tree-parts : (n : Node) → is_tree n ≡ true → PartsAreOfPlaces (body_of n)
+tree-parts n tree s t alike =
+    parts-agree n tree (λ p. is_root p || has_at_or_below s p) (λ p. is_root p || has_at_or_below t p) (λ p there. ap (λ b. is_root p || b) (alike p there))

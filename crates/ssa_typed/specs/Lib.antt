@@ -1,6 +1,7 @@
 pub mod Alike
 pub mod BodyTrees
 pub mod Copies
+pub mod Cut
 pub mod Differences
 pub mod Flats
 pub mod InOrder

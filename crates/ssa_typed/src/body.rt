@@ -10,13 +10,15 @@ ghost use Rattle.ssa_json.specs.View.{view};
 ghost use Rattle.ssa_model.specs.definitions.Lawful.{is_lawful, is_ordered};
 ghost use Rattle.ssa_model.specs.definitions.Valid.{IsRooted};
 ghost use Rattle.ssa_typed.specs.Alike.{AreAlike};
+ghost use Rattle.ssa_typed.specs.Cut.{uncut};
 ghost use Rattle.ssa_typed.specs.Differences.{IsComparison};
 ghost use Rattle.ssa_typed.specs.Look.{look_of, look_at};
 ghost use Rattle.ssa_typed.specs.Flats.{IsFlattening};
-ghost use Rattle.ssa_typed.specs.Reached.{PointsKeepAll, PointsTellPlaces};
+ghost use Rattle.ssa_typed.specs.Reached.{PartsAreOfPlaces, PointsKeepAll, PointsTellPlaces};
 ghost use Rattle.ssa_typed.specs.Rows.{body_of, is_tree};
 
 use crate::compare::{Comparison, differing};
+use crate::cut::cut_root;
 use crate::lacking::lacking_paths;
 use crate::node::{Look, Node};
 use crate::over::over_node;
@@ -143,6 +145,13 @@ impl Body {
         let _root = self.root();
     }
 
+    /// Where two sets have paths at or below the same places of the body, the same part of it stays.
+    pub fn parts_are_of_places(&self)
+        ensures { PartsAreOfPlaces self.now }
+    {
+        let _root = self.root();
+    }
+
     /// The same body, with new memory.
     pub fn clone(&self, alloc: Global) -> Result<Body, AllocError>
         ensures { IfOk result (λ b. b ≡ self.now) }
@@ -186,6 +195,19 @@ impl Body {
         ensures { IfOk result (λ b. b ≡ restricted self (λ p. is_root p || has_at_or_below stay.now p)) }
     {
         let root = restricted_node(alloc, self.root, stay.root())?;
+        Ok(Body { root })
+    }
+
+    /// The body without the places of `gone` and what is below them. A record that this leaves
+    /// without points goes too, unless a path of `held` is at or below it.
+    ///
+    /// What stays is moved, with no copies; a child that has nothing of `gone` at or below it is
+    /// moved whole, without a look at what is below it.
+    pub fn cut(self, alloc: Global, gone: &FieldSet, held: &FieldSet) -> Result<Body, AllocError>
+        requires { IsRooted (restricted self (λ p. is_root p || has_at_or_below (uncut self gone.now held.now) p)) }
+        ensures { IfOk result (λ b. b ≡ restricted self (λ p. is_root p || has_at_or_below (uncut self gone.now held.now) p)) }
+    {
+        let root = cut_root(alloc, self.root, gone.root(), held.root())?;
         Ok(Body { root })
     }
 

@@ -1,13 +1,13 @@
 use Rattle.std.proofs.Common.{ap, sym, ◌∙◌, arith, rules}
 use Rattle.std.proofs.lemmas.List.{nil_from_length}
 use Rattle.std.specs.Vec.Iter.{into_iter_items}
-use Rattle.ssa_path.specs.Trie.{paths_below}
+use Rattle.ssa_path.specs.Trie.{paths, paths_below}
 use Rattle.ssa_path.specs.View.{element_view}
 use Rattle.ssa_path.proofs.Levels.{trie-parts}
 use Rattle.ssa_typed.specs.Rows.{below}
 use Rattle.ssa_typed.proofs.Building.{Child}
 use Rattle.ssa_typed.proofs.OverNodes.{below-Branch, below-Dict, below-List}
-use Rattle.ssa_typed.proofs.Restricting.{trie-there, next-tree, restricting-kept, restricting-dropped, restricting-all, record-restricted, dict-restricted, list-restricted, children-trees, children-smaller, next-smaller}
+use Rattle.ssa_typed.proofs.Restricting.{below_set, below-same, trie-there, next-tree, restricting-kept, restricting-dropped, restricting-all, record-restricted, dict-restricted, list-restricted, children-trees, children-smaller, next-smaller}
 use Rattle.ssa_typed.proofs.restrict.+restriction.Goals as goal
 
 pub restricted_children-restricted_node-requires : goal.restricted_children-restricted_node-requires
@@ -67,15 +67,15 @@ restricted_node-restricted_children-requires-in-List t c =
 
 pub restricted_node-returns-in_ok-kept-in-Branch : goal.restricted_node-returns-in_ok-kept-in-Branch
 restricted_node-returns-in_ok-kept-in-Branch t c =
-    record-restricted c.args.stay.now c.args.node c.in-Branch.children c.in_ok-kept-in-Branch.kept c.requires.tree c.in-Branch.is
+    record-restricted (paths c.args.stay.now) (paths_below (below_set c.args.stay.now)) (below-same c.args.stay.now) c.args.node c.in-Branch.children c.in_ok-kept-in-Branch.kept c.requires.tree c.in-Branch.is
     (rw c.deref.ensures.value at c.in_ok-kept-in-Branch.ensures)
 
 pub restricted_node-returns-in_ok-kept-in-Dict : goal.restricted_node-returns-in_ok-kept-in-Dict
 restricted_node-returns-in_ok-kept-in-Dict t c =
-    dict-restricted c.args.stay.now c.args.node c.in-Dict.children c.in_ok-kept-in-Dict.kept c.requires.tree c.in-Dict.is
+    dict-restricted (paths c.args.stay.now) (paths_below (below_set c.args.stay.now)) (below-same c.args.stay.now) c.args.node c.in-Dict.children c.in_ok-kept-in-Dict.kept c.requires.tree c.in-Dict.is
     (rw c.deref-in-Dict.ensures.value at c.in_ok-kept-in-Dict.ensures)
 
 pub restricted_node-returns-in_ok-kept-in-List : goal.restricted_node-returns-in_ok-kept-in-List
 restricted_node-returns-in_ok-kept-in-List t c =
-    list-restricted c.args.stay.now c.args.node c.in-List.children c.in_ok-kept-in-List.kept c.requires.tree c.in-List.is
+    list-restricted (paths c.args.stay.now) (paths_below (below_set c.args.stay.now)) (below-same c.args.stay.now) c.args.node c.in-List.children c.in_ok-kept-in-List.kept c.requires.tree c.in-List.is
     (rw c.deref-in-List.ensures.value at c.in_ok-kept-in-List.ensures)
