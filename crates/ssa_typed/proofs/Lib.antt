@@ -27,6 +27,7 @@ pub mod Restricting
 pub mod Rooted
 pub mod RootedBodies
 pub mod SameMembers
+pub mod SameTrees
 pub mod Showing
 pub mod ShownMembers
 pub mod Sizes

@@ -1,5 +1,5 @@
 -- Children of the same elements in the same order, side by side.
-use Rattle.std.proofs.Common.{◌≡◌, ℕ, zero, suc, ◌+◌, ◌-◌, ◌<◌, ◌≤◌, List, [], ◌∷◌, ◌++◌, map, length, get_or, set, take, drop, Bool, true, false, not, cond, Some, refl, sym, ap, subst, ◌∙◌, append-nil, arith}
+use Rattle.std.proofs.Common.{◌≡◌, ℕ, zero, suc, ◌+◌, ◌-◌, ◌<◌, ◌≤◌, List, [], ◌∷◌, ◌++◌, map, length, get_or, set, take, drop, Bool, true, false, not, cond, Some, refl, sym, ap, subst, subst₂, ◌∙◌, append-nil, arith}
 use Rattle.std.proofs.lemmas.Grind.{drop_more_same}
 use Rattle.std.proofs.lemmas.List.{drop-set-lt, drop_all, drop_more, length-drop, map-append, take-append-drop, take_all, take_more_set}
 use Rattle.std.specs.Prelude.{filter}
@@ -31,6 +31,28 @@ pub alike-more : (cs ds : List Child) (i : ℕ) (c d : Child) → i < length cs 
 alike-more cs ds i c d lt other_lt is other_is same h =
     elements-taken cs i c lt is ∙ (λ j. h j ++ same_element-true (element_view c.0) (element_view d.0) same j ∷ [])
     ∙ sym (elements-taken ds i d other_lt other_is)
+
+-- ---- child by child
+
+module _ (R : Node → Node → Type 0) where
+  -- as many on both sides, each child and the one beside it so related
+  abbrev pub Each : List Child → List Child → Type 0
+  Each [] [] = Unit {0}
+  Each [] (d ∷ ds) = ⊥
+  Each (c ∷ cs) [] = ⊥
+  Each (c ∷ cs) (d ∷ ds) = R c.1 d.1 × Each cs ds
+
+  each-push : (cs ds : List Child) (c d : Child) → R c.1 d.1 → Each cs ds → Each (cs ++ c ∷ []) (ds ++ d ∷ [])
+  each-push [] [] c d one h = (one, tt)
+  each-push [] (y ∷ ds) c d one h = absurd h
+  each-push (x ∷ cs) [] c d one h = absurd h
+  each-push (x ∷ cs) (y ∷ ds) c d one h = (h.0, each-push cs ds c d one h.1)
+
+  -- the next two children are, too
+  pub each-more : (cs ds : List Child) (i : ℕ) (c d : Child) → i < length cs → i < length ds → c ≡ get_or cs i c → d ≡ get_or ds i d → R c.1 d.1
+      → Each (take i cs) (take i ds) → Each (take (i + 1) cs) (take (i + 1) ds)
+  each-more cs ds i c d lt other_lt is other_is one h =
+      subst₂ Each (sym (taken-at cs i c lt is)) (sym (taken-at ds i d other_lt other_is)) (each-push (take i cs) (take i ds) c d one h)
 
 -- with the same elements there are as many children
 pub same-length : (cs ds : List Child) → elements cs ≡ elements ds → length cs ≡ length ds

@@ -1,5 +1,5 @@
 -- Trees of which nothing is told.
-use Rattle.std.proofs.Common.{◌≡◌, ℕ, ◌+◌, ◌<◌, List, [], ◌∷◌, ◌++◌, length, get_or, take, Bool, true, false, not, ◌&&◌, cond, Option, Some, refl, sym, ap, subst₂, ◌∙◌}
+use Rattle.std.proofs.Common.{◌≡◌, List, [], ◌∷◌, Bool, true, false, not, ◌&&◌, cond, Option, Some, refl, sym, ap, ◌∙◌}
 use Rattle.std.specs.Prelude.{is_some}
 use Rattle.ssa_model.specs.definitions.Path.{Element, Path, same_element}
 use Rattle.ssa_model.specs.definitions.Body.{Content, is_other_leaf}
@@ -13,37 +13,15 @@ use Rattle.ssa_typed.specs.Rows.{rows, below, own_content, content_at, is_tree}
 use Rattle.ssa_typed.specs.declared.node.Node.{Node}
 use Rattle.ssa_typed.proofs.Building.{Child}
 use Rattle.ssa_typed.proofs.Lookups.{content-level, content-root}
-use Rattle.ssa_path.proofs.Lists.{taken-at}
-use Rattle.ssa_typed.proofs.Pairs.{same-head, same-tail}
+use Rattle.ssa_typed.proofs.Pairs.{Each, same-head, same-tail}
 use Rattle.ssa_model.proofs.Basics.{and-false as and_false}
-
--- ---- children beside each other
-
--- child by child, as many on both sides, nothing is told
-abbrev pub EachUnchanged : List Child → List Child → Type 0
-EachUnchanged [] [] = Unit {0}
-EachUnchanged [] (d ∷ ds) = ⊥
-EachUnchanged (c ∷ cs) [] = ⊥
-EachUnchanged (c ∷ cs) (d ∷ ds) = AreUnchanged c.1 d.1 × EachUnchanged cs ds
-
-each-push : (cs ds : List Child) (c d : Child) → AreUnchanged c.1 d.1 → EachUnchanged cs ds → EachUnchanged (cs ++ c ∷ []) (ds ++ d ∷ [])
-each-push [] [] c d one h = (one, tt)
-each-push [] (y ∷ ds) c d one h = absurd h
-each-push (x ∷ cs) [] c d one h = absurd h
-each-push (x ∷ cs) (y ∷ ds) c d one h = (h.0, each-push cs ds c d one h.1)
-
--- of the next two children nothing is told, too
-pub unchanged-more : (cs ds : List Child) (i : ℕ) (c d : Child) → i < length cs → i < length ds → c ≡ get_or cs i c → d ≡ get_or ds i d → AreUnchanged c.1 d.1
-    → EachUnchanged (take i cs) (take i ds) → EachUnchanged (take (i + 1) cs) (take (i + 1) ds)
-unchanged-more cs ds i c d lt other_lt is other_is one h =
-    subst₂ (λ xs ys. EachUnchanged xs ys) (sym (taken-at cs i c lt is)) (sym (taken-at ds i d other_lt other_is)) (each-push (take i cs) (take i ds) c d one h)
 
 -- ---- one level
 
 untold-by : (o q x y : Option Content) → o ≡ x → q ≡ y → IsUntold x y → IsUntold o q
 untold-by o q x y is other_is h = (ap is_some is ∙ h.0 ∙ sym (ap is_some other_is), (λ i. is_other_leaf (is i) (other_is i)) ∙ h.1)
 
-untold-in : (cs ds : List Child) (e : Element) (p : Path) → elements cs ≡ elements ds → EachUnchanged cs ds
+untold-in : (cs ds : List Child) (e : Element) (p : Path) → elements cs ≡ elements ds → Each AreUnchanged cs ds
     → IsUntold (content_in (child_at e cs) p) (content_in (child_at e ds) p)
 untold-in [] [] e p same h = (refl, refl)
 untold-in [] (d ∷ ds) e p same h = absurd h
@@ -60,7 +38,7 @@ untold-in (c ∷ cs) (d ∷ ds) e p same h =
 
 -- of two nodes nothing is told where nothing is of themselves and of their children, under the same elements
 pub unchanged-level : (n m : Node) → is_tree n ≡ true → is_tree m ≡ true → is_other_leaf (Some (own_content n)) (Some (own_content m)) ≡ false
-    → elements (below n) ≡ elements (below m) → EachUnchanged (below n) (below m) → AreUnchanged n m
+    → elements (below n) ≡ elements (below m) → Each AreUnchanged (below n) (below m) → AreUnchanged n m
 unchanged-level n m before after own same each [] = untold-by _ _ (Some (own_content n)) (Some (own_content m)) (content-root n) (content-root m) (refl, own)
 unchanged-level n m before after own same each (e ∷ p) =
     untold-by _ _ (content_in (child_at e (below n)) p) (content_in (child_at e (below m)) p) (content-level n e p before) (content-level m e p after)

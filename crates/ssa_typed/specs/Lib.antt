@@ -15,5 +15,6 @@ pub mod Reached
 pub mod Reads
 pub mod Restricted
 pub mod Rows
+pub mod Same
 pub mod Values
 pub mod Keyed

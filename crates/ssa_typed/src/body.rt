@@ -131,6 +131,14 @@ impl Body {
         Ok(same)
     }
 
+    /// Whether the other body is this one, its lists in the same order. Takes no memory. Of bodies of which it answers
+    /// `false` nothing is promised.
+    pub fn is_same(&self, other: &Body) -> bool
+        ensures { result ≡ true → other.now ≡ self.now }
+    {
+        self.root.is_same(&other.root)
+    }
+
     /// The places of the body are its root and what is at or above one of its points.
     pub fn points_tell_places(&self)
         ensures { PointsTellPlaces self.now }

@@ -4,9 +4,10 @@ use Rattle.ssa_path.specs.Children.{child_at, elements}
 use Rattle.ssa_path.specs.View.{element_view}
 use Rattle.ssa_typed.proofs.Lookups.{tree-child}
 use Rattle.ssa_typed.proofs.Overlaying.{child-at-index}
-use Rattle.ssa_typed.proofs.Pairs.{same-length, beside}
+use Rattle.ssa_typed.proofs.Pairs.{Each, each-more, same-length, beside}
 use Rattle.ssa_typed.proofs.Sizes.{smaller}
-use Rattle.ssa_typed.proofs.Unchanged.{EachUnchanged, unchanged-more, unchanged-level}
+use Rattle.ssa_typed.specs.Differences.{AreUnchanged}
+use Rattle.ssa_typed.proofs.Unchanged.{unchanged-level}
 use Rattle.ssa_typed.proofs.compare.+is_unchanged.Goals as goal
 
 pub bounds-others-i : goal.bounds-others-i
@@ -39,7 +40,7 @@ loop-i-preserved t c =
     let long = same-length cs ds (c.stand_alike.ensures c.if-not-stand_alike.false) in
     let lt : i < length ds = omega arith in
     let one = c.is_unchanged.ensures c.if-not-is_unchanged.false in
-    unchanged-more cs ds i c.index-own-i.result (get_or ds i c.index-others-i.result) c.loop-i-test.true lt c.index-own-i.is
+    each-more AreUnchanged cs ds i c.index-own-i.result (get_or ds i c.index-others-i.result) c.loop-i-test.true lt c.index-own-i.is
     (ap (get_or ds i) c.index-others-i.is) one c.loop-i.invariant
 
 pub returns : goal.returns
@@ -53,6 +54,6 @@ returns t c =
     let long = same-length cs ds same in
     let whole = take_all i cs c.loop-i-test.false ∙ c.children-own.ensures.own in
     let others = take_all i ds (omega arith) ∙ c.children-others.ensures.own in
-    let each = subst₂ (λ xs ys. EachUnchanged xs ys) whole others c.loop-i.invariant in
+    let each = subst₂ (λ xs ys. Each AreUnchanged xs ys) whole others c.loop-i.invariant in
     λ _. unchanged-level n m c.requires.before c.requires.after (sym c.is_other_leaf.ensures ∙ c.if-is_other_leaf.false)
     (ap elements (sym c.children-own.ensures.own) ∙ same ∙ ap elements c.children-others.ensures.own) each
