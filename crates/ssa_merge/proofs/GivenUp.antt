@@ -72,11 +72,10 @@ pub absent-of : (state : State) (a : ManagerKey) (config : model.Body) (o : Opti
 absent-of state a config o is = λ i. set_of (paths ((ap set_in is ∙ sym (owned-entry state.table a)) i)) (λ g. not (has config g))
 
 -- what is given up of what is left out
-pub dropped-absent : (state : State) (a : ManagerKey) (config : model.Body) (left others : PathSet) → left ≡ absent state a config
-    → others ≡ owned_by_others state.table a
-    → set_of (paths left) (λ g. not (is_key_field g) && not (has_at_or_below others g)) ≡ dropped state a config
-dropped-absent state a config left others is same =
-    (λ i. set_of (paths (is i)) (λ g. not (is_key_field g) && not (has_at_or_below (same i) g)))
+pub dropped-absent : (state : State) (a : ManagerKey) (config : model.Body) (left : PathSet) (table : Table) → left ≡ absent state a config → table ≡ state.table
+    → set_of (paths left) (λ g. not (is_key_field g) && not (has_at_or_below (owned_by_others table a) g)) ≡ dropped state a config
+dropped-absent state a config left table is same =
+    (λ i. set_of (paths (is i)) (λ g. not (is_key_field g) && not (has_at_or_below (owned_by_others (same i) a) g)))
     ∙ twice (paths (owned_by state.table a)) (λ g. not (has config g)) (λ g. not (is_key_field g) && not (has_at_or_below (owned_by_others state.table a) g))
 
 no-entries : (s : PathSet) → is_empty s ≡ true → paths s ≡ []
@@ -86,7 +85,7 @@ no-entries s h = elim s.entries as (λ es. elim es [ [] ↦ true | e ∷ rest �
 none-dropped : (state : State) (a : ManagerKey) (config : model.Body) (left : PathSet) → left ≡ absent state a config → is_empty left ≡ true
     → dropped state a config ≡ empty
 none-dropped state a config left is none =
-    sym (dropped-absent state a config left (owned_by_others state.table a) is refl)
+    sym (dropped-absent state a config left state.table is refl)
     ∙ ap (λ ps. set_of ps (λ g. not (is_key_field g) && not (has_at_or_below (owned_by_others state.table a) g))) (no-entries left none)
 
 -- where nothing is left out, all of the merged body stays

@@ -3,6 +3,7 @@ pub mod TableChanges
 pub mod Seats
 pub mod Seated
 pub mod GivenUp
+pub mod HeldAbove
 pub mod RootedPruned
 pub mod Applied
 pub mod Fits

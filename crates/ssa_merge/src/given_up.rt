@@ -3,14 +3,16 @@ ghost use Rattle.std.specs.Prelude.{◌≡◌, not, ◌&&◌, IfOk};
 ghost use Rattle.ssa_model.specs.definitions.PathMap.{has_at_or_above, has_at_or_below, paths, set_of, union};
 ghost use Rattle.ssa_model.specs.definitions.Path.{is_key_field, is_root};
 ghost use Rattle.ssa_model.specs.definitions.Body.{points};
+ghost use Rattle.ssa_model.specs.definitions.Table.{owned_by_others};
 ghost use Rattle.ssa_model.specs.definitions.Operations.{pruned};
 ghost use Rattle.ssa_model.specs.definitions.Valid.{AllEntries, OwnsOwnable};
 ghost use Rattle.ssa_typed.specs.Alike.{AreAlike};
 ghost use Rattle.ssa_merge.specs.Absent.{absent};
-ghost use Rattle.ssa_merge.specs.Managers.{key_view};
+ghost use Rattle.ssa_merge.specs.Managers.{key_view, table_view};
 ghost use Rattle.ssa_merge.specs.States.{state_view};
 
 use crate::manager::ManagerKey;
+use crate::managers::Entry;
 use crate::owned::owned_by_others;
 use crate::state::State;
 use ssa_path::field_set::FieldSet;
@@ -51,13 +53,23 @@ fn left_out(
     }
 }
 
-// Those of the paths that are no key fields, and that have no path of the others at or below them.
-fn unneeded(alloc: Global, absent: &FieldSet, others: &FieldSet) -> Result<FieldSet, AllocError>
-    ensures { IfOk result (λ s. s ≡ set_of (paths absent.now) (λ g. not (is_key_field g) && not (has_at_or_below others.now g))) }
+// Those of the paths that are no key fields, and that have no path of the other managers at or
+// below them.
+fn unneeded(
+    alloc: Global,
+    absent: &FieldSet,
+    table: &[Entry],
+    key: &ManagerKey,
+) -> Result<FieldSet, AllocError>
+    ensures { IfOk result (λ s. s ≡ set_of (paths absent.now) (λ g. not (is_key_field g) && not (has_at_or_below (owned_by_others (table_view table.now) (key_view key.now)) g))) }
 {
-    let free = absent.without_key_fields(alloc)?;
-    let unheld = free.without_over(alloc, others)?;
-    Ok(unheld)
+    let mut free = absent.without_key_fields(alloc)?;
+    for entry in table {
+        if !entry.key.is_same(key) {
+            free = free.without_over(alloc, &entry.set)?;
+        }
+    }
+    Ok(free)
 }
 
 // The paths that stay, themselves or by a path below: the merged body's points that are under none
@@ -99,8 +111,9 @@ pub fn pruned(
         merged.points_keep_all();
         return Ok(merged);
     }
-    let others = owned_by_others(alloc, state.managers.entries(), key)?;
-    let gone = unneeded(alloc, &absent, &others)?;
+    let table = state.managers.entries();
+    let others = owned_by_others(alloc, table, key)?;
+    let gone = unneeded(alloc, &absent, table, key)?;
     let stay = kept(alloc, &merged, &gone, &others, config_points)?;
     merged.stands_rooted();
     let body = merged.restricted_to(alloc, &stay)?;

@@ -16,8 +16,8 @@ pub restricted_to-requires : goal.restricted_to-requires
 restricted_to-requires c =
     let state = state_view c.args.state.now in
     let a = key_view c.args.key.now in
-    let others = c.in_ok-others.ensures ∙ (λ i. owned_by_others (c.entries.ensures.same i) a) in
-    let gone = c.in_ok-gone.ensures ∙ dropped-absent state a c.args.config c.in_ok-absent.absent c.in_ok-others.others c.in_ok-absent.ensures others in
+    let others = c.in_ok-others.ensures ∙ (λ i. owned_by_others (c.entries-table.ensures.same i) a) in
+    let gone = c.in_ok-gone.ensures ∙ dropped-absent state a c.args.config c.in_ok-absent.absent _ c.in_ok-absent.ensures c.entries-table.ensures.same in
     subst IsRooted
     (sym (stay-pruned state a c.args.config c.in_ok-merged.merged c.in_ok-stay.stay c.in_ok-gone.gone c.in_ok-others.others c.args.config_points.now
     c.in_ok-merged.ensures gone others c.requires.points c.in_ok-stay.ensures))
@@ -27,8 +27,8 @@ pub returns : goal.returns
 returns c =
     let state = state_view c.args.state.now in
     let a = key_view c.args.key.now in
-    let others = c.in_ok-others.ensures ∙ (λ i. owned_by_others (c.entries.ensures.same i) a) in
-    let gone = c.in_ok-gone.ensures ∙ dropped-absent state a c.args.config c.in_ok-absent.absent c.in_ok-others.others c.in_ok-absent.ensures others in
+    let others = c.in_ok-others.ensures ∙ (λ i. owned_by_others (c.entries-table.ensures.same i) a) in
+    let gone = c.in_ok-gone.ensures ∙ dropped-absent state a c.args.config c.in_ok-absent.absent _ c.in_ok-absent.ensures c.entries-table.ensures.same in
     c.in_ok-body.ensures
     ∙ stay-pruned state a c.args.config c.in_ok-merged.merged c.in_ok-stay.stay c.in_ok-gone.gone c.in_ok-others.others c.args.config_points.now
     c.in_ok-merged.ensures gone others c.requires.points c.in_ok-stay.ensures
