@@ -6,6 +6,7 @@ pub mod GivenUp
 pub mod HeldAbove
 mod Clashes
 pub mod RootedPruned
+pub mod KeptPlaces
 pub mod Applied
 pub mod Fits
 pub mod Valid
