@@ -68,6 +68,13 @@ pub unheld-own : (free : PathSet) (e : Entry) (es : Table) (a : ManagerKey) → 
     → unheld free (e ∷ es) a ≡ unheld free es a
 unheld-own free e es a own = λ i. set_of (paths free) (λ g. not (has_at_or_below (if own i then owned_by_others es a else union e.owned (owned_by_others es a)) g))
 
+-- of none, nobody takes any
+pub unheld-none : (free : PathSet) (table : Table) (a : ManagerKey) → is_empty free ≡ true → free ≡ unheld free table a
+unheld-none free table a none = is ∙ sym (ap (λ s. unheld s table a) is)
+  where
+    is : free ≡ empty
+    is = is_empty-true free none
+
 -- nobody takes none
 pub unheld-nobody : (free : PathSet) (a : ManagerKey) → unheld free [] a ≡ free
 unheld-nobody free a = same_sets _ _ (λ q. has-set_of (paths free) (λ g. true) q ∙ and-true (is_one_of (paths free) q) ∙ sym (has-paths free q))

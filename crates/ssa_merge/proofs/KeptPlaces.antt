@@ -5,7 +5,7 @@ use Rattle.ssa_model.specs.definitions.Path.{Path, is_item, is_key_field, is_roo
 use Rattle.ssa_model.specs.definitions.PathMap.{PathSet, get, has, has_at_or_above, has_at_or_below, paths, set_of, union}
 use Rattle.ssa_model.specs.definitions.Body as model
 use Rattle.ssa_model.specs.definitions.Body.{is_bare, is_dict, is_leaf, is_ownable, is_point, over, points}
-use Rattle.ssa_model.specs.definitions.Table.{ManagerKey, owned_by, owned_by_others}
+use Rattle.ssa_model.specs.definitions.Table.{ManagerKey, Table, owned_by, owned_by_others}
 use Rattle.ssa_model.specs.definitions.Operations.{State, dropped, kept, pruned}
 use Rattle.ssa_model.specs.definitions.Valid.{AllEntries, OwnsOwnable}
 use Rattle.ssa_model.proofs.Basics.{not_true, or_true, yes_no}
@@ -42,7 +42,7 @@ passed : (s : PathSet) (test : Path → Bool) (q : Path) → has (set_of (paths 
 passed s test q one = has-paths s q ∙ first_so (is_one_of (paths s) q) (test q) (sym (has-set_of (paths s) test q) ∙ one)
 
 -- what others and the configuration have at or above the paths that go
-abbrev pub held_over : State → ManagerKey → model.Body → PathSet
+abbrev held_over : State → ManagerKey → model.Body → PathSet
 held_over state a config =
     let gone = dropped state a config in
     union (set_of (paths (owned_by_others state.table a)) (has_at_or_below gone)) (set_of (paths (points config)) (has_at_or_below gone))
@@ -156,11 +156,18 @@ module _ (state : State) (a : ManagerKey) (config : model.Body) (owned : AllEntr
   pub left-pruned : PartsAreOfPlaces merged → model.restricted merged (λ p. is_root p || has_at_or_below left p) ≡ pruned state a config
   left-pruned law = law left stay (λ p there. same-places p)
 
--- so is what is cut from the merged body
-pub cut-pruned : (state : State) (a : ManagerKey) (config body : model.Body) (going above : PathSet)
-    → body ≡ over state.body config → going ≡ dropped state a config → above ≡ held_over state a config
+-- so is what is cut from the merged body, for this table and these points of the configuration
+pub cut-pruned : (state : State) (a : ManagerKey) (config body : model.Body) (going above : PathSet) (table : Table) (pointed : PathSet)
+    → body ≡ over state.body config → going ≡ dropped state a config → table ≡ state.table → pointed ≡ points config
+    → above ≡ union (set_of (paths (owned_by_others table a)) (has_at_or_below going)) (set_of (paths pointed) (has_at_or_below going))
     → AllEntries (OwnsOwnable state.body) state.table → PointsTellPlaces body → PointsTellPlaces config → PartsAreOfPlaces body
     → model.restricted body (λ p. is_root p || has_at_or_below (uncut body going above) p) ≡ pruned state a config
-cut-pruned state a config body going above made going_is above_is owned told config_told law =
-    (λ i. model.restricted (made i) (λ p. is_root p || has_at_or_below (uncut (made i) (going_is i) (above_is i)) p))
+cut-pruned state a config body going above table pointed made going_is same points_are above_is owned told config_told law =
+    (λ i. model.restricted (made i) (λ p. is_root p || has_at_or_below (uncut (made i) (going_is i) (held_is i)) p))
     ∙ left-pruned state a config owned (subst PointsTellPlaces made told) config_told (subst PartsAreOfPlaces made law)
+  where
+    held_is : above ≡ held_over state a config
+    held_is =
+        above_is
+        ∙ (λ i. union (set_of (paths (owned_by_others (same i) a)) (has_at_or_below (going_is i)))
+        (set_of (paths (points_are i)) (has_at_or_below (going_is i))))

@@ -1,19 +1,20 @@
 //! What an applier gives up, and what stays of the merged body.
-ghost use Rattle.std.specs.Prelude.{◌≡◌, not, ◌&&◌, IfOk};
-ghost use Rattle.ssa_model.specs.definitions.PathMap.{has_at_or_above, has_at_or_below, paths, set_of, union};
+ghost use Rattle.std.specs.Prelude.{◌≡◌, not, ◌&&◌, ◌||◌, IfOk};
+ghost use Rattle.ssa_model.specs.definitions.PathMap.{has_at_or_below, paths, set_of, union};
 ghost use Rattle.ssa_model.specs.definitions.Path.{is_key_field, is_root};
-ghost use Rattle.ssa_model.specs.definitions.Body.{points};
+ghost use Rattle.ssa_model.specs.definitions.Body.{points, restricted};
 ghost use Rattle.ssa_model.specs.definitions.Table.{owned_by_others};
 ghost use Rattle.ssa_model.specs.definitions.Operations.{pruned};
-ghost use Rattle.ssa_model.specs.definitions.Valid.{AllEntries, OwnsOwnable};
+ghost use Rattle.ssa_model.specs.definitions.Valid.{AllEntries, IsRooted, OwnsOwnable};
 ghost use Rattle.ssa_typed.specs.Alike.{AreAlike};
 ghost use Rattle.ssa_merge.specs.Absent.{absent};
+ghost use Rattle.ssa_merge.specs.Cut.{uncut, PartsAreOfPlaces};
 ghost use Rattle.ssa_merge.specs.Managers.{key_view, table_view};
 ghost use Rattle.ssa_merge.specs.States.{state_view};
 
 use crate::manager::ManagerKey;
 use crate::managers::Entry;
-use crate::owned::owned_by_others;
+use crate::owned::{over, owned_over};
 use crate::state::State;
 use ssa_path::field_set::FieldSet;
 use ssa_path::path::Path;
@@ -65,6 +66,9 @@ fn unneeded(
 {
     let mut free = absent.without_key_fields(alloc)?;
     for entry in table {
+        if free.is_empty() {
+            return Ok(free);
+        }
         if !entry.key.is_same(key) {
             free = free.without_over(alloc, &entry.set)?;
         }
@@ -72,22 +76,40 @@ fn unneeded(
     Ok(free)
 }
 
-// The paths that stay, themselves or by a path below: the merged body's points that are under none
-// of those given up, what the others own, and the configuration's points.
-fn kept(
+// What stands above the paths that go, or at them: paths of the other managers, and points of the
+// configuration.
+fn held_over(
     alloc: Global,
-    merged: &Body,
-    gone: &FieldSet,
-    others: &FieldSet,
+    table: &[Entry],
+    key: &ManagerKey,
     config_points: &FieldSet,
+    gone: &FieldSet,
 ) -> Result<FieldSet, AllocError>
-    ensures { IfOk result (λ s. s ≡ union (set_of (paths (points merged.now)) (λ p. not (has_at_or_above gone.now p))) (union others.now config_points.now)) }
+    ensures { IfOk result (λ s. s ≡ union
+        (set_of (paths (owned_by_others (table_view table.now) (key_view key.now))) (has_at_or_below gone.now))
+        (set_of (paths config_points.now) (has_at_or_below gone.now))) }
 {
-    let merged_points = merged.points(alloc)?;
-    let stay = merged_points.without_under(alloc, gone)?;
-    let owned = others.union(alloc, config_points)?;
-    let all = stay.union(alloc, &owned)?;
-    Ok(all)
+    let owned = owned_over(alloc, table, key, gone)?;
+    let pointed = over(alloc, config_points, gone)?;
+    let held = owned.union(alloc, &pointed)?;
+    Ok(held)
+}
+
+// STAND-IN for `Body::parts_are_of_places`.
+fn parts_are_of_places(body: &Body)
+    ensures { PartsAreOfPlaces body.now }
+{}
+
+// STAND-IN for `Body::cut`.
+fn cut(alloc: Global, merged: Body, gone: &FieldSet, held: &FieldSet) -> Result<Body, AllocError>
+    requires { IsRooted (restricted merged (λ p. is_root p || has_at_or_below (uncut merged gone.now held.now) p)) }
+    ensures { IfOk result (λ b. b ≡ restricted merged (λ p. is_root p || has_at_or_below (uncut merged gone.now held.now) p)) }
+{
+    let points = merged.points(alloc)?;
+    let spared = points.without_under(alloc, gone)?;
+    let stay = spared.union(alloc, held)?;
+    let body = merged.restricted_to(alloc, &stay)?;
+    Ok(body)
 }
 
 /// The body after an Apply: the configuration over the live body, without what the manager gives up
@@ -106,16 +128,18 @@ pub fn pruned(
 {
     let absent = left_out(alloc, state, key, &config, config_points)?;
     config.stands_rooted();
+    config.points_tell_places();
     let merged = state.body.over(alloc, config)?;
-    if absent.is_empty() {
+    let table = state.managers.entries();
+    let gone = unneeded(alloc, &absent, table, key)?;
+    if gone.is_empty() {
         merged.points_keep_all();
         return Ok(merged);
     }
-    let table = state.managers.entries();
-    let others = owned_by_others(alloc, table, key)?;
-    let gone = unneeded(alloc, &absent, table, key)?;
-    let stay = kept(alloc, &merged, &gone, &others, config_points)?;
+    let held = held_over(alloc, table, key, config_points, &gone)?;
     merged.stands_rooted();
-    let body = merged.restricted_to(alloc, &stay)?;
+    merged.points_tell_places();
+    parts_are_of_places(&merged);
+    let body = cut(alloc, merged, &gone, &held)?;
     Ok(body)
 }

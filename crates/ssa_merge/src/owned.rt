@@ -64,27 +64,6 @@ pub fn owned_over(
     }
 }
 
-/// The paths that the managers other than this one own.
-pub fn owned_by_others(
-    alloc: Global,
-    table: &[Entry],
-    key: &ManagerKey,
-) -> Result<FieldSet, AllocError>
-    ensures { IfOk result (λ s. s ≡ owned_by_others (table_view table.now) (key_view key.now)) }
-{
-    match table {
-        [] => Ok(FieldSet::new(alloc)),
-        [first, rest @ ..] => {
-            let others = owned_by_others(alloc, rest, key)?;
-            if first.key.is_same(key) {
-                return Ok(others);
-            }
-            let all = first.set.union(alloc, &others)?;
-            Ok(all)
-        }
-    }
-}
-
 /// The managers other than this one that own changed fields, in table order, each with these fields.
 pub fn clashes(
     alloc: Global,

@@ -1,4 +1,4 @@
-use Rattle.std.proofs.Common.{◌≡◌, ◌≤◌, ◌+◌, ◌&&◌, ◌∷◌, length, drop, ap, sym, ◌∙◌, not, true, false, arith}
+use Rattle.std.proofs.Common.{◌≡◌, ◌≤◌, ◌+◌, ◌∷◌, length, drop, ap, sym, ◌∙◌, not, arith}
 use Rattle.std.proofs.lemmas.List.{drop_all}
 use Rattle.ssa_model.specs.definitions.Path.{is_key_field}
 use Rattle.ssa_model.specs.definitions.PathMap.{has_at_or_below, paths, set_of}
@@ -6,7 +6,7 @@ use Rattle.ssa_model.specs.definitions.Table.{owned_by_others}
 use Rattle.ssa_path.proofs.Lists.{left-at}
 use Rattle.ssa_merge.specs.Managers.{key_view, entry_view, table_view}
 use Rattle.ssa_merge.proofs.GivenUp.{twice}
-use Rattle.ssa_merge.proofs.HeldAbove.{unheld, unheld-nobody, unheld-other, unheld-own}
+use Rattle.ssa_merge.proofs.HeldAbove.{unheld, unheld-nobody, unheld-none, unheld-other, unheld-own}
 use Rattle.ssa_merge.proofs.given_up.unneeded.Goals as goal
 use Rattle.ssa_merge.proofs.given_up.unneeded.Goals.{then-not-is_same+in_ok-free-2, else-not-is_same}
 
@@ -33,6 +33,11 @@ loop-entry-preserved c =
           unheld-own free (entry_view e) rest a (sym c.is_same.ensures ∙ w.if-not-is_same.false) ∙ ap (λ s. unheld s rest a) (sym w.free-is)
     ] in
     c.loop-entry.invariant ∙ one ∙ more
+
+pub returns-then-is_empty : goal.returns-then-is_empty
+returns-then-is_empty c =
+    let rest = table_view (drop c.loop-entry.entry-index c.args.table.now) in
+    unheld-none c.loop-entry.free rest (key_view c.args.key.now) (sym c.is_empty.ensures ∙ c.if-is_empty.true) ∙ sym c.loop-entry.invariant
 
 pub returns : goal.returns
 returns c =

@@ -1,4 +1,4 @@
-use Rattle.std.proofs.Common.{◌≡◌, ◌<◌, ◌-◌, ap, sym, ◌∙◌, length, take, drop, arith}
+use Rattle.std.proofs.Common.{◌<◌, ◌-◌, ap, sym, ◌∙◌, length, take, drop, arith}
 use Rattle.ssa_model.specs.definitions.PathMap.{has_at_or_below, is_empty, union}
 use Rattle.ssa_merge.specs.Managers.{entry_view, key_view, table_view}
 use Rattle.ssa_merge.proofs.HeldAbove.{table-first, tested, tested-other, tested-rest}

@@ -1,7 +1,7 @@
 use Rattle.std.proofs.Common.{◌≡◌, ◌+◌, ◌∷◌, ◌++◌, drop, ap, sym, ◌∙◌}
 use Rattle.ssa_model.specs.definitions.Operations.{clashes}
 use Rattle.ssa_path.proofs.Lists.{left-at}
-use Rattle.ssa_model.specs.definitions.PathMap.{PathSet, is_empty}
+use Rattle.ssa_model.specs.definitions.PathMap.{is_empty}
 use Rattle.ssa_merge.specs.Managers.{key_view, entry_view, table_view, clashes_view}
 use Rattle.ssa_merge.proofs.Clashes.{clash-none, clash-own, clash-some, found-more}
 use Rattle.ssa_merge.proofs.owned.clashes.Goals as goal
