@@ -4,9 +4,9 @@ use Rattle.std.proofs.lemmas.List.{take_rest}
 use Rattle.std.specs.Cmp.{both_ways}
 use Rattle.std.specs.Prelude.{if◌then◌else◌}
 use Rattle.ssa_model.specs.definitions.Path.{Path, under}
-use Rattle.ssa_model.specs.definitions.PathMap.{PathSet, empty, has, has_at_or_above, has_at_or_below, is_empty, minus, paths, set_of, union}
+use Rattle.ssa_model.specs.definitions.PathMap.{PathSet, empty, has, has_at_or_above, has_at_or_below, is_empty, paths, set_of, union}
 use Rattle.ssa_model.specs.definitions.Table.{ManagerKey, Entry, Table, owned_by_others, same_manager}
-use Rattle.ssa_model.proofs.PathMaps.{has-minus, has-paths, has-set_of, has-union, is_one_of, same_sets}
+use Rattle.ssa_model.proofs.PathMaps.{has-paths, has-set_of, has-union, is_one_of, same_sets}
 use Rattle.ssa_model.proofs.Pruned.{from_one, some_one}
 use Rattle.ssa_model.proofs.Tables.{either, true_or}
 use Rattle.ssa_model.proofs.Basics.{and-true, or_true}
@@ -80,19 +80,6 @@ pub unheld-nobody : (free : PathSet) (a : ManagerKey) → unheld free [] a ≡ f
 unheld-nobody free a = same_sets _ _ (λ q. has-set_of (paths free) (λ g. true) q ∙ and-true (is_one_of (paths free) q) ∙ sym (has-paths free q))
 
 -- ---- those of a set that have something of another at or below them
-
-rest-of : (own below : Bool) → (own && not (own && not below)) ≡ (own && below)
-rest-of true true = refl
-rest-of true false = refl
-rest-of false below = refl
-
--- STAND-IN: those of a set that are not without
-pub over-rest : (s : PathSet) (test : Path → Bool) → minus s (set_of (paths s) (λ p. not (test p))) ≡ set_of (paths s) test
-over-rest s test = same_sets _ _ (λ q.
-    has-minus s (set_of (paths s) (λ p. not (test p))) q
-    ∙ (λ i. has-paths s q i && not (has-set_of (paths s) (λ p. not (test p)) q i))
-    ∙ rest-of (is_one_of (paths s) q) (test q)
-    ∙ sym (has-set_of (paths s) test q))
 
 both : (a b c : Bool) → ((a || b) && c) ≡ ((a && c) || (b && c))
 both true true true = refl

@@ -13,8 +13,8 @@ use Rattle.ssa_model.proofs.Fitting.{same_element-true}
 use Rattle.ssa_model.proofs.PathMaps.{has-paths, has-points, has-set_of, has-union, is_one_of}
 use Rattle.ssa_model.proofs.Pruned.{some_one, under-trans}
 use Rattle.ssa_model.proofs.Tables.{either, element-itself, has-over, others-kept, ownable-has, points-kept, spared, true_or, under-itself}
-use Rattle.ssa_typed.specs.Reached.{PointsTellPlaces}
-use Rattle.ssa_merge.specs.Cut.{uncut, PartsAreOfPlaces}
+use Rattle.ssa_typed.specs.Cut.{uncut}
+use Rattle.ssa_typed.specs.Reached.{PartsAreOfPlaces, PointsTellPlaces}
 use Rattle.ssa_merge.proofs.HeldAbove.{below-one, one-below}
 use Rattle.ssa_merge.proofs.RootedPruned.{others-all}
 

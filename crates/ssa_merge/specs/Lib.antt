@@ -7,4 +7,3 @@ pub mod TableChanges
 pub mod States
 pub mod Plans
 pub mod EntriesBack
-pub mod Cut

@@ -1,20 +1,19 @@
 //! What an applier gives up, and what stays of the merged body.
-ghost use Rattle.std.specs.Prelude.{◌≡◌, not, ◌&&◌, ◌||◌, IfOk};
+ghost use Rattle.std.specs.Prelude.{◌≡◌, not, ◌&&◌, IfOk};
 ghost use Rattle.ssa_model.specs.definitions.PathMap.{has_at_or_below, paths, set_of, union};
 ghost use Rattle.ssa_model.specs.definitions.Path.{is_key_field, is_root};
-ghost use Rattle.ssa_model.specs.definitions.Body.{points, restricted};
+ghost use Rattle.ssa_model.specs.definitions.Body.{points};
 ghost use Rattle.ssa_model.specs.definitions.Table.{owned_by_others};
 ghost use Rattle.ssa_model.specs.definitions.Operations.{pruned};
-ghost use Rattle.ssa_model.specs.definitions.Valid.{AllEntries, IsRooted, OwnsOwnable};
+ghost use Rattle.ssa_model.specs.definitions.Valid.{AllEntries, OwnsOwnable};
 ghost use Rattle.ssa_typed.specs.Alike.{AreAlike};
 ghost use Rattle.ssa_merge.specs.Absent.{absent};
-ghost use Rattle.ssa_merge.specs.Cut.{uncut, PartsAreOfPlaces};
 ghost use Rattle.ssa_merge.specs.Managers.{key_view, table_view};
 ghost use Rattle.ssa_merge.specs.States.{state_view};
 
 use crate::manager::ManagerKey;
 use crate::managers::Entry;
-use crate::owned::{over, owned_over};
+use crate::owned::owned_over;
 use crate::state::State;
 use ssa_path::field_set::FieldSet;
 use ssa_path::path::Path;
@@ -90,26 +89,9 @@ fn held_over(
         (set_of (paths config_points.now) (has_at_or_below gone.now))) }
 {
     let owned = owned_over(alloc, table, key, gone)?;
-    let pointed = over(alloc, config_points, gone)?;
+    let pointed = config_points.over(alloc, gone)?;
     let held = owned.union(alloc, &pointed)?;
     Ok(held)
-}
-
-// STAND-IN for `Body::parts_are_of_places`.
-fn parts_are_of_places(body: &Body)
-    ensures { PartsAreOfPlaces body.now }
-{}
-
-// STAND-IN for `Body::cut`.
-fn cut(alloc: Global, merged: Body, gone: &FieldSet, held: &FieldSet) -> Result<Body, AllocError>
-    requires { IsRooted (restricted merged (λ p. is_root p || has_at_or_below (uncut merged gone.now held.now) p)) }
-    ensures { IfOk result (λ b. b ≡ restricted merged (λ p. is_root p || has_at_or_below (uncut merged gone.now held.now) p)) }
-{
-    let points = merged.points(alloc)?;
-    let spared = points.without_under(alloc, gone)?;
-    let stay = spared.union(alloc, held)?;
-    let body = merged.restricted_to(alloc, &stay)?;
-    Ok(body)
 }
 
 /// The body after an Apply: the configuration over the live body, without what the manager gives up
@@ -139,7 +121,7 @@ pub fn pruned(
     let held = held_over(alloc, table, key, config_points, &gone)?;
     merged.stands_rooted();
     merged.points_tell_places();
-    parts_are_of_places(&merged);
-    let body = cut(alloc, merged, &gone, &held)?;
+    merged.parts_are_of_places();
+    let body = merged.cut(alloc, &gone, &held)?;
     Ok(body)
 }

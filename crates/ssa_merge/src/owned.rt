@@ -29,15 +29,6 @@ pub fn owners<'a>(
     Ok(found)
 }
 
-// STAND-IN for `FieldSet::over`.
-pub fn over(alloc: Global, own: &FieldSet, held: &FieldSet) -> Result<FieldSet, AllocError>
-    ensures { IfOk result (λ s. s ≡ set_of (paths own.now) (has_at_or_below held.now)) }
-{
-    let free = own.without_over(alloc, held)?;
-    let rest = own.minus(alloc, &free)?;
-    Ok(rest)
-}
-
 /// The paths that managers other than this one own above the paths of a set, or at them.
 pub fn owned_over(
     alloc: Global,
@@ -54,7 +45,7 @@ pub fn owned_over(
             if first.key.is_same(key) {
                 return Ok(others);
             }
-            let above = over(alloc, &first.set, set)?;
+            let above = first.set.over(alloc, set)?;
             if above.is_empty() {
                 return Ok(others);
             }
