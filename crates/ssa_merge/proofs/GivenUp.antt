@@ -120,19 +120,6 @@ minus-none s t h =
     let apart = sym (has-set_of (paths s) (has t) p ∙ ap (λ b. b && has t p) (sym (has-paths s p))) ∙ ap (λ m. has m p) (is_empty-true (meet s t) h) in
     sym (has-minus s t p ∙ without_none (has s p) (has t p) apart))
 
-both-ways : (a b : Bool) → (a && b) ≡ (b && a)
-both-ways true true = refl
-both-ways true false = refl
-both-ways false true = refl
-both-ways false false = refl
-
--- what a set shares with another, the other shares with it
-pub meet-swap : (s t : PathSet) → meet s t ≡ meet t s
-meet-swap s t =
-    same_sets _ _ (λ p.
-    has-set_of (paths s) (has t) p ∙ (λ i. sym (has-paths s p) i && has t p) ∙ both-ways (has s p) (has t p)
-    ∙ (λ i. has-paths t p i && has s p) ∙ sym (has-set_of (paths t) (has s) p))
-
 not-both : (a b : Bool) → (a && not (a && b)) ≡ (a && not b)
 not-both true b = refl
 not-both false b = refl
