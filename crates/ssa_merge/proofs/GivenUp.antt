@@ -72,31 +72,28 @@ pub absent-of : (state : State) (a : ManagerKey) (config : model.Body) (o : Opti
 absent-of state a config o is = λ i. set_of (paths ((ap set_in is ∙ sym (owned-entry state.table a)) i)) (λ g. not (has config g))
 
 -- what is given up of what is left out
-pub dropped-absent : (state : State) (a : ManagerKey) (config : model.Body) (left others : PathSet) → left ≡ absent state a config
-    → others ≡ owned_by_others state.table a
-    → set_of (paths left) (λ g. not (is_key_field g) && not (has_at_or_below others g)) ≡ dropped state a config
-dropped-absent state a config left others is same =
-    (λ i. set_of (paths (is i)) (λ g. not (is_key_field g) && not (has_at_or_below (same i) g)))
+pub dropped-absent : (state : State) (a : ManagerKey) (config : model.Body) (left : PathSet) (table : Table) → left ≡ absent state a config → table ≡ state.table
+    → set_of (paths left) (λ g. not (is_key_field g) && not (has_at_or_below (owned_by_others table a) g)) ≡ dropped state a config
+dropped-absent state a config left table is same =
+    (λ i. set_of (paths (is i)) (λ g. not (is_key_field g) && not (has_at_or_below (owned_by_others (same i) a) g)))
     ∙ twice (paths (owned_by state.table a)) (λ g. not (has config g)) (λ g. not (is_key_field g) && not (has_at_or_below (owned_by_others state.table a) g))
 
 no-entries : (s : PathSet) → is_empty s ≡ true → paths s ≡ []
 no-entries s h = elim s.entries as (λ es. elim es [ [] ↦ true | e ∷ rest ↦ false ] ≡ true
     → map (λ e. e.0) es ≡ []) [ [] ↦ λ k. refl | e ∷ es ↦ λ k. absurd (true≢false (sym k)) ] h
 
-none-dropped : (state : State) (a : ManagerKey) (config : model.Body) (left : PathSet) → left ≡ absent state a config → is_empty left ≡ true
-    → dropped state a config ≡ empty
-none-dropped state a config left is none =
-    sym (dropped-absent state a config left (owned_by_others state.table a) is refl)
-    ∙ ap (λ ps. set_of ps (λ g. not (is_key_field g) && not (has_at_or_below (owned_by_others state.table a) g))) (no-entries left none)
+-- a set that is found empty is the empty set
+pub is_empty-true : (s : PathSet) → is_empty s ≡ true → s ≡ empty
+is_empty-true s h = same_sets s empty (λ p. has-paths s p ∙ ap (λ ps. is_one_of ps p) (no-entries s h))
 
--- where nothing is left out, all of the merged body stays
-pub all-stays : (state : State) (a : ManagerKey) (config merged : model.Body) (left : PathSet) → left ≡ absent state a config → is_empty left ≡ true
+-- where nothing is given up, all of the merged body stays
+pub all-stays : (state : State) (a : ManagerKey) (config merged : model.Body) (gone : PathSet) → gone ≡ dropped state a config → is_empty gone ≡ true
     → merged ≡ model.over state.body config → PointsKeepAll merged → merged ≡ pruned state a config
-all-stays state a config merged left is none made law =
+all-stays state a config merged gone is none made law =
     sym (law (kept state a config) there) ∙ ap (λ b. model.restricted b (λ p. is_root p || has_at_or_below (kept state a config) p)) made
   where
     spared : (p : Path) → has_at_or_above (dropped state a config) p ≡ false
-    spared p = ap (λ s. has_at_or_above s p) (none-dropped state a config left is none)
+    spared p = ap (λ s. has_at_or_above s p) (sym is ∙ is_empty-true gone none)
 
     there : (p : Path) → has (model.points merged) p ≡ true → has (kept state a config) p ≡ true
     there p h =
@@ -108,22 +105,6 @@ all-stays state a config merged left is none made law =
       where
         point : is_one_of (paths (model.points (model.over state.body config))) p ≡ true
         point = sym (has-paths (model.points (model.over state.body config)) p) ∙ ap (λ b. has (model.points b) p) (sym made) ∙ h
-
--- what stays of the merged body where something is given up
-pub stay-pruned : (state : State) (a : ManagerKey) (config merged : model.Body) (stay gone others points : PathSet) → merged ≡ model.over state.body config
-    → gone ≡ dropped state a config → others ≡ owned_by_others state.table a → points ≡ model.points config
-    → stay ≡ union (set_of (paths (model.points merged)) (λ p. not (has_at_or_above gone p))) (union others points)
-    → model.restricted merged (λ p. is_root p || has_at_or_below stay p) ≡ pruned state a config
-stay-pruned state a config merged stay gone others points made gone_is others_are points_are is =
-    ap (λ s. model.restricted merged (λ p. is_root p || has_at_or_below s p)) is
-    ∙ (λ i. model.restricted (made i) (λ p. is_root p || has_at_or_below
-    (union (set_of (paths (model.points (made i))) (λ q. not (has_at_or_above (gone_is i) q))) (union (others_are i) (points_are i))) p))
-
--- ---- an empty set
-
--- a set that is found empty is the empty set
-pub is_empty-true : (s : PathSet) → is_empty s ≡ true → s ≡ empty
-is_empty-true s h = same_sets s empty (λ p. has-paths s p ∙ ap (λ ps. is_one_of ps p) (no-entries s h))
 
 -- ---- a set that loses nothing
 

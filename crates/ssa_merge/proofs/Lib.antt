@@ -3,7 +3,10 @@ pub mod TableChanges
 pub mod Seats
 pub mod Seated
 pub mod GivenUp
+pub mod HeldAbove
+mod Clashes
 pub mod RootedPruned
+pub mod KeptPlaces
 pub mod Applied
 pub mod Fits
 pub mod Valid

@@ -20,7 +20,7 @@ use Rattle.ssa_typed.proofs.Stands.{one_level}
 use Rattle.ssa_model.proofs.Basics.{or_true, yes_no}
 
 -- what holds of each path of each entry holds of what the others own
-others-all : (P : Path → Type 0) (es : Table) (a : ManagerKey)
+pub others-all : (P : Path → Type 0) (es : Table) (a : ManagerKey)
     → AllEntries (λ e. (p : Path) → has e.owned p ≡ true → P p) es → (p : Path) → has (owned_by_others es a) p ≡ true → P p
 others-all P [] a all p own = absurd (true≢false (sym own))
 others-all P (e ∷ es) a all p own =

@@ -1,17 +1,19 @@
 //! What an applier gives up, and what stays of the merged body.
 ghost use Rattle.std.specs.Prelude.{◌≡◌, not, ◌&&◌, IfOk};
-ghost use Rattle.ssa_model.specs.definitions.PathMap.{has_at_or_above, has_at_or_below, paths, set_of, union};
+ghost use Rattle.ssa_model.specs.definitions.PathMap.{has_at_or_below, paths, set_of, union};
 ghost use Rattle.ssa_model.specs.definitions.Path.{is_key_field, is_root};
 ghost use Rattle.ssa_model.specs.definitions.Body.{points};
+ghost use Rattle.ssa_model.specs.definitions.Table.{owned_by_others};
 ghost use Rattle.ssa_model.specs.definitions.Operations.{pruned};
 ghost use Rattle.ssa_model.specs.definitions.Valid.{AllEntries, OwnsOwnable};
 ghost use Rattle.ssa_typed.specs.Alike.{AreAlike};
 ghost use Rattle.ssa_merge.specs.Absent.{absent};
-ghost use Rattle.ssa_merge.specs.Managers.{key_view};
+ghost use Rattle.ssa_merge.specs.Managers.{key_view, table_view};
 ghost use Rattle.ssa_merge.specs.States.{state_view};
 
 use crate::manager::ManagerKey;
-use crate::owned::owned_by_others;
+use crate::managers::Entry;
+use crate::owned::owned_over;
 use crate::state::State;
 use ssa_path::field_set::FieldSet;
 use ssa_path::path::Path;
@@ -51,31 +53,45 @@ fn left_out(
     }
 }
 
-// Those of the paths that are no key fields, and that have no path of the others at or below them.
-fn unneeded(alloc: Global, absent: &FieldSet, others: &FieldSet) -> Result<FieldSet, AllocError>
-    ensures { IfOk result (λ s. s ≡ set_of (paths absent.now) (λ g. not (is_key_field g) && not (has_at_or_below others.now g))) }
+// Those of the paths that are no key fields, and that have no path of the other managers at or
+// below them.
+fn unneeded(
+    alloc: Global,
+    absent: &FieldSet,
+    table: &[Entry],
+    key: &ManagerKey,
+) -> Result<FieldSet, AllocError>
+    ensures { IfOk result (λ s. s ≡ set_of (paths absent.now) (λ g. not (is_key_field g) && not (has_at_or_below (owned_by_others (table_view table.now) (key_view key.now)) g))) }
 {
-    let free = absent.without_key_fields(alloc)?;
-    let unheld = free.without_over(alloc, others)?;
-    Ok(unheld)
+    let mut free = absent.without_key_fields(alloc)?;
+    for entry in table {
+        if free.is_empty() {
+            return Ok(free);
+        }
+        if !entry.key.is_same(key) {
+            free = free.without_over(alloc, &entry.set)?;
+        }
+    }
+    Ok(free)
 }
 
-// The paths that stay, themselves or by a path below: the merged body's points that are under none
-// of those given up, what the others own, and the configuration's points.
-fn kept(
+// What stands above the paths that go, or at them: paths of the other managers, and points of the
+// configuration.
+fn held_over(
     alloc: Global,
-    merged: &Body,
-    gone: &FieldSet,
-    others: &FieldSet,
+    table: &[Entry],
+    key: &ManagerKey,
     config_points: &FieldSet,
+    gone: &FieldSet,
 ) -> Result<FieldSet, AllocError>
-    ensures { IfOk result (λ s. s ≡ union (set_of (paths (points merged.now)) (λ p. not (has_at_or_above gone.now p))) (union others.now config_points.now)) }
+    ensures { IfOk result (λ s. s ≡ union
+        (set_of (paths (owned_by_others (table_view table.now) (key_view key.now))) (has_at_or_below gone.now))
+        (set_of (paths config_points.now) (has_at_or_below gone.now))) }
 {
-    let merged_points = merged.points(alloc)?;
-    let stay = merged_points.without_under(alloc, gone)?;
-    let owned = others.union(alloc, config_points)?;
-    let all = stay.union(alloc, &owned)?;
-    Ok(all)
+    let owned = owned_over(alloc, table, key, gone)?;
+    let pointed = config_points.over(alloc, gone)?;
+    let held = owned.union(alloc, &pointed)?;
+    Ok(held)
 }
 
 /// The body after an Apply: the configuration over the live body, without what the manager gives up
@@ -94,15 +110,18 @@ pub fn pruned(
 {
     let absent = left_out(alloc, state, key, &config, config_points)?;
     config.stands_rooted();
+    config.points_tell_places();
     let merged = state.body.over(alloc, config)?;
-    if absent.is_empty() {
+    let table = state.managers.entries();
+    let gone = unneeded(alloc, &absent, table, key)?;
+    if gone.is_empty() {
         merged.points_keep_all();
         return Ok(merged);
     }
-    let others = owned_by_others(alloc, state.managers.entries(), key)?;
-    let gone = unneeded(alloc, &absent, &others)?;
-    let stay = kept(alloc, &merged, &gone, &others, config_points)?;
+    let held = held_over(alloc, table, key, config_points, &gone)?;
     merged.stands_rooted();
-    let body = merged.restricted_to(alloc, &stay)?;
+    merged.points_tell_places();
+    merged.parts_are_of_places();
+    let body = merged.cut(alloc, &gone, &held)?;
     Ok(body)
 }

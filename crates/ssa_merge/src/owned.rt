@@ -1,5 +1,6 @@
 //! Who owns a path, what the others own, and whom a change clashes with.
 ghost use Rattle.std.specs.Prelude.{◌≡◌, map, IfOk};
+ghost use Rattle.ssa_model.specs.definitions.PathMap.{has_at_or_below, paths, set_of};
 ghost use Rattle.ssa_model.specs.definitions.Answers.{owners_of};
 ghost use Rattle.ssa_model.specs.definitions.Table.{owned_by_others};
 ghost use Rattle.ssa_model.specs.definitions.Operations.{clashes};
@@ -28,22 +29,27 @@ pub fn owners<'a>(
     Ok(found)
 }
 
-/// The paths that the managers other than this one own.
-pub fn owned_by_others(
+/// The paths that managers other than this one own above the paths of a set, or at them.
+pub fn owned_over(
     alloc: Global,
     table: &[Entry],
     key: &ManagerKey,
+    set: &FieldSet,
 ) -> Result<FieldSet, AllocError>
-    ensures { IfOk result (λ s. s ≡ owned_by_others (table_view table.now) (key_view key.now)) }
+    ensures { IfOk result (λ s. s ≡ set_of (paths (owned_by_others (table_view table.now) (key_view key.now))) (has_at_or_below set.now)) }
 {
     match table {
         [] => Ok(FieldSet::new(alloc)),
         [first, rest @ ..] => {
-            let others = owned_by_others(alloc, rest, key)?;
+            let others = owned_over(alloc, rest, key, set)?;
             if first.key.is_same(key) {
                 return Ok(others);
             }
-            let all = first.set.union(alloc, &others)?;
+            let above = first.set.over(alloc, set)?;
+            if above.is_empty() {
+                return Ok(others);
+            }
+            let all = above.union(alloc, &others)?;
             Ok(all)
         }
     }
@@ -61,7 +67,7 @@ pub fn clashes(
     let mut found = Vec::new(alloc);
     for entry in table {
         if !entry.key.is_same(key) {
-            let fields = entry.set.meet(alloc, changed)?;
+            let fields = changed.meet(alloc, &entry.set)?;
             if !fields.is_empty() {
                 let other = entry.key.copy(alloc)?;
                 found.push((other, fields))?;

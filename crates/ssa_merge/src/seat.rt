@@ -29,7 +29,7 @@ fn losing(alloc: Global, entry: &Entry, lost: &FieldSet) -> Result<EntryChange, 
     ensures { IfOk result (λ c. changed_entry c (entry_view entry.now) ≡ filter owns (less (entry_view entry.now) lost.now ∷ [])) }
 {
     let set = &entry.set;
-    let taken = set.meet(alloc, lost)?;
+    let taken = lost.meet(alloc, set)?;
     if taken.is_empty() {
         if set.is_empty() {
             return Ok(EntryChange::Leaves);

@@ -1,34 +1,41 @@
 use Rattle.std.proofs.Common.{sym, subst, ◌∙◌}
 use Rattle.ssa_model.specs.definitions.Valid.{IsRooted}
-use Rattle.ssa_model.specs.definitions.Table.{owned_by_others}
 use Rattle.ssa_merge.specs.Managers.{key_view}
 use Rattle.ssa_merge.specs.States.{state_view}
-use Rattle.ssa_merge.proofs.GivenUp.{all-stays, dropped-absent, stay-pruned}
+use Rattle.ssa_merge.proofs.GivenUp.{all-stays, dropped-absent}
+use Rattle.ssa_merge.proofs.KeptPlaces.{cut-pruned}
 use Rattle.ssa_merge.proofs.RootedPruned.{pruned-rooted}
 use Rattle.ssa_merge.proofs.given_up.pruned.Goals as goal
 
 pub returns-then-is_empty : goal.returns-then-is_empty
 returns-then-is_empty c =
-    all-stays (state_view c.args.state.now) (key_view c.args.key.now) c.args.config c.in_ok-merged.merged c.in_ok-absent.absent
-    c.in_ok-absent.ensures (sym c.is_empty.ensures ∙ c.if-is_empty.true) c.in_ok-merged.ensures c.points_keep_all.ensures
-
-pub restricted_to-requires : goal.restricted_to-requires
-restricted_to-requires c =
     let state = state_view c.args.state.now in
     let a = key_view c.args.key.now in
-    let others = c.in_ok-others.ensures ∙ (λ i. owned_by_others (c.entries.ensures.same i) a) in
-    let gone = c.in_ok-gone.ensures ∙ dropped-absent state a c.args.config c.in_ok-absent.absent c.in_ok-others.others c.in_ok-absent.ensures others in
-    subst IsRooted
-    (sym (stay-pruned state a c.args.config c.in_ok-merged.merged c.in_ok-stay.stay c.in_ok-gone.gone c.in_ok-others.others c.args.config_points.now
-    c.in_ok-merged.ensures gone others c.requires.points c.in_ok-stay.ensures))
-    (pruned-rooted state a c.args.config c.stands_rooted.ensures (subst IsRooted c.in_ok-merged.ensures c.stands_rooted-2.ensures) c.requires.owned)
+    let config = c.args.config in
+    let gone = c.in_ok-gone.ensures ∙ dropped-absent state a config c.in_ok-absent.absent _ c.in_ok-absent.ensures c.entries-table.ensures.same in
+    all-stays state a config c.in_ok-merged.merged c.in_ok-gone.gone gone (sym c.is_empty.ensures ∙ c.if-is_empty.true)
+    c.in_ok-merged.ensures c.points_keep_all.ensures
+
+pub cut-requires : goal.cut-requires
+cut-requires c =
+    let state = state_view c.args.state.now in
+    let a = key_view c.args.key.now in
+    let config = c.args.config in
+    let gone = c.in_ok-gone.ensures ∙ dropped-absent state a config c.in_ok-absent.absent _ c.in_ok-absent.ensures c.entries-table.ensures.same in
+    let is =
+    cut-pruned state a config c.in_ok-merged.merged c.in_ok-gone.gone c.in_ok-held.held _ c.args.config_points.now c.in_ok-merged.ensures gone
+    c.entries-table.ensures.same c.requires.points c.in_ok-held.ensures c.requires.owned
+    c.points_tell_places-2.ensures c.points_tell_places.ensures c.parts_are_of_places.ensures in
+    subst IsRooted (sym is)
+    (pruned-rooted state a config c.stands_rooted.ensures (subst IsRooted c.in_ok-merged.ensures c.stands_rooted-2.ensures) c.requires.owned)
 
 pub returns : goal.returns
 returns c =
     let state = state_view c.args.state.now in
     let a = key_view c.args.key.now in
-    let others = c.in_ok-others.ensures ∙ (λ i. owned_by_others (c.entries.ensures.same i) a) in
-    let gone = c.in_ok-gone.ensures ∙ dropped-absent state a c.args.config c.in_ok-absent.absent c.in_ok-others.others c.in_ok-absent.ensures others in
+    let config = c.args.config in
+    let gone = c.in_ok-gone.ensures ∙ dropped-absent state a config c.in_ok-absent.absent _ c.in_ok-absent.ensures c.entries-table.ensures.same in
     c.in_ok-body.ensures
-    ∙ stay-pruned state a c.args.config c.in_ok-merged.merged c.in_ok-stay.stay c.in_ok-gone.gone c.in_ok-others.others c.args.config_points.now
-    c.in_ok-merged.ensures gone others c.requires.points c.in_ok-stay.ensures
+    ∙ cut-pruned state a config c.in_ok-merged.merged c.in_ok-gone.gone c.in_ok-held.held _ c.args.config_points.now c.in_ok-merged.ensures gone
+    c.entries-table.ensures.same c.requires.points c.in_ok-held.ensures c.requires.owned
+    c.points_tell_places-2.ensures c.points_tell_places.ensures c.parts_are_of_places.ensures
