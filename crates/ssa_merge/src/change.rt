@@ -13,7 +13,7 @@ ghost use Rattle.ssa_model.specs.definitions.Valid.{AllEntries, IsValidState, Ow
 ghost use Rattle.ssa_typed.specs.Alike.{AreAlike};
 ghost use Rattle.ssa_merge.specs.Managers.{clashes_view, key_view, operation_view};
 ghost use Rattle.ssa_merge.specs.States.{state_view, applier, updater};
-ghost use Rattle.ssa_merge.specs.Plans.{changed_state, ChangesInOrder, IsChange, IsChanged, IsPlan};
+ghost use Rattle.ssa_merge.specs.Plans.{body_after, changed_state, ChangesInOrder, IsChange, IsChanged, IsPlan};
 
 use crate::given_up::pruned;
 use crate::manager::{ManagerKey, Operation};
@@ -78,6 +78,17 @@ fn has_conflict(force: bool, found: &[(ManagerKey, FieldSet)]) -> bool
     }
 }
 
+// The body after, none where it is the live body.
+fn body_if_other(live: &Body, after: Body, comparison: &Comparison) -> Option<Body>
+    ensures { body_after result live.now ≡ after }
+{
+    if comparison.is_empty() && live.is_same(&after) {
+        None
+    } else {
+        Some(after)
+    }
+}
+
 // What an Apply of a configuration with these points changes: the manager then owns them.
 fn applied_with(
     alloc: Global,
@@ -106,7 +117,7 @@ fn applied_with(
     }
     match seat(alloc, &state.managers, key, owned, changed, changed, at) {
         Ok(table) => Ok(Change {
-            body: Some(body),
+            body: body_if_other(&state.body, body, &comparison),
             table,
             comparison,
         }),
@@ -198,7 +209,7 @@ fn updated(
     let lost = changed.union(alloc, &comparison.removed)?;
     match seat(alloc, &state.managers, key, &owned, &lost, changed, at) {
         Ok(table) => Ok(Change {
-            body: Some(object),
+            body: body_if_other(&state.body, object, &comparison),
             table,
             comparison,
         }),

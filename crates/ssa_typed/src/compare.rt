@@ -1,6 +1,7 @@
 //! What one body has otherwise than another that comes before it.
-ghost use Rattle.std.specs.Prelude.{◌≡◌, true, drop, Some, IfOk, OnOk};
+ghost use Rattle.std.specs.Prelude.{◌≡◌, ◌&&◌, true, drop, Some, IfOk, OnOk};
 ghost use Rattle.ssa_model.specs.definitions.Body.{is_other_leaf};
+ghost use Rattle.ssa_model.specs.definitions.PathMap.{is_empty};
 ghost use Rattle.ssa_path.specs.Children.{heads_order};
 ghost use Rattle.ssa_typed.specs.Differences.{AreDifferences, AreDiffering, AreUnchanged, IsToldAlone, TellsNothing};
 ghost use Rattle.ssa_typed.specs.InOrder.{referred};
@@ -26,6 +27,15 @@ pub struct Comparison {
     pub added: FieldSet,
     pub modified: FieldSet,
     pub removed: FieldSet,
+}
+
+impl Comparison {
+    /// Whether nothing differs but the order of lists.
+    pub fn is_empty(&self) -> bool
+        ensures { result ≡ (is_empty self.now.added && (is_empty self.now.modified && is_empty self.now.removed)) }
+    {
+        self.added.is_empty() && (self.modified.is_empty() && self.removed.is_empty())
+    }
 }
 
 // What differs at and below two places, by what the comparison tells of it.

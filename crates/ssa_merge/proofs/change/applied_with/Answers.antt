@@ -66,10 +66,10 @@ returns-in-Ok c =
     c.args.at) table
     = λ i. seat state.table a (c.requires.points i) (c.in_ok-comparison.ensures.modified_are i) (c.in_ok-comparison.ensures.modified_are i) c.args.at in
     let given = apply-decided state a config c.args.force c.args.at body found (size body) table c.in_ok-body.ensures clash_is refl refl in
-    let change : Change = record { body = Some body; table = c.in-Ok.table; comparison = c.in_ok-comparison.comparison } in
+    let change : Change = record { body = c.body_if_other.result; table = c.in-Ok.table; comparison = c.in_ok-comparison.comparison } in
     let is_seated : Table → Type 0 = IsSeated state.table (Ok c.in-Ok.table) in
     let is_changed : Result State model.Refusal → Type 0 = IsChanged state (Ok change) in
-    subst is_changed (sym given) (seated state c.args.force found (size body) change body table quiet few refl (subst is_seated seats c.in-Ok.ensures)
+    subst is_changed (sym given) (seated state c.args.force found (size body) change body table quiet few c.body_if_other.ensures (subst is_seated seats c.in-Ok.ensures)
     c.in_ok-comparison.ensures)
 
 pub returns-in-Err : goal.returns-in-Err

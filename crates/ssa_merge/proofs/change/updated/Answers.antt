@@ -25,9 +25,9 @@ returns-in-Ok c =
     let lost_is : c.in_ok-lost.lost ≡ union changed gone = c.in_ok-lost.ensures ∙ (λ i. union (are.modified_are i) (are.removed_are i)) in
     let seats : ◌≡◌ {A = Table} (seat state.table u c.in_ok-owned.owned c.in_ok-lost.lost c.in_ok-comparison.comparison.modified c.args.at) table =
     λ i. seat state.table u (owned_is i) (lost_is i) (are.modified_are i) c.args.at in
-    let change : Change = record { body = Some object; table = c.in-Ok.table; comparison = c.in_ok-comparison.comparison } in
+    let change : Change = record { body = c.body_if_other.result; table = c.in-Ok.table; comparison = c.in_ok-comparison.comparison } in
     let is_seated : Table → Type 0 = IsSeated state.table (Ok c.in-Ok.table) in
-    placed state change object table refl (subst is_seated seats c.in-Ok.ensures) are
+    placed state change object table c.body_if_other.ensures (subst is_seated seats c.in-Ok.ensures) are
 
 pub returns-in-Err : goal.returns-in-Err
 returns-in-Err c =
