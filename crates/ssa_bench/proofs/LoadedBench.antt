@@ -8,23 +8,32 @@ use Rattle.ssa_model.specs.definitions.Json.{Json}
 use Rattle.ssa_model.specs.definitions.History.{Bench}
 use Rattle.ssa_model.specs.definitions.BenchFile.{IsValidBench}
 use Rattle.ssa_model.specs.definitions.RecordedBench.{HasReadHistory}
-use Rattle.ssa_model.specs.laws.LineByLine.{FilesAreRead, Move, Next, Reader, after_part, after_value, along, at_end, at_last, at_place, ended_with, file_from, next_value, no_value, value_then, with_part}
+use Rattle.ssa_model.specs.laws.LineByLine.{FilesAreRead, Move, Next, Reader, after_part, after_value, along, at_end, at_last, at_place, ended_with, file_from, moves_from, next_value, no_value, value_then, with_part}
 use Rattle.ssa_model.specs.laws.RecordedBenches.{Counts, counts_in, MoveFault, no_move_text, record_does_not_fit, recorded_bench_in, recorded_fault, RecordedFilesAreTaken, TakenIsRecordedText}
 use Rattle.ssa_model.proofs.LineByLine.{after_head}
 use Rattle.ssa_json.specs.Readings.{readings}
 use Rattle.ssa_file.specs.declared.head.RecordCounts.{RecordCounts}
 use Rattle.ssa_file.specs.declared.loading.LoadFault.{LoadFault}
 use Rattle.ssa_file.specs.declared.loading.LoadFault.TheVariants.{BenchText, RecordDoesNotFit, Io, OutOfMemory}
-use Rattle.ssa_bench.specs.Loading.{IsRefused, Loads, ReadRefuses, ReadsEnd, ReadsMoves, ReadsPart}
+use Rattle.ssa_bench.specs.Loading.{IsRefused, Loads, ReadRefuses, ReadsEnd, ReadsHistory, ReadsMoves, ReadsPart}
 use Rattle.ssa_bench.specs.Taking.{counts_view, held_counts}
 
--- what is read of all bytes is what this reader reads of those that are left
+-- what is read of all bytes from here is what this reader reads of those that are left
+abbrev pub ReachedFrom : Reader → ℕ → Option (List ℕ) → Option (List ℕ) → ℕ → Reader → Type 0
+ReachedFrom start most None now room reader = Unit {0}
+ReachedFrom start most (Some xs) None room reader = ⊥
+ReachedFrom start most (Some xs) (Some ys) room reader = start xs most ≡ reader ys room
+
+-- so much of a bench's file is read
 abbrev pub Reached : Option (List ℕ) → Option (List ℕ) → ℕ → Reader → Type 0
-Reached None now room reader = Unit {0}
-Reached (Some xs) None room reader = ⊥
-Reached (Some xs) (Some ys) room reader = file_from readings xs most_bench_bytes ≡ reader ys room
+Reached = ReachedFrom (file_from readings) most_bench_bytes
 
 -- ---- from part to part
+
+-- nothing is read yet
+pub reached-start : (start : Reader) (most : ℕ) (a : Option (List ℕ)) → ReachedFrom start most a a most start
+reached-start start most None = tt
+reached-start start most (Some xs) = refl
 
 held-same : (go : Counts → Reader) (ys : List ℕ) (left : ℕ) (o : Option Counts)
     → after_part go o ys left ≡ after_part (λ c. go (counts_view c)) (option_map (λ (c : Counts). record { past = c.past; future = c.future }) o) ys left
@@ -51,12 +60,48 @@ reached-part take go (Some xs) (Some ys) c room room_after x reached part =
     subst (λ d. Reached (Some xs) d room_after (go x)) (sym part.left) (reached ∙ part.goes_on go)
 
 -- where moves are read, their reader has reached what stands behind them, with the bench that they lead to
-pub reached-moves : (move : Move) (go : Bench → Reader) (count : ℕ) (a b c : Option (List ℕ)) (room room_after : ℕ) (old new : Bench)
-    → Reached a b room (along readings move go count old) → ReadsMoves move count b c room room_after old new (Ok tt) → Reached a c room_after (go new)
-reached-moves move go count None b c room room_after old new reached moves = tt
-reached-moves move go count (Some xs) None c room room_after old new reached moves = absurd reached
-reached-moves move go count (Some xs) (Some ys) c room room_after old new reached moves =
-    subst (λ d. Reached (Some xs) d room_after (go new)) (sym moves.left) (reached ∙ moves.goes_on go)
+pub reached-moves : (start : Reader) (most : ℕ) (move : Move) (go : Bench → Reader) (count : ℕ) (a b c : Option (List ℕ)) (room room_after : ℕ)
+    (old new : Bench) → ReachedFrom start most a b room (along readings move go count old)
+    → ReadsMoves move count b c room room_after old new (Ok tt) → ReachedFrom start most a c room_after (go new)
+reached-moves start most move go count None b c room room_after old new reached moves = tt
+reached-moves start most move go count (Some xs) None c room room_after old new reached moves = absurd reached
+reached-moves start most move go count (Some xs) (Some ys) c room room_after old new reached moves =
+    subst (λ d. ReachedFrom start most (Some xs) d room_after (go new)) (sym moves.left) (reached ∙ moves.goes_on go)
+
+-- ---- the lines behind the present object
+
+-- where what is left of them is refused, so are they
+history-refused : (past future : ℕ) (old new : Bench) (a b c : Option (List ℕ)) (most room : ℕ) (reader : Reader) (f : LoadFault)
+    → ReachedFrom (moves_from readings past future old) most a b room reader → ((ys : List ℕ) → b ≡ Some ys → ReadRefuses f (reader ys room))
+    → ReadsHistory past future a c most old new (Err f)
+history-refused past future old new None b c most room reader f reached refused = tt
+history-refused past future old new (Some xs) None c most room reader f reached refused = absurd reached
+history-refused past future old new (Some xs) (Some ys) c most room reader f reached refused = subst (ReadRefuses f) (sym reached) (refused ys refl)
+
+-- where a move is refused, so are they
+pub moves-refused : (past future : ℕ) (first last : Bench) (move : Move) (go : Bench → Reader) (count : ℕ) (a b c : Option (List ℕ))
+    (most room room_after : ℕ) (old new : Bench) (f : LoadFault)
+    → ReachedFrom (moves_from readings past future first) most a b room (along readings move go count old)
+    → ReadsMoves move count b c room room_after old new (Err f) → ReadsHistory past future a c most first last (Err f)
+moves-refused past future first last move go count a b c most room room_after old new f reached moves =
+    history-refused past future first last a b c most room (along readings move go count old) f reached
+    (λ ys is. subst (λ o. ReadsMoves move count o c room room_after old new (Err f)) is moves go)
+
+-- where something stands behind the last move, or the source fails there, they are refused
+pub end-refused : (past future : ℕ) (first last bench : Bench) (a b c : Option (List ℕ)) (most room : ℕ) (f : LoadFault)
+    → ReachedFrom (moves_from readings past future first) most a b room (ended_with readings bench) → ReadsEnd b c room (Err f)
+    → ReadsHistory past future a c most first last (Err f)
+end-refused past future first last bench a b c most room f reached end =
+    history-refused past future first last a b c most room (ended_with readings bench) f reached
+    (λ ys is. subst (λ o. ReadsEnd o c room (Err f)) is end bench)
+
+-- where the end is reached, they are read, and the bench is the one that they led to
+pub history-read : (past future : ℕ) (first bench : Bench) (a b c : Option (List ℕ)) (most room : ℕ)
+    → ReachedFrom (moves_from readings past future first) most a b room (ended_with readings bench) → ReadsEnd b c room (Ok tt)
+    → ReadsHistory past future a c most first bench (Ok tt)
+history-read past future first bench None b c most room reached end = tt
+history-read past future first bench (Some xs) None c most room reached end = absurd reached
+history-read past future first bench (Some xs) (Some ys) c most room reached end = (reached ∙ ap (at_last bench) end.0, end.1)
 
 -- ---- refusals
 
@@ -99,19 +144,12 @@ part-refused take go a b c room room_after f read files reached part =
     reached-refused a b c room (with_part readings take go) f read files reached
     (λ ys is. subst (λ o. ReadsPart take o c room room_after (Err f)) is part go)
 
--- where a move is refused, so is the whole file
-pub moves-refused : (move : Move) (go : Bench → Reader) (count : ℕ) (a b c : Option (List ℕ)) (room room_after : ℕ) (old new : Bench) (f : LoadFault)
-    → FilesAreRead → RecordedFilesAreTaken
-    → Reached a b room (along readings move go count old) → ReadsMoves move count b c room room_after old new (Err f) → Loads a c (Err f)
-moves-refused move go count a b c room room_after old new f read files reached moves =
-    reached-refused a b c room (along readings move go count old) f read files reached
-    (λ ys is. subst (λ o. ReadsMoves move count o c room room_after old new (Err f)) is moves go)
-
--- where something stands behind the last move, or the source fails there, the whole file is refused
-pub end-refused : (bench : Bench) (a b c : Option (List ℕ)) (room : ℕ) (f : LoadFault) → FilesAreRead → RecordedFilesAreTaken
-    → Reached a b room (ended_with readings bench) → ReadsEnd b c room (Err f) → Loads a c (Err f)
-end-refused bench a b c room f read files reached end =
-    reached-refused a b c room (ended_with readings bench) f read files reached (λ ys is. subst (λ o. ReadsEnd o c room (Err f)) is end bench)
+-- where a line behind the present object is refused, so is the whole file
+pub later-refused : (past future : ℕ) (old new : Bench) (a b c : Option (List ℕ)) (room : ℕ) (f : LoadFault) → FilesAreRead → RecordedFilesAreTaken
+    → Reached a b room (moves_from readings past future old) → ReadsHistory past future b c room old new (Err f) → Loads a c (Err f)
+later-refused past future old new a b c room f read files reached later =
+    reached-refused a b c room (moves_from readings past future old) f read files reached
+    (λ ys is. subst (λ o. ReadsHistory past future o c room old new (Err f)) is later)
 
 -- ---- the whole file
 
@@ -130,19 +168,19 @@ taken-with xs bench (Some other) h = ap told h
     told (Err g) = None
 taken-with xs bench None h = absurd cc
 
--- where the end is reached, the file is loaded: its bench is the one that was read
-pub loaded : (bench : Bench) (a b c : Option (List ℕ)) (room : ℕ) → FilesAreRead → TakenIsRecordedText → IsValidBench readings bench
-    → HasReadHistory readings bench.timeline
-    → Reached a b room (ended_with readings bench) → ReadsEnd b c room (Ok tt) → Loads a c (Ok bench)
-loaded bench None b c room read texts valid paths reached end = tt
-loaded bench (Some xs) None c room read texts valid paths reached end = absurd reached
-loaded bench (Some xs) (Some ys) c room read texts valid paths reached end =
-    let taken = taken-with xs bench (recorded_bench_in readings xs) (sym (read readings xs) ∙ reached ∙ ap (at_last bench) end.0) in
+-- where all lines behind the present object are read, the file is loaded: its bench is the one that they led to
+pub loaded : (past future : ℕ) (old bench : Bench) (a b c : Option (List ℕ)) (room : ℕ) → FilesAreRead → TakenIsRecordedText
+    → IsValidBench readings bench → HasReadHistory readings bench.timeline
+    → Reached a b room (moves_from readings past future old) → ReadsHistory past future b c room old bench (Ok tt) → Loads a c (Ok bench)
+loaded past future old bench None b c room read texts valid paths reached later = tt
+loaded past future old bench (Some xs) None c room read texts valid paths reached later = absurd reached
+loaded past future old bench (Some xs) (Some ys) c room read texts valid paths reached later =
+    let taken = taken-with xs bench (recorded_bench_in readings xs) (sym (read readings xs) ∙ reached ∙ later.0) in
     record {
       taken = taken;
       valid = valid;
       paths = paths;
       text = texts readings xs bench taken;
       fits = few-bytes (length xs) _ bench taken;
-      left = end.1;
+      left = later.1;
     }

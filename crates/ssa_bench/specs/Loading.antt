@@ -5,7 +5,7 @@ use Rattle.ssa_model.specs.definitions.History.{Bench}
 use Rattle.ssa_model.specs.definitions.BenchFile.{IsValidBench}
 use Rattle.ssa_model.specs.definitions.Limits.{most_bench_bytes}
 use Rattle.ssa_model.specs.definitions.RecordedBench.{HasReadHistory, recorded_text, IsRecordedFile}
-use Rattle.ssa_model.specs.laws.LineByLine.{Move, Reader, along, at_end, ended_with, next_value, with_part, with_value}
+use Rattle.ssa_model.specs.laws.LineByLine.{Move, Reader, along, at_end, ended_with, moves_from, next_value, with_part, with_value}
 use Rattle.ssa_model.specs.laws.RecordedBenches.{MoveFault, no_move_text, record_does_not_fit, recorded_bench_in, recorded_fault}
 use Rattle.std.specs.Prelude.{◌≤◌, length}
 use Rattle.ssa_json.specs.Readings.{readings}
@@ -56,6 +56,12 @@ abbrev pub ReadsEnd : Option (List ℕ) → Option (List ℕ) → ℕ → Result
 ReadsEnd None after room r = Unit {0}
 ReadsEnd (Some xs) after room (Ok u) = (next_value readings room xs ≡ at_end) × (after ≡ Some [])
 ReadsEnd (Some xs) after room (Err f) = (b : Bench) → ReadRefuses f (ended_with readings b xs room)
+
+-- all lines behind the present object are read, and the bench goes along them, back and then on
+abbrev pub ReadsHistory : ℕ → ℕ → Option (List ℕ) → Option (List ℕ) → ℕ → Bench → Bench → Result (Unit {0}) LoadFault → Type 0
+ReadsHistory past future None after room old new r = Unit {0}
+ReadsHistory past future (Some xs) after room old new (Ok u) = (moves_from readings past future old xs room ≡ Ok new) × (after ≡ Some [])
+ReadsHistory past future (Some xs) after room old new (Err f) = ReadRefuses f (moves_from readings past future old xs room)
 
 -- ---- the bench
 

@@ -11,7 +11,7 @@ ghost use Rattle.ssa_json.specs.Readings.{readings};
 ghost use Rattle.ssa_json.specs.View.{view};
 ghost use Rattle.ssa_json.specs.Writable.{IsOfProgram};
 ghost use Rattle.ssa_file.specs.declared.loading.LoadFault.TheVariants.{Io};
-ghost use Rattle.ssa_bench.specs.Loading.{Loads, ReadsEnd, ReadsLine, ReadsMoves, ReadsPart};
+ghost use Rattle.ssa_bench.specs.Loading.{Loads, ReadsEnd, ReadsHistory, ReadsLine, ReadsMoves, ReadsPart};
 ghost use Rattle.ssa_bench.specs.Taking.{held_counts};
 
 use crate::bench::Bench;
@@ -137,6 +137,27 @@ fn read_end<R: Source>(alloc: Global, reader: &mut R, room: &mut usize) -> Resul
     }
 }
 
+// Reads the lines behind the present object, to the end of the file, and has the bench go along them.
+fn read_history<R: Source>(
+    alloc: Global,
+    reader: &mut R,
+    room: &mut usize,
+    bench: &mut Bench,
+    counts: &RecordCounts,
+) -> Result<(), LoadFault>
+    requires lone { bench.old.timeline ≡ lone_state bench.old.timeline.first }
+    requires few { counts.now.past + counts.now.future ≤ most_past }
+    ensures read { ReadsHistory counts.now.past counts.now.future (R.remaining reader.old) (R.remaining reader.new) room.old bench.old bench.new result }
+    ensures failed { result ≡ Err LoadFault.Io → R.has_failed reader.new ≡ true }
+{
+    read_past(alloc, reader, room, bench, counts.past)?;
+    bench.go_to(counts.past);
+    read_future(alloc, reader, room, bench, counts.future)?;
+    read_end(alloc, reader, room)?;
+    bench.go_to(counts.past);
+    Ok(())
+}
+
 impl Bench {
     /// Takes a bench from its file: the text that [`save`](Bench::save) writes of it, and nothing else.
     ///
@@ -161,11 +182,7 @@ impl Bench {
         let counts = read_counts(alloc, reader, &mut room)?;
         let schema = read_schema(alloc, reader, &mut room)?;
         let mut bench = read_present(alloc, reader, &mut room, schema)?;
-        read_past(alloc, reader, &mut room, &mut bench, counts.past)?;
-        bench.go_to(counts.past);
-        read_future(alloc, reader, &mut room, &mut bench, counts.future)?;
-        read_end(alloc, reader, &mut room)?;
-        bench.go_to(counts.past);
+        read_history(alloc, reader, &mut room, &mut bench, &counts)?;
         bench.is_valid();
         bench.paths_are_read();
         Ok(bench)

@@ -65,13 +65,31 @@ fn carry_out<'a, T: Files + AllocGlobal, R: Source, W: Sink>(
             at,
             manager,
             force,
-        } => apply(rt, writer, notes, bench, file, at, manager, force),
+        } => {
+            change_bench(
+                rt,
+                writer,
+                notes,
+                bench,
+                file,
+                Change::Apply { manager, force, at },
+            )
+        }
         Call::Update {
             bench,
             file,
             at,
             manager,
-        } => update(rt, writer, notes, bench, file, at, manager),
+        } => {
+            change_bench(
+                rt,
+                writer,
+                notes,
+                bench,
+                file,
+                Change::Update { manager, at },
+            )
+        }
         Call::Strip { bench } => ask(rt, writer, notes, bench, Asked::Strip),
         Call::Undo { bench } => ask(rt, writer, notes, bench, Asked::Undo),
         Call::Redo { bench } => ask(rt, writer, notes, bench, Asked::Redo),
@@ -146,74 +164,64 @@ fn save_and_tell<'a, T: Files + AllocGlobal, W: Sink>(
     Ok(Status::Done)
 }
 
-fn apply<'a, T: Files + AllocGlobal, W: Sink>(
+// A command that a file gives the object of.
+#[derive(Clone, Copy, Drop)]
+enum Change<'a> {
+    Apply {
+        manager: &'a str,
+        force: bool,
+        at: &'a str,
+    },
+    Update {
+        manager: &'a str,
+        at: &'a str,
+    },
+}
+
+impl<'a> Change<'a> {
+    // The subcommand, by the bytes of the file.
+    fn asked(self, object: &'a [u8]) -> Asked<'a> {
+        match self {
+            Change::Apply { manager, force, at } => Asked::Apply {
+                manager,
+                force,
+                at,
+                object,
+            },
+            Change::Update { manager, at } => Asked::Update {
+                manager,
+                at,
+                object,
+            },
+        }
+    }
+}
+
+// Changes the bench of a file by the object of another.
+fn change_bench<'a, T: Files + AllocGlobal, W: Sink>(
     rt: &T,
     writer: &mut W,
     notes: &mut Notes,
     bench: &'a str,
     file: &'a str,
-    at: &str,
-    manager: &str,
-    force: bool,
+    change: Change<'_>,
 ) -> Result<Status, Trouble<'a>> {
     let mut held = load_bench(rt, bench)?;
-    apply_file(
-        rt, writer, notes, bench, file, &mut held, at, manager, force,
-    )
+    change_by_file(rt, writer, notes, bench, file, &mut held, change)
 }
 
-// Applies the object of a file.
-fn apply_file<'a, T: Files + AllocGlobal, W: Sink>(
+// Changes a bench by the object of a file.
+fn change_by_file<'a, T: Files + AllocGlobal, W: Sink>(
     rt: &T,
     writer: &mut W,
     notes: &mut Notes,
     name: &'a str,
     file: &'a str,
     bench: &mut Bench,
-    at: &str,
-    manager: &str,
-    force: bool,
+    change: Change<'_>,
 ) -> Result<Status, Trouble<'a>> {
     let object = read_file(rt, file)?;
-    let asked = Asked::Apply {
-        manager,
-        force,
-        at,
-        object: &object,
-    };
-    answer_and_save(rt, writer, notes, name, file, bench, asked)
-}
-
-fn update<'a, T: Files + AllocGlobal, W: Sink>(
-    rt: &T,
-    writer: &mut W,
-    notes: &mut Notes,
-    bench: &'a str,
-    file: &'a str,
-    at: &str,
-    manager: &str,
-) -> Result<Status, Trouble<'a>> {
-    let mut held = load_bench(rt, bench)?;
-    update_to_file(rt, writer, notes, bench, file, &mut held, at, manager)
-}
-
-// Updates the object to that of a file.
-fn update_to_file<'a, T: Files + AllocGlobal, W: Sink>(
-    rt: &T,
-    writer: &mut W,
-    notes: &mut Notes,
-    name: &'a str,
-    file: &'a str,
-    bench: &mut Bench,
-    at: &str,
-    manager: &str,
-) -> Result<Status, Trouble<'a>> {
-    let object = read_file(rt, file)?;
-    let asked = Asked::Update {
-        manager,
-        at,
-        object: &object,
-    };
+    let asked = change.asked(&object);
     answer_and_save(rt, writer, notes, name, file, bench, asked)
 }
 

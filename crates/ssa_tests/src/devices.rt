@@ -1,4 +1,4 @@
-//! Devices that fail or take nothing, that take one byte at a time, and that tell when they are flushed.
+//! Devices that falter, that take one byte at a time, and that tell when they are flushed.
 ghost use Rattle.std.specs.Prelude.{◌≡◌, length, None, false, IsTrue, IsErr};
 ghost use Rattle.ssa_json.specs.Devices.{is_fault};
 
@@ -7,46 +7,6 @@ use ssa_json::source::{DeviceFault, Source};
 use std::alloc::Global;
 use std::io;
 use std::io::{ErrorKind, Write};
-
-/// Lends two bytes at a time, and fails in place of its end.
-#[derive(Drop)]
-pub struct Breaks<'a> {
-    rest: &'a [u8],
-    has_failed: bool,
-}
-
-impl<'a> Breaks<'a> {
-    pub fn new(rest: &'a [u8]) -> Breaks<'a> {
-        Breaks {
-            rest,
-            has_failed: false,
-        }
-    }
-}
-
-impl<'a> Source for Breaks<'a> {
-    ghost remaining = { λ _. None };
-
-    ghost consumable_len = { λ _. None };
-
-    ghost ends_met = { λ _. 0 };
-
-    ghost has_failed = { λ s. s.has_failed };
-
-    ghost turns_left = { λ s. length s.rest.now };
-
-    fn fill(&mut self) -> Result<&[u8], DeviceFault> {
-        if self.has_failed || self.rest.is_empty() {
-            self.has_failed = true;
-            return Err(DeviceFault);
-        }
-        Ok(&self.rest[..self.rest.len().min(2)])
-    }
-
-    fn consume(&mut self, amount: usize) {
-        self.rest = &self.rest[amount.min(self.rest.len())..];
-    }
-}
 
 /// Takes one byte at a time, and marks each flush by a bar.
 #[derive(Drop)]

@@ -1,6 +1,7 @@
 //! Runs on a schema file and an object file: what is written for each.
 
-use crate::sample::{SCHEMA, web};
+use crate::sample::web;
+use crate::sample_schema::SCHEMA;
 use ssa_json::reader::OfReader;
 use ssa_json::sink::OfWriter;
 use ssa_session::files::{Ending, schema_of, session_on, tell};

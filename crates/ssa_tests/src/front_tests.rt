@@ -1,21 +1,18 @@
-//! The examples on the crates' first pages, as `tools/fronts` finds them there.
+//! The examples on the first pages of the crates below, as `tools/fronts` finds them there.
 use crate::sample::{IMAGE, bench, json, moment, schema, web};
 use ssa_bench::{Bench, Command};
-use ssa_explain::push_members;
 use ssa_file::{RecordCounts, record_counts};
 use ssa_json::{OfReader, OfWriter};
 use ssa_merge::{Managers, is_manager_name};
 use ssa_object::body_value::body_value;
 use ssa_object::has_identity;
 use ssa_path::{Elem, FieldSet, Path};
-use ssa_program::{Asked, command_of};
 use ssa_record::line_values::line_values;
 use ssa_session::session;
 use ssa_turn::Label;
 use ssa_turn_body::steps_between;
 use ssa_turn_set::{between, turn_field_set};
 use ssa_typed::Body;
-use ssa_words::{Call, read_words};
 use std::test::Fail;
 
 #[test]
@@ -134,34 +131,5 @@ fn ssa_session_example(rt: HostRuntime) -> Result<(), Fail> {
     session(rt.alloc(), &mut reader, &mut writer, &mut bench)?;
     let replies = b"{\"fault\":64,\"name\":\"NothingToUndo\"}\n";
     assert_eq!(rt; writer.into_inner().as_slice(), replies.as_slice());
-    Ok(())
-}
-
-#[test]
-fn ssa_words_example(rt: HostRuntime) -> Result<(), Fail> {
-    let call = read_words(rt.alloc(), &["undo", "web.bench"])?;
-    assert_eq!(rt; call, Call::Undo { bench: "web.bench" });
-    assert!(rt; read_words(rt.alloc(), &["undo"]).is_err());
-    Ok(())
-}
-
-#[test]
-fn ssa_explain_example(rt: HostRuntime) -> Result<(), Fail> {
-    let mut text = Vec::new(rt.alloc());
-    push_members(rt.alloc(), &mut text, &["spec", "a key"])?;
-    assert_eq!(rt; text.as_slice(), br#".spec["a key"]"#.as_slice());
-    Ok(())
-}
-
-#[test]
-fn ssa_program_example(rt: HostRuntime) -> Result<(), Fail> {
-    let asked = Asked::Owners {
-        path: r#"["f:spec"]"#,
-    };
-    assert!(rt; command_of(rt.alloc(), asked).is_ok());
-    let asked = Asked::Owners {
-        path: r#"["spec"]"#,
-    };
-    assert!(rt; command_of(rt.alloc(), asked).is_err());
     Ok(())
 }

@@ -1,8 +1,9 @@
-//! Tests of benches, bench files, sessions and the program: of what no contract says.
+//! Tests of benches, bench files and sessions: of what no contract says. What the program's tests share with them is public.
 #![tactic(auto)]
 
 #[cfg(test)]
 mod bench_tests;
+pub mod breaks;
 #[cfg(test)]
 mod devices;
 #[cfg(test)]
@@ -14,24 +15,15 @@ mod limit_tests;
 #[cfg(test)]
 mod loading_tests;
 #[cfg(test)]
-mod memory;
-#[cfg(test)]
-mod note_tests;
-#[cfg(test)]
 mod object_file_tests;
-#[cfg(test)]
-mod program;
-#[cfg(test)]
-mod program_tests;
 #[cfg(test)]
 mod record_size_tests;
 #[cfg(test)]
 mod sample;
+pub mod sample_schema;
 #[cfg(test)]
 mod saving_tests;
 #[cfg(test)]
 mod session_tests;
 #[cfg(test)]
 mod story;
-#[cfg(test)]
-mod word_tests;

@@ -1,6 +1,6 @@
 //! Bench files that are taken again, and those that are none.
 
-use crate::devices::Breaks;
+use crate::breaks::Breaks;
 use crate::sample::{answers, bench, bench_file, line, undone_file, web};
 use ssa_bench::bench::Bench;
 use ssa_file::loading::LoadFault;

@@ -1,5 +1,6 @@
-//! The sample schema, objects of it, and their benches.
+//! Objects of the sample schema, and their benches.
 
+use crate::sample_schema::SCHEMA;
 use ssa_bench::bench::Bench;
 use ssa_json::moment::Moment;
 use ssa_json::reader::OfReader;
@@ -10,10 +11,6 @@ use ssa_session::bench_session::session;
 use ssa_session::fault_text::fault_text;
 use std::alloc::{AllocError, Global};
 use std::test::Fail;
-
-/// A schema with a scalar, a set, a map list, a map, and two atomic values.
-pub const SCHEMA: &str =
-    "{\"properties\":{\"spec\":{\"properties\":{\"args\":{\"items\":{\"type\":\"string\"},\"type\":\"array\"},\"env\":{\"additionalProperties\":{\"type\":\"string\"},\"type\":\"object\"},\"hosts\":{\"items\":{\"type\":\"string\"},\"type\":\"array\",\"x-kubernetes-list-type\":\"set\"},\"image\":{\"type\":\"string\"},\"limits\":{\"additionalProperties\":{\"type\":\"integer\"},\"type\":\"object\",\"x-kubernetes-map-type\":\"atomic\"},\"ports\":{\"items\":{\"properties\":{\"name\":{\"type\":\"string\"},\"port\":{\"type\":\"integer\"}},\"type\":\"object\"},\"type\":\"array\",\"x-kubernetes-list-map-keys\":[\"name\"],\"x-kubernetes-list-type\":\"map\"},\"replicas\":{\"type\":\"integer\"}},\"type\":\"object\"}},\"type\":\"object\"}";
 
 /// The object `web` in `shop` with these members before its name, each with a comma behind it, and
 /// these behind its metadata, each with a comma before it.

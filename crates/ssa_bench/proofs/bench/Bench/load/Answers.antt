@@ -11,7 +11,7 @@ use Rattle.ssa_json.specs.Readings.{readings}
 use Rattle.ssa_bench.specs.Loading.{Loads}
 use Rattle.ssa_bench.specs.Taking.{counts_view, held_counts}
 use Rattle.ssa_bench.proofs.LoadedParts.{fault-handed}
-use Rattle.ssa_bench.proofs.LoadedBench.{Reached, end-refused, loaded, moves-refused, part-refused, reached-moves, reached-none, reached-part}
+use Rattle.ssa_bench.proofs.LoadedBench.{later-refused, loaded, part-refused, reached-none, reached-part}
 use Rattle.ssa_bench.proofs.bench.Bench.load.Goals as goal
 
 pub returns-in_err-counts-clause-loaded : goal.returns-in_err-counts-clause-loaded
@@ -47,9 +47,9 @@ returns-in_err-bench-clause-loaded g c =
     c.recorded_lines.ensures c.recorded_files.ensures.taken two
     c.in_err-bench.ensures.read)
 
-pub returns-in_err-read_past-clause-loaded : goal.returns-in_err-read_past-clause-loaded
-returns-in_err-read_past-clause-loaded g c =
-    let fault = c.in_err-read_past.field-0.0 in
+pub returns-in_err-read_history-clause-loaded : goal.returns-in_err-read_history-clause-loaded
+returns-in_err-read_history-clause-loaded g c =
+    let fault = c.in_err-read_history.field-0.0 in
     let a = g.R.Source.remaining c.args.reader.now in
     let counts = c.in_ok-counts.counts in
     let one = reached-part held_counts (λ k. after_head readings (counts_view k)) a a _ _ c.read_counts.new.room counts (reached-none a)
@@ -58,63 +58,10 @@ returns-in_err-read_past-clause-loaded g c =
     c.in_ok-schema.ensures.read in
     let three = reached-part (present_in readings c.in_ok-schema.schema) (after_now readings (counts_view counts)) a _ _ _ c.read_present.new.room
     c.in_ok-bench.bench two c.in_ok-bench.ensures.read in
-    fault-handed c.from_residual-in_err-read_past.result fault (Loads a (g.R.Source.remaining c.read_past.new.reader))
-    c.from_residual-in_err-read_past.ensures.1
-    (moves-refused preceded (on_from readings counts.past counts.future) counts.past a _ _ _ c.read_past.new.room c.in_ok-bench.bench c.read_past.new.bench
-    fault c.recorded_lines.ensures
-    c.recorded_files.ensures.taken three c.in_err-read_past.ensures.read)
-
-pub returns-in_err-read_future-clause-loaded : goal.returns-in_err-read_future-clause-loaded
-returns-in_err-read_future-clause-loaded g c =
-    let fault = c.in_err-read_future.field-0.0 in
-    let a = g.R.Source.remaining c.args.reader.now in
-    let counts = c.in_ok-counts.counts in
-    let one = reached-part held_counts (λ k. after_head readings (counts_view k)) a a _ _ c.read_counts.new.room counts (reached-none a)
-    c.in_ok-counts.ensures.read in
-    let two = reached-part schema_in (after_source readings (counts_view counts)) a _ _ _ c.read_schema.new.room c.in_ok-schema.schema one
-    c.in_ok-schema.ensures.read in
-    let three = reached-part (present_in readings c.in_ok-schema.schema) (after_now readings (counts_view counts)) a _ _ _ c.read_present.new.room
-    c.in_ok-bench.bench two c.in_ok-bench.ensures.read in
-    let four = reached-moves preceded (on_from readings counts.past counts.future) counts.past a _ _ _ c.read_past.new.room c.in_ok-bench.bench
-    c.read_past.new.bench three c.in_ok-read_past.ensures.read in
-    let last = λ (b : Bench). ended_with readings (at_place counts.past b) in
-    let five = subst (λ (b : Bench). Reached a (g.R.Source.remaining c.read_past.new.reader) c.read_past.new.room
-    (along readings appended last counts.future b)) (sym c.go_to.ensures) four in
-    fault-handed c.from_residual-in_err-read_future.result fault (Loads a (g.R.Source.remaining c.read_future.new.reader))
-    c.from_residual-in_err-read_future.ensures.1
-    (moves-refused appended last counts.future a _ _ _ c.read_future.new.room c.go_to.new.self c.read_future.new.bench fault c.recorded_lines.ensures
-    c.recorded_files.ensures.taken five
-    c.in_err-read_future.ensures.read)
-
-pub returns-in_err-read_end-clause-loaded : goal.returns-in_err-read_end-clause-loaded
-returns-in_err-read_end-clause-loaded g c =
-    let fault = c.in_err-read_end.field-0.0 in
-    let a = g.R.Source.remaining c.args.reader.now in
-    let counts = c.in_ok-counts.counts in
-    let one = reached-part held_counts (λ k. after_head readings (counts_view k)) a a _ _ c.read_counts.new.room counts (reached-none a)
-    c.in_ok-counts.ensures.read in
-    let two = reached-part schema_in (after_source readings (counts_view counts)) a _ _ _ c.read_schema.new.room c.in_ok-schema.schema one
-    c.in_ok-schema.ensures.read in
-    let three = reached-part (present_in readings c.in_ok-schema.schema) (after_now readings (counts_view counts)) a _ _ _ c.read_present.new.room
-    c.in_ok-bench.bench two c.in_ok-bench.ensures.read in
-    let four = reached-moves preceded (on_from readings counts.past counts.future) counts.past a _ _ _ c.read_past.new.room c.in_ok-bench.bench
-    c.read_past.new.bench three c.in_ok-read_past.ensures.read in
-    let last = λ (b : Bench). ended_with readings (at_place counts.past b) in
-    let five = subst (λ (b : Bench). Reached a (g.R.Source.remaining c.read_past.new.reader) c.read_past.new.room
-    (along readings appended last counts.future b)) (sym c.go_to.ensures) four in
-    let six = reached-moves appended last counts.future a _ _ _ c.read_future.new.room c.go_to.new.self c.read_future.new.bench five
-    c.in_ok-read_future.ensures.read in
-    fault-handed c.from_residual-in_err-read_end.result fault (Loads a (g.R.Source.remaining c.read_end.new.reader)) c.from_residual-in_err-read_end.ensures.1
-    (end-refused (at_place counts.past c.read_future.new.bench) a _ _ c.read_future.new.room fault c.recorded_lines.ensures c.recorded_files.ensures.taken six
-    c.in_err-read_end.ensures.read)
-
-pub go_to-requires-2 : goal.go_to-requires-2
-go_to-requires-2 g c =
-    let counts = c.in_ok-counts.counts in
-    let place = ap (λ (b : Bench). b.timeline.place) c.go_to.ensures in
-    let many = c.in_ok-read_future.ensures.many in
-    let within = c.in_ok-read_future.ensures.within in
-    omega (arith, place, many, within)
+    fault-handed c.from_residual-in_err-read_history.result fault (Loads a (g.R.Source.remaining c.read_history.new.reader))
+    c.from_residual-in_err-read_history.ensures.1
+    (later-refused counts.past counts.future c.in_ok-bench.bench c.read_history.new.bench a _ _ c.read_present.new.room fault c.recorded_lines.ensures
+    c.recorded_files.ensures.taken three c.in_err-read_history.ensures.read)
 
 pub returns-clause-loaded : goal.returns-clause-loaded
 returns-clause-loaded g c =
@@ -126,16 +73,5 @@ returns-clause-loaded g c =
     c.in_ok-schema.ensures.read in
     let three = reached-part (present_in readings c.in_ok-schema.schema) (after_now readings (counts_view counts)) a _ _ _ c.read_present.new.room
     c.in_ok-bench.bench two c.in_ok-bench.ensures.read in
-    let four = reached-moves preceded (on_from readings counts.past counts.future) counts.past a _ _ _ c.read_past.new.room c.in_ok-bench.bench
-    c.read_past.new.bench three c.in_ok-read_past.ensures.read in
-    let last = λ (b : Bench). ended_with readings (at_place counts.past b) in
-    let five = subst (λ (b : Bench). Reached a (g.R.Source.remaining c.read_past.new.reader) c.read_past.new.room
-    (along readings appended last counts.future b)) (sym c.go_to.ensures) four in
-    let six = reached-moves appended last counts.future a _ _ _ c.read_future.new.room c.go_to.new.self c.read_future.new.bench five
-    c.in_ok-read_future.ensures.read in
-    let made = at_place counts.past c.read_future.new.bench in
-    subst (λ (b : Bench). Loads a (g.R.Source.remaining c.read_end.new.reader) (Ok b)) (sym c.go_to-2.ensures)
-    (loaded made a _ _ c.read_future.new.room c.recorded_lines.ensures c.recorded_files.ensures.text
-    (subst (λ (b : Bench). IsValidBench readings b) c.go_to-2.ensures c.is_valid.ensures)
-    (subst (λ (b : Bench). HasReadHistory readings b.timeline) c.go_to-2.ensures c.paths_are_read.ensures)
-    six c.in_ok-read_end.ensures.read)
+    loaded counts.past counts.future c.in_ok-bench.bench c.read_history.new.bench a _ _ c.read_present.new.room c.recorded_lines.ensures
+    c.recorded_files.ensures.text c.is_valid.ensures c.paths_are_read.ensures three c.in_ok-read_history.ensures.read

@@ -1,12 +1,12 @@
 //! The program on a file system in memory: what it prints, what it tells, what stands in the files, and its statuses.
 
-use crate::devices::Breaks;
 use crate::memory::Memory;
 use crate::program::{APPLY, INIT, applied, files, run, run_on};
-use crate::sample::SCHEMA;
 use ssa_json::reader::OfReader;
 use ssa_json::sink::OfWriter;
 use ssa_program::perform::perform;
+use ssa_tests::breaks::Breaks;
+use ssa_tests::sample_schema::SCHEMA;
 use ssa_words::call::Call;
 use std::alloc::Global;
 use std::test::Fail;

@@ -1,0 +1,34 @@
+//! The examples on the first pages of the crates below, as `tools/fronts` finds them there.
+use ssa_explain::push_members;
+use ssa_program::{Asked, command_of};
+use ssa_words::{Call, read_words};
+use std::test::Fail;
+
+#[test]
+fn ssa_words_example(rt: HostRuntime) -> Result<(), Fail> {
+    let call = read_words(rt.alloc(), &["undo", "web.bench"])?;
+    assert_eq!(rt; call, Call::Undo { bench: "web.bench" });
+    assert!(rt; read_words(rt.alloc(), &["undo"]).is_err());
+    Ok(())
+}
+
+#[test]
+fn ssa_explain_example(rt: HostRuntime) -> Result<(), Fail> {
+    let mut text = Vec::new(rt.alloc());
+    push_members(rt.alloc(), &mut text, &["spec", "a key"])?;
+    assert_eq!(rt; text.as_slice(), br#".spec["a key"]"#.as_slice());
+    Ok(())
+}
+
+#[test]
+fn ssa_program_example(rt: HostRuntime) -> Result<(), Fail> {
+    let asked = Asked::Owners {
+        path: r#"["f:spec"]"#,
+    };
+    assert!(rt; command_of(rt.alloc(), asked).is_ok());
+    let asked = Asked::Owners {
+        path: r#"["spec"]"#,
+    };
+    assert!(rt; command_of(rt.alloc(), asked).is_err());
+    Ok(())
+}
