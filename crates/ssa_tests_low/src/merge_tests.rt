@@ -107,11 +107,6 @@ fn bodies_are_compared(rt: HostRuntime) -> Result<(), Fail> {
 // The body that is set beside paths.
 const SAMPLE: &str = r#"{"a":1,"d":{"x":1,"z":2},"l":[{"n":2,"t":1},{"n":1}],"s":[2,1,3]}"#;
 
-// Each sort of place with something below it that stays, and with nothing.
-const BELOW: &str = r#"f:d/f:z f:l/k:{"n":2}/f:n f:q f:s/v:3 f:s/v:2"#;
-
-const ALONE: &str = r#"f:a f:d f:l/k:{"n":1} f:s"#;
-
 // The path of `metadata`.
 fn metadata(alloc: Global) -> Result<Path, Fail>
     ensures { IfOk result (λ p. p ≡ metadata_path) }
@@ -121,69 +116,78 @@ fn metadata(alloc: Global) -> Result<Path, Fail>
     Ok(Path::new(elements))
 }
 
-// What stays of the sample beside these paths. It has no `metadata`, so each part of it is rooted.
-fn left(alloc: Global, stay: &str) -> Result<Body, Fail> {
+// The sample without what is at and below the first paths, but for what is at or above the others. It has no `metadata`, so
+// each part of it is rooted.
+fn cut(alloc: Global, gone: &str, held: &str) -> Result<Body, Fail> {
     let sample = body(alloc, PLACES, SAMPLE)?;
-    let stay = set(alloc, stay)?;
+    let gone = set(alloc, gone)?;
+    let held = set(alloc, held)?;
     if sample.get(&metadata(alloc)?).is_some() {
         return Err(Fail::new("the sample has metadata"));
     }
     sample.stands_rooted();
-    Ok(sample.restricted_to(alloc, &stay)?)
+    Ok(sample.cut(alloc, &gone, &held)?)
 }
 
-const LEFT: [(&str, &str); 3] = [
-    (BELOW, r#"{"d":{"z":2},"l":[{"n":2}],"s":[2,3]}"#),
-    (ALONE, r#"{"a":1,"d":{},"l":[{}],"s":[]}"#),
-    ("", "{}"),
+// Paths that go and paths that are held, and what stays: of each sort of place a part, nothing of a Dict and of a set of
+// which the set is held, the items of a list without their fields, what is held below a place that goes, and all.
+const CUT: [((&str, &str), &str); 5] = [
+    (
+        (r#"f:a f:d/f:x f:l/k:{"n":1} f:q f:s/v:1"#, ""),
+        r#"{"d":{"z":2},"l":[{"n":2,"t":1}],"s":[2,3]}"#,
+    ),
+    (
+        ("f:d/f:x f:d/f:z f:s/v:1 f:s/v:2 f:s/v:3", "f:s"),
+        r#"{"a":1,"l":[{"n":2,"t":1},{"n":1}],"s":[]}"#,
+    ),
+    (
+        (
+            r#"f:l/k:{"n":1}/f:n f:l/k:{"n":2}/f:n f:l/k:{"n":2}/f:t"#,
+            "",
+        ),
+        r#"{"a":1,"d":{"x":1,"z":2},"l":[{},{}],"s":[2,1,3]}"#,
+    ),
+    (
+        ("f:d f:l", r#"f:l/k:{"n":1}"#),
+        r#"{"a":1,"l":[{}],"s":[2,1,3]}"#,
+    ),
+    (("", ""), SAMPLE),
 ];
 
 #[test]
-fn what_is_at_or_above_stays(rt: HostRuntime) -> Result<(), Fail> {
+fn what_goes_is_cut(rt: HostRuntime) -> Result<(), Fail> {
     are_told(
         rt.alloc(),
-        &LEFT,
-        |alloc, stay| shown(alloc, &left(alloc, stay)?),
+        &CUT,
+        |alloc, (gone, held)| shown(alloc, &cut(alloc, gone, held)?),
     )
 }
 
-const SORTS_LEFT: [((&str, &str), &str); 7] = [
-    ((BELOW, "/"), "record 3"),
-    ((BELOW, "f:d"), "Dict 1"),
-    ((BELOW, "f:s"), "list 2"),
-    ((ALONE, "f:d"), "Dict 0"),
-    ((ALONE, r#"f:l/k:{"n":1}"#), "record 0"),
-    ((ALONE, "f:s"), "list 0"),
-    (("", "/"), "record 0"),
-];
-
-#[test]
-fn what_stays_is_of_its_sort(rt: HostRuntime) -> Result<(), Fail> {
-    are_told(rt.alloc(), &SORTS_LEFT, |alloc, (stay, place)| {
-        look_at(alloc, &left(alloc, stay)?, place)
-    })
-}
-
-const LACKING: [(&str, &str); 2] = [
-    ("", ""),
+// Two bodies, and whether they are one: the same, in another order, with another leaf, with an item less, an empty record
+// and none, and two that have nothing.
+const SAME: [((&str, &str), &str); 6] = [
+    ((SAMPLE, SAMPLE), "true"),
+    ((r#"{"s":[2,1]}"#, r#"{"s":[1,2]}"#), "false"),
+    ((r#"{"a":1,"v":[1]}"#, r#"{"a":1,"v":[2]}"#), "false"),
     (
-        r#"/ f:a f:a/f:b f:d/f:x f:d/f:y f:l/k:{"n":1}/f:n f:l/k:{"n":1}/f:t f:l/k:{"n":3} f:l/k:{"n":3}/f:n f:q/f:r f:s/v:1 f:s/v:4"#,
-        r#"f:a/f:b f:d/f:y f:l/k:{"n":1}/f:t f:l/k:{"n":3} f:l/k:{"n":3}/f:n f:q/f:r f:s/v:4"#,
+        (r#"{"l":[{"n":1},{"n":2}]}"#, r#"{"l":[{"n":1}]}"#),
+        "false",
     ),
+    ((r#"{"d":{}}"#, "{}"), "false"),
+    (("{}", "{}"), "true"),
 ];
 
-#[test]
-fn lacking_paths_are_told(rt: HostRuntime) -> Result<(), Fail> {
-    are_told(rt.alloc(), &LACKING, |alloc, paths| {
-        let set = set(alloc, paths)?;
-        listed(alloc, &body(alloc, PLACES, SAMPLE)?.lacking(alloc, &set)?)
-    })
+// Whether the two are one body.
+fn are_same(alloc: Global, own: &str, other: &str) -> Result<String, Fail> {
+    let same = body(alloc, PLACES, own)?.is_same(&body(alloc, PLACES, other)?);
+    Ok(format!(in alloc; "{same}")?)
 }
 
 #[test]
-fn bodies_lack_none_of_their_points(rt: HostRuntime) -> Result<(), Fail> {
-    let body = body(rt.alloc(), PLACES, SAMPLE)?;
-    let points = body.points(rt.alloc())?;
-    assert!(rt; body.lacking(rt.alloc(), &points)?.is_empty());
-    Ok(())
+fn bodies_are_the_same(rt: HostRuntime) -> Result<(), Fail> {
+    are_told(
+        rt.alloc(),
+        &SAME,
+        |alloc, (own, other)| are_same(alloc, own, other),
+    )
 }

@@ -54,6 +54,22 @@ fn paths_over_others_go(rt: HostRuntime) -> Result<(), Fail> {
     })
 }
 
+const ABOVE: [((&str, &str), &str); 3] = [
+    (
+        (OWNED, r#"f:spec/f:ports/k:{"port":80}/f:port"#),
+        r#"/ f:spec f:spec/f:ports/k:{"port":80} f:spec/f:ports/k:{"port":80}/f:port"#,
+    ),
+    ((APART, "/ f:spec f:status"), "f:status"),
+    ((APART, ""), ""),
+];
+
+#[test]
+fn paths_over_others_stay(rt: HostRuntime) -> Result<(), Fail> {
+    are_told(rt.alloc(), &ABOVE, |alloc, (own, held)| {
+        listed(alloc, &set(alloc, own)?.over(alloc, &set(alloc, held)?)?)
+    })
+}
+
 const KEYLESS: [(&str, &str); 2] = [
     (
         OWNED,

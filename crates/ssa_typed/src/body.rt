@@ -22,7 +22,6 @@ use crate::cut::cut_root;
 use crate::lacking::lacking_paths;
 use crate::node::{Look, Node};
 use crate::over::over_node;
-use crate::restrict::restricted_node;
 use ssa_json::value::Json;
 use ssa_path::field_set::FieldSet;
 use ssa_path::path::Path;
@@ -192,18 +191,6 @@ impl Body {
     {
         let root = lacking_paths(alloc, &self.root, set.root())?;
         Ok(FieldSet::from_root(root))
-    }
-
-    /// The part of the body that stays: its root, and each place at or above a path of the set.
-    ///
-    /// Items of lists keep their order. Takes about n log m comparisons for n children of a place
-    /// of which m stay; what stays is moved, with no copies.
-    pub fn restricted_to(self, alloc: Global, stay: &FieldSet) -> Result<Body, AllocError>
-        requires { IsRooted (restricted self (λ p. is_root p || has_at_or_below stay.now p)) }
-        ensures { IfOk result (λ b. b ≡ restricted self (λ p. is_root p || has_at_or_below stay.now p)) }
-    {
-        let root = restricted_node(alloc, self.root, stay.root())?;
-        Ok(Body { root })
     }
 
     /// The body without the places of `gone` and what is below them. A record that this leaves

@@ -4,13 +4,14 @@ use Rattle.ssa_model.specs.definitions.Path.{is_root}
 use Rattle.ssa_model.specs.definitions.PathMap.{get, has_at_or_below}
 use Rattle.ssa_model.specs.definitions.Valid.{metadata_path}
 use Rattle.ssa_model.proofs.Tables.{mapped_some}
+use Rattle.ssa_typed.specs.Cut.{uncut}
 use Rattle.ssa_typed.specs.Look.{look_at, look_of}
 use Rattle.ssa_typed.proofs.RootedBodies.{part-rooted}
-use Rattle.ssa_tests_low.proofs.merge_tests.left.Goals as goal
+use Rattle.ssa_tests_low.proofs.merge_tests.cut.Goals as goal
 
-pub restricted_to-requires : goal.restricted_to-requires
-restricted_to-requires c =
+pub cut-requires : goal.cut-requires
+cut-requires c =
     let b = c.in_ok-sample.sample in
-    part-rooted b (λ p. is_root p || has_at_or_below c.in_ok-stay.stay p) c.stands_rooted.ensures
+    part-rooted b (λ p. is_root p || has_at_or_below (uncut b c.in_ok-gone.gone c.in_ok-held.held) p) c.stands_rooted.ensures
     (sym (mapped_some _ (get b metadata_path)) ∙ ap (λ p. is_some (look_at b p)) (sym c.in_ok-metadata.ensures) ∙ ap is_some (sym c.get-2.ensures)
     ∙ mapped_some look_of c.get-2.result ∙ sym c.is_some.ensures ∙ c.if-is_some.false)
