@@ -5,10 +5,10 @@ use Rattle.std.proofs.lemmas.Option.{none-some, same_Some}
 use Rattle.std.specs.Prelude.{Result, Ok, Err, nat_le, if◌then◌else◌}
 use Rattle.ssa_model.specs.definitions.Limits.{most_bench_bytes}
 use Rattle.ssa_model.specs.definitions.Json.{Json}
-use Rattle.ssa_model.specs.definitions.History.{Bench}
+use Rattle.ssa_model.specs.definitions.History.{Bench, appended}
 use Rattle.ssa_model.specs.definitions.BenchFile.{IsValidBench}
 use Rattle.ssa_model.specs.definitions.RecordedBench.{HasReadHistory}
-use Rattle.ssa_model.specs.laws.LineByLine.{FilesAreRead, Move, Next, Reader, after_part, after_value, along, at_end, at_last, at_place, ended_with, file_from, moves_from, next_value, no_value, value_then, with_part}
+use Rattle.ssa_model.specs.laws.LineByLine.{FilesAreRead, Move, Next, Reader, after_part, after_value, along, at_end, at_last, at_place, ended_with, file_from, moves_from, next_value, no_value, on_from, preceded, value_then, with_part}
 use Rattle.ssa_model.specs.laws.RecordedBenches.{Counts, counts_in, MoveFault, no_move_text, record_does_not_fit, recorded_bench_in, recorded_fault, RecordedFilesAreTaken, TakenIsRecordedText}
 use Rattle.ssa_model.proofs.LineByLine.{after_head}
 use Rattle.ssa_json.specs.Readings.{readings}
@@ -78,30 +78,59 @@ history-refused past future old new None b c most room reader f reached refused 
 history-refused past future old new (Some xs) None c most room reader f reached refused = absurd reached
 history-refused past future old new (Some xs) (Some ys) c most room reader f reached refused = subst (ReadRefuses f) (sym reached) (refused ys refl)
 
--- where a move is refused, so are they
-pub moves-refused : (past future : ℕ) (first last : Bench) (move : Move) (go : Bench → Reader) (count : ℕ) (a b c : Option (List ℕ))
-    (most room room_after : ℕ) (old new : Bench) (f : LoadFault)
-    → ReachedFrom (moves_from readings past future first) most a b room (along readings move go count old)
-    → ReadsMoves move count b c room room_after old new (Err f) → ReadsHistory past future a c most first last (Err f)
-moves-refused past future first last move go count a b c most room room_after old new f reached moves =
-    history-refused past future first last a b c most room (along readings move go count old) f reached
-    (λ ys is. subst (λ o. ReadsMoves move count o c room room_after old new (Err f)) is moves go)
+-- all of them: back along the past to a bench, on along the future to another, and to the end
+module _ (past future : ℕ) (first back last : Bench) (a b c d : Option (List ℕ)) (most room room_after : ℕ) where
+  abbrev start : Reader
+  start = moves_from readings past future first
 
--- where something stands behind the last move, or the source fails there, they are refused
-pub end-refused : (past future : ℕ) (first last bench : Bench) (a b c : Option (List ℕ)) (most room : ℕ) (f : LoadFault)
-    → ReachedFrom (moves_from readings past future first) most a b room (ended_with readings bench) → ReadsEnd b c room (Err f)
-    → ReadsHistory past future a c most first last (Err f)
-end-refused past future first last bench a b c most room f reached end =
-    history-refused past future first last a b c most room (ended_with readings bench) f reached
-    (λ ys is. subst (λ o. ReadsEnd o c room (Err f)) is end bench)
+  abbrev ends : Bench → Reader
+  ends x = ended_with readings (at_place past x)
 
--- where the end is reached, they are read, and the bench is the one that they led to
-pub history-read : (past future : ℕ) (first bench : Bench) (a b c : Option (List ℕ)) (most room : ℕ)
-    → ReachedFrom (moves_from readings past future first) most a b room (ended_with readings bench) → ReadsEnd b c room (Ok tt)
-    → ReadsHistory past future a c most first bench (Ok tt)
-history-read past future first bench None b c most room reached end = tt
-history-read past future first bench (Some xs) None c most room reached end = absurd reached
-history-read past future first bench (Some xs) (Some ys) c most room reached end = (reached ∙ ap (at_last bench) end.0, end.1)
+  abbrev WentBack : Type 0
+  WentBack = ReadsMoves preceded past a b most room first back (Ok tt)
+
+  abbrev WentOn : Bench → Type 0
+  WentOn moved = ReadsMoves appended future b c room room_after moved last (Ok tt)
+
+  reached-back : WentBack → ReachedFrom start most a b room (on_from readings past future back)
+  reached-back h = reached-moves start most preceded (on_from readings past future) past a a b most room first back (reached-start start most a) h
+
+  reached-on : (moved : Bench) → moved ≡ at_place past back → WentBack → ReachedFrom start most a b room (along readings appended ends future moved)
+  reached-on moved is h = subst (λ x. ReachedFrom start most a b room (along readings appended ends future x)) (sym is) (reached-back h)
+
+  reached-last : (moved : Bench) → moved ≡ at_place past back → WentBack → WentOn moved → ReachedFrom start most a c room_after (ends last)
+  reached-last moved is h k = reached-moves start most appended ends future a b c room room_after moved last (reached-on moved is h) k
+
+  -- where a line of the past is refused, so are they
+  pub past-refused : (f : LoadFault) → ReadsMoves preceded past a b most room first back (Err f) → ReadsHistory past future a b most first back (Err f)
+  past-refused f h =
+      history-refused past future first back a a b most most start f (reached-start start most a)
+      (λ ys is. subst (λ o. ReadsMoves preceded past o b most room first back (Err f)) is h (on_from readings past future))
+
+  -- where a line of the future is refused, so are they
+  pub future-refused : (f : LoadFault) (moved : Bench) → moved ≡ at_place past back → WentBack
+      → ReadsMoves appended future b c room room_after moved last (Err f) → ReadsHistory past future a c most first last (Err f)
+  future-refused f moved is h k =
+      history-refused past future first last a b c most room (along readings appended ends future moved) f (reached-on moved is h)
+      (λ ys there. subst (λ o. ReadsMoves appended future o c room room_after moved last (Err f)) there k ends)
+
+  -- where something stands behind the last line, or the source fails there, they are refused
+  pub end-refused : (f : LoadFault) (moved : Bench) → moved ≡ at_place past back → WentBack → WentOn moved → ReadsEnd c d room_after (Err f)
+      → ReadsHistory past future a d most first last (Err f)
+  end-refused f moved is h k end =
+      history-refused past future first last a c d most room_after (ends last) f (reached-last moved is h k)
+      (λ ys there. subst (λ o. ReadsEnd o d room_after (Err f)) there end (at_place past last))
+
+  at-end : (made : Bench) → made ≡ at_place past last → (x y : Option (List ℕ)) → ReachedFrom start most x y room_after (ends last)
+      → ReadsEnd y d room_after (Ok tt) → ReadsHistory past future x d most first made (Ok tt)
+  at-end made is None y reached end = tt
+  at-end made is (Some xs) None reached end = absurd reached
+  at-end made is (Some xs) (Some ys) reached end = (reached ∙ ap (at_last (at_place past last)) end.0 ∙ ap (λ x. Ok x) (sym is), end.1)
+
+  -- where the end is reached, they are read, and the bench is the one that they led to, gone back to where it stood
+  pub history-read : (moved made : Bench) → moved ≡ at_place past back → made ≡ at_place past last → WentBack → WentOn moved
+      → ReadsEnd c d room_after (Ok tt) → ReadsHistory past future a d most first made (Ok tt)
+  history-read moved made is made_is h k end = at-end made made_is a c (reached-last moved is h k) end
 
 -- ---- refusals
 

@@ -1,11 +1,8 @@
-use Rattle.std.proofs.Common.{◌≡◌, ◌≤◌, ℕ, length, List, Option, ap, sym, subst, arith}
-use Rattle.std.specs.Prelude.{Ok, Err}
-use Rattle.ssa_model.specs.definitions.History.{Bench, appended}
-use Rattle.ssa_model.specs.laws.LineByLine.{along, at_place, ended_with, moves_from, on_from, preceded}
-use Rattle.ssa_json.specs.Readings.{readings}
+use Rattle.std.proofs.Common.{◌≡◌, ◌≤◌, length, ap, arith}
+use Rattle.ssa_model.specs.definitions.History.{Bench}
 use Rattle.ssa_bench.specs.Loading.{ReadsHistory}
 use Rattle.ssa_bench.proofs.LoadedParts.{fault-handed}
-use Rattle.ssa_bench.proofs.LoadedBench.{ReachedFrom, end-refused, history-read, moves-refused, reached-moves, reached-start}
+use Rattle.ssa_bench.proofs.LoadedBench.{end-refused, future-refused, history-read, past-refused}
 use Rattle.ssa_bench.proofs.load.read_history.Goals as goal
 
 pub returns-in_err-read_past-clause-read : goal.returns-in_err-read_past-clause-read
@@ -13,54 +10,40 @@ returns-in_err-read_past-clause-read g c =
     let fault = c.in_err-read_past.field-0.0 in
     let past = c.args.counts.now.past in
     let future = c.args.counts.now.future in
-    let a = g.R.Source.remaining c.args.reader.now in
     let first = c.args.bench.now in
-    fault-handed c.from_residual.result fault
-    (ReadsHistory past future a (g.R.Source.remaining c.read_past.new.reader) c.args.room.now first c.read_past.new.bench)
-    c.from_residual.ensures.1
-    (moves-refused past future first c.read_past.new.bench preceded (on_from readings past future) past a a _ c.args.room.now c.args.room.now
-    c.read_past.new.room first c.read_past.new.bench fault (reached-start (moves_from readings past future first) c.args.room.now a)
-    c.in_err-read_past.ensures.read)
+    let back = c.read_past.new.bench in
+    let a = g.R.Source.remaining c.args.reader.now in
+    let b = g.R.Source.remaining c.read_past.new.reader in
+    fault-handed c.from_residual.result fault (ReadsHistory past future a b c.args.room.now first back) c.from_residual.ensures.1
+    (past-refused past future first back back a b b b c.args.room.now c.read_past.new.room c.read_past.new.room fault c.in_err-read_past.ensures.read)
 
 pub returns-in_err-read_future-clause-read : goal.returns-in_err-read_future-clause-read
 returns-in_err-read_future-clause-read g c =
     let fault = c.in_err-read_future.field-0.0 in
     let past = c.args.counts.now.past in
     let future = c.args.counts.now.future in
-    let a = g.R.Source.remaining c.args.reader.now in
     let first = c.args.bench.now in
-    let start = moves_from readings past future first in
-    let one = reached-moves start c.args.room.now preceded (on_from readings past future) past a a _ c.args.room.now c.read_past.new.room first
-    c.read_past.new.bench (reached-start start c.args.room.now a) c.in_ok-read_past.ensures.read in
-    let last = λ (b : Bench). ended_with readings (at_place past b) in
-    let two = subst (λ (b : Bench). ReachedFrom start c.args.room.now a (g.R.Source.remaining c.read_past.new.reader) c.read_past.new.room
-    (along readings appended last future b)) (sym c.go_to.ensures) one in
-    fault-handed c.from_residual-in_err-read_future.result fault
-    (ReadsHistory past future a (g.R.Source.remaining c.read_future.new.reader) c.args.room.now first c.read_future.new.bench)
+    let last = c.read_future.new.bench in
+    let a = g.R.Source.remaining c.args.reader.now in
+    let d = g.R.Source.remaining c.read_future.new.reader in
+    fault-handed c.from_residual-in_err-read_future.result fault (ReadsHistory past future a d c.args.room.now first last)
     c.from_residual-in_err-read_future.ensures.1
-    (moves-refused past future first c.read_future.new.bench appended last future a _ _ c.args.room.now c.read_past.new.room c.read_future.new.room
-    c.go_to.new.self c.read_future.new.bench fault two c.in_err-read_future.ensures.read)
+    (future-refused past future first c.read_past.new.bench last a _ d d c.args.room.now c.read_past.new.room c.read_future.new.room fault
+    c.go_to.new.self c.go_to.ensures c.in_ok-read_past.ensures.read c.in_err-read_future.ensures.read)
 
 pub returns-in_err-read_end-clause-read : goal.returns-in_err-read_end-clause-read
 returns-in_err-read_end-clause-read g c =
     let fault = c.in_err-read_end.field-0.0 in
     let past = c.args.counts.now.past in
     let future = c.args.counts.now.future in
-    let a = g.R.Source.remaining c.args.reader.now in
     let first = c.args.bench.now in
-    let start = moves_from readings past future first in
-    let one = reached-moves start c.args.room.now preceded (on_from readings past future) past a a _ c.args.room.now c.read_past.new.room first
-    c.read_past.new.bench (reached-start start c.args.room.now a) c.in_ok-read_past.ensures.read in
-    let last = λ (b : Bench). ended_with readings (at_place past b) in
-    let two = subst (λ (b : Bench). ReachedFrom start c.args.room.now a (g.R.Source.remaining c.read_past.new.reader) c.read_past.new.room
-    (along readings appended last future b)) (sym c.go_to.ensures) one in
-    let three = reached-moves start c.args.room.now appended last future a _ _ c.read_past.new.room c.read_future.new.room c.go_to.new.self
-    c.read_future.new.bench two c.in_ok-read_future.ensures.read in
-    fault-handed c.from_residual-in_err-read_end.result fault
-    (ReadsHistory past future a (g.R.Source.remaining c.read_end.new.reader) c.args.room.now first c.read_future.new.bench)
+    let last = c.read_future.new.bench in
+    let a = g.R.Source.remaining c.args.reader.now in
+    let d = g.R.Source.remaining c.read_end.new.reader in
+    fault-handed c.from_residual-in_err-read_end.result fault (ReadsHistory past future a d c.args.room.now first last)
     c.from_residual-in_err-read_end.ensures.1
-    (end-refused past future first c.read_future.new.bench (at_place past c.read_future.new.bench) a _ _ c.args.room.now c.read_future.new.room fault three
-    c.in_err-read_end.ensures.read)
+    (end-refused past future first c.read_past.new.bench last a _ _ d c.args.room.now c.read_past.new.room c.read_future.new.room fault
+    c.go_to.new.self c.go_to.ensures c.in_ok-read_past.ensures.read c.in_ok-read_future.ensures.read c.in_err-read_end.ensures.read)
 
 pub go_to-requires-2 : goal.go_to-requires-2
 go_to-requires-2 g c =
@@ -71,17 +54,6 @@ go_to-requires-2 g c =
 
 pub returns-clause-read : goal.returns-clause-read
 returns-clause-read g c =
-    let past = c.args.counts.now.past in
-    let future = c.args.counts.now.future in
-    let a = g.R.Source.remaining c.args.reader.now in
-    let first = c.args.bench.now in
-    let start = moves_from readings past future first in
-    let one = reached-moves start c.args.room.now preceded (on_from readings past future) past a a _ c.args.room.now c.read_past.new.room first
-    c.read_past.new.bench (reached-start start c.args.room.now a) c.in_ok-read_past.ensures.read in
-    let last = λ (b : Bench). ended_with readings (at_place past b) in
-    let two = subst (λ (b : Bench). ReachedFrom start c.args.room.now a (g.R.Source.remaining c.read_past.new.reader) c.read_past.new.room
-    (along readings appended last future b)) (sym c.go_to.ensures) one in
-    let three = reached-moves start c.args.room.now appended last future a _ _ c.read_past.new.room c.read_future.new.room c.go_to.new.self
-    c.read_future.new.bench two c.in_ok-read_future.ensures.read in
-    subst (λ (b : Bench). ReadsHistory past future a (g.R.Source.remaining c.read_end.new.reader) c.args.room.now first b (Ok tt)) (sym c.go_to-2.ensures)
-    (history-read past future first (at_place past c.read_future.new.bench) a _ _ c.args.room.now c.read_future.new.room three c.in_ok-read_end.ensures.read)
+    history-read c.args.counts.now.past c.args.counts.now.future c.args.bench.now c.read_past.new.bench c.read_future.new.bench
+    (g.R.Source.remaining c.args.reader.now) _ _ _ c.args.room.now c.read_past.new.room c.read_future.new.room c.go_to.new.self c.go_to-2.new.self
+    c.go_to.ensures c.go_to-2.ensures c.in_ok-read_past.ensures.read c.in_ok-read_future.ensures.read c.in_ok-read_end.ensures.read
