@@ -102,9 +102,6 @@ tested-union s t test = same_sets _ _ (λ q.
 abbrev pub tested : Table → ManagerKey → (Path → Bool) → PathSet
 tested table a test = set_of (paths (owned_by_others table a)) test
 
-pub tested-own : (e : Entry) (es : Table) (a : ManagerKey) (test : Path → Bool) → same_manager e.manager a ≡ true → tested (e ∷ es) a test ≡ tested es a test
-tested-own e es a test own = λ i. set_of (paths (if own i then owned_by_others es a else union e.owned (owned_by_others es a))) test
-
 pub tested-other : (e : Entry) (es : Table) (a : ManagerKey) (test : Path → Bool) → same_manager e.manager a ≡ false
     → tested (e ∷ es) a test ≡ union (set_of (paths e.owned) test) (tested es a test)
 tested-other e es a test other =

@@ -6,6 +6,7 @@ use Rattle.ssa_model.specs.definitions.PathMap.{PathSet, get, has, has_at_or_bel
 use Rattle.ssa_model.specs.definitions.Kind.{is_among}
 use Rattle.ssa_model.specs.definitions.Body.{Body, Content, leaf, atom, record_branch, dict_branch, list_branch, is_bare, is_dict, is_leaf, is_point, order_at, points, restricted, restricted_content, strictly_under}
 use Rattle.ssa_model.proofs.Tests.{same_tests}
+use Rattle.ssa_model.proofs.PutItems.{filter-members}
 use Rattle.ssa_model.proofs.PathMaps.{get-restricted, has-paths, has-points, is_one_of, same_map, same_path-true}
 use Rattle.ssa_model.proofs.Pruned.{from_one, some_one, under-rest, under-trans}
 use Rattle.ssa_model.proofs.Tables.{either, here_below, true_or, element-itself as same_element-itself}
@@ -142,14 +143,6 @@ module _ (n : Node) (tree : is_tree n ≡ true) (stay : PathSet) (all : (p : Pat
 
 -- ---- tests that agree at each place
 
--- tests that agree on all the elements leave the same ones
-pub same-filter : (f g : Element → Bool) (es : List Element) → ((e : Element) → is_among e es ≡ true → f e ≡ g e) → filter f es ≡ filter g es
-same-filter f g [] h = refl
-same-filter f g (e ∷ es) h =
-    let first = h e (true_or (same_element e e) (is_among e es) (same_element-itself e)) in
-    let rest = same-filter f g es (λ x among. h x (or_true (same_element x e) (is_among x es) among)) in
-    λ i. cond (first i) (e ∷ rest i) (rest i)
-
 -- tests that agree on the items leave the same of a content
 pub same-content : (f g : Path → Bool) (p : Path) (c : Content) → ((e : Element) → is_among e (order_at (Some c)) ≡ true → f (p ++ e ∷ []) ≡ g (p ++ e ∷ []))
     → restricted_content f p c ≡ restricted_content g p c
@@ -157,7 +150,7 @@ same-content f g p (leaf s) h = refl
 same-content f g p (atom v) h = refl
 same-content f g p record_branch h = refl
 same-content f g p dict_branch h = refl
-same-content f g p (list_branch es) h = ap list_branch (same-filter (λ e. f (p ++ e ∷ [])) (λ e. g (p ++ e ∷ [])) es h)
+same-content f g p (list_branch es) h = ap list_branch (filter-members (λ e. f (p ++ e ∷ [])) (λ e. g (p ++ e ∷ [])) es h)
 
 module _ (n : Node) (tree : is_tree n ≡ true) (f g : Path → Bool) (agree : (p : Path) → has (body_of n) p ≡ true → f p ≡ g p) where
   items-agree : (p : Path) (e : Element) → is_among e (order_at (get (body_of n) p)) ≡ true → f (p ++ e ∷ []) ≡ g (p ++ e ∷ [])

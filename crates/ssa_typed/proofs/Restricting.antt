@@ -301,9 +301,3 @@ pub body-part : (ps : List Path) (n made : Node) → IsRestricted ps n made → 
 body-part ps n made h =
     same_map (body_of made) (restricted (body_of n) (stays ps)) (λ p.
     get-body made p ∙ h.content p ∙ ap (part_at (stays ps) p) (sym (get-body n p)) ∙ sym (get-restricted (body_of n) (stays ps) p))
-
--- so it is at or above the paths of a set
-pub restricted-body : (t : Trie) (n made : Node) → IsRestricted (paths t) n made
-    → body_of made ≡ restricted (body_of n) (λ p. is_root p || has_at_or_below (listed (paths t)) p)
-restricted-body t n made h =
-    body-part (paths t) n made h ∙ (λ i. restricted (body_of n) (λ p. is_root p || sym (below-listed (paths t) p) i))
