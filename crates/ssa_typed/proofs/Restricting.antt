@@ -4,8 +4,7 @@ use Rattle.std.specs.Prelude.{filter, option_map, if◌then◌else◌}
 use Rattle.std.specs.List.{list_any}
 use Rattle.std.specs.Ordering.{is_lt}
 use Rattle.ssa_model.specs.definitions.Body.{Content, leaf, atom, record_branch, dict_branch, list_branch, restricted, restricted_content}
-use Rattle.ssa_model.specs.definitions.Path.{Element, Path, element_cmp, is_item_element, is_root, same_element, under}
-use Rattle.ssa_model.specs.definitions.PathMap.{has_at_or_below, listed}
+use Rattle.ssa_model.specs.definitions.Path.{Element, Path, element_cmp, is_item_element, same_element, under}
 use Rattle.ssa_model.proofs.Fitting.{distinct-filter, same_element-true}
 use Rattle.ssa_model.proofs.PathMaps.{get-restricted, same_map}
 use Rattle.ssa_path.specs.Children.{child_at, elements, is_below, rises}
@@ -16,7 +15,6 @@ use Rattle.ssa_path.specs.Trie.{are_filled_tries, is_filled, is_trie, paths, pat
 use Rattle.ssa_path.specs.View.{element_view}
 use Rattle.ssa_path.proofs.Levels.{any-below, any-level, any-root, found, under-reading}
 use Rattle.ssa_path.proofs.Orders.{both_first, both_second}
-use Rattle.ssa_path.proofs.Sets.{below-listed}
 use Rattle.ssa_typed.specs.Points.{content_in}
 use Rattle.ssa_typed.specs.Restricted.{stays, part_at, AreRestricted, IsRestricted}
 use Rattle.ssa_typed.specs.Rows.{body_of, rows, rows_below, below, own_content, content_at, is_tree, are_trees, are_apart, are_fields, are_items}
