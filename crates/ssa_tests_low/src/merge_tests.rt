@@ -163,6 +163,54 @@ fn what_goes_is_cut(rt: HostRuntime) -> Result<(), Fail> {
     )
 }
 
+// Of each sort of place all that is below it, and a part.
+const ALL_BELOW: &str =
+    r#"f:d/f:x f:d/f:z f:l/k:{"n":1} f:l/k:{"n":2}/f:n f:l/k:{"n":2}/f:t f:s/v:1 f:s/v:2 f:s/v:3"#;
+
+const SOME_BELOW: &str = r#"f:a f:d/f:x f:s/v:1"#;
+
+const SORTS_CUT: [((&str, &str), &str); 8] = [
+    ((ALL_BELOW, "/"), "record 4"),
+    ((ALL_BELOW, "f:d"), "Dict 0"),
+    ((ALL_BELOW, "f:l"), "list 1"),
+    ((ALL_BELOW, r#"f:l/k:{"n":2}"#), "record 0"),
+    ((ALL_BELOW, "f:s"), "list 0"),
+    ((SOME_BELOW, "/"), "record 3"),
+    ((SOME_BELOW, "f:d"), "Dict 1"),
+    ((SOME_BELOW, "f:s"), "list 2"),
+];
+
+#[test]
+fn what_stays_is_of_its_sort(rt: HostRuntime) -> Result<(), Fail> {
+    are_told(rt.alloc(), &SORTS_CUT, |alloc, (gone, place)| {
+        look_at(alloc, &cut(alloc, gone, "f:d f:s")?, place)
+    })
+}
+
+const LACKING: [(&str, &str); 2] = [
+    ("", ""),
+    (
+        r#"/ f:a f:a/f:b f:d/f:x f:d/f:y f:l/k:{"n":1}/f:n f:l/k:{"n":1}/f:t f:l/k:{"n":3} f:l/k:{"n":3}/f:n f:q/f:r f:s/v:1 f:s/v:4"#,
+        r#"f:a/f:b f:d/f:y f:l/k:{"n":1}/f:t f:l/k:{"n":3} f:l/k:{"n":3}/f:n f:q/f:r f:s/v:4"#,
+    ),
+];
+
+#[test]
+fn lacking_paths_are_told(rt: HostRuntime) -> Result<(), Fail> {
+    are_told(rt.alloc(), &LACKING, |alloc, paths| {
+        let set = set(alloc, paths)?;
+        listed(alloc, &body(alloc, PLACES, SAMPLE)?.lacking(alloc, &set)?)
+    })
+}
+
+#[test]
+fn bodies_lack_none_of_their_points(rt: HostRuntime) -> Result<(), Fail> {
+    let body = body(rt.alloc(), PLACES, SAMPLE)?;
+    let points = body.points(rt.alloc())?;
+    assert!(rt; body.lacking(rt.alloc(), &points)?.is_empty());
+    Ok(())
+}
+
 // Two bodies, and whether they are one: the same, in another order, with another leaf, with an item less, an empty record
 // and none, and two that have nothing.
 const SAME: [((&str, &str), &str); 6] = [
