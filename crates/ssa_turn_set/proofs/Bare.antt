@@ -1,5 +1,5 @@
 -- A set with no path, and the room that it needs: none.
-use Rattle.std.proofs.Common.{◌≡◌, ◌+◌, List, [], ◌∷◌, ◌++◌, length, true, false, not, ◌&&◌, ap, ◌∙◌}
+use Rattle.std.proofs.Common.{◌≡◌, ◌+◌, List, [], ◌++◌, length, true, false, not, ◌&&◌, ap, ◌∙◌}
 use Rattle.std.specs.Prelude.{nat_le, vec_capacity}
 use Rattle.ssa_model.specs.definitions.FieldsV1.{heads}
 use Rattle.ssa_model.specs.definitions.Path.{Path}

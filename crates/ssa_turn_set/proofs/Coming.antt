@@ -1,6 +1,6 @@
 -- Children that come among those of a place, in one pass.
-use Rattle.std.proofs.Common.{◌≡◌, ℕ, ◌+◌, ◌<◌, ◌≤◌, List, [], ◌∷◌, ◌++◌, length, get_or, drop, take, true, false, ◌&&◌, ◌||◌, cond, Ordering, Less, Equal, Greater, true≢false, refl, sym, ap, ◌∙◌, arith, append_assoc}
-use Rattle.std.proofs.lemmas.List.{length-append}
+use Rattle.std.proofs.Common.{◌≡◌, ℕ, suc, ◌+◌, ◌<◌, ◌≤◌, List, [], ◌∷◌, ◌++◌, length, get_or, drop, take, true, false, ◌&&◌, ◌||◌, cond, Ordering, Less, Equal, Greater, true≢false, refl, sym, ap, ◌∙◌, arith, append_assoc, subst}
+use Rattle.std.proofs.lemmas.List.{get_or_default, length-append, length-take-le, take-append-drop}
 use Rattle.std.specs.Ordering.{is_eq, is_lt, ordering_reverse}
 use Rattle.ssa_model.specs.definitions.FieldsV1.{tails}
 use Rattle.ssa_model.specs.definitions.Path.{Element, Path, element_cmp, same_element}
@@ -9,13 +9,14 @@ use Rattle.ssa_path.specs.declared.trie.Trie.{Trie}
 use Rattle.ssa_path.specs.Children.{elements, is_below, rises, IsChildAt, IsGapFor}
 use Rattle.ssa_path.specs.View.{element_view}
 use Rattle.ssa_path.specs.Trie.{is_one_of, paths_after, paths_below, paths, has_some, is_trie, is_filled, are_filled_tries, IsGathered}
+use Rattle.ssa_path.proofs.FieldsMembers.{child-filled}
 use Rattle.ssa_path.proofs.Lists.{elements-append, filled-append, filled-without, parted, paths_below-append, rises-drop}
 use Rattle.ssa_path.proofs.Orders.{element_cmp_total, both_first, both_second}
 use Rattle.ssa_turn_set.specs.declared.room.Room.{Room}
 use Rattle.ssa_turn_set.specs.declared.spare.Spare.{Spare}
 use Rattle.ssa_turn_set.specs.Room.{fresh, gain_room, lose_room}
 use Rattle.ssa_turn_set.specs.Spare.{fits, is_nothing}
-use Rattle.ssa_turn_set.specs.Weaving.{starts_before, starts_with, IsOpened}
+use Rattle.ssa_turn_set.specs.Weaving.{starts_before, starts_with, IsOpened, IsOpenedAt}
 use Rattle.ssa_turn_set.proofs.Gaining.{IsGaining, gaining-fits, gaining-more, gathered-child}
 use Rattle.ssa_turn_set.proofs.Keeping.{at-middle}
 use Rattle.ssa_turn_set.proofs.Places.{filled-more, found-paths, fresh-filled, gap-paths}
@@ -59,6 +60,27 @@ behind-all e (c ∷ cs) a b h =
     ap is_lt turned ∙ other-way (element_cmp (element_view c.0) e) a (ap is_eq (sym turned) ∙ b) in
     both _ _ before (is_below-before e (element_view c.0) (elements cs) before (both_first _ _ h))
 
+front-parts : {A : Type 0} (front back : List A) → (take (length front) (front ++ back) ≡ front) × (drop (length front) (front ++ back) ≡ back)
+front-parts [] back = (refl, refl)
+front-parts (x ∷ front) back = let rest = front-parts front back in (ap (λ l. x ∷ l) rest.0, rest.1)
+
+-- between those that are passed and those that are neither before the element nor its own, the element rises
+pub between-all : (e : Element) (front behind : List (Elem × Trie)) → rises (elements (front ++ behind)) ≡ true → rises (elements front ++ e ∷ []) ≡ true
+    → starts_before e behind ≡ false → starts_with e behind ≡ false → rises (elements front ++ e ∷ elements behind) ≡ true
+between-all e front behind rise passed not_before not_same =
+    let behind_rise = rises-drop (elements front) (elements behind) (ap rises (sym (elements-append front behind)) ∙ rise) in
+    ap rises (sym (append_assoc (elements front) (e ∷ []) (elements behind)))
+    ∙ rises-joined (elements front) e (elements behind) passed (both _ _ (behind-all e behind not_before not_same behind_rise) behind_rise)
+
+-- where an element rises between children, they have no path below it
+pub between-tails : (e : Element) (old front behind : List (Elem × Trie)) → front ++ behind ≡ old → rises (elements old) ≡ true
+    → rises (elements front ++ e ∷ elements behind) ≡ true → tails e (paths_below old) ≡ []
+between-tails e old front behind is rise between =
+    let parts = front-parts front behind in
+    subst (λ l. tails e (paths_below l) ≡ []) is
+    (gap-paths e (front ++ behind) (length front) (ap (λ l. rises (elements l)) is ∙ rise)
+    ((λ i. rises (elements (parts.0 i) ++ e ∷ elements (parts.1 i))) ∙ between))
+
 module _ (e : Element) (old front : List (Elem × Trie)) (c : Elem × Trie) (behind : List (Elem × Trie)) where
   -- what the old children have below the element is what the child has
   pub opened-tails : IsOpened e old front c behind → tails e (paths_below old) ≡ paths c.1
@@ -90,16 +112,10 @@ module _ (e : Element) (old front : List (Elem × Trie)) (c : Elem × Trie) (beh
         len = omega arith;
       }
 
-  -- it comes among them, without a path
-  pub opened-new : front ++ behind ≡ old → rises (elements old) ≡ true → are_filled_tries old ≡ true → rises (elements front ++ e ∷ []) ≡ true
-      → starts_before e behind ≡ false → starts_with e behind ≡ false → element_view c.0 ≡ e → is_trie c.1 ≡ true → paths c.1 ≡ []
-      → IsOpened e old front c behind
-  opened-new is rise tries passed not_before not_same element trie none =
-      let behind_rise = rises-drop (elements front) (elements behind)
-      (ap rises (sym (elements-append front behind)) ∙ ap (λ l. rises (elements l)) is ∙ rise) in
-      let named : elements (front ++ c ∷ behind) ≡ (elements front ++ e ∷ []) ++ elements behind =
-      elements-append front (c ∷ behind) ∙ ap (λ f. elements front ++ f ∷ elements behind) element
-      ∙ sym (append_assoc (elements front) (e ∷ []) (elements behind)) in
+  -- a child without a path comes among them where its element rises between them
+  pub opened-between : front ++ behind ≡ old → are_filled_tries old ≡ true → rises (elements front ++ e ∷ elements behind) ≡ true
+      → element_view c.0 ≡ e → is_trie c.1 ≡ true → paths c.1 ≡ [] → IsOpened e old front c behind
+  opened-between is tries between element trie none =
       let one = ap fresh none in
       let long = ap length is in
       let a = length-append front (c ∷ behind) in
@@ -110,11 +126,17 @@ module _ (e : Element) (old front : List (Elem × Trie)) (c : Elem × Trie) (beh
         paths_same =
             paths_below-append front (c ∷ behind) ∙ ap (λ ps. paths_below front ++ (paths_after (element_view c.0) ps ++ paths_below behind)) none
             ∙ sym (paths_below-append front behind) ∙ ap paths_below is;
-        risen = ap rises named
-            ∙ rises-joined (elements front) e (elements behind) passed (both _ _ (behind-all e behind not_before not_same behind_rise) behind_rise);
+        risen = ap rises (elements-append front (c ∷ behind)) ∙ ap (λ f. rises (elements front ++ f ∷ elements behind)) element ∙ between;
         others = ap are_filled_tries is ∙ tries;
         len = omega arith;
       }
+
+  -- it comes behind those that are passed and before the others
+  pub opened-new : front ++ behind ≡ old → rises (elements old) ≡ true → are_filled_tries old ≡ true → rises (elements front ++ e ∷ []) ≡ true
+      → starts_before e behind ≡ false → starts_with e behind ≡ false → element_view c.0 ≡ e → is_trie c.1 ≡ true → paths c.1 ≡ []
+      → IsOpened e old front c behind
+  opened-new is rise tries passed not_before not_same element trie none =
+      opened-between is tries (between-all e front behind (ap (λ l. rises (elements l)) is ∙ rise) passed not_before not_same) element trie none
 
   -- ---- and with more paths below it
 
@@ -143,6 +165,47 @@ module _ (e : Element) (old front : List (Elem × Trie)) (c : Elem × Trie) (beh
         let a = length-append front (c ∷ behind) in
         let b = length-append front ((c.0, m) ∷ behind) in
         omega arith
+
+-- ---- at a place
+
+middle-parts : {A : Type 0} (front back : List A) (x c : A) → c ≡ get_or (front ++ x ∷ back) (length front) c
+    → (c ≡ x) × (take (length front) (front ++ x ∷ back) ≡ front) × (drop (length front + 1) (front ++ x ∷ back) ≡ back)
+middle-parts [] back x c is = (is, refl, refl)
+middle-parts (y ∷ front) back x c is =
+    let rest = middle-parts front back x c is in
+    let next : length (y ∷ front) + 1 ≡ suc (length front + 1) = omega arith in
+    (rest.0, ap (λ l. y ∷ l) rest.1, ap (λ k. drop k (y ∷ front ++ x ∷ back)) next ∙ rest.2)
+
+-- where a child of the element stands, the children have some path below it
+pub child-some : (e : Element) (cs : List (Elem × Trie)) (place : ℕ) → IsChildAt e cs place → rises (elements cs) ≡ true → are_filled_tries cs ≡ true
+    → has_some (tails e (paths_below cs)) ≡ true
+child-some e [] place at rise tries = let lt = at.within in absurd (omega arith)
+child-some e (x ∷ cs) place at rise tries =
+    let c = get_or (x ∷ cs) place x in
+    let is : c ≡ get_or (x ∷ cs) place c = get_or_default (x ∷ cs) place x c at.within in
+    ap has_some (found-paths e (x ∷ cs) place c rise at.within is (at.same c)) ∙ child-filled (x ∷ cs) place c at.within is tries
+
+-- a child without a path that is put into its gap is opened there
+pub opened-in-gap : (e : Element) (cs new : List (Elem × Trie)) (place : ℕ) (x : Elem × Trie) → new ≡ take place cs ++ x ∷ drop place cs → IsGapFor e cs place
+    → are_filled_tries cs ≡ true → element_view x.0 ≡ e → is_trie x.1 ≡ true → paths x.1 ≡ [] → IsOpenedAt e cs new place
+opened-in-gap e cs new place x is gap tries element trie none =
+    let front = take place cs in
+    let back = drop place cs in
+    let at : length front ≡ place = length-take-le place cs gap.within in
+    let long = ap length is in
+    let joined = length-append front (x ∷ back) in
+    record {
+      within = omega arith;
+      opened = λ c j.
+          let parts = middle-parts front back x c
+          (subst (λ n. c ≡ get_or (front ++ x ∷ back) n c) (sym at) (subst (λ l. c ≡ get_or l place c) is j)) in
+          subst (λ l. IsOpened e cs (take place l) c (drop (place + 1) l)) (sym is)
+          (subst (λ n. IsOpened e cs (take n (front ++ x ∷ back)) c (drop (n + 1) (front ++ x ∷ back))) at
+          (subst (λ l. IsOpened e cs l c (drop (length front + 1) (front ++ x ∷ back))) (sym parts.1)
+          (subst (λ l. IsOpened e cs front c l) (sym parts.2)
+          (subst (λ y. IsOpened e cs front y back) (sym parts.0)
+          (opened-between e cs front x back (take-append-drop place cs) tries gap.between element trie none)))));
+    }
 
 -- ---- in the loop
 

@@ -9,7 +9,7 @@ use Rattle.ssa_path.specs.declared.element.Elem.{Elem}
 use Rattle.ssa_path.specs.declared.trie.Trie.{Trie}
 use Rattle.ssa_path.specs.declared.trie.Trie.TheViews.{out-Trie, roll-Trie, out-roll-Trie}
 use Rattle.ssa_path.specs.declared.trie.Trie.TheOpen.{Trie-F}
-use Rattle.ssa_path.specs.Children.{elements, is_below, rises}
+use Rattle.ssa_path.specs.Children.{elements, rises}
 use Rattle.ssa_path.specs.View.{element_view}
 use Rattle.ssa_path.specs.Trie.{is_one_of, paths_after, paths_below, paths, is_trie, are_filled_tries}
 use Rattle.ssa_path.proofs.Orders.{both_first, both_second, not_tied}
@@ -21,6 +21,7 @@ use Rattle.ssa_turn_set.specs.declared.room.Room.TheOpen.{Room-F}
 use Rattle.ssa_turn_set.specs.declared.room.Room.TheViews.{out-Room, roll-Room, out-roll-Room}
 use Rattle.ssa_turn_set.specs.declared.spare.Spare.{Spare}
 use Rattle.ssa_turn_set.specs.Room.{fresh, freshes, holds, lose_one, lose_room, gain_room, gains, loses, gain_one}
+use Rattle.ssa_turn_set.specs.Siblings.{AreTaken}
 use Rattle.ssa_turn_set.proofs.Rooms.{AreAlike, gains-more, loses-some, loses-alike, gains-alike, freshes-alike, lose_room-level}
 use Rattle.ssa_turn_set.proofs.Places.{all-taken, within-both, gain-made, lose-own, lose-below, roomy}
 use Rattle.ssa_turn_set.proofs.Gaining.{one-more}
@@ -155,18 +156,19 @@ same-left (n ∷ ns) (x ∷ rs) (suc i) r e lt is = let rest = same-left ns rs i
 
 -- at last all are taken out, and the rooms are enough to put them in again
 pub losing-all : (cs ds : List (Elem × Trie)) (rs ns : List (Spare × Room)) (now : List (Elem × Trie)) (i : ℕ) → length ds ≤ i → drop i ns ≡ drop i rs
-    → IsLosing cs (take i ds) (drop i ds) (take i rs) (take i ns) (drop i rs) now
-    → ((p : Path) → is_one_of (paths_below now) p ≡ (is_one_of (paths_below cs) p && not (is_one_of (paths_below ds) p)))
-    × (length now + freshes ds (paths_below now) ≡ length cs) × (loses ds (paths_below now) rs ≡ true → gains ds (paths_below now) ns ≡ true)
+    → IsLosing cs (take i ds) (drop i ds) (take i rs) (take i ns) (drop i rs) now → AreTaken ds cs rs now ns
 losing-all cs ds rs ns now i le e h =
     let all = take_all i ds le in
     let some = loses-some (drop i ds) h.without (drop i rs) h.form in
     let olds = all-taken ds rs i le some in
-    let news = all-taken ds ns i le (some ∙ ap length (sym e)) in (
-      λ p. h.paths_are p ∙ ap (λ l. is_one_of (paths_below cs) p && not (is_one_of (paths_below l) p)) all,
-      ap (λ l. length now + freshes l (paths_below now)) (sym all) ∙ h.len,
-      λ k. (λ j. gains (sym all j) (paths_below now) (sym news j)) ∙ h.back ((λ j. loses (all j) (paths_below now) (olds j)) ∙ k),
-    )
+    let news = all-taken ds ns i le (some ∙ ap length (sym e)) in
+    record {
+      paths_are = λ p. h.paths_are p ∙ ap (λ l. is_one_of (paths_below cs) p && not (is_one_of (paths_below l) p)) all;
+      risen = h.risen;
+      tries = h.tries;
+      len = ap (λ l. length now + freshes l (paths_below now)) (sym all) ∙ h.len;
+      room = λ k. (λ j. gains (sym all j) (paths_below now) (sym news j)) ∙ h.back ((λ j. loses (all j) (paths_below now) (olds j)) ∙ k);
+    }
 
 -- ---- the place as a whole
 

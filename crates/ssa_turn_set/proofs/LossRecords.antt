@@ -1,5 +1,6 @@
 -- The record of a set that loses some of its paths.
 use Rattle.std.proofs.Common.{◌≡◌, List, [], true, false, not, ◌&&◌, Bool, refl, sym, ap, ◌∙◌, subst}
+use Rattle.std.proofs.Math.Bool.{and_comm}
 use Rattle.std.specs.List.{filter}
 use Rattle.ssa_model.specs.definitions.Path.{Path}
 use Rattle.ssa_model.specs.definitions.PathMap.{PathSet, has, listed, minus, paths as set_paths}
@@ -27,7 +28,7 @@ left-paths s l trie =
     ∙ (λ i. filter (λ p. not (has-listed (paths l) p i)) (listed-paths s trie i))
 
 -- nothing comes, what goes is what the set has of the lost paths, and there is room for it
-pub loss-between : (s o : Trie) (d : SetDelta) → is_trie s ≡ true → paths d.gain ≡ [] → is_trie d.gain ≡ true → IsCombination Meet s o d.lose
+pub loss-between : (s o : Trie) (d : SetDelta) → is_trie s ≡ true → paths d.gain ≡ [] → is_trie d.gain ≡ true → IsCombination Meet o s d.lose
     → ((ps : List Path) → gain_room d.gain ps d.room.gain ≡ true) → lose_room d.lose (left (paths s) (paths d.lose)) d.room.lose ≡ true
     → IsBetween (listed (paths s)) (minus (listed (paths s)) (listed (paths o))) d
 loss-between s o d trie none bare lost gain lose =
@@ -39,7 +40,8 @@ loss-between s o d trie none bare lost gain lose =
     ∙ nothing-new (has own p) (has other p))) in
     let taken : listed (paths d.lose) ≡ minus own rest =
     same_sets _ _ (λ p.
-    has-listed (paths d.lose) p ∙ lost.paths_are p ∙ (λ i. sym (has-listed (paths s) p) i && sym (has-listed (paths o) p) i) ∙ meets (has own p) (has other p)
+    has-listed (paths d.lose) p ∙ lost.paths_are p ∙ and_comm (is_one_of (paths o) p) (is_one_of (paths s) p)
+    ∙ (λ i. sym (has-listed (paths s) p) i && sym (has-listed (paths o) p) i) ∙ meets (has own p) (has other p)
     ∙ sym (has-minus own rest p ∙ ap (λ b. has own p && not b) (has-minus own other p))) in
     let steps : set_steps d ≡ set_between own rest = λ i. record { gain = gained i; lose = taken i } in
     let led : IsLed (set_steps d) own rest = subst (λ x. IsLed x own rest) (sym steps) (led-between own rest) in

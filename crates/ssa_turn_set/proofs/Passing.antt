@@ -1,7 +1,9 @@
 -- A set taken out of another in one pass over the place's children, each found behind the one before.
 use Rattle.std.proofs.Common.{◌≡◌, ℕ, ◌+◌, ◌-◌, ◌<◌, ◌≤◌, List, [], ◌∷◌, ◌++◌, length, get_or, set, drop, take, Bool, true, false, not, ◌&&◌, ◌||◌, cond, Some, None, refl, sym, ap, ◌∙◌, arith, subst, length-set, true≢false}
-use Rattle.std.proofs.lemmas.List.{drop-drop, get_or-drop, take-append-drop, take_more_set}
+use Rattle.std.proofs.lemmas.List.{drop-drop, get_or-drop, take-append-drop, take-set, take_more_set}
+use Rattle.std.proofs.lemmas.List.Elements.{filter-append}
 use Rattle.std.proofs.lemmas.List.Folds.{list_any-append}
+use Rattle.ssa_model.specs.definitions.FieldsV1.{tails}
 use Rattle.ssa_model.specs.definitions.Path.{Element, Path, same_element, same_path}
 use Rattle.ssa_path.specs.declared.element.Elem.{Elem}
 use Rattle.ssa_path.specs.declared.trie.Trie.{Trie}
@@ -10,14 +12,14 @@ use Rattle.ssa_path.specs.View.{element_view}
 use Rattle.ssa_path.specs.Trie.{is_one_of, paths_after, paths_below, paths, is_trie, is_filled, are_filled_tries}
 use Rattle.ssa_path.proofs.FieldsMembers.{child-filled}
 use Rattle.ssa_path.proofs.Levels.{same_path-reading, any-after, any-below, found}
-use Rattle.ssa_path.proofs.Lists.{child-trie, elements-append, left-at, parted, parted-set, rises-drop, taken-at}
+use Rattle.ssa_path.proofs.Lists.{child-trie, elements-append, filled-without, left-at, parted, parted-set, rises-drop, taken-at}
 use Rattle.ssa_path.proofs.Orders.{both_first, both_second}
 use Rattle.ssa_path.proofs.Removing.{found-one, set-tries}
 use Rattle.ssa_path.proofs.Searching.{apart-before, below-middle}
 use Rattle.ssa_turn_set.specs.declared.room.Room.{Room}
 use Rattle.ssa_turn_set.specs.declared.spare.Spare.{Spare}
 use Rattle.ssa_turn_set.specs.Room.{gain_one, lose_one, loses}
-use Rattle.ssa_turn_set.specs.Siblings.{kept}
+use Rattle.ssa_turn_set.specs.Siblings.{has_any, kept}
 use Rattle.ssa_turn_set.proofs.Keeping.{IsLessened, has-any-is, kept-all, kept-goes, kept-stays, less-goes, less-stays}
 use Rattle.ssa_turn_set.proofs.Losing.{IsLosing, losing-more, losing-none}
 use Rattle.ssa_turn_set.proofs.Places.{left-set}
@@ -113,16 +115,26 @@ module _ (cs : List (Elem × Trie)) (rise : rises (elements cs) ≡ true) (tries
         ∙ get_or-drop start cs (place - start) c ∙ ap (λ n. get_or cs n c) there
 
     -- the child found there has the next element
-    pub child-tie : same_element (element_view d.0) (element_view c.0) ≡ true
+    child-tie : same_element (element_view d.0) (element_view c.0) ≡ true
     child-tie = ap (λ (x : Elem × Trie). same_element (element_view d.0) (element_view x.0)) is ∙ at.same c
 
     -- its set is a trie
-    pub child-is-trie : is_trie c.1 ≡ true
+    child-is-trie : is_trie c.1 ≡ true
     child-is-trie = child-trie cs place c in_old as_was tries
 
     -- what is to be taken out lies within it
-    pub child-within : (p : Path) → is_one_of (paths d.1) p ≡ true → is_one_of (paths c.1) p ≡ true
+    child-within : (p : Path) → is_one_of (paths d.1) p ≡ true → is_one_of (paths c.1) p ≡ true
     child-within p k = sym (found-one (element_view d.0) cs place c p rise in_old as_was child-tie) ∙ h.inside (element_view d.0 ∷ p) (left-one d left p k)
+
+    -- what is asked where its paths are to be taken out
+    pub passed-child : (rooms : List (Spare × Room)) (r : Spare × Room) → rest ≡ r ∷ rooms
+        → (same_element (element_view d.0) (element_view c.0) ≡ true) × (is_trie c.1 ≡ true) × (is_trie d.1 ≡ true)
+        × ((p : Path) → is_one_of (paths d.1) p ≡ true → is_one_of (paths c.1) p ≡ true)
+        × ((ps : List Path) × (lose_one d ps r ≡ true))
+    passed-child rooms r rest_is =
+        let one = both_first (is_trie d.1 && is_filled d.1) _ h.losing.left_tries in
+        let form : loses (d ∷ left) h.losing.without (r ∷ rooms) ≡ true = ap (loses (d ∷ left) h.losing.without) (sym rest_is) ∙ h.losing.form in
+        (child-tie, child-is-trie, both_first _ _ one, child-within, (tails (element_view d.0) h.losing.without, both_first _ _ form))
 
     -- ---- and after it
 
@@ -193,6 +205,16 @@ module _ (cs : List (Elem × Trie)) (rise : rises (elements cs) ≡ true) (tries
                 ap (λ f. are_filled_tries (set now place (f, m.1))) (element some)
                 ∙ set-tries now place c m.1 at.within is trie some (h.all_filled both_none.0);
           }
+
+-- a child that has no path left is taken out where it stands, and all others stay
+pub kept-without : (cs : List (Elem × Trie)) (place : ℕ) (c m : Elem × Trie) → place < length cs → c ≡ get_or cs place c → are_filled_tries cs ≡ true
+    → has_any m ≡ false → take place (set cs place m) ++ drop (place + 1) (set cs place m) ≡ kept (set cs place m)
+kept-without cs place c m lt is tries none =
+    let front = take place cs in
+    let back = drop (place + 1) cs in
+    let others = filled-without front back c (sym (ap are_filled_tries (parted cs place c lt is)) ∙ tries) in
+    (λ i. take-set cs place m i ++ left-set cs place m i) ∙ sym (kept-all (front ++ back) others) ∙ filter-append has_any front back
+    ∙ sym (ap kept (parted-set cs place m lt) ∙ kept-goes front back m none)
 
 -- ---- in a loop
 

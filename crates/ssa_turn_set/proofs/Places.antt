@@ -1,12 +1,10 @@
 -- One place of a set: what the room says of it, and what is found there.
-use Rattle.std.proofs.Common.{◌≡◌, ℕ, zero, suc, ◌+◌, ◌<◌, ◌≤◌, List, [], ◌∷◌, ◌++◌, length, get_or, set, drop, take, true, false, not, ◌||◌, cond, refl, sym, ap, ◌∙◌, arith, subst, true≢false}
+use Rattle.std.proofs.Common.{◌≡◌, ℕ, zero, suc, ◌+◌, ◌<◌, ◌≤◌, List, [], ◌∷◌, ◌++◌, length, get_or, set, drop, take, true, false, not, cond, refl, sym, ap, ◌∙◌, arith, subst, true≢false}
 use Rattle.std.proofs.lemmas.List.{append-nil, drop_all, take-append-drop, drop-set-lt, length-drop}
 use Rattle.std.proofs.lemmas.Bool.{le-leb, leb-true}
-use Rattle.std.specs.Cmp.{tied_itself}
-use Rattle.std.specs.Ordering.{is_eq}
 use Rattle.std.specs.Prelude.{nat_le, vec_capacity}
 use Rattle.ssa_model.specs.definitions.FieldsV1.{heads, tails}
-use Rattle.ssa_model.specs.definitions.Path.{Element, Path, path_cmp_total, same_element}
+use Rattle.ssa_model.specs.definitions.Path.{Element, Path, same_element}
 use Rattle.ssa_path.specs.declared.element.Elem.{Elem}
 use Rattle.ssa_path.specs.declared.trie.Trie.{Trie}
 use Rattle.ssa_path.specs.declared.trie.Trie.TheViews.{out-Trie}
@@ -147,10 +145,10 @@ pub comes-within : (f n c : ℕ) → (0 < f → n + f ≤ c) → n < c → n + f
 comes-within zero n c own lt = omega arith
 comes-within (suc f) n c own lt = own (omega arith)
 
--- where some come, there is place for more than there are: so with no such place none comes
-pub none-comes : (f n c : ℕ) → (0 < f → n + f ≤ c) → c ≤ n → f ≡ 0
-none-comes zero n c own le = refl
-none-comes (suc f) n c own le = let a = own (omega arith) in absurd (omega arith)
+-- a vector that is as wide as the room, and holds those there are, has room for those that come
+pub comes-wide : (f n c k : ℕ) → (0 < f → n + f ≤ c) → n ≤ k → c ≤ k → n + f ≤ k
+comes-wide zero n c k own le wide = omega arith
+comes-wide (suc f) n c k own le wide = let a = own (omega arith) in omega arith
 
 -- ---- a child that is found, or not
 

@@ -2,7 +2,7 @@
 use Rattle.std.proofs.Common.{◌≡◌, ℕ, ◌<◌, ◌+◌, List, [], ◌∷◌, ◌++◌, length, get_or, take, true, not, ◌&&◌, refl, sym, ap, ◌∙◌, true≢false, subst}
 use Rattle.std.proofs.lemmas.List.Elements.{AllZip-push}
 use Rattle.std.specs.List.{AllZip}
-use Rattle.std.specs.Prelude.{String, Vec, nat_le, string_bytes, string_capacity, vec_capacity}
+use Rattle.std.specs.Prelude.{String, Vec, nat_le, vec_capacity}
 use Rattle.std.specs.declared.alloc.Global.{Global}
 use Rattle.ssa_model.specs.definitions.Json as json
 use Rattle.ssa_model.specs.definitions.Path.{Element, Path, field, key, value}
@@ -15,14 +15,14 @@ use Rattle.ssa_path.specs.declared.trie.Trie.{Trie}
 use Rattle.ssa_path.specs.declared.trie.Trie.TheViews.{out-Trie}
 use Rattle.ssa_path.proofs.Lists.{taken-at}
 use Rattle.ssa_path.proofs.Orders.{both_first, both_second}
-use Rattle.ssa_turn_set.specs.Copies.{ChildServes, MemberServes, RoomServes, SpareServes, TextServes}
+use Rattle.ssa_turn_set.specs.Copies.{ChildServes, MemberServes, RoomServes, SpareServes}
 use Rattle.ssa_turn_set.specs.Room.{below_child, gains, gain_one, holds, if_any, loses, lose_one, serves}
 use Rattle.ssa_turn_set.specs.Spare.{fits, holds_members, is_nothing}
 use Rattle.ssa_turn_set.specs.declared.room.Room.{Room}
 use Rattle.ssa_turn_set.specs.declared.room.Room.TheOpen.{Room-F}
 use Rattle.ssa_turn_set.specs.declared.room.Room.TheViews.{out-Room, roll-Room, out-roll-Room}
 use Rattle.ssa_turn_set.specs.declared.spare.Spare.{Spare}
-use Rattle.ssa_turn_set.specs.declared.spare.Spare.TheVariants.{Nothing, Text, Keys}
+use Rattle.ssa_turn_set.specs.declared.spare.Spare.TheVariants.{Keys}
 use Rattle.ssa_turn_set.proofs.Rooms.{gain_room-level, lose_room-level}
 use Rattle.ssa_model.proofs.Basics.{both-true as both}
 

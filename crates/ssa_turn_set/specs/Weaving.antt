@@ -1,5 +1,6 @@
 -- Children that come among those of a place, one after the other.
-use Rattle.std.specs.Prelude.{◌≡◌, ◌+◌, List, [], ◌∷◌, ◌++◌, length, Bool, true, false, ◌||◌}
+use Rattle.std.specs.Prelude.{◌≡◌, ℕ, ◌+◌, ◌<◌, List, [], ◌∷◌, ◌++◌, length, take, drop, Bool, true, false, ◌||◌}
+use Rattle.std.specs.List.{slice_index_or}
 use Rattle.std.specs.Ordering.{is_lt}
 use Rattle.ssa_model.specs.definitions.Path.{Element, Path, element_cmp, same_element}
 use Rattle.ssa_path.specs.Children.{elements, rises}
@@ -27,6 +28,11 @@ pub record IsOpened (e : Element) (old front : List (Elem × Trie)) (child : Ele
   pub risen : rises (elements (front ++ child ∷ behind)) ≡ true
   pub others : are_filled_tries (front ++ behind) ≡ true
   pub len : length (front ++ child ∷ behind) ≡ length old + fresh (paths child.1)
+
+-- the child at this place is opened among those before and behind it
+pub record IsOpenedAt (e : Element) (old new : List (Elem × Trie)) (place : ℕ) : Type 0 where
+  pub within : place < length new
+  pub opened : (c : Elem × Trie) → c ≡ slice_index_or new place c → IsOpened e old (take place new) c (drop (place + 1) new)
 
 -- the children ds have the paths of cs and those of the gained children
 pub record AreGathered (gained cs ds : List (Elem × Trie)) : Type 0 where

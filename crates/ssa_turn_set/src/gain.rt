@@ -6,13 +6,18 @@ ghost use Rattle.ssa_path.specs.Trie.{is_one_of, paths, paths_below, is_trie, ar
 ghost use Rattle.ssa_turn_set.specs.Room.{freshes, gain_room, gains, lose_room, loses};
 ghost use Rattle.ssa_turn_set.specs.Weaving.{AreGathered};
 
+use crate::filling::exchange_where_wider;
+use crate::opening::open_within;
 use crate::room::Room;
 use crate::spare::Spare;
 use crate::weaving::{open_place, pass_rest, turn_round};
-use ssa_path::children::search;
 use ssa_path::element::Elem;
 use ssa_path::trie::Trie;
 use ssa_reverse::room::push_within;
+
+// So many children are put in one by one: each that comes moves those behind it, which costs less than a pass that
+// compares each with those that come.
+const FEW: usize = 8;
 
 /// Adds the paths of `gained`. Takes no memory.
 ///
@@ -32,16 +37,18 @@ pub fn gain(gained: &Trie, set: &mut Trie, room: &mut Room)
         below: rooms,
     } = room;
     *here = gained.here || *here;
-    if below.len() < children.capacity() {
+    if below.len() < children.capacity() && gained.below.len() > FEW {
         weave_in(&gained.below, below, children, rooms);
     } else {
-        gain_known(&gained.below, below, rooms);
+        exchange_where_wider(below, children);
+        put_each_in(&gained.below, below, rooms);
     }
 }
 
-// Adds the paths of children all of which stand among those of the place.
+// Adds the paths of children one after the other: each is searched for among those of the place, and comes to it
+// where it is none of them.
 #[cycle(gain)]
-fn gain_known(
+fn put_each_in(
     gained: &[(Elem, Trie)],
     below: &mut Vec<(Elem, Trie)>,
     rooms: &mut Vec<(Spare, Room)>,
@@ -50,7 +57,7 @@ fn gain_known(
     requires gained_tries { are_filled_tries gained.now ≡ true }
     requires rise { rises (elements below.old.items) ≡ true }
     requires tries { are_filled_tries below.old.items ≡ true }
-    requires known { freshes gained.now (paths_below below.old.items) ≡ 0 }
+    requires fits { length below.old.items + freshes gained.now (paths_below below.old.items) ≤ vec_capacity below.old }
     requires room { gains gained.now (paths_below below.old.items) rooms.old.items ≡ true }
     ensures gathered { AreGathered gained.now below.old.items below.new.items }
     ensures room { loses gained.now (paths_below below.old.items) rooms.new.items ≡ true }
@@ -58,10 +65,9 @@ fn gain_known(
     let mut i = 0;
     while i < gained.len() {
         let child = &gained[i];
-        let Ok(place) = search(below, &child.0) else {
-            unreachable!()
-        };
-        gain(&child.1, &mut below[place].1, &mut rooms[i].1);
+        let room = &mut rooms[i];
+        let place = open_within(below, &child.0, &mut room.0);
+        gain(&child.1, &mut below[place].1, &mut room.1);
         i += 1;
     }
 }

@@ -22,6 +22,7 @@ pub mod live_set;
 mod lose;
 mod loss;
 pub mod making;
+pub(crate) mod opening;
 pub mod room;
 pub(crate) mod siblings;
 mod spare;

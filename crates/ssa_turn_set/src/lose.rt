@@ -1,11 +1,13 @@
 //! A set of paths taken out of another, its places made room for the way back.
-ghost use Rattle.std.specs.Prelude.{◌≡◌, ◌&&◌, List, not, true};
+ghost use Rattle.std.specs.Prelude.{◌≡◌, ◌&&◌, List, length, not, true, vec_capacity};
 ghost use Rattle.ssa_model.specs.definitions.Path.{Path, same_element};
+ghost use Rattle.ssa_path.specs.Children.{elements, rises};
 ghost use Rattle.ssa_path.specs.View.{element_view};
-ghost use Rattle.ssa_path.specs.Trie.{is_one_of, paths, is_trie, is_filled};
-ghost use Rattle.ssa_turn_set.specs.Room.{gain_one, gain_room, lose_one, lose_room};
+ghost use Rattle.ssa_path.specs.Trie.{are_filled_tries, is_one_of, paths, paths_below, is_trie, is_filled};
+ghost use Rattle.ssa_turn_set.specs.Room.{gain_one, gain_room, lose_one, lose_room, loses};
+ghost use Rattle.ssa_turn_set.specs.Siblings.{AreTaken};
 
-use crate::filling::exchange_where_fits;
+use crate::filling::exchange_where_short;
 use crate::room::Room;
 use crate::siblings::{place_from, take_out_bare};
 use crate::spare::{Spare, empty_element};
@@ -33,18 +35,62 @@ pub fn lose(lost: &Trie, set: &mut Trie, room: &mut Room)
         below: rooms,
     } = room;
     *here = *here && !lost.here;
+    let before = below.len();
+    take_out(&lost.below, below, rooms);
+    exchange_where_short(below, children, before);
+}
+
+// Takes out the paths of children: of one alone where it stands, and of more in one pass, in which all go that have
+// none left.
+#[cycle(lose)]
+fn take_out(lost: &[(Elem, Trie)], below: &mut Vec<(Elem, Trie)>, rooms: &mut Vec<(Spare, Room)>)
+    requires rise { rises (elements below.old.items) ≡ true }
+    requires tries { are_filled_tries below.old.items ≡ true }
+    requires lost_rise { rises (elements lost.now) ≡ true }
+    requires lost_tries { are_filled_tries lost.now ≡ true }
+    requires within { (p : Path) → is_one_of (paths_below lost.now) p ≡ true → is_one_of (paths_below below.old.items) p ≡ true }
+    requires form { (ps : List Path) × (loses lost.now ps rooms.old.items ≡ true) }
+    ensures taken { AreTaken lost.now below.old.items rooms.old.items below.new.items rooms.new.items }
+    ensures capacity { vec_capacity below.new ≡ vec_capacity below.old }
+{
+    if lost.len() == 1 {
+        return take_one_out(lost, below, rooms);
+    }
     let mut start = 0;
     let mut any_bare = false;
     let mut i = 0;
-    while i < lost.below.len() {
-        let child = &lost.below[i];
+    while i < lost.len() {
+        let child = &lost[i];
         let place = place_from(below, start, &child.0);
         any_bare |= lose_child(child, &mut below[place], &mut rooms[i]);
         start = place + 1;
         i += 1;
     }
     take_out_bare(below, any_bare);
-    exchange_where_fits(below, children);
+}
+
+// Takes out the paths of one child, which goes from among the others where it has none left.
+#[cycle(lose)]
+fn take_one_out(
+    lost: &[(Elem, Trie)],
+    below: &mut Vec<(Elem, Trie)>,
+    rooms: &mut Vec<(Spare, Room)>,
+)
+    requires one { length lost.now ≡ 1 }
+    requires rise { rises (elements below.old.items) ≡ true }
+    requires tries { are_filled_tries below.old.items ≡ true }
+    requires lost_rise { rises (elements lost.now) ≡ true }
+    requires lost_tries { are_filled_tries lost.now ≡ true }
+    requires within { (p : Path) → is_one_of (paths_below lost.now) p ≡ true → is_one_of (paths_below below.old.items) p ≡ true }
+    requires form { (ps : List Path) × (loses lost.now ps rooms.old.items ≡ true) }
+    ensures taken { AreTaken lost.now below.old.items rooms.old.items below.new.items rooms.new.items }
+    ensures capacity { vec_capacity below.new ≡ vec_capacity below.old }
+{
+    let child = &lost[0];
+    let place = place_from(below, 0, &child.0);
+    if lose_child(child, &mut below[place], &mut rooms[0]) {
+        below.remove(place);
+    }
 }
 
 // Takes out the paths of a child, and tells whether it has none left: then its element is room.

@@ -119,7 +119,7 @@ impl SetDelta {
     {
         let own = from.root();
         let (gain, gain_room) = nothing(alloc);
-        let lose = combine_exactly(alloc, own, lost.root(), Combination::Meet)?;
+        let lose = combine_exactly(alloc, lost.root(), own, Combination::Meet)?;
         let lose_room = make_loss_room(alloc, &lose, own)?;
         Ok(SetDelta {
             gain,

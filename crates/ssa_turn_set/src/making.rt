@@ -140,8 +140,8 @@ pub fn make_lose_room(alloc: Global, lost: &Trie, without: &Trie) -> Result<Room
     for child in &lost.below {
         below.push(make_child_lose_room(alloc, child, &without.below)?)?;
     }
-    let fresh = count_fresh(&lost.below, &without.below);
-    let children = make_children(alloc, fresh, without.below.len())?;
+    let leaving = count_fresh(&lost.below, &without.below);
+    let children = make_children(alloc, leaving, without.below.len() + leaving)?;
     Ok(Room { children, below })
 }
 

@@ -10,7 +10,8 @@ ghost use Rattle.ssa_turn_set.specs.Room.{fresh, serves};
 ghost use Rattle.ssa_turn_set.specs.Spare.{is_nothing};
 ghost use Rattle.ssa_turn_set.specs.Weaving.{starts_before, starts_with, IsOpened};
 
-use crate::spare::{Spare, fill};
+use crate::opening::new_child;
+use crate::spare::Spare;
 use ssa_path::element::Elem;
 use ssa_path::trie::Trie;
 use ssa_reverse::room::push_within;
@@ -98,11 +99,7 @@ pub(crate) fn open_place(
         };
         return child;
     }
-    let place = Trie {
-        here: false,
-        below: Vec::new(*left.allocator()),
-    };
-    (fill(element, spare), place)
+    new_child(*left.allocator(), element, spare)
 }
 
 // Moves what is left behind what has been passed, which becomes the place's vector.

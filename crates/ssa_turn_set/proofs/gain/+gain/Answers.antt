@@ -1,13 +1,11 @@
-use Rattle.std.proofs.Common.{rules, ◌≡◌, ◌+◌, ◌≤◌, ◌||◌, ◌++◌, ◌∷◌, [], ap, sym, refl, ◌∙◌, length, reverse, set, take, drop, arith, subst, append_assoc, length-set, true}
+use Rattle.std.proofs.Common.{rules, ◌≡◌, ◌+◌, ◌≤◌, ◌||◌, ◌++◌, ◌∷◌, [], ap, sym, refl, ◌∙◌, length, reverse, take, drop, arith, subst, append_assoc, true}
 use Rattle.std.proofs.lemmas.List.{length-append, reverse-reverse}
 use Rattle.std.specs.Prelude.{vec_capacity}
 use Rattle.ssa_path.specs.declared.element.Elem.{Elem}
 use Rattle.ssa_path.specs.declared.trie.Trie.{Trie, the_lemmas}
 use Rattle.ssa_path.specs.declared.trie.Trie.TheViews.{out-Trie}
-use Rattle.ssa_path.specs.Children.{elements, rises, IsChildAt, IsGapFor}
-use Rattle.ssa_path.specs.View.{element_view}
-use Rattle.ssa_path.specs.Trie.{is_one_of, paths_below}
-use Rattle.ssa_path.proofs.FieldsMembers.{child-filled}
+use Rattle.ssa_path.specs.Children.{elements, rises}
+use Rattle.ssa_path.specs.Trie.{are_filled_tries, is_one_of, paths_below}
 use Rattle.ssa_path.proofs.Levels.{is_trie-made, trie-parts}
 use Rattle.ssa_path.proofs.Lists.{left-at, parted-set}
 use Rattle.ssa_path.proofs.Orders.{both_first}
@@ -15,9 +13,9 @@ use Rattle.ssa_turn_set.specs.declared.room.Room.{Room}
 use Rattle.ssa_turn_set.specs.declared.spare.Spare.{Spare}
 use Rattle.ssa_turn_set.specs.declared.room.Room.TheViews.{out-Room}
 use Rattle.ssa_turn_set.specs.Room.{freshes, gains, loses}
-use Rattle.ssa_turn_set.proofs.Coming.{gap-fits, opened-at, opened-fits, opened-more, opened-nothing, opened-room, passed-next, passed-one}
+use Rattle.ssa_turn_set.proofs.Coming.{opened-fits, opened-more, opened-room, passed-next, passed-one}
 use Rattle.ssa_turn_set.proofs.Gaining.{IsGaining, gaining-all, gaining-at, gaining-fits, gaining-next, gaining-none, gaining-within, gained-place}
-use Rattle.ssa_turn_set.proofs.Places.{coming, comes-within, gain-below, gain-own, lose-rolled, none-comes}
+use Rattle.ssa_turn_set.proofs.Places.{coming, comes-wide, comes-within, gain-below, gain-own, lose-rolled}
 use Rattle.ssa_turn_set.proofs.gain.+gain.Goals.{gain-then-gained, gain-else-gained}
 use Rattle.ssa_turn_set.proofs.gain.+gain.Goals as goal
 
@@ -58,31 +56,34 @@ gain-weave_in-requires t c =
       ),
     )
 
-pub gain-gain_known-requires : goal.gain-gain_known-requires
-gain-gain_known-requires t c =
+pub gain-put_each_in-requires : goal.gain-put_each_in-requires
+gain-put_each_in-requires t c =
     let set = trie-parts c.args.set.now _ refl c.requires.set in
     let gained = trie-parts c.args.gained.now c.deref-else-len-capacity.result.now c.deref-else-len-capacity.ensures.value c.requires.gained in
     let own = gain-own c.args.gained.now c.args.set.now c.args.room.now c.requires.set c.requires.room in
     let below = gain-below c.args.gained.now c.args.set.now c.args.room.now c.requires.room in
+    let given = c.deref-else-len-capacity.ensures.value in
+    let wider = c.exchange_where_wider.ensures in
+    let capacity = vec_capacity c.exchange_where_wider.new.items in
     let cs = (out-Trie c.args.set.now).below.items in
-    let none : coming c.args.gained.now c.args.set.now ≡ 0 =
+    let fits : length cs + coming c.args.gained.now c.args.set.now ≤ capacity =
     let len = (out-Trie c.args.set.now).below.ok.0 in
-    let a = c.len.ensures in
-    let b = c.capacity.ensures in
-    let test = c.if-len-capacity.false in
-    none-comes _ _ _ own.fits (omega arith) in (
+    let most = (out-Trie c.args.set.now).below.ok.1 in
+    let kept = wider.kept in
+    comes-wide _ _ _ _ own.fits (omega arith) wider.wide in (
       search (rules, the_lemmas),
       (
         gained.0,
         (
           gained.1,
           (
-            set.0,
+            ap (λ l. rises (elements l)) wider.items ∙ set.0,
             (
-              set.1,
+              ap are_filled_tries wider.items ∙ set.1,
               (
-                ap (λ l. freshes l (paths_below cs)) c.deref-else-len-capacity.ensures.value ∙ none,
-                ap (λ l. gains l (paths_below cs) (out-Room c.args.room.now).below.items) c.deref-else-len-capacity.ensures.value ∙ below,
+                subst (λ l. length l + freshes c.deref-else-len-capacity.result.now (paths_below l) ≤ capacity) (sym wider.items)
+                    (subst (λ l. length cs + freshes l (paths_below cs) ≤ capacity) (sym given) fits),
+                (λ j. gains (given j) (paths_below (wider.items j)) (out-Room c.args.room.now).below.items) ∙ below,
               ),
             ),
           ),
@@ -90,75 +91,52 @@ gain-gain_known-requires t c =
       ),
     )
 
--- ---- children that are there
+-- ---- children put in one by one
 
-pub gain_known-loop-i-init : goal.gain_known-loop-i-init
-gain_known-loop-i-init t c =
-    let known = c.requires.known in
+pub put_each_in-loop-i-init : goal.put_each_in-loop-i-init
+put_each_in-loop-i-init t c =
     gaining-none c.args.below.now.items c.args.gained.now _ _ _ refl
-    c.requires.rise c.requires.tries c.requires.gained_rise c.requires.gained_tries (omega arith) c.requires.room
+    c.requires.rise c.requires.tries c.requires.gained_rise c.requires.gained_tries c.requires.fits c.requires.room
 
-pub gain_known-unreachable-requires : goal.gain_known-unreachable-requires
-gain_known-unreachable-requires t c =
-    let ds = c.args.gained.now in
-    let i = c.loop-i.i in
-    let d = c.index-gained-i.result in
-    let now = c.loop-i.below.items in
-    let h = subst (λ l. IsGaining c.args.below.now.items (take i ds) l (take i c.loop-i.rooms.items) (drop i c.loop-i.rooms.items) now (length now))
-    (left-at ds i d c.loop-i-test.true c.index-gained-i.is) c.loop-i.invariant in
-    let gap : IsGapFor (element_view d.0) now c.in_default.field-0 = rw c.deref.ensures.value at c.in_default.ensures in
-    let more = gap-fits _ _ _ _ _ now (length now) d h c.in_default.field-0 gap in
-    omega arith
-
-pub gain_known-gain-requires : goal.gain_known-gain-requires
-gain_known-gain-requires t c =
+pub put_each_in-gain-requires : goal.put_each_in-gain-requires
+put_each_in-gain-requires t c =
     let ds = c.args.gained.now in
     let rs = c.loop-i.rooms.items in
     let i = c.loop-i.i in
     let d = c.index-gained-i.result in
-    let now = c.loop-i.below.items in
-    let place = c.in-Ok.place in
-    let child = c.index_mut.result.now in
-    let r = c.index_mut-in-loop-i.result.now in
+    let r = c.index_mut-room.result.now in
     let within = gaining-within _ ds rs _ _ i c.loop-i-test.true c.loop-i.invariant in
-    let h = gaining-at _ ds rs _ _ i d r c.loop-i-test.true c.index-gained-i.is within c.index_mut-in-loop-i.ensures.value c.loop-i.invariant in
-    let at : IsChildAt (element_view d.0) now place = rw c.deref.ensures.value at c.in-Ok.ensures in
-    let o = opened-at (element_view d.0) now place child at c.index_mut.ensures.value h.risen h.tries in (
+    let h = gaining-at _ ds rs _ _ i d r c.loop-i-test.true c.index-gained-i.is within c.index_mut-room.ensures.value c.loop-i.invariant in
+    let o = c.open_within-place.ensures.opened.opened c.index_mut.result.now c.index_mut.ensures.value in (
       search (rules, the_lemmas),
-      (
-        o.trie,
-        (both_first _ _ (both_first _ _ h.left_tries), opened-room _ _ _ _ _ now _ d r h (take place now) child (drop (place + 1) now) o),
-      ),
+      (o.trie, (both_first _ _ (both_first _ _ h.left_tries), opened-room _ _ _ _ _ _ _ d r h _ _ _ o)),
     )
 
-pub gain_known-loop-i-preserved : goal.gain_known-loop-i-preserved
-gain_known-loop-i-preserved t c =
+pub put_each_in-loop-i-preserved : goal.put_each_in-loop-i-preserved
+put_each_in-loop-i-preserved t c =
     let ds = c.args.gained.now in
     let rs = c.loop-i.rooms.items in
     let i = c.loop-i.i in
     let d = c.index-gained-i.result in
-    let now = c.loop-i.below.items in
-    let place = c.in-Ok.place in
-    let child = c.index_mut.result.now in
-    let r = c.index_mut-in-loop-i.result.now in
+    let r = c.index_mut-room.result.now in
     let within = gaining-within _ ds rs _ _ i c.loop-i-test.true c.loop-i.invariant in
-    let h = gaining-at _ ds rs _ _ i d r c.loop-i-test.true c.index-gained-i.is within c.index_mut-in-loop-i.ensures.value c.loop-i.invariant in
-    let at : IsChildAt (element_view d.0) now place = rw c.deref.ensures.value at c.in-Ok.ensures in
-    let o = opened-at (element_view d.0) now place child at c.index_mut.ensures.value h.risen h.tries in
-    let s : Spare × Room = (r.0, c.gain.new.room) in
+    let h = gaining-at _ ds rs _ _ i d r c.loop-i-test.true c.index-gained-i.is within c.index_mut-room.ensures.value c.loop-i.invariant in
+    let now = c.open_within-place.new.children in
+    let place = c.open_within-place.result in
+    let child = c.index_mut.result.now in
+    let at = c.open_within-place.ensures.opened in
     let x : Elem × Trie = (child.0, c.gain.new.set) in
-    let nothing = opened-nothing _ _ _ _ _ now _ d r h (take place now) child (drop (place + 1) now) o
-    (child-filled now place child at.within c.index_mut.ensures.value h.tries) in
-    let long = length-set now place x in
-    let more = opened-more _ _ _ _ _ now (length now) d r h (take place now) child (drop (place + 1) now) o c.gain.new.set s (length (set now place x))
-    c.gain.ensures.paths c.gain.ensures.trie nothing c.gain.ensures.room (omega arith) in
+    let s : Spare × Room = (c.open_within-place.new.spare, c.gain.new.room) in
+    let more = opened-more _ _ _ _ _ _ _ d r h (take place now.items) child (drop (place + 1) now.items) (at.opened child c.index_mut.ensures.value)
+    c.gain.new.set s (vec_capacity now) c.gain.ensures.paths c.gain.ensures.trie c.open_within-place.ensures.spare c.gain.ensures.room
+    c.open_within-place.ensures.capacity in
     let there = subst (λ l. IsGaining c.args.below.now.items (take i ds ++ d ∷ []) (drop (i + 1) ds) (take i rs ++ s ∷ [])
-    (drop (i + 1) rs) l (length (set now place x)))
-    (sym (parted-set now place x at.within)) more in
+    (drop (i + 1) rs) l (vec_capacity now))
+    (sym (parted-set now.items place x at.within)) more in
     gaining-next _ ds rs _ _ i d s c.loop-i-test.true c.index-gained-i.is within there
 
-pub gain_known-returns-clause-room : goal.gain_known-returns-clause-room
-gain_known-returns-clause-room t c =
+pub put_each_in-returns-clause-room : goal.put_each_in-returns-clause-room
+put_each_in-returns-clause-room t c =
     (gaining-all c.args.below.now.items c.args.gained.now c.loop-i.rooms.items _ _ c.loop-i.i c.loop-i-test.false c.loop-i.invariant).1
 
 -- ---- children that come
@@ -258,8 +236,8 @@ weave_in-returns-clause-room t c =
 
 -- ---- the place as a whole
 
-pub gain-returns-then-len-capacity-clause-paths : goal.gain-returns-then-len-capacity-clause-paths
-gain-returns-then-len-capacity-clause-paths t c =
+pub gain-returns-then-len-gt-FEW-clause-paths : goal.gain-returns-then-len-gt-FEW-clause-paths
+gain-returns-then-len-gt-FEW-clause-paths t c =
     gained-place _ c.args.gained.now c.args.set.now
     (elim c.if-gained.branch [
       | gain-then-gained w ↦ w.here-is ∙ w.if-gained.true ∙ sym (ap (λ b. b || (out-Trie c.args.set.now).here) w.if-gained.true)
@@ -268,11 +246,11 @@ gain-returns-then-len-capacity-clause-paths t c =
     (λ p. c.weave_in.ensures.gathered.paths_are p
     ∙ ap (λ l. is_one_of (paths_below l) p || is_one_of (paths_below (out-Trie c.args.set.now).below.items) p) c.deref.ensures.value)
 
-pub gain-returns-then-len-capacity-clause-trie : goal.gain-returns-then-len-capacity-clause-trie
-gain-returns-then-len-capacity-clause-trie t c = is_trie-made _ c.weave_in.ensures.gathered.risen c.weave_in.ensures.gathered.tries
+pub gain-returns-then-len-gt-FEW-clause-trie : goal.gain-returns-then-len-gt-FEW-clause-trie
+gain-returns-then-len-gt-FEW-clause-trie t c = is_trie-made _ c.weave_in.ensures.gathered.risen c.weave_in.ensures.gathered.tries
 
-pub gain-returns-then-len-capacity-clause-room : goal.gain-returns-then-len-capacity-clause-room
-gain-returns-then-len-capacity-clause-room t c =
+pub gain-returns-then-len-gt-FEW-clause-room : goal.gain-returns-then-len-gt-FEW-clause-room
+gain-returns-then-len-gt-FEW-clause-room t c =
     let below = (out-Trie c.args.set.now).below in
     let len = below.ok.0 in
     let most = below.ok.1 in
@@ -282,20 +260,24 @@ gain-returns-then-len-capacity-clause-room t c =
 
 pub gain-returns-else-len-capacity-clause-paths : goal.gain-returns-else-len-capacity-clause-paths
 gain-returns-else-len-capacity-clause-paths t c =
+    let same = c.exchange_where_wider.ensures.items in
     gained-place _ c.args.gained.now c.args.set.now
     (elim c.if-gained.branch [
       | gain-then-gained w ↦ w.here-is ∙ w.if-gained.true ∙ sym (ap (λ b. b || (out-Trie c.args.set.now).here) w.if-gained.true)
       | gain-else-gained w ↦ w.here-is ∙ sym (ap (λ b. b || (out-Trie c.args.set.now).here) w.if-gained.false)
     ])
-    (λ p. c.gain_known.ensures.gathered.paths_are p
-    ∙ ap (λ l. is_one_of (paths_below l) p || is_one_of (paths_below (out-Trie c.args.set.now).below.items) p) c.deref-else-len-capacity.ensures.value)
+    (λ p. c.put_each_in.ensures.gathered.paths_are p
+    ∙ (λ j. is_one_of (paths_below (c.deref-else-len-capacity.ensures.value j)) p || is_one_of (paths_below (same j)) p))
 
 pub gain-returns-else-len-capacity-clause-trie : goal.gain-returns-else-len-capacity-clause-trie
-gain-returns-else-len-capacity-clause-trie t c = is_trie-made _ c.gain_known.ensures.gathered.risen c.gain_known.ensures.gathered.tries
+gain-returns-else-len-capacity-clause-trie t c = is_trie-made _ c.put_each_in.ensures.gathered.risen c.put_each_in.ensures.gathered.tries
 
 pub gain-returns-else-len-capacity-clause-room : goal.gain-returns-else-len-capacity-clause-room
 gain-returns-else-len-capacity-clause-room t c =
     let own = gain-own c.args.gained.now c.args.set.now c.args.room.now c.requires.set c.requires.room in
     let below = (out-Trie c.args.set.now).below in
-    lose-rolled c.args.gained.now c.args.set.now _ c.requires.set own.empty (λ lt. let fits = own.fits lt in omega arith)
-    (ap (λ l. loses l (paths_below below.items) c.gain_known.new.rooms.items) (sym c.deref-else-len-capacity.ensures.value) ∙ c.gain_known.ensures.room)
+    let len = below.ok.0 in
+    let wider = c.exchange_where_wider.ensures in
+    lose-rolled c.args.gained.now c.args.set.now _ c.requires.set wider.empty
+    (λ lt. let fits = own.fits lt in let left = wider.room (omega arith) in omega arith)
+    ((λ j. loses (sym c.deref-else-len-capacity.ensures.value j) (paths_below (sym wider.items j)) c.put_each_in.new.rooms.items) ∙ c.put_each_in.ensures.room)

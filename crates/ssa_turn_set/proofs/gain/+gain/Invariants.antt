@@ -4,12 +4,12 @@ use Rattle.ssa_path.specs.Children.{elements, rises}
 use Rattle.ssa_turn_set.proofs.Gaining.{IsGaining}
 use Rattle.ssa_turn_set.proofs.gain.+gain.Given as goal
 
-abbrev pub invariant-gain_known-loop-i : goal.invariant-gain_known-loop-i
-invariant-gain_known-loop-i l =
-    IsGaining l.fn.below.items (take l.i l.gained) (drop l.i l.gained) (take l.i l.rooms.items) (drop l.i l.rooms.items) l.below.items (length l.below.items)
+abbrev pub invariant-put_each_in-loop-i : goal.invariant-put_each_in-loop-i
+invariant-put_each_in-loop-i l =
+    IsGaining l.fn.below.items (take l.i l.gained) (drop l.i l.gained) (take l.i l.rooms.items) (drop l.i l.rooms.items) l.below.items (vec_capacity l.below)
 
-abbrev pub decreases-gain_known-loop-i : goal.decreases-gain_known-loop-i
-decreases-gain_known-loop-i l = length l.gained - l.i
+abbrev pub decreases-put_each_in-loop-i : goal.decreases-put_each_in-loop-i
+decreases-put_each_in-loop-i l = length l.gained - l.i
 
 abbrev pub invariant-weave_in-loop-i : goal.invariant-weave_in-loop-i
 invariant-weave_in-loop-i l =

@@ -1,8 +1,8 @@
-use Rattle.std.proofs.Common.{ap, sym, ◌∙◌, subst, arith}
+use Rattle.std.proofs.Common.{ap, sym, ◌∙◌, subst}
 use Rattle.std.specs.Bool.{MatchBool}
 use Rattle.std.specs.Option.{option_copied}
 use Rattle.ssa_path.specs.View.{element_view}
-use Rattle.ssa_path.specs.Trie.{is_trie, is_filled, paths, Exceeds, IsWithin}
+use Rattle.ssa_path.specs.Trie.{paths, Exceeds, IsWithin}
 use Rattle.ssa_path.proofs.Orders.{both_first}
 use Rattle.ssa_turn_set.specs.Room.{fresh, left}
 use Rattle.ssa_turn_set.proofs.Left.{all-goes, some-stays}

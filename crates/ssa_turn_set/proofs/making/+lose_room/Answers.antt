@@ -44,17 +44,17 @@ make_lose_room-returns t c =
     let all = take_all c.loop-child.child-index c.deref-child-items.result.now c.loop-child-test.false ∙ c.deref-child-items.ensures.value in
     let own = (out-Trie c.args.without.now).below.ok.0 in
     let len = c.len.ensures in
-    let counted : c.count_fresh-fresh.result ≡ coming c.args.lost.now c.args.without.now = c.count_fresh-fresh.ensures.count
+    let counted : c.count_fresh-leaving.result ≡ coming c.args.lost.now c.args.without.now = c.count_fresh-leaving.ensures.count
     ∙ (λ i. freshes (c.deref-2.ensures.value i) (paths_below (c.deref-3.ensures.value i))) in
     lose-rolled c.args.lost.now c.args.without.now _ c.requires.without c.in_ok-children.ensures.items (λ lt. let fits =
     c.in_ok-children.ensures.fits (omega arith) in omega arith)
     (ap (λ l. loses l (paths_below (out-Trie c.args.without.now).below.items) c.loop-child.below.items) (sym all) ∙ c.loop-child.invariant)
 
-pub make_lose_room-count_fresh-fresh-requires-clause-rise : goal.make_lose_room-count_fresh-fresh-requires-clause-rise
-make_lose_room-count_fresh-fresh-requires-clause-rise t c = (trie-parts c.args.without.now c.deref-3.result.now c.deref-3.ensures.value c.requires.without).0
+pub make_lose_room-count_fresh-leaving-requires-clause-rise : goal.make_lose_room-count_fresh-leaving-requires-clause-rise
+make_lose_room-count_fresh-leaving-requires-clause-rise t c = (trie-parts c.args.without.now c.deref-3.result.now c.deref-3.ensures.value c.requires.without).0
 
-pub make_lose_room-count_fresh-fresh-requires-clause-tries : goal.make_lose_room-count_fresh-fresh-requires-clause-tries
-make_lose_room-count_fresh-fresh-requires-clause-tries t c = (trie-parts c.args.without.now c.deref-3.result.now c.deref-3.ensures.value c.requires.without).1
+pub make_lose_room-count_fresh-leaving-requires-clause-tries : goal.make_lose_room-count_fresh-leaving-requires-clause-tries
+make_lose_room-count_fresh-leaving-requires-clause-tries t c = (trie-parts c.args.without.now c.deref-3.result.now c.deref-3.ensures.value c.requires.without).1
 
 pub make_child_lose_room-make_lose_room-requires : goal.make_child_lose_room-make_lose_room-requires
 make_child_lose_room-make_lose_room-requires t c =
