@@ -17,14 +17,13 @@ use Rattle.serde_json.specs.Data.{put}
 use Rattle.serde_json.specs.Read.{read, of_json, of_items, of_members, max_depth}
 use Rattle.serde_json.specs.Written.{outline, items_outline, members_outline}
 use Rattle.serde_json.proofs.Numbers.{number_of-decimal, number_of-negative}
-use Rattle.serde_json.proofs.Texts.{print-outline}
 use Rattle.ssa_model.specs.definitions.Json.{Text, Scalar, text, whole, truth, Items, no_items, item, Members, no_members, member, scalar, list, object, quoted, whole_text, scalar_text, comma_if, compact, compact_items, compact_members}
 use Rattle.ssa_model.specs.definitions.Json as model
 use Rattle.ssa_json.specs.Reading.{value_of, items_value, members_value, json_reading}
-use Rattle.ssa_json.specs.Written.{scalar_data, data_of, items_data, members_data, is_narrow_whole, is_narrow_scalar, is_narrow, items_narrow, members_narrow}
+use Rattle.ssa_json.specs.Written.{scalar_data, data_of, items_data, members_data, tokens_of, is_narrow_whole, is_narrow_scalar, is_narrow, items_narrow, members_narrow}
 use Rattle.ssa_json.specs.Writable.{is_utf8_scalar, has_utf8, items_have_utf8, members_have_utf8, is_below, has_rising_names, items_have_rising_names, members_rise, depth, items_depth, members_depth, IsWritable}
 use Rattle.ssa_json.proofs.Converting.{json_reading-data}
-use Rattle.ssa_json.proofs.Printing.{quoted-is, whole-is, compact_text-data_of}
+use Rattle.ssa_json.proofs.Printing.{quoted-is, whole-is, print-tokens_of}
 use Rattle.ssa_json.proofs.RisingNames.{followed_by, followed_by-assoc, followed_by-none, put-above, AreBefore, AreBefore-next}
 
 -- ---- the data that a value is has that value
@@ -157,16 +156,14 @@ mutual
   members_depth-outline json.no_members = refl
   members_depth-outline (json.member k d ms) = ap₂ max (depth-outline d) (members_depth-outline ms)
 
-tokens-compact : (v : model.Json) → is_narrow v ≡ true → tokens (compact v) ≡ tree.json_tokens (outline (data_of v))
+tokens-compact : (v : model.Json) → is_narrow v ≡ true → tokens (compact v) ≡ tokens_of v
 tokens-compact v narrow =
-    let tree_of = outline (data_of v) in
-    ap tokens (sym (compact_text-data_of v narrow) ∙ sym (print-outline (data_of v)))
-    ∙ tokens-print (tree.json_tokens tree_of) (ArePrintable-json_tokens tree_of (HasNumbers-outline v narrow))
+    ap tokens (sym (print-tokens_of v narrow)) ∙ tokens-print (tokens_of v) (ArePrintable-json_tokens (outline (data_of v)) (HasNumbers-outline v narrow))
 
 read-compact : (v : model.Json) → IsWritable v → read (compact v) ≡ Some (data_of v)
 read-compact v w =
     let tree_of = outline (data_of v) in
-    let same = tokens-compact v w.of_program.narrow ∙ sym (append-nil (tree.json_tokens tree_of)) in
+    let same = tokens-compact v w.of_program.narrow ∙ sym (append-nil (tokens_of v)) in
     let within : tree.depth tree_of ≤ max_depth = subst (λ n. n ≤ max_depth) (sym (depth-outline (data_of v) ∙ depth-data_of v)) w.shallow in
     ap (λ o. option_and_then of_json (option_and_then (λ p. grammar.if_last p.0 p.1) o)) (ap (grammar.value max_depth) same
     ∙ value-json_tokens tree_of max_depth [] within)
@@ -198,7 +195,8 @@ IsUtf8-behind : (b : ℕ) (t : Text) → IsUtf8 (b ∷ []) → IsUtf8 t → IsUt
 IsUtf8-behind b t = IsUtf8-append (b ∷ []) t
 
 mutual
-  IsUtf8-compact : (v : model.Json) → is_narrow v ≡ true → has_utf8 v ≡ true → IsUtf8 (compact v)
+  -- the compact text of a value is UTF-8, where its numbers have 64 bits and its texts are UTF-8
+  pub IsUtf8-compact : (v : model.Json) → is_narrow v ≡ true → has_utf8 v ≡ true → IsUtf8 (compact v)
   IsUtf8-compact (scalar s) narrow texts = IsUtf8-scalar s narrow texts
   IsUtf8-compact (list vs) narrow texts = IsUtf8-behind 91 _ (IsUtf8-are_ascii _ refl) (IsUtf8-items false vs narrow texts)
   IsUtf8-compact (object ms) narrow texts = IsUtf8-behind 123 _ (IsUtf8-are_ascii _ refl) (IsUtf8-members false ms narrow texts)

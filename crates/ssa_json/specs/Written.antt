@@ -1,8 +1,11 @@
--- What is handed to `serde_json` to be printed.
-use Rattle.std.specs.Prelude.{◌≡◌, ℕ, ◌<◌, ℤ, pos, negsuc, ◌^◌, Bool, true, ◌&&◌, nat_lt}
+-- What a value is written as.
+use Rattle.std.specs.Prelude.{◌≡◌, ℕ, ◌<◌, ℤ, pos, negsuc, ◌^◌, List, Bool, true, ◌&&◌, nat_lt}
 use Rattle.std.specs.Fmt as fmt
+use Rattle.json.specs.Token.{Token}
+use Rattle.json.specs.Tree as tree
 use Rattle.serde_json.specs.Data as json
 use Rattle.serde_json.specs.Find.{of_integer}
+use Rattle.serde_json.specs.Written.{outline, items_outline, members_outline}
 use Rattle.ssa_model.specs.definitions.Json as model
 
 -- the value as any JSON data
@@ -24,6 +27,18 @@ abbrev mutual
   pub members_data : model.Members → json.Members
   members_data model.no_members = json.no_members
   members_data (model.member k v ms) = json.member k (data_of v) (members_data ms)
+
+-- the tokens of the value
+abbrev pub tokens_of : model.Json → List Token
+tokens_of v = tree.json_tokens (outline (data_of v))
+
+-- the tokens of the items, with the bracket that closes a list
+abbrev pub items_tokens : model.Items → List Token
+items_tokens vs = tree.items_tokens (items_outline (items_data vs))
+
+-- the tokens of the members, with the bracket that closes an object
+abbrev pub members_tokens : model.Members → List Token
+members_tokens ms = tree.members_tokens (members_outline (members_data ms))
 
 -- the number fits in 64 bits, with its sign
 abbrev pub is_narrow_whole : ℤ → Bool

@@ -1,16 +1,18 @@
 //! Prints JSON values.
-ghost use Rattle.std.specs.Prelude.{◌≡◌, ◌≤◌, Ok, IfOk, OnOk, string_bytes, true};
-ghost use Rattle.serde_json.specs.View.{view as data_view, items_view as data_items, members_view as data_members};
+ghost use Rattle.std.specs.Prelude.{◌≡◌, ◌≤◌, ◌++◌, Ok, IfOk, OnOk, string_bytes, true};
 ghost use Rattle.ssa_model.specs.definitions.Json.{compact};
 ghost use Rattle.ssa_json.specs.Reading.{json_reading};
 ghost use Rattle.ssa_json.specs.View.{view, items_view, members_view};
 ghost use Rattle.ssa_json.specs.Writable.{CompactIsRead, IsOfProgram, depth, has_rising_names, has_utf8, items_have_rising_names, items_have_utf8, max_depth, members_have_utf8, members_rise};
-ghost use Rattle.ssa_json.specs.Written.{DecimalsArePrinted, data_of, items_data, members_data, is_narrow, items_narrow, members_narrow};
+ghost use Rattle.ssa_json.specs.Written.{DecimalsArePrinted, tokens_of, items_tokens, members_tokens, is_narrow, items_narrow, members_narrow};
 
 use crate::value::{Json, Scalar};
-use serde_json::{Map, Value};
+use json::Writer;
 use std::alloc::{AllocError, Global};
 use std::collections::BTreeMap;
+
+// The bytes that a text has room for from the start.
+const FIRST_ROOM: usize = 128;
 
 impl Json {
     /// The one compact spelling of the value: no spaces, names in the order of their bytes, whole
@@ -22,16 +24,19 @@ impl Json {
             → json_reading text.items ≡ Ok (view self.now)) }
         ensures of_program { OnOk result (IsOfProgram (view self.now)) }
     {
-        let value = to_value(alloc, self)?;
-        value.to_vec(alloc)
+        let mut writer = Writer::new(Vec::with_capacity(alloc, FIRST_ROOM)?);
+        write_value(&mut writer, self)?;
+        Ok(writer.into_inner())
     }
 
     /// The compact spelling, as a text.
     pub fn to_string(&self, alloc: Global) -> Result<String, AllocError>
         ensures { IfOk result (λ text. string_bytes text ≡ compact (view self.now)) }
     {
-        let value = to_value(alloc, self)?;
-        value.to_string(alloc)
+        match String::from_utf8(self.to_text(alloc)?) {
+            Ok(text) => Ok(text),
+            Err(_) => unreachable!("the text of a value is UTF-8"),
+        }
     }
 }
 
@@ -46,51 +51,57 @@ pub fn decimals_are_printed()
     ensures { DecimalsArePrinted }
 {}
 
-// The value as `serde_json` has it.
+// Writes the tokens of a value behind those before. Where memory runs out, some of them may be written.
 #[cycle(encode)]
-fn to_value(alloc: Global, value: &Json) -> Result<Value, AllocError>
-    ensures data { IfOk result (λ v. data_view v ≡ data_of (view value.now)) }
+fn write_value(writer: &mut Writer, value: &Json) -> Result<(), AllocError>
+    ensures tokens { OnOk result (writer.new.tokens ≡ writer.old.tokens ++ tokens_of (view value.now)) }
+    ensures before { writer.new.before ≡ writer.old.before }
     ensures narrow { OnOk result (is_narrow (view value.now) ≡ true) }
     ensures texts { OnOk result (has_utf8 (view value.now) ≡ true) }
     ensures names { OnOk result (has_rising_names (view value.now) ≡ true) }
 {
     match value {
-        Json::Scalar(Scalar::Text(text)) => Ok(Value::String(text.clone()?)),
-        Json::Scalar(Scalar::Int(n)) => Ok(Value::from(*n)),
-        Json::Scalar(Scalar::Bool(b)) => Ok(Value::Bool(*b)),
-        Json::List(items) => Ok(Value::Array(items_to_values(alloc, items)?)),
-        Json::Object(members) => Ok(Value::Object(members_to_values(alloc, members)?)),
+        Json::Scalar(Scalar::Text(text)) => writer.string(text.as_str()),
+        Json::Scalar(Scalar::Int(n)) => writer.i64(*n),
+        Json::Scalar(Scalar::Bool(b)) => writer.boolean(*b),
+        Json::List(items) => {
+            writer.begin_array()?;
+            write_items(writer, items)
+        }
+        Json::Object(members) => {
+            writer.begin_object()?;
+            write_members(writer, members)
+        }
     }
 }
 
+// Writes the items of a list, and the bracket that closes it.
 #[cycle(encode)]
-fn items_to_values(alloc: Global, items: &Vec<Json>) -> Result<Vec<Value>, AllocError>
-    ensures data { IfOk result (λ v. data_items v.items ≡ items_data (items_view items.now.items)) }
+fn write_items(writer: &mut Writer, items: &Vec<Json>) -> Result<(), AllocError>
+    ensures tokens { OnOk result (writer.new.tokens ≡ writer.old.tokens ++ items_tokens (items_view items.now.items)) }
+    ensures before { writer.new.before ≡ writer.old.before }
     ensures narrow { OnOk result (items_narrow (items_view items.now.items) ≡ true) }
     ensures texts { OnOk result (items_have_utf8 (items_view items.now.items) ≡ true) }
     ensures names { OnOk result (items_have_rising_names (items_view items.now.items) ≡ true) }
 {
-    let mut found = Vec::with_capacity(alloc, items.len())?;
     for item in items {
-        found.push(to_value(alloc, item)?)?;
+        write_value(writer, item)?;
     }
-    Ok(found)
+    writer.end_array()
 }
 
+// Writes the members of an object, and the bracket that closes it.
 #[cycle(encode)]
-fn members_to_values(
-    alloc: Global,
-    members: &BTreeMap<String, Json>,
-) -> Result<Map<String, Value>, AllocError>
-    ensures data { IfOk result (λ m. data_members m.entries ≡ members_data (members_view members.now.entries)) }
+fn write_members(writer: &mut Writer, members: &BTreeMap<String, Json>) -> Result<(), AllocError>
+    ensures tokens { OnOk result (writer.new.tokens ≡ writer.old.tokens ++ members_tokens (members_view members.now.entries)) }
+    ensures before { writer.new.before ≡ writer.old.before }
     ensures narrow { OnOk result (members_narrow (members_view members.now.entries) ≡ true) }
     ensures texts { OnOk result (members_have_utf8 (members_view members.now.entries) ≡ true) }
     ensures names { OnOk result (members_rise (members_view members.now.entries) ≡ true) }
 {
-    let mut found = Map::new(alloc);
     for (key, member) in members.iter() {
-        let name = key.clone()?;
-        drop(found.insert(name, to_value(alloc, member)?)?);
+        writer.key(key.as_str())?;
+        write_value(writer, member)?;
     }
-    Ok(found)
+    writer.end_object()
 }

@@ -1,63 +1,84 @@
-use Rattle.std.proofs.Common.{rules, ◌≡◌, [], ◌∷◌, ◌++◌, ◌+◌, take, map, ap₂, string_bytes, string_cmp, sym, ap, ◌∙◌, subst, arith, append_assoc, take_all}
-use Rattle.std.proofs.lemmas.List.{take_more, map-append}
+use Rattle.std.proofs.Common.{rules, ◌≡◌, [], ◌∷◌, ◌++◌, ◌+◌, take, drop, string_cmp, sym, ap, ◌∙◌, subst, arith, append_assoc}
+use Rattle.std.proofs.lemmas.List.{take_more, drop_more}
+use Rattle.std.proofs.lemmas.Result.{on_ok_weaker}
 use Rattle.std.specs.List.Sorted.{IsStrictlySortedBy}
 use Rattle.std.specs.Map.{keys_of}
-use Rattle.serde_json.specs.Data.{Data}
-use Rattle.ssa_json.specs.declared.value.Json.{Json, the_lemmas}
-use Rattle.serde_json.specs.View.{view as data_view, items_of as data_items_of, members_view as data_members}
-use Rattle.serde_json.proofs.Views.{members_view-insert_entry}
-use Rattle.ssa_json.specs.Written.{data_of}
-use Rattle.ssa_json.specs.View.{view}
+use Rattle.json.specs.Token.{begin_array, begin_object, key}
+use Rattle.ssa_json.specs.declared.value.Json.{the_lemmas}
+use Rattle.ssa_json.specs.Written.{tokens_of, items_tokens, members_tokens}
+use Rattle.ssa_json.specs.View.{view, items_view, members_view}
 use Rattle.ssa_json.proofs.Converting.{Found}
-use Rattle.ssa_json.proofs.Printing.{items_of-data, put-last, items_narrow-push, members_narrow-push}
+use Rattle.ssa_json.proofs.Views.{view-List, view-Object}
+use Rattle.ssa_json.proofs.Printing.{items_narrow-push, members_narrow-push}
 use Rattle.ssa_json.proofs.OfProgram.{string_is_utf8, items_have_utf8-push, items_have_rising_names-push, members_have_utf8-push, members_rise-push}
 use Rattle.ssa_json.proofs.write.+encode.Goals as goal
 
-pub items_to_values-returns-clause-data : goal.items_to_values-returns-clause-data
-items_to_values-returns-clause-data t c =
-    let l = c.loop-item in
-    let xs = c.deref-item-items.result.now in
-    let all : take l.item-index xs ≡ xs = take_all l.item-index xs (omega arith) in
-    ap data_items_of (l.invariant.written ∙ ap (map (λ j. data_of (view j))) (all ∙ c.deref-item-items.ensures.value)) ∙ items_of-data c.args.items.now.items
+pub write_value-returns-in-Scalar-Text-clause-texts : goal.write_value-returns-in-Scalar-Text-clause-texts
+write_value-returns-in-Scalar-Text-clause-texts t c =
+    let text = string_is_utf8 c.in-Scalar-Text.text in
+    on_ok_weaker c.string.result (λ _. search (rules, the_lemmas, text)) c.string.ensures.ok
 
-pub items_to_values-loop-item-preserved : goal.items_to_values-loop-item-preserved
-items_to_values-loop-item-preserved t c =
+pub write_value-returns-in_ok-begin_array-in-List-clause-tokens : goal.write_value-returns-in_ok-begin_array-in-List-clause-tokens
+write_value-returns-in_ok-begin_array-in-List-clause-tokens t c =
+    let items = c.in-List.items in
+    let before = c.args.writer.now.tokens in
+    on_ok_weaker c.write_items.result
+    (λ written. written ∙ ap (λ ts. ts ++ items_tokens (items_view items.items)) c.in_ok-begin_array-in-List.ensures.ok
+    ∙ append_assoc before (begin_array ∷ []) _ ∙ ap (λ v. before ++ tokens_of v) (sym (ap view c.in-List.is ∙ view-List items)))
+    c.write_items.ensures.tokens
+
+pub write_value-returns-in_ok-begin_object-in-Object-clause-tokens : goal.write_value-returns-in_ok-begin_object-in-Object-clause-tokens
+write_value-returns-in_ok-begin_object-in-Object-clause-tokens t c =
+    let members = c.in-Object.members in
+    let before = c.args.writer.now.tokens in
+    on_ok_weaker c.write_members.result
+    (λ written. written ∙ ap (λ ts. ts ++ members_tokens (members_view members.entries)) c.in_ok-begin_object-in-Object.ensures.ok
+    ∙ append_assoc before (begin_object ∷ []) _ ∙ ap (λ v. before ++ tokens_of v) (sym (ap view c.in-Object.is ∙ view-Object members)))
+    c.write_members.ensures.tokens
+
+pub write_items-loop-item-preserved : goal.write_items-loop-item-preserved
+write_items-loop-item-preserved t c =
     let l = c.loop-item in
     let xs = c.deref-item-items.result.now in
     let x = c.item-item.result in
-    let v = c.in_ok-to_value.field-0 in
-    let f : Json → Data = λ j. data_of (view j) in
+    let left = drop (l.item-index + 1) xs in
+    let here : drop l.item-index xs ≡ x ∷ left = drop_more xs l.item-index x (omega arith) ∙ ap (λ y. y ∷ left) (sym c.item-item.is) in
     let more : take (l.item-index + 1) xs ≡ take l.item-index xs ++ x ∷ [] = take_more xs l.item-index x (omega arith)
     ∙ ap (λ y. take l.item-index xs ++ y ∷ []) (sym c.item-item.is) in
+    let written = c.in_ok-write_value.ensures in
     record {
-      written =
-          ap (map data_view) c.in_ok-push.ensures.items ∙ map-append data_view l.found.items (v ∷ [])
-          ∙ ap₂ (λ a b. a ++ b ∷ []) l.invariant.written c.in_ok-to_value.ensures.data
-          ∙ sym (map-append f (take l.item-index xs) (x ∷ [])) ∙ ap (map f) (sym more);
-      narrow = rw more (items_narrow-push (take l.item-index xs) x l.invariant.narrow c.in_ok-to_value.ensures.narrow);
-      texts = rw more (items_have_utf8-push (take l.item-index xs) x l.invariant.texts c.in_ok-to_value.ensures.texts);
-      names = rw more (items_have_rising_names-push (take l.item-index xs) x l.invariant.names c.in_ok-to_value.ensures.names);
+      tokens =
+          ap (λ ts. ts ++ items_tokens (items_view left)) written.tokens ∙ append_assoc l.writer.tokens (tokens_of (view x)) _
+          ∙ ap (λ ys. l.writer.tokens ++ items_tokens (items_view ys)) (sym here) ∙ l.invariant.tokens;
+      before = written.before ∙ l.invariant.before;
+      narrow = rw more (items_narrow-push (take l.item-index xs) x l.invariant.narrow written.narrow);
+      texts = rw more (items_have_utf8-push (take l.item-index xs) x l.invariant.texts written.texts);
+      names = rw more (items_have_rising_names-push (take l.item-index xs) x l.invariant.names written.names);
     }
 
-pub members_to_values-loop-key-preserved : goal.members_to_values-loop-key-preserved
-members_to_values-loop-key-preserved t c =
+pub write_members-loop-key-preserved : goal.write_members-loop-key-preserved
+write_members-loop-key-preserved t c =
     let l = c.loop-key in
     let done = l.invariant.done in
     let e : Found = (c.in-Some.key.now, c.in-Some.member.now) in
     let left = c.next.new.self in
-    let all : c.args.members.now.entries ≡ done ++ e ∷ left = l.invariant.split ∙ ap (λ es. done ++ es) c.in-Some.ensures.steps in
+    let step : l.key-iterator ≡ e ∷ left = c.in-Some.ensures.steps in
+    let all : c.args.members.now.entries ≡ done ++ e ∷ left = l.invariant.split ∙ ap (λ es. done ++ es) step in
     let sorted = subst (λ es. IsStrictlySortedBy string_cmp (keys_of es)) all c.iter-key-items.ensures.ordered in
-    let last = put-last done e left sorted in
-    let key : string_bytes c.in_ok-name.name ≡ string_bytes e.0 = c.in_ok-name.ensures.cases in
+    let named = c.in_ok-key.ensures in
+    let written = c.in_ok-write_value.ensures in
+    let value = tokens_of (view e.1) in
+    let rest = members_tokens (members_view left) in
     record {
       done = done ++ e ∷ [];
       split = all ∙ sym (append_assoc done (e ∷ []) left);
-      written = ap data_members c.in_ok-insert.ensures.entries ∙ members_view-insert_entry l.found.entries c.in_ok-name.name c.in_ok-to_value.field-0
-          ∙ rw (key, c.in_ok-to_value.ensures.data, l.invariant.written) last;
-      narrow = members_narrow-push done e l.invariant.narrow c.in_ok-to_value.ensures.narrow;
-      texts = members_have_utf8-push done e l.invariant.texts c.in_ok-to_value.ensures.texts;
-      names = members_rise-push done e left sorted l.invariant.names c.in_ok-to_value.ensures.names;
+      tokens =
+          ap (λ ts. ts ++ rest) (written.tokens ∙ ap (λ ts. ts ++ value) named.ok) ∙ append_assoc _ value rest
+          ∙ append_assoc l.writer.tokens (key c.as_str.result.now ∷ []) (value ++ rest)
+          ∙ ap (λ n. l.writer.tokens ++ key n ∷ (value ++ rest)) c.as_str.ensures.value
+          ∙ ap (λ es. l.writer.tokens ++ members_tokens (members_view es)) (sym step) ∙ l.invariant.tokens;
+      before = written.before ∙ named.room.0 ∙ l.invariant.before;
+      narrow = members_narrow-push done e l.invariant.narrow written.narrow;
+      texts = members_have_utf8-push done e l.invariant.texts written.texts;
+      names = members_rise-push done e left sorted l.invariant.names written.names;
     }
-
-pub to_value-returns-in_ok-clone-in-Scalar-Text-clause-texts : goal.to_value-returns-in_ok-clone-in-Scalar-Text-clause-texts
-to_value-returns-in_ok-clone-in-Scalar-Text-clause-texts t c = let text = string_is_utf8 c.in-Scalar-Text.text in search (rules, the_lemmas, text)

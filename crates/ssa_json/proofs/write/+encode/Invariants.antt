@@ -1,26 +1,31 @@
-use Rattle.std.proofs.Common.{◌≡◌, List, ◌++◌, take, map, true}
-use Rattle.serde_json.specs.View.{view as data_view, members_view as data_members}
-use Rattle.ssa_json.specs.Written.{data_of, members_data, items_narrow, members_narrow}
+use Rattle.std.proofs.Common.{◌≡◌, List, ◌++◌, drop, take, true}
+use Rattle.ssa_json.specs.Written.{items_tokens, members_tokens, items_narrow, members_narrow}
 use Rattle.ssa_json.specs.Writable.{items_have_utf8, items_have_rising_names, members_have_utf8, members_rise}
-use Rattle.ssa_json.specs.View.{view, items_view, members_view}
+use Rattle.ssa_json.specs.View.{items_view, members_view}
 use Rattle.ssa_json.proofs.Converting.{Found}
 use Rattle.ssa_json.proofs.write.+encode.Given as goal
 
--- the items so far are handed over, and their numbers fit
-abbrev pub invariant-items_to_values-loop-item : goal.invariant-items_to_values-loop-item
-invariant-items_to_values-loop-item l = record {
-  written : map data_view l.found.items ≡ map (λ j. data_of (view j)) (take l.item-index l.item-items);
-  narrow : items_narrow (items_view (take l.item-index l.item-items)) ≡ true;
-  texts : items_have_utf8 (items_view (take l.item-index l.item-items)) ≡ true;
-  names : items_have_rising_names (items_view (take l.item-index l.item-items)) ≡ true;
-}
+-- with the items that are left, the list is whole; the items so far are of the program
+abbrev pub invariant-write_items-loop-item : goal.invariant-write_items-loop-item
+invariant-write_items-loop-item l =
+    let done = items_view (take l.item-index l.item-items) in
+    record {
+      tokens : l.writer.tokens ++ items_tokens (items_view (drop l.item-index l.item-items))
+          ≡ l.initial.writer.tokens ++ items_tokens (items_view l.item-items);
+      before : l.writer.before ≡ l.initial.writer.before;
+      narrow : items_narrow done ≡ true;
+      texts : items_have_utf8 done ≡ true;
+      names : items_have_rising_names done ≡ true;
+    }
 
--- so are the members
-abbrev pub invariant-members_to_values-loop-key : goal.invariant-members_to_values-loop-key
-invariant-members_to_values-loop-key l = record {
+-- so with the members
+abbrev pub invariant-write_members-loop-key : goal.invariant-write_members-loop-key
+invariant-write_members-loop-key l = record {
   done : List Found;
   split : l.members.entries ≡ done ++ l.key-iterator;
-  written : data_members l.found.entries ≡ members_data (members_view done);
+  tokens : l.writer.tokens ++ members_tokens (members_view l.key-iterator)
+      ≡ l.initial.writer.tokens ++ members_tokens (members_view l.members.entries);
+  before : l.writer.before ≡ l.initial.writer.before;
   narrow : members_narrow (members_view done) ≡ true;
   texts : members_have_utf8 (members_view done) ≡ true;
   names : members_rise (members_view done) ≡ true;

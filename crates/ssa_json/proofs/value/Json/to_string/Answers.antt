@@ -1,13 +1,10 @@
-use Rattle.std.proofs.Common.{ap, ◌∙◌}
-use Rattle.std.proofs.lemmas.Result.{IfOk-weaker}
-use Rattle.serde_json.specs.Written.{has_float, compact_text}
+use Rattle.std.proofs.Common.{IsUtf8, sym, subst, true≢false}
 use Rattle.ssa_json.specs.View.{view}
-use Rattle.ssa_json.proofs.Printing.{data_of-plain, compact_text-data_of}
+use Rattle.ssa_json.proofs.ReadingBack.{IsUtf8-compact}
 use Rattle.ssa_json.proofs.value.Json.to_string.Goals as goal
 
-pub returns : goal.returns
-returns c =
-    IfOk-weaker c.to_string.result _ _
-    (λ b text. text (ap has_float c.in_ok-value.ensures.data ∙ data_of-plain (view c.args.self.now)) ∙ ap compact_text c.in_ok-value.ensures.data
-    ∙ compact_text-data_of (view c.args.self.now) c.in_ok-value.ensures.narrow)
-    c.to_string.ensures.text
+pub unreachable-requires : goal.unreachable-requires
+unreachable-requires c =
+    let made = c.in_ok-to_text.ensures in
+    let utf8 = IsUtf8-compact (view c.args.self.now) made.of_program.narrow made.of_program.texts in
+    true≢false (sym (c.in-Err.ensures.succeeds (subst IsUtf8 (sym made.text) utf8)))
