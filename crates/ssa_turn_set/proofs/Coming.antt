@@ -1,5 +1,5 @@
 -- Children that come among those of a place, in one pass.
-use Rattle.std.proofs.Common.{◌≡◌, ℕ, suc, ◌+◌, ◌<◌, ◌≤◌, List, [], ◌∷◌, ◌++◌, length, get_or, drop, take, true, false, ◌&&◌, ◌||◌, cond, Ordering, Less, Equal, Greater, true≢false, refl, sym, ap, ◌∙◌, arith, append_assoc, subst}
+use Rattle.std.proofs.Common.{◌≡◌, ℕ, suc, ◌+◌, ◌<◌, ◌≤◌, List, [], ◌∷◌, ◌++◌, length, get_or, drop, take, true, false, ◌&&◌, ◌||◌, Ordering, Less, Equal, Greater, true≢false, refl, sym, ap, ◌∙◌, arith, append_assoc, subst}
 use Rattle.std.proofs.lemmas.List.{get_or_default, length-append, length-take-le, take-append-drop}
 use Rattle.std.specs.Ordering.{is_eq, is_lt, ordering_reverse}
 use Rattle.ssa_model.specs.definitions.FieldsV1.{tails}
@@ -15,7 +15,7 @@ use Rattle.ssa_path.proofs.Orders.{element_cmp_total, both_first, both_second}
 use Rattle.ssa_turn_set.specs.declared.room.Room.{Room}
 use Rattle.ssa_turn_set.specs.declared.spare.Spare.{Spare}
 use Rattle.ssa_turn_set.specs.Room.{fresh, gain_room, lose_room}
-use Rattle.ssa_turn_set.specs.Spare.{fits, is_nothing}
+use Rattle.ssa_turn_set.specs.Spare.{is_nothing}
 use Rattle.ssa_turn_set.specs.Weaving.{starts_before, starts_with, IsOpened, IsOpenedAt}
 use Rattle.ssa_turn_set.proofs.Gaining.{IsGaining, gaining-fits, gaining-more, gathered-child}
 use Rattle.ssa_turn_set.proofs.Keeping.{at-middle}
@@ -223,15 +223,6 @@ opened-at e cs place c at is rise tries =
     opened-found e cs (take place cs) c (drop (place + 1) cs) (sym (parted cs place c at.within is)) rise tries
     (ap (λ (x : Elem × Trie). same_element e (element_view x.0)) is ∙ at.same c)
 
--- where a child stands nowhere there is room for it
-pub gap-fits : (cs done left : List (Elem × Trie)) (filled rooms : List (Spare × Room)) (now : List (Elem × Trie)) (capacity : ℕ) (d : Elem × Trie)
-    → IsGaining cs done (d ∷ left) filled rooms now capacity → (place : ℕ) → IsGapFor (element_view d.0) now place → length now + 1 ≤ capacity
-gap-fits cs done left filled rooms now capacity d h place gap =
-    let fits = h.fits in
-    let same = ap fresh h.alike.0 in
-    let one = ap fresh (gap-paths (element_view d.0) now place h.risen gap.between) in
-    omega arith
-
 module _ (cs done left : List (Elem × Trie)) (filled rooms : List (Spare × Room)) (now : List (Elem × Trie)) (capacity : ℕ) (d : Elem × Trie) (r : Spare × Room)
     (h : IsGaining cs done (d ∷ left) filled (r ∷ rooms) now capacity) where
   module _ (front : List (Elem × Trie)) (c : Elem × Trie) (behind : List (Elem × Trie)) (o : IsOpened (element_view d.0) now front c behind) where
@@ -248,12 +239,6 @@ module _ (cs done left : List (Elem × Trie)) (filled rooms : List (Spare × Roo
         let long = o.len in
         let own = ap fresh (opened-tails (element_view d.0) now front c behind o) in
         omega arith
-
-    -- where the opened child has some path, no spare element is kept for it
-    pub opened-nothing : has_some (paths c.1) ≡ true → is_nothing r.0 ≡ true
-    opened-nothing some =
-        ap (λ b. cond b (is_nothing r.0) (fits (element_view d.0) r.0)) (sym (ap has_some (opened-tails (element_view d.0) now front c behind o) ∙ some))
-        ∙ both_first _ _ (gaining-fits cs done left filled rooms now capacity d r h).1
 
     -- the opened child, whatever it has by now, is passed, before those that are left
     pub passed-one : (x : Elem × Trie) → element_view x.0 ≡ element_view c.0 → rises (elements (front ++ x ∷ []) ++ elements left) ≡ true
