@@ -1,13 +1,11 @@
 -- A record takes one state to another by what its parts do with theirs.
 use Rattle.std.proofs.Common.{ap, arith, not, subst, sym}
 use Rattle.ssa_model.specs.definitions.Operations.{State}
-use Rattle.ssa_model.specs.definitions.Record.{BodyRecord, TableRecord, Record}
+use Rattle.ssa_model.specs.definitions.Record.{TableRecord, Record}
 use Rattle.ssa_model.specs.definitions.Table.{is_in_table}
 use Rattle.ssa_turn_table.specs.Turning.{IsTableTaken}
 use Rattle.ssa_turn_table.specs.Writing.{HaveSmallPlaces}
 use Rattle.ssa_turn_table.proofs.RecordMembers.{small-placed}
-use Rattle.ssa_model.proofs.RecordTakes.{takes_by_parts}
-use Rattle.ssa_turn_body.specs.Rooms.{IsBodyTaken}
 use Rattle.ssa_turn_state.specs.States.{IsTaken}
 
 module _ (d : Record) (v w : State) (h : IsTaken d v w) where
