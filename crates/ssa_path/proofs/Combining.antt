@@ -1,24 +1,23 @@
 -- Two lists of children that rise, put together from their ends on.
-use Rattle.std.proofs.Common.{◌≡◌, ℕ, ◌+◌, ◌<◌, List, [], ◌∷◌, ◌++◌, length, get_or, drop, Bool, true, false, ◌&&◌, ◌||◌, Some, None, Ordering, Less, Equal, Greater, not, refl, sym, ap, subst, ◌∙◌, true≢false, append_assoc, append-nil, arith, length-drop}
+use Rattle.std.proofs.Common.{◌≡◌, ℕ, ◌+◌, ◌<◌, List, [], ◌∷◌, ◌++◌, length, get_or, drop, Bool, true, false, ◌&&◌, ◌||◌, Some, None, Ordering, Less, Equal, Greater, refl, sym, ap, subst, ◌∙◌, true≢false, append_assoc, append-nil, arith, length-drop}
 use Rattle.std.specs.Bool.{MatchBool}
 use Rattle.std.specs.Ordering.{is_lt, is_eq, ordering_reverse}
 use Rattle.std.specs.List.{list_any}
 use Rattle.ssa_model.specs.definitions.Path.{Element, Path, element_cmp, same_element, same_path, under}
 use Rattle.ssa_path.specs.declared.combine.Combination.{Combination}
-use Rattle.ssa_path.specs.declared.combine.Combination.TheVariants.{Union, Minus, Meet, WithoutUnder, WithoutOver, Over}
+use Rattle.ssa_path.specs.declared.combine.Combination.TheVariants.{Union, Minus, Meet, WithoutOver, Over}
 use Rattle.ssa_path.specs.declared.element.Elem.{Elem}
 use Rattle.ssa_path.specs.declared.trie.Trie.{Trie}
 use Rattle.ssa_path.specs.declared.trie.Trie.TheOpen.{Trie-F}
 use Rattle.ssa_path.specs.declared.trie.Trie.TheViews.{out-Trie, roll-Trie}
 use Rattle.ssa_path.specs.Children.{elements, is_below, rises, heads_order}
-use Rattle.ssa_path.specs.Combine.{concerns, is_concerned, covers, keeps, IsCombination, IsCombined, IsKept, IsGrown}
+use Rattle.ssa_path.specs.Combine.{concerns, is_concerned, keeps, IsCombination, IsCombined, IsKept, IsGrown}
 use Rattle.ssa_path.specs.View.{element_view}
-use Rattle.ssa_path.specs.Trie.{Shape, here_path, is_one_of, paths, paths_below, is_trie, is_filled, has_some, are_filled_tries, IsCopy}
+use Rattle.ssa_path.specs.Trie.{Shape, is_one_of, paths, paths_below, is_trie, is_filled, has_some, are_filled_tries, IsCopy}
 use Rattle.ssa_path.proofs.Orders.{element_cmp_total, not_tied, both_first, both_second}
-use Rattle.ssa_path.proofs.Levels.{GoesOn, same_path-reading, under-reading, any-child, any-made, any-level, child-more, one-made-root, one-level-root, is_trie-made, paths-level, paths-made, some-none}
+use Rattle.ssa_path.proofs.Levels.{GoesOn, same_path-reading, under-reading, any-child, any-made, any-level, child-more, one-made-root, one-level-root, is_trie-made, some-none}
 use Rattle.ssa_path.proofs.Lists.{left-at}
 use Rattle.ssa_model.proofs.Fitting.{same_element-true}
-use Rattle.ssa_model.proofs.ShownNames.{turned as same_either_way}
 use Rattle.ssa_model.proofs.Basics.{or-false as or_false, both-true as both, lower}
 
 -- ---- how the heads of two lists compare
@@ -124,7 +123,6 @@ pub concerns-more : (how : Combination) → GoesOn (concerns how)
 concerns-more Union = same_path-reading.more
 concerns-more Minus = same_path-reading.more
 concerns-more Meet = same_path-reading.more
-concerns-more WithoutUnder = λ e f p q. ap (λ b. b && under q p) (same_either_way e f)
 concerns-more WithoutOver = under-reading.more
 concerns-more Over = under-reading.more
 
@@ -134,7 +132,6 @@ keeps-none : (how : Combination) → keeps how false false ≡ false
 keeps-none Union = refl
 keeps-none Minus = refl
 keeps-none Meet = refl
-keeps-none WithoutUnder = refl
 keeps-none WithoutOver = refl
 keeps-none Over = refl
 
@@ -154,8 +151,6 @@ keeps-own Union false h = refl
 keeps-own Minus true h = refl
 keeps-own Minus false h = refl
 keeps-own Meet x h = absurd (true≢false (sym h))
-keeps-own WithoutUnder true h = refl
-keeps-own WithoutUnder false h = refl
 keeps-own WithoutOver true h = refl
 keeps-own WithoutOver false h = refl
 keeps-own Over x h = absurd (true≢false (sym h))
@@ -165,7 +160,6 @@ drops-own Union x h = absurd (true≢false h)
 drops-own Minus x h = absurd (true≢false h)
 drops-own Meet true h = refl
 drops-own Meet false h = refl
-drops-own WithoutUnder x h = absurd (true≢false h)
 drops-own WithoutOver x h = absurd (true≢false h)
 drops-own Over true h = refl
 drops-own Over false h = refl
@@ -174,7 +168,6 @@ keeps-other : (how : Combination) (ps : List Path) (p : Path) → keeps how fals
 keeps-other Union ps p h = refl
 keeps-other Minus ps p h = absurd (true≢false (sym h))
 keeps-other Meet ps p h = absurd (true≢false (sym h))
-keeps-other WithoutUnder ps p h = absurd (true≢false (sym h))
 keeps-other WithoutOver ps p h = absurd (true≢false (sym h))
 keeps-other Over ps p h = absurd (true≢false (sym h))
 
@@ -182,7 +175,6 @@ pub drops-other : (how : Combination) (y : Bool) → keeps how false true ≡ fa
 drops-other Union y h = absurd (true≢false h)
 drops-other Minus y h = refl
 drops-other Meet y h = refl
-drops-other WithoutUnder y h = refl
 drops-other WithoutOver y h = refl
 drops-other Over y h = refl
 
@@ -488,66 +480,23 @@ both-at how cs ds i j c d out new t order is_c is_d made grown h =
 
 -- ---- a place over what was put together below
 
-above-all : (ps : List Path) (p : Path) → is_one_of ps [] ≡ true → list_any (λ q. under q p) ps ≡ true
-above-all [] p h = h
-above-all ([] ∷ ps) p h = refl
-above-all ((e ∷ q) ∷ ps) p h = ap (λ b. under (e ∷ q) p || b) (above-all ps p h) ∙ or_true (under (e ∷ q) p)
-  where
-    or_true : (b : Bool) → (b || true) ≡ true
-    or_true true = refl
-    or_true false = refl
-
-and_not : (a b : Bool) → b ≡ true → false ≡ (a && not b)
-and_not true b h = ap not (sym h)
-and_not false b h = refl
-
--- the other set has a path above all that is here, so nothing is left
-pub combined-covered : (how : Combination) (x : Trie-F Trie) (m n : Trie) → covers how n ≡ true → x.here ≡ false → x.below.items ≡ []
-    → IsCombination how m n (roll-Trie x)
-combined-covered Union x m n h here below = absurd (true≢false (sym h))
-combined-covered Minus x m n h here below = absurd (true≢false (sym h))
-combined-covered Meet x m n h here below = absurd (true≢false (sym h))
-combined-covered WithoutOver x m n h here below = absurd (true≢false (sym h))
-combined-covered Over x m n h here below = absurd (true≢false (sym h))
-combined-covered WithoutUnder x m n h here below = record {
-  paths_are = λ p. ap (λ ps. is_one_of ps p) none ∙ and_not (is_one_of (paths m) p) _ (above-all (paths n) p h);
-  trie = is_trie-made x (ap (λ l. rises (elements l)) below) (ap are_filled_tries below);
-}
-  where
-    none : paths (roll-Trie x) ≡ []
-    none = paths-made x ∙ (λ i. here_path (here i) ++ paths_below (below i))
-
 -- what concerns a path with an element in front is what is below
-concerned-level : (how : Combination) (n : Trie) (e : Element) (p : Path) → covers how n ≡ false
+concerned-level : (how : Combination) (n : Trie) (e : Element) (p : Path)
     → is_concerned how (paths n) (e ∷ p) ≡ is_concerned how (paths_below (out-Trie n).below.items) (e ∷ p)
-concerned-level Union n e p h = any-level same_path same_path-reading n e p
-concerned-level Minus n e p h = any-level same_path same_path-reading n e p
-concerned-level Meet n e p h = any-level same_path same_path-reading n e p
-concerned-level WithoutUnder n e p h =
-    let here : (out-Trie n).here ≡ false = sym (one-level-root n) ∙ h in
-    ap (list_any (λ q. under q (e ∷ p))) (paths-level n ∙ ap (λ b. here_path b ++ paths_below (out-Trie n).below.items) here)
-concerned-level WithoutOver n e p h = any-level under under-reading n e p
-concerned-level Over n e p h = any-level under under-reading n e p
+concerned-level Union n e p = any-level same_path same_path-reading n e p
+concerned-level Minus n e p = any-level same_path same_path-reading n e p
+concerned-level Meet n e p = any-level same_path same_path-reading n e p
+concerned-level WithoutOver n e p = any-level under under-reading n e p
+concerned-level Over n e p = any-level under under-reading n e p
 
--- a place that is kept or not, with combined children, makes the combination, where the other does not cover it
-pub combined-place : (how : Combination) (x : Trie-F Trie) (m n : Trie) → covers how n ≡ false
+-- a place that is kept or not, with combined children, makes the combination
+pub combined-place : (how : Combination) (x : Trie-F Trie) (m n : Trie)
     → x.here ≡ keeps how (out-Trie m).here (is_concerned how (paths n) []) → IsCombined how (out-Trie m).below.items (out-Trie n).below.items x.below.items
     → IsCombination how m n (roll-Trie x)
-combined-place how x m n left here h = record { paths_are = held; trie = is_trie-made x h.risen h.tries }
+combined-place how x m n here h = record { paths_are = held; trie = is_trie-made x h.risen h.tries }
   where
     held : (p : Path) → is_one_of (paths (roll-Trie x)) p ≡ keeps how (is_one_of (paths m) p) (is_concerned how (paths n) p)
     held [] = one-made-root x ∙ here ∙ ap (λ b. keeps how b (is_concerned how (paths n) [])) (sym (one-level-root m))
     held (e ∷ p) =
         any-made same_path same_path-reading x e p ∙ h.paths_are e p
-        ∙ (λ i. keeps how (sym (any-level same_path same_path-reading m e p) i) (sym (concerned-level how n e p left) i))
-
--- ---- how the other set concerns the root
-
-under-root : (ps : List Path) → list_any (λ q. under q []) ps ≡ is_one_of ps []
-under-root [] = refl
-under-root ([] ∷ ps) = refl
-under-root ((e ∷ q) ∷ ps) = under-root ps
-
--- the root is under a path of the other only where that has the root
-pub concerned-root : (n : Trie) → is_concerned WithoutUnder (paths n) [] ≡ (out-Trie n).here
-concerned-root n = under-root (paths n) ∙ one-level-root n
+        ∙ (λ i. keeps how (sym (any-level same_path same_path-reading m e p) i) (sym (concerned-level how n e p) i))

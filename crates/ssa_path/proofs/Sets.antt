@@ -5,14 +5,14 @@ use Rattle.std.specs.Prelude.{is_some}
 use Rattle.std.specs.List.{list_any}
 use Rattle.std.specs.FinMap.Entries.{find, put, by_order}
 use Rattle.ssa_model.specs.definitions.Path.{Path, path_cmp, same_path, under}
-use Rattle.ssa_model.specs.definitions.PathMap.{PathSet, has, has_at_or_above, has_at_or_below, insert, is_empty, set_of, paths as set_paths, listed, marked}
+use Rattle.ssa_model.specs.definitions.PathMap.{PathSet, has, has_at_or_below, insert, is_empty, set_of, paths as set_paths, listed, marked}
 use Rattle.ssa_model.proofs.PathMaps.{has-insert, has-minus, has-paths, has-set_of, has-union, same_sets}
 use Rattle.ssa_model.proofs.Texts.{same_path_same}
 use Rattle.ssa_path.specs.Combine.{concerns, is_concerned, keeps, IsCombination}
 use Rattle.ssa_path.specs.Meet.{combined, meet}
 use Rattle.ssa_path.specs.Trie.{has_some, is_one_of, paths}
 use Rattle.ssa_path.specs.declared.combine.Combination.{Combination}
-use Rattle.ssa_path.specs.declared.combine.Combination.TheVariants.{Union, Minus, Meet, WithoutUnder, WithoutOver, Over}
+use Rattle.ssa_path.specs.declared.combine.Combination.TheVariants.{Union, Minus, Meet, WithoutOver, Over}
 use Rattle.ssa_path.specs.declared.trie.Trie.{Trie}
 use Rattle.ssa_model.proofs.Lists.{has-listed}
 use Rattle.ssa_model.proofs.Basics.{or_twice, some_or}
@@ -89,7 +89,6 @@ has-combined : (how : Combination) (s t : PathSet) (q : Path) → has (combined 
 has-combined Union s t q = has-union s t q ∙ ap (λ b. has s q || b) (has-paths t q)
 has-combined Minus s t q = has-minus s t q ∙ ap (λ b. has s q && not b) (has-paths t q)
 has-combined Meet s t q = has-meet s t q ∙ ap (λ b. has s q && b) (has-paths t q)
-has-combined WithoutUnder s t q = has-set_of (set_paths s) (λ p. not (has_at_or_above t p)) q ∙ ap (λ b. b && not (has_at_or_above t q)) (sym (has-paths s q))
 has-combined WithoutOver s t q = has-set_of (set_paths s) (λ p. not (has_at_or_below t p)) q ∙ ap (λ b. b && not (has_at_or_below t q)) (sym (has-paths s q))
 has-combined Over s t q = has-set_of (set_paths s) (has_at_or_below t) q ∙ ap (λ b. b && has_at_or_below t q) (sym (has-paths s q))
 

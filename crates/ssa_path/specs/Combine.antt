@@ -1,10 +1,10 @@
 -- Two sets of paths put together.
-use Rattle.std.specs.Prelude.{◌≡◌, List, [], ◌∷◌, ◌++◌, Bool, true, false, not, ◌&&◌, ◌||◌}
+use Rattle.std.specs.Prelude.{◌≡◌, List, [], ◌∷◌, ◌++◌, Bool, true, not, ◌&&◌, ◌||◌}
 use Rattle.std.specs.Bool.{MatchBool}
 use Rattle.std.specs.List.{list_any}
 use Rattle.ssa_model.specs.definitions.Path.{Element, Path, same_path, under}
 use Rattle.ssa_path.specs.declared.combine.Combination.{Combination}
-use Rattle.ssa_path.specs.declared.combine.Combination.TheVariants.{Union, Minus, Meet, WithoutUnder, WithoutOver, Over}
+use Rattle.ssa_path.specs.declared.combine.Combination.TheVariants.{Union, Minus, Meet, WithoutOver, Over}
 use Rattle.ssa_path.specs.declared.element.Elem.{Elem}
 use Rattle.ssa_path.specs.declared.trie.Trie.{Trie}
 use Rattle.ssa_path.specs.Children.{elements, is_below, rises}
@@ -16,24 +16,17 @@ abbrev pub concerns : Combination → Path → Path → Bool
 concerns Union p q = same_path p q
 concerns Minus p q = same_path p q
 concerns Meet p q = same_path p q
-concerns WithoutUnder p q = under q p
 concerns WithoutOver p q = under p q
 concerns Over p q = under p q
 
 abbrev pub is_concerned : Combination → List Path → Path → Bool
 is_concerned how qs p = list_any (concerns how p) qs
 
--- the other set has a path that stands above all that is here
-abbrev pub covers : Combination → Trie → Bool
-covers WithoutUnder t = is_one_of (paths t) []
-covers _ t = false
-
 -- whether the combination has a path that the one set has or lacks, and that the other concerns or not
 abbrev pub keeps : Combination → Bool → Bool → Bool
 keeps Union own other = own || other
 keeps Minus own other = own && not other
 keeps Meet own other = own && other
-keeps WithoutUnder own other = own && not other
 keeps WithoutOver own other = own && not other
 keeps Over own other = own && other
 

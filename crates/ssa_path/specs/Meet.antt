@@ -1,15 +1,11 @@
 -- The paths that combinations keep, beside the definitions' union and minus.
 use Rattle.std.specs.Prelude.{not}
-use Rattle.ssa_model.specs.definitions.PathMap.{PathSet, has, has_at_or_above, has_at_or_below, paths, set_of, minus, union}
+use Rattle.ssa_model.specs.definitions.PathMap.{PathSet, has, has_at_or_below, paths, set_of, minus, union}
 use Rattle.ssa_path.specs.declared.combine.Combination.{Combination}
-use Rattle.ssa_path.specs.declared.combine.Combination.TheVariants.{Union, Minus, Meet, WithoutUnder, WithoutOver, Over}
+use Rattle.ssa_path.specs.declared.combine.Combination.TheVariants.{Union, Minus, Meet, WithoutOver, Over}
 
 abbrev pub meet : PathSet → PathSet → PathSet
 meet s t = set_of (paths s) (has t)
-
--- the paths that are under none of the other set's
-abbrev pub without_under : PathSet → PathSet → PathSet
-without_under s t = set_of (paths s) (λ p. not (has_at_or_above t p))
 
 -- the paths that have none of the other set's at or below them
 abbrev pub without_over : PathSet → PathSet → PathSet
@@ -23,6 +19,5 @@ abbrev pub combined : Combination → PathSet → PathSet → PathSet
 combined Union s t = union s t
 combined Minus s t = minus s t
 combined Meet s t = meet s t
-combined WithoutUnder s t = without_under s t
 combined WithoutOver s t = without_over s t
 combined Over s t = over s t

@@ -4,7 +4,7 @@ ghost use Rattle.std.specs.Bool.{OnTrue};
 ghost use Rattle.ssa_path.specs.Children.{elements, rises, heads_order};
 ghost use Rattle.ssa_path.specs.View.{element_view};
 ghost use Rattle.ssa_path.specs.Trie.{is_trie, are_filled_tries, paths};
-ghost use Rattle.ssa_path.specs.Combine.{covers, is_concerned, keeps, IsCombination, IsCombined, IsKept, IsGrown};
+ghost use Rattle.ssa_path.specs.Combine.{is_concerned, keeps, IsCombination, IsCombined, IsKept, IsGrown};
 
 use crate::children::find_child;
 use crate::element::Elem;
@@ -21,8 +21,6 @@ pub enum Combination {
     Union,
     Minus,
     Meet,
-    /// The paths that are under none of the other set's.
-    WithoutUnder,
     /// The paths that have none of the other set's at or below them.
     WithoutOver,
     /// The paths that have one of the other set's at or below them.
@@ -39,23 +37,8 @@ impl Combination {
             Combination::Union => other.here,
             Combination::Minus => other.here,
             Combination::Meet => other.here,
-            Combination::WithoutUnder => other.here,
             Combination::WithoutOver => other.has_paths(),
             Combination::Over => other.has_paths(),
-        }
-    }
-
-    // Whether the other set leaves nothing at and below the place that the trie stands at.
-    fn covers(self, other: &Trie) -> bool
-        ensures { result ≡ covers self other.now }
-    {
-        match self {
-            Combination::Union => false,
-            Combination::Minus => false,
-            Combination::Meet => false,
-            Combination::WithoutUnder => other.here,
-            Combination::WithoutOver => false,
-            Combination::Over => false,
         }
     }
 
@@ -67,7 +50,6 @@ impl Combination {
             Combination::Union => own || other,
             Combination::Minus => own && !other,
             Combination::Meet => own && other,
-            Combination::WithoutUnder => own && !other,
             Combination::WithoutOver => own && !other,
             Combination::Over => own && other,
         }
@@ -212,12 +194,6 @@ pub fn combine(
     requires other { is_trie other.now ≡ true }
     ensures { IfOk result (λ t. IsCombination how own.now other.now t) }
 {
-    if how.covers(other) {
-        return Ok(Trie {
-            here: false,
-            below: Vec::new(alloc),
-        });
-    }
     let below = if how.searches(own.below.len(), other.below.len()) {
         combine_found(alloc, &own.below, &other.below, how)?
     } else {

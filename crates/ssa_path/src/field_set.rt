@@ -197,13 +197,6 @@ impl FieldSet {
         self.combined(alloc, other, Combination::Meet)
     }
 
-    /// The paths of this set that are under no path of the other.
-    pub fn without_under(&self, alloc: Global, gone: &FieldSet) -> Result<FieldSet, AllocError>
-        ensures { IfOk result (λ s. s ≡ set_of (set.paths self.now) (λ p. not (has_at_or_above gone.now p))) }
-    {
-        self.combined(alloc, gone, Combination::WithoutUnder)
-    }
-
     /// The paths of this set that have no path of the other at or below them.
     pub fn without_over(&self, alloc: Global, held: &FieldSet) -> Result<FieldSet, AllocError>
         ensures { IfOk result (λ s. s ≡ set_of (set.paths self.now) (λ p. not (has_at_or_below held.now p))) }

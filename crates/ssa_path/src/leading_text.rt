@@ -38,11 +38,11 @@ fn leading_key<'a>(keys: &[(String, Scalar)], others: &'a [(String, Scalar)]) ->
     }
 }
 
-/// The text that stands first in an element's text, where the first element's text begins with the
-/// same bytes.
-///
-/// Elements with a value share their mark, elements with key fields their first name.
-pub fn leading_text<'a>(first: &Elem, element: &'a Elem) -> Option<&'a [u8]>
+// The text that stands first in an element's text, where the first element's text begins with the
+// same bytes.
+//
+// Elements with a value share their mark, elements with key fields their first name.
+pub(crate) fn leading_text<'a>(first: &Elem, element: &'a Elem) -> Option<&'a [u8]>
     ensures { option_copied result ≡ leading_text (element_view first.now) (element_view element.now) }
 {
     match (first, element) {

@@ -32,7 +32,7 @@ mod fields_read;
 mod fields_v1;
 mod key_fields;
 pub mod keys;
-pub mod leading_text;
+mod leading_text;
 pub mod listing;
 pub mod order;
 pub mod path;

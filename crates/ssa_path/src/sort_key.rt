@@ -12,8 +12,8 @@ use crate::element::Elem;
 use crate::leading_text::leading_text;
 use crate::order::{alike_in_eights, past_four};
 
-/// How many bytes both texts begin with alike.
-pub fn alike_bytes(text: &[u8], other: &[u8]) -> usize
+// How many bytes both texts begin with alike.
+fn alike_bytes(text: &[u8], other: &[u8]) -> usize
     ensures alike { BeginAlike text.now other.now result }
     ensures bytes { AreBytes other.now }
 {

@@ -9,30 +9,7 @@ use std::test::Fail;
 const OWNED: &str =
     r#"f:status f:spec/f:replicas f:spec/f:ports/k:{"port":80}/f:port f:spec/f:ports/k:{"port":80}/f:name f:spec/f:ports/k:{"port":80} f:spec /"#;
 
-// What stays of a set beside another: of the two, which `beside` puts together.
-const UNDER: [((&str, &str), &str); 4] = [
-    (
-        (OWNED, "f:spec/f:ports f:status/f:phase"),
-        "/ f:spec f:spec/f:replicas f:status",
-    ),
-    (
-        ("/ f:spec f:spec/f:replicas f:status", "f:metadata f:status"),
-        "/ f:spec f:spec/f:replicas",
-    ),
-    (("/ f:spec", "/"), ""),
-    (("/ f:spec", ""), "/ f:spec"),
-];
-
-#[test]
-fn paths_under_others_go(rt: HostRuntime) -> Result<(), Fail> {
-    are_told(rt.alloc(), &UNDER, |alloc, (own, gone)| {
-        listed(
-            alloc,
-            &set(alloc, own)?.without_under(alloc, &set(alloc, gone)?)?,
-        )
-    })
-}
-
+// What stays of a set beside another.
 const APART: &str = r#"f:spec/f:ports/k:{"port":80}/f:name f:spec/f:replicas f:status"#;
 
 const OVER: [((&str, &str), &str); 3] = [

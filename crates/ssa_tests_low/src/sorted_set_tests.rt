@@ -148,22 +148,22 @@ fn do_minus_and_meet_agree(alloc: Global, sets: &Sets) -> Result<bool, Fail> {
     Ok(are_parts && holds(alloc, &minus, &left)? && holds(alloc, &meet, &both)?)
 }
 
-// Whether what has none of the others above it, and what has none below it, is what the lists tell.
+// Whether what has some of the others at or below it, and what has none, is what the lists tell.
 fn do_parts_apart_agree(alloc: Global, sets: &Sets) -> Result<bool, Fail> {
-    let not_under = kept(
+    let is_over = kept(
         alloc,
         &sets.own,
-        |code| !sets.others.iter().any(|other| begins(*other, code)),
+        |code| sets.others.iter().any(|other| begins(code, *other)),
     )?;
     let not_over = kept(
         alloc,
         &sets.own,
         |code| !sets.others.iter().any(|other| begins(code, *other)),
     )?;
-    let under_none = sets.set.without_under(alloc, &sets.other)?;
+    let over_some = sets.set.over(alloc, &sets.other)?;
     let over_none = sets.set.without_over(alloc, &sets.other)?;
-    let is_same = under_none.is_same(&over_none) == (not_under.as_slice() == not_over.as_slice());
-    Ok(is_same && holds(alloc, &under_none, &not_under)? && holds(alloc, &over_none, &not_over)?)
+    let is_same = over_some.is_same(&over_none) == (is_over.as_slice() == not_over.as_slice());
+    Ok(is_same && holds(alloc, &over_some, &is_over)? && holds(alloc, &over_none, &not_over)?)
 }
 
 // Whether the sets answer of some path as the lists do.

@@ -1,4 +1,4 @@
-use Rattle.std.proofs.Common.{◌≡◌, ◌+◌, refl, ap, sym, subst, ◌∙◌, drop, Some, Less, Equal, Greater, rules}
+use Rattle.std.proofs.Common.{◌≡◌, ◌+◌, ap, sym, subst, ◌∙◌, drop, Some, Less, Equal, Greater, rules}
 use Rattle.std.proofs.lemmas.List.{drop_all}
 use Rattle.std.specs.Option.{option_copied}
 use Rattle.ssa_path.specs.Children.{heads_order}
@@ -8,7 +8,7 @@ use Rattle.ssa_path.specs.declared.trie.Trie.{the_lemmas}
 use Rattle.ssa_path.specs.declared.trie.Trie.TheViews.{out-Trie}
 use Rattle.ssa_path.proofs.Levels.{child-tests, trie-parts}
 use Rattle.ssa_path.proofs.Lists.{child-trie}
-use Rattle.ssa_path.proofs.Combining.{Children, combining-all, combined-place, combined-covered, heads-none, own-at, other-at, both-at}
+use Rattle.ssa_path.proofs.Combining.{Children, combining-all, combined-place, heads-none, own-at, other-at, both-at}
 use Rattle.ssa_path.proofs.Finding.{IsFinding, finding-all, none-at, some-at}
 use Rattle.ssa_path.proofs.combine.+combine.Goals as goal
 use Rattle.ssa_path.proofs.combine.+combine.Goals.{combine-then-searches+in_ok-below, combine-else-searches+in_ok-below-2, combine_found-in-None+in_ok-push_copy-in-None, combine_found-in-Some+in_ok-child-in-Some+in_ok-push_filled-in-Some}
@@ -30,13 +30,8 @@ combine-returns t c =
           subst Below (sym (ap (λ v. v.items) w.below-is))
           (rw (w.deref-else-searches.ensures.value, w.deref-else-searches-2.ensures.value) at w.in_ok-below-2.ensures)
     ] in
-    let left = sym c.covers.ensures ∙ c.if-covers.false in
     let here = c.keeps.ensures ∙ ap (keeps c.args.how (out-Trie c.args.own.now).here) c.is_concerned-concerned.ensures in
-    combined-place c.args.how _ c.args.own.now c.args.other.now left here below
-
-pub combine-returns-then-covers : goal.combine-returns-then-covers
-combine-returns-then-covers t c = combined-covered c.args.how _ c.args.own.now c.args.other.now (sym c.covers.ensures
-    ∙ c.if-covers.true) refl c.new.ensures.items
+    combined-place c.args.how _ c.args.own.now c.args.other.now here below
 
 pub combine_children-loop-order-preserved-in-Less : goal.combine_children-loop-order-preserved-in-Less
 combine_children-loop-order-preserved-in-Less t c =

@@ -1,7 +1,6 @@
 use Rattle.std.proofs.Common.{[], ap, sym, ◌∙◌}
 use Rattle.ssa_path.specs.Combine.{is_concerned}
 use Rattle.ssa_path.specs.Trie.{paths}
-use Rattle.ssa_path.proofs.Combining.{concerned-root}
 use Rattle.ssa_path.proofs.Levels.{one-level-root}
 use Rattle.ssa_path.proofs.combine.Combination.is_concerned.Goals as goal
 
@@ -13,6 +12,3 @@ returns-in-Minus c = sym (one-level-root c.args.other.now) ∙ ap (λ how. is_co
 
 pub returns-in-Meet : goal.returns-in-Meet
 returns-in-Meet c = sym (one-level-root c.args.other.now) ∙ ap (λ how. is_concerned how (paths c.args.other.now) []) (sym c.in-Meet.is)
-
-pub returns-in-WithoutUnder : goal.returns-in-WithoutUnder
-returns-in-WithoutUnder c = sym (concerned-root c.args.other.now) ∙ ap (λ how. is_concerned how (paths c.args.other.now) []) (sym c.in-WithoutUnder.is)
