@@ -1,12 +1,14 @@
 //! Tests of the faults of values under schemas.
 use crate::samples::SPEC;
 use crate::support::{are_told, schema, value};
+use ssa_json::value::Json;
 use ssa_schema::body_fault::BodyFault;
+use ssa_schema::schema::Schema;
 use std::alloc::Global;
 use std::test::Fail;
 
 // A fault's name and its path, or that there is none.
-fn told(alloc: Global, fault: Option<BodyFault>) -> Result<String, Fail> {
+fn told(alloc: Global, fault: Option<&BodyFault>) -> Result<String, Fail> {
     let (name, path) = match fault {
         None => return Ok(String::from_str(alloc, "fits")?),
         Some(BodyFault::UnknownField(path)) => ("UnknownField", path),
@@ -15,7 +17,7 @@ fn told(alloc: Global, fault: Option<BodyFault>) -> Result<String, Fail> {
         Some(BodyFault::DuplicateItem(path)) => ("DuplicateItem", path),
     };
     let mut text = String::from_str(alloc, name)?;
-    for element in &path {
+    for element in path {
         text.push_str(" ")?;
         text.push_str(element.as_str())?;
     }
@@ -23,10 +25,16 @@ fn told(alloc: Global, fault: Option<BodyFault>) -> Result<String, Fail> {
 }
 
 // What is told of a value under a schema.
+fn fault_of(alloc: Global, schema: &Schema, body: &Json) -> Result<String, Fail> {
+    let fault = schema.first_fault(alloc, body)?;
+    told(alloc, fault.as_ref())
+}
+
+// The same of their texts.
 fn fault_under(alloc: Global, schema_text: &str, body: &str) -> Result<String, Fail> {
-    let schema = schema(alloc, schema_text)?;
     let body = value(alloc, body)?;
-    told(alloc, schema.first_fault(alloc, &body)?)
+    let schema = schema(alloc, schema_text)?;
+    fault_of(alloc, &schema, &body)
 }
 
 // What is told of a value of the field `spec` of the sample.

@@ -1,7 +1,11 @@
 //! Tests of bodies: of values, their places and their points.
 use crate::samples::{PLACES, SPEC};
 use crate::support::{are_told, body, listed, look_at, path, printed, schema, set, shown, value};
+use ssa_json::value::Json;
+use ssa_path::field_set::FieldSet;
+use ssa_path::path::Path;
 use ssa_schema::body_fault::BodyFault;
+use ssa_schema::schema::Schema;
 use ssa_typed::body::Body;
 use ssa_typed::fault::TypedFault;
 use std::alloc::Global;
@@ -33,12 +37,17 @@ const VALUES: [(&str, &str); 7] = [
     ),
 ];
 
+// The value of the copy of a body.
+fn shown_copy(alloc: Global, body: &Body) -> Result<String, Fail> {
+    shown(alloc, &body.clone(alloc)?)
+}
+
 // The value of the copy of a value's body.
 fn shown_again(alloc: Global, text: &str) -> Result<String, Fail> {
     let body = body(alloc, SPEC, text)?;
     body.points_tell_places();
     body.points_keep_all();
-    shown(alloc, &body.clone(alloc)?)
+    shown_copy(alloc, &body)
 }
 
 #[test]
@@ -78,13 +87,19 @@ const PARTS: [(&str, &str); 6] = [
     ("f:q", "nothing"),
 ];
 
-// The value of a place of the sample.
-fn part(alloc: Global, place: &str) -> Result<String, Fail> {
-    let body = body(alloc, PLACES, SAMPLE)?;
-    match body.root().node_at(path(alloc, place)?.elements()) {
+// The value of a place.
+fn part_of(alloc: Global, body: &Body, place: &Path) -> Result<String, Fail> {
+    match body.root().node_at(place.elements()) {
         Some(node) => printed(alloc, &node.to_json(alloc)?),
         None => Ok(String::from_str(alloc, "nothing")?),
     }
+}
+
+// The value of a place of the sample.
+fn part(alloc: Global, place: &str) -> Result<String, Fail> {
+    let place = path(alloc, place)?;
+    let body = body(alloc, PLACES, SAMPLE)?;
+    part_of(alloc, &body, &place)
 }
 
 #[test]
@@ -105,24 +120,41 @@ const POINTS: [(&str, &str); 4] = [
     (r#"{"metadata":{"labels":{}}}"#, "f:metadata/f:labels"),
 ];
 
+// The points of a body.
+fn points_of(alloc: Global, body: &Body) -> Result<String, Fail> {
+    listed(alloc, &body.points(alloc)?)
+}
+
 #[test]
 fn leaves_items_entries_and_empty_branches_are_points(rt: HostRuntime) -> Result<(), Fail> {
     are_told(rt.alloc(), &POINTS, |alloc, text| {
-        listed(alloc, &body(alloc, PLACES, text)?.points(alloc)?)
+        points_of(alloc, &body(alloc, PLACES, text)?)
     })
+}
+
+// Puts paths into a set or, where they are there, takes them out.
+fn turn(alloc: Global, set: &mut FieldSet, paths: &[Path]) -> Result<(), Fail> {
+    for path in paths {
+        if !set.remove(path) {
+            set.insert(alloc, path)?;
+        }
+    }
+    Ok(())
+}
+
+// Whether the sample's points, with these paths turned in them, are told to be its own.
+fn known_with(alloc: Global, points: &mut FieldSet, turned: &FieldSet) -> Result<String, Fail> {
+    turn(alloc, points, &turned.paths(alloc)?)?;
+    let told = body(alloc, PLACES, SAMPLE)?.has_points(alloc, points)?;
+    Ok(format!(in alloc; "{told}")?)
 }
 
 // Whether the sample's points are told to be its own, once these paths were put in or, where they
 // were there, taken out.
 fn known(alloc: Global, turned: &str) -> Result<String, Fail> {
+    let turned = set(alloc, turned)?;
     let mut points = set(alloc, SAMPLE_POINTS)?;
-    for path in &set(alloc, turned)?.paths(alloc)? {
-        if !points.remove(path) {
-            points.insert(alloc, path)?;
-        }
-    }
-    let told = body(alloc, PLACES, SAMPLE)?.has_points(alloc, &points)?;
-    Ok(format!(in alloc; "{told}")?)
+    known_with(alloc, &mut points, &turned)
 }
 
 const KNOWN: [(&str, &str); 9] = [
@@ -142,24 +174,40 @@ fn a_body_knows_its_own_points(rt: HostRuntime) -> Result<(), Fail> {
     are_told(rt.alloc(), &KNOWN, known)
 }
 
+// How many places a value's body has.
+fn places_of(alloc: Global, text: &str) -> Result<usize, Fail> {
+    Ok(body(alloc, PLACES, text)?.size())
+}
+
 #[test]
 fn places_are_counted(rt: HostRuntime) -> Result<(), Fail> {
-    assert_eq!(rt; body(rt.alloc(), PLACES, SAMPLE)?.size(), 17);
-    assert_eq!(rt; body(rt.alloc(), PLACES, "{}")?.size(), 1);
+    assert_eq!(rt; places_of(rt.alloc(), SAMPLE)?, 17);
+    assert_eq!(rt; places_of(rt.alloc(), "{}")?, 1);
     Ok(())
 }
 
 const TREES: [(&str, &str); 2] = [("{}", "{} {} {}"), (r#"{"a":1}"#, r#"{} {"a":1} {"a":1}"#)];
 
-// The body without its tree, with it again, and another body with it.
-fn moved(alloc: Global, text: &str) -> Result<String, Fail> {
-    let mut body = body(alloc, PLACES, text)?;
+// A body without its tree, which then has it again.
+fn shown_without_root(alloc: Global, body: &mut Body) -> Result<String, Fail> {
     let root = body.take_root(alloc);
-    let left = shown(alloc, &body)?;
+    let left = shown(alloc, body);
     body.set_root(root);
-    let again = shown(alloc, &body)?;
+    left
+}
+
+// A body without its tree, with it again, and another body with it.
+fn moved_root(alloc: Global, body: &mut Body) -> Result<String, Fail> {
+    let left = shown_without_root(alloc, body)?;
+    let again = shown(alloc, body)?;
     let other = shown(alloc, &Body::new(body.take_root(alloc)))?;
     Ok([left.as_str(), again.as_str(), other.as_str()].join(alloc, " ")?)
+}
+
+// The same of a value's body.
+fn moved(alloc: Global, text: &str) -> Result<String, Fail> {
+    let mut body = body(alloc, PLACES, text)?;
+    moved_root(alloc, &mut body)
 }
 
 #[test]
@@ -177,28 +225,38 @@ fn numbers(alloc: Global, count: i64) -> Result<String, Fail> {
     Ok(text)
 }
 
-// What is told of a value that may have no body.
-fn told(alloc: Global, text: &str) -> Result<&'static str, Fail> {
-    let read = Body::from_json(alloc, &schema(alloc, PLACES)?, value(alloc, text)?);
-    Ok(match &read {
+// What is told of a body, or of there being none.
+fn told_of(read: &Result<Body, TypedFault>) -> &'static str {
+    match read {
         Ok(body) if body.size() == 20_001 => "as large as may be",
         Ok(_) => "a body",
         Err(TypedFault::Body(BodyFault::DuplicateItem(_))) => "a repeated item",
         Err(TypedFault::Body(_)) => "another fault",
         Err(TypedFault::TooManyPaths) => "too many paths",
         Err(TypedFault::OutOfMemory) => "out of memory",
-    })
+    }
+}
+
+// What is told of a value that may have no body under a schema.
+fn told_under(alloc: Global, schema: &Schema, value: Json) -> &'static str {
+    told_of(&Body::from_json(alloc, schema, value))
+}
+
+// The same of its text.
+fn told(alloc: Global, text: &str) -> Result<String, Fail> {
+    let value = value(alloc, text)?;
+    let told = told_under(alloc, &schema(alloc, PLACES)?, value);
+    Ok(String::from_str(alloc, told)?)
 }
 
 #[test]
 fn other_values_are_refused(rt: HostRuntime) -> Result<(), Fail> {
-    assert_eq!(rt;
-        told(rt.alloc(), r#"{"s":[1,1],"z":1}"#)?,
-        "a repeated item"
-    );
     let most = numbers(rt.alloc(), 19_999)?;
-    assert_eq!(rt; told(rt.alloc(), &most)?, "as large as may be");
     let more = numbers(rt.alloc(), 20_000)?;
-    assert_eq!(rt; told(rt.alloc(), &more)?, "too many paths");
-    Ok(())
+    let cases = [
+        (r#"{"s":[1,1],"z":1}"#, "a repeated item"),
+        (most.as_str(), "as large as may be"),
+        (more.as_str(), "too many paths"),
+    ];
+    are_told(rt.alloc(), &cases, told)
 }

@@ -1,5 +1,5 @@
 //! Tests of elements and paths.
-use crate::support::{are_told, path};
+use crate::support::{are_told, path, push_element};
 use ssa_json::value::Scalar;
 use ssa_path::element::{Elem, own_texts_are_read};
 use ssa_path::element_fault::ElemFault;
@@ -48,7 +48,7 @@ const FIELDS: usize = 6;
 fn ordered(alloc: Global) -> Result<Vec<Elem>, Fail> {
     let mut elements = Vec::new(alloc);
     for text in ORDERED {
-        elements.push(Elem::read(alloc, text)?)?;
+        push_element(alloc, &mut elements, text)?;
     }
     Ok(elements)
 }
@@ -179,22 +179,32 @@ fn escaped_key(alloc: Global) -> Result<Elem, Fail> {
     }
 }
 
+// Whether the element is written so, and reads as what was read of its text.
+fn is_text_of(alloc: Global, element: &Elem, read: &Elem, text: &str) -> Result<bool, Fail> {
+    Ok(written(alloc, element)?.as_str() == text && read.is_same(element))
+}
+
 // Whether the element is written so, and this text is read as the element.
-fn has_text(alloc: Global, element: &Elem, text: &str) -> Result<bool, Fail> {
+fn has_text(alloc: Global, element: Elem, text: &str) -> Result<bool, Fail> {
     element.is_of_program();
     let read = Elem::read(alloc, text)?;
-    Ok(written(alloc, element)?.as_str() == text && read.is_same(element))
+    is_text_of(alloc, &element, &read, text)
+}
+
+// An element of a text.
+fn text_value(alloc: Global, text: &str) -> Result<Elem, Fail> {
+    Ok(Elem::Value(Scalar::Text(String::from_str(alloc, text)?)))
 }
 
 #[test]
 fn made_elements_have_their_texts(rt: HostRuntime) -> Result<(), Fail> {
     let alloc = rt.alloc();
     let field = Elem::Field(String::from_str(alloc, "a\"")?);
-    assert!(rt; has_text(alloc, &field, "f:a\"")?);
+    assert!(rt; has_text(alloc, field, "f:a\"")?);
     let key = escaped_key(alloc)?;
-    assert!(rt; has_text(alloc, &key, r#"k:{"\"\n":"\\\t","b":-1}"#)?);
-    let text = Elem::Value(Scalar::Text(String::from_str(alloc, "\u{1f}\u{e9}")?));
-    assert!(rt; has_text(alloc, &text, "v:\"\\u001f\u{e9}\"")?);
+    assert!(rt; has_text(alloc, key, r#"k:{"\"\n":"\\\t","b":-1}"#)?);
+    let text = text_value(alloc, "\u{1f}\u{e9}")?;
+    assert!(rt; has_text(alloc, text, "v:\"\\u001f\u{e9}\"")?);
     Ok(())
 }
 
@@ -202,9 +212,9 @@ fn made_elements_have_their_texts(rt: HostRuntime) -> Result<(), Fail> {
 fn made_numbers_have_their_texts(rt: HostRuntime) -> Result<(), Fail> {
     let alloc = rt.alloc();
     let least = Elem::Value(Scalar::Int(i64::MIN));
-    assert!(rt; has_text(alloc, &least, "v:-9223372036854775808")?);
+    assert!(rt; has_text(alloc, least, "v:-9223372036854775808")?);
     let most = Elem::Value(Scalar::Int(i64::MAX));
-    assert!(rt; has_text(alloc, &most, "v:9223372036854775807")?);
+    assert!(rt; has_text(alloc, most, "v:9223372036854775807")?);
     Ok(())
 }
 

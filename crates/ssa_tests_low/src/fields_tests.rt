@@ -29,14 +29,19 @@ const SAID: [(&str, &str); 7] = [
     ),
 ];
 
+// The paths of a set that is written as this FieldsV1.
+fn paths_said(alloc: Global, set: &FieldSet, text: &str) -> Result<String, Fail> {
+    if printed(alloc, &set.to_fields_v1(alloc)?)?.as_str() != text {
+        return Err(Fail::new("written as another text"));
+    }
+    listed(alloc, set)
+}
+
 // The paths that FieldsV1 says, where the set is written as it was read.
 fn said(alloc: Global, text: &str) -> Result<String, Fail> {
     let set = FieldSet::from_fields_v1(alloc, &value(alloc, text)?)?;
     set.own_fields_are_read();
-    if printed(alloc, &set.to_fields_v1(alloc)?)?.as_str() != text {
-        return Err(Fail::new("written as another text"));
-    }
-    listed(alloc, &set)
+    paths_said(alloc, &set, text)
 }
 
 #[test]

@@ -1,4 +1,7 @@
 //! Tests of a journal beside values of one leaf, one that always turns and one that can be locked.
+ghost use Rattle.std.specs.Prelude.{◌≡◌, []};
+ghost use Rattle.ssa_reverse.specs.Journals.{GoesWith, past_of};
+
 use ssa_reverse::journal::Journal;
 use ssa_reverse::reversible::Reversible;
 use std::alloc::AllocError;
@@ -93,43 +96,109 @@ impl Reversible for Dial {
     ghost leads_back = { λ d v w p. (v, refl) };
 }
 
+// Takes a counter one record back: whether there was one, and where the counter is then.
+fn back(
+    journal: &mut Journal<Counter, u8>,
+    counter: &mut Counter,
+) -> Result<(bool, u32), AllocError>
+    requires { GoesWith journal.old counter.old.count }
+    ensures { GoesWith journal.new counter.new.count }
+{
+    let moved = journal.undo(counter)?;
+    Ok((moved, counter.count))
+}
+
+// Takes a counter one record forth: whether there was one, and where the counter is then.
+fn forth(
+    journal: &mut Journal<Counter, u8>,
+    counter: &mut Counter,
+) -> Result<(bool, u32), AllocError>
+    requires { GoesWith journal.old counter.old.count }
+    ensures { GoesWith journal.new counter.new.count }
+{
+    let moved = journal.redo(counter)?;
+    Ok((moved, counter.count))
+}
+
+// Takes a counter back, which has no record; two records forth; and back and forth beyond them.
+fn walk(
+    journal: &mut Journal<Counter, u8>,
+    counter: &mut Counter,
+) -> Result<((bool, u32), u32, [(bool, u32); 6]), AllocError>
+    requires { GoesWith journal.old counter.old.count }
+{
+    let before = back(journal, counter)?;
+    journal.record(counter, 2, 12)?;
+    journal.record(counter, 3, 13)?;
+    let recorded = counter.count;
+    let moves = [
+        back(journal, counter)?,
+        back(journal, counter)?,
+        back(journal, counter)?,
+        forth(journal, counter)?,
+        forth(journal, counter)?,
+        forth(journal, counter)?,
+    ];
+    Ok((before, recorded, moves))
+}
+
 #[test]
 fn a_counter_goes_back_and_forth(rt: HostRuntime) -> Result<(), Fail> {
     let mut journal = Journal::<Counter, u8>::new(rt.alloc());
     let mut counter = Counter { count: 1 };
-    assert!(rt; !journal.undo(&mut counter)?);
-    journal.record(&mut counter, 2, 12)?;
-    journal.record(&mut counter, 3, 13)?;
-    assert_eq!(rt; counter.count, 3);
-    assert!(rt; journal.undo(&mut counter)?);
-    assert_eq!(rt; counter.count, 2);
-    assert!(rt; journal.undo(&mut counter)?);
-    assert_eq!(rt; counter.count, 1);
-    assert!(rt; !journal.undo(&mut counter)?);
-    assert_eq!(rt; counter.count, 1);
-    assert!(rt; journal.redo(&mut counter)?);
-    assert_eq!(rt; counter.count, 2);
-    assert!(rt; journal.redo(&mut counter)?);
-    assert_eq!(rt; counter.count, 3);
-    assert!(rt; !journal.redo(&mut counter)?);
-    assert_eq!(rt; counter.count, 3);
+    let told = walk(&mut journal, &mut counter)?;
+    let moves = [
+        (true, 2),
+        (true, 1),
+        (false, 1),
+        (true, 2),
+        (true, 3),
+        (false, 3),
+    ];
+    assert_eq!(rt; told, ((false, 1), 3, moves));
     Ok(())
 }
 
+// Records with their labels, and nothing behind the last.
+type Entries = [Option<(u32, u8)>; 5];
+
 // The records with their labels, in the order of the journal's entries.
-fn entries<T: Reversible<Delta = u32>>(journal: &Journal<T, u8>) -> [Option<(u32, u8)>; 5] {
+fn entries<T: Reversible<Delta = u32>>(journal: &Journal<T, u8>) -> Entries {
     [0, 1, 2, 3, 4].map(|n| journal.entry(n).map(|entry| (*entry.0, *entry.1)))
+}
+
+// Four records.
+fn record_four(journal: &mut Journal<Counter, u8>, counter: &mut Counter) -> Result<(), AllocError>
+    requires { GoesWith journal.old counter.old.count }
+    ensures { GoesWith journal.new counter.new.count }
+{
+    journal.record(counter, 2, 12)?;
+    journal.record(counter, 3, 13)?;
+    journal.record(counter, 4, 14)?;
+    journal.record(counter, 5, 15)
+}
+
+// The entries of a journal with no record, after four and after two moves back, and how many lead back and forth then.
+fn entries_on_the_way(
+    journal: &mut Journal<Counter, u8>,
+    counter: &mut Counter,
+) -> Result<([Entries; 3], (usize, usize)), AllocError>
+    requires { GoesWith journal.old counter.old.count }
+{
+    let first = entries(journal);
+    record_four(journal, counter)?;
+    let past = entries(journal);
+    journal.undo(counter)?;
+    journal.undo(counter)?;
+    let lengths = (journal.past_len(), journal.future_len());
+    Ok(([first, past, entries(journal)], lengths))
 }
 
 #[test]
 fn entries_stand_from_the_oldest_past_to_the_last_future(rt: HostRuntime) -> Result<(), Fail> {
     let mut journal = Journal::<Counter, u8>::new(rt.alloc());
     let mut counter = Counter { count: 1 };
-    assert_eq!(rt; entries(&journal), [None; 5]);
-    journal.record(&mut counter, 2, 12)?;
-    journal.record(&mut counter, 3, 13)?;
-    journal.record(&mut counter, 4, 14)?;
-    journal.record(&mut counter, 5, 15)?;
+    let told = entries_on_the_way(&mut journal, &mut counter)?;
     let past = [
         Some((1, 12)),
         Some((2, 13)),
@@ -137,9 +206,6 @@ fn entries_stand_from_the_oldest_past_to_the_last_future(rt: HostRuntime) -> Res
         Some((4, 15)),
         None,
     ];
-    assert_eq!(rt; entries(&journal), past);
-    journal.undo(&mut counter)?;
-    journal.undo(&mut counter)?;
     let both = [
         Some((1, 12)),
         Some((2, 13)),
@@ -147,27 +213,77 @@ fn entries_stand_from_the_oldest_past_to_the_last_future(rt: HostRuntime) -> Res
         Some((5, 15)),
         None,
     ];
-    assert_eq!(rt; entries(&journal), both);
-    assert_eq!(rt; (journal.past_len(), journal.future_len()), (2, 2));
+    assert_eq!(rt; told, ([[None; 5], past, both], (2, 2)));
     Ok(())
+}
+
+// Two records, and another after the last of them is undone.
+fn record_after_undo(
+    journal: &mut Journal<Counter, u8>,
+    counter: &mut Counter,
+) -> Result<(), AllocError>
+    requires { GoesWith journal.old counter.old.count }
+    ensures { GoesWith journal.new counter.new.count }
+{
+    journal.record(counter, 2, 12)?;
+    journal.record(counter, 3, 13)?;
+    journal.undo(counter)?;
+    journal.record(counter, 7, 17)
 }
 
 #[test]
 fn a_record_drops_the_future(rt: HostRuntime) -> Result<(), Fail> {
     let mut journal = Journal::<Counter, u8>::new(rt.alloc());
     let mut counter = Counter { count: 1 };
-    journal.record(&mut counter, 2, 12)?;
-    journal.record(&mut counter, 3, 13)?;
-    journal.undo(&mut counter)?;
-    journal.record(&mut counter, 7, 17)?;
-    assert_eq!(rt; (journal.past_len(), journal.future_len()), (2, 0));
-    assert_eq!(rt;
+    record_after_undo(&mut journal, &mut counter)?;
+    let told = (
+        (journal.past_len(), journal.future_len()),
         entries(&journal),
-        [Some((1, 12)), Some((2, 17)), None, None, None]
     );
-    assert!(rt; !journal.redo(&mut counter)?);
-    assert_eq!(rt; counter.count, 7);
+    assert_eq!(rt;
+        told,
+        ((2, 0), [Some((1, 12)), Some((2, 17)), None, None, None])
+    );
+    assert_eq!(rt; forth(&mut journal, &mut counter)?, (false, 7));
     Ok(())
+}
+
+// What is seen: a dial's number, how many records lead back and forth, and the entries of its journal.
+type Seen = (u32, (usize, usize), Entries);
+
+fn seen(journal: &Journal<Dial, u8>, dial: &Dial) -> Seen {
+    let lengths = (journal.past_len(), journal.future_len());
+    (dial.number, lengths, entries(journal))
+}
+
+// Tries to put a record ahead of a dial that is locked meanwhile: whether it is refused, and what is seen then.
+fn precede_locked(journal: &mut Journal<Dial, u8>, dial: &mut Dial) -> (bool, Seen)
+    requires first { past_of journal.old ≡ [] }
+    requires whole { GoesWith journal.old dial.old.number }
+    ensures { GoesWith journal.new dial.new.number }
+{
+    dial.is_locked = true;
+    let is_refused = journal.precede(dial, 7, 17).is_err();
+    let seen = seen(journal, dial);
+    dial.is_locked = false;
+    (is_refused, seen)
+}
+
+// Puts two records ahead of a dial and tries a third, and redoes the two: what is seen after each part, whether the third is
+// refused, and whether there were two to redo.
+fn precede_and_redo(
+    journal: &mut Journal<Dial, u8>,
+    dial: &mut Dial,
+) -> Result<(Seen, (bool, Seen), (bool, bool), Seen), AllocError>
+    requires first { past_of journal.old ≡ [] }
+    requires whole { GoesWith journal.old dial.old.number }
+{
+    journal.precede(dial, 2, 13)?;
+    journal.precede(dial, 1, 12)?;
+    let ahead = seen(journal, dial);
+    let refused = precede_locked(journal, dial);
+    let redone = (journal.redo(dial)?, journal.redo(dial)?);
+    Ok((ahead, refused, redone, seen(journal, dial)))
 }
 
 #[test]
@@ -177,23 +293,42 @@ fn a_dial_is_preceded_by_its_past(rt: HostRuntime) -> Result<(), Fail> {
         number: 3,
         is_locked: false,
     };
-    journal.precede(&mut dial, 2, 13)?;
-    journal.precede(&mut dial, 1, 12)?;
-    assert_eq!(rt; dial.number, 1);
-    assert_eq!(rt; (journal.past_len(), journal.future_len()), (0, 2));
-    let ahead = [Some((2, 12)), Some((3, 13)), None, None, None];
-    assert_eq!(rt; entries(&journal), ahead);
-    dial.is_locked = true;
-    assert!(rt; journal.precede(&mut dial, 7, 17).is_err());
-    assert_eq!(rt; dial.number, 1);
-    assert_eq!(rt; entries(&journal), ahead);
-    dial.is_locked = false;
-    assert!(rt; journal.redo(&mut dial)?);
-    assert!(rt; journal.redo(&mut dial)?);
-    assert_eq!(rt; dial.number, 3);
-    let behind = [Some((1, 12)), Some((2, 13)), None, None, None];
-    assert_eq!(rt; entries(&journal), behind);
+    let told = precede_and_redo(&mut journal, &mut dial)?;
+    let ahead = (1, (0, 2), [Some((2, 12)), Some((3, 13)), None, None, None]);
+    let behind = (3, (2, 0), [Some((1, 12)), Some((2, 13)), None, None, None]);
+    assert_eq!(rt; told, (ahead, (true, ahead), (true, true), behind));
     Ok(())
+}
+
+// Tries to record, to undo and to redo: whether each is refused, and the entries after it.
+fn try_all(journal: &mut Journal<Dial, u8>, dial: &mut Dial) -> [(bool, Entries); 3]
+    requires { GoesWith journal.old dial.old.number }
+    ensures { GoesWith journal.new dial.new.number }
+{
+    [
+        (journal.record(dial, 7, 17).is_err(), entries(journal)),
+        (journal.undo(dial).is_err(), entries(journal)),
+        (journal.redo(dial).is_err(), entries(journal)),
+    ]
+}
+
+// Tries all on a dial between two records that is locked: what it tells, and the number; and once it is unlocked, whether it is
+// redone, and the number.
+fn lock_and_unlock(
+    journal: &mut Journal<Dial, u8>,
+    dial: &mut Dial,
+) -> Result<([(bool, Entries); 3], u32, bool, u32), AllocError>
+    requires { GoesWith journal.old dial.old.number }
+{
+    journal.record(dial, 2, 12)?;
+    journal.record(dial, 3, 13)?;
+    journal.undo(dial)?;
+    dial.is_locked = true;
+    let tried = try_all(journal, dial);
+    let held = dial.number;
+    dial.is_locked = false;
+    let moved = journal.redo(dial)?;
+    Ok((tried, held, moved, dial.number))
 }
 
 #[test]
@@ -203,20 +338,8 @@ fn a_locked_dial_and_its_journal_stay(rt: HostRuntime) -> Result<(), Fail> {
         number: 1,
         is_locked: false,
     };
-    journal.record(&mut dial, 2, 12)?;
-    journal.record(&mut dial, 3, 13)?;
-    journal.undo(&mut dial)?;
-    dial.is_locked = true;
+    let told = lock_and_unlock(&mut journal, &mut dial)?;
     let held = [Some((1, 12)), Some((3, 13)), None, None, None];
-    assert!(rt; journal.record(&mut dial, 7, 17).is_err());
-    assert_eq!(rt; entries(&journal), held);
-    assert!(rt; journal.undo(&mut dial).is_err());
-    assert_eq!(rt; entries(&journal), held);
-    assert!(rt; journal.redo(&mut dial).is_err());
-    assert_eq!(rt; entries(&journal), held);
-    assert_eq!(rt; dial.number, 2);
-    dial.is_locked = false;
-    assert!(rt; journal.redo(&mut dial)?);
-    assert_eq!(rt; dial.number, 3);
+    assert_eq!(rt; told, ([(true, held); 3], 2, true, 3));
     Ok(())
 }

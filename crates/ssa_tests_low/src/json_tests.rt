@@ -132,15 +132,23 @@ const OTHERS: [(&str, &str); 9] = [
     ("[]", "other"),
 ];
 
-// Whether the copy of the sample and the value of a text are one, seen from both.
-fn compared(alloc: Global, text: &str) -> Result<String, Fail> {
-    let copy = value(alloc, SAMPLE)?.copy(alloc)?;
-    let other = value(alloc, text)?;
-    let told = match (copy.same(&other), other.same(&copy)) {
+// Whether two values are one, seen from both.
+fn told_same(own: &Json, other: &Json) -> &'static str {
+    match (own.same(other), other.same(own)) {
         (true, true) => "same",
         (false, false) => "other",
         _ => "same from one side",
-    };
+    }
+}
+
+// A copy of the sample.
+fn sample_copy(alloc: Global) -> Result<Json, Fail> {
+    Ok(value(alloc, SAMPLE)?.copy(alloc)?)
+}
+
+// Whether the copy of the sample and the value of a text are one.
+fn compared(alloc: Global, text: &str) -> Result<String, Fail> {
+    let told = told_same(&sample_copy(alloc)?, &value(alloc, text)?);
     Ok(String::from_str(alloc, told)?)
 }
 

@@ -3,6 +3,7 @@ use crate::samples::SPEC;
 use crate::support::{are_told, schema, value};
 use ssa_json::value::Scalar;
 use ssa_schema::kind::{Kind, ScalarKind, Shape, find_field, find_shape};
+use ssa_schema::schema::Schema;
 use std::alloc::Global;
 use std::collections::BTreeMap;
 use std::test::Fail;
@@ -61,9 +62,8 @@ const KINDS: [(&str, &str); 14] = [
     ("spec zzz", "none"),
 ];
 
-// The kind of a field of a field of the root.
-fn told_kind(alloc: Global, names: &str) -> Result<String, Fail> {
-    let schema = schema(alloc, SPEC)?;
+// The name of the kind of a field of a field of the root.
+fn name_at(schema: &Schema, names: &str) -> &'static str {
     let mut kind = Some(schema.kind());
     for name in names.split_whitespace() {
         kind = match kind {
@@ -71,7 +71,13 @@ fn told_kind(alloc: Global, names: &str) -> Result<String, Fail> {
             _ => None,
         };
     }
-    Ok(String::from_str(alloc, kind_name(kind))?)
+    kind_name(kind)
+}
+
+// The same of the sample.
+fn told_kind(alloc: Global, names: &str) -> Result<String, Fail> {
+    let name = name_at(&schema(alloc, SPEC)?, names);
+    Ok(String::from_str(alloc, name)?)
 }
 
 #[test]
@@ -81,15 +87,15 @@ fn fields_have_their_kinds(rt: HostRuntime) -> Result<(), Fail> {
 
 #[test]
 fn schemas_keep_what_was_read(rt: HostRuntime) -> Result<(), Fail> {
-    let schema = schema(rt.alloc(), SPEC)?;
-    assert!(rt; schema.json().same(&value(rt.alloc(), SPEC)?));
+    let read = value(rt.alloc(), SPEC)?;
+    assert!(rt; schema(rt.alloc(), SPEC)?.json().same(&read));
     Ok(())
 }
 
 #[test]
 fn shapes_are_found_by_their_names(rt: HostRuntime) -> Result<(), Fail> {
-    let mut shapes = BTreeMap::new(rt.alloc());
     let name = String::from_str(rt.alloc(), "a")?;
+    let mut shapes = BTreeMap::new(rt.alloc());
     drop(shapes.insert(name, Shape::Scalar(ScalarKind::Truth))?);
     assert_eq!(rt; shape_name(find_shape(&shapes, "a")), "atomic scalar");
     assert_eq!(rt; shape_name(find_shape(&shapes, "b")), "none");

@@ -1,12 +1,15 @@
 //! Tests of bodies beside others, and beside sets of paths.
 ghost use Rattle.std.specs.Prelude.{◌≡◌, IfOk};
 ghost use Rattle.ssa_model.specs.definitions.Valid.{metadata_path};
+ghost use Rattle.ssa_typed.specs.Alike.{AreAlike};
 
 use crate::samples::PLACES;
-use crate::support::{are_told, body, listed, look_at, schema, set, shown, value};
+use crate::support::{are_told, bodies, body, listed, look_at, set, shown};
 use ssa_path::element::Elem;
+use ssa_path::field_set::FieldSet;
 use ssa_path::path::Path;
 use ssa_typed::body::Body;
+use ssa_typed::compare::Comparison;
 use std::alloc::Global;
 use std::test::Fail;
 
@@ -45,11 +48,16 @@ const OVER: [((&str, &str), &str); 6] = [
 ];
 
 // The second body over the first.
-fn over(alloc: Global, live_text: &str, config_text: &str) -> Result<String, Fail> {
-    let schema = schema(alloc, PLACES)?;
-    let live = Body::from_json(alloc, &schema, value(alloc, live_text)?)?;
-    let config = Body::from_json(alloc, &schema, value(alloc, config_text)?)?;
+fn merged(alloc: Global, live: &Body, config: Body) -> Result<String, Fail>
+    requires { AreAlike live.now config }
+{
     shown(alloc, &live.over(alloc, config)?)
+}
+
+// The same of their texts.
+fn merged_texts(alloc: Global, live: &str, config: &str) -> Result<String, Fail> {
+    let (live, config) = bodies(alloc, PLACES, live, config)?;
+    merged(alloc, &live, config)
 }
 
 #[test]
@@ -57,7 +65,7 @@ fn configurations_are_merged(rt: HostRuntime) -> Result<(), Fail> {
     are_told(
         rt.alloc(),
         &OVER,
-        |alloc, (live, config)| over(alloc, live, config),
+        |alloc, (live, config)| merged_texts(alloc, live, config),
     )
 }
 
@@ -85,14 +93,23 @@ const COMPARED: [((&str, &str), &str); 5] = [
     ),
 ];
 
-// How the second body differs from the first.
-fn compared(alloc: Global, before: &str, after: &str) -> Result<String, Fail> {
-    let before = body(alloc, PLACES, before)?;
-    let told = before.compare(alloc, &body(alloc, PLACES, after)?)?;
-    let added = listed(alloc, &told.added)?;
-    let modified = listed(alloc, &told.modified)?;
-    let removed = listed(alloc, &told.removed)?;
+// The paths that differ.
+fn told(alloc: Global, differing: &Comparison) -> Result<String, Fail> {
+    let added = listed(alloc, &differing.added)?;
+    let modified = listed(alloc, &differing.modified)?;
+    let removed = listed(alloc, &differing.removed)?;
     Ok([added.as_str(), modified.as_str(), removed.as_str()].join(alloc, " | ")?)
+}
+
+// How the second body differs from the first.
+fn compared(alloc: Global, before: &Body, after: &Body) -> Result<String, Fail> {
+    told(alloc, &before.compare(alloc, after)?)
+}
+
+// The same of their texts.
+fn compared_texts(alloc: Global, before: &str, after: &str) -> Result<String, Fail> {
+    let (before, after) = bodies(alloc, PLACES, before, after)?;
+    compared(alloc, &before, &after)
 }
 
 #[test]
@@ -100,7 +117,7 @@ fn bodies_are_compared(rt: HostRuntime) -> Result<(), Fail> {
     are_told(
         rt.alloc(),
         &COMPARED,
-        |alloc, (before, after)| compared(alloc, before, after),
+        |alloc, (before, after)| compared_texts(alloc, before, after),
     )
 }
 
@@ -116,17 +133,22 @@ fn metadata(alloc: Global) -> Result<Path, Fail>
     Ok(Path::new(elements))
 }
 
-// The sample without what is at and below the first paths, but for what is at or above the others. It has no `metadata`, so
+// A sample without what is at and below the first paths, but for what is at or above the others. It has no `metadata`, so
 // each part of it is rooted.
-fn cut(alloc: Global, gone: &str, held: &str) -> Result<Body, Fail> {
-    let sample = body(alloc, PLACES, SAMPLE)?;
-    let gone = set(alloc, gone)?;
-    let held = set(alloc, held)?;
+fn cut_of(alloc: Global, sample: Body, gone: &FieldSet, held: &FieldSet) -> Result<Body, Fail> {
     if sample.get(&metadata(alloc)?).is_some() {
         return Err(Fail::new("the sample has metadata"));
     }
     sample.stands_rooted();
-    Ok(sample.cut(alloc, &gone, &held)?)
+    Ok(sample.cut(alloc, gone, held)?)
+}
+
+// The same of the texts of the paths.
+fn cut(alloc: Global, gone: &str, held: &str) -> Result<Body, Fail> {
+    let gone = set(alloc, gone)?;
+    let held = set(alloc, held)?;
+    let sample = body(alloc, PLACES, SAMPLE)?;
+    cut_of(alloc, sample, &gone, &held)
 }
 
 // Paths that go and paths that are held, and what stays: of each sort of place a part, nothing of a Dict and of a set of
@@ -195,19 +217,29 @@ const LACKING: [(&str, &str); 2] = [
     ),
 ];
 
+// The paths at which a body has nothing.
+fn lacking(alloc: Global, body: &Body, paths: &FieldSet) -> Result<String, Fail> {
+    listed(alloc, &body.lacking(alloc, paths)?)
+}
+
 #[test]
 fn lacking_paths_are_told(rt: HostRuntime) -> Result<(), Fail> {
     are_told(rt.alloc(), &LACKING, |alloc, paths| {
-        let set = set(alloc, paths)?;
-        listed(alloc, &body(alloc, PLACES, SAMPLE)?.lacking(alloc, &set)?)
+        lacking(alloc, &body(alloc, PLACES, SAMPLE)?, &set(alloc, paths)?)
     })
+}
+
+// Those of its points at which a body has nothing.
+fn lacking_points(alloc: Global, body: &Body) -> Result<String, Fail> {
+    lacking(alloc, body, &body.points(alloc)?)
 }
 
 #[test]
 fn bodies_lack_none_of_their_points(rt: HostRuntime) -> Result<(), Fail> {
     let body = body(rt.alloc(), PLACES, SAMPLE)?;
-    let points = body.points(rt.alloc())?;
-    assert!(rt; body.lacking(rt.alloc(), &points)?.is_empty());
+    let told = lacking_points(rt.alloc(), &body);
+    drop(body);
+    assert_eq!(rt; told?.as_str(), "");
     Ok(())
 }
 
@@ -226,8 +258,14 @@ const SAME: [((&str, &str), &str); 6] = [
 ];
 
 // Whether the two are one body.
-fn are_same(alloc: Global, own: &str, other: &str) -> Result<String, Fail> {
-    let same = body(alloc, PLACES, own)?.is_same(&body(alloc, PLACES, other)?);
+fn are_same(alloc: Global, own: &str, other: &str) -> Result<bool, Fail> {
+    let (own, other) = bodies(alloc, PLACES, own, other)?;
+    Ok(own.is_same(&other))
+}
+
+// The same as a text.
+fn told_same(alloc: Global, own: &str, other: &str) -> Result<String, Fail> {
+    let same = are_same(alloc, own, other)?;
     Ok(format!(in alloc; "{same}")?)
 }
 
@@ -236,6 +274,6 @@ fn bodies_are_the_same(rt: HostRuntime) -> Result<(), Fail> {
     are_told(
         rt.alloc(),
         &SAME,
-        |alloc, (own, other)| are_same(alloc, own, other),
+        |alloc, (own, other)| told_same(alloc, own, other),
     )
 }

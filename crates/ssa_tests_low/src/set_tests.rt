@@ -1,6 +1,7 @@
 //! Tests of sets of paths by hand: an object with a list of ports, each under its number.
 use crate::support::{are_told, listed, path, set};
 use ssa_path::field_set::FieldSet;
+use ssa_path::path::Path;
 use ssa_path::trie::Trie;
 use std::alloc::Global;
 use std::test::Fail;
@@ -90,13 +91,32 @@ fn sets_are_the_same_by_their_paths(rt: HostRuntime) -> Result<(), Fail> {
     )
 }
 
+// The paths of a set in which `f:data` is put too.
+fn listed_with_data(alloc: Global, set: &mut FieldSet) -> Result<String, Fail> {
+    set.insert(alloc, &path(alloc, "f:data")?)?;
+    listed(alloc, set)
+}
+
+// The paths of a set's copy in which `f:data` is put too.
+fn grown_copy(alloc: Global, own: &FieldSet) -> Result<String, Fail> {
+    let mut copy = own.copy(alloc)?;
+    listed_with_data(alloc, &mut copy)
+}
+
+// The same, and then the paths of the set itself.
+fn copy_and_own(alloc: Global, own: &FieldSet) -> Result<(String, String), Fail> {
+    let copied = grown_copy(alloc, own)?;
+    Ok((copied, listed(alloc, own)?))
+}
+
 #[test]
 fn copies_have_the_same_paths_and_grow_by_themselves(rt: HostRuntime) -> Result<(), Fail> {
     let own = set(rt.alloc(), "/ f:a/f:b f:c")?;
-    let mut copy = own.copy(rt.alloc())?;
-    copy.insert(rt.alloc(), &path(rt.alloc(), "f:data")?)?;
-    assert_eq!(rt; listed(rt.alloc(), &copy)?.as_str(), "/ f:a/f:b f:c f:data");
-    assert_eq!(rt; listed(rt.alloc(), &own)?.as_str(), "/ f:a/f:b f:c");
+    let told = copy_and_own(rt.alloc(), &own);
+    drop(own);
+    let (copied, kept) = told?;
+    assert_eq!(rt; copied.as_str(), "/ f:a/f:b f:c f:data");
+    assert_eq!(rt; kept.as_str(), "/ f:a/f:b f:c");
     Ok(())
 }
 
@@ -113,14 +133,19 @@ const TAKEN_OUT: [((&str, &str), &str); 8] = [
 ];
 
 // Takes a path out, and tells whether it was there.
-fn taken_out(alloc: Global, own: &str, gone: &str) -> Result<String, Fail> {
-    let mut own = set(alloc, own)?;
-    let gone = path(alloc, gone)?;
-    let had = own.remove(&gone);
-    let left = listed(alloc, &own)?;
+fn take_out(alloc: Global, own: &mut FieldSet, gone: &Path) -> Result<String, Fail> {
+    let had = own.remove(gone);
+    let left = listed(alloc, own)?;
     let mut text = String::from_str(alloc, if had { "had: " } else { "lacked: " })?;
     text.push_str(left.as_str())?;
     Ok(text)
+}
+
+// The same of their texts.
+fn taken_out(alloc: Global, own: &str, gone: &str) -> Result<String, Fail> {
+    let gone = path(alloc, gone)?;
+    let mut own = set(alloc, own)?;
+    take_out(alloc, &mut own, &gone)
 }
 
 #[test]

@@ -1,7 +1,7 @@
 //! Tests of sets of paths beside sorted lists of numbers.
 ghost use Rattle.std.specs.Prelude.{◌<◌};
 
-use ssa_path::element::Elem;
+use crate::support::push_element;
 use ssa_path::field_set::FieldSet;
 use ssa_path::path::Path;
 use std::alloc::{AllocError, Global};
@@ -18,7 +18,7 @@ fn path_of(alloc: Global, code: u64) -> Result<Path, Fail> {
             3 => "v:10",
             _ => "v:9",
         };
-        elements.push(Elem::read(alloc, text)?)?;
+        push_element(alloc, &mut elements, text)?;
     }
     Ok(Path::new(elements))
 }
@@ -128,28 +128,46 @@ fn begins(code: u64, other: u64) -> bool {
     }
 }
 
-fn does_union_agree(alloc: Global, sets: &Sets) -> Result<bool, Fail> {
+fn is_union(alloc: Global, sets: &Sets, union: &FieldSet) -> Result<bool, Fail> {
     let mut either = sets.own.clone()?;
     either.extend_from_slice(&sets.others)?;
     either.sort()?;
     either.dedup();
-    let union = sets.set.union(alloc, &sets.other)?;
-    Ok(holds(alloc, &sets.set, &sets.own)? && holds(alloc, &union, &either)?)
+    Ok(holds(alloc, &sets.set, &sets.own)? && holds(alloc, union, &either)?)
 }
 
-fn do_minus_and_meet_agree(alloc: Global, sets: &Sets) -> Result<bool, Fail> {
+fn does_union_agree(alloc: Global, sets: &Sets) -> Result<bool, Fail> {
+    let union = sets.set.union(alloc, &sets.other)?;
+    is_union(alloc, sets, &union)
+}
+
+fn are_minus_and_meet(
+    alloc: Global,
+    sets: &Sets,
+    minus: &FieldSet,
+    meet: &FieldSet,
+) -> Result<bool, Fail> {
     let left = kept(alloc, &sets.own, |code| !sets.others.contains(&code))?;
     let both = kept(alloc, &sets.own, |code| sets.others.contains(&code))?;
-    let minus = sets.set.minus(alloc, &sets.other)?;
-    let meet = sets.set.meet(alloc, &sets.other)?;
     let are_parts = minus.is_within(&sets.set)
         && meet.is_within(&sets.set)
         && meet.is_within(&sets.other);
-    Ok(are_parts && holds(alloc, &minus, &left)? && holds(alloc, &meet, &both)?)
+    Ok(are_parts && holds(alloc, minus, &left)? && holds(alloc, meet, &both)?)
+}
+
+fn do_minus_and_meet_agree(alloc: Global, sets: &Sets) -> Result<bool, Fail> {
+    let minus = sets.set.minus(alloc, &sets.other)?;
+    let meet = sets.set.meet(alloc, &sets.other)?;
+    are_minus_and_meet(alloc, sets, &minus, &meet)
 }
 
 // Whether what has some of the others at or below it, and what has none, is what the lists tell.
-fn do_parts_apart_agree(alloc: Global, sets: &Sets) -> Result<bool, Fail> {
+fn are_parts_apart(
+    alloc: Global,
+    sets: &Sets,
+    over_some: &FieldSet,
+    over_none: &FieldSet,
+) -> Result<bool, Fail> {
     let is_over = kept(
         alloc,
         &sets.own,
@@ -160,10 +178,14 @@ fn do_parts_apart_agree(alloc: Global, sets: &Sets) -> Result<bool, Fail> {
         &sets.own,
         |code| !sets.others.iter().any(|other| begins(code, *other)),
     )?;
+    let is_same = over_some.is_same(over_none) == (is_over.as_slice() == not_over.as_slice());
+    Ok(is_same && holds(alloc, over_some, &is_over)? && holds(alloc, over_none, &not_over)?)
+}
+
+fn do_parts_apart_agree(alloc: Global, sets: &Sets) -> Result<bool, Fail> {
     let over_some = sets.set.over(alloc, &sets.other)?;
     let over_none = sets.set.without_over(alloc, &sets.other)?;
-    let is_same = over_some.is_same(&over_none) == (is_over.as_slice() == not_over.as_slice());
-    Ok(is_same && holds(alloc, &over_some, &is_over)? && holds(alloc, &over_none, &not_over)?)
+    are_parts_apart(alloc, sets, &over_some, &over_none)
 }
 
 // Whether the sets answer of some path as the lists do.
@@ -183,14 +205,19 @@ fn do_looks_agree(alloc: Global, state: &mut u64, sets: &Sets) -> Result<bool, F
 }
 
 // Whether two sets and what is made of them hold what the sorted lists do.
+fn do_all_agree(alloc: Global, state: &mut u64, sets: &Sets) -> Result<bool, Fail> {
+    Ok(
+        does_union_agree(alloc, sets)?
+            && do_minus_and_meet_agree(alloc, sets)?
+            && do_parts_apart_agree(alloc, sets)?
+            && do_looks_agree(alloc, state, sets)?,
+    )
+}
+
+// The same of some sets.
 fn agree(alloc: Global, state: &mut u64) -> Result<bool, Fail> {
     let sets = some_sets(alloc, state)?;
-    Ok(
-        does_union_agree(alloc, &sets)?
-            && do_minus_and_meet_agree(alloc, &sets)?
-            && do_parts_apart_agree(alloc, &sets)?
-            && do_looks_agree(alloc, state, &sets)?,
-    )
+    do_all_agree(alloc, state, &sets)
 }
 
 #[test]

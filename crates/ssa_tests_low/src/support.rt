@@ -1,4 +1,8 @@
 //! What the tests share: values, schemas, paths and sets by their texts, and tables of cases.
+ghost use Rattle.std.specs.Prelude.{IfOk};
+ghost use Rattle.ssa_model.specs.definitions.Fitting.{IsBodyOf};
+ghost use Rattle.ssa_typed.specs.Alike.{AreAlike};
+
 use ssa_json::value::Json;
 use ssa_path::element::Elem;
 use ssa_path::field_set::FieldSet;
@@ -25,12 +29,18 @@ pub fn schema(alloc: Global, text: &str) -> Result<Schema, Fail> {
     Ok(Schema::read(alloc, value(alloc, text)?)?)
 }
 
+/// Puts the element of a text behind others.
+pub fn push_element(alloc: Global, elements: &mut Vec<Elem>, text: &str) -> Result<(), Fail> {
+    elements.push(Elem::read(alloc, text)?)?;
+    Ok(())
+}
+
 /// The path whose elements have these texts, with `/` between them. The root is `/`.
 pub fn path(alloc: Global, text: &str) -> Result<Path, Fail> {
     let mut elements = Vec::new(alloc);
     for part in text.split('/') {
         if !part.is_empty() {
-            elements.push(Elem::read(alloc, part)?)?;
+            push_element(alloc, &mut elements, part)?;
         }
     }
     Ok(Path::new(elements))
@@ -71,10 +81,47 @@ pub fn listed(alloc: Global, set: &FieldSet) -> Result<String, Fail> {
     Ok(String::from_utf8(text)?)
 }
 
+// The body of a value under a schema.
+fn body_under(alloc: Global, schema: &Schema, value: Json) -> Result<Body, Fail>
+    ensures { IfOk result (λ b. IsBodyOf schema.now.kind b) }
+{
+    Ok(Body::from_json(alloc, schema, value)?)
+}
+
 /// The body of a JSON text under the schema of another.
 pub fn body(alloc: Global, schema_text: &str, text: &str) -> Result<Body, Fail> {
+    let value = value(alloc, text)?;
     let schema = schema(alloc, schema_text)?;
-    Ok(Body::from_json(alloc, &schema, value(alloc, text)?)?)
+    body_under(alloc, &schema, value)
+}
+
+// The bodies of two values under a schema.
+fn bodies_under(
+    alloc: Global,
+    schema: &Schema,
+    first: Json,
+    second: Json,
+) -> Result<(Body, Body), Fail>
+    ensures { IfOk result (λ bodies. AreAlike bodies.0 bodies.1) }
+{
+    let first = body_under(alloc, schema, first)?;
+    let second = body_under(alloc, schema, second)?;
+    Ok((first, second))
+}
+
+/// The bodies of two JSON texts under the schema of another.
+pub fn bodies(
+    alloc: Global,
+    schema_text: &str,
+    first: &str,
+    second: &str,
+) -> Result<(Body, Body), Fail>
+    ensures { IfOk result (λ bodies. AreAlike bodies.0 bodies.1) }
+{
+    let first = value(alloc, first)?;
+    let second = value(alloc, second)?;
+    let schema = schema(alloc, schema_text)?;
+    bodies_under(alloc, &schema, first, second)
 }
 
 /// The compact text of the value that the body is of.
