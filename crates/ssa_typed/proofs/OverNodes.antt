@@ -1,6 +1,6 @@
 -- A node made of the children of one node over those of another.
 use Rattle.std.proofs.Common.{◌≡◌, suc, ◌+◌, ◌*◌, ◌<◌, length, List, [], ◌∷◌, ◌++◌, Bool, true, false, not, ◌&&◌, cond, Option, Some, refl, sym, ap, subst, ◌∙◌, true≢false, arith, rules, Result, Ok, Err}
-use Rattle.std.specs.Prelude.{filter, OnOk}
+use Rattle.std.specs.Prelude.{filter, IfOk, OnOk}
 use Rattle.std.specs.List.{list_any}
 use Rattle.ssa_model.specs.definitions.Body.{Content, leaf, atom, record_branch, dict_branch, list_branch, joined, over_content, over, is_leaf, order_at}
 use Rattle.ssa_model.specs.definitions.Kind.{is_among}
@@ -14,6 +14,7 @@ use Rattle.ssa_typed.specs.InOrder.{IsInOrder}
 use Rattle.ssa_typed.specs.Over.{AreAlikeBelow, AreAlikeTrees, IsOver, AreOver, AreOverInOrder}
 use Rattle.ssa_typed.specs.Points.{content_in}
 use Rattle.ssa_typed.specs.Rows.{body_of, rows, rows_below, below, below_of, content_of, own_content, leaf_content, is_tree, are_trees, are_apart, are_fields, are_items}
+use Rattle.ssa_typed.specs.Same.{AreSame, AreSameChildren, HaveSame}
 use Rattle.ssa_typed.specs.declared.node.Leaf.{Leaf}
 use Rattle.ssa_typed.specs.declared.node.Leaf.TheVariants.{Scalar, Atomic}
 use Rattle.ssa_typed.specs.declared.node.Node.{Node, Leaf as LeafOf, Branch, Dict, List as ListOf, the_lemmas}
@@ -25,6 +26,7 @@ use Rattle.ssa_typed.proofs.Looks.{get-body}
 use Rattle.ssa_typed.proofs.Lookups.{child_at-rest, child-tree}
 use Rattle.ssa_typed.proofs.Sizes.{length-level}
 use Rattle.ssa_typed.proofs.Overlaying.{alike-below, alike-root, over-apart, over-level}
+use Rattle.ssa_typed.proofs.SameTrees.{same-node}
 use Rattle.ssa_model.proofs.Fitting.{same_element-true}
 use Rattle.ssa_model.proofs.Tables.{element-itself as same_element-itself}
 use Rattle.ssa_model.proofs.Basics.{both-true as both, some≢none as some-none}
@@ -62,21 +64,27 @@ list-alike record_branch es h = h
 list-alike dict_branch es h = h
 list-alike (list_branch fs) es h = refl
 
+record-alone : (c : Content) → are_alike (Some c) (Some record_branch) ≡ true → record_branch ≡ c
+record-alone (leaf s) h = absurd (true≢false (sym h))
+record-alone (atom v) h = absurd (true≢false (sym h))
+record-alone record_branch h = refl
+record-alone dict_branch h = absurd (true≢false (sym h))
+record-alone (list_branch es) h = absurd (true≢false (sym h))
+
+dict-alone : (c : Content) → are_alike (Some c) (Some dict_branch) ≡ true → dict_branch ≡ c
+dict-alone (leaf s) h = absurd (true≢false (sym h))
+dict-alone (atom v) h = absurd (true≢false (sym h))
+dict-alone record_branch h = absurd (true≢false (sym h))
+dict-alone dict_branch h = refl
+dict-alone (list_branch es) h = absurd (true≢false (sym h))
+
 record-alike : (c : Content) → are_alike (Some c) (Some record_branch) ≡ true → is_listing c ≡ false
 unfolding is_listing
-record-alike (leaf s) h = refl
-record-alike (atom v) h = refl
-record-alike record_branch h = refl
-record-alike dict_branch h = refl
-record-alike (list_branch es) h = sym h
+record-alike c h = ap is_listing (sym (record-alone c h))
 
 dict-alike : (c : Content) → are_alike (Some c) (Some dict_branch) ≡ true → is_listing c ≡ false
 unfolding is_listing
-dict-alike (leaf s) h = refl
-dict-alike (atom v) h = refl
-dict-alike record_branch h = refl
-dict-alike dict_branch h = refl
-dict-alike (list_branch es) h = sym h
+dict-alike c h = ap is_listing (sym (dict-alone c h))
 
 -- ---- what stands below a node of each sort
 
@@ -100,13 +108,16 @@ items-made (Node-F.Branch v) h k = absurd (true≢false (sym k))
 items-made (Node-F.Dict v) h k = absurd (true≢false (sym k))
 items-made (Node-F.List v) h k = both_second (are_apart (elements v.items)) _ (both_first _ (are_trees v.items) (sym (tree-List v) ∙ h))
 
-order-made : (x : Node-F Node) → is_listing (content_of x) ≡ true → order_at (Some (content_of x)) ≡ elements (below_of x)
+listing-made : (x : Node-F Node) → is_listing (content_of x) ≡ true → content_of x ≡ list_branch (elements (below_of x))
 unfolding is_listing
-order-made (Node-F.Leaf (Scalar s)) k = absurd (true≢false (sym k))
-order-made (Node-F.Leaf (Atomic v)) k = absurd (true≢false (sym k))
-order-made (Node-F.Branch v) k = absurd (true≢false (sym k))
-order-made (Node-F.Dict v) k = absurd (true≢false (sym k))
-order-made (Node-F.List v) k = refl
+listing-made (Node-F.Leaf (Scalar s)) k = absurd (true≢false (sym k))
+listing-made (Node-F.Leaf (Atomic v)) k = absurd (true≢false (sym k))
+listing-made (Node-F.Branch v) k = absurd (true≢false (sym k))
+listing-made (Node-F.Dict v) k = absurd (true≢false (sym k))
+listing-made (Node-F.List v) k = refl
+
+order-made : (x : Node-F Node) → is_listing (content_of x) ≡ true → order_at (Some (content_of x)) ≡ elements (below_of x)
+order-made x k = ap (λ c. order_at (Some c)) (listing-made x k)
 
 rolled : (n : Node) → is_tree n ≡ true → is_tree (roll-Node (out-Node n)) ≡ true
 rolled n h = ap is_tree (roll-out-Node n) ∙ h
@@ -225,6 +236,14 @@ over-leaf : (b : Option Content) (l : Leaf) → over_content b (Some (leaf_conte
 over-leaf b (Scalar s) = refl
 over-leaf b (Atomic v) = refl
 
+-- children over live ones are over equal live ones
+pub over-live : (cs bs ds xs : List Child) → cs ≡ bs → AreOver cs ds xs → AreOver bs ds xs
+over-live cs bs ds xs e h = subst (λ l. AreOver l ds xs) e h
+
+-- so it is where they are put in order
+pub order-live : (cs bs ds xs : List Child) → cs ≡ bs → AreOverInOrder cs ds xs → AreOverInOrder bs ds xs
+order-live cs bs ds xs e h = subst (λ l. AreOverInOrder l ds xs) e h
+
 module _ (n m : Node) (live : is_tree n ≡ true) (config : is_tree m ≡ true) (alike : AreAlikeTrees n m) where
   leaf-below : (x : Node) (l : Leaf) → own_content x ≡ leaf_content l → below x ≡ []
   leaf-below x l is = below-leaf (out-Node x) (ap (λ c. is_leaf (Some c)) is ∙ leaf-there l)
@@ -236,7 +255,7 @@ module _ (n m : Node) (live : is_tree n ≡ true) (config : is_tree m ≡ true) 
       ∙ ap (λ c. is_leaf (Some c)) (own-Leaf l) ∙ leaf-there l))
 
   -- a leaf of the configuration stands over the live node as it is
-  pub leaf-over : (l : Leaf) → m ≡ LeafOf l → IsOver n m m
+  pub leaf-over : (l : Leaf) → m ≡ LeafOf l → IsOver n m (LeafOf l)
   leaf-over l is =
       let none_live = no-children l is in
       let own = ap own_content is ∙ own-Leaf l in
@@ -247,9 +266,17 @@ module _ (n m : Node) (live : is_tree n ≡ true) (config : is_tree m ≡ true) 
             ∙ (λ i. over_content (content_in (child_at e (sym none_live i)) p) (content_in (child_at e (sym none_config i)) p));
         trees = ap are_trees none_config;
       } in
-      over-level n m m (below m) live config config
+      subst (IsOver n m) is
+      (over-level n m m (below m) live config config
       (ap (λ c. Some c) own ∙ sym (ap (λ c. over_content (Some (own_content n)) (Some c)) own ∙ over-leaf (Some (own_content n)) l))
-      (λ e. refl) none
+      (λ e. refl) none)
+
+  -- that leaf is the live node, where this has its contents
+  pub leaf-same : (l : Leaf) → m ≡ LeafOf l → leaf_content l ≡ own_content n → AreSame n (LeafOf l)
+  leaf-same l is same =
+      let own = ap own_content is ∙ own-Leaf l in
+      let none = leaf-below m l own ∙ sym (no-children l is) in
+      subst (AreSame n) is (same-node n m live config (own ∙ same) (λ e p. ap (λ cs. content_in (child_at e cs) p) none))
 
   joined-fields : (cs : List Child) → is_listing (own_content n) ≡ false → is_listing (own_content m) ≡ false → AreOver (below n) (below m) cs
       → all_of is_field (elements cs) ≡ true
@@ -314,6 +341,37 @@ module _ (n m : Node) (live : is_tree n ≡ true) (config : is_tree m ≡ true) 
         ∙ sym (ap (λ c. over_content (Some (own_content n)) (Some c)) own))
         (λ e. ap (child_at e) (below-List v)) h
 
+    module _ (cs : List Child) (seen : cs ≡ below n) where
+      same-below : (x : Node) → below x ≡ v.items → HaveSame cs v.items → HaveSame (below n) (below x)
+      same-below x is same e p =
+          ap (λ ds. content_in (child_at e ds) p) is ∙ same e p ∙ ap (λ ds. content_in (child_at e ds) p) seen
+
+      -- that record is the live node where the same stands below each field
+      pub record-same : m ≡ Branch w → AreOverInOrder cs w.items v.items → HaveSame cs v.items → AreSame n (Branch v)
+      record-same is put same =
+          let own = ap own_content is ∙ own-Branch w in
+          let sort = record-alone (own_content n) (ap (λ c. are_alike (Some (own_content n)) (Some c)) (sym own) ∙ alike-root n m alike) in
+          let made = record-over is (order-live cs (below n) w.items v.items seen put) in
+          same-node n (Branch v) live made.tree (own-Branch v ∙ sort) (same-below (Branch v) (below-Branch v) same)
+
+      -- that Dict is the live node where the same stands below each entry
+      pub dict-same : m ≡ Dict w → AreOverInOrder cs w.items v.items → HaveSame cs v.items → AreSame n (Dict v)
+      dict-same is put same =
+          let own = ap own_content is ∙ own-Dict w in
+          let sort = dict-alone (own_content n) (ap (λ c. are_alike (Some (own_content n)) (Some c)) (sym own) ∙ alike-root n m alike) in
+          let made = dict-over is (order-live cs (below n) w.items v.items seen put) in
+          same-node n (Dict v) live made.tree (own-Dict v ∙ sort) (same-below (Dict v) (below-Dict v) same)
+
+      -- that list is the live node where its items are the live ones in their order
+      pub list-same : m ≡ ListOf w → AreOver cs w.items v.items → AreSameChildren cs v.items → AreSame n (ListOf v)
+      list-same is put same =
+          let own = ap own_content is ∙ own-List w in
+          let sort = list-alike (own_content n) (elements w.items) (ap (λ c. are_alike (Some (own_content n)) (Some c)) (sym own) ∙ alike-root n m alike) in
+          let made = list-over is (over-live cs (below n) w.items v.items seen put) in
+          let order = same.elements_same ∙ ap elements seen in
+          same-node n (ListOf v) live made.tree (own-List v ∙ ap list_branch order ∙ sym (listing-made (out-Node n) sort))
+          (same-below (ListOf v) (below-List v) same.contents_same)
+
 -- ---- going down to the children
 
 -- a success gives what follows from what it gives
@@ -321,17 +379,18 @@ pub ok-gives : {A E : Type 0} {P Q : Type 0} (r : Result A E) → OnOk r P → (
 ok-gives (Ok x) h f = f h
 ok-gives (Err e) h f = tt
 
--- children over live ones are over equal live ones
-pub over-live : (cs bs ds xs : List Child) → cs ≡ bs → AreOver cs ds xs → AreOver bs ds xs
-over-live cs bs ds xs e h = subst (λ l. AreOver l ds xs) e h
-
--- so it is where they are put in order
-pub order-live : (cs bs ds xs : List Child) → cs ≡ bs → AreOverInOrder cs ds xs → AreOverInOrder bs ds xs
-order-live cs bs ds xs e h = subst (λ l. AreOverInOrder l ds xs) e h
+-- so does a success that gives more by what it holds
+pub ok-gives-more : {A E : Type 0} {P : Type 0} {Q R : A → Type 0} (r : Result A E) → OnOk r P → IfOk r Q → ((x : A) → P → Q x → R x) → IfOk r R
+ok-gives-more (Ok x) h k f = f x h k
+ok-gives-more (Err e) h k f = tt
 
 -- what equals one node over another is that, too
 pub left-over : (n m x y : Node) → x ≡ y → IsOver n m y → IsOver n m x
 left-over n m x y e h = subst (IsOver n m) (sym e) h
+
+-- what equals a node that is the live one is that, too
+pub left-same : (n x y : Node) → x ≡ y → AreSame n y → AreSame n x
+left-same n x y e h = subst (AreSame n) (sym e) h
 
 module _ (n m : Node) (cs ds : List Child) (own : cs ≡ below n) (is : below m ≡ ds) (live : is_tree n ≡ true) (config : is_tree m ≡ true)
     (alike : AreAlikeTrees n m) where

@@ -13,7 +13,7 @@ use Rattle.ssa_path.proofs.Orders.{both_first, both_second}
 use Rattle.ssa_typed.specs.Alike.{are_alike}
 use Rattle.ssa_typed.specs.Copies.{kept}
 use Rattle.ssa_typed.specs.InOrder.{referred, IsInOrder}
-use Rattle.ssa_typed.specs.MergedOrder.{Merged, is_new, live_child, new_child, merged}
+use Rattle.ssa_typed.specs.MergedOrder.{MergedChild, is_new, live_child, new_child, merged}
 use Rattle.ssa_typed.specs.Over.{AreAlikeBelow, AreAlikeTrees, IsOver, AreOver}
 use Rattle.ssa_typed.specs.Points.{content_in}
 use Rattle.ssa_typed.specs.Rows.{rows, below, own_content, content_at, is_tree, are_trees, are_apart}
@@ -46,7 +46,7 @@ alike-root n m h = sym (λ i. are_alike (content-root n i) (content-root m i)) �
 -- ---- each child over what the configuration has over it
 
 -- what is made of a merged child: the configuration's node over the live one
-pub record IsMade (p : Merged) (x : Child) : Type 0 where
+pub record IsMade (p : MergedChild) (x : Child) : Type 0 where
   -- it stands under the child's element
   pub element : element_view x.0 ≡ element_view p.0
   -- at each path stands the configuration's content over the live one
@@ -55,26 +55,26 @@ pub record IsMade (p : Merged) (x : Child) : Type 0 where
   pub tree : is_tree x.1 ≡ true
 
 -- a child is made of each merged one, in their order
-abbrev pub AreMade : List Merged → List Child → Type 0
+abbrev pub AreMade : List MergedChild → List Child → Type 0
 AreMade [] [] = Unit {0}
 AreMade [] (x ∷ xs) = ⊥
 AreMade (p ∷ ps) [] = ⊥
 AreMade (p ∷ ps) (x ∷ xs) = IsMade p x × AreMade ps xs
 
 -- one child more is made
-pub made-push : (ps : List Merged) (xs : List Child) (p : Merged) (x : Child) → AreMade ps xs → IsMade p x → AreMade (ps ++ p ∷ []) (xs ++ x ∷ [])
+pub made-push : (ps : List MergedChild) (xs : List Child) (p : MergedChild) (x : Child) → AreMade ps xs → IsMade p x → AreMade (ps ++ p ∷ []) (xs ++ x ∷ [])
 made-push [] [] p x h one = (one, tt)
 made-push [] (y ∷ xs) p x h one = absurd h
 made-push (r ∷ ps) [] p x h one = absurd h
 made-push (r ∷ ps) (y ∷ xs) p x h one = (h.0, made-push ps xs p x h.1 one)
 
-made-elements : (ps : List Merged) (xs : List Child) → AreMade ps xs → elements xs ≡ elements ps
+made-elements : (ps : List MergedChild) (xs : List Child) → AreMade ps xs → elements xs ≡ elements ps
 made-elements [] [] h = refl
 made-elements [] (x ∷ xs) h = absurd h
 made-elements (p ∷ ps) [] h = absurd h
 made-elements (p ∷ ps) (x ∷ xs) h = λ i. h.0.element i ∷ made-elements ps xs h.1 i
 
-made-trees : (ps : List Merged) (xs : List Child) → AreMade ps xs → are_trees xs ≡ true
+made-trees : (ps : List MergedChild) (xs : List Child) → AreMade ps xs → are_trees xs ≡ true
 made-trees [] [] h = refl
 made-trees [] (x ∷ xs) h = absurd h
 made-trees (p ∷ ps) [] h = absurd h
@@ -85,7 +85,8 @@ abbrev merged_content : Option (Node × Option Node) → Path → Option Content
 merged_content None q = None
 merged_content (Some n) q = over_content (content_at (rows n.0) q) (content_in n.1 q)
 
-made-content : (ps : List Merged) (xs : List Child) (e : Element) (q : Path) → AreMade ps xs → content_in (child_at e xs) q ≡ merged_content (child_at e ps) q
+made-content : (ps : List MergedChild) (xs : List Child) (e : Element) (q : Path) → AreMade ps xs
+    → content_in (child_at e xs) q ≡ merged_content (child_at e ps) q
 made-content [] [] e q h = refl
 made-content [] (x ∷ xs) e q h = absurd h
 made-content (p ∷ ps) [] e q h = absurd h
@@ -156,7 +157,7 @@ elements-append (c ∷ cs) ds = ap (λ es. element_view c.0 ∷ es) (elements-ap
 
 -- ---- the merged children
 
-live-found : (cs ds : List Child) (rest : List Merged) (e : Element)
+live-found : (cs ds : List Child) (rest : List MergedChild) (e : Element)
     → child_at e (map (live_child ds) cs ++ rest) ≡ elim (child_at e cs) [ None ↦ child_at e rest | Some c ↦ Some (c, child_at e ds) ]
 live-found [] ds rest e = refl
 live-found (c ∷ cs) ds rest e =
@@ -196,7 +197,7 @@ found-content None None q = refl
 found-content None (Some d) q = sym (over-none (content_at (rows d) q))
 found-content (Some c) other q = refl
 
-live-elements : (cs ds : List Child) (rest : List Merged) → elements (map (live_child ds) cs ++ rest) ≡ elements cs ++ elements rest
+live-elements : (cs ds : List Child) (rest : List MergedChild) → elements (map (live_child ds) cs ++ rest) ≡ elements cs ++ elements rest
 live-elements [] ds rest = refl
 live-elements (c ∷ cs) ds rest = ap (λ es. element_view c.0 ∷ es) (live-elements cs ds rest)
 
@@ -242,7 +243,7 @@ over-level n m made cs live config tree own same h = record { content = at; tree
 
 -- ---- one child more
 
-module _ (p : Merged) (x : Child) (same : element_view x.0 ≡ element_view p.0) where
+module _ (p : MergedChild) (x : Child) (same : element_view x.0 ≡ element_view p.0) where
   -- over what the configuration has
   pub made-over : (d : Node) → p.1.1 ≡ Some d → IsOver p.1.0 d x.1 → IsMade p x
   made-over d over made = record {
@@ -265,7 +266,7 @@ made-new [] trees = tt
 made-new (d ∷ ds) trees =
     (record { element = refl; content = λ q. refl; tree = both_first (is_tree d.1) _ trees }, made-new ds (both_second (is_tree d.1) _ trees))
 
-made-append : (ps qs : List Merged) (xs ys : List Child) → AreMade ps xs → AreMade qs ys → AreMade (ps ++ qs) (xs ++ ys)
+made-append : (ps qs : List MergedChild) (xs ys : List Child) → AreMade ps xs → AreMade qs ys → AreMade (ps ++ qs) (xs ++ ys)
 made-append [] qs [] ys h k = k
 made-append [] qs (x ∷ xs) ys h k = absurd h
 made-append (p ∷ ps) qs [] ys h k = absurd h

@@ -1,48 +1,43 @@
 -- Trees of which nothing is told.
-use Rattle.std.proofs.Common.{◌≡◌, List, [], ◌∷◌, Bool, true, false, not, ◌&&◌, cond, Option, Some, refl, sym, ap, ◌∙◌}
+use Rattle.std.proofs.Common.{◌≡◌, List, [], ◌∷◌, Bool, true, false, not, ◌&&◌, Option, Some, None, refl, sym, ap, ◌∙◌}
 use Rattle.std.specs.Prelude.{is_some}
-use Rattle.ssa_model.specs.definitions.Path.{Element, Path, same_element}
-use Rattle.ssa_model.specs.definitions.Body.{Content, is_other_leaf}
-use Rattle.ssa_path.specs.Children.{child_at, elements}
+use Rattle.ssa_model.specs.definitions.Path.{Element, Path}
+use Rattle.ssa_model.specs.definitions.PathMap.{empty, get, has, paths as set_paths}
+use Rattle.ssa_model.specs.definitions.Body.{Body, Content, leaf, atom, record_branch, dict_branch, list_branch, is_other_leaf, is_point, points}
+use Rattle.ssa_model.proofs.PathMaps.{has-paths, has-points, has-set_of, same_sets}
+use Rattle.ssa_model.proofs.SameValues.{same_json-itself}
+use Rattle.ssa_model.proofs.Scalars.{same_scalar-itself}
+use Rattle.ssa_path.specs.Children.{child_at}
+use Rattle.ssa_path.specs.declared.element.Elem.{Elem}
 use Rattle.ssa_path.specs.declared.trie.Trie.{Trie}
-use Rattle.ssa_path.specs.View.{element_view}
+use Rattle.ssa_path.specs.Trie.{is_one_of}
 use Rattle.ssa_path.proofs.Orders.{none_first}
 use Rattle.ssa_typed.specs.Differences.{Difference, Added, Modified, Removed, differs, differs_here, AreUnchanged, IsDiffering, IsUntold}
 use Rattle.ssa_typed.specs.Points.{content_in, point_in}
-use Rattle.ssa_typed.specs.Rows.{rows, below, own_content, content_at, is_tree}
+use Rattle.ssa_typed.specs.Rows.{rows, below, content_at, is_tree}
+use Rattle.ssa_typed.specs.Same.{AreSame}
 use Rattle.ssa_typed.specs.declared.node.Node.{Node}
-use Rattle.ssa_typed.proofs.Building.{Child}
+use Rattle.ssa_typed.proofs.Differing.{difference_of}
 use Rattle.ssa_typed.proofs.Lookups.{content-level, content-root}
-use Rattle.ssa_typed.proofs.Pairs.{Each, same-head, same-tail}
 use Rattle.ssa_model.proofs.Basics.{and-false as and_false}
 
--- ---- one level
+-- ---- the same contents
 
 untold-by : (o q x y : Option Content) → o ≡ x → q ≡ y → IsUntold x y → IsUntold o q
 untold-by o q x y is other_is h = (ap is_some is ∙ h.0 ∙ sym (ap is_some other_is), (λ i. is_other_leaf (is i) (other_is i)) ∙ h.1)
 
-untold-in : (cs ds : List Child) (e : Element) (p : Path) → elements cs ≡ elements ds → Each AreUnchanged cs ds
-    → IsUntold (content_in (child_at e cs) p) (content_in (child_at e ds) p)
-untold-in [] [] e p same h = (refl, refl)
-untold-in [] (d ∷ ds) e p same h = absurd h
-untold-in (c ∷ cs) [] e p same h = absurd h
-untold-in (c ∷ cs) (d ∷ ds) e p same h =
-    let f = element_view c.0 in
-    let g = element_view d.0 in
-    let head = same-head f g (elements cs) (elements ds) same in
-    let later = untold-in cs ds e p (same-tail f g (elements cs) (elements ds) same) h.1 in
-    untold-by _ _ (content_in (cond (same_element e f) (Some c.1) (child_at e cs)) p) (content_in (cond (same_element e f) (Some d.1) (child_at e ds)) p) refl
-    (ap (λ x. content_in (cond (same_element e x) (Some d.1) (child_at e ds)) p) (sym head))
-    (elim (same_element e f) as (λ b. IsUntold (content_in (cond b (Some c.1) (child_at e cs)) p) (content_in (cond b (Some d.1) (child_at e ds)) p))
-    [ true ↦ h.0 p | false ↦ later ])
+other-itself : (o : Option Content) → is_other_leaf o o ≡ false
+other-itself None = refl
+other-itself (Some (leaf s)) = ap not (same_scalar-itself s)
+other-itself (Some (atom v)) = ap not (same_json-itself v)
+other-itself (Some record_branch) = refl
+other-itself (Some dict_branch) = refl
+other-itself (Some (list_branch es)) = refl
 
--- of two nodes nothing is told where nothing is of themselves and of their children, under the same elements
-pub unchanged-level : (n m : Node) → is_tree n ≡ true → is_tree m ≡ true → is_other_leaf (Some (own_content n)) (Some (own_content m)) ≡ false
-    → elements (below n) ≡ elements (below m) → Each AreUnchanged (below n) (below m) → AreUnchanged n m
-unchanged-level n m before after own same each [] = untold-by _ _ (Some (own_content n)) (Some (own_content m)) (content-root n) (content-root m) (refl, own)
-unchanged-level n m before after own same each (e ∷ p) =
-    untold-by _ _ (content_in (child_at e (below n)) p) (content_in (child_at e (below m)) p) (content-level n e p before) (content-level m e p after)
-    (untold-in (below n) (below m) e p same each)
+-- of trees that are one nothing is told
+pub same-unchanged : (n m : Node) → AreSame n m → AreUnchanged n m
+same-unchanged n m h p =
+    (ap is_some (sym (h p)), ap (is_other_leaf (content_at (rows n) p)) (h p) ∙ other-itself (content_at (rows n) p))
 
 -- ---- nothing is told
 
@@ -74,7 +69,7 @@ module _ (n m : Node) (before : is_tree n ≡ true) (after : is_tree m ≡ true)
   nothing-here Removed = refl
 
   -- below unchanged trees nothing differs
-  pub nothing-below : (what : Difference) (ts : List (Rattle.ssa_path.specs.declared.element.Elem.Elem × Trie)) → ts ≡ [] → IsDiffering what n m ts
+  pub nothing-below : (what : Difference) (ts : List (Elem × Trie)) → ts ≡ [] → IsDiffering what n m ts
   nothing-below what [] none = record {
     paths_are = λ e p. sym (untold what _ e (child_at e (below n)) (child_at e (below m)) p
         (untold-by _ _ (content_at (rows n) (e ∷ p)) (content_at (rows m) (e ∷ p)) (sym (content-level n e p before)) (sym (content-level m e p after))
@@ -83,3 +78,24 @@ module _ (n m : Node) (before : is_tree n ≡ true) (after : is_tree m ≡ true)
     tries = refl;
   }
   nothing-below what (t ∷ ts) none = cc
+
+-- ---- a body beside itself
+
+neither-way : (a b : Bool) → ((a && b) && not a) ≡ false
+neither-way true b = and_false b
+neither-way false b = refl
+
+none-differs : (what : Difference) (b : Body) (q : Path) → has (difference_of what b b) q ≡ false
+none-differs Added b q =
+    has-set_of (set_paths (points b)) (λ p. not (has b p)) q
+    ∙ ap (λ t. t && not (has b q)) (sym (has-paths (points b) q) ∙ has-points b q) ∙ neither-way (has b q) (is_point b q)
+none-differs Modified b q =
+    has-set_of (set_paths b) (λ p. is_other_leaf (get b p) (get b p)) q
+    ∙ ap (λ t. is_one_of (set_paths b) q && t) (other-itself (get b q)) ∙ and_false _
+none-differs Removed b q =
+    has-set_of (set_paths b) (λ p. not (has b p)) q ∙ ap (λ t. t && not (has b q)) (sym (has-paths b q))
+    ∙ both-or-neither (has b q) (has b q) refl
+
+-- a body differs in nothing from itself
+pub no-difference : (what : Difference) (b : Body) → empty ≡ difference_of what b b
+no-difference what b = same_sets empty (difference_of what b b) (λ q. sym (none-differs what b q))

@@ -8,23 +8,23 @@ use Rattle.ssa_path.specs.declared.element.Elem.{Elem}
 use Rattle.ssa_typed.specs.declared.node.Node.{Node}
 
 -- an element, its node, and what the configuration has over that
-abbrev pub Merged : Type 0
-Merged = Elem × (Node × Option Node)
+abbrev pub MergedChild : Type 0
+MergedChild = Elem × (Node × Option Node)
 
 -- no live child has the child's element
 abbrev pub is_new : List (Elem × Node) → Elem × Node → Bool
 is_new live d = elim (child_at (element_view d.0) live) [ None ↦ true | Some c ↦ false ]
 
 -- a live child with the configuration's child of its element
-abbrev pub live_child : List (Elem × Node) → Elem × Node → Merged
+abbrev pub live_child : List (Elem × Node) → Elem × Node → MergedChild
 live_child config c = (c.0, (c.1, child_at (element_view c.0) config))
 
 -- a child that the configuration alone has
-abbrev pub new_child : Elem × Node → Merged
+abbrev pub new_child : Elem × Node → MergedChild
 new_child d = (d.0, (d.1, None))
 
 -- the live children, and behind them those that the configuration alone has
-abbrev pub merged : List (Elem × Node) → List (Elem × Node) → List Merged
+abbrev pub merged : List (Elem × Node) → List (Elem × Node) → List MergedChild
 merged live config = map (live_child config) live ++ map new_child (filter (is_new live) config)
 
 -- the first child of this element, with the element

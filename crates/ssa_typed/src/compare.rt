@@ -1,13 +1,13 @@
 //! What one body has otherwise than another that comes before it.
 ghost use Rattle.std.specs.Prelude.{◌≡◌, ◌&&◌, true, drop, Some, IfOk, OnOk};
-ghost use Rattle.ssa_model.specs.definitions.Body.{is_other_leaf};
+ghost use Rattle.ssa_model.specs.definitions.Body.{Body, is_other_leaf};
 ghost use Rattle.ssa_model.specs.definitions.PathMap.{is_empty};
 ghost use Rattle.ssa_path.specs.Children.{heads_order};
-ghost use Rattle.ssa_typed.specs.Differences.{AreDifferences, AreDiffering, AreUnchanged, IsToldAlone, TellsNothing};
+ghost use Rattle.ssa_typed.specs.Differences.{AreDifferences, AreDiffering, IsComparison, IsToldAlone, TellsNothing};
 ghost use Rattle.ssa_typed.specs.InOrder.{referred};
 ghost use Rattle.ssa_typed.specs.Rows.{is_tree, leaf_content, own_content};
 
-use crate::in_order::{in_order, stand_alike};
+use crate::in_order::in_order;
 use crate::node::{Leaf, Node};
 use crate::points::{Collected, collect_child};
 use ssa_path::combine::push_filled;
@@ -30,6 +30,17 @@ pub struct Comparison {
 }
 
 impl Comparison {
+    /// What a body differs in from itself: nothing. Takes no memory.
+    pub fn of_same(alloc: Global) -> Comparison
+        ensures { (b : Body) → IsComparison b b result }
+    {
+        Comparison {
+            added: FieldSet::new(alloc),
+            modified: FieldSet::new(alloc),
+            removed: FieldSet::new(alloc),
+        }
+    }
+
     /// Whether nothing differs but the order of lists.
     pub fn is_empty(&self) -> bool
         ensures { result ≡ (is_empty self.now.added && (is_empty self.now.modified && is_empty self.now.removed)) }
@@ -83,27 +94,6 @@ impl Node {
             (Node::List(_), _) => false,
         }
     }
-}
-
-// Whether both trees have the same places, in the same order, and no leaves that differ.
-fn is_unchanged(before: &Node, after: &Node) -> bool
-    requires before { is_tree before.now ≡ true }
-    requires after { is_tree after.now ≡ true }
-    ensures { result ≡ true → AreUnchanged before.now after.now }
-{
-    if before.is_other_leaf(after) {
-        return false;
-    }
-    let (own, others) = (before.children(), after.children());
-    if !stand_alike(own, others) {
-        return false;
-    }
-    for (i, child) in own.iter().enumerate() {
-        if !is_unchanged(&child.1, &others[i].1) {
-            return false;
-        }
-    }
-    true
 }
 
 // What is told of trees that are unchanged.
@@ -211,7 +201,7 @@ pub(crate) fn differing(alloc: Global, before: &Node, after: &Node) -> Result<Pa
     ensures { IfOk result (λ v. AreDifferences before.now after.now v) }
 {
     let is_record = matches!(after, Node::Branch(_));
-    if !is_record && is_unchanged(before, after) {
+    if !is_record && before.is_same(after) {
         return Ok(no_parts(alloc));
     }
     let below = differing_below(alloc, before, after)?;

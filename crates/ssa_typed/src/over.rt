@@ -1,8 +1,10 @@
-//! A configuration put over a live tree, in the configuration's own memory.
+//! A configuration put over a live tree, in the configuration's own memory. Each function tells whether what then
+//! stands there is the live tree; of `false` nothing is promised.
 ghost use Rattle.std.specs.Prelude.{◌≡◌, true, IfOk, OnOk};
 ghost use Rattle.ssa_path.specs.Children.{elements, rises};
 ghost use Rattle.ssa_typed.specs.Over.{AreAlikeBelow, AreAlikeTrees, AreOver, AreOverInOrder, IsOver};
 ghost use Rattle.ssa_typed.specs.Rows.{are_apart, are_trees, is_tree};
+ghost use Rattle.ssa_typed.specs.Same.{AreSame, AreSameChildren, HaveSame};
 
 use crate::in_order::{sort_children, stand_alike};
 use crate::merged_order::sorted_out;
@@ -18,19 +20,21 @@ fn over_alike(
     alloc: Global,
     live: &[(Elem, Node)],
     config: &mut Vec<(Elem, Node)>,
-) -> Result<(), AllocError>
+) -> Result<bool, AllocError>
     requires live { are_trees live.now ≡ true }
     requires config { are_trees config.old.items ≡ true }
     requires apart { are_apart (elements live.now) ≡ true }
     requires alike { AreAlikeBelow live.now config.old.items }
     requires same { elements live.now ≡ elements config.old.items }
-    ensures { OnOk result (AreOver live.now config.old.items config.new.items) }
+    ensures over { OnOk result (AreOver live.now config.old.items config.new.items) }
+    ensures same { IfOk result (λ same. same ≡ true → AreSameChildren live.now config.new.items) }
 {
+    let mut same = true;
     for (i, child) in live.iter().enumerate() {
         let own = &mut config[i];
-        over_node(alloc, &child.1, &mut own.1)?;
+        same &= over_node(alloc, &child.1, &mut own.1)?;
     }
-    Ok(())
+    Ok(same)
 }
 
 // The live children in their order, each with the configuration's child of its element over it, and
@@ -40,24 +44,26 @@ fn over_alike(
 fn over_found(
     alloc: Global,
     live: &[(Elem, Node)],
-    config: Vec<(Elem, Node)>,
-) -> Result<Vec<(Elem, Node)>, AllocError>
+    config: &mut Vec<(Elem, Node)>,
+) -> Result<bool, AllocError>
     requires live { are_trees live.now ≡ true }
-    requires config { are_trees config.items ≡ true }
+    requires config { are_trees config.old.items ≡ true }
     requires apart { are_apart (elements live.now) ≡ true }
-    requires config_apart { are_apart (elements config.items) ≡ true }
-    requires alike { AreAlikeBelow live.now config.items }
-    ensures { IfOk result (λ v. AreOver live.now config.items v.items) }
+    requires config_apart { are_apart (elements config.old.items) ≡ true }
+    requires alike { AreAlikeBelow live.now config.old.items }
+    ensures over { OnOk result (AreOver live.now config.old.items config.new.items) }
+    ensures same { IfOk result (λ same. same ≡ true → AreSameChildren live.now config.new.items) }
 {
-    let parts = sorted_out(alloc, live, config)?;
+    let parts = sorted_out(alloc, live, mem::replace(config, Vec::new(alloc)))?;
     let mut beside = parts.beside;
     let mut new = parts.new;
+    let mut same = new.is_empty();
     let mut merged = Vec::with_capacity(alloc, live.len())?;
     for (i, child) in live.iter().enumerate() {
         let own = mem::replace(&mut beside[i], None);
         match own {
             Some((element, mut node)) => {
-                over_node(alloc, &child.1, &mut node)?;
+                same &= over_node(alloc, &child.1, &mut node)?;
                 merged.push((element, node))?;
             }
             None => {
@@ -68,7 +74,8 @@ fn over_found(
         }
     }
     merged.append(&mut new)?;
-    Ok(merged)
+    *config = merged;
+    Ok(same)
 }
 
 // The items of a list over the live ones. A configuration mostly repeats the live children, so that
@@ -78,20 +85,19 @@ fn over_items(
     alloc: Global,
     live: &[(Elem, Node)],
     config: &mut Vec<(Elem, Node)>,
-) -> Result<(), AllocError>
+) -> Result<bool, AllocError>
     requires live { are_trees live.now ≡ true }
     requires config { are_trees config.old.items ≡ true }
     requires apart { are_apart (elements live.now) ≡ true }
     requires config_apart { are_apart (elements config.old.items) ≡ true }
     requires alike { AreAlikeBelow live.now config.old.items }
-    ensures { OnOk result (AreOver live.now config.old.items config.new.items) }
+    ensures over { OnOk result (AreOver live.now config.old.items config.new.items) }
+    ensures same { IfOk result (λ same. same ≡ true → AreSameChildren live.now config.new.items) }
 {
     if stand_alike(live, config) {
         return over_alike(alloc, live, config);
     }
-    let own = mem::replace(config, Vec::new(alloc));
-    *config = over_found(alloc, live, own)?;
-    Ok(())
+    over_found(alloc, live, config)
 }
 
 // The fields of a record or the entries of a Dict over the live ones, in the order of their elements.
@@ -100,35 +106,35 @@ fn over_fields(
     alloc: Global,
     live: &[(Elem, Node)],
     config: &mut Vec<(Elem, Node)>,
-) -> Result<(), AllocError>
+) -> Result<bool, AllocError>
     requires live { are_trees live.now ≡ true }
     requires config { are_trees config.old.items ≡ true }
     requires apart { are_apart (elements live.now) ≡ true }
     requires rise { rises (elements config.old.items) ≡ true }
     requires alike { AreAlikeBelow live.now config.old.items }
-    ensures { OnOk result (AreOverInOrder live.now config.old.items config.new.items) }
+    ensures over { OnOk result (AreOverInOrder live.now config.old.items config.new.items) }
+    ensures same { IfOk result (λ same. same ≡ true → HaveSame live.now config.new.items) }
 {
     if stand_alike(live, config) {
         return over_alike(alloc, live, config);
     }
-    let own = mem::replace(config, Vec::new(alloc));
-    let mut merged = over_found(alloc, live, own)?;
-    sort_children(&mut merged)?;
-    *config = merged;
-    Ok(())
+    let same = over_found(alloc, live, config)?;
+    sort_children(config)?;
+    Ok(same)
 }
 
 // Puts the configuration's tree over the live one: its content at each place that it has, else the
 // live tree's. Takes no memory where both have the same places in the same order.
 #[cycle(over)]
-pub(crate) fn over_node(alloc: Global, live: &Node, config: &mut Node) -> Result<(), AllocError>
+pub(crate) fn over_node(alloc: Global, live: &Node, config: &mut Node) -> Result<bool, AllocError>
     requires live { is_tree live.now ≡ true }
     requires config { is_tree config.old ≡ true }
     requires alike { AreAlikeTrees live.now config.old }
-    ensures { OnOk result (IsOver live.now config.old config.new) }
+    ensures over { OnOk result (IsOver live.now config.old config.new) }
+    ensures same { IfOk result (λ same. same ≡ true → AreSame live.now config.new) }
 {
     match config {
-        Node::Leaf(_) => Ok(()),
+        Node::Leaf(leaf) => Ok(live.is_leaf_of(leaf)),
         Node::Branch(children) => over_fields(alloc, live.children(), children),
         Node::Dict(children) => over_fields(alloc, live.children(), children),
         Node::List(children) => over_items(alloc, live.children(), children),

@@ -7,6 +7,7 @@ use Rattle.ssa_typed.proofs.Differing.{heads-are, lost-child, new-child, own-chi
 use Rattle.ssa_typed.proofs.Lookups.{tree-child}
 use Rattle.ssa_typed.proofs.References.{order-below}
 use Rattle.ssa_typed.proofs.Sizes.{smaller}
+use Rattle.ssa_typed.proofs.Unchanged.{same-unchanged}
 use Rattle.ssa_typed.proofs.compare.+differing.Goals as goal
 
 pub differing_below-push_alone-requires : goal.differing_below-push_alone-requires
@@ -120,6 +121,8 @@ differing_below-returns t c =
     c.order_at.ensures c.in_default.is) in
     past-all c.is_dict-in_dict.result rs ss n m _ _ _ c.is_dict-in_dict.ensures own other none.0 none.1 c.loop-order.invariant
 
-pub differing-returns-then-is_unchanged : goal.differing-returns-then-is_unchanged
-differing-returns-then-is_unchanged t c =
-    c.no_parts.ensures c.args.before.now c.args.after.now c.requires.before c.requires.after (c.is_unchanged.ensures c.if-is_unchanged.true)
+pub differing-returns-then-is_same : goal.differing-returns-then-is_same
+differing-returns-then-is_same t c =
+    let n = c.args.before.now in
+    let m = c.args.after.now in
+    c.no_parts.ensures n m c.requires.before c.requires.after (same-unchanged n m (c.is_same.ensures c.if-is_same.true))

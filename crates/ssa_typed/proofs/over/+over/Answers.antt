@@ -1,25 +1,29 @@
-use Rattle.std.proofs.Common.{◌<◌, ◌+◌, ◌*◌, length, refl, set, sym, ap, subst, ◌∙◌, arith, rules}
+use Rattle.std.specs.Prelude.{filter}
+use Rattle.std.proofs.Common.{◌<◌, ◌+◌, ◌*◌, length, refl, set, sym, ap, ◌∙◌, arith, rules}
 use Rattle.ssa_path.specs.Children.{elements}
 use Rattle.ssa_path.specs.View.{element_view}
-use Rattle.ssa_typed.specs.Over.{AreAlikeBelow}
-use Rattle.ssa_typed.specs.Rows.{are_apart, are_trees, below, rows, rows_below}
+use Rattle.ssa_path.proofs.Orders.{both_first, both_second}
+use Rattle.ssa_typed.specs.MergedOrder.{is_new}
+use Rattle.ssa_typed.specs.Rows.{below, leaf_content, rows, rows_below}
+use Rattle.ssa_typed.specs.Same.{AreSame}
 use Rattle.ssa_typed.specs.declared.node.Node.TheVariants
 use Rattle.ssa_typed.proofs.Building.{Child}
 use Rattle.ssa_typed.proofs.Levels.{Children, rises-apart}
 use Rattle.ssa_typed.proofs.Lookups.{child-tree}
-use Rattle.ssa_typed.proofs.OverNodes.{below-Branch, below-Dict, below-List, children-alike, config-apart, config-trees, dict-over, dict-rises, leaf-over, list-over, left-over, live-smaller, ok-gives, order-live, over-live, record-over, record-rises}
+use Rattle.ssa_typed.proofs.OverNodes.{below-Branch, below-Dict, below-List, children-alike, config-apart, config-trees, dict-over, dict-rises, dict-same, leaf-over, leaf-same, list-over, list-same, left-over, left-same, live-smaller, ok-gives, ok-gives-more, order-live, over-live, record-over, record-rises, record-same}
 use Rattle.ssa_typed.proofs.Overlaying.{over-apart}
-use Rattle.ssa_typed.proofs.Pairs.{other-there, overlaid-all, overlaid-more, overlaid-order, own-there, within}
+use Rattle.ssa_typed.proofs.Pairs.{each-next, each-put, other-there, overlaid-all, overlaid-more, overlaid-order, own-there, within}
+use Rattle.ssa_typed.proofs.SameTrees.{alike-same, merged-same, same-copy}
 use Rattle.ssa_typed.proofs.Sizes.{larger-children}
 use Rattle.ssa_typed.proofs.SortedOut.{config-child, merging-all, merging-copied, merging-own, own-child}
-use Rattle.ssa_typed.proofs.over.+over.Goals.{over_found-in-Some+in_ok-over_node-in-Some+in_ok-push-in-Some, over_found-in-None+in_ok-element-in-None+in_ok-node-in-None+in_ok-push-in-None}
+use Rattle.ssa_typed.proofs.over.+over.Goals.{over_found-in-Some+in_ok-same-in-Some+in_ok-push-in-Some, over_found-in-None+in_ok-element-in-None+in_ok-node-in-None+in_ok-push-in-None}
 use Rattle.ssa_typed.proofs.over.+over.Goals as goal
 
 pub over_alike-index_mut-own-requires : goal.over_alike-index_mut-own-requires
 over_alike-index_mut-own-requires t c =
     let v = c.loop-i.config in
     let there = within c.args.live.now c.args.config.now.items v.items c.loop-i.i c.index-live-i.result c.requires.same c.requires.apart c.loop-i-test.true
-    c.index-live-i.is c.loop-i.invariant in
+    c.index-live-i.is c.loop-i.invariant.0 in
     omega (arith, there, v.ok.0)
 
 pub over_alike-over_node-requires : goal.over_alike-over_node-requires
@@ -29,9 +33,10 @@ over_alike-over_node-requires t c =
     let child = c.index-live-i.result in
     let e = element_view child.0 in
     let d = c.index_mut-own.result.now in
-    let own = own-there cs ds c.loop-i.config.items c.loop-i.i child c.requires.same c.requires.apart c.loop-i-test.true c.index-live-i.is c.loop-i.invariant in
+    let own = own-there cs ds c.loop-i.config.items c.loop-i.i child c.requires.same c.requires.apart c.loop-i-test.true c.index-live-i.is
+    c.loop-i.invariant.0 in
     let other = other-there cs ds c.loop-i.config.items c.loop-i.i child c.requires.same c.requires.apart c.loop-i-test.true c.index-live-i.is
-    c.loop-i.invariant d c.index_mut-own.ensures.value in
+    c.loop-i.invariant.0 d c.index_mut-own.ensures.value in
     let part = larger-children e cs child.1 own in
     let small : 4 * length (rows child.1) < 4 * length (rows_below cs) + 1 = omega arith in (
       search (rules, small),
@@ -47,59 +52,55 @@ over_alike-over_node-requires t c =
 
 pub over_alike-loop-i-preserved : goal.over_alike-loop-i-preserved
 over_alike-loop-i-preserved t c =
-    overlaid-more c.args.live.now c.args.config.now.items c.loop-i.config.items c.loop-i.i c.index-live-i.result c.requires.same c.requires.apart
-    c.loop-i-test.true c.index-live-i.is c.loop-i.invariant
-    c.index_mut-own.result.now c.index_mut-own.ensures.value c.over_node.new.config _ c.in_ok-over_node.ensures refl
+    let cs = c.args.live.now in
+    let ds = c.args.config.now.items in
+    let xs = c.loop-i.config.items in
+    let i = c.loop-i.i in
+    let child = c.index-live-i.result in
+    let there = within cs ds xs i child c.requires.same c.requires.apart c.loop-i-test.true c.index-live-i.is c.loop-i.invariant.0 in (
+      overlaid-more cs ds xs i child c.requires.same c.requires.apart c.loop-i-test.true c.index-live-i.is c.loop-i.invariant.0
+          c.index_mut-own.result.now c.index_mut-own.ensures.value c.over_node.new.config _ c.in_ok-same.ensures.over refl,
+      λ h. each-put AreSame cs xs _ i child (c.index_mut-own.result.now.0, c.over_node.new.config) c.loop-i-test.true there c.index-live-i.is refl
+          (c.in_ok-same.ensures.same (both_second c.loop-i.same _ h)) (c.loop-i.invariant.1 (both_first c.loop-i.same _ h)),
+    )
 
-pub over_alike-returns : goal.over_alike-returns
-over_alike-returns t c = overlaid-all c.args.live.now c.args.config.now.items c.loop-i.config.items c.loop-i.i c.requires.same c.loop-i-test.false
-    c.loop-i.invariant
+pub over_alike-returns-clause-over : goal.over_alike-returns-clause-over
+over_alike-returns-clause-over t c =
+    overlaid-all c.args.live.now c.args.config.now.items c.loop-i.config.items c.loop-i.i c.requires.same c.loop-i-test.false c.loop-i.invariant.0
 
-pub over_fields-returns-then-stand_alike : goal.over_fields-returns-then-stand_alike
-over_fields-returns-then-stand_alike t c =
+pub over_alike-returns-clause-same : goal.over_alike-returns-clause-same
+over_alike-returns-clause-same t c same =
+    alike-same c.args.live.now c.args.config.now.items c.loop-i.config.items c.loop-i.i c.requires.same c.loop-i-test.false
+    (over_alike-returns-clause-over t c) (c.loop-i.invariant.1 same)
+
+pub over_fields-returns-then-stand_alike-clause-over : goal.over_fields-returns-then-stand_alike-clause-over
+over_fields-returns-then-stand_alike-clause-over t c =
     let same = c.stand_alike.ensures c.if-stand_alike.true ∙ ap elements c.deref.ensures.value in
-    ok-gives c.over_alike.result c.over_alike.ensures (overlaid-order c.args.live.now c.args.config.now.items c.over_alike.new.config.items same
+    ok-gives c.over_alike.result c.over_alike.ensures.over (overlaid-order c.args.live.now c.args.config.now.items c.over_alike.new.config.items same
     c.requires.rise)
 
 pub over_fields-over_found-requires : goal.over_fields-over_found-requires
 over_fields-over_found-requires t c =
-    let own = ap (λ (v : Children). v.items) c.replace-own.ensures.value in
-    let apart = ap (λ l. are_apart (elements l)) own ∙ rises-apart (elements c.args.config.now.items) c.requires.rise in (
-      search rules,
-      (
-        c.requires.live,
-        (
-          ap are_trees own ∙ c.requires.config,
-          (
-            c.requires.apart,
-            (
-              apart,
-              subst (AreAlikeBelow c.args.live.now) (sym own)
-                  c.requires.alike,
-            ),
-          ),
-        ),
-      ),
-    )
+    let apart = rises-apart (elements c.args.config.now.items) c.requires.rise in
+    (search rules, (c.requires.live, (c.requires.config, (c.requires.apart, (apart, c.requires.alike)))))
 
 pub over_fields-sort_children-requires : goal.over_fields-sort_children-requires
 over_fields-sort_children-requires t c =
-    let own = ap (λ (v : Children). v.items) c.replace-own.ensures.value in
-    over-apart c.args.live.now c.replace-own.result.items c.in_ok-merged.merged.items c.requires.apart
-    (ap (λ l. are_apart (elements l)) own ∙ rises-apart (elements c.args.config.now.items) c.requires.rise) c.in_ok-merged.ensures
+    over-apart c.args.live.now c.args.config.now.items c.over_found.new.config.items c.requires.apart
+    (rises-apart (elements c.args.config.now.items) c.requires.rise) c.in_ok-same.ensures.over
 
 pub over_found-over_node-requires : goal.over_found-over_node-requires
 over_found-over_node-requires t c =
     let cs = c.args.live.now in
-    let ds = c.args.config.items in
+    let ds = c.args.config.now.items in
     let slots = c.loop-i.beside.items in
     let xs = c.loop-i.merged.items in
     let i = c.loop-i.i in
     let child = c.index-live-i.result in
     let e = element_view child.0 in
     let d : Child = (c.in-Some.element, c.in-Some.node) in
-    let own = own-child cs ds slots xs i child c.index_mut.result.now c.requires.apart c.loop-i-test.true c.index-live-i.is c.loop-i.invariant in
-    let other = config-child cs ds slots xs i child c.index_mut.result.now c.requires.apart c.loop-i-test.true c.index-live-i.is c.loop-i.invariant
+    let own = own-child cs ds slots xs i child c.index_mut.result.now c.requires.apart c.loop-i-test.true c.index-live-i.is c.loop-i.invariant.0 in
+    let other = config-child cs ds slots xs i child c.index_mut.result.now c.requires.apart c.loop-i-test.true c.index-live-i.is c.loop-i.invariant.0
     c.index_mut.ensures.value d (sym c.in-Some.ensures.value) in
     let part = larger-children e cs child.1 own in
     let small : 4 * length (rows child.1) < 4 * length (rows_below cs) + 1 = omega arith in (
@@ -117,57 +118,74 @@ over_found-over_node-requires t c =
 pub over_found-loop-i-preserved : goal.over_found-loop-i-preserved
 over_found-loop-i-preserved t c =
     let cs = c.args.live.now in
-    let ds = c.args.config.items in
+    let ds = c.args.config.now.items in
     let slots = c.loop-i.beside.items in
     let xs = c.loop-i.merged.items in
     let i = c.loop-i.i in
     let child = c.index-live-i.result in
     let o = c.index_mut.result.now in
+    let merging = c.loop-i.invariant.0 in
+    let so_far = c.loop-i.invariant.1 in
     let emptied = ap (set slots i) c.replace-own.ensures.after in
     elim c.match-own.branch [
-      | over_found-in-Some+in_ok-over_node-in-Some+in_ok-push-in-Some w ↦
-          merging-own cs ds slots xs i child o c.requires.apart c.loop-i-test.true c.index-live-i.is c.loop-i.invariant c.index_mut.ensures.value
-          (w.in-Some.element, w.in-Some.node) w.over_node.new.config c.match-own.merged.items _
-          (sym w.in-Some.ensures.value) w.in_ok-over_node-in-Some.ensures (ap (λ (v : Children). v.items) w.merged-is ∙ w.in_ok-push-in-Some.ensures.items)
-          emptied
+      | over_found-in-Some+in_ok-same-in-Some+in_ok-push-in-Some w ↦
+          let pushed = ap (λ (v : Children). v.items) w.merged-is ∙ w.in_ok-push-in-Some.ensures.items in
+          let made = w.in_ok-same-in-Some.ensures in (
+            merging-own cs ds slots xs i child o c.requires.apart c.loop-i-test.true c.index-live-i.is merging c.index_mut.ensures.value
+                (w.in-Some.element, w.in-Some.node) w.over_node.new.config c.match-own.merged.items _ (sym w.in-Some.ensures.value) made.over pushed emptied,
+            λ h.
+                let both = sym w.same-is ∙ h in
+                let before = so_far (both_first c.loop-i.same _ both) in (
+                  before.0,
+                  each-next AreSame cs xs c.match-own.merged.items i child (w.in-Some.element, w.over_node.new.config) c.loop-i-test.true c.index-live-i.is
+                      pushed (made.same (both_second c.loop-i.same _ both)) before.1,
+                ),
+          )
       | over_found-in-None+in_ok-element-in-None+in_ok-node-in-None+in_ok-push-in-None w ↦
-          let own = own-child cs ds slots xs i child o c.requires.apart c.loop-i-test.true c.index-live-i.is c.loop-i.invariant in
-          merging-copied cs ds slots xs i child o c.requires.apart c.loop-i-test.true c.index-live-i.is c.loop-i.invariant c.index_mut.ensures.value
-          (w.in_ok-element-in-None.element, w.in_ok-node-in-None.node) c.match-own.merged.items _
-          (sym w.in-None.ensures.value) (child-tree (element_view child.0) cs child.1 c.requires.live own) w.in_ok-element-in-None.ensures
-          w.in_ok-node-in-None.ensures
-          (ap (λ (v : Children). v.items) w.merged-is ∙ w.in_ok-push-in-None.ensures.items) emptied
+          let own = own-child cs ds slots xs i child o c.requires.apart c.loop-i-test.true c.index-live-i.is merging in
+          let pushed = ap (λ (v : Children). v.items) w.merged-is ∙ w.in_ok-push-in-None.ensures.items in
+          let x : Child = (w.in_ok-element-in-None.element, w.in_ok-node-in-None.node) in
+          let copy = w.in_ok-node-in-None.ensures in (
+            merging-copied cs ds slots xs i child o c.requires.apart c.loop-i-test.true c.index-live-i.is merging c.index_mut.ensures.value
+                x c.match-own.merged.items _ (sym w.in-None.ensures.value) (child-tree (element_view child.0) cs child.1 c.requires.live own)
+                w.in_ok-element-in-None.ensures copy pushed emptied,
+            λ h.
+                let before = so_far (sym w.same-is ∙ h) in (
+                  before.0,
+                  each-next AreSame cs xs c.match-own.merged.items i child x c.loop-i-test.true c.index-live-i.is pushed (same-copy child.1 x.1 copy) before.1,
+                ),
+          )
     ]
 
-pub over_found-returns : goal.over_found-returns
-over_found-returns t c =
-    merging-all c.args.live.now c.args.config.items c.loop-i.beside.items c.loop-i.merged.items c.in_ok-parts.parts.new.items c.append.new.self.items
-    c.loop-i.i c.loop-i-test.false c.requires.config c.loop-i.invariant
-    c.in_ok-parts.ensures.new c.in_ok-append.ensures.items
+pub over_found-returns-clause-over : goal.over_found-returns-clause-over
+over_found-returns-clause-over t c =
+    let cs = c.args.live.now in
+    let new = c.in_ok-parts.ensures.new ∙ ap (λ (v : Children). filter (is_new cs) v.items) c.replace.ensures.value in
+    merging-all cs c.args.config.now.items c.loop-i.beside.items c.loop-i.merged.items c.in_ok-parts.parts.new.items c.append.new.self.items
+    c.loop-i.i c.loop-i-test.false c.requires.config c.loop-i.invariant.0 new c.in_ok-append.ensures.items
 
-pub over_items-over_found-requires : goal.over_items-over_found-requires
-over_items-over_found-requires t c =
-    let own = ap (λ (v : Children). v.items) c.replace-own.ensures.value in
-    let apart = ap (λ l. are_apart (elements l)) own ∙ c.requires.config_apart in (
-      search rules,
-      (
-        c.requires.live,
-        (
-          ap are_trees own ∙ c.requires.config,
-          (
-            c.requires.apart,
-            (
-              apart,
-              subst (AreAlikeBelow c.args.live.now) (sym own)
-                  c.requires.alike,
-            ),
-          ),
-        ),
-      ),
-    )
+pub over_found-returns-clause-same : goal.over_found-returns-clause-same
+over_found-returns-clause-same t c same =
+    let cs = c.args.live.now in
+    let new = c.in_ok-parts.ensures.new ∙ ap (λ (v : Children). filter (is_new cs) v.items) c.replace.ensures.value in
+    let left = c.loop-i.invariant.1 same in
+    merged-same cs c.args.config.now.items c.loop-i.merged.items c.in_ok-parts.parts.new.items c.append.new.self.items
+    c.loop-i.i c.loop-i-test.false new c.in_ok-append.ensures.items (over_found-returns-clause-over t c) left.0 left.1
 
-pub over_node-returns-in-Leaf : goal.over_node-returns-in-Leaf
-over_node-returns-in-Leaf t c = leaf-over c.args.live.now c.args.config.now c.requires.live c.requires.config c.requires.alike _ c.in-Leaf.is
+pub over_node-returns-in-Leaf-clause-over : goal.over_node-returns-in-Leaf-clause-over
+over_node-returns-in-Leaf-clause-over t c =
+    let n = c.args.live.now in
+    let m = c.args.config.now in
+    left-over n m _ (TheVariants.Leaf c.in-Leaf.leaf) (rw (c.in-Leaf.is, TheVariants.outs-Leaf c.in-Leaf.leaf) refl)
+    (leaf-over n m c.requires.live c.requires.config c.requires.alike c.in-Leaf.leaf c.in-Leaf.is)
+
+pub over_node-returns-in-Leaf-clause-same : goal.over_node-returns-in-Leaf-clause-same
+over_node-returns-in-Leaf-clause-same t c h =
+    let n = c.args.live.now in
+    let m = c.args.config.now in
+    left-same n _ (TheVariants.Leaf c.in-Leaf.leaf) (rw (c.in-Leaf.is, TheVariants.outs-Leaf c.in-Leaf.leaf) refl)
+    (leaf-same n m c.requires.live c.requires.config c.requires.alike c.in-Leaf.leaf c.in-Leaf.is
+    (sym (ap leaf_content c.in-Leaf.leaf-is) ∙ c.is_leaf_of.ensures h))
 
 pub over_node-over_fields-requires : goal.over_node-over_fields-requires
 over_node-over_fields-requires t c =
@@ -194,12 +212,12 @@ over_node-over_fields-requires t c =
       ),
     )
 
-pub over_node-returns-in-Branch : goal.over_node-returns-in-Branch
-over_node-returns-in-Branch t c =
+pub over_node-returns-in-Branch-clause-over : goal.over_node-returns-in-Branch-clause-over
+over_node-returns-in-Branch-clause-over t c =
     let n = c.args.live.now in
     let m = c.args.config.now in
     let is = c.in-Branch.is ∙ ap TheVariants.Branch (sym c.in-Branch.children-is) in
-    ok-gives c.over_fields.result c.over_fields.ensures
+    ok-gives c.over_fields.result c.over_fields.ensures.over
     (λ h. left-over n m _ (TheVariants.Branch c.over_fields.new.config) (rw (c.in-Branch.is, TheVariants.outs-Branch c.in-Branch.children) refl)
     (record-over n m c.requires.live c.requires.config c.requires.alike c.over_fields.new.config _ is (order-live _ _ _ _ c.children.ensures.own h)))
 
@@ -228,12 +246,12 @@ over_node-over_fields-requires-in-Dict t c =
       ),
     )
 
-pub over_node-returns-in-Dict : goal.over_node-returns-in-Dict
-over_node-returns-in-Dict t c =
+pub over_node-returns-in-Dict-clause-over : goal.over_node-returns-in-Dict-clause-over
+over_node-returns-in-Dict-clause-over t c =
     let n = c.args.live.now in
     let m = c.args.config.now in
     let is = c.in-Dict.is ∙ ap TheVariants.Dict (sym c.in-Dict.children-is) in
-    ok-gives c.over_fields-in-Dict.result c.over_fields-in-Dict.ensures
+    ok-gives c.over_fields-in-Dict.result c.over_fields-in-Dict.ensures.over
     (λ h. left-over n m _ (TheVariants.Dict c.over_fields-in-Dict.new.config) (rw (c.in-Dict.is, TheVariants.outs-Dict c.in-Dict.children) refl)
     (dict-over n m c.requires.live c.requires.config c.requires.alike c.over_fields-in-Dict.new.config _ is
     (order-live _ _ _ _ c.children-in-Dict.ensures.own h)))
@@ -263,11 +281,41 @@ over_node-over_items-requires t c =
       ),
     )
 
-pub over_node-returns-in-List : goal.over_node-returns-in-List
-over_node-returns-in-List t c =
+pub over_node-returns-in-List-clause-over : goal.over_node-returns-in-List-clause-over
+over_node-returns-in-List-clause-over t c =
     let n = c.args.live.now in
     let m = c.args.config.now in
     let is = c.in-List.is ∙ ap TheVariants.List (sym c.in-List.children-is) in
-    ok-gives c.over_items.result c.over_items.ensures
+    ok-gives c.over_items.result c.over_items.ensures.over
     (λ h. left-over n m _ (TheVariants.List c.over_items.new.config) (rw (c.in-List.is, TheVariants.outs-List c.in-List.children) refl)
     (list-over n m c.requires.live c.requires.config c.requires.alike c.over_items.new.config _ is (over-live _ _ _ _ c.children-in-List.ensures.own h)))
+
+pub over_node-returns-in-Branch-clause-same : goal.over_node-returns-in-Branch-clause-same
+over_node-returns-in-Branch-clause-same t c =
+    let n = c.args.live.now in
+    let m = c.args.config.now in
+    let is = c.in-Branch.is ∙ ap TheVariants.Branch (sym c.in-Branch.children-is) in
+    ok-gives-more c.over_fields.result c.over_fields.ensures.over c.over_fields.ensures.same
+    (λ _ over same h. left-same n _ (TheVariants.Branch c.over_fields.new.config) (rw (c.in-Branch.is, TheVariants.outs-Branch c.in-Branch.children) refl)
+    (record-same n m c.requires.live c.requires.config c.requires.alike c.over_fields.new.config _ c.children.result.now c.children.ensures.own is
+    over (same h)))
+
+pub over_node-returns-in-Dict-clause-same : goal.over_node-returns-in-Dict-clause-same
+over_node-returns-in-Dict-clause-same t c =
+    let n = c.args.live.now in
+    let m = c.args.config.now in
+    let is = c.in-Dict.is ∙ ap TheVariants.Dict (sym c.in-Dict.children-is) in
+    ok-gives-more c.over_fields-in-Dict.result c.over_fields-in-Dict.ensures.over c.over_fields-in-Dict.ensures.same
+    (λ _ over same h. left-same n _ (TheVariants.Dict c.over_fields-in-Dict.new.config) (rw (c.in-Dict.is, TheVariants.outs-Dict c.in-Dict.children) refl)
+    (dict-same n m c.requires.live c.requires.config c.requires.alike c.over_fields-in-Dict.new.config _ c.children-in-Dict.result.now
+    c.children-in-Dict.ensures.own is over (same h)))
+
+pub over_node-returns-in-List-clause-same : goal.over_node-returns-in-List-clause-same
+over_node-returns-in-List-clause-same t c =
+    let n = c.args.live.now in
+    let m = c.args.config.now in
+    let is = c.in-List.is ∙ ap TheVariants.List (sym c.in-List.children-is) in
+    ok-gives-more c.over_items.result c.over_items.ensures.over c.over_items.ensures.same
+    (λ _ over same h. left-same n _ (TheVariants.List c.over_items.new.config) (rw (c.in-List.is, TheVariants.outs-List c.in-List.children) refl)
+    (list-same n m c.requires.live c.requires.config c.requires.alike c.over_items.new.config _ c.children-in-List.result.now c.children-in-List.ensures.own is
+    over (same h)))
