@@ -1,14 +1,13 @@
 //! Tests of bodies beside others, and beside sets of paths.
 ghost use Rattle.std.specs.Prelude.{◌≡◌, IfOk};
 ghost use Rattle.ssa_model.specs.definitions.Valid.{metadata_path};
-ghost use Rattle.ssa_typed.specs.Alike.{AreAlike};
 
 use crate::samples::PLACES;
 use crate::support::{are_told, bodies, body, listed, look_at, set, shown};
 use ssa_path::element::Elem;
 use ssa_path::field_set::FieldSet;
 use ssa_path::path::Path;
-use ssa_typed::body::Body;
+use ssa_typed::body::{Body, Merged};
 use ssa_typed::compare::Comparison;
 use std::alloc::Global;
 use std::test::Fail;
@@ -48,16 +47,15 @@ const OVER: [((&str, &str), &str); 6] = [
 ];
 
 // The second body over the first.
-fn merged(alloc: Global, live: &Body, config: Body) -> Result<String, Fail>
-    requires { AreAlike live.now config }
-{
-    shown(alloc, &live.over(alloc, config)?)
+fn over(alloc: Global, live: &str, config: &str) -> Result<Merged, Fail> {
+    let (live, config) = bodies(alloc, PLACES, live, config)?;
+    Ok(live.over(alloc, config)?)
 }
 
-// The same of their texts.
-fn merged_texts(alloc: Global, live: &str, config: &str) -> Result<String, Fail> {
-    let (live, config) = bodies(alloc, PLACES, live, config)?;
-    merged(alloc, &live, config)
+// What is shown of the second body over the first.
+fn shown_over(alloc: Global, live: &str, config: &str) -> Result<String, Fail> {
+    let merged = over(alloc, live, config)?;
+    shown(alloc, &merged.body)
 }
 
 #[test]
@@ -65,7 +63,66 @@ fn configurations_are_merged(rt: HostRuntime) -> Result<(), Fail> {
     are_told(
         rt.alloc(),
         &OVER,
-        |alloc, (live, config)| merged_texts(alloc, live, config),
+        |alloc, (live, config)| shown_over(alloc, live, config),
+    )
+}
+
+// A live body and a configuration, and whether the one with the other over it is told to be as it was.
+const LEFT: [((&str, &str), &str); 12] = [
+    (
+        (
+            r#"{"a":1,"d":{"x":1},"l":[{"n":2,"t":1},{"n":1}],"s":[2,1],"v":[1,2]}"#,
+            r#"{"a":1,"d":{"x":1},"l":[{"n":2,"t":1},{"n":1}],"s":[2,1],"v":[1,2]}"#,
+        ),
+        "as it was",
+    ),
+    (
+        (
+            r#"{"a":1,"d":{"x":1,"z":1},"l":[{"n":2,"t":1},{"n":1}],"r":{"x":1},"s":[2,1]}"#,
+            r#"{"d":{"z":1},"l":[{"n":1}],"r":{},"s":[1]}"#,
+        ),
+        "as it was",
+    ),
+    ((r#"{"s":[3,2,1]}"#, r#"{"s":[1,3,2]}"#), "as it was"),
+    (
+        (
+            r#"{"l":[{"n":2,"t":1},{"n":1}]}"#,
+            r#"{"l":[{"n":1},{"n":2,"t":1}]}"#,
+        ),
+        "as it was",
+    ),
+    ((r#"{"a":1}"#, r#"{"a":2}"#), "other"),
+    (
+        (r#"{"d":{"x":1,"z":1}}"#, r#"{"d":{"x":2,"z":1}}"#),
+        "other",
+    ),
+    (
+        (
+            r#"{"l":[{"n":2,"t":1},{"n":1}]}"#,
+            r#"{"l":[{"n":2,"t":2}]}"#,
+        ),
+        "other",
+    ),
+    ((r#"{"s":[2,1]}"#, r#"{"s":[2,1,3]}"#), "other"),
+    ((r#"{"s":[2,1]}"#, r#"{"s":[0,1,2]}"#), "other"),
+    ((r#"{"a":1}"#, r#"{"a":1,"r":{"x":1}}"#), "other"),
+    ((r#"{"l":[{"n":1}]}"#, r#"{"l":[{"n":1,"t":1}]}"#), "other"),
+    ((r#"{"v":[1,2]}"#, r#"{"v":[2,1]}"#), "other"),
+];
+
+// Whether the first body is told to be as it was, with the second over it.
+fn told_over(alloc: Global, live: &str, config: &str) -> Result<String, Fail> {
+    let merged = over(alloc, live, config)?;
+    let told = if merged.is_live { "as it was" } else { "other" };
+    Ok(String::from_str(alloc, told)?)
+}
+
+#[test]
+fn bodies_left_as_they_were_are_told(rt: HostRuntime) -> Result<(), Fail> {
+    are_told(
+        rt.alloc(),
+        &LEFT,
+        |alloc, (live, config)| told_over(alloc, live, config),
     )
 }
 
