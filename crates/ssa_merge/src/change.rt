@@ -1,6 +1,6 @@
 //! What a command changes of a state, told without what stays.
 ghost use Rattle.std.specs.Prelude.{◌≡◌, ◌≤◌, ◌||◌, not, true, IfOk};
-ghost use Rattle.ssa_model.specs.definitions.Body.{points};
+ghost use Rattle.ssa_model.specs.definitions.Body.{Body as ModelBody, points};
 ghost use Rattle.ssa_model.specs.definitions.Fitting.{IsBodyOf};
 ghost use Rattle.ssa_model.specs.definitions.History.{is_manager_name};
 ghost use Rattle.ssa_model.specs.definitions.Kind.{Kind};
@@ -11,6 +11,7 @@ ghost use Rattle.ssa_model.specs.definitions.Operations as model;
 ghost use Rattle.ssa_model.specs.definitions.Operations.{apply, update, strip, is_none};
 ghost use Rattle.ssa_model.specs.definitions.Valid.{AllEntries, IsValidState, OwnsOwnable};
 ghost use Rattle.ssa_typed.specs.Alike.{AreAlike};
+ghost use Rattle.ssa_typed.specs.Differences.{IsComparison};
 ghost use Rattle.ssa_merge.specs.Managers.{clashes_view, key_view, operation_view};
 ghost use Rattle.ssa_merge.specs.States.{state_view, applier, updater};
 ghost use Rattle.ssa_merge.specs.Plans.{body_after, changed_state, ChangesInOrder, IsChange, IsChanged, IsPlan};
@@ -24,7 +25,7 @@ use crate::state::State;
 use crate::table_change::TableChange;
 use ssa_json::moment::Moment;
 use ssa_path::field_set::FieldSet;
-use ssa_typed::body::{Body, MOST_PLACES};
+use ssa_typed::body::{Body, MOST_PLACES, Merged};
 use ssa_typed::compare::Comparison;
 use std::alloc::{AllocError, Global};
 
@@ -89,6 +90,28 @@ fn body_if_other(live: &Body, after: Body, comparison: &Comparison) -> Option<Bo
     }
 }
 
+// How the merged body differs from the live one.
+fn compared(alloc: Global, live: &Body, merged: &Merged) -> Result<Comparison, AllocError>
+    requires { merged.now.is_live ≡ true → merged.now.body ≡ live.now }
+    ensures { IfOk result (IsComparison live.now merged.now.body) }
+{
+    if merged.is_live {
+        return Ok(Comparison::of_same(alloc));
+    }
+    live.compare(alloc, &merged.body)
+}
+
+// The merged body, none where it is the live body.
+fn unless_live(merged: Merged) -> Option<Body>
+    ensures { (live : ModelBody) → (merged.is_live ≡ true → merged.body ≡ live) → body_after result live ≡ merged.body }
+{
+    if merged.is_live {
+        None
+    } else {
+        Some(merged.body)
+    }
+}
+
 // What an Apply of a configuration with these points changes: the manager then owns them.
 fn applied_with(
     alloc: Global,
@@ -105,19 +128,19 @@ fn applied_with(
     requires points { owned.now ≡ points config }
     ensures { IsChanged (state_view state.now) result (apply (state_view state.now) (key_view key.now) config force at) }
 {
-    let body = pruned(alloc, state, key, config, owned)?;
-    let comparison = state.body.compare(alloc, &body)?;
+    let merged = pruned(alloc, state, key, config, owned)?;
+    let comparison = compared(alloc, &state.body, &merged)?;
     let changed = &comparison.modified;
     let found = clashes(alloc, state.managers.entries(), key, changed)?;
     if has_conflict(force, &found) {
         return Err(Refusal::Conflict(found));
     }
-    if body.size() > MOST_PLACES {
+    if merged.body.size() > MOST_PLACES {
         return Err(Refusal::TooManyPaths);
     }
     match seat(alloc, &state.managers, key, owned, changed, changed, at) {
         Ok(table) => Ok(Change {
-            body: body_if_other(&state.body, body, &comparison),
+            body: unless_live(merged),
             table,
             comparison,
         }),
@@ -243,10 +266,9 @@ pub fn change_strip(alloc: Global, state: &State) -> Result<Change, AllocError>
     ensures order { IfOk result (ChangesInOrder (state_view state.now)) }
 {
     let table = emptied(alloc, &state.managers)?;
-    let comparison = state.body.compare(alloc, &state.body)?;
     Ok(Change {
         body: None,
         table,
-        comparison,
+        comparison: Comparison::of_same(alloc),
     })
 }

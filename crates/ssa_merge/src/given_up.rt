@@ -1,5 +1,5 @@
 //! What an applier gives up, and what stays of the merged body.
-ghost use Rattle.std.specs.Prelude.{◌≡◌, not, ◌&&◌, IfOk};
+ghost use Rattle.std.specs.Prelude.{◌≡◌, not, ◌&&◌, true, IfOk};
 ghost use Rattle.ssa_model.specs.definitions.PathMap.{has_at_or_below, paths, set_of, union};
 ghost use Rattle.ssa_model.specs.definitions.Path.{is_key_field, is_root};
 ghost use Rattle.ssa_model.specs.definitions.Body.{points};
@@ -17,7 +17,7 @@ use crate::owned::owned_over;
 use crate::state::State;
 use ssa_path::field_set::FieldSet;
 use ssa_path::path::Path;
-use ssa_typed::body::Body;
+use ssa_typed::body::{Body, Merged};
 use std::alloc::{AllocError, Global};
 
 // The set without the root.
@@ -102,11 +102,12 @@ pub fn pruned(
     key: &ManagerKey,
     config: Body,
     config_points: &FieldSet,
-) -> Result<Body, AllocError>
+) -> Result<Merged, AllocError>
     requires alike { AreAlike state.now.body config }
     requires owned { AllEntries (OwnsOwnable state.now.body) state.now.managers }
     requires points { config_points.now ≡ points config }
-    ensures { IfOk result (λ b. b ≡ pruned (state_view state.now) (key_view key.now) config) }
+    ensures body { IfOk result (λ m. m.body ≡ pruned (state_view state.now) (key_view key.now) config) }
+    ensures live { IfOk result (λ m. m.is_live ≡ true → m.body ≡ state.now.body) }
 {
     let absent = left_out(alloc, state, key, &config, config_points)?;
     config.stands_rooted();
@@ -115,13 +116,17 @@ pub fn pruned(
     let table = state.managers.entries();
     let gone = unneeded(alloc, &absent, table, key)?;
     if gone.is_empty() {
-        merged.points_keep_all();
+        merged.body.points_keep_all();
         return Ok(merged);
     }
     let held = held_over(alloc, table, key, config_points, &gone)?;
-    merged.stands_rooted();
-    merged.points_tell_places();
-    merged.parts_are_of_places();
-    let body = merged.cut(alloc, &gone, &held)?;
-    Ok(body)
+    let whole = merged.body;
+    whole.stands_rooted();
+    whole.points_tell_places();
+    whole.parts_are_of_places();
+    let body = whole.cut(alloc, &gone, &held)?;
+    Ok(Merged {
+        body,
+        is_live: false,
+    })
 }

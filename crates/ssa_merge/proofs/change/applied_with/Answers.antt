@@ -1,6 +1,6 @@
 -- What an Apply of a configuration with these points changes, where it conflicts, has too many paths, is seated or is refused a seat.
 use Rattle.std.proofs.Common.{◌≡◌, ap, ◌∙◌, sym, subst, refl, not, ◌||◌}
-use Rattle.std.specs.Prelude.{Result, Ok, Err, Some}
+use Rattle.std.specs.Prelude.{Result, Ok, Err}
 use Rattle.ssa_model.specs.definitions.PathMap.{size}
 use Rattle.ssa_model.specs.definitions.Body.{points, modified}
 use Rattle.ssa_model.specs.definitions.Table.{Table, seat}
@@ -19,7 +19,7 @@ returns-then-has_conflict c =
     let state = state_view c.args.state.now in
     let a = key_view c.args.key.now in
     let config = c.args.config in
-    let body = c.in_ok-body.body in
+    let body = c.in_ok-merged.merged.body in
     let found = clashes_view c.in_ok-found.found.items in
     let changed = modified state.body body in
     let table = seat state.table a (points config) changed changed c.args.at in
@@ -27,7 +27,7 @@ returns-then-has_conflict c =
     let unforced = ap (λ cs. not (c.args.force || is_none (clashes_view cs))) (sym c.deref.ensures.value) ∙ sym c.has_conflict.ensures
     ∙ c.if-has_conflict.true in (
       conflict found,
-      apply-decided state a config c.args.force c.args.at body found (size body) table c.in_ok-body.ensures clash_is refl refl
+      apply-decided state a config c.args.force c.args.at body found (size body) table c.in_ok-merged.ensures.body clash_is refl refl
           ∙ decided-conflict c.args.force found (size body) body table unforced,
       refl,
     )
@@ -37,7 +37,7 @@ returns-then-size-gt-MOST_PLACES c =
     let state = state_view c.args.state.now in
     let a = key_view c.args.key.now in
     let config = c.args.config in
-    let body = c.in_ok-body.body in
+    let body = c.in_ok-merged.merged.body in
     let found = clashes_view c.in_ok-found.found.items in
     let changed = modified state.body body in
     let table = seat state.table a (points config) changed changed c.args.at in
@@ -45,7 +45,7 @@ returns-then-size-gt-MOST_PLACES c =
     let quiet = ap (λ cs. not (c.args.force || is_none (clashes_view cs))) (sym c.deref.ensures.value) ∙ sym c.has_conflict.ensures
     ∙ c.if-has_conflict.false in (
       too_many_paths,
-      apply-decided state a config c.args.force c.args.at body found (size body) table c.in_ok-body.ensures clash_is refl refl
+      apply-decided state a config c.args.force c.args.at body found (size body) table c.in_ok-merged.ensures.body clash_is refl refl
           ∙ decided-paths c.args.force found (size body) body table quiet (more_places c.size.result (size body) c.size.ensures c.if-size-gt-MOST_PLACES.true),
       refl,
     )
@@ -55,7 +55,7 @@ returns-in-Ok c =
     let state = state_view c.args.state.now in
     let a = key_view c.args.key.now in
     let config = c.args.config in
-    let body = c.in_ok-body.body in
+    let body = c.in_ok-merged.merged.body in
     let found = clashes_view c.in_ok-found.found.items in
     let changed = modified state.body body in
     let table = seat state.table a (points config) changed changed c.args.at in
@@ -65,19 +65,20 @@ returns-in-Ok c =
     let seats : ◌≡◌ {A = Table} (seat state.table a c.args.owned.now c.in_ok-comparison.comparison.modified c.in_ok-comparison.comparison.modified
     c.args.at) table
     = λ i. seat state.table a (c.requires.points i) (c.in_ok-comparison.ensures.modified_are i) (c.in_ok-comparison.ensures.modified_are i) c.args.at in
-    let given = apply-decided state a config c.args.force c.args.at body found (size body) table c.in_ok-body.ensures clash_is refl refl in
-    let change : Change = record { body = c.body_if_other.result; table = c.in-Ok.table; comparison = c.in_ok-comparison.comparison } in
+    let given = apply-decided state a config c.args.force c.args.at body found (size body) table c.in_ok-merged.ensures.body clash_is refl refl in
+    let change : Change = record { body = c.unless_live.result; table = c.in-Ok.table; comparison = c.in_ok-comparison.comparison } in
     let is_seated : Table → Type 0 = IsSeated state.table (Ok c.in-Ok.table) in
     let is_changed : Result State model.Refusal → Type 0 = IsChanged state (Ok change) in
-    subst is_changed (sym given) (seated state c.args.force found (size body) change body table quiet few c.body_if_other.ensures (subst is_seated seats c.in-Ok.ensures)
-    c.in_ok-comparison.ensures)
+    let after = c.unless_live.ensures state.body c.in_ok-merged.ensures.live in
+    subst is_changed (sym given)
+    (seated state c.args.force found (size body) change body table quiet few after (subst is_seated seats c.in-Ok.ensures) c.in_ok-comparison.ensures)
 
 pub returns-in-Err : goal.returns-in-Err
 returns-in-Err c =
     let state = state_view c.args.state.now in
     let a = key_view c.args.key.now in
     let config = c.args.config in
-    let body = c.in_ok-body.body in
+    let body = c.in_ok-merged.merged.body in
     let found = clashes_view c.in_ok-found.found.items in
     let changed = modified state.body body in
     let table = seat state.table a (points config) changed changed c.args.at in
@@ -87,7 +88,7 @@ returns-in-Err c =
     let seats : ◌≡◌ {A = Table} (seat state.table a c.args.owned.now c.in_ok-comparison.comparison.modified c.in_ok-comparison.comparison.modified
     c.args.at) table
     = λ i. seat state.table a (c.requires.points i) (c.in_ok-comparison.ensures.modified_are i) (c.in_ok-comparison.ensures.modified_are i) c.args.at in
-    let given = apply-decided state a config c.args.force c.args.at body found (size body) table c.in_ok-body.ensures clash_is refl refl in
+    let given = apply-decided state a config c.args.force c.args.at body found (size body) table c.in_ok-merged.ensures.body clash_is refl refl in
     let is_seated : Table → Type 0 = IsSeated state.table (Err c.in-Err.refusal) in
     let is_changed : Result State model.Refusal → Type 0 = IsChanged state (Err c.in-Err.refusal) in
     subst is_changed (sym given) (unseated state c.args.force found (size body) body table c.in-Err.refusal quiet few (subst is_seated seats c.in-Err.ensures))

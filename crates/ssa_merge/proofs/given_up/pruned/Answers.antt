@@ -7,14 +7,14 @@ use Rattle.ssa_merge.proofs.KeptPlaces.{cut-pruned}
 use Rattle.ssa_merge.proofs.RootedPruned.{pruned-rooted}
 use Rattle.ssa_merge.proofs.given_up.pruned.Goals as goal
 
-pub returns-then-is_empty : goal.returns-then-is_empty
-returns-then-is_empty c =
+pub returns-then-is_empty-clause-body : goal.returns-then-is_empty-clause-body
+returns-then-is_empty-clause-body c =
     let state = state_view c.args.state.now in
     let a = key_view c.args.key.now in
     let config = c.args.config in
     let gone = c.in_ok-gone.ensures ∙ dropped-absent state a config c.in_ok-absent.absent _ c.in_ok-absent.ensures c.entries-table.ensures.same in
-    all-stays state a config c.in_ok-merged.merged c.in_ok-gone.gone gone (sym c.is_empty.ensures ∙ c.if-is_empty.true)
-    c.in_ok-merged.ensures c.points_keep_all.ensures
+    all-stays state a config c.in_ok-merged.merged.body c.in_ok-gone.gone gone (sym c.is_empty.ensures ∙ c.if-is_empty.true)
+    c.in_ok-merged.ensures.body c.points_keep_all.ensures
 
 pub cut-requires : goal.cut-requires
 cut-requires c =
@@ -23,19 +23,19 @@ cut-requires c =
     let config = c.args.config in
     let gone = c.in_ok-gone.ensures ∙ dropped-absent state a config c.in_ok-absent.absent _ c.in_ok-absent.ensures c.entries-table.ensures.same in
     let is =
-    cut-pruned state a config c.in_ok-merged.merged c.in_ok-gone.gone c.in_ok-held.held _ c.args.config_points.now c.in_ok-merged.ensures gone
+    cut-pruned state a config c.in_ok-merged.merged.body c.in_ok-gone.gone c.in_ok-held.held _ c.args.config_points.now c.in_ok-merged.ensures.body gone
     c.entries-table.ensures.same c.requires.points c.in_ok-held.ensures c.requires.owned
     c.points_tell_places-2.ensures c.points_tell_places.ensures c.parts_are_of_places.ensures in
     subst IsRooted (sym is)
-    (pruned-rooted state a config c.stands_rooted.ensures (subst IsRooted c.in_ok-merged.ensures c.stands_rooted-2.ensures) c.requires.owned)
+    (pruned-rooted state a config c.stands_rooted.ensures (subst IsRooted c.in_ok-merged.ensures.body c.stands_rooted-2.ensures) c.requires.owned)
 
-pub returns : goal.returns
-returns c =
+pub returns-clause-body : goal.returns-clause-body
+returns-clause-body c =
     let state = state_view c.args.state.now in
     let a = key_view c.args.key.now in
     let config = c.args.config in
     let gone = c.in_ok-gone.ensures ∙ dropped-absent state a config c.in_ok-absent.absent _ c.in_ok-absent.ensures c.entries-table.ensures.same in
     c.in_ok-body.ensures
-    ∙ cut-pruned state a config c.in_ok-merged.merged c.in_ok-gone.gone c.in_ok-held.held _ c.args.config_points.now c.in_ok-merged.ensures gone
+    ∙ cut-pruned state a config c.in_ok-merged.merged.body c.in_ok-gone.gone c.in_ok-held.held _ c.args.config_points.now c.in_ok-merged.ensures.body gone
     c.entries-table.ensures.same c.requires.points c.in_ok-held.ensures c.requires.owned
     c.points_tell_places-2.ensures c.points_tell_places.ensures c.parts_are_of_places.ensures
