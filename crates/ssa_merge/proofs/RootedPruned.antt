@@ -1,8 +1,8 @@
 -- The body after an Apply is rooted, where others own only what can be owned.
-use Rattle.std.proofs.Common.{◌≡◌, [], ◌∷◌, Bool, true, false, not, ◌&&◌, ◌||◌, Option, Some, None, refl, sym, ap, ◌∙◌, true≢false}
+use Rattle.std.proofs.Common.{◌≡◌, [], ◌∷◌, Bool, true, false, not, ◌&&◌, ◌||◌, refl, sym, ap, ◌∙◌, true≢false}
 use Rattle.std.specs.Cmp.{first_so, second_so}
 use Rattle.std.specs.List.{list_any}
-use Rattle.std.specs.Prelude.{if◌then◌else◌, option_map}
+use Rattle.std.specs.Prelude.{if◌then◌else◌}
 use Rattle.ssa_model.specs.definitions.Path.{Path, is_root, same_element, under}
 use Rattle.ssa_model.specs.definitions.PathMap.{PathSet, get, has, has_at_or_above, has_at_or_below, paths, union}
 use Rattle.ssa_model.specs.definitions.Body as model

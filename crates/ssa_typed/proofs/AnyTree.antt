@@ -8,11 +8,9 @@ use Rattle.ssa_model.specs.definitions.Body.{order_at}
 use Rattle.ssa_model.specs.definitions.Fitting.{are_distinct}
 use Rattle.ssa_path.specs.Children.{child_at, elements}
 use Rattle.ssa_path.proofs.Orders.{both_first, both_second}
-use Rattle.ssa_typed.specs.Rows.{rows, below, body_of, leaf_content, own_content, content_at, is_tree, are_apart, are_items, are_fields}
+use Rattle.ssa_typed.specs.Rows.{rows, below, body_of, own_content, content_at, is_tree, are_apart, are_items, are_fields}
 use Rattle.ssa_typed.specs.Nodes.{node_on, then_on}
 use Rattle.ssa_typed.specs.Points.{content_in}
-use Rattle.ssa_typed.specs.declared.node.Leaf.{Leaf}
-use Rattle.ssa_typed.specs.declared.node.Leaf.TheVariants.{Scalar, Atomic}
 use Rattle.ssa_typed.specs.declared.node.Node.{Node, Leaf as LeafOf, Branch, Dict, List as ListOf, the_lemmas}
 use Rattle.ssa_typed.specs.declared.node.Node.TheOpen.{Node-F}
 use Rattle.ssa_typed.specs.declared.node.Node.TheViews.{out-Node, roll-Node, roll-out-Node}

@@ -13,7 +13,7 @@ use Rattle.ssa_path.specs.declared.element.Elem.{Elem}
 use Rattle.ssa_path.specs.View.{element_view}
 use Rattle.ssa_path.proofs.Orders.{both_first, both_second}
 use Rattle.ssa_typed.specs.Rows.{Row, rows, rows_below, under_element, is_tree, are_trees, are_items, are_fields}
-use Rattle.ssa_typed.specs.Flats.{rows_at, AreListed, AreNamed, IsChild}
+use Rattle.ssa_typed.specs.Flats.{rows_at, AreNamed, IsChild}
 use Rattle.ssa_typed.specs.declared.node.Node.{Node}
 use Rattle.ssa_model.proofs.Basics.{both-true as both}
 

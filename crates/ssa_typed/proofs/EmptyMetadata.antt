@@ -1,15 +1,13 @@
 -- An empty `metadata`.
-use Rattle.std.proofs.Common.{◌≡◌, List, [], ◌∷◌, Bool, true, false, ◌&&◌, cond, Less, Equal, Greater, String, Global, string_bytes, string_cmp, nat_cmp, refl, sym, ap, ◌∙◌, true≢false}
+use Rattle.std.proofs.Common.{◌≡◌, List, [], ◌∷◌, Bool, true, false, ◌&&◌, cond, Less, String, Global, string_bytes, string_cmp, nat_cmp, refl, sym, ap, ◌∙◌, true≢false}
 use Rattle.std.specs.Prelude.{None, Some, if◌then◌else◌, codes}
-use Rattle.std.specs.declared.cmp.Ordering.{Ordering}
 use Rattle.std.specs.List.{AllByRecursion}
 use Rattle.std.specs.List.Sorted.{IsStrictlySortedBy}
 use Rattle.std.specs.Map.{keys_of, remove_entry}
 use Rattle.std.specs.BTreeMap.{is_at}
-use Rattle.std.specs.Ordering.{is_eq, ordering_reverse}
+use Rattle.std.specs.Ordering.{is_eq}
 use Rattle.std.specs.Cmp.Lexicographic.{slice_cmp}
-use Rattle.std.proofs.lemmas.Cmp.{nat_list_cmp_total}
-use Rattle.ssa_model.specs.definitions.Json.{Text, member, member_of, same_text}
+use Rattle.ssa_model.specs.definitions.Json.{member, member_of, same_text}
 use Rattle.ssa_model.specs.definitions.Body.{is_empty_object, without_empty_metadata}
 use Rattle.ssa_json.specs.View.{view, members_view}
 use Rattle.ssa_json.proofs.Converting.{Found}
@@ -17,7 +15,6 @@ use Rattle.ssa_model.proofs.Tables.{same_text-true}
 use Rattle.ssa_json.proofs.Ordered.{above_first}
 use Rattle.ssa_typed.specs.Reads.{is_empty_member, has_empty_metadata}
 use Rattle.ssa_schema.proofs.Lawful.{same_turned as turned}
-use Rattle.ssa_model.proofs.Basics.{reversed as eq_turned}
 
 -- the key is that of `metadata`
 abbrev pub at_metadata : String Global → Bool

@@ -1,6 +1,6 @@
 -- Values without faults: their items are apart, and there is no first fault.
-use Rattle.std.proofs.Common.{◌≡◌, List, [], ◌∷◌, Bool, true, false, not, ◌&&◌, refl, sym, ap, ◌∙◌, true≢false, is_some}
-use Rattle.std.specs.Prelude.{Option, None, Some, option_map}
+use Rattle.std.proofs.Common.{◌≡◌, List, [], ◌∷◌, true, not, ◌&&◌, refl, sym, ap, ◌∙◌, true≢false, is_some}
+use Rattle.std.specs.Prelude.{None, option_map}
 use Rattle.ssa_schema.specs.Finds.{told}
 use Rattle.ssa_schema.specs.Refusals.{first_of}
 use Rattle.ssa_model.specs.definitions.Json.{Text, Items}

@@ -3,7 +3,7 @@ use Rattle.std.proofs.Common.{◌≡◌, List, [], ◌∷◌, ◌++◌, inl, inr
 use Rattle.std.specs.Prelude.{if◌then◌else◌, option_map}
 use Rattle.std.specs.List.{AllByRecursion}
 use Rattle.ssa_model.specs.definitions.Json.{Text, Scalar, Json, scalar, list, object, Items, no_items, item, Members, no_members, member, member_of, same_text}
-use Rattle.ssa_model.specs.definitions.Path.{Element, field, key, value, Path}
+use Rattle.ssa_model.specs.definitions.Path.{Element, field, value, Path}
 use Rattle.ssa_model.specs.definitions.Kind as kinds
 use Rattle.ssa_model.specs.definitions.Kind.{Kind, ScalarKind, Fields, scalar_kind, atomic_of, record_of, dict_of, items_of, kind_of, is_of, item_key, key_scalars, wrong_type}
 use Rattle.ssa_model.specs.definitions.Body.{Content, leaf, atom, record_branch, dict_branch, list_branch, places, field_places, entry_places, value_places, item_places, value_order, key_order}

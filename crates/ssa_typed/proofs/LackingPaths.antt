@@ -1,5 +1,5 @@
 -- What a tree lacks of the paths of a trie, level by level.
-use Rattle.std.proofs.Common.{◌≡◌, ℕ, zero, suc, ◌+◌, ◌<◌, List, [], ◌∷◌, length, get_or, drop, true, false, not, ◌&&◌, Some, None, refl, sym, ap, subst, ◌∙◌, arith}
+use Rattle.std.proofs.Common.{◌≡◌, ℕ, ◌+◌, ◌<◌, List, [], ◌∷◌, length, get_or, drop, true, false, not, ◌&&◌, Some, None, refl, sym, ap, subst, ◌∙◌}
 use Rattle.std.specs.Prelude.{is_some}
 use Rattle.ssa_model.specs.definitions.Path.{Path, same_path}
 use Rattle.ssa_model.specs.definitions.PathMap.{has, set_of, paths as set_paths, listed}
@@ -10,11 +10,11 @@ use Rattle.ssa_path.specs.declared.element.Elem.{Elem}
 use Rattle.ssa_path.specs.declared.trie.Trie.{Trie}
 use Rattle.ssa_path.specs.declared.trie.Trie.TheOpen.{Trie-F}
 use Rattle.ssa_path.specs.declared.trie.Trie.TheViews.{out-Trie, roll-Trie}
-use Rattle.ssa_path.specs.Trie.{Shape, is_one_of, is_trie, is_filled, are_filled_tries, paths, shape}
+use Rattle.ssa_path.specs.Trie.{Shape, is_one_of, is_trie, paths, shape}
 use Rattle.ssa_path.specs.View.{element_view}
 use Rattle.ssa_path.proofs.Levels.{any-below, any-level, any-made, found, is_trie-made, one-made-root, same_path-reading}
-use Rattle.ssa_path.proofs.Lists.{left-at, child-trie as trie-at}
-use Rattle.ssa_path.proofs.Orders.{both_first, both_second}
+use Rattle.ssa_path.proofs.Lists.{left-at}
+use Rattle.ssa_path.proofs.Orders.{both_second}
 use Rattle.ssa_typed.specs.Lacking.{AreLacking, IsLacking}
 use Rattle.ssa_typed.specs.Points.{content_in}
 use Rattle.ssa_typed.specs.Rows.{body_of, rows, below, content_at, is_tree}

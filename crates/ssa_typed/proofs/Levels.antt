@@ -4,7 +4,6 @@ use Rattle.std.specs.List.{list_any}
 use Rattle.std.specs.Ordering.{is_lt}
 use Rattle.ssa_model.specs.definitions.Path.{Element, element_cmp, same_element}
 use Rattle.ssa_model.specs.definitions.Body.{Content, record_branch, dict_branch, list_branch}
-use Rattle.ssa_model.specs.definitions.Fitting.{are_distinct}
 use Rattle.ssa_path.specs.Children.{elements, is_below, rises}
 use Rattle.ssa_path.specs.declared.element.Elem.{Elem}
 use Rattle.ssa_path.proofs.Orders.{both_first, both_second, not_tied}
@@ -13,7 +12,6 @@ use Rattle.ssa_typed.specs.Rows.{rows, rows_below, below, below_of, own_content,
 use Rattle.ssa_typed.specs.declared.node.Node.{Node, Branch, Dict, List as ListOf, the_lemmas}
 use Rattle.ssa_typed.specs.declared.node.Node.TheOpen.{Node-F}
 use Rattle.ssa_typed.specs.declared.node.Node.TheViews.{out-Node, roll-Node, roll-out-Node}
-use Rattle.ssa_typed.proofs.Fitting.{apart-distinct}
 use Rattle.ssa_model.proofs.Basics.{both-true as both}
 
 -- the children of a node, as the program holds them

@@ -1,5 +1,5 @@
 -- The members that a body shows and those of a tree's value: what they have under each name, and that the names rise.
-use Rattle.std.proofs.Common.{◌≡◌, List, [], ◌∷◌, ◌++◌, map, true, false, ◌||◌, cond, Option, Some, None, option_map, Ordering, Less, Equal, Greater, refl, sym, ap, ◌∙◌}
+use Rattle.std.proofs.Common.{◌≡◌, List, [], ◌∷◌, ◌++◌, map, true, false, ◌||◌, cond, Option, Some, None, option_map, refl, sym, ap, ◌∙◌}
 use Rattle.std.specs.Prelude.{filter_map, if◌then◌else◌}
 use Rattle.std.specs.List.{list_any, cons_option}
 use Rattle.std.specs.Ordering.{is_lt, ordering_then}

@@ -1,11 +1,10 @@
 -- How many places a tree has: as many as its body has paths, since its rows have each path once.
-use Rattle.std.proofs.Common.{◌≡◌, ℕ, zero, suc, ◌+◌, ◌-◌, ◌^◌, ◌<◌, ◌≤◌, List, [], ◌∷◌, ◌++◌, length, get_or, take, Bool, true, false, not, ◌&&◌, cond, Option, Some, None, refl, sym, ap, ◌∙◌, min, arith, length-append}
+use Rattle.std.proofs.Common.{◌≡◌, ℕ, zero, suc, ◌+◌, ◌-◌, ◌^◌, ◌<◌, ◌≤◌, List, [], ◌∷◌, ◌++◌, length, get_or, take, Bool, true, false, not, ◌&&◌, cond, Some, None, refl, sym, ap, ◌∙◌, min, arith, length-append}
 use Rattle.std.specs.Prelude.{is_some}
 use Rattle.std.specs.List.{list_any}
 use Rattle.std.specs.FinMap.Entries.{length-put}
 use Rattle.ssa_model.specs.definitions.Path.{Element, Path, path_cmp, path_cmp_total, same_element}
 use Rattle.ssa_model.specs.definitions.PathMap.{from_entries, has, size}
-use Rattle.ssa_model.specs.definitions.Body.{Content}
 use Rattle.ssa_model.proofs.PathMaps.{get-from_entries}
 use Rattle.ssa_path.proofs.Lists.{taken-at}
 use Rattle.ssa_path.specs.Children.{elements, child_at}

@@ -1,5 +1,5 @@
-use Rattle.std.proofs.Common.{◌≡◌, ◌∙◌, refl, subst}
-use Rattle.std.specs.Prelude.{Ok, Err, Some}
+use Rattle.std.proofs.Common.{◌≡◌, ◌∙◌, subst}
+use Rattle.std.specs.Prelude.{Ok, Err}
 use Rattle.ssa_model.specs.definitions.PathMap.{minus, union}
 use Rattle.ssa_model.specs.definitions.Body.{added, modified, removed}
 use Rattle.ssa_model.specs.definitions.Table.{Table, owned_by, seat}
