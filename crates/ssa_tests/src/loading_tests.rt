@@ -6,13 +6,18 @@ use ssa_bench::bench::Bench;
 use ssa_file::loading::LoadFault;
 use ssa_json::reader::OfReader;
 use ssa_json::sink::OfWriter;
-use std::alloc::Global;
+use std::alloc::{AllocError, Global};
 use std::test::Fail;
 
 // The bench of a file.
-fn loaded(alloc: Global, file: &str) -> Result<Bench, LoadFault> {
-    let mut reader = OfReader::new(file.as_bytes());
+fn loaded(alloc: Global, file: &[u8]) -> Result<Bench, LoadFault> {
+    let mut reader = OfReader::new(file);
     Bench::load(alloc, &mut reader)
+}
+
+// Why there is no bench of a file, or nothing where there is one.
+fn fault_of(alloc: Global, file: &[u8]) -> Option<LoadFault> {
+    loaded(alloc, file).err()
 }
 
 // The file of a bench.
@@ -22,12 +27,21 @@ fn saved(alloc: Global, bench: &Bench) -> Result<Vec<u8>, Fail> {
     Ok(sink.into_inner())
 }
 
-// What the bench of a file answers to a line, and its file afterwards.
-fn goes_on(alloc: Global, file: &str, line: &str) -> Result<(Vec<u8>, Vec<u8>), Fail> {
-    let mut bench = loaded(alloc, file)?;
-    let reply = answers(alloc, &mut bench, line)?;
-    let file = saved(alloc, &bench)?;
+// What a bench answers to a line, and its file afterwards.
+fn answer_and_save(
+    alloc: Global,
+    bench: &mut Bench,
+    line: &str,
+) -> Result<(Vec<u8>, Vec<u8>), Fail> {
+    let reply = answers(alloc, bench, line)?;
+    let file = saved(alloc, bench)?;
     Ok((reply, file))
+}
+
+// The same of the bench of a file.
+fn goes_on(alloc: Global, file: &str, line: &str) -> Result<(Vec<u8>, Vec<u8>), Fail> {
+    let mut bench = loaded(alloc, file.as_bytes())?;
+    answer_and_save(alloc, &mut bench, line)
 }
 
 #[test]
@@ -78,27 +92,39 @@ const CHANGES: [(&str, &str); 6] = [
     ),
 ];
 
-// The file of a bench on which one manager applied an object with these members, and then with others.
-fn changed_file(alloc: Global, before: &str, after: &str) -> Result<Vec<u8>, Fail> {
-    let mut live = bench(alloc)?;
+// The lines by which one manager applies an object with these members, and then with others.
+fn applies(alloc: Global, before: &str, after: &str) -> Result<String, AllocError> {
     let first = line(alloc, "apply", "kubectl", web(alloc, "", before)?.as_str())?;
     let second = line(alloc, "apply", "kubectl", web(alloc, "", after)?.as_str())?;
-    let lines = [first.as_str(), "\n", second.as_str(), "\n"].concat(alloc)?;
-    answers(alloc, &mut live, lines.as_str())?;
-    saved(alloc, &live)
+    [first.as_str(), "\n", second.as_str(), "\n"].concat(alloc)
+}
+
+// The file of a bench that has answered the lines.
+fn file_after(alloc: Global, bench: &mut Bench, lines: &str) -> Result<Vec<u8>, Fail> {
+    answers(alloc, bench, lines)?;
+    saved(alloc, bench)
+}
+
+// The file of a bench on which one manager applied an object with these members, and then with others.
+fn changed_file(alloc: Global, before: &str, after: &str) -> Result<Vec<u8>, Fail> {
+    let lines = applies(alloc, before, after)?;
+    let mut live = bench(alloc)?;
+    file_after(alloc, &mut live, lines.as_str())
+}
+
+// Whether the bench has this file, and its file after an undo is taken.
+fn goes_back(alloc: Global, bench: &mut Bench, file: &[u8]) -> Result<bool, Fail> {
+    let same = saved(alloc, bench)?;
+    let undone = file_after(alloc, bench, "{\"do\":\"undo\"}\n")?;
+    Ok(same.as_slice() == file && fault_of(alloc, undone.as_slice()).is_none())
 }
 
 // Whether the file is taken as a bench with the same file, and that bench's after an undo too.
 fn is_taken(alloc: Global, file: &[u8]) -> Result<bool, Fail> {
-    let mut reader = OfReader::new(file);
-    let Ok(mut live) = Bench::load(alloc, &mut reader) else {
-        return Ok(false);
-    };
-    let same = saved(alloc, &live)?;
-    answers(alloc, &mut live, "{\"do\":\"undo\"}\n")?;
-    let undone = saved(alloc, &live)?;
-    let mut reader = OfReader::new(undone.as_slice());
-    Ok(same.as_slice() == file && Bench::load(alloc, &mut reader).is_ok())
+    match loaded(alloc, file) {
+        Ok(mut live) => goes_back(alloc, &mut live, file),
+        Err(_) => Ok(false),
+    }
 }
 
 #[test]
@@ -176,12 +202,15 @@ const MISFITS: [(&str, &str); 11] = [
 
 // Whether the text is refused as no bench's.
 fn is_refused(alloc: Global, text: &str) -> bool {
-    matches!(loaded(alloc, text), Err(LoadFault::BenchText))
+    matches!(fault_of(alloc, text.as_bytes()), Some(LoadFault::BenchText))
 }
 
 // Whether a record of the text does not fit its state.
 fn is_misfit(alloc: Global, text: &str) -> bool {
-    matches!(loaded(alloc, text), Err(LoadFault::RecordDoesNotFit))
+    matches!(
+        fault_of(alloc, text.as_bytes()),
+        Some(LoadFault::RecordDoesNotFit)
+    )
 }
 
 #[test]
@@ -222,6 +251,7 @@ fn files_end_with_their_last_line(rt: HostRuntime) -> Result<(), Fail> {
 fn a_failed_reader_is_told(rt: HostRuntime) -> Result<(), Fail> {
     let file = bench_file(rt.alloc())?;
     let mut reader = Breaks::new(file.as_bytes());
-    assert!(rt; matches!(Bench::load(rt.alloc(), &mut reader), Err(LoadFault::Io)));
+    let fault = Bench::load(rt.alloc(), &mut reader).err();
+    assert!(rt; matches!(fault, Some(LoadFault::Io)));
     Ok(())
 }

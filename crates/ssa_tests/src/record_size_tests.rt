@@ -49,13 +49,16 @@ fn carry_out(
     Ok(())
 }
 
-// The bench on which the commands were carried out: each a second, what it does, a name and members.
-fn bench_after(alloc: Global, commands: &[(&str, &str, &str, &str)]) -> Result<Bench, Fail> {
-    let mut bench = bench(alloc)?;
+// Carries out commands: each a second, what it does, a name and members.
+fn carry_out_all(
+    alloc: Global,
+    bench: &mut Bench,
+    commands: &[(&str, &str, &str, &str)],
+) -> Result<(), Fail> {
     for (second, does, who, members) in commands {
-        carry_out(alloc, &mut bench, second, does, who, members)?;
+        carry_out(alloc, bench, second, does, who, members)?;
     }
-    Ok(bench)
+    Ok(())
 }
 
 // How much a record holds, or 1,000 where there is none.
@@ -63,16 +66,26 @@ fn held(bench: &Bench, n: usize) -> usize {
     bench.record_size(n).unwrap_or(1_000)
 }
 
-// How much the record of the last command holds, back and, after an undo, forth.
+// How much the record of the last of these commands holds, back and, after an undo, forth.
+fn held_both_ways(
+    alloc: Global,
+    bench: &mut Bench,
+    commands: &[(&str, &str, &str, &str)],
+) -> Result<(usize, usize), Fail> {
+    carry_out_all(alloc, bench, commands)?;
+    let last = bench.past_len().saturating_sub(1);
+    let back = held(bench, last);
+    bench.undo()?;
+    Ok((back, held(bench, last)))
+}
+
+// The same of a bench on which nothing else was carried out.
 fn back_and_forth(
     alloc: Global,
     commands: &[(&str, &str, &str, &str)],
 ) -> Result<(usize, usize), Fail> {
-    let mut bench = bench_after(alloc, commands)?;
-    let last = bench.past_len().saturating_sub(1);
-    let back = held(&bench, last);
-    bench.undo()?;
-    Ok((back, held(&bench, last)))
+    let mut bench = bench(alloc)?;
+    held_both_ways(alloc, &mut bench, commands)
 }
 
 const THREE: &str = ",\"spec\":{\"replicas\":3}";
@@ -139,22 +152,26 @@ fn a_repeated_apply_holds_nothing(rt: HostRuntime) -> Result<(), Fail> {
     Ok(())
 }
 
-// How much each record of a bench holds, and that there are no more.
-fn all_held(alloc: Global) -> Result<[usize; 4], Fail> {
-    let bench = bench_after(
-        alloc,
-        &[
-            ("1", APPLY, "m1", THREE),
-            ("2", APPLY, "m2", THREE),
-            ("9", APPLY, "m2", THREE),
-        ],
-    )?;
+// How much each record of a bench holds after three commands, and that there are no more.
+fn held_by_each(alloc: Global, bench: &mut Bench) -> Result<[usize; 4], Fail> {
+    let commands = [
+        ("1", APPLY, "m1", THREE),
+        ("2", APPLY, "m2", THREE),
+        ("9", APPLY, "m2", THREE),
+    ];
+    carry_out_all(alloc, bench, &commands)?;
     Ok([
-        held(&bench, 0),
-        held(&bench, 1),
-        held(&bench, 2),
-        held(&bench, 3),
+        held(bench, 0),
+        held(bench, 1),
+        held(bench, 2),
+        held(bench, 3),
     ])
+}
+
+// The same of a bench on which nothing else was carried out.
+fn all_held(alloc: Global) -> Result<[usize; 4], Fail> {
+    let mut bench = bench(alloc)?;
+    held_by_each(alloc, &mut bench)
 }
 
 #[test]
