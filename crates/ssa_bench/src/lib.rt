@@ -4,14 +4,14 @@
 //! object, tells owners, and is saved and loaded.
 //!
 //! ```
-//! let object = json(rt.alloc(), web(rt.alloc(), "", "")?.as_str())?;
-//! let mut bench = Bench::new(rt.alloc(), schema(rt.alloc())?, object)?;
 //! let command = Command::Apply {
 //!     who: String::from_str(rt.alloc(), "kubectl")?,
 //!     force: false,
 //!     at: moment()?,
 //!     object: json(rt.alloc(), web(rt.alloc(), "", IMAGE)?.as_str())?,
 //! };
+//! let object = json(rt.alloc(), web(rt.alloc(), "", "")?.as_str())?;
+//! let mut bench = Bench::new(rt.alloc(), schema(rt.alloc())?, object)?;
 //! let changed = bench.execute(rt.alloc(), command)?;
 //! assert_eq!(rt; changed.added.len(), 1);
 //! assert!(rt; bench.undo().is_ok());

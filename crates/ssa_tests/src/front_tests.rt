@@ -108,14 +108,14 @@ fn ssa_file_example(rt: HostRuntime) -> Result<(), Fail> {
 
 #[test]
 fn ssa_bench_example(rt: HostRuntime) -> Result<(), Fail> {
-    let object = json(rt.alloc(), web(rt.alloc(), "", "")?.as_str())?;
-    let mut bench = Bench::new(rt.alloc(), schema(rt.alloc())?, object)?;
     let command = Command::Apply {
         who: String::from_str(rt.alloc(), "kubectl")?,
         force: false,
         at: moment()?,
         object: json(rt.alloc(), web(rt.alloc(), "", IMAGE)?.as_str())?,
     };
+    let object = json(rt.alloc(), web(rt.alloc(), "", "")?.as_str())?;
+    let mut bench = Bench::new(rt.alloc(), schema(rt.alloc())?, object)?;
     let changed = bench.execute(rt.alloc(), command)?;
     assert_eq!(rt; changed.added.len(), 1);
     assert!(rt; bench.undo().is_ok());
@@ -128,7 +128,8 @@ fn ssa_session_example(rt: HostRuntime) -> Result<(), Fail> {
     let mut bench = bench(rt.alloc())?;
     let mut reader = OfReader::new(b"{\"do\":\"undo\"}\n".as_slice());
     let mut writer = OfWriter::new(Vec::new(rt.alloc()));
-    session(rt.alloc(), &mut reader, &mut writer, &mut bench)?;
+    let done = session(rt.alloc(), &mut reader, &mut writer, &mut bench);
+    assert_eq!(rt; done, Ok(()));
     let replies = b"{\"fault\":64,\"name\":\"NothingToUndo\"}\n";
     assert_eq!(rt; writer.into_inner().as_slice(), replies.as_slice());
     Ok(())
