@@ -5,14 +5,10 @@
 //! [`Managers`] is the table of `metadata.managedFields`.
 //!
 //! ```
-//! let body = Body::from_json(
-//!     rt.alloc(),
-//!     &schema(rt.alloc())?,
-//!     json(rt.alloc(), r#"{"spec":{"image":"a"}}"#)?,
-//! )?;
 //! let text =
 //!     r#"[{"apiVersion":"v1","fieldsType":"FieldsV1","fieldsV1":{"f:spec":{"f:image":{}}},"manager":"kubectl","operation":"Apply","time":"2024-05-01T10:00:01Z"}]"#;
 //! let entries = json(rt.alloc(), text)?;
+//! let body = body(rt.alloc(), r#"{"spec":{"image":"a"}}"#)?;
 //! let managers = Managers::from_entries(rt.alloc(), &entries, &body, "v1")?;
 //! assert_eq!(rt; managers.len(), 1);
 //! assert!(rt; managers.to_entries(rt.alloc(), "v1")?.same(&entries));

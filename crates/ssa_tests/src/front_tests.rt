@@ -1,5 +1,5 @@
 //! The examples on the first pages of the crates below, as `tools/fronts` finds them there.
-use crate::sample::{IMAGE, bench, json, moment, schema, web};
+use crate::sample::{IMAGE, bench, bodies, body, json, moment, schema, web};
 use ssa_bench::{Bench, Command};
 use ssa_file::{RecordCounts, record_counts};
 use ssa_json::{OfReader, OfWriter};
@@ -12,7 +12,6 @@ use ssa_session::session;
 use ssa_turn::Label;
 use ssa_turn_body::steps_between;
 use ssa_turn_set::{between, turn_field_set};
-use ssa_typed::Body;
 use std::test::Fail;
 
 #[test]
@@ -31,16 +30,10 @@ fn ssa_turn_set_example(rt: HostRuntime) -> Result<(), Fail> {
 
 #[test]
 fn ssa_turn_body_example(rt: HostRuntime) -> Result<(), Fail> {
-    let schema = schema(rt.alloc())?;
-    let before = Body::from_json(
+    let (before, after) = bodies(
         rt.alloc(),
-        &schema,
-        json(rt.alloc(), r#"{"spec":{"replicas":3}}"#)?,
-    )?;
-    let after = Body::from_json(
-        rt.alloc(),
-        &schema,
-        json(rt.alloc(), r#"{"spec":{"replicas":5}}"#)?,
+        r#"{"spec":{"replicas":3}}"#,
+        r#"{"spec":{"replicas":5}}"#,
     )?;
     let steps = steps_between(rt.alloc(), &before, after)?;
     let leaves = steps.leaves_to_json(rt.alloc())?.to_string(rt.alloc())?;
@@ -50,14 +43,10 @@ fn ssa_turn_body_example(rt: HostRuntime) -> Result<(), Fail> {
 
 #[test]
 fn ssa_merge_example(rt: HostRuntime) -> Result<(), Fail> {
-    let body = Body::from_json(
-        rt.alloc(),
-        &schema(rt.alloc())?,
-        json(rt.alloc(), r#"{"spec":{"image":"a"}}"#)?,
-    )?;
     let text =
         r#"[{"apiVersion":"v1","fieldsType":"FieldsV1","fieldsV1":{"f:spec":{"f:image":{}}},"manager":"kubectl","operation":"Apply","time":"2024-05-01T10:00:01Z"}]"#;
     let entries = json(rt.alloc(), text)?;
+    let body = body(rt.alloc(), r#"{"spec":{"image":"a"}}"#)?;
     let managers = Managers::from_entries(rt.alloc(), &entries, &body, "v1")?;
     assert_eq!(rt; managers.len(), 1);
     assert!(rt; managers.to_entries(rt.alloc(), "v1")?.same(&entries));

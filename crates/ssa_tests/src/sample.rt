@@ -1,4 +1,7 @@
-//! Objects of the sample schema, and their benches.
+//! Objects of the sample schema, their bodies and their benches.
+ghost use Rattle.std.specs.Prelude.{IfOk};
+ghost use Rattle.ssa_model.specs.definitions.Fitting.{IsBodyOf};
+ghost use Rattle.ssa_typed.specs.Alike.{AreAlike};
 
 use crate::sample_schema::SCHEMA;
 use ssa_bench::bench::Bench;
@@ -9,6 +12,7 @@ use ssa_json::value::Json;
 use ssa_schema::schema::Schema;
 use ssa_session::bench_session::session;
 use ssa_session::fault_text::fault_text;
+use ssa_typed::body::Body;
 use std::alloc::{AllocError, Global};
 use std::test::Fail;
 
@@ -79,6 +83,44 @@ pub fn json(alloc: Global, text: &str) -> Result<Json, Fail> {
 /// The sample schema.
 pub fn schema(alloc: Global) -> Result<Schema, Fail> {
     Ok(Schema::read(alloc, json(alloc, SCHEMA)?)?)
+}
+
+// The body of a value under a schema.
+fn body_under(alloc: Global, schema: &Schema, value: Json) -> Result<Body, Fail>
+    ensures { IfOk result (λ b. IsBodyOf schema.now.kind b) }
+{
+    Ok(Body::from_json(alloc, schema, value)?)
+}
+
+/// The body of a text under the sample schema.
+pub fn body(alloc: Global, text: &str) -> Result<Body, Fail> {
+    let value = json(alloc, text)?;
+    let schema = schema(alloc)?;
+    body_under(alloc, &schema, value)
+}
+
+// The bodies of two values under a schema.
+fn bodies_under(
+    alloc: Global,
+    schema: &Schema,
+    before: Json,
+    after: Json,
+) -> Result<(Body, Body), Fail>
+    ensures { IfOk result (λ bodies. AreAlike bodies.0 bodies.1) }
+{
+    let before = body_under(alloc, schema, before)?;
+    let after = body_under(alloc, schema, after)?;
+    Ok((before, after))
+}
+
+/// The bodies of two texts under the sample schema.
+pub fn bodies(alloc: Global, before: &str, after: &str) -> Result<(Body, Body), Fail>
+    ensures { IfOk result (λ bodies. AreAlike bodies.0 bodies.1) }
+{
+    let before = json(alloc, before)?;
+    let after = json(alloc, after)?;
+    let schema = schema(alloc)?;
+    bodies_under(alloc, &schema, before, after)
 }
 
 /// The moment of all the lines and commands.

@@ -4,16 +4,10 @@
 //! [`turn_recorded`] takes a body there and back.
 //!
 //! ```
-//! let schema = schema(rt.alloc())?;
-//! let before = Body::from_json(
+//! let (before, after) = bodies(
 //!     rt.alloc(),
-//!     &schema,
-//!     json(rt.alloc(), r#"{"spec":{"replicas":3}}"#)?,
-//! )?;
-//! let after = Body::from_json(
-//!     rt.alloc(),
-//!     &schema,
-//!     json(rt.alloc(), r#"{"spec":{"replicas":5}}"#)?,
+//!     r#"{"spec":{"replicas":3}}"#,
+//!     r#"{"spec":{"replicas":5}}"#,
 //! )?;
 //! let steps = steps_between(rt.alloc(), &before, after)?;
 //! let leaves = steps.leaves_to_json(rt.alloc())?.to_string(rt.alloc())?;
