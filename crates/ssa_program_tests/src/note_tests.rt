@@ -201,10 +201,9 @@ fn each_field_of_a_conflict_is_told(rt: HostRuntime) -> Result<(), Fail> {
     let memory = files(rt.alloc())?;
     memory.put("ports", PORTS)?;
     memory.put("o", OTHER_PORTS)?;
-    let at = "--at 2024-05-01T10:00:01Z";
-    let first = ["update b ports ", at].concat(rt.alloc())?;
-    assert_eq!(rt; run(&memory, INIT, "")?.status, 0);
-    assert_eq!(rt; run(&memory, first.as_str(), "")?.status, 0);
+    for words in [INIT, "update b ports --at 2024-05-01T10:00:01Z"] {
+        assert_eq!(rt; run(&memory, words, "")?.status, 0, "words {words}");
+    }
     assert!(rt;
         notes(
             &memory,

@@ -105,12 +105,22 @@ fn undone_file(alloc: Global) -> Result<String, Fail> {
     Ok(["{\"format\":2,\"future\":1,\"past\":0}\n", SCHEMA, UNDONE].concat(alloc)?)
 }
 
+// Whether the bench's file is that after the apply, and no other stands beside it.
+fn is_applied(memory: &Memory) -> Result<bool, Fail> {
+    let file = applied_file(memory.alloc())?;
+    Ok(holds(memory, "b", file.as_str())? && !memory.has("b.new"))
+}
+
+// Whether it is that after the apply and its undo.
+fn is_undone(memory: &Memory) -> Result<bool, Fail> {
+    let file = undone_file(memory.alloc())?;
+    holds(memory, "b", file.as_str())
+}
+
 #[test]
 fn the_file_has_the_history(rt: HostRuntime) -> Result<(), Fail> {
     let memory = applied(rt.alloc())?;
-    let file = applied_file(rt.alloc())?;
-    assert!(rt; holds(&memory, "b", file.as_str())?);
-    assert!(rt; !memory.has("b.new"));
+    assert!(rt; is_applied(&memory)?);
     Ok(())
 }
 
@@ -162,25 +172,13 @@ fn a_name_takes_one_line(rt: HostRuntime) -> Result<(), Fail> {
 
 #[test]
 fn a_file_cut_short_is_no_bench(rt: HostRuntime) -> Result<(), Fail> {
-    let memory = applied(rt.alloc())?;
     let file = applied_file(rt.alloc())?;
+    let memory = applied(rt.alloc())?;
     memory.put("b", file.as_str().strip_suffix("\n").unwrap_or(""))?;
-    assert!(rt;
-        prints(
-            &memory,
-            "undo b",
-            3,
-            "{\"fault\":70,\"name\":\"BenchText\"}"
-        )?
-    );
-    assert!(rt;
-        prints(
-            &memory,
-            "session b",
-            3,
-            "{\"fault\":70,\"name\":\"BenchText\"}"
-        )?
-    );
+    let refused = "{\"fault\":70,\"name\":\"BenchText\"}";
+    for words in ["undo b", "session b"] {
+        assert!(rt; prints(&memory, words, 3, refused)?, "words {words}");
+    }
     assert!(rt; !memory.has("b.new"));
     Ok(())
 }
@@ -189,12 +187,11 @@ fn a_file_cut_short_is_no_bench(rt: HostRuntime) -> Result<(), Fail> {
 fn a_full_device_leaves_the_file(rt: HostRuntime) -> Result<(), Fail> {
     let memory = applied(rt.alloc())?;
     memory.leave_room(9);
-    assert!(rt; tells(&memory, "strip b", 3, "ssabench: cannot write b\n")?);
-    assert!(rt; tells(&memory, INIT, 3, "ssabench: cannot write b\n")?);
-    assert!(rt; tells(&memory, "session b", 3, "ssabench: cannot write b\n")?);
-    let file = applied_file(rt.alloc())?;
-    assert!(rt; holds(&memory, "b", file.as_str())?);
-    assert!(rt; !memory.has("b.new"));
+    let refused = "ssabench: cannot write b\n";
+    for words in ["strip b", INIT, "session b"] {
+        assert!(rt; tells(&memory, words, 3, refused)?, "words {words}");
+    }
+    assert!(rt; is_applied(&memory)?);
     Ok(())
 }
 
@@ -207,8 +204,7 @@ fn a_session_is_saved_at_its_end(rt: HostRuntime) -> Result<(), Fail> {
         run.printed.as_slice(),
         b"{\"fault\":65,\"name\":\"NothingToRedo\"}\n{\"done\":\"undo\",\"future\":1,\"past\":0}\n".as_slice()
     );
-    let file = undone_file(rt.alloc())?;
-    assert!(rt; holds(&memory, "b", file.as_str())?);
+    assert!(rt; is_undone(&memory)?);
     Ok(())
 }
 
@@ -226,8 +222,7 @@ fn a_broken_session_is_not_saved(rt: HostRuntime) -> Result<(), Fail> {
         run.told.as_slice(),
         b"ssabench: session ended unsaved\n".as_slice()
     );
-    let file = applied_file(rt.alloc())?;
-    assert!(rt; holds(&memory, "b", file.as_str())?);
+    assert!(rt; is_applied(&memory)?);
     Ok(())
 }
 
@@ -242,7 +237,6 @@ fn a_reply_that_cannot_be_printed_is_told_by_the_status(rt: HostRuntime) -> Resu
     let status = perform(&memory, &call, &mut reader, &mut writer, &mut errors);
     assert_eq!(rt; status, 3);
     assert_eq!(rt; errors.into_inner().as_slice(), b"".as_slice());
-    let file = undone_file(rt.alloc())?;
-    assert!(rt; holds(&memory, "b", file.as_str())?);
+    assert!(rt; is_undone(&memory)?);
     Ok(())
 }
