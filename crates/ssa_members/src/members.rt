@@ -1,0 +1,182 @@
+//! Values under names, in a vector that is ordered by the names.
+ghost use Rattle.std.specs.Prelude.{◌≡◌, [], ℕ, length, IfOk, IfErr, IsTrue, OnErr, OnOk, Some, None, option_copied, nat_eq};
+ghost use Rattle.std.specs.BTreeMap.{insert_entry, is_at};
+ghost use Rattle.std.specs.Map.{lookup, remove_entry, set_value};
+ghost use Rattle.std.specs.Prelude.{string_bytes, string_cmp};
+ghost use Rattle.ssa_members.specs.Members.{get, text_cmp, IsMadeOf, IsPlaceOf, IsRising};
+
+use std::alloc::{AllocError, Global};
+use std::collections::BTreeMap;
+use std::marker::Model;
+use std::mem::replace;
+
+/// Values under names, each name once, in the order of the names' bytes.
+///
+/// They stand in one vector, so few of them take little memory, and a name is found by halving. A new
+/// name moves those behind it: many at once are put together by [`of_pairs`](Members::of_pairs).
+#[derive(Drop)]
+pub struct Members<V> {
+    entries: Vec<(String, V)>,
+}
+
+impl<V> Model for Members<V> {
+    ghost use Rattle.ssa_members.specs.Members.{Members as Seen, members_code, IsRising};
+
+    ghost Value = { Seen V };
+
+    ghost coded = { members_code V.code };
+
+    ghost view = { λ m. record { entries = m.entries.items } };
+
+    ghost invariant = { λ m. IsRising m.entries.items };
+}
+
+// Whether each name is below the next.
+fn rises<V>(pairs: &[(String, V)]) -> bool
+    ensures { IsTrue result → IsRising pairs.now }
+{
+    let mut i: usize = 1;
+    'pairs: while i < pairs.len() {
+        if pairs[i - 1].0 >= pairs[i].0 {
+            return false;
+        }
+        i += 1;
+    }
+    true
+}
+
+impl<V> Members<V> {
+    /// None. Takes no memory.
+    pub fn new(alloc: Global) -> Members<V>
+        ensures { result.entries ≡ [] }
+    {
+        Members {
+            entries: Vec::new(alloc),
+        }
+    }
+
+    /// How many there are.
+    pub fn len(&self) -> usize
+        ensures { result ≡ length self.now.entries }
+    {
+        self.entries.len()
+    }
+
+    /// Whether there are none.
+    pub fn is_empty(&self) -> bool
+        ensures { result ≡ nat_eq (length self.now.entries) 0 }
+    {
+        self.entries.is_empty()
+    }
+
+    /// The names with their values, in the names' order.
+    pub fn entries(&self) -> &[(String, V)]
+        ensures all { result.now ≡ self.now.entries }
+        ensures ordered { IsRising self.now.entries }
+    {
+        self.entries.as_slice()
+    }
+
+    /// The names with their values, in the names' order.
+    pub fn into_entries(self) -> Vec<(String, V)>
+        ensures all { result.items ≡ self.entries }
+        ensures ordered { IsRising self.entries }
+    {
+        let Members { entries } = self;
+        entries
+    }
+
+    // Where the name stands, or would stand.
+    fn place(&self, name: &str) -> Result<usize, usize>
+        ensures { IsPlaceOf name.now self.now.entries result }
+    {
+        self.entries
+            .binary_search_by(|entry| entry.0.as_str().cmp(name))
+    }
+
+    /// The value under a name.
+    pub fn get(&self, name: &str) -> Option<&V>
+        ensures value { option_copied result ≡ get self.now name.now }
+    {
+        match self.place(name) {
+            Ok(i) => Some(&self.entries[i].1),
+            Err(_) => None,
+        }
+    }
+
+    /// Puts a value under a name, and gives the one that was there. On `Err` all is as it was.
+    pub fn insert(&mut self, name: String, value: V) -> Result<Option<V>, AllocError>
+    where
+        V: Drop,
+        ensures old { IfOk result (λ old. old ≡ get self.old (string_bytes name)) }
+        ensures entries { OnOk result (self.new.entries ≡ insert_entry string_cmp self.old.entries name value) }
+        ensures err { OnErr result (self.new ≡ self.old) }
+        ensures ordered { IsRising self.new.entries }
+        ensures was_ordered { IsRising self.old.entries }
+    {
+        match self.place(name.as_str()) {
+            Ok(i) => Ok(Some(replace(&mut self.entries[i].1, value))),
+            Err(i) => {
+                self.entries.insert(i, (name, value))?;
+                Ok(None)
+            }
+        }
+    }
+
+    /// Takes the value under a name out, where there is one.
+    pub fn remove(&mut self, name: &str) -> Option<V>
+    where
+        V: Drop,
+        ensures value { result ≡ get self.old name.now }
+        ensures entries { self.new.entries ≡ remove_entry (is_at (text_cmp name.now)) self.old.entries }
+        ensures ordered { IsRising self.new.entries }
+        ensures was_ordered { IsRising self.old.entries }
+    {
+        match self.place(name) {
+            Ok(i) => {
+                let (_name, value) = self.entries.remove(i);
+                Some(value)
+            }
+            Err(_) => None,
+        }
+    }
+
+    /// Puts a value in the place of the one under a name, which it gives. Where there is none, the value
+    /// comes back and all is as it was.
+    pub fn replace(&mut self, name: &str, value: V) -> Result<V, V>
+        ensures old { IfOk result (λ old. get self.old name.now ≡ Some old) }
+        ensures entries { OnOk result (self.new.entries ≡ set_value (is_at (text_cmp name.now)) self.old.entries value) }
+        ensures absent { IfErr result (λ v. (v ≡ value) × (get self.old name.now ≡ None) × (self.new ≡ self.old)) }
+    {
+        match self.place(name) {
+            Ok(i) => Ok(replace(&mut self.entries[i].1, value)),
+            Err(_) => Err(value),
+        }
+    }
+
+    /// Pairs whose names rise.
+    pub fn of_rising(pairs: Vec<(String, V)>) -> Members<V>
+        requires { IsRising pairs.items }
+        ensures { result.entries ≡ pairs.items }
+    {
+        Members { entries: pairs }
+    }
+
+    /// What all the pairs put in one after another leave: under each name the last value that comes with it.
+    /// Pairs whose names rise stay where they are; of `n` others it takes about `n log n` comparisons.
+    pub fn of_pairs(alloc: Global, pairs: Vec<(String, V)>) -> Result<Members<V>, AllocError>
+    where
+        V: Drop,
+        ensures { IfOk result (IsMadeOf pairs.items) }
+    {
+        if rises(&pairs) {
+            return Ok(Members { entries: pairs });
+        }
+        let sorted: BTreeMap<String, V> = pairs.into_iter().collect(alloc)?;
+        let mut entries = Vec::with_capacity(alloc, sorted.len())?;
+        for entry in sorted {
+            entries.push(entry)?;
+        }
+        Ok(Members { entries })
+    }
+}
