@@ -19,6 +19,7 @@ ghost use Rattle.ssa_file.specs.Saving.{CannotHold, bench_with};
 use crate::saving::{SaveFault, push_line, put_number};
 use ssa_json::members::put_member;
 use ssa_json::value::Json;
+use ssa_members::Members;
 use ssa_object::identity::Identity;
 use ssa_object::object::object_of_state;
 use ssa_schema::schema::Schema;
@@ -26,7 +27,6 @@ use ssa_turn::label::Label;
 use ssa_turn::timeline::Timeline;
 use ssa_turn_state::live_state::StateDelta;
 use std::alloc::{AllocError, Global};
-use std::collections::BTreeMap;
 
 /// The value of the first line: how many commands can be undone, and how many redone.
 pub fn record_head(alloc: Global, past: usize, future: usize) -> Result<Json, AllocError>
@@ -34,7 +34,7 @@ pub fn record_head(alloc: Global, past: usize, future: usize) -> Result<Json, Al
     requires future { future < 2 ^ 63 }
     ensures { IfOk result (λ v. view v ≡ record_head past future) }
 {
-    let mut members = BTreeMap::new(alloc);
+    let mut members = Members::new(alloc);
     put_number(alloc, &mut members, "past", past)?;
     put_number(alloc, &mut members, "future", future)?;
     put_number(alloc, &mut members, "format", 2)?;
@@ -45,7 +45,7 @@ pub fn record_head(alloc: Global, past: usize, future: usize) -> Result<Json, Al
 fn line_value(alloc: Global, command: Json, written: Json) -> Result<Json, AllocError>
     ensures { IfOk result (λ v. view v ≡ object (member (codes "command") (view command) (member (codes "record") (view written) no_members))) }
 {
-    let mut members = BTreeMap::new(alloc);
+    let mut members = Members::new(alloc);
     put_member(alloc, &mut members, "record", written)?;
     put_member(alloc, &mut members, "command", command)?;
     Ok(Json::Object(members))

@@ -15,8 +15,8 @@ use ssa_json::members::put_member;
 use ssa_json::sink::{Sink, write_all};
 use ssa_json::source::DeviceFault;
 use ssa_json::value::{Json, Scalar};
+use ssa_members::Members;
 use std::alloc::{AllocError, Global};
-use std::collections::BTreeMap;
 use thiserror::Error;
 
 /// The most bytes of a bench file.
@@ -55,7 +55,7 @@ impl From<DeviceFault> for SaveFault {
 // Puts a number in its place among members.
 pub(crate) fn put_number(
     alloc: Global,
-    members: &mut BTreeMap<String, Json>,
+    members: &mut Members<Json>,
     name: &str,
     number: usize,
 ) -> Result<(), AllocError>

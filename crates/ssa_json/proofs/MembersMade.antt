@@ -1,5 +1,5 @@
--- A map made at once of many members has those that it would have with each put in turn.
-use Rattle.std.proofs.Common.{◌≡◌, List, [], ◌∷◌, ◌++◌, map, String, Global, BTreeMap, Ordering, Less, Equal, Greater, Option, Some, None, string_bytes, string_cmp, nat_cmp, refl, sym, ap, subst, ◌∙◌}
+-- Members that are put together at once are those that each put in in turn leaves.
+use Rattle.std.proofs.Common.{◌≡◌, List, [], ◌∷◌, ◌++◌, map, String, Global, Ordering, Less, Equal, Greater, Option, Some, None, string_bytes, string_cmp, nat_cmp, refl, sym, ap, subst, ◌∙◌}
 use Rattle.std.proofs.lemmas.Cmp.{nat_list_cmp_total}
 use Rattle.std.proofs.lemmas.List.{append-nil, append_assoc}
 use Rattle.std.specs.Prelude.{option_map, cond, T, true, ◌&&◌}
@@ -7,10 +7,11 @@ use Rattle.std.specs.Cmp.Lexicographic.{slice_cmp}
 use Rattle.std.specs.FinMap.{slice_cmp-IsAntisymmetric, nat_cmp-IsAntisymmetric}
 use Rattle.std.specs.FinMap.Entries.{find, put, is_sorted, below_all, is_sorted-put, find-put, same_entries, by_order}
 use Rattle.std.specs.Map.{lookup, keys_of, update_all}
-use Rattle.std.specs.BTreeMap.{InsertsAll, IsFromIterResult, get, is_at}
+use Rattle.std.specs.BTreeMap.{is_at}
 use Rattle.std.specs.Ordering.{eq_by_cmp, is_eq, is_lt}
 use Rattle.std.specs.List.{AllByRecursion}
 use Rattle.std.specs.List.Sorted.{IsStrictlySortedBy}
+use Rattle.ssa_members.specs.Members.{Members as Entries, IsMadeOf}
 use Rattle.ssa_model.specs.definitions.Json as model
 use Rattle.ssa_model.specs.definitions.Json.{Text, Members, no_members, member, same_text}
 use Rattle.ssa_model.specs.definitions.Objects.{with_member}
@@ -30,15 +31,6 @@ use Rattle.ssa_json.proofs.Converting.{Found, named, members_after, members_afte
 pub put-append : (ps qs : List Found) (ms : Members) → put_in_turn (ps ++ qs) ms ≡ put_in_turn qs (put_in_turn ps ms)
 put-append [] qs ms = refl
 put-append (p ∷ ps) qs ms = put-append ps qs (with_member (string_bytes p.0) (view p.1) ms)
-
--- in a map whose names rise, the entries put in turn stand as they are
-put-rising : (done more : List Found) → IsStrictlySortedBy string_cmp (keys_of (done ++ more))
-    → put_in_turn more (members_view done) ≡ members_view (done ++ more)
-put-rising done [] h = ap members_view (sym (append-nil done))
-put-rising done (e ∷ more) h =
-    ap (put_in_turn more) (sym (inserted e.0 e.1 done) ∙ ap members_view (inserted-last done e more done e.0 e.1 h refl refl))
-    ∙ put-rising (done ++ e ∷ []) more (subst (λ es. IsStrictlySortedBy string_cmp (keys_of es)) (sym (append_assoc done (e ∷ []) more)) h)
-    ∙ ap members_view (append_assoc done (e ∷ []) more)
 
 -- ---- rows
 
@@ -149,9 +141,9 @@ alike rs bs g h same q =
 -- ---- the map
 
 -- a map whose look-ups are those of entries with pairs put in turn has those members
-made : (es ps : List Found) (f : String Global → Option Json) (m : BTreeMap (String Global) Json) → IsStrictlySortedBy string_cmp (keys_of es)
+made : (es ps : List Found) (f : String Global → Option Json) (m : Entries Json) → IsStrictlySortedBy string_cmp (keys_of es)
     → ((q : String Global) → lookup (is_at (string_cmp q)) es ≡ f q)
-    → ((q : String Global) → get string_cmp m q ≡ update_all (eq_by_cmp string_cmp) f ps q) → IsStrictlySortedBy string_cmp (keys_of m.entries)
+    → ((q : String Global) → lookup (is_at (string_cmp q)) m.entries ≡ update_all (eq_by_cmp string_cmp) f ps q) → IsStrictlySortedBy string_cmp (keys_of m.entries)
     → members_view m.entries ≡ put_in_turn ps (members_view es)
 made es ps f m rises base found sorted =
     let old = map named es in
@@ -164,14 +156,7 @@ made es ps f m rises base found sorted =
     sym (members_after-none m.entries) ∙ ap (λ rows. members_after rows no_members) same ∙ rows-put ps old
     ∙ ap (put_in_turn ps) (members_after-none es)
 
--- a map with pairs put in turn has the members so put
-pub made-more : (old m : BTreeMap (String Global) Json) (ps : List Found) → IsStrictlySortedBy string_cmp (keys_of old.entries)
-    → InsertsAll string_cmp old ps m → members_view m.entries ≡ put_in_turn ps (members_view old.entries)
-made-more old m ps rises is = made old.entries ps (get string_cmp old) m rises (λ q. refl) is.0 is.1
-
--- so has the map made of a map's entries and of pairs behind them
-pub made-anew : (es ps : List Found) (m : BTreeMap (String Global) Json) → IsStrictlySortedBy string_cmp (keys_of es)
-    → IsFromIterResult string_cmp (es ++ ps) m → members_view m.entries ≡ put_in_turn ps (members_view es)
+-- pairs that are put together have the members that they leave when each is put in in turn
+pub made-of-pairs : (ps : List Found) (m : Entries Json) → IsMadeOf ps m → members_view m.entries ≡ put_in_turn ps no_members
 unfolding IsStrictlySortedBy
-made-anew es ps m rises is =
-    made [] (es ++ ps) (λ _. None) m tt (λ q. refl) is.0 is.1 ∙ put-append es ps no_members ∙ ap (put_in_turn ps) (put-rising [] es rises)
+made-of-pairs ps m is = made [] ps (λ _. None) m tt (λ q. refl) is.found is.rising

@@ -1,5 +1,5 @@
 -- Members that come in the order of their names.
-use Rattle.std.proofs.Common.{◌≡◌, ℕ, List, [], ◌∷◌, ◌++◌, map, String, Global, Less, Greater, string_bytes, string_cmp, nat_cmp, refl, ap, ◌∙◌}
+use Rattle.std.proofs.Common.{◌≡◌, ℕ, List, [], ◌∷◌, ◌++◌, map, String, Global, Less, Greater, string_bytes, string_cmp, nat_cmp, refl, sym, ap, subst, ◌∙◌}
 use Rattle.std.proofs.lemmas.Cmp.{nat_list_cmp_total}
 use Rattle.std.specs.Cmp.Lexicographic.{slice_cmp}
 use Rattle.std.specs.List.{AllByRecursion}
@@ -51,3 +51,27 @@ pub inserted-last : {V W : Type 0} (done : List (Named V)) (e : Named V) (more :
     → insert_entry string_cmp found k w ≡ found ++ (k, w) ∷ []
 inserted-last done e more found k w sorted same key =
     insert_entry-last found k w (rw (same, key) (above_before done e more sorted))
+
+module _ {V : Type 0} where
+  names-below : (k : String Global) (es : List (Named V)) → AllByRecursion (λ y. string_cmp k y ≡ Less) (keys_of es) → AllByRecursion (λ n. slice_cmp nat_cmp (string_bytes k) n ≡ Less) (names es)
+  names-below k [] h = tt
+  names-below k (e ∷ es) h = (h.0, names-below k es h.1)
+
+  below-names : (k : String Global) (es : List (Named V)) → AllByRecursion (λ n. slice_cmp nat_cmp (string_bytes k) n ≡ Less) (names es) → AllByRecursion (λ y. string_cmp k y ≡ Less) (keys_of es)
+  below-names k [] h = tt
+  below-names k (e ∷ es) h = (h.0, below-names k es h.1)
+
+  names-rise : (es : List (Named V)) → IsStrictlySortedBy string_cmp (keys_of es) → IsStrictlySortedBy (slice_cmp nat_cmp) (names es)
+  unfolding IsStrictlySortedBy
+  names-rise [] h = tt
+  names-rise (e ∷ es) h = (names-below e.0 es h.0, names-rise es h.1)
+
+  rise-by-names : (es : List (Named V)) → IsStrictlySortedBy (slice_cmp nat_cmp) (names es) → IsStrictlySortedBy string_cmp (keys_of es)
+  unfolding IsStrictlySortedBy
+  rise-by-names [] h = tt
+  rise-by-names (e ∷ es) h = (below-names e.0 es h.0, rise-by-names es h.1)
+
+-- members with the names of others that rise rise too
+pub rising-by-names : {V W : Type 0} (es : List (Named V)) (fs : List (Named W)) → names es ≡ names fs → IsStrictlySortedBy string_cmp (keys_of fs)
+    → IsStrictlySortedBy string_cmp (keys_of es)
+rising-by-names es fs same rise = rise-by-names es (subst (IsStrictlySortedBy (slice_cmp nat_cmp)) (sym same) (names-rise fs rise))

@@ -1,5 +1,6 @@
 -- What a value of each sort is seen as.
-use Rattle.std.proofs.Common.{◌≡◌, List, [], ◌∷◌, Bool, true, false, cond, refl, String, string_bytes, Global, Vec, BTreeMap, is_eq, nat_cmp, rules}
+use Rattle.std.proofs.Common.{◌≡◌, List, [], ◌∷◌, Bool, true, false, cond, refl, String, string_bytes, Global, Vec, is_eq, nat_cmp, rules}
+use Rattle.ssa_members.specs.Members.{Members as Entries}
 use Rattle.std.specs.Prelude.{Option, Some, None, option_map}
 use Rattle.std.specs.Borrow.{Bor}
 use Rattle.std.specs.Map.{lookup}
@@ -19,5 +20,5 @@ pub view-List : (v : Vec Json Global) → view (list_json v) ≡ list (items_vie
 view-List v = search (rules, the_lemmas)
 
 -- an object of the program is seen as the members of its map
-pub view-Object : (m : BTreeMap (String Global) Json) → view (Object m) ≡ object (members_view m.entries)
+pub view-Object : (m : Entries Json) → view (Object m) ≡ object (members_view m.entries)
 view-Object m = search (rules, the_lemmas)

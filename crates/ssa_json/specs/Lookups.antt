@@ -1,10 +1,11 @@
--- Laws of the words for values: lookups in a map, beside those in the members that it stands for.
+-- Laws of the words for values: lookups among entries, beside those among the members that they stand for.
+use Rattle.ssa_members.specs.Members.{Members as Entries}
 use Rattle.std.specs.Prelude.{◌≡◌, List, [], ◌∷◌, Bool, true, false, cond, refl, String, string_bytes, Option, Some, None, option_map}
 use Rattle.std.specs.declared.alloc.Global.{Global}
 use Rattle.std.specs.Ordering.{is_eq, nat_cmp}
 use Rattle.std.specs.Borrow.{Bor}
 use Rattle.std.specs.Map.{lookup}
-use Rattle.std.specs.BTreeMap.{BTreeMap, is_at}
+use Rattle.std.specs.BTreeMap.{is_at}
 use Rattle.std.specs.Cmp.Lexicographic.{slice_cmp}
 use Rattle.ssa_model.specs.definitions.Json.{Text, object, member_of}
 use Rattle.ssa_json.specs.View.{view, members_view}
@@ -16,7 +17,7 @@ pub view-either : (b : Bool) (v : Json) (rest : Option Json) (r : Option Rattle.
 view-either true v rest r e = refl
 view-either false v rest r e = e
 
--- looking a name up in the map, and then at the value, is looking the name up among the members
+-- looking a name up among entries, and then at the value, is looking the name up among the members
 pub view-lookup : (name : Text) (es : List (String Global × Json))
     → option_map view (lookup (is_at (λ k. slice_cmp nat_cmp name (string_bytes k))) es) ≡ member_of name (members_view es)
 view-lookup name [] = refl
@@ -27,6 +28,6 @@ pub view_of_ref : (r : Option (Bor Json)) → option_map (λ x. view x.now) r �
 view_of_ref None = refl
 view_of_ref (Some x) = refl
 
--- an object is seen as the members of its map
+-- an object is seen as the members of its entries
 abbrev pub ObjectsAreMembers : Type 0
-ObjectsAreMembers = (m : BTreeMap (String Global) Json) → view (Object m) ≡ object (members_view m.entries)
+ObjectsAreMembers = (m : Entries Json) → view (Object m) ≡ object (members_view m.entries)

@@ -3,8 +3,8 @@ ghost use Rattle.std.specs.Prelude.{◌≡◌, IfOk};
 ghost use Rattle.ssa_json.specs.View.{view, items_view, members_view, scalar_view};
 
 use crate::value::{Json, Scalar};
+use ssa_members::Members;
 use std::alloc::{AllocError, Global};
-use std::collections::BTreeMap;
 
 impl Scalar {
     /// The same scalar, in memory of its own.
@@ -51,16 +51,13 @@ fn copied_items(alloc: Global, items: &Vec<Json>) -> Result<Vec<Json>, AllocErro
 }
 
 #[cycle(copy)]
-fn copied_members(
-    alloc: Global,
-    members: &BTreeMap<String, Json>,
-) -> Result<BTreeMap<String, Json>, AllocError>
+fn copied_members(alloc: Global, members: &Members<Json>) -> Result<Members<Json>, AllocError>
     ensures { IfOk result (λ m. members_view m.entries ≡ members_view members.now.entries) }
 {
-    let mut found = BTreeMap::new(alloc);
-    for (name, member) in members.iter() {
+    let mut found = Vec::with_capacity(alloc, members.len())?;
+    for (name, member) in members.entries() {
         let key = String::from_str(alloc, name.as_str())?;
-        drop(found.insert(key, copied(alloc, member)?)?);
+        found.push((key, copied(alloc, member)?))?;
     }
-    Ok(found)
+    Ok(Members::of_rising(found))
 }

@@ -1,6 +1,5 @@
 //! Members of objects.
 ghost use Rattle.std.specs.Prelude.{◌≡◌, OnErr, OnOk, option_map};
-ghost use Rattle.std.specs.BTreeMap.{IsUnchanged};
 ghost use Rattle.ssa_model.specs.definitions.Entries.{text_json};
 ghost use Rattle.ssa_model.specs.definitions.Json.{member_of};
 ghost use Rattle.ssa_model.specs.definitions.Objects.{with_member};
@@ -8,18 +7,18 @@ ghost use Rattle.ssa_model.specs.definitions.Schema.{has_member};
 ghost use Rattle.ssa_json.specs.View.{view, members_view};
 
 use crate::value::{Json, Scalar};
+use ssa_members::Members;
 use std::alloc::{AllocError, Global};
-use std::collections::BTreeMap;
 
 /// The member of a name, where there is one.
-pub fn find_member<'a>(members: &'a BTreeMap<String, Json>, name: &str) -> Option<&'a Json>
+pub fn find_member<'a>(members: &'a Members<Json>, name: &str) -> Option<&'a Json>
     ensures { option_map (λ v. view v.now) result ≡ member_of name.now (members_view members.now.entries) }
 {
     members.get(name)
 }
 
 /// Whether there is a member of the name.
-pub fn has_member(members: &BTreeMap<String, Json>, name: &str) -> bool
+pub fn has_member(members: &Members<Json>, name: &str) -> bool
     ensures { result ≡ has_member name.now (members_view members.now.entries) }
 {
     find_member(members, name).is_some()
@@ -29,12 +28,12 @@ pub fn has_member(members: &BTreeMap<String, Json>, name: &str) -> bool
 /// On `Err` the members are as they were.
 pub fn put_member(
     alloc: Global,
-    members: &mut BTreeMap<String, Json>,
+    members: &mut Members<Json>,
     name: &str,
     value: Json,
 ) -> Result<(), AllocError>
     ensures ok { OnOk result (members_view members.new.entries ≡ with_member name.now (view value) (members_view members.old.entries)) }
-    ensures err { OnErr result (IsUnchanged members.old members.new) }
+    ensures err { OnErr result (members.new ≡ members.old) }
 {
     let key = String::from_str(alloc, name)?;
     drop(members.insert(key, value)?);
@@ -45,12 +44,12 @@ pub fn put_member(
 /// On `Err` the members are as they were.
 pub fn put_text(
     alloc: Global,
-    members: &mut BTreeMap<String, Json>,
+    members: &mut Members<Json>,
     name: &str,
     text: &str,
 ) -> Result<(), AllocError>
     ensures ok { OnOk result (members_view members.new.entries ≡ with_member name.now (text_json text.now) (members_view members.old.entries)) }
-    ensures err { OnErr result (IsUnchanged members.old members.new) }
+    ensures err { OnErr result (members.new ≡ members.old) }
 {
     let value = Json::Scalar(Scalar::Text(String::from_str(alloc, text)?));
     put_member(alloc, members, name, value)

@@ -8,8 +8,8 @@ use crate::fault::JsonFault;
 use crate::straight::read_straight;
 use crate::value::{Json, Scalar};
 use serde_json::{Map, Value};
+use ssa_members::Members;
 use std::alloc::Global;
-use std::collections::BTreeMap;
 
 impl Json {
     /// Reads a text of at most `most` bytes. Which bytes are JSON is `serde_json`'s reading of
@@ -62,13 +62,10 @@ fn converted_items(alloc: Global, items: Vec<Value>) -> Result<Vec<Json>, JsonFa
 }
 
 #[cycle(convert)]
-fn converted_members(
-    alloc: Global,
-    members: Map<String, Value>,
-) -> Result<BTreeMap<String, Json>, JsonFault>
+fn converted_members(alloc: Global, members: Map<String, Value>) -> Result<Members<Json>, JsonFault>
     ensures { Converts (λ m. members_view m.entries) result (members_value (data_members members.entries)) }
 {
-    let mut found = BTreeMap::new(alloc);
+    let mut found = Members::new(alloc);
     for (name, member) in members {
         drop(found.insert(name, converted(alloc, member)?)?);
     }

@@ -5,7 +5,7 @@ ghost use Rattle.ssa_json.specs.View.{view, items_view, members_view, scalar_vie
 
 use crate::text::is_same_text;
 use crate::value::{Json, Scalar};
-use std::collections::BTreeMap;
+use ssa_members::Members;
 
 impl Scalar {
     /// Whether the two are one scalar.
@@ -61,11 +61,11 @@ fn same_items(items: &Vec<Json>, others: &Vec<Json>) -> bool
 }
 
 #[cycle(same)]
-fn same_members(members: &BTreeMap<String, Json>, others: &BTreeMap<String, Json>) -> bool
+fn same_members(members: &Members<Json>, others: &Members<Json>) -> bool
     ensures { result ≡ same_members (members_view members.now.entries) (members_view others.now.entries) }
 {
-    let mut rest = others.iter();
-    for (name, member) in members.iter() {
+    let mut rest = others.entries().iter();
+    for (name, member) in members.entries() {
         let Some((other_name, other)) = rest.next() else {
             return false;
         };

@@ -4,7 +4,7 @@ ghost use Rattle.json.specs.Json.{value, items, members};
 ghost use Rattle.serde_json.specs.Data.{no_members};
 ghost use Rattle.serde_json.specs.Find.{of_integer};
 ghost use Rattle.serde_json.specs.Read.{of_json, of_items, of_members, converted, number_of, read as read_text};
-ghost use Rattle.ssa_model.specs.definitions.Json.{Members};
+ghost use Rattle.ssa_model.specs.definitions.Json as model;
 ghost use Rattle.ssa_json.specs.PutInTurn.{put_in_turn};
 ghost use Rattle.ssa_json.specs.Reading.{json_reading};
 ghost use Rattle.ssa_json.specs.View.{view, items_view, members_view};
@@ -13,13 +13,10 @@ ghost use Rattle.ssa_json.specs.Written.{data_of, items_data, members_data, is_n
 use crate::value::{Json, Scalar};
 use itoa::Buffer;
 use json::{Invalid, Reader, Scratch, Token};
+use ssa_members::Members;
 use std::alloc::{AllocError, AllocFailed, Global};
-use std::collections::BTreeMap;
 
 const MOST_DEPTH: usize = 127;
-
-// The first members go into a map one by one: for so few, no other way costs less.
-const MOST_PUT_SINGLY: usize = 32;
 
 // The text is not read straight: it is no JSON text, has a part that is left out here, or memory ran out.
 #[derive(Drop)]
@@ -141,65 +138,40 @@ fn read_items(
     Ok(found)
 }
 
-// The entries found first, with the rest put among them one after another. Where the rest is long and its names rise,
-// a map made anew of all costs less than a search for each; else it costs more.
-fn joined(
-    alloc: Global,
-    mut found: BTreeMap<String, Json>,
-    rest: Vec<(String, Json)>,
-) -> Result<BTreeMap<String, Json>, AllocError>
-    ensures ok { IfOk result (λ m. members_view m.entries ≡ put_in_turn rest.items (members_view found.entries)) }
-{
-    if rest.len() < found.len() || !rest.is_sorted_by(|one, next| one.0 <= next.0) {
-        found.extend(rest)?;
-        return Ok(found);
-    }
-    found.into_iter().chain(rest).collect(alloc)
-}
-
 #[cycle(straight)]
 fn read_members(
     alloc: Global,
     reader: &mut Reader<'_>,
     depth: usize,
-) -> Result<BTreeMap<String, Json>, NotStraight>
+) -> Result<Members<Json>, NotStraight>
     ensures ok { IfOk result (λ m. converted (λ ms. of_members ms no_members) (members (value depth) (length reader.old) reader.old)
         ≡ Some (members_data (members_view m.entries), reader.new)) }
     ensures shorter { OnOk result (length reader.new < length reader.old) }
     ensures narrow { IfOk result (λ m. members_narrow (members_view m.entries) ≡ true) }
 {
-    let mut found = BTreeMap::new(alloc);
-    'members: while found.len() < MOST_PUT_SINGLY {
-        let Some(name) = reader.next_key()? else {
-            return Ok(found);
-        };
-        let key = String::from_str(alloc, name)?;
-        let member = read_value(alloc, reader, depth)?;
-        drop(found.insert(key, member)?);
-    }
-    let rest = read_rest(alloc, reader, depth)?;
-    Ok(joined(alloc, found, rest)?)
+    let pairs = read_pairs(alloc, reader, depth)?;
+    Ok(Members::of_pairs(alloc, pairs)?)
 }
 
 // The members from here to the object's end, in the order of the text.
 #[cycle(straight)]
-fn read_rest(
+fn read_pairs(
     alloc: Global,
     reader: &mut Reader<'_>,
     depth: usize,
 ) -> Result<Vec<(String, Json)>, NotStraight>
-    ensures ok { IfOk result (λ v. (found : Members) → (most : ℕ) → length reader.old ≤ most
+    ensures ok { IfOk result (λ v. (found : model.Members) → (most : ℕ) → length reader.old ≤ most
         → converted (λ ms. of_members ms (members_data found)) (members (value depth) most reader.old)
         ≡ Some (members_data (put_in_turn v.items found), reader.new)) }
     ensures shorter { OnOk result (length reader.new < length reader.old) }
-    ensures narrow { IfOk result (λ v. (found : Members) → members_narrow found ≡ true
+    ensures narrow { IfOk result (λ v. (found : model.Members) → members_narrow found ≡ true
         → members_narrow (put_in_turn v.items found) ≡ true) }
 {
-    let mut rest = Vec::with_capacity(alloc, MOST_PUT_SINGLY)?;
+    let mut pairs = Vec::new(alloc);
     'members: while let Some(name) = reader.next_key()? {
         let key = String::from_str(alloc, name)?;
         let member = read_value(alloc, reader, depth)?;
-        rest.push((key, member))?;
+        pairs.push((key, member))?;
     }
-    Ok(rest)
+    Ok(pairs)
 }

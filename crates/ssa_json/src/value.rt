@@ -4,7 +4,7 @@ ghost use Rattle.ssa_json.specs.View.{view, members_view, as_object};
 ghost use Rattle.ssa_json.specs.Lookups.{ObjectsAreMembers};
 ghost use Rattle.ssa_model.specs.definitions.Json.{is_object, as_text, member_at};
 
-use std::collections::BTreeMap;
+use ssa_members::Members;
 
 /// A text, a whole number of 64 bits with sign, or a truth value.
 #[derive(Debug, Drop)]
@@ -19,7 +19,7 @@ pub enum Scalar {
 pub enum Json {
     Scalar(Scalar),
     List(Vec<Json>),
-    Object(BTreeMap<String, Json>),
+    Object(Members<Json>),
 }
 
 impl Json {
@@ -31,7 +31,7 @@ impl Json {
     }
 
     /// The members, where the value is an object.
-    pub fn as_object(&self) -> Option<&BTreeMap<String, Json>>
+    pub fn as_object(&self) -> Option<&Members<Json>>
         ensures { option_map (λ ms. members_view ms.now.entries) result ≡ as_object (view self.now) }
     {
         match self {

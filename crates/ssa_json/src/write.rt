@@ -8,8 +8,8 @@ ghost use Rattle.ssa_json.specs.Written.{DecimalsArePrinted, tokens_of, items_to
 
 use crate::value::{Json, Scalar};
 use json::Writer;
+use ssa_members::Members;
 use std::alloc::{AllocError, Global};
-use std::collections::BTreeMap;
 
 // The bytes that a text has room for from the start.
 const FIRST_ROOM: usize = 128;
@@ -92,14 +92,14 @@ fn write_items(writer: &mut Writer, items: &Vec<Json>) -> Result<(), AllocError>
 
 // Writes the members of an object, and the bracket that closes it.
 #[cycle(encode)]
-fn write_members(writer: &mut Writer, members: &BTreeMap<String, Json>) -> Result<(), AllocError>
+fn write_members(writer: &mut Writer, members: &Members<Json>) -> Result<(), AllocError>
     ensures tokens { OnOk result (writer.new.tokens ≡ writer.old.tokens ++ members_tokens (members_view members.now.entries)) }
     ensures before { writer.new.before ≡ writer.old.before }
     ensures narrow { OnOk result (members_narrow (members_view members.now.entries) ≡ true) }
     ensures texts { OnOk result (members_have_utf8 (members_view members.now.entries) ≡ true) }
     ensures names { OnOk result (members_rise (members_view members.now.entries) ≡ true) }
 {
-    for (key, member) in members.iter() {
+    for (key, member) in members.entries() {
         writer.key(key.as_str())?;
         write_value(writer, member)?;
     }

@@ -1,3 +1,4 @@
+pub mod Deepest
 pub mod Made
 pub mod Rising
 pub mod Searching

@@ -8,7 +8,7 @@ use Rattle.std.specs.BTreeMap.{is_at}
 use Rattle.std.specs.Map.{keys_of, lookup, update_all}
 use Rattle.std.specs.Option.{option_or}
 use Rattle.std.specs.Ordering.{eq_by_cmp, is_eq}
-use Rattle.ssa_members.specs.Members.{Name, Members, IsMadeOf, IsRising}
+use Rattle.ssa_members.specs.Members.{Name, IsMadeOf, IsRising}
 use Rattle.ssa_members.proofs.Rising.{name_total}
 
 option_or-none : {X : Type 0} (o : Option X) → option_or o None ≡ o

@@ -1,5 +1,5 @@
 -- Names that rise, and still do where one comes or goes.
-use Rattle.std.proofs.Common.{◌≡◌, ℕ, zero, suc, ◌+◌, ◌<◌, ◌≤◌, List, [], ◌∷◌, ◌++◌, length, get_or, take, drop, Ordering, Less, Greater, Global, Bool, true, false, refl, sym, ap, subst, ◌∙◌, arith, string_bytes, string_cmp, nat_cmp}
+use Rattle.std.proofs.Common.{◌≡◌, ℕ, zero, suc, ◌+◌, ◌<◌, List, [], ◌∷◌, length, get_or, Less, Global, Bool, true, false, refl, sym, ap, subst, ◌∙◌, arith, string_bytes, string_cmp}
 use Rattle.std.proofs.lemmas.Cmp.{nat_list_cmp_total}
 use Rattle.std.proofs.lemmas.List.{get_or-map}
 use Rattle.std.proofs.lemmas.Map.Entries.{length-keys_of}

@@ -1,5 +1,5 @@
 -- Values under names as a list of pairs that holds the values: what a type needs that leads back to itself by such a list.
-use Rattle.std.specs.Prelude.{◌≡◌, ℕ, max, List, [], ◌∷◌, map, String}
+use Rattle.std.specs.Prelude.{◌≡◌, ℕ, max, List, [], ◌∷◌, map}
 use Rattle.std.specs.Map.{keys_of, values_of}
 use Rattle.ssa_members.specs.Members.{Name, name_row}
 use base.Stored.{code_map, coded×, coded_list, gcons}

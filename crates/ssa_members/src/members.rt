@@ -48,7 +48,7 @@ fn rises<V>(pairs: &[(String, V)]) -> bool
 impl<V> Members<V> {
     /// None. Takes no memory.
     pub fn new(alloc: Global) -> Members<V>
-        ensures { result.entries ≡ [] }
+        ensures empty { result.entries ≡ [] }
     {
         Members {
             entries: Vec::new(alloc),

@@ -8,8 +8,8 @@ ghost use Rattle.ssa_merge.specs.Managers.{entry_view};
 use crate::managers::{Entry, Managers};
 use ssa_json::members::{put_member, put_text};
 use ssa_json::value::Json;
+use ssa_members::Members;
 use std::alloc::{AllocError, Global};
-use std::collections::BTreeMap;
 
 impl Entry {
     /// The entry of `managedFields`, for an object of this `apiVersion`.
@@ -23,7 +23,7 @@ impl Entry {
     {
         let fields = self.set.to_fields_v1(alloc)?;
         let time = self.at.to_text(alloc)?;
-        let mut members = BTreeMap::new(alloc);
+        let mut members = Members::new(alloc);
         put_text(alloc, &mut members, "time", time.as_str())?;
         put_text(alloc, &mut members, "operation", self.key.operation.text())?;
         put_text(alloc, &mut members, "manager", self.key.name.as_str())?;

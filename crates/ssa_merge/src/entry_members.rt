@@ -14,7 +14,7 @@ use crate::manager::Operation;
 use ssa_json::members::{find_member, has_member};
 use ssa_json::text::is_same_text;
 use ssa_json::value::Json;
-use std::collections::BTreeMap;
+use ssa_members::Members;
 
 /// What an entry says.
 #[derive(Drop)]
@@ -43,11 +43,11 @@ fn is_entry_member(name: &str, value: &Json) -> bool
     is_same_text(name, "fieldsV1") || (is_text_name(name) && value.as_text().is_some())
 }
 
-fn are_entry_members(members: &BTreeMap<String, Json>) -> bool
+fn are_entry_members(members: &Members<Json>) -> bool
     ensures told { result ≡ are_entry_members (members_view members.now.entries) }
     ensures ordered { IsOrdered string_cmp members.now }
 {
-    for (name, value) in members.iter() {
+    for (name, value) in members.entries() {
         if !is_entry_member(name.as_str(), value) {
             return false;
         }
@@ -55,7 +55,7 @@ fn are_entry_members(members: &BTreeMap<String, Json>) -> bool
     true
 }
 
-fn has_all_members(members: &BTreeMap<String, Json>) -> bool
+fn has_all_members(members: &Members<Json>) -> bool
     ensures { result ≡ list_all (λ n. has_member n (members_view members.now.entries)) (codes "fieldsV1" ∷ entry_texts) }
 {
     has_member(members, "fieldsV1")
@@ -67,7 +67,7 @@ fn has_all_members(members: &BTreeMap<String, Json>) -> bool
 }
 
 // The text of a member, empty where it is none.
-fn text_at<'a>(members: &'a BTreeMap<String, Json>, name: &str) -> &'a str
+fn text_at<'a>(members: &'a Members<Json>, name: &str) -> &'a str
     ensures { result.now ≡ text_in (member_of name.now (members_view members.now.entries)) }
 {
     match find_member(members, name) {
@@ -90,7 +90,7 @@ pub fn operation_of(text: &str) -> Option<Operation>
 }
 
 // What members say, where they are an entry's.
-fn said_by(members: &BTreeMap<String, Json>) -> Option<Said<'_>>
+fn said_by(members: &Members<Json>) -> Option<Said<'_>>
     ensures { MatchOption result (is_entry (members_view members.now.entries) ≡ false) (λ s. Says (members_view members.now.entries) s) }
 {
     if !are_entry_members(members) || !has_all_members(members) {

@@ -8,7 +8,7 @@ ghost use Rattle.ssa_model.specs.definitions.Objects.{value_at, without, without
 ghost use Rattle.ssa_json.specs.View.{view, members_view};
 
 use ssa_json::value::{Json, Scalar, objects_are_members};
-use std::collections::BTreeMap;
+use ssa_members::Members;
 use std::mem;
 
 /// A command's object without its identity.
@@ -71,7 +71,7 @@ fn value_without(object: Json, names: &[&str]) -> Json
 }
 
 // Takes out the members of these names.
-fn remove_members(members: &mut BTreeMap<String, Json>, names: &[&str])
+fn remove_members(members: &mut Members<Json>, names: &[&str])
     ensures { members_view members.new.entries ≡ without (map (λ n. n.now) names.now) (members_view members.old.entries) }
 {
     for name in names {
@@ -80,12 +80,11 @@ fn remove_members(members: &mut BTreeMap<String, Json>, names: &[&str])
 }
 
 // Takes the members of these names out of the metadata.
-fn strip_metadata(members: &mut BTreeMap<String, Json>, names: &[&str])
+fn strip_metadata(members: &mut Members<Json>, names: &[&str])
     ensures { members_view members.new.entries ≡ without_in_metadata (map (λ n. n.now) names.now) (members_view members.old.entries) }
 {
-    if let Some(metadata) = members.get_mut("metadata") {
-        let whole = mem::replace(metadata, Json::Scalar(Scalar::Bool(false)));
-        *metadata = without_names(whole, names);
+    if let Ok(whole) = members.replace("metadata", Json::Scalar(Scalar::Bool(false))) {
+        drop(members.replace("metadata", without_names(whole, names)));
     }
 }
 
@@ -103,16 +102,15 @@ fn without_names(value: Json, names: &[&str]) -> Json
 }
 
 // Takes the managers' entries out of the metadata, where they are there.
-fn take_entries(members: &mut BTreeMap<String, Json>) -> Option<Json>
+fn take_entries(members: &mut Members<Json>) -> Option<Json>
     ensures entries { option_map view result ≡ value_at (codes "metadata" ∷ codes "managedFields" ∷ []) (object (members_view members.old.entries)) }
     ensures rest { members_view members.new.entries ≡ without_in_metadata (codes "managedFields" ∷ []) (members_view members.old.entries) }
 {
-    let Some(metadata) = members.get_mut("metadata") else {
+    let Ok(whole) = members.replace("metadata", Json::Scalar(Scalar::Bool(false))) else {
         return None;
     };
-    let whole = mem::replace(metadata, Json::Scalar(Scalar::Bool(false)));
     let (rest, entries) = without_member(whole, "managedFields");
-    *metadata = rest;
+    drop(members.replace("metadata", rest));
     entries
 }
 

@@ -10,11 +10,11 @@ ghost use Rattle.ssa_merge.specs.States.{state_view};
 use crate::identity::Identity;
 use ssa_json::members::put_member;
 use ssa_json::value::{Json, objects_are_members};
+use ssa_members::Members;
 use ssa_merge::state::State;
 use ssa_schema::schema::Schema;
 use ssa_typed::body::Body;
 use std::alloc::{AllocError, Global};
-use std::collections::BTreeMap;
 
 // The object of an identity and a body of a schema.
 fn object_of_body(
@@ -68,19 +68,19 @@ pub fn object_of_state(
 }
 
 // The members of an object; none of another value.
-fn into_members(alloc: Global, value: Json) -> BTreeMap<String, Json>
+fn into_members(alloc: Global, value: Json) -> Members<Json>
     ensures { members_view result.entries ≡ members_of_value (view value) }
 {
     match value {
         Json::Object(members) => members,
-        _ => BTreeMap::new(alloc),
+        _ => Members::new(alloc),
     }
 }
 
 // Puts a copy of a value in its place, where it is there.
 fn put_given(
     alloc: Global,
-    members: &mut BTreeMap<String, Json>,
+    members: &mut Members<Json>,
     name: &str,
     value: Option<&Json>,
 ) -> Result<(), AllocError>
@@ -95,20 +95,20 @@ fn put_given(
 // The members of `metadata`, with new memory; none where it is absent.
 fn metadata_of(
     alloc: Global,
-    members: &BTreeMap<String, Json>,
-) -> Result<BTreeMap<String, Json>, AllocError>
+    members: &Members<Json>,
+) -> Result<Members<Json>, AllocError>
     ensures { IfOk result (λ ms. members_view ms.entries ≡ members_in (member_of (codes "metadata") (members_view members.now.entries))) }
 {
     match members.get("metadata") {
         Some(value) => Ok(into_members(alloc, value.copy(alloc)?)),
-        None => Ok(BTreeMap::new(alloc)),
+        None => Ok(Members::new(alloc)),
     }
 }
 
 // Puts the identity among the members.
 fn add_identity(
     alloc: Global,
-    members: &mut BTreeMap<String, Json>,
+    members: &mut Members<Json>,
     identity: &Identity,
 ) -> Result<(), AllocError>
     ensures { OnOk result (members_view members.new.entries ≡ with_identity identity.now (members_view members.old.entries)) }

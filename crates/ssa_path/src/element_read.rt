@@ -15,8 +15,8 @@ use crate::element_fault::ElemFault;
 use crate::keys::Keys;
 use ssa_json::fault::JsonFault;
 use ssa_json::value::{Json, Scalar};
+use ssa_members::Members;
 use std::alloc::{AllocError, Global};
-use std::collections::BTreeMap;
 
 impl Elem {
     /// The element that has this very text, as `Elem::text` writes it. A fault other than want of
@@ -130,11 +130,11 @@ fn key_element(alloc: Global, json: &str) -> Result<Option<Elem>, AllocError>
 }
 
 // The members as key fields, where there is one and all are scalars.
-fn keys_of(alloc: Global, members: BTreeMap<String, Json>) -> Result<Option<Keys>, AllocError>
+fn keys_of(alloc: Global, members: Members<Json>) -> Result<Option<Keys>, AllocError>
     ensures { IfOk result (λ o. option_map key o ≡ key_element (Ok (object (members_view members.entries)))) }
 {
     let mut found = Vec::new(alloc);
-    for (name, member) in members {
+    for (name, member) in members.into_entries() {
         let Some(scalar) = into_scalar(member) else {
             return Ok(None);
         };

@@ -11,8 +11,8 @@ use crate::element_fault::ElemFault;
 use crate::field_set::FieldSet;
 use crate::trie::Trie;
 use ssa_json::value::Json;
+use ssa_members::Members;
 use std::alloc::Global;
-use std::collections::BTreeMap;
 
 impl FieldSet {
     /// The set that a value says as FieldsV1 of the Kubernetes API, as `FieldSet::to_fields_v1`
@@ -62,13 +62,13 @@ fn read_place(alloc: Global, value: &Json) -> Result<Trie, ElemFault>
 
 // The place that the members of an object say.
 #[cycle(read)]
-fn read_members(alloc: Global, members: &BTreeMap<String, Json>) -> Result<Trie, ElemFault>
+fn read_members(alloc: Global, members: &Members<Json>) -> Result<Trie, ElemFault>
     ensures answers { TellsFirst result (member_faults json_reading (members_view members.now.entries)) }
     ensures place { IfOk result (λ t. IsPlaceOf (object (members_view members.now.entries)) t) }
 {
     let mut here = false;
     let mut below = Vec::new(alloc);
-    for (name, member) in members.iter() {
+    for (name, member) in members.entries() {
         if !is_dot(name.as_str()) {
             let child = read_child(alloc, name.as_str(), member)?;
             let Ok(()) = below.push(child) else {

@@ -11,8 +11,8 @@ ghost use Rattle.ssa_path.specs.Trie.{is_filled, is_trie, paths};
 use crate::field_set::FieldSet;
 use crate::trie::Trie;
 use ssa_json::value::Json;
+use ssa_members::Members;
 use std::alloc::{AllocError, Global};
-use std::collections::BTreeMap;
 
 impl FieldSet {
     /// The set as FieldsV1 of the Kubernetes API: an object with a member for each first element of
@@ -43,20 +43,20 @@ impl Trie {
 }
 
 // The member that says that the place itself is in the set, where it is.
-fn own_member(alloc: Global, here: bool) -> Result<BTreeMap<String, Json>, AllocError>
+fn own_member(alloc: Global, here: bool) -> Result<Members<Json>, AllocError>
     ensures { IfOk result (λ ms. members_view ms.entries ≡ dot_members here) }
 {
-    let mut members = BTreeMap::new(alloc);
+    let mut members = Members::new(alloc);
     if here {
         let name = String::from_str(alloc, ".")?;
-        drop(members.insert(name, Json::Object(BTreeMap::new(alloc)))?);
+        drop(members.insert(name, Json::Object(Members::new(alloc)))?);
     }
     Ok(members)
 }
 
 // The members of a place, with `.` where the place itself is in the set.
 #[cycle(place)]
-fn place_members(alloc: Global, place: &Trie) -> Result<BTreeMap<String, Json>, AllocError>
+fn place_members(alloc: Global, place: &Trie) -> Result<Members<Json>, AllocError>
     requires { is_trie place.now ≡ true }
     ensures json { IfOk result (λ ms. object (members_view ms.entries) ≡ paths_json (paths place.now)) }
     ensures canonical { IfOk result (λ ms. AreCanonical (members_view ms.entries)) }
@@ -81,7 +81,7 @@ fn below_value(alloc: Global, place: &Trie) -> Result<Json, AllocError>
 {
     let is_alone = place.below.is_empty();
     if is_alone {
-        return Ok(Json::Object(BTreeMap::new(alloc)));
+        return Ok(Json::Object(Members::new(alloc)));
     }
     let members = place_members(alloc, place)?;
     Ok(Json::Object(members))

@@ -3,6 +3,7 @@
 use crate::body::{Content, Row};
 use crate::path::{Path, Text, child};
 use ssa_json::value::{Json, Scalar};
+use ssa_members::Members;
 use ssa_path::element::Elem;
 use ssa_path::keys::Keys;
 use ssa_schema::kind::{Kind, find_field};
@@ -31,7 +32,7 @@ fn is_bare(metadata: &Json) -> bool {
     let Json::Object(members) = metadata else {
         return false;
     };
-    for (name, _member) in members.iter() {
+    for (name, _member) in members.entries() {
         if name.as_str() != "name" && name.as_str() != "namespace" {
             return false;
         }
@@ -42,11 +43,11 @@ fn is_bare(metadata: &Json) -> bool {
 // Adds the places of the root's members, but for `metadata` with nothing but the identity in it.
 fn add_root_members(
     alloc: Global,
-    members: &BTreeMap<String, Json>,
+    members: &Members<Json>,
     fields: &BTreeMap<String, Kind>,
     rows: &mut Vec<Row>,
 ) -> Result<(), AllocError> {
-    for (name, member) in members.iter() {
+    for (name, member) in members.entries() {
         if name.as_str() != "metadata" || !is_bare(member) {
             add_field(alloc, member, name, fields, &[], rows)?;
         }
@@ -198,12 +199,12 @@ fn add_field(
 #[cycle(walk)]
 fn add_fields(
     alloc: Global,
-    members: &BTreeMap<String, Json>,
+    members: &Members<Json>,
     fields: &BTreeMap<String, Kind>,
     place: &[Text],
     rows: &mut Vec<Row>,
 ) -> Result<(), AllocError> {
-    for (name, member) in members.iter() {
+    for (name, member) in members.entries() {
         add_field(alloc, member, name, fields, place, rows)?;
     }
     Ok(())
@@ -213,12 +214,12 @@ fn add_fields(
 #[cycle(walk)]
 fn add_entries(
     alloc: Global,
-    members: &BTreeMap<String, Json>,
+    members: &Members<Json>,
     kind: &Kind,
     place: &[Text],
     rows: &mut Vec<Row>,
 ) -> Result<(), AllocError> {
-    for (name, member) in members.iter() {
+    for (name, member) in members.entries() {
         let below = field_of(alloc, place, name)?;
         add_places(alloc, member, kind, &below, rows)?;
     }

@@ -53,7 +53,7 @@ fn has_member(value: &Json, element: &[u8]) -> bool {
     let Some(members) = value.as_object() else {
         return false;
     };
-    for (name, _member) in members.iter() {
+    for (name, _member) in members.entries() {
         if is_field(element, name.as_str()) {
             return true;
         }

@@ -3,8 +3,8 @@
 use crate::path::{Path, Text, child, sorted};
 use crate::table::{Entry, Manager};
 use ssa_json::value::Json;
+use ssa_members::Members;
 use std::alloc::{AllocError, Global};
-use std::collections::BTreeMap;
 
 // The text of a member, empty where there is none.
 fn text_of(alloc: Global, entry: &Json, name: &str) -> Result<Text, AllocError> {
@@ -42,11 +42,11 @@ fn add_member(
 #[cycle(walk)]
 fn add_members(
     alloc: Global,
-    members: &BTreeMap<String, Json>,
+    members: &Members<Json>,
     place: &[Text],
     owned: &mut Vec<Path>,
 ) -> Result<(), AllocError> {
-    for (name, below) in members.iter() {
+    for (name, below) in members.entries() {
         add_member(alloc, name, below, place, owned)?;
     }
     Ok(())

@@ -13,14 +13,14 @@ use crate::told::{ToldBody, ToldLeaf, ToldOrder, ToldPut};
 use crate::told_parts::told_path;
 use crate::value_shape::list_of;
 use ssa_json::value::Json;
+use ssa_members::Members;
 use ssa_path::path::Path;
 use std::alloc::{AllocError, Global};
-use std::collections::BTreeMap;
 
 // The paths of the member `cut`.
 fn told_cut(
     alloc: Global,
-    members: &BTreeMap<String, Json>,
+    members: &Members<Json>,
 ) -> Result<Option<Vec<Path>>, AllocError>
     ensures { IfOk result (λ t. TellsList (is_path readings) (λ p. p) (λ v. path_in readings (Some v)) t
         (member_of (codes "cut") (members_view members.now.entries))) }
@@ -41,7 +41,7 @@ fn told_cut(
 // The leaves of the member `leaves`.
 fn told_leaves(
     alloc: Global,
-    members: &BTreeMap<String, Json>,
+    members: &Members<Json>,
 ) -> Result<Option<Vec<ToldLeaf>>, AllocError>
     ensures { IfOk result (λ t. TellsList is_leaf told_leaf (said_leaf readings) t (member_of (codes "leaves") (members_view members.now.entries))) }
 {
@@ -61,7 +61,7 @@ fn told_leaves(
 // The orders of the member `order`.
 fn told_orders(
     alloc: Global,
-    members: &BTreeMap<String, Json>,
+    members: &Members<Json>,
 ) -> Result<Option<Vec<ToldOrder>>, AllocError>
     ensures { IfOk result (λ t. TellsList is_order told_order (order_in readings) t (member_of (codes "order") (members_view members.now.entries))) }
 {
@@ -81,7 +81,7 @@ fn told_orders(
 // What is put, of the member `put`.
 fn told_puts(
     alloc: Global,
-    members: &BTreeMap<String, Json>,
+    members: &Members<Json>,
 ) -> Result<Option<Vec<ToldPut>>, AllocError>
     ensures { IfOk result (λ t. TellsList (is_put readings) told_put (said_put readings) t (member_of (codes "put") (members_view members.now.entries))) }
 {
@@ -101,7 +101,7 @@ fn told_puts(
 // What the members tell of a body.
 pub fn body_of(
     alloc: Global,
-    members: &BTreeMap<String, Json>,
+    members: &Members<Json>,
 ) -> Result<Option<ToldBody>, AllocError>
     ensures { IfOk result (λ t. MatchOption t (are_body_lists (members_view members.now.entries) ≡ false)
         (λ b. TellsBody b (members_view members.now.entries))) }

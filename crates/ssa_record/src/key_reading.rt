@@ -9,10 +9,10 @@ ghost use Rattle.ssa_record.specs.Telling.{Tells, TellsKey, TellsList};
 use crate::value_shape::{list_of, pair_in};
 use ssa_json::members::find_member;
 use ssa_json::value::Json;
+use ssa_members::Members;
 use ssa_merge::entry_members::operation_of;
 use ssa_merge::manager::{ManagerKey, Operation};
 use std::alloc::{AllocError, Global};
-use std::collections::BTreeMap;
 
 fn told_operation(value: &Json) -> Option<Operation>
     ensures { Tells is_operation operation_view (λ v. operation_at (Some v)) result (Some (view value.now)) }
@@ -37,7 +37,7 @@ fn key_of(alloc: Global, name: &Json, operation: &Json) -> Result<Option<Manager
 // The manager of the members `manager` and `operation`.
 pub fn key_at(
     alloc: Global,
-    members: &BTreeMap<String, Json>,
+    members: &Members<Json>,
 ) -> Result<Option<ManagerKey>, AllocError>
     ensures { IfOk result (λ t. TellsKey t
         (member_of (codes "manager") (members_view members.now.entries)) (member_of (codes "operation") (members_view members.now.entries))) }
@@ -64,7 +64,7 @@ fn told_key(alloc: Global, value: &Json) -> Result<Option<ManagerKey>, AllocErro
 // The managers of the member `gone`.
 pub fn told_gone(
     alloc: Global,
-    members: &BTreeMap<String, Json>,
+    members: &Members<Json>,
 ) -> Result<Option<Vec<ManagerKey>>, AllocError>
     ensures { IfOk result (λ t. TellsList is_key key_view key_in t (member_of (codes "gone") (members_view members.now.entries))) }
 {

@@ -15,6 +15,7 @@ ghost use Rattle.ssa_record.specs.Places.{maps_of, AllTouched, IsTouchedBelow};
 use crate::order_after::order_after;
 use crate::places::ToldPlaces;
 use ssa_json::value::Json;
+use ssa_members::Members;
 use ssa_path::children::find_child;
 use ssa_path::element::Elem;
 use ssa_path::trie::Trie;
@@ -22,7 +23,6 @@ use ssa_typed::merged_order::{find_place, places_in_order};
 use ssa_typed::node::{Leaf, Node};
 use ssa_typed::value::{leaf_value, put_under};
 use std::alloc::{AllocError, Global};
-use std::collections::BTreeMap;
 
 // The value of a leaf after the record.
 fn led_leaf(
@@ -45,7 +45,7 @@ fn put_members(
     told: &ToldPlaces<'_>,
     touched: &Trie,
     path: &[Elem],
-    members: &mut BTreeMap<String, Json>,
+    members: &mut Members<Json>,
 ) -> Result<(), AllocError>
     requires touched { IsTouchedBelow (maps_of told.now) (path_view path.now) touched.now }
     requires all { AllTouched (maps_of told.now) }
@@ -98,14 +98,14 @@ fn kept_members(
     touched: &Trie,
     path: &mut Vec<Elem>,
     node: &Node,
-) -> Result<Option<BTreeMap<String, Json>>, AllocError>
+) -> Result<Option<Members<Json>>, AllocError>
     requires tree { is_tree node.now ≡ true }
     requires touched { IsTouchedBelow (maps_of told.now) (path_view path.old.items) touched.now }
     requires all { AllTouched (maps_of told.now) }
     ensures path { OnOk result (path.new.items ≡ path.old.items) }
     ensures kept { IfOk result (λ o. AreKept (maps_of told.now) (path_view path.old.items) node.now (option_map (λ m. members_view m.entries) o)) }
 {
-    let mut members = BTreeMap::new(alloc);
+    let mut members = Members::new(alloc);
     for child in node.children() {
         if told.is_cut(path, &child.0) {
             continue;

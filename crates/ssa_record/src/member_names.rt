@@ -9,7 +9,7 @@ ghost use Rattle.ssa_record.specs.Telling.{are_named};
 
 use ssa_json::text::is_same_text;
 use ssa_json::value::Json;
-use std::collections::BTreeMap;
+use ssa_members::Members;
 
 // The line of a record, its value, or an object in it.
 #[derive(Clone, Copy, Debug, PartialEq, Eq)]
@@ -68,11 +68,11 @@ fn is_name_in(shape: Shape, name: &str) -> bool
 }
 
 // Whether no member has a name that the object has not.
-pub fn have_names_of(shape: Shape, members: &BTreeMap<String, Json>) -> bool
+pub fn have_names_of(shape: Shape, members: &Members<Json>) -> bool
     ensures told { result ≡ are_named (shapes_of shape) (members_view members.now.entries) }
     ensures ordered { IsOrdered string_cmp members.now }
 {
-    for (name, _value) in members.iter() {
+    for (name, _value) in members.entries() {
         if !is_name_in(shape, name.as_str()) {
             return false;
         }

@@ -18,12 +18,12 @@ use crate::value_shape::{list_of, text_of};
 use ssa_json::members::{find_member, has_member};
 use ssa_json::moment::Moment;
 use ssa_json::value::Json;
+use ssa_members::Members;
 use ssa_merge::managers::Entry;
 use std::alloc::{AllocError, Global};
-use std::collections::BTreeMap;
 
 // The moment of the member `time`, which may be absent.
-fn moment_if_told(members: &BTreeMap<String, Json>) -> Option<Option<Moment>>
+fn moment_if_told(members: &Members<Json>) -> Option<Option<Moment>>
     ensures { TellsMoment result (member_of (codes "time") (members_view members.now.entries)) }
 {
     if !has_member(members, "time") {
@@ -36,7 +36,7 @@ fn moment_if_told(members: &BTreeMap<String, Json>) -> Option<Option<Moment>>
 // The change of these members.
 fn change_of(
     alloc: Global,
-    members: &BTreeMap<String, Json>,
+    members: &Members<Json>,
 ) -> Result<Option<ToldChange>, AllocError>
     ensures { IfOk result (λ t. Tells (has_members (change_shape readings)) told_change (change_in readings) t
         (Some (object (members_view members.now.entries)))) }
@@ -74,7 +74,7 @@ fn read_change(alloc: Global, value: &Json) -> Result<Option<ToldChange>, AllocE
 }
 
 // Whether the members `apiVersion` and `fieldsType` are texts.
-fn has_entry_texts(members: &BTreeMap<String, Json>) -> bool
+fn has_entry_texts(members: &Members<Json>) -> bool
     ensures { result ≡ (passes is_text (member_of (codes "apiVersion") (members_view members.now.entries))
         && passes is_text (member_of (codes "fieldsType") (members_view members.now.entries))) }
 {
@@ -82,7 +82,7 @@ fn has_entry_texts(members: &BTreeMap<String, Json>) -> bool
 }
 
 // The entry of these members. Its `apiVersion` and its `fieldsType` may be any texts.
-fn entry_of(alloc: Global, members: &BTreeMap<String, Json>) -> Result<Option<Entry>, AllocError>
+fn entry_of(alloc: Global, members: &Members<Json>) -> Result<Option<Entry>, AllocError>
     ensures { IfOk result (λ t. Tells (has_members (entry_shape readings)) entry_view entry_in t (Some (object (members_view members.now.entries)))) }
 {
     if !have_names_of(Shape::Entry, members) {
@@ -113,7 +113,7 @@ fn read_entry(alloc: Global, value: &Json) -> Result<Option<Entry>, AllocError>
 }
 
 // The entry of the member `entry`.
-fn entry_at(alloc: Global, members: &BTreeMap<String, Json>) -> Result<Option<Entry>, AllocError>
+fn entry_at(alloc: Global, members: &Members<Json>) -> Result<Option<Entry>, AllocError>
     ensures { IfOk result (λ t. Tells (has_members (entry_shape readings)) entry_view entry_in t
         (member_of (codes "entry") (members_view members.now.entries))) }
 {
@@ -124,7 +124,7 @@ fn entry_at(alloc: Global, members: &BTreeMap<String, Json>) -> Result<Option<En
 }
 
 // The entry that is here of these members, and its place.
-fn here_of(alloc: Global, members: &BTreeMap<String, Json>) -> Result<Option<ToldHere>, AllocError>
+fn here_of(alloc: Global, members: &Members<Json>) -> Result<Option<ToldHere>, AllocError>
     ensures { IfOk result (λ t. Tells (has_members (here_shape readings)) told_here (here_in readings) t (Some (object (members_view members.now.entries)))) }
 {
     if !have_names_of(Shape::Here, members) {
@@ -151,7 +151,7 @@ fn read_here(alloc: Global, value: &Json) -> Result<Option<ToldHere>, AllocError
 // The changes of the member `changed`.
 fn told_changes(
     alloc: Global,
-    members: &BTreeMap<String, Json>,
+    members: &Members<Json>,
 ) -> Result<Option<Vec<ToldChange>>, AllocError>
     ensures { IfOk result (λ t. TellsList (has_members (change_shape readings)) told_change (change_in readings) t
         (member_of (codes "changed") (members_view members.now.entries))) }
@@ -172,7 +172,7 @@ fn told_changes(
 // The entries of the member `here`.
 fn told_entries(
     alloc: Global,
-    members: &BTreeMap<String, Json>,
+    members: &Members<Json>,
 ) -> Result<Option<Vec<ToldHere>>, AllocError>
     ensures { IfOk result (λ t. TellsList (has_members (here_shape readings)) told_here (here_in readings) t
         (member_of (codes "here") (members_view members.now.entries))) }
@@ -193,7 +193,7 @@ fn told_entries(
 // What the members tell of a table.
 pub fn table_of(
     alloc: Global,
-    members: &BTreeMap<String, Json>,
+    members: &Members<Json>,
 ) -> Result<Option<ToldTable>, AllocError>
     ensures { IfOk result (λ t. MatchOption t (are_table_lists (members_view members.now.entries) ≡ false)
         (λ a. TellsTable a (members_view members.now.entries))) }

@@ -14,12 +14,12 @@ use crate::value_shape::are_texts;
 use ssa_json::members::find_member;
 use ssa_json::moment::Moment;
 use ssa_json::value::{Json, Scalar};
+use ssa_members::Members;
 use ssa_path::element::Elem;
 use ssa_path::element_fault::ElemFault;
 use ssa_path::field_set::FieldSet;
 use ssa_path::path::Path;
 use std::alloc::{AllocError, Global};
-use std::collections::BTreeMap;
 
 // The elements of a path.
 pub fn told_elements(alloc: Global, value: &Json) -> Result<Option<Vec<Elem>>, AllocError>
@@ -60,7 +60,7 @@ fn told_set(alloc: Global, value: &Json) -> Result<Option<FieldSet>, AllocError>
 // The set that the member of a name says.
 pub fn set_at(
     alloc: Global,
-    members: &BTreeMap<String, Json>,
+    members: &Members<Json>,
     name: &str,
 ) -> Result<Option<FieldSet>, AllocError>
     ensures { IfOk result (λ t. Tells (is_fields readings) (λ s. s) (said_set readings.value) t (member_of name.now (members_view members.now.entries))) }
@@ -81,7 +81,7 @@ fn told_moment(value: &Json) -> Option<Moment>
 }
 
 // The moment of the member `time`.
-pub fn moment_at(members: &BTreeMap<String, Json>) -> Option<Moment>
+pub fn moment_at(members: &Members<Json>) -> Option<Moment>
     ensures { Tells (is_moment readings) (λ m. m) (λ v. text_in (Some v)) result (member_of (codes "time") (members_view members.now.entries)) }
 {
     told_moment(find_member(members, "time")?)
@@ -98,7 +98,7 @@ pub fn told_place(value: &Json) -> Option<usize>
 }
 
 // The place of the member `place`.
-pub fn place_at(members: &BTreeMap<String, Json>) -> Option<usize>
+pub fn place_at(members: &Members<Json>) -> Option<usize>
     ensures { Tells is_whole (λ n. n) number_of result (member_of (codes "place") (members_view members.now.entries)) }
 {
     told_place(find_member(members, "place")?)

@@ -12,13 +12,13 @@ use crate::member_names::{Shape, have_names_of};
 use crate::table_reading::table_of;
 use crate::told::ToldRecord;
 use ssa_json::value::Json;
+use ssa_members::Members;
 use std::alloc::{AllocError, Global};
-use std::collections::BTreeMap;
 
 // What these members tell.
 fn record_of(
     alloc: Global,
-    members: &BTreeMap<String, Json>,
+    members: &Members<Json>,
 ) -> Result<Option<ToldRecord>, AllocError>
     ensures { IfOk result (λ t. Tells (is_record_shape readings) told_record (said_record readings) t (Some (object (members_view members.now.entries)))) }
 {

@@ -8,10 +8,10 @@ ghost use Rattle.ssa_record.specs.Telling.{IsNoPair, IsNoTriple, pair, triple};
 
 use ssa_json::members::find_member;
 use ssa_json::value::Json;
-use std::collections::BTreeMap;
+use ssa_members::Members;
 
 /// The text of the member of a name, where it is one.
-pub fn text_of<'a>(members: &'a BTreeMap<String, Json>, name: &str) -> Option<&'a str>
+pub fn text_of<'a>(members: &'a Members<Json>, name: &str) -> Option<&'a str>
     ensures { option_map (λ text. text.now) result ≡ option_and_then as_text (member_of name.now (members_view members.now.entries)) }
 {
     find_member(members, name)?.as_text()
@@ -28,7 +28,7 @@ fn as_list(value: &Json) -> Option<&[Json]>
 }
 
 /// The items of the member of a name, where it is a list.
-pub fn list_of<'a>(members: &'a BTreeMap<String, Json>, name: &str) -> Option<&'a [Json]>
+pub fn list_of<'a>(members: &'a Members<Json>, name: &str) -> Option<&'a [Json]>
     ensures { option_map (λ items. items_view items.now) result ≡ option_and_then as_list (member_of name.now (members_view members.now.entries)) }
 {
     as_list(find_member(members, name)?)

@@ -9,11 +9,11 @@ ghost use Rattle.ssa_schema.specs.Kinds.{names_view};
 
 use ssa_json::members::find_member;
 use ssa_json::value::{Json, Scalar};
+use ssa_members::Members;
 use std::alloc::{AllocError, Global};
-use std::collections::BTreeMap;
 
 /// The scalar under a name, where there is one.
-pub fn scalar_member<'a>(members: &'a BTreeMap<String, Json>, name: &str) -> Option<&'a Scalar>
+pub fn scalar_member<'a>(members: &'a Members<Json>, name: &str) -> Option<&'a Scalar>
     ensures { option_map (λ s. scalar_view s.now) result ≡ scalar_in (member_of name.now (members_view members.now.entries)) }
 {
     match find_member(members, name) {
@@ -29,7 +29,7 @@ pub fn scalar_member<'a>(members: &'a BTreeMap<String, Json>, name: &str) -> Opt
 pub fn key_members(
     alloc: Global,
     names: &[String],
-    members: &BTreeMap<String, Json>,
+    members: &Members<Json>,
 ) -> Result<Vec<(String, Scalar)>, AllocError>
     ensures { IfOk result (λ ks. keys.members_view ks.items ≡ key_scalars (names_view names.now) (members_view members.now.entries)) }
 {

@@ -10,8 +10,8 @@ ghost use Rattle.ssa_session.specs.Commands.{word_text, member_rules, rule_at};
 use ssa_json::members::has_member;
 use ssa_json::text::is_same_text;
 use ssa_json::value::{Json, Scalar};
+use ssa_members::Members;
 use ssa_record::value_shape::{are_texts, is_text, text_of};
-use std::collections::BTreeMap;
 
 /// What a command does, as its member `do` says.
 #[derive(Clone, Copy, Debug, PartialEq, Eq)]
@@ -51,7 +51,7 @@ fn word_of_text(text: &str) -> Option<Word>
 }
 
 /// The word of a command, where it is one.
-pub fn word_of(members: &BTreeMap<String, Json>) -> Option<Word>
+pub fn word_of(members: &Members<Json>) -> Option<Word>
     ensures { MatchOption result (option_and_then (rule_of) (word_of (members_view members.now.entries)) ≡ None)
         (λ word. word_of (members_view members.now.entries) ≡ Some (word_text word)) }
 {
@@ -106,10 +106,10 @@ fn is_known_member(word: Word, name: &str, value: &Json) -> bool
     }
 }
 
-fn are_known_members(word: Word, members: &BTreeMap<String, Json>) -> bool
+fn are_known_members(word: Word, members: &Members<Json>) -> bool
     ensures { result ≡ are_known_members (member_rules word) (members_view members.now.entries) }
 {
-    for (name, value) in members.iter() {
+    for (name, value) in members.entries() {
         if !is_known_member(word, name.as_str(), value) {
             return false;
         }
@@ -118,14 +118,14 @@ fn are_known_members(word: Word, members: &BTreeMap<String, Json>) -> bool
 }
 
 // Whether the members that an apply and an update need are there.
-fn has_request(members: &BTreeMap<String, Json>) -> bool
+fn has_request(members: &Members<Json>) -> bool
     ensures { result ≡ list_all (λ r. not r.required || has_member r.name (members_view members.now.entries)) (member_rules Word.Update) }
 {
     has_member(members, "at") && has_member(members, "manager") && has_member(members, "object")
 }
 
 /// Whether the members are those of a command of the word: each that it needs, of its type, and no other.
-pub fn follows_rule(word: Word, members: &BTreeMap<String, Json>) -> bool
+pub fn follows_rule(word: Word, members: &Members<Json>) -> bool
     ensures { result ≡ follows_rule (members_view members.now.entries) (rule_at word) }
 {
     are_known_members(word, members)

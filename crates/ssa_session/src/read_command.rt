@@ -18,11 +18,11 @@ use ssa_json::fault_code::FaultCode;
 use ssa_json::members::find_member;
 use ssa_json::moment::Moment;
 use ssa_json::value::{Json, Scalar, objects_are_members};
+use ssa_members::Members;
 use ssa_path::element_fault::ElemFault;
 use ssa_record::path_texts::path_of_texts;
 use ssa_record::value_shape::{list_of, text_of};
 use std::alloc::{AllocError, AllocFailed, Global};
-use std::collections::BTreeMap;
 use thiserror::Error;
 
 /// Why a line is no command.
@@ -142,7 +142,7 @@ struct Request {
 }
 
 // Takes the request out of the members, where its moment is one.
-fn take_request(members: &mut BTreeMap<String, Json>) -> Option<Request>
+fn take_request(members: &mut Members<Json>) -> Option<Request>
     requires { HasRequest (members_view members.old.entries) }
     ensures { Requests result (members_view members.old.entries) }
 {
@@ -162,7 +162,7 @@ fn take_request(members: &mut BTreeMap<String, Json>) -> Option<Request>
 }
 
 // The apply command of members that follow its rule.
-fn apply_command(mut members: BTreeMap<String, Json>) -> Result<Command, LineFault>
+fn apply_command(mut members: Members<Json>) -> Result<Command, LineFault>
     requires word { word_of (members_view members.entries) ≡ Some (word_text Word.Apply) }
     requires shape { IsTrue (follows_rule (members_view members.entries) (rule_at Word.Apply)) }
     ensures { ReadsCommand result (read_command readings (object (members_view members.entries))) }
@@ -180,7 +180,7 @@ fn apply_command(mut members: BTreeMap<String, Json>) -> Result<Command, LineFau
 }
 
 // The update command of members that follow its rule.
-fn update_command(mut members: BTreeMap<String, Json>) -> Result<Command, LineFault>
+fn update_command(mut members: Members<Json>) -> Result<Command, LineFault>
     requires word { word_of (members_view members.entries) ≡ Some (word_text Word.Update) }
     requires shape { IsTrue (follows_rule (members_view members.entries) (rule_at Word.Update)) }
     ensures { ReadsCommand result (read_command readings (object (members_view members.entries))) }
@@ -192,7 +192,7 @@ fn update_command(mut members: BTreeMap<String, Json>) -> Result<Command, LineFa
 }
 
 // The owners command of members that follow its rule.
-fn owners_command(alloc: Global, members: &BTreeMap<String, Json>) -> Result<Command, LineFault>
+fn owners_command(alloc: Global, members: &Members<Json>) -> Result<Command, LineFault>
     requires word { word_of (members_view members.now.entries) ≡ Some (word_text Word.Owners) }
     requires shape { IsTrue (follows_rule (members_view members.now.entries) (rule_at Word.Owners)) }
     ensures { ReadsCommand result (read_command readings (object (members_view members.now.entries))) }
@@ -220,7 +220,7 @@ fn is_true(value: &Json) -> bool
 }
 
 // The truth value of the member of a name, and false where there is none.
-fn truth_of(members: &BTreeMap<String, Json>, name: &str) -> bool
+fn truth_of(members: &Members<Json>, name: &str) -> bool
     ensures { result ≡ truth_in (member_of name.now (members_view members.now.entries)) }
 {
     match find_member(members, name) {
@@ -230,7 +230,7 @@ fn truth_of(members: &BTreeMap<String, Json>, name: &str) -> bool
 }
 
 // Takes out the text of the member of a name, where it is one.
-fn take_text(members: &mut BTreeMap<String, Json>, name: &str) -> Option<String>
+fn take_text(members: &mut Members<Json>, name: &str) -> Option<String>
     ensures { option_map (λ text. string_bytes text) result ≡ option_and_then as_text (member_of name.now (members_view members.old.entries)) }
 {
     into_text(members.remove(name)?)

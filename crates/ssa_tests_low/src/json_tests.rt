@@ -6,8 +6,8 @@ use ssa_json::moment::Moment;
 use ssa_json::text::is_same_text;
 use ssa_json::value::{Json, Scalar};
 use ssa_json::write::compact_is_read;
+use ssa_members::Members;
 use std::alloc::Global;
-use std::collections::BTreeMap;
 use std::test::Fail;
 
 // Texts, and how their values are printed.
@@ -186,7 +186,7 @@ fn objects_are_looked_into(rt: HostRuntime) -> Result<(), Fail> {
 
 // An object whose members were put in from the last to the first, one of them twice.
 fn put_together(alloc: Global) -> Result<Json, Fail> {
-    let mut members = BTreeMap::new(alloc);
+    let mut members = Members::new(alloc);
     put_text(alloc, &mut members, "b", "y")?;
     put_member(alloc, &mut members, "a", Json::Scalar(Scalar::Int(1)))?;
     put_text(alloc, &mut members, "b", "z")?;

@@ -9,8 +9,8 @@ ghost use Rattle.ssa_turn.specs.Dated.{is_dated};
 use ssa_json::members::{put_member, put_text};
 use ssa_json::moment::Moment;
 use ssa_json::value::{Json, Scalar};
+use ssa_members::Members;
 use std::alloc::{AllocError, Global};
-use std::collections::BTreeMap;
 
 /// The command that made a state.
 #[derive(Drop)]
@@ -32,7 +32,7 @@ fn applied_json(alloc: Global, at: &Moment, force: bool, who: &str) -> Result<Js
 {
     let time = at.to_text(alloc)?;
     let force = Json::Scalar(Scalar::Bool(force));
-    let mut members = BTreeMap::new(alloc);
+    let mut members = Members::new(alloc);
     put_text(alloc, &mut members, "manager", who)?;
     put_member(alloc, &mut members, "force", force)?;
     put_text(alloc, &mut members, "do", "apply")?;
@@ -44,7 +44,7 @@ fn updated_json(alloc: Global, at: &Moment, who: &str) -> Result<Json, AllocErro
     ensures { IfOk result (λ v. view v ≡ label_json (updated who.now at.now)) }
 {
     let time = at.to_text(alloc)?;
-    let mut members = BTreeMap::new(alloc);
+    let mut members = Members::new(alloc);
     put_text(alloc, &mut members, "manager", who)?;
     put_text(alloc, &mut members, "do", "update")?;
     put_text(alloc, &mut members, "at", time.as_str())?;
@@ -54,7 +54,7 @@ fn updated_json(alloc: Global, at: &Moment, who: &str) -> Result<Json, AllocErro
 fn stripped_json(alloc: Global) -> Result<Json, AllocError>
     ensures { IfOk result (λ v. view v ≡ label_json stripped) }
 {
-    let mut members = BTreeMap::new(alloc);
+    let mut members = Members::new(alloc);
     put_text(alloc, &mut members, "do", "strip")?;
     Ok(Json::Object(members))
 }

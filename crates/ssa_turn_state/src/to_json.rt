@@ -13,8 +13,8 @@ ghost use Rattle.ssa_turn_state.specs.States.{HasStateRoom, IsTaken, state_steps
 use crate::live_state::StateDelta;
 use ssa_json::members::put_member;
 use ssa_json::value::Json;
+use ssa_members::Members;
 use std::alloc::{AllocError, Global};
-use std::collections::BTreeMap;
 
 impl StateDelta {
     /// The record as a JSON value, for objects of this `apiVersion`.
@@ -28,7 +28,7 @@ impl StateDelta {
         ensures { IfOk result (λ j. (kind : Kind) (v w : State) → is_ordered kind ≡ true → Takes kind (state_steps self.now) v w
             → view j ≡ record_json (text_json version.now) kind (state_steps self.now)) }
     {
-        let mut members = BTreeMap::new(alloc);
+        let mut members = Members::new(alloc);
         self.put_members(alloc, version, &mut members)?;
         Ok(Json::Object(members))
     }
@@ -38,7 +38,7 @@ impl StateDelta {
         &self,
         alloc: Global,
         version: &str,
-        members: &mut BTreeMap<String, Json>,
+        members: &mut Members<Json>,
     ) -> Result<(), AllocError>
         requires taken { (v w : State) × IsTaken (state_steps self.now) v w }
         requires room { (v : State) × HasStateRoom self.now v }

@@ -17,14 +17,14 @@ use crate::delta::{EntryChange, Here, TableDelta};
 use ssa_json::members::{put_member, put_text};
 use ssa_json::moment::Moment;
 use ssa_json::value::Json;
+use ssa_members::Members;
 use ssa_merge::manager::ManagerKey;
 use std::alloc::{AllocError, Global};
-use std::collections::BTreeMap;
 
 // Puts a moment, where there is one, among members.
 fn put_time(
     alloc: Global,
-    members: &mut BTreeMap<String, Json>,
+    members: &mut Members<Json>,
     at: Option<Moment>,
 ) -> Result<(), AllocError>
     ensures { OnOk result (members_view members.new.entries ≡ with_time at (members_view members.old.entries)) }
@@ -47,7 +47,7 @@ fn change_value(alloc: Global, change: &EntryChange) -> Result<Json, AllocError>
 {
     let gain = change.set.gain.to_fields_v1(alloc)?;
     let lose = change.set.lose.to_fields_v1(alloc)?;
-    let mut members = BTreeMap::new(alloc);
+    let mut members = Members::new(alloc);
     put_text(
         alloc,
         &mut members,
@@ -102,7 +102,7 @@ fn here_value(alloc: Global, version: &str, here: &Here) -> Result<Json, AllocEr
     ensures { IfOk result (λ v. view v ≡ here_json (text_json version.now) (here_view here.now)) }
 {
     let entry = here.entry.to_json(alloc, version)?;
-    let mut members = BTreeMap::new(alloc);
+    let mut members = Members::new(alloc);
     put_member(alloc, &mut members, "place", Json::of_count(here.place))?;
     put_member(alloc, &mut members, "entry", entry)?;
     Ok(Json::Object(members))

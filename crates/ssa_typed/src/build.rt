@@ -12,6 +12,7 @@ use crate::item_keys::keys_of;
 use crate::node::{Leaf, Node};
 use crate::parts::{into_items, into_members, into_scalar};
 use ssa_json::value::Json;
+use ssa_members::Members;
 use ssa_path::element::Elem;
 use ssa_schema::kind::{Kind, ScalarKind};
 use std::alloc::{AllocError, Global};
@@ -99,14 +100,14 @@ fn field_child(
 pub fn field_children(
     alloc: Global,
     fields: &BTreeMap<String, Kind>,
-    members: BTreeMap<String, Json>,
+    members: Members<Json>,
 ) -> Result<Vec<(Elem, Node)>, AllocError>
     requires keyed { are_keyed (fields_view fields.now.entries) ≡ true }
     requires fits { FieldsFit (fields_view fields.now.entries) (members_view members.entries) }
     ensures { IfOk result (λ cs. AreNamed (field_places (fields_view fields.now.entries) (members_view members.entries)) cs.items) }
 {
     let mut children = Vec::new(alloc);
-    for (name, member) in members {
+    for (name, member) in members.into_entries() {
         children.push(field_child(alloc, fields, name, member)?)?;
     }
     Ok(children)
@@ -117,14 +118,14 @@ pub fn field_children(
 fn entry_children(
     alloc: Global,
     inside: &Kind,
-    members: BTreeMap<String, Json>,
+    members: Members<Json>,
 ) -> Result<Vec<(Elem, Node)>, AllocError>
     requires keyed { is_keyed (kind_view inside.now) ≡ true }
     requires fits { EntriesFit (kind_view inside.now) (members_view members.entries) }
     ensures { IfOk result (λ cs. AreNamed (entry_places (kind_view inside.now) (members_view members.entries)) cs.items) }
 {
     let mut children = Vec::new(alloc);
-    for (name, member) in members {
+    for (name, member) in members.into_entries() {
         let child = tree_of(alloc, inside, member)?;
         children.push((Elem::Field(name), child))?;
     }

@@ -7,6 +7,7 @@ ghost use Rattle.ssa_model.specs.definitions.Lawful.{are_key_names};
 ghost use Rattle.ssa_model.specs.laws.Faultless.{KeysFit};
 
 use ssa_json::value::Json;
+use ssa_members::Members;
 use ssa_path::keys::Keys;
 use ssa_schema::key_fields::key_members;
 use ssa_schema::kind::Kind;
@@ -18,7 +19,7 @@ pub fn keys_of(
     alloc: Global,
     names: &[String],
     fields: &BTreeMap<String, Kind>,
-    members: &BTreeMap<String, Json>,
+    members: &Members<Json>,
 ) -> Result<Keys, AllocError>
     requires names { are_key_names (names_view names.now) ≡ true }
     requires fits { KeysFit (names_view names.now) (fields_view fields.now.entries) (members_view members.now.entries) }

@@ -6,20 +6,20 @@ ghost use Rattle.ssa_json.specs.View.{view, members_view};
 ghost use Rattle.ssa_typed.specs.Reads.{has_empty_metadata};
 
 use ssa_json::value::Json;
-use std::collections::BTreeMap;
+use ssa_members::Members;
 
 // Whether the value is an object with nothing in it.
 fn is_empty_object(value: &Json) -> bool
     ensures { result ≡ is_empty_object (view value.now) }
 {
     match value {
-        Json::Object(members) => members.iter().next().is_none(),
+        Json::Object(members) => members.is_empty(),
         _ => false,
     }
 }
 
 // Whether there is a `metadata` with nothing in it.
-fn has_empty_metadata(members: &BTreeMap<String, Json>) -> bool
+fn has_empty_metadata(members: &Members<Json>) -> bool
     ensures told { result ≡ has_empty_metadata (members_view members.now.entries) }
     ensures ordered { IsOrdered string_cmp members.now }
 {
@@ -33,7 +33,7 @@ fn has_empty_metadata(members: &BTreeMap<String, Json>) -> bool
 }
 
 /// The members of an object but for a `metadata` with nothing in it.
-pub fn without_empty_metadata(members: BTreeMap<String, Json>) -> BTreeMap<String, Json>
+pub fn without_empty_metadata(members: Members<Json>) -> Members<Json>
     ensures members { members_view result.entries ≡ without_empty_metadata (members_view members.entries) }
     ensures gone { has_empty_metadata (members_view result.entries) ≡ false }
 {

@@ -6,7 +6,7 @@ ghost use Rattle.ssa_model.specs.laws.Faultless.{IsScalar};
 ghost use Rattle.ssa_typed.specs.Flats.{IsList, IsObject};
 
 use ssa_json::value::{Json, Scalar};
-use std::collections::BTreeMap;
+use ssa_members::Members;
 
 /// The scalar that a value is.
 pub fn into_scalar(value: Json) -> Scalar
@@ -20,7 +20,7 @@ pub fn into_scalar(value: Json) -> Scalar
 }
 
 /// The members of an object.
-pub fn into_members(value: Json) -> BTreeMap<String, Json>
+pub fn into_members(value: Json) -> Members<Json>
     requires { IsObject (view value) }
     ensures { view value ≡ values.object (members_view result.entries) }
 {

@@ -8,9 +8,9 @@ ghost use Rattle.ssa_typed.specs.Values.{IsShownThere, items_of, leaf_value, mem
 
 use crate::node::{Leaf, Node};
 use ssa_json::value::Json;
+use ssa_members::Members;
 use ssa_path::element::Elem;
 use std::alloc::{AllocError, Global};
-use std::collections::BTreeMap;
 
 impl Node {
     /// The value of this place with all that is below it, in memory of its own.
@@ -37,7 +37,7 @@ pub fn leaf_value(alloc: Global, leaf: &Leaf) -> Result<Json, AllocError>
 /// Puts a value among the members, where the element is a field.
 pub fn put_under(
     alloc: Global,
-    members: &mut BTreeMap<String, Json>,
+    members: &mut Members<Json>,
     element: &Elem,
     value: Json,
 ) -> Result<(), AllocError>
@@ -72,12 +72,12 @@ fn value_of(alloc: Global, node: &Node) -> Result<Json, AllocError>
 fn members_of(
     alloc: Global,
     children: &[(Elem, Node)],
-) -> Result<BTreeMap<String, Json>, AllocError>
+) -> Result<Members<Json>, AllocError>
     requires rise { rises (elements children.now) ≡ true }
     requires trees { are_trees children.now ≡ true }
     ensures { IfOk result (λ m. members_view m.entries ≡ members_of (values_of children.now)) }
 {
-    let mut members = BTreeMap::new(alloc);
+    let mut members = Members::new(alloc);
     for (element, child) in children {
         let value = value_of(alloc, child)?;
         put_under(alloc, &mut members, element, value)?;

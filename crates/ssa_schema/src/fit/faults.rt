@@ -13,6 +13,7 @@ use crate::fit::repeated::is_other;
 use crate::fit::shape_misfit::{scalar_misfit, shape_misfit};
 use crate::kind::{Kind, ScalarKind, find_field};
 use ssa_json::value::Json;
+use ssa_members::Members;
 use std::alloc::{AllocError, Global};
 use std::collections::BTreeMap;
 
@@ -40,12 +41,12 @@ pub fn value_fault(alloc: Global, value: &Json, kind: &Kind) -> Result<Option<Fo
 #[cycle(walk)]
 fn fields_fault(
     alloc: Global,
-    members: &BTreeMap<String, Json>,
+    members: &Members<Json>,
     fields: &BTreeMap<String, Kind>,
 ) -> Result<Option<Found>, AllocError>
     ensures { IfOk result (λ f. Finds f (field_faults (fields_view fields.now.entries) (members_view members.now.entries))) }
 {
-    for (name, member) in members.iter() {
+    for (name, member) in members.entries() {
         let Some(kind) = find_field(fields, name.as_str()) else {
             let unknown = Found::here(alloc, Misfit::UnknownField);
             return Ok(Some(unknown.below(field_name(alloc, name.as_str())?)?));
@@ -61,12 +62,12 @@ fn fields_fault(
 #[cycle(walk)]
 fn entries_fault(
     alloc: Global,
-    members: &BTreeMap<String, Json>,
+    members: &Members<Json>,
     inside: &Kind,
 ) -> Result<Option<Found>, AllocError>
     ensures { IfOk result (λ f. Finds f (entry_faults (kind_view inside.now) (members_view members.now.entries))) }
 {
-    for (name, entry) in members.iter() {
+    for (name, entry) in members.entries() {
         if let Some(found) = value_fault(alloc, entry, inside)? {
             return Ok(Some(found.below(field_name(alloc, name.as_str())?)?));
         }
@@ -125,7 +126,7 @@ fn items_fault(
 #[cycle(walk)]
 fn keyed_fault(
     alloc: Global,
-    members: &BTreeMap<String, Json>,
+    members: &Members<Json>,
     keys: &[String],
     fields: &BTreeMap<String, Kind>,
     is_new: bool,

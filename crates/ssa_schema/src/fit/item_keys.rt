@@ -10,6 +10,7 @@ use crate::fit::shape_misfit::scalar_misfit;
 use crate::kind::{Kind, find_field};
 use ssa_json::members::find_member;
 use ssa_json::value::Json;
+use ssa_members::Members;
 use std::collections::BTreeMap;
 
 // What is wrong with a key.
@@ -26,7 +27,7 @@ fn key_misfit(value: Option<&Json>, kind: Option<&Kind>) -> Option<Misfit>
 /// The first thing that is wrong with an item's keys: one is missing, or no scalar of its field's
 /// kind.
 pub fn keys_misfit(
-    members: &BTreeMap<String, Json>,
+    members: &Members<Json>,
     keys: &[String],
     fields: &BTreeMap<String, Kind>,
 ) -> Option<Misfit>

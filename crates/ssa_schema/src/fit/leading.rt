@@ -11,8 +11,8 @@ use crate::fit::repeated::first_repeat;
 use crate::key_fields::scalar_member;
 use crate::kind::ScalarKind;
 use ssa_json::value::{Json, Scalar};
+use ssa_members::Members;
 use std::alloc::{AllocError, Global};
-use std::collections::BTreeMap;
 
 /// The scalar, where the value is one of the kind.
 pub fn scalar_of<'a>(value: &'a Json, wanted: &ScalarKind) -> Option<&'a Scalar>
@@ -52,7 +52,7 @@ fn value_keys<'a>(
 fn key_scalars<'a>(
     alloc: Global,
     names: &[String],
-    members: &'a BTreeMap<String, Json>,
+    members: &'a Members<Json>,
 ) -> Result<Option<Vec<&'a Scalar>>, AllocError>
     ensures { IfOk result (λ found. option_map (λ ss. scalars_view ss.items) found ≡ key_row (names_view names.now) (members_view members.now.entries)) }
 {
@@ -70,7 +70,7 @@ fn key_scalars<'a>(
 fn object_key<'a>(
     alloc: Global,
     names: &[String],
-    members: &'a BTreeMap<String, Json>,
+    members: &'a Members<Json>,
 ) -> Result<Option<ItemKey<'a>>, AllocError>
     ensures { IfOk result (λ key. option_map row_view key ≡ key_row (names_view names.now) (members_view members.now.entries)) }
 {

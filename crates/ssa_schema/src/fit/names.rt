@@ -7,10 +7,10 @@ ghost use Rattle.ssa_schema.specs.Kinds.{names_view};
 
 use crate::key_fields::key_members;
 use ssa_json::value::{Json, Scalar};
+use ssa_members::Members;
 use ssa_path::element::Elem;
 use ssa_path::element_text;
 use std::alloc::{AllocError, Global};
-use std::collections::BTreeMap;
 
 /// The text of a field, as `f:image`.
 pub fn field_name(alloc: Global, name: &str) -> Result<String, AllocError>
@@ -30,7 +30,7 @@ pub fn value_name(alloc: Global, scalar: &Scalar) -> Result<String, AllocError>
 pub fn key_name(
     alloc: Global,
     keys: &[String],
-    members: &BTreeMap<String, Json>,
+    members: &Members<Json>,
 ) -> Result<String, AllocError>
     ensures { IfOk result (λ text. string_bytes text ≡ element_text (item_key (names_view keys.now) (members_view members.now.entries))) }
 {

@@ -7,6 +7,7 @@ ghost use Rattle.ssa_schema.specs.Finds.{Breaks};
 use crate::fit::found::Misfit;
 use crate::kind::{ScalarKind, Shape, find_shape};
 use ssa_json::value::{Json, Scalar};
+use ssa_members::Members;
 use std::collections::BTreeMap;
 
 /// What is wrong with a scalar.
@@ -37,12 +38,12 @@ pub fn shape_misfit(value: &Json, shape: &Shape) -> Option<Misfit>
 // The first thing that is wrong with the members of an object with named fields.
 #[cycle(shape)]
 fn fields_misfit(
-    members: &BTreeMap<String, Json>,
+    members: &Members<Json>,
     fields: &BTreeMap<String, Shape>,
 ) -> Option<Misfit>
     ensures { Breaks result (shape_field_faults (shape_fields_view fields.now.entries) (members_view members.now.entries)) }
 {
-    for (name, member) in members.iter() {
+    for (name, member) in members.entries() {
         let Some(shape) = find_shape(fields, name.as_str()) else {
             return Some(Misfit::UnknownField);
         };
@@ -55,10 +56,10 @@ fn fields_misfit(
 
 // The first thing that is wrong with the members of an object with any names.
 #[cycle(shape)]
-fn entries_misfit(members: &BTreeMap<String, Json>, inside: &Shape) -> Option<Misfit>
+fn entries_misfit(members: &Members<Json>, inside: &Shape) -> Option<Misfit>
     ensures { Breaks result (shape_entry_faults (shape_view inside.now) (members_view members.now.entries)) }
 {
-    for (_, member) in members.iter() {
+    for (_, member) in members.entries() {
         if let Some(misfit) = shape_misfit(member, inside) {
             return Some(misfit);
         }

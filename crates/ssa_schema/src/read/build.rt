@@ -13,6 +13,7 @@ use crate::read::rules::{item_members, property_members};
 use crate::read::shapes::{scalar_kind_of, shape_of};
 use ssa_json::members::find_member;
 use ssa_json::value::Json;
+use ssa_members::Members;
 use std::alloc::{AllocError, Global};
 use std::collections::BTreeMap;
 
@@ -42,7 +43,7 @@ pub fn kind_of(alloc: Global, schema: &Json, levels: usize) -> Result<Kind, Allo
 #[cycle(kinds)]
 fn kind_of_object(
     alloc: Global,
-    members: &BTreeMap<String, Json>,
+    members: &Members<Json>,
     levels: usize,
 ) -> Result<Kind, AllocError>
     ensures kind { IfOk result (λ k. kind_view k ≡ merged_kind levels (members_view members.now.entries)) }
@@ -58,7 +59,7 @@ fn kind_of_object(
 }
 
 // The kind of the scalars of a set.
-fn item_scalar_kind(members: &BTreeMap<String, Json>) -> ScalarKind
+fn item_scalar_kind(members: &Members<Json>) -> ScalarKind
     ensures { scalar_kind_view result ≡ scalar_kind_of (item_members (members_view members.now.entries)) }
 {
     match item_members(members) {
@@ -71,7 +72,7 @@ fn item_scalar_kind(members: &BTreeMap<String, Json>) -> ScalarKind
 #[cycle(kinds)]
 fn list_kind(
     alloc: Global,
-    members: &BTreeMap<String, Json>,
+    members: &Members<Json>,
     levels: usize,
 ) -> Result<Kind, AllocError>
     ensures kind { IfOk result (λ k. kind_view k ≡ list_kind_at levels (members_view members.now.entries)) }
@@ -89,7 +90,7 @@ fn list_kind(
 #[cycle(kinds)]
 fn item_kinds(
     alloc: Global,
-    members: &BTreeMap<String, Json>,
+    members: &Members<Json>,
     levels: usize,
 ) -> Result<BTreeMap<String, Kind>, AllocError>
     ensures kind { IfOk result (λ m. fields_view m.entries ≡ kind_fields (kind_at levels) (property_members (item_members (members_view members.now.entries)))) }
@@ -105,7 +106,7 @@ fn item_kinds(
 #[cycle(kinds)]
 fn fields_kind(
     alloc: Global,
-    members: &BTreeMap<String, Json>,
+    members: &Members<Json>,
     levels: usize,
 ) -> Result<Kind, AllocError>
     ensures kind { IfOk result (λ k. kind_view k ≡ fields_kind_at levels (members_view members.now.entries)) }
@@ -124,7 +125,7 @@ fn fields_kind(
 #[cycle(kinds)]
 fn property_kinds(
     alloc: Global,
-    members: &BTreeMap<String, Json>,
+    members: &Members<Json>,
     levels: usize,
 ) -> Result<BTreeMap<String, Kind>, AllocError>
     ensures kind { IfOk result (λ m. fields_view m.entries ≡ kind_fields (kind_at levels) (property_members (members_view members.now.entries))) }
@@ -140,14 +141,14 @@ fn property_kinds(
 #[cycle(kinds)]
 fn kinds_of(
     alloc: Global,
-    schemas: &BTreeMap<String, Json>,
+    schemas: &Members<Json>,
     levels: usize,
 ) -> Result<BTreeMap<String, Kind>, AllocError>
     ensures kind { IfOk result (λ m. fields_view m.entries ≡ kind_fields (kind_at levels) (members_view schemas.now.entries)) }
     ensures ordered { IfOk result (λ m. are_ordered (fields_view m.entries) ≡ true) }
 {
     let mut found = BTreeMap::new(alloc);
-    for (name, schema) in schemas.iter() {
+    for (name, schema) in schemas.entries() {
         let key = String::from_str(alloc, name.as_str())?;
         drop(found.insert(key, kind_of(alloc, schema, levels)?)?);
     }

@@ -7,6 +7,7 @@ ghost use Rattle.ssa_schema.specs.Builds.{sorted_items};
 
 use crate::read::keys::key_items;
 use ssa_json::value::Json;
+use ssa_members::Members;
 use std::alloc::{AllocError, Global};
 use std::collections::{BTreeMap, BTreeSet};
 
@@ -40,7 +41,7 @@ fn list_of_names(alloc: Global, names: BTreeSet<String>) -> Result<Vec<String>, 
 /// The names of a map list's keys, in the order of their bytes.
 pub fn sorted_keys(
     alloc: Global,
-    members: &BTreeMap<String, Json>,
+    members: &Members<Json>,
 ) -> Result<Vec<String>, AllocError>
     ensures { IfOk result (λ v. names_view v.items ≡ sorted_texts (key_names (members_view members.now.entries))) }
 {

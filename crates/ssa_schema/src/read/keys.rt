@@ -13,6 +13,7 @@ use crate::read::refusal::Refusal;
 use crate::read::rules::{item_members, property_members};
 use ssa_json::members::{find_member, has_member};
 use ssa_json::value::Json;
+use ssa_members::Members;
 use std::alloc::{AllocError, Global};
 use std::collections::{BTreeMap, BTreeSet};
 
@@ -62,7 +63,7 @@ fn is_key_list(alloc: Global, value: &Json) -> Result<bool, AllocError>
 }
 
 // Whether the keys of a map list are missing or none.
-fn lacks_key_list(alloc: Global, members: &BTreeMap<String, Json>) -> Result<bool, AllocError>
+fn lacks_key_list(alloc: Global, members: &Members<Json>) -> Result<bool, AllocError>
     ensures { IfOk result (λ b. b ≡ lacks_key_list (members_view members.now.entries)) }
 {
     match find_member(members, "x-kubernetes-list-map-keys") {
@@ -72,7 +73,7 @@ fn lacks_key_list(alloc: Global, members: &BTreeMap<String, Json>) -> Result<boo
 }
 
 /// Whether a list has keys without being a map list, or is one without a list of keys that differ.
-pub fn has_wrong_keys(alloc: Global, members: &BTreeMap<String, Json>) -> Result<bool, AllocError>
+pub fn has_wrong_keys(alloc: Global, members: &Members<Json>) -> Result<bool, AllocError>
     ensures { IfOk result (λ b. b ≡ has_wrong_keys (members_view members.now.entries)) }
 {
     if !is_array_type(members) {
@@ -85,7 +86,7 @@ pub fn has_wrong_keys(alloc: Global, members: &BTreeMap<String, Json>) -> Result
 }
 
 /// The keys of a map list: texts, or none where the member is no list of texts.
-pub fn key_items(members: &BTreeMap<String, Json>) -> &[Json]
+pub fn key_items(members: &Members<Json>) -> &[Json]
     ensures { texts_of (items_view result.now) ≡ Some (key_names (members_view members.now.entries)) }
 {
     match find_member(members, "x-kubernetes-list-map-keys") {
@@ -111,7 +112,7 @@ fn is_scalar_schema(value: &Json) -> bool
 }
 
 // Whether the field of the name is a scalar.
-fn is_scalar_property(members: &BTreeMap<String, Json>, name: &str) -> bool
+fn is_scalar_property(members: &Members<Json>, name: &str) -> bool
     ensures { result ≡ is_scalar_property (members_view members.now.entries) name.now }
 {
     match property_members(members) {
@@ -124,7 +125,7 @@ fn is_scalar_property(members: &BTreeMap<String, Json>, name: &str) -> bool
 }
 
 // Whether the field of the items has the name and is a scalar.
-fn is_scalar_item_property(members: &BTreeMap<String, Json>, name: &str) -> bool
+fn is_scalar_item_property(members: &Members<Json>, name: &str) -> bool
     ensures { result ≡ is_scalar_property (item_members (members_view members.now.entries)) name.now }
 {
     match item_members(members) {
@@ -134,7 +135,7 @@ fn is_scalar_item_property(members: &BTreeMap<String, Json>, name: &str) -> bool
 }
 
 // Whether each key is a text and names a field of the items that is a scalar.
-fn are_scalar_keys(keys: &[Json], members: &BTreeMap<String, Json>) -> bool
+fn are_scalar_keys(keys: &[Json], members: &Members<Json>) -> bool
     ensures { result ≡ each_text (is_scalar_property (item_members (members_view members.now.entries))) (items_view keys.now) }
 {
     for key in keys {
@@ -151,14 +152,14 @@ fn are_scalar_keys(keys: &[Json], members: &BTreeMap<String, Json>) -> bool
 }
 
 // Whether the items are objects whose fields are merged one by one.
-fn is_granular_record(members: &BTreeMap<String, Json>) -> bool
+fn is_granular_record(members: &Members<Json>) -> bool
     ensures { result ≡ is_granular_record (members_view members.now.entries) }
 {
     is_object_type(members) && !has_member(members, "additionalProperties") && !is_atomic(members)
 }
 
 // Whether the items are scalars.
-fn has_scalar_items(members: &BTreeMap<String, Json>) -> bool
+fn has_scalar_items(members: &Members<Json>) -> bool
     ensures { result ≡ is_scalar_type (item_members (members_view members.now.entries)) }
 {
     match item_members(members) {
@@ -168,7 +169,7 @@ fn has_scalar_items(members: &BTreeMap<String, Json>) -> bool
 }
 
 // Whether the items are objects whose fields are merged one by one.
-fn has_record_items(members: &BTreeMap<String, Json>) -> bool
+fn has_record_items(members: &Members<Json>) -> bool
     ensures { result ≡ is_granular_record (item_members (members_view members.now.entries)) }
 {
     match item_members(members) {
@@ -178,7 +179,7 @@ fn has_record_items(members: &BTreeMap<String, Json>) -> bool
 }
 
 // Whether each key names a field of the items that is a scalar.
-fn has_scalar_keys(members: &BTreeMap<String, Json>) -> bool
+fn has_scalar_keys(members: &Members<Json>) -> bool
     ensures { result ≡ list_all (is_scalar_property (item_members (members_view members.now.entries))) (key_names (members_view members.now.entries)) }
 {
     are_scalar_keys(key_items(members), members)
@@ -186,7 +187,7 @@ fn has_scalar_keys(members: &BTreeMap<String, Json>) -> bool
 
 /// What is wrong with a list's items, once they are read: those of a set are no scalars, those of a
 /// map list are no objects with fields of their own, or a key names no scalar field.
-pub fn items_refusal(members: &BTreeMap<String, Json>) -> Option<Refusal>
+pub fn items_refusal(members: &Members<Json>) -> Option<Refusal>
     ensures { option_map refusal_view result ≡ first_of (item_faults (members_view members.now.entries)) }
 {
     if !is_array_type(members) {

@@ -8,7 +8,7 @@ ghost use Rattle.ssa_schema.specs.Words.{value_is};
 use ssa_json::members::{find_member, has_member};
 use ssa_json::text::is_same_text;
 use ssa_json::value::Json;
-use std::collections::BTreeMap;
+use ssa_members::Members;
 
 /// Whether the value is the text.
 pub fn value_is(value: &Json, text: &str) -> bool
@@ -21,7 +21,7 @@ pub fn value_is(value: &Json, text: &str) -> bool
 }
 
 /// Whether the member of the name is the text.
-pub fn member_is(members: &BTreeMap<String, Json>, name: &str, text: &str) -> bool
+pub fn member_is(members: &Members<Json>, name: &str, text: &str) -> bool
     ensures { result ≡ member_is name.now text.now (members_view members.now.entries) }
 {
     match find_member(members, name) {
@@ -53,7 +53,7 @@ pub fn is_text_among(value: &Json, words: &[&str]) -> bool
 }
 
 /// Whether the schema is of a scalar type.
-pub fn is_scalar_type(members: &BTreeMap<String, Json>) -> bool
+pub fn is_scalar_type(members: &Members<Json>) -> bool
     ensures { result ≡ is_scalar_type (members_view members.now.entries) }
 {
     member_is(members, "type", "string")
@@ -62,21 +62,21 @@ pub fn is_scalar_type(members: &BTreeMap<String, Json>) -> bool
 }
 
 /// Whether the schema is of an object.
-pub fn is_object_type(members: &BTreeMap<String, Json>) -> bool
+pub fn is_object_type(members: &Members<Json>) -> bool
     ensures { result ≡ is_object_type (members_view members.now.entries) }
 {
     member_is(members, "type", "object")
 }
 
 /// Whether the schema is of a list.
-pub fn is_array_type(members: &BTreeMap<String, Json>) -> bool
+pub fn is_array_type(members: &Members<Json>) -> bool
     ensures { result ≡ is_array_type (members_view members.now.entries) }
 {
     member_is(members, "type", "array")
 }
 
 /// Whether the schema says how a list or an object is merged.
-pub fn has_marker(members: &BTreeMap<String, Json>) -> bool
+pub fn has_marker(members: &Members<Json>) -> bool
     ensures { result ≡ has_marker (members_view members.now.entries) }
 {
     has_member(members, "x-kubernetes-list-type")
@@ -85,14 +85,14 @@ pub fn has_marker(members: &BTreeMap<String, Json>) -> bool
 }
 
 /// Whether the list type is the one given.
-pub fn list_type_is(members: &BTreeMap<String, Json>, text: &str) -> bool
+pub fn list_type_is(members: &Members<Json>, text: &str) -> bool
     ensures { result ≡ list_type_is text.now (members_view members.now.entries) }
 {
     member_is(members, "x-kubernetes-list-type", text)
 }
 
 /// Whether the schema is of a value that is replaced and owned whole.
-pub fn is_atomic(members: &BTreeMap<String, Json>) -> bool
+pub fn is_atomic(members: &Members<Json>) -> bool
     ensures { result ≡ is_atomic (members_view members.now.entries) }
 {
     is_object_type(members) && member_is(members, "x-kubernetes-map-type", "atomic")

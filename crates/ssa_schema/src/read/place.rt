@@ -6,8 +6,8 @@ use crate::read::standing::Standing;
 use crate::read::walk::{first_refusal, own_refusal};
 use ssa_json::members::find_member;
 use ssa_json::value::Json;
+use ssa_members::Members;
 use std::alloc::{AllocError, Global};
-use std::collections::BTreeMap;
 
 // A schema inside another: the keyword that it stands under, and its name where it is a field's.
 #[derive(Drop)]
@@ -20,11 +20,11 @@ struct Inside<'a> {
 // The first schema of a field that has a fault.
 fn refused_property<'a>(
     alloc: Global,
-    properties: &'a BTreeMap<String, Json>,
+    properties: &'a Members<Json>,
     levels: usize,
     standing: Standing,
 ) -> Result<Option<Inside<'a>>, AllocError> {
-    for (name, schema) in properties.iter() {
+    for (name, schema) in properties.entries() {
         if first_refusal(alloc, schema, levels, standing)?.is_some() {
             return Ok(Some(Inside {
                 keyword: "properties",
@@ -39,7 +39,7 @@ fn refused_property<'a>(
 // The schema under a keyword, where it has a fault.
 fn refused_member<'a>(
     alloc: Global,
-    members: &'a BTreeMap<String, Json>,
+    members: &'a Members<Json>,
     keyword: &'static str,
     levels: usize,
     standing: Standing,
@@ -60,7 +60,7 @@ fn refused_member<'a>(
 // The first schema inside that has a fault, in the order in which they are read.
 fn refused_inside<'a>(
     alloc: Global,
-    members: &'a BTreeMap<String, Json>,
+    members: &'a Members<Json>,
     levels: usize,
     standing: Standing,
 ) -> Result<Option<Inside<'a>>, AllocError> {
@@ -87,7 +87,7 @@ fn push_name(alloc: Global, place: &mut Vec<String>, name: &str) -> Result<(), A
 // then a keyword that is not read is the end of the way.
 fn step_inside<'a>(
     alloc: Global,
-    members: &'a BTreeMap<String, Json>,
+    members: &'a Members<Json>,
     levels: usize,
     standing: Standing,
     place: &mut Vec<String>,

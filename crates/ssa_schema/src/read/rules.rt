@@ -15,13 +15,13 @@ use crate::read::members::{
 use crate::read::standing::Standing;
 use ssa_json::members::{find_member, has_member};
 use ssa_json::value::Json;
-use std::collections::BTreeMap;
+use ssa_members::Members;
 
 // Whether each name is one of the words.
-fn names_are_among(members: &BTreeMap<String, Json>, words: &[&str]) -> bool
+fn names_are_among(members: &Members<Json>, words: &[&str]) -> bool
     ensures { result ≡ list_all (λ n. is_one_of_texts n (map (λ w. w.now) words.now)) (names (members_view members.now.entries)) }
 {
-    for (name, _) in members.iter() {
+    for (name, _) in members.entries() {
         if !is_one_of(name.as_str(), words) {
             return false;
         }
@@ -30,10 +30,10 @@ fn names_are_among(members: &BTreeMap<String, Json>, words: &[&str]) -> bool
 }
 
 // Whether one of the names is one of the words.
-fn some_name_is_among(members: &BTreeMap<String, Json>, words: &[&str]) -> bool
+fn some_name_is_among(members: &Members<Json>, words: &[&str]) -> bool
     ensures { result ≡ list_any (λ n. is_one_of_texts n (map (λ w. w.now) words.now)) (names (members_view members.now.entries)) }
 {
-    for (name, _) in members.iter() {
+    for (name, _) in members.entries() {
         if is_one_of(name.as_str(), words) {
             return true;
         }
@@ -54,15 +54,15 @@ const KEYWORDS: [&str; 8] = [
 ];
 
 /// Whether there is a keyword that is not read here.
-pub fn has_unknown_keyword(members: &BTreeMap<String, Json>) -> bool
+pub fn has_unknown_keyword(members: &Members<Json>) -> bool
     ensures { result ≡ has_unknown_keyword (members_view members.now.entries) }
 {
     !names_are_among(members, &KEYWORDS)
 }
 
 /// The first keyword that is not read here.
-pub fn unknown_keyword(members: &BTreeMap<String, Json>) -> Option<&str> {
-    for (name, _) in members.iter() {
+pub fn unknown_keyword(members: &Members<Json>) -> Option<&str> {
+    for (name, _) in members.entries() {
         if !is_one_of(name.as_str(), &KEYWORDS) {
             return Some(name.as_str());
         }
@@ -71,7 +71,7 @@ pub fn unknown_keyword(members: &BTreeMap<String, Json>) -> Option<&str> {
 }
 
 // Whether the type is missing or none that is read here.
-fn lacks_type(members: &BTreeMap<String, Json>) -> bool
+fn lacks_type(members: &Members<Json>) -> bool
     ensures { result ≡ lacks_type (members_view members.now.entries) }
 {
     match find_member(members, "type") {
@@ -83,7 +83,7 @@ fn lacks_type(members: &BTreeMap<String, Json>) -> bool
 }
 
 // Whether the member is absent, or a text.
-fn is_text_if_given(members: &BTreeMap<String, Json>, name: &str) -> bool
+fn is_text_if_given(members: &Members<Json>, name: &str) -> bool
     ensures { result ≡ if_member is_text name.now (members_view members.now.entries) }
 {
     match find_member(members, name) {
@@ -93,7 +93,7 @@ fn is_text_if_given(members: &BTreeMap<String, Json>, name: &str) -> bool
 }
 
 // Whether the member is absent, or an object.
-fn is_object_if_given(members: &BTreeMap<String, Json>, name: &str) -> bool
+fn is_object_if_given(members: &Members<Json>, name: &str) -> bool
     ensures { result ≡ if_member is_object name.now (members_view members.now.entries) }
 {
     match find_member(members, name) {
@@ -103,7 +103,7 @@ fn is_object_if_given(members: &BTreeMap<String, Json>, name: &str) -> bool
 }
 
 // Whether the member is absent, or a text among the words.
-fn is_among_if_given(members: &BTreeMap<String, Json>, name: &str, words: &[&str]) -> bool
+fn is_among_if_given(members: &Members<Json>, name: &str, words: &[&str]) -> bool
     ensures { result ≡ if_member (is_text_among (map (λ w. w.now) words.now)) name.now (members_view members.now.entries) }
 {
     match find_member(members, name) {
@@ -113,21 +113,21 @@ fn is_among_if_given(members: &BTreeMap<String, Json>, name: &str, words: &[&str
 }
 
 /// Whether the type is none that is read here, or the description is no text.
-pub fn has_wrong_type(members: &BTreeMap<String, Json>) -> bool
+pub fn has_wrong_type(members: &Members<Json>) -> bool
     ensures { result ≡ has_wrong_type (members_view members.now.entries) }
 {
     lacks_type(members) || !is_text_if_given(members, "description")
 }
 
 /// Whether the schema is of a scalar and says more than that.
-pub fn is_wrong_scalar(members: &BTreeMap<String, Json>) -> bool
+pub fn is_wrong_scalar(members: &Members<Json>) -> bool
     ensures { result ≡ is_wrong_scalar (members_view members.now.entries) }
 {
     is_scalar_type(members) && !names_are_among(members, &["type", "description"])
 }
 
 /// Whether the schema is of an object and says what is not of objects.
-pub fn is_wrong_object(members: &BTreeMap<String, Json>) -> bool
+pub fn is_wrong_object(members: &Members<Json>) -> bool
     ensures { result ≡ is_wrong_object (members_view members.now.entries) }
 {
     is_object_type(members)
@@ -140,7 +140,7 @@ pub fn is_wrong_object(members: &BTreeMap<String, Json>) -> bool
 }
 
 /// Whether the schema is of a list and says what is not of lists.
-pub fn is_wrong_array(members: &BTreeMap<String, Json>) -> bool
+pub fn is_wrong_array(members: &Members<Json>) -> bool
     ensures { result ≡ is_wrong_array (members_view members.now.entries) }
 {
     is_array_type(members)
@@ -153,9 +153,9 @@ pub fn is_wrong_array(members: &BTreeMap<String, Json>) -> bool
 
 // The members of the member of a name, where that is an object.
 fn object_members<'a>(
-    members: &'a BTreeMap<String, Json>,
+    members: &'a Members<Json>,
     name: &str,
-) -> Option<&'a BTreeMap<String, Json>>
+) -> Option<&'a Members<Json>>
     ensures { members_found (option_map (λ ms. members_view ms.now.entries) result) ≡ members_under name.now (members_view members.now.entries) }
 {
     match find_member(members, name) {
@@ -165,14 +165,14 @@ fn object_members<'a>(
 }
 
 /// The schemas of the fields, where there are some.
-pub fn property_members(members: &BTreeMap<String, Json>) -> Option<&BTreeMap<String, Json>>
+pub fn property_members(members: &Members<Json>) -> Option<&Members<Json>>
     ensures { members_found (option_map (λ ms. members_view ms.now.entries) result) ≡ property_members (members_view members.now.entries) }
 {
     object_members(members, "properties")
 }
 
 /// The members of the schema of a list's items, where that is an object.
-pub fn item_members(members: &BTreeMap<String, Json>) -> Option<&BTreeMap<String, Json>>
+pub fn item_members(members: &Members<Json>) -> Option<&Members<Json>>
     ensures { members_found (option_map (λ ms. members_view ms.now.entries) result) ≡ item_members (members_view members.now.entries) }
 {
     object_members(members, "items")
@@ -180,7 +180,7 @@ pub fn item_members(members: &BTreeMap<String, Json>) -> Option<&BTreeMap<String
 
 /// Whether the schema can not be the root's: that is a granular object without the fields that each
 /// object has anyway.
-pub fn is_wrong_root(members: &BTreeMap<String, Json>) -> bool
+pub fn is_wrong_root(members: &Members<Json>) -> bool
     ensures { result ≡ is_wrong_root (members_view members.now.entries) }
 {
     !is_object_type(members)
@@ -190,7 +190,7 @@ pub fn is_wrong_root(members: &BTreeMap<String, Json>) -> bool
 }
 
 // Whether a field has a name that is not the schema's to give.
-fn has_reserved_property(members: &BTreeMap<String, Json>) -> bool
+fn has_reserved_property(members: &Members<Json>) -> bool
     ensures { result ≡ list_any (λ n. is_one_of_texts n reserved_names) (names (property_members (members_view members.now.entries))) }
 {
     match property_members(members) {
@@ -200,7 +200,7 @@ fn has_reserved_property(members: &BTreeMap<String, Json>) -> bool
 }
 
 /// Whether the schema is of another shape than its place asks for.
-pub fn has_wrong_shape(standing: Standing, members: &BTreeMap<String, Json>) -> bool
+pub fn has_wrong_shape(standing: Standing, members: &Members<Json>) -> bool
     ensures { result ≡ has_wrong_shape (standing_view standing) (members_view members.now.entries) }
 {
     is_wrong_scalar(members)

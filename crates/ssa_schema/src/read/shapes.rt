@@ -10,11 +10,12 @@ use crate::read::members::{is_array_type, is_object_type, member_is};
 use crate::read::rules::property_members;
 use ssa_json::members::find_member;
 use ssa_json::value::Json;
+use ssa_members::Members;
 use std::alloc::{AllocError, Global};
 use std::collections::BTreeMap;
 
 /// The kind of a scalar's schema.
-pub fn scalar_kind_of(members: &BTreeMap<String, Json>) -> ScalarKind
+pub fn scalar_kind_of(members: &Members<Json>) -> ScalarKind
     ensures { scalar_kind_view result ≡ scalar_kind_of (members_view members.now.entries) }
 {
     if member_is(members, "type", "string") {
@@ -44,7 +45,7 @@ pub fn shape_of(alloc: Global, schema: &Json, levels: usize) -> Result<Shape, Al
 #[cycle(shapes)]
 fn shape_of_object(
     alloc: Global,
-    members: &BTreeMap<String, Json>,
+    members: &Members<Json>,
     levels: usize,
 ) -> Result<Shape, AllocError>
     ensures { IfOk result (λ s. shape_view s ≡ object_shape levels (members_view members.now.entries)) }
@@ -62,7 +63,7 @@ fn shape_of_object(
 #[cycle(shapes)]
 fn list_shape(
     alloc: Global,
-    members: &BTreeMap<String, Json>,
+    members: &Members<Json>,
     levels: usize,
 ) -> Result<Shape, AllocError>
     ensures { IfOk result (λ s. shape_view s ≡ list_shape_at levels (members_view members.now.entries)) }
@@ -80,7 +81,7 @@ fn list_shape(
 #[cycle(shapes)]
 fn fields_shape(
     alloc: Global,
-    members: &BTreeMap<String, Json>,
+    members: &Members<Json>,
     levels: usize,
 ) -> Result<Shape, AllocError>
     ensures { IfOk result (λ s. shape_view s ≡ fields_shape_at levels (members_view members.now.entries)) }
@@ -98,7 +99,7 @@ fn fields_shape(
 #[cycle(shapes)]
 fn property_shapes(
     alloc: Global,
-    members: &BTreeMap<String, Json>,
+    members: &Members<Json>,
     levels: usize,
 ) -> Result<BTreeMap<String, Shape>, AllocError>
     ensures { IfOk result (λ m. shape_fields_view m.entries ≡ shape_fields (shape_at levels) (property_members (members_view members.now.entries))) }
@@ -113,13 +114,13 @@ fn property_shapes(
 #[cycle(shapes)]
 fn shapes_of(
     alloc: Global,
-    schemas: &BTreeMap<String, Json>,
+    schemas: &Members<Json>,
     levels: usize,
 ) -> Result<BTreeMap<String, Shape>, AllocError>
     ensures { IfOk result (λ m. shape_fields_view m.entries ≡ shape_fields (shape_at levels) (members_view schemas.now.entries)) }
 {
     let mut found = BTreeMap::new(alloc);
-    for (name, schema) in schemas.iter() {
+    for (name, schema) in schemas.entries() {
         let key = String::from_str(alloc, name.as_str())?;
         drop(found.insert(key, shape_of(alloc, schema, levels)?)?);
     }

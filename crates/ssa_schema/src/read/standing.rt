@@ -6,7 +6,7 @@ ghost use Rattle.ssa_schema.specs.Standings.{standing_view};
 
 use crate::read::members::is_atomic;
 use ssa_json::value::Json;
-use std::collections::BTreeMap;
+use ssa_members::Members;
 
 /// Where a schema stands: as the root, below it, or inside an atomic value.
 #[derive(Clone, Copy, Debug, PartialEq, Eq)]
@@ -32,7 +32,7 @@ impl Standing {
     }
 
     /// Where the schemas inside stand.
-    pub fn inside(&self, members: &BTreeMap<String, Json>) -> Standing
+    pub fn inside(&self, members: &Members<Json>) -> Standing
         ensures { standing_view result ≡ standing_inside (standing_view self.now) (members_view members.now.entries) }
     {
         if self.is_in_atomic() || is_atomic(members) {

@@ -12,13 +12,13 @@ use crate::read::rules::{has_unknown_keyword, has_wrong_shape, has_wrong_type, p
 use crate::read::standing::Standing;
 use ssa_json::members::find_member;
 use ssa_json::value::Json;
+use ssa_members::Members;
 use std::alloc::{AllocError, Global};
-use std::collections::BTreeMap;
 
 /// The first fault of a schema itself, without those of the schemas inside.
 pub fn own_refusal(
     alloc: Global,
-    members: &BTreeMap<String, Json>,
+    members: &Members<Json>,
     standing: Standing,
 ) -> Result<Option<Refusal>, AllocError>
     ensures { IfOk result (λ r. option_map refusal_view r ≡ first_of (own_faults (standing_view standing) (members_view members.now.entries))) }
@@ -59,7 +59,7 @@ pub fn first_refusal(
 #[cycle(walk)]
 fn object_refusal(
     alloc: Global,
-    members: &BTreeMap<String, Json>,
+    members: &Members<Json>,
     levels: usize,
     standing: Standing,
 ) -> Result<Option<Refusal>, AllocError>
@@ -78,7 +78,7 @@ fn object_refusal(
 #[cycle(walk)]
 fn inner_refusal(
     alloc: Global,
-    members: &BTreeMap<String, Json>,
+    members: &Members<Json>,
     levels: usize,
     standing: Standing,
 ) -> Result<Option<Refusal>, AllocError>
@@ -103,7 +103,7 @@ fn inner_refusal(
 #[cycle(walk)]
 fn member_refusal(
     alloc: Global,
-    members: &BTreeMap<String, Json>,
+    members: &Members<Json>,
     name: &str,
     levels: usize,
     standing: Standing,
@@ -120,7 +120,7 @@ fn member_refusal(
 #[cycle(walk)]
 fn properties_refusal(
     alloc: Global,
-    members: &BTreeMap<String, Json>,
+    members: &Members<Json>,
     levels: usize,
     standing: Standing,
 ) -> Result<Option<Refusal>, AllocError>
@@ -136,13 +136,13 @@ fn properties_refusal(
 #[cycle(walk)]
 fn each_refusal(
     alloc: Global,
-    schemas: &BTreeMap<String, Json>,
+    schemas: &Members<Json>,
     levels: usize,
     standing: Standing,
 ) -> Result<Option<Refusal>, AllocError>
     ensures { IfOk result (λ r. option_map refusal_view r ≡ first_of (property_faults (faults_at levels (standing_view standing)) (members_view schemas.now.entries))) }
 {
-    for (_, schema) in schemas.iter() {
+    for (_, schema) in schemas.entries() {
         if let Some(refusal) = first_refusal(alloc, schema, levels, standing)? {
             return Ok(Some(refusal));
         }

@@ -10,4 +10,4 @@ invariant-same_items-loop-item l =
 
 abbrev pub invariant-same_members-loop-name : goal.invariant-same_members-loop-name
 invariant-same_members-loop-name l =
-    same_members (members_view l.members.entries) (members_view l.others.entries) ≡ same_members (members_view l.name-iterator) (members_view l.rest)
+    same_members (members_view l.name-items) (members_view l.others.entries) ≡ same_members (members_view (drop l.name-index l.name-items)) (members_view l.rest.rest.now)

@@ -1,4 +1,4 @@
-use Rattle.std.proofs.Common.{◌≡◌, ◌-◌, ◌<◌, ◌∷◌, length, true, Some, None, string_bytes, subst, sym, ap, to_z, of_z, w64, [], ◌∙◌, arith, rules}
+use Rattle.std.proofs.Common.{◌≡◌, ◌-◌, ◌<◌, ◌∷◌, length, true, Some, None, string_bytes, refl, subst, sym, ap, to_z, of_z, w64, [], ◌∙◌, arith, rules}
 use Rattle.json.specs.Token.{Token}
 use Rattle.json.specs.Json.{parse_map, after_end_array, read_key, items, members, value}
 use Rattle.json.specs.Reads.{token_of}
@@ -7,16 +7,15 @@ use Rattle.serde_json.specs.Data.{number, string, array, object, put}
 use Rattle.std.specs.Prelude.{option_map}
 use Rattle.serde_json.specs.Find.{of_integer}
 use Rattle.serde_json.specs.Read.{of_json, of_items, of_members, converted}
-use Rattle.ssa_model.specs.definitions.Json.{Members}
+use Rattle.ssa_model.specs.definitions.Json.{Members, no_members}
 use Rattle.ssa_json.specs.PutInTurn.{put_in_turn}
-use Rattle.ssa_json.specs.View.{view, items_view, members_view}
+use Rattle.ssa_json.specs.View.{view, items_view}
 use Rattle.ssa_json.specs.Written.{data_of, members_data, items_narrow, members_narrow}
 use Rattle.ssa_json.specs.declared.value.Scalar.TheVariants.{Text, Int, Bool}
 use Rattle.ssa_json.proofs.Views.{view-Scalar, view-List, view-Object}
 use Rattle.ssa_json.proofs.Printing.{items_narrow-push}
 use Rattle.ssa_json.proofs.StraightData.{before, before-none, one_more, put-data, put-narrow}
-use Rattle.ssa_json.proofs.PutMembers.{inserted}
-use Rattle.ssa_json.proofs.MembersMade.{put-append}
+use Rattle.ssa_json.proofs.MembersMade.{made-of-pairs, put-append}
 use Rattle.ssa_json.proofs.TokensRead.{array-read, object-read, item_read, items_over, member_read, members_over}
 use Rattle.ssa_json.proofs.straight.+straight.Goals as goal
 
@@ -93,54 +92,22 @@ read_items-returns-clause-ok t c =
     l.invariant.read ∙ ap (parse_map (before l.found.items)) (items_over p n l.reader r l.invariant.enough (grind arith))
     ∙ ap (λ ds. Some (ds, r)) (before-none l.found.items)
 
-pub read_members-members-preserved : goal.read_members-members-preserved
-read_members-members-preserved t c =
-    let p = value c.args.depth in
-    let l = c.members in
-    let n = l.invariant.most in
-    let old = members_data (members_view l.found.entries) in
-    let k = c.in-Some.name.now in
-    let s = c.next_key.new.self in
-    let named : read_key l.reader ≡ Some (Some k, s) = grind arith in
-    let done = c.in_ok-member.ensures in
-    let v = c.in_ok-member.member in
-    let r = c.read_value.new.reader in
-    let less = read_key-shorter l.reader (Some k) s named in
-    let lesser = done.shorter in
-    let copied : string_bytes c.in_ok-key.key ≡ k = search rules in
-    let put_in : members_data (members_view c.insert.new.self.entries) ≡ put k (data_of (view v)) old =
-    ap (λ es. members_data (members_view es)) c.in_ok-insert.ensures.entries ∙ ap members_data (inserted c.in_ok-key.key v l.found.entries)
-    ∙ put-data (string_bytes c.in_ok-key.key) (view v) (members_view l.found.entries) ∙ ap (λ name. put name (data_of (view v)) old) copied in
-    record {
-      most = n - 1;
-      enough = omega (arith, l.invariant.enough);
-      read = l.invariant.read ∙ member_read p old n k l.reader s r (data_of (view v)) (omega (arith, l.invariant.enough)) named done.ok
-          ∙ ap (λ found. converted (λ ms. of_members ms found) (members p (n - 1) r)) (sym put_in);
-      shorter = omega (arith, l.invariant.shorter);
-      narrow = subst (λ es. members_narrow (members_view es) ≡ true) (sym c.in_ok-insert.ensures.entries)
-          (subst (λ ms. members_narrow ms ≡ true) (sym (inserted c.in_ok-key.key v l.found.entries))
-          (put-narrow (string_bytes c.in_ok-key.key) (view v) (members_view l.found.entries) l.invariant.narrow done.narrow));
-    }
-
-pub read_members-returns-in_default-clause-ok : goal.read_members-returns-in_default-clause-ok
-read_members-returns-in_default-clause-ok t c =
-    let p = value c.args.depth in
-    let l = c.members in
-    let old = members_data (members_view l.found.entries) in
-    l.invariant.read ∙ members_over p old l.invariant.most l.reader c.next_key.new.self l.invariant.enough (grind arith)
-
 pub read_members-returns-clause-ok : goal.read_members-returns-clause-ok
 read_members-returns-clause-ok t c =
-    let l = c.members in
-    let found = members_view l.found.entries in
-    l.invariant.read ∙ c.in_ok-rest.ensures.ok found l.invariant.most l.invariant.enough
-    ∙ ap (λ ms. Some (members_data ms, c.read_rest.new.reader)) (sym c.in_ok-joined.ensures.ok)
+    let pairs = c.in_ok-pairs.pairs.items in
+    c.in_ok-pairs.ensures.ok no_members (length c.args.reader.now) (omega arith)
+    ∙ ap (λ ms. Some (members_data ms, c.read_pairs.new.reader)) (sym (made-of-pairs pairs c.in_ok-of_pairs.field-0 c.in_ok-of_pairs.ensures))
 
-pub read_rest-members-init : goal.read_rest-members-init
-read_rest-members-init t c =
+pub read_members-returns-clause-narrow : goal.read_members-returns-clause-narrow
+read_members-returns-clause-narrow t c =
+    subst (λ ms. members_narrow ms ≡ true) (sym (made-of-pairs c.in_ok-pairs.pairs.items c.in_ok-of_pairs.field-0 c.in_ok-of_pairs.ensures))
+    (c.in_ok-pairs.ensures.narrow no_members refl)
+
+pub read_pairs-members-init : goal.read_pairs-members-init
+read_pairs-members-init t c =
     let p = value c.args.depth in
     let ts = c.args.reader.now in
-    let none : c.in_ok-rest.rest.items ≡ [] = search rules in
+    let none : c.new-pairs.result.items ≡ [] = search rules in
     record {
       read = λ found most enough.
           (most, enough, ap (λ ps. converted (λ ms. of_members ms (members_data (put_in_turn ps found))) (members p most ts)) (sym none));
@@ -148,8 +115,8 @@ read_rest-members-init t c =
       narrow = λ found h. subst (λ ps. members_narrow (put_in_turn ps found) ≡ true) (sym none) h;
     }
 
-pub read_rest-members-preserved : goal.read_rest-members-preserved
-read_rest-members-preserved t c =
+pub read_pairs-members-preserved : goal.read_pairs-members-preserved
+read_pairs-members-preserved t c =
     let p = value c.args.depth in
     let l = c.members in
     let k = c.in-Some.name.now in
@@ -163,14 +130,14 @@ read_rest-members-preserved t c =
     let lesser = done.shorter in
     let copied : string_bytes key ≡ k = search rules in
     let put_in = λ (found : Members).
-    ap (λ ps. put_in_turn ps found) c.in_ok-push.ensures.items ∙ put-append l.rest.items ((key, v) ∷ []) found in
+    ap (λ ps. put_in_turn ps found) c.in_ok-push.ensures.items ∙ put-append l.pairs.items ((key, v) ∷ []) found in
     let spelled = λ (found : Members).
-    ap members_data (put_in found) ∙ put-data (string_bytes key) (view v) (put_in_turn l.rest.items found)
-    ∙ ap (λ name. put name (data_of (view v)) (members_data (put_in_turn l.rest.items found))) copied in
+    ap members_data (put_in found) ∙ put-data (string_bytes key) (view v) (put_in_turn l.pairs.items found)
+    ∙ ap (λ name. put name (data_of (view v)) (members_data (put_in_turn l.pairs.items found))) copied in
     record {
       read = λ found most enough.
           let before = l.invariant.read found most enough in
-          let old = members_data (put_in_turn l.rest.items found) in
+          let old = members_data (put_in_turn l.pairs.items found) in
           let n = before.0 in
           let fits = before.1 in (
             n - 1,
@@ -181,12 +148,12 @@ read_rest-members-preserved t c =
       shorter = omega (arith, l.invariant.shorter);
       narrow = λ found h.
           subst (λ ms. members_narrow ms ≡ true) (sym (put_in found))
-          (put-narrow (string_bytes key) (view v) (put_in_turn l.rest.items found) (l.invariant.narrow found h) done.narrow);
+          (put-narrow (string_bytes key) (view v) (put_in_turn l.pairs.items found) (l.invariant.narrow found h) done.narrow);
     }
 
-pub read_rest-returns-clause-ok : goal.read_rest-returns-clause-ok
-read_rest-returns-clause-ok t c = λ found most enough.
+pub read_pairs-returns-clause-ok : goal.read_pairs-returns-clause-ok
+read_pairs-returns-clause-ok t c = λ found most enough.
     let l = c.members in
     let before = l.invariant.read found most enough in
-    let old = members_data (put_in_turn l.rest.items found) in
+    let old = members_data (put_in_turn l.pairs.items found) in
     before.2 ∙ members_over (value c.args.depth) old before.0 l.reader c.next_key.new.self before.1 (grind arith)

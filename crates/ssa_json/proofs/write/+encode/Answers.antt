@@ -1,16 +1,17 @@
 use Rattle.std.proofs.Common.{rules, ◌≡◌, [], ◌∷◌, ◌++◌, ◌+◌, take, drop, string_cmp, sym, ap, ◌∙◌, subst, arith, append_assoc}
-use Rattle.std.proofs.lemmas.List.{take_more, drop_more}
+use Rattle.std.proofs.lemmas.List.{take_more, drop_more, take-append-drop}
 use Rattle.std.proofs.lemmas.Result.{on_ok_weaker}
 use Rattle.std.specs.List.Sorted.{IsStrictlySortedBy}
 use Rattle.std.specs.Map.{keys_of}
+use Rattle.ssa_members.proofs.Deepest.{lent-within-deepest}
 use Rattle.json.specs.Token.{begin_array, begin_object, key}
 use Rattle.ssa_json.specs.declared.value.Json.{the_lemmas}
 use Rattle.ssa_json.specs.Written.{tokens_of, items_tokens, members_tokens}
 use Rattle.ssa_json.specs.View.{view, items_view, members_view}
-use Rattle.ssa_json.proofs.Converting.{Found}
 use Rattle.ssa_json.proofs.Views.{view-List, view-Object}
 use Rattle.ssa_json.proofs.Printing.{items_narrow-push, members_narrow-push}
 use Rattle.ssa_json.proofs.OfProgram.{string_is_utf8, items_have_utf8-push, items_have_rising_names-push, members_have_utf8-push, members_rise-push}
+use Rattle.ssa_json.proofs.value.Json.TheLaws.{the_size}
 use Rattle.ssa_json.proofs.write.+encode.Goals as goal
 
 pub write_value-returns-in-Scalar-Text-clause-texts : goal.write_value-returns-in-Scalar-Text-clause-texts
@@ -59,26 +60,32 @@ write_items-loop-item-preserved t c =
 pub write_members-loop-key-preserved : goal.write_members-loop-key-preserved
 write_members-loop-key-preserved t c =
     let l = c.loop-key in
-    let done = l.invariant.done in
-    let e : Found = (c.in-Some.key.now, c.in-Some.member.now) in
-    let left = c.next.new.self in
-    let step : l.key-iterator ≡ e ∷ left = c.in-Some.ensures.steps in
-    let all : c.args.members.now.entries ≡ done ++ e ∷ left = l.invariant.split ∙ ap (λ es. done ++ es) step in
-    let sorted = subst (λ es. IsStrictlySortedBy string_cmp (keys_of es)) all c.iter-key-items.ensures.ordered in
+    let es = c.entries-key-items.result.now in
+    let e = c.loop-key-item.result in
+    let done = take l.key-index es in
+    let left = drop (l.key-index + 1) es in
+    let here : drop l.key-index es ≡ e ∷ left = drop_more es l.key-index e (omega arith) ∙ ap (λ y. y ∷ left) (sym c.loop-key-item.is) in
+    let more : take (l.key-index + 1) es ≡ done ++ e ∷ [] = take_more es l.key-index e (omega arith) ∙ ap (λ y. done ++ y ∷ []) (sym c.loop-key-item.is) in
+    let all : c.args.members.now.entries ≡ done ++ e ∷ left = sym c.entries-key-items.ensures.all ∙ sym (take-append-drop l.key-index es) ∙ ap (λ es. done ++ es) here in
+    let sorted = subst (λ es. IsStrictlySortedBy string_cmp (keys_of es)) all c.entries-key-items.ensures.ordered in
     let named = c.in_ok-key.ensures in
     let written = c.in_ok-write_value.ensures in
     let value = tokens_of (view e.1) in
     let rest = members_tokens (members_view left) in
     record {
-      done = done ++ e ∷ [];
-      split = all ∙ sym (append_assoc done (e ∷ []) left);
       tokens =
           ap (λ ts. ts ++ rest) (written.tokens ∙ ap (λ ts. ts ++ value) named.ok) ∙ append_assoc _ value rest
           ∙ append_assoc l.writer.tokens (key c.as_str.result.now ∷ []) (value ++ rest)
           ∙ ap (λ n. l.writer.tokens ++ key n ∷ (value ++ rest)) c.as_str.ensures.value
-          ∙ ap (λ es. l.writer.tokens ++ members_tokens (members_view es)) (sym step) ∙ l.invariant.tokens;
+          ∙ ap (λ es. l.writer.tokens ++ members_tokens (members_view es)) (sym here) ∙ l.invariant.tokens;
       before = written.before ∙ named.room.0 ∙ l.invariant.before;
-      narrow = members_narrow-push done e l.invariant.narrow written.narrow;
-      texts = members_have_utf8-push done e l.invariant.texts written.texts;
-      names = members_rise-push done e left sorted l.invariant.names written.names;
+      narrow = rw more (members_narrow-push done e l.invariant.narrow written.narrow);
+      texts = rw more (members_have_utf8-push done e l.invariant.texts written.texts);
+      names = rw more (members_rise-push done e left sorted l.invariant.names written.names);
     }
+
+pub write_members-write_value-requires : goal.write_members-write_value-requires
+write_members-write_value-requires t c =
+    let deep = lent-within-deepest the_size c.args.members.now.entries c.entries-key-items.result.now c.loop-key.key-index c.loop-key-item.result
+    c.entries-key-items.ensures.all (omega arith) c.loop-key-item.is in
+    (omega (arith, deep), tt)

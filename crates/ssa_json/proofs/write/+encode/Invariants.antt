@@ -1,8 +1,7 @@
-use Rattle.std.proofs.Common.{◌≡◌, List, ◌++◌, drop, take, true}
+use Rattle.std.proofs.Common.{◌≡◌, ◌++◌, drop, take, true}
 use Rattle.ssa_json.specs.Written.{items_tokens, members_tokens, items_narrow, members_narrow}
 use Rattle.ssa_json.specs.Writable.{items_have_utf8, items_have_rising_names, members_have_utf8, members_rise}
 use Rattle.ssa_json.specs.View.{items_view, members_view}
-use Rattle.ssa_json.proofs.Converting.{Found}
 use Rattle.ssa_json.proofs.write.+encode.Given as goal
 
 -- with the items that are left, the list is whole; the items so far are of the program
@@ -20,13 +19,13 @@ invariant-write_items-loop-item l =
 
 -- so with the members
 abbrev pub invariant-write_members-loop-key : goal.invariant-write_members-loop-key
-invariant-write_members-loop-key l = record {
-  done : List Found;
-  split : l.members.entries ≡ done ++ l.key-iterator;
-  tokens : l.writer.tokens ++ members_tokens (members_view l.key-iterator)
-      ≡ l.initial.writer.tokens ++ members_tokens (members_view l.members.entries);
-  before : l.writer.before ≡ l.initial.writer.before;
-  narrow : members_narrow (members_view done) ≡ true;
-  texts : members_have_utf8 (members_view done) ≡ true;
-  names : members_rise (members_view done) ≡ true;
-}
+invariant-write_members-loop-key l =
+    let done = members_view (take l.key-index l.key-items) in
+    record {
+      tokens : l.writer.tokens ++ members_tokens (members_view (drop l.key-index l.key-items))
+          ≡ l.initial.writer.tokens ++ members_tokens (members_view l.key-items);
+      before : l.writer.before ≡ l.initial.writer.before;
+      narrow : members_narrow done ≡ true;
+      texts : members_have_utf8 done ≡ true;
+      names : members_rise done ≡ true;
+    }

@@ -1,12 +1,12 @@
 -- `Members` as a type that may hold the type that holds it, by its values.
-use Rattle.ssa_members.specs.Members.{Name, Members, IsRising}
+use Rattle.ssa_members.specs.Members.{Members}
 use Rattle.ssa_members.specs.Named.{named, at_value, named_puts, values_are_listed, names_stay, pair_row, pair_places, named_recoded}
 use Rattle.ssa_members.specs.contracts.members.Members as contracts
 use Rattle.ssa_members.specs.contracts.members.Members.TheInside as inside
 use Rattle.ssa_members.specs.declared.members.Members.TheInside.{Inside}
 use Rattle.ssa_members.specs.declared.members.Members.TheView.{view, invariant}
 use Rattle.std.specs.List.Sorted.{IsStrictlySortedBy, IsStrictlySortedBy-prop}
-use Rattle.std.specs.Map.{keys_of, values_of}
+use Rattle.std.specs.Map.{values_of}
 use Rattle.std.specs.Prelude.{◌≡◌, List, [], string_cmp}
 use Rattle.std.specs.contracts.alloc.Global as heap
 use Rattle.std.specs.contracts.impls.GlobalAllocator.TheImpl.{ghosts}

@@ -1,4 +1,4 @@
-use Rattle.std.proofs.Common.{◌≡◌, sym, ap, subst, ◌∙◌, Some, get_or, refl, string_bytes, string_cmp}
+use Rattle.std.proofs.Common.{sym, ap, subst, ◌∙◌, Some, get_or, string_bytes, string_cmp}
 use Rattle.std.specs.BTreeMap.{insert_entry}
 use Rattle.std.specs.List.{slice_set}
 use Rattle.std.specs.Result.{is_ok}

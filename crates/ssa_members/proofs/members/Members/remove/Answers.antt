@@ -1,8 +1,8 @@
-use Rattle.std.proofs.Common.{◌≡◌, sym, ap, subst, ◌∙◌, Some, refl}
+use Rattle.std.proofs.Common.{sym, ap, subst, ◌∙◌, Some, refl}
 use Rattle.std.specs.BTreeMap.{is_at}
 use Rattle.std.specs.Map.{remove_entry}
-use Rattle.ssa_members.specs.Members.{get, text_cmp, IsNameAt, IsRising}
-use Rattle.ssa_members.proofs.Searching.{gap-inside, name-inside, not-there, taken-out, value-found, value-absent}
+use Rattle.ssa_members.specs.Members.{get, text_cmp, IsRising}
+use Rattle.ssa_members.proofs.Searching.{name-inside, not-there, taken-out, value-found, value-absent}
 use Rattle.ssa_members.proofs.Rising.{rising-taken-out}
 use Rattle.ssa_members.proofs.members.Members.remove.Goals as goal
 

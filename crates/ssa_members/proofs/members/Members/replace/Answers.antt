@@ -1,4 +1,4 @@
-use Rattle.std.proofs.Common.{◌≡◌, sym, ap, subst, ◌∙◌, Some, get_or, refl}
+use Rattle.std.proofs.Common.{sym, ap, subst, ◌∙◌, Some, get_or, refl}
 use Rattle.std.specs.BTreeMap.{is_at}
 use Rattle.std.specs.List.{slice_set}
 use Rattle.std.specs.Map.{set_value}
