@@ -1,7 +1,6 @@
 -- Members that are put together at once are those that each put in in turn leaves.
 use Rattle.std.proofs.Common.{◌≡◌, List, [], ◌∷◌, ◌++◌, map, String, Global, Ordering, Less, Equal, Greater, Option, Some, None, string_bytes, string_cmp, nat_cmp, refl, sym, ap, subst, ◌∙◌}
 use Rattle.std.proofs.lemmas.Cmp.{nat_list_cmp_total}
-use Rattle.std.proofs.lemmas.List.{append-nil, append_assoc}
 use Rattle.std.specs.Prelude.{option_map, cond, T, true, ◌&&◌}
 use Rattle.std.specs.Cmp.Lexicographic.{slice_cmp}
 use Rattle.std.specs.FinMap.{slice_cmp-IsAntisymmetric, nat_cmp-IsAntisymmetric}
@@ -21,8 +20,6 @@ use Rattle.ssa_json.specs.View.{view, members_view}
 use Rattle.ssa_json.specs.Lookups.{view-either}
 use Rattle.ssa_json.specs.PutInTurn.{put_in_turn}
 use Rattle.ssa_json.specs.declared.value.Json.{Json}
-use Rattle.ssa_json.proofs.Ordered.{inserted-last}
-use Rattle.ssa_json.proofs.PutMembers.{inserted}
 use Rattle.ssa_json.proofs.Converting.{Found, named, members_after, members_after-none}
 
 -- ---- pairs put in turn

@@ -1,5 +1,5 @@
 -- The text of a moment is ASCII.
-use Rattle.std.proofs.Common.{◌≡◌, ℕ, zero, suc, ◌+◌, ◌<◌, ◌≤◌, List, [], ◌∷◌, length, true, false, ◌&&◌, refl, sym, ap, subst, ◌∙◌, eqb-true, true≢false, arith, IsUtf8}
+use Rattle.std.proofs.Common.{◌≡◌, ℕ, zero, suc, ◌+◌, ◌<◌, ◌≤◌, List, [], ◌∷◌, length, true, false, ◌&&◌, refl, sym, ap, ◌∙◌, true≢false, arith, IsUtf8}
 use Rattle.std.specs.Prelude.{◌==◌, Option, Some, None, is_some, nat_le, slice_index, option_and_then}
 use Rattle.std.specs.Str.{IsAscii}
 use Rattle.std.proofs.lemmas.Bool.{and_parts}

@@ -1,5 +1,5 @@
 -- Members whose names rise go in one after another.
-use Rattle.std.proofs.Common.{◌≡◌, Less, Equal, Greater, Ordering, is_lt, nat_cmp, true, refl, ap, ◌∙◌}
+use Rattle.std.proofs.Common.{◌≡◌, Less, Greater, nat_cmp, true, refl, ap, ◌∙◌}
 use Rattle.std.proofs.lemmas.Cmp.{nat_list_cmp_total}
 use Rattle.std.specs.Prelude.{⊤}
 use Rattle.std.specs.Cmp.Lexicographic.{slice_cmp}

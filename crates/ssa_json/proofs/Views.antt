@@ -1,12 +1,7 @@
 -- What a value of each sort is seen as.
-use Rattle.std.proofs.Common.{◌≡◌, List, [], ◌∷◌, Bool, true, false, cond, refl, String, string_bytes, Global, Vec, is_eq, nat_cmp, rules}
+use Rattle.std.proofs.Common.{◌≡◌, Global, Vec, rules}
 use Rattle.ssa_members.specs.Members.{Members as Entries}
-use Rattle.std.specs.Prelude.{Option, Some, None, option_map}
-use Rattle.std.specs.Borrow.{Bor}
-use Rattle.std.specs.Map.{lookup}
-use Rattle.std.specs.BTreeMap.{is_at}
-use Rattle.std.specs.Cmp.Lexicographic.{slice_cmp}
-use Rattle.ssa_model.specs.definitions.Json.{Text, Members, scalar, list, object, member_of}
+use Rattle.ssa_model.specs.definitions.Json.{scalar, list, object}
 use Rattle.ssa_json.specs.View.{view, scalar_view, items_view, members_view}
 use Rattle.ssa_json.specs.declared.value.Json.{Json, Scalar as scalar_json, List as list_json, Object, the_lemmas}
 use Rattle.ssa_json.specs.declared.value.Scalar.{Scalar}
