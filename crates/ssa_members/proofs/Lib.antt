@@ -1,4 +1,4 @@
-pub mod Deepest
+pub mod Lent
 pub mod Made
 pub mod Rising
 pub mod Searching

@@ -1,5 +1,5 @@
 //! Values under names, in a vector that is ordered by the names.
-ghost use Rattle.std.specs.Prelude.{◌≡◌, [], ℕ, length, IfOk, IfErr, IsTrue, OnErr, OnOk, Some, None, option_copied, nat_eq};
+ghost use Rattle.std.specs.Prelude.{◌≡◌, ◌↔◌, [], ℕ, length, IfOk, IfErr, IsTrue, OnErr, OnOk, Some, None, option_copied};
 ghost use Rattle.std.specs.BTreeMap.{insert_entry, is_at};
 ghost use Rattle.std.specs.Map.{lookup, remove_entry, set_value};
 ghost use Rattle.std.specs.Prelude.{string_bytes, string_cmp};
@@ -64,7 +64,7 @@ impl<V> Members<V> {
 
     /// Whether there are none.
     pub fn is_empty(&self) -> bool
-        ensures { result ≡ nat_eq (length self.now.entries) 0 }
+        ensures { IsTrue result ↔ (length self.now.entries ≡ 0) }
     {
         self.entries.is_empty()
     }

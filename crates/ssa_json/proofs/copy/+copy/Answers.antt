@@ -1,6 +1,6 @@
 use Rattle.std.proofs.Common.{◌≡◌, [], ◌∷◌, ◌++◌, ◌+◌, arith, map, string_bytes, sym, take, ap, ap₂, ◌∙◌, subst}
 use Rattle.std.proofs.lemmas.List.{map-append, take_all, take_more}
-use Rattle.ssa_members.proofs.Deepest.{lent-within-deepest}
+use Rattle.ssa_members.proofs.Lent.{lent-within-deepest}
 use Rattle.ssa_members.specs.Members.{IsRising}
 use Rattle.ssa_model.specs.definitions.Json.{no_members}
 use Rattle.ssa_json.specs.View.{members_view}

@@ -1,5 +1,5 @@
 use Rattle.std.proofs.Common.{arith}
-use Rattle.ssa_members.proofs.Deepest.{lent-within-deepest}
+use Rattle.ssa_members.proofs.Lent.{lent-within-deepest}
 use Rattle.ssa_json.proofs.value.Json.TheLaws.{the_size}
 use Rattle.ssa_json.proofs.same.+same.Goals as goal
 

@@ -3,7 +3,7 @@ use Rattle.std.proofs.lemmas.List.{take_more, drop_more, take-append-drop}
 use Rattle.std.proofs.lemmas.Result.{on_ok_weaker}
 use Rattle.std.specs.List.Sorted.{IsStrictlySortedBy}
 use Rattle.std.specs.Map.{keys_of}
-use Rattle.ssa_members.proofs.Deepest.{lent-within-deepest}
+use Rattle.ssa_members.proofs.Lent.{lent-within-deepest}
 use Rattle.json.specs.Token.{begin_array, begin_object, key}
 use Rattle.ssa_json.specs.declared.value.Json.{the_lemmas}
 use Rattle.ssa_json.specs.Written.{tokens_of, items_tokens, members_tokens}
