@@ -10,7 +10,7 @@ ghost use Rattle.ssa_session.specs.Commands.{word_text, member_rules, rule_at};
 use ssa_json::members::has_member;
 use ssa_json::text::is_same_text;
 use ssa_json::value::{Json, Scalar};
-use ssa_record::value_shape::{are_texts, is_text, text_of};
+use ssa_told::value_shape::{are_texts, is_text, text_of};
 use std::collections::BTreeMap;
 
 /// What a command does, as its member `do` says.
