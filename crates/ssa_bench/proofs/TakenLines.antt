@@ -40,11 +40,11 @@ use Rattle.ssa_schema.specs.Schemas.{Faults}
 use Rattle.ssa_schema.specs.declared.fault.SchemaFault.{SchemaFault}
 use Rattle.ssa_schema.specs.declared.fault.SchemaFault.TheVariants as faults
 use Rattle.ssa_schema.specs.declared.fault.SchemaFault.TheVariants.{SchemaKeyword, SchemaShape, SchemaKeys, SchemaDepth}
-use Rattle.ssa_record.specs.LineValues.{IsLine, line_shape}
+use Rattle.ssa_told.specs.LineValues.{IsLine, line_shape}
 use Rattle.ssa_record.specs.RecordAnswers.{IsAnswer, IsFitting, IsMisfit, IsRecordOf}
 use Rattle.ssa_record.specs.declared.read_record.RecordAnswer.{RecordAnswer}
 use Rattle.ssa_record.specs.declared.read_record.RecordAnswer.TheVariants.{NoRecord, Misfit, Fits}
-use Rattle.ssa_record.specs.declared.line_values.LineValues.{LineValues}
+use Rattle.ssa_told.specs.declared.line_values.LineValues.{LineValues}
 use Rattle.ssa_file.specs.declared.head.RecordCounts.{RecordCounts}
 use Rattle.ssa_turn.specs.Histories.{label_view}
 use Rattle.ssa_turn.specs.declared.label.Label as labels

@@ -15,11 +15,11 @@ use ssa_json::fault_code::FaultCode;
 use ssa_json::moment::Moment;
 use ssa_json::value::Json;
 use ssa_path::element_fault::ElemFault;
-use ssa_record::path_texts::path_of_texts;
-use ssa_record::value_shape::are_texts;
 use ssa_session::command::Command;
 use ssa_session::files::MOST_INPUT_BYTES;
 use ssa_session::read_command::LineFault;
+use ssa_told::path_texts::path_of_texts;
+use ssa_told::value_shape::are_texts;
 use std::alloc::{AllocError, Global};
 use thiserror::Error;
 

@@ -19,7 +19,7 @@ use Rattle.ssa_typed.specs.declared.node.Node.{Node}
 use Rattle.ssa_typed.proofs.Looks.{get-body}
 use Rattle.ssa_record.specs.LedValues.{told_leaf, told_part, IsHere, IsToldFor}
 use Rattle.ssa_record.specs.Places.{maps_told, IsTouchedBelow, ToldMaps}
-use Rattle.ssa_record.specs.Told.{told_of}
+use Rattle.ssa_told.specs.Told.{told_of}
 use Rattle.ssa_record.proofs.Touched.{all-touched}
 use Rattle.ssa_model.proofs.Lists.{has-listed}
 

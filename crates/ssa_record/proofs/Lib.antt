@@ -14,16 +14,10 @@ mod LedPlaces
 mod LedPuts
 pub mod LedStates
 mod LedUntouched
-pub mod MemberShapes
-pub mod Objects
-pub mod LineShapes
 pub mod OwnablePaths
 mod PathSearch
-pub mod PathTexts
-pub mod RecordTextsSay
 mod RefilledOrder
 mod Slots
-pub mod ToldItems
 pub mod ToldLists
 pub mod ToldTables
 pub mod ToldSets

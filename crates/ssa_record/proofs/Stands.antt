@@ -29,8 +29,8 @@ use Rattle.ssa_typed.specs.declared.node.Node.{Node}
 use Rattle.ssa_typed.proofs.Lookups.{content-root}
 use Rattle.ssa_typed.proofs.Looks.{get-body}
 use Rattle.ssa_record.specs.Standing.{are_few, stand, stands}
-use Rattle.ssa_record.specs.Told.{leaf_of, put_of, told_body, told_leaf, told_of, told_order, told_put}
-use Rattle.ssa_record.specs.declared.told.ToldBody.{ToldBody}
+use Rattle.ssa_told.specs.Told.{leaf_of, put_of, told_body, told_leaf, told_of, told_order, told_put}
+use Rattle.ssa_told.specs.declared.told.ToldBody.{ToldBody}
 use Rattle.ssa_model.proofs.FittingTells.{parent_above as under-parent}
 use Rattle.ssa_model.proofs.Tables.{element-itself as same_element-itself}
 

@@ -41,7 +41,7 @@ use Rattle.ssa_json.specs.declared.value.Json as program
 use Rattle.ssa_record.specs.LedValues.{told_leaf, told_part, IsGiven, IsLed, IsToldFor}
 use Rattle.ssa_record.specs.Places.{maps_told, ToldMaps}
 use Rattle.ssa_record.specs.Spots.{IsSpot, IsWithin}
-use Rattle.ssa_record.specs.Told.{told_of}
+use Rattle.ssa_told.specs.Told.{told_of}
 use Rattle.ssa_record.specs.declared.spot.Spot.{Spot}
 use Rattle.ssa_record.proofs.LedBodies.{lawful-ordered, told-for}
 use Rattle.ssa_record.proofs.LedPlaces.{takes}

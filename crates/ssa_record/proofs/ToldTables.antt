@@ -1,8 +1,8 @@
 -- Lists made of what is told, element by element.
 use Rattle.std.proofs.Common.{◌≡◌, List, [], ◌∷◌, ◌++◌, map, refl, ap, append_assoc, ◌∙◌}
 use Rattle.std.proofs.lemmas.List.{map-append}
-use Rattle.ssa_record.specs.Told.{told_here}
-use Rattle.ssa_record.specs.declared.told.ToldHere.{ToldHere}
+use Rattle.ssa_told.specs.Told.{told_here}
+use Rattle.ssa_told.specs.declared.told.ToldHere.{ToldHere}
 
 -- one more is made of the next that is told
 pub made-more : {X Y Z : Type 0} (f : X → Z) (g : Y → Z) (xs made : List X) (x : X) (y : Y) (rest : List Y) (all : List Z)

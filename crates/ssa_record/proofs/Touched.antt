@@ -7,7 +7,7 @@ use Rattle.ssa_model.specs.definitions.Path.{Path, path_cmp, same_path}
 use Rattle.ssa_model.specs.definitions.PathMap.{PathSet, empty, from_entries, has, listed, marked}
 use Rattle.ssa_model.proofs.PathMaps.{get-from_entries, same_sets}
 use Rattle.ssa_path.specs.Trie.{is_one_of}
-use Rattle.ssa_record.specs.Told.{BodyTold}
+use Rattle.ssa_told.specs.Told.{BodyTold}
 use Rattle.ssa_record.specs.Places.{AllTouched, maps_told, told_paths}
 use Rattle.ssa_record.specs.ToldEntries.{AddsPaths}
 use Rattle.ssa_model.proofs.Lists.{has-listed}

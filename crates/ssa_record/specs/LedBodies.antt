@@ -13,7 +13,7 @@ use Rattle.ssa_turn_body.specs.Records.{body_told}
 use Rattle.ssa_turn_body.specs.declared.steps.BodySteps.{BodySteps}
 use Rattle.ssa_record.specs.LedValues.{IsGiven}
 use Rattle.ssa_record.specs.Places.{maps_told, ToldMaps}
-use Rattle.ssa_record.specs.Told.{told_of}
+use Rattle.ssa_told.specs.Told.{told_of}
 
 -- where a record is told that takes the body to another one, the value is that of the other
 abbrev pub IsShown : ToldMaps → Body → Option program.Json → Type 0

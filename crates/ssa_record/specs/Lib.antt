@@ -3,16 +3,10 @@ pub mod LedBodies
 pub mod LedStates
 pub mod LedValues
 pub mod PathOrder
-pub mod PathTexts
 pub mod Places
 pub mod RecordAnswers
 pub mod Refilled
-pub mod Said
-pub mod Shapes
 pub mod Spots
 pub mod TableTests
-pub mod Telling
 pub mod Standing
-pub mod Told
 pub mod ToldEntries
-pub mod LineValues

@@ -15,9 +15,9 @@ use Rattle.ssa_path.specs.View.{path_view}
 use Rattle.ssa_path.specs.declared.element.Elem.{Elem}
 use Rattle.ssa_path.specs.declared.top_path.LentPath.{LentPath}
 use Rattle.ssa_path.specs.declared.trie.Trie.{Trie}
-use Rattle.ssa_record.specs.Told.{BodyTold}
+use Rattle.ssa_told.specs.Told.{BodyTold}
 use Rattle.ssa_record.specs.declared.places.ToldPlaces.{ToldPlaces}
-use Rattle.ssa_record.specs.declared.told.ToldPut.{ToldPut}
+use Rattle.ssa_told.specs.declared.told.ToldPut.{ToldPut}
 
 -- what is told by whole paths, and the paths of which anything is told
 pub record ToldMaps : Type 0 where

@@ -23,7 +23,7 @@ use Rattle.ssa_turn_body.specs.Rooms.{HasBodyRoom}
 use Rattle.ssa_turn_body.specs.declared.steps.BodySteps.{BodySteps}
 use Rattle.ssa_record.specs.LedBodies.{IsSaid}
 use Rattle.ssa_record.specs.Places.{maps_told, IsTouchedBelow, ToldMaps}
-use Rattle.ssa_record.specs.Told.{told_of}
+use Rattle.ssa_told.specs.Told.{told_of}
 use Rattle.ssa_record.specs.declared.spot.Item.{Item}
 use Rattle.ssa_record.specs.declared.spot.Spot.{Spot}
 

@@ -5,7 +5,7 @@ use Rattle.ssa_model.specs.definitions.Body.{Body}
 use Rattle.ssa_model.specs.definitions.Limits.{most_places}
 use Rattle.ssa_model.specs.definitions.Path.{Path, parent}
 use Rattle.ssa_model.specs.definitions.PathMap.{has}
-use Rattle.ssa_record.specs.Told.{BodyTold}
+use Rattle.ssa_told.specs.Told.{BodyTold}
 
 -- the body has the path's parent
 abbrev pub stands : Body → Path → Bool

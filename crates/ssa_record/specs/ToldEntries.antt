@@ -6,9 +6,9 @@ use Rattle.ssa_model.specs.definitions.PathMap.{PathSet, has}
 use Rattle.ssa_json.specs.View.{view}
 use Rattle.ssa_path.specs.Trie.{is_one_of}
 use Rattle.ssa_path.specs.View.{path_view}
-use Rattle.ssa_record.specs.declared.told.ToldLeaf.{ToldLeaf}
-use Rattle.ssa_record.specs.declared.told.ToldOrder.{ToldOrder}
-use Rattle.ssa_record.specs.declared.told.ToldPut.{ToldPut}
+use Rattle.ssa_told.specs.declared.told.ToldLeaf.{ToldLeaf}
+use Rattle.ssa_told.specs.declared.told.ToldOrder.{ToldOrder}
+use Rattle.ssa_told.specs.declared.told.ToldPut.{ToldPut}
 
 abbrev pub told_leaf : ToldLeaf → Path × Json
 told_leaf e = (e.path, view e.value)

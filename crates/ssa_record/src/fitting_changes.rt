@@ -6,15 +6,15 @@ ghost use Rattle.ssa_model.specs.definitions.PathMap.{has, is_empty, minus, unio
 ghost use Rattle.ssa_model.specs.definitions.Valid.{AllEntries, OwnedOwnable};
 ghost use Rattle.ssa_model.specs.laws.FittingRecords.{tells_something, ChangeFits, EntryFits};
 ghost use Rattle.ssa_merge.specs.Managers.{entry_view, table_view};
-ghost use Rattle.ssa_record.specs.Told.{told_change, told_table};
+ghost use Rattle.ssa_told.specs.Told.{told_change, told_table};
 ghost use Rattle.ssa_record.specs.EntryTests.{GivesUp, IsApart, SetChanges, ToldFits};
 
 use crate::fitting_lists::{find_change, is_key_among};
-use crate::told::{ToldChange, ToldTable};
 use ssa_json::moment::Moment;
 use ssa_merge::managers::Entry;
 use ssa_merge::ownable::first_not_ownable;
 use ssa_path::field_set::FieldSet;
+use ssa_told::told::{ToldChange, ToldTable};
 use ssa_typed::body::Body;
 use std::alloc::{AllocError, Global};
 

@@ -3,12 +3,12 @@ ghost use Rattle.std.specs.Prelude.{map, Decides, IfOk};
 ghost use Rattle.ssa_model.specs.definitions.Valid.{AllEntries};
 ghost use Rattle.ssa_model.specs.laws.FittingRecords.{HereFits};
 ghost use Rattle.ssa_merge.specs.Managers.{entry_view};
-ghost use Rattle.ssa_record.specs.Told.{told_here};
+ghost use Rattle.ssa_told.specs.Told.{told_here};
 
 use crate::fitting_changes::is_ownable;
-use crate::told::ToldHere;
 use ssa_merge::managers::Entry;
 use ssa_merge::names::is_manager_name;
+use ssa_told::told::ToldHere;
 use ssa_typed::body::Body;
 use std::alloc::{AllocError, Global};
 

@@ -6,14 +6,14 @@ ghost use Rattle.ssa_model.specs.definitions.Limits.{most_managers};
 ghost use Rattle.ssa_model.specs.definitions.Table.{is_in_table};
 ghost use Rattle.ssa_model.specs.definitions.Valid.{has_distinct_keys};
 ghost use Rattle.ssa_merge.specs.Managers.{key_view, table_view};
-ghost use Rattle.ssa_record.specs.Told.{told_change, told_here, told_table};
+ghost use Rattle.ssa_told.specs.Told.{told_change, told_here, told_table};
 ghost use Rattle.ssa_record.specs.TableTests.{are_newcomers, are_places, changed_keys, has_change, managers, same_keys, staying_count, HereStands, ListsFit};
 ghost use Rattle.ssa_turn_table.specs.Tables.{keys_view};
 
-use crate::told::{ToldChange, ToldHere, ToldTable};
 use ssa_merge::manager::ManagerKey;
 use ssa_merge::managers::{Entry, MOST_MANAGERS};
 use ssa_merge::seat::is_in_table;
+use ssa_told::told::{ToldChange, ToldHere, ToldTable};
 
 // Whether the manager is one of these.
 pub(crate) fn is_key_among(keys: &[ManagerKey], key: &ManagerKey) -> bool

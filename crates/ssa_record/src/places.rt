@@ -1,9 +1,9 @@
 //! What a record tells of a body, found by whole paths.
 use crate::by_path::ByPath;
-use crate::told::ToldPut;
 use ssa_json::value::Json;
 use ssa_path::element::Elem;
 use ssa_path::field_set::FieldSet;
+use ssa_told::told::ToldPut;
 
 /// What is told of the places of a body, each by its path. The paths are lent by the lists that tell
 /// them.

@@ -6,10 +6,10 @@ ghost use Rattle.ssa_merge.specs.States.{state_view};
 ghost use Rattle.ssa_record.specs.RecordAnswers.{IsAnswer};
 
 use crate::told_delta::told_delta;
-use crate::told_reading::told_record;
 use ssa_json::value::Json;
 use ssa_merge::state::State;
 use ssa_schema::schema::Schema;
+use ssa_told::told_reading::told_record;
 use ssa_turn_state::live_state::{StateDelta, turn_state};
 use ssa_turn_state::own_paths::own_state_is_read;
 use std::alloc::{AllocError, Global};

@@ -2,11 +2,11 @@
 ghost use Rattle.std.specs.Prelude.{◌≡◌, nat_le};
 ghost use Rattle.std.specs.List.{list_all};
 ghost use Rattle.ssa_model.specs.definitions.Limits.{most_places};
+ghost use Rattle.ssa_told.specs.Told.{told_body};
 ghost use Rattle.ssa_record.specs.Standing.{are_few, stand, stands};
-ghost use Rattle.ssa_record.specs.Told.{told_body};
 
-use crate::told::{ToldBody, ToldLeaf, ToldOrder, ToldPut};
 use ssa_path::path::Path;
+use ssa_told::told::{ToldBody, ToldLeaf, ToldOrder, ToldPut};
 use ssa_typed::body::{Body, MOST_PLACES};
 
 // Whether the body has the path's parent.

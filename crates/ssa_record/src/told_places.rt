@@ -4,18 +4,18 @@ ghost use Rattle.ssa_model.specs.definitions.PathMap.{get, has, marked};
 ghost use Rattle.ssa_json.specs.View.{view};
 ghost use Rattle.ssa_path.specs.TopPaths.{lent_path};
 ghost use Rattle.ssa_path.specs.View.{element_view, path_view};
-ghost use Rattle.ssa_record.specs.Told.{told_body};
+ghost use Rattle.ssa_told.specs.Told.{told_body};
 ghost use Rattle.ssa_record.specs.Places.{cut_view, leaves_view, maps_of, maps_told, order_view, put_view, told_paths};
 ghost use Rattle.ssa_record.specs.ToldEntries.{told_leaf, told_order, told_put, AddsPaths};
 
 use crate::by_path::ByPath;
 use crate::places::ToldPlaces;
-use crate::told::{ToldBody, ToldLeaf, ToldOrder, ToldPut};
 use ssa_json::value::Json;
 use ssa_path::element::Elem;
 use ssa_path::field_set::FieldSet;
 use ssa_path::path::Path;
 use ssa_path::top_path::LentPath;
+use ssa_told::told::{ToldBody, ToldLeaf, ToldOrder, ToldPut};
 use std::alloc::{AllocError, Global};
 
 // The path itself, with none behind it.

@@ -22,7 +22,7 @@ use Rattle.ssa_model.proofs.Tables.{same_text-true}
 use Rattle.ssa_json.specs.Lookups.{view-lookup}
 use Rattle.ssa_session.specs.declared.command_shape.Word.{Word}
 use Rattle.ssa_session.specs.declared.command_shape.Word.TheVariants.{Apply, Update, Strip, Undo, Redo, Show, Owners, Log}
-use Rattle.ssa_record.specs.PathTexts.{as_list, given_texts}
+use Rattle.ssa_told.specs.PathTexts.{as_list, given_texts}
 use Rattle.ssa_json.specs.Readings.{readings}
 use Rattle.ssa_session.specs.Commands.{word_text, member_rules, rule_at, HasRequest, given_moment}
 

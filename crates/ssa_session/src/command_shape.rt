@@ -11,7 +11,7 @@ use ssa_json::members::has_member;
 use ssa_json::text::is_same_text;
 use ssa_json::value::{Json, Scalar};
 use ssa_members::Members;
-use ssa_record::value_shape::{are_texts, is_text, text_of};
+use ssa_told::value_shape::{are_texts, is_text, text_of};
 
 /// What a command does, as its member `do` says.
 #[derive(Clone, Copy, Debug, PartialEq, Eq)]

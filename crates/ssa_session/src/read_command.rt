@@ -20,8 +20,8 @@ use ssa_json::moment::Moment;
 use ssa_json::value::{Json, Scalar, objects_are_members};
 use ssa_members::Members;
 use ssa_path::element_fault::ElemFault;
-use ssa_record::path_texts::path_of_texts;
-use ssa_record::value_shape::{list_of, text_of};
+use ssa_told::path_texts::path_of_texts;
+use ssa_told::value_shape::{list_of, text_of};
 use std::alloc::{AllocError, AllocFailed, Global};
 use thiserror::Error;
 

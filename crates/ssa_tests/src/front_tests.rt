@@ -1,5 +1,5 @@
 //! The examples on the first pages of the crates below, as `tools/fronts` finds them there.
-use crate::sample::{IMAGE, bench, bodies, body, json, moment, schema, web};
+use crate::sample::{IMAGE, bench, bodies, body, json, moment, schema, state, web};
 use ssa_bench::{Bench, Command};
 use ssa_file::{RecordCounts, record_counts};
 use ssa_json::{OfReader, OfWriter};
@@ -7,8 +7,10 @@ use ssa_merge::{Managers, is_manager_name};
 use ssa_object::body_value::body_value;
 use ssa_object::has_identity;
 use ssa_path::{Elem, FieldSet, Path};
-use ssa_record::line_values::line_values;
+use ssa_record::RecordAnswer;
+use ssa_record::read_record::read_record;
 use ssa_session::session;
+use ssa_told::line_values::line_values;
 use ssa_turn::Label;
 use ssa_turn_body::steps_between;
 use ssa_turn_set::{between, turn_field_set};
@@ -75,7 +77,7 @@ fn ssa_turn_example(rt: HostRuntime) -> Result<(), Fail> {
 }
 
 #[test]
-fn ssa_record_example(rt: HostRuntime) -> Result<(), Fail> {
+fn ssa_told_example(rt: HostRuntime) -> Result<(), Fail> {
     let line = json(rt.alloc(), r#"{"command":{"do":"strip"},"record":{}}"#)?;
     let command = line_values(&line).map(|values| values.command);
     assert_eq!(rt;
@@ -84,6 +86,18 @@ fn ssa_record_example(rt: HostRuntime) -> Result<(), Fail> {
             .and_then(|word| word.as_text()),
         Some("strip")
     );
+    Ok(())
+}
+
+#[test]
+fn ssa_record_example(rt: HostRuntime) -> Result<(), Fail> {
+    let schema = schema(rt.alloc())?;
+    let mut state = state(rt.alloc(), &schema, r#"{"spec":{"replicas":3}}"#)?;
+    let text =
+        r#"{"changed":[],"cut":[],"gone":[],"here":[],"leaves":[[["f:spec","f:replicas"],5]],"order":[],"put":[]}"#;
+    let record = json(rt.alloc(), text)?;
+    let answer = read_record(rt.alloc(), &schema, "v1", &mut state, &record)?;
+    assert!(rt; matches!(answer, RecordAnswer::Fits(_)));
     Ok(())
 }
 

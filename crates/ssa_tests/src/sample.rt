@@ -1,6 +1,8 @@
 //! Objects of the sample schema, their bodies and their benches.
 ghost use Rattle.std.specs.Prelude.{IfOk};
 ghost use Rattle.ssa_model.specs.definitions.Fitting.{IsBodyOf};
+ghost use Rattle.ssa_model.specs.definitions.Valid.{IsValidState};
+ghost use Rattle.ssa_merge.specs.States.{state_view};
 ghost use Rattle.ssa_typed.specs.Alike.{AreAlike};
 
 use crate::sample_schema::SCHEMA;
@@ -9,6 +11,8 @@ use ssa_json::moment::Moment;
 use ssa_json::reader::OfReader;
 use ssa_json::sink::OfWriter;
 use ssa_json::value::Json;
+use ssa_merge::managers::Managers;
+use ssa_merge::state::State;
 use ssa_schema::schema::Schema;
 use ssa_session::bench_session::session;
 use ssa_session::fault_text::fault_text;
@@ -121,6 +125,16 @@ pub fn bodies(alloc: Global, before: &str, after: &str) -> Result<(Body, Body), 
     let after = json(alloc, after)?;
     let schema = schema(alloc)?;
     bodies_under(alloc, &schema, before, after)
+}
+
+/// The state of a text's body under a schema, with no managers.
+pub fn state(alloc: Global, schema: &Schema, text: &str) -> Result<State, Fail>
+    ensures { IfOk result (λ s. IsValidState schema.now.kind (state_view s)) }
+{
+    let value = json(alloc, text)?;
+    let body = Body::from_json(alloc, schema, value)?;
+    let managers = Managers::new(alloc);
+    Ok(State { body, managers })
 }
 
 /// The moment of all the lines and commands.

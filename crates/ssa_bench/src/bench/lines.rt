@@ -18,8 +18,8 @@ use ssa_file::loading::{FileLine, LoadFault};
 use ssa_file::written::is_text_of;
 use ssa_json::value::Json;
 use ssa_model::records::recorded_moves;
-use ssa_record::line_values::line_values;
 use ssa_schema::schema::Schema;
+use ssa_told::line_values::line_values;
 use ssa_turn::timeline::Step;
 use std::alloc::{AllocError, Global};
 

@@ -1,7 +1,7 @@
 use Rattle.std.proofs.Common.{map, sym, subst}
 use Rattle.ssa_merge.specs.Managers.{entry_view}
 use Rattle.ssa_record.specs.EntryTests.{ToldFits}
-use Rattle.ssa_record.specs.Told.{told_change, told_table}
+use Rattle.ssa_told.specs.Told.{told_change, told_table}
 use Rattle.ssa_record.proofs.FittingEntries.{entry-decides, not-so, ok-so, refused}
 use Rattle.ssa_record.proofs.fitting_changes.does_entry_fit.Goals as goal
 

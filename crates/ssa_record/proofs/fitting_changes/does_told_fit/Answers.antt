@@ -1,6 +1,6 @@
 use Rattle.std.proofs.Common.{map, sym}
 use Rattle.ssa_merge.specs.Managers.{entry_view}
-use Rattle.ssa_record.specs.Told.{told_change}
+use Rattle.ssa_told.specs.Told.{told_change}
 use Rattle.ssa_record.proofs.FittingEntries.{ok-so, told-decides}
 use Rattle.ssa_record.proofs.fitting_changes.does_told_fit.Goals as goal
 

@@ -5,7 +5,7 @@ use Rattle.ssa_turn_table.specs.Tables.{keys_view}
 use Rattle.ssa_model.specs.laws.FittingRecords.{loses}
 use Rattle.ssa_model.proofs.PathMaps.{has-minus}
 use Rattle.ssa_merge.specs.Managers.{entry_view}
-use Rattle.ssa_record.specs.Told.{told_change, told_table}
+use Rattle.ssa_told.specs.Told.{told_change, told_table}
 use Rattle.ssa_record.proofs.FittingEntries.{gives-up-decides, ok-so}
 use Rattle.ssa_record.proofs.fitting_changes.gives_up.Goals as goal
 

@@ -2,7 +2,7 @@ use Rattle.std.proofs.Common.{◌≡◌, ◌≤◌, length, map, ap, ◌∙◌, 
 use Rattle.std.proofs.lemmas.List.{length-map}
 use Rattle.ssa_merge.specs.Managers.{table_view}
 use Rattle.ssa_record.specs.TableTests.{are_newcomers, are_places, staying_count}
-use Rattle.ssa_record.specs.Told.{told_here, told_table}
+use Rattle.ssa_told.specs.Told.{told_here, told_table}
 use Rattle.ssa_record.proofs.FittingEntries.{off-refused, refused}
 use Rattle.ssa_record.proofs.FittingPlaces.{few-refuse, places-refuse, stands-decides}
 use Rattle.ssa_record.proofs.ToldTables.{places-told}

@@ -3,7 +3,7 @@ use Rattle.std.specs.Prelude.{filter}
 use Rattle.ssa_model.specs.definitions.Carry.{is_key_among}
 use Rattle.ssa_merge.specs.Managers.{table_view}
 use Rattle.ssa_record.specs.TableTests.{changed_keys, has_change, managers, same_keys}
-use Rattle.ssa_record.specs.Told.{told_change, told_table}
+use Rattle.ssa_told.specs.Told.{told_change, told_table}
 use Rattle.ssa_record.proofs.FittingEntries.{not-so, off-refused, test-is}
 use Rattle.ssa_record.proofs.FittingLists.{changed-decides, lists-decides, same_keys-decides}
 use Rattle.ssa_turn_table.specs.Tables.{keys_view}

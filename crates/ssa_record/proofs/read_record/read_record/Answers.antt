@@ -17,10 +17,10 @@ use Rattle.ssa_json.specs.View.{view}
 use Rattle.ssa_merge.specs.States.{state_view}
 use Rattle.ssa_turn_state.specs.States.{HasStateRoom, IsTaken, state_steps}
 use Rattle.ssa_record.specs.LedStates.{IsSaidState}
-use Rattle.ssa_record.specs.Told.{said_body, said_table, told_body, told_table}
+use Rattle.ssa_told.specs.Told.{said_body, said_table, told_body, told_table}
 use Rattle.ssa_record.proofs.LedBodies.{lawful-ordered}
 use Rattle.ssa_model.proofs.RecordTakes.{taken-there as there}
-use Rattle.ssa_record.proofs.RecordTextsSay.{record_texts_say}
+use Rattle.ssa_told.proofs.RecordTextsSay.{record_texts_say}
 use Rattle.ssa_record.proofs.read_record.read_record.Goals as goal
 
 pub returns-in_default-2-clause-answer : goal.returns-in_default-2-clause-answer

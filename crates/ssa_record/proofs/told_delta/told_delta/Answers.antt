@@ -13,7 +13,7 @@ use Rattle.ssa_turn_body.specs.Rooms.{HasBodyRoom}
 use Rattle.ssa_turn_state.specs.States.{state_steps}
 use Rattle.ssa_turn_table.specs.Turning.{HasTableRoom, table_steps}
 use Rattle.ssa_record.specs.LedBodies.{IsSaid}
-use Rattle.ssa_record.specs.Told.{told_table}
+use Rattle.ssa_told.specs.Told.{told_table}
 use Rattle.ssa_record.proofs.LedStates.{body-taken, leads-there, lost-cut, state-taken, table-taken, taken-there, valid-body}
 use Rattle.ssa_record.proofs.told_delta.told_delta.Goals as goal
 use Rattle.ssa_model.proofs.RecordPlaces.{led as leads-to}

@@ -5,10 +5,10 @@ use Rattle.ssa_json.specs.View.{view}
 use Rattle.ssa_json.specs.declared.value.Json.{Json}
 use Rattle.ssa_path.specs.View.{path_view}
 use Rattle.ssa_path.specs.declared.element.Elem.{Elem}
-use Rattle.ssa_record.specs.Told.{told_body}
+use Rattle.ssa_told.specs.Told.{told_body}
 use Rattle.ssa_record.specs.ToldEntries.{told_leaf, told_order, told_put, AddsPaths}
 use Rattle.ssa_record.specs.Places.{told_paths}
-use Rattle.ssa_record.specs.declared.told.ToldPut.{ToldPut}
+use Rattle.ssa_told.specs.declared.told.ToldPut.{ToldPut}
 use Rattle.ssa_record.proofs.ByPaths.{told-by_map}
 use Rattle.ssa_record.proofs.Touched.{touched-is}
 use Rattle.ssa_record.proofs.told_places.places_told.Goals as goal

@@ -1,7 +1,7 @@
 use Rattle.std.proofs.Common.{arith}
 use Rattle.std.specs.Borrow.{Bor}
 use Rattle.ssa_json.specs.View.{view}
-use Rattle.ssa_record.specs.declared.told.ToldPut.{ToldPut}
+use Rattle.ssa_told.specs.declared.told.ToldPut.{ToldPut}
 use Rattle.ssa_record.specs.ToldEntries.{told_put}
 use Rattle.ssa_record.proofs.ToldLists.{read-more}
 use Rattle.ssa_record.proofs.told_places.puts_told.Goals as goal

@@ -2,7 +2,7 @@ use Rattle.ssa_record.specs.ToldEntries.{told_put}
 use Rattle.ssa_record.proofs.ToldLists.{IsReadTo}
 use Rattle.std.specs.Borrow.{Bor}
 use Rattle.ssa_json.specs.View.{view}
-use Rattle.ssa_record.specs.declared.told.ToldPut.{ToldPut}
+use Rattle.ssa_told.specs.declared.told.ToldPut.{ToldPut}
 use Rattle.ssa_record.proofs.told_places.puts_told.Given as goal
 
 -- what is passed is read

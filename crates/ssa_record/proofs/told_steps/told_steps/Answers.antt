@@ -4,7 +4,7 @@ use Rattle.ssa_record.specs.Places.{maps_of, AllTouched}
 use Rattle.ssa_record.specs.Spots.{IsSpot}
 use Rattle.ssa_record.specs.Standing.{are_few, stand}
 use Rattle.ssa_record.proofs.Stands.{told-few, told-stands}
-use Rattle.ssa_record.specs.Told.{told_body}
+use Rattle.ssa_told.specs.Told.{told_body}
 use Rattle.ssa_record.specs.declared.spot.Spot.{Spot}
 use Rattle.ssa_record.proofs.LedBodies.{root-touched}
 use Rattle.ssa_record.proofs.Spots.{root-spot}

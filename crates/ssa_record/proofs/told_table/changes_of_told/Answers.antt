@@ -1,7 +1,7 @@
 use Rattle.std.proofs.Common.{List, map, ◌++◌, ap, sym, subst, ◌∙◌}
 use Rattle.std.specs.Vec.Iter.{into_iter_items}
 use Rattle.ssa_merge.specs.Managers.{table_view}
-use Rattle.ssa_record.specs.Told.{told_change}
+use Rattle.ssa_told.specs.Told.{told_change}
 use Rattle.ssa_record.proofs.ToldTables.{made-more}
 use Rattle.ssa_turn_table.proofs.Compared.{room-push}
 use Rattle.ssa_turn_table.specs.Changing.{AllHaveRoom}

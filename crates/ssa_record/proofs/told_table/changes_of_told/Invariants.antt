@@ -1,7 +1,7 @@
 use Rattle.std.proofs.Common.{◌≡◌, ◌++◌, map}
 use Rattle.std.specs.Vec.Iter.{into_iter_items}
 use Rattle.ssa_merge.specs.Managers.{table_view}
-use Rattle.ssa_record.specs.Told.{told_change}
+use Rattle.ssa_told.specs.Told.{told_change}
 use Rattle.ssa_turn_table.specs.Changing.{AllHaveRoom}
 use Rattle.ssa_turn_table.specs.Tables.{changes_view}
 use Rattle.ssa_record.proofs.told_table.changes_of_told.Given as goal

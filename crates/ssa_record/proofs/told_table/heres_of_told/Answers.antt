@@ -1,6 +1,6 @@
 use Rattle.std.proofs.Common.{List, map, ◌++◌, ap, sym, subst, ◌∙◌}
 use Rattle.std.specs.Vec.Iter.{into_iter_items}
-use Rattle.ssa_record.specs.Told.{told_here}
+use Rattle.ssa_told.specs.Told.{told_here}
 use Rattle.ssa_record.proofs.ToldTables.{made-more}
 use Rattle.ssa_turn_table.proofs.Taking.{keys-push}
 use Rattle.ssa_turn_table.specs.Going.{AllKeysAgree}

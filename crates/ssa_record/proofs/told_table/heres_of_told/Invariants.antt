@@ -1,6 +1,6 @@
 use Rattle.std.proofs.Common.{◌≡◌, ◌++◌, map}
 use Rattle.std.specs.Vec.Iter.{into_iter_items}
-use Rattle.ssa_record.specs.Told.{told_here}
+use Rattle.ssa_told.specs.Told.{told_here}
 use Rattle.ssa_turn_table.specs.Going.{AllKeysAgree}
 use Rattle.ssa_turn_table.specs.Tables.{heres_view}
 use Rattle.ssa_record.proofs.told_table.heres_of_told.Given as goal

@@ -1,6 +1,6 @@
 use Rattle.ssa_model.proofs.TakenTables.{taken_table_fits}
 use Rattle.ssa_merge.specs.Managers.{table_view}
-use Rattle.ssa_record.specs.Told.{told_table}
+use Rattle.ssa_told.specs.Told.{told_table}
 use Rattle.ssa_record.proofs.FittingEntries.{not-so}
 use Rattle.ssa_record.proofs.told_table.table_told.Goals as goal
 

@@ -5,7 +5,7 @@ use Rattle.ssa_model.specs.definitions.History.{present}
 use Rattle.ssa_model.proofs.ValidTimelines.{present_valid}
 use Rattle.ssa_json.specs.Readings.{readings}
 use Rattle.ssa_json.specs.View.{view}
-use Rattle.ssa_record.specs.LineValues.{IsLine, TellsLine}
+use Rattle.ssa_told.specs.LineValues.{IsLine, TellsLine}
 use Rattle.ssa_record.specs.RecordAnswers.{IsAnswer}
 use Rattle.ssa_turn.specs.Histories.{label_view}
 use Rattle.ssa_bench.specs.BenchView.{bench_view}

@@ -4,7 +4,7 @@ use Rattle.std.specs.Prelude.{option_map}
 use Rattle.ssa_model.specs.definitions.Json.{Json}
 use Rattle.ssa_json.specs.View.{view}
 use Rattle.ssa_path.specs.View.{element_view, path_view}
-use Rattle.ssa_record.specs.declared.told.ToldPut.{ToldPut}
+use Rattle.ssa_told.specs.declared.told.ToldPut.{ToldPut}
 use Rattle.ssa_record.proofs.ByPaths.{value-shown}
 use Rattle.ssa_record.proofs.places.ToldPlaces.put_at.Goals as goal
 

@@ -1,5 +1,0 @@
-use Rattle.ssa_record.proofs.RecordTextsSay as lemmas
-use Rattle.ssa_record.proofs.reading_said.record_texts_say.Goals as goal
-
-pub returns : goal.returns
-returns c = lemmas.record_texts_say

@@ -1,8 +1,0 @@
-use Rattle.ssa_json.specs.Readings.{readings}
-use Rattle.ssa_model.specs.definitions.RecordReading.{change_in, change_shape, has_members}
-use Rattle.ssa_record.specs.Told.{told_change}
-use Rattle.ssa_record.proofs.ToldItems.{AreToldSoFar}
-use Rattle.ssa_record.proofs.table_reading.told_changes.Given as goal
-
-abbrev pub invariant-loop-item : goal.invariant-loop-item
-invariant-loop-item l = AreToldSoFar (has_members (change_shape readings)) told_change (change_in readings) l.items l.told.items l.item-index
