@@ -6,7 +6,7 @@ use Rattle.ssa_model.specs.definitions.Path.{Path}
 use Rattle.ssa_model.specs.definitions.PathMap.{PathSet, has, listed, minus, paths as set_paths}
 use Rattle.ssa_model.proofs.PathMaps.{has-minus, paths-tested, same_sets}
 use Rattle.ssa_path.specs.declared.trie.Trie.{Trie}
-use Rattle.ssa_path.specs.Trie.{is_one_of, is_trie, paths}
+use Rattle.ssa_path.specs.Trie.{is_one_of, is_trie, paths, shape, IsWithin, Shape}
 use Rattle.ssa_path.specs.Combine.{IsCombination}
 use Rattle.ssa_path.specs.declared.combine.Combination.TheVariants.{Meet}
 use Rattle.ssa_turn_set.specs.declared.turn.SetDelta.{SetDelta}
@@ -26,6 +26,17 @@ left-paths : (s l : Trie) → is_trie s ≡ true → set_paths (minus (listed (p
 left-paths s l trie =
     paths-tested (listed (paths s)) (λ p. not (has (listed (paths l)) p))
     ∙ (λ i. filter (λ p. not (has-listed (paths l) p i)) (listed-paths s trie i))
+
+within-both : (a b : Bool) → (a ≡ true → b ≡ true) → a ≡ (a && b)
+within-both true b h = sym (h refl)
+within-both false b h = refl
+
+-- where a set has all the paths that are lost, a copy of these is what it has of them
+pub copied-meet : (l s t : Trie) → is_trie l ≡ true → IsWithin (paths l) (paths s) → shape t ≡ shape l → IsCombination Meet l s t
+copied-meet l s t trie within same = record {
+  paths_are = λ p. ap (λ (x : Shape). is_one_of x.0 p) same ∙ within-both (is_one_of (paths l) p) (is_one_of (paths s) p) (within p);
+  trie = ap (λ (x : Shape). x.1) same ∙ trie;
+}
 
 -- nothing comes, what goes is what the set has of the lost paths, and there is room for it
 pub loss-between : (s o : Trie) (d : SetDelta) → is_trie s ≡ true → paths d.gain ≡ [] → is_trie d.gain ≡ true → IsCombination Meet o s d.lose

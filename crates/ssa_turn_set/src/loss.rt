@@ -3,6 +3,7 @@ ghost use Rattle.std.specs.Prelude.{◌≡◌, ◌≤◌, List, [], true, length
 ghost use Rattle.ssa_model.specs.definitions.Path.{Path};
 ghost use Rattle.ssa_model.specs.definitions.PathMap.{minus};
 ghost use Rattle.ssa_path.specs.Children.{elements, rises};
+ghost use Rattle.ssa_path.specs.Combine.{IsCombination};
 ghost use Rattle.ssa_path.specs.Trie.{are_filled_tries, is_trie, paths, paths_below};
 ghost use Rattle.ssa_turn_set.specs.Room.{below_child, fresh, gain_room, going, left, lose_one, lose_room};
 ghost use Rattle.ssa_turn_set.specs.Turn.{IsBetween};
@@ -108,6 +109,18 @@ fn nothing(alloc: Global) -> (Trie, Room)
     (none, room)
 }
 
+// The paths of a set that are lost, with no more room than they need: mostly the set has them all.
+fn lost_of(alloc: Global, lost: &Trie, own: &Trie) -> Result<Trie, AllocError>
+    requires lost { is_trie lost.now ≡ true }
+    requires own { is_trie own.now ≡ true }
+    ensures { IfOk result (λ t. IsCombination Combination.Meet lost.now own.now t) }
+{
+    if lies_within(lost, own) {
+        return lost.copy(alloc);
+    }
+    combine_exactly(alloc, lost, own, Combination::Meet)
+}
+
 impl SetDelta {
     /// The record of a set that loses these paths, as far as it has them, with room for every turn of
     /// it.
@@ -119,7 +132,7 @@ impl SetDelta {
     {
         let own = from.root();
         let (gain, gain_room) = nothing(alloc);
-        let lose = combine_exactly(alloc, lost.root(), own, Combination::Meet)?;
+        let lose = lost_of(alloc, lost.root(), own)?;
         let lose_room = make_loss_room(alloc, &lose, own)?;
         Ok(SetDelta {
             gain,
