@@ -5,7 +5,7 @@ ghost use Rattle.ssa_model.specs.definitions.Path.{Path};
 ghost use Rattle.ssa_model.specs.definitions.PathMap.{minus};
 ghost use Rattle.ssa_path.specs.Children.{elements, rises};
 ghost use Rattle.ssa_path.specs.Combine.{IsCombination};
-ghost use Rattle.ssa_path.specs.Trie.{are_filled_tries, is_trie, paths, paths_below};
+ghost use Rattle.ssa_path.specs.Trie.{are_filled_tries, is_trie, paths, paths_below, IsWithin};
 ghost use Rattle.ssa_path.specs.View.{element_view};
 ghost use Rattle.ssa_turn_set.specs.Room.{fresh, gain_room, left, lose_room};
 ghost use Rattle.ssa_turn_set.specs.Turn.{IsBetween};
@@ -47,11 +47,19 @@ fn count_gone(place: &Trie, lost: &Trie) -> usize
     if lies_within(place, lost) { 1 } else { 0 }
 }
 
+/// Room to take paths out of a set, and whether the set has all of them.
+#[derive(Drop)]
+pub struct LossRoom {
+    pub room: Room,
+    pub has_all: bool,
+}
+
 /// Room enough to take the paths of `lost` out of a set of the paths of `own`.
-pub fn make_loss_room(alloc: Global, lost: &Trie, own: &Trie) -> Result<Room, AllocError>
+pub fn make_loss_room(alloc: Global, lost: &Trie, own: &Trie) -> Result<LossRoom, AllocError>
     requires lost { is_trie lost.now ≡ true }
     requires own { is_trie own.now ≡ true }
-    ensures { IfOk result (λ r. lose_room lost.now (left (paths own.now) (paths lost.now)) r ≡ true) }
+    ensures room { IfOk result (λ l. lose_room lost.now (left (paths own.now) (paths lost.now)) l.room ≡ true) }
+    ensures all { IfOk result (λ l. l.has_all ≡ true → IsWithin (paths lost.now) (paths own.now)) }
 {
     let bare = Trie {
         here: false,
@@ -59,14 +67,19 @@ pub fn make_loss_room(alloc: Global, lost: &Trie, own: &Trie) -> Result<Room, Al
     };
     let mut below = Vec::with_capacity(alloc, lost.below.len())?;
     let mut going = 0;
+    let mut has_all = own.here || !lost.here;
     for child in &lost.below {
         let place = place_or(&own.below, &child.0, &bare);
-        let room = make_loss_room(alloc, &child.1, place)?;
-        below.push((Spare::Nothing, room))?;
+        let loss = make_loss_room(alloc, &child.1, place)?;
+        has_all &= loss.has_all;
         going += count_gone(place, &child.1);
+        below.push((Spare::Nothing, loss.room))?;
     }
     let children = make_children(alloc, going, own.below.len())?;
-    Ok(Room { children, below })
+    Ok(LossRoom {
+        room: Room { children, below },
+        has_all,
+    })
 }
 
 // No path, and the room that it needs. Takes no memory.
@@ -86,16 +99,21 @@ fn nothing(alloc: Global) -> (Trie, Room)
     (none, room)
 }
 
-// The paths of a set that are lost, with no more room than they need: mostly the set has them all.
-fn lost_of(alloc: Global, lost: &Trie, own: &Trie) -> Result<Trie, AllocError>
+// What a set has of the lost paths, with the room to take it out, no more of either than is needed: mostly it has them all.
+fn taken(alloc: Global, lost: &Trie, own: &Trie) -> Result<(Trie, Room), AllocError>
     requires lost { is_trie lost.now ≡ true }
     requires own { is_trie own.now ≡ true }
-    ensures { IfOk result (λ t. IsCombination Combination.Meet lost.now own.now t) }
+    ensures lost { IfOk result (λ t. IsCombination Combination.Meet lost.now own.now t.0) }
+    ensures room { IfOk result (λ t. lose_room t.0 (left (paths own.now) (paths t.0)) t.1 ≡ true) }
 {
-    if lies_within(lost, own) {
-        return lost.copy(alloc);
+    let loss = make_loss_room(alloc, lost, own)?;
+    if loss.has_all {
+        let copied = lost.copy(alloc)?;
+        return Ok((copied, loss.room));
     }
-    combine_exactly(alloc, lost, own, Combination::Meet)
+    let met = combine_exactly(alloc, lost, own, Combination::Meet)?;
+    let met_loss = make_loss_room(alloc, &met, own)?;
+    Ok((met, met_loss.room))
 }
 
 impl SetDelta {
@@ -109,8 +127,7 @@ impl SetDelta {
     {
         let own = from.root();
         let (gain, gain_room) = nothing(alloc);
-        let lose = lost_of(alloc, lost.root(), own)?;
-        let lose_room = make_loss_room(alloc, &lose, own)?;
+        let (lose, lose_room) = taken(alloc, lost.root(), own)?;
         Ok(SetDelta {
             gain,
             lose,
