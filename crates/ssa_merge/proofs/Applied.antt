@@ -1,11 +1,12 @@
 -- The decisions of an Apply, over what was computed.
-use Rattle.std.proofs.Common.{◌≡◌, ℕ, ◌<◌, ◌≤◌, List, length, Bool, true, false, not, ◌||◌, nat_lt, refl, sym, ap, ◌∙◌, arith, min, ◌-◌, ◌^◌}
+use Rattle.std.proofs.Common.{◌≡◌, ℕ, ◌<◌, ◌≤◌, List, [], ◌∷◌, length, Bool, true, false, not, ◌||◌, nat_lt, refl, sym, ap, ◌∙◌, arith, min, ◌-◌, ◌^◌}
 use Rattle.std.proofs.Math.Nat.{min-le_left, min-eq_left, min-eq_right}
 use Rattle.std.proofs.lemmas.Bool.Decides.{nat_tests}
-use Rattle.std.specs.Prelude.{Result, Ok, Err, if◌then◌else◌}
+use Rattle.std.specs.declared.alloc.Global.{Global}
+use Rattle.std.specs.Prelude.{Option, Some, None, Result, Ok, Err, Vec, if◌then◌else◌}
 use Rattle.ssa_model.specs.definitions.Limits.{most_places, most_managers}
 use Rattle.ssa_model.specs.definitions.Json.{Text}
-use Rattle.ssa_model.specs.definitions.PathMap.{size}
+use Rattle.ssa_model.specs.definitions.PathMap.{size, PathSet}
 use Rattle.ssa_model.specs.definitions.Body as bodies
 use Rattle.ssa_model.specs.definitions.Body.{points, modified}
 use Rattle.ssa_model.specs.definitions.Table.{ManagerKey, Table, seat}
@@ -13,8 +14,10 @@ use Rattle.ssa_model.specs.definitions.Operations as model
 use Rattle.ssa_model.specs.definitions.Operations.{State, Clash, decided, conflict, too_many_paths, too_many_managers, is_none, if_seated, pruned, clashes}
 use Rattle.ssa_typed.specs.Differences.{IsComparison}
 use Rattle.ssa_merge.specs.TableChanges.{IsSeated, LeadsTo}
-use Rattle.ssa_merge.specs.Plans.{IsChanged, body_after}
+use Rattle.ssa_merge.specs.Managers.{conflict_view}
+use Rattle.ssa_merge.specs.Plans.{IsChanged, body_after, conflict_of}
 use Rattle.ssa_merge.specs.declared.change.Change.{Change}
+use Rattle.ssa_merge.specs.declared.manager.ManagerKey.{ManagerKey as Key}
 use Rattle.ssa_merge.specs.declared.plan.Refusal.{Refusal}
 use Rattle.ssa_merge.specs.declared.plan.Refusal.TheVariants.{Conflict, TooManyPaths, TooManyManagers, OutOfMemory}
 use Rattle.ssa_model.proofs.Basics.{at_most}
@@ -42,6 +45,22 @@ module _ (state : State) (a : ManagerKey) (config : bodies.Body) (force : Bool) 
       → table ≡ seat state.table a (points config) (modified state.body body) (modified state.body body) at
       → model.apply state a config force at ≡ counted force clash places body table
   apply-decided body clash places table b c n t = ap given (sym b) ∙ (λ i. counted force (sym c i) (sym n i) body (sym t i))
+
+-- ---- the conflict
+
+-- where there is no conflict, nothing forbids the Apply
+pub no-conflict : (force : Bool) (clash : List Clash) (o : Option (Vec (Key × PathSet) Global)) → ((f : Vec (Key × PathSet) Global) → o ≡ Some f → ⊥)
+    → conflict_view o ≡ conflict_of force clash → not (force || is_none clash) ≡ false
+no-conflict true clash o none h = refl
+no-conflict false [] o none h = refl
+no-conflict false (x ∷ xs) None none h = cc
+no-conflict false (x ∷ xs) (Some f) none h = absurd (none f refl)
+
+-- the clashes of a conflict are all that there are, and are not forced
+pub some-conflict : (force : Bool) (clash found : List Clash) → Some found ≡ conflict_of force clash → (found ≡ clash) × (not (force || is_none clash) ≡ true)
+some-conflict true clash found h = cc
+some-conflict false [] found h = cc
+some-conflict false (x ∷ xs) found h = (cc, refl)
 
 -- an Apply that is not forced and clashes is a conflict
 pub decided-conflict : (force : Bool) (clash : List Clash) (places : ℕ) (body : bodies.Body) (table : Table) → not (force || is_none clash) ≡ true

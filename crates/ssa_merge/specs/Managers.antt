@@ -1,6 +1,7 @@
 -- What managers and their entries are.
-use Rattle.std.specs.Prelude.{List, map, string_bytes}
+use Rattle.std.specs.Prelude.{List, map, string_bytes, Option, Some, None, Vec}
 use Rattle.std.specs.Borrow.{Bor}
+use Rattle.std.specs.declared.alloc.Global.{Global}
 use Rattle.ssa_model.specs.definitions.PathMap.{PathSet}
 use Rattle.ssa_model.specs.definitions.Table as model
 use Rattle.ssa_model.specs.definitions.Operations.{Clash}
@@ -31,3 +32,8 @@ clash_view c = record { manager = key_view c.0; fields = c.1 }
 
 abbrev pub clashes_view : List (ManagerKey × PathSet) → List Clash
 clashes_view = map clash_view
+
+-- the clashes of a conflict, where there is one
+abbrev pub conflict_view : Option (Vec (ManagerKey × PathSet) Global) → Option (List Clash)
+conflict_view None = None
+conflict_view (Some found) = Some (clashes_view found.items)

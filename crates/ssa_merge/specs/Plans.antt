@@ -1,5 +1,5 @@
 -- What plans and changes say.
-use Rattle.std.specs.Prelude.{◌≡◌, true, Option, Some, None, Result, Ok, Err}
+use Rattle.std.specs.Prelude.{◌≡◌, List, Bool, true, not, ◌||◌, if◌then◌else◌, Option, Some, None, Result, Ok, Err}
 use Rattle.ssa_model.specs.definitions.Body.{Body}
 use Rattle.ssa_model.specs.definitions.Operations as model
 use Rattle.ssa_model.specs.definitions.Valid.{has_distinct_keys, KeepsOrder}
@@ -28,6 +28,10 @@ IsRefusal (Conflict clashes) r = r ≡ model.conflict (clashes_view clashes.item
 IsRefusal TooManyPaths r = r ≡ model.too_many_paths
 IsRefusal TooManyManagers r = r ≡ model.too_many_managers
 IsRefusal OutOfMemory r = ⊥
+
+-- the clashes by which an Apply is refused, where there are some that are not forced
+abbrev pub conflict_of : Bool → List model.Clash → Option (List model.Clash)
+conflict_of force clash = if not (force || model.is_none clash) then Some clash else None
 
 -- The plan's target is the given state, or the refusal is the given one; of want of memory nothing is said.
 abbrev pub IsPlanned : model.State → Result Plan Refusal → Result model.State model.Refusal → Type 0

@@ -1,5 +1,5 @@
 //! What a command changes of a state, told without what stays.
-ghost use Rattle.std.specs.Prelude.{◌≡◌, ◌≤◌, ◌||◌, not, true, IfOk};
+ghost use Rattle.std.specs.Prelude.{◌≡◌, ◌≤◌, true, IfOk};
 ghost use Rattle.ssa_model.specs.definitions.Body.{Body as ModelBody, points};
 ghost use Rattle.ssa_model.specs.definitions.Fitting.{IsBodyOf};
 ghost use Rattle.ssa_model.specs.definitions.History.{is_manager_name};
@@ -8,16 +8,17 @@ ghost use Rattle.ssa_model.specs.definitions.Limits.{most_places};
 ghost use Rattle.ssa_model.specs.definitions.PathMap.{minus, size, union};
 ghost use Rattle.ssa_model.specs.definitions.Table.{owned_by};
 ghost use Rattle.ssa_model.specs.definitions.Operations as model;
-ghost use Rattle.ssa_model.specs.definitions.Operations.{apply, update, strip, is_none};
+ghost use Rattle.ssa_model.specs.definitions.Operations.{apply, update, strip, clashes};
 ghost use Rattle.ssa_model.specs.definitions.Valid.{AllEntries, IsValidState, OwnsOwnable};
 ghost use Rattle.ssa_typed.specs.Alike.{AreAlike};
 ghost use Rattle.ssa_typed.specs.Differences.{IsComparison};
-ghost use Rattle.ssa_merge.specs.Managers.{clashes_view, key_view, operation_view};
+ghost use Rattle.ssa_merge.specs.Managers.{conflict_view, key_view, operation_view};
 ghost use Rattle.ssa_merge.specs.States.{state_view, applier, updater};
-ghost use Rattle.ssa_merge.specs.Plans.{body_after, changed_state, ChangesInOrder, IsChange, IsChanged, IsPlan};
+ghost use Rattle.ssa_merge.specs.Plans.{body_after, changed_state, conflict_of, ChangesInOrder, IsChange, IsChanged, IsPlan};
 
 use crate::given_up::pruned;
 use crate::manager::{ManagerKey, Operation};
+use crate::managers::Managers;
 use crate::owned::clashes;
 use crate::plan::{Plan, Refusal};
 use crate::seat::{emptied, seat};
@@ -69,14 +70,25 @@ fn key_of(alloc: Global, who: &str, operation: Operation) -> Result<ManagerKey, 
     Ok(ManagerKey { name, operation })
 }
 
-// Whether there are clashes that are not forced.
-fn has_conflict(force: bool, found: &[(ManagerKey, FieldSet)]) -> bool
-    ensures { result ≡ not (force || is_none (clashes_view found.now)) }
+// The conflict by which an Apply that changes these fields is refused: none where it is forced, for which nobody's fields
+// are looked at.
+fn conflict_of(
+    alloc: Global,
+    managers: &Managers,
+    key: &ManagerKey,
+    changed: &FieldSet,
+    force: bool,
+) -> Result<Option<Vec<(ManagerKey, FieldSet)>>, AllocError>
+    ensures { IfOk result (λ c. conflict_view c ≡ conflict_of force (clashes (key_view key.now) changed.now managers.now)) }
 {
-    match found {
-        [] => false,
-        [_first, ..] => !force,
+    if force {
+        return Ok(None);
     }
+    let found = clashes(alloc, managers.entries(), key, changed)?;
+    if found.is_empty() {
+        return Ok(None);
+    }
+    Ok(Some(found))
 }
 
 // The body after, none where it is the live body.
@@ -131,8 +143,7 @@ fn applied_with(
     let merged = pruned(alloc, state, key, config, owned)?;
     let comparison = compared(alloc, &state.body, &merged)?;
     let changed = &comparison.modified;
-    let found = clashes(alloc, state.managers.entries(), key, changed)?;
-    if has_conflict(force, &found) {
+    if let Some(found) = conflict_of(alloc, &state.managers, key, changed, force)? {
         return Err(Refusal::Conflict(found));
     }
     if merged.body.size() > MOST_PLACES {

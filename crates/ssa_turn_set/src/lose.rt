@@ -9,7 +9,7 @@ ghost use Rattle.ssa_turn_set.specs.Siblings.{AreTaken};
 
 use crate::filling::exchange_where_short;
 use crate::room::Room;
-use crate::siblings::{place_from, take_out_bare};
+use crate::siblings::{place_from, place_of, take_out_bare};
 use crate::spare::{Spare, empty_element};
 use ssa_json::value::Scalar;
 use ssa_path::element::Elem;
@@ -87,7 +87,7 @@ fn take_one_out(
     ensures capacity { vec_capacity below.new ≡ vec_capacity below.old }
 {
     let child = &lost[0];
-    let place = place_from(below, 0, &child.0);
+    let place = place_of(below, &child.0);
     if lose_child(child, &mut below[place], &mut rooms[0]) {
         below.remove(place);
     }

@@ -1,10 +1,13 @@
 //! The record of a set that loses some of its paths, with its room.
-ghost use Rattle.std.specs.Prelude.{◌≡◌, ◌≤◌, List, [], true, length, IfOk};
+ghost use Rattle.std.specs.Prelude.{◌≡◌, ◌≤◌, List, [], true, IfOk};
+ghost use Rattle.ssa_model.specs.definitions.FieldsV1.{tails};
 ghost use Rattle.ssa_model.specs.definitions.Path.{Path};
 ghost use Rattle.ssa_model.specs.definitions.PathMap.{minus};
 ghost use Rattle.ssa_path.specs.Children.{elements, rises};
-ghost use Rattle.ssa_path.specs.Trie.{are_filled_tries, is_trie, paths, paths_below};
-ghost use Rattle.ssa_turn_set.specs.Room.{below_child, fresh, gain_room, going, left, lose_one, lose_room};
+ghost use Rattle.ssa_path.specs.Combine.{IsCombination};
+ghost use Rattle.ssa_path.specs.Trie.{are_filled_tries, is_trie, paths, paths_below, IsWithin};
+ghost use Rattle.ssa_path.specs.View.{element_view};
+ghost use Rattle.ssa_turn_set.specs.Room.{fresh, gain_room, left, lose_room};
 ghost use Rattle.ssa_turn_set.specs.Turn.{IsBetween};
 
 use crate::making::{combine_exactly, make_children};
@@ -19,76 +22,64 @@ use ssa_path::trie::Trie;
 use ssa_path::within::lies_within;
 use std::alloc::{AllocError, Global};
 
-// 1 where a set keeps nothing behind the child's element once the child's paths are lost.
-fn count_going_one(child: &(Elem, Trie), own: &[(Elem, Trie)]) -> usize
-    requires child { is_trie child.now.1 ≡ true }
+// The place of a child of this element: where there is none, the bare one.
+fn place_or<'a>(own: &'a [(Elem, Trie)], element: &Elem, bare: &'a Trie) -> &'a Trie
     requires rise { rises (elements own.now) ≡ true }
     requires tries { are_filled_tries own.now ≡ true }
-    ensures one { result ≡ fresh (left (below_child child.now (paths_below own.now)) (paths child.now.1)) }
-    ensures most { result ≤ 1 }
+    requires paths { paths bare.now ≡ [] }
+    requires trie { is_trie bare.now ≡ true }
+    ensures paths { paths result.now ≡ tails (element_view element.now) (paths_below own.now) }
+    ensures trie { is_trie result.now ≡ true }
 {
-    match find_child(own, &child.0) {
-        Some(place) => { if lies_within(place, &child.1) { 1 } else { 0 } }
-        None => 1,
+    match find_child(own, element) {
+        Some(place) => place,
+        None => bare,
     }
 }
 
-// How many of the children go whole.
-fn count_going(children: &[(Elem, Trie)], own: &[(Elem, Trie)]) -> usize
-    requires children { are_filled_tries children.now ≡ true }
-    requires rise { rises (elements own.now) ≡ true }
-    requires tries { are_filled_tries own.now ≡ true }
-    ensures count { result ≡ going children.now (paths_below own.now) }
-    ensures most { result ≤ length children.now }
+// 1 where nothing is left of a place that loses these paths.
+fn count_gone(place: &Trie, lost: &Trie) -> usize
+    requires place { is_trie place.now ≡ true }
+    requires lost { is_trie lost.now ≡ true }
+    ensures one { result ≡ fresh (left (paths place.now) (paths lost.now)) }
+    ensures most { result ≤ 1 }
 {
-    let mut count = 0;
-    for child in children {
-        count += count_going_one(child, own);
-    }
-    count
+    if lies_within(place, lost) { 1 } else { 0 }
+}
+
+/// Room to take paths out of a set, and whether the set has all of them.
+#[derive(Drop)]
+pub struct LossRoom {
+    pub room: Room,
+    pub has_all: bool,
 }
 
 /// Room enough to take the paths of `lost` out of a set of the paths of `own`.
-#[cycle(loss_room)]
-pub fn make_loss_room(alloc: Global, lost: &Trie, own: &Trie) -> Result<Room, AllocError>
+pub fn make_loss_room(alloc: Global, lost: &Trie, own: &Trie) -> Result<LossRoom, AllocError>
     requires lost { is_trie lost.now ≡ true }
     requires own { is_trie own.now ≡ true }
-    ensures { IfOk result (λ r. lose_room lost.now (left (paths own.now) (paths lost.now)) r ≡ true) }
+    ensures room { IfOk result (λ l. lose_room lost.now (left (paths own.now) (paths lost.now)) l.room ≡ true) }
+    ensures all { IfOk result (λ l. l.has_all ≡ true → IsWithin (paths lost.now) (paths own.now)) }
 {
+    let bare = Trie {
+        here: false,
+        below: Vec::new(alloc),
+    };
     let mut below = Vec::with_capacity(alloc, lost.below.len())?;
+    let mut going = 0;
+    let mut has_all = own.here || !lost.here;
     for child in &lost.below {
-        below.push(make_child_loss_room(alloc, child, &own.below)?)?;
+        let place = place_or(&own.below, &child.0, &bare);
+        let loss = make_loss_room(alloc, &child.1, place)?;
+        has_all &= loss.has_all;
+        going += count_gone(place, &child.1);
+        below.push((Spare::Nothing, loss.room))?;
     }
-    let going = count_going(&lost.below, &own.below);
     let children = make_children(alloc, going, own.below.len())?;
-    Ok(Room { children, below })
-}
-
-#[cycle(loss_room)]
-fn make_child_loss_room(
-    alloc: Global,
-    lost: &(Elem, Trie),
-    own: &[(Elem, Trie)],
-) -> Result<(Spare, Room), AllocError>
-    requires lost { is_trie lost.now.1 ≡ true }
-    requires rise { rises (elements own.now) ≡ true }
-    requires tries { are_filled_tries own.now ≡ true }
-    ensures { IfOk result (λ r. lose_one lost.now (left (below_child lost.now (paths_below own.now)) (paths lost.now.1)) r ≡ true) }
-{
-    match find_child(own, &lost.0) {
-        Some(place) => {
-            let room = make_loss_room(alloc, &lost.1, place)?;
-            Ok((Spare::Nothing, room))
-        }
-        None => {
-            let place = Trie {
-                here: false,
-                below: Vec::new(alloc),
-            };
-            let room = make_loss_room(alloc, &lost.1, &place)?;
-            Ok((Spare::Nothing, room))
-        }
-    }
+    Ok(LossRoom {
+        room: Room { children, below },
+        has_all,
+    })
 }
 
 // No path, and the room that it needs. Takes no memory.
@@ -108,6 +99,23 @@ fn nothing(alloc: Global) -> (Trie, Room)
     (none, room)
 }
 
+// What a set has of the lost paths, with the room to take it out, no more of either than is needed: mostly it has them all.
+fn taken(alloc: Global, lost: &Trie, own: &Trie) -> Result<(Trie, Room), AllocError>
+    requires lost { is_trie lost.now ≡ true }
+    requires own { is_trie own.now ≡ true }
+    ensures lost { IfOk result (λ t. IsCombination Combination.Meet lost.now own.now t.0) }
+    ensures room { IfOk result (λ t. lose_room t.0 (left (paths own.now) (paths t.0)) t.1 ≡ true) }
+{
+    let loss = make_loss_room(alloc, lost, own)?;
+    if loss.has_all {
+        let copied = lost.copy(alloc)?;
+        return Ok((copied, loss.room));
+    }
+    let met = combine_exactly(alloc, lost, own, Combination::Meet)?;
+    let met_loss = make_loss_room(alloc, &met, own)?;
+    Ok((met, met_loss.room))
+}
+
 impl SetDelta {
     /// The record of a set that loses these paths, as far as it has them, with room for every turn of
     /// it.
@@ -119,8 +127,7 @@ impl SetDelta {
     {
         let own = from.root();
         let (gain, gain_room) = nothing(alloc);
-        let lose = combine_exactly(alloc, lost.root(), own, Combination::Meet)?;
-        let lose_room = make_loss_room(alloc, &lose, own)?;
+        let (lose, lose_room) = taken(alloc, lost.root(), own)?;
         Ok(SetDelta {
             gain,
             lose,

@@ -25,6 +25,18 @@ fn reach(children: &[(Elem, Trie)], element: &Elem) -> usize
     width
 }
 
+// The place of the child of this element, which is there.
+pub(crate) fn place_of(children: &[(Elem, Trie)], element: &Elem) -> usize
+    requires rise { rises (elements children.now) ≡ true }
+    requires present { child_at (element_view element.now) children.now ≡ None → ⊥ }
+    ensures { IsChildAt (element_view element.now) children.now result }
+{
+    match search(children, element) {
+        Ok(place) => place,
+        Err(_) => unreachable!(),
+    }
+}
+
 // The place of the child of this element, which stands at `start` or behind it.
 pub(crate) fn place_from(children: &[(Elem, Trie)], start: usize, element: &Elem) -> usize
     requires start { start ≤ length children.now }
@@ -35,9 +47,7 @@ pub(crate) fn place_from(children: &[(Elem, Trie)], start: usize, element: &Elem
 {
     let left = &children[start..];
     let near = &left[..reach(left, element)];
-    let Ok(place) = search(near, element) else {
-        unreachable!()
-    };
+    let place = place_of(near, element);
     start + place
 }
 

@@ -164,42 +164,42 @@ take_out-returns-clause-taken t c =
 
 -- ---- one child taken out
 
-pub take_one_out-place_from-place-requires-clause-present : goal.take_one_out-place_from-place-requires-clause-present
-take_one_out-place_from-place-requires-clause-present t c none =
+pub take_one_out-place_of-place-requires-clause-present : goal.take_one_out-place_of-place-requires-clause-present
+take_one_out-place_of-place-requires-clause-present t c none =
     lone-present c.args.below.now.items c.args.lost.now c.args.rooms.now.items c.requires.form.0 c.requires.one c.requires.rise c.requires.tries
     c.requires.lost_rise c.requires.lost_tries c.requires.within c.requires.form.1 c.index-lost-0.result c.index-lost-0.is
     (ap (child_at (element_view c.index-lost-0.result.0)) (sym c.deref.ensures.value) ∙ none)
 
 pub take_one_out-lose_child-requires : goal.take_one_out-lose_child-requires
 take_one_out-lose_child-requires t c =
-    let at : IsChildAt (element_view c.index-lost-0.result.0) c.args.below.now.items c.place_from-place.result =
-    rw c.deref.ensures.value at c.place_from-place.ensures.child in
+    let at : IsChildAt (element_view c.index-lost-0.result.0) c.args.below.now.items c.place_of-place.result =
+    rw c.deref.ensures.value at c.place_of-place.ensures in
     let asked = lone-child c.args.below.now.items c.args.lost.now c.args.rooms.now.items c.requires.form.0 c.requires.one c.requires.rise c.requires.tries
     c.requires.lost_rise c.requires.lost_tries c.requires.within c.requires.form.1 c.index-lost-0.result c.index-lost-0.is
-    c.place_from-place.result c.index_mut.result.now at c.index_mut.ensures.value c.index_mut-2.result.now c.index_mut-2.ensures.value in
+    c.place_of-place.result c.index_mut.result.now at c.index_mut.ensures.value c.index_mut-2.result.now c.index_mut-2.ensures.value in
     (search (rules, the_lemmas), (asked.0, (asked.1, (asked.2, (asked.3, asked.4)))))
 
 pub take_one_out-returns-then-lose_child-clause-taken : goal.take_one_out-returns-then-lose_child-clause-taken
 take_one_out-returns-then-lose_child-clause-taken t c =
-    let at : IsChildAt (element_view c.index-lost-0.result.0) c.args.below.now.items c.place_from-place.result =
-    rw c.deref.ensures.value at c.place_from-place.ensures.child in
+    let at : IsChildAt (element_view c.index-lost-0.result.0) c.args.below.now.items c.place_of-place.result =
+    rw c.deref.ensures.value at c.place_of-place.ensures in
     let child = c.lose_child in
     subst (λ l. AreTaken c.args.lost.now c.args.below.now.items c.args.rooms.now.items l (set c.args.rooms.now.items 0 child.new.room))
     (sym c.remove.ensures.by_index.2)
     (lone-goes c.args.below.now.items c.args.lost.now c.args.rooms.now.items c.requires.form.0 c.requires.one c.requires.rise c.requires.tries
     c.requires.lost_rise c.requires.lost_tries c.requires.within c.requires.form.1 c.index-lost-0.result c.index-lost-0.is
-    c.place_from-place.result c.index_mut.result.now at c.index_mut.ensures.value c.index_mut-2.result.now c.index_mut-2.ensures.value
+    c.place_of-place.result c.index_mut.result.now at c.index_mut.ensures.value c.index_mut-2.result.now c.index_mut-2.ensures.value
     child.new.room child.new.child child.result child.ensures.paths child.ensures.trie child.ensures.bare child.ensures.element child.ensures.room
     (not_true _ (sym child.ensures.bare ∙ c.if-lose_child.true)))
 
 pub take_one_out-returns-else-lose_child-clause-taken : goal.take_one_out-returns-else-lose_child-clause-taken
 take_one_out-returns-else-lose_child-clause-taken t c =
-    let at : IsChildAt (element_view c.index-lost-0.result.0) c.args.below.now.items c.place_from-place.result =
-    rw c.deref.ensures.value at c.place_from-place.ensures.child in
+    let at : IsChildAt (element_view c.index-lost-0.result.0) c.args.below.now.items c.place_of-place.result =
+    rw c.deref.ensures.value at c.place_of-place.ensures in
     let child = c.lose_child in
     lone-stays c.args.below.now.items c.args.lost.now c.args.rooms.now.items c.requires.form.0 c.requires.one c.requires.rise c.requires.tries
     c.requires.lost_rise c.requires.lost_tries c.requires.within c.requires.form.1 c.index-lost-0.result c.index-lost-0.is
-    c.place_from-place.result c.index_mut.result.now at c.index_mut.ensures.value c.index_mut-2.result.now c.index_mut-2.ensures.value
+    c.place_of-place.result c.index_mut.result.now at c.index_mut.ensures.value c.index_mut-2.result.now c.index_mut-2.ensures.value
     child.new.room child.new.child child.result child.ensures.paths child.ensures.trie child.ensures.bare child.ensures.element child.ensures.room
     c.if-lose_child.false
 

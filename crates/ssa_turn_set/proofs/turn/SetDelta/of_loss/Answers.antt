@@ -5,4 +5,4 @@ pub returns : goal.returns
 returns c =
     loss-sets c.root-own.result.now c.root.result.now _ _ _ c.root-own.ensures.same c.root.ensures.same
     (loss-between c.root-own.result.now c.root.result.now _ c.root-own.ensures.trie c.nothing-gain.ensures.paths c.nothing-gain.ensures.trie
-    c.in_ok-lose.ensures c.nothing-gain.ensures.room c.in_ok-lose_room.ensures)
+    c.in_ok-lose.ensures.lost c.nothing-gain.ensures.room c.in_ok-lose.ensures.room)

@@ -1,0 +1,81 @@
+use Rattle.std.proofs.Common.{◌≡◌, refl, ap, sym, ◌∙◌, subst, take, arith, rules}
+use Rattle.std.proofs.lemmas.List.{take_all}
+use Rattle.ssa_path.specs.declared.trie.Trie.{the_lemmas}
+use Rattle.ssa_path.specs.declared.trie.Trie.TheViews.{out-Trie}
+use Rattle.ssa_path.specs.Trie.{is_trie, paths, paths_below}
+use Rattle.ssa_path.specs.View.{element_view}
+use Rattle.ssa_path.proofs.Levels.{trie-parts}
+use Rattle.ssa_path.proofs.Lists.{taken-at, child-trie, filled-at}
+use Rattle.ssa_path.proofs.LyingWithin.{AreWithin, within-all}
+use Rattle.ssa_path.proofs.Orders.{both_first, both_second}
+use Rattle.ssa_model.specs.definitions.FieldsV1.{tails}
+use Rattle.ssa_turn_set.specs.Room.{fresh, going, left, losses, lose_room}
+use Rattle.ssa_turn_set.proofs.Left.{going-one-more, loss-rolled, losses-more}
+use Rattle.ssa_turn_set.proofs.LossRecords.{has-more}
+use Rattle.ssa_turn_set.proofs.loss.+make_loss_room.Goals as goal
+
+pub place_or-place-requires-clause-rise : goal.place_or-place-requires-clause-rise
+place_or-place-requires-clause-rise t c = (trie-parts c.args.own.now c.deref.result.now c.deref.ensures.value c.requires.own).0
+
+pub make_loss_room-requires : goal.make_loss_room-requires
+make_loss_room-requires t c =
+    let lost = trie-parts c.args.lost.now c.deref-child-items.result.now c.deref-child-items.ensures.value c.requires.lost in (
+      search (rules, the_lemmas),
+      (
+        child-trie c.deref-child-items.result.now c.loop-child.child-index c.child-item.result (omega arith) c.child-item.is lost.1,
+        c.place_or-place.ensures.trie,
+      ),
+    )
+
+pub count_gone-going-requires-clause-lost : goal.count_gone-going-requires-clause-lost
+count_gone-going-requires-clause-lost t c =
+    let lost = trie-parts c.args.lost.now c.deref-child-items.result.now c.deref-child-items.ensures.value c.requires.lost in
+    child-trie c.deref-child-items.result.now c.loop-child.child-index c.child-item.result (omega arith) c.child-item.is lost.1
+
+pub loop-child-preserved : goal.loop-child-preserved
+loop-child-preserved t c =
+    let cs = c.deref-child-items.result.now in
+    let ds = (out-Trie c.args.own.now).below.items in
+    let i = c.loop-child.child-index in
+    let ps = paths_below ds in
+    let d = c.child-item.result in
+    let qs = paths d.1 in
+    let both = c.loop-child.has_all in
+    let tries = (trie-parts c.args.lost.now cs c.deref-child-items.ensures.value c.requires.lost).1 in
+    let filled = both_second (is_trie d.1) _ (filled-at cs i d (omega arith) c.child-item.is tries) in
+    let rise = (trie-parts c.args.own.now ds refl c.requires.own).0 in
+    let behind = c.place_or-place.ensures.paths ∙ ap (λ l. tails (element_view d.0) (paths_below l)) c.deref.ensures.value in
+    let room = ap (λ l. lose_room d.1 (left l qs) c.in_ok-loss.loss.room) (sym behind) ∙ c.in_ok-loss.ensures.room in
+    let one = c.count_gone-going.ensures.one ∙ ap (λ l. fresh (left l qs)) behind in
+    let few = c.loop-child.invariant.few in
+    let most = c.count_gone-going.ensures.most in
+    record {
+      rooms = (λ j. losses (taken-at cs i d (omega arith) c.child-item.is j) ps (c.in_ok-push.ensures.items j))
+          ∙ losses-more (take i cs) d ps c.loop-child.below.items _ c.loop-child.invariant.rooms room;
+      count = going-one-more cs ps i c.loop-child.going c.count_gone-going.result d (omega arith) c.child-item.is c.loop-child.invariant.count one;
+      few = omega arith;
+      here = λ all. c.loop-child.invariant.here (both_first both c.in_ok-loss.loss.has_all all);
+      all = λ all. has-more cs ds i d (paths c.place_or-place.result.now) (omega arith) c.child-item.is rise filled behind
+          (c.in_ok-loss.ensures.all (both_second both c.in_ok-loss.loss.has_all all))
+          (c.loop-child.invariant.all (both_first both c.in_ok-loss.loss.has_all all));
+    }
+
+pub returns-clause-room : goal.returns-clause-room
+returns-clause-room t c =
+    let all = take_all c.loop-child.child-index c.deref-child-items.result.now c.loop-child-test.false ∙ c.deref-child-items.ensures.value in
+    let ps = paths_below (out-Trie c.args.own.now).below.items in
+    let own = (out-Trie c.args.own.now).below.ok.0 in
+    let len = c.len-2.ensures in
+    let counted : c.loop-child.going ≡ going (out-Trie c.args.lost.now).below.items ps =
+    c.loop-child.invariant.count ∙ ap (λ l. going l ps) all in
+    loss-rolled c.args.lost.now c.args.own.now _ c.requires.lost c.in_ok-children.ensures.items (λ lt. let fits =
+    c.in_ok-children.ensures.fits (omega arith) in omega arith)
+    (ap (λ l. losses l ps c.loop-child.below.items) (sym all) ∙ c.loop-child.invariant.rooms)
+
+pub returns-clause-all : goal.returns-clause-all
+returns-clause-all t c =
+    let cs = c.deref-child-items.result.now in
+    let ds = (out-Trie c.args.own.now).below.items in
+    let all = take_all c.loop-child.child-index cs c.loop-child-test.false in
+    λ has. within-all c.args.lost.now c.args.own.now cs ds c.deref-child-items.ensures.value refl (c.loop-child.invariant.here has)
+    (subst (λ l. AreWithin l ds) all (c.loop-child.invariant.all has))
