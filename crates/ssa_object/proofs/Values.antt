@@ -1,12 +1,13 @@
 -- Members taken out of an object, and out of its metadata.
 use Rattle.std.proofs.Common.{◌≡◌, List, [], ◌∷◌, Bool, true, false, ◌||◌, cond, Option, Some, None, Ordering, Less, Equal, Greater, String, Global, string_bytes, string_cmp, nat_cmp, refl, sym, ap, ◌∙◌}
-use Rattle.std.specs.Prelude.{if◌then◌else◌, codes, option_and_then, unwrap_or}
+use Rattle.std.specs.Prelude.{if◌then◌else◌, codes, option_and_then, unwrap_or, OnOk, IsErr, Result, Ok, Err}
 use Rattle.std.specs.Ordering.{is_eq, ordering_reverse}
 use Rattle.std.specs.Cmp.Lexicographic.{slice_cmp, nat_list_cmp_total}
 use Rattle.std.specs.List.{list_any, AllByRecursion}
 use Rattle.std.specs.List.Sorted.{IsStrictlySortedBy}
 use Rattle.std.specs.Map.{keys_of, lookup, remove_entry, set_value}
 use Rattle.std.specs.BTreeMap.{is_at}
+use Rattle.ssa_members.specs.Members.{Members as Entries}
 use Rattle.ssa_model.specs.definitions.Json.{Text, Json, scalar, list, object, same_text, Members, no_members, member, member_of}
 use Rattle.ssa_model.specs.definitions.Objects.{value_at, without, without_names, without_in_metadata, file_names, file_value}
 use Rattle.ssa_json.specs.View.{view, members_view}
@@ -14,15 +15,15 @@ use Rattle.ssa_json.specs.declared.value.Json as values
 use Rattle.ssa_model.proofs.Tables.{same_text-true}
 use Rattle.ssa_model.proofs.Basics.{or-false, reversed as is_eq-reverse}
 
--- a name of a map, and its value
+-- a name, and the value under it
 abbrev Found : Type 0
 Found = String Global × values.Json
 
--- the test by which a map finds a name
+-- the test by which a name is found
 abbrev pub finds : Text → String Global → Bool
 finds n = is_at (λ k. slice_cmp nat_cmp n (string_bytes k))
 
--- what is left out by one name is what a map finds by it
+-- what is left out by one name is what is found by it
 by_one_name : (k n : Text) → list_any (same_text k) (n ∷ []) ≡ is_eq (slice_cmp nat_cmp n k)
 by_one_name k n = or-false (same_text k n) ∙ ap is_eq (nat_list_cmp_total.antisymm k n) ∙ is_eq-reverse (slice_cmp nat_cmp n k)
 
@@ -54,7 +55,7 @@ without-again n ns (member k v ms) among =
       | false ↦ λ _. ap (λ rest. if list_any (same_text k) ns then rest else member k v rest) (without-again n ns ms among)
     ] refl
 
--- ---- one name taken out of a map
+-- ---- one name taken out of entries
 
 found_none : (n : Text) (e : Found) (es : List Found) → is_eq (slice_cmp nat_cmp n (string_bytes e.0)) ≡ false → lookup (finds n) (e ∷ es) ≡ None
     → lookup (finds n) es ≡ None
@@ -76,6 +77,24 @@ absent n (e ∷ es) none =
       | false ↦ λ is h. member_by n e es false is ∙ ap (member (string_bytes e.0) (view e.1)) (absent n es h)
     ] refl none
 
+-- a name behind one that is equal
+absent_behind : (n : Text) (k : String Global) (es : List Found) → n ≡ string_bytes k → AllByRecursion (λ y. string_cmp k y ≡ Less) (keys_of es)
+    → lookup (finds n) es ≡ None
+absent_behind n k [] is h = refl
+absent_behind n k (e ∷ es) is h =
+    ap (λ o. cond (is_eq o) (Some e.1) (lookup (finds n) es)) (ap (λ t. slice_cmp nat_cmp t (string_bytes e.0)) is ∙ h.0) ∙ absent_behind n k es is h.1
+
+-- a name that was taken out of names that rise is not there any more
+gone : (n : Text) (es : List Found) → IsStrictlySortedBy string_cmp (keys_of es) → lookup (finds n) (remove_entry (finds n) es) ≡ None
+unfolding IsStrictlySortedBy
+gone n [] rises = refl
+gone n (e ∷ es) rises =
+    elim (is_eq (slice_cmp nat_cmp n (string_bytes e.0))) as (λ b. is_eq (slice_cmp nat_cmp n (string_bytes e.0)) ≡ b
+    → lookup (finds n) (cond b es (e ∷ remove_entry (finds n) es)) ≡ None) [
+      | true ↦ λ is. absent_behind n e.0 es (same_text-true n (string_bytes e.0) is) rises.0
+      | false ↦ λ other. ap (λ b. cond b (Some e.1) (lookup (finds n) (remove_entry (finds n) es))) other ∙ gone n es rises.1
+    ] refl
+
 removed : (n : Text) (es : List Found) → lookup (finds n) (remove_entry (finds n) es) ≡ None
     → members_view (remove_entry (finds n) es) ≡ without (n ∷ []) (members_view es)
 removed n [] none = refl
@@ -88,15 +107,15 @@ removed n (e ∷ es) none =
           ∙ sym (member_by n e es false is)
     ] refl none
 
--- an entry taken out of a map under a name leaves its members without that name
-pub without-removed : (n : Text) (old new : List Found) → new ≡ remove_entry (finds n) old → lookup (finds n) new ≡ None
+-- an entry taken out under a name leaves its members without that name
+pub without-removed : (n : Text) (old new : List Found) → new ≡ remove_entry (finds n) old → IsStrictlySortedBy string_cmp (keys_of old)
     → members_view new ≡ without (n ∷ []) (members_view old)
-without-removed n old new is none = ap members_view is ∙ removed n old (ap (lookup (finds n)) (sym is) ∙ none)
+without-removed n old new is rises = ap members_view is ∙ removed n old (gone n old rises)
 
 -- one name of several taken out
-pub removed-next : (n : Text) (ns : List Text) (old new : List Found) → new ≡ remove_entry (finds n) old → lookup (finds n) new ≡ None
+pub removed-next : (n : Text) (ns : List Text) (old new : List Found) → new ≡ remove_entry (finds n) old → IsStrictlySortedBy string_cmp (keys_of old)
     → without ns (members_view new) ≡ without (n ∷ ns) (members_view old)
-removed-next n ns old new is none = ap (without ns) (without-removed n old new is none) ∙ without-first n ns (members_view old)
+removed-next n ns old new is rises = ap (without ns) (without-removed n old new is rises) ∙ without-first n ns (members_view old)
 
 -- the value of one name
 pub value_at-one : (n : Text) (ms : Members) → member_of n ms ≡ value_at (n ∷ []) (object ms)
@@ -107,13 +126,6 @@ value_at-one n ms = found (member_of n ms)
     found (Some v) = refl
 
 -- ---- names taken out of the metadata
-
--- a name behind one that is equal
-absent_behind : (n : Text) (k : String Global) (es : List Found) → n ≡ string_bytes k → AllByRecursion (λ y. string_cmp k y ≡ Less) (keys_of es)
-    → lookup (finds n) es ≡ None
-absent_behind n k [] is h = refl
-absent_behind n k (e ∷ es) is h =
-    ap (λ o. cond (is_eq o) (Some e.1) (lookup (finds n) es)) (ap (λ t. slice_cmp nat_cmp t (string_bytes e.0)) is ∙ h.0) ∙ absent_behind n k es is h.1
 
 metadata_by : (ns : List Text) (e : Found) (b : Bool) → is_eq (slice_cmp nat_cmp (codes "metadata") (string_bytes e.0)) ≡ b
     → (if same_text (string_bytes e.0) (codes "metadata") then without_names ns (view e.1) else view e.1)
@@ -134,7 +146,7 @@ no_metadata ns (e ∷ es) none =
       | false ↦ λ is h. λ i. member k (sym (metadata_by ns e false is) i) (no_metadata ns es h i)
     ] refl none
 
--- the metadata of a map, written back without some members
+-- the metadata of an object, written back without some members
 pub written : (ns : List Text) (es : List Found) (v w : values.Json) → IsStrictlySortedBy string_cmp (keys_of es)
     → lookup (finds (codes "metadata")) es ≡ Some v → view w ≡ without_names ns (view v)
     → members_view (set_value (finds (codes "metadata")) es w) ≡ without_in_metadata ns (members_view es)
@@ -151,6 +163,37 @@ written ns (e ∷ es) v w ordered found is =
           λ i. member k (value i) (rest i)
       | false ↦ λ other h. λ i. member k (sym (metadata_by ns e false other) i) (written ns es v w ordered.1 h is i)
     ] refl found
+
+module _ (t : String Global → Bool) where
+  there_again : (es : List Found) (v w : values.Json) → lookup t es ≡ Some v → lookup t (set_value t es w) ≡ Some w
+  there_again [] v w there = cc
+  there_again (e ∷ es) v w there = by (t e.0) refl there (there_again es v w)
+    where
+      by : (b : Bool) → t e.0 ≡ b → ◌≡◌ {A = Option values.Json} (cond b (Some e.1) (lookup t es)) (Some v) → (lookup t es ≡ Some v → lookup t (set_value t es w) ≡ Some w)
+          → lookup t (cond b ((e.0, w) ∷ es) (e ∷ set_value t es w)) ≡ Some w
+      by true is there rest = ap (λ b. cond b (Some w) (lookup t es)) is
+      by false is there rest = ap (λ b. cond b (Some e.1) (lookup t (set_value t es w))) is ∙ rest there
+
+  last_stays : (es : List Found) (v w : values.Json) → set_value t (set_value t es v) w ≡ set_value t es w
+  last_stays [] v w = refl
+  last_stays (e ∷ es) v w = by (t e.0) refl (last_stays es v w)
+    where
+      by : (b : Bool) → t e.0 ≡ b → set_value t (set_value t es v) w ≡ set_value t es w
+          → set_value t (cond b ((e.0, v) ∷ es) (e ∷ set_value t es v)) w ≡ cond b ((e.0, w) ∷ es) (e ∷ set_value t es w)
+      by true is rest = ap (λ b. cond b ((e.0, w) ∷ es) ((e.0, v) ∷ set_value t es w)) is
+      by false is rest = ap (λ b. cond b ((e.0, w) ∷ es) (e ∷ set_value t (set_value t es v) w)) is ∙ ap (λ l. e ∷ l) rest
+
+-- the metadata of an object, taken out for another value and written back without some members
+pub written_back : (ns : List Text) (es without : List Found) (last : Entries values.Json) (v w other : values.Json) (r : Result values.Json values.Json)
+    → IsStrictlySortedBy string_cmp (keys_of es) → lookup (finds (codes "metadata")) es ≡ Some v → view w ≡ without_names ns (view v)
+    → without ≡ set_value (finds (codes "metadata")) es other → OnOk r (last.entries ≡ set_value (finds (codes "metadata")) without w)
+    → (IsErr r → lookup (finds (codes "metadata")) without ≡ None) → members_view last.entries ≡ without_in_metadata ns (members_view es)
+written_back ns es without last v w other (Ok u) rises there is first second absent =
+    ap members_view (second ∙ ap (λ l. set_value (finds (codes "metadata")) l w) first ∙ last_stays (finds (codes "metadata")) es other w) ∙ written ns es v w rises there is
+written_back ns es without last v w other (Err u) rises there is first second absent =
+    let none = absent refl in
+    let some = ap (lookup (finds (codes "metadata"))) first ∙ there_again (finds (codes "metadata")) es v other there in
+    let bad : ◌≡◌ {A = Option values.Json} None (Some other) = sym none ∙ some in cc
 
 -- ---- the metadata is stripped once
 

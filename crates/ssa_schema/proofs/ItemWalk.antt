@@ -1,6 +1,7 @@
 -- The faults of a list's items, one item after another.
-use Rattle.std.proofs.Common.{◌≡◌, ℕ, ◌+◌, ◌<◌, length, get_or, drop, List, [], ◌∷◌, ◌++◌, Bool, true, false, not, refl, sym, ap, ◌∙◌, rules, BTreeMap, String, Global}
+use Rattle.std.proofs.Common.{◌≡◌, ℕ, ◌+◌, ◌<◌, length, get_or, drop, List, [], ◌∷◌, ◌++◌, Bool, true, false, not, refl, sym, ap, ◌∙◌, rules, String, Global}
 use Rattle.std.specs.Prelude.{Option, None, Some, option_map, if◌then◌else◌}
+use Rattle.ssa_members.specs.Members.{Members as Entries}
 use Rattle.ssa_model.specs.definitions.Json.{Text, Json, scalar, list, object, Scalar, Items, item, Members}
 use Rattle.ssa_model.specs.definitions.Path.{Path, Element, value}
 use Rattle.ssa_model.specs.definitions.Kind.{FaultAt, ScalarKind, Fields, is_of, is_among, wrong_type, duplicate_item, item_key, fault_unless, or_else, key_faults, field_faults, value_faults, item_faults, fault_at}
@@ -55,12 +56,12 @@ item_wrong names fs earlier (list vs) rest p e = refl
 item_wrong names fs earlier (object ms) rest p e = absurd (some≢none ms (sym e))
 
 -- a value that is no object has no members
-pub no_object : (x : json.Json) → ((m : BTreeMap (String Global) json.Json) → x ≡ json.Object m → ⊥) → None ≡ as_object (view x)
+pub no_object : (x : json.Json) → ((m : Entries json.Json) → x ≡ json.Object m → ⊥) → None ≡ as_object (view x)
 no_object x other = search (rules, json.the_lemmas)
 
 -- the item at an index, and those after it
 pub object_split : (names : List Text) (fs : Fields) (earlier : List Element) (xs : List json.Json) (i : ℕ) (x : json.Json)
-    (m : BTreeMap (String Global) json.Json) (p : Path) → i < length xs → x ≡ get_or xs i x → x ≡ json.Object m
+    (m : Entries json.Json) (p : Path) → i < length xs → x ≡ get_or xs i x → x ≡ json.Object m
     → item_faults names fs earlier (items_view (drop i xs)) p
     ≡ item_faults names fs earlier (item (object (members_view m.entries)) (items_view (drop (i + 1) xs))) p
 object_split names fs earlier xs i x m p within is here =

@@ -1,10 +1,11 @@
 -- The items that have keys: their keys are equal where their elements are.
-use Rattle.std.proofs.Common.{◌≡◌, ℕ, ◌+◌, ◌<◌, length, get_or, drop, BTreeMap, String, Global, arith, List, [], ◌∷◌, map, Bool, true, false, not, ◌||◌, Option, Some, None, refl, sym, ap, ap₂, ◌∙◌, subst, true≢false}
+use Rattle.std.proofs.Common.{◌≡◌, ℕ, ◌+◌, ◌<◌, length, get_or, drop, arith, List, [], ◌∷◌, map, Bool, true, false, not, ◌||◌, Option, Some, None, refl, sym, ap, ap₂, ◌∙◌, subst, true≢false}
 use Rattle.std.specs.Prelude.{⊤, ◌==◌, is_some, option_map, if◌then◌else◌}
 use Rattle.std.proofs.lemmas.Bool.Decides.{nat_tests}
 use Rattle.std.specs.List.{list_any}
 use Rattle.std.specs.Ordering.{is_eq, eq_by_cmp}
 use Rattle.std.specs.Cmp.{Equal-is, tied_itself, both_ways}
+use Rattle.ssa_members.specs.Members.{Members as Entries}
 use Rattle.ssa_model.specs.definitions.Json.{Text, Scalar, Json, scalar, list, object, Items, no_items, item, Members, member_of}
 use Rattle.ssa_model.specs.definitions.Path.{Element, value, key, Path, same_element}
 use Rattle.ssa_model.specs.definitions.Kind.{ScalarKind, Fields, kind_of, FaultAt, item_key, key_scalars, cons_scalar, key_field_fault, key_faults, is_among}
@@ -256,7 +257,7 @@ row-there (n ∷ ns) fs ms p e =
     (here.own ∷ rest.0, ap₂ cons_row (ap scalar_in here.is_own) rest.1)
 
 -- from the place of an object with its keys on, the leading keys are its own and those of the next places
-pub lead-key : (names : List Text) (fs : Fields) (xs : List json.Json) (i : ℕ) (x : json.Json) (m : BTreeMap (String Global) json.Json) → i < length xs
+pub lead-key : (names : List Text) (fs : Fields) (xs : List json.Json) (i : ℕ) (x : json.Json) (m : Entries json.Json) → i < length xs
     → x ≡ get_or xs i x → x ≡ json.Object m → None ≡ first_of (key_faults names fs (members_view m.entries) [])
     → leading_keys names (items_view (drop i xs)) ≡ item_key names (members_view m.entries) ∷ leading_keys names (items_view (drop (i + 1) xs))
 lead-key names fs xs i x m within is here right =

@@ -16,6 +16,13 @@ field_unknown fs n m v rest p is known =
     ap (λ o. first_of (elim o [ None ↦ fault_at unknown_field (p ++ field n ∷ []) ∷ [] | Some t ↦ faults t v (p ++ field n ∷ []) ] ++ field_faults fs rest p))
     (ap (λ t. kind_of t fs) (sym is) ∙ known)
 
+-- so inside an atomic value
+pub shape_field_unknown : (fs : ShapeFields) (n m : Text) (v : Json) (rest : Members) (p : Path) → m ≡ n → shape_of m fs ≡ None
+    → first_of (shape_field_faults fs (member n v rest) p) ≡ Some (fault_at unknown_field p)
+shape_field_unknown fs n m v rest p is known =
+    ap (λ o. first_of (elim o [ None ↦ fault_at unknown_field p ∷ [] | Some t ↦ shape_faults t v p ] ++ shape_field_faults fs rest p))
+    (ap (λ t. shape_of t fs) (sym is) ∙ known)
+
 -- inside an atomic value, the faults of a known member are those of its value, and then the others'
 pub shape_field_split : (fs : ShapeFields) (s : Shape) (n m : Text) (v : Json) (rest : Members) (p : Path) → m ≡ n → shape_of m fs ≡ Some s
     → shape_field_faults fs (member n v rest) p ≡ shape_faults s v p ++ shape_field_faults fs rest p

@@ -1,10 +1,14 @@
 -- Which members are commands.
-use Rattle.std.proofs.Common.{◌≡◌, List, Bool, true, false, cond, ◌||◌, refl, sym, ap, ◌∙◌, true≢false, arith, string_bytes, string_cmp, nat_cmp, String, Global, BTreeMap}
+use Rattle.std.proofs.Common.{◌≡◌, List, Bool, true, false, cond, ◌||◌, refl, sym, ap, ◌∙◌, true≢false, arith, string_bytes, String, Global}
 use Rattle.std.specs.Prelude.{Option, Some, None, option_map, option_and_then, is_some, Result, Ok, Err, if◌then◌else◌, codes}
 use Rattle.std.proofs.lemmas.Bool.{and_parts}
 use Rattle.std.proofs.lemmas.Bool.Decides.{nat_tests}
-use Rattle.std.proofs.lemmas.Map.Text.{btree_map_updates_text}
-use Rattle.std.specs.BTreeMap.{UpdatesBy, get_by_text}
+use Rattle.std.proofs.lemmas.Cmp.{eq_by_cmp_equiv, nat_list_cmp_total}
+use Rattle.std.proofs.lemmas.Map.Text.{is_eq-slice_cmp}
+use Rattle.std.specs.BTreeMap.{is_at}
+use Rattle.std.specs.Map.{remove_entry}
+use Rattle.std.specs.Ordering.{is_eq}
+use Rattle.ssa_members.specs.Members.{text_cmp}
 use Rattle.std.specs.Cmp.Lexicographic.{slice_cmp}
 use Rattle.std.specs.Str.{bytes_eq}
 use Rattle.ssa_model.specs.definitions.Json.{Text, text, whole, truth, Json, scalar, list, object, Items, Members, no_members, member, member_of, same_text, as_text}
@@ -179,9 +183,18 @@ path-texts ms vs follows is = sym (ap (λ o. is_some (option_and_then list_of_te
     ∙ texts_there ms follows
 
 -- a member of another name stays where one is taken out
-pub other_member : (old new : BTreeMap (String Global) values.Json) (gone n : Text)
-    → UpdatesBy string_cmp (λ k. slice_cmp nat_cmp gone (string_bytes k)) old new None → bytes_eq gone n ≡ false
-    → member_of n (members_view new.entries) ≡ member_of n (members_view old.entries)
-other_member old new gone n updates other =
-    sym (view-lookup n new.entries) ∙ ap (option_map view) (btree_map_updates_text gone old new None updates n
-    ∙ ap (λ t. cond t None (get_by_text old n)) other) ∙ view-lookup n old.entries
+pub other_member : (old new : List (String Global × values.Json)) (gone n : Text) → new ≡ remove_entry (is_at (text_cmp gone)) old → bytes_eq gone n ≡ false
+    → member_of n (members_view new) ≡ member_of n (members_view old)
+other_member old new gone n is other = ap (λ es. member_of n (members_view es)) is ∙ left old
+  where
+    left : (es : List (String Global × values.Json)) → member_of n (members_view (remove_entry (is_at (text_cmp gone)) es)) ≡ member_of n (members_view es)
+    left [] = refl
+    left (e ∷ es) = by (is_eq (text_cmp gone e.0)) refl (left es)
+      where
+        by : (b : Bool) → is_eq (text_cmp gone e.0) ≡ b → member_of n (members_view (remove_entry (is_at (text_cmp gone)) es)) ≡ member_of n (members_view es)
+            → member_of n (members_view (cond b es (e ∷ remove_entry (is_at (text_cmp gone)) es))) ≡ member_of n (members_view (e ∷ es))
+        by true same rest =
+            let apart : same_text n (string_bytes e.0) ≡ false =
+            ap (same_text n) (sym (same_text-true gone (string_bytes e.0) same)) ∙ (eq_by_cmp_equiv nat_list_cmp_total).symm n gone ∙ is_eq-slice_cmp gone n ∙ other in
+            ap (λ b. if b then Some (view e.1) else member_of n (members_view es)) (sym apart)
+        by false _ rest = ap (λ o. if same_text n (string_bytes e.0) then Some (view e.1) else o) rest

@@ -10,7 +10,7 @@ loop-name-preserved c =
     let l = c.loop-name in
     let names = c.args.names.now in
     removed-next _ (map (λ n. n.now) (drop (l.name-index + 1) names)) l.members.entries c.remove.new.self.entries c.remove.ensures.entries
-    c.remove.ensures.updates.1
+    c.remove.ensures.was_ordered
     ∙ sym (at_drop_more (λ ns. without (map (λ n. n.now) ns) (members_view l.members.entries)) names l.name-index _ c.loop-name-test.true) ∙ l.invariant
 
 pub returns : goal.returns

@@ -11,7 +11,7 @@ returns-in-Object-clause-rest c =
     let name = c.args.name.now in
     let old = c.in-Object.members in
     let new = c.remove-taken.new.self in
-    c.objects_are_members.ensures new ∙ ap object (without-removed name old.entries new.entries c.remove-taken.ensures.entries c.remove-taken.ensures.updates.1)
+    c.objects_are_members.ensures new ∙ ap object (without-removed name old.entries new.entries c.remove-taken.ensures.entries c.remove-taken.ensures.was_ordered)
     ∙ sym (ap (without_names (name ∷ [])) (ap view c.in-Object.is ∙ c.objects_are_members.ensures old))
 
 pub returns-in-Object-clause-taken : goal.returns-in-Object-clause-taken

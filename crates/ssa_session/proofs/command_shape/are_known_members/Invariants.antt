@@ -1,4 +1,4 @@
-use Rattle.std.proofs.Common.{◌≡◌}
+use Rattle.std.proofs.Common.{◌≡◌, drop}
 use Rattle.ssa_model.specs.definitions.Commands.{are_known_members}
 use Rattle.ssa_json.specs.View.{members_view}
 use Rattle.ssa_session.specs.Commands.{member_rules}
@@ -7,4 +7,4 @@ use Rattle.ssa_session.proofs.command_shape.are_known_members.Given as goal
 -- what is left decides
 abbrev pub invariant-loop-name : goal.invariant-loop-name
 invariant-loop-name l =
-    are_known_members (member_rules l.word) (members_view l.members.entries) ≡ are_known_members (member_rules l.word) (members_view l.name-iterator)
+    are_known_members (member_rules l.word) (members_view l.members.entries) ≡ are_known_members (member_rules l.word) (members_view (drop l.name-index l.name-items))

@@ -17,13 +17,13 @@ unreachable-requires-in_default-remove c =
 
 pub unreachable-requires-in_default-take_text : goal.unreachable-requires-in_default-take_text
 unreachable-requires-in_default-take_text c =
-    let same = other_member c.args.members.now c.remove.new.self (codes "object") (codes "manager") c.remove.ensures.updates refl in
+    let same = other_member c.args.members.now.entries c.remove.new.self.entries (codes "object") (codes "manager") c.remove.ensures.entries refl in
     there _ c.requires.1 (ap (option_and_then as_text) (sym same) ∙ sym c.take_text.ensures ∙ ap (option_map (λ t. string_bytes t)) c.in_default-take_text.is)
 
 pub returns : goal.returns
 returns c =
     let ms = members_view c.args.members.now.entries in
-    let same = other_member c.args.members.now c.remove.new.self (codes "object") (codes "manager") c.remove.ensures.updates refl in
+    let same = other_member c.args.members.now.entries c.remove.new.self.entries (codes "object") (codes "manager") c.remove.ensures.entries refl in
     let who-is : option_and_then as_text (member_of (codes "manager") ms) ≡ Some (string_bytes c.in-Some-take_text.who) =
     ap (option_and_then as_text) (sym same) ∙ sym c.take_text.ensures ∙ ap (option_map (λ t. string_bytes t)) c.in-Some-take_text.is in
     let at-is = text_in-is _ _ (sym c.text_of.ensures ∙ ap (option_map (λ t. t.now)) c.in-Some.is) in

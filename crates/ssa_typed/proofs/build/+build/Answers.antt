@@ -1,5 +1,5 @@
-use Rattle.std.proofs.Common.{◌≡◌, [], ◌∷◌, ◌++◌, Some, option_map, string_bytes, refl, sym, ap, ◌∙◌, subst, subst₂, append_assoc, append-nil, rules}
-use Rattle.std.proofs.lemmas.List.{map-append}
+use Rattle.std.proofs.Common.{◌≡◌, [], ◌∷◌, ◌++◌, Some, option_map, string_bytes, refl, sym, ap, ◌∙◌, subst, subst₂, append_assoc, append-nil, rules, arith}
+use Rattle.std.proofs.lemmas.List.{map-append, nil_from_length}
 use Rattle.std.specs.Vec.Iter.{into_iter_items}
 use Rattle.ssa_model.specs.definitions.Json as values
 use Rattle.ssa_model.specs.definitions.Path.{field}
@@ -28,8 +28,8 @@ entry_children-tree_of-requires t c =
       search (rules, kind.the_lemmas),
       (
         c.requires.keyed,
-        entry-first k (string_bytes c.in-Some.name) (view c.in-Some.member) (members_view c.next.new.self)
-            (subst (λ es. EntriesFit k (members_view es)) c.in-Some.ensures.steps l.invariant.fits),
+        entry-first k (string_bytes c.in-Some.name) (view c.in-Some.member) (members_view (into_iter_items c.next.new.self))
+            (subst (λ es. EntriesFit k (members_view es)) c.in-Some.ensures.steps.0 l.invariant.fits),
       ),
     )
 
@@ -38,8 +38,8 @@ entry_children-loop-name-preserved t c =
     let l = c.loop-name in
     let k = kind_view c.args.inside.now in
     let e : Found = (c.in-Some.name, c.in-Some.member) in
-    let left = c.next.new.self in
-    let steps : l.name-iterator ≡ e ∷ left = c.in-Some.ensures.steps in
+    let left = into_iter_items c.next.new.self in
+    let steps : into_iter_items l.name-iterator ≡ e ∷ left = c.in-Some.ensures.steps.0 in
     let made = c.in_ok-child.ensures in
     record {
       done = l.invariant.done ++ e ∷ [];
@@ -48,7 +48,7 @@ entry_children-loop-name-preserved t c =
         Field e.0,
         c.in_ok-child.child,
       ) l.children.items c.push.new.self.items (names l.invariant.done) (names (l.invariant.done ++ e ∷ []))
-          (entry_places k (members_view l.name-iterator)) (entry_places k (members_view left)) (entry_places k (members_view c.args.members.entries))
+          (entry_places k (members_view (into_iter_items l.name-iterator))) (entry_places k (members_view left)) (entry_places k (members_view c.args.members.entries))
           (record { element = refl; placed = made.placed; tree = made.tree })
           (λ p. ap (λ es. entry_places k (members_view es) p) steps)
           (map-append (λ (m : Found). string_bytes m.0) l.invariant.done (e ∷ []))
@@ -60,10 +60,11 @@ pub entry_children-returns : goal.entry_children-returns
 entry_children-returns t c =
     let l = c.loop-name in
     let k = kind_view c.args.inside.now in
-    let none : l.name-iterator ≡ [] = c.in-None.ensures.steps.0 in
-    naming-end c.args.members.entries (names l.invariant.done) (entry_places k (members_view l.name-iterator))
+    let none : into_iter_items l.name-iterator ≡ [] = nil_from_length (into_iter_items l.name-iterator)
+    (omega (arith, c.in-None.ensures.steps.0, l.name-iterator.rest.ok)) in
+    naming-end c.args.members.entries (names l.invariant.done) (entry_places k (members_view (into_iter_items l.name-iterator)))
     (entry_places k (members_view c.args.members.entries)) l.children.items
-    c.into_iter-name-iterator.ensures.into_iter_gives.5
+    c.into_entries-name-items.ensures.ordered
     (ap names (sym (append-nil l.invariant.done) ∙ ap (λ es. l.invariant.done ++ es) (sym none) ∙ sym l.invariant.split))
     (λ p. ap (λ es. entry_places k (members_view es) p) none)
     l.invariant.naming
@@ -114,8 +115,8 @@ field_children-field_child-requires t c =
       search (rules, kind.the_lemmas),
       (
         c.requires.keyed,
-        member-first fs (string_bytes c.in-Some.name) (view c.in-Some.member) (members_view c.next.new.self)
-            (subst (λ es. FieldsFit fs (members_view es)) c.in-Some.ensures.steps l.invariant.fits),
+        member-first fs (string_bytes c.in-Some.name) (view c.in-Some.member) (members_view (into_iter_items c.next.new.self))
+            (subst (λ es. FieldsFit fs (members_view es)) c.in-Some.ensures.steps.0 l.invariant.fits),
       ),
     )
 
@@ -124,14 +125,14 @@ field_children-loop-name-preserved t c =
     let l = c.loop-name in
     let fs = fields_view c.args.fields.now.entries in
     let e : Found = (c.in-Some.name, c.in-Some.member) in
-    let left = c.next.new.self in
-    let steps : l.name-iterator ≡ e ∷ left = c.in-Some.ensures.steps in
+    let left = into_iter_items c.next.new.self in
+    let steps : into_iter_items l.name-iterator ≡ e ∷ left = c.in-Some.ensures.steps.0 in
     record {
       done = l.invariant.done ++ e ∷ [];
       split = l.invariant.split ∙ ap (λ es. l.invariant.done ++ es) steps ∙ sym (append_assoc l.invariant.done (e ∷ []) left);
       naming = naming-step (string_bytes e.0) (member_places fs (string_bytes e.0) (view e.1)) c.in_ok-field_child.field-0 l.children.items
           c.push.new.self.items (names l.invariant.done) (names (l.invariant.done ++ e ∷ []))
-          (field_places fs (members_view l.name-iterator)) (field_places fs (members_view left)) (field_places fs (members_view c.args.members.entries))
+          (field_places fs (members_view (into_iter_items l.name-iterator))) (field_places fs (members_view left)) (field_places fs (members_view c.args.members.entries))
           c.in_ok-field_child.ensures
           (λ p. ap (λ es. field_places fs (members_view es) p) steps
           ∙ ap (λ rs. rs ++ field_places fs (members_view left) p) (member-places fs (string_bytes e.0) (view e.1) p (model.kind_of (string_bytes e.0) fs)))
@@ -144,10 +145,11 @@ pub field_children-returns : goal.field_children-returns
 field_children-returns t c =
     let l = c.loop-name in
     let fs = fields_view c.args.fields.now.entries in
-    let none : l.name-iterator ≡ [] = c.in-None.ensures.steps.0 in
-    naming-end c.args.members.entries (names l.invariant.done) (field_places fs (members_view l.name-iterator))
+    let none : into_iter_items l.name-iterator ≡ [] = nil_from_length (into_iter_items l.name-iterator)
+    (omega (arith, c.in-None.ensures.steps.0, l.name-iterator.rest.ok)) in
+    naming-end c.args.members.entries (names l.invariant.done) (field_places fs (members_view (into_iter_items l.name-iterator)))
     (field_places fs (members_view c.args.members.entries)) l.children.items
-    c.into_iter-name-iterator.ensures.into_iter_gives.5
+    c.into_entries-name-items.ensures.ordered
     (ap names (sym (append-nil l.invariant.done) ∙ ap (λ es. l.invariant.done ++ es) (sym none) ∙ sym l.invariant.split))
     (λ p. ap (λ es. field_places fs (members_view es) p) none)
     l.invariant.naming

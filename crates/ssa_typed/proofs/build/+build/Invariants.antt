@@ -14,20 +14,20 @@ use Rattle.ssa_typed.proofs.build.+build.Given as goal
 abbrev pub invariant-field_children-loop-name : goal.invariant-field_children-loop-name
 invariant-field_children-loop-name l = record {
   done : List Found;
-  split : l.fn.members.entries ≡ done ++ l.name-iterator;
-  naming : IsNaming (names done) (field_places (fields_view l.fields.entries) (members_view l.name-iterator))
+  split : l.fn.members.entries ≡ done ++ into_iter_items l.name-iterator;
+  naming : IsNaming (names done) (field_places (fields_view l.fields.entries) (members_view (into_iter_items l.name-iterator)))
       (field_places (fields_view l.fields.entries) (members_view l.fn.members.entries)) l.children.items;
-  fits : FieldsFit (fields_view l.fields.entries) (members_view l.name-iterator);
+  fits : FieldsFit (fields_view l.fields.entries) (members_view (into_iter_items l.name-iterator));
 }
 
 -- the entries so far, and those that are left
 abbrev pub invariant-entry_children-loop-name : goal.invariant-entry_children-loop-name
 invariant-entry_children-loop-name l = record {
   done : List Found;
-  split : l.fn.members.entries ≡ done ++ l.name-iterator;
-  naming : IsNaming (names done) (entry_places (kind_view l.inside) (members_view l.name-iterator))
+  split : l.fn.members.entries ≡ done ++ into_iter_items l.name-iterator;
+  naming : IsNaming (names done) (entry_places (kind_view l.inside) (members_view (into_iter_items l.name-iterator)))
       (entry_places (kind_view l.inside) (members_view l.fn.members.entries)) l.children.items;
-  fits : EntriesFit (kind_view l.inside) (members_view l.name-iterator);
+  fits : EntriesFit (kind_view l.inside) (members_view (into_iter_items l.name-iterator));
 }
 
 -- the items so far, and those that are left

@@ -2,9 +2,11 @@ use Rattle.std.proofs.Common.{◌≡◌, ◌+◌, ◌++◌, [], ◌∷◌, drop,
 use Rattle.std.proofs.lemmas.Grind.{common_steps}
 use Rattle.std.proofs.lemmas.Result.{IfOk-weaker}
 use Rattle.std.specs.Prelude.{Some, option_map}
+use Rattle.ssa_members.proofs.Lent.{lent-within-deepest, next-lent}
 use Rattle.ssa_model.specs.definitions.Json.{list}
 use Rattle.ssa_model.specs.definitions.Path.{field, element_text, same_element}
 use Rattle.ssa_model.specs.definitions.Kind.{faults, field_faults, entry_faults, item_faults, unknown_field, items_of, item_key, fault_at}
+use Rattle.ssa_json.proofs.value.Json.TheLaws.{the_size}
 use Rattle.ssa_json.specs.View.{view, items_view, members_view}
 use Rattle.ssa_schema.specs.Kinds.{kind_view, fields_view, names_view}
 use Rattle.ssa_schema.specs.Refusals.{first_of}
@@ -19,20 +21,32 @@ use Rattle.ssa_schema.proofs.MemberWalk.{member_found, member_fits, field_split,
 use Rattle.ssa_schema.proofs.ItemWalk.{item_wrong, no_object, item_key_wrong, object_split, keyed_split, kept-new}
 use Rattle.ssa_schema.proofs.fit.faults.+walk.Goals as goal
 
-pub entries_fault-returns-in-Some-2 : goal.entries_fault-returns-in-Some-2
-entries_fault-returns-in-Some-2 t c =
+pub entries_fault-value_fault-requires : goal.entries_fault-value_fault-requires
+entries_fault-value_fault-requires t c =
+    let deep = lent-within-deepest the_size c.args.members.now.entries c.entries-name-items.result.now c.loop-name.name-index c.loop-name-item.result
+    c.entries-name-items.ensures.all (omega arith) c.loop-name-item.is in
+    (omega (arith, deep), tt)
+
+pub fields_fault-value_fault-requires : goal.fields_fault-value_fault-requires
+fields_fault-value_fault-requires t c =
+    let deep = lent-within-deepest the_size c.args.members.now.entries c.entries-name-items.result.now c.loop-name.name-index c.loop-name-item.result
+    c.entries-name-items.ensures.all (omega arith) c.loop-name-item.is in
+    (omega (arith, deep), tt)
+
+pub entries_fault-returns-in-Some : goal.entries_fault-returns-in-Some
+entries_fault-returns-in-Some t c =
     let k = kind_view c.args.inside.now in
-    member_found c.in_ok-found.field-0 c.in-Some-2.found c.in_ok-below.field-0 (string_bytes c.in-Some.name.now) c.as_str.result.now c.in_ok-field_name.field-0
-    (entry_faults k (members_view c.args.members.now.entries)) (faults k (view c.in-Some.entry.now)) (entry_faults k (members_view c.next.new.self))
-    (λ p. c.loop-name.invariant p ∙ ap (λ es. first_of (entry_faults k (members_view es) p)) c.in-Some.ensures.steps)
-    c.in-Some-2.is c.in_ok-found.ensures c.as_str.ensures.value c.in_ok-field_name.ensures c.in_ok-below.ensures.misfit c.in_ok-below.ensures.path
+    member_found c.in_ok-found.field-0 c.in-Some.found c.in_ok-below.field-0 (string_bytes c.loop-name-item.result.0) c.as_str.result.now c.in_ok-field_name.field-0
+    (entry_faults k (members_view c.args.members.now.entries)) (faults k (view c.loop-name-item.result.1)) (entry_faults k (members_view (drop (c.loop-name.name-index + 1) c.entries-name-items.result.now)))
+    (λ p. c.loop-name.invariant p ∙ ap (λ es. first_of (entry_faults k (members_view es) p)) (next-lent c.entries-name-items.result.now c.loop-name.name-index c.loop-name-item.result (omega arith) c.loop-name-item.is))
+    c.in-Some.is c.in_ok-found.ensures c.as_str.ensures.value c.in_ok-field_name.ensures c.in_ok-below.ensures.misfit c.in_ok-below.ensures.path
 
 pub entries_fault-loop-name-preserved : goal.entries_fault-loop-name-preserved
 entries_fault-loop-name-preserved t c =
     let k = kind_view c.args.inside.now in
-    member_fits c.in_ok-found.field-0 (string_bytes c.in-Some.name.now)
-    (entry_faults k (members_view c.args.members.now.entries)) (faults k (view c.in-Some.entry.now)) (entry_faults k (members_view c.next.new.self))
-    (λ p. c.loop-name.invariant p ∙ ap (λ es. first_of (entry_faults k (members_view es) p)) c.in-Some.ensures.steps)
+    member_fits c.in_ok-found.field-0 (string_bytes c.loop-name-item.result.0)
+    (entry_faults k (members_view c.args.members.now.entries)) (faults k (view c.loop-name-item.result.1)) (entry_faults k (members_view (drop (c.loop-name.name-index + 1) c.entries-name-items.result.now)))
+    (λ p. c.loop-name.invariant p ∙ ap (λ es. first_of (entry_faults k (members_view es) p)) (next-lent c.entries-name-items.result.now c.loop-name.name-index c.loop-name-item.result (omega arith) c.loop-name-item.is))
     c.in_default.is c.in_ok-found.ensures
 
 pub entries_fault-returns : goal.entries_fault-returns
@@ -51,39 +65,39 @@ value_fault-returns-in-ItemsOf-List t c =
 pub fields_fault-returns-in_default : goal.fields_fault-returns-in_default
 fields_fault-returns-in_default t c =
     let fs = fields_view c.args.fields.now.entries in
-    let n = string_bytes c.in-Some.name.now in
+    let n = string_bytes c.loop-name-item.result.0 in
     let text = c.in_ok-field_name.ensures ∙ ap (λ x. element_text (field x)) c.as_str-in_default.ensures.value in
     finds_from (Some c.in_ok-below.field-0) (field_faults fs (members_view c.args.members.now.entries)) (λ p. fault_at unknown_field (p ++ field n ∷ []) ∷ [])
-    (λ p. c.loop-name.invariant p ∙ ap (λ es. first_of (field_faults fs (members_view es) p)) c.in-Some.ensures.steps
-    ∙ field_unknown fs n c.as_str.result.now (view c.in-Some.member.now) (members_view c.next.new.self) p c.as_str.ensures.value (sym c.in_default.ensures))
+    (λ p. c.loop-name.invariant p ∙ ap (λ es. first_of (field_faults fs (members_view es) p)) (next-lent c.entries-name-items.result.now c.loop-name.name-index c.loop-name-item.result (omega arith) c.loop-name-item.is)
+    ∙ field_unknown fs n c.as_str.result.now (view c.loop-name-item.result.1) (members_view (drop (c.loop-name.name-index + 1) c.entries-name-items.result.now)) p c.as_str.ensures.value (sym c.in_default.ensures))
     (finds_child c.here-unknown.result c.in_ok-below.field-0 UnknownField (field n) c.in_ok-field_name.field-0 c.here-unknown.ensures.misfit
     c.here-unknown.ensures.path text c.in_ok-below.ensures.misfit c.in_ok-below.ensures.path)
 
 pub fields_fault-returns-in-Some-2 : goal.fields_fault-returns-in-Some-2
 fields_fault-returns-in-Some-2 t c =
     let fs = fields_view c.args.fields.now.entries in
-    let k = kind_view c.in-Some-find_field.kind.now in
-    let n = string_bytes c.in-Some.name.now in
-    let v = view c.in-Some.member.now in
-    let left = members_view c.next.new.self in
+    let k = kind_view c.in-Some.kind.now in
+    let n = string_bytes c.loop-name-item.result.0 in
+    let v = view c.loop-name-item.result.1 in
+    let left = members_view (drop (c.loop-name.name-index + 1) c.entries-name-items.result.now) in
     member_found c.in_ok-found.field-0 c.in-Some-2.found c.in_ok-below-2.field-0 n c.as_str-in-Some-2.result.now c.in_ok-field_name-2.field-0
     (field_faults fs (members_view c.args.members.now.entries)) (faults k v) (field_faults fs left)
-    (λ p. c.loop-name.invariant p ∙ ap (λ es. first_of (field_faults fs (members_view es) p)) c.in-Some.ensures.steps
-    ∙ ap first_of (field_split fs k n c.as_str.result.now v left p c.as_str.ensures.value (sym c.in-Some-find_field.ensures)))
+    (λ p. c.loop-name.invariant p ∙ ap (λ es. first_of (field_faults fs (members_view es) p)) (next-lent c.entries-name-items.result.now c.loop-name.name-index c.loop-name-item.result (omega arith) c.loop-name-item.is)
+    ∙ ap first_of (field_split fs k n c.as_str.result.now v left p c.as_str.ensures.value (sym c.in-Some.ensures)))
     c.in-Some-2.is c.in_ok-found.ensures c.as_str-in-Some-2.ensures.value c.in_ok-field_name-2.ensures c.in_ok-below-2.ensures.misfit
     c.in_ok-below-2.ensures.path
 
 pub fields_fault-loop-name-preserved : goal.fields_fault-loop-name-preserved
 fields_fault-loop-name-preserved t c =
     let fs = fields_view c.args.fields.now.entries in
-    let k = kind_view c.in-Some-find_field.kind.now in
-    let n = string_bytes c.in-Some.name.now in
-    let v = view c.in-Some.member.now in
-    let left = members_view c.next.new.self in
+    let k = kind_view c.in-Some.kind.now in
+    let n = string_bytes c.loop-name-item.result.0 in
+    let v = view c.loop-name-item.result.1 in
+    let left = members_view (drop (c.loop-name.name-index + 1) c.entries-name-items.result.now) in
     member_fits c.in_ok-found.field-0 n
     (field_faults fs (members_view c.args.members.now.entries)) (faults k v) (field_faults fs left)
-    (λ p. c.loop-name.invariant p ∙ ap (λ es. first_of (field_faults fs (members_view es) p)) c.in-Some.ensures.steps
-    ∙ ap first_of (field_split fs k n c.as_str.result.now v left p c.as_str.ensures.value (sym c.in-Some-find_field.ensures)))
+    (λ p. c.loop-name.invariant p ∙ ap (λ es. first_of (field_faults fs (members_view es) p)) (next-lent c.entries-name-items.result.now c.loop-name.name-index c.loop-name-item.result (omega arith) c.loop-name-item.is)
+    ∙ ap first_of (field_split fs k n c.as_str.result.now v left p c.as_str.ensures.value (sym c.in-Some.ensures)))
     c.in_default-2.is c.in_ok-found.ensures
 
 pub fields_fault-returns : goal.fields_fault-returns

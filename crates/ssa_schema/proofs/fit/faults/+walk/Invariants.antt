@@ -11,12 +11,12 @@ use Rattle.ssa_schema.proofs.fit.faults.+walk.Given as goal
 abbrev pub invariant-fields_fault-loop-name : goal.invariant-fields_fault-loop-name
 invariant-fields_fault-loop-name l =
     (p : Path) → first_of (field_faults (fields_view l.fields.entries) (members_view l.members.entries) p)
-    ≡ first_of (field_faults (fields_view l.fields.entries) (members_view l.name-iterator) p)
+    ≡ first_of (field_faults (fields_view l.fields.entries) (members_view (drop l.name-index l.name-items)) p)
 
 abbrev pub invariant-entries_fault-loop-name : goal.invariant-entries_fault-loop-name
 invariant-entries_fault-loop-name l =
     (p : Path) → first_of (entry_faults (kind_view l.inside) (members_view l.members.entries) p)
-    ≡ first_of (entry_faults (kind_view l.inside) (members_view l.name-iterator) p)
+    ≡ first_of (entry_faults (kind_view l.inside) (members_view (drop l.name-index l.name-items)) p)
 
 -- and what repeats is looked for behind the items before
 abbrev pub invariant-items_fault-loop-i : goal.invariant-items_fault-loop-i

@@ -10,12 +10,12 @@ use Rattle.ssa_schema.proofs.fit.shape_misfit.+shape.Given as goal
 abbrev pub invariant-fields_misfit-loop-name : goal.invariant-fields_misfit-loop-name
 invariant-fields_misfit-loop-name l =
     (p : Path) → first_of (shape_field_faults (shape_fields_view l.fields.entries) (members_view l.members.entries) p)
-    ≡ first_of (shape_field_faults (shape_fields_view l.fields.entries) (members_view l.name-iterator) p)
+    ≡ first_of (shape_field_faults (shape_fields_view l.fields.entries) (members_view (drop l.name-index l.name-items)) p)
 
 abbrev pub invariant-entries_misfit-loop-member : goal.invariant-entries_misfit-loop-member
 invariant-entries_misfit-loop-member l =
     (p : Path) → first_of (shape_entry_faults (shape_view l.inside) (members_view l.members.entries) p)
-    ≡ first_of (shape_entry_faults (shape_view l.inside) (members_view l.member-iterator) p)
+    ≡ first_of (shape_entry_faults (shape_view l.inside) (members_view (drop l.member-index l.member-items)) p)
 
 abbrev pub invariant-items_misfit-loop-item : goal.invariant-items_misfit-loop-item
 invariant-items_misfit-loop-item l =

@@ -1,6 +1,8 @@
-use Rattle.std.proofs.Common.{◌≡◌, suc, ◌-◌, arith, [], ◌∷◌, ◌++◌, map, string_bytes, string_cmp, true, sym, ap, ◌∙◌, subst, append_assoc, append-nil}
+use Rattle.std.proofs.Common.{◌≡◌, suc, ◌-◌, arith, [], ◌∷◌, ◌++◌, map, string_bytes, string_cmp, true, sym, ap, ◌∙◌, subst, append_assoc, append-nil, drop, ◌+◌}
 use Rattle.std.specs.List.Sorted.{IsStrictlySortedBy}
 use Rattle.std.specs.Map.{keys_of}
+use Rattle.std.proofs.lemmas.List.{drop_all}
+use Rattle.ssa_members.proofs.Lent.{next-lent}
 use Rattle.ssa_json.proofs.Converting.{Found}
 use Rattle.ssa_schema.specs.Kinds.{kind_view}
 use Rattle.ssa_schema.proofs.Ordered.{all_ordered, fields-ordered, ordered-insert}
@@ -20,15 +22,15 @@ kinds_of-loop-name-preserved t c =
     let l = c.loop-name in
     let n = c.args.levels in
     let done = l.invariant.done in
-    let e : Found = (c.in-Some.name.now, c.in-Some.schema.now) in
-    let left = c.next.new.self in
-    let all : c.args.schemas.now.entries ≡ done ++ e ∷ left = l.invariant.split ∙ ap (λ es. done ++ es) c.in-Some.ensures.steps in
+    let e : Found = c.loop-name-item.result in
+    let left = (drop (c.loop-name.name-index + 1) c.entries-name-items.result.now) in
+    let all : c.args.schemas.now.entries ≡ done ++ e ∷ left = l.invariant.split ∙ ap (λ es. done ++ es) (next-lent c.entries-name-items.result.now c.loop-name.name-index c.loop-name-item.result (omega arith) c.loop-name-item.is) in
     let key : string_bytes c.in_ok-key.key ≡ string_bytes e.0 = c.in_ok-key.ensures.ok ∙ c.as_str.ensures.value in
     record {
       done = done ++ e ∷ [];
       split = all ∙ sym (append_assoc done (e ∷ []) left);
       same = made-more kind_view (kind_at n) done e left l.found.entries c.insert.new.self.entries c.in_ok-key.key c.in_ok-kind_of.field-0
-          (subst (λ es. IsStrictlySortedBy string_cmp (keys_of es)) all c.iter-name-items.ensures.ordered) l.invariant.same c.in_ok-insert.ensures.entries key
+          (subst (λ es. IsStrictlySortedBy string_cmp (keys_of es)) all c.entries-name-items.ensures.ordered) l.invariant.same c.in_ok-insert.ensures.entries key
           c.in_ok-kind_of.ensures.kind;
       sorted = c.insert.ensures.ordered;
       ordered = subst (λ fs. all_ordered fs ≡ true) (sym c.in_ok-insert.ensures.entries)
@@ -40,7 +42,7 @@ kinds_of-returns-clause-kind t c =
     let l = c.loop-name in
     let n = c.args.levels in
     let all : l.invariant.done ≡ c.args.schemas.now.entries = sym (append-nil l.invariant.done)
-    ∙ ap (λ es. l.invariant.done ++ es) (sym c.in-None.ensures.steps.0) ∙ sym l.invariant.split in
+    ∙ ap (λ es. l.invariant.done ++ es) (sym (drop_all c.loop-name.name-index c.entries-name-items.result.now (omega arith))) ∙ sym l.invariant.split in
     fields-made n l.found.entries c.args.schemas.now.entries (l.invariant.same ∙ ap (map (asked (kind_at n))) all)
 
 pub kinds_of-returns-clause-ordered : goal.kinds_of-returns-clause-ordered

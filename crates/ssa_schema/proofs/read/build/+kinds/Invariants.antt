@@ -1,4 +1,4 @@
-use Rattle.std.proofs.Common.{◌≡◌, List, ◌++◌, ◌+◌, ◌*◌, map, string_cmp, true}
+use Rattle.std.proofs.Common.{◌≡◌, List, ◌++◌, ◌+◌, ◌*◌, map, string_cmp, true, drop}
 use Rattle.std.specs.List.Sorted.{IsStrictlySortedBy}
 use Rattle.std.specs.Map.{keys_of}
 use Rattle.ssa_json.proofs.Converting.{Found}
@@ -33,7 +33,7 @@ decreases-kinds_of l = 6 * l.levels + 1
 abbrev pub invariant-kinds_of-loop-name : goal.invariant-kinds_of-loop-name
 invariant-kinds_of-loop-name l = record {
   done : List Found;
-  split : l.schemas.entries ≡ done ++ l.name-iterator;
+  split : l.schemas.entries ≡ done ++ (drop l.name-index l.name-items);
   same : map (named kind_view) l.found.entries ≡ map (asked (kind_at l.levels)) done;
   sorted : IsStrictlySortedBy string_cmp (keys_of l.found.entries);
   ordered : all_ordered l.found.entries ≡ true;

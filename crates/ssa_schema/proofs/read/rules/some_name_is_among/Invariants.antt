@@ -1,4 +1,4 @@
-use Rattle.std.proofs.Common.{◌≡◌, map}
+use Rattle.std.proofs.Common.{◌≡◌, map, drop}
 use Rattle.std.specs.List.{list_any}
 use Rattle.ssa_model.specs.definitions.Schema.{is_one_of_texts, names}
 use Rattle.ssa_json.specs.View.{members_view}
@@ -8,4 +8,4 @@ use Rattle.ssa_schema.proofs.read.rules.some_name_is_among.Given as goal
 abbrev pub invariant-loop-name : goal.invariant-loop-name
 invariant-loop-name l =
     list_any (λ n. is_one_of_texts n (map (λ w. w.now) l.words)) (names (members_view l.members.entries))
-    ≡ list_any (λ n. is_one_of_texts n (map (λ w. w.now) l.words)) (names (members_view l.name-iterator))
+    ≡ list_any (λ n. is_one_of_texts n (map (λ w. w.now) l.words)) (names (members_view (drop l.name-index l.name-items)))

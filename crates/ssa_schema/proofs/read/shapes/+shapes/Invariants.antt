@@ -1,4 +1,4 @@
-use Rattle.std.proofs.Common.{◌≡◌, List, ◌++◌, ◌+◌, ◌*◌, map}
+use Rattle.std.proofs.Common.{◌≡◌, List, ◌++◌, ◌+◌, ◌*◌, map, drop}
 use Rattle.ssa_json.proofs.Converting.{Found}
 use Rattle.ssa_schema.specs.Kinds.{shape_view}
 use Rattle.ssa_schema.specs.Builds.{shape_at}
@@ -27,6 +27,6 @@ decreases-shapes_of l = 5 * l.levels + 1
 abbrev pub invariant-shapes_of-loop-name : goal.invariant-shapes_of-loop-name
 invariant-shapes_of-loop-name l = record {
   done : List Found;
-  split : l.schemas.entries ≡ done ++ l.name-iterator;
+  split : l.schemas.entries ≡ done ++ (drop l.name-index l.name-items);
   same : map (named shape_view) l.found.entries ≡ map (asked (shape_at l.levels)) done;
 }

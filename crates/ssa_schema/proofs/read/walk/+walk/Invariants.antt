@@ -1,4 +1,4 @@
-use Rattle.std.proofs.Common.{◌≡◌, ◌+◌, ◌*◌}
+use Rattle.std.proofs.Common.{◌≡◌, ◌+◌, ◌*◌, drop}
 use Rattle.ssa_model.specs.definitions.Schema.{property_faults}
 use Rattle.ssa_json.specs.View.{members_view}
 use Rattle.ssa_schema.specs.Refusals.{first_of, faults_at}
@@ -27,4 +27,4 @@ decreases-each_refusal l = 6 * l.levels + 1
 abbrev pub invariant-each_refusal-loop-schema : goal.invariant-each_refusal-loop-schema
 invariant-each_refusal-loop-schema l =
     first_of (property_faults (faults_at l.levels (standing_view l.standing)) (members_view l.schemas.entries))
-    ≡ first_of (property_faults (faults_at l.levels (standing_view l.standing)) (members_view l.schema-iterator))
+    ≡ first_of (property_faults (faults_at l.levels (standing_view l.standing)) (members_view (drop l.schema-index l.schema-items)))
