@@ -1,6 +1,6 @@
 //! What the members of an entry of `managedFields` say.
-ghost use Rattle.std.specs.Prelude.{◌≡◌, ◌∷◌, ◌&&◌, MatchOption, codes, false, option_map, is_some, string_cmp};
-ghost use Rattle.std.specs.BTreeMap.{IsOrdered};
+ghost use Rattle.std.specs.Prelude.{◌≡◌, ◌∷◌, ◌&&◌, MatchOption, codes, false, option_map, is_some};
+ghost use Rattle.ssa_members.specs.Members.{IsRising};
 ghost use Rattle.std.specs.List.{list_all, list_any};
 ghost use Rattle.ssa_json.specs.View.{view, members_view};
 ghost use Rattle.ssa_model.specs.definitions.Commands.{text_in};
@@ -45,7 +45,7 @@ fn is_entry_member(name: &str, value: &Json) -> bool
 
 fn are_entry_members(members: &Members<Json>) -> bool
     ensures told { result ≡ are_entry_members (members_view members.now.entries) }
-    ensures ordered { IsOrdered string_cmp members.now }
+    ensures ordered { IsRising members.now.entries }
 {
     for (name, value) in members.entries() {
         if !is_entry_member(name.as_str(), value) {

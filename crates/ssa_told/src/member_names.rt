@@ -1,6 +1,6 @@
 // The names of the members of a record's value, of the objects in it, and of its line.
-ghost use Rattle.std.specs.Prelude.{◌≡◌, string_cmp};
-ghost use Rattle.std.specs.BTreeMap.{IsOrdered};
+ghost use Rattle.std.specs.Prelude.{◌≡◌};
+ghost use Rattle.ssa_members.specs.Members.{IsRising};
 ghost use Rattle.std.specs.List.{list_any};
 ghost use Rattle.ssa_json.specs.View.{members_view};
 ghost use Rattle.ssa_model.specs.definitions.Json.{same_text};
@@ -70,7 +70,7 @@ fn is_name_in(shape: Shape, name: &str) -> bool
 // Whether no member has a name that the object has not.
 pub fn have_names_of(shape: Shape, members: &Members<Json>) -> bool
     ensures told { result ≡ are_named (shapes_of shape) (members_view members.now.entries) }
-    ensures ordered { IsOrdered string_cmp members.now }
+    ensures ordered { IsRising members.now.entries }
 {
     for (name, _value) in members.entries() {
         if !is_name_in(shape, name.as_str()) {

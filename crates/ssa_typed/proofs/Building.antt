@@ -119,6 +119,10 @@ pub record IsNaming (done : List Text) (rows_left rows_all : Path → List Row) 
   -- all of them are trees
   pub trees : are_trees cs ≡ true
 
+-- before any is made, all the rows are left
+pub naming-none : (rows_left rows_all : Path → List Row) (cs : List Child) → cs ≡ [] → ((p : Path) → rows_left p ≡ rows_all p) → IsNaming [] rows_left rows_all cs
+naming-none rows_left rows_all cs none same = subst (IsNaming [] rows_left rows_all) (sym none) (record { placed = same; named = refl; trees = refl })
+
 -- one field or entry more is made, and its name is done
 pub naming-step : (n : Text) (rows_from : Path → List Row) (c : Child) (cs ds : List Child) (done after : List Text)
     (rows_left rows_more rows_all : Path → List Row)

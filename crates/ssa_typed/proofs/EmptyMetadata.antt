@@ -1,13 +1,13 @@
 -- An empty `metadata`.
-use Rattle.std.proofs.Common.{◌≡◌, List, [], ◌∷◌, Bool, true, false, ◌&&◌, cond, Less, String, Global, string_bytes, string_cmp, nat_cmp, refl, sym, ap, ◌∙◌, true≢false}
-use Rattle.std.specs.Prelude.{None, Some, if◌then◌else◌, codes}
+use Rattle.std.proofs.Common.{◌≡◌, List, [], ◌∷◌, Bool, true, false, ◌&&◌, cond, Less, String, Global, string_bytes, string_cmp, nat_cmp, refl, sym, ap, ◌∙◌, true≢false, arith, length}
+use Rattle.std.specs.Prelude.{None, Some, if◌then◌else◌, codes, IsTrue, ◌↔◌}
 use Rattle.std.specs.List.{AllByRecursion}
 use Rattle.std.specs.List.Sorted.{IsStrictlySortedBy}
 use Rattle.std.specs.Map.{keys_of, remove_entry}
 use Rattle.std.specs.BTreeMap.{is_at}
 use Rattle.std.specs.Ordering.{is_eq}
 use Rattle.std.specs.Cmp.Lexicographic.{slice_cmp}
-use Rattle.ssa_model.specs.definitions.Json.{member, member_of, same_text}
+use Rattle.ssa_model.specs.definitions.Json.{member, member_of, object, same_text}
 use Rattle.ssa_model.specs.definitions.Body.{is_empty_object, without_empty_metadata}
 use Rattle.ssa_json.specs.View.{view, members_view}
 use Rattle.ssa_json.proofs.Converting.{Found}
@@ -100,3 +100,9 @@ pub kept : (es : List Found) → IsStrictlySortedBy string_cmp (keys_of es) → 
 unfolding IsStrictlySortedBy
 kept [] sorted h = refl
 kept (e ∷ es) sorted h = kept-step e es (at_metadata e.0) refl h sorted.0 (kept es sorted.1)
+
+-- whether there are no entries is whether there are no members
+pub empty-told : (es : List Found) (none : Bool) → IsTrue none ↔ (length es ≡ 0) → none ≡ is_empty_object (object (members_view es))
+empty-told [] none is = is.1 refl
+empty-told (e ∷ es) true is = let empty = is.0 refl in absurd (omega arith)
+empty-told (e ∷ es) false is = refl

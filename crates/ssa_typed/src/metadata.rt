@@ -1,6 +1,6 @@
 //! An empty `metadata`, which no body has.
-ghost use Rattle.std.specs.Prelude.{◌≡◌, false, string_cmp};
-ghost use Rattle.std.specs.BTreeMap.{IsOrdered};
+ghost use Rattle.std.specs.Prelude.{◌≡◌, false};
+ghost use Rattle.ssa_members.specs.Members.{IsRising};
 ghost use Rattle.ssa_model.specs.definitions.Body.{is_empty_object, without_empty_metadata};
 ghost use Rattle.ssa_json.specs.View.{view, members_view};
 ghost use Rattle.ssa_typed.specs.Reads.{has_empty_metadata};
@@ -21,9 +21,9 @@ fn is_empty_object(value: &Json) -> bool
 // Whether there is a `metadata` with nothing in it.
 fn has_empty_metadata(members: &Members<Json>) -> bool
     ensures told { result ≡ has_empty_metadata (members_view members.now.entries) }
-    ensures ordered { IsOrdered string_cmp members.now }
+    ensures ordered { IsRising members.now.entries }
 {
-    if members.len() == 0 {
+    if members.entries().is_empty() {
         return false;
     }
     match members.get("metadata") {

@@ -16,7 +16,7 @@ use Rattle.ssa_path.proofs.Orders.{both_first, both_second}
 use Rattle.ssa_path.specs.declared.element.Elem.TheVariants.{Field}
 use Rattle.ssa_model.specs.laws.Faultless.{Fits, EntriesFit, FieldsFit}
 use Rattle.ssa_typed.specs.Flats.{member_places}
-use Rattle.ssa_typed.proofs.Building.{listing-step, naming-step, naming-end}
+use Rattle.ssa_typed.proofs.Building.{listing-step, naming-none, naming-step, naming-end}
 use Rattle.ssa_model.proofs.FaultlessParts.{ItemsFitAfter, member-first, member-rest, entry-first, entry-rest, item-first, item-rest}
 use Rattle.ssa_typed.proofs.Trees.{kind_view-Dict, kind_view-SetOf, kind_view-ItemsOf, keyed-at, field-found, known-is, known-there, known-places, member-places, record-placed, record-tree, record-made, dict-made, set-made, items-made}
 use Rattle.ssa_typed.proofs.build.+build.Goals as goal
@@ -251,3 +251,27 @@ tree_of-item_children-requires t c =
         (both_second (are_key_names ns) _ keyed, subst₂ Fits is c.into_items-in-ItemsOf.ensures c.requires.fits),
       ),
     )
+
+pub entry_children-loop-name-init : goal.entry_children-loop-name-init
+entry_children-loop-name-init t c =
+    let k = kind_view c.args.inside.now in
+    let same : c.args.members.entries ≡ into_iter_items c.into_iter-name-iterator.result =
+    sym (c.into_iter-name-iterator.ensures.into_iter_gives.0 ∙ c.into_entries-name-items.ensures.all) in
+    record {
+      done = [];
+      split = same;
+      naming = naming-none _ _ c.new-children.result.items c.new-children.ensures.items (λ p. ap (λ es. entry_places k (members_view es) p) (sym same));
+      fits = subst (λ es. EntriesFit k (members_view es)) same c.requires.fits;
+    }
+
+pub field_children-loop-name-init : goal.field_children-loop-name-init
+field_children-loop-name-init t c =
+    let k = fields_view c.args.fields.now.entries in
+    let same : c.args.members.entries ≡ into_iter_items c.into_iter-name-iterator.result =
+    sym (c.into_iter-name-iterator.ensures.into_iter_gives.0 ∙ c.into_entries-name-items.ensures.all) in
+    record {
+      done = [];
+      split = same;
+      naming = naming-none _ _ c.new-children.result.items c.new-children.ensures.items (λ p. ap (λ es. field_places k (members_view es) p) (sym same));
+      fits = subst (λ es. FieldsFit k (members_view es)) same c.requires.fits;
+    }
