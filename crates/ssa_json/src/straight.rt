@@ -13,7 +13,7 @@ ghost use Rattle.ssa_json.specs.Written.{data_of, items_data, members_data, is_n
 use crate::value::{Json, Scalar};
 use itoa::Buffer;
 use json::{Invalid, Reader, Scratch, Token};
-use ssa_members::Members;
+use ssa_members::{Members, fitted};
 use std::alloc::{AllocError, AllocFailed, Global};
 
 const MOST_DEPTH: usize = 127;
@@ -135,7 +135,7 @@ fn read_items(
         let item = read_value(alloc, reader, depth)?;
         found.push(item)?;
     }
-    Ok(found)
+    Ok(fitted(found))
 }
 
 #[cycle(straight)]

@@ -2,5 +2,7 @@
 #![tactic(auto)]
 
 pub mod members;
+pub mod room;
 
 pub use members::Members;
+pub use room::fitted;

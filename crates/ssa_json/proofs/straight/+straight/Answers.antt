@@ -10,7 +10,7 @@ use Rattle.serde_json.specs.Read.{of_json, of_items, of_members, converted}
 use Rattle.ssa_model.specs.definitions.Json.{Members, no_members}
 use Rattle.ssa_json.specs.PutInTurn.{put_in_turn}
 use Rattle.ssa_json.specs.View.{view, items_view}
-use Rattle.ssa_json.specs.Written.{data_of, members_data, items_narrow, members_narrow}
+use Rattle.ssa_json.specs.Written.{data_of, items_data, members_data, items_narrow, members_narrow}
 use Rattle.ssa_json.specs.declared.value.Scalar.TheVariants.{Text, Int, Bool}
 use Rattle.ssa_json.proofs.Views.{view-Scalar, view-List, view-Object}
 use Rattle.ssa_json.proofs.Printing.{items_narrow-push}
@@ -91,6 +91,7 @@ read_items-returns-clause-ok t c =
     let r = c.take_end_array.new.self in
     l.invariant.read ∙ ap (parse_map (before l.found.items)) (items_over p n l.reader r l.invariant.enough (grind arith))
     ∙ ap (λ ds. Some (ds, r)) (before-none l.found.items)
+    ∙ ap (λ vs. Some (items_data (items_view vs), r)) (sym c.fitted.ensures)
 
 pub read_members-returns-clause-ok : goal.read_members-returns-clause-ok
 read_members-returns-clause-ok t c =
