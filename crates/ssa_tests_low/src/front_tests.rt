@@ -2,11 +2,25 @@
 use crate::journal_tests::Counter;
 use crate::support::{schema, value};
 use ssa_json::{Json, Moment};
+use ssa_members::Members;
 use ssa_path::{Elem, FieldSet, Path};
 use ssa_reverse::Journal;
 use ssa_schema::{BodyFault, Schema};
 use ssa_typed::Body;
 use std::test::Fail;
+
+#[test]
+fn ssa_members_example(rt: HostRuntime) -> Result<(), Fail> {
+    let mut members = Members::new(rt.alloc());
+    for (name, count) in [("b", 1), ("a", 2), ("b", 3)] {
+        members.insert(String::from_str(rt.alloc(), name)?, count)?;
+    }
+    assert_eq!(rt; members.len(), 2);
+    assert_eq!(rt; members.get("b"), Some(&3));
+    assert_eq!(rt; members.entries()[0].0.as_str(), "a");
+    assert_eq!(rt; members.remove("a"), Some(2));
+    Ok(())
+}
 
 #[test]
 fn ssa_json_example(rt: HostRuntime) -> Result<(), Fail> {
