@@ -148,6 +148,7 @@ impl<V> Members<V> {
         ensures old { IfOk result (λ old. get self.old name.now ≡ Some old) }
         ensures entries { OnOk result (self.new.entries ≡ set_value (is_at (text_cmp name.now)) self.old.entries value) }
         ensures absent { IfErr result (λ v. (v ≡ value) × (get self.old name.now ≡ None) × (self.new ≡ self.old)) }
+        ensures was_ordered { IsRising self.old.entries }
     {
         match self.place(name) {
             Ok(i) => Ok(replace(&mut self.entries[i].1, value)),

@@ -1,6 +1,6 @@
 -- Members taken out of an object, and out of its metadata.
 use Rattle.std.proofs.Common.{◌≡◌, List, [], ◌∷◌, Bool, true, false, ◌||◌, cond, Option, Some, None, Ordering, Less, Equal, Greater, String, Global, string_bytes, string_cmp, nat_cmp, refl, sym, ap, ◌∙◌}
-use Rattle.std.specs.Prelude.{if◌then◌else◌, codes, option_and_then, unwrap_or, OnOk, IsErr, Result, Ok, Err}
+use Rattle.std.specs.Prelude.{if◌then◌else◌, codes, option_and_then, unwrap_or, OnOk, IfErr, Result, Ok, Err}
 use Rattle.std.specs.Ordering.{is_eq, ordering_reverse}
 use Rattle.std.specs.Cmp.Lexicographic.{slice_cmp, nat_list_cmp_total}
 use Rattle.std.specs.List.{list_any, AllByRecursion}
@@ -181,17 +181,17 @@ module _ (t : String Global → Bool) where
       by : (b : Bool) → t e.0 ≡ b → set_value t (set_value t es v) w ≡ set_value t es w
           → set_value t (cond b ((e.0, v) ∷ es) (e ∷ set_value t es v)) w ≡ cond b ((e.0, w) ∷ es) (e ∷ set_value t es w)
       by true is rest = ap (λ b. cond b ((e.0, w) ∷ es) ((e.0, v) ∷ set_value t es w)) is
-      by false is rest = ap (λ b. cond b ((e.0, w) ∷ es) (e ∷ set_value t (set_value t es v) w)) is ∙ ap (λ l. e ∷ l) rest
+      by false is rest = ap (λ b. cond b ((e.0, w) ∷ set_value t es v) (e ∷ set_value t (set_value t es v) w)) is ∙ ap (λ l. e ∷ l) rest
 
 -- the metadata of an object, taken out for another value and written back without some members
 pub written_back : (ns : List Text) (es without : List Found) (last : Entries values.Json) (v w other : values.Json) (r : Result values.Json values.Json)
     → IsStrictlySortedBy string_cmp (keys_of es) → lookup (finds (codes "metadata")) es ≡ Some v → view w ≡ without_names ns (view v)
     → without ≡ set_value (finds (codes "metadata")) es other → OnOk r (last.entries ≡ set_value (finds (codes "metadata")) without w)
-    → (IsErr r → lookup (finds (codes "metadata")) without ≡ None) → members_view last.entries ≡ without_in_metadata ns (members_view es)
+    → IfErr r (λ u. (u ≡ w) × (lookup (finds (codes "metadata")) without ≡ None) × (last ≡ record { entries = without })) → members_view last.entries ≡ without_in_metadata ns (members_view es)
 written_back ns es without last v w other (Ok u) rises there is first second absent =
     ap members_view (second ∙ ap (λ l. set_value (finds (codes "metadata")) l w) first ∙ last_stays (finds (codes "metadata")) es other w) ∙ written ns es v w rises there is
 written_back ns es without last v w other (Err u) rises there is first second absent =
-    let none = absent refl in
+    let none = absent.1 in
     let some = ap (lookup (finds (codes "metadata"))) first ∙ there_again (finds (codes "metadata")) es v other there in
     let bad : ◌≡◌ {A = Option values.Json} None (Some other) = sym none ∙ some in cc
 

@@ -9,7 +9,6 @@ ghost use Rattle.ssa_json.specs.View.{view, members_view};
 
 use ssa_json::value::{Json, Scalar, objects_are_members};
 use ssa_members::Members;
-use std::mem;
 
 /// A command's object without its identity.
 pub fn body_value(object: Json) -> Json
