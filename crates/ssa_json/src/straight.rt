@@ -13,7 +13,7 @@ ghost use Rattle.ssa_json.specs.Written.{data_of, items_data, members_data, is_n
 use crate::value::{Json, Scalar};
 use itoa::Buffer;
 use json::{Invalid, Reader, Scratch, Token};
-use ssa_members::{Members, fitted};
+use ssa_members::{Members, push_closely};
 use std::alloc::{AllocError, AllocFailed, Global};
 
 const MOST_DEPTH: usize = 127;
@@ -133,9 +133,9 @@ fn read_items(
     let mut found = Vec::new(alloc);
     'items: while !reader.take_end_array() {
         let item = read_value(alloc, reader, depth)?;
-        found.push(item)?;
+        push_closely(&mut found, item)?;
     }
-    Ok(fitted(found))
+    Ok(found)
 }
 
 #[cycle(straight)]
@@ -171,7 +171,7 @@ fn read_pairs(
     'members: while let Some(name) = reader.next_key()? {
         let key = String::from_str(alloc, name)?;
         let member = read_value(alloc, reader, depth)?;
-        pairs.push((key, member))?;
+        push_closely(&mut pairs, (key, member))?;
     }
     Ok(pairs)
 }

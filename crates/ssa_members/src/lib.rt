@@ -19,4 +19,4 @@ pub mod members;
 pub mod room;
 
 pub use members::Members;
-pub use room::fitted;
+pub use room::push_closely;

@@ -5,7 +5,6 @@ ghost use Rattle.std.specs.Map.{lookup, remove_entry, set_value};
 ghost use Rattle.std.specs.Prelude.{string_bytes, string_cmp};
 ghost use Rattle.ssa_members.specs.Members.{get, text_cmp, IsMadeOf, IsPlaceOf, IsRising};
 
-use crate::room::fitted;
 use std::alloc::{AllocError, Global};
 use std::collections::BTreeMap;
 use std::marker::Model;
@@ -172,9 +171,7 @@ impl<V> Members<V> {
         ensures { IfOk result (IsMadeOf pairs.items) }
     {
         if rises(&pairs) {
-            return Ok(Members {
-                entries: fitted(pairs),
-            });
+            return Ok(Members { entries: pairs });
         }
         let sorted: BTreeMap<String, V> = pairs.into_iter().collect(alloc)?;
         let mut entries = Vec::with_capacity(alloc, sorted.len())?;

@@ -1,14 +1,19 @@
 //! Vectors without room that nobody needs.
-ghost use Rattle.std.specs.Prelude.{◌≡◌};
+ghost use Rattle.std.specs.Prelude.{◌≡◌, [], ◌∷◌, ◌++◌, OnOk};
 
-/// The same elements; where there is one alone, without the room that a vector takes for more. Of many
-/// vectors with one element each, as JSON text can have, most of the memory would be such room.
-pub fn fitted<T>(items: Vec<T>) -> Vec<T>
-    ensures { result.items ≡ items.items }
+use std::alloc::AllocError;
+
+/// Puts an element behind the others. The first one takes room for itself alone, where a vector's own `push`
+/// takes room for four: of many vectors with one element each, as JSON text can have, most of the memory
+/// would be such room.
+pub fn push_closely<T>(items: &mut Vec<T>, item: T) -> Result<(), AllocError>
+where
+    T: Drop,
+    ensures { OnOk result (items.new.items ≡ items.old.items ++ item ∷ []) }
 {
-    let mut items = items;
-    if items.len() == 1 {
-        items.shrink_to_fit();
+    if items.is_empty() {
+        items.reserve_exact(1)?;
     }
-    items
+    items.push(item)?;
+    Ok(())
 }

@@ -93,10 +93,7 @@ fn put_given(
 }
 
 // The members of `metadata`, with new memory; none where it is absent.
-fn metadata_of(
-    alloc: Global,
-    members: &Members<Json>,
-) -> Result<Members<Json>, AllocError>
+fn metadata_of(alloc: Global, members: &Members<Json>) -> Result<Members<Json>, AllocError>
     ensures { IfOk result (λ ms. members_view ms.entries ≡ members_in (member_of (codes "metadata") (members_view members.now.entries))) }
 {
     match members.get("metadata") {

@@ -18,10 +18,7 @@ use ssa_path::path::Path;
 use std::alloc::{AllocError, Global};
 
 // The paths of the member `cut`.
-fn told_cut(
-    alloc: Global,
-    members: &Members<Json>,
-) -> Result<Option<Vec<Path>>, AllocError>
+fn told_cut(alloc: Global, members: &Members<Json>) -> Result<Option<Vec<Path>>, AllocError>
     ensures { IfOk result (λ t. TellsList (is_path readings) (λ p. p) (λ v. path_in readings (Some v)) t
         (member_of (codes "cut") (members_view members.now.entries))) }
 {
@@ -39,10 +36,7 @@ fn told_cut(
 }
 
 // The leaves of the member `leaves`.
-fn told_leaves(
-    alloc: Global,
-    members: &Members<Json>,
-) -> Result<Option<Vec<ToldLeaf>>, AllocError>
+fn told_leaves(alloc: Global, members: &Members<Json>) -> Result<Option<Vec<ToldLeaf>>, AllocError>
     ensures { IfOk result (λ t. TellsList is_leaf told_leaf (said_leaf readings) t (member_of (codes "leaves") (members_view members.now.entries))) }
 {
     let Some(items) = list_of(members, "leaves") else {
@@ -59,10 +53,7 @@ fn told_leaves(
 }
 
 // The orders of the member `order`.
-fn told_orders(
-    alloc: Global,
-    members: &Members<Json>,
-) -> Result<Option<Vec<ToldOrder>>, AllocError>
+fn told_orders(alloc: Global, members: &Members<Json>) -> Result<Option<Vec<ToldOrder>>, AllocError>
     ensures { IfOk result (λ t. TellsList is_order told_order (order_in readings) t (member_of (codes "order") (members_view members.now.entries))) }
 {
     let Some(items) = list_of(members, "order") else {
@@ -79,10 +70,7 @@ fn told_orders(
 }
 
 // What is put, of the member `put`.
-fn told_puts(
-    alloc: Global,
-    members: &Members<Json>,
-) -> Result<Option<Vec<ToldPut>>, AllocError>
+fn told_puts(alloc: Global, members: &Members<Json>) -> Result<Option<Vec<ToldPut>>, AllocError>
     ensures { IfOk result (λ t. TellsList (is_put readings) told_put (said_put readings) t (member_of (codes "put") (members_view members.now.entries))) }
 {
     let Some(items) = list_of(members, "put") else {
@@ -99,10 +87,7 @@ fn told_puts(
 }
 
 // What the members tell of a body.
-pub fn body_of(
-    alloc: Global,
-    members: &Members<Json>,
-) -> Result<Option<ToldBody>, AllocError>
+pub fn body_of(alloc: Global, members: &Members<Json>) -> Result<Option<ToldBody>, AllocError>
     ensures { IfOk result (λ t. MatchOption t (are_body_lists (members_view members.now.entries) ≡ false)
         (λ b. TellsBody b (members_view members.now.entries))) }
 {

@@ -35,10 +35,7 @@ fn key_of(alloc: Global, name: &Json, operation: &Json) -> Result<Option<Manager
 }
 
 // The manager of the members `manager` and `operation`.
-pub fn key_at(
-    alloc: Global,
-    members: &Members<Json>,
-) -> Result<Option<ManagerKey>, AllocError>
+pub fn key_at(alloc: Global, members: &Members<Json>) -> Result<Option<ManagerKey>, AllocError>
     ensures { IfOk result (λ t. TellsKey t
         (member_of (codes "manager") (members_view members.now.entries)) (member_of (codes "operation") (members_view members.now.entries))) }
 {

@@ -34,10 +34,7 @@ fn moment_if_told(members: &Members<Json>) -> Option<Option<Moment>>
 }
 
 // The change of these members.
-fn change_of(
-    alloc: Global,
-    members: &Members<Json>,
-) -> Result<Option<ToldChange>, AllocError>
+fn change_of(alloc: Global, members: &Members<Json>) -> Result<Option<ToldChange>, AllocError>
     ensures { IfOk result (λ t. Tells (has_members (change_shape readings)) told_change (change_in readings) t
         (Some (object (members_view members.now.entries)))) }
 {
@@ -170,10 +167,7 @@ fn told_changes(
 }
 
 // The entries of the member `here`.
-fn told_entries(
-    alloc: Global,
-    members: &Members<Json>,
-) -> Result<Option<Vec<ToldHere>>, AllocError>
+fn told_entries(alloc: Global, members: &Members<Json>) -> Result<Option<Vec<ToldHere>>, AllocError>
     ensures { IfOk result (λ t. TellsList (has_members (here_shape readings)) told_here (here_in readings) t
         (member_of (codes "here") (members_view members.now.entries))) }
 {
@@ -191,10 +185,7 @@ fn told_entries(
 }
 
 // What the members tell of a table.
-pub fn table_of(
-    alloc: Global,
-    members: &Members<Json>,
-) -> Result<Option<ToldTable>, AllocError>
+pub fn table_of(alloc: Global, members: &Members<Json>) -> Result<Option<ToldTable>, AllocError>
     ensures { IfOk result (λ t. MatchOption t (are_table_lists (members_view members.now.entries) ≡ false)
         (λ a. TellsTable a (members_view members.now.entries))) }
 {

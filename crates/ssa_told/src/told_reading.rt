@@ -16,10 +16,7 @@ use ssa_members::Members;
 use std::alloc::{AllocError, Global};
 
 // What these members tell.
-fn record_of(
-    alloc: Global,
-    members: &Members<Json>,
-) -> Result<Option<ToldRecord>, AllocError>
+fn record_of(alloc: Global, members: &Members<Json>) -> Result<Option<ToldRecord>, AllocError>
     ensures { IfOk result (λ t. Tells (is_record_shape readings) told_record (said_record readings) t (Some (object (members_view members.now.entries)))) }
 {
     if !have_names_of(Shape::Record, members) {

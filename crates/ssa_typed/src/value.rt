@@ -69,10 +69,7 @@ fn value_of(alloc: Global, node: &Node) -> Result<Json, AllocError>
 
 // The values of the fields of a record, or of the entries of a Dict.
 #[cycle(values)]
-fn members_of(
-    alloc: Global,
-    children: &[(Elem, Node)],
-) -> Result<Members<Json>, AllocError>
+fn members_of(alloc: Global, children: &[(Elem, Node)]) -> Result<Members<Json>, AllocError>
     requires rise { rises (elements children.now) ≡ true }
     requires trees { are_trees children.now ≡ true }
     ensures { IfOk result (λ m. members_view m.entries ≡ members_of (values_of children.now)) }

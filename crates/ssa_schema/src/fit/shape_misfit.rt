@@ -37,10 +37,7 @@ pub fn shape_misfit(value: &Json, shape: &Shape) -> Option<Misfit>
 
 // The first thing that is wrong with the members of an object with named fields.
 #[cycle(shape)]
-fn fields_misfit(
-    members: &Members<Json>,
-    fields: &BTreeMap<String, Shape>,
-) -> Option<Misfit>
+fn fields_misfit(members: &Members<Json>, fields: &BTreeMap<String, Shape>) -> Option<Misfit>
     ensures { Breaks result (shape_field_faults (shape_fields_view fields.now.entries) (members_view members.now.entries)) }
 {
     for (name, member) in members.entries() {

@@ -41,11 +41,7 @@ pub fn kind_of(alloc: Global, schema: &Json, levels: usize) -> Result<Kind, Allo
 
 // The kind of what is not atomic.
 #[cycle(kinds)]
-fn kind_of_object(
-    alloc: Global,
-    members: &Members<Json>,
-    levels: usize,
-) -> Result<Kind, AllocError>
+fn kind_of_object(alloc: Global, members: &Members<Json>, levels: usize) -> Result<Kind, AllocError>
     ensures kind { IfOk result (λ k. kind_view k ≡ merged_kind levels (members_view members.now.entries)) }
     ensures ordered { IfOk result (λ k. is_ordered (kind_view k) ≡ true) }
 {
@@ -70,11 +66,7 @@ fn item_scalar_kind(members: &Members<Json>) -> ScalarKind
 
 // The kind of a list.
 #[cycle(kinds)]
-fn list_kind(
-    alloc: Global,
-    members: &Members<Json>,
-    levels: usize,
-) -> Result<Kind, AllocError>
+fn list_kind(alloc: Global, members: &Members<Json>, levels: usize) -> Result<Kind, AllocError>
     ensures kind { IfOk result (λ k. kind_view k ≡ list_kind_at levels (members_view members.now.entries)) }
     ensures ordered { IfOk result (λ k. is_ordered (kind_view k) ≡ true) }
 {
@@ -104,11 +96,7 @@ fn item_kinds(
 
 // The kind of an object.
 #[cycle(kinds)]
-fn fields_kind(
-    alloc: Global,
-    members: &Members<Json>,
-    levels: usize,
-) -> Result<Kind, AllocError>
+fn fields_kind(alloc: Global, members: &Members<Json>, levels: usize) -> Result<Kind, AllocError>
     ensures kind { IfOk result (λ k. kind_view k ≡ fields_kind_at levels (members_view members.now.entries)) }
     ensures ordered { IfOk result (λ k. is_ordered (kind_view k) ≡ true) }
 {

@@ -39,10 +39,7 @@ fn list_of_names(alloc: Global, names: BTreeSet<String>) -> Result<Vec<String>, 
 }
 
 /// The names of a map list's keys, in the order of their bytes.
-pub fn sorted_keys(
-    alloc: Global,
-    members: &Members<Json>,
-) -> Result<Vec<String>, AllocError>
+pub fn sorted_keys(alloc: Global, members: &Members<Json>) -> Result<Vec<String>, AllocError>
     ensures { IfOk result (λ v. names_view v.items ≡ sorted_texts (key_names (members_view members.now.entries))) }
 {
     let sorted = sorted_items(alloc, key_items(members))?;

@@ -152,10 +152,7 @@ pub fn is_wrong_array(members: &Members<Json>) -> bool
 }
 
 // The members of the member of a name, where that is an object.
-fn object_members<'a>(
-    members: &'a Members<Json>,
-    name: &str,
-) -> Option<&'a Members<Json>>
+fn object_members<'a>(members: &'a Members<Json>, name: &str) -> Option<&'a Members<Json>>
     ensures { members_found (option_map (λ ms. members_view ms.now.entries) result) ≡ members_under name.now (members_view members.now.entries) }
 {
     match find_member(members, name) {

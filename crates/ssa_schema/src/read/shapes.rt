@@ -61,11 +61,7 @@ fn shape_of_object(
 
 // The shape of a list.
 #[cycle(shapes)]
-fn list_shape(
-    alloc: Global,
-    members: &Members<Json>,
-    levels: usize,
-) -> Result<Shape, AllocError>
+fn list_shape(alloc: Global, members: &Members<Json>, levels: usize) -> Result<Shape, AllocError>
     ensures { IfOk result (λ s. shape_view s ≡ list_shape_at levels (members_view members.now.entries)) }
 {
     match find_member(members, "items") {
@@ -79,11 +75,7 @@ fn list_shape(
 
 // The shape of an object.
 #[cycle(shapes)]
-fn fields_shape(
-    alloc: Global,
-    members: &Members<Json>,
-    levels: usize,
-) -> Result<Shape, AllocError>
+fn fields_shape(alloc: Global, members: &Members<Json>, levels: usize) -> Result<Shape, AllocError>
     ensures { IfOk result (λ s. shape_view s ≡ fields_shape_at levels (members_view members.now.entries)) }
 {
     match find_member(members, "additionalProperties") {

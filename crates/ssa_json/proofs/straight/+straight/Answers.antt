@@ -10,7 +10,7 @@ use Rattle.serde_json.specs.Read.{of_json, of_items, of_members, converted}
 use Rattle.ssa_model.specs.definitions.Json.{Members, no_members}
 use Rattle.ssa_json.specs.PutInTurn.{put_in_turn}
 use Rattle.ssa_json.specs.View.{view, items_view}
-use Rattle.ssa_json.specs.Written.{data_of, items_data, members_data, items_narrow, members_narrow}
+use Rattle.ssa_json.specs.Written.{data_of, members_data, items_narrow, members_narrow}
 use Rattle.ssa_json.specs.declared.value.Scalar.TheVariants.{Text, Int, Bool}
 use Rattle.ssa_json.proofs.Views.{view-Scalar, view-List, view-Object}
 use Rattle.ssa_json.proofs.Printing.{items_narrow-push}
@@ -77,9 +77,9 @@ read_items-items-preserved t c =
       most = n - 1;
       enough = omega (arith, l.invariant.enough);
       read = l.invariant.read ∙ ap (parse_map (before l.found.items)) turn ∙ one_more l.found.items v _
-          ∙ ap (λ vs. parse_map (before vs) (converted of_items (items p (n - 1) r))) (sym c.in_ok-push.ensures.items);
+          ∙ ap (λ vs. parse_map (before vs) (converted of_items (items p (n - 1) r))) (sym c.in_ok-push_closely.ensures);
       shorter = omega (arith, l.invariant.shorter);
-      narrow = subst (λ vs. items_narrow (items_view vs) ≡ true) (sym c.in_ok-push.ensures.items)
+      narrow = subst (λ vs. items_narrow (items_view vs) ≡ true) (sym c.in_ok-push_closely.ensures)
           (items_narrow-push l.found.items v l.invariant.narrow done.narrow);
     }
 
@@ -91,7 +91,6 @@ read_items-returns-clause-ok t c =
     let r = c.take_end_array.new.self in
     l.invariant.read ∙ ap (parse_map (before l.found.items)) (items_over p n l.reader r l.invariant.enough (grind arith))
     ∙ ap (λ ds. Some (ds, r)) (before-none l.found.items)
-    ∙ ap (λ vs. Some (items_data (items_view vs), r)) (sym c.fitted.ensures)
 
 pub read_members-returns-clause-ok : goal.read_members-returns-clause-ok
 read_members-returns-clause-ok t c =
@@ -131,7 +130,7 @@ read_pairs-members-preserved t c =
     let lesser = done.shorter in
     let copied : string_bytes key ≡ k = search rules in
     let put_in = λ (found : Members).
-    ap (λ ps. put_in_turn ps found) c.in_ok-push.ensures.items ∙ put-append l.pairs.items ((key, v) ∷ []) found in
+    ap (λ ps. put_in_turn ps found) c.in_ok-push_closely.ensures ∙ put-append l.pairs.items ((key, v) ∷ []) found in
     let spelled = λ (found : Members).
     ap members_data (put_in found) ∙ put-data (string_bytes key) (view v) (put_in_turn l.pairs.items found)
     ∙ ap (λ name. put name (data_of (view v)) (members_data (put_in_turn l.pairs.items found))) copied in

@@ -5,16 +5,13 @@ use Rattle.std.specs.BTreeMap.{is_at, IsFromIterResult}
 use Rattle.std.specs.Map.{lookup, update_all}
 use Rattle.std.specs.Ordering.{eq_by_cmp}
 use Rattle.std.specs.Result.{IfOk}
-use Rattle.ssa_members.specs.Members.{IsMadeOf, IsRising}
+use Rattle.ssa_members.specs.Members.{IsRising}
 use Rattle.ssa_members.proofs.Made.{made-rising}
 use Rattle.ssa_members.proofs.members.Members.of_pairs.Given.{Over}
 use Rattle.ssa_members.proofs.members.Members.of_pairs.Goals as goal
 
 pub returns-then-rises : goal.returns-then-rises
-returns-then-rises g c =
-    let ps = c.args.pairs.items in
-    subst (λ es. IsMadeOf ps (record { entries = es })) (sym c.fitted.ensures)
-    (made-rising ps (subst IsRising c.deref.ensures.value (c.rises.ensures c.if-rises.true)))
+returns-then-rises g c = made-rising c.args.pairs.items (subst IsRising c.deref.ensures.value (c.rises.ensures c.if-rises.true))
 
 taken-over : (g : Over) (c : goal.After-drop-entry-iterator-2 g) → c.in_ok-sorted.sorted.entries ≡ c.loop-entry.entries.items
 taken-over g c =
