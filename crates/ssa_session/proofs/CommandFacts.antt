@@ -1,5 +1,5 @@
 -- Which members are commands.
-use Rattle.std.proofs.Common.{◌≡◌, List, Bool, true, false, cond, ◌||◌, refl, sym, ap, ◌∙◌, true≢false, arith, string_bytes, String, Global}
+use Rattle.std.proofs.Common.{◌≡◌, ◌∷◌, [], List, Bool, true, false, cond, ◌||◌, refl, sym, ap, ◌∙◌, true≢false, arith, string_bytes, String, Global}
 use Rattle.std.specs.Prelude.{Option, Some, None, option_map, option_and_then, is_some, Result, Ok, Err, if◌then◌else◌, codes}
 use Rattle.std.proofs.lemmas.Bool.{and_parts}
 use Rattle.std.proofs.lemmas.Bool.Decides.{nat_tests}
