@@ -53,11 +53,13 @@ inserted-last done e more found k w sorted same key =
     insert_entry-last found k w (rw (same, key) (above_before done e more sorted))
 
 module _ {V : Type 0} where
-  names-below : (k : String Global) (es : List (Named V)) → AllByRecursion (λ y. string_cmp k y ≡ Less) (keys_of es) → AllByRecursion (λ n. slice_cmp nat_cmp (string_bytes k) n ≡ Less) (names es)
+  names-below : (k : String Global) (es : List (Named V)) → AllByRecursion (λ y. string_cmp k y ≡ Less) (keys_of es)
+      → AllByRecursion (λ n. slice_cmp nat_cmp (string_bytes k) n ≡ Less) (names es)
   names-below k [] h = tt
   names-below k (e ∷ es) h = (h.0, names-below k es h.1)
 
-  below-names : (k : String Global) (es : List (Named V)) → AllByRecursion (λ n. slice_cmp nat_cmp (string_bytes k) n ≡ Less) (names es) → AllByRecursion (λ y. string_cmp k y ≡ Less) (keys_of es)
+  below-names : (k : String Global) (es : List (Named V)) → AllByRecursion (λ n. slice_cmp nat_cmp (string_bytes k) n ≡ Less) (names es)
+      → AllByRecursion (λ y. string_cmp k y ≡ Less) (keys_of es)
   below-names k [] h = tt
   below-names k (e ∷ es) h = (h.0, below-names k es h.1)
 

@@ -11,7 +11,8 @@ use Rattle.std.specs.Ordering.{eq_by_cmp, is_eq}
 use Rattle.ssa_members.specs.Members.{Name, IsMadeOf, IsRising}
 use Rattle.ssa_members.proofs.Rising.{name_total}
 
-option_or-none : {X : Type 0} (o : Option X) → option_or o None ≡ o
+-- with none behind it, it is itself
+pub option_or-none : {X : Type 0} (o : Option X) → option_or o None ≡ o
 option_or-none None = refl
 option_or-none (Some x) = refl
 

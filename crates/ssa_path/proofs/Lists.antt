@@ -1,6 +1,6 @@
 -- Lists of children: one after another, parted at a place, and copied.
 use Rattle.std.proofs.Common.{◌≡◌, ℕ, suc, ◌+◌, ◌<◌, List, [], ◌∷◌, ◌++◌, length, get_or, take, drop, map, Bool, true, false, ◌&&◌, ◌||◌, refl, sym, ap, ◌∙◌, append_assoc, arith, set, length-set, get_or-set_same}
-use Rattle.std.proofs.lemmas.List.{drop_more, take_more, take-append-drop, take-set, drop-set-lt}
+use Rattle.std.proofs.lemmas.List.{take_more, take-append-drop, take-set, drop-set-lt}
 use Rattle.std.proofs.lemmas.List.Folds.{list_any-append}
 use Rattle.ssa_model.specs.definitions.Path.{Element, Path, same_path}
 use Rattle.ssa_path.specs.declared.element.Elem.{Elem}
@@ -13,6 +13,7 @@ use Rattle.ssa_path.specs.Trie.{Shape, here_path, is_one_of, paths_after, paths_
 use Rattle.ssa_path.proofs.Orders.{both_first, both_second, and_assoc}
 use Rattle.ssa_path.proofs.Levels.{shape-made, shape-level}
 use Rattle.ssa_model.proofs.Basics.{or_swap, both-true as both}
+pub use Rattle.ssa_members.proofs.Lent.{next-lent as left-at}
 
 -- ---- one after another
 
@@ -51,7 +52,7 @@ rises-drop (e ∷ es) fs h = rises-drop es fs (both_second _ _ h)
 pub filled-at : (cs : List (Elem × Trie)) (i : ℕ) (c : Elem × Trie) → i < length cs → c ≡ get_or cs i c → are_filled_tries cs ≡ true
     → (is_trie c.1 && is_filled c.1) ≡ true
 filled-at cs i c lt is h =
-    let left : are_filled_tries (c ∷ drop (i + 1) cs) ≡ true = ap are_filled_tries (sym (drop_more cs i c lt ∙ ap (λ x. x ∷ drop (i + 1) cs) (sym is)))
+    let left : are_filled_tries (c ∷ drop (i + 1) cs) ≡ true = ap are_filled_tries (sym (left-at cs i c lt is))
     ∙ filled-drop cs i h in
     both_first (is_trie c.1 && is_filled c.1) _ left
 
@@ -60,10 +61,6 @@ pub child-trie : (cs : List (Elem × Trie)) (i : ℕ) (c : Elem × Trie) → i <
 child-trie cs i c lt is h = both_first (is_trie c.1) _ (filled-at cs i c lt is h)
 
 -- ---- parted at a place
-
--- what is left at a place is the child there, and then what is left behind it
-pub left-at : {A : Type 0} (cs : List A) (i : ℕ) (c : A) → i < length cs → c ≡ get_or cs i c → drop i cs ≡ c ∷ drop (i + 1) cs
-left-at cs i c lt is = drop_more cs i c lt ∙ ap (λ x. x ∷ drop (i + 1) cs) (sym is)
 
 -- the first up to a place and the one there are the first up to the next place
 pub taken-at : {A : Type 0} (cs : List A) (i : ℕ) (c : A) → i < length cs → c ≡ get_or cs i c → take (i + 1) cs ≡ take i cs ++ c ∷ []

@@ -10,6 +10,7 @@ use Rattle.std.specs.Prelude.{is_some, if◌then◌else◌}
 use Rattle.ssa_model.specs.definitions.Body.{Content, leaf, atom, record_branch, dict_branch, list_branch, order_at}
 use Rattle.ssa_model.specs.definitions.Path.{Element, Path, path_cmp, same_element, same_path, parent, last_element, under}
 use Rattle.ssa_model.specs.definitions.Record.{common, new_order}
+use Rattle.ssa_members.proofs.Made.{option_or-none as or-none}
 use Rattle.ssa_model.proofs.PathMaps.{same_path-true}
 use Rattle.ssa_model.proofs.Pruned.{under-append}
 use Rattle.ssa_model.proofs.Scalars.{same_scalar-itself}
@@ -80,10 +81,6 @@ or_said x y = record { cut = option_or x.cut y.cut; leaf = option_or x.leaf y.le
 map-or : {A B : Type 0} (f : A → B) (a b : Option A) → option_map f (option_or a b) ≡ option_or (option_map f a) (option_map f b)
 map-or f None b = refl
 map-or f (Some x) b = refl
-
-or-none : {A : Type 0} (a : Option A) → option_or a None ≡ a
-or-none None = refl
-or-none (Some x) = refl
 
 -- with nothing said behind it, it is what was said
 pub or-silent : (x : Said) → or_said x silent ≡ x
