@@ -4,16 +4,19 @@
 //! object, tells owners, and is saved and loaded.
 //!
 //! ```
-//! let command = Command::Apply {
-//!     who: String::from_str(rt.alloc(), "kubectl")?,
-//!     force: false,
-//!     at: moment()?,
-//!     object: json(rt.alloc(), web(rt.alloc(), "", IMAGE)?.as_str())?,
-//! };
+//! let who = String::from_str(rt.alloc(), "kubectl")?;
+//! let at = moment()?;
+//! let with_image = json(rt.alloc(), web(rt.alloc(), "", IMAGE)?.as_str())?;
 //! let object = json(rt.alloc(), web(rt.alloc(), "", "")?.as_str())?;
 //! let mut bench = Bench::new(rt.alloc(), schema(rt.alloc())?, object)?;
-//! let changed = bench.execute(rt.alloc(), command)?;
-//! assert_eq!(rt; changed.added.len(), 1);
+//! let command = Command::Apply {
+//!     who,
+//!     force: false,
+//!     at,
+//!     object: with_image,
+//! };
+//! let added = bench.execute(rt.alloc(), command).map(|it| it.added.len());
+//! assert_eq!(rt; added.ok(), Some(1));
 //! assert!(rt; bench.undo().is_ok());
 //! assert!(rt; bench.undo().is_err());
 //! ```

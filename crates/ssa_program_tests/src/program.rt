@@ -6,7 +6,7 @@ use ssa_json::sink::OfWriter;
 use ssa_json::source::Source;
 use ssa_program::perform::perform;
 use ssa_program::usage::tell_usage;
-use ssa_tests::sample_schema::SCHEMA;
+use ssa_samples::sample_schema::SCHEMA;
 use ssa_words::words::read_words;
 use std::alloc::Global;
 use std::test::Fail;

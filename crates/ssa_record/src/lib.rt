@@ -4,13 +4,13 @@
 //! the record from the state at hand to a valid one.
 //!
 //! ```
-//! let schema = schema(rt.alloc())?;
-//! let mut state = state(rt.alloc(), &schema, r#"{"spec":{"replicas":3}}"#)?;
 //! let text =
 //!     r#"{"changed":[],"cut":[],"gone":[],"here":[],"leaves":[[["f:spec","f:replicas"],5]],"order":[],"put":[]}"#;
 //! let record = json(rt.alloc(), text)?;
-//! let answer = read_record(rt.alloc(), &schema, "v1", &mut state, &record)?;
-//! assert!(rt; matches!(answer, RecordAnswer::Fits(_)));
+//! let schema = schema(rt.alloc())?;
+//! let mut state = state(rt.alloc(), &schema, r#"{"spec":{"replicas":3}}"#)?;
+//! let answer = read_record(rt.alloc(), &schema, "v1", &mut state, &record);
+//! assert!(rt; matches!(answer, Ok(RecordAnswer::Fits(_))));
 //! ```
 #![tactic(auto)]
 

@@ -4,10 +4,14 @@
 //! an object first.
 //!
 //! ```
-//! let mut bench = bench(rt.alloc())?;
 //! let mut reader = OfReader::new(b"{\"do\":\"undo\"}\n".as_slice());
 //! let mut writer = OfWriter::new(Vec::new(rt.alloc()));
-//! let done = session(rt.alloc(), &mut reader, &mut writer, &mut bench);
+//! let done = session(
+//!     rt.alloc(),
+//!     &mut reader,
+//!     &mut writer,
+//!     &mut bench(rt.alloc())?,
+//! );
 //! assert_eq!(rt; done, Ok(()));
 //! let replies = b"{\"fault\":64,\"name\":\"NothingToUndo\"}\n";
 //! assert_eq!(rt; writer.into_inner().as_slice(), replies.as_slice());

@@ -1,10 +1,10 @@
 //! Benches by their calls: commands that wait, counts, and moves.
 
-use crate::sample::{bench, json, moment, web};
 use ssa_bench::bench::Bench;
 use ssa_bench::command::Command;
 use ssa_bench::fault::Fault;
 use ssa_bench::prepared::Counts;
+use ssa_samples::sample::{bench, json, moment, web};
 use std::alloc::Global;
 use std::test::Fail;
 

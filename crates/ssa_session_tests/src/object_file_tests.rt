@@ -1,6 +1,6 @@
 //! Object files: what they make, and for what they make no bench.
 
-use crate::sample::replies;
+use crate::lines::replies;
 use crate::story::Story;
 use std::alloc::Global;
 use std::test::Fail;

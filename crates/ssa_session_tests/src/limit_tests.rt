@@ -1,8 +1,9 @@
 //! Sessions at the limits: a full history, as many managers and paths as there may be, long lines.
 
+use crate::lines::{line, replies};
 use crate::object_file_tests::shows;
-use crate::sample::{line, replies, web};
 use crate::story::Story;
+use ssa_samples::sample::web;
 use std::alloc::{AllocError, Global};
 use std::test::Fail;
 

@@ -1,10 +1,12 @@
 //! Bench files: what is written, that it is handed on, and what a full device is left with.
 
+use crate::bench_files::bench_file;
 use crate::devices::Marks;
-use crate::sample::{IMAGE, answers, bench, bench_file, line, web};
+use crate::lines::{answers, line};
 use ssa_bench::bench::Bench;
 use ssa_file::saving::SaveFault;
 use ssa_json::sink::OfWriter;
+use ssa_samples::sample::{IMAGE, bench, web};
 use std::alloc::Global;
 use std::test::Fail;
 

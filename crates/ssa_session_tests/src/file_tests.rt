@@ -1,9 +1,9 @@
 //! Runs on a schema file and an object file: what is written for each.
 
-use crate::sample::web;
-use crate::sample_schema::SCHEMA;
 use ssa_json::reader::OfReader;
 use ssa_json::sink::OfWriter;
+use ssa_samples::sample::web;
+use ssa_samples::sample_schema::SCHEMA;
 use ssa_session::files::{Ending, schema_of, session_on, tell};
 use std::alloc::Global;
 use std::test::Fail;

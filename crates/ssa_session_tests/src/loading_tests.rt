@@ -1,11 +1,13 @@
 //! Bench files that are taken again, and those that are none.
 
-use crate::breaks::Breaks;
-use crate::sample::{answers, bench, bench_file, line, undone_file, web};
+use crate::bench_files::{bench_file, undone_file};
+use crate::lines::{answers, line};
 use ssa_bench::bench::Bench;
 use ssa_file::loading::LoadFault;
 use ssa_json::reader::OfReader;
 use ssa_json::sink::OfWriter;
+use ssa_samples::breaks::Breaks;
+use ssa_samples::sample::{bench, web};
 use std::alloc::{AllocError, Global};
 use std::test::Fail;
 

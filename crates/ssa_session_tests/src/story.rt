@@ -1,6 +1,6 @@
 //! Stories: lines with the replies that they are to have.
 
-use crate::sample::replies;
+use crate::lines::replies;
 use std::alloc::{AllocError, Global};
 use std::test::Fail;
 

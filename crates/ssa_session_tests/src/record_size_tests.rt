@@ -1,7 +1,8 @@
 //! How much the records of a history hold, counted by hand: before an undo and after it.
 
-use crate::sample::{answers, bench, web};
+use crate::lines::answers;
 use ssa_bench::bench::Bench;
+use ssa_samples::sample::{bench, web};
 use std::alloc::{AllocError, Global};
 use std::test::Fail;
 

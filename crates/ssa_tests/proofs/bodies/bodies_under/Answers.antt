@@ -1,5 +1,5 @@
 use Rattle.ssa_typed.proofs.OneSort.{bodies_alike}
-use Rattle.ssa_tests.proofs.sample.bodies_under.Goals as goal
+use Rattle.ssa_tests.proofs.bodies.bodies_under.Goals as goal
 
 -- both are of the schema's kind
 pub returns : goal.returns
