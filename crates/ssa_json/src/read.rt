@@ -5,6 +5,7 @@ ghost use Rattle.ssa_json.specs.View.{view, items_view, members_view};
 ghost use Rattle.ssa_json.specs.Reading.{Answers, Converts, value_of, items_value, members_value};
 
 use crate::fault::JsonFault;
+use crate::reading_room::ReadingRoom;
 use crate::straight::read_straight;
 use crate::value::{Json, Scalar};
 use serde_json::{Map, Value};
@@ -19,10 +20,24 @@ impl Json {
         ensures answers { Answers result bytes.now most }
         ensures too_long { most < length bytes.now → result ≡ Err JsonFault.TooLong }
     {
+        let mut room = ReadingRoom::new(alloc);
+        Json::read_in(alloc, &mut room, bytes, most)
+    }
+
+    /// Reads a text as [`read`](Json::read) does, in room that is kept from one text to the next.
+    pub fn read_in(
+        alloc: Global,
+        room: &mut ReadingRoom,
+        bytes: &[u8],
+        most: usize,
+    ) -> Result<Json, JsonFault>
+        ensures answers { Answers result bytes.now most }
+        ensures too_long { most < length bytes.now → result ≡ Err JsonFault.TooLong }
+    {
         if bytes.len() > most {
             return Err(JsonFault::TooLong);
         }
-        if let Some(value) = read_straight(alloc, bytes) {
+        if let Some(value) = read_straight(alloc, room, bytes) {
             return Ok(value);
         }
         match Value::from_slice(alloc, bytes) {

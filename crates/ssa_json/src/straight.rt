@@ -10,9 +10,10 @@ ghost use Rattle.ssa_json.specs.Reading.{json_reading};
 ghost use Rattle.ssa_json.specs.View.{view, items_view, members_view};
 ghost use Rattle.ssa_json.specs.Written.{data_of, items_data, members_data, is_narrow, is_narrow_whole, items_narrow, members_narrow};
 
+use crate::reading_room::ReadingRoom;
 use crate::value::{Json, Scalar};
 use itoa::Buffer;
-use json::{Invalid, Reader, Scratch, Token};
+use json::{Invalid, Reader, Token};
 use ssa_members::{Members, push_closely};
 use std::alloc::{AllocError, AllocFailed, Global};
 
@@ -61,25 +62,24 @@ fn whole_number(text: &str) -> Option<i64>
 
 /// The value of bytes that are JSON text without a part that is left out here, as far as memory does. Each of its
 /// numbers is spelled as the program spells it.
-pub fn read_straight(alloc: Global, bytes: &[u8]) -> Option<Json>
+pub fn read_straight(alloc: Global, room: &mut ReadingRoom, bytes: &[u8]) -> Option<Json>
     ensures { IfSome result (λ v. json_reading bytes.now ≡ Ok (view v)) }
 {
     let Ok(text) = str::from_utf8(bytes) else {
         return None;
     };
-    match read_whole(alloc, text) {
+    match read_whole(alloc, room, text) {
         Ok(value) => Some(value),
         Err(_) => None,
     }
 }
 
 // The value of a whole text.
-fn read_whole(alloc: Global, text: &str) -> Result<Json, NotStraight>
+fn read_whole(alloc: Global, room: &mut ReadingRoom, text: &str) -> Result<Json, NotStraight>
     ensures ok { IfOk result (λ v. read_text text.now ≡ Some (data_of (view v))) }
     ensures narrow { IfOk result (λ v. is_narrow (view v) ≡ true) }
 {
-    let mut scratch = Scratch::new(alloc);
-    let mut reader = Reader::new(text, &mut scratch)?;
+    let mut reader = Reader::new(text, &mut room.scratch)?;
     let value = read_value(alloc, &mut reader, MOST_DEPTH)?;
     if reader.next().is_some() {
         return Err(NotStraight);

@@ -4,14 +4,13 @@ use Rattle.std.specs.Prelude.{Option, Some, None, if◌then◌else◌}
 use Rattle.ssa_model.specs.definitions.Path.{Path, is_key_field, is_root}
 use Rattle.ssa_model.specs.definitions.PathMap.{PathSet, empty, has, has_at_or_above, has_at_or_below, insert, is_empty, paths, set_of, minus, union}
 use Rattle.ssa_model.specs.definitions.Body as model
-use Rattle.ssa_model.specs.definitions.Table.{ManagerKey, Entry, Table, same_manager, owned_by, owned_by_others}
+use Rattle.ssa_model.specs.definitions.Table.{ManagerKey, Entry, Table, entry_of, same_manager, owned_by, owned_by_others}
 use Rattle.ssa_model.specs.definitions.Operations.{State, dropped, kept, pruned}
 use Rattle.ssa_model.proofs.PathMaps.{has-insert, has-minus, has-paths, has-set_of, has-union, same_sets, is_one_of}
 use Rattle.ssa_model.proofs.Tables.{true_or}
 use Rattle.ssa_path.specs.Meet.{meet}
 use Rattle.ssa_typed.specs.Reached.{PointsKeepAll, PointsTellPlaces}
 use Rattle.ssa_merge.specs.Absent.{absent}
-use Rattle.ssa_merge.specs.Tables.{entry_of}
 use Rattle.ssa_model.proofs.Basics.{and-true as whatever}
 
 both : (a b c : Bool) → ((a && b) && c) ≡ (a && (b && c))

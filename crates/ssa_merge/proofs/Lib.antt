@@ -4,6 +4,7 @@ pub mod Seats
 pub mod Seated
 pub mod GivenUp
 pub mod HeldAbove
+mod KeptSets
 mod Clashes
 pub mod RootedPruned
 pub mod KeptPlaces

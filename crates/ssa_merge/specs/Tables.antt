@@ -1,13 +1,8 @@
 -- Entries of a table.
-use Rattle.std.specs.Prelude.{[], ◌∷◌, Bool, true, not, ◌||◌, Option, Some, None, if◌then◌else◌}
+use Rattle.std.specs.Prelude.{[], ◌∷◌, Bool, true, not, ◌||◌, if◌then◌else◌}
 use Rattle.ssa_model.specs.definitions.Json.{Text}
 use Rattle.ssa_model.specs.definitions.PathMap.{PathSet, is_empty, minus, same_set}
-use Rattle.ssa_model.specs.definitions.Table.{ManagerKey, Entry, Table, same_manager, is_in_table}
-
--- the manager's entry
-abbrev pub entry_of : Table → ManagerKey → Option Entry
-entry_of [] a = None
-entry_of (e ∷ es) a = if same_manager e.manager a then Some e else entry_of es a
+use Rattle.ssa_model.specs.definitions.Table.{Entry, Table, is_in_table}
 
 abbrev pub owns : Entry → Bool
 owns e = not (is_empty e.owned)

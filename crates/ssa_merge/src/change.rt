@@ -124,13 +124,14 @@ fn unless_live(merged: Merged) -> Option<Body>
     }
 }
 
-// What an Apply of a configuration with these points changes: the manager then owns them.
+// What an Apply of a configuration with these points changes: the manager then owns them, or keeps them.
 fn applied_with(
     alloc: Global,
     state: &State,
     key: &ManagerKey,
     config: Body,
     owned: &FieldSet,
+    keeps: bool,
     force: bool,
     at: Moment,
 ) -> Result<Change, Refusal>
@@ -138,9 +139,10 @@ fn applied_with(
     requires named { is_manager_name (key_view key.now).name ≡ true }
     requires owned { AllEntries (OwnsOwnable state.now.body) state.now.managers }
     requires points { owned.now ≡ points config }
+    requires kept { keeps ≡ true → owned_by state.now.managers (key_view key.now) ≡ owned.now }
     ensures { IsChanged (state_view state.now) result (apply (state_view state.now) (key_view key.now) config force at) }
 {
-    let merged = pruned(alloc, state, key, config, owned)?;
+    let merged = pruned(alloc, state, key, config, owned, keeps)?;
     let comparison = compared(alloc, &state.body, &merged)?;
     let changed = &comparison.modified;
     if let Some(found) = conflict_of(alloc, &state.managers, key, changed, force)? {
@@ -149,7 +151,16 @@ fn applied_with(
     if merged.body.size() > MOST_PLACES {
         return Err(Refusal::TooManyPaths);
     }
-    match seat(alloc, &state.managers, key, owned, changed, changed, at) {
+    match seat(
+        alloc,
+        &state.managers,
+        key,
+        owned,
+        keeps,
+        changed,
+        changed,
+        at,
+    ) {
         Ok(table) => Ok(Change {
             body: unless_live(merged),
             table,
@@ -176,11 +187,11 @@ fn applied(
 {
     if let Some(entry) = state.managers.get(key) {
         if config.has_points(alloc, &entry.set)? {
-            return applied_with(alloc, state, key, config, &entry.set, force, at);
+            return applied_with(alloc, state, key, config, &entry.set, true, force, at);
         }
     }
     let points = config.points(alloc)?;
-    applied_with(alloc, state, key, config, &points, force, at)
+    applied_with(alloc, state, key, config, &points, false, force, at)
 }
 
 /// What an Apply of a configuration by a manager changes, or why it is refused: see
@@ -241,7 +252,16 @@ fn updated(
     let owned = owned_after_update(alloc, state, key, &comparison)?;
     let changed = &comparison.modified;
     let lost = changed.union(alloc, &comparison.removed)?;
-    match seat(alloc, &state.managers, key, &owned, &lost, changed, at) {
+    match seat(
+        alloc,
+        &state.managers,
+        key,
+        &owned,
+        false,
+        &lost,
+        changed,
+        at,
+    ) {
         Ok(table) => Ok(Change {
             body: body_if_other(&state.body, object, &comparison),
             table,

@@ -3,7 +3,7 @@ ghost use Rattle.std.specs.Prelude.{◌≡◌, not, ◌&&◌, true, IfOk};
 ghost use Rattle.ssa_model.specs.definitions.PathMap.{has_at_or_below, paths, set_of, union};
 ghost use Rattle.ssa_model.specs.definitions.Path.{is_key_field, is_root};
 ghost use Rattle.ssa_model.specs.definitions.Body.{points};
-ghost use Rattle.ssa_model.specs.definitions.Table.{owned_by_others};
+ghost use Rattle.ssa_model.specs.definitions.Table.{owned_by, owned_by_others};
 ghost use Rattle.ssa_model.specs.definitions.Operations.{pruned};
 ghost use Rattle.ssa_model.specs.definitions.Valid.{AllEntries, OwnsOwnable};
 ghost use Rattle.ssa_typed.specs.Alike.{AreAlike};
@@ -30,18 +30,23 @@ fn without_root(alloc: Global, set: &FieldSet) -> Result<FieldSet, AllocError>
     Ok(rest)
 }
 
-// The paths of the manager's at which its configuration has nothing. The points of the
-// configuration tell its places, so that no walk over it is needed.
+// The paths of the manager's at which its configuration has nothing: none where it owns the points of the
+// configuration already. The points tell its places, so that no walk over it is needed.
 fn left_out(
     alloc: Global,
     state: &State,
     key: &ManagerKey,
     config: &Body,
     config_points: &FieldSet,
+    keeps: bool,
 ) -> Result<FieldSet, AllocError>
-    requires { config_points.now ≡ points config.now }
+    requires points { config_points.now ≡ points config.now }
+    requires kept { keeps ≡ true → owned_by state.now.managers (key_view key.now) ≡ config_points.now }
     ensures { IfOk result (λ s. s ≡ absent (state_view state.now) (key_view key.now) config.now) }
 {
+    if keeps {
+        return Ok(FieldSet::new(alloc));
+    }
     config.points_tell_places();
     match state.managers.get(key) {
         Some(entry) => {
@@ -95,21 +100,24 @@ fn held_over(
 }
 
 /// The body after an Apply: the configuration over the live body, without what the manager gives up
-/// and nobody else needs. The configuration's memory becomes the body's.
+/// and nobody else needs. The configuration's memory becomes the body's. Where `keeps` tells that the
+/// manager owns the points of the configuration already, nothing is looked for that it gives up.
 pub fn pruned(
     alloc: Global,
     state: &State,
     key: &ManagerKey,
     config: Body,
     config_points: &FieldSet,
+    keeps: bool,
 ) -> Result<Merged, AllocError>
     requires alike { AreAlike state.now.body config }
     requires owned { AllEntries (OwnsOwnable state.now.body) state.now.managers }
     requires points { config_points.now ≡ points config }
+    requires kept { keeps ≡ true → owned_by state.now.managers (key_view key.now) ≡ config_points.now }
     ensures body { IfOk result (λ m. m.body ≡ pruned (state_view state.now) (key_view key.now) config) }
     ensures live { IfOk result (λ m. m.is_live ≡ true → m.body ≡ state.now.body) }
 {
-    let absent = left_out(alloc, state, key, &config, config_points)?;
+    let absent = left_out(alloc, state, key, &config, config_points, keeps)?;
     config.stands_rooted();
     config.points_tell_places();
     let merged = state.body.over(alloc, config)?;

@@ -3,11 +3,10 @@ ghost use Rattle.std.specs.Prelude.{◌≡◌, ◌≤◌, [], length, option_map
 ghost use Rattle.std.specs.Slice.Iter.{iter_rest};
 ghost use Rattle.ssa_model.specs.definitions.Limits.{most_managers};
 ghost use Rattle.ssa_model.specs.definitions.PathMap.{union};
-ghost use Rattle.ssa_model.specs.definitions.Table.{is_in_table, owned_by, owned_by_others};
+ghost use Rattle.ssa_model.specs.definitions.Table.{entry_of, is_in_table, owned_by, owned_by_others};
 ghost use Rattle.ssa_model.specs.definitions.Operations.{clashes};
 ghost use Rattle.ssa_model.specs.definitions.Valid.{IsManagers};
 ghost use Rattle.ssa_merge.specs.Managers.{key_view, entry_view, table_view, clashes_view};
-ghost use Rattle.ssa_merge.specs.Tables.{entry_of};
 
 use crate::manager::{ManagerKey, Operation};
 use arrayvec::ArrayVec;

@@ -1,7 +1,9 @@
 //! What becomes of a table of managers by a command.
 ghost use Rattle.std.specs.Prelude.{◌≡◌, ◌∷◌, [], true, filter, map, length, IfOk};
 ghost use Rattle.ssa_model.specs.definitions.History.{is_manager_name};
-ghost use Rattle.ssa_model.specs.definitions.Table.{is_in_table, reseated, seat};
+ghost use Rattle.ssa_model.specs.definitions.PathMap.{same_set};
+ghost use Rattle.ssa_model.specs.definitions.Table.{is_in_table, owned_by, reseated, same_manager, seat};
+ghost use Rattle.ssa_model.specs.definitions.Valid.{has_distinct_keys};
 ghost use Rattle.ssa_merge.specs.Managers.{key_view, entry_view, table_view};
 ghost use Rattle.ssa_merge.specs.TableChanges.{changed_entries, changed_entry, IsSeated, LeadsTo};
 ghost use Rattle.ssa_merge.specs.Tables.{acted, less, owns};
@@ -42,21 +44,31 @@ fn losing(alloc: Global, entry: &Entry, lost: &FieldSet) -> Result<EntryChange, 
     Ok(EntryChange::Loses(taken, entry.at))
 }
 
+// Whether the set is the entry's. Where it is known that the manager keeps its set, nothing is compared.
+fn is_own_set(entry: &Entry, owned: &FieldSet, keeps: bool) -> bool
+    requires { keeps ≡ true → owned.now ≡ (entry_view entry.now).owned }
+    ensures { result ≡ same_set owned.now (entry_view entry.now).owned }
+{
+    keeps || owned.is_same(&entry.set)
+}
+
 // What becomes of the entry of a manager that owns these paths then; where its paths or a field
 // changed, its moment is `at`.
 fn acting(
     alloc: Global,
     entry: &Entry,
     owned: &FieldSet,
+    keeps: bool,
     changed: bool,
     at: Moment,
 ) -> Result<EntryChange, AllocError>
+    requires { keeps ≡ true → owned.now ≡ (entry_view entry.now).owned }
     ensures { IfOk result (λ c. changed_entry c (entry_view entry.now) ≡ filter owns (acted (entry_view entry.now) owned.now changed at ∷ [])) }
 {
     if owned.is_empty() {
         return Ok(EntryChange::Leaves);
     }
-    if !owned.is_same(&entry.set) {
+    if !is_own_set(entry, owned, keeps) {
         let set = owned.copy(alloc)?;
         return Ok(EntryChange::Owns(set, at));
     }
@@ -72,15 +84,17 @@ fn reseated(
     entry: &Entry,
     key: &ManagerKey,
     owned: &FieldSet,
+    keeps: bool,
     lost: &FieldSet,
     changed: bool,
     at: Moment,
 ) -> Result<EntryChange, AllocError>
+    requires { keeps ≡ true → same_manager (entry_view entry.now).manager (key_view key.now) ≡ true → owned.now ≡ (entry_view entry.now).owned }
     ensures { IfOk result (λ c. changed_entry c (entry_view entry.now)
         ≡ filter owns (reseated (key_view key.now) owned.now lost.now changed at (entry_view entry.now) ∷ [])) }
 {
     if entry.key.is_same(key) {
-        return acting(alloc, entry, owned, changed, at);
+        return acting(alloc, entry, owned, keeps, changed, at);
     }
     losing(alloc, entry, lost)
 }
@@ -91,17 +105,21 @@ fn reseated_entries(
     table: &[Entry],
     key: &ManagerKey,
     owned: &FieldSet,
+    keeps: bool,
     lost: &FieldSet,
     changed: bool,
     at: Moment,
 ) -> Result<Vec<EntryChange>, AllocError>
+    requires distinct { has_distinct_keys (table_view table.now) ≡ true }
+    requires kept { keeps ≡ true → owned_by (table_view table.now) (key_view key.now) ≡ owned.now }
     ensures each { IfOk result (λ cs. length cs.items ≡ length table.now) }
     ensures made { IfOk result (λ cs. changed_entries cs.items (table_view table.now)
         ≡ filter owns (map (reseated (key_view key.now) owned.now lost.now changed at) (table_view table.now))) }
 {
     let mut changes = Vec::with_capacity(alloc, table.len())?;
     for entry in table {
-        changes.push(reseated(alloc, entry, key, owned, lost, changed, at)?)?;
+        let change = reseated(alloc, entry, key, owned, keeps, lost, changed, at)?;
+        changes.push(change)?;
     }
     Ok(changes)
 }
@@ -124,22 +142,25 @@ fn newcomer(
 /// owns nothing leaves.
 ///
 /// A new manager stands last. Its moment is `at`, as is an old one's whose set changed or where
-/// something was modified. Refused is a table of more than 64 managers.
+/// something was modified. Refused is a table of more than 64 managers. Where `keeps` tells that the
+/// manager owns these paths already, they are not compared with its set.
 pub fn seat(
     alloc: Global,
     managers: &Managers,
     key: &ManagerKey,
     owned: &FieldSet,
+    keeps: bool,
     lost: &FieldSet,
     modified: &FieldSet,
     at: Moment,
 ) -> Result<TableChange, Refusal>
-    requires { is_manager_name (key_view key.now).name ≡ true }
+    requires named { is_manager_name (key_view key.now).name ≡ true }
+    requires kept { keeps ≡ true → owned_by managers.now (key_view key.now) ≡ owned.now }
     ensures { IsSeated managers.now result (seat managers.now (key_view key.now) owned.now lost.now modified.now at) }
 {
     let changed = !modified.is_empty();
     let table = managers.entries();
-    let entries = reseated_entries(alloc, table, key, owned, lost, changed, at)?;
+    let entries = reseated_entries(alloc, table, key, owned, keeps, lost, changed, at)?;
     if is_in_table(table, key) || owned.is_empty() {
         return Ok(TableChange {
             entries,

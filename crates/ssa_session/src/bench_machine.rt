@@ -19,6 +19,7 @@ use crate::reply_text::{changed_text, moved_text, owners_text, shown_text};
 use ssa_bench::bench::Bench;
 use ssa_bench::command as bench;
 use ssa_bench::fault::Fault;
+use ssa_json::reading_room::ReadingRoom;
 use ssa_path::path::Path;
 use std::alloc::{AllocError, Global};
 
@@ -180,8 +181,13 @@ impl Machine for Bench {
 
     ghost after = { bench_after };
 
-    fn answer(&mut self, alloc: Global, line: &[u8]) -> Result<Vec<u8>, AllocError> {
-        match read_command(alloc, line) {
+    fn answer(
+        &mut self,
+        alloc: Global,
+        room: &mut ReadingRoom,
+        line: &[u8],
+    ) -> Result<Vec<u8>, AllocError> {
+        match read_command(alloc, room, line) {
             Ok(command) => {
                 let answered = answer_command(self, alloc, command)?;
                 Ok(answered.text)

@@ -13,6 +13,7 @@ use crate::write_line::write_reply;
 use ssa_file::line::Line;
 use ssa_file::read_line::{LineEnd, read_line};
 use ssa_json::fault_code::FaultCode;
+use ssa_json::reading_room::ReadingRoom;
 use ssa_json::sink::Sink;
 use ssa_json::source::{DeviceFault, Source};
 use std::alloc::Global;
@@ -60,13 +61,14 @@ pub fn session<R: Source, W: Sink, M: Machine>(
     ensures writer_failed { result ≡ Err SessionFault.Writer → W.has_failed writer.new ≡ true }
 {
     let mut line = Line::new(alloc);
+    let mut room = ReadingRoom::new(alloc);
     loop {
         let Ok(end) = read_line(alloc, reader, &mut line, LINE_LIMIT) else {
             return Err(SessionFault::Reader);
         };
         match end {
             LineEnd::LineFeed => {
-                let Ok(()) = answer_line(alloc, writer, machine, &line) else {
+                let Ok(()) = answer_line(alloc, writer, machine, &mut room, &line) else {
                     return Err(SessionFault::Writer);
                 };
             }
@@ -74,7 +76,7 @@ pub fn session<R: Source, W: Sink, M: Machine>(
                 if line.is_empty() {
                     return Ok(());
                 }
-                let Ok(()) = answer_line(alloc, writer, machine, &line) else {
+                let Ok(()) = answer_line(alloc, writer, machine, &mut room, &line) else {
                     return Err(SessionFault::Writer);
                 };
                 return Ok(());
@@ -88,6 +90,7 @@ fn answer_line<W: Sink, M: Machine>(
     alloc: Global,
     writer: &mut W,
     machine: &mut M,
+    room: &mut ReadingRoom,
     line: &Line,
 ) -> Result<(), DeviceFault>
     ensures ok { OnOk result ((text : List ℕ) → Holds most_line_bytes line.now text
@@ -100,7 +103,7 @@ fn answer_line<W: Sink, M: Machine>(
     match line {
         Line::TooLong => write_fault(writer, FaultCode::TooLong),
         Line::OutOfMemory => write_fault(writer, FaultCode::OutOfMemory),
-        Line::Kept(bytes) => match machine.answer(alloc, bytes) {
+        Line::Kept(bytes) => match machine.answer(alloc, room, bytes) {
             Ok(text) => write_reply(writer, text),
             Err(_) => write_fault(writer, FaultCode::OutOfMemory),
         },

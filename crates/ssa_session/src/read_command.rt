@@ -17,6 +17,7 @@ use ssa_json::fault::JsonFault;
 use ssa_json::fault_code::FaultCode;
 use ssa_json::members::find_member;
 use ssa_json::moment::Moment;
+use ssa_json::reading_room::ReadingRoom;
 use ssa_json::value::{Json, Scalar, objects_are_members};
 use ssa_members::Members;
 use ssa_path::element_fault::ElemFault;
@@ -93,11 +94,15 @@ impl<T: Drop> From<AllocFailed<T>> for LineFault {
     }
 }
 
-/// Reads the line as one JSON text, and its value as a command.
-pub fn read_command(alloc: Global, line: &[u8]) -> Result<Command, LineFault>
+/// Reads the line as one JSON text, in the room, and its value as a command.
+pub fn read_command(
+    alloc: Global,
+    room: &mut ReadingRoom,
+    line: &[u8],
+) -> Result<Command, LineFault>
     ensures { ReadsCommand result (read_line readings line.now) }
 {
-    match Json::read(alloc, line, line.len()) {
+    match Json::read_in(alloc, room, line, line.len()) {
         Ok(value) => command_of(alloc, value),
         Err(JsonFault::NotJson) => Err(LineFault::NotJson),
         Err(JsonFault::NullValue) => Err(LineFault::NullValue),

@@ -1,6 +1,6 @@
 use Rattle.std.proofs.Common.{◌≡◌, drop}
 use Rattle.ssa_merge.specs.Managers.{key_view, table_view}
-use Rattle.ssa_merge.specs.Tables.{entry_of}
+use Rattle.ssa_model.specs.definitions.Table.{entry_of}
 use Rattle.ssa_merge.proofs.managers.find_entry.Given as goal
 
 -- the entry is among those that are left

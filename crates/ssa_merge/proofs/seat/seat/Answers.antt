@@ -1,6 +1,7 @@
 use Rattle.std.proofs.Common.{◌+◌, ◌≤◌, length, ap, ◌∙◌, sym, arith}
 use Rattle.ssa_model.specs.definitions.Limits.{most_managers}
-use Rattle.ssa_model.specs.definitions.Table.{is_in_table}
+use Rattle.ssa_model.specs.definitions.Table.{is_in_table, owned_by}
+use Rattle.ssa_model.specs.definitions.Valid.{has_distinct_keys}
 use Rattle.ssa_merge.specs.Managers.{key_view}
 use Rattle.ssa_merge.specs.TableChanges.{changed_entries}
 use Rattle.ssa_merge.proofs.Seats.{reseated-are, seat-known, seat-nobody, seat-newcomer, stayed-leads, newcomer-leads, newcomer-many}
@@ -18,7 +19,7 @@ returns-then-is_in_table c =
     let made =
     reseated-are table a c.args.owned.now c.args.lost.now c.args.modified.now c.args.at es cs.items c.is_empty-changed.result same
     c.is_empty-changed.ensures c.in_ok-entries.ensures.each c.in_ok-entries.ensures.made in
-    stayed-leads table a c.args.owned.now c.args.lost.now c.args.modified.now c.args.at cs made c.entries-table.ensures.held c.requires
+    stayed-leads table a c.args.owned.now c.args.lost.now c.args.modified.now c.args.at cs made c.entries-table.ensures.held c.requires.named
     (elim c.then-is_in_table.branch [
       | then-is_in_table-via-then-is_in_table w ↦ seat-known table a c.args.owned.now c.args.lost.now c.args.modified.now c.args.at (is ∙ w.if-is_in_table.true)
       | then-is_in_table-via-else-is_in_table+then-is_empty w ↦
@@ -58,5 +59,12 @@ returns c =
     let kept = c.count_kept.ensures.count table (ap length c.deref.ensures.value ∙ made.0)
     ∙ ap (λ ds. length (changed_entries ds table)) c.deref.ensures.value in
     newcomer-leads table a c.args.owned.now c.args.lost.now c.args.modified.now c.args.at cs c.in_ok-newcomer.newcomer made
-    c.entries-table.ensures.held c.requires unknown c.in_ok-newcomer.ensures is
+    c.entries-table.ensures.held c.requires.named unknown c.in_ok-newcomer.ensures is
     (let fits : length (changed_entries cs.items table) + 1 ≤ most_managers = omega arith in fits)
+
+pub reseated_entries-requires : goal.reseated_entries-requires
+reseated_entries-requires c =
+    let same = c.entries-table.ensures.same in record {
+      distinct = ap has_distinct_keys same ∙ c.entries-table.ensures.held.distinct;
+      kept = λ keeps. ap (λ t. owned_by t (key_view c.args.key.now)) same ∙ c.requires.kept keeps;
+    }

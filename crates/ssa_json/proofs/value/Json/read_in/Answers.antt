@@ -2,7 +2,7 @@ use Rattle.std.proofs.Common.{arith}
 use Rattle.std.proofs.lemmas.Bool.{false≢true}
 use Rattle.serde_json.specs.View.{view as data_view}
 use Rattle.ssa_json.proofs.Converting.{json_reading-none, Answers-converted}
-use Rattle.ssa_json.proofs.value.Json.read.Goals as goal
+use Rattle.ssa_json.proofs.value.Json.read_in.Goals as goal
 
 pub returns-in-Ok-clause-answers : goal.returns-in-Ok-clause-answers
 returns-in-Ok-clause-answers c =
