@@ -1,11 +1,9 @@
-//! Tests of sessions and of the files that benches are made of, taken from and saved in: of what no
-//! contract says.
+//! Tests of sessions, of those on a bench that was loaded, and of the files of schemas and objects that they
+//! are held on: of what no contract says.
 #![tactic(auto)]
 
 #[cfg(test)]
-mod bench_files;
-#[cfg(test)]
-mod devices;
+mod falters;
 #[cfg(test)]
 mod file_tests;
 #[cfg(test)]
@@ -15,13 +13,9 @@ mod limit_tests;
 #[cfg(test)]
 mod lines;
 #[cfg(test)]
-mod loading_tests;
+mod loaded_bench_tests;
 #[cfg(test)]
 mod object_file_tests;
-#[cfg(test)]
-mod record_size_tests;
-#[cfg(test)]
-mod saving_tests;
 #[cfg(test)]
 mod session_tests;
 #[cfg(test)]

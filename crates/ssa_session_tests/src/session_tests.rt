@@ -1,10 +1,11 @@
 //! Sessions over fakes: what is answered, written and flushed, and what a device's fault leaves.
 ghost use Rattle.std.specs.Prelude.{ℕ, List};
 
-use crate::devices::{Falters, Marks};
+use crate::falters::Falters;
 use ssa_json::reader::OfReader;
 use ssa_json::sink::OfWriter;
 use ssa_samples::breaks::Breaks;
+use ssa_samples::marks::Marks;
 use ssa_session::engine::{SessionFault, session};
 use ssa_session::machine::Machine;
 use std::alloc::{AllocError, Global};

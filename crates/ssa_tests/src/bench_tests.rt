@@ -1,25 +1,15 @@
 //! Benches by their calls: commands that wait, counts, and moves.
 
+use crate::commands::apply;
 use ssa_bench::bench::Bench;
 use ssa_bench::command::Command;
 use ssa_bench::fault::Fault;
 use ssa_bench::prepared::Counts;
-use ssa_samples::sample::{bench, json, moment, web};
+use ssa_samples::sample::bench;
 use std::alloc::Global;
 use std::test::Fail;
 
-// An Apply of an image.
-fn apply(alloc: Global) -> Result<Command, Fail> {
-    Ok(Command::Apply {
-        who: String::from_str(alloc, "kubectl")?,
-        force: false,
-        at: moment()?,
-        object: json(
-            alloc,
-            web(alloc, "", ",\"spec\":{\"image\":\"a:1\"}")?.as_str(),
-        )?,
-    })
-}
+const IMAGE: &str = ",\"spec\":{\"image\":\"a:1\"}";
 
 // Prepares a command, and carries it out: how many managers it tells of before and after, and how
 // many commands the past has before and after.
@@ -37,7 +27,7 @@ fn prepare_and_commit(
 
 #[test]
 fn prepared_commands_wait(rt: HostRuntime) -> Result<(), Fail> {
-    let command = apply(rt.alloc())?;
+    let command = apply(rt.alloc(), IMAGE)?;
     let mut bench = bench(rt.alloc())?;
     let told = prepare_and_commit(rt.alloc(), &mut bench, command);
     drop(bench);
@@ -60,7 +50,7 @@ fn after(moved: Result<Counts, Fault>) -> Result<(usize, usize), Fail> {
 // An Apply, a Strip, an undo and a redo: what each tells.
 fn walk(alloc: Global, bench: &mut Bench) -> Result<[(usize, usize); 4], Fail> {
     Ok([
-        execute(alloc, bench, apply(alloc)?)?,
+        execute(alloc, bench, apply(alloc, IMAGE)?)?,
         execute(alloc, bench, Command::Strip)?,
         after(bench.undo())?,
         after(bench.redo())?,

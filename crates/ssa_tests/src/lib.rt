@@ -1,5 +1,5 @@
-//! Tests of benches by their calls, and the examples on the first pages of the crates below: of what no
-//! contract says.
+//! Tests of benches by their calls, of the files that benches are taken from and saved in, and the examples
+//! on the first pages of the crates below: of what no contract says.
 #![tactic(auto)]
 
 #[cfg(test)]
@@ -7,4 +7,12 @@ mod bench_tests;
 #[cfg(test)]
 mod bodies;
 #[cfg(test)]
+mod commands;
+#[cfg(test)]
 mod front_tests;
+#[cfg(test)]
+mod loading_tests;
+#[cfg(test)]
+mod record_size_tests;
+#[cfg(test)]
+mod saving_tests;

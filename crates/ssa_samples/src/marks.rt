@@ -1,12 +1,10 @@
-//! Devices that falter, that take one byte at a time, and that tell when they are flushed.
-ghost use Rattle.std.specs.Prelude.{◌≡◌, length, None, false, IsTrue, IsErr};
+//! A sink that tells when it is flushed.
+ghost use Rattle.std.specs.Prelude.{◌≡◌, None, IsTrue, IsErr};
 ghost use Rattle.ssa_json.specs.Devices.{is_fault};
 
 use ssa_json::sink::Sink;
-use ssa_json::source::{DeviceFault, Source};
+use ssa_json::source::DeviceFault;
 use std::alloc::Global;
-use std::io;
-use std::io::{ErrorKind, Write};
 
 /// Takes one byte at a time, and marks each flush by a bar.
 #[derive(Drop)]
@@ -70,56 +68,5 @@ impl Sink for Marks {
         self.take(b'|')?;
         self.is_handed_on = true;
         Ok(())
-    }
-}
-
-/// A `std` writer that takes one byte at a call, until it has been called so often; then it fails, or takes nothing of what it
-/// is to write.
-#[derive(Drop)]
-pub struct Falters {
-    bytes: Vec<u8>,
-    calls_left: usize,
-    takes_nothing: bool,
-}
-
-impl Falters {
-    pub fn new(alloc: Global, calls_left: usize, takes_nothing: bool) -> Falters {
-        Falters {
-            bytes: Vec::new(alloc),
-            calls_left,
-            takes_nothing,
-        }
-    }
-
-    /// What was written.
-    pub fn into_bytes(self) -> Vec<u8> {
-        self.bytes
-    }
-
-    // Counts a call.
-    fn turn(&mut self) -> io::Result<()> {
-        if self.calls_left == 0 {
-            return Err(io::Error::from(ErrorKind::TimedOut));
-        }
-        self.calls_left -= 1;
-        Ok(())
-    }
-}
-
-impl Write for Falters {
-    fn write(&mut self, buf: &[u8]) -> io::Result<usize> {
-        if self.takes_nothing && self.calls_left == 0 {
-            return Ok(0);
-        }
-        self.turn()?;
-        let Some(byte) = buf.first() else {
-            return Ok(0);
-        };
-        self.bytes.push(*byte)?;
-        Ok(1)
-    }
-
-    fn flush(&mut self) -> io::Result<()> {
-        self.turn()
     }
 }

@@ -1,63 +1,33 @@
 //! How much the records of a history hold, counted by hand: before an undo and after it.
 
-use crate::lines::answers;
+use crate::commands::{Way, command};
 use ssa_bench::bench::Bench;
-use ssa_samples::sample::{bench, web};
-use std::alloc::{AllocError, Global};
+use ssa_samples::sample::bench;
+use std::alloc::Global;
 use std::test::Fail;
 
-// What a command does, as members of its line.
-const APPLY: &str = "\"do\":\"apply\"";
-
-const FORCE: &str = "\"do\":\"apply\",\"force\":true";
-
-const UPDATE: &str = "\"do\":\"update\"";
-
-// The line of a command at a second.
-fn command(
-    alloc: Global,
-    second: &str,
-    does: &str,
-    who: &str,
-    object: &str,
-) -> Result<String, AllocError> {
-    [
-        "{\"at\":\"2024-05-01T10:00:0",
-        second,
-        "Z\",",
-        does,
-        ",\"manager\":\"",
-        who,
-        "\",\"object\":",
-        object,
-        "}\n",
-    ]
-    .concat(alloc)
-}
-
-// Carries out a command on an object with these members behind its metadata.
+// Carries out a command.
 fn carry_out(
     alloc: Global,
     bench: &mut Bench,
     second: &str,
-    does: &str,
+    way: Way,
     who: &str,
     members: &str,
 ) -> Result<(), Fail> {
-    let object = web(alloc, "", members)?;
-    let line = command(alloc, second, does, who, object.as_str())?;
-    answers(alloc, bench, line.as_str())?;
+    let command = command(alloc, second, way, who, members)?;
+    bench.execute(alloc, command)?;
     Ok(())
 }
 
-// Carries out commands: each a second, what it does, a name and members.
+// Carries out commands: each a second, a way, a name and members.
 fn carry_out_all(
     alloc: Global,
     bench: &mut Bench,
-    commands: &[(&str, &str, &str, &str)],
+    commands: &[(&str, Way, &str, &str)],
 ) -> Result<(), Fail> {
-    for (second, does, who, members) in commands {
-        carry_out(alloc, bench, second, does, who, members)?;
+    for (second, way, who, members) in commands {
+        carry_out(alloc, bench, second, *way, who, members)?;
     }
     Ok(())
 }
@@ -71,7 +41,7 @@ fn held(bench: &Bench, n: usize) -> usize {
 fn held_both_ways(
     alloc: Global,
     bench: &mut Bench,
-    commands: &[(&str, &str, &str, &str)],
+    commands: &[(&str, Way, &str, &str)],
 ) -> Result<(usize, usize), Fail> {
     carry_out_all(alloc, bench, commands)?;
     let last = bench.past_len().saturating_sub(1);
@@ -83,7 +53,7 @@ fn held_both_ways(
 // The same of a bench on which nothing else was carried out.
 fn back_and_forth(
     alloc: Global,
-    commands: &[(&str, &str, &str, &str)],
+    commands: &[(&str, Way, &str, &str)],
 ) -> Result<(usize, usize), Fail> {
     let mut bench = bench(alloc)?;
     held_both_ways(alloc, &mut bench, commands)
@@ -101,7 +71,7 @@ const CBA: &str =
 
 #[test]
 fn an_apply_puts_a_field_and_a_manager(rt: HostRuntime) -> Result<(), Fail> {
-    let held = back_and_forth(rt.alloc(), &[("1", APPLY, "m1", THREE)]);
+    let held = back_and_forth(rt.alloc(), &[("1", Way::Apply, "m1", THREE)]);
     // Back: `spec` is cut, and m1 gone. Forth: `spec` and its field, and m1 with one path.
     assert_eq!(rt; held?, (2, 4));
     Ok(())
@@ -112,9 +82,9 @@ fn a_forced_apply_changes_a_leaf_and_takes_a_manager_out(rt: HostRuntime) -> Res
     let held = back_and_forth(
         rt.alloc(),
         &[
-            ("1", APPLY, "m1", THREE),
-            ("2", APPLY, "m2", THREE),
-            ("4", FORCE, "m1", ",\"spec\":{\"replicas\":5}"),
+            ("1", Way::Apply, "m1", THREE),
+            ("2", Way::Apply, "m2", THREE),
+            ("4", Way::ForcedApply, "m1", ",\"spec\":{\"replicas\":5}"),
         ],
     );
     // The leaf and the moment; back m2 with one path comes, forth it is gone.
@@ -126,7 +96,7 @@ fn a_forced_apply_changes_a_leaf_and_takes_a_manager_out(rt: HostRuntime) -> Res
 fn an_item_goes_with_its_fields(rt: HostRuntime) -> Result<(), Fail> {
     let held = back_and_forth(
         rt.alloc(),
-        &[("1", APPLY, "m1", ABC), ("2", UPDATE, "u", AC)],
+        &[("1", Way::Apply, "m1", ABC), ("2", Way::Update, "u", AC)],
     );
     // Back the item and its fields are put, forth it is cut; m1 gains or loses the three.
     assert_eq!(rt; held?, (6, 4));
@@ -137,7 +107,7 @@ fn an_item_goes_with_its_fields(rt: HostRuntime) -> Result<(), Fail> {
 fn items_change_their_order(rt: HostRuntime) -> Result<(), Fail> {
     let held = back_and_forth(
         rt.alloc(),
-        &[("1", APPLY, "m1", ABC), ("2", UPDATE, "u", CBA)],
+        &[("1", Way::Apply, "m1", ABC), ("2", Way::Update, "u", CBA)],
     );
     assert_eq!(rt; held?, (3, 3));
     Ok(())
@@ -147,7 +117,10 @@ fn items_change_their_order(rt: HostRuntime) -> Result<(), Fail> {
 fn a_repeated_apply_holds_nothing(rt: HostRuntime) -> Result<(), Fail> {
     let held = back_and_forth(
         rt.alloc(),
-        &[("1", APPLY, "m1", THREE), ("9", APPLY, "m1", THREE)],
+        &[
+            ("1", Way::Apply, "m1", THREE),
+            ("9", Way::Apply, "m1", THREE),
+        ],
     );
     assert_eq!(rt; held?, (0, 0));
     Ok(())
@@ -156,9 +129,9 @@ fn a_repeated_apply_holds_nothing(rt: HostRuntime) -> Result<(), Fail> {
 // How much each record of a bench holds after three commands, and that there are no more.
 fn held_by_each(alloc: Global, bench: &mut Bench) -> Result<[usize; 4], Fail> {
     let commands = [
-        ("1", APPLY, "m1", THREE),
-        ("2", APPLY, "m2", THREE),
-        ("9", APPLY, "m2", THREE),
+        ("1", Way::Apply, "m1", THREE),
+        ("2", Way::Apply, "m2", THREE),
+        ("9", Way::Apply, "m2", THREE),
     ];
     carry_out_all(alloc, bench, &commands)?;
     Ok([

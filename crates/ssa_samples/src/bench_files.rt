@@ -1,8 +1,13 @@
-//! Files of a bench of the sample schema.
+//! Files of a bench of the sample schema, and how a bench is taken from its file and saved in it.
 
-use ssa_samples::sample::{IMAGE, web};
-use ssa_samples::sample_schema::SCHEMA;
+use crate::sample::{IMAGE, web};
+use crate::sample_schema::SCHEMA;
+use ssa_bench::bench::Bench;
+use ssa_file::loading::LoadFault;
+use ssa_json::reader::OfReader;
+use ssa_json::sink::OfWriter;
 use std::alloc::{AllocError, Global};
+use std::test::Fail;
 
 const ENTRY: &str =
     "\"managedFields\":[{\"apiVersion\":\"example.com/v1\",\"fieldsType\":\"FieldsV1\",\"fieldsV1\":{\"f:spec\":{\"f:image\":{}}},\"manager\":\"kubectl\",\"operation\":\"Apply\",\"time\":\"2024-05-01T10:00:01Z\"}],";
@@ -31,4 +36,17 @@ pub fn undone_file(alloc: Global) -> Result<String, AllocError> {
         "\n{\"command\":{\"at\":\"2024-05-01T10:00:01Z\",\"do\":\"apply\",\"force\":false,\"manager\":\"kubectl\"},\"record\":{\"changed\":[],\"cut\":[],\"gone\":[],\"here\":[{\"entry\":{\"apiVersion\":\"example.com/v1\",\"fieldsType\":\"FieldsV1\",\"fieldsV1\":{\"f:spec\":{\"f:image\":{}}},\"manager\":\"kubectl\",\"operation\":\"Apply\",\"time\":\"2024-05-01T10:00:01Z\"},\"place\":0}],\"leaves\":[],\"order\":[],\"put\":[[[\"f:spec\"],{\"image\":\"a\"}]]}}\n",
     ]
     .concat(alloc)
+}
+
+/// The bench of a file.
+pub fn loaded(alloc: Global, file: &[u8]) -> Result<Bench, LoadFault> {
+    let mut reader = OfReader::new(file);
+    Bench::load(alloc, &mut reader)
+}
+
+/// The file of a bench.
+pub fn saved(alloc: Global, bench: &Bench) -> Result<Vec<u8>, Fail> {
+    let mut sink = OfWriter::new(Vec::new(alloc));
+    bench.save(alloc, &mut sink)?;
+    Ok(sink.into_inner())
 }

@@ -1,20 +1,18 @@
 //! Bench files: what is written, that it is handed on, and what a full device is left with.
 
-use crate::bench_files::bench_file;
-use crate::devices::Marks;
-use crate::lines::{answers, line};
+use crate::commands::apply;
 use ssa_bench::bench::Bench;
 use ssa_file::saving::SaveFault;
 use ssa_json::sink::OfWriter;
-use ssa_samples::sample::{IMAGE, bench, web};
+use ssa_samples::bench_files::bench_file;
+use ssa_samples::marks::Marks;
+use ssa_samples::sample::{IMAGE, bench};
 use std::alloc::Global;
 use std::test::Fail;
 
 // Applies an image, and saves the bench: what then stands in the device.
 fn apply_and_save(alloc: Global, bench: &mut Bench) -> Result<Marks, Fail> {
-    let object = web(alloc, "", IMAGE)?;
-    let line = line(alloc, "apply", "kubectl", object.as_str())?;
-    drop(answers(alloc, bench, line.as_str())?);
+    bench.execute(alloc, apply(alloc, IMAGE)?)?;
     let mut sink = Marks::new(alloc);
     bench.save(alloc, &mut sink)?;
     Ok(sink)

@@ -1,70 +1,31 @@
 //! Bench files that are taken again, and those that are none.
 
-use crate::bench_files::{bench_file, undone_file};
-use crate::lines::{answers, line};
+use crate::commands::apply;
 use ssa_bench::bench::Bench;
+use ssa_bench::command::Command;
 use ssa_file::loading::LoadFault;
-use ssa_json::reader::OfReader;
-use ssa_json::sink::OfWriter;
+use ssa_samples::bench_files::{bench_file, loaded, saved};
 use ssa_samples::breaks::Breaks;
-use ssa_samples::sample::{bench, web};
-use std::alloc::{AllocError, Global};
+use ssa_samples::sample::bench;
+use std::alloc::Global;
 use std::test::Fail;
-
-// The bench of a file.
-fn loaded(alloc: Global, file: &[u8]) -> Result<Bench, LoadFault> {
-    let mut reader = OfReader::new(file);
-    Bench::load(alloc, &mut reader)
-}
 
 // Why there is no bench of a file, or nothing where there is one.
 fn fault_of(alloc: Global, file: &[u8]) -> Option<LoadFault> {
     loaded(alloc, file).err()
 }
 
-// The file of a bench.
-fn saved(alloc: Global, bench: &Bench) -> Result<Vec<u8>, Fail> {
-    let mut sink = OfWriter::new(Vec::new(alloc));
-    bench.save(alloc, &mut sink)?;
-    Ok(sink.into_inner())
-}
-
-// What a bench answers to a line, and its file afterwards.
-fn answer_and_save(
-    alloc: Global,
-    bench: &mut Bench,
-    line: &str,
-) -> Result<(Vec<u8>, Vec<u8>), Fail> {
-    let reply = answers(alloc, bench, line)?;
-    let file = saved(alloc, bench)?;
-    Ok((reply, file))
-}
-
-// The same of the bench of a file.
-fn goes_on(alloc: Global, file: &str, line: &str) -> Result<(Vec<u8>, Vec<u8>), Fail> {
-    let mut bench = loaded(alloc, file.as_bytes())?;
-    answer_and_save(alloc, &mut bench, line)
+// The file of the bench of a file.
+fn saved_again(alloc: Global, file: &[u8]) -> Result<Vec<u8>, Fail> {
+    let bench = loaded(alloc, file)?;
+    saved(alloc, &bench)
 }
 
 #[test]
 fn what_is_loaded_is_saved_again(rt: HostRuntime) -> Result<(), Fail> {
     let file = bench_file(rt.alloc())?;
-    let (_, again) = goes_on(rt.alloc(), file.as_str(), "")?;
+    let again = saved_again(rt.alloc(), file.as_bytes())?;
     assert!(rt; again.as_slice() == file.as_bytes());
-    Ok(())
-}
-
-#[test]
-fn a_loaded_command_is_undone(rt: HostRuntime) -> Result<(), Fail> {
-    let alloc = rt.alloc();
-    let file = bench_file(alloc)?;
-    let (reply, undone) = goes_on(alloc, file.as_str(), "{\"do\":\"undo\"}\n")?;
-    assert!(rt; reply.as_slice() == b"{\"done\":\"undo\",\"future\":1,\"past\":0}\n".as_slice());
-    let first = undone_file(alloc)?;
-    assert!(rt; undone.as_slice() == first.as_bytes());
-    let (reply, redone) = goes_on(alloc, first.as_str(), "{\"do\":\"redo\"}\n")?;
-    assert!(rt; reply.as_slice() == b"{\"done\":\"redo\",\"future\":0,\"past\":1}\n".as_slice());
-    assert!(rt; redone.as_slice() == file.as_bytes());
     Ok(())
 }
 
@@ -94,30 +55,31 @@ const CHANGES: [(&str, &str); 6] = [
     ),
 ];
 
-// The lines by which one manager applies an object with these members, and then with others.
-fn applies(alloc: Global, before: &str, after: &str) -> Result<String, AllocError> {
-    let first = line(alloc, "apply", "kubectl", web(alloc, "", before)?.as_str())?;
-    let second = line(alloc, "apply", "kubectl", web(alloc, "", after)?.as_str())?;
-    [first.as_str(), "\n", second.as_str(), "\n"].concat(alloc)
-}
-
-// The file of a bench that has answered the lines.
-fn file_after(alloc: Global, bench: &mut Bench, lines: &str) -> Result<Vec<u8>, Fail> {
-    answers(alloc, bench, lines)?;
+// The file of the bench after two commands.
+fn file_after(
+    alloc: Global,
+    bench: &mut Bench,
+    before: Command,
+    after: Command,
+) -> Result<Vec<u8>, Fail> {
+    bench.execute(alloc, before)?;
+    bench.execute(alloc, after)?;
     saved(alloc, bench)
 }
 
 // The file of a bench on which one manager applied an object with these members, and then with others.
 fn changed_file(alloc: Global, before: &str, after: &str) -> Result<Vec<u8>, Fail> {
-    let lines = applies(alloc, before, after)?;
+    let before = apply(alloc, before)?;
+    let after = apply(alloc, after)?;
     let mut live = bench(alloc)?;
-    file_after(alloc, &mut live, lines.as_str())
+    file_after(alloc, &mut live, before, after)
 }
 
 // Whether the bench has this file, and its file after an undo is taken.
 fn goes_back(alloc: Global, bench: &mut Bench, file: &[u8]) -> Result<bool, Fail> {
     let same = saved(alloc, bench)?;
-    let undone = file_after(alloc, bench, "{\"do\":\"undo\"}\n")?;
+    bench.undo()?;
+    let undone = saved(alloc, bench)?;
     Ok(same.as_slice() == file && fault_of(alloc, undone.as_slice()).is_none())
 }
 
