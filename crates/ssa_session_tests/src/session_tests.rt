@@ -3,6 +3,7 @@ ghost use Rattle.std.specs.Prelude.{ℕ, List};
 
 use crate::falters::Falters;
 use ssa_json::reader::OfReader;
+use ssa_json::reading_room::ReadingRoom;
 use ssa_json::sink::OfWriter;
 use ssa_samples::breaks::Breaks;
 use ssa_samples::marks::Marks;
@@ -20,7 +21,12 @@ impl Machine for Echo {
 
     ghost after = { λ m _. m };
 
-    fn answer(&mut self, alloc: Global, line: &[u8]) -> Result<Vec<u8>, AllocError> {
+    fn answer(
+        &mut self,
+        alloc: Global,
+        _room: &mut ReadingRoom,
+        line: &[u8],
+    ) -> Result<Vec<u8>, AllocError> {
         if line.starts_with(b"x") {
             return Err(AllocError);
         }
