@@ -1,11 +1,21 @@
 //! Tests of the faults of values under schemas.
+use crate::questions::{Question, QuestionOfTwo};
 use crate::samples::SPEC;
-use crate::support::{are_told, schema, value};
+use crate::support::{are_told, are_told_of_two, schema, value};
 use ssa_json::value::Json;
 use ssa_schema::body_fault::BodyFault;
 use ssa_schema::schema::Schema;
-use std::alloc::Global;
+use std::alloc::{AllocError, Global};
 use std::test::Fail;
+
+// Puts words behind a text, with a blank before each.
+fn push_words(text: &mut String, words: &[String]) -> Result<(), AllocError> {
+    for word in words {
+        text.push_str(" ")?;
+        text.push_str(word.as_str())?;
+    }
+    Ok(())
+}
 
 // A fault's name and its path, or that there is none.
 fn told(alloc: Global, fault: Option<&BodyFault>) -> Result<String, Fail> {
@@ -17,10 +27,7 @@ fn told(alloc: Global, fault: Option<&BodyFault>) -> Result<String, Fail> {
         Some(BodyFault::DuplicateItem(path)) => ("DuplicateItem", path),
     };
     let mut text = String::from_str(alloc, name)?;
-    for element in path {
-        text.push_str(" ")?;
-        text.push_str(element.as_str())?;
-    }
+    push_words(&mut text, path)?;
     Ok(text)
 }
 
@@ -30,15 +37,15 @@ fn fault_of(alloc: Global, schema: &Schema, body: &Json) -> Result<String, Fail>
     told(alloc, fault.as_ref())
 }
 
-// The same of their texts.
-fn fault_under(alloc: Global, schema_text: &str, body: &str) -> Result<String, Fail> {
+/// The same of their texts.
+pub fn fault_under(alloc: Global, schema_text: &str, body: &str) -> Result<String, Fail> {
     let body = value(alloc, body)?;
     let schema = schema(alloc, schema_text)?;
     fault_of(alloc, &schema, &body)
 }
 
-// What is told of a value of the field `spec` of the sample.
-fn fault_of_spec(alloc: Global, spec: &str) -> Result<String, Fail> {
+/// What is told of a value of the field `spec` of the sample.
+pub fn fault_of_spec(alloc: Global, spec: &str) -> Result<String, Fail> {
     let body = [r#"{"spec":"#, spec, "}"].concat(alloc)?;
     fault_under(alloc, SPEC, &body)
 }
@@ -109,35 +116,25 @@ const SPECS: [(&str, &str); 32] = [
     (r#"{"args":"a"}"#, "WrongType f:spec f:args"),
 ];
 
-#[test]
-fn first_faults_are_told(rt: HostRuntime) -> Result<(), Fail> {
-    are_told(rt.alloc(), &SPECS, fault_of_spec)
-}
-
 // An atomic record with one field.
 const ATOMIC: &str =
     r#"{"properties":{"p":{"properties":{"a":{"type":"string"}},"type":"object","x-kubernetes-map-type":"atomic"}},"type":"object"}"#;
 
-#[test]
-fn unknown_fields_of_atomic_values_are_told(rt: HostRuntime) -> Result<(), Fail> {
-    let fault = fault_under(rt.alloc(), ATOMIC, r#"{"p":{"b":1}}"#)?;
-    assert_eq!(rt; fault.as_str(), "UnknownField f:p");
-    Ok(())
-}
+// No fields but those of every object.
+const PLAIN: &str = r#"{"type":"object"}"#;
 
-const METADATA: [(&str, &str); 2] = [
-    (r#"{"metadata":{"labels":{"a":"b"}}}"#, "fits"),
+const OTHERS: [(&str, &str, &str); 3] = [
+    (ATOMIC, r#"{"p":{"b":1}}"#, "UnknownField f:p"),
+    (PLAIN, r#"{"metadata":{"labels":{"a":"b"}}}"#, "fits"),
     (
+        PLAIN,
         r#"{"metadata":{"name":"a"}}"#,
         "UnknownField f:metadata f:name",
     ),
 ];
 
 #[test]
-fn faults_of_metadata_are_told(rt: HostRuntime) -> Result<(), Fail> {
-    are_told(
-        rt.alloc(),
-        &METADATA,
-        |alloc, body| fault_under(alloc, r#"{"type":"object"}"#, body),
-    )
+fn first_faults_are_told(rt: HostRuntime) -> Result<(), Fail> {
+    are_told(rt.alloc(), &Question::FaultOfSpec, &SPECS)?;
+    are_told_of_two(rt.alloc(), &QuestionOfTwo::Fault, &OTHERS)
 }

@@ -1,7 +1,9 @@
 //! Tests of bodies: of values, their places and their points.
+use crate::questions::Question;
 use crate::samples::{PLACES, SPEC};
-use crate::support::{are_told, body, listed, look_at, path, printed, schema, set, shown, value};
-use ssa_json::value::Json;
+use crate::support::{
+    are_told, body, listed, look_at, path, printed, schema, set, shown, truth, value,
+};
 use ssa_path::field_set::FieldSet;
 use ssa_path::path::Path;
 use ssa_schema::body_fault::BodyFault;
@@ -10,6 +12,74 @@ use ssa_typed::body::Body;
 use ssa_typed::fault::TypedFault;
 use std::alloc::Global;
 use std::test::Fail;
+
+/// What is asked of a body that is there.
+pub enum AskedOfBody {
+    /// What stands at a place.
+    Look,
+    /// The value of a place.
+    Part,
+    /// The points.
+    Points,
+    /// How many places there are.
+    Size,
+}
+
+// The answer of a body and of a place's text.
+fn told_of_body(
+    alloc: Global,
+    asked: &AskedOfBody,
+    body: &Body,
+    place: &str,
+) -> Result<String, Fail> {
+    match asked {
+        AskedOfBody::Look => look_at(alloc, body, place),
+        AskedOfBody::Part => part_of(alloc, body, &path(alloc, place)?),
+        AskedOfBody::Points => listed(alloc, &body.points(alloc)?),
+        AskedOfBody::Size => size_of(alloc, body),
+    }
+}
+
+// The answer of the body of a value, of which no place is asked.
+fn told_of_value(alloc: Global, asked: &AskedOfBody, text: &str) -> Result<String, Fail> {
+    told_of_body(alloc, asked, &body(alloc, PLACES, text)?, "/")
+}
+
+// The answer of a place of the sample.
+fn told_of_sample(alloc: Global, asked: &AskedOfBody, place: &str) -> Result<String, Fail> {
+    told_of_body(alloc, asked, &body(alloc, PLACES, SAMPLE)?, place)
+}
+
+/// What is asked of bodies.
+pub enum Asked {
+    /// The value of the copy of a value's body under the sample schema.
+    Shown,
+    /// What is told of a place of the sample.
+    Sample(AskedOfBody),
+    /// What is told of a value's body.
+    Value(AskedOfBody),
+    /// Whether the sample's points, with the text's paths turned in them, are told to be its own.
+    Known,
+    /// A body without its tree, with it again, and another body with it.
+    Moved,
+    /// Whether a value has a body, or why not.
+    Read,
+    /// The same of an object whose set has as many numbers as the text says.
+    ReadNumbers,
+}
+
+/// The answer to a question of bodies.
+pub fn answer(alloc: Global, asked: &Asked, text: &str) -> Result<String, Fail> {
+    match asked {
+        Asked::Shown => shown_again(alloc, text),
+        Asked::Sample(of_body) => told_of_sample(alloc, of_body, text),
+        Asked::Value(of_body) => told_of_value(alloc, of_body, text),
+        Asked::Known => known(alloc, text),
+        Asked::Moved => moved(alloc, text),
+        Asked::Read => told(alloc, text),
+        Asked::ReadNumbers => told(alloc, &numbers(alloc, text.parse::<i64>()?)?),
+    }
+}
 
 // Values, and the values of their bodies.
 const VALUES: [(&str, &str); 7] = [
@@ -50,11 +120,6 @@ fn shown_again(alloc: Global, text: &str) -> Result<String, Fail> {
     shown_copy(alloc, &body)
 }
 
-#[test]
-fn bodies_show_what_they_are_of(rt: HostRuntime) -> Result<(), Fail> {
-    are_told(rt.alloc(), &VALUES, shown_again)
-}
-
 // Something of every kind.
 const SAMPLE: &str =
     r#"{"a":1,"d":{"z":2,"x":1},"e":{"x":{}},"l":[{"n":2,"t":1},{"n":1}],"s":[9,10],"v":[1]}"#;
@@ -70,13 +135,6 @@ const LOOKS: [(&str, &str); 9] = [
     ("f:l/v:9", "nothing 0"),
     ("f:a/f:a", "nothing 0"),
 ];
-
-#[test]
-fn each_sort_of_place_is_shown(rt: HostRuntime) -> Result<(), Fail> {
-    are_told(rt.alloc(), &LOOKS, |alloc, place| {
-        look_at(alloc, &body(alloc, PLACES, SAMPLE)?, place)
-    })
-}
 
 const PARTS: [(&str, &str); 6] = [
     ("f:a", "1"),
@@ -95,18 +153,6 @@ fn part_of(alloc: Global, body: &Body, place: &Path) -> Result<String, Fail> {
     }
 }
 
-// The value of a place of the sample.
-fn part(alloc: Global, place: &str) -> Result<String, Fail> {
-    let place = path(alloc, place)?;
-    let body = body(alloc, PLACES, SAMPLE)?;
-    part_of(alloc, &body, &place)
-}
-
-#[test]
-fn places_have_their_values(rt: HostRuntime) -> Result<(), Fail> {
-    are_told(rt.alloc(), &PARTS, part)
-}
-
 const SAMPLE_POINTS: &str =
     r#"f:a f:d/f:x f:d/f:z f:e/f:x f:l/k:{"n":1} f:l/k:{"n":1}/f:n f:l/k:{"n":2} f:l/k:{"n":2}/f:n f:l/k:{"n":2}/f:t f:s/v:10 f:s/v:9 f:v"#;
 
@@ -120,18 +166,6 @@ const POINTS: [(&str, &str); 4] = [
     (r#"{"metadata":{"labels":{}}}"#, "f:metadata/f:labels"),
 ];
 
-// The points of a body.
-fn points_of(alloc: Global, body: &Body) -> Result<String, Fail> {
-    listed(alloc, &body.points(alloc)?)
-}
-
-#[test]
-fn leaves_items_entries_and_empty_branches_are_points(rt: HostRuntime) -> Result<(), Fail> {
-    are_told(rt.alloc(), &POINTS, |alloc, text| {
-        points_of(alloc, &body(alloc, PLACES, text)?)
-    })
-}
-
 // Puts paths into a set or, where they are there, takes them out.
 fn turn(alloc: Global, set: &mut FieldSet, paths: &[Path]) -> Result<(), Fail> {
     for path in paths {
@@ -142,11 +176,20 @@ fn turn(alloc: Global, set: &mut FieldSet, paths: &[Path]) -> Result<(), Fail> {
     Ok(())
 }
 
+// The same of the paths of another set.
+fn turn_all(alloc: Global, set: &mut FieldSet, turned: &FieldSet) -> Result<(), Fail> {
+    turn(alloc, set, &turned.paths(alloc)?)
+}
+
+// Whether points are told to be those of a body.
+fn told_points(alloc: Global, body: &Body, points: &FieldSet) -> Result<String, Fail> {
+    truth(alloc, body.has_points(alloc, points)?)
+}
+
 // Whether the sample's points, with these paths turned in them, are told to be its own.
 fn known_with(alloc: Global, points: &mut FieldSet, turned: &FieldSet) -> Result<String, Fail> {
-    turn(alloc, points, &turned.paths(alloc)?)?;
-    let told = body(alloc, PLACES, SAMPLE)?.has_points(alloc, points)?;
-    Ok(format!(in alloc; "{told}")?)
+    turn_all(alloc, points, turned)?;
+    told_points(alloc, &body(alloc, PLACES, SAMPLE)?, points)
 }
 
 // Whether the sample's points are told to be its own, once these paths were put in or, where they
@@ -169,22 +212,13 @@ const KNOWN: [(&str, &str); 9] = [
     ("f:v/f:v", "false"),
 ];
 
-#[test]
-fn a_body_knows_its_own_points(rt: HostRuntime) -> Result<(), Fail> {
-    are_told(rt.alloc(), &KNOWN, known)
+// How many places a body has.
+fn size_of(alloc: Global, body: &Body) -> Result<String, Fail> {
+    let size = body.size();
+    Ok(format!(in alloc; "{size}")?)
 }
 
-// How many places a value's body has.
-fn places_of(alloc: Global, text: &str) -> Result<usize, Fail> {
-    Ok(body(alloc, PLACES, text)?.size())
-}
-
-#[test]
-fn places_are_counted(rt: HostRuntime) -> Result<(), Fail> {
-    assert_eq!(rt; places_of(rt.alloc(), SAMPLE)?, 17);
-    assert_eq!(rt; places_of(rt.alloc(), "{}")?, 1);
-    Ok(())
-}
+const SIZES: [(&str, &str); 2] = [(SAMPLE, "17"), ("{}", "1")];
 
 const TREES: [(&str, &str); 2] = [("{}", "{} {} {}"), (r#"{"a":1}"#, r#"{} {"a":1} {"a":1}"#)];
 
@@ -196,11 +230,16 @@ fn shown_without_root(alloc: Global, body: &mut Body) -> Result<String, Fail> {
     left
 }
 
+// Another body with its tree.
+fn shown_moved(alloc: Global, body: &mut Body) -> Result<String, Fail> {
+    shown(alloc, &Body::new(body.take_root(alloc)))
+}
+
 // A body without its tree, with it again, and another body with it.
 fn moved_root(alloc: Global, body: &mut Body) -> Result<String, Fail> {
     let left = shown_without_root(alloc, body)?;
     let again = shown(alloc, body)?;
-    let other = shown(alloc, &Body::new(body.take_root(alloc)))?;
+    let other = shown_moved(alloc, body)?;
     Ok([left.as_str(), again.as_str(), other.as_str()].join(alloc, " ")?)
 }
 
@@ -208,11 +247,6 @@ fn moved_root(alloc: Global, body: &mut Body) -> Result<String, Fail> {
 fn moved(alloc: Global, text: &str) -> Result<String, Fail> {
     let mut body = body(alloc, PLACES, text)?;
     moved_root(alloc, &mut body)
-}
-
-#[test]
-fn trees_are_taken_and_put_back(rt: HostRuntime) -> Result<(), Fail> {
-    are_told(rt.alloc(), &TREES, moved)
 }
 
 // The text of an object whose set has the numbers below this one.
@@ -237,26 +271,57 @@ fn told_of(read: &Result<Body, TypedFault>) -> &'static str {
     }
 }
 
-// What is told of a value that may have no body under a schema.
-fn told_under(alloc: Global, schema: &Schema, value: Json) -> &'static str {
-    told_of(&Body::from_json(alloc, schema, value))
-}
-
-// The same of its text.
-fn told(alloc: Global, text: &str) -> Result<String, Fail> {
-    let value = value(alloc, text)?;
-    let told = told_under(alloc, &schema(alloc, PLACES)?, value);
+// What is told of a text's value, which may have no body under a schema.
+fn told_under(alloc: Global, schema: &Schema, text: &str) -> Result<String, Fail> {
+    let told = told_of(&Body::from_json(alloc, schema, value(alloc, text)?));
     Ok(String::from_str(alloc, told)?)
 }
 
+// The same under the schema of the sample.
+fn told(alloc: Global, text: &str) -> Result<String, Fail> {
+    told_under(alloc, &schema(alloc, PLACES)?, text)
+}
+
+const READ: [(&str, &str); 1] = [(r#"{"s":[1,1],"z":1}"#, "a repeated item")];
+
+const READ_NUMBERS: [(&str, &str); 2] = [
+    ("19999", "as large as may be"),
+    ("20000", "too many paths"),
+];
+
 #[test]
-fn other_values_are_refused(rt: HostRuntime) -> Result<(), Fail> {
-    let most = numbers(rt.alloc(), 19_999)?;
-    let more = numbers(rt.alloc(), 20_000)?;
-    let cases = [
-        (r#"{"s":[1,1],"z":1}"#, "a repeated item"),
-        (most.as_str(), "as large as may be"),
-        (more.as_str(), "too many paths"),
-    ];
-    are_told(rt.alloc(), &cases, told)
+fn values_have_bodies(rt: HostRuntime) -> Result<(), Fail> {
+    are_told(rt.alloc(), &Question::Body(Asked::Shown), &VALUES)?;
+    are_told(rt.alloc(), &Question::Body(Asked::Moved), &TREES)?;
+    are_told(rt.alloc(), &Question::Body(Asked::Read), &READ)?;
+    are_told(
+        rt.alloc(),
+        &Question::Body(Asked::ReadNumbers),
+        &READ_NUMBERS,
+    )
+}
+
+#[test]
+fn places_and_points_are_told(rt: HostRuntime) -> Result<(), Fail> {
+    are_told(
+        rt.alloc(),
+        &Question::Body(Asked::Sample(AskedOfBody::Look)),
+        &LOOKS,
+    )?;
+    are_told(
+        rt.alloc(),
+        &Question::Body(Asked::Sample(AskedOfBody::Part)),
+        &PARTS,
+    )?;
+    are_told(
+        rt.alloc(),
+        &Question::Body(Asked::Value(AskedOfBody::Points)),
+        &POINTS,
+    )?;
+    are_told(rt.alloc(), &Question::Body(Asked::Known), &KNOWN)?;
+    are_told(
+        rt.alloc(),
+        &Question::Body(Asked::Value(AskedOfBody::Size)),
+        &SIZES,
+    )
 }

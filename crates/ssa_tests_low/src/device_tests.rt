@@ -2,13 +2,12 @@
 use ssa_json::reader::OfReader;
 use ssa_json::sink::{OfWriter, Sink, write_all};
 use ssa_json::source::Source;
-use std::alloc::Global;
+use std::alloc::{AllocError, Global};
 use std::io;
 use std::io::{BufRead, Read, Write};
-use std::test::Fail;
 
 // More bytes than a reader holds at once.
-fn many_bytes(alloc: Global) -> Result<Vec<u8>, Fail> {
+fn many_bytes(alloc: Global) -> Result<Vec<u8>, AllocError> {
     let mut bytes = Vec::new(alloc);
     for i in 0..20_000u16 {
         bytes.push((i % 251) as u8)?;
@@ -32,11 +31,15 @@ fn passed_on(alloc: Global, bytes: &[u8]) -> Vec<u8> {
     writer.into_inner()
 }
 
+// Whether as many bytes are passed on as they are.
+fn are_passed_on(alloc: Global) -> Result<bool, AllocError> {
+    let bytes = many_bytes(alloc)?;
+    Ok(passed_on(alloc, &bytes).as_slice() == bytes.as_slice())
+}
+
 #[test]
-fn all_bytes_of_a_slice_are_passed_on(rt: HostRuntime) -> Result<(), Fail> {
-    let bytes = many_bytes(rt.alloc())?;
-    assert_eq!(rt; passed_on(rt.alloc(), &bytes).as_slice(), bytes.as_slice());
-    Ok(())
+fn all_bytes_of_a_slice_are_passed_on(rt: HostRuntime) {
+    assert_eq!(rt; are_passed_on(rt.alloc()), Ok(true));
 }
 
 // Moves one byte at a call, counts the calls, and fails at the third alone.
@@ -88,43 +91,66 @@ impl Write for Halting {
     }
 }
 
+// Whether a reader gives bytes at the first two of six turns, and at no other.
+fn do_reads_halt(reader: &mut OfReader<Halting>) -> bool {
+    let mut do_halt = true;
+    for turn in 0..6 {
+        let is_filled = reader.fill().is_ok();
+        reader.consume(1);
+        do_halt = do_halt && is_filled == (turn < 2);
+    }
+    do_halt
+}
+
 #[test]
 fn readers_stay_failed(rt: HostRuntime) {
     let mut reader = OfReader::new(Halting { calls: 0 });
+    assert!(rt; do_reads_halt(&mut reader));
+}
+
+// Whether a writer takes bytes at the first two of six turns, and at no other.
+fn do_writes_halt(writer: &mut OfWriter<Halting>) -> bool {
+    let mut do_halt = true;
     for turn in 0..6 {
-        let filled = reader.fill().is_ok();
-        reader.consume(1);
-        assert_eq!(rt; filled, turn < 2, "at {turn}");
+        do_halt = do_halt && writer.write(b"ab").is_ok() == (turn < 2);
     }
+    do_halt
 }
 
 #[test]
 fn writers_stay_failed(rt: HostRuntime) {
     let mut writer = OfWriter::new(Halting { calls: 0 });
+    let do_fail = do_writes_halt(&mut writer) && writer.flush().is_err();
+    let calls = writer.into_inner().calls;
+    assert!(rt; do_fail && calls == 3);
+}
+
+// Whether a writer is flushed at the first two of six turns, and at no other.
+fn do_flushes_halt(writer: &mut OfWriter<Halting>) -> bool {
+    let mut do_halt = true;
     for turn in 0..6 {
-        assert_eq!(rt; writer.write(b"ab").is_ok(), turn < 2, "at {turn}");
+        do_halt = do_halt && writer.flush().is_ok() == (turn < 2);
     }
-    assert!(rt; writer.flush().is_err());
-    assert_eq!(rt; writer.into_inner().calls, 3);
+    do_halt
 }
 
 #[test]
 fn writers_are_flushed_until_they_fail(rt: HostRuntime) {
     let mut writer = OfWriter::new(Halting { calls: 0 });
-    for turn in 0..6 {
-        assert_eq!(rt; writer.flush().is_ok(), turn < 2, "at {turn}");
-    }
-    assert!(rt; writer.write(b"a").is_err());
-    assert_eq!(rt; writer.into_inner().calls, 3);
+    let do_fail = do_flushes_halt(&mut writer) && writer.write(b"a").is_err();
+    let calls = writer.into_inner().calls;
+    assert!(rt; do_fail && calls == 3);
 }
 
 #[test]
 fn full_writers_fail(rt: HostRuntime) {
     let mut room = [0u8; 3];
     let mut writer = OfWriter::new(&mut room[..]);
-    assert!(rt; write_all(&mut writer, b"ab").is_ok());
-    assert!(rt; write_all(&mut writer, b"cd").is_err());
-    assert!(rt; writer.write(b"").is_err());
-    assert!(rt; writer.flush().is_err());
-    assert_eq!(rt; room, *b"abc");
+    let are_ok = [
+        write_all(&mut writer, b"ab").is_ok(),
+        write_all(&mut writer, b"cd").is_ok(),
+        writer.write(b"").is_ok(),
+        writer.flush().is_ok(),
+    ];
+    assert!(rt; are_ok == [true, false, false, false] && room == *b"abc");
 }

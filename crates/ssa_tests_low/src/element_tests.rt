@@ -1,11 +1,33 @@
 //! Tests of elements and paths.
+use crate::questions::Question;
 use crate::support::{are_told, path, push_element};
 use ssa_json::value::Scalar;
 use ssa_path::element::{Elem, own_texts_are_read};
 use ssa_path::element_fault::ElemFault;
 use ssa_path::keys::Keys;
+use ssa_path::path::Path;
 use std::alloc::{AllocError, Global};
+use std::cmp::Ordering;
 use std::test::Fail;
+
+/// What is asked of elements.
+pub enum Asked {
+    /// What reading its text says.
+    Read,
+    /// How an element is written that is made, by its name here.
+    Made,
+    /// How the text's path stands to a copy of another.
+    Ordered,
+}
+
+/// The answer to a question of elements.
+pub fn answer(alloc: Global, asked: &Asked, text: &str) -> Result<String, Fail> {
+    match asked {
+        Asked::Read => read_again(alloc, text),
+        Asked::Made => written_made(alloc, text),
+        Asked::Ordered => order_told(alloc, text),
+    }
+}
 
 // Texts of elements in the order of their bytes, the fields first.
 const ORDERED: [&str; 31] = [
@@ -44,15 +66,6 @@ const ORDERED: [&str; 31] = [
 
 const FIELDS: usize = 6;
 
-// The elements of the ordered texts.
-fn ordered(alloc: Global) -> Result<Vec<Elem>, Fail> {
-    let mut elements = Vec::new(alloc);
-    for text in ORDERED {
-        push_element(alloc, &mut elements, text)?;
-    }
-    Ok(elements)
-}
-
 // Whether the element stands to the others as its place says.
 fn stands_at(elements: &[Elem], i: usize, element: &Elem) -> bool {
     let mut stands = element.is_item() == (i >= FIELDS);
@@ -62,49 +75,81 @@ fn stands_at(elements: &[Elem], i: usize, element: &Elem) -> bool {
     stands
 }
 
-#[test]
-fn elements_stand_by_their_texts(rt: HostRuntime) -> Result<(), Fail> {
-    let elements = ordered(rt.alloc())?;
+// Fails at the first element whose copy does not stand to all as its place says.
+fn all_stand(alloc: Global, elements: &[Elem]) -> Result<(), Fail> {
     for (i, element) in elements.iter().enumerate() {
-        let copy = element.copy(rt.alloc())?;
-        assert!(rt; stands_at(&elements, i, &copy), "at {i}");
+        if !stands_at(elements, i, &element.copy(alloc)?) {
+            return Err(Fail::new(format_args!("at {i}")));
+        }
     }
     Ok(())
 }
 
-// Key fields with whole numbers, where their names rise.
-fn keys(alloc: Global, members: &[(&str, i64)]) -> Result<Option<Keys>, AllocError> {
-    let mut pairs = Vec::new(alloc);
-    for (name, number) in members {
-        let name = String::from_str(alloc, name)?;
-        pairs.push((name, Scalar::Int(*number)))?;
+// The same of the elements of the ordered texts.
+fn ordered_stand(alloc: Global, elements: &mut Vec<Elem>) -> Result<(), Fail> {
+    for text in &ORDERED {
+        push_element(alloc, elements, text)?;
     }
-    Ok(Keys::new(pairs))
+    all_stand(alloc, elements)
 }
 
-const KEYS: [(&[(&str, i64)], bool); 5] = [
-    (&[("a", 1), ("b", 1)], true),
-    (&[("a", 1), ("aa", 1)], true),
-    (&[], false),
-    (&[("a", 1), ("a", 2)], false),
-    (&[("b", 1), ("a", 1)], false),
+#[test]
+fn elements_stand_by_their_texts(rt: HostRuntime) -> Result<(), Fail> {
+    let mut elements = Vec::new(rt.alloc());
+    ordered_stand(rt.alloc(), &mut elements)
+}
+
+// Puts a key field behind others.
+fn push_key(
+    alloc: Global,
+    pairs: &mut Vec<(String, Scalar)>,
+    name: &str,
+    value: Scalar,
+) -> Result<(), AllocError> {
+    let name = String::from_str(alloc, name)?;
+    Ok(pairs.push((name, value))?)
+}
+
+// Puts key fields with whole numbers behind others.
+fn push_numbers(
+    alloc: Global,
+    pairs: &mut Vec<(String, Scalar)>,
+    members: &[(&str, i64)],
+) -> Result<(), AllocError> {
+    for (name, number) in members {
+        push_key(alloc, pairs, name, Scalar::Int(*number))?;
+    }
+    Ok(())
+}
+
+// How many key fields the copy of those with these whole numbers has, where their names rise.
+fn copied_len(alloc: Global, members: &[(&str, i64)]) -> Result<Option<usize>, AllocError> {
+    let mut pairs = Vec::new(alloc);
+    push_numbers(alloc, &mut pairs, members)?;
+    match Keys::new(pairs) {
+        Some(keys) => Ok(Some(keys.copy(alloc)?.members().len())),
+        None => Ok(None),
+    }
+}
+
+const KEYS: [(&[(&str, i64)], Option<usize>); 6] = [
+    (&[("a", 1), ("b", 1)], Some(2)),
+    (&[("a", 1), ("b", 2)], Some(2)),
+    (&[("a", 1), ("aa", 1)], Some(2)),
+    (&[], None),
+    (&[("a", 1), ("a", 2)], None),
+    (&[("b", 1), ("a", 1)], None),
 ];
 
 #[test]
-fn names_of_keys_rise(rt: HostRuntime) -> Result<(), Fail> {
-    for (members, want) in KEYS {
-        assert_eq!(rt; keys(rt.alloc(), members)?.is_some(), want);
+fn names_of_keys_rise(rt: HostRuntime) {
+    for (members, want) in &KEYS {
+        assert_eq!(rt;
+            copied_len(rt.alloc(), members),
+            Ok(*want),
+            "at {members:?}"
+        );
     }
-    Ok(())
-}
-
-#[test]
-fn keys_are_copied(rt: HostRuntime) -> Result<(), Fail> {
-    let Some(keys) = keys(rt.alloc(), &[("a", 1), ("b", 2)])? else {
-        return Err(Fail::new("the names rise"));
-    };
-    assert_eq!(rt; keys.copy(rt.alloc())?.members().len(), 2);
-    Ok(())
 }
 
 // The texts of elements, and what reading them says: the text that is written again, or the fault.
@@ -161,69 +206,96 @@ fn read_again(alloc: Global, text: &str) -> Result<String, Fail> {
     Ok(String::from_str(alloc, fault)?)
 }
 
-#[test]
-fn own_texts_alone_are_read(rt: HostRuntime) -> Result<(), Fail> {
-    own_texts_are_read();
-    are_told(rt.alloc(), &READ, read_again)
+// Two key fields, one with escapes in its name and its value, the other with a negative number.
+fn push_escaped(alloc: Global, pairs: &mut Vec<(String, Scalar)>) -> Result<(), AllocError> {
+    let text = Scalar::Text(String::from_str(alloc, "\\\t")?);
+    push_key(alloc, pairs, "\"\n", text)?;
+    push_key(alloc, pairs, "b", Scalar::Int(-1))
 }
 
-// Two key fields, one with escapes in its name and its value, the other with a negative number.
+// The element of these key fields.
 fn escaped_key(alloc: Global) -> Result<Elem, Fail> {
-    let mut members = Vec::new(alloc);
-    let text = Scalar::Text(String::from_str(alloc, "\\\t")?);
-    members.push((String::from_str(alloc, "\"\n")?, text))?;
-    members.push((String::from_str(alloc, "b")?, Scalar::Int(-1)))?;
-    match Keys::new(members) {
+    let mut pairs = Vec::new(alloc);
+    push_escaped(alloc, &mut pairs)?;
+    match Keys::new(pairs) {
         Some(keys) => Ok(Elem::Key(keys)),
         None => Err(Fail::new("the names rise")),
     }
 }
 
-// Whether the element is written so, and reads as what was read of its text.
-fn is_text_of(alloc: Global, element: &Elem, read: &Elem, text: &str) -> Result<bool, Fail> {
-    Ok(written(alloc, element)?.as_str() == text && read.is_same(element))
+// The element of a name here.
+fn made(alloc: Global, name: &str) -> Result<Elem, Fail> {
+    match name {
+        "field" => Ok(Elem::Field(String::from_str(alloc, "a\"")?)),
+        "key" => escaped_key(alloc),
+        "text" => Ok(Elem::Value(Scalar::Text(String::from_str(alloc, "\u{1f}\u{e9}")?))),
+        "least" => Ok(Elem::Value(Scalar::Int(i64::MIN))),
+        "most" => Ok(Elem::Value(Scalar::Int(i64::MAX))),
+        _ => Err(Fail::new("no such name")),
+    }
 }
 
-// Whether the element is written so, and this text is read as the element.
-fn has_text(alloc: Global, element: Elem, text: &str) -> Result<bool, Fail> {
+// Whether a text is read as the element.
+fn is_read_as(alloc: Global, text: &str, element: &Elem) -> Result<bool, ElemFault> {
+    Ok(Elem::read(alloc, text)?.is_same(element))
+}
+
+// The text of a made element, which is read as the element.
+fn written_and_read(alloc: Global, element: &Elem) -> Result<String, Fail> {
     element.is_of_program();
-    let read = Elem::read(alloc, text)?;
-    is_text_of(alloc, &element, &read, text)
+    let text = written(alloc, element)?;
+    match is_read_as(alloc, &text, element) {
+        Ok(true) => Ok(text),
+        _ => Err(Fail::new("read as another element")),
+    }
 }
 
-// An element of a text.
-fn text_value(alloc: Global, text: &str) -> Result<Elem, Fail> {
-    Ok(Elem::Value(Scalar::Text(String::from_str(alloc, text)?)))
+// The same of its name here.
+fn written_made(alloc: Global, name: &str) -> Result<String, Fail> {
+    written_and_read(alloc, &made(alloc, name)?)
 }
+
+// The names of made elements, and their texts.
+const MADE: [(&str, &str); 5] = [
+    ("field", "f:a\""),
+    ("key", r#"k:{"\"\n":"\\\t","b":-1}"#),
+    ("text", "v:\"\\u001f\u{e9}\""),
+    ("least", "v:-9223372036854775808"),
+    ("most", "v:9223372036854775807"),
+];
 
 #[test]
-fn made_elements_have_their_texts(rt: HostRuntime) -> Result<(), Fail> {
-    let alloc = rt.alloc();
-    let field = Elem::Field(String::from_str(alloc, "a\"")?);
-    assert!(rt; has_text(alloc, field, "f:a\"")?);
-    let key = escaped_key(alloc)?;
-    assert!(rt; has_text(alloc, key, r#"k:{"\"\n":"\\\t","b":-1}"#)?);
-    let text = text_value(alloc, "\u{1f}\u{e9}")?;
-    assert!(rt; has_text(alloc, text, "v:\"\\u001f\u{e9}\"")?);
-    Ok(())
+fn own_texts_alone_are_read(rt: HostRuntime) -> Result<(), Fail> {
+    own_texts_are_read();
+    are_told(rt.alloc(), &Question::Element(Asked::Read), &READ)?;
+    are_told(rt.alloc(), &Question::Element(Asked::Made), &MADE)
 }
 
-#[test]
-fn made_numbers_have_their_texts(rt: HostRuntime) -> Result<(), Fail> {
-    let alloc = rt.alloc();
-    let least = Elem::Value(Scalar::Int(i64::MIN));
-    assert!(rt; has_text(alloc, least, "v:-9223372036854775808")?);
-    let most = Elem::Value(Scalar::Int(i64::MAX));
-    assert!(rt; has_text(alloc, most, "v:9223372036854775807")?);
-    Ok(())
+// How a path stands to another.
+fn order_name(path: &Path, other: &Path) -> &'static str {
+    match path.order(other) {
+        Ordering::Less => "before",
+        Ordering::Equal => "same",
+        Ordering::Greater => "behind",
+    }
 }
+
+// How a path stands to a copy of another.
+fn order_beside(alloc: Global, path: &Path, other: &Path) -> Result<String, Fail> {
+    let name = order_name(path, &other.copy(alloc)?);
+    Ok(String::from_str(alloc, name)?)
+}
+
+// How the path of a text stands to `f:a/f:b`.
+fn order_told(alloc: Global, text: &str) -> Result<String, Fail> {
+    let own = path(alloc, text)?;
+    let other = path(alloc, "f:a/f:b")?;
+    order_beside(alloc, &own, &other)
+}
+
+const ORDERS: [(&str, &str); 3] = [("f:a/f:b", "same"), ("f:a", "before"), ("f:b", "behind")];
 
 #[test]
 fn paths_are_copied_and_ordered(rt: HostRuntime) -> Result<(), Fail> {
-    let longer = path(rt.alloc(), "f:a/f:b")?;
-    let copy = longer.copy(rt.alloc())?;
-    assert!(rt; copy.order(&longer).is_eq());
-    assert!(rt; path(rt.alloc(), "f:a")?.order(&longer).is_lt());
-    assert!(rt; path(rt.alloc(), "f:b")?.order(&longer).is_gt());
-    Ok(())
+    are_told(rt.alloc(), &Question::Element(Asked::Ordered), &ORDERS)
 }

@@ -1,10 +1,27 @@
 //! Tests of sets of paths as FieldsV1.
+use crate::questions::Question;
 use crate::support::{are_told, listed, printed, value};
 use ssa_path::element_fault::ElemFault;
 use ssa_path::field_set::FieldSet;
 use ssa_path::fields_back::canonical_is_read;
 use std::alloc::Global;
 use std::test::Fail;
+
+/// What is asked of FieldsV1.
+pub enum Asked {
+    /// The paths that it says.
+    Paths,
+    /// The name of its fault.
+    Fault,
+}
+
+/// The answer to a question of FieldsV1.
+pub fn answer(alloc: Global, asked: &Asked, text: &str) -> Result<String, Fail> {
+    match asked {
+        Asked::Paths => said(alloc, text),
+        Asked::Fault => fault_name(alloc, text),
+    }
+}
 
 // FieldsV1, and the paths that it says.
 const SAID: [(&str, &str); 7] = [
@@ -29,24 +46,29 @@ const SAID: [(&str, &str); 7] = [
     ),
 ];
 
+// Whether a set is written as this FieldsV1.
+fn is_written(alloc: Global, set: &FieldSet, text: &str) -> Result<bool, Fail> {
+    Ok(printed(alloc, &set.to_fields_v1(alloc)?)?.as_str() == text)
+}
+
 // The paths of a set that is written as this FieldsV1.
 fn paths_said(alloc: Global, set: &FieldSet, text: &str) -> Result<String, Fail> {
-    if printed(alloc, &set.to_fields_v1(alloc)?)?.as_str() != text {
-        return Err(Fail::new("written as another text"));
+    set.own_fields_are_read();
+    match is_written(alloc, set, text)? {
+        true => listed(alloc, set),
+        false => Err(Fail::new("written as another text")),
     }
-    listed(alloc, set)
 }
 
 // The paths that FieldsV1 says, where the set is written as it was read.
 fn said(alloc: Global, text: &str) -> Result<String, Fail> {
     let set = FieldSet::from_fields_v1(alloc, &value(alloc, text)?)?;
-    set.own_fields_are_read();
     paths_said(alloc, &set, text)
 }
 
 #[test]
 fn sets_are_read_and_written_back(rt: HostRuntime) -> Result<(), Fail> {
-    are_told(rt.alloc(), &SAID, said)
+    are_told(rt.alloc(), &Question::Fields(Asked::Paths), &SAID)
 }
 
 const REFUSED: [(&str, &str); 8] = [
@@ -75,5 +97,5 @@ fn fault_name(alloc: Global, text: &str) -> Result<String, Fail> {
 #[test]
 fn other_values_are_refused(rt: HostRuntime) -> Result<(), Fail> {
     canonical_is_read();
-    are_told(rt.alloc(), &REFUSED, fault_name)
+    are_told(rt.alloc(), &Question::Fields(Asked::Fault), &REFUSED)
 }

@@ -6,7 +6,6 @@ use ssa_reverse::journal::Journal;
 use ssa_reverse::reversible::Reversible;
 use std::alloc::AllocError;
 use std::mem;
-use std::test::Fail;
 
 // A number that a record replaces.
 #[derive(Drop)]
@@ -143,10 +142,10 @@ fn walk(
 }
 
 #[test]
-fn a_counter_goes_back_and_forth(rt: HostRuntime) -> Result<(), Fail> {
+fn a_counter_goes_back_and_forth(rt: HostRuntime) {
     let mut journal = Journal::<Counter, u8>::new(rt.alloc());
     let mut counter = Counter { count: 1 };
-    let told = walk(&mut journal, &mut counter)?;
+    let told = walk(&mut journal, &mut counter);
     let moves = [
         (true, 2),
         (true, 1),
@@ -155,16 +154,29 @@ fn a_counter_goes_back_and_forth(rt: HostRuntime) -> Result<(), Fail> {
         (true, 3),
         (false, 3),
     ];
-    assert_eq!(rt; told, ((false, 1), 3, moves));
-    Ok(())
+    assert_eq!(rt; told, Ok(((false, 1), 3, moves)));
 }
 
 // Records with their labels, and nothing behind the last.
 type Entries = [Option<(u32, u8)>; 5];
 
+// The record of a place among the journal's entries, with its label.
+fn entry<T: Reversible<Delta = u32>>(journal: &Journal<T, u8>, place: usize) -> Option<(u32, u8)> {
+    match journal.entry(place) {
+        Some((record, label)) => Some((*record, *label)),
+        None => None,
+    }
+}
+
 // The records with their labels, in the order of the journal's entries.
 fn entries<T: Reversible<Delta = u32>>(journal: &Journal<T, u8>) -> Entries {
-    [0, 1, 2, 3, 4].map(|n| journal.entry(n).map(|entry| (*entry.0, *entry.1)))
+    [
+        entry(journal, 0),
+        entry(journal, 1),
+        entry(journal, 2),
+        entry(journal, 3),
+        entry(journal, 4),
+    ]
 }
 
 // Four records.
@@ -195,10 +207,10 @@ fn entries_on_the_way(
 }
 
 #[test]
-fn entries_stand_from_the_oldest_past_to_the_last_future(rt: HostRuntime) -> Result<(), Fail> {
+fn entries_stand_from_the_oldest_past_to_the_last_future(rt: HostRuntime) {
     let mut journal = Journal::<Counter, u8>::new(rt.alloc());
     let mut counter = Counter { count: 1 };
-    let told = entries_on_the_way(&mut journal, &mut counter)?;
+    let told = entries_on_the_way(&mut journal, &mut counter);
     let past = [
         Some((1, 12)),
         Some((2, 13)),
@@ -213,39 +225,32 @@ fn entries_stand_from_the_oldest_past_to_the_last_future(rt: HostRuntime) -> Res
         Some((5, 15)),
         None,
     ];
-    assert_eq!(rt; told, ([[None; 5], past, both], (2, 2)));
-    Ok(())
+    assert_eq!(rt; told, Ok(([[None; 5], past, both], (2, 2))));
 }
 
-// Two records, and another after the last of them is undone.
+// Two records, and another after the last of them is undone: how many lead back and forth then, the entries, and whether there
+// is one to redo, and where the counter is.
 fn record_after_undo(
     journal: &mut Journal<Counter, u8>,
     counter: &mut Counter,
-) -> Result<(), AllocError>
+) -> Result<((usize, usize), Entries, (bool, u32)), AllocError>
     requires { GoesWith journal.old counter.old.count }
-    ensures { GoesWith journal.new counter.new.count }
 {
     journal.record(counter, 2, 12)?;
     journal.record(counter, 3, 13)?;
     journal.undo(counter)?;
-    journal.record(counter, 7, 17)
+    journal.record(counter, 7, 17)?;
+    let lengths = (journal.past_len(), journal.future_len());
+    Ok((lengths, entries(journal), forth(journal, counter)?))
 }
 
 #[test]
-fn a_record_drops_the_future(rt: HostRuntime) -> Result<(), Fail> {
+fn a_record_drops_the_future(rt: HostRuntime) {
     let mut journal = Journal::<Counter, u8>::new(rt.alloc());
     let mut counter = Counter { count: 1 };
-    record_after_undo(&mut journal, &mut counter)?;
-    let told = (
-        (journal.past_len(), journal.future_len()),
-        entries(&journal),
-    );
-    assert_eq!(rt;
-        told,
-        ((2, 0), [Some((1, 12)), Some((2, 17)), None, None, None])
-    );
-    assert_eq!(rt; forth(&mut journal, &mut counter)?, (false, 7));
-    Ok(())
+    let told = record_after_undo(&mut journal, &mut counter);
+    let behind = [Some((1, 12)), Some((2, 17)), None, None, None];
+    assert_eq!(rt; told, Ok(((2, 0), behind, (false, 7))));
 }
 
 // What is seen: a dial's number, how many records lead back and forth, and the entries of its journal.
@@ -287,17 +292,16 @@ fn precede_and_redo(
 }
 
 #[test]
-fn a_dial_is_preceded_by_its_past(rt: HostRuntime) -> Result<(), Fail> {
+fn a_dial_is_preceded_by_its_past(rt: HostRuntime) {
     let mut journal = Journal::<Dial, u8>::new(rt.alloc());
     let mut dial = Dial {
         number: 3,
         is_locked: false,
     };
-    let told = precede_and_redo(&mut journal, &mut dial)?;
+    let told = precede_and_redo(&mut journal, &mut dial);
     let ahead = (1, (0, 2), [Some((2, 12)), Some((3, 13)), None, None, None]);
     let behind = (3, (2, 0), [Some((1, 12)), Some((2, 13)), None, None, None]);
-    assert_eq!(rt; told, (ahead, (true, ahead), (true, true), behind));
-    Ok(())
+    assert_eq!(rt; told, Ok((ahead, (true, ahead), (true, true), behind)));
 }
 
 // Tries to record, to undo and to redo: whether each is refused, and the entries after it.
@@ -332,14 +336,13 @@ fn lock_and_unlock(
 }
 
 #[test]
-fn a_locked_dial_and_its_journal_stay(rt: HostRuntime) -> Result<(), Fail> {
+fn a_locked_dial_and_its_journal_stay(rt: HostRuntime) {
     let mut journal = Journal::<Dial, u8>::new(rt.alloc());
     let mut dial = Dial {
         number: 1,
         is_locked: false,
     };
-    let told = lock_and_unlock(&mut journal, &mut dial)?;
+    let told = lock_and_unlock(&mut journal, &mut dial);
     let held = [Some((1, 12)), Some((3, 13)), None, None, None];
-    assert_eq!(rt; told, ([(true, held); 3], 2, true, 3));
-    Ok(())
+    assert_eq!(rt; told, Ok(([(true, held); 3], 2, true, 3)));
 }

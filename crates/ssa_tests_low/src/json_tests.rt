@@ -1,5 +1,6 @@
 //! Tests of JSON values and moments.
-use crate::support::{are_told, printed, value};
+use crate::questions::Question;
+use crate::support::{are_told, printed, truth, value};
 use ssa_json::fault::JsonFault;
 use ssa_json::members::{find_member, has_member, put_member, put_text};
 use ssa_json::moment::Moment;
@@ -7,8 +8,57 @@ use ssa_json::text::is_same_text;
 use ssa_json::value::{Json, Scalar};
 use ssa_json::write::compact_is_read;
 use ssa_members::Members;
-use std::alloc::Global;
+use std::alloc::{AllocError, Global};
 use std::test::Fail;
+
+/// What is asked of a value.
+pub enum AskedOfValue {
+    /// How it is printed.
+    Printed,
+    /// Whether a copy of the sample is the same.
+    Same,
+    /// Whether the members are found that an object has, and no other.
+    LookedInto,
+}
+
+// The answer of a value.
+fn told_of(alloc: Global, asked: &AskedOfValue, value: &Json) -> Result<String, Fail> {
+    match asked {
+        AskedOfValue::Printed => printed_and_read(alloc, value),
+        AskedOfValue::Same => compared(alloc, value),
+        AskedOfValue::LookedInto => truth(alloc, is_looked_into(value)),
+    }
+}
+
+// The same of its text.
+fn told_of_text(alloc: Global, asked: &AskedOfValue, text: &str) -> Result<String, Fail> {
+    told_of(alloc, asked, &value(alloc, text)?)
+}
+
+/// What is asked of JSON.
+pub enum Asked {
+    /// What is told of its value.
+    Value(AskedOfValue),
+    /// What reading at most 24 bytes says.
+    Read,
+    /// Whether as many lists as the text says, one in another, are read.
+    Nested,
+    /// How an object is printed whose members were put, the text among them.
+    Put,
+    /// What moment it is.
+    Moment,
+}
+
+/// The answer to a question of JSON.
+pub fn answer(alloc: Global, asked: &Asked, text: &str) -> Result<String, Fail> {
+    match asked {
+        Asked::Value(of_value) => told_of_text(alloc, of_value, text),
+        Asked::Read => Ok(String::from_str(alloc, read_name(alloc, text.as_bytes()))?),
+        Asked::Nested => truth(alloc, is_read_so_deep(alloc, text.parse::<usize>()?)?),
+        Asked::Put => printed_put(alloc, text),
+        Asked::Moment => moment_text(alloc, text),
+    }
+}
 
 // Texts, and how their values are printed.
 const PRINTED: [(&str, &str); 8] = [
@@ -28,20 +78,13 @@ const PRINTED: [(&str, &str); 8] = [
     ),
 ];
 
-// The printed text of what a text says, which is read as the same value.
-fn printed_again(alloc: Global, text: &str) -> Result<String, Fail> {
-    let read = value(alloc, text)?;
-    let text = printed(alloc, &read)?;
-    if !value(alloc, &text)?.same(&read) {
-        return Err(Fail::new("read as another value"));
+// The printed text of a value, which is read as the same value.
+fn printed_and_read(alloc: Global, read: &Json) -> Result<String, Fail> {
+    let text = printed(alloc, read)?;
+    match value(alloc, &text)?.same(read) {
+        true => Ok(text),
+        false => Err(Fail::new("read as another value")),
     }
-    Ok(text)
-}
-
-#[test]
-fn values_are_printed_as_they_were_read(rt: HostRuntime) -> Result<(), Fail> {
-    compact_is_read();
-    are_told(rt.alloc(), &PRINTED, printed_again)
 }
 
 fn fault_name(fault: &JsonFault) -> &'static str {
@@ -82,16 +125,8 @@ const REFUSED: [(&str, &str); 17] = [
     ("                         ", "TooLong"),
 ];
 
-#[test]
-fn other_texts_are_refused(rt: HostRuntime) -> Result<(), Fail> {
-    assert_eq!(rt; read_name(rt.alloc(), b"\"\xff\""), "NotJson");
-    are_told(rt.alloc(), &REFUSED, |alloc, text| {
-        Ok(String::from_str(alloc, read_name(alloc, text.as_bytes()))?)
-    })
-}
-
 // So many lists, each but the last inside the one before.
-fn nested(alloc: Global, depth: usize) -> Result<String, Fail> {
+fn nested(alloc: Global, depth: usize) -> Result<String, AllocError> {
     let mut text = String::new(alloc);
     for _ in 0..depth {
         text.push_str("[")?;
@@ -102,20 +137,33 @@ fn nested(alloc: Global, depth: usize) -> Result<String, Fail> {
     Ok(text)
 }
 
+// Whether a value is written so.
+fn is_written(alloc: Global, value: &Json, text: &str) -> Result<bool, AllocError> {
+    Ok(value.to_text(alloc)?.as_slice() == text.as_bytes())
+}
+
 // Whether lists so deep are read, and written as they were.
-fn is_read_so_deep(alloc: Global, depth: usize) -> Result<bool, Fail> {
+fn is_read_so_deep(alloc: Global, depth: usize) -> Result<bool, AllocError> {
     let text = nested(alloc, depth)?;
-    match Json::read(alloc, text.as_bytes(), 300) {
-        Ok(value) => Ok(value.to_text(alloc)?.as_slice() == text.as_bytes()),
+    match &Json::read(alloc, text.as_bytes(), 300) {
+        Ok(value) => is_written(alloc, value, &text),
         Err(_) => Ok(false),
     }
 }
 
+const NESTED: [(&str, &str); 2] = [("127", "true"), ("128", "false")];
+
 #[test]
-fn values_nest_127_deep(rt: HostRuntime) -> Result<(), Fail> {
-    assert!(rt; is_read_so_deep(rt.alloc(), 127)?);
-    assert!(rt; !is_read_so_deep(rt.alloc(), 128)?);
-    Ok(())
+fn values_are_printed_as_they_were_read(rt: HostRuntime) -> Result<(), Fail> {
+    compact_is_read();
+    assert!(rt; read_name(rt.alloc(), b"\"\xff\"") == "NotJson");
+    are_told(
+        rt.alloc(),
+        &Question::Json(Asked::Value(AskedOfValue::Printed)),
+        &PRINTED,
+    )?;
+    are_told(rt.alloc(), &Question::Json(Asked::Read), &REFUSED)?;
+    are_told(rt.alloc(), &Question::Json(Asked::Nested), &NESTED)
 }
 
 const SAMPLE: &str = r#"{"a":[1,"x",true,{"b":{}}],"c":""}"#;
@@ -141,28 +189,28 @@ fn told_same(own: &Json, other: &Json) -> &'static str {
     }
 }
 
-// A copy of the sample.
-fn sample_copy(alloc: Global) -> Result<Json, Fail> {
-    Ok(value(alloc, SAMPLE)?.copy(alloc)?)
-}
-
-// Whether the copy of the sample and the value of a text are one.
-fn compared(alloc: Global, text: &str) -> Result<String, Fail> {
-    let told = told_same(&sample_copy(alloc)?, &value(alloc, text)?);
+// Whether the copy of a value and another are one.
+fn compared_copy(alloc: Global, own: &Json, other: &Json) -> Result<String, Fail> {
+    let told = told_same(&own.copy(alloc)?, other);
     Ok(String::from_str(alloc, told)?)
 }
 
-#[test]
-fn values_are_copied_and_compared(rt: HostRuntime) -> Result<(), Fail> {
-    are_told(rt.alloc(), &OTHERS, compared)
+// The same of the sample and another.
+fn compared(alloc: Global, other: &Json) -> Result<String, Fail> {
+    compared_copy(alloc, &value(alloc, SAMPLE)?, other)
+}
+
+// Whether a scalar's copy is the same, and a number another.
+fn is_copied(alloc: Global, scalar: &Scalar) -> Result<bool, AllocError> {
+    Ok(scalar.copy(alloc)?.same(scalar) && !scalar.same(&Scalar::Int(1)))
 }
 
 #[test]
 fn scalars_are_copied_and_compared(rt: HostRuntime) -> Result<(), Fail> {
     let scalar = Scalar::Text(String::from_str(rt.alloc(), "x")?);
-    assert!(rt; scalar.copy(rt.alloc())?.same(&scalar));
-    assert!(rt; !scalar.same(&Scalar::Int(1)));
-    assert!(rt; is_same_text("ab", "ab") && !is_same_text("ab", "ac"));
+    let is_copied = is_copied(rt.alloc(), &scalar);
+    drop(scalar);
+    assert!(rt; is_copied? && is_same_text("ab", "ab") && !is_same_text("ab", "ac"));
     Ok(())
 }
 
@@ -171,36 +219,50 @@ fn is_looked_into(object: &Json) -> bool {
     let Some(members) = object.as_object() else {
         return false;
     };
-    let text = find_member(members, "a").and_then(Json::as_text);
-    let inner = object.member("b").is_some_and(|b| b.is_object());
-    text == Some("x") && inner && has_member(members, "b") && !has_member(members, "c")
+    let (Some(a), Some(b)) = (find_member(members, "a"), object.member("b")) else {
+        return false;
+    };
+    let is_found = a.as_text() == Some("x") && b.is_object() && has_member(members, "b");
+    let is_other = has_member(members, "c") || object.member("c").is_some();
+    is_found && !is_other && object.is_object() && object.as_text().is_none()
 }
 
-#[test]
-fn objects_are_looked_into(rt: HostRuntime) -> Result<(), Fail> {
-    let object = value(rt.alloc(), r#"{"a":"x","b":{}}"#)?;
-    assert!(rt; object.is_object() && is_looked_into(&object));
-    assert!(rt; object.member("c").is_none() && object.as_text().is_none());
-    Ok(())
+const LOOKED_INTO: [(&str, &str); 2] = [(r#"{"a":"x","b":{}}"#, "true"), (r#""x""#, "false")];
+
+// Puts members in from the last to the first, one of them twice, the second time with this text.
+fn put_members(alloc: Global, members: &mut Members<Json>, text: &str) -> Result<(), AllocError> {
+    put_text(alloc, members, "b", "y")?;
+    put_member(alloc, members, "a", Json::Scalar(Scalar::Int(1)))?;
+    put_text(alloc, members, "b", text)
 }
 
-// An object whose members were put in from the last to the first, one of them twice.
-fn put_together(alloc: Global) -> Result<Json, Fail> {
+// An object of these members.
+fn put_together(alloc: Global, text: &str) -> Result<Json, AllocError> {
     let mut members = Members::new(alloc);
-    put_text(alloc, &mut members, "b", "y")?;
-    put_member(alloc, &mut members, "a", Json::Scalar(Scalar::Int(1)))?;
-    put_text(alloc, &mut members, "b", "z")?;
+    put_members(alloc, &mut members, text)?;
     Ok(Json::Object(members))
 }
 
+// How such an object is printed.
+fn printed_put(alloc: Global, text: &str) -> Result<String, Fail> {
+    printed(alloc, &put_together(alloc, text)?)
+}
+
+const PUT: [(&str, &str); 1] = [("z", r#"{"a":1,"b":"z"}"#)];
+
 #[test]
-fn members_are_put(rt: HostRuntime) -> Result<(), Fail> {
-    let object = put_together(rt.alloc())?;
-    assert_eq!(rt;
-        printed(rt.alloc(), &object)?.as_str(),
-        r#"{"a":1,"b":"z"}"#
-    );
-    Ok(())
+fn values_are_compared_looked_into_and_put_together(rt: HostRuntime) -> Result<(), Fail> {
+    are_told(
+        rt.alloc(),
+        &Question::Json(Asked::Value(AskedOfValue::Same)),
+        &OTHERS,
+    )?;
+    are_told(
+        rt.alloc(),
+        &Question::Json(Asked::Value(AskedOfValue::LookedInto)),
+        &LOOKED_INTO,
+    )?;
+    are_told(rt.alloc(), &Question::Json(Asked::Put), &PUT)
 }
 
 // Moments are written as they were read.
@@ -236,9 +298,7 @@ fn moment_text(alloc: Global, text: &str) -> Result<String, Fail> {
 
 #[test]
 fn moments_are_read(rt: HostRuntime) -> Result<(), Fail> {
-    assert_eq!(rt;
-        Moment::first().write().as_slice(),
-        b"1970-01-01T00:00:00Z".as_slice()
-    );
-    are_told(rt.alloc(), &MOMENTS, moment_text)
+    let first = Moment::first().write();
+    assert!(rt; first.as_slice() == b"1970-01-01T00:00:00Z".as_slice());
+    are_told(rt.alloc(), &Question::Json(Asked::Moment), &MOMENTS)
 }

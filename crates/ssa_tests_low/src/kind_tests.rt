@@ -1,11 +1,11 @@
 //! Tests of the kinds that schemas are read as.
+use crate::questions::Question;
 use crate::samples::SPEC;
-use crate::support::{are_told, schema, value};
-use ssa_json::value::Scalar;
+use crate::support::{are_told, schema, truth, value};
+use ssa_json::value::{Json, Scalar};
 use ssa_schema::kind::{Kind, ScalarKind, Shape, find_field, find_shape};
 use ssa_schema::schema::Schema;
 use std::alloc::Global;
-use std::collections::BTreeMap;
 use std::test::Fail;
 
 // The name of a shape.
@@ -62,48 +62,78 @@ const KINDS: [(&str, &str); 14] = [
     ("spec zzz", "none"),
 ];
 
-// The name of the kind of a field of a field of the root.
+// An atomic record `p` with a field `a`.
+const ATOMIC: &str =
+    r#"{"properties":{"p":{"properties":{"a":{"type":"boolean"}},"type":"object","x-kubernetes-map-type":"atomic"}},"type":"object"}"#;
+
+const SHAPES: [(&str, &str); 3] = [
+    ("p", "atomic record"),
+    ("p a", "atomic scalar"),
+    ("p b", "none"),
+];
+
+// The name of the kind of what these fields lead to, each in the one before, or of its shape in an atomic record.
 fn name_at(schema: &Schema, names: &str) -> &'static str {
     let mut kind = Some(schema.kind());
     for name in names.split_whitespace() {
         kind = match kind {
             Some(Kind::Record(fields)) => find_field(fields, name),
+            Some(Kind::AtomicOf(Shape::Record(shapes))) => {
+                return shape_name(find_shape(shapes, name));
+            }
             _ => None,
         };
     }
     kind_name(kind)
 }
 
-// The same of the sample.
-fn told_kind(alloc: Global, names: &str) -> Result<String, Fail> {
-    let name = name_at(&schema(alloc, SPEC)?, names);
+// The same of the schema of a text.
+fn name_under(alloc: Global, schema_text: &str, names: &str) -> Result<String, Fail> {
+    let name = name_at(&schema(alloc, schema_text)?, names);
     Ok(String::from_str(alloc, name)?)
 }
 
-#[test]
-fn fields_have_their_kinds(rt: HostRuntime) -> Result<(), Fail> {
-    are_told(rt.alloc(), &KINDS, told_kind)
+// Whether the schema of a text keeps the text's value.
+fn keeps(alloc: Global, text: &str, read: &Json) -> Result<bool, Fail> {
+    Ok(schema(alloc, text)?.json().same(read))
+}
+
+// The same as a text.
+fn told_kept(alloc: Global, text: &str) -> Result<String, Fail> {
+    let read = value(alloc, text)?;
+    let is_kept = keeps(alloc, text, &read);
+    drop(read);
+    truth(alloc, is_kept?)
+}
+
+/// What is asked of what schemas are read as.
+pub enum Asked {
+    /// What kind a field of the sample schema is of.
+    Kind,
+    /// What shape a field of an atomic record is of.
+    Shape,
+    /// Whether the text's schema keeps its value.
+    Kept,
+}
+
+/// The answer to a question of what schemas are read as.
+pub fn answer(alloc: Global, asked: &Asked, text: &str) -> Result<String, Fail> {
+    match asked {
+        Asked::Kind => name_under(alloc, SPEC, text),
+        Asked::Shape => name_under(alloc, ATOMIC, text),
+        Asked::Kept => told_kept(alloc, text),
+    }
 }
 
 #[test]
-fn schemas_keep_what_was_read(rt: HostRuntime) -> Result<(), Fail> {
-    let read = value(rt.alloc(), SPEC)?;
-    assert!(rt; schema(rt.alloc(), SPEC)?.json().same(&read));
-    Ok(())
-}
-
-#[test]
-fn shapes_are_found_by_their_names(rt: HostRuntime) -> Result<(), Fail> {
-    let name = String::from_str(rt.alloc(), "a")?;
-    let mut shapes = BTreeMap::new(rt.alloc());
-    drop(shapes.insert(name, Shape::Scalar(ScalarKind::Truth))?);
-    assert_eq!(rt; shape_name(find_shape(&shapes, "a")), "atomic scalar");
-    assert_eq!(rt; shape_name(find_shape(&shapes, "b")), "none");
-    Ok(())
+fn schemas_have_their_kinds_and_shapes(rt: HostRuntime) -> Result<(), Fail> {
+    are_told(rt.alloc(), &Question::Kind(Asked::Kind), &KINDS)?;
+    are_told(rt.alloc(), &Question::Kind(Asked::Shape), &SHAPES)?;
+    are_told(rt.alloc(), &Question::Kind(Asked::Kept), &[(SPEC, "true")])
 }
 
 #[test]
 fn scalars_are_of_their_kinds(rt: HostRuntime) {
-    assert!(rt; ScalarKind::Whole.has(&Scalar::Int(1)));
-    assert!(rt; !ScalarKind::Truth.has(&Scalar::Int(1)));
+    let one = Scalar::Int(1);
+    assert!(rt; ScalarKind::Whole.has(&one) && !ScalarKind::Truth.has(&one));
 }

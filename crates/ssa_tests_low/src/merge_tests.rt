@@ -2,8 +2,9 @@
 ghost use Rattle.std.specs.Prelude.{◌≡◌, IfOk};
 ghost use Rattle.ssa_model.specs.definitions.Valid.{metadata_path};
 
+use crate::questions::{Question, QuestionOfTwo};
 use crate::samples::PLACES;
-use crate::support::{are_told, bodies, body, listed, look_at, set, shown};
+use crate::support::{are_told, are_told_of_two, bodies, body, listed, look_at, set, shown, truth};
 use ssa_path::element::Elem;
 use ssa_path::field_set::FieldSet;
 use ssa_path::path::Path;
@@ -13,37 +14,29 @@ use std::alloc::Global;
 use std::test::Fail;
 
 // A live body and a configuration, and the one with the other over it.
-const OVER: [((&str, &str), &str); 6] = [
-    ((r#"{"s":[2,1]}"#, r#"{"s":[3,2]}"#), r#"{"s":[2,1,3]}"#),
+const OVER: [(&str, &str, &str); 6] = [
+    (r#"{"s":[2,1]}"#, r#"{"s":[3,2]}"#, r#"{"s":[2,1,3]}"#),
     (
-        (
-            r#"{"l":[{"n":2,"t":1},{"n":1}]}"#,
-            r#"{"l":[{"n":3},{"n":2,"t":3}]}"#,
-        ),
+        r#"{"l":[{"n":2,"t":1},{"n":1}]}"#,
+        r#"{"l":[{"n":3},{"n":2,"t":3}]}"#,
         r#"{"l":[{"n":2,"t":3},{"n":1},{"n":3}]}"#,
     ),
     (
-        (
-            r#"{"l":[{"n":1,"t":1},{"n":2,"t":1},{"n":3,"t":1}]}"#,
-            r#"{"l":[{"n":8,"t":2},{"n":3,"t":3},{"n":5,"t":2},{"n":1,"t":3}]}"#,
-        ),
+        r#"{"l":[{"n":1,"t":1},{"n":2,"t":1},{"n":3,"t":1}]}"#,
+        r#"{"l":[{"n":8,"t":2},{"n":3,"t":3},{"n":5,"t":2},{"n":1,"t":3}]}"#,
         r#"{"l":[{"n":1,"t":3},{"n":2,"t":1},{"n":3,"t":3},{"n":8,"t":2},{"n":5,"t":2}]}"#,
     ),
     (
-        (
-            r#"{"l":[{"n":1,"t":1},{"n":2}]}"#,
-            r#"{"l":[{"n":1,"t":2},{"n":2}]}"#,
-        ),
+        r#"{"l":[{"n":1,"t":1},{"n":2}]}"#,
+        r#"{"l":[{"n":1,"t":2},{"n":2}]}"#,
         r#"{"l":[{"n":1,"t":2},{"n":2}]}"#,
     ),
     (
-        (
-            r#"{"a":1,"d":{"x":1,"z":1}}"#,
-            r#"{"a":2,"d":{"w":2,"z":3},"r":{"x":3}}"#,
-        ),
+        r#"{"a":1,"d":{"x":1,"z":1}}"#,
+        r#"{"a":2,"d":{"w":2,"z":3},"r":{"x":3}}"#,
         r#"{"a":2,"d":{"w":2,"x":1,"z":3},"r":{"x":3}}"#,
     ),
-    ((r#"{"v":[1,2]}"#, r#"{"v":[3]}"#), r#"{"v":[3]}"#),
+    (r#"{"v":[1,2]}"#, r#"{"v":[3]}"#, r#"{"v":[3]}"#),
 ];
 
 // The second body over the first.
@@ -52,100 +45,84 @@ fn over(alloc: Global, live: &str, config: &str) -> Result<Merged, Fail> {
     Ok(live.over(alloc, config)?)
 }
 
-// What is shown of the second body over the first.
-fn shown_over(alloc: Global, live: &str, config: &str) -> Result<String, Fail> {
-    let merged = over(alloc, live, config)?;
-    shown(alloc, &merged.body)
+/// What is asked of a live body with a configuration over it.
+pub enum AskedOver {
+    /// What it is.
+    Shown,
+    /// Whether it is told to be as it was.
+    Left,
 }
 
-#[test]
-fn configurations_are_merged(rt: HostRuntime) -> Result<(), Fail> {
-    are_told(
-        rt.alloc(),
-        &OVER,
-        |alloc, (live, config)| shown_over(alloc, live, config),
-    )
+// The answer of what they are merged to.
+fn told_merged(alloc: Global, asked: &AskedOver, merged: &Merged) -> Result<String, Fail> {
+    match asked {
+        AskedOver::Shown => shown(alloc, &merged.body),
+        AskedOver::Left => {
+            let told = if merged.is_live { "as it was" } else { "other" };
+            Ok(String::from_str(alloc, told)?)
+        }
+    }
+}
+
+/// The answer of their texts.
+pub fn told_over(
+    alloc: Global,
+    asked: &AskedOver,
+    live: &str,
+    config: &str,
+) -> Result<String, Fail> {
+    told_merged(alloc, asked, &over(alloc, live, config)?)
 }
 
 // A live body and a configuration, and whether the one with the other over it is told to be as it was.
-const LEFT: [((&str, &str), &str); 12] = [
+const LEFT: [(&str, &str, &str); 12] = [
     (
-        (
-            r#"{"a":1,"d":{"x":1},"l":[{"n":2,"t":1},{"n":1}],"s":[2,1],"v":[1,2]}"#,
-            r#"{"a":1,"d":{"x":1},"l":[{"n":2,"t":1},{"n":1}],"s":[2,1],"v":[1,2]}"#,
-        ),
+        r#"{"a":1,"d":{"x":1},"l":[{"n":2,"t":1},{"n":1}],"s":[2,1],"v":[1,2]}"#,
+        r#"{"a":1,"d":{"x":1},"l":[{"n":2,"t":1},{"n":1}],"s":[2,1],"v":[1,2]}"#,
         "as it was",
     ),
     (
-        (
-            r#"{"a":1,"d":{"x":1,"z":1},"l":[{"n":2,"t":1},{"n":1}],"r":{"x":1},"s":[2,1]}"#,
-            r#"{"d":{"z":1},"l":[{"n":1}],"r":{},"s":[1]}"#,
-        ),
+        r#"{"a":1,"d":{"x":1,"z":1},"l":[{"n":2,"t":1},{"n":1}],"r":{"x":1},"s":[2,1]}"#,
+        r#"{"d":{"z":1},"l":[{"n":1}],"r":{},"s":[1]}"#,
         "as it was",
     ),
-    ((r#"{"s":[3,2,1]}"#, r#"{"s":[1,3,2]}"#), "as it was"),
+    (r#"{"s":[3,2,1]}"#, r#"{"s":[1,3,2]}"#, "as it was"),
     (
-        (
-            r#"{"l":[{"n":2,"t":1},{"n":1}]}"#,
-            r#"{"l":[{"n":1},{"n":2,"t":1}]}"#,
-        ),
+        r#"{"l":[{"n":2,"t":1},{"n":1}]}"#,
+        r#"{"l":[{"n":1},{"n":2,"t":1}]}"#,
         "as it was",
     ),
-    ((r#"{"a":1}"#, r#"{"a":2}"#), "other"),
+    (r#"{"a":1}"#, r#"{"a":2}"#, "other"),
+    (r#"{"d":{"x":1,"z":1}}"#, r#"{"d":{"x":2,"z":1}}"#, "other"),
     (
-        (r#"{"d":{"x":1,"z":1}}"#, r#"{"d":{"x":2,"z":1}}"#),
+        r#"{"l":[{"n":2,"t":1},{"n":1}]}"#,
+        r#"{"l":[{"n":2,"t":2}]}"#,
         "other",
     ),
-    (
-        (
-            r#"{"l":[{"n":2,"t":1},{"n":1}]}"#,
-            r#"{"l":[{"n":2,"t":2}]}"#,
-        ),
-        "other",
-    ),
-    ((r#"{"s":[2,1]}"#, r#"{"s":[2,1,3]}"#), "other"),
-    ((r#"{"s":[2,1]}"#, r#"{"s":[0,1,2]}"#), "other"),
-    ((r#"{"a":1}"#, r#"{"a":1,"r":{"x":1}}"#), "other"),
-    ((r#"{"l":[{"n":1}]}"#, r#"{"l":[{"n":1,"t":1}]}"#), "other"),
-    ((r#"{"v":[1,2]}"#, r#"{"v":[2,1]}"#), "other"),
+    (r#"{"s":[2,1]}"#, r#"{"s":[2,1,3]}"#, "other"),
+    (r#"{"s":[2,1]}"#, r#"{"s":[0,1,2]}"#, "other"),
+    (r#"{"a":1}"#, r#"{"a":1,"r":{"x":1}}"#, "other"),
+    (r#"{"l":[{"n":1}]}"#, r#"{"l":[{"n":1,"t":1}]}"#, "other"),
+    (r#"{"v":[1,2]}"#, r#"{"v":[2,1]}"#, "other"),
 ];
 
-// Whether the first body is told to be as it was, with the second over it.
-fn told_over(alloc: Global, live: &str, config: &str) -> Result<String, Fail> {
-    let merged = over(alloc, live, config)?;
-    let told = if merged.is_live { "as it was" } else { "other" };
-    Ok(String::from_str(alloc, told)?)
-}
-
-#[test]
-fn bodies_left_as_they_were_are_told(rt: HostRuntime) -> Result<(), Fail> {
-    are_told(
-        rt.alloc(),
-        &LEFT,
-        |alloc, (live, config)| told_over(alloc, live, config),
-    )
-}
-
 // A body and one that comes after it, and the paths added, modified and removed.
-const COMPARED: [((&str, &str), &str); 5] = [
+const COMPARED: [(&str, &str, &str); 5] = [
     (
-        (
-            r#"{"a":1,"e":{"x":{}},"l":[{"n":2},{"n":1}],"s":[9,10]}"#,
-            r#"{"a":3,"e":{},"l":[{"n":3},{"n":2}],"s":[9,10]}"#,
-        ),
+        r#"{"a":1,"e":{"x":{}},"l":[{"n":2},{"n":1}],"s":[9,10]}"#,
+        r#"{"a":3,"e":{},"l":[{"n":3},{"n":2}],"s":[9,10]}"#,
         r#"f:l/k:{"n":3} f:l/k:{"n":3}/f:n | f:a | f:e/f:x f:l/k:{"n":1} f:l/k:{"n":1}/f:n"#,
     ),
     (
-        (
-            r#"{"l":[{"n":2},{"n":1}],"s":[9,10]}"#,
-            r#"{"l":[{"n":1},{"n":2}],"s":[10,9]}"#,
-        ),
+        r#"{"l":[{"n":2},{"n":1}],"s":[9,10]}"#,
+        r#"{"l":[{"n":1},{"n":2}],"s":[10,9]}"#,
         " |  | ",
     ),
-    ((r#"{"v":[]}"#, r#"{"v":[1]}"#), " | f:v | "),
-    ((r#"{"v":[1]}"#, r#"{"v":[1]}"#), " |  | "),
+    (r#"{"v":[]}"#, r#"{"v":[1]}"#, " | f:v | "),
+    (r#"{"v":[1]}"#, r#"{"v":[1]}"#, " |  | "),
     (
-        (r#"{"e":{"x":{"x":1}}}"#, "{}"),
+        r#"{"e":{"x":{"x":1}}}"#,
+        "{}",
         " |  | f:e f:e/f:x f:e/f:x/f:x",
     ),
 ];
@@ -161,21 +138,6 @@ fn told(alloc: Global, differing: &Comparison) -> Result<String, Fail> {
 // How the second body differs from the first.
 fn compared(alloc: Global, before: &Body, after: &Body) -> Result<String, Fail> {
     told(alloc, &before.compare(alloc, after)?)
-}
-
-// The same of their texts.
-fn compared_texts(alloc: Global, before: &str, after: &str) -> Result<String, Fail> {
-    let (before, after) = bodies(alloc, PLACES, before, after)?;
-    compared(alloc, &before, &after)
-}
-
-#[test]
-fn bodies_are_compared(rt: HostRuntime) -> Result<(), Fail> {
-    are_told(
-        rt.alloc(),
-        &COMPARED,
-        |alloc, (before, after)| compared_texts(alloc, before, after),
-    )
 }
 
 // The body that is set beside paths.
@@ -200,46 +162,68 @@ fn cut_of(alloc: Global, sample: Body, gone: &FieldSet, held: &FieldSet) -> Resu
     Ok(sample.cut(alloc, gone, held)?)
 }
 
+// The sample of this file without them.
+fn cut_sample(alloc: Global, gone: &FieldSet, held: &FieldSet) -> Result<Body, Fail> {
+    cut_of(alloc, body(alloc, PLACES, SAMPLE)?, gone, held)
+}
+
 // The same of the texts of the paths.
 fn cut(alloc: Global, gone: &str, held: &str) -> Result<Body, Fail> {
     let gone = set(alloc, gone)?;
     let held = set(alloc, held)?;
-    let sample = body(alloc, PLACES, SAMPLE)?;
-    cut_of(alloc, sample, &gone, &held)
+    cut_sample(alloc, &gone, &held)
 }
 
 // Paths that go and paths that are held, and what stays: of each sort of place a part, nothing of a Dict and of a set of
 // which the set is held, the items of a list without their fields, what is held below a place that goes, and all.
-const CUT: [((&str, &str), &str); 5] = [
+const CUT: [(&str, &str, &str); 5] = [
     (
-        (r#"f:a f:d/f:x f:l/k:{"n":1} f:q f:s/v:1"#, ""),
+        r#"f:a f:d/f:x f:l/k:{"n":1} f:q f:s/v:1"#,
+        "",
         r#"{"d":{"z":2},"l":[{"n":2,"t":1}],"s":[2,3]}"#,
     ),
     (
-        ("f:d/f:x f:d/f:z f:s/v:1 f:s/v:2 f:s/v:3", "f:s"),
+        "f:d/f:x f:d/f:z f:s/v:1 f:s/v:2 f:s/v:3",
+        "f:s",
         r#"{"a":1,"l":[{"n":2,"t":1},{"n":1}],"s":[]}"#,
     ),
     (
-        (
-            r#"f:l/k:{"n":1}/f:n f:l/k:{"n":2}/f:n f:l/k:{"n":2}/f:t"#,
-            "",
-        ),
+        r#"f:l/k:{"n":1}/f:n f:l/k:{"n":2}/f:n f:l/k:{"n":2}/f:t"#,
+        "",
         r#"{"a":1,"d":{"x":1,"z":2},"l":[{},{}],"s":[2,1,3]}"#,
     ),
     (
-        ("f:d f:l", r#"f:l/k:{"n":1}"#),
+        "f:d f:l",
+        r#"f:l/k:{"n":1}"#,
         r#"{"a":1,"l":[{}],"s":[2,1,3]}"#,
     ),
-    (("", ""), SAMPLE),
+    ("", "", SAMPLE),
 ];
 
-#[test]
-fn what_goes_is_cut(rt: HostRuntime) -> Result<(), Fail> {
-    are_told(
-        rt.alloc(),
-        &CUT,
-        |alloc, (gone, held)| shown(alloc, &cut(alloc, gone, held)?),
-    )
+/// What is asked of the sample that is cut.
+pub enum AskedOfCut {
+    /// What stays without the first paths, but for what is at or above the second.
+    Rest,
+    /// What stands at the second text's place without the first paths, but for what is at or above `f:d` and `f:s`.
+    Sort,
+}
+
+/// The answer of the sample, cut by two texts.
+pub fn told_of_cut(
+    alloc: Global,
+    asked: &AskedOfCut,
+    gone: &str,
+    other: &str,
+) -> Result<String, Fail> {
+    let held = match asked {
+        AskedOfCut::Rest => other,
+        AskedOfCut::Sort => "f:d f:s",
+    };
+    let rest = cut(alloc, gone, held)?;
+    match asked {
+        AskedOfCut::Rest => shown(alloc, &rest),
+        AskedOfCut::Sort => look_at(alloc, &rest, other),
+    }
 }
 
 // Of each sort of place all that is below it, and a part.
@@ -248,22 +232,25 @@ const ALL_BELOW: &str =
 
 const SOME_BELOW: &str = r#"f:a f:d/f:x f:s/v:1"#;
 
-const SORTS_CUT: [((&str, &str), &str); 8] = [
-    ((ALL_BELOW, "/"), "record 4"),
-    ((ALL_BELOW, "f:d"), "Dict 0"),
-    ((ALL_BELOW, "f:l"), "list 1"),
-    ((ALL_BELOW, r#"f:l/k:{"n":2}"#), "record 0"),
-    ((ALL_BELOW, "f:s"), "list 0"),
-    ((SOME_BELOW, "/"), "record 3"),
-    ((SOME_BELOW, "f:d"), "Dict 1"),
-    ((SOME_BELOW, "f:s"), "list 2"),
+const SORTS_CUT: [(&str, &str, &str); 8] = [
+    (ALL_BELOW, "/", "record 4"),
+    (ALL_BELOW, "f:d", "Dict 0"),
+    (ALL_BELOW, "f:l", "list 1"),
+    (ALL_BELOW, r#"f:l/k:{"n":2}"#, "record 0"),
+    (ALL_BELOW, "f:s", "list 0"),
+    (SOME_BELOW, "/", "record 3"),
+    (SOME_BELOW, "f:d", "Dict 1"),
+    (SOME_BELOW, "f:s", "list 2"),
 ];
 
 #[test]
-fn what_stays_is_of_its_sort(rt: HostRuntime) -> Result<(), Fail> {
-    are_told(rt.alloc(), &SORTS_CUT, |alloc, (gone, place)| {
-        look_at(alloc, &cut(alloc, gone, "f:d f:s")?, place)
-    })
+fn what_goes_is_cut_and_what_stays_is_of_its_sort(rt: HostRuntime) -> Result<(), Fail> {
+    are_told_of_two(rt.alloc(), &QuestionOfTwo::Cut(AskedOfCut::Rest), &CUT)?;
+    are_told_of_two(
+        rt.alloc(),
+        &QuestionOfTwo::Cut(AskedOfCut::Sort),
+        &SORTS_CUT,
+    )
 }
 
 const LACKING: [(&str, &str); 2] = [
@@ -279,11 +266,10 @@ fn lacking(alloc: Global, body: &Body, paths: &FieldSet) -> Result<String, Fail>
     listed(alloc, &body.lacking(alloc, paths)?)
 }
 
-#[test]
-fn lacking_paths_are_told(rt: HostRuntime) -> Result<(), Fail> {
-    are_told(rt.alloc(), &LACKING, |alloc, paths| {
-        lacking(alloc, &body(alloc, PLACES, SAMPLE)?, &set(alloc, paths)?)
-    })
+/// The paths at which the sample has nothing.
+pub fn lacking_of(alloc: Global, paths: &str) -> Result<String, Fail> {
+    let paths = set(alloc, paths)?;
+    lacking(alloc, &body(alloc, PLACES, SAMPLE)?, &paths)
 }
 
 // Those of its points at which a body has nothing.
@@ -291,46 +277,63 @@ fn lacking_points(alloc: Global, body: &Body) -> Result<String, Fail> {
     lacking(alloc, body, &body.points(alloc)?)
 }
 
+/// The same of the body of a value.
+pub fn lacking_points_of(alloc: Global, text: &str) -> Result<String, Fail> {
+    lacking_points(alloc, &body(alloc, PLACES, text)?)
+}
+
 #[test]
-fn bodies_lack_none_of_their_points(rt: HostRuntime) -> Result<(), Fail> {
-    let body = body(rt.alloc(), PLACES, SAMPLE)?;
-    let told = lacking_points(rt.alloc(), &body);
-    drop(body);
-    assert_eq!(rt; told?.as_str(), "");
-    Ok(())
+fn lacking_paths_are_told(rt: HostRuntime) -> Result<(), Fail> {
+    are_told(rt.alloc(), &Question::Lacking, &LACKING)?;
+    are_told(rt.alloc(), &Question::LackingPoints, &[(SAMPLE, "")])
 }
 
 // Two bodies, and whether they are one: the same, in another order, with another leaf, with an item less, an empty record
 // and none, and two that have nothing.
-const SAME: [((&str, &str), &str); 6] = [
-    ((SAMPLE, SAMPLE), "true"),
-    ((r#"{"s":[2,1]}"#, r#"{"s":[1,2]}"#), "false"),
-    ((r#"{"a":1,"v":[1]}"#, r#"{"a":1,"v":[2]}"#), "false"),
-    (
-        (r#"{"l":[{"n":1},{"n":2}]}"#, r#"{"l":[{"n":1}]}"#),
-        "false",
-    ),
-    ((r#"{"d":{}}"#, "{}"), "false"),
-    (("{}", "{}"), "true"),
+const SAME: [(&str, &str, &str); 6] = [
+    (SAMPLE, SAMPLE, "true"),
+    (r#"{"s":[2,1]}"#, r#"{"s":[1,2]}"#, "false"),
+    (r#"{"a":1,"v":[1]}"#, r#"{"a":1,"v":[2]}"#, "false"),
+    (r#"{"l":[{"n":1},{"n":2}]}"#, r#"{"l":[{"n":1}]}"#, "false"),
+    (r#"{"d":{}}"#, "{}", "false"),
+    ("{}", "{}", "true"),
 ];
 
-// Whether the two are one body.
-fn are_same(alloc: Global, own: &str, other: &str) -> Result<bool, Fail> {
-    let (own, other) = bodies(alloc, PLACES, own, other)?;
-    Ok(own.is_same(&other))
+/// What is asked of a body beside another.
+pub enum AskedBeside {
+    /// The paths that the other adds, modifies and removes.
+    Compared,
+    /// Whether the two are one.
+    Same,
 }
 
-// The same as a text.
-fn told_same(alloc: Global, own: &str, other: &str) -> Result<String, Fail> {
-    let same = are_same(alloc, own, other)?;
-    Ok(format!(in alloc; "{same}")?)
+// The answer of two bodies.
+fn told_beside(
+    alloc: Global,
+    asked: &AskedBeside,
+    own: &Body,
+    other: &Body,
+) -> Result<String, Fail> {
+    match asked {
+        AskedBeside::Compared => compared(alloc, own, other),
+        AskedBeside::Same => truth(alloc, own.is_same(other)),
+    }
+}
+
+/// The answer of their texts.
+pub fn beside(alloc: Global, asked: &AskedBeside, own: &str, other: &str) -> Result<String, Fail> {
+    let (own, other) = bodies(alloc, PLACES, own, other)?;
+    told_beside(alloc, asked, &own, &other)
 }
 
 #[test]
-fn bodies_are_the_same(rt: HostRuntime) -> Result<(), Fail> {
-    are_told(
+fn bodies_are_merged_and_compared(rt: HostRuntime) -> Result<(), Fail> {
+    are_told_of_two(rt.alloc(), &QuestionOfTwo::Over(AskedOver::Shown), &OVER)?;
+    are_told_of_two(rt.alloc(), &QuestionOfTwo::Over(AskedOver::Left), &LEFT)?;
+    are_told_of_two(
         rt.alloc(),
-        &SAME,
-        |alloc, (own, other)| told_same(alloc, own, other),
-    )
+        &QuestionOfTwo::Bodies(AskedBeside::Compared),
+        &COMPARED,
+    )?;
+    are_told_of_two(rt.alloc(), &QuestionOfTwo::Bodies(AskedBeside::Same), &SAME)
 }

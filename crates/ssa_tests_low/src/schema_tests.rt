@@ -1,4 +1,5 @@
 //! Tests of the reading of schemas.
+use crate::questions::Question;
 use crate::samples::SPEC;
 use crate::support::{are_told, value};
 use ssa_schema::fault::SchemaFault;
@@ -6,8 +7,30 @@ use ssa_schema::schema::Schema;
 use std::alloc::Global;
 use std::test::Fail;
 
+/// What is asked of schemas.
+pub enum Asked {
+    /// What reading a schema says.
+    Root,
+    /// What reading a schema says, one of whose fields has the text's schema.
+    Field,
+    /// What reading a schema says, one of whose fields is a list of records with the text's members more.
+    List,
+    /// What reading a schema says of objects in objects, as many deep as the text says.
+    Nested,
+}
+
+/// The answer to a question of schemas.
+pub fn answer(alloc: Global, asked: &Asked, text: &str) -> Result<String, Fail> {
+    match asked {
+        Asked::Root => read(alloc, text),
+        Asked::Field => read_as_field(alloc, text),
+        Asked::List => read_as_list(alloc, text),
+        Asked::Nested => read_nested(alloc, text),
+    }
+}
+
 // What reading a schema says.
-fn answer(alloc: Global, text: &str) -> Result<String, Fail> {
+fn read(alloc: Global, text: &str) -> Result<String, Fail> {
     let told = match Schema::read(alloc, value(alloc, text)?) {
         Ok(_) => "accepted",
         Err(SchemaFault::SchemaKeyword) => "SchemaKeyword",
@@ -63,15 +86,10 @@ const ROOTS: [(&str, &str); 20] = [
     ),
 ];
 
-#[test]
-fn roots_are_read(rt: HostRuntime) -> Result<(), Fail> {
-    are_told(rt.alloc(), &ROOTS, answer)
-}
-
 // What reading a schema says, one of whose fields has this schema.
-fn answer_of_field(alloc: Global, field: &str) -> Result<String, Fail> {
+fn read_as_field(alloc: Global, field: &str) -> Result<String, Fail> {
     let parts = [r#"{"properties":{"p":"#, field, r#"},"type":"object"}"#];
-    answer(alloc, &parts.concat(alloc)?)
+    read(alloc, &parts.concat(alloc)?)
 }
 
 const FIELDS: [(&str, &str); 18] = [
@@ -140,16 +158,11 @@ const FIELDS: [(&str, &str); 18] = [
     ),
 ];
 
-#[test]
-fn fields_are_read(rt: HostRuntime) -> Result<(), Fail> {
-    are_told(rt.alloc(), &FIELDS, answer_of_field)
-}
-
 // What reading a schema says, one of whose fields is a list of records with these members more.
-fn answer_of_list(alloc: Global, more: &str) -> Result<String, Fail> {
+fn read_as_list(alloc: Global, more: &str) -> Result<String, Fail> {
     let items = r#"{"properties":{"k":{"type":"string"},"o":{"type":"object"}},"type":"object"}"#;
     let parts = [r#"{"items":"#, items, r#","type":"array""#, more, "}"];
-    answer_of_field(alloc, &parts.concat(alloc)?)
+    read_as_field(alloc, &parts.concat(alloc)?)
 }
 
 const LISTS: [(&str, &str); 16] = [
@@ -198,11 +211,6 @@ const LISTS: [(&str, &str); 16] = [
     (r#","x-kubernetes-list-type":"set""#, "SchemaShape"),
 ];
 
-#[test]
-fn lists_are_read(rt: HostRuntime) -> Result<(), Fail> {
-    are_told(rt.alloc(), &LISTS, answer_of_list)
-}
-
 // Objects in objects, so many deep.
 fn nested(alloc: Global, depth: usize) -> Result<String, Fail> {
     let mut text = String::from_str(alloc, r#"{"type":"object"}"#)?;
@@ -217,10 +225,17 @@ fn nested(alloc: Global, depth: usize) -> Result<String, Fail> {
     Ok(text)
 }
 
+// What reading a schema says of objects in objects, so many deep.
+fn read_nested(alloc: Global, depth: &str) -> Result<String, Fail> {
+    read(alloc, &nested(alloc, depth.parse::<usize>()?)?)
+}
+
+const NESTED: [(&str, &str); 2] = [("32", "accepted"), ("33", "SchemaDepth")];
+
 #[test]
-fn schemas_nest_32_deep(rt: HostRuntime) -> Result<(), Fail> {
-    let alloc = rt.alloc();
-    assert_eq!(rt; answer(alloc, &nested(alloc, 32)?)?.as_str(), "accepted");
-    assert_eq!(rt; answer(alloc, &nested(alloc, 33)?)?.as_str(), "SchemaDepth");
-    Ok(())
+fn schemas_are_read(rt: HostRuntime) -> Result<(), Fail> {
+    are_told(rt.alloc(), &Question::Schema(Asked::Root), &ROOTS)?;
+    are_told(rt.alloc(), &Question::Schema(Asked::Field), &FIELDS)?;
+    are_told(rt.alloc(), &Question::Schema(Asked::List), &LISTS)?;
+    are_told(rt.alloc(), &Question::Schema(Asked::Nested), &NESTED)
 }

@@ -1,10 +1,64 @@
 //! Tests of sets of paths by hand: an object with a list of ports, each under its number.
-use crate::support::{are_told, listed, path, set};
+use crate::questions::{Question, QuestionOfTwo};
+use crate::support::{are_told, are_told_of_two, listed, path, set, truth};
 use ssa_path::field_set::FieldSet;
 use ssa_path::path::Path;
 use ssa_path::trie::Trie;
 use std::alloc::Global;
 use std::test::Fail;
+
+/// What is asked of a set of paths.
+pub enum Asked {
+    /// What stays of it without fields that are keys.
+    Keyless,
+    /// The paths of its copy in which one more is put, and its own then.
+    Copied,
+    /// The paths of the set of the text's path alone.
+    Alone,
+}
+
+/// The answer to a question of a set of paths.
+pub fn answer(alloc: Global, asked: &Asked, text: &str) -> Result<String, Fail> {
+    match asked {
+        Asked::Keyless => listed(alloc, &set(alloc, text)?.without_key_fields(alloc)?),
+        Asked::Copied => copy_and_own(alloc, &set(alloc, text)?),
+        Asked::Alone => alone(alloc, &path(alloc, text)?),
+    }
+}
+
+/// What is asked of a set beside another.
+pub enum AskedBeside {
+    /// Its paths that are not over one of the other's.
+    WithoutOver,
+    /// Its paths that are over one of the other's.
+    Over,
+    /// Whether the two are the same.
+    Same,
+}
+
+// The answer of two sets.
+fn told_beside(
+    alloc: Global,
+    asked: &AskedBeside,
+    own: &FieldSet,
+    other: &FieldSet,
+) -> Result<String, Fail> {
+    match asked {
+        AskedBeside::WithoutOver => listed(alloc, &own.without_over(alloc, other)?),
+        AskedBeside::Over => listed(alloc, &own.over(alloc, other)?),
+        AskedBeside::Same => {
+            let told = if own.is_same(other) { "same" } else { "other" };
+            Ok(String::from_str(alloc, told)?)
+        }
+    }
+}
+
+/// The answer of the sets of two texts.
+pub fn beside(alloc: Global, asked: &AskedBeside, own: &str, other: &str) -> Result<String, Fail> {
+    let own = set(alloc, own)?;
+    let other = set(alloc, other)?;
+    told_beside(alloc, asked, &own, &other)
+}
 
 // The paths of a set, put in from the last to the first.
 const OWNED: &str =
@@ -13,40 +67,25 @@ const OWNED: &str =
 // What stays of a set beside another.
 const APART: &str = r#"f:spec/f:ports/k:{"port":80}/f:name f:spec/f:replicas f:status"#;
 
-const OVER: [((&str, &str), &str); 3] = [
-    ((OWNED, r#"f:spec/f:ports/k:{"port":80}/f:port"#), APART),
+const WITHOUT_OVER: [(&str, &str, &str); 3] = [
+    (OWNED, r#"f:spec/f:ports/k:{"port":80}/f:port"#, APART),
     (
-        (APART, "/ f:spec f:status"),
+        APART,
+        "/ f:spec f:status",
         r#"f:spec/f:ports/k:{"port":80}/f:name f:spec/f:replicas"#,
     ),
-    ((APART, ""), APART),
+    (APART, "", APART),
 ];
 
-#[test]
-fn paths_over_others_go(rt: HostRuntime) -> Result<(), Fail> {
-    are_told(rt.alloc(), &OVER, |alloc, (own, held)| {
-        listed(
-            alloc,
-            &set(alloc, own)?.without_over(alloc, &set(alloc, held)?)?,
-        )
-    })
-}
-
-const ABOVE: [((&str, &str), &str); 3] = [
+const OVER: [(&str, &str, &str); 3] = [
     (
-        (OWNED, r#"f:spec/f:ports/k:{"port":80}/f:port"#),
+        OWNED,
+        r#"f:spec/f:ports/k:{"port":80}/f:port"#,
         r#"/ f:spec f:spec/f:ports/k:{"port":80} f:spec/f:ports/k:{"port":80}/f:port"#,
     ),
-    ((APART, "/ f:spec f:status"), "f:status"),
-    ((APART, ""), ""),
+    (APART, "/ f:spec f:status", "f:status"),
+    (APART, "", ""),
 ];
-
-#[test]
-fn paths_over_others_stay(rt: HostRuntime) -> Result<(), Fail> {
-    are_told(rt.alloc(), &ABOVE, |alloc, (own, held)| {
-        listed(alloc, &set(alloc, own)?.over(alloc, &set(alloc, held)?)?)
-    })
-}
 
 const KEYLESS: [(&str, &str); 2] = [
     (
@@ -59,36 +98,24 @@ const KEYLESS: [(&str, &str); 2] = [
     ),
 ];
 
-#[test]
-fn key_fields_are_told_by_the_element_before(rt: HostRuntime) -> Result<(), Fail> {
-    are_told(rt.alloc(), &KEYLESS, |alloc, own| {
-        listed(alloc, &set(alloc, own)?.without_key_fields(alloc)?)
-    })
-}
-
-const SAME: [((&str, &str), &str); 6] = [
-    ((OWNED, OWNED), "same"),
-    (("", ""), "same"),
-    (("/ f:a f:b", "f:a f:b"), "other"),
-    (("f:a f:b", "/ f:a f:b"), "other"),
-    (("f:a", "f:b"), "other"),
-    (("f:a", "f:a/f:b"), "other"),
+const SAME: [(&str, &str, &str); 6] = [
+    (OWNED, OWNED, "same"),
+    ("", "", "same"),
+    ("/ f:a f:b", "f:a f:b", "other"),
+    ("f:a f:b", "/ f:a f:b", "other"),
+    ("f:a", "f:b", "other"),
+    ("f:a", "f:a/f:b", "other"),
 ];
 
-// Whether two sets are the same.
-fn compared(alloc: Global, own: &str, other: &str) -> Result<String, Fail> {
-    let is_same = set(alloc, own)?.is_same(&set(alloc, other)?);
-    let told = if is_same { "same" } else { "other" };
-    Ok(String::from_str(alloc, told)?)
-}
-
 #[test]
-fn sets_are_the_same_by_their_paths(rt: HostRuntime) -> Result<(), Fail> {
-    are_told(
+fn sets_stand_beside_others(rt: HostRuntime) -> Result<(), Fail> {
+    are_told_of_two(
         rt.alloc(),
-        &SAME,
-        |alloc, (own, other)| compared(alloc, own, other),
-    )
+        &QuestionOfTwo::Sets(AskedBeside::WithoutOver),
+        &WITHOUT_OVER,
+    )?;
+    are_told_of_two(rt.alloc(), &QuestionOfTwo::Sets(AskedBeside::Over), &OVER)?;
+    are_told_of_two(rt.alloc(), &QuestionOfTwo::Sets(AskedBeside::Same), &SAME)
 }
 
 // The paths of a set in which `f:data` is put too.
@@ -104,32 +131,41 @@ fn grown_copy(alloc: Global, own: &FieldSet) -> Result<String, Fail> {
 }
 
 // The same, and then the paths of the set itself.
-fn copy_and_own(alloc: Global, own: &FieldSet) -> Result<(String, String), Fail> {
+fn copy_and_own(alloc: Global, own: &FieldSet) -> Result<String, Fail> {
     let copied = grown_copy(alloc, own)?;
-    Ok((copied, listed(alloc, own)?))
+    let kept = listed(alloc, own)?;
+    Ok([copied.as_str(), kept.as_str()].join(alloc, " | ")?)
 }
 
+const COPIED: [(&str, &str); 1] = [("/ f:a/f:b f:c", "/ f:a/f:b f:c f:data | / f:a/f:b f:c")];
+
+// The paths of the set of one path.
+fn alone(alloc: Global, path: &Path) -> Result<String, Fail> {
+    listed(
+        alloc,
+        &FieldSet::from_root(Trie::of_path(alloc, path.elements())?),
+    )
+}
+
+const ALONE: [(&str, &str); 1] = [("f:a/v:10", "f:a/v:10")];
+
 #[test]
-fn copies_have_the_same_paths_and_grow_by_themselves(rt: HostRuntime) -> Result<(), Fail> {
-    let own = set(rt.alloc(), "/ f:a/f:b f:c")?;
-    let told = copy_and_own(rt.alloc(), &own);
-    drop(own);
-    let (copied, kept) = told?;
-    assert_eq!(rt; copied.as_str(), "/ f:a/f:b f:c f:data");
-    assert_eq!(rt; kept.as_str(), "/ f:a/f:b f:c");
-    Ok(())
+fn sets_are_turned_into_others(rt: HostRuntime) -> Result<(), Fail> {
+    are_told(rt.alloc(), &Question::Set(Asked::Keyless), &KEYLESS)?;
+    are_told(rt.alloc(), &Question::Set(Asked::Copied), &COPIED)?;
+    are_told(rt.alloc(), &Question::Set(Asked::Alone), &ALONE)
 }
 
 // What is taken out of a set: the set, a path, whether it was there and what stays.
-const TAKEN_OUT: [((&str, &str), &str); 8] = [
-    (("/ f:a f:a/f:b f:c", "f:a/f:b"), "had: / f:a f:c"),
-    (("/ f:a f:a/f:b f:c", "f:a"), "had: / f:a/f:b f:c"),
-    (("f:a/f:b/f:c f:a/f:d", "f:a/f:b/f:c"), "had: f:a/f:d"),
-    (("/ f:a/f:b", "f:a"), "lacked: / f:a/f:b"),
-    (("/ f:a", "f:a/f:b"), "lacked: / f:a"),
-    (("f:a f:c", "f:b"), "lacked: f:a f:c"),
-    (("f:a/v:10", "f:a/v:10"), "had: "),
-    (("/", "/"), "had: "),
+const TAKEN_OUT: [(&str, &str, &str); 8] = [
+    ("/ f:a f:a/f:b f:c", "f:a/f:b", "had: / f:a f:c"),
+    ("/ f:a f:a/f:b f:c", "f:a", "had: / f:a/f:b f:c"),
+    ("f:a/f:b/f:c f:a/f:d", "f:a/f:b/f:c", "had: f:a/f:d"),
+    ("/ f:a/f:b", "f:a", "lacked: / f:a/f:b"),
+    ("/ f:a", "f:a/f:b", "lacked: / f:a"),
+    ("f:a f:c", "f:b", "lacked: f:a f:c"),
+    ("f:a/v:10", "f:a/v:10", "had: "),
+    ("/", "/", "had: "),
 ];
 
 // Takes a path out, and tells whether it was there.
@@ -141,37 +177,57 @@ fn take_out(alloc: Global, own: &mut FieldSet, gone: &Path) -> Result<String, Fa
     Ok(text)
 }
 
-// The same of their texts.
-fn taken_out(alloc: Global, own: &str, gone: &str) -> Result<String, Fail> {
+// Whether the set's last path was there, and the set is then as one that never had any.
+fn leaves_no_place(alloc: Global, own: &mut FieldSet, last: &Path) -> bool {
+    own.remove(last)
+        && own.is_empty()
+        && own.root().below.is_empty()
+        && own.is_same(&FieldSet::new(alloc))
+}
+
+const NO_PLACE: [(&str, &str, &str); 2] = [
+    ("f:a/f:b/v:10", "f:a/f:b/v:10", "true"),
+    ("f:a/f:b/v:10", "f:a/f:b/v:9", "false"),
+];
+
+/// What is asked of a path's going from a set.
+pub enum AskedWithout {
+    /// Whether it was there, and what stays.
+    Rest,
+    /// Whether it was there and the last, and leaves no place.
+    NoPlace,
+}
+
+// The answer of a set and a path.
+fn told_without(
+    alloc: Global,
+    asked: &AskedWithout,
+    own: &mut FieldSet,
+    gone: &Path,
+) -> Result<String, Fail> {
+    match asked {
+        AskedWithout::Rest => take_out(alloc, own, gone),
+        AskedWithout::NoPlace => truth(alloc, leaves_no_place(alloc, own, gone)),
+    }
+}
+
+/// The answer of their texts.
+pub fn without(alloc: Global, asked: &AskedWithout, own: &str, gone: &str) -> Result<String, Fail> {
     let gone = path(alloc, gone)?;
     let mut own = set(alloc, own)?;
-    take_out(alloc, &mut own, &gone)
+    told_without(alloc, asked, &mut own, &gone)
 }
 
 #[test]
-fn paths_taken_out_go_alone(rt: HostRuntime) -> Result<(), Fail> {
-    are_told(
+fn paths_taken_out_go_alone_and_leave_no_place(rt: HostRuntime) -> Result<(), Fail> {
+    are_told_of_two(
         rt.alloc(),
+        &QuestionOfTwo::Going(AskedWithout::Rest),
         &TAKEN_OUT,
-        |alloc, (own, gone)| taken_out(alloc, own, gone),
+    )?;
+    are_told_of_two(
+        rt.alloc(),
+        &QuestionOfTwo::Going(AskedWithout::NoPlace),
+        &NO_PLACE,
     )
-}
-
-// A set without its last path is as one that never had any: no place is left behind.
-#[test]
-fn last_path_leaves_no_place(rt: HostRuntime) -> Result<(), Fail> {
-    let mut own = set(rt.alloc(), "f:a/f:b/v:10")?;
-    assert!(rt; own.remove(&path(rt.alloc(), "f:a/f:b/v:10")?));
-    assert!(rt; own.is_empty());
-    assert!(rt; own.root().below.is_empty());
-    assert!(rt; own.is_same(&FieldSet::new(rt.alloc())));
-    Ok(())
-}
-
-#[test]
-fn one_path_is_a_trie(rt: HostRuntime) -> Result<(), Fail> {
-    let path = path(rt.alloc(), "f:a/v:10")?;
-    let set = FieldSet::from_root(Trie::of_path(rt.alloc(), path.elements())?);
-    assert_eq!(rt; listed(rt.alloc(), &set)?.as_str(), "f:a/v:10");
-    Ok(())
 }

@@ -57,15 +57,18 @@ fn some_codes(alloc: Global, state: &mut u64) -> Result<Vec<u64>, AllocError> {
     Ok(codes)
 }
 
-// The set of these paths, put in from the last to the first, each twice.
-fn set_of(alloc: Global, codes: &[u64]) -> Result<FieldSet, Fail> {
-    let mut set = FieldSet::new(alloc);
+// Puts a path into a set, twice.
+fn put_twice(alloc: Global, set: &mut FieldSet, path: &Path) -> Result<(), AllocError> {
+    set.insert(alloc, path)?;
+    set.insert(alloc, path)
+}
+
+// Puts these paths into a set, from the last to the first, each twice.
+fn put_all(alloc: Global, set: &mut FieldSet, codes: &[u64]) -> Result<(), Fail> {
     for code in codes.iter().rev() {
-        let path = path_of(alloc, *code)?;
-        set.insert(alloc, &path)?;
-        set.insert(alloc, &path)?;
+        put_twice(alloc, set, &path_of(alloc, *code)?)?;
     }
-    Ok(set)
+    Ok(())
 }
 
 // Two sets, and the codes of their paths.
@@ -77,42 +80,37 @@ struct Sets {
     other: FieldSet,
 }
 
-fn some_sets(alloc: Global, state: &mut u64) -> Result<Sets, Fail> {
+// Puts the paths of their codes into both sets.
+fn fill(alloc: Global, sets: &mut Sets) -> Result<(), Fail> {
+    put_all(alloc, &mut sets.set, &sets.own)?;
+    put_all(alloc, &mut sets.other, &sets.others)
+}
+
+// Two sets without paths yet, and the codes of some.
+fn some_sets(alloc: Global, state: &mut u64) -> Result<Sets, AllocError> {
     let own = some_codes(alloc, state)?;
     let others = some_codes(alloc, state)?;
-    let set = set_of(alloc, &own)?;
-    let other = set_of(alloc, &others)?;
     Ok(Sets {
         own,
         others,
-        set,
-        other,
+        set: FieldSet::new(alloc),
+        other: FieldSet::new(alloc),
     })
 }
 
-// The codes that are told to stay.
-fn kept<F: Fn(u64) -> bool>(alloc: Global, codes: &[u64], stays: F) -> Result<Vec<u64>, AllocError>
-    requires { F.IsAlwaysCallable stays }
-{
-    let mut kept = Vec::new(alloc);
-    for code in codes {
-        if stays(*code) {
-            kept.push(*code)?;
-        }
+// Whether these are the paths of these codes, and the set has each.
+fn are_in(alloc: Global, set: &FieldSet, paths: &[Path], codes: &[u64]) -> Result<bool, Fail> {
+    let mut are_in = paths.len() == codes.len();
+    for (path, code) in paths.iter().zip(codes.iter()) {
+        are_in = are_in && path.order(&path_of(alloc, *code)?).is_eq() && set.has(path);
     }
-    Ok(kept)
+    Ok(are_in)
 }
 
 // Whether the set has just these paths.
 fn holds(alloc: Global, set: &FieldSet, codes: &[u64]) -> Result<bool, Fail> {
-    let paths = set.paths(alloc)?;
-    let mut agrees = paths.len() == codes.len() && set.len() == codes.len();
-    agrees = agrees && set.is_empty() == codes.is_empty();
-    for (path, code) in paths.iter().zip(codes.iter()) {
-        let wanted = path_of(alloc, *code)?;
-        agrees = agrees && path.order(&wanted).is_eq() && set.has(path);
-    }
-    Ok(agrees)
+    let is_as_large = set.len() == codes.len() && set.is_empty() == codes.is_empty();
+    Ok(is_as_large && are_in(alloc, set, &set.paths(alloc)?, codes)?)
 }
 
 // Whether the path of one code begins that of another.
@@ -128,11 +126,49 @@ fn begins(code: u64, other: u64) -> bool {
     }
 }
 
-fn is_union(alloc: Global, sets: &Sets, union: &FieldSet) -> Result<bool, Fail> {
-    let mut either = sets.own.clone()?;
+// Whether the code is one of these or, where `or_above` says so, begins one of them.
+fn is_among(code: u64, codes: &[u64], or_above: bool) -> bool {
+    for other in codes {
+        if code == *other || or_above && begins(code, *other) {
+            return true;
+        }
+    }
+    false
+}
+
+// Whether all codes are among the others.
+fn are_among(codes: &[u64], others: &[u64]) -> bool {
+    for code in codes {
+        if !is_among(*code, others, false) {
+            return false;
+        }
+    }
+    true
+}
+
+// The codes that are among the others or, where `or_above` says so, begin one of them, or those that are and do not.
+fn kept(alloc: Global, sets: &Sets, or_above: bool, is_kept: bool) -> Result<Vec<u64>, AllocError> {
+    let mut kept = Vec::new(alloc);
+    for code in &sets.own {
+        if is_among(*code, &sets.others, or_above) == is_kept {
+            kept.push(*code)?;
+        }
+    }
+    Ok(kept)
+}
+
+// Puts the codes of both sets into one list that rises.
+fn put_either(sets: &Sets, either: &mut Vec<u64>) -> Result<(), AllocError> {
+    either.extend_from_slice(&sets.own)?;
     either.extend_from_slice(&sets.others)?;
     either.sort()?;
     either.dedup();
+    Ok(())
+}
+
+fn is_union(alloc: Global, sets: &Sets, union: &FieldSet) -> Result<bool, Fail> {
+    let mut either = Vec::new(alloc);
+    put_either(sets, &mut either)?;
     Ok(holds(alloc, &sets.set, &sets.own)? && holds(alloc, union, &either)?)
 }
 
@@ -141,61 +177,53 @@ fn does_union_agree(alloc: Global, sets: &Sets) -> Result<bool, Fail> {
     is_union(alloc, sets, &union)
 }
 
-fn are_minus_and_meet(
+// Whether two sets have the paths of these codes and of those, and are the same where the codes are.
+fn hold(
+    alloc: Global,
+    first: &FieldSet,
+    second: &FieldSet,
+    codes: &[u64],
+    others: &[u64],
+) -> Result<bool, Fail> {
+    let is_same = first.is_same(second) == (codes == others);
+    Ok(is_same && holds(alloc, first, codes)? && holds(alloc, second, others)?)
+}
+
+// Whether a part of the first set has what is among the others or, where `or_above` says so, begins one of them, and another
+// part has the rest.
+fn are_parts(
     alloc: Global,
     sets: &Sets,
-    minus: &FieldSet,
-    meet: &FieldSet,
+    part: &FieldSet,
+    rest: &FieldSet,
+    or_above: bool,
 ) -> Result<bool, Fail> {
-    let left = kept(alloc, &sets.own, |code| !sets.others.contains(&code))?;
-    let both = kept(alloc, &sets.own, |code| sets.others.contains(&code))?;
-    let are_parts = minus.is_within(&sets.set)
-        && meet.is_within(&sets.set)
-        && meet.is_within(&sets.other);
-    Ok(are_parts && holds(alloc, minus, &left)? && holds(alloc, meet, &both)?)
+    let codes = kept(alloc, sets, or_above, true)?;
+    let others = kept(alloc, sets, or_above, false)?;
+    let are_within = part.is_within(&sets.set) && rest.is_within(&sets.set);
+    Ok(are_within && hold(alloc, part, rest, &codes, &others)?)
 }
 
 fn do_minus_and_meet_agree(alloc: Global, sets: &Sets) -> Result<bool, Fail> {
     let minus = sets.set.minus(alloc, &sets.other)?;
     let meet = sets.set.meet(alloc, &sets.other)?;
-    are_minus_and_meet(alloc, sets, &minus, &meet)
-}
-
-// Whether what has some of the others at or below it, and what has none, is what the lists tell.
-fn are_parts_apart(
-    alloc: Global,
-    sets: &Sets,
-    over_some: &FieldSet,
-    over_none: &FieldSet,
-) -> Result<bool, Fail> {
-    let is_over = kept(
-        alloc,
-        &sets.own,
-        |code| sets.others.iter().any(|other| begins(code, *other)),
-    )?;
-    let not_over = kept(
-        alloc,
-        &sets.own,
-        |code| !sets.others.iter().any(|other| begins(code, *other)),
-    )?;
-    let is_same = over_some.is_same(over_none) == (is_over.as_slice() == not_over.as_slice());
-    Ok(is_same && holds(alloc, over_some, &is_over)? && holds(alloc, over_none, &not_over)?)
+    Ok(meet.is_within(&sets.other) && are_parts(alloc, sets, &meet, &minus, false)?)
 }
 
 fn do_parts_apart_agree(alloc: Global, sets: &Sets) -> Result<bool, Fail> {
     let over_some = sets.set.over(alloc, &sets.other)?;
     let over_none = sets.set.without_over(alloc, &sets.other)?;
-    are_parts_apart(alloc, sets, &over_some, &over_none)
+    are_parts(alloc, sets, &over_some, &over_none, true)
 }
 
 // Whether the sets answer of some path as the lists do.
 fn do_looks_agree(alloc: Global, state: &mut u64, sets: &Sets) -> Result<bool, Fail> {
     let code = some_code(state);
     let path = path_of(alloc, code)?;
-    let is_there = sets.own.contains(&code);
-    let is_above = sets.own.iter().any(|found| begins(code, *found));
+    let is_there = is_among(code, &sets.own, false);
+    let is_above = is_among(code, &sets.own, true);
     let are_same = sets.own.as_slice() == sets.others.as_slice();
-    let are_within = sets.own.iter().all(|found| sets.others.contains(found));
+    let are_within = are_among(&sets.own, &sets.others);
     Ok(
         sets.set.has(&path) == is_there
             && sets.set.has_at_or_below(&path) == is_above
@@ -214,10 +242,16 @@ fn do_all_agree(alloc: Global, state: &mut u64, sets: &Sets) -> Result<bool, Fai
     )
 }
 
+// The same of two sets that are filled first.
+fn do_filled_agree(alloc: Global, state: &mut u64, sets: &mut Sets) -> Result<bool, Fail> {
+    fill(alloc, sets)?;
+    do_all_agree(alloc, state, sets)
+}
+
 // The same of some sets.
 fn agree(alloc: Global, state: &mut u64) -> Result<bool, Fail> {
-    let sets = some_sets(alloc, state)?;
-    do_all_agree(alloc, state, &sets)
+    let mut sets = some_sets(alloc, state)?;
+    do_filled_agree(alloc, state, &mut sets)
 }
 
 #[test]

@@ -3,6 +3,7 @@ ghost use Rattle.std.specs.Prelude.{IfOk};
 ghost use Rattle.ssa_model.specs.definitions.Fitting.{IsBodyOf};
 ghost use Rattle.ssa_typed.specs.Alike.{AreAlike};
 
+use crate::questions::{Question, QuestionOfTwo, answer, answer_of_two};
 use ssa_json::value::Json;
 use ssa_path::element::Elem;
 use ssa_path::field_set::FieldSet;
@@ -11,7 +12,6 @@ use ssa_schema::schema::Schema;
 use ssa_typed::body::Body;
 use ssa_typed::node::Look;
 use std::alloc::{AllocError, Global};
-use std::fmt::Debug;
 use std::test::Fail;
 
 /// The value of a JSON text.
@@ -69,38 +69,42 @@ fn push_path(alloc: Global, text: &mut Vec<u8>, path: &Path) -> Result<(), Alloc
     Ok(())
 }
 
-/// The texts of the set's paths in their order, with blanks between them.
-pub fn listed(alloc: Global, set: &FieldSet) -> Result<String, Fail> {
-    let mut text = Vec::new(alloc);
-    for path in &set.paths(alloc)? {
+// Adds the texts of paths, with blanks between them.
+fn push_paths(alloc: Global, text: &mut Vec<u8>, paths: &[Path]) -> Result<(), AllocError> {
+    for path in paths {
         if !text.is_empty() {
             text.push(b' ')?;
         }
-        push_path(alloc, &mut text, path)?;
+        push_path(alloc, text, path)?;
     }
+    Ok(())
+}
+
+/// The texts of the set's paths in their order, with blanks between them.
+pub fn listed(alloc: Global, set: &FieldSet) -> Result<String, Fail> {
+    let mut text = Vec::new(alloc);
+    push_paths(alloc, &mut text, &set.paths(alloc)?)?;
     Ok(String::from_utf8(text)?)
 }
 
-// The body of a value under a schema.
-fn body_under(alloc: Global, schema: &Schema, value: Json) -> Result<Body, Fail>
+// The body of a JSON text under a schema.
+fn body_under(alloc: Global, schema: &Schema, text: &str) -> Result<Body, Fail>
     ensures { IfOk result (λ b. IsBodyOf schema.now.kind b) }
 {
-    Ok(Body::from_json(alloc, schema, value)?)
+    Ok(Body::from_json(alloc, schema, value(alloc, text)?)?)
 }
 
 /// The body of a JSON text under the schema of another.
 pub fn body(alloc: Global, schema_text: &str, text: &str) -> Result<Body, Fail> {
-    let value = value(alloc, text)?;
-    let schema = schema(alloc, schema_text)?;
-    body_under(alloc, &schema, value)
+    body_under(alloc, &schema(alloc, schema_text)?, text)
 }
 
-// The bodies of two values under a schema.
+// The bodies of two JSON texts under a schema.
 fn bodies_under(
     alloc: Global,
     schema: &Schema,
-    first: Json,
-    second: Json,
+    first: &str,
+    second: &str,
 ) -> Result<(Body, Body), Fail>
     ensures { IfOk result (λ bodies. AreAlike bodies.0 bodies.1) }
 {
@@ -118,10 +122,7 @@ pub fn bodies(
 ) -> Result<(Body, Body), Fail>
     ensures { IfOk result (λ bodies. AreAlike bodies.0 bodies.1) }
 {
-    let first = value(alloc, first)?;
-    let second = value(alloc, second)?;
-    let schema = schema(alloc, schema_text)?;
-    bodies_under(alloc, &schema, first, second)
+    bodies_under(alloc, &schema(alloc, schema_text)?, first, second)
 }
 
 /// The compact text of the value that the body is of.
@@ -141,19 +142,33 @@ pub fn look_at(alloc: Global, body: &Body, place: &str) -> Result<String, Fail> 
     Ok(format!(in alloc; "{sort} {children}")?)
 }
 
-/// Fails at the first case that is not told as wanted.
-pub fn are_told<C: Copy + Debug + Drop, F: Fn(Global, C) -> Result<String, Fail>>(
-    alloc: Global,
-    cases: &[(C, &str)],
-    tell: F,
-) -> Result<(), Fail>
-    requires { F.IsAlwaysCallable tell }
-{
-    for (case, want) in cases {
-        let told = tell(alloc, *case)?;
+/// Fails at the first text of which the answer is not the wanted one.
+pub fn are_told(alloc: Global, question: &Question, cases: &[(&str, &str)]) -> Result<(), Fail> {
+    for (text, want) in cases {
+        let told = answer(alloc, question, text)?;
         if told.as_str() != *want {
-            return Err(Fail::new(format_args!("at {case:?}: {told}")));
+            return Err(Fail::new(format_args!("at {text}: {told}")));
         }
     }
     Ok(())
+}
+
+/// Fails at the first two texts of which the answer is not the wanted one.
+pub fn are_told_of_two(
+    alloc: Global,
+    question: &QuestionOfTwo,
+    cases: &[(&str, &str, &str)],
+) -> Result<(), Fail> {
+    for (first, second, want) in cases {
+        let told = answer_of_two(alloc, question, first, second)?;
+        if told.as_str() != *want {
+            return Err(Fail::new(format_args!("at {first} and {second}: {told}")));
+        }
+    }
+    Ok(())
+}
+
+/// A truth value as a text.
+pub fn truth(alloc: Global, is_so: bool) -> Result<String, Fail> {
+    Ok(String::from_str(alloc, if is_so { "true" } else { "false" })?)
 }
