@@ -39,9 +39,7 @@ impl Elem {
         ensures { result ≡ element_cmp (element_view self.now) (element_view other.now) }
     {
         match (self, other) {
-            (Elem::Field(name), Elem::Field(other_name)) => {
-                name.as_str().as_bytes().cmp(other_name.as_str().as_bytes())
-            }
+            (Elem::Field(name), Elem::Field(other_name)) => name.as_str().cmp(other_name.as_str()),
             (Elem::Key(keys), Elem::Key(others)) => order_keys(keys.members(), others.members()),
             (Elem::Value(scalar), Elem::Value(other_scalar)) => order_values(scalar, other_scalar),
             (Elem::Field(_), Elem::Key(_)) => Ordering::Less,
