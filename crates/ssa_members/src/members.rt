@@ -2,10 +2,13 @@
 ghost use Rattle.std.specs.Prelude.{◌≡◌, ◌↔◌, [], ℕ, length, IfOk, IfErr, IsTrue, OnErr, OnOk, Some, None, option_copied};
 ghost use Rattle.std.specs.BTreeMap.{insert_entry, is_at};
 ghost use Rattle.std.specs.Map.{lookup, remove_entry, set_value};
+ghost use Rattle.std.specs.Cmp.Lexicographic.{slice_cmp};
+ghost use Rattle.std.specs.Ordering.{nat_cmp};
 ghost use Rattle.std.specs.Prelude.{string_bytes, string_cmp};
 ghost use Rattle.ssa_members.specs.Members.{get, text_cmp, IsMadeOf, IsPlaceOf, IsRising};
 
 use std::alloc::{AllocError, Global};
+use std::cmp::Ordering;
 use std::collections::BTreeMap;
 use std::marker::Model;
 use std::mem::replace;
@@ -43,6 +46,19 @@ fn rises<V>(pairs: &[(String, V)]) -> bool
         i += 1;
     }
     true
+}
+
+// The order of two names by their bytes. Most differ in the first one.
+#[inline(always)]
+fn order_names(name: &str, other: &str) -> Ordering
+    ensures { result ≡ slice_cmp nat_cmp name.now other.now }
+{
+    if let ([first, ..], [other_first, ..]) = (name.as_bytes(), other.as_bytes()) {
+        if first != other_first {
+            return first.cmp(other_first);
+        }
+    }
+    name.cmp(other)
 }
 
 impl<V> Members<V> {
@@ -91,7 +107,7 @@ impl<V> Members<V> {
         ensures { IsPlaceOf name.now self.now.entries result }
     {
         self.entries
-            .binary_search_by(|entry| entry.0.as_str().cmp(name))
+            .binary_search_by(|entry| order_names(entry.0.as_str(), name))
     }
 
     /// The value under a name.
