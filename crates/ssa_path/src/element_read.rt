@@ -14,6 +14,7 @@ use crate::element::Elem;
 use crate::element_fault::ElemFault;
 use crate::keys::Keys;
 use ssa_json::fault::JsonFault;
+use ssa_json::reading_room::ReadingRoom;
 use ssa_json::value::{Json, Scalar};
 use ssa_members::Members;
 use std::alloc::{AllocError, Global};
@@ -29,10 +30,20 @@ impl Elem {
         ensures own { IfOk result (λ e. IsOwnText text.now (element_view e)) }
         ensures of_none { IfErr result (λ fault. IsOwnTextOfNone fault text.now) }
     {
+        let mut room = ReadingRoom::new(alloc);
+        Elem::read_in(alloc, &mut room, text)
+    }
+
+    /// Reads a text as [`read`](Elem::read) does, in room that is kept from one element to the next.
+    pub fn read_in(alloc: Global, room: &mut ReadingRoom, text: &str) -> Result<Elem, ElemFault>
+        ensures answers { ReadsElement result text.now }
+        ensures own { IfOk result (λ e. IsOwnText text.now (element_view e)) }
+        ensures of_none { IfErr result (λ fault. IsOwnTextOfNone fault text.now) }
+    {
         if after_beginning(text, "i:").is_some() {
             return Err(ElemFault::IndexElement);
         }
-        let Some(element) = spelled_element(alloc, text)? else {
+        let Some(element) = spelled_element(alloc, room, text)? else {
             return Err(ElemFault::BadElement);
         };
         if has_text(alloc, &element, text)? {
@@ -60,7 +71,11 @@ fn has_text(alloc: Global, element: &Elem, text: &str) -> Result<bool, AllocErro
 }
 
 // The element that a text spells, in its own way or another.
-fn spelled_element(alloc: Global, text: &str) -> Result<Option<Elem>, AllocError>
+fn spelled_element(
+    alloc: Global,
+    room: &mut ReadingRoom,
+    text: &str,
+) -> Result<Option<Elem>, AllocError>
     ensures { IfOk result (λ o. option_map element_view o ≡ spelled_element json_reading text.now) }
 {
     if let Some(name) = after_beginning(text, "f:") {
@@ -68,19 +83,19 @@ fn spelled_element(alloc: Global, text: &str) -> Result<Option<Elem>, AllocError
         return Ok(Some(Elem::Field(name)));
     }
     if let Some(json) = after_beginning(text, "v:") {
-        return value_element(alloc, json);
+        return value_element(alloc, room, json);
     }
     match after_beginning(text, "k:") {
-        Some(json) => key_element(alloc, json),
+        Some(json) => key_element(alloc, room, json),
         None => Ok(None),
     }
 }
 
 // The value, where the text is one of JSON.
-fn read_json(alloc: Global, json: &str) -> Result<Option<Json>, AllocError>
+fn read_json(alloc: Global, room: &mut ReadingRoom, json: &str) -> Result<Option<Json>, AllocError>
     ensures { IfOk result (λ o. option_map view o ≡ result_ok (json_reading json.now)) }
 {
-    match Json::read(alloc, json.as_bytes(), json.len()) {
+    match Json::read_in(alloc, room, json.as_bytes(), json.len()) {
         Ok(value) => Ok(Some(value)),
         Err(JsonFault::NotJson) => Ok(None),
         Err(JsonFault::NullValue) => Ok(None),
@@ -101,10 +116,14 @@ fn into_scalar(value: Json) -> Option<Scalar>
 }
 
 // The element that a scalar's JSON text spells.
-fn value_element(alloc: Global, json: &str) -> Result<Option<Elem>, AllocError>
+fn value_element(
+    alloc: Global,
+    room: &mut ReadingRoom,
+    json: &str,
+) -> Result<Option<Elem>, AllocError>
     ensures { IfOk result (λ o. option_map element_view o ≡ value_element (json_reading json.now)) }
 {
-    let Some(value) = read_json(alloc, json)? else {
+    let Some(value) = read_json(alloc, room, json)? else {
         return Ok(None);
     };
     match into_scalar(value) {
@@ -114,10 +133,14 @@ fn value_element(alloc: Global, json: &str) -> Result<Option<Elem>, AllocError>
 }
 
 // The element that the JSON text of its key fields spells.
-fn key_element(alloc: Global, json: &str) -> Result<Option<Elem>, AllocError>
+fn key_element(
+    alloc: Global,
+    room: &mut ReadingRoom,
+    json: &str,
+) -> Result<Option<Elem>, AllocError>
     ensures { IfOk result (λ o. option_map element_view o ≡ key_element (json_reading json.now)) }
 {
-    let Some(value) = read_json(alloc, json)? else {
+    let Some(value) = read_json(alloc, room, json)? else {
         return Ok(None);
     };
     let Json::Object(members) = value else {

@@ -10,6 +10,7 @@ use crate::element::Elem;
 use crate::element_fault::ElemFault;
 use crate::field_set::FieldSet;
 use crate::trie::Trie;
+use ssa_json::reading_room::ReadingRoom;
 use ssa_json::value::Json;
 use ssa_members::Members;
 use std::alloc::Global;
@@ -26,7 +27,8 @@ impl FieldSet {
         ensures back { IfOk result (λ s. fields_json s ≡ view value.now) }
         ensures said { IfOk result (λ s. s ≡ said_set json_reading (view value.now)) }
     {
-        let root = read_place(alloc, value)?;
+        let mut room = ReadingRoom::new(alloc);
+        let root = read_place(alloc, &mut room, value)?;
         Ok(FieldSet::from_root(root))
     }
 }
@@ -50,19 +52,23 @@ fn is_nothing_inside(value: &Json) -> bool
 
 // The place that a value says.
 #[cycle(read)]
-fn read_place(alloc: Global, value: &Json) -> Result<Trie, ElemFault>
+fn read_place(alloc: Global, room: &mut ReadingRoom, value: &Json) -> Result<Trie, ElemFault>
     ensures answers { ReadsFields result (view value.now) }
     ensures place { IfOk result (λ t. IsPlaceOf (view value.now) t) }
 {
     match value {
-        Json::Object(members) => read_members(alloc, members),
+        Json::Object(members) => read_members(alloc, room, members),
         Json::List(_) | Json::Scalar(_) => Err(ElemFault::BadElement),
     }
 }
 
 // The place that the members of an object say.
 #[cycle(read)]
-fn read_members(alloc: Global, members: &Members<Json>) -> Result<Trie, ElemFault>
+fn read_members(
+    alloc: Global,
+    room: &mut ReadingRoom,
+    members: &Members<Json>,
+) -> Result<Trie, ElemFault>
     ensures answers { TellsFirst result (member_faults json_reading (members_view members.now.entries)) }
     ensures place { IfOk result (λ t. IsPlaceOf (object (members_view members.now.entries)) t) }
 {
@@ -70,7 +76,7 @@ fn read_members(alloc: Global, members: &Members<Json>) -> Result<Trie, ElemFaul
     let mut below = Vec::new(alloc);
     for (name, member) in members.entries() {
         if !is_dot(name.as_str()) {
-            let child = read_child(alloc, name.as_str(), member)?;
+            let child = read_child(alloc, room, name.as_str(), member)?;
             let Ok(()) = below.push(child) else {
                 return Err(ElemFault::OutOfMemory);
             };
@@ -86,22 +92,27 @@ fn read_members(alloc: Global, members: &Members<Json>) -> Result<Trie, ElemFaul
 
 // The child that a member says, where the member is not `.`.
 #[cycle(read)]
-fn read_child(alloc: Global, name: &str, value: &Json) -> Result<(Elem, Trie), ElemFault>
+fn read_child(
+    alloc: Global,
+    room: &mut ReadingRoom,
+    name: &str,
+    value: &Json,
+) -> Result<(Elem, Trie), ElemFault>
     ensures answers { TellsFirst result (child_faults name.now (view value.now)) }
     ensures child { IfOk result (λ c. IsChildOf name.now (view value.now) c) }
 {
-    let element = Elem::read(alloc, name)?;
-    let place = read_below(alloc, value)?;
+    let element = Elem::read_in(alloc, room, name)?;
+    let place = read_below(alloc, room, value)?;
     Ok((element, place))
 }
 
 // The place that a value says under an element, where `{}` says the place alone.
 #[cycle(read)]
-fn read_below(alloc: Global, value: &Json) -> Result<Trie, ElemFault>
+fn read_below(alloc: Global, room: &mut ReadingRoom, value: &Json) -> Result<Trie, ElemFault>
     ensures answers { TellsFirst result (below_faults (view value.now)) }
     ensures place { IfOk result (λ t. IsPlaceBelow (view value.now) t) }
 {
-    let place = read_place(alloc, value)?;
+    let place = read_place(alloc, room, value)?;
     if !place.below.is_empty() {
         return Ok(place);
     }

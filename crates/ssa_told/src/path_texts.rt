@@ -4,6 +4,7 @@ ghost use Rattle.ssa_json.specs.View.{items_view};
 ghost use Rattle.ssa_model.specs.definitions.Schema.{texts_of};
 ghost use Rattle.ssa_told.specs.PathTexts.{ReadsElements, ReadsPath};
 
+use ssa_json::reading_room::ReadingRoom;
 use ssa_json::value::Json;
 use ssa_path::element::Elem;
 use ssa_path::element_fault::ElemFault;
@@ -15,12 +16,13 @@ pub fn elements_of_texts(alloc: Global, texts: &[Json]) -> Result<Vec<Elem>, Ele
     requires { is_some (texts_of (items_view texts.now)) ≡ true }
     ensures { ReadsElements result (items_view texts.now) }
 {
+    let mut room = ReadingRoom::new(alloc);
     let mut elements = Vec::new(alloc);
     for text in texts {
         let Some(text) = text.as_text() else {
             unreachable!("each item is a text");
         };
-        let element = Elem::read(alloc, text)?;
+        let element = Elem::read_in(alloc, &mut room, text)?;
         let Ok(()) = elements.push(element) else {
             return Err(ElemFault::OutOfMemory);
         };

@@ -1,7 +1,7 @@
 use Rattle.std.proofs.Common.{rules, sym, ◌∙◌}
 use Rattle.ssa_model.proofs.Tables.{same_text-true}
 use Rattle.ssa_path.proofs.OwnTexts.{own-text-of-none}
-use Rattle.ssa_path.proofs.element.Elem.read.Goals as goal
+use Rattle.ssa_path.proofs.element.Elem.read_in.Goals as goal
 
 pub returns-in_default-clause-answers : goal.returns-in_default-clause-answers
 returns-in_default-clause-answers c = search rules
