@@ -3,7 +3,7 @@ ghost use Rattle.std.specs.Prelude.{◌≡◌, ◌≤◌, [], length, option_map
 ghost use Rattle.std.specs.Slice.Iter.{iter_rest};
 ghost use Rattle.ssa_model.specs.definitions.Limits.{most_managers};
 ghost use Rattle.ssa_model.specs.definitions.PathMap.{union};
-ghost use Rattle.ssa_model.specs.definitions.Table.{entry_of, is_in_table, owned_by, owned_by_others};
+ghost use Rattle.ssa_model.specs.definitions.Table.{Table, entry_of, is_in_table, owned_by, owned_by_others};
 ghost use Rattle.ssa_model.specs.definitions.Operations.{clashes};
 ghost use Rattle.ssa_model.specs.definitions.Valid.{IsManagers};
 ghost use Rattle.ssa_merge.specs.Managers.{key_view, entry_view, table_view, clashes_view};
@@ -15,7 +15,7 @@ use ssa_path::field_set::FieldSet;
 use std::alloc::{AllocError, Global};
 use std::default::MadeWith;
 use std::marker::Model;
-use std::{mem, slice};
+use std::slice;
 
 /// The most managers of a table.
 pub const MOST_MANAGERS: usize = 64;
@@ -56,6 +56,24 @@ impl Entry {
             at: self.at,
         })
     }
+}
+
+/// A change of the entries of a table, made where they stand: a table is some kilobytes, which are not moved for it.
+pub trait TurnsEntries {
+    /// The change can be made of this table.
+    ghost fits: { Self → Table → Type 0 };
+
+    /// The table that the change makes of this one.
+    ghost target: { Self → Table → Table };
+
+    /// The change that is left, of the table that it made of another.
+    ghost left: { Self → Table → Table → Type 0 };
+
+    /// Changes the entries.
+    fn turn_entries(&mut self, entries: &mut ArrayVec<Entry, MOST_MANAGERS, Global>)
+        requires { fits self.old (table_view entries.old.items) }
+        ensures value { table_view entries.new.items ≡ target self.old (table_view entries.old.items) }
+        ensures left { left self.new (table_view entries.new.items) (table_view entries.old.items) };
 }
 
 /// The managers of an object, in the order in which they came: at most 64, no one of them twice,
@@ -116,20 +134,14 @@ impl Managers {
         self.entries.iter()
     }
 
-    /// Takes out the entries, which leaves the empty table. Takes no memory.
-    pub fn take_entries(&mut self, alloc: Global) -> ArrayVec<Entry, MOST_MANAGERS, Global>
-        ensures entries { table_view result.items ≡ self.old }
-        ensures left { self.new ≡ [] }
+    /// Makes a change of the entries where they stand. Takes no memory but what the change takes.
+    pub fn turn<C: TurnsEntries>(&mut self, change: &mut C)
+        requires fits { C.fits change.old self.old }
+        requires managers { IsManagers (C.target change.old self.old) }
+        ensures value { self.new ≡ C.target change.old self.old }
+        ensures left { C.left change.new self.new self.old }
     {
-        mem::replace(&mut self.entries, ArrayVec::new_in(alloc))
-    }
-
-    /// Makes the table that of these entries. Takes no memory.
-    pub fn set_entries(&mut self, entries: ArrayVec<Entry, MOST_MANAGERS, Global>)
-        requires { IsManagers (table_view entries.items) }
-        ensures { self.new ≡ table_view entries.items }
-    {
-        self.entries = entries;
+        change.turn_entries(&mut self.entries);
     }
 
     /// The manager's entry, none where the table has not the manager. Takes no memory.

@@ -14,7 +14,7 @@ use crate::coming::insert_here;
 use crate::delta::{EntryChange, TableDelta};
 use crate::going::take_gone;
 use arrayvec::ArrayVec;
-use ssa_merge::managers::{Entry, MOST_MANAGERS, Managers};
+use ssa_merge::managers::{Entry, MOST_MANAGERS, Managers, TurnsEntries};
 use std::alloc::Global;
 use std::mem;
 
@@ -57,6 +57,18 @@ fn turn_table(entries: &mut ArrayVec<Entry, MOST_MANAGERS, Global>, delta: &mut 
     mem::swap(&mut delta.here, &mut delta.room.here);
 }
 
+impl TurnsEntries for TableDelta {
+    ghost fits = { λ d t. TableTakes (table_steps d) t (carry_table (table_steps d) t) × HasTableRoom d t };
+
+    ghost target = { λ d t. carry_table (table_steps d) t };
+
+    ghost left = { λ d u t. TableTakes (table_steps d) u t × HasTableRoom d u };
+
+    fn turn_entries(&mut self, entries: &mut ArrayVec<Entry, MOST_MANAGERS, Global>) {
+        turn_table(entries, self);
+    }
+}
+
 /// Changes the table as the record says, and leaves the record that leads back. Takes no memory.
 pub fn turn_managers(managers: &mut Managers, delta: &mut TableDelta)
     requires fits { IsTableTaken (table_steps delta.old) managers.old (carry_table (table_steps delta.old) managers.old) }
@@ -65,7 +77,5 @@ pub fn turn_managers(managers: &mut Managers, delta: &mut TableDelta)
     ensures back { IsTableTaken (table_steps delta.new) managers.new managers.old }
     ensures room { HasTableRoom delta.new managers.new }
 {
-    let mut entries = managers.take_entries(*delta.gone.allocator());
-    turn_table(&mut entries, delta);
-    managers.set_entries(entries);
+    managers.turn(delta);
 }
