@@ -1,6 +1,7 @@
 -- The paths of a trie are in path order, and a set of paths in order lists just these.
 use Rattle.std.proofs.Common.{◌≡◌, ℕ, ◌+◌, ◌-◌, ◌^◌, ◌<◌, ◌≤◌, List, [], ◌∷◌, ◌++◌, length, get_or, take, map, Bool, true, false, ◌&&◌, Less, refl, sym, ap, subst, ◌∙◌, append_assoc, append-nil, arith, min, length-append}
 use Rattle.std.proofs.lemmas.List.{take_more, take_all}
+use Rattle.std.proofs.Math.Seq.{take-append_seam}
 use Rattle.std.specs.Cmp.{tied_itself}
 use Rattle.std.specs.Ordering.{is_lt, ordering_then}
 use Rattle.std.specs.FinMap.Entries.{put, by_order}
@@ -123,6 +124,17 @@ behind-after way e (p ∷ ps) = λ i. append_assoc way (e ∷ []) p i ∷ behind
 pub behind-none : (ps : List Path) → behind [] ps ≡ ps
 behind-none [] = refl
 behind-none (p ∷ ps) = ap (λ l. p ∷ l) (behind-none ps)
+
+-- one element more comes last
+pub way-grown : {A : Type 0} (ws now longer : List A) (x : A) → longer ≡ now ++ x ∷ [] → now ≡ ws → longer ≡ ws ++ x ∷ []
+way-grown ws now longer x is same = is ∙ ap (λ l. l ++ x ∷ []) same
+
+-- without the element that came last, a way is what it was
+pub way-back : {A : Type 0} (ws longer : List A) (x : A) (n : ℕ) (now : List A) → longer ≡ ws ++ x ∷ [] → n ≡ length longer → now ≡ take (n - 1) longer → now ≡ ws
+way-back ws longer x n now is len rest =
+    let long : length longer ≡ length ws + 1 = ap (λ l. length l) is ∙ length-append ws (x ∷ []) in
+    let before : n - 1 ≡ length ws = omega arith in
+    rest ∙ (λ i. take (before i) (is i)) ∙ take-append_seam ws (x ∷ [])
 
 -- the place itself and these children
 abbrev pub shown : Bool → List (Elem × Trie) → List Path

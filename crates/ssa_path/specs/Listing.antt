@@ -1,9 +1,16 @@
 -- Paths in their order.
-use Rattle.std.specs.Prelude.{◌≡◌, List, [], ◌∷◌, ◌++◌, Bool, true, ◌&&◌}
+use Rattle.std.specs.Prelude.{◌≡◌, List, [], ◌∷◌, ◌++◌, Bool, true, ◌&&◌, map}
+use Rattle.std.specs.Borrow.{Bor}
 use Rattle.std.specs.Ordering.{is_lt}
 use Rattle.ssa_model.specs.definitions.Path.{Path, path_cmp}
+use Rattle.ssa_path.specs.declared.element.Elem.{Elem}
 use Rattle.ssa_path.specs.declared.trie.Trie.{Trie}
 use Rattle.ssa_path.specs.Trie.{paths}
+use Rattle.ssa_path.specs.View.{element_view}
+
+-- the path of the elements to which these refer
+abbrev pub way_view : List (Bor Elem) → Path
+way_view = map (λ e. element_view e.now)
 
 -- each path with a beginning in front
 abbrev pub behind : Path → List Path → List Path

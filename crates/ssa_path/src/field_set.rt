@@ -226,8 +226,9 @@ impl FieldSet {
     pub fn paths(&self, alloc: Global) -> Result<Vec<Path>, AllocError>
         ensures { IfOk result (λ ps. ps.items ≡ set.paths self.now) }
     {
+        let mut way = Vec::new(alloc);
         let mut listed = Vec::new(alloc);
-        list_paths(alloc, &self.root, &[], &mut listed)?;
+        list_paths(alloc, &self.root, &mut way, &mut listed)?;
         Ok(listed)
     }
 

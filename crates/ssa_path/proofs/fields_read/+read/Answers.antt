@@ -2,7 +2,7 @@ use Rattle.std.proofs.Common.{◌≡◌, [], ◌∷◌, ◌++◌, ◌+◌, arith
 use Rattle.std.proofs.lemmas.List.{drop_all}
 use Rattle.std.proofs.lemmas.Result.{err_from_is_err_and}
 use Rattle.std.specs.Prelude.{codes, not}
-use Rattle.ssa_members.proofs.Lent.{lent-within-deepest, next-lent}
+use Rattle.ssa_members.proofs.Lent.{next-lent}
 use Rattle.ssa_model.specs.definitions.Json.{same_text}
 use Rattle.ssa_json.specs.View.{view}
 use Rattle.ssa_path.proofs.FieldsMembers.{Found, below-some}

@@ -1,10 +1,11 @@
 use Rattle.std.proofs.Common.{ap, ◌∙◌, arith, rules}
-use Rattle.ssa_path.specs.View.{path_view}
+use Rattle.std.proofs.lemmas.List.{map-append}
+use Rattle.ssa_path.specs.Listing.{way_view}
 use Rattle.ssa_path.specs.declared.trie.Trie.{the_lemmas}
 use Rattle.ssa_path.specs.declared.trie.Trie.TheViews.{out-Trie}
 use Rattle.ssa_path.proofs.Levels.{trie-parts}
 use Rattle.ssa_path.proofs.Lists.{child-trie}
-use Rattle.ssa_path.proofs.InOrder.{listing-more, listing-all}
+use Rattle.ssa_path.proofs.InOrder.{listing-more, listing-all, way-back, way-grown}
 use Rattle.ssa_path.proofs.listing.+list_paths.Goals as goal
 
 pub list_paths-requires : goal.list_paths-requires
@@ -14,11 +15,20 @@ list_paths-requires t c =
 
 pub loop-child-preserved : goal.loop-child-preserved
 loop-child-preserved t c =
-    let long = ap path_view c.deref.ensures.value ∙ c.in_ok-longer.ensures in
-    listing-more (path_view c.args.way.now) (out-Trie c.args.trie.now).here c.deref-child-items.result.now c.loop-child.child-index c.child-item.result
-    c.args.listed.now.items c.loop-child.listed.items c.list_paths.new.listed.items
-    (path_view c.deref.result.now) (omega arith) c.child-item.is long c.loop-child.invariant c.in_ok-list_paths.ensures
+    let grown = way-grown c.args.way.now.items c.loop-child.way.items c.push.new.self.items _ c.in_ok-push.ensures.items c.loop-child.invariant.way in
+    record {
+      listing = listing-more (way_view c.args.way.now.items) (out-Trie c.args.trie.now).here c.deref-child-items.result.now c.loop-child.child-index
+          c.child-item.result c.args.listed.now.items c.loop-child.listed.items c.list_paths.new.listed.items (way_view c.push.new.self.items)
+          (omega arith) c.child-item.is (ap way_view grown ∙ map-append _ c.args.way.now.items _) c.loop-child.invariant.listing
+          c.in_ok-list_paths.ensures.listed;
+      way = way-back c.args.way.now.items c.list_paths.new.way.items _ c.list_paths.new.way.len c.pop.new.self.items
+          (c.in_ok-list_paths.ensures.way ∙ grown) c.list_paths.new.way.ok.0 c.pop.ensures.rest;
+    }
 
-pub returns : goal.returns
-returns t c = listing-all (path_view c.args.way.now) c.args.trie.now c.loop-child.child-index c.deref-child-items.result.now c.args.listed.now.items
-    c.loop-child.listed.items c.deref-child-items.ensures.value c.loop-child-test.false c.requires c.loop-child.invariant
+pub returns-clause-listed : goal.returns-clause-listed
+returns-clause-listed t c =
+    listing-all (way_view c.args.way.now.items) c.args.trie.now c.loop-child.child-index c.deref-child-items.result.now c.args.listed.now.items
+    c.loop-child.listed.items c.deref-child-items.ensures.value c.loop-child-test.false c.requires c.loop-child.invariant.listing
+
+pub returns-clause-way : goal.returns-clause-way
+returns-clause-way t c = c.loop-child.invariant.way
