@@ -1,4 +1,5 @@
 pub mod Distinct
+pub mod DistinctTags
 pub mod Earlier
 pub mod Fields
 pub mod Finding

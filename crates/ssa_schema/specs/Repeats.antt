@@ -27,6 +27,10 @@ abbrev pub row_view : ItemKey → Row
 row_view (One only) = scalar_view only.now ∷ []
 row_view (Many scalars) = scalars_view scalars.items
 
+-- the tag of a key's row
+abbrev pub key_tag : ItemKey → ℕ
+key_tag k = row_tag (row_view k)
+
 abbrev pub scalar_cmp : Scalar → Scalar → Ordering
 scalar_cmp = on scalar_text (slice_cmp nat_cmp)
 

@@ -1,5 +1,6 @@
 //! The first fault of a value under a kind.
 
+pub mod distinct_tags;
 pub mod faults;
 pub mod found;
 pub mod item_key;

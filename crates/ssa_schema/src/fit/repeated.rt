@@ -2,6 +2,7 @@
 ghost use Rattle.std.specs.Prelude.{◌≡◌, [], map, IfOk};
 ghost use Rattle.ssa_schema.specs.Repeats.{row_view, same_row, repeat_from, is_other, lesser, least_repeat, same_tagged, placed_view};
 
+use crate::fit::distinct_tags::have_distinct_tags;
 use crate::fit::item_key::ItemKey;
 use crate::fit::tagged_key::TaggedKey;
 use std::alloc::{AllocError, Global};
@@ -40,9 +41,8 @@ fn least_repeat(sorted: &[TaggedKey]) -> Option<usize>
     least
 }
 
-/// The place of the first key that equals an earlier one. Takes about n log n comparisons, most of
-/// them of tags alone.
-pub fn first_repeat(alloc: Global, keys: &[ItemKey]) -> Result<Option<usize>, AllocError>
+// The place of the first key that equals an earlier one, found among the keys in order.
+fn repeat_in_order(alloc: Global, keys: &[ItemKey]) -> Result<Option<usize>, AllocError>
     ensures { IfOk result (λ place. place ≡ repeat_from same_row 0 [] (map row_view keys.now)) }
 {
     let mut placed = Vec::with_capacity(alloc, keys.len())?;
@@ -51,6 +51,17 @@ pub fn first_repeat(alloc: Global, keys: &[ItemKey]) -> Result<Option<usize>, Al
     }
     placed.sort_by(|own, other| own.order(other))?;
     Ok(least_repeat(&placed))
+}
+
+/// The place of the first key that equals an earlier one. Takes about n log n comparisons, mostly of
+/// numbers alone.
+pub fn first_repeat(alloc: Global, keys: &[ItemKey]) -> Result<Option<usize>, AllocError>
+    ensures { IfOk result (λ place. place ≡ repeat_from same_row 0 [] (map row_view keys.now)) }
+{
+    if have_distinct_tags(alloc, keys)? {
+        return Ok(None);
+    }
+    repeat_in_order(alloc, keys)
 }
 
 /// Whether the one at a place is not the one that was found.

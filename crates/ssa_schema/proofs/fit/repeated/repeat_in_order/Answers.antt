@@ -5,7 +5,7 @@ use Rattle.std.proofs.lemmas.Fn.{always_returns_same}
 use Rattle.ssa_schema.specs.Repeats.{same_tagged, tagged_view, least_repeat, placed_view}
 use Rattle.ssa_schema.proofs.Repeats.{numbered}
 use Rattle.ssa_schema.proofs.Rows.{tagged_cmp_total, tagged_of, before, placed-more, first-place}
-use Rattle.ssa_schema.proofs.fit.repeated.first_repeat.Goals as goal
+use Rattle.ssa_schema.proofs.fit.repeated.repeat_in_order.Goals as goal
 
 pub loop-place-preserved : goal.loop-place-preserved
 loop-place-preserved c =
