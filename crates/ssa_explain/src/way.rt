@@ -1,6 +1,7 @@
 //! The way to a part of a value, as people write it: `.spec.ports[name="a"].port`.
 
 use ssa_json::value::{Json, Scalar};
+use ssa_json::write::push_quoted;
 use ssa_path::element::Elem;
 use ssa_path::keys::Keys;
 use std::alloc::{AllocError, Global};
@@ -17,8 +18,7 @@ fn is_plain(name: &str) -> bool {
 
 /// Appends a value as compact JSON.
 pub fn push_value(alloc: Global, text: &mut Vec<u8>, value: &Json) -> Result<(), AllocError> {
-    let bytes = value.to_text(alloc)?;
-    text.extend_from_slice(&bytes)
+    value.push_text(alloc, text)
 }
 
 // Appends a scalar as compact JSON.
@@ -33,7 +33,7 @@ pub fn push_member(alloc: Global, text: &mut Vec<u8>, name: &str) -> Result<(), 
         return text.extend_from_slice(name.as_bytes());
     }
     text.push(b'[')?;
-    push_scalar(alloc, text, &Scalar::Text(String::from_str(alloc, name)?))?;
+    push_quoted(alloc, text, name)?;
     text.push(b']')?;
     Ok(())
 }

@@ -74,11 +74,10 @@ pub(crate) fn push_line(alloc: Global, text: &mut Vec<u8>, value: &Json) -> Resu
     ensures of_program { OnOk result (IsOfProgram (view value.now)) }
     ensures refused { IfErr result (λ f. CannotHold f (text.old.items ++ line (view value.now))) }
 {
-    let bytes = value.to_text(alloc)?;
-    if bytes.len() >= MOST_FILE_BYTES - text.len() {
+    value.push_text(alloc, text)?;
+    if text.len() >= MOST_FILE_BYTES {
         return Err(SaveFault::BenchTooLong);
     }
-    text.extend_from_slice(&bytes)?;
     text.extend_from_slice(b"\n")?;
     Ok(())
 }

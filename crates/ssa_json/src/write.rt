@@ -1,6 +1,6 @@
 //! Prints JSON values.
 ghost use Rattle.std.specs.Prelude.{◌≡◌, ◌≤◌, ◌++◌, Ok, IfOk, OnOk, string_bytes, true};
-ghost use Rattle.ssa_model.specs.definitions.Json.{compact};
+ghost use Rattle.ssa_model.specs.definitions.Json.{compact, quoted};
 ghost use Rattle.ssa_json.specs.Reading.{json_reading};
 ghost use Rattle.ssa_json.specs.View.{view, items_view, members_view};
 ghost use Rattle.ssa_json.specs.Writable.{CompactIsRead, IsOfProgram, depth, has_rising_names, has_utf8, items_have_rising_names, items_have_utf8, max_depth, members_have_utf8, members_rise};
@@ -10,6 +10,7 @@ use crate::value::{Json, Scalar};
 use json::Writer;
 use ssa_members::Members;
 use std::alloc::{AllocError, Global};
+use std::mem;
 
 // The bytes that a text has room for from the start.
 const FIRST_ROOM: usize = 128;
@@ -24,9 +25,20 @@ impl Json {
             → json_reading text.items ≡ Ok (view self.now)) }
         ensures of_program { OnOk result (IsOfProgram (view self.now)) }
     {
-        let mut writer = Writer::new(Vec::with_capacity(alloc, FIRST_ROOM)?);
-        write_value(&mut writer, self)?;
-        Ok(writer.into_inner())
+        let mut text = Vec::with_capacity(alloc, FIRST_ROOM)?;
+        self.push_text(alloc, &mut text)?;
+        Ok(text)
+    }
+
+    /// Appends the compact spelling to a text. Where memory runs out, part of it may stand there.
+    pub fn push_text(&self, alloc: Global, text: &mut Vec<u8>) -> Result<(), AllocError>
+        ensures text { OnOk result (text.new.items ≡ text.old.items ++ compact (view self.now)) }
+        ensures of_program { OnOk result (IsOfProgram (view self.now)) }
+    {
+        let mut writer = Writer::new(mem::replace(text, Vec::new(alloc)));
+        let written = write_value(&mut writer, self);
+        *text = writer.into_inner();
+        written
     }
 
     /// The compact spelling, as a text.
@@ -38,6 +50,17 @@ impl Json {
             Err(_) => unreachable!("the text of a value is UTF-8"),
         }
     }
+}
+
+/// Appends a string in quotes, with the escapes that it needs, to a text. Where memory runs out, part of it may stand
+/// there.
+pub fn push_quoted(alloc: Global, text: &mut Vec<u8>, string: &str) -> Result<(), AllocError>
+    ensures { OnOk result (text.new.items ≡ text.old.items ++ quoted string.now) }
+{
+    let mut writer = Writer::new(mem::replace(text, Vec::new(alloc)));
+    let written = writer.string(string);
+    *text = writer.into_inner();
+    written
 }
 
 /// Reading the compact text of a value gives the value, where its numbers fit 64 bits, its texts are

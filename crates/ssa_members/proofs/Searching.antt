@@ -1,10 +1,10 @@
 -- A binary search among names that rise, and what is found, put in and taken out at its place.
-use Rattle.std.proofs.Common.{◌≡◌, ℕ, zero, suc, ◌<◌, ◌≤◌, List, [], ◌∷◌, length, get_or, Some, None, Result, Ok, Err, Ordering, Less, Equal, Greater, refl, sym, ap, subst, ◌∙◌, ⊎_elim, arith, string_bytes, string_cmp, nat_cmp}
+use Rattle.std.proofs.Common.{◌≡◌, ℕ, zero, suc, ◌+◌, ◌<◌, ◌≤◌, List, [], ◌∷◌, Bool, cond, drop, length, get_or, slice_index_or, Some, None, Result, Ok, Err, Ordering, Less, Equal, Greater, refl, sym, ap, subst, ◌∙◌, ⊎_elim, arith, string_bytes, string_cmp, nat_cmp}
 use Rattle.std.proofs.lemmas.Bool.{cases_lt}
 use Rattle.std.proofs.lemmas.Cmp.{nat_list_cmp_total}
 use Rattle.std.proofs.lemmas.Map.Keys.{Less-from_sorted, sorted_tail}
 use Rattle.std.proofs.lemmas.Map.Entries.{length-keys_of, lookup_head, lookup_tail}
-use Rattle.std.proofs.lemmas.List.{get_or-map}
+use Rattle.std.proofs.lemmas.List.{drop_more, get_or-map}
 use Rattle.std.specs.BTreeMap.{insert_entry, is_at}
 use Rattle.std.specs.Cmp.Lexicographic.{slice_cmp}
 use Rattle.std.specs.List.{insert, remove, slice_set}
@@ -37,6 +37,14 @@ below-same bs f k less same =
     nat_list_cmp_total.congr bs (string_bytes k) (string_bytes f) same ∙ nat_list_cmp_total.antisymm (string_bytes k) (string_bytes f) ∙ ap ordering_reverse less
 
 module _ {X : Type 0} where
+  -- what is found from an entry on: its value, where the name is its, else what is found behind it
+  pub found-from : (bs : List ℕ) (es : List (Name × X)) (i : ℕ) (e : Name × X) (here : Bool) → i < length es → e ≡ slice_index_or es i e
+      → is_at (text_cmp bs) e.0 ≡ here
+      → lookup (is_at (text_cmp bs)) (drop i es) ≡ cond here (Some e.1) (lookup (is_at (text_cmp bs)) (drop (i + 1) es))
+  found-from bs es i e here within is told =
+      ap (lookup (is_at (text_cmp bs))) (drop_more es i e within ∙ ap (λ d. d ∷ drop (i + 1) es) (sym is))
+      ∙ ap (λ b. cond b (Some e.1) (lookup (is_at (text_cmp bs)) (drop (i + 1) es))) told
+
   -- how the name of an entry compares with these bytes
   abbrev pub compared : List ℕ → Name × X → Ordering
   compared bs e = slice_cmp nat_cmp (string_bytes e.0) bs

@@ -18,5 +18,5 @@
 pub mod members;
 pub mod room;
 
-pub use members::Members;
+pub use members::{Members, order_names};
 pub use room::push_closely;

@@ -13,6 +13,9 @@ use std::collections::BTreeMap;
 use std::marker::Model;
 use std::mem::replace;
 
+// Of so few names each is looked at: most tell by their length that they are another.
+const FEW: usize = 8;
+
 /// Values under names, each name once, in the order of the names' bytes.
 ///
 /// They stand in one vector, so few of them take little memory, and a name is found by halving. A new
@@ -48,9 +51,9 @@ fn rises<V>(pairs: &[(String, V)]) -> bool
     true
 }
 
-// The order of two names by their bytes. Most differ in the first one.
+/// The order of two names by their bytes. Most differ in the first one.
 #[inline(always)]
-fn order_names(name: &str, other: &str) -> Ordering
+pub fn order_names(name: &str, other: &str) -> Ordering
     ensures { result ≡ slice_cmp nat_cmp name.now other.now }
 {
     if let ([first, ..], [other_first, ..]) = (name.as_bytes(), other.as_bytes()) {
@@ -59,6 +62,18 @@ fn order_names(name: &str, other: &str) -> Ordering
         }
     }
     name.cmp(other)
+}
+
+// The value under a name, looked for among the names one after the other.
+fn scan<'a, V>(entries: &'a [(String, V)], name: &str) -> Option<&'a V>
+    ensures { option_copied result ≡ lookup (is_at (text_cmp name.now)) entries.now }
+{
+    for entry in entries {
+        if name == entry.0.as_str() {
+            return Some(&entry.1);
+        }
+    }
+    None
 }
 
 impl<V> Members<V> {
@@ -114,6 +129,9 @@ impl<V> Members<V> {
     pub fn get(&self, name: &str) -> Option<&V>
         ensures value { option_copied result ≡ get self.now name.now }
     {
+        if self.entries.len() <= FEW {
+            return scan(&self.entries, name);
+        }
         match self.place(name) {
             Ok(i) => Some(&self.entries[i].1),
             Err(_) => None,

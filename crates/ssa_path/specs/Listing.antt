@@ -1,6 +1,7 @@
 -- Paths in their order.
-use Rattle.std.specs.Prelude.{◌≡◌, List, [], ◌∷◌, ◌++◌, Bool, true, ◌&&◌, map}
+use Rattle.std.specs.Prelude.{◌≡◌, List, [], ◌∷◌, ◌++◌, Bool, true, ◌&&◌, map, Vec}
 use Rattle.std.specs.Borrow.{Bor}
+use Rattle.std.specs.Global.{Global}
 use Rattle.std.specs.Ordering.{is_lt}
 use Rattle.ssa_model.specs.definitions.Path.{Path, path_cmp}
 use Rattle.ssa_path.specs.declared.element.Elem.{Elem}
@@ -11,6 +12,9 @@ use Rattle.ssa_path.specs.View.{element_view}
 -- the path of the elements to which these refer
 abbrev pub way_view : List (Bor Elem) → Path
 way_view = map (λ e. element_view e.now)
+
+abbrev pub ways_view : List (Vec (Bor Elem) Global) → List Path
+ways_view = map (λ way. way_view way.items)
 
 -- each path with a beginning in front
 abbrev pub behind : Path → List Path → List Path

@@ -1,12 +1,12 @@
 // Two sets of paths put together, by one walk over both tries, or by a search for each of few children among many others.
-ghost use Rattle.std.specs.Prelude.{◌≡◌, [], true, false, drop, IfOk, OnOk, OnErr};
+ghost use Rattle.std.specs.Prelude.{◌≡◌, [], true, false, IfOk, OnOk, OnErr};
 ghost use Rattle.std.specs.Bool.{OnTrue};
-ghost use Rattle.ssa_path.specs.Children.{elements, rises, heads_order};
+ghost use Rattle.ssa_path.specs.Children.{elements, rises};
 ghost use Rattle.ssa_path.specs.View.{element_view};
-ghost use Rattle.ssa_path.specs.Trie.{is_trie, are_filled_tries, paths};
+ghost use Rattle.ssa_path.specs.Trie.{is_trie, is_filled, are_filled_tries, paths};
 ghost use Rattle.ssa_path.specs.Combine.{is_concerned, keeps, IsCombination, IsCombined, IsKept, IsGrown};
 
-use crate::children::find_child;
+use crate::children::{find_child, order_at};
 use crate::element::Elem;
 use crate::trie::{Trie, copy_child};
 use std::alloc::{AllocError, Global};
@@ -63,24 +63,8 @@ impl Combination {
     }
 }
 
-// How the next children compare: where one list has no more, the other's is first.
-fn order_at(own: &[(Elem, Trie)], i: usize, others: &[(Elem, Trie)], j: usize) -> Option<Ordering>
-    ensures { result ≡ heads_order (drop i own.now) (drop j others.now) }
-{
-    if i < own.len() {
-        if j < others.len() {
-            Some(own[i].0.order(&others[j].0))
-        } else {
-            Some(Ordering::Less)
-        }
-    } else if j < others.len() {
-        Some(Ordering::Greater)
-    } else {
-        None
-    }
-}
-
 // Adds a copy of the child, where it is kept.
+#[inline(always)]
 fn push_copy(
     alloc: Global,
     children: &mut Vec<(Elem, Trie)>,
@@ -95,7 +79,25 @@ fn push_copy(
     Ok(())
 }
 
+// Adds a child that has some path behind the others. On `Err` the others are as they were.
+fn push_child(
+    alloc: Global,
+    children: &mut Vec<(Elem, Trie)>,
+    element: &Elem,
+    child: Trie,
+) -> Result<(), AllocError>
+    requires trie { is_trie child ≡ true }
+    requires filled { is_filled child ≡ true }
+    ensures ok { OnOk result (IsGrown (element_view element.now) child children.old.items children.new.items) }
+    ensures err { OnErr result (children.new.items ≡ children.old.items) }
+{
+    let own = element.copy(alloc)?;
+    children.push((own, child))?;
+    Ok(())
+}
+
 /// Adds a child behind the others, unless it has no path. On `Err` the others are as they were.
+#[inline(always)]
 pub fn push_filled(
     alloc: Global,
     children: &mut Vec<(Elem, Trie)>,
@@ -107,8 +109,7 @@ pub fn push_filled(
     ensures err { OnErr result (children.new.items ≡ children.old.items) }
 {
     if child.has_paths() {
-        let own = element.copy(alloc)?;
-        children.push((own, child))?;
+        push_child(alloc, children, element, child)?;
     }
     Ok(())
 }

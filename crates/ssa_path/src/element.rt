@@ -8,6 +8,7 @@ use crate::keys::{Keys, are_same_members};
 use crate::order::{order_keys, order_values};
 use ssa_json::text::is_same_text;
 use ssa_json::value::Scalar;
+use ssa_members::order_names;
 use std::alloc::{AllocError, Global};
 use std::cmp::Ordering;
 
@@ -35,7 +36,20 @@ impl Elem {
     ///
     /// Fields stand before keys and keys before values. Numbers go by their digits, so `v:10`
     /// stands before `v:9`.
+    #[inline(always)]
     pub fn order(&self, other: &Elem) -> Ordering
+        ensures { result ≡ element_cmp (element_view self.now) (element_view other.now) }
+    {
+        match (self, other) {
+            (Elem::Field(name), Elem::Field(other_name)) => {
+                order_names(name.as_str(), other_name.as_str())
+            }
+            _ => self.order_of_sorts(other),
+        }
+    }
+
+    // The order of elements of which mostly one or both are items.
+    fn order_of_sorts(&self, other: &Elem) -> Ordering
         ensures { result ≡ element_cmp (element_view self.now) (element_view other.now) }
     {
         match (self, other) {

@@ -12,9 +12,22 @@ ghost use Rattle.ssa_path.specs.View.{element_view};
 
 use crate::element::Elem;
 use ssa_json::value::{Json, Scalar};
+use ssa_json::write::push_quoted;
 use std::alloc::{AllocError, Global};
 
+// The bytes that the text of an item has room for from the start.
+const ITEM_ROOM: usize = 32;
+
 impl Elem {
+    // So many bytes the text is given room for: those of a field, and enough for most items.
+    fn text_room(&self) -> usize {
+        match self {
+            Elem::Field(name) => name.len().saturating_add(2),
+            Elem::Key(_) => ITEM_ROOM,
+            Elem::Value(_) => ITEM_ROOM,
+        }
+    }
+
     /// The text that names the element in FieldsV1 of the Kubernetes API: `f:` and the name, `k:` and
     /// the key fields as a compact JSON object, or `v:` and the value as compact JSON. `Elem::read`
     /// gives the element back.
@@ -23,7 +36,7 @@ impl Elem {
         ensures of_program { OnOk result (IsElementOfProgram (element_view self.now)) }
         ensures is_read { IfOk result (λ text. element_of json_reading text.items ≡ Ok (element_view self.now)) }
     {
-        let mut text = Vec::new(alloc);
+        let mut text = Vec::with_capacity(alloc, self.text_room())?;
         match self {
             Elem::Field(name) => {
                 text.extend_from_slice(b"f:")?;
@@ -73,17 +86,11 @@ fn push_scalar(alloc: Global, text: &mut Vec<u8>, scalar: &Scalar) -> Result<(),
     ensures text { OnOk result (text.new.items ≡ text.old.items ++ scalar_text (scalar_view scalar.now)) }
     ensures narrow { OnOk result (is_narrow_scalar (scalar_view scalar.now) ≡ true) }
 {
+    if let Scalar::Text(string) = scalar {
+        return push_quoted(alloc, text, string.as_str());
+    }
     let value = Json::Scalar(scalar.copy(alloc)?);
-    let bytes = value.to_text(alloc)?;
-    text.extend_from_slice(&bytes)
-}
-
-// Appends a name in quotes, with the escapes that it needs.
-fn push_name(alloc: Global, text: &mut Vec<u8>, name: &str) -> Result<(), AllocError>
-    ensures { OnOk result (text.new.items ≡ text.old.items ++ quoted name.now) }
-{
-    let name = Scalar::Text(String::from_str(alloc, name)?);
-    push_scalar(alloc, text, &name)
+    value.push_text(alloc, text)
 }
 
 // Appends a member, behind a comma where it is not the first.
@@ -100,7 +107,7 @@ fn push_member(
     if is_later {
         text.push(b',')?;
     }
-    push_name(alloc, text, name)?;
+    push_quoted(alloc, text, name)?;
     text.push(b':')?;
     push_scalar(alloc, text, scalar)
 }

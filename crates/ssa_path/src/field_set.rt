@@ -4,11 +4,13 @@ ghost use Rattle.ssa_model.specs.definitions.Path.{is_key_field, same_path};
 ghost use Rattle.ssa_model.specs.definitions.PathMap.{empty, has, has_at_or_above, has_at_or_below, insert, is_empty, minus, same_set, set_of, size, union, listed};
 ghost use Rattle.ssa_model.specs.definitions.PathMap as set;
 ghost use Rattle.ssa_path.specs.Meet.{meet, combined};
+ghost use Rattle.ssa_path.specs.Listing.{ways_view};
 ghost use Rattle.ssa_path.specs.Trie.{is_trie, paths};
 
 use crate::combine::{Combination, combine};
+use crate::element::Elem;
 use crate::key_fields::without_key_fields;
-use crate::listing::{count_paths, list_paths};
+use crate::listing::{copy_ways, count_paths, list_ways};
 use crate::path::Path;
 use crate::same::same_tries;
 use crate::trie::Trie;
@@ -226,9 +228,17 @@ impl FieldSet {
     pub fn paths(&self, alloc: Global) -> Result<Vec<Path>, AllocError>
         ensures { IfOk result (λ ps. ps.items ≡ set.paths self.now) }
     {
+        let ways = self.ways(alloc)?;
+        copy_ways(alloc, &ways)
+    }
+
+    /// The paths of the set, in path order, each as references to elements of the set.
+    pub fn ways(&self, alloc: Global) -> Result<Vec<Vec<&Elem>>, AllocError>
+        ensures { IfOk result (λ ways. ways_view ways.items ≡ set.paths self.now) }
+    {
         let mut way = Vec::new(alloc);
         let mut listed = Vec::new(alloc);
-        list_paths(alloc, &self.root, &mut way, &mut listed)?;
+        list_ways(alloc, &self.root, &mut way, &mut listed)?;
         Ok(listed)
     }
 

@@ -1,6 +1,7 @@
 // Paths, ordered element by element.
 ghost use Rattle.std.specs.Prelude.{◌≡◌, IfOk};
 ghost use Rattle.ssa_model.specs.definitions.Path.{path_cmp};
+ghost use Rattle.ssa_path.specs.Listing.{way_view};
 ghost use Rattle.ssa_path.specs.View.{path_view};
 
 use crate::element::Elem;
@@ -46,12 +47,35 @@ fn order_elements(elements: &[Elem], others: &[Elem]) -> Ordering
 pub fn copy_elements(alloc: Global, elements: &[Elem]) -> Result<Vec<Elem>, AllocError>
     ensures { IfOk result (λ es. path_view es.items ≡ path_view elements.now) }
 {
-    let mut copies = Vec::new(alloc);
+    let mut copies = Vec::with_capacity(alloc, elements.len())?;
     for element in elements {
         let copied = element.copy(alloc)?;
         copies.push(copied)?;
     }
     Ok(copies)
+}
+
+/// References to the elements, one after another.
+pub fn lent_way(alloc: Global, elements: &[Elem]) -> Result<Vec<&Elem>, AllocError>
+    ensures { IfOk result (λ way. way_view way.items ≡ path_view elements.now) }
+{
+    let mut way = Vec::with_capacity(alloc, elements.len())?;
+    for element in elements {
+        way.push(element)?;
+    }
+    Ok(way)
+}
+
+/// The elements of a way, with new memory.
+pub fn copy_way(alloc: Global, way: &[&Elem]) -> Result<Vec<Elem>, AllocError>
+    ensures { IfOk result (λ es. path_view es.items ≡ way_view way.now) }
+{
+    let mut elements = Vec::with_capacity(alloc, way.len())?;
+    for element in way {
+        let copied = element.copy(alloc)?;
+        elements.push(copied)?;
+    }
+    Ok(elements)
 }
 
 impl Path {
@@ -67,6 +91,13 @@ impl Path {
         ensures { path_view result.now ≡ self.now }
     {
         &self.elements
+    }
+
+    /// The path as references to its elements.
+    pub fn way(&self, alloc: Global) -> Result<Vec<&Elem>, AllocError>
+        ensures { IfOk result (λ way. way_view way.items ≡ self.now) }
+    {
+        lent_way(alloc, &self.elements)
     }
 
     /// The order of the lists of elements, each by its text.

@@ -5,12 +5,13 @@ ghost use Rattle.ssa_model.specs.definitions.Entries.{text_json};
 ghost use Rattle.ssa_model.specs.definitions.Replies.{number_json, path_json, paths_json};
 ghost use Rattle.ssa_json.specs.View.{view};
 ghost use Rattle.ssa_model.specs.definitions.Path.{element_text};
+ghost use Rattle.ssa_path.specs.Listing.{way_view};
 ghost use Rattle.ssa_path.specs.View.{element_view};
 ghost use Rattle.ssa_schema.specs.Kinds.{names_view};
 ghost use Rattle.ssa_session.specs.Replies.{names_json};
 
-use ssa_json::value::{Json, Scalar};
-use ssa_json::write::decimals_are_printed;
+use ssa_json::value::Json;
+use ssa_json::write::{decimals_are_printed, push_quoted};
 use ssa_path::element::Elem;
 use ssa_path::field_set::FieldSet;
 use ssa_path::path::Path;
@@ -39,39 +40,45 @@ pub fn push_number(alloc: Global, text: &mut Vec<u8>, number: usize) -> Result<(
 pub fn push_string(alloc: Global, text: &mut Vec<u8>, string: &str) -> Result<(), AllocError>
     ensures { OnOk result (text.new.items ≡ text.old.items ++ compact (text_json string.now)) }
 {
-    let value = Json::Scalar(Scalar::Text(String::from_str(alloc, string)?));
-    push_value(alloc, text, &value)
+    push_quoted(alloc, text, string)
 }
 
 /// Appends a value's text.
 pub fn push_value(alloc: Global, text: &mut Vec<u8>, value: &Json) -> Result<(), AllocError>
     ensures { OnOk result (text.new.items ≡ text.old.items ++ compact (view value.now)) }
 {
-    let bytes = value.to_text(alloc)?;
-    text.extend_from_slice(&bytes)
+    value.push_text(alloc, text)
 }
 
 // Appends the text of an element, as `"f:spec"`.
 fn push_element(alloc: Global, text: &mut Vec<u8>, element: &Elem) -> Result<(), AllocError>
     ensures { OnOk result (text.new.items ≡ text.old.items ++ compact (text_json (element_text (element_view element.now)))) }
 {
-    let value = Json::Scalar(Scalar::Text(element.name(alloc)?));
-    push_value(alloc, text, &value)
+    let name = element.name(alloc)?;
+    push_quoted(alloc, text, name.as_str())
 }
 
-/// Appends a path: the list of its elements' texts.
-pub fn push_path(alloc: Global, text: &mut Vec<u8>, path: &Path) -> Result<(), AllocError>
-    ensures { OnOk result (text.new.items ≡ text.old.items ++ compact (path_json path.now)) }
+// Appends the path that a way leads along: the list of its elements' texts.
+fn push_way(alloc: Global, text: &mut Vec<u8>, way: &[&Elem]) -> Result<(), AllocError>
+    ensures { OnOk result (text.new.items ≡ text.old.items ++ compact (path_json (way_view way.now))) }
 {
     text.push(b'[')?;
     let mut is_later = false;
-    for element in path.elements() {
+    for element in way {
         push_comma(text, is_later)?;
         push_element(alloc, text, element)?;
         is_later = true;
     }
     text.push(b']')?;
     Ok(())
+}
+
+/// Appends a path: the list of its elements' texts.
+pub fn push_path(alloc: Global, text: &mut Vec<u8>, path: &Path) -> Result<(), AllocError>
+    ensures { OnOk result (text.new.items ≡ text.old.items ++ compact (path_json path.now)) }
+{
+    let way = path.way(alloc)?;
+    push_way(alloc, text, &way)
 }
 
 /// Appends a path that is told by its elements' texts.
@@ -93,12 +100,12 @@ pub fn push_names(alloc: Global, text: &mut Vec<u8>, names: &[String]) -> Result
 pub fn push_paths(alloc: Global, text: &mut Vec<u8>, paths: &FieldSet) -> Result<(), AllocError>
     ensures { OnOk result (text.new.items ≡ text.old.items ++ compact (paths_json paths.now)) }
 {
-    let paths = paths.paths(alloc)?;
+    let ways = paths.ways(alloc)?;
     text.push(b'[')?;
     let mut is_later = false;
-    for path in &paths {
+    for way in &ways {
         push_comma(text, is_later)?;
-        push_path(alloc, text, path)?;
+        push_way(alloc, text, way)?;
         is_later = true;
     }
     text.push(b']')?;

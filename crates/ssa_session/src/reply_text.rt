@@ -15,11 +15,14 @@ use ssa_json::value::Json;
 use ssa_merge::manager::ManagerKey;
 use std::alloc::{AllocError, Global};
 
+// The bytes that a reply has room for from the start, which most replies need.
+const FIRST_ROOM: usize = 240;
+
 /// The reply to a command that makes a state: what it changes.
 pub fn changed_text(alloc: Global, word: &str, changed: &Changed) -> Result<Vec<u8>, AllocError>
     ensures { IfOk result (λ text. text.items ≡ reply_text (model.changed word.now (changed_view changed.now))) }
 {
-    let mut text = Vec::new(alloc);
+    let mut text = Vec::with_capacity(alloc, FIRST_ROOM)?;
     push_changed(alloc, &mut text, word, changed)?;
     Ok(text)
 }
@@ -33,7 +36,7 @@ pub fn moved_text(
 ) -> Result<Vec<u8>, AllocError>
     ensures { IfOk result (λ text. text.items ≡ reply_text (model.moved word.now past future)) }
 {
-    let mut text = Vec::new(alloc);
+    let mut text = Vec::with_capacity(alloc, FIRST_ROOM)?;
     push_moved(alloc, &mut text, word, past, future)?;
     Ok(text)
 }
