@@ -1,6 +1,6 @@
 -- The walk that collects points, or all places, of a tree.
-use Rattle.std.proofs.Common.{◌≡◌, ℕ, ◌+◌, ◌<◌, List, [], ◌∷◌, length, get_or, drop, Bool, true, false, Some, None, refl, sym, ap, subst, ◌∙◌}
-use Rattle.std.specs.Prelude.{is_some}
+use Rattle.std.proofs.Common.{◌≡◌, ℕ, ◌+◌, List, [], ◌∷◌, drop, Bool, true, false, Some, None, refl, sym, ap, subst, ◌∙◌}
+use Rattle.std.specs.Prelude.{is_some, slice_get}
 use Rattle.ssa_model.specs.definitions.Path.{Element, Path, same_path, is_item, is_item_element, parent}
 use Rattle.ssa_model.specs.definitions.Body.{is_dict, points}
 use Rattle.ssa_model.proofs.PathMaps.{same_sets}
@@ -15,7 +15,7 @@ use Rattle.ssa_path.specs.Trie.{is_one_of, paths}
 use Rattle.ssa_path.specs.View.{element_view}
 use Rattle.ssa_path.proofs.Levels.{any-made, is_trie-made, one-made-root, same_path-reading}
 use Rattle.ssa_path.proofs.Orders.{both_second}
-use Rattle.ssa_typed.specs.InOrder.{referred, IsInOrder}
+use Rattle.ssa_typed.specs.InOrder.{IsInOrder}
 use Rattle.ssa_typed.specs.Points.{is_point_by, is_point_of, point_in, collects, is_in_dict, IsCollected, IsChildTrie, IsPointTrie}
 use Rattle.ssa_typed.specs.Rows.{rows, below, body_of, is_tree}
 use Rattle.ssa_typed.specs.declared.node.Node.{Node}
@@ -23,7 +23,7 @@ use Rattle.ssa_typed.specs.declared.points.Collected.{Collected}
 use Rattle.ssa_typed.specs.declared.points.Collected.TheVariants.{Points, All}
 use Rattle.ssa_typed.proofs.Lookups.{content-level, content-root}
 use Rattle.ssa_typed.proofs.Making.{Test, IsMaking, making-more, making-all, front-own}
-use Rattle.ssa_typed.proofs.References.{Reference, left-referred}
+use Rattle.ssa_typed.proofs.References.{left-read}
 use Rattle.ssa_typed.proofs.Stands.{stands-level, points-body}
 use Rattle.ssa_model.proofs.Lists.{has-listed}
 
@@ -80,15 +80,13 @@ abbrev pub IsCollecting : Collected → Bool → List (Elem × Node) → List (E
 IsCollecting what d ds left out = IsMaking (collecting what d) ds [] left [] out
 
 -- the next child is collected, where it has some such path
-pub collecting-more : (what : Collected) (d : Bool) (rs : List Reference) (i : ℕ) (r : Reference) (out new : List (Elem × Trie)) (t : Trie) → i < length rs
-    → r ≡ get_or rs i r
-    → IsChildTrie (Some what) d (element_view r.now.0) r.now.1 t → IsGrown (element_view r.now.0) t out new
-    → IsCollecting what d (referred rs) (drop i (referred rs)) out → IsCollecting what d (referred rs) (drop (i + 1) (referred rs)) new
-collecting-more what d rs i r out new t lt is made grown h =
-    let c = r.now in
-    let rest = drop (i + 1) (referred rs) in
-    let now : IsCollecting what d (referred rs) (c ∷ rest) out = subst (λ l. IsCollecting what d (referred rs) l out) (left-referred rs i r lt is) h in
-    making-more (collecting what d) (element_view c.0) (Some c.1) None (referred rs) [] (c ∷ rest) [] rest [] out new t (collects-nothing what d)
+pub collecting-more : (what : Collected) (d : Bool) (cs : List (Elem × Node)) (i : ℕ) (c : Elem × Node) (out new : List (Elem × Trie)) (t : Trie)
+    → slice_get cs i ≡ Some c → IsChildTrie (Some what) d (element_view c.0) c.1 t → IsGrown (element_view c.0) t out new
+    → IsCollecting what d cs (drop i cs) out → IsCollecting what d cs (drop (i + 1) cs) new
+collecting-more what d cs i c out new t is made grown h =
+    let rest = drop (i + 1) cs in
+    let now : IsCollecting what d cs (c ∷ rest) out = subst (λ l. IsCollecting what d cs l out) (left-read cs i c is) h in
+    making-more (collecting what d) (element_view c.0) (Some c.1) None cs [] (c ∷ rest) [] rest [] out new t (collects-nothing what d)
     (front-own c rest [] refl now.own_rise refl) (both_second _ _ now.own_rise) refl made.paths_are made.trie grown now
 
 -- where no child is left, all is collected that is below the node

@@ -1,26 +1,23 @@
 -- The walk over two trees that tells how they differ.
-use Rattle.std.proofs.Common.{◌≡◌, ℕ, ◌+◌, ◌<◌, List, [], ◌∷◌, length, get_or, drop, Bool, true, false, not, ◌&&◌, Option, Some, None, Ordering, Less, Equal, Greater, refl, sym, ap, subst, ◌∙◌}
-use Rattle.std.specs.Prelude.{is_some}
+use Rattle.std.proofs.Common.{◌≡◌, ℕ, ◌+◌, inl, inr, List, [], ◌∷◌, drop, Bool, true, false, not, ◌&&◌, Option, Some, None, Less, Equal, Greater, Vec, Global, refl, sym, ap, subst, ◌∙◌}
+use Rattle.std.specs.Prelude.{is_some, slice_get}
 use Rattle.ssa_model.specs.definitions.Path.{Element, Path, same_path}
 use Rattle.ssa_model.specs.definitions.PathMap.{PathSet, get, has, paths as set_paths, listed}
 use Rattle.ssa_model.specs.definitions.Body.{Body, Content, leaf, atom, record_branch, dict_branch, list_branch, is_other_leaf, points, added, modified, removed}
 use Rattle.ssa_model.proofs.PathMaps.{has-paths, has-set_of, same_sets}
-use Rattle.ssa_path.specs.Children.{child_at, heads_order}
-use Rattle.ssa_path.specs.Combine.{IsGrown}
+use Rattle.ssa_path.specs.Children.{elements, heads_order, is_below}
 use Rattle.ssa_path.specs.declared.element.Elem.{Elem}
 use Rattle.ssa_path.specs.declared.trie.Trie.{Trie}
 use Rattle.ssa_path.specs.declared.trie.Trie.TheOpen.{Trie-F}
 use Rattle.ssa_path.specs.declared.trie.Trie.TheViews.{roll-Trie}
 use Rattle.ssa_path.specs.Trie.{is_one_of, paths}
 use Rattle.ssa_path.specs.View.{element_view}
-use Rattle.ssa_path.proofs.Combining.{own-within, other-within, both-within}
 use Rattle.ssa_path.proofs.Levels.{any-made, is_trie-made, one-made-root, same_path-reading}
 use Rattle.ssa_path.proofs.Orders.{both_second}
-use Rattle.ssa_typed.specs.Differences.{Difference, Added, Modified, Removed, differs, differs_here, differs_below, differs_at, told_of_lost, told_of_new, AreDifferences, AreDiffering, IsDiffering, IsDifference, IsToldAlone}
-use Rattle.ssa_typed.specs.InOrder.{referred, IsInOrder}
+use Rattle.ssa_typed.specs.Differences.{Difference, Added, Modified, Removed, differs, differs_here, differs_below, differs_at, told_of_lost, told_of_new, AreDiffering, AreToldBoth, IsDiffering, IsDifference, IsToldAlone, IsToldBoth}
+use Rattle.ssa_typed.specs.InOrder.{IsInOrder}
 use Rattle.ssa_typed.specs.Points.{point_in, collects_of, is_in_dict, is_point_of}
 use Rattle.ssa_typed.specs.Rows.{rows, below, content_at, body_of, is_tree}
-use Rattle.ssa_typed.specs.declared.compare.Parts.{Parts}
 use Rattle.ssa_typed.specs.declared.compare.PartsBelow.{PartsBelow}
 use Rattle.ssa_typed.specs.declared.node.Node.{Node}
 use Rattle.ssa_typed.specs.declared.points.Collected.TheVariants.{Points, All}
@@ -28,7 +25,7 @@ use Rattle.ssa_typed.proofs.Collecting.{point-level}
 use Rattle.ssa_typed.proofs.Lookups.{content-level, content-root}
 use Rattle.ssa_typed.proofs.Looks.{get-body}
 use Rattle.ssa_typed.proofs.Making.{TellsNothing, IsMaking, making-all, making-more, making-skip, front-own, front-other, front-both}
-use Rattle.ssa_typed.proofs.References.{Reference, child-of, left-referred, length-referred}
+use Rattle.ssa_typed.proofs.References.{left-read}
 use Rattle.ssa_typed.proofs.Stands.{points-body}
 use Rattle.ssa_model.proofs.Lists.{has-listed}
 use Rattle.ssa_model.proofs.Basics.{and-true as and_true, and-false as and_false}
@@ -93,194 +90,161 @@ differs-whole what d e n m before after (f ∷ p) = sym (differs-level n m befor
 
 -- ---- the walk over the children of both
 
--- how the next children compare, told of lists that were lent
-pub heads-are : (rs ss own others : List Reference) (i j : ℕ) (o q : Option Ordering) → own ≡ rs → others ≡ ss
-    → o ≡ heads_order (drop i (referred own)) (drop j (referred others)) → o ≡ q
-    → heads_order (drop i (referred rs)) (drop j (referred ss)) ≡ q
-heads-are rs ss own others i j o q lent other_lent is found = sym (is ∙ (λ k. heads_order (drop i (referred (lent k))) (drop j (referred (other_lent k)))))
-    ∙ found
-
--- the next children are children of the nodes
-module _ (n m : Node) (rs ss : List Reference) (i j : ℕ) (own : IsInOrder (below n) (referred rs)) (other : IsInOrder (below m) (referred ss)) where
-  within : (ts : List Reference) (k : ℕ) → k < length (referred ts) → k < length ts
-  within ts k lt = subst (λ l. k < l) (length-referred ts) lt
-
-  -- a head that only the tree before has is its child of that element
-  pub lost-child : (r : Reference) → heads_order (drop i (referred rs)) (drop j (referred ss)) ≡ Some Less → r ≡ get_or rs i r
-      → child_at (element_view r.now.0) (below n) ≡ Some r.now.1
-  lost-child r order is = child-of (below n) rs i r (within rs i (own-within (referred rs) (drop j (referred ss)) i order)) is own
-
-  -- a head that only the tree after has is its child of that element
-  pub new-child : (s : Reference) → heads_order (drop i (referred rs)) (drop j (referred ss)) ≡ Some Greater → s ≡ get_or ss j s
-      → child_at (element_view s.now.0) (below m) ≡ Some s.now.1
-  new-child s order is = child-of (below m) ss j s (within ss j (other-within (drop i (referred rs)) (referred ss) j order)) is other
-
-  -- of heads that both trees have, the first is the child of the tree before
-  pub own-child : (r : Reference) → heads_order (drop i (referred rs)) (drop j (referred ss)) ≡ Some Equal → r ≡ get_or rs i r
-      → child_at (element_view r.now.0) (below n) ≡ Some r.now.1
-  own-child r order is = child-of (below n) rs i r (within rs i (both-within (referred rs) (referred ss) i j order).0) is own
-
-  -- of heads that both trees have, the second is the child of the tree after
-  pub other-child : (s : Reference) → heads_order (drop i (referred rs)) (drop j (referred ss)) ≡ Some Equal → s ≡ get_or ss j s
-      → child_at (element_view s.now.0) (below m) ≡ Some s.now.1
-  other-child s order is = child-of (below m) ss j s (within ss j (both-within (referred rs) (referred ss) i j order).1) is other
-
-module _ (what : Difference) (d : Bool) (rs ss : List Reference) where
+module _ (what : Difference) (d : Bool) (cs0 ds0 : List (Elem × Node)) where
   -- the tries so far hold what is told of the children before those that are left
   abbrev pub IsComparing : List (Elem × Node) → List (Elem × Node) → List (Elem × Trie) → Type 0
-  IsComparing cs ds out = IsMaking (differs what d) (referred rs) (referred ss) cs ds out
+  IsComparing cs ds out = IsMaking (differs what d) cs0 ds0 cs ds out
 
-  -- a child that only the tree before has is passed, with what is told of a lost one
-  pub comparing-lost : (i j : ℕ) (r : Reference) (out new : List (Elem × Trie)) → heads_order (drop i (referred rs)) (drop j (referred ss)) ≡ Some Less
-      → r ≡ get_or rs i r
-      → IsToldAlone (told_of_lost what) d r.now out new
-      → IsComparing (drop i (referred rs)) (drop j (referred ss)) out → IsComparing (drop (i + 1) (referred rs)) (drop j (referred ss)) new
-  comparing-lost i j r out new order is (t, made, grown) h =
-      let c = r.now in
-      let e = element_view c.0 in
-      let cs = drop (i + 1) (referred rs) in
-      let ds = drop j (referred ss) in
-      let lt : i < length rs = subst (λ k. i < k) (length-referred rs) (own-within (referred rs) ds i order) in
-      let left = left-referred rs i r lt is in
-      let now = subst (λ l. IsComparing l ds out) left h in
-      let heads = subst (λ l. heads_order l ds ≡ Some Less) left order in
-      making-more (differs what d) e (Some c.1) None (referred rs) (referred ss) (c ∷ cs) ds cs ds out new t (tells-nothing what d)
-      (front-own c cs ds heads now.own_rise now.others_rise) (both_second _ _ now.own_rise) now.others_rise (λ p. made.paths_are p
-      ∙ lost-differs what d e c.1 p) made.trie grown now
+  module _ (i j : ℕ) where
+    -- a child that only the tree before has is passed, with what is told of a lost one
+    pub comparing-lost : (c : Elem × Node) (out new : List (Elem × Trie)) → heads_order (drop i cs0) (drop j ds0) ≡ Some Less → slice_get cs0 i ≡ Some c
+        → IsToldAlone (told_of_lost what) d c out new
+        → IsComparing (drop i cs0) (drop j ds0) out → IsComparing (drop (i + 1) cs0) (drop j ds0) new
+    comparing-lost c out new order is (t, made, grown) h =
+        let e = element_view c.0 in
+        let cs = drop (i + 1) cs0 in
+        let ds = drop j ds0 in
+        let left = left-read cs0 i c is in
+        let now = subst (λ l. IsComparing l ds out) left h in
+        let heads = subst (λ l. heads_order l ds ≡ Some Less) left order in
+        making-more (differs what d) e (Some c.1) None cs0 ds0 (c ∷ cs) ds cs ds out new t (tells-nothing what d)
+        (front-own c cs ds heads now.own_rise now.others_rise) (both_second _ _ now.own_rise) now.others_rise (λ p. made.paths_are p
+        ∙ lost-differs what d e c.1 p) made.trie grown now
 
-  -- a child that only the tree after has is passed, with what is told of a new one
-  pub comparing-new : (i j : ℕ) (s : Reference) (out new : List (Elem × Trie)) → heads_order (drop i (referred rs)) (drop j (referred ss)) ≡ Some Greater
-      → s ≡ get_or ss j s
-      → IsToldAlone (told_of_new what) d s.now out new
-      → IsComparing (drop i (referred rs)) (drop j (referred ss)) out → IsComparing (drop i (referred rs)) (drop (j + 1) (referred ss)) new
-  comparing-new i j s out new order is (t, made, grown) h =
-      let c = s.now in
-      let e = element_view c.0 in
-      let cs = drop i (referred rs) in
-      let ds = drop (j + 1) (referred ss) in
-      let lt : j < length ss = subst (λ k. j < k) (length-referred ss) (other-within cs (referred ss) j order) in
-      let left = left-referred ss j s lt is in
-      let now = subst (λ l. IsComparing cs l out) left h in
-      let heads = subst (λ l. heads_order cs l ≡ Some Greater) left order in
-      making-more (differs what d) e None (Some c.1) (referred rs) (referred ss) cs (c ∷ ds) cs ds out new t (tells-nothing what d)
-      (front-other cs c ds heads now.own_rise now.others_rise) now.own_rise (both_second _ _ now.others_rise) (λ p. made.paths_are p
-      ∙ new-differs what d e c.1 p) made.trie grown now
+    -- a child that only the tree after has is passed, with what is told of a new one
+    pub comparing-new : (c : Elem × Node) (out new : List (Elem × Trie)) → heads_order (drop i cs0) (drop j ds0) ≡ Some Greater → slice_get ds0 j ≡ Some c
+        → IsToldAlone (told_of_new what) d c out new
+        → IsComparing (drop i cs0) (drop j ds0) out → IsComparing (drop i cs0) (drop (j + 1) ds0) new
+    comparing-new c out new order is (t, made, grown) h =
+        let e = element_view c.0 in
+        let cs = drop i cs0 in
+        let ds = drop (j + 1) ds0 in
+        let left = left-read ds0 j c is in
+        let now = subst (λ l. IsComparing cs l out) left h in
+        let heads = subst (λ l. heads_order cs l ≡ Some Greater) left order in
+        making-more (differs what d) e None (Some c.1) cs0 ds0 cs (c ∷ ds) cs ds out new t (tells-nothing what d)
+        (front-other cs c ds heads now.own_rise now.others_rise) now.own_rise (both_second _ _ now.others_rise) (λ p. made.paths_are p
+        ∙ new-differs what d e c.1 p) made.trie grown now
 
-  -- nothing is told of a child that only one of the trees has
-  pub comparing-past-lost : (i j : ℕ) (r : Reference) (out : List (Elem × Trie)) → heads_order (drop i (referred rs)) (drop j (referred ss)) ≡ Some Less
-      → r ≡ get_or rs i r → told_of_lost what ≡ None
-      → IsComparing (drop i (referred rs)) (drop j (referred ss)) out → IsComparing (drop (i + 1) (referred rs)) (drop j (referred ss)) out
-  comparing-past-lost i j r out order is none h =
-      let c = r.now in
-      let e = element_view c.0 in
-      let cs = drop (i + 1) (referred rs) in
-      let ds = drop j (referred ss) in
-      let lt : i < length rs = subst (λ k. i < k) (length-referred rs) (own-within (referred rs) ds i order) in
-      let left = left-referred rs i r lt is in
-      let now = subst (λ l. IsComparing l ds out) left h in
-      let heads = subst (λ l. heads_order l ds ≡ Some Less) left order in
-      making-skip (differs what d) e (Some c.1) None (referred rs) (referred ss) (c ∷ cs) ds cs ds out (tells-nothing what d)
-      (front-own c cs ds heads now.own_rise now.others_rise) (both_second _ _ now.own_rise) now.others_rise (λ p. sym (lost-differs what d e c.1 p)
-      ∙ ap (λ o. collects_of o d e (Some c.1) p) none) now
+    -- nothing is told of a child that only one of the trees has
+    pub comparing-past-lost : (c : Elem × Node) (out : List (Elem × Trie)) → heads_order (drop i cs0) (drop j ds0) ≡ Some Less → slice_get cs0 i ≡ Some c
+        → told_of_lost what ≡ None
+        → IsComparing (drop i cs0) (drop j ds0) out → IsComparing (drop (i + 1) cs0) (drop j ds0) out
+    comparing-past-lost c out order is none h =
+        let e = element_view c.0 in
+        let cs = drop (i + 1) cs0 in
+        let ds = drop j ds0 in
+        let left = left-read cs0 i c is in
+        let now = subst (λ l. IsComparing l ds out) left h in
+        let heads = subst (λ l. heads_order l ds ≡ Some Less) left order in
+        making-skip (differs what d) e (Some c.1) None cs0 ds0 (c ∷ cs) ds cs ds out (tells-nothing what d)
+        (front-own c cs ds heads now.own_rise now.others_rise) (both_second _ _ now.own_rise) now.others_rise (λ p. sym (lost-differs what d e c.1 p)
+        ∙ ap (λ o. collects_of o d e (Some c.1) p) none) now
 
-  -- where nothing is told of new children, one is passed and nothing comes
-  pub comparing-past-new : (i j : ℕ) (s : Reference) (out : List (Elem × Trie)) → heads_order (drop i (referred rs)) (drop j (referred ss)) ≡ Some Greater
-      → s ≡ get_or ss j s → told_of_new what ≡ None
-      → IsComparing (drop i (referred rs)) (drop j (referred ss)) out → IsComparing (drop i (referred rs)) (drop (j + 1) (referred ss)) out
-  comparing-past-new i j s out order is none h =
-      let c = s.now in
-      let e = element_view c.0 in
-      let cs = drop i (referred rs) in
-      let ds = drop (j + 1) (referred ss) in
-      let lt : j < length ss = subst (λ k. j < k) (length-referred ss) (other-within cs (referred ss) j order) in
-      let left = left-referred ss j s lt is in
-      let now = subst (λ l. IsComparing cs l out) left h in
-      let heads = subst (λ l. heads_order cs l ≡ Some Greater) left order in
-      making-skip (differs what d) e None (Some c.1) (referred rs) (referred ss) cs (c ∷ ds) cs ds out (tells-nothing what d)
-      (front-other cs c ds heads now.own_rise now.others_rise) now.own_rise (both_second _ _ now.others_rise) (λ p. sym (new-differs what d e c.1 p)
-      ∙ ap (λ o. collects_of o d e (Some c.1) p) none) now
+    -- where nothing is told of new children, one is passed and nothing comes
+    pub comparing-past-new : (c : Elem × Node) (out : List (Elem × Trie)) → heads_order (drop i cs0) (drop j ds0) ≡ Some Greater → slice_get ds0 j ≡ Some c
+        → told_of_new what ≡ None
+        → IsComparing (drop i cs0) (drop j ds0) out → IsComparing (drop i cs0) (drop (j + 1) ds0) out
+    comparing-past-new c out order is none h =
+        let e = element_view c.0 in
+        let cs = drop i cs0 in
+        let ds = drop (j + 1) ds0 in
+        let left = left-read ds0 j c is in
+        let now = subst (λ l. IsComparing cs l out) left h in
+        let heads = subst (λ l. heads_order cs l ≡ Some Greater) left order in
+        making-skip (differs what d) e None (Some c.1) cs0 ds0 cs (c ∷ ds) cs ds out (tells-nothing what d)
+        (front-other cs c ds heads now.own_rise now.others_rise) now.own_rise (both_second _ _ now.others_rise) (λ p. sym (new-differs what d e c.1 p)
+        ∙ ap (λ o. collects_of o d e (Some c.1) p) none) now
 
-  -- a child that both trees have is passed, with what differs in it
-  pub comparing-both : (i j : ℕ) (r s : Reference) (out new : List (Elem × Trie)) (t : Trie)
-      → heads_order (drop i (referred rs)) (drop j (referred ss)) ≡ Some Equal → r ≡ get_or rs i r → s ≡ get_or ss j s
-      → is_tree r.now.1 ≡ true → is_tree s.now.1 ≡ true → IsDifference what r.now.1 s.now.1 t → IsGrown (element_view r.now.0) t out new
-      → IsComparing (drop i (referred rs)) (drop j (referred ss)) out → IsComparing (drop (i + 1) (referred rs)) (drop (j + 1) (referred ss)) new
-  comparing-both i j r s out new t order is_r is_s before after made grown h =
-      let c = r.now in
-      let b = s.now in
-      let e = element_view c.0 in
-      let cs = drop (i + 1) (referred rs) in
-      let ds = drop (j + 1) (referred ss) in
-      let in_both = both-within (referred rs) (referred ss) i j order in
-      let own = left-referred rs i r (subst (λ k. i < k) (length-referred rs) in_both.0) is_r in
-      let other = left-referred ss j s (subst (λ k. j < k) (length-referred ss) in_both.1) is_s in
-      let now = subst (λ l. IsComparing (c ∷ cs) l out) other (subst (λ l. IsComparing l (drop j (referred ss)) out) own h) in
-      let heads = subst (λ l. heads_order (c ∷ cs) l ≡ Some Equal) other (subst (λ l. heads_order l (drop j (referred ss)) ≡ Some Equal) own order) in
-      making-more (differs what d) e (Some c.1) (Some b.1) (referred rs) (referred ss) (c ∷ cs) (b ∷ ds) cs ds out new t (tells-nothing what d)
-      (front-both c b cs ds heads now.own_rise now.others_rise) (both_second _ _ now.own_rise) (both_second _ _ now.others_rise)
-      (λ p. made.paths_are p ∙ differs-whole what d e c.1 b.1 before after p) made.trie grown now
+    -- a child that both trees have is passed, with what differs in it
+    pub comparing-both : (c b : Elem × Node) (out new : List (Elem × Trie))
+        → heads_order (drop i cs0) (drop j ds0) ≡ Some Equal → slice_get cs0 i ≡ Some c → slice_get ds0 j ≡ Some b
+        → is_tree c.1 ≡ true → is_tree b.1 ≡ true → IsToldBoth what c b.1 out new
+        → IsComparing (drop i cs0) (drop j ds0) out → IsComparing (drop (i + 1) cs0) (drop (j + 1) ds0) new
+    comparing-both c b out new order is_c is_b before after told h =
+        let e = element_view c.0 in
+        let cs = drop (i + 1) cs0 in
+        let ds = drop (j + 1) ds0 in
+        let own = left-read cs0 i c is_c in
+        let other = left-read ds0 j b is_b in
+        let now = subst (λ l. IsComparing (c ∷ cs) l out) other (subst (λ l. IsComparing l (drop j ds0) out) own h) in
+        let heads = subst (λ l. heads_order (c ∷ cs) l ≡ Some Equal) other (subst (λ l. heads_order l (drop j ds0) ≡ Some Equal) own order) in
+        let front = front-both c b cs ds heads now.own_rise now.others_rise in
+        let own_rise = both_second (is_below e (elements cs)) _ now.own_rise in
+        let others_rise = both_second (is_below (element_view b.0) (elements ds)) _ now.others_rise in
+        elim told [
+          | inl (t, made, grown) ↦
+              making-more (differs what d) e (Some c.1) (Some b.1) cs0 ds0 (c ∷ cs) (b ∷ ds) cs ds out new t (tells-nothing what d) front own_rise others_rise
+              (λ p. made.paths_are p ∙ differs-whole what d e c.1 b.1 before after p) made.trie grown now
+          | inr (nothing, same) ↦
+              subst (IsComparing cs ds) (sym same)
+              (making-skip (differs what d) e (Some c.1) (Some b.1) cs0 ds0 (c ∷ cs) (b ∷ ds) cs ds out (tells-nothing what d) front own_rise others_rise
+              (λ p. sym (differs-whole what d e c.1 b.1 before after p) ∙ nothing p) now)
+        ]
 
   -- where no child is left, the tries hold what differs below the two nodes
-  pub comparing-all : (n m : Node) (cs ds : List (Elem × Node)) (out : List (Elem × Trie)) → d ≡ is_in_dict m → IsInOrder (below n) (referred rs)
-      → IsInOrder (below m) (referred ss) → cs ≡ [] → ds ≡ [] → IsComparing cs ds out → IsDiffering what n m out
+  pub comparing-all : (n m : Node) (cs ds : List (Elem × Node)) (out : List (Elem × Trie)) → d ≡ is_in_dict m → IsInOrder (below n) cs0
+      → IsInOrder (below m) ds0 → cs ≡ [] → ds ≡ [] → IsComparing cs ds out → IsDiffering what n m out
   comparing-all n m cs ds out is own other none_own none_other h =
-      let made = making-all (differs what d) (referred rs) (referred ss) cs ds out (tells-nothing what d) none_own none_other h in
+      let made = making-all (differs what d) cs0 ds0 cs ds out (tells-nothing what d) none_own none_other h in
       record { paths_are = λ e p. made.paths_are e p ∙ (λ i. differs what (is i) e (own.same e i) (other.same e i) p); risen = made.risen; tries = made.tries }
 
 -- ---- all that is told, by one walk
 
 -- so far all three are told: what is added, modified and removed
-pub record AreComparing (d : Bool) (rs ss : List Reference) (cs ds : List (Elem × Node)) (own_added own_modified own_removed : List (Elem × Trie)) : Type 0
-  where
-    -- what is added among the children passed
-    pub added_so_far : IsComparing Added d rs ss cs ds own_added
-    -- what is modified among them
-    pub modified_so_far : IsComparing Modified d rs ss cs ds own_modified
-    -- what is removed among them
-    pub removed_so_far : IsComparing Removed d rs ss cs ds own_removed
+pub record AreComparing (d : Bool) (cs0 ds0 cs ds : List (Elem × Node)) (told : PartsBelow) : Type 0 where
+  -- what is added among the children passed
+  pub added_so_far : IsComparing Added d cs0 ds0 cs ds told.added.items
+  -- what is modified among them
+  pub modified_so_far : IsComparing Modified d cs0 ds0 cs ds told.modified.items
+  -- what is removed among them
+  pub removed_so_far : IsComparing Removed d cs0 ds0 cs ds told.removed.items
 
-module _ (d : Bool) (rs ss : List Reference) (i j : ℕ) (a m x : List (Elem × Trie))
-    (h : AreComparing d rs ss (drop i (referred rs)) (drop j (referred ss)) a m x) where
+-- the children of a trie, as the program holds them
+abbrev Tries : Type 0
+Tries = Vec (Elem × Trie) Global
+
+module _ (d : Bool) (cs0 ds0 : List (Elem × Node)) (i j : ℕ) (old : PartsBelow) (h : AreComparing d cs0 ds0 (drop i cs0) (drop j ds0) old) where
   -- a lost child is passed: more is removed
-  pub past-lost : (r : Reference) (new : List (Elem × Trie)) → heads_order (drop i (referred rs)) (drop j (referred ss)) ≡ Some Less → r ≡ get_or rs i r
-      → IsToldAlone (Some All) d r.now x new
-      → AreComparing d rs ss (drop (i + 1) (referred rs)) (drop j (referred ss)) a m new
-  past-lost r new order is told = record {
-    added_so_far = comparing-past-lost Added d rs ss i j r a order is refl h.added_so_far;
-    modified_so_far = comparing-past-lost Modified d rs ss i j r m order is refl h.modified_so_far;
-    removed_so_far = comparing-lost Removed d rs ss i j r x new order is told h.removed_so_far;
+  pub past-lost : (c : Elem × Node) (new : Tries) → heads_order (drop i cs0) (drop j ds0) ≡ Some Less → slice_get cs0 i ≡ Some c
+      → IsToldAlone (Some All) d c old.removed.items new.items
+      → AreComparing d cs0 ds0 (drop (i + 1) cs0) (drop j ds0) (record old { removed = new })
+  past-lost c new order is told = record {
+    added_so_far = comparing-past-lost Added d cs0 ds0 i j c old.added.items order is refl h.added_so_far;
+    modified_so_far = comparing-past-lost Modified d cs0 ds0 i j c old.modified.items order is refl h.modified_so_far;
+    removed_so_far = comparing-lost Removed d cs0 ds0 i j c old.removed.items new.items order is told h.removed_so_far;
   }
 
   -- a new child is passed: more is added
-  pub past-new : (s : Reference) (new : List (Elem × Trie)) → heads_order (drop i (referred rs)) (drop j (referred ss)) ≡ Some Greater → s ≡ get_or ss j s
-      → IsToldAlone (Some Points) d s.now a new
-      → AreComparing d rs ss (drop i (referred rs)) (drop (j + 1) (referred ss)) new m x
-  past-new s new order is told = record {
-    added_so_far = comparing-new Added d rs ss i j s a new order is told h.added_so_far;
-    modified_so_far = comparing-past-new Modified d rs ss i j s m order is refl h.modified_so_far;
-    removed_so_far = comparing-past-new Removed d rs ss i j s x order is refl h.removed_so_far;
+  pub past-new : (c : Elem × Node) (new : Tries) → heads_order (drop i cs0) (drop j ds0) ≡ Some Greater → slice_get ds0 j ≡ Some c
+      → IsToldAlone (Some Points) d c old.added.items new.items
+      → AreComparing d cs0 ds0 (drop i cs0) (drop (j + 1) ds0) (record old { added = new })
+  past-new c new order is told = record {
+    added_so_far = comparing-new Added d cs0 ds0 i j c old.added.items new.items order is told h.added_so_far;
+    modified_so_far = comparing-past-new Modified d cs0 ds0 i j c old.modified.items order is refl h.modified_so_far;
+    removed_so_far = comparing-past-new Removed d cs0 ds0 i j c old.removed.items order is refl h.removed_so_far;
   }
 
   -- a child of both trees is passed, with all that is told of it
-  pub past-both : (r s : Reference) (v : Parts) (new_a new_m new_x : List (Elem × Trie))
-      → heads_order (drop i (referred rs)) (drop j (referred ss)) ≡ Some Equal → r ≡ get_or rs i r → s ≡ get_or ss j s
-      → is_tree r.now.1 ≡ true → is_tree s.now.1 ≡ true → AreDifferences r.now.1 s.now.1 v
-      → IsGrown (element_view r.now.0) v.added a new_a → IsGrown (element_view r.now.0) v.modified m new_m → IsGrown (element_view r.now.0) v.removed x new_x
-      → AreComparing d rs ss (drop (i + 1) (referred rs)) (drop (j + 1) (referred ss)) new_a new_m new_x
-  past-both r s v new_a new_m new_x order is_r is_s before after made grown_a grown_m grown_x = record {
-    added_so_far = comparing-both Added d rs ss i j r s a new_a v.added order is_r is_s before after made.added_trie grown_a h.added_so_far;
-    modified_so_far = comparing-both Modified d rs ss i j r s m new_m v.modified order is_r is_s before after made.modified_trie grown_m h.modified_so_far;
-    removed_so_far = comparing-both Removed d rs ss i j r s x new_x v.removed order is_r is_s before after made.removed_trie grown_x h.removed_so_far;
+  pub past-both : (c b : Elem × Node) (new : PartsBelow)
+      → heads_order (drop i cs0) (drop j ds0) ≡ Some Equal → slice_get cs0 i ≡ Some c → slice_get ds0 j ≡ Some b
+      → is_tree c.1 ≡ true → is_tree b.1 ≡ true → AreToldBoth c b.1 old new
+      → AreComparing d cs0 ds0 (drop (i + 1) cs0) (drop (j + 1) ds0) new
+  past-both c b new order is_c is_b before after told = record {
+    added_so_far = comparing-both Added d cs0 ds0 i j c b old.added.items new.added.items order is_c is_b before after told.added_told h.added_so_far;
+    modified_so_far = comparing-both Modified d cs0 ds0 i j c b old.modified.items new.modified.items order is_c is_b before after told.modified_told
+        h.modified_so_far;
+    removed_so_far = comparing-both Removed d cs0 ds0 i j c b old.removed.items new.removed.items order is_c is_b before after told.removed_told
+        h.removed_so_far;
   }
 
 -- where no child is left, all that differs below the two nodes is told
-pub past-all : (d : Bool) (rs ss : List Reference) (n m : Node) (cs ds : List (Elem × Node)) (v : PartsBelow) → d ≡ is_in_dict m
-    → IsInOrder (below n) (referred rs) → IsInOrder (below m) (referred ss) → cs ≡ [] → ds ≡ []
-    → AreComparing d rs ss cs ds v.added.items v.modified.items v.removed.items → AreDiffering n m v
-past-all d rs ss n m cs ds v is own other none_own none_other h = record {
-  added_below = comparing-all Added d rs ss n m cs ds v.added.items is own other none_own none_other h.added_so_far;
-  modified_below = comparing-all Modified d rs ss n m cs ds v.modified.items is own other none_own none_other h.modified_so_far;
-  removed_below = comparing-all Removed d rs ss n m cs ds v.removed.items is own other none_own none_other h.removed_so_far;
+pub past-all : (d : Bool) (cs0 ds0 : List (Elem × Node)) (n m : Node) (cs ds : List (Elem × Node)) (v : PartsBelow) → d ≡ is_in_dict m
+    → IsInOrder (below n) cs0 → IsInOrder (below m) ds0 → cs ≡ [] → ds ≡ [] → AreComparing d cs0 ds0 cs ds v → AreDiffering n m v
+past-all d cs0 ds0 n m cs ds v is own other none_own none_other h = record {
+  added_below = comparing-all Added d cs0 ds0 n m cs ds v.added.items is own other none_own none_other h.added_so_far;
+  modified_below = comparing-all Modified d cs0 ds0 n m cs ds v.modified.items is own other none_own none_other h.modified_so_far;
+  removed_below = comparing-all Removed d cs0 ds0 n m cs ds v.removed.items is own other none_own none_other h.removed_so_far;
 }
 
 -- ---- THE BRIDGE: the comparison of the bodies that the trees stand for

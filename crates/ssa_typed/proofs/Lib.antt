@@ -29,6 +29,7 @@ pub mod RootedBodies
 pub mod SameMembers
 pub mod SameTrees
 pub mod Showing
+pub mod SideBySide
 pub mod ShownMembers
 pub mod Sizes
 pub mod SortedOut

@@ -1,5 +1,5 @@
 -- A node made of the children of one node over those of another.
-use Rattle.std.proofs.Common.{◌≡◌, suc, ◌+◌, ◌*◌, ◌<◌, length, List, [], ◌∷◌, ◌++◌, Bool, true, false, not, ◌&&◌, cond, Option, Some, refl, sym, ap, subst, ◌∙◌, true≢false, arith, rules, Result, Ok, Err}
+use Rattle.std.proofs.Common.{◌≡◌, suc, ◌+◌, ◌*◌, ◌<◌, length, List, [], ◌∷◌, ◌++◌, Bool, true, false, not, ◌&&◌, cond, Option, Some, None, refl, sym, ap, subst, ◌∙◌, true≢false, arith, rules, Result, Ok, Err}
 use Rattle.std.specs.Prelude.{filter, IfOk, OnOk}
 use Rattle.std.specs.List.{list_any}
 use Rattle.ssa_model.specs.definitions.Body.{Content, leaf, atom, record_branch, dict_branch, list_branch, joined, over_content, over, is_leaf, order_at}
@@ -10,8 +10,7 @@ use Rattle.ssa_path.specs.Children.{child_at, elements, rises}
 use Rattle.ssa_path.specs.View.{element_view}
 use Rattle.ssa_path.proofs.Orders.{both_first, both_second}
 use Rattle.ssa_typed.specs.Alike.{are_alike, AreAlike}
-use Rattle.ssa_typed.specs.InOrder.{IsInOrder}
-use Rattle.ssa_typed.specs.Over.{AreAlikeBelow, AreAlikeTrees, IsOver, AreOver, AreOverInOrder}
+use Rattle.ssa_typed.specs.Over.{AreAlikeBelow, AreAlikeTrees, IsOver, AreOver, AreOverInOrder, HaveOver}
 use Rattle.ssa_typed.specs.Points.{content_in}
 use Rattle.ssa_typed.specs.Rows.{body_of, rows, rows_below, below, below_of, content_of, own_content, leaf_content, is_tree, are_trees, are_apart, are_fields, are_items}
 use Rattle.ssa_typed.specs.Same.{AreSame, AreSameChildren, HaveSame}
@@ -23,7 +22,7 @@ use Rattle.ssa_typed.specs.declared.node.Node.TheViews.{out-Node, roll-Node, rol
 use Rattle.ssa_typed.proofs.Building.{Child}
 use Rattle.ssa_typed.proofs.Levels.{Children, level-below, own-Branch, own-Dict, own-List, tree-Branch, tree-Dict, tree-List, rises-apart}
 use Rattle.ssa_typed.proofs.Looks.{get-body}
-use Rattle.ssa_typed.proofs.Lookups.{child_at-rest, child-tree}
+use Rattle.ssa_typed.proofs.Lookups.{child_at-rest, content-root}
 use Rattle.ssa_typed.proofs.Sizes.{length-level}
 use Rattle.ssa_typed.proofs.Overlaying.{alike-below, alike-root, over-apart, over-level}
 use Rattle.ssa_typed.proofs.SameTrees.{same-node}
@@ -173,11 +172,12 @@ module _ (test : Element → Bool) where
         | false ↦ λ s k. all-child cs e c (both_second (test (element_view d.0)) _ h) k
       ] refl found
 
--- the first child and the later ones are found under their elements
-head-child : (d : Child) (ds : List Child) → child_at (element_view d.0) (d ∷ ds) ≡ Some d.1
+-- the first child is found under its element
+pub head-child : (d : Child) (ds : List Child) → child_at (element_view d.0) (d ∷ ds) ≡ Some d.1
 head-child d ds = ap (λ b. cond b (Some d.1) (child_at (element_view d.0) ds)) (same_element-itself (element_view d.0))
 
-later-child : (d : Child) (ds : List Child) (e : Element) (c : Node) → are_apart (elements (d ∷ ds)) ≡ true → child_at e ds ≡ Some c
+-- where elements are apart, the later children are found behind the first
+pub later-child : (d : Child) (ds : List Child) (e : Element) (c : Node) → are_apart (elements (d ∷ ds)) ≡ true → child_at e ds ≡ Some c
     → child_at e (d ∷ ds) ≡ Some c
 later-child d ds e c apart found =
     elim (same_element e (element_view d.0)) as (λ b. same_element e (element_view d.0) ≡ b → cond b (Some d.1) (child_at e ds) ≡ Some c) [
@@ -195,19 +195,20 @@ all-found test [] apart h = refl
 all-found test (d ∷ ds) apart h =
     both _ _ (h (element_view d.0) d.1 (head-child d ds)) (all-found test ds (later-apart d ds apart) (λ e c found. h e c (later-child d ds e c apart found)))
 
-trees-found : (ds : List Child) → are_apart (elements ds) ≡ true → ((e : Element) (c : Node) → child_at e ds ≡ Some c → is_tree c ≡ true) → are_trees ds ≡ true
-trees-found [] apart h = refl
-trees-found (d ∷ ds) apart h =
-    both _ _ (h (element_view d.0) d.1 (head-child d ds)) (trees-found ds (later-apart d ds apart) (λ e c found. h e c (later-child d ds e c apart found)))
+-- ---- children over others
 
--- ---- children put in order
+module _ (test : Element → Bool) (cs ds xs : List Child) (over : HaveOver cs ds xs) where
+  over-either : (e : Element) (x : Node) (o q : Option Node) → all_of test (elements cs) ≡ true → all_of test (elements ds) ≡ true → child_at e cs ≡ o
+      → child_at e ds ≡ q → child_at e xs ≡ Some x → test e ≡ true
+  over-either e x (Some c) q h k own other found = all-child test cs e c h own
+  over-either e x None (Some d) h k own other found = all-child test ds e d k other
+  over-either e x None None h k own other found =
+      absurd (some-none (own_content x)
+      (sym (content-root x) ∙ ap (λ o. content_in o []) (sym found) ∙ over e [] ∙ (λ i. over_content (content_in (own i) []) (content_in (other i) []))))
 
-module _ (cs ds : List Child) (order : IsInOrder cs ds) where
-  order-all : (test : Element → Bool) → all_of test (elements cs) ≡ true → all_of test (elements ds) ≡ true
-  order-all test h = all-found test ds (rises-apart (elements ds) order.rise) (λ e c found. all-child test cs e c h (sym (order.same e) ∙ found))
-
-  order-trees : are_trees cs ≡ true → are_trees ds ≡ true
-  order-trees h = trees-found ds (rises-apart (elements ds) order.rise) (λ e c found. child-tree e cs c h (sym (order.same e) ∙ found))
+  -- elements of children over others pass a test that those of both pass
+  pub all-over : are_apart (elements xs) ≡ true → all_of test (elements cs) ≡ true → all_of test (elements ds) ≡ true → all_of test (elements xs) ≡ true
+  all-over apart h k = all-found test xs apart (λ e x found. over-either e x (child_at e cs) (child_at e ds) h k refl refl found)
 
 -- ---- each sort of node
 
@@ -260,16 +261,12 @@ module _ (n m : Node) (live : is_tree n ≡ true) (config : is_tree m ≡ true) 
       let none_live = no-children l is in
       let own = ap own_content is ∙ own-Leaf l in
       let none_config = leaf-below m l own in
-      let none : AreOver (below n) (below m) (below m) = record {
-        elements_are = ap elements none_config ∙ (λ i. joined (elements (sym none_live i)) (elements (sym none_config i)));
-        contents = λ e p. ap (λ cs. content_in (child_at e cs) p) none_config
-            ∙ (λ i. over_content (content_in (child_at e (sym none_live i)) p) (content_in (child_at e (sym none_config i)) p));
-        trees = ap are_trees none_config;
-      } in
+      let none : HaveOver (below n) (below m) (below m) = λ e p.
+      ap (λ cs. content_in (child_at e cs) p) none_config
+      ∙ (λ i. over_content (content_in (child_at e (sym none_live i)) p) (content_in (child_at e (sym none_config i)) p)) in
       subst (IsOver n m) is
-      (over-level n m m (below m) live config config
-      (ap (λ c. Some c) own ∙ sym (ap (λ c. over_content (Some (own_content n)) (Some c)) own ∙ over-leaf (Some (own_content n)) l))
-      (λ e. refl) none)
+      (over-level n m m live config config
+      (ap (λ c. Some c) own ∙ sym (ap (λ c. over_content (Some (own_content n)) (Some c)) own ∙ over-leaf (Some (own_content n)) l)) none)
 
   -- that leaf is the live node, where this has its contents
   pub leaf-same : (l : Leaf) → m ≡ LeafOf l → leaf_content l ≡ own_content n → AreSame n (LeafOf l)
@@ -278,20 +275,15 @@ module _ (n m : Node) (live : is_tree n ≡ true) (config : is_tree m ≡ true) 
       let none = leaf-below m l own ∙ sym (no-children l is) in
       subst (AreSame n) is (same-node n m live config (own ∙ same) (λ e p. ap (λ cs. content_in (child_at e cs) p) none))
 
-  joined-fields : (cs : List Child) → is_listing (own_content n) ≡ false → is_listing (own_content m) ≡ false → AreOver (below n) (below m) cs
-      → all_of is_field (elements cs) ≡ true
-  joined-fields cs a b h =
+  -- children of both nodes, in the order of their elements
+  stand-named : (cs : List Child) → is_listing (own_content n) ≡ false → is_listing (own_content m) ≡ false → AreOverInOrder (below n) (below m) cs
+      → ((rises (elements cs) && are_fields (elements cs)) && are_trees cs) ≡ true
+  stand-named cs a b h =
       let es = elements (below n) in
       let fs = elements (below m) in
-      ap (all_of is_field) h.elements_are
-      ∙ all-joined is_field es fs (sym (fields-all es) ∙ fields-made (out-Node n) (rolled n live) a) (sym (fields-all fs)
-      ∙ fields-made (out-Node m) (rolled m config) b)
-
-  -- children of two nodes, put in the order of their elements
-  stand-named : (cs ds : List Child) → is_listing (own_content n) ≡ false → is_listing (own_content m) ≡ false → AreOver (below n) (below m) cs
-      → IsInOrder cs ds → ((rises (elements ds) && are_fields (elements ds)) && are_trees ds) ≡ true
-  stand-named cs ds a b h order =
-      both _ _ (both _ _ order.rise (fields-all (elements ds) ∙ order-all cs ds order is_field (joined-fields cs a b h))) (order-trees cs ds order h.trees)
+      let fields = all-over is_field (below n) (below m) cs h.contents (rises-apart (elements cs) h.rise)
+      (sym (fields-all es) ∙ fields-made (out-Node n) (rolled n live) a) (sym (fields-all fs) ∙ fields-made (out-Node m) (rolled m config) b) in
+      both _ _ (both _ _ h.rise (fields-all (elements cs) ∙ fields)) h.trees
 
   apart-over : (cs : List Child) → AreOver (below n) (below m) cs → are_apart (elements cs) ≡ true
   apart-over cs h = over-apart (below n) (below m) cs ((level-below n).apart live) ((level-below m).apart config) h
@@ -302,24 +294,22 @@ module _ (n m : Node) (live : is_tree n ≡ true) (config : is_tree m ≡ true) 
     unfolding is_listing
     record-over is put =
         let own = ap own_content is ∙ own-Branch w in
-        let cs = put.merged in
-        let h = subst (λ ds. AreOver (below n) ds cs) (sym (ap below is ∙ below-Branch w)) put.over in
+        let h = subst (λ ds. AreOverInOrder (below n) ds v.items) (sym (ap below is ∙ below-Branch w)) put in
         let sort = record-alike (own_content n) (ap (λ c. are_alike (Some (own_content n)) (Some c)) (sym own) ∙ alike-root n m alike) in
-        over-level n m (Branch v) cs live config (tree-Branch v ∙ stand-named cs v.items sort (ap is_listing own) h put.order)
+        over-level n m (Branch v) live config (tree-Branch v ∙ stand-named v.items sort (ap is_listing own) h)
         (ap (λ c. Some c) (own-Branch v) ∙ sym (ap (λ c. over_content (Some (own_content n)) (Some c)) own))
-        (λ e. ap (child_at e) (below-Branch v) ∙ put.order.same e) h
+        (λ e p. ap (λ cs. content_in (child_at e cs) p) (below-Branch v) ∙ h.contents e p)
 
     -- a Dict of the entries of both, in order, is the configuration's over the live node
     pub dict-over : m ≡ Dict w → AreOverInOrder (below n) w.items v.items → IsOver n m (Dict v)
     unfolding is_listing
     dict-over is put =
         let own = ap own_content is ∙ own-Dict w in
-        let cs = put.merged in
-        let h = subst (λ ds. AreOver (below n) ds cs) (sym (ap below is ∙ below-Dict w)) put.over in
+        let h = subst (λ ds. AreOverInOrder (below n) ds v.items) (sym (ap below is ∙ below-Dict w)) put in
         let sort = dict-alike (own_content n) (ap (λ c. are_alike (Some (own_content n)) (Some c)) (sym own) ∙ alike-root n m alike) in
-        over-level n m (Dict v) cs live config (tree-Dict v ∙ stand-named cs v.items sort (ap is_listing own) h put.order)
+        over-level n m (Dict v) live config (tree-Dict v ∙ stand-named v.items sort (ap is_listing own) h)
         (ap (λ c. Some c) (own-Dict v) ∙ sym (ap (λ c. over_content (Some (own_content n)) (Some c)) own))
-        (λ e. ap (child_at e) (below-Dict v) ∙ put.order.same e) h
+        (λ e p. ap (λ cs. content_in (child_at e cs) p) (below-Dict v) ∙ h.contents e p)
 
     -- a list of the items of both, the live ones first, is the configuration's over the live node
     pub list-over : m ≡ ListOf w → AreOver (below n) w.items v.items → IsOver n m (ListOf v)
@@ -336,10 +326,10 @@ module _ (n m : Node) (live : is_tree n ≡ true) (config : is_tree m ≡ true) 
         items-all (elements v.items) ∙ ap (all_of is_item_element) h.elements_are
         ∙ all-joined is_item_element es fs (sym (items-all es) ∙ items-made (out-Node n) (rolled n live) sort)
         (sym (items-all fs) ∙ items-made (out-Node m) (rolled m config) (ap is_listing own)) in
-        over-level n m (ListOf v) v.items live config (tree-List v ∙ both _ _ (both _ _ (apart-over v.items h) all_items) h.trees)
+        over-level n m (ListOf v) live config (tree-List v ∙ both _ _ (both _ _ (apart-over v.items h) all_items) h.trees)
         (ap (λ c. Some c) (own-List v ∙ ap list_branch (h.elements_are ∙ (λ i. joined (sym (order-made (out-Node n) sort) i) (items i))))
         ∙ sym (ap (λ c. over_content (Some (own_content n)) (Some c)) own))
-        (λ e. ap (child_at e) (below-List v)) h
+        (λ e p. ap (λ cs. content_in (child_at e cs) p) (below-List v) ∙ h.contents e p)
 
     module _ (cs : List Child) (seen : cs ≡ below n) where
       same-below : (x : Node) → below x ≡ v.items → HaveSame cs v.items → HaveSame (below n) (below x)
@@ -371,6 +361,31 @@ module _ (n m : Node) (live : is_tree n ≡ true) (config : is_tree m ≡ true) 
           let order = same.elements_same ∙ ap elements seen in
           same-node n (ListOf v) live made.tree (own-List v ∙ ap list_branch order ∙ sym (listing-made (out-Node n) sort))
           (same-below (ListOf v) (below-List v) same.contents_same)
+
+-- ---- what rises below a node
+
+rises-made : (x : Node-F Node) → is_tree (roll-Node x) ≡ true → is_listing (content_of x) ≡ false → rises (elements (below_of x)) ≡ true
+unfolding is_listing roll-Node denote.Hole.Carrier.roll
+rises-made (Node-F.Leaf l) h k = refl
+rises-made (Node-F.Branch v) h k = both_first _ (are_fields (elements v.items)) (both_first _ (are_trees v.items) (sym (tree-Branch v) ∙ h))
+rises-made (Node-F.Dict v) h k = both_first _ (are_fields (elements v.items)) (both_first _ (are_trees v.items) (sym (tree-Dict v) ∙ h))
+rises-made (Node-F.List v) h k = absurd (true≢false k)
+
+module _ (n m : Node) (v : Children) (cs : List Child) (seen : cs ≡ below n) (live : is_tree n ≡ true) (alike : AreAlikeTrees n m) where
+  live-rises : is_listing (own_content n) ≡ false → rises (elements cs) ≡ true
+  live-rises sort = ap (λ l. rises (elements l)) seen ∙ rises-made (out-Node n) (rolled n live) sort
+
+  -- where the configuration has a record, the live fields rise
+  pub live-fields-rise : m ≡ Branch v → rises (elements cs) ≡ true
+  live-fields-rise is =
+      let own = ap own_content is ∙ own-Branch v in
+      live-rises (record-alike (own_content n) (ap (λ c. are_alike (Some (own_content n)) (Some c)) (sym own) ∙ alike-root n m alike))
+
+  -- where it has a Dict, the live entries rise
+  pub live-entries-rise : m ≡ Dict v → rises (elements cs) ≡ true
+  live-entries-rise is =
+      let own = ap own_content is ∙ own-Dict v in
+      live-rises (dict-alike (own_content n) (ap (λ c. are_alike (Some (own_content n)) (Some c)) (sym own) ∙ alike-root n m alike))
 
 -- ---- going down to the children
 

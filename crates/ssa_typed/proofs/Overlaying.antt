@@ -12,15 +12,13 @@ use Rattle.ssa_path.specs.View.{element_view}
 use Rattle.ssa_path.proofs.Orders.{both_first, both_second}
 use Rattle.ssa_typed.specs.Alike.{are_alike}
 use Rattle.ssa_typed.specs.Copies.{kept}
-use Rattle.ssa_typed.specs.InOrder.{referred, IsInOrder}
 use Rattle.ssa_typed.specs.MergedOrder.{MergedChild, is_new, live_child, new_child, merged}
-use Rattle.ssa_typed.specs.Over.{AreAlikeBelow, AreAlikeTrees, IsOver, AreOver}
+use Rattle.ssa_typed.specs.Over.{AreAlikeBelow, AreAlikeTrees, IsOver, AreOver, HaveOver}
 use Rattle.ssa_typed.specs.Points.{content_in}
 use Rattle.ssa_typed.specs.Rows.{rows, below, own_content, content_at, is_tree, are_trees, are_apart}
 use Rattle.ssa_typed.specs.declared.node.Node.{Node}
 use Rattle.ssa_typed.proofs.Building.{Child}
 use Rattle.ssa_typed.proofs.Copying.{kept-rows, kept-tree}
-use Rattle.ssa_typed.proofs.References.{Reference, order-below}
 use Rattle.ssa_typed.proofs.Lookups.{content-level, content-root, child_at-rest}
 use Rattle.ssa_model.proofs.Tables.{element-itself as same_element-itself}
 use Rattle.ssa_typed.proofs.Fitting.{apart-distinct}
@@ -142,7 +140,8 @@ all_pass : (es : List Element) → filter (λ f. not (is_among f [])) es ≡ es
 all_pass [] = refl
 all_pass (e ∷ es) = ap (λ fs. e ∷ fs) (all_pass es)
 
-over-none : (c : Option Content) → over_content None c ≡ c
+-- over nothing a content stays as it is
+pub over-none : (c : Option Content) → over_content None c ≡ c
 over-none None = refl
 over-none (Some (leaf s)) = refl
 over-none (Some (atom v)) = refl
@@ -229,16 +228,15 @@ over-apart cs ds xs live config h =
     let fs = elements ds in
     ap are_apart h.elements_are ∙ apart-distinct (joined es fs) ∙ distinct-joined es fs (sym (apart-distinct es) ∙ live) (sym (apart-distinct fs) ∙ config)
 
--- a node with the contents of both, over children over others, is the one node over the other
-pub over-level : (n m made : Node) (cs : List Child) → is_tree n ≡ true → is_tree m ≡ true → is_tree made ≡ true
-    → Some (own_content made) ≡ over_content (Some (own_content n)) (Some (own_content m))
-    → ((e : Element) → child_at e (below made) ≡ child_at e cs) → AreOver (below n) (below m) cs → IsOver n m made
-over-level n m made cs live config tree own same h = record { content = at; tree = tree }
+-- a node with the contents of both, at itself and below, is the one node over the other
+pub over-level : (n m made : Node) → is_tree n ≡ true → is_tree m ≡ true → is_tree made ≡ true
+    → Some (own_content made) ≡ over_content (Some (own_content n)) (Some (own_content m)) → HaveOver (below n) (below m) (below made) → IsOver n m made
+over-level n m made live config tree own h = record { content = at; tree = tree }
   where
     at : (p : Path) → content_at (rows made) p ≡ over_content (content_at (rows n) p) (content_at (rows m) p)
     at [] = content-root made ∙ own ∙ sym (λ i. over_content (content-root n i) (content-root m i))
     at (e ∷ p) =
-        content-level made e p tree ∙ ap (λ c. content_in c p) (same e) ∙ h.contents e p
+        content-level made e p tree ∙ h e p
         ∙ sym (λ i. over_content (content-level n e p live i) (content-level m e p config i))
 
 -- ---- one child more
@@ -306,8 +304,3 @@ child-at-index (d ∷ cs) (suc i) c lt is apart =
       | true ↦ λ s. absurd (some-none c.1 (sym later ∙ child_at-rest e d cs s apart))
       | false ↦ λ s. later
     ] refl
-
--- the configuration's child of an element, found among references to its children in order
-pub other-child : (m : Node) (ds : List Child) (sorted rs : List Reference) (e : Element) (o : Option Node) → ds ≡ below m → rs ≡ sorted
-    → IsInOrder ds (referred sorted) → o ≡ child_at e (referred rs) → child_at e (below m) ≡ o
-other-child m ds sorted rs e o own lent h found = sym (found ∙ (order-below m ds sorted rs own lent h).same e)

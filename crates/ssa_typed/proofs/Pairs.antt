@@ -195,4 +195,4 @@ overlaid-all cs ds xs i same done h =
 pub overlaid-order : (cs ds xs : List Child) → elements cs ≡ elements ds → rises (elements ds) ≡ true → AreOver cs ds xs → AreOverInOrder cs ds xs
 overlaid-order cs ds xs same rise h =
     let own = h.elements_are ∙ joined-alike (elements cs) (elements ds) same ∙ same in
-    record { merged = xs; over = h; order = record { rise = ap rises own ∙ rise; same = λ e. refl } }
+    record { rise = ap rises own ∙ rise; contents = h.contents; trees = h.trees }

@@ -216,18 +216,3 @@ Reference = Bor (Elem × Node)
 -- the element of a child that is lent
 abbrev pub element_of : Reference → Element
 element_of r = element_view r.now.0
-
--- ---- children themselves
-
--- the element of a child
-abbrev pub own_element : Elem × Node → Element
-own_element c = element_view c.0
-
-themselves : (cs : List (Elem × Node)) → map (λ c. c) cs ≡ cs
-themselves [] = refl
-themselves (c ∷ cs) = ap (λ ds. c ∷ ds) (themselves cs)
-
--- what a stable sort of the children leaves
-pub sorted-own : (cs ds : List (Elem × Node)) → are_apart (elements cs) ≡ true → IsStableBy (before own_element) cs ds → IsSortedBy (before own_element) ds
-    → IsInOrder cs ds
-sorted-own cs ds apart stable up = subst (IsInOrder cs) (themselves ds) (sorted-entries (λ (c : Elem × Node). c) cs cs ds (themselves cs) apart stable up)

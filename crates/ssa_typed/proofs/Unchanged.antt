@@ -1,5 +1,5 @@
 -- Trees of which nothing is told.
-use Rattle.std.proofs.Common.{◌≡◌, List, [], ◌∷◌, Bool, true, false, not, ◌&&◌, Option, Some, None, refl, sym, ap, ◌∙◌}
+use Rattle.std.proofs.Common.{◌≡◌, inr, List, [], ◌∷◌, Bool, true, false, not, ◌&&◌, Option, Some, None, refl, sym, ap, ◌∙◌}
 use Rattle.std.specs.Prelude.{is_some}
 use Rattle.ssa_model.specs.definitions.Path.{Element, Path}
 use Rattle.ssa_model.specs.definitions.PathMap.{empty, get, has, paths as set_paths}
@@ -12,10 +12,11 @@ use Rattle.ssa_path.specs.declared.element.Elem.{Elem}
 use Rattle.ssa_path.specs.declared.trie.Trie.{Trie}
 use Rattle.ssa_path.specs.Trie.{is_one_of}
 use Rattle.ssa_path.proofs.Orders.{none_first}
-use Rattle.ssa_typed.specs.Differences.{Difference, Added, Modified, Removed, differs, differs_here, AreUnchanged, IsDiffering, IsUntold}
+use Rattle.ssa_typed.specs.Differences.{Difference, Added, Modified, Removed, differs, differs_at, differs_here, AreToldBoth, AreUnchanged, IsDiffering, IsUntold}
 use Rattle.ssa_typed.specs.Points.{content_in, point_in}
 use Rattle.ssa_typed.specs.Rows.{rows, below, content_at, is_tree}
 use Rattle.ssa_typed.specs.Same.{AreSame}
+use Rattle.ssa_typed.specs.declared.compare.PartsBelow.{PartsBelow}
 use Rattle.ssa_typed.specs.declared.node.Node.{Node}
 use Rattle.ssa_typed.proofs.Differing.{difference_of}
 use Rattle.ssa_typed.proofs.Lookups.{content-level, content-root}
@@ -78,6 +79,19 @@ module _ (n m : Node) (before : is_tree n ≡ true) (after : is_tree m ≡ true)
     tries = refl;
   }
   nothing-below what (t ∷ ts) none = cc
+
+  -- nothing is told at any path
+  pub nothing-told : (what : Difference) (p : Path) → differs_at what n m p ≡ false
+  nothing-told what [] = sym (nothing-here what)
+  nothing-told what (e ∷ p) = sym ((nothing-below what [] refl).paths_are e p)
+
+  -- so nothing comes of a child that is unchanged
+  pub nothing-grown : (f : Elem) (told : PartsBelow) → AreToldBoth (f, n) m told told
+  nothing-grown f told = record {
+    added_told = inr (nothing-told Added, refl);
+    modified_told = inr (nothing-told Modified, refl);
+    removed_told = inr (nothing-told Removed, refl);
+  }
 
 -- ---- a body beside itself
 

@@ -1,5 +1,5 @@
 -- What one body has otherwise than another that comes before it, told by their trees.
-use Rattle.std.specs.Prelude.{◌≡◌, List, [], ◌∷◌, Bool, true, false, ◌&&◌, not, is_some, Option, Some, None}
+use Rattle.std.specs.Prelude.{◌≡◌, ◌⊎◌, List, [], ◌∷◌, Bool, true, false, ◌&&◌, not, is_some, Option, Some, None}
 use Rattle.ssa_model.specs.definitions.Path.{Element, Path}
 use Rattle.ssa_model.specs.definitions.Body.{Body, Content, is_other_leaf, added, modified, removed}
 use Rattle.ssa_path.specs.Children.{child_at, elements, rises}
@@ -79,6 +79,16 @@ pub record AreDifferences (before after : Node) (v : Parts) : Type 0 where
   pub added_trie : IsDifference Added before after v.added
   pub modified_trie : IsDifference Modified before after v.modified
   pub removed_trie : IsDifference Removed before after v.removed
+
+-- one more child, with what is told of one that both trees have, where that is some path; or none, where nothing is told
+abbrev pub IsToldBoth : Difference → Elem × Node → Node → List (Elem × Trie) → List (Elem × Trie) → Type 0
+IsToldBoth what c after old new = ((t : Trie) × IsDifference what c.1 after t × IsGrown (element_view c.0) t old new)
+    ⊎ (((p : Path) → differs_at what c.1 after p ≡ false) × (new ≡ old))
+
+pub record AreToldBoth (c : Elem × Node) (after : Node) (old new : PartsBelow) : Type 0 where
+  pub added_told : IsToldBoth Added c after old.added.items new.added.items
+  pub modified_told : IsToldBoth Modified c after old.modified.items new.modified.items
+  pub removed_told : IsToldBoth Removed c after old.removed.items new.removed.items
 
 -- ---- trees of which nothing is told
 

@@ -9,6 +9,7 @@ pub mod Lacking
 pub mod Look
 pub mod MergedOrder
 pub mod Nodes
+pub mod Ordered
 pub mod Over
 pub mod Points
 pub mod Reached

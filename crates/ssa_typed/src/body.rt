@@ -129,7 +129,7 @@ impl Body {
     /// Whether the set has the points of the body and nothing else, so that it serves in place of
     /// [`points`](Body::points). Of a set of which it answers `false` nothing is promised.
     ///
-    /// No element is copied: memory is taken for references to the children of a place alone, and
+    /// No element is copied: memory is taken for references to the items of a list alone, and
     /// none where the set has another number of children there.
     pub fn has_points(&self, alloc: Global, set: &FieldSet) -> Result<bool, AllocError>
         ensures { IfOk result (λ b. b ≡ true → set.now ≡ points self.now) }

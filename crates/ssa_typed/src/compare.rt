@@ -3,12 +3,16 @@ ghost use Rattle.std.specs.Prelude.{◌≡◌, ◌&&◌, true, drop, Some, IfOk,
 ghost use Rattle.ssa_model.specs.definitions.Body.{Body, is_other_leaf};
 ghost use Rattle.ssa_model.specs.definitions.PathMap.{is_empty};
 ghost use Rattle.ssa_path.specs.Children.{heads_order};
-ghost use Rattle.ssa_typed.specs.Differences.{AreDifferences, AreDiffering, IsComparison, IsToldAlone, TellsNothing};
-ghost use Rattle.ssa_typed.specs.InOrder.{referred};
+ghost use Rattle.ssa_path.specs.Combine.{IsGrown};
+ghost use Rattle.ssa_path.specs.Trie.{is_trie};
+ghost use Rattle.ssa_path.specs.View.{element_view};
+ghost use Rattle.ssa_typed.specs.Differences.{AreDifferences, AreDiffering, AreToldBoth, IsComparison, IsToldAlone, TellsNothing};
+ghost use Rattle.ssa_typed.specs.Ordered.{lent_children};
 ghost use Rattle.ssa_typed.specs.Rows.{is_tree, leaf_content, own_content};
+ghost use Rattle.ssa_typed.specs.Same.{AreSame};
 
-use crate::in_order::in_order;
 use crate::node::{Leaf, Node};
+use crate::ordered::Ordered;
 use crate::points::{Collected, collect_child};
 use ssa_path::combine::push_filled;
 use ssa_path::element::Elem;
@@ -94,6 +98,19 @@ impl Node {
             (Node::List(_), _) => false,
         }
     }
+
+    // Whether both trees are one, asked of no records: their fields are compared one by one anyway.
+    // Leaves, the items of a list and the entries of a Dict are mostly unchanged.
+    fn is_plainly_same(&self, after: &Node) -> bool
+        requires before { is_tree self.now ≡ true }
+        requires after { is_tree after.now ≡ true }
+        ensures { result ≡ true → AreSame self.now after.now }
+    {
+        match after {
+            Node::Branch(_) => false,
+            _ => self.is_same(after),
+        }
+    }
 }
 
 // What is told of trees that are unchanged.
@@ -118,12 +135,12 @@ fn no_parts(alloc: Global) -> Parts
 }
 
 // How the next children compare: where one list has no more, the other's is first.
-fn order_at(own: &[&(Elem, Node)], i: usize, others: &[&(Elem, Node)], j: usize) -> Option<Ordering>
-    ensures { result ≡ heads_order (drop i (referred own.now)) (drop j (referred others.now)) }
+fn order_at(own: &Ordered, i: usize, others: &Ordered, j: usize) -> Option<Ordering>
+    ensures { result ≡ heads_order (drop i (lent_children own.now)) (drop j (lent_children others.now)) }
 {
     if i < own.len() {
         if j < others.len() {
-            Some(own[i].0.order(&others[j].0))
+            Some(own.at(i).0.order(&others.at(j).0))
         } else {
             Some(Ordering::Less)
         }
@@ -150,6 +167,45 @@ fn push_alone(
     Ok(())
 }
 
+// Adds what is told of a child behind the others, where it is some path. Mostly it is none, and
+// nothing is called.
+fn push_told(
+    alloc: Global,
+    told: &mut Vec<(Elem, Trie)>,
+    element: &Elem,
+    trie: Trie,
+) -> Result<(), AllocError>
+    requires { is_trie trie ≡ true }
+    ensures { OnOk result (IsGrown (element_view element.now) trie told.old.items told.new.items) }
+{
+    if trie.has_paths() {
+        push_filled(alloc, told, element, trie)?;
+    }
+    Ok(())
+}
+
+// Adds what differs in a child that both trees have.
+#[cycle(differing)]
+fn push_differing(
+    alloc: Global,
+    told: &mut PartsBelow,
+    child: &(Elem, Node),
+    after: &Node,
+) -> Result<(), AllocError>
+    requires before { is_tree child.now.1 ≡ true }
+    requires after { is_tree after.now ≡ true }
+    ensures { OnOk result (AreToldBoth child.now after.now told.old told.new) }
+{
+    if child.1.is_plainly_same(after) {
+        return Ok(());
+    }
+    let parts = differing_parts(alloc, &child.1, after)?;
+    push_told(alloc, &mut told.added, &child.0, parts.added)?;
+    push_told(alloc, &mut told.modified, &child.0, parts.modified)?;
+    push_told(alloc, &mut told.removed, &child.0, parts.removed)?;
+    Ok(())
+}
+
 // What differs below two nodes.
 #[cycle(differing)]
 fn differing_below(alloc: Global, before: &Node, after: &Node) -> Result<PartsBelow, AllocError>
@@ -157,53 +213,48 @@ fn differing_below(alloc: Global, before: &Node, after: &Node) -> Result<PartsBe
     requires after { is_tree after.now ≡ true }
     ensures { IfOk result (λ v. AreDiffering before.now after.now v) }
 {
-    let own = in_order(alloc, before.children())?;
-    let others = in_order(alloc, after.children())?;
+    let own = &before.ordered(alloc)?;
+    let others = &after.ordered(alloc)?;
     let in_dict = after.is_dict();
-    let mut added = Vec::new(alloc);
-    let mut modified = Vec::new(alloc);
-    let mut removed = Vec::new(alloc);
     let (mut i, mut j) = (0, 0);
-    while let Some(order) = order_at(&own, i, &others, j) {
+    let mut told = PartsBelow {
+        added: Vec::new(alloc),
+        modified: Vec::new(alloc),
+        removed: Vec::new(alloc),
+    };
+    while let Some(order) = order_at(own, i, others, j) {
         match order {
             Ordering::Less => {
-                push_alone(alloc, &mut removed, own[i], in_dict, Collected::All)?;
+                push_alone(alloc, &mut told.removed, own.at(i), in_dict, Collected::All)?;
                 i += 1;
             }
             Ordering::Greater => {
-                push_alone(alloc, &mut added, others[j], in_dict, Collected::Points)?;
+                push_alone(
+                    alloc,
+                    &mut told.added,
+                    others.at(j),
+                    in_dict,
+                    Collected::Points,
+                )?;
                 j += 1;
             }
             Ordering::Equal => {
-                let mine = own[i];
-                let child = differing(alloc, &mine.1, &others[j].1)?;
-                push_filled(alloc, &mut added, &mine.0, child.added)?;
-                push_filled(alloc, &mut modified, &mine.0, child.modified)?;
-                push_filled(alloc, &mut removed, &mine.0, child.removed)?;
+                push_differing(alloc, &mut told, own.at(i), &others.at(j).1)?;
                 i += 1;
                 j += 1;
             }
         }
     }
-    Ok(PartsBelow {
-        added,
-        modified,
-        removed,
-    })
+    Ok(told)
 }
 
-// What differs between two trees, found by one walk over both. The items of a list and the entries
-// of a Dict are mostly unchanged, and then need not be put in order.
+// What differs between two trees, found by one walk over both.
 #[cycle(differing)]
-pub(crate) fn differing(alloc: Global, before: &Node, after: &Node) -> Result<Parts, AllocError>
+fn differing_parts(alloc: Global, before: &Node, after: &Node) -> Result<Parts, AllocError>
     requires before { is_tree before.now ≡ true }
     requires after { is_tree after.now ≡ true }
     ensures { IfOk result (λ v. AreDifferences before.now after.now v) }
 {
-    let is_record = matches!(after, Node::Branch(_));
-    if !is_record && before.is_same(after) {
-        return Ok(no_parts(alloc));
-    }
     let below = differing_below(alloc, before, after)?;
     let here = before.is_other_leaf(after);
     Ok(Parts {
@@ -220,4 +271,17 @@ pub(crate) fn differing(alloc: Global, before: &Node, after: &Node) -> Result<Pa
             below: below.removed,
         },
     })
+}
+
+// What differs between two trees.
+pub(crate) fn differing(alloc: Global, before: &Node, after: &Node) -> Result<Parts, AllocError>
+    requires before { is_tree before.now ≡ true }
+    requires after { is_tree after.now ≡ true }
+    ensures { IfOk result (λ v. AreDifferences before.now after.now v) }
+{
+    if before.is_plainly_same(after) {
+        return Ok(no_parts(alloc));
+    }
+    let parts = differing_parts(alloc, before, after)?;
+    Ok(parts)
 }

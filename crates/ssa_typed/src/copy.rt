@@ -47,7 +47,7 @@ fn copied_children(
 ) -> Result<Vec<(Elem, Node)>, AllocError>
     ensures { IfOk result (λ v. kept_below v.items ≡ kept_below children.now.items) }
 {
-    let mut copies = Vec::new(alloc);
+    let mut copies = Vec::with_capacity(alloc, children.len())?;
     for child in children {
         let element = child.0.copy(alloc)?;
         let node = copied(alloc, &child.1)?;

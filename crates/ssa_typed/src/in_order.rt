@@ -1,5 +1,5 @@
 //! The children of a place in the order of their elements.
-ghost use Rattle.std.specs.Prelude.{◌≡◌, true, IfOk, OnOk};
+ghost use Rattle.std.specs.Prelude.{◌≡◌, true, IfOk};
 ghost use Rattle.std.specs.Option.{option_copied};
 ghost use Rattle.ssa_path.specs.Children.{child_at, elements, rises};
 ghost use Rattle.ssa_path.specs.View.{element_view};
@@ -90,13 +90,4 @@ pub fn stand_alike(own: &[(Elem, Node)], others: &[(Elem, Node)]) -> bool
         }
     }
     true
-}
-
-// Puts the children of a record or a Dict in the order of their elements.
-pub(crate) fn sort_children(children: &mut Vec<(Elem, Node)>) -> Result<(), AllocError>
-    requires { are_apart (elements children.old.items) ≡ true }
-    ensures { OnOk result (IsInOrder children.old.items children.new.items) }
-{
-    children.sort_by(|child, next| child.0.order(&next.0))?;
-    Ok(())
 }

@@ -4,7 +4,6 @@ ghost use Rattle.ssa_typed.specs.Points.{IsCollected, IsPointTrie};
 ghost use Rattle.ssa_typed.specs.Rows.{is_tree};
 ghost use Rattle.ssa_typed.specs.declared.points.Collected.TheVariants.{Points};
 
-use crate::in_order::in_order;
 use crate::node::Node;
 use crate::points::Collected;
 use ssa_path::element::Elem;
@@ -20,14 +19,14 @@ fn are_points_below(alloc: Global, node: &Node, held: &[(Elem, Trie)]) -> Result
     if node.children().len() != held.len() {
         return Ok(false);
     }
-    // As many are put in order, which the contract of `in_order` does not tell.
-    let children = in_order(alloc, node.children())?;
+    // As many are put in order, which the contract of `ordered` does not tell.
+    let children = &node.ordered(alloc)?;
     if children.len() != held.len() {
         return Ok(false);
     }
     let in_dict = node.is_dict();
     for (i, (element, trie)) in held.iter().enumerate() {
-        let child = children[i];
+        let child = children.at(i);
         let here = Collected::Points.has_place(child, in_dict);
         if !child.0.is_same(element) || trie.here != here {
             return Ok(false);
@@ -43,7 +42,7 @@ impl Node {
     /// Whether the set has the points of the tree and nothing else, as [`points`](Node::points) would
     /// give them. Of a set of which it answers `false` nothing is promised.
     ///
-    /// No element is copied: memory is taken for references to the children of a place alone, and
+    /// No element is copied: memory is taken for references to the items of a list alone, and
     /// none where the set has another number of children there.
     pub fn has_points(&self, alloc: Global, set: &Trie) -> Result<bool, AllocError>
         requires { is_tree self.now ≡ true }

@@ -5,7 +5,6 @@ ghost use Rattle.ssa_path.specs.Trie.{are_filled_tries, is_trie};
 ghost use Rattle.ssa_typed.specs.Lacking.{AreLacking, IsLacking};
 ghost use Rattle.ssa_typed.specs.Rows.{is_tree};
 
-use crate::in_order::{find_in_order, in_order};
 use crate::node::Node;
 use ssa_path::combine::push_filled;
 use ssa_path::element::Elem;
@@ -24,10 +23,10 @@ fn lacking_below(
     requires tries { are_filled_tries set.now ≡ true }
     ensures { IfOk result (λ v. AreLacking node.now set.now v.items) }
 {
-    let own = in_order(alloc, node.children())?;
+    let own = &node.ordered(alloc)?;
     let mut lacking = Vec::new(alloc);
     for part in set {
-        match find_in_order(&own, &part.0) {
+        match own.find(&part.0) {
             Some(child) => {
                 let trie = lacking_paths(alloc, child, &part.1)?;
                 push_filled(alloc, &mut lacking, &part.0, trie)?;

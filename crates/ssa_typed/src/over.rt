@@ -1,16 +1,19 @@
 //! A configuration put over a live tree, in the configuration's own memory. Each function tells whether what then
 //! stands there is the live tree; of `false` nothing is promised.
-ghost use Rattle.std.specs.Prelude.{◌≡◌, true, IfOk, OnOk};
-ghost use Rattle.ssa_path.specs.Children.{elements, rises};
+ghost use Rattle.std.specs.Prelude.{◌≡◌, drop, true, IfOk, OnOk};
+ghost use Rattle.ssa_path.specs.Children.{elements, heads_order, rises};
+ghost use Rattle.ssa_typed.specs.Copies.{AddsCopy};
 ghost use Rattle.ssa_typed.specs.Over.{AreAlikeBelow, AreAlikeTrees, AreOver, AreOverInOrder, IsOver};
 ghost use Rattle.ssa_typed.specs.Rows.{are_apart, are_trees, is_tree};
 ghost use Rattle.ssa_typed.specs.Same.{AreSame, AreSameChildren, HaveSame};
 
-use crate::in_order::{sort_children, stand_alike};
+use crate::in_order::stand_alike;
 use crate::merged_order::sorted_out;
 use crate::node::Node;
 use ssa_path::element::Elem;
 use std::alloc::{AllocError, Global};
+use std::cmp::Ordering;
+use std::collections::VecDeque;
 use std::mem;
 
 // The configuration's children over live children of the same elements in the same order, each at
@@ -35,6 +38,21 @@ fn over_alike(
         same &= over_node(alloc, &child.1, &mut own.1)?;
     }
     Ok(same)
+}
+
+// Adds a live child that the configuration lacks behind the merged ones.
+#[inline(always)]
+fn push_copy(
+    alloc: Global,
+    merged: &mut Vec<(Elem, Node)>,
+    child: &(Elem, Node),
+) -> Result<(), AllocError>
+    ensures { OnOk result (AddsCopy child.now merged.old.items merged.new.items) }
+{
+    let element = child.0.copy(alloc)?;
+    let node = child.1.copy(alloc)?;
+    merged.push((element, node))?;
+    Ok(())
 }
 
 // The live children in their order, each with the configuration's child of its element over it, and
@@ -66,11 +84,7 @@ fn over_found(
                 same &= over_node(alloc, &child.1, &mut node)?;
                 merged.push((element, node))?;
             }
-            None => {
-                let element = child.0.copy(alloc)?;
-                let node = child.1.copy(alloc)?;
-                merged.push((element, node))?;
-            }
+            None => push_copy(alloc, &mut merged, child)?,
         }
     }
     merged.append(&mut new)?;
@@ -100,6 +114,65 @@ fn over_items(
     over_found(alloc, live, config)
 }
 
+// How the next children compare: where the live ones have no more, the configuration's is first.
+fn order_beside(
+    live: &[(Elem, Node)],
+    i: usize,
+    config: &VecDeque<(Elem, Node)>,
+) -> Option<Ordering>
+    ensures { result ≡ heads_order (drop i live.now) config.now.items }
+{
+    match config.front() {
+        Some(own) if i < live.len() => Some(live[i].0.order(&own.0)),
+        Some(_) => Some(Ordering::Greater),
+        None if i < live.len() => Some(Ordering::Less),
+        None => None,
+    }
+}
+
+// The children of both in the order of their elements, found by one walk over both, which rise. What
+// the configuration has is moved, over the live child of its element, and what it lacks is copied.
+#[cycle(over)]
+fn over_beside(
+    alloc: Global,
+    live: &[(Elem, Node)],
+    config: &mut Vec<(Elem, Node)>,
+) -> Result<bool, AllocError>
+    requires live { are_trees live.now ≡ true }
+    requires config { are_trees config.old.items ≡ true }
+    requires live_rise { rises (elements live.now) ≡ true }
+    requires rise { rises (elements config.old.items) ≡ true }
+    requires alike { AreAlikeBelow live.now config.old.items }
+    ensures over { OnOk result (AreOverInOrder live.now config.old.items config.new.items) }
+    ensures same { IfOk result (λ same. same ≡ true → HaveSame live.now config.new.items) }
+{
+    let mut merged = Vec::with_capacity(alloc, live.len().max(config.len()))?;
+    let mut left = VecDeque::from(mem::replace(config, Vec::new(alloc)));
+    let mut same = true;
+    let mut i = 0;
+    while let Some(order) = order_beside(live, i, &left) {
+        match order {
+            Ordering::Less => {
+                push_copy(alloc, &mut merged, &live[i])?;
+                i += 1;
+            }
+            Ordering::Greater => {
+                let new = left.pop_front().unwrap();
+                merged.push(new)?;
+                same = false;
+            }
+            Ordering::Equal => {
+                let (element, mut node) = left.pop_front().unwrap();
+                same &= over_node(alloc, &live[i].1, &mut node)?;
+                merged.push((element, node))?;
+                i += 1;
+            }
+        }
+    }
+    *config = merged;
+    Ok(same)
+}
+
 // The fields of a record or the entries of a Dict over the live ones, in the order of their elements.
 #[cycle(over)]
 fn over_fields(
@@ -109,7 +182,7 @@ fn over_fields(
 ) -> Result<bool, AllocError>
     requires live { are_trees live.now ≡ true }
     requires config { are_trees config.old.items ≡ true }
-    requires apart { are_apart (elements live.now) ≡ true }
+    requires live_rise { rises (elements live.now) ≡ true }
     requires rise { rises (elements config.old.items) ≡ true }
     requires alike { AreAlikeBelow live.now config.old.items }
     ensures over { OnOk result (AreOverInOrder live.now config.old.items config.new.items) }
@@ -118,9 +191,7 @@ fn over_fields(
     if stand_alike(live, config) {
         return over_alike(alloc, live, config);
     }
-    let same = over_found(alloc, live, config)?;
-    sort_children(config)?;
-    Ok(same)
+    over_beside(alloc, live, config)
 }
 
 // Puts the configuration's tree over the live one: its content at each place that it has, else the

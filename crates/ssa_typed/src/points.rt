@@ -4,7 +4,6 @@ ghost use Rattle.ssa_path.specs.View.{element_view};
 ghost use Rattle.ssa_typed.specs.Points.{collects, ends_here, IsChildTrie, IsCollected, IsPointTrie};
 ghost use Rattle.ssa_typed.specs.Rows.{is_tree};
 
-use crate::in_order::in_order;
 use crate::node::Node;
 use ssa_path::combine::push_filled;
 use ssa_path::element::Elem;
@@ -43,10 +42,11 @@ fn collect_below(
     requires { is_tree node.now ≡ true }
     ensures { IfOk result (λ v. IsCollected what node.now v.items) }
 {
-    let children = in_order(alloc, node.children())?;
+    let children = &node.ordered(alloc)?;
     let in_dict = node.is_dict();
     let mut collected = Vec::with_capacity(alloc, children.len())?;
-    for child in &children {
+    for i in 0..children.len() {
+        let child = children.at(i);
         let below = collect_below(alloc, &child.1, what)?;
         let here = what.has_place(child, in_dict);
         push_filled(alloc, &mut collected, &child.0, Trie { here, below })?;

@@ -1,18 +1,21 @@
 use Rattle.std.proofs.Common.{◌+◌, ◌*◌, ◌-◌, length, drop}
-use Rattle.ssa_typed.specs.InOrder.{referred}
+use Rattle.ssa_typed.specs.Ordered.{lent_children}
 use Rattle.ssa_typed.specs.Rows.{rows}
 use Rattle.ssa_typed.proofs.Differing.{AreComparing}
 use Rattle.ssa_typed.proofs.compare.+differing.Given as goal
 
-abbrev pub decreases-differing : goal.decreases-differing
-decreases-differing l = 2 * length (rows l.before.now) + 1
+abbrev pub decreases-push_differing : goal.decreases-push_differing
+decreases-push_differing l = 3 * length (rows l.child.now.1) + 2
+
+abbrev pub decreases-differing_parts : goal.decreases-differing_parts
+decreases-differing_parts l = 3 * length (rows l.before.now) + 1
 
 abbrev pub decreases-differing_below : goal.decreases-differing_below
-decreases-differing_below l = 2 * length (rows l.before.now)
+decreases-differing_below l = 3 * length (rows l.before.now)
 
 abbrev pub invariant-differing_below-loop-order : goal.invariant-differing_below-loop-order
-invariant-differing_below-loop-order l = AreComparing l.in_dict l.own.items l.others.items (drop l.i (referred l.own.items))
-    (drop l.j (referred l.others.items)) l.added.items l.modified.items l.removed.items
+invariant-differing_below-loop-order l =
+    AreComparing l.in_dict (lent_children l.own) (lent_children l.others) (drop l.i (lent_children l.own)) (drop l.j (lent_children l.others)) l.told
 
 abbrev pub decreases-differing_below-loop-order : goal.decreases-differing_below-loop-order
-decreases-differing_below-loop-order l = (length l.own.items - l.i) + (length l.others.items - l.j)
+decreases-differing_below-loop-order l = (length (lent_children l.own) - l.i) + (length (lent_children l.others) - l.j)

@@ -1,4 +1,4 @@
-use Rattle.std.proofs.Common.{◌+◌, ◌*◌, ◌<◌, [], Some, None, length, drop, refl, arith, rules}
+use Rattle.std.proofs.Common.{◌+◌, ◌*◌, ◌<◌, ◌∙◌, [], length, drop, refl, sym, arith, rules}
 use Rattle.std.proofs.lemmas.List.{drop_all}
 use Rattle.ssa_path.specs.View.{element_view}
 use Rattle.ssa_path.proofs.Levels.{trie-parts}
@@ -6,7 +6,6 @@ use Rattle.ssa_typed.specs.Rows.{rows}
 use Rattle.ssa_typed.proofs.LackingPaths.{lacks, part-there, part-nowhere, lacking-more, lacking-all, lacking-place}
 use Rattle.ssa_typed.proofs.Lookups.{tree-child}
 use Rattle.ssa_typed.proofs.Making.{making-none}
-use Rattle.ssa_typed.proofs.Overlaying.{other-child}
 use Rattle.ssa_typed.proofs.Sizes.{smaller}
 use Rattle.ssa_typed.proofs.lacking.+lacking.Goals.{lacking_below-in-Some+in_ok-trie-in-Some+in_ok-push_filled-in-Some, lacking_below-in-None+in_ok-trie-in-None+in_ok-push_filled-in-None}
 use Rattle.ssa_typed.proofs.lacking.+lacking.Goals as goal
@@ -20,8 +19,7 @@ lacking_below-lacking_paths-requires t c =
     let n = c.args.node.now in
     let part = c.part-item.result in
     let e = element_view part.0 in
-    let there = other-child n c.children.result.now c.in_ok-own.own.items c.deref.result.now e (Some c.in-Some.child.now) c.children.ensures.own
-    c.deref.ensures.value c.in_ok-own.ensures c.in-Some.ensures in
+    let there = sym (c.in-Some.ensures ∙ c.in_ok-own.ensures.same e) in
     let small = smaller n e c.in-Some.child.now there in
     let falls : 2 * length (rows c.in-Some.child.now) + 1 < 2 * length (rows n) = omega arith in (
       search (rules, falls),
@@ -36,8 +34,7 @@ lacking_below-push_filled-requires-in-None t c =
     let n = c.args.node.now in
     let part = c.part-item.result in
     let e = element_view part.0 in
-    let none = other-child n c.children.result.now c.in_ok-own.own.items c.deref.result.now e None c.children.ensures.own c.deref.ensures.value
-    c.in_ok-own.ensures c.in-None.ensures in
+    let none = sym (c.in-None.ensures ∙ c.in_ok-own.ensures.same e) in
     let trie = trie-at c.args.set.now c.loop-part.part-index part (omega arith) c.part-item.is c.requires.tries in
     (part-nowhere n part c.in_ok-trie-in-None.trie none trie c.in_ok-trie-in-None.ensures).trie
 
@@ -50,16 +47,14 @@ lacking_below-loop-part-preserved t c =
     let i = c.loop-part.part-index in
     let lt : i < length ts = omega arith in
     let out = c.loop-part.lacking.items in
-    elim c.match-find_in_order.branch [
+    elim c.match-find.branch [
       | lacking_below-in-Some+in_ok-trie-in-Some+in_ok-push_filled-in-Some w ↦
-          let there = other-child n c.children.result.now c.in_ok-own.own.items c.deref.result.now e (Some w.in-Some.child.now) c.children.ensures.own
-          c.deref.ensures.value c.in_ok-own.ensures w.in-Some.ensures in
+          let there = sym (w.in-Some.ensures ∙ c.in_ok-own.ensures.same e) in
           let trie = w.in_ok-trie-in-Some.trie in
           rw w.lacking-is (lacking-more n ts i part out w.push_filled.new.children.items trie lt c.part-item.is
           (part-there n w.in-Some.child.now part trie there w.in_ok-trie-in-Some.ensures) w.in_ok-push_filled-in-Some.ensures.ok c.loop-part.invariant)
       | lacking_below-in-None+in_ok-trie-in-None+in_ok-push_filled-in-None w ↦
-          let none = other-child n c.children.result.now c.in_ok-own.own.items c.deref.result.now e None c.children.ensures.own c.deref.ensures.value
-          c.in_ok-own.ensures w.in-None.ensures in
+          let none = sym (w.in-None.ensures ∙ c.in_ok-own.ensures.same e) in
           let trie = w.in_ok-trie-in-None.trie in
           let is_trie = trie-at ts i part lt c.part-item.is c.requires.tries in
           rw w.lacking-is (lacking-more n ts i part out w.push_filled-in-None.new.children.items trie lt c.part-item.is

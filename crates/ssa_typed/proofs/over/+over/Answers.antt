@@ -1,7 +1,10 @@
+use Rattle.std.specs.Option.{option_to_list}
 use Rattle.std.specs.Prelude.{filter}
-use Rattle.std.proofs.Common.{◌<◌, ◌+◌, ◌*◌, length, refl, set, sym, ap, ◌∙◌, arith, rules}
-use Rattle.ssa_path.specs.Children.{elements}
+use Rattle.std.proofs.Common.{◌≡◌, ◌<◌, ◌+◌, ◌*◌, ◌++◌, length, drop, get_or, Some, Less, Equal, Greater, refl, set, sym, ap, subst, subst₂, ◌∙◌, true≢false, arith, rules}
+use Rattle.ssa_path.specs.Children.{elements, heads_order}
 use Rattle.ssa_path.specs.View.{element_view}
+use Rattle.ssa_path.proofs.Combining.{both-within, heads-none, own-within}
+use Rattle.ssa_path.proofs.Lists.{left-at}
 use Rattle.ssa_path.proofs.Orders.{both_first, both_second}
 use Rattle.ssa_typed.specs.MergedOrder.{is_new}
 use Rattle.ssa_typed.specs.Rows.{below, leaf_content, rows, rows_below}
@@ -10,13 +13,14 @@ use Rattle.ssa_typed.specs.declared.node.Node.TheVariants
 use Rattle.ssa_typed.proofs.Building.{Child}
 use Rattle.ssa_typed.proofs.Levels.{Children, rises-apart}
 use Rattle.ssa_typed.proofs.Lookups.{child-tree}
-use Rattle.ssa_typed.proofs.OverNodes.{below-Branch, below-Dict, below-List, children-alike, config-apart, config-trees, dict-over, dict-rises, dict-same, leaf-over, leaf-same, list-over, list-same, left-over, left-same, live-smaller, ok-gives, ok-gives-more, order-live, over-live, record-over, record-rises, record-same}
-use Rattle.ssa_typed.proofs.Overlaying.{over-apart}
+use Rattle.ssa_typed.proofs.OverNodes.{below-Branch, below-Dict, below-List, children-alike, config-apart, config-trees, dict-over, dict-rises, dict-same, leaf-over, leaf-same, list-over, list-same, live-entries-rise, live-fields-rise, left-over, left-same, live-smaller, ok-gives, ok-gives-more, order-live, over-live, record-over, record-rises, record-same}
+use Rattle.ssa_typed.proofs.Overlaying.{child-at-index}
 use Rattle.ssa_typed.proofs.Pairs.{each-next, each-put, other-there, overlaid-all, overlaid-more, overlaid-order, own-there, within}
 use Rattle.ssa_typed.proofs.SameTrees.{alike-same, merged-same, same-copy}
+use Rattle.ssa_typed.proofs.SideBySide.{IsOverSoFar, IsSameSoFar, heads-alike, over-both, over-copied, over-end, over-moved, over-start, same-both, same-copied, same-end, same-start}
 use Rattle.ssa_typed.proofs.Sizes.{larger-children}
 use Rattle.ssa_typed.proofs.SortedOut.{config-child, merging-all, merging-copied, merging-own, own-child}
-use Rattle.ssa_typed.proofs.over.+over.Goals.{over_found-in-Some+in_ok-same-in-Some+in_ok-push-in-Some, over_found-in-None+in_ok-element-in-None+in_ok-node-in-None+in_ok-push-in-None}
+use Rattle.ssa_typed.proofs.over.+over.Goals.{over_found-in-Some+in_ok-same-in-Some+in_ok-push-in-Some, over_found-in-None+in_ok-push_copy-in-None}
 use Rattle.ssa_typed.proofs.over.+over.Goals as goal
 
 pub over_alike-index_mut-own-requires : goal.over_alike-index_mut-own-requires
@@ -79,15 +83,102 @@ over_fields-returns-then-stand_alike-clause-over t c =
     ok-gives c.over_alike.result c.over_alike.ensures.over (overlaid-order c.args.live.now c.args.config.now.items c.over_alike.new.config.items same
     c.requires.rise)
 
-pub over_fields-over_found-requires : goal.over_fields-over_found-requires
-over_fields-over_found-requires t c =
-    let apart = rises-apart (elements c.args.config.now.items) c.requires.rise in
-    (search rules, (c.requires.live, (c.requires.config, (c.requires.apart, (apart, c.requires.alike)))))
+pub over_fields-over_alike-requires : goal.over_fields-over_alike-requires
+over_fields-over_alike-requires t c =
+    let apart = rises-apart (elements c.args.live.now) c.requires.live_rise in
+    let same = c.stand_alike.ensures c.if-stand_alike.true ∙ ap elements c.deref.ensures.value in
+    (search rules, (c.requires.live, (c.requires.config, (apart, (c.requires.alike, same)))))
 
-pub over_fields-sort_children-requires : goal.over_fields-sort_children-requires
-over_fields-sort_children-requires t c =
-    over-apart c.args.live.now c.args.config.now.items c.over_found.new.config.items c.requires.apart
-    (rises-apart (elements c.args.config.now.items) c.requires.rise) c.in_ok-same.ensures.over
+pub over_beside-loop-order-init : goal.over_beside-loop-order-init
+over_beside-loop-order-init t c =
+    let cs = c.args.live.now in
+    let ds = c.args.config.now.items in
+    let none = c.in_ok-merged.ensures.items in
+    let lent = c.from-left.ensures.0 ∙ ap (λ (v : Children). v.items) c.replace.ensures.value in (
+      rw (none, lent) (over-start cs ds c.requires.live_rise c.requires.rise c.requires.live c.requires.config c.requires.alike),
+      λ _. rw none (same-start cs),
+    )
+
+pub over_beside-loop-order-preserved-in-Less : goal.over_beside-loop-order-preserved-in-Less
+over_beside-loop-order-preserved-in-Less t c =
+    let cs = c.args.live.now in
+    let i = c.loop-order.i in
+    let ds = c.loop-order.left.items in
+    let child = c.index-live-i.result in
+    let heads = sym c.order_beside.ensures ∙ c.in-Some.is ∙ ap Some c.in-Less.is in
+    let left = left-at cs i child (own-within cs ds i heads) c.index-live-i.is in
+    let so_far = subst (λ l. IsOverSoFar cs c.args.config.now.items l ds c.loop-order.merged.items) left c.loop-order.invariant.0 in
+    let first = subst (λ l. heads_order l ds ≡ Some Less) left heads in
+    let x = c.in_ok-push_copy-in-Less.ensures in (
+      over-copied cs c.args.config.now.items child (drop (i + 1) cs) ds c.loop-order.merged.items c.push_copy.new.merged.items x.0 so_far first x.1 x.2 x.3,
+      λ h. same-copied cs c.args.config.now.items child (drop (i + 1) cs) ds c.loop-order.merged.items c.push_copy.new.merged.items x.0 so_far first x.1 x.2 x.3
+          (subst (λ l. IsSameSoFar cs l c.loop-order.merged.items) left (c.loop-order.invariant.1 h)),
+    )
+
+pub over_beside-loop-order-preserved-in-Greater : goal.over_beside-loop-order-preserved-in-Greater
+over_beside-loop-order-preserved-in-Greater t c =
+    let cs = c.args.live.now in
+    let new = c.pop_front.new.self.items in
+    let heads = sym c.order_beside.ensures ∙ c.in-Some.is ∙ ap Some c.in-Greater.is in
+    let first = c.pop_front.ensures.items ∙ ap (λ o. option_to_list o ++ new) c.unwrap-new.ensures in (
+      over-moved cs c.args.config.now.items (drop c.loop-order.i cs) c.unwrap-new.result new c.loop-order.merged.items c.push.new.self.items
+          (subst (λ l. heads_order (drop c.loop-order.i cs) l ≡ Some Greater) first heads) c.in_ok-push-in-Greater.ensures.items
+          (subst (λ l. IsOverSoFar cs c.args.config.now.items (drop c.loop-order.i cs) l c.loop-order.merged.items) first c.loop-order.invariant.0),
+      λ h. absurd (true≢false (sym h)),
+    )
+
+pub over_beside-over_node-requires : goal.over_beside-over_node-requires
+over_beside-over_node-requires t c =
+    let cs = c.args.live.now in
+    let i = c.loop-order.i in
+    let child = get_or cs i c.index-live-i-in-Equal.result in
+    let d = c.unwrap-element.result in
+    let new = c.pop_front-in-Equal.new.self.items in
+    let heads = sym c.order_beside.ensures ∙ c.in-Some.is ∙ ap Some c.in-Equal.is in
+    let lt = (both-within cs c.loop-order.left.items i 0 heads).0 in
+    let is = ap (get_or cs i) c.index-live-i-in-Equal.is in
+    let left = left-at cs i child lt is in
+    let first = c.pop_front-in-Equal.ensures.items ∙ ap (λ o. option_to_list o ++ new) c.unwrap-element.ensures in
+    let alike = heads-alike cs c.args.config.now.items child d (drop (i + 1) cs) new c.loop-order.merged.items
+    (subst₂ (λ k l. IsOverSoFar cs c.args.config.now.items k l c.loop-order.merged.items) left first c.loop-order.invariant.0)
+    (subst₂ (λ k l. heads_order k l ≡ Some Equal) left first heads) in
+    let own = child-at-index cs i child lt is (rises-apart (elements cs) c.requires.live_rise) in
+    let part = larger-children (element_view child.0) cs child.1 own in
+    let small : 4 * length (rows child.1) < 4 * length (rows_below cs) + 1 = omega arith in
+    (search (rules, small), (alike.0, (alike.1, alike.2)))
+
+pub over_beside-loop-order-preserved : goal.over_beside-loop-order-preserved
+over_beside-loop-order-preserved t c =
+    let cs = c.args.live.now in
+    let i = c.loop-order.i in
+    let child = get_or cs i c.index-live-i-in-Equal.result in
+    let d = c.unwrap-element.result in
+    let new = c.pop_front-in-Equal.new.self.items in
+    let heads = sym c.order_beside.ensures ∙ c.in-Some.is ∙ ap Some c.in-Equal.is in
+    let lt = (both-within cs c.loop-order.left.items i 0 heads).0 in
+    let is = ap (get_or cs i) c.index-live-i-in-Equal.is in
+    let left = left-at cs i child lt is in
+    let first = c.pop_front-in-Equal.ensures.items ∙ ap (λ o. option_to_list o ++ new) c.unwrap-element.ensures in
+    let so_far = subst₂ (λ k l. IsOverSoFar cs c.args.config.now.items k l c.loop-order.merged.items) left first c.loop-order.invariant.0 in
+    let tied = subst₂ (λ k l. heads_order k l ≡ Some Equal) left first heads in
+    let made = c.in_ok-same-in-Equal.ensures in
+    let pushed = c.in_ok-push-in-Equal.ensures.items in (
+      over-both cs c.args.config.now.items child d (drop (i + 1) cs) new c.loop-order.merged.items so_far tied c.over_node.new.config
+          c.push-in-Equal.new.self.items pushed made.over,
+      λ h. same-both cs c.args.config.now.items child d (drop (i + 1) cs) new c.loop-order.merged.items so_far tied c.over_node.new.config
+          c.push-in-Equal.new.self.items pushed (made.same (both_second c.loop-order.same _ h))
+          (subst (λ l. IsSameSoFar cs l c.loop-order.merged.items) left (c.loop-order.invariant.1 (both_first c.loop-order.same _ h))),
+    )
+
+pub over_beside-returns-clause-over : goal.over_beside-returns-clause-over
+over_beside-returns-clause-over t c =
+    let none = heads-none _ _ (sym c.order_beside.ensures ∙ c.in_default.is) in
+    over-end c.args.live.now c.args.config.now.items _ _ c.loop-order.merged.items none.0 none.1 c.loop-order.invariant.0
+
+pub over_beside-returns-clause-same : goal.over_beside-returns-clause-same
+over_beside-returns-clause-same t c same =
+    let none = heads-none _ _ (sym c.order_beside.ensures ∙ c.in_default.is) in
+    same-end c.args.live.now _ c.loop-order.merged.items none.0 (c.loop-order.invariant.1 same)
 
 pub over_found-over_node-requires : goal.over_found-over_node-requires
 over_found-over_node-requires t c =
@@ -141,18 +232,17 @@ over_found-loop-i-preserved t c =
                       pushed (made.same (both_second c.loop-i.same _ both)) before.1,
                 ),
           )
-      | over_found-in-None+in_ok-element-in-None+in_ok-node-in-None+in_ok-push-in-None w ↦
+      | over_found-in-None+in_ok-push_copy-in-None w ↦
           let own = own-child cs ds slots xs i child o c.requires.apart c.loop-i-test.true c.index-live-i.is merging in
-          let pushed = ap (λ (v : Children). v.items) w.merged-is ∙ w.in_ok-push-in-None.ensures.items in
-          let x : Child = (w.in_ok-element-in-None.element, w.in_ok-node-in-None.node) in
-          let copy = w.in_ok-node-in-None.ensures in (
+          let x = w.in_ok-push_copy-in-None.ensures in
+          let pushed = ap (λ (v : Children). v.items) w.merged-is ∙ x.3 in (
             merging-copied cs ds slots xs i child o c.requires.apart c.loop-i-test.true c.index-live-i.is merging c.index_mut.ensures.value
-                x c.match-own.merged.items _ (sym w.in-None.ensures.value) (child-tree (element_view child.0) cs child.1 c.requires.live own)
-                w.in_ok-element-in-None.ensures copy pushed emptied,
+                x.0 c.match-own.merged.items _ (sym w.in-None.ensures.value) (child-tree (element_view child.0) cs child.1 c.requires.live own)
+                x.1 x.2 pushed emptied,
             λ h.
                 let before = so_far (sym w.same-is ∙ h) in (
                   before.0,
-                  each-next AreSame cs xs c.match-own.merged.items i child x c.loop-i-test.true c.index-live-i.is pushed (same-copy child.1 x.1 copy) before.1,
+                  each-next AreSame cs xs c.match-own.merged.items i child x.0 c.loop-i-test.true c.index-live-i.is pushed (same-copy child.1 x.0.1 x.2) before.1,
                 ),
           )
     ]
@@ -201,7 +291,7 @@ over_node-over_fields-requires t c =
         (
           config-trees n m c.children.result.now _ own under c.requires.live c.requires.config c.requires.alike,
           (
-            c.children.ensures.apart c.requires.live,
+            live-fields-rise n m _ c.children.result.now own c.requires.live c.requires.alike is,
             (
               record-rises _ _ is c.requires.config,
               children-alike n m c.children.result.now _ own under
@@ -235,7 +325,7 @@ over_node-over_fields-requires-in-Dict t c =
         (
           config-trees n m c.children-in-Dict.result.now _ own under c.requires.live c.requires.config c.requires.alike,
           (
-            c.children-in-Dict.ensures.apart c.requires.live,
+            live-entries-rise n m _ c.children-in-Dict.result.now own c.requires.live c.requires.alike is,
             (
               dict-rises _ _ is c.requires.config,
               children-alike n m c.children-in-Dict.result.now _ own

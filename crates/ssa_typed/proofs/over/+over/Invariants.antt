@@ -1,7 +1,8 @@
-use Rattle.std.proofs.Common.{◌≡◌, ◌+◌, ◌*◌, [], length, take, true}
+use Rattle.std.proofs.Common.{◌≡◌, ◌+◌, ◌-◌, ◌*◌, [], drop, length, take, true}
 use Rattle.ssa_typed.specs.Rows.{rows, rows_below}
 use Rattle.ssa_typed.specs.Same.{AreSame}
 use Rattle.ssa_typed.proofs.Pairs.{Each, IsOverlaid}
+use Rattle.ssa_typed.proofs.SideBySide.{IsOverSoFar, IsSameSoFar}
 use Rattle.ssa_typed.proofs.SortedOut.{IsMerging}
 use Rattle.ssa_typed.proofs.over.+over.Given as goal
 
@@ -10,6 +11,9 @@ decreases-over_alike l = 4 * length (rows_below l.live.now) + 1
 
 abbrev pub decreases-over_found : goal.decreases-over_found
 decreases-over_found l = 4 * length (rows_below l.live.now) + 1
+
+abbrev pub decreases-over_beside : goal.decreases-over_beside
+decreases-over_beside l = 4 * length (rows_below l.live.now) + 1
 
 abbrev pub decreases-over_items : goal.decreases-over_items
 decreases-over_items l = 4 * length (rows_below l.live.now) + 2
@@ -29,3 +33,11 @@ abbrev pub invariant-over_found-loop-i : goal.invariant-over_found-loop-i
 invariant-over_found-loop-i l =
     IsMerging l.live l.fn.config.items l.beside.items l.merged.items l.i
     × (l.same ≡ true → (l.new.items ≡ []) × Each AreSame (take l.i l.live) l.merged.items)
+
+abbrev pub invariant-over_beside-loop-order : goal.invariant-over_beside-loop-order
+invariant-over_beside-loop-order l =
+    IsOverSoFar l.live l.fn.config.items (drop l.i l.live) l.left.items l.merged.items
+    × (l.same ≡ true → IsSameSoFar l.live (drop l.i l.live) l.merged.items)
+
+abbrev pub decreases-over_beside-loop-order : goal.decreases-over_beside-loop-order
+decreases-over_beside-loop-order l = (length l.live - l.i) + length l.left.items

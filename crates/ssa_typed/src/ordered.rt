@@ -1,0 +1,85 @@
+//! The children of a node, lent in the order of their elements.
+ghost use Rattle.std.specs.Prelude.{◌≡◌, ◌^◌, ◌<◌, length, slice_get, true, Some, IfOk};
+ghost use Rattle.std.specs.Option.{option_copied};
+ghost use Rattle.ssa_path.specs.Children.{child_at, elements, rises};
+ghost use Rattle.ssa_path.specs.View.{element_view};
+ghost use Rattle.ssa_typed.specs.InOrder.{IsInOrder};
+ghost use Rattle.ssa_typed.specs.Ordered.{lent_children};
+ghost use Rattle.ssa_typed.specs.Rows.{below, is_tree};
+
+use crate::in_order::{find_in_order, in_order};
+use crate::node::Node;
+use ssa_path::children::find_child;
+use ssa_path::element::Elem;
+use std::alloc::{AllocError, Global};
+
+/// Children in the order of their elements.
+#[derive(Drop)]
+pub(crate) enum Ordered<'a> {
+    /// They stand so, as the fields of a record and the entries of a Dict do.
+    AsTheyStand(&'a [(Elem, Node)]),
+    /// References to them are put so.
+    Sorted(Vec<&'a (Elem, Node)>),
+}
+
+// The child at a place, among children that stand in order.
+fn standing_at(children: &[(Elem, Node)], i: usize) -> &(Elem, Node)
+    requires { i < length children.now }
+    ensures read { slice_get children.now i ≡ Some result.now }
+    ensures small { length children.now < 2 ^ 63 }
+{
+    &children[i]
+}
+
+impl<'a> Ordered<'a> {
+    // How many children there are.
+    pub(crate) fn len(&self) -> usize
+        ensures { result ≡ length (lent_children self.now) }
+    {
+        match self {
+            Ordered::AsTheyStand(children) => children.len(),
+            Ordered::Sorted(children) => children.len(),
+        }
+    }
+
+    // The child at a place.
+    pub(crate) fn at(&self, i: usize) -> &'a (Elem, Node)
+        requires { i < length (lent_children self.now) }
+        ensures read { slice_get (lent_children self.now) i ≡ Some result.now }
+        ensures small { length (lent_children self.now) < 2 ^ 63 }
+    {
+        match self {
+            Ordered::AsTheyStand(children) => standing_at(children, i),
+            Ordered::Sorted(children) => children[i],
+        }
+    }
+
+    // The child of this element.
+    pub(crate) fn find(&self, element: &Elem) -> Option<&'a Node>
+        requires { rises (elements (lent_children self.now)) ≡ true }
+        ensures { option_copied result ≡ child_at (element_view element.now) (lent_children self.now) }
+    {
+        match self {
+            Ordered::AsTheyStand(children) => find_child(children, element),
+            Ordered::Sorted(children) => find_in_order(children, element),
+        }
+    }
+}
+
+impl Node {
+    // The children in the order of their elements. Takes memory for the items of a list alone.
+    pub(crate) fn ordered(&self, alloc: Global) -> Result<Ordered<'_>, AllocError>
+        requires { is_tree self.now ≡ true }
+        ensures { IfOk result (λ o. IsInOrder (below self.now) (lent_children o)) }
+    {
+        match self {
+            Node::Leaf(_) => Ok(Ordered::AsTheyStand(&[])),
+            Node::Branch(children) => Ok(Ordered::AsTheyStand(children)),
+            Node::Dict(children) => Ok(Ordered::AsTheyStand(children)),
+            Node::List(children) => {
+                let sorted = in_order(alloc, children)?;
+                Ok(Ordered::Sorted(sorted))
+            }
+        }
+    }
+}
