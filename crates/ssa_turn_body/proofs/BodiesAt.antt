@@ -12,10 +12,9 @@ use Rattle.ssa_model.specs.laws.RecordPlaces.{replaced}
 use Rattle.ssa_model.specs.laws.RecordWalks.{AreAlike, IsTree}
 use Rattle.ssa_model.proofs.Fitting.{some_there}
 use Rattle.ssa_model.proofs.PathMaps.{same_map}
-use Rattle.ssa_model.proofs.Pruned.{closed-beginning, under-append, under-rest}
+use Rattle.ssa_model.proofs.Pruned.{closed-beginning, under-rest}
 use Rattle.ssa_model.proofs.ReplacedParts.{closed-replaced, get-inside, get-outside}
 use Rattle.ssa_model.proofs.Tables.{element-itself}
-use Rattle.ssa_model.proofs.Basics.{yes_no}
 use Rattle.ssa_model.proofs.Tests.{by_test}
 use Rattle.ssa_path.specs.View.{path_view}
 use Rattle.ssa_path.specs.declared.element.Elem.{Elem}

@@ -1,6 +1,5 @@
 -- The edit that leads from the children of one place to those of another.
 use Rattle.std.proofs.Common.{◌≡◌, ℕ, ◌+◌, ◌≤◌, List, [], length, get_or, map, Option, None, sym, ap, subst, ◌∙◌, arith, vec_capacity}
-use Rattle.std.specs.List.{range_with_len}
 use Rattle.std.specs.List.Sorted.{SwapsInRange}
 use Rattle.std.proofs.lemmas.List.{length-map}
 use Rattle.ssa_model.specs.definitions.Path.{Element, field}
@@ -8,7 +7,7 @@ use Rattle.ssa_path.specs.Children.{elements}
 use Rattle.ssa_turn_body.specs.Between.{IsEditBetween}
 use Rattle.ssa_path.specs.View.{path_view}
 use Rattle.ssa_turn_body.specs.Edits.{staying, told_unless}
-use Rattle.ssa_turn_body.specs.Found.{filled, fresh, somes, AreFound, AreMissing, IsTurnedRound}
+use Rattle.ssa_turn_body.specs.Found.{fresh, somes, AreFound, AreMissing, IsReordering, IsTurnedRound}
 use Rattle.ssa_turn_body.specs.Marks.{Child, Kids, Marks}
 use Rattle.ssa_turn_body.specs.Orders.{reordered, is_none}
 use Rattle.ssa_turn_body.specs.Woven.{ArePlaces, room_for, taken, left, woven}
@@ -32,12 +31,8 @@ pub record AreParts (cs ds : List Child) (fs back : List (Option ℕ)) (s : Chil
   pub gone : AreMissing back cs s.gone
   -- those that come are the second children whose places are not told
   pub come : AreMissing fs ds s.come
-  -- the exchanges are within the first children
-  pub range : SwapsInRange (length back) s.before.items
   -- the exchanges bring what stays into the order of the second children
-  pub order : reordered (range_with_len 0 (length back)) s.before.items ≡ filled 0 back (somes fs)
-  -- where all stand as wanted, nothing is exchanged
-  pub exact : filled 0 back (somes fs) ≡ range_with_len 0 (length back) → s.before.items ≡ []
+  pub before : IsReordering fs back s.before.items
   -- nothing is exchanged afterwards
   pub after : s.after.items ≡ []
   -- the order before is that of the first children, unless nothing is exchanged
@@ -62,18 +57,18 @@ edit-parts cs ds fs back s found h =
     let before = s.before.items in
     let long : length cs ≡ 0 + length back = let e = t.long in omega arith in
     let staying_is : (xs : Kids) → length xs ≡ length cs → staying s xs ≡ map (λ k. get_or xs k no_kid) (somes fs) =
-    λ xs l. ap (λ ps. left ps 0 (reordered xs before)) h.gone.places ∙ stays-kept back fs before h.order no_kid xs (l ∙ sym t.long) t.count in
+    λ xs l. ap (λ ps. left ps 0 (reordered xs before)) h.gone.places ∙ stays-kept back fs before h.before.order no_kid xs (l ∙ sym t.long) t.count in
     record {
       back = back;
       back_known = λ apart. known-back cs ds fs back apart found t;
       gone_places = h.gone.places;
       gone_fresh = h.gone.named;
-      going_fresh = λ xs l. ap (λ ps. taken ps 0 (reordered xs before)) h.gone.places ∙ gone-fresh back fs before h.order no_kid xs (l ∙ sym t.long);
-      in_order = λ apart. one-order cs ds fs back before apart found t h.order h.exact;
-      before = subst (λ n. SwapsInRange n before) t.long h.range;
+      going_fresh = λ xs l. ap (λ ps. taken ps 0 (reordered xs before)) h.gone.places ∙ gone-fresh back fs before h.before.order no_kid xs (l ∙ sym t.long);
+      in_order = λ apart. one-order cs ds fs back before apart found t h.before.order h.before.none;
+      before = subst (λ n. SwapsInRange n before) t.long h.before.range;
       gone = subst (λ ps. ArePlaces 0 ps (length cs)) (sym h.gone.places) (places-nones back 0 (length cs) long);
       gone_named =
-          h.gone.named ∙ sym (gone-fresh back fs before h.order (field []) (elements cs) (length-elements cs ∙ sym t.long))
+          h.gone.named ∙ sym (gone-fresh back fs before h.before.order (field []) (elements cs) (length-elements cs ∙ sym t.long))
           ∙ ap (λ ps. taken ps 0 (reordered (elements cs) before)) (sym h.gone.places);
       come = h.come.places;
       come_named = h.come.named;
@@ -83,7 +78,7 @@ edit-parts cs ds fs back s found h =
       stay = λ xs l. ap length (staying_is xs l) ∙ length-map (somes fs) (λ k. get_or xs k no_kid);
       whole = λ xs ls l led.
           (λ i. reordered (woven (h.come.places i) 0 (fresh fs ls) (left (h.gone.places i) 0 (reordered xs before))) (h.after i))
-          ∙ remade-all back fs before h.order no_kid xs (l ∙ sym t.long) t.count ls led;
+          ∙ remade-all back fs before h.before.order no_kid xs (l ∙ sym t.long) t.count ls led;
       held = h.held;
       out_empty = h.out_empty;
       out_room = h.out_room;

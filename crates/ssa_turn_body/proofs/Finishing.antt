@@ -34,7 +34,7 @@ use Rattle.ssa_turn_body.specs.declared.steps.Step.{Step}
 use Rattle.ssa_turn_body.proofs.Again.{AllFound, all-found, kids_from, marks-place, named-kids}
 use Rattle.ssa_turn_body.proofs.BodyMarks.{Ordered, ordered}
 use Rattle.ssa_turn_body.proofs.Descending.{child-here, found-at}
-use Rattle.ssa_turn_body.proofs.Edits.{map-going, length-kids}
+use Rattle.ssa_turn_body.proofs.Edits.{map-going}
 use Rattle.ssa_turn_body.proofs.Marking.{names-kids}
 use Rattle.ssa_turn_body.proofs.Matching.{found-length, length-fresh, length-kept, places-nones}
 use Rattle.ssa_turn_body.proofs.Missing.{length-elements}

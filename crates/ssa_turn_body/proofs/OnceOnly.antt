@@ -1,11 +1,10 @@
 -- Changes say nothing twice: nothing, one more, one after the other, in a child, turned, copied.
-use Rattle.std.proofs.Common.{◌≡◌, ℕ, ◌+◌, ◌≤◌, List, [], ◌∷◌, ◌++◌, Bool, true, false, Option, Some, None, length, reverse, refl, sym, ap, subst, ◌∙◌, arith, append-nil}
+use Rattle.std.proofs.Common.{◌≡◌, ◌+◌, ◌≤◌, List, [], ◌∷◌, ◌++◌, Bool, true, false, Option, Some, None, length, reverse, refl, sym, ap, subst, ◌∙◌, arith, append-nil}
 use Rattle.std.proofs.lemmas.List.{length-map, reverse-append, reverse-reverse}
 use Rattle.std.specs.List.{AllZip}
 use Rattle.ssa_model.specs.definitions.Facts.{one_if}
-use Rattle.ssa_model.specs.definitions.Path.{Element, Path, same_path, under}
+use Rattle.ssa_model.specs.definitions.Path.{Element, Path, same_path}
 use Rattle.ssa_model.proofs.PathMaps.{same_path-true}
-use Rattle.ssa_path.specs.Children.{elements}
 use Rattle.ssa_path.specs.View.{path_view}
 use Rattle.ssa_typed.specs.Nodes.{node_on}
 use Rattle.ssa_typed.specs.Rows.{are_apart}
@@ -14,9 +13,9 @@ use Rattle.ssa_typed.proofs.Copying.{kept-same}
 use Rattle.ssa_turn_body.specs.Changes.{ChangeFits, ChangeGives}
 use Rattle.ssa_turn_body.specs.Copies.{ChangeIsCopied, EditIsCopied, StepIsCopied}
 use Rattle.ssa_turn_body.specs.Descent.{FitsIn, GivesIn}
-use Rattle.ssa_turn_body.specs.Edits.{EditFits, EditGives, named_in}
+use Rattle.ssa_turn_body.specs.Edits.{EditFits, EditGives}
 use Rattle.ssa_turn_body.specs.Led.{MayAdd}
-use Rattle.ssa_turn_body.specs.Marks.{Place, kids, names, seen}
+use Rattle.ssa_turn_body.specs.Marks.{Place, names, seen}
 use Rattle.ssa_turn_body.specs.Once.{AllNameOnce, AreOnce, AreOnceMore, ChangeNamesOnce, NamesOnce, changes_at}
 use Rattle.ssa_turn_body.specs.Steps.{StepsFit, StepsLead}
 use Rattle.ssa_turn_body.specs.declared.change.PlaceChange.{PlaceChange}

@@ -1,11 +1,9 @@
 -- What changes say of a path: of some changes and then of others, at a place, and in a child.
 use Rattle.std.proofs.Common.{◌≡◌, List, [], ◌∷◌, ◌++◌, Bool, true, false, ◌&&◌, cond, not, Option, Some, None, option_map, refl, sym, ap, ◌∙◌, true≢false, append_assoc, append-nil}
-use Rattle.std.specs.Cmp.{tied_itself}
 use Rattle.std.specs.Cmp.Lexicographic.{pointwise}
 use Rattle.std.specs.FinMap.Entries.{find}
 use Rattle.std.specs.List.{position_from}
 use Rattle.std.specs.Option.{option_or}
-use Rattle.std.specs.Ordering.{is_eq, ordering_then}
 use Rattle.std.specs.Prelude.{is_some, if◌then◌else◌}
 use Rattle.ssa_model.specs.definitions.Body.{Content, leaf, atom, record_branch, dict_branch, list_branch, order_at}
 use Rattle.ssa_model.specs.definitions.Path.{Element, Path, path_cmp, same_element, same_path, parent, last_element, under}
@@ -16,7 +14,6 @@ use Rattle.ssa_model.proofs.Pruned.{under-append}
 use Rattle.ssa_model.proofs.Scalars.{same_scalar-itself}
 use Rattle.ssa_model.proofs.SameValues.{same_json-itself}
 use Rattle.ssa_path.specs.View.{path_view}
-use Rattle.ssa_path.proofs.Orders.{element_cmp_total}
 use Rattle.ssa_turn_body.specs.Records.{at_place, cuts_in, leaves_in, orders_in, parts_in, told_by}
 use Rattle.ssa_turn_body.specs.Said.{AreTold, Contents, Said, between, is_topmost, says, shown, silent, stands_in, swapped}
 use Rattle.ssa_turn_body.specs.declared.change.PlaceChange.{PlaceChange}

@@ -1,5 +1,5 @@
 -- As much as the record of a body holds, its changes say.
-use Rattle.std.proofs.Common.{◌≡◌, ℕ, ◌+◌, ◌-◌, ◌^◌, ◌<◌, ◌≤◌, min, get_or, take, List, [], ◌∷◌, ◌++◌, length, Bool, true, false, not, ◌&&◌, ◌||◌, cond, Some, None, Less, Equal, Greater, refl, sym, ap, ◌∙◌, arith, append-nil}
+use Rattle.std.proofs.Common.{◌≡◌, ℕ, ◌+◌, ◌-◌, ◌^◌, ◌<◌, ◌≤◌, min, get_or, take, List, [], ◌∷◌, ◌++◌, length, true, false, not, ◌&&◌, cond, Some, None, Less, Equal, Greater, refl, sym, ap, ◌∙◌, arith, append-nil}
 use Rattle.std.proofs.lemmas.List.{length-map}
 use Rattle.std.proofs.lemmas.List.Sums.{sum_by_push}
 use Rattle.std.proofs.lemmas.Option.{none-some}
@@ -18,13 +18,13 @@ use Rattle.ssa_path.specs.Children.{elements}
 use Rattle.ssa_path.specs.View.{element_view, path_view}
 use Rattle.ssa_path.proofs.Lists.{taken-at}
 use Rattle.ssa_path.proofs.Orders.{both_first, both_second}
-use Rattle.ssa_typed.specs.Rows.{are_apart, are_trees, body_of, is_tree, leaf_content, rows}
+use Rattle.ssa_typed.specs.Rows.{are_apart, are_trees, is_tree, leaf_content, rows}
 use Rattle.ssa_typed.proofs.Sizes.{size-body}
 use Rattle.ssa_turn_body.specs.Edits.{named_in}
 use Rattle.ssa_turn_body.specs.Marks.{Child}
 use Rattle.ssa_turn_body.specs.Once.{AllNameOnce, AreOnce, ChangeNamesOnce, changes_at}
 use Rattle.ssa_turn_body.specs.Records.{are_some_items, at_place, body_told, cuts_in, leaves_in, orders_in, parts_in, parts_of, told_by}
-use Rattle.ssa_turn_body.specs.Sizes.{change_size, order_size, steps_size, trees_size}
+use Rattle.ssa_turn_body.specs.Sizes.{change_size, steps_size}
 use Rattle.ssa_turn_body.specs.declared.change.PlaceChange.{PlaceChange}
 use Rattle.ssa_turn_body.specs.declared.change.PlaceChange.TheVariants.{Leaf, Children}
 use Rattle.ssa_turn_body.specs.declared.steps.BodySteps.{BodySteps}

@@ -1,5 +1,5 @@
 -- Values told of paths, put in path order one after the other.
-use Rattle.std.proofs.Common.{◌≡◌, List, [], ◌∷◌, ◌++◌, map, Less, Equal, Greater, refl, sym, ap, ◌∙◌, append_assoc, append-nil}
+use Rattle.std.proofs.Common.{◌≡◌, ◌<◌, List, [], ◌∷◌, ◌++◌, length, map, Less, Equal, Greater, refl, sym, ap, ◌∙◌, append_assoc, append-nil, arith}
 use Rattle.std.specs.BTreeMap.{insert_entry}
 use Rattle.std.specs.FinMap.Entries.{put, by_order}
 use Rattle.std.specs.Map.{values_of}
@@ -16,7 +16,7 @@ use Rattle.ssa_path.specs.TopPaths.{lent_path}
 use Rattle.ssa_path.specs.declared.top_path.LentPath.{LentPath}
 use Rattle.ssa_turn_body.specs.ToldValues.{as_values, in_path_order, told_view}
 
-abbrev Entry : Type 0
+abbrev pub Entry : Type 0
 Entry = LentPath × program.Json
 
 -- an entry more in the map is an entry more among the paths
@@ -104,3 +104,9 @@ itself (x ∷ xs) = ap (λ l. x ∷ l) (itself xs)
 pub values-shown : (es : List Entry) → map view (values_of es) ≡ map (λ e. e.1) (told_view es)
 values-shown [] = refl
 values-shown (e ∷ es) = ap (λ l. view e.1 ∷ l) (values-shown es)
+
+-- of fewer than two entries the values are in path order as they are told
+pub few-in-order : (es : List Entry) → length es < 2 → in_path_order (told_view es) ≡ map (λ e. e.1) (told_view es)
+few-in-order [] lt = refl
+few-in-order (e ∷ []) lt = refl
+few-in-order (e ∷ f ∷ es) lt = absurd (omega arith)

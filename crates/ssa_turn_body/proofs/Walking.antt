@@ -2,7 +2,7 @@
 use Rattle.std.proofs.Common.{◌≡◌, ℕ, zero, suc, ◌+◌, ◌<◌, ◌≤◌, List, [], ◌∷◌, ◌++◌, length, drop, get_or, Bool, true, false, not, ◌&&◌, ◌||◌, cond, Option, Some, None, option_map, refl, sym, ap, subst, ◌∙◌, arith, append_assoc, append-nil}
 use Rattle.std.specs.List.{list_any}
 use Rattle.std.specs.Prelude.{is_some}
-use Rattle.std.proofs.lemmas.List.{drop_more, length-drop}
+use Rattle.std.proofs.lemmas.List.{drop_more, length-drop, nil_from_length}
 use Rattle.std.proofs.lemmas.Option.{none-some, slice_get-get_or}
 use Rattle.ssa_model.specs.definitions.Body.{Content}
 use Rattle.ssa_model.specs.definitions.Path.{Element, Path, same_element, parent, under}
@@ -376,3 +376,17 @@ pub child-there : (e : Element) (cs own : List Child) (k : ℕ) (c : Child) → 
 child-there e cs own k c lent at is apart =
     let read : get_or cs k c ≡ c = sym (is ∙ ap (λ l. get_or l k c) lent) in
     found-at e cs k c (slice_get-get_or cs k c at.within ∙ ap Some read) (ap (λ (x : Child). same_element e (element_view x.0)) (sym read) ∙ at.same c) apart
+
+-- the child at the place of an element has the element
+pub child-named : (e : Element) (cs own : List Child) (k : ℕ) (c : Child) → own ≡ cs → IsChildAt e cs k → c ≡ get_or own k c → element_view c.0 ≡ e
+child-named e cs own k c lent at is =
+    let read : get_or cs k c ≡ c = sym (is ∙ ap (λ l. get_or l k c) lent) in
+    sym (same_element-true e (element_view c.0) (ap (λ (x : Child). same_element e (element_view x.0)) (sym read) ∙ at.same c))
+
+-- the children that are left are within the second ones
+pub left-within : (xs : List Child) (i n : ℕ) → i + length (drop i xs) ≡ n → i < n → i < length xs
+left-within xs i n count lt = let long = length-drop i xs in omega arith
+
+-- none is left behind the last place
+pub none-left : (xs : List Child) (i n : ℕ) → i + length (drop i xs) ≡ n → n ≤ i → drop i xs ≡ []
+none-left xs i n count all = nil_from_length (drop i xs) (omega arith)

@@ -1,12 +1,14 @@
 -- Where the children of one place stand among those of another, and the order in which they shall stand.
 use Rattle.std.specs.Prelude.{◌≡◌, ℕ, zero, suc, ◌+◌, ◌<◌, ◌==◌, List, [], ◌∷◌, length, Bool, true, false, not, ◌&&◌, Option, Some, None, is_some, slice_get}
-use Rattle.std.specs.List.{list_any}
+use Rattle.std.specs.List.{list_any, range_with_len}
+use Rattle.std.specs.List.Sorted.{SwapsInRange}
 use Rattle.ssa_model.specs.definitions.Kind.{is_among}
 use Rattle.ssa_model.specs.definitions.Path.{Element}
 use Rattle.ssa_path.specs.Children.{child_at, elements, IsChildAt}
 use Rattle.ssa_path.specs.View.{element_view}
 use Rattle.ssa_turn_body.specs.Edits.{named_in}
 use Rattle.ssa_turn_body.specs.Marks.{Child}
+use Rattle.ssa_turn_body.specs.Orders.{reordered}
 use Rattle.ssa_turn_body.specs.declared.children.Placed.{Placed}
 
 -- the place of the child of the same element, if there is one
@@ -105,3 +107,9 @@ pub record IsTurnedRound (n : ℕ) (fs back : List (Option ℕ)) : Type 0 where
 pub record AreMissing (fs : List (Option ℕ)) (cs : List Child) (p : Placed) : Type 0 where
   pub places : p.places.items ≡ nones 0 fs
   pub named : named_in p ≡ fresh fs (elements cs)
+
+-- the exchanges bring what stays into the order of the second children, and there are none where it stands so
+pub record IsReordering (fs back : List (Option ℕ)) (swaps : List (ℕ × ℕ)) : Type 0 where
+  pub range : SwapsInRange (length back) swaps
+  pub order : reordered (range_with_len 0 (length back)) swaps ≡ filled 0 back (somes fs)
+  pub none : filled 0 back (somes fs) ≡ range_with_len 0 (length back) → swaps ≡ []

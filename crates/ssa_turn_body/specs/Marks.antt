@@ -1,5 +1,5 @@
 -- What a tree tells at each path: the content, and the elements of the children in their order.
-use Rattle.std.specs.Prelude.{List, [], ◌∷◌, map, Option, Some, None, Bool, false, ◌&&◌}
+use Rattle.std.specs.Prelude.{◌≡◌, List, [], ◌∷◌, map, Option, Some, None, Bool, false, ◌&&◌}
 use Rattle.ssa_model.specs.definitions.Body.{Content, leaf, atom, record_branch, dict_branch, list_branch}
 use Rattle.ssa_model.specs.definitions.Path.{Element, Path}
 use Rattle.ssa_path.specs.Children.{child_at, elements, rises}
@@ -25,6 +25,10 @@ marks_step x (e ∷ p) = marks_in (child_at e (below_of x)) p
 
 abbrev pub marks : Node → Marks
 marks = fold-Node Marks marks_step
+
+-- both trees tell the same
+abbrev pub TellAlike : Node → Node → Type 0
+TellAlike n m = (q : Path) → marks n q ≡ marks m q
 
 -- a child of a place
 abbrev pub Child : Type 0

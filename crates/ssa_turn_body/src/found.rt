@@ -1,20 +1,41 @@
 //! Which children of one place another place has, which go and which come.
-ghost use Rattle.std.specs.Prelude.{◌≡◌, ◌+◌, true, length, IfOk};
+ghost use Rattle.std.specs.Prelude.{◌≡◌, true, length, IfOk};
 ghost use Rattle.ssa_path.specs.Children.{elements};
 ghost use Rattle.ssa_path.specs.View.{path_view};
 ghost use Rattle.ssa_typed.specs.Rows.{are_apart, below, is_tree};
 ghost use Rattle.ssa_turn_body.specs.Between.{IsEditBetween};
 ghost use Rattle.ssa_turn_body.specs.Edits.{told_unless};
-ghost use Rattle.ssa_turn_body.specs.Woven.{room_for};
+ghost use Rattle.ssa_turn_body.specs.Woven.{room_for, ArePlaces};
 ghost use Rattle.ssa_turn_body.specs.Orders.{is_none};
-ghost use Rattle.ssa_turn_body.specs.Found.{all_differ, filled, nothing_told, somes, AreFound, AreBelow, AreMissing, IsTurnedRound};
+ghost use Rattle.ssa_turn_body.specs.Found.{all_differ, filled, nothing_told, somes, AreFound, AreBelow, AreMissing, IsReordering, IsTurnedRound};
 
 use crate::children::{ChildrenEdit, Orders, Placed};
+use crate::descent::place_of;
 use crate::exchanges::exchanges_between;
 use ssa_path::element::Elem;
 use ssa_typed::merged_order::{find_place, places_in_order};
 use ssa_typed::node::Node;
 use std::alloc::{AllocError, Global};
+
+// Among no more children than so many a search for each is taken to cost less than to put them in order.
+const FEW: usize = 16;
+
+// Where the child of each of these elements stands at a place, each searched for by itself.
+fn places_searched(
+    alloc: Global,
+    own: &Node,
+    others: &[(Elem, Node)],
+) -> Result<Vec<Option<usize>>, AllocError>
+    requires { is_tree own.now ≡ true }
+    ensures { IfOk result (λ v. AreFound (below own.now) others.now v.items) }
+{
+    let mut found = Vec::with_capacity(alloc, others.len())?;
+    for child in others {
+        let searched = place_of(own, &child.0);
+        found.push(searched)?;
+    }
+    Ok(found)
+}
 
 /// Where the child of each of these elements stands at a place, if it has one.
 ///
@@ -27,6 +48,9 @@ pub fn places_in(
     requires { is_tree own.now ≡ true }
     ensures { IfOk result (λ v. AreFound (below own.now) others.now v.items) }
 {
+    if own.children().len() <= FEW {
+        return places_searched(alloc, own, others);
+    }
     let sorted = places_in_order(alloc, own.children())?;
     let mut found = Vec::with_capacity(alloc, others.len())?;
     for child in others {
@@ -125,6 +149,45 @@ fn wanted_order(
     Ok(order)
 }
 
+// Whether the places that are told rise, all below this number.
+fn are_rising(count: usize, found: &[Option<usize>]) -> bool
+    ensures { result ≡ true → ArePlaces 0 (somes found.now) count }
+{
+    let mut least: usize = 0;
+    for i in 0..found.len() {
+        match found[i] {
+            Some(place) => {
+                if place < least || place >= count {
+                    return false;
+                }
+                least = place + 1;
+            }
+            None => (),
+        }
+    }
+    true
+}
+
+// The exchanges that bring what stays into its order. Mostly there are none, and nothing is counted.
+fn reordering(
+    alloc: Global,
+    back: &[Option<usize>],
+    found: &[Option<usize>],
+) -> Result<Vec<(usize, usize)>, AllocError>
+    requires turned { IsTurnedRound (length back.now) found.now back.now }
+    requires below { AreBelow (length back.now) (somes found.now) }
+    requires differ { all_differ (somes found.now) ≡ true }
+    ensures { IfOk result (λ v. IsReordering found.now back.now v.items) }
+{
+    if are_rising(back.len(), found) {
+        return Ok(Vec::new(alloc));
+    }
+    let told = told_places(alloc, found)?;
+    let wanted = wanted_order(alloc, back, &told)?;
+    let exchanges = exchanges_between(alloc, &wanted)?;
+    Ok(exchanges)
+}
+
 // The room that an edit of so many children takes, those counted that stand afterwards.
 fn room_needed(gone: &[usize], come: &[usize], count: usize) -> usize
     ensures { result ≡ room_for gone.now come.now count }
@@ -183,9 +246,7 @@ pub fn edit_between(
     let back = turned_round(alloc, own.len(), found)?;
     let gone = missing(alloc, own, &back)?;
     let come = missing(alloc, others, found)?;
-    let told = told_places(alloc, found)?;
-    let wanted = wanted_order(alloc, &back, &told)?;
-    let before = exchanges_between(alloc, &wanted)?;
+    let before = reordering(alloc, &back, found)?;
     let order = orders_between(alloc, own, others, &before)?;
     let out = Vec::with_capacity(alloc, gone.places.len())?;
     let count = room_needed(&gone.places, &come.places, others.len());

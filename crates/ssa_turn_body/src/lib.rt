@@ -27,6 +27,7 @@ mod found;
 pub mod live_body;
 mod record_values;
 mod reorder;
+mod side_by_side;
 mod size;
 pub mod steps;
 mod told;

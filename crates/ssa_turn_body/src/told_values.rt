@@ -39,13 +39,30 @@ fn values_of<'a>(
     Ok(values)
 }
 
+// The values alone, in the order in which they are told.
+fn values_alone<'a>(alloc: Global, told: Vec<(LentPath<'a>, Json)>) -> Result<Vec<Json>, AllocError>
+    ensures { IfOk result (λ vs. map view vs.items ≡ map (λ e. e.1) (told_view told.entry.items)) }
+{
+    let mut values = Vec::with_capacity(alloc, told.len())?;
+    for (_path, value) in told {
+        values.push(value)?;
+    }
+    Ok(values)
+}
+
 /// The values as a list, in the order of their paths. Takes about n log n comparisons of paths.
+///
+/// Mostly none is told or one is, which stands in order already.
 pub fn values_in_path_order<'a>(
     alloc: Global,
     told: Vec<(LentPath<'a>, Json)>,
 ) -> Result<Json, AllocError>
     ensures { IfOk result (λ v. view v ≡ list (items_of (in_path_order (told_view told.entry.items)))) }
 {
+    if told.len() < 2 {
+        let only = values_alone(alloc, told)?;
+        return Ok(Json::List(only));
+    }
     let sorted = by_path(alloc, told)?;
     let values = values_of(alloc, sorted)?;
     Ok(Json::List(values))

@@ -17,7 +17,7 @@ loop-child-preserved c =
     let e = element_view d.0 in
     let told = place-told e cs c.find_place-place.result
     (c.find_place-place.ensures ∙ ap (λ ps. child_at e (map lent_place ps)) c.deref.ensures.value ∙ c.in_ok-sorted.ensures.same e
-    ∙ ap (λ xs. child_at e (places xs)) c.children.ensures.own) in
+    ∙ ap (λ xs. child_at e (places xs)) c.children-2.ensures.own) in
     let more = found-push cs (take i ds) c.loop-child.found.items d _ c.loop-child.invariant (place-found cs d _ told.0 told.1) in
     subst (AreFound cs (take (i + 1) ds)) (sym c.in_ok-push.ensures.items)
     (subst (λ xs. AreFound cs xs (c.loop-child.found.items ++ c.find_place-place.result ∷ [])) (ap (λ x. take i ds ++ x ∷ []) c.child-item.is
