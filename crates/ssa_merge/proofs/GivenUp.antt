@@ -1,13 +1,15 @@
 -- What is given up, and sets that lose nothing.
 use Rattle.std.proofs.Common.{◌≡◌, List, [], ◌∷◌, map, Bool, true, false, not, ◌&&◌, ◌||◌, refl, sym, ap, ◌∙◌, true≢false}
 use Rattle.std.specs.Prelude.{Option, Some, None, if◌then◌else◌}
-use Rattle.ssa_model.specs.definitions.Path.{Path, is_key_field, is_root}
-use Rattle.ssa_model.specs.definitions.PathMap.{PathSet, empty, has, has_at_or_above, has_at_or_below, insert, is_empty, paths, set_of, minus, union}
+use Rattle.ssa_model.specs.definitions.Path.{Path, is_key_field, is_root, same_path}
+use Rattle.ssa_model.specs.definitions.PathMap.{PathSet, empty, has, has_at_or_above, has_at_or_below, is_empty, paths, same_set, set_of, minus, union}
 use Rattle.ssa_model.specs.definitions.Body as model
 use Rattle.ssa_model.specs.definitions.Table.{ManagerKey, Entry, Table, entry_of, same_manager, owned_by, owned_by_others}
 use Rattle.ssa_model.specs.definitions.Operations.{State, dropped, kept, pruned}
-use Rattle.ssa_model.proofs.PathMaps.{has-insert, has-minus, has-paths, has-set_of, has-union, same_sets, is_one_of}
+use Rattle.ssa_model.proofs.PathMaps.{has-minus, has-paths, has-set_of, has-union, same_set-true, same_sets, is_one_of}
 use Rattle.ssa_model.proofs.Tables.{true_or}
+use Rattle.ssa_model.proofs.FittingTables.{no-path, same_set-itself}
+use Rattle.ssa_path.proofs.Sets.{meet-comm}
 use Rattle.ssa_path.specs.Meet.{meet}
 use Rattle.ssa_typed.specs.Reached.{PointsKeepAll, PointsTellPlaces}
 use Rattle.ssa_merge.specs.Absent.{absent}
@@ -25,17 +27,13 @@ twice ps f g = same_sets _ _ (λ q.
     ∙ both (is_one_of ps q) (f q) (g q)
     ∙ sym (has-set_of ps (λ p. f p && g p) q))
 
--- the set that has the root and nothing else
-abbrev pub only_root : PathSet
-only_root = insert [] tt empty
+root-only : (p : Path) → same_path p [] ≡ is_root p
+root-only [] = refl
+root-only (e ∷ p) = refl
 
-root-only : (p : Path) → has only_root p ≡ is_root p
-root-only [] = has-insert [] empty []
-root-only (e ∷ p) = has-insert [] empty (e ∷ p)
-
--- a set without the one path of another, which is the root
-pub no-root : (s root : PathSet) → root ≡ only_root → minus s root ≡ set_of (paths s) (λ p. not (is_root p))
-no-root s root is = ap (minus s) is ∙ (λ i. set_of (paths s) (λ p. not (root-only p i)))
+-- the root is the path that is taken out
+pub no-root : (s : PathSet) → set_of (paths s) (λ p. not (same_path p [])) ≡ set_of (paths s) (λ p. not (is_root p))
+no-root s = λ i. set_of (paths s) (λ p. not (root-only p i))
 
 neither : (root below there : Bool) → there ≡ (root || below) → (not below && not root) ≡ not there
 neither true true there h = ap not (sym h)
@@ -119,6 +117,16 @@ minus-none s t h =
     let apart = sym (has-set_of (paths s) (has t) p ∙ ap (λ b. b && has t p) (sym (has-paths s p))) ∙ ap (λ m. has m p) (is_empty-true (meet s t) h) in
     sym (has-minus s t p ∙ without_none (has s p) (has t p) apart))
 
+nothing-met : (b : Bool) → (b && false) ≡ false
+nothing-met true = refl
+nothing-met false = refl
+
+-- a set shares nothing with an empty one
+pub meet-none : (s t : PathSet) → is_empty t ≡ true → is_empty (meet s t) ≡ true
+meet-none s t none =
+    no-path (meet s t) (λ p.
+    has-set_of (paths s) (has t) p ∙ ap (λ x. is_one_of (paths s) p && has x p) (is_empty-true t none) ∙ nothing-met (is_one_of (paths s) p))
+
 not-both : (a b : Bool) → (a && not (a && b)) ≡ (a && not b)
 not-both true b = refl
 not-both false b = refl
@@ -129,6 +137,38 @@ minus-meet s t =
     same_sets _ _ (λ p.
     has-minus s (meet s t) p ∙ ap (λ b. has s p && not b) (has-set_of (paths s) (has t) p ∙ ap (λ b. b && has t p) (sym (has-paths s p)))
     ∙ not-both (has s p) (has t p) ∙ sym (has-minus s t p))
+
+in-both : (a b : Bool) → (b && not a) ≡ false → (a && b) ≡ b
+in-both true b h = refl
+in-both false true h = absurd (true≢false h)
+in-both false false h = refl
+
+-- of paths that a set has all, it has just these
+pub meet-within : (s t : PathSet) → is_empty (minus t s) ≡ true → t ≡ meet s t
+meet-within s t h =
+    same_sets _ _ (λ p.
+    let none = sym (has-minus t s p) ∙ ap (λ m. has m p) (is_empty-true (minus t s) h) in
+    sym (has-set_of (paths s) (has t) p ∙ ap (λ b. b && has t p) (sym (has-paths s p)) ∙ in-both (has s p) (has t p) none))
+
+never : (b : Bool) → (b && not b) ≡ false
+never true = refl
+never false = refl
+
+all-lost : (s t m : PathSet) → m ≡ meet s t → same_set m s ≡ true → is_empty (minus s t) ≡ true
+all-lost s t m is same =
+    ap is_empty (sym (minus-meet s t) ∙ ap (minus s) (sym is ∙ same_set-true m s same)) ∙ no-path (minus s s) (λ p. has-minus s s p ∙ never (has s p))
+
+own-lost : (s t m : PathSet) → m ≡ meet s t → is_empty (minus s t) ≡ true → same_set m s ≡ true
+own-lost s t m is none = ap (λ x. same_set x s) (is ∙ meet-comm s t ∙ sym (meet-within t s none)) ∙ same_set-itself s
+
+both-ways : (a b : Bool) → (a ≡ true → b ≡ true) → (b ≡ true → a ≡ true) → a ≡ b
+both-ways true b f g = sym (f refl)
+both-ways false true f g = g refl
+both-ways false false f g = refl
+
+-- nothing is left of a set where what it has of the lost paths is the set itself
+pub minus-all : (s t m : PathSet) → m ≡ meet s t → same_set m s ≡ is_empty (minus s t)
+minus-all s t m is = both-ways _ _ (all-lost s t m is) (own-lost s t m is)
 
 -- ---- what an Update leaves
 

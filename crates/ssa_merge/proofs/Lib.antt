@@ -5,6 +5,7 @@ pub mod Seated
 pub mod GivenUp
 pub mod HeldAbove
 mod KeptSets
+pub mod Acting
 mod Clashes
 pub mod RootedPruned
 pub mod KeptPlaces

@@ -23,7 +23,7 @@ module _ (table : Table) (a : ManagerKey) (owned lost modified : PathSet) (at : 
   one = reseated a owned lost (not (is_empty modified)) at
 
   -- the entries that the table has already
-  abbrev stayed : Table
+  abbrev pub stayed : Table
   stayed = filter owns (map one table)
 
   abbrev newcomer : Entry

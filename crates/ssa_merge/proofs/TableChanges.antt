@@ -21,11 +21,9 @@ use Rattle.ssa_merge.proofs.GivenUp.{minus-meet, minus-none}
 pub kept-if : (e : Entry) (s : PathSet) → s ≡ e.owned → is_empty s ≡ false → e ∷ [] ≡ filter owns (e ∷ [])
 kept-if e s same some = ap (λ b. cond (not b) (e ∷ []) []) (sym some ∙ ap is_empty same)
 
--- who loses nothing stays as it is
-pub less-none : (e : Entry) (lost : PathSet) → is_empty (meet e.owned lost) ≡ true → is_empty e.owned ≡ false → e ∷ [] ≡ filter owns (less e lost ∷ [])
-less-none e lost none some =
-    (λ i. record { manager = e.manager; owned = minus-none e.owned lost none i; moment = e.moment } ∷ [])
-    ∙ kept-if (less e lost) e.owned (minus-none e.owned lost none) some
+-- who loses nothing keeps all
+pub less-none : (e : Entry) (lost : PathSet) → is_empty (meet e.owned lost) ≡ true → filter owns (e ∷ []) ≡ filter owns (less e lost ∷ [])
+less-none e lost none = λ i. filter owns (record { manager = e.manager; owned = minus-none e.owned lost none i; moment = e.moment } ∷ [])
 
 -- who loses some of its paths, and keeps others, loses what it has of the lost ones
 pub less-taken : (e : Entry) (lost taken : PathSet) → taken ≡ meet e.owned lost → is_empty (minus e.owned lost) ≡ false
@@ -51,6 +49,18 @@ pub acted-same : (e : Entry) (owned : PathSet) (changed : Bool) (at : Text) → 
 acted-same e owned changed at some same stays =
     (λ i. record { manager = e.manager; owned = sym (same_set-true owned e.owned same) i; moment = if sym stays i || not (sym same i) then at else e.moment }
     ∷ [])
+    ∙ kept-if (acted e owned changed at) owned refl some
+
+or-true : (b : Bool) → (b || true) ≡ true
+or-true true = refl
+or-true false = refl
+
+-- who owns other paths has another moment
+pub acted-other : (e : Entry) (owned : PathSet) (changed : Bool) (at : Text) → is_empty owned ≡ false → same_set owned e.owned ≡ false
+    → record { manager = e.manager; owned = owned; moment = at } ∷ [] ≡ filter owns (acted e owned changed at ∷ [])
+acted-other e owned changed at some other =
+    let moves : (changed || not (same_set owned e.owned)) ≡ true = ap (λ b. changed || not b) other ∙ or-true changed in
+    (λ i. record { manager = e.manager; owned = owned; moment = if sym moves i then at else e.moment } ∷ [])
     ∙ kept-if (acted e owned changed at) owned refl some
 
 -- ---- whole tables

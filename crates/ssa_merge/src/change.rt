@@ -1,5 +1,5 @@
 //! What a command changes of a state, told without what stays.
-ghost use Rattle.std.specs.Prelude.{◌≡◌, ◌≤◌, true, IfOk};
+ghost use Rattle.std.specs.Prelude.{◌≡◌, ◌≤◌, true, unwrap_or, IfOk};
 ghost use Rattle.ssa_model.specs.definitions.Body.{Body as ModelBody, points};
 ghost use Rattle.ssa_model.specs.definitions.Fitting.{IsBodyOf};
 ghost use Rattle.ssa_model.specs.definitions.History.{is_manager_name};
@@ -8,7 +8,7 @@ ghost use Rattle.ssa_model.specs.definitions.Limits.{most_places};
 ghost use Rattle.ssa_model.specs.definitions.PathMap.{minus, size, union};
 ghost use Rattle.ssa_model.specs.definitions.Table.{owned_by};
 ghost use Rattle.ssa_model.specs.definitions.Operations as model;
-ghost use Rattle.ssa_model.specs.definitions.Operations.{apply, update, strip, clashes};
+ghost use Rattle.ssa_model.specs.definitions.Operations.{apply, clashes, pruned, strip, update};
 ghost use Rattle.ssa_model.specs.definitions.Valid.{AllEntries, IsValidState, OwnsOwnable};
 ghost use Rattle.ssa_typed.specs.Alike.{AreAlike};
 ghost use Rattle.ssa_typed.specs.Differences.{IsComparison};
@@ -124,25 +124,23 @@ fn unless_live(merged: Merged) -> Option<Body>
     }
 }
 
-// What an Apply of a configuration with these points changes: the manager then owns them, or keeps them.
+// What an Apply changes whose body is this one, where the manager then owns these points, or keeps what it has where
+// none are told.
 fn applied_with(
     alloc: Global,
     state: &State,
     key: &ManagerKey,
-    config: Body,
-    owned: &FieldSet,
-    keeps: bool,
+    merged: Merged,
+    owned: Option<FieldSet>,
     force: bool,
     at: Moment,
 ) -> Result<Change, Refusal>
-    requires alike { AreAlike state.now.body config }
     requires named { is_manager_name (key_view key.now).name ≡ true }
-    requires owned { AllEntries (OwnsOwnable state.now.body) state.now.managers }
-    requires points { owned.now ≡ points config }
-    requires kept { keeps ≡ true → owned_by state.now.managers (key_view key.now) ≡ owned.now }
-    ensures { IsChanged (state_view state.now) result (apply (state_view state.now) (key_view key.now) config force at) }
+    requires live { merged.is_live ≡ true → merged.body ≡ state.now.body }
+    ensures { (config : ModelBody) → merged.body ≡ pruned (state_view state.now) (key_view key.now) config
+        → unwrap_or owned (owned_by state.now.managers (key_view key.now)) ≡ points config
+        → IsChanged (state_view state.now) result (apply (state_view state.now) (key_view key.now) config force at) }
 {
-    let merged = pruned(alloc, state, key, config, owned, keeps)?;
     let comparison = compared(alloc, &state.body, &merged)?;
     let changed = &comparison.modified;
     if let Some(found) = conflict_of(alloc, &state.managers, key, changed, force)? {
@@ -151,16 +149,7 @@ fn applied_with(
     if merged.body.size() > MOST_PLACES {
         return Err(Refusal::TooManyPaths);
     }
-    match seat(
-        alloc,
-        &state.managers,
-        key,
-        owned,
-        keeps,
-        changed,
-        changed,
-        at,
-    ) {
+    match seat(alloc, &state.managers, key, owned, changed, changed, at) {
         Ok(table) => Ok(Change {
             body: unless_live(merged),
             table,
@@ -187,11 +176,13 @@ fn applied(
 {
     if let Some(entry) = state.managers.get(key) {
         if config.has_points(alloc, &entry.set)? {
-            return applied_with(alloc, state, key, config, &entry.set, true, force, at);
+            let merged = pruned(alloc, state, key, config, &entry.set, true)?;
+            return applied_with(alloc, state, key, merged, None, force, at);
         }
     }
     let points = config.points(alloc)?;
-    applied_with(alloc, state, key, config, &points, false, force, at)
+    let merged = pruned(alloc, state, key, config, &points, false)?;
+    applied_with(alloc, state, key, merged, Some(points), force, at)
 }
 
 /// What an Apply of a configuration by a manager changes, or why it is refused: see
@@ -217,7 +208,7 @@ pub fn change_apply(
 }
 
 // What a manager owns after an Update: what it owned and is still there, and what was modified or
-// added.
+// added. Who owned nothing gets a set with no more room than it needs: the table keeps it.
 fn owned_after_update(
     alloc: Global,
     state: &State,
@@ -233,7 +224,7 @@ fn owned_after_update(
             let owned = stayed.union(alloc, &gained)?;
             Ok(owned)
         }
-        None => Ok(gained),
+        None => gained.copy(alloc),
     }
 }
 
@@ -252,16 +243,7 @@ fn updated(
     let owned = owned_after_update(alloc, state, key, &comparison)?;
     let changed = &comparison.modified;
     let lost = changed.union(alloc, &comparison.removed)?;
-    match seat(
-        alloc,
-        &state.managers,
-        key,
-        &owned,
-        false,
-        &lost,
-        changed,
-        at,
-    ) {
+    match seat(alloc, &state.managers, key, Some(owned), &lost, changed, at) {
         Ok(table) => Ok(Change {
             body: body_if_other(&state.body, object, &comparison),
             table,

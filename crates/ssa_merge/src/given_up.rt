@@ -21,13 +21,12 @@ use ssa_typed::body::{Body, Merged};
 use std::alloc::{AllocError, Global};
 
 // The set without the root.
-fn without_root(alloc: Global, set: &FieldSet) -> Result<FieldSet, AllocError>
-    ensures { IfOk result (λ s. s ≡ set_of (paths set.now) (λ p. not (is_root p))) }
+fn without_root(alloc: Global, set: FieldSet) -> FieldSet
+    ensures { result ≡ set_of (paths set) (λ p. not (is_root p)) }
 {
-    let mut root = FieldSet::new(alloc);
-    root.insert(alloc, &Path::new(Vec::new(alloc)))?;
-    let rest = set.minus(alloc, &root)?;
-    Ok(rest)
+    let mut rest = set;
+    rest.remove(&Path::new(Vec::new(alloc)));
+    rest
 }
 
 // The paths of the manager's at which its configuration has nothing: none where it owns the points of the
@@ -51,8 +50,7 @@ fn left_out(
     match state.managers.get(key) {
         Some(entry) => {
             let unreached = entry.set.without_over(alloc, config_points)?;
-            let gone = without_root(alloc, &unreached)?;
-            Ok(gone)
+            Ok(without_root(alloc, unreached))
         }
         None => Ok(FieldSet::new(alloc)),
     }

@@ -1,9 +1,10 @@
 //! What becomes of a table of managers by a command.
-ghost use Rattle.std.specs.Prelude.{◌≡◌, ◌∷◌, [], true, filter, map, length, IfOk};
+ghost use Rattle.std.specs.Prelude.{◌≡◌, ◌∷◌, [], true, false, filter, map, length, unwrap_or, IfOk, IfNone, IfSome, OnOk};
 ghost use Rattle.ssa_model.specs.definitions.History.{is_manager_name};
-ghost use Rattle.ssa_model.specs.definitions.PathMap.{same_set};
+ghost use Rattle.ssa_model.specs.definitions.PathMap.{empty, is_empty};
 ghost use Rattle.ssa_model.specs.definitions.Table.{is_in_table, owned_by, reseated, same_manager, seat};
 ghost use Rattle.ssa_model.specs.definitions.Valid.{has_distinct_keys};
+ghost use Rattle.ssa_path.specs.Meet.{meet};
 ghost use Rattle.ssa_merge.specs.Managers.{key_view, entry_view, table_view};
 ghost use Rattle.ssa_merge.specs.TableChanges.{changed_entries, changed_entry, IsSeated, LeadsTo};
 ghost use Rattle.ssa_merge.specs.Tables.{acted, less, owns};
@@ -26,154 +27,168 @@ pub fn is_in_table(table: &[Entry], key: &ManagerKey) -> bool
     }
 }
 
+// What a set has of these paths, with no more room than they need: a record keeps them for long. Mostly it has them all.
+fn taken_from(alloc: Global, set: &FieldSet, lost: &FieldSet) -> Result<FieldSet, AllocError>
+    ensures { IfOk result (λ s. s ≡ meet set.now lost.now) }
+{
+    if lost.is_within(set) {
+        return lost.copy(alloc);
+    }
+    let met = lost.meet(alloc, set)?;
+    met.copy(alloc)
+}
+
+// What becomes of an entry whose manager loses nothing.
+fn untouched(entry: &Entry) -> EntryChange
+    ensures { changed_entry result (entry_view entry.now) ≡ filter owns (entry_view entry.now ∷ []) }
+{
+    if entry.set.is_empty() {
+        return EntryChange::Leaves;
+    }
+    EntryChange::Stays
+}
+
 // What becomes of an entry whose manager loses these paths.
 fn losing(alloc: Global, entry: &Entry, lost: &FieldSet) -> Result<EntryChange, AllocError>
     ensures { IfOk result (λ c. changed_entry c (entry_view entry.now) ≡ filter owns (less (entry_view entry.now) lost.now ∷ [])) }
 {
-    let set = &entry.set;
-    let taken = lost.meet(alloc, set)?;
-    if taken.is_empty() {
-        if set.is_empty() {
-            return Ok(EntryChange::Leaves);
-        }
-        return Ok(EntryChange::Stays);
+    if lost.is_empty() {
+        return Ok(untouched(entry));
     }
-    if set.is_within(lost) {
+    let set = &entry.set;
+    let taken = taken_from(alloc, set, lost)?;
+    if taken.is_empty() {
+        return Ok(untouched(entry));
+    }
+    if taken.is_same(set) {
         return Ok(EntryChange::Leaves);
     }
     Ok(EntryChange::Loses(taken, entry.at))
 }
 
-// Whether the set is the entry's. Where it is known that the manager keeps its set, nothing is compared.
-fn is_own_set(entry: &Entry, owned: &FieldSet, keeps: bool) -> bool
-    requires { keeps ≡ true → owned.now ≡ (entry_view entry.now).owned }
-    ensures { result ≡ same_set owned.now (entry_view entry.now).owned }
+// What becomes of the entry of a manager that keeps its paths; where a field changed, its moment is `at`.
+fn keeping(entry: &Entry, changed: bool, at: Moment) -> EntryChange
+    ensures { changed_entry result (entry_view entry.now) ≡ filter owns (acted (entry_view entry.now) entry.now.set changed at ∷ []) }
 {
-    keeps || owned.is_same(&entry.set)
-}
-
-// What becomes of the entry of a manager that owns these paths then; where its paths or a field
-// changed, its moment is `at`.
-fn acting(
-    alloc: Global,
-    entry: &Entry,
-    owned: &FieldSet,
-    keeps: bool,
-    changed: bool,
-    at: Moment,
-) -> Result<EntryChange, AllocError>
-    requires { keeps ≡ true → owned.now ≡ (entry_view entry.now).owned }
-    ensures { IfOk result (λ c. changed_entry c (entry_view entry.now) ≡ filter owns (acted (entry_view entry.now) owned.now changed at ∷ [])) }
-{
-    if owned.is_empty() {
-        return Ok(EntryChange::Leaves);
-    }
-    if !is_own_set(entry, owned, keeps) {
-        let set = owned.copy(alloc)?;
-        return Ok(EntryChange::Owns(set, at));
+    if entry.set.is_empty() {
+        return EntryChange::Leaves;
     }
     if changed {
-        return Ok(EntryChange::Renewed(at));
+        return EntryChange::Renewed(at);
     }
-    Ok(EntryChange::Stays)
+    EntryChange::Stays
 }
 
-// What becomes of an entry by a command: the manager owns `owned`, the others lose `lost`.
+// What becomes of the entry of a manager that owns these paths then, or keeps its own where none are told; where its
+// paths or a field changed, its moment is `at`.
+fn acting(entry: &Entry, owned: Option<FieldSet>, changed: bool, at: Moment) -> EntryChange
+    ensures { changed_entry result (entry_view entry.now) ≡ filter owns (acted (entry_view entry.now) (unwrap_or owned entry.now.set) changed at ∷ []) }
+{
+    let Some(set) = owned else {
+        return keeping(entry, changed, at);
+    };
+    if set.is_empty() {
+        return EntryChange::Leaves;
+    }
+    if set.is_same(&entry.set) {
+        return keeping(entry, changed, at);
+    }
+    EntryChange::Owns(set, at)
+}
+
+// What becomes of an entry by a command: the manager owns `owned`, which its entry takes, the others lose `lost`.
 fn reseated(
     alloc: Global,
     entry: &Entry,
     key: &ManagerKey,
-    owned: &FieldSet,
-    keeps: bool,
+    owned: &mut Option<FieldSet>,
     lost: &FieldSet,
     changed: bool,
     at: Moment,
 ) -> Result<EntryChange, AllocError>
-    requires { keeps ≡ true → same_manager (entry_view entry.now).manager (key_view key.now) ≡ true → owned.now ≡ (entry_view entry.now).owned }
-    ensures { IfOk result (λ c. changed_entry c (entry_view entry.now)
-        ≡ filter owns (reseated (key_view key.now) owned.now lost.now changed at (entry_view entry.now) ∷ [])) }
+    ensures change { IfOk result (λ c. changed_entry c (entry_view entry.now)
+        ≡ filter owns (reseated (key_view key.now) (unwrap_or owned.old entry.now.set) lost.now changed at (entry_view entry.now) ∷ [])) }
+    ensures taken { same_manager (entry_view entry.now).manager (key_view key.now) ≡ true → owned.new ≡ None }
+    ensures left { same_manager (entry_view entry.now).manager (key_view key.now) ≡ false → owned.new ≡ owned.old }
 {
     if entry.key.is_same(key) {
-        return acting(alloc, entry, owned, keeps, changed, at);
+        return Ok(acting(entry, owned.take(), changed, at));
     }
     losing(alloc, entry, lost)
 }
 
-// What becomes of the entries of the managers that the table has.
+// What becomes of the entries of the managers that the table has. Where the manager is one of them, `owned` is taken.
 fn reseated_entries(
     alloc: Global,
     table: &[Entry],
     key: &ManagerKey,
-    owned: &FieldSet,
-    keeps: bool,
+    owned: &mut Option<FieldSet>,
     lost: &FieldSet,
     changed: bool,
     at: Moment,
 ) -> Result<Vec<EntryChange>, AllocError>
-    requires distinct { has_distinct_keys (table_view table.now) ≡ true }
-    requires kept { keeps ≡ true → owned_by (table_view table.now) (key_view key.now) ≡ owned.now }
+    requires { has_distinct_keys (table_view table.now) ≡ true }
     ensures each { IfOk result (λ cs. length cs.items ≡ length table.now) }
     ensures made { IfOk result (λ cs. changed_entries cs.items (table_view table.now)
-        ≡ filter owns (map (reseated (key_view key.now) owned.now lost.now changed at) (table_view table.now))) }
+        ≡ filter owns (map (reseated (key_view key.now) (unwrap_or owned.old (owned_by (table_view table.now) (key_view key.now))) lost.now changed at) (table_view table.now))) }
+    ensures taken { OnOk result (is_in_table (table_view table.now) (key_view key.now) ≡ true → owned.new ≡ None) }
+    ensures left { OnOk result (is_in_table (table_view table.now) (key_view key.now) ≡ false → owned.new ≡ owned.old) }
 {
     let mut changes = Vec::with_capacity(alloc, table.len())?;
     for entry in table {
-        let change = reseated(alloc, entry, key, owned, keeps, lost, changed, at)?;
+        let change = reseated(alloc, entry, key, owned, lost, changed, at)?;
         changes.push(change)?;
     }
     Ok(changes)
 }
 
-// The entry of a manager that the table has not.
-fn newcomer(
-    alloc: Global,
-    key: &ManagerKey,
-    owned: &FieldSet,
-    at: Moment,
-) -> Result<Entry, AllocError>
-    ensures { IfOk result (λ e. entry_view e ≡ record { manager = key_view key.now; owned = owned.now; moment = at }) }
+// The set, unless it has no path.
+fn filled(owned: Option<FieldSet>) -> Option<FieldSet>
+    ensures some { IfSome result (λ s. (owned ≡ Some s) × (is_empty s ≡ false)) }
+    ensures none { IfNone result (is_empty (unwrap_or owned empty) ≡ true) }
 {
-    let key = key.copy(alloc)?;
-    let set = owned.copy(alloc)?;
-    Ok(Entry { key, set, at })
+    let Some(set) = owned else {
+        return None;
+    };
+    if set.is_empty() {
+        return None;
+    }
+    Some(set)
 }
 
-/// What becomes of a table by a command: the manager owns `owned`, the others lose `lost`, and who
-/// owns nothing leaves.
+/// What becomes of a table by a command: the manager owns `owned`, or keeps its own paths where none
+/// are told, the others lose `lost`, and who owns nothing leaves.
 ///
 /// A new manager stands last. Its moment is `at`, as is an old one's whose set changed or where
-/// something was modified. Refused is a table of more than 64 managers. Where `keeps` tells that the
-/// manager owns these paths already, they are not compared with its set.
+/// something was modified. Refused is a table of more than 64 managers.
 pub fn seat(
     alloc: Global,
     managers: &Managers,
     key: &ManagerKey,
-    owned: &FieldSet,
-    keeps: bool,
+    mut owned: Option<FieldSet>,
     lost: &FieldSet,
     modified: &FieldSet,
     at: Moment,
 ) -> Result<TableChange, Refusal>
-    requires named { is_manager_name (key_view key.now).name ≡ true }
-    requires kept { keeps ≡ true → owned_by managers.now (key_view key.now) ≡ owned.now }
-    ensures { IsSeated managers.now result (seat managers.now (key_view key.now) owned.now lost.now modified.now at) }
+    requires { is_manager_name (key_view key.now).name ≡ true }
+    ensures { IsSeated managers.now result (seat managers.now (key_view key.now) (unwrap_or owned (owned_by managers.now (key_view key.now))) lost.now modified.now at) }
 {
     let changed = !modified.is_empty();
     let table = managers.entries();
-    let entries = reseated_entries(alloc, table, key, owned, keeps, lost, changed, at)?;
-    if is_in_table(table, key) || owned.is_empty() {
+    let entries = reseated_entries(alloc, table, key, &mut owned, lost, changed, at)?;
+    let Some(set) = filled(owned) else {
         return Ok(TableChange {
             entries,
             newcomer: None,
         });
-    }
+    };
     if count_kept(&entries) >= MOST_MANAGERS {
         return Err(Refusal::TooManyManagers);
     }
-    let newcomer = newcomer(alloc, key, owned, at)?;
+    let key = key.copy(alloc)?;
     Ok(TableChange {
         entries,
-        newcomer: Some(newcomer),
+        newcomer: Some(Entry { key, set, at }),
     })
 }
 

@@ -6,18 +6,17 @@ use Rattle.ssa_model.specs.definitions.PathMap.{PathSet, empty, listed, minus, p
 use Rattle.ssa_model.specs.definitions.Table.{ManagerKey, Table, same_manager, entry_of, owned_by}
 use Rattle.ssa_path.specs.Trie.{is_trie, paths}
 use Rattle.ssa_path.specs.declared.trie.Trie.{Trie}
-use Rattle.ssa_turn_set.specs.Room.{gain_room, lose_room}
+use Rattle.ssa_turn_set.specs.Room.{gain_room, left, lose_room}
 use Rattle.ssa_turn_set.specs.Turn.{HasRoom}
 use Rattle.ssa_turn_set.specs.declared.turn.SetDelta.{SetDelta}
-use Rattle.ssa_turn_set.proofs.Turning.{listed-paths}
+use Rattle.ssa_turn_set.proofs.Turning.{left-paths}
 
--- room for a set without what is lost
-pub has-room : (d : SetDelta) (s lose without : PathSet) (t : Trie) → is_trie d.gain ≡ true → is_trie d.lose ≡ true → listed (paths d.lose) ≡ lose
-    → without ≡ minus s lose → listed (paths t) ≡ without → is_trie t ≡ true
-    → gain_room d.gain (paths t) d.room.gain ≡ true → lose_room d.lose (paths t) d.room.lose ≡ true → HasRoom d s
-has-room d s lose without t a b lost left same trie gain lose_has =
-    let ps : set_paths (minus s (listed (paths d.lose))) ≡ paths t =
-    ap (λ x. set_paths (minus s x)) lost ∙ ap set_paths (sym left ∙ sym same) ∙ listed-paths t trie in
+-- room for what is left of a set is room for the set
+pub has-room : (d : SetDelta) (s : PathSet) (t : Trie) → is_trie d.gain ≡ true → is_trie d.lose ≡ true → listed (paths t) ≡ s → is_trie t ≡ true
+    → gain_room d.gain (left (paths t) (paths d.lose)) d.room.gain ≡ true → lose_room d.lose (left (paths t) (paths d.lose)) d.room.lose ≡ true → HasRoom d s
+has-room d s t a b same trie gain lose_has =
+    let ps : set_paths (minus s (listed (paths d.lose))) ≡ left (paths t) (paths d.lose) =
+    ap (λ x. set_paths (minus x (listed (paths d.lose)))) (sym same) ∙ left-paths t d.lose trie in
     record {
       gain_trie = a;
       lose_trie = b;

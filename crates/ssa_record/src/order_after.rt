@@ -12,7 +12,7 @@ ghost use Rattle.ssa_record.specs.Refilled.{all_below, lent_elements, lent_puts,
 
 use crate::places::ToldPlaces;
 use ssa_path::element::Elem;
-use ssa_path::path::copy_elements;
+use ssa_path::path::{copy_elements, copy_way};
 use ssa_path::trie::Trie;
 use ssa_typed::node::Node;
 use std::alloc::{AllocError, Global};
@@ -157,18 +157,6 @@ fn refilled<'a>(
     Ok(Some(all))
 }
 
-// The same elements, with new memory.
-fn copied(alloc: Global, lent: &[&Elem]) -> Result<Vec<Elem>, AllocError>
-    ensures { IfOk result (λ es. path_view es.items ≡ lent_elements lent.now) }
-{
-    let mut elements = Vec::with_capacity(alloc, lent.len())?;
-    for element in lent {
-        let element = element.copy(alloc)?;
-        elements.push(element)?;
-    }
-    Ok(elements)
-}
-
 /// The elements of a list's items after a record, where it says which they are. Takes no more memory
 /// than the items have that are there, come or are told, however large the places are.
 pub fn order_after<'a>(
@@ -192,7 +180,7 @@ pub fn order_after<'a>(
     }
     match refilled(alloc, children, told, touched, path)? {
         Some(lent) => {
-            let order = copied(alloc, &lent)?;
+            let order = copy_way(alloc, &lent)?;
             Ok(Some(order))
         }
         None => Ok(None),

@@ -23,7 +23,8 @@ use ssa_merge::manager::ManagerKey;
 use ssa_merge::managers::Entry;
 use ssa_path::field_set::FieldSet;
 use ssa_told::told::{ToldChange, ToldHere, ToldTable};
-use ssa_turn_set::making::{make_gain_room, make_lose_room};
+use ssa_turn_set::loss::make_loss_room;
+use ssa_turn_set::making::make_gain_room;
 use ssa_turn_set::turn::{SetDelta, SetRoom};
 use ssa_turn_table::between::{find_entry, make_table_room};
 use ssa_turn_table::delta::{EntryChange, Here, TableDelta};
@@ -61,18 +62,17 @@ fn set_delta(
     ensures steps { IfOk result (λ d. set_steps d ≡ record { gain = gain; lose = lose }) }
     ensures room { IfOk result (λ d. HasRoom d set.now) }
 {
-    let without = set.minus(alloc, &lose)?;
     let gained = gain.take_root();
     let lost = lose.take_root();
-    let rest = without.root();
-    let gain_room = make_gain_room(alloc, &gained, rest)?;
-    let lose_room = make_lose_room(alloc, &lost, rest)?;
+    let own = set.root();
+    let gain_room = make_gain_room(alloc, &gained, own, &lost)?;
+    let loss = make_loss_room(alloc, &lost, own)?;
     Ok(SetDelta {
         gain: gained,
         lose: lost,
         room: SetRoom {
             gain: gain_room,
-            lose: lose_room,
+            lose: loss.room,
         },
     })
 }

@@ -21,9 +21,10 @@ use Rattle.ssa_turn_set.specs.declared.room.Room.{Room}
 use Rattle.ssa_turn_set.specs.declared.room.Room.TheOpen.{Room-F}
 use Rattle.ssa_turn_set.specs.declared.room.Room.TheViews.{out-Room, roll-Room, out-roll-Room}
 use Rattle.ssa_turn_set.specs.declared.spare.Spare.{Spare}
-use Rattle.ssa_turn_set.specs.Room.{fresh, freshes, going, left, lose_one, lose_room, loses, losses}
+use Rattle.ssa_turn_set.specs.Room.{fresh, freshes, gain_room, gains, going, left, lose_one, lose_room, loses, losses}
 use Rattle.ssa_turn_set.proofs.Places.{fresh-filled, place-tails, roomy-holds}
-use Rattle.ssa_turn_set.proofs.Rooms.{lose_room-level}
+use Rattle.ssa_turn_set.proofs.Rooms.{gain_room-level, lose_room-level}
+use Rattle.ssa_turn_set.proofs.Tails.{paths_of, tails-below}
 use Rattle.ssa_model.proofs.Fitting.{same_element-true}
 use Rattle.ssa_model.proofs.Tables.{element-itself as same_element-itself}
 use Rattle.ssa_model.proofs.Basics.{both-true as both}
@@ -49,10 +50,24 @@ first-filter e f p ps test false apart true passes rest = (λ i. cond (apart i) 
 first-filter e f p ps test false apart false fails rest = rest
 
 -- of the paths behind an element those are left that are, behind it, none of the others
-tails-filter : (e : Element) (test : Path → Bool) (ps : List Path) → tails e (filter test ps) ≡ filter (λ p. test (e ∷ p)) (tails e ps)
+pub tails-filter : (e : Element) (test : Path → Bool) (ps : List Path) → tails e (filter test ps) ≡ filter (λ p. test (e ∷ p)) (tails e ps)
 tails-filter e test [] = refl
 tails-filter e test ([] ∷ ps) = root-filter e ps test (test []) (tails-filter e test ps)
 tails-filter e test ((f ∷ p) ∷ ps) = first-filter e f p ps test (same_element e f) refl (test (f ∷ p)) refl (tails-filter e test ps)
+
+found-of : (x : Option Trie) (p : Path) → found same_path x p ≡ is_one_of (paths_of x) p
+found-of None p = refl
+found-of (Some c) p = refl
+
+-- behind an element is left what the child there has without the lost one's
+pub left-behind : (own lost : Trie) (e : Element) (ps qs : List Path) → is_trie lost ≡ true → ps ≡ tails e (paths_below (out-Trie own).below.items)
+    → qs ≡ tails e (paths_below (out-Trie lost).below.items) → tails e (left (paths own) (paths lost)) ≡ left ps qs
+left-behind own lost e ps qs trie place gone =
+    let ds = (out-Trie lost).below.items in
+    let child = tails-below e ds (trie-parts lost _ refl trie).0 in
+    let one : (p : Path) → is_one_of (paths lost) (e ∷ p) ≡ is_one_of qs p =
+    λ p. any-paths same_path same_path-reading lost e p trie ∙ found-of (child_at e ds) p ∙ ap (λ l. is_one_of l p) (sym (gone ∙ child)) in
+    tails-filter e (λ p. not (is_one_of (paths lost) p)) (paths own) ∙ (λ i. filter (λ p. not (one p i)) ((place-tails own e ∙ sym place) i))
 
 -- ---- child by child
 
@@ -126,9 +141,9 @@ block-heads : (e : Element) (p : Path) (ps qs : List Path) → heads (paths_afte
 block-heads e p [] qs = refl
 block-heads e p (x ∷ ps) qs = ap (with_head e) (block-heads e x ps qs) ∙ head-again e (heads qs)
 
-block-more : (e : Element) (ps qs : List Path) → length (heads (paths_after e ps ++ qs)) ≤ suc (length (heads qs))
-block-more e [] qs = omega arith
-block-more e (p ∷ ps) qs = let is = ap length (block-heads e p ps qs) in let more = head-more e (heads qs) in omega arith
+block-count : (e : Element) (ps qs : List Path) → length (heads (paths_after e ps ++ qs)) + fresh ps ≤ suc (length (heads qs))
+block-count e [] qs = omega arith
+block-count e (p ∷ ps) qs = let is = ap length (block-heads e p ps qs) in let more = head-more e (heads qs) in omega arith
 
 one-after : (f : Element) (p : Path) (ps : List Path) (test : Path → Bool) (b : Bool)
     → filter test (paths_after f ps) ≡ paths_after f (filter (λ q. test (f ∷ q)) ps)
@@ -141,15 +156,28 @@ after-filter : (f : Element) (test : Path → Bool) (ps : List Path) → filter 
 after-filter f test [] = refl
 after-filter f test (p ∷ ps) = one-after f p ps test (test (f ∷ p)) (after-filter f test ps)
 
-heads-filter : (test : Path → Bool) (cs : List (Elem × Trie)) → length (heads (filter test (paths_below cs))) ≤ length cs
+-- the children of whose paths none passes
+pub goners : (Path → Bool) → List (Elem × Trie) → ℕ
+goners test [] = 0
+goners test (c ∷ cs) = fresh (filter (λ p. test (element_view c.0 ∷ p)) (paths c.1)) + goners test cs
+
+heads-filter : (test : Path → Bool) (cs : List (Elem × Trie)) → length (heads (filter test (paths_below cs))) + goners test cs ≤ length cs
+unfolding goners
 heads-filter test [] = omega arith
 heads-filter test (c ∷ cs) =
     let e = element_view c.0 in
     let split = ap (λ l. length (heads l)) (filter-append test (paths_after e (paths c.1)) (paths_below cs)
     ∙ ap (λ l. l ++ filter test (paths_below cs)) (after-filter e test (paths c.1))) in
-    let first = block-more e (filter (λ p. test (e ∷ p)) (paths c.1)) (filter test (paths_below cs)) in
+    let first = block-count e (filter (λ p. test (e ∷ p)) (paths c.1)) (filter test (paths_below cs)) in
     let rest = heads-filter test cs in
     omega arith
+
+-- the children of whose paths none passes are those with which none of what passes begins
+pub goners-are : (test : Path → Bool) (cs : List (Elem × Trie)) (qs : List Path)
+    → AllChildren (λ e c. tails e qs ≡ filter (λ p. test (e ∷ p)) (paths c)) cs → goners test cs ≡ freshes cs qs
+unfolding goners
+goners-are test [] qs h = refl
+goners-are test (c ∷ cs) qs h = λ i. fresh (sym h.0 i) + goners-are test cs qs h.1 i
 
 here-filter : (b : Bool) (test : Path → Bool) (qs : List Path) → heads (filter test (here_path b) ++ qs) ≡ heads qs
 here-filter true test qs = by (test [])
@@ -159,9 +187,10 @@ here-filter true test qs = by (test [])
     by false = refl
 here-filter false test qs = refl
 
--- no more children are left than there were
-pub heads-left : (own : Trie) (qs : List Path) → length (heads (left (paths own) qs)) ≤ length (out-Trie own).below.items
-heads-left own qs =
+-- those that are left and those that go whole are no more than there were
+pub heads-gone : (own : Trie) (qs : List Path)
+    → length (heads (left (paths own) qs)) + goners (λ p. not (is_one_of qs p)) (out-Trie own).below.items ≤ length (out-Trie own).below.items
+heads-gone own qs =
     let test : Path → Bool = λ p. not (is_one_of qs p) in
     let cs = (out-Trie own).below.items in
     let is = ap (λ l. length (heads (filter test l))) (paths-level own)
@@ -169,6 +198,10 @@ heads-left own qs =
     ∙ ap length (here-filter (out-Trie own).here test (filter test (paths_below cs))) in
     let most = heads-filter test cs in
     omega arith
+
+-- no more children are left than there were
+pub heads-left : (own : Trie) (qs : List Path) → length (heads (left (paths own) qs)) ≤ length (out-Trie own).below.items
+heads-left own qs = let most = heads-gone own qs in omega arith
 
 -- ---- whether some path is left
 
@@ -225,3 +258,18 @@ loss-rolled t s x h empty fits l =
           fits (subst (λ n. 0 < n) (sym (going-is ds old new each)) lt) in omega arith);
     }))
     (ap (λ y. loses ds new y.below.items) is ∙ sym (losses-are ds old new x.below.items each) ∙ l)
+
+-- room for what is left of a set's children and for those that come is enough, where each child's room is
+pub gain-left : (t : Trie) (ps : List Path) (x : Room-F Room) (n : ℕ) → x.children.items ≡ [] → length (heads ps) ≤ n
+    → (0 < freshes (out-Trie t).below.items ps → n + freshes (out-Trie t).below.items ps ≤ vec_capacity x.children)
+    → gains (out-Trie t).below.items ps x.below.items ≡ true → gain_room t ps (roll-Room x) ≡ true
+gain-left t ps x n empty few fits l =
+    let ds = (out-Trie t).below.items in
+    let is : out-Room (roll-Room x) ≡ x = out-roll-Room x in
+    gain_room-level t ps (roll-Room x)
+    ∙ both _ _
+    (roomy-holds (freshes ds ps) (length (heads ps) + freshes ds ps) (roll-Room x) (record {
+      empty = ap (λ y. y.children.items) is ∙ empty;
+      fits = λ lt. subst (λ m. length (heads ps) + freshes ds ps ≤ m) (sym (ap (λ y. vec_capacity y.children) is)) (let enough = fits lt in omega arith);
+    }))
+    (ap (λ y. gains ds ps y.below.items) is ∙ l)

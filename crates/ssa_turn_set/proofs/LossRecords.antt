@@ -1,26 +1,23 @@
 -- The record of a set that loses some of its paths.
 use Rattle.std.proofs.Common.{◌≡◌, ℕ, ◌+◌, ◌<◌, List, [], length, get_or, take, Option, Some, None, true, false, not, ◌&&◌, Bool, refl, sym, ap, ◌∙◌, subst, true≢false}
 use Rattle.std.proofs.Math.Bool.{and_comm}
-use Rattle.std.specs.List.{filter}
 use Rattle.ssa_model.specs.definitions.Path.{Path}
 use Rattle.ssa_model.specs.definitions.PathMap.{PathSet, has, listed, minus, paths as set_paths}
-use Rattle.ssa_model.proofs.PathMaps.{has-minus, paths-tested, same_sets}
+use Rattle.ssa_model.proofs.PathMaps.{has-minus, same_sets}
 use Rattle.ssa_model.specs.definitions.FieldsV1.{tails}
 use Rattle.ssa_path.specs.declared.element.Elem.{Elem}
 use Rattle.ssa_path.specs.declared.trie.Trie.{Trie}
 use Rattle.ssa_path.specs.Children.{child_at, elements, rises}
 use Rattle.ssa_path.specs.View.{element_view}
-use Rattle.ssa_path.specs.Trie.{is_filled, is_one_of, is_trie, paths, paths_below, shape, IsWithin, Shape}
+use Rattle.ssa_path.specs.Trie.{is_filled, is_one_of, is_trie, paths, paths_below, IsWithin}
 use Rattle.ssa_path.proofs.LyingWithin.{AreWithin, some-path, within-more}
 use Rattle.ssa_path.specs.Combine.{IsCombination}
 use Rattle.ssa_path.specs.declared.combine.Combination.TheVariants.{Meet}
-use Rattle.ssa_turn_set.specs.declared.room.Room.{Room}
 use Rattle.ssa_turn_set.specs.declared.turn.SetDelta.{SetDelta}
 use Rattle.ssa_turn_set.specs.Room.{gain_room, left, lose_room}
 use Rattle.ssa_turn_set.specs.Turn.{IsBetween, IsLed, set_between, set_steps}
 use Rattle.ssa_turn_set.proofs.Tails.{paths_of, tails-below}
-use Rattle.ssa_turn_set.proofs.Twins.{twins-need}
-use Rattle.ssa_turn_set.proofs.Turning.{led-between, listed-paths, meets}
+use Rattle.ssa_turn_set.proofs.Turning.{led-between, left-paths, meets}
 use Rattle.ssa_model.proofs.Lists.{has-listed}
 use Rattle.ssa_model.proofs.Basics.{both-true as both}
 
@@ -28,12 +25,6 @@ nothing-new : (s l : Bool) → ((s && not l) && not s) ≡ false
 nothing-new true true = refl
 nothing-new true false = refl
 nothing-new false l = refl
-
--- the paths of a set without those of another are what is left of them
-left-paths : (s l : Trie) → is_trie s ≡ true → set_paths (minus (listed (paths s)) (listed (paths l))) ≡ left (paths s) (paths l)
-left-paths s l trie =
-    paths-tested (listed (paths s)) (λ p. not (has (listed (paths l)) p))
-    ∙ (λ i. filter (λ p. not (has-listed (paths l) p i)) (listed-paths s trie i))
 
 -- ---- whether a set has all the paths that are lost
 
@@ -55,19 +46,12 @@ within-both : (a b : Bool) → (a ≡ true → b ≡ true) → a ≡ (a && b)
 within-both true b h = sym (h refl)
 within-both false b h = refl
 
--- where a set has all the paths that are lost, a copy of these is what it has of them
-pub copied-meet : (l s t : Trie) → is_trie l ≡ true → IsWithin (paths l) (paths s) → shape t ≡ shape l → IsCombination Meet l s t
-copied-meet l s t trie within same = record {
-  paths_are = λ p. ap (λ (x : Shape). is_one_of x.0 p) same ∙ within-both (is_one_of (paths l) p) (is_one_of (paths s) p) (within p);
-  trie = ap (λ (x : Shape). x.1) same ∙ trie;
+-- where a set has all the paths that are lost, these are what it has of them
+pub own-meet : (l s : Trie) → is_trie l ≡ true → IsWithin (paths l) (paths s) → IsCombination Meet l s l
+own-meet l s trie within = record {
+  paths_are = λ p. within-both (is_one_of (paths l) p) (is_one_of (paths s) p) (within p);
+  trie = trie;
 }
-
--- room to take a set out is room to take a copy of it out
-pub copied-room : (l s t : Trie) (r : Room) → is_trie l ≡ true → shape t ≡ shape l → lose_room l (left (paths s) (paths l)) r ≡ true
-    → lose_room t (left (paths s) (paths t)) r ≡ true
-copied-room l s t r trie same h =
-    ap (λ (x : Shape). lose_room t (left (paths s) x.0) r) same
-    ∙ (twins-need t l (ap (λ (x : Shape). x.1) same ∙ trie) trie (ap (λ (x : Shape). x.0) same)).lose _ r ∙ h
 
 -- ---- the record
 

@@ -1,14 +1,15 @@
 -- Sets changed by what they gain and lose.
 use Rattle.std.proofs.Common.{◌≡◌, List, Bool, true, false, not, ◌&&◌, ◌||◌, refl, sym, ap, ◌∙◌, true≢false, subst}
+use Rattle.std.specs.List.{filter}
 use Rattle.ssa_model.specs.definitions.Path.{Path}
 use Rattle.ssa_model.specs.definitions.PathMap.{PathSet, has, listed, minus, union, paths as set_paths}
-use Rattle.ssa_model.proofs.PathMaps.{has-union, has-minus, same_sets}
+use Rattle.ssa_model.proofs.PathMaps.{has-union, has-minus, paths-tested, same_sets}
 use Rattle.ssa_path.specs.declared.trie.Trie.{Trie}
-use Rattle.ssa_path.specs.declared.combine.Combination.TheVariants.{Union, Minus, Meet}
+use Rattle.ssa_path.specs.declared.combine.Combination.TheVariants.{Union, Minus}
 use Rattle.ssa_path.specs.Combine.{IsCombination}
 use Rattle.ssa_path.specs.Trie.{is_one_of, is_trie, paths}
 use Rattle.ssa_turn_set.specs.declared.turn.SetDelta.{SetDelta}
-use Rattle.ssa_turn_set.specs.Room.{gain_room, lose_room}
+use Rattle.ssa_turn_set.specs.Room.{gain_room, left, lose_room}
 use Rattle.ssa_path.proofs.Sets.{listed-combined}
 use Rattle.ssa_path.proofs.InOrder.{paths-listed, rise-trie}
 use Rattle.ssa_turn_set.specs.Turn.{SetSteps, SetFits, SetTakes, IsBetween, IsLed, set_steps, set_target, set_back, set_between, TargetIsFixed, StepsAreFixed, LeadsBack, SetsAreLed}
@@ -180,18 +181,20 @@ meets true true = refl
 meets true false = refl
 meets false t = refl
 
+-- the paths of a set without those of another are what is left of them
+pub left-paths : (s l : Trie) → is_trie s ≡ true → set_paths (minus (listed (paths s)) (listed (paths l))) ≡ left (paths s) (paths l)
+left-paths s l trie =
+    paths-tested (listed (paths s)) (λ p. not (has (listed (paths l)) p))
+    ∙ (λ i. filter (λ p. not (has-listed (paths l) p i)) (listed-paths s trie i))
+
 -- a record of what comes, what goes and room for both leads from the one set to the other
-pub between-is : (s t : Trie) (d : SetDelta) (m : Trie) → IsCombination Minus t s d.gain → IsCombination Minus s t d.lose → IsCombination Meet s t m
-    → gain_room d.gain (paths m) d.room.gain ≡ true → lose_room d.lose (paths m) d.room.lose ≡ true → IsBetween (listed (paths s)) (listed (paths t)) d
-between-is s t d m gained lost met gain lose =
+pub between-is : (s t : Trie) (d : SetDelta) → is_trie s ≡ true → IsCombination Minus t s d.gain → IsCombination Minus s t d.lose
+    → gain_room d.gain (left (paths s) (paths d.lose)) d.room.gain ≡ true → lose_room d.lose (left (paths s) (paths d.lose)) d.room.lose ≡ true
+    → IsBetween (listed (paths s)) (listed (paths t)) d
+between-is s t d trie gained lost gain lose =
     let steps : set_steps d ≡ set_between (listed (paths s)) (listed (paths t)) =
     λ i. record { gain = listed-combined Minus t s d.gain gained i; lose = listed-combined Minus s t d.lose lost i } in
-    let middle : listed (paths m) ≡ minus (listed (paths s)) (listed (paths d.lose)) =
-    same_sets _ _ (λ p.
-    has-listed (paths m) p ∙ met.paths_are p ∙ meets (is_one_of (paths s) p) (is_one_of (paths t) p)
-    ∙ sym (has-minus (listed (paths s)) (listed (paths d.lose)) p
-    ∙ (λ i. has-listed (paths s) p i && not ((has-listed (paths d.lose) p ∙ lost.paths_are p) i)))) in
-    let ps : set_paths (minus (listed (paths s)) (listed (paths d.lose))) ≡ paths m = ap set_paths (sym middle) ∙ listed-paths m met.trie in
+    let ps = left-paths s d.lose trie in
     let led : IsLed (set_between (listed (paths s)) (listed (paths t))) (listed (paths s)) (listed (paths t)) =
     led-between (listed (paths s)) (listed (paths t)) in
     let own : IsLed (set_steps d) (listed (paths s)) (listed (paths t)) = subst (λ x. IsLed x (listed (paths s)) (listed (paths t))) (sym steps) led in

@@ -1,11 +1,12 @@
 -- Room for a set of paths that is put into another, place by place, as the other stands without it.
-use Rattle.std.specs.Prelude.{ℕ, zero, suc, ◌+◌, List, [], ◌∷◌, length, map, Bool, true, false, not, ◌&&◌, if◌then◌else◌, nat_le, vec_capacity}
+use Rattle.std.specs.Prelude.{ℕ, zero, suc, ◌+◌, List, [], ◌∷◌, length, map, Bool, true, false, not, ◌&&◌, if◌then◌else◌, nat_le, vec_capacity, Option, Some, None}
 use Rattle.ssa_model.specs.definitions.FieldsV1.{heads, tails}
 use Rattle.ssa_model.specs.definitions.Path.{Element, Path}
 use Rattle.ssa_path.specs.declared.element.Elem.{Elem}
 use Rattle.ssa_path.specs.declared.trie.Trie.{Trie}
 use Rattle.ssa_path.specs.declared.trie.Trie.TheOpen.{Trie-F}
 use Rattle.ssa_path.specs.declared.trie.Trie.TheFolds.{fold-Trie}
+use Rattle.ssa_path.specs.Children.{child_at}
 use Rattle.ssa_path.specs.View.{element_view}
 use Rattle.std.specs.List.{filter}
 use Rattle.ssa_path.specs.Trie.{has_some, is_one_of, paths}
@@ -110,3 +111,13 @@ losses [] ps [] = true
 losses [] ps (r ∷ rs) = false
 losses (d ∷ ds) ps [] = false
 losses (d ∷ ds) ps (r ∷ rs) = lose_one d (left (below_child d ps) (paths d.1)) r && losses ds ps rs
+
+-- 1 where the child stands there and nothing is left of it
+abbrev pub gone_of : Option Trie → List Path → ℕ
+gone_of None qs = 0
+gone_of (Some c) qs = fresh (left (paths c) qs)
+
+-- the lost children that stand there and go whole
+abbrev pub leaving : List (Elem × Trie) → List (Elem × Trie) → ℕ
+leaving [] cs = 0
+leaving (d ∷ ds) cs = gone_of (child_at (element_view d.0) cs) (paths d.1) + leaving ds cs

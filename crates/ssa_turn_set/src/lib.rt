@@ -20,7 +20,7 @@ pub(crate) mod filling;
 mod gain;
 pub mod live_set;
 mod lose;
-mod loss;
+pub mod loss;
 pub mod making;
 pub(crate) mod opening;
 pub mod room;

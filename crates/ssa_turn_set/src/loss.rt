@@ -23,7 +23,7 @@ use ssa_path::within::lies_within;
 use std::alloc::{AllocError, Global};
 
 // The place of a child of this element: where there is none, the bare one.
-fn place_or<'a>(own: &'a [(Elem, Trie)], element: &Elem, bare: &'a Trie) -> &'a Trie
+pub(crate) fn place_or<'a>(own: &'a [(Elem, Trie)], element: &Elem, bare: &'a Trie) -> &'a Trie
     requires rise { rises (elements own.now) ≡ true }
     requires tries { are_filled_tries own.now ≡ true }
     requires paths { paths bare.now ≡ [] }
@@ -37,13 +37,16 @@ fn place_or<'a>(own: &'a [(Elem, Trie)], element: &Elem, bare: &'a Trie) -> &'a 
     }
 }
 
-// 1 where nothing is left of a place that loses these paths.
-fn count_gone(place: &Trie, lost: &Trie) -> usize
+// 1 where nothing is left of a place that loses these paths. Of one with more children than are lost something stays.
+pub(crate) fn count_gone(place: &Trie, lost: &Trie) -> usize
     requires place { is_trie place.now ≡ true }
     requires lost { is_trie lost.now ≡ true }
     ensures one { result ≡ fresh (left (paths place.now) (paths lost.now)) }
     ensures most { result ≤ 1 }
 {
+    if place.below.len() > lost.below.len() {
+        return 0;
+    }
     if lies_within(place, lost) { 1 } else { 0 }
 }
 
@@ -100,18 +103,17 @@ fn nothing(alloc: Global) -> (Trie, Room)
 }
 
 // What a set has of the lost paths, with the room to take it out, no more of either than is needed: mostly it has them all.
-fn taken(alloc: Global, lost: &Trie, own: &Trie) -> Result<(Trie, Room), AllocError>
-    requires lost { is_trie lost.now ≡ true }
+fn taken(alloc: Global, lost: Trie, own: &Trie) -> Result<(Trie, Room), AllocError>
+    requires lost { is_trie lost ≡ true }
     requires own { is_trie own.now ≡ true }
-    ensures lost { IfOk result (λ t. IsCombination Combination.Meet lost.now own.now t.0) }
+    ensures lost { IfOk result (λ t. IsCombination Combination.Meet lost own.now t.0) }
     ensures room { IfOk result (λ t. lose_room t.0 (left (paths own.now) (paths t.0)) t.1 ≡ true) }
 {
-    let loss = make_loss_room(alloc, lost, own)?;
+    let loss = make_loss_room(alloc, &lost, own)?;
     if loss.has_all {
-        let copied = lost.copy(alloc)?;
-        return Ok((copied, loss.room));
+        return Ok((lost, loss.room));
     }
-    let met = combine_exactly(alloc, lost, own, Combination::Meet)?;
+    let met = combine_exactly(alloc, &lost, own, Combination::Meet)?;
     let met_loss = make_loss_room(alloc, &met, own)?;
     Ok((met, met_loss.room))
 }
@@ -120,14 +122,19 @@ impl SetDelta {
     /// The record of a set that loses these paths, as far as it has them, with room for every turn of
     /// it.
     ///
-    /// Of the set's other paths only so many are looked at as tell where nothing of it is left. All
-    /// memory that its turns want is taken here; `Err` comes where it is refused.
-    pub fn of_loss(alloc: Global, from: &FieldSet, lost: &FieldSet) -> Result<SetDelta, AllocError>
-        ensures { IfOk result (λ d. IsBetween from.now (minus from.now lost.now) d) }
+    /// Of the set's other paths only so many are looked at as tell where nothing of it is left. A set
+    /// that has all of these paths takes them into its record as they are. All memory that its turns
+    /// want is taken here; `Err` comes where it is refused.
+    pub fn of_loss(
+        alloc: Global,
+        from: &FieldSet,
+        mut lost: FieldSet,
+    ) -> Result<SetDelta, AllocError>
+        ensures { IfOk result (λ d. IsBetween from.now (minus from.now lost) d) }
     {
         let own = from.root();
         let (gain, gain_room) = nothing(alloc);
-        let (lose, lose_room) = taken(alloc, lost.root(), own)?;
+        let (lose, lose_room) = taken(alloc, lost.take_root(), own)?;
         Ok(SetDelta {
             gain,
             lose,

@@ -1,13 +1,16 @@
 //! The record between two sets, with its room.
-ghost use Rattle.std.specs.Prelude.{◌≡◌, ◌≤◌, ◌<◌, [], true, length, vec_capacity, IfOk};
+ghost use Rattle.std.specs.Prelude.{◌≡◌, ◌≤◌, ◌<◌, ◌+◌, ◌^◌, List, [], length, true, vec_capacity, IfOk};
+ghost use Rattle.ssa_model.specs.definitions.FieldsV1.{heads};
+ghost use Rattle.ssa_model.specs.definitions.Path.{Path};
+ghost use Rattle.ssa_path.specs.Children.{child_at, elements, rises};
 ghost use Rattle.ssa_path.specs.View.{element_view};
-ghost use Rattle.ssa_path.specs.Children.{elements, rises};
-ghost use Rattle.ssa_path.specs.Trie.{is_trie, paths, paths_below, are_filled_tries};
+ghost use Rattle.ssa_path.specs.Trie.{are_filled_tries, is_trie, paths};
 ghost use Rattle.ssa_path.specs.Combine.{IsCombination};
-ghost use Rattle.ssa_turn_set.specs.Room.{below_child, fresh, freshes, gain_one, gain_room, lose_one, lose_room};
+ghost use Rattle.ssa_turn_set.specs.Room.{fresh, gain_room, gone_of, leaving, left, serves};
 ghost use Rattle.ssa_turn_set.specs.Spare.{fits, fits_text};
 ghost use Rattle.ssa_turn_set.specs.Turn.{IsBetween};
 
+use crate::loss::{count_gone, make_loss_room, place_or};
 use crate::room::Room;
 use crate::spare::{Spare, emptied_keys};
 use crate::turn::{SetDelta, SetRoom};
@@ -43,31 +46,14 @@ fn make_spare(alloc: Global, element: &Elem) -> Result<Spare, AllocError>
     }
 }
 
-// 1 where there is no child of the element.
-fn count_one(child: &(Elem, Trie), without: &[(Elem, Trie)]) -> usize
-    requires rise { rises (elements without.now) ≡ true }
-    requires tries { are_filled_tries without.now ≡ true }
-    ensures one { result ≡ fresh (below_child child.now (paths_below without.now)) }
-    ensures most { result ≤ 1 }
+// Room for the element of a child that comes; one that is there already needs none.
+fn make_spare_for(alloc: Global, element: &Elem, coming: usize) -> Result<Spare, AllocError>
+    ensures { IfOk result (λ s. (ps : List Path) → coming ≡ fresh ps → serves (element_view element.now) ps s ≡ true) }
 {
-    match find_child(without, &child.0) {
-        Some(_) => 0,
-        None => 1,
+    if coming == 0 {
+        return Ok(Spare::Nothing);
     }
-}
-
-// How many of the children have an element that none of the others has.
-fn count_fresh(children: &[(Elem, Trie)], without: &[(Elem, Trie)]) -> usize
-    requires rise { rises (elements without.now) ≡ true }
-    requires tries { are_filled_tries without.now ≡ true }
-    ensures count { result ≡ freshes children.now (paths_below without.now) }
-    ensures most { result ≤ length children.now }
-{
-    let mut count = 0;
-    for child in children {
-        count += count_one(child, without);
-    }
-    count
+    make_spare(alloc, element)
 }
 
 // An empty vector with room for so many children, where some come or go.
@@ -85,91 +71,85 @@ pub(crate) fn make_children(
     Vec::with_capacity(alloc, len)
 }
 
-/// Room enough to put the paths of `gained` into a set with the paths of `without`.
-#[cycle(gain_room)]
-pub fn make_gain_room(alloc: Global, gained: &Trie, without: &Trie) -> Result<Room, AllocError>
-    requires gained { is_trie gained.now ≡ true }
-    requires without { is_trie without.now ≡ true }
-    ensures { IfOk result (λ r. gain_room gained.now (paths without.now) r ≡ true) }
-{
-    let mut below = Vec::with_capacity(alloc, gained.below.len())?;
-    for child in &gained.below {
-        below.push(make_child_gain_room(alloc, child, &without.below)?)?;
-    }
-    let fresh = count_fresh(&gained.below, &without.below);
-    let children = make_children(alloc, fresh, without.below.len() + fresh)?;
-    Ok(Room { children, below })
-}
-
-#[cycle(gain_room)]
-fn make_child_gain_room(
-    alloc: Global,
-    gained: &(Elem, Trie),
-    without: &[(Elem, Trie)],
-) -> Result<(Spare, Room), AllocError>
-    requires gained { is_trie gained.now.1 ≡ true }
-    requires rise { rises (elements without.now) ≡ true }
-    requires tries { are_filled_tries without.now ≡ true }
-    ensures { IfOk result (λ r. gain_one gained.now (below_child gained.now (paths_below without.now)) r ≡ true) }
-{
-    match find_child(without, &gained.0) {
-        Some(place) => {
-            let room = make_gain_room(alloc, &gained.1, place)?;
-            Ok((Spare::Nothing, room))
-        }
-        None => {
-            let place = Trie {
-                here: false,
-                below: Vec::new(alloc),
-            };
-            let room = make_gain_room(alloc, &gained.1, &place)?;
-            let spare = make_spare(alloc, &gained.0)?;
-            Ok((spare, room))
-        }
-    }
-}
-
-/// Room enough to take the paths of `lost` out of a set that then has the paths of `without`.
-#[cycle(lose_room)]
-pub fn make_lose_room(alloc: Global, lost: &Trie, without: &Trie) -> Result<Room, AllocError>
-    requires lost { is_trie lost.now ≡ true }
-    requires without { is_trie without.now ≡ true }
-    ensures { IfOk result (λ r. lose_room lost.now (paths without.now) r ≡ true) }
-{
-    let mut below = Vec::with_capacity(alloc, lost.below.len())?;
-    for child in &lost.below {
-        below.push(make_child_lose_room(alloc, child, &without.below)?)?;
-    }
-    let leaving = count_fresh(&lost.below, &without.below);
-    let children = make_children(alloc, leaving, without.below.len() + leaving)?;
-    Ok(Room { children, below })
-}
-
-#[cycle(lose_room)]
-fn make_child_lose_room(
-    alloc: Global,
-    lost: &(Elem, Trie),
-    without: &[(Elem, Trie)],
-) -> Result<(Spare, Room), AllocError>
+// 1 where a set's child of the same element goes whole with these paths.
+fn count_leaving(own: &[(Elem, Trie)], lost: &(Elem, Trie)) -> usize
+    requires rise { rises (elements own.now) ≡ true }
+    requires tries { are_filled_tries own.now ≡ true }
     requires lost { is_trie lost.now.1 ≡ true }
-    requires rise { rises (elements without.now) ≡ true }
-    requires tries { are_filled_tries without.now ≡ true }
-    ensures { IfOk result (λ r. lose_one lost.now (below_child lost.now (paths_below without.now)) r ≡ true) }
+    ensures one { result ≡ gone_of (child_at (element_view lost.now.0) own.now) (paths lost.now.1) }
+    ensures most { result ≤ 1 }
 {
-    match find_child(without, &lost.0) {
-        Some(place) => {
-            let room = make_lose_room(alloc, &lost.1, place)?;
-            Ok((Spare::Nothing, room))
-        }
-        None => {
-            let place = Trie {
-                here: false,
-                below: Vec::new(alloc),
-            };
-            let room = make_lose_room(alloc, &lost.1, &place)?;
-            Ok((Spare::Nothing, room))
-        }
+    match find_child(own, &lost.0) {
+        Some(place) => count_gone(place, &lost.1),
+        None => 0,
     }
+}
+
+// How many of a set's children go whole where it loses these.
+fn count_all_leaving(own: &[(Elem, Trie)], lost: &[(Elem, Trie)]) -> usize
+    requires rise { rises (elements own.now) ≡ true }
+    requires tries { are_filled_tries own.now ≡ true }
+    requires lost { are_filled_tries lost.now ≡ true }
+    ensures count { result ≡ leaving lost.now own.now }
+    ensures most { result ≤ length lost.now }
+{
+    let mut count = 0;
+    for child in lost {
+        count += count_leaving(own, child);
+    }
+    count
+}
+
+// Room for so many children that come, beside those that a set has left of its own.
+fn make_coming_children(
+    alloc: Global,
+    coming: usize,
+    own: &Trie,
+    lost: &Trie,
+) -> Result<Vec<(Elem, Trie)>, AllocError>
+    requires own { is_trie own.now ≡ true }
+    requires lost { is_trie lost.now ≡ true }
+    requires few { coming < 2 ^ 63 }
+    ensures items { IfOk result (λ v. v.items ≡ []) }
+    ensures fits { IfOk result (λ v. 0 < coming → length (heads (left (paths own.now) (paths lost.now))) + coming ≤ vec_capacity v) }
+{
+    if coming == 0 {
+        return Ok(Vec::new(alloc));
+    }
+    let leaving = count_all_leaving(&own.below, &lost.below);
+    Vec::with_capacity(alloc, own.below.len() - leaving + coming)
+}
+
+/// Room enough to put the paths of `gained` into a set that had those of `own` and lost those of
+/// `lost`.
+pub fn make_gain_room(
+    alloc: Global,
+    gained: &Trie,
+    own: &Trie,
+    lost: &Trie,
+) -> Result<Room, AllocError>
+    requires gained { is_trie gained.now ≡ true }
+    requires own { is_trie own.now ≡ true }
+    requires lost { is_trie lost.now ≡ true }
+    ensures { IfOk result (λ r. gain_room gained.now (left (paths own.now) (paths lost.now)) r ≡ true) }
+{
+    let bare = Trie {
+        here: false,
+        below: Vec::new(alloc),
+    };
+    let mut below = Vec::with_capacity(alloc, gained.below.len())?;
+    let mut coming = 0;
+    for child in &gained.below {
+        let place = place_or(&own.below, &child.0, &bare);
+        let gone = place_or(&lost.below, &child.0, &bare);
+        let comes = count_gone(place, gone);
+        let spare = make_spare_for(alloc, &child.0, comes)?;
+        let room = make_gain_room(alloc, &child.1, place, gone)?;
+        coming += comes;
+        below.push((spare, room))?;
+    }
+    let children = make_coming_children(alloc, coming, own, lost)?;
+    Ok(Room { children, below })
 }
 
 // What a combination keeps of two tries, with no more room than it needs: a record keeps it for long.
@@ -196,15 +176,14 @@ pub fn between(alloc: Global, from: &FieldSet, to: &FieldSet) -> Result<SetDelta
     let (own, other) = (from.root(), to.root());
     let gained = combine_exactly(alloc, other, own, Combination::Minus)?;
     let lost = combine_exactly(alloc, own, other, Combination::Minus)?;
-    let without = combine(alloc, own, other, Combination::Meet)?;
-    let gain_room = make_gain_room(alloc, &gained, &without)?;
-    let lose_room = make_lose_room(alloc, &lost, &without)?;
+    let gain_room = make_gain_room(alloc, &gained, own, &lost)?;
+    let loss = make_loss_room(alloc, &lost, own)?;
     Ok(SetDelta {
         gain: gained,
         lose: lost,
         room: SetRoom {
             gain: gain_room,
-            lose: lose_room,
+            lose: loss.room,
         },
     })
 }

@@ -1,5 +1,5 @@
 //! The record of what a change makes of a table, in which no set that stays is copied or compared.
-ghost use Rattle.std.specs.Prelude.{◌≡◌, ◌&&◌, not, true, length, map, option_map, IfOk, IfSome};
+ghost use Rattle.std.specs.Prelude.{◌≡◌, ◌≤◌, ◌&&◌, not, true, length, map, option_map, IfOk, IfSome};
 ghost use Rattle.ssa_model.specs.definitions.Json.{same_text};
 ghost use Rattle.ssa_model.specs.definitions.PathMap.{PathSet, minus};
 ghost use Rattle.ssa_model.specs.definitions.Record.{change_of, changes, gone_from, table_record};
@@ -80,10 +80,10 @@ fn is_kept(entry: &Entry, delta: &SetDelta, at: Moment) -> bool
 fn losing(
     alloc: Global,
     entry: &Entry,
-    lost: &FieldSet,
+    lost: FieldSet,
     at: Moment,
 ) -> Result<Option<EntryChange>, AllocError>
-    ensures change { IfOk result (λ c. option_map change_view c ≡ change_of (entry_view entry.now) (Some (owning (entry_view entry.now) (minus entry.now.set lost.now) at))) }
+    ensures change { IfOk result (λ c. option_map change_view c ≡ change_of (entry_view entry.now) (Some (owning (entry_view entry.now) (minus entry.now.set lost) at))) }
     ensures room { IfOk result (λ c. IfSome c (λ d. HasRoom d.set entry.now.set)) }
 {
     let delta = SetDelta::of_loss(alloc, &entry.set, lost)?;
@@ -102,36 +102,54 @@ fn losing(
 fn change_by(
     alloc: Global,
     entry: &Entry,
-    change: &table_change::EntryChange,
+    change: table_change::EntryChange,
 ) -> Result<Option<EntryChange>, AllocError>
-    ensures change { IfOk result (λ c. option_map change_view c ≡ change_in (changed_entry change.now (entry_view entry.now)) (entry_view entry.now)) }
+    ensures change { IfOk result (λ c. option_map change_view c ≡ change_in (changed_entry change (entry_view entry.now)) (entry_view entry.now)) }
     ensures room { IfOk result (λ c. IfSome c (λ d. HasRoom d.set entry.now.set)) }
 {
     match change {
         table_change::EntryChange::Stays => Ok(None),
         table_change::EntryChange::Leaves => Ok(None),
-        table_change::EntryChange::Renewed(at) => renewed(alloc, entry, *at),
-        table_change::EntryChange::Loses(lost, at) => losing(alloc, entry, lost, *at),
-        table_change::EntryChange::Owns(set, at) => change_to(alloc, entry, set, *at),
+        table_change::EntryChange::Renewed(at) => renewed(alloc, entry, at),
+        table_change::EntryChange::Loses(lost, at) => losing(alloc, entry, lost, at),
+        table_change::EntryChange::Owns(set, at) => change_to(alloc, entry, &set, at),
     }
+}
+
+// For how many entries a change is told by which their managers stay: no more changes are recorded.
+fn count_changing(told: &[table_change::EntryChange]) -> usize
+    ensures { result ≤ length told.now }
+{
+    let mut count = 0;
+    for change in told {
+        if !matches!(
+            change,
+            table_change::EntryChange::Stays | table_change::EntryChange::Leaves
+        ) {
+            count += 1;
+        }
+    }
+    count
 }
 
 // The changes of the managers that stay.
 fn changes_by(
     alloc: Global,
     entries: &[Entry],
-    told: &[table_change::EntryChange],
+    told: Vec<table_change::EntryChange>,
 ) -> Result<Vec<EntryChange>, AllocError>
-    requires each { length told.now ≡ length entries.now }
+    requires each { length told.items ≡ length entries.now }
     requires distinct { has_distinct_keys (table_view entries.now) ≡ true }
-    ensures changes { IfOk result (λ cs. changes_view cs.items ≡ changes (table_view entries.now) (changed_entries told.now (table_view entries.now))) }
+    ensures changes { IfOk result (λ cs. changes_view cs.items ≡ changes (table_view entries.now) (changed_entries told.items (table_view entries.now))) }
     ensures room { IfOk result (λ cs. AllHaveRoom (table_view entries.now) cs.items) }
 {
-    let mut changed = Vec::new(alloc);
-    for (place, entry) in entries.iter().enumerate() {
-        if let Some(change) = change_by(alloc, entry, &told[place])? {
-            changed.push(change)?;
+    let mut changed = Vec::with_capacity(alloc, count_changing(&told))?;
+    let mut place = 0;
+    for change in told {
+        if let Some(made) = change_by(alloc, &entries[place], change)? {
+            changed.push(made)?;
         }
+        place += 1;
     }
     Ok(changed)
 }
@@ -195,9 +213,9 @@ pub fn table_delta(
         entries: changes,
         newcomer,
     } = change;
-    let changed = changes_by(alloc, entries, &changes)?;
     let gone = gone_by(alloc, entries, &changes)?;
     let here = here_by(alloc, count_kept(&changes), newcomer)?;
+    let changed = changes_by(alloc, entries, changes)?;
     let room = make_table_room(alloc, gone.len(), here.len())?;
     Ok(TableDelta {
         changed,

@@ -11,10 +11,10 @@ pub returns-then-keeps : goal.returns-then-keeps
 returns-then-keeps c =
     c.new.ensures ∙ absent-none (state_view c.args.state.now) (key_view c.args.key.now) c.args.config.now (c.requires.kept c.if-keeps.true ∙ c.requires.points)
 
-pub returns-in_ok-gone-in-Some : goal.returns-in_ok-gone-in-Some
-returns-in_ok-gone-in-Some c =
+pub returns-in_ok-unreached-in-Some : goal.returns-in_ok-unreached-in-Some
+returns-in_ok-unreached-in-Some c =
     let e = entry_view c.in-Some.entry.now in
-    c.in_ok-gone-in-Some.ensures
+    c.without_root.ensures
     ∙ ap (λ s. set_of (paths s) (λ p. not (is_root p))) (c.in_ok-unreached-in-Some.ensures
     ∙ ap (λ t. set_of (paths e.owned) (λ p. not (has_at_or_below t p))) c.requires.points)
     ∙ unreached e.owned c.args.config.now c.points_tell_places.ensures

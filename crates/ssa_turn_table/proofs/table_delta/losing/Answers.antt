@@ -17,20 +17,20 @@ pub returns-then-is_kept-clause-change : goal.returns-then-is_kept-clause-change
 returns-then-is_kept-clause-change c =
     let e = entry_view c.args.entry.now in
     let s = c.args.entry.now.set in
-    let steps = steps-between s (minus s c.args.lost.now) c.in_ok-delta.delta c.in_ok-delta.ensures in
-    let kept = sym (c.is_kept.ensures ∙ ap (λ b. b && same_text e.moment c.args.at) (lessened s c.args.lost.now c.in_ok-delta.delta steps))
+    let steps = steps-between s (minus s c.args.lost) c.in_ok-delta.delta c.in_ok-delta.ensures in
+    let kept = sym (c.is_kept.ensures ∙ ap (λ b. b && same_text e.moment c.args.at) (lessened s c.args.lost c.in_ok-delta.delta steps))
     ∙ c.if-is_kept.true in
-    sym (ap (λ b. if b then None else Some (change_to e (owning e (minus s c.args.lost.now) c.args.at))) kept)
+    sym (ap (λ b. if b then None else Some (change_to e (owning e (minus s c.args.lost) c.args.at))) kept)
 
 pub returns-clause-change : goal.returns-clause-change
 returns-clause-change c =
     let e = entry_view c.args.entry.now in
     let s = c.args.entry.now.set in
-    let steps = steps-between s (minus s c.args.lost.now) c.in_ok-delta.delta c.in_ok-delta.ensures in
-    let other = sym (c.is_kept.ensures ∙ ap (λ b. b && same_text e.moment c.args.at) (lessened s c.args.lost.now c.in_ok-delta.delta steps))
+    let steps = steps-between s (minus s c.args.lost) c.in_ok-delta.delta c.in_ok-delta.ensures in
+    let other = sym (c.is_kept.ensures ∙ ap (λ b. b && same_text e.moment c.args.at) (lessened s c.args.lost c.in_ok-delta.delta steps))
     ∙ c.if-is_kept.false in
     let made : EntryChange = record { key = c.in_ok-key.key; set = c.in_ok-delta.delta; at = c.new_moment.result } in
-    change-made e (owning e (minus s c.args.lost.now) c.args.at) made other c.in_ok-key.ensures steps c.new_moment.ensures
+    change-made e (owning e (minus s c.args.lost) c.args.at) made other c.in_ok-key.ensures steps c.new_moment.ensures
 
 pub returns-clause-room : goal.returns-clause-room
 returns-clause-room c = c.in_ok-delta.ensures.room
