@@ -7,7 +7,7 @@ use Rattle.ssa_model.specs.definitions.Json.{Text}
 use Rattle.ssa_model.specs.definitions.PathMap.{PathSet, empty, is_empty, minus, same_set}
 use Rattle.ssa_model.specs.definitions.Table.{ManagerKey, Entry, Table, is_in_table, owned_by, reseated, same_manager, seat}
 use Rattle.ssa_model.specs.definitions.Valid.{has_distinct_keys}
-use Rattle.ssa_model.proofs.Basics.{or-false}
+use Rattle.ssa_model.proofs.Basics.{or-false, or_true}
 use Rattle.ssa_model.proofs.ManagerEntries.{entry-absent}
 use Rattle.ssa_model.proofs.Tables.{same_manager-true}
 use Rattle.ssa_path.proofs.Lists.{taken-at}
@@ -22,16 +22,12 @@ use Rattle.ssa_merge.proofs.Seats.{seat-known, seat-nobody, stayed}
 pub owned-absent : (t : Table) (a : ManagerKey) → is_in_table t a ≡ false → owned_by t a ≡ empty
 owned-absent t a h = owned-entry t a ∙ ap set_in (entry-absent t a h)
 
-or-there : (a b : Bool) → b ≡ true → (a || b) ≡ true
-or-there true b h = refl
-or-there false b h = h
-
 there-at : (es : List merge.Entry) (i : ℕ) (e : merge.Entry) (a : ManagerKey) → i < length es → e ≡ get_or es i e → same_manager (entry_view e).manager a ≡ true
     → is_in_table (table_view es) a ≡ true
 there-at [] i e a lt is same = absurd (omega arith)
 there-at (x ∷ es) zero e a lt is same =
     ap (λ y. same_manager (entry_view y).manager a || is_in_table (table_view es) a) (sym is) ∙ ap (λ b. b || is_in_table (table_view es) a) same
-there-at (x ∷ es) (suc i) e a lt is same = or-there _ _ (there-at es i e a (omega arith) is same)
+there-at (x ∷ es) (suc i) e a lt is same = or_true _ _ (there-at es i e a (omega arith) is same)
 
 -- where the manager is that of an entry, it is none of those before
 pub not-before : (es : List merge.Entry) (i : ℕ) (e : merge.Entry) (a : ManagerKey) → has_distinct_keys (table_view es) ≡ true → i < length es → e ≡ get_or es i e

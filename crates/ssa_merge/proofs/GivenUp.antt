@@ -13,7 +13,8 @@ use Rattle.ssa_path.proofs.Sets.{meet-comm}
 use Rattle.ssa_path.specs.Meet.{meet}
 use Rattle.ssa_typed.specs.Reached.{PointsKeepAll, PointsTellPlaces}
 use Rattle.ssa_merge.specs.Absent.{absent}
-use Rattle.ssa_model.proofs.Basics.{and-true as whatever}
+use Rattle.ssa_model.proofs.Basics.{and-false, and-true as whatever}
+use Rattle.ssa_model.proofs.Tests.{same_tests}
 
 both : (a b c : Bool) → ((a && b) && c) ≡ (a && (b && c))
 both true b c = refl
@@ -117,15 +118,11 @@ minus-none s t h =
     let apart = sym (has-set_of (paths s) (has t) p ∙ ap (λ b. b && has t p) (sym (has-paths s p))) ∙ ap (λ m. has m p) (is_empty-true (meet s t) h) in
     sym (has-minus s t p ∙ without_none (has s p) (has t p) apart))
 
-nothing-met : (b : Bool) → (b && false) ≡ false
-nothing-met true = refl
-nothing-met false = refl
-
 -- a set shares nothing with an empty one
 pub meet-none : (s t : PathSet) → is_empty t ≡ true → is_empty (meet s t) ≡ true
 meet-none s t none =
     no-path (meet s t) (λ p.
-    has-set_of (paths s) (has t) p ∙ ap (λ x. is_one_of (paths s) p && has x p) (is_empty-true t none) ∙ nothing-met (is_one_of (paths s) p))
+    has-set_of (paths s) (has t) p ∙ ap (λ x. is_one_of (paths s) p && has x p) (is_empty-true t none) ∙ and-false (is_one_of (paths s) p))
 
 not-both : (a b : Bool) → (a && not (a && b)) ≡ (a && not b)
 not-both true b = refl
@@ -150,7 +147,8 @@ meet-within s t h =
     let none = sym (has-minus t s p) ∙ ap (λ m. has m p) (is_empty-true (minus t s) h) in
     sym (has-set_of (paths s) (has t) p ∙ ap (λ b. b && has t p) (sym (has-paths s p)) ∙ in-both (has s p) (has t p) none))
 
-never : (b : Bool) → (b && not b) ≡ false
+-- what is there is not missing
+pub never : (b : Bool) → (b && not b) ≡ false
 never true = refl
 never false = refl
 
@@ -161,14 +159,9 @@ all-lost s t m is same =
 own-lost : (s t m : PathSet) → m ≡ meet s t → is_empty (minus s t) ≡ true → same_set m s ≡ true
 own-lost s t m is none = ap (λ x. same_set x s) (is ∙ meet-comm s t ∙ sym (meet-within t s none)) ∙ same_set-itself s
 
-both-ways : (a b : Bool) → (a ≡ true → b ≡ true) → (b ≡ true → a ≡ true) → a ≡ b
-both-ways true b f g = sym (f refl)
-both-ways false true f g = g refl
-both-ways false false f g = refl
-
 -- nothing is left of a set where what it has of the lost paths is the set itself
 pub minus-all : (s t m : PathSet) → m ≡ meet s t → same_set m s ≡ is_empty (minus s t)
-minus-all s t m is = both-ways _ _ (all-lost s t m is) (own-lost s t m is)
+minus-all s t m is = same_tests _ _ (all-lost s t m is) (own-lost s t m is)
 
 -- ---- what an Update leaves
 

@@ -3,6 +3,7 @@ use Rattle.std.proofs.Common.{◌≡◌, ℕ, zero, suc, ◌+◌, ◌<◌, List,
 use Rattle.std.proofs.lemmas.List.{map-append, append-nil, append_assoc, length-map, length-take-le}
 use Rattle.std.proofs.lemmas.List.Elements.{filter-append}
 use Rattle.std.specs.Prelude.{filter, if◌then◌else◌}
+use Rattle.ssa_model.proofs.Basics.{or_true}
 use Rattle.ssa_model.specs.definitions.Json.{Text}
 use Rattle.ssa_model.specs.definitions.PathMap.{PathSet, is_empty, minus, same_set}
 use Rattle.ssa_model.specs.definitions.Table.{Entry, Table}
@@ -51,15 +52,11 @@ acted-same e owned changed at some same stays =
     ∷ [])
     ∙ kept-if (acted e owned changed at) owned refl some
 
-or-true : (b : Bool) → (b || true) ≡ true
-or-true true = refl
-or-true false = refl
-
 -- who owns other paths has another moment
 pub acted-other : (e : Entry) (owned : PathSet) (changed : Bool) (at : Text) → is_empty owned ≡ false → same_set owned e.owned ≡ false
     → record { manager = e.manager; owned = owned; moment = at } ∷ [] ≡ filter owns (acted e owned changed at ∷ [])
 acted-other e owned changed at some other =
-    let moves : (changed || not (same_set owned e.owned)) ≡ true = ap (λ b. changed || not b) other ∙ or-true changed in
+    let moves : (changed || not (same_set owned e.owned)) ≡ true = ap (λ b. changed || not b) other ∙ or_true changed true refl in
     (λ i. record { manager = e.manager; owned = owned; moment = if sym moves i then at else e.moment } ∷ [])
     ∙ kept-if (acted e owned changed at) owned refl some
 

@@ -169,10 +169,6 @@ module _ (p : Path) (o : Content) (cs ds : List Child) (fs : Found) (old : List 
       let dropped = length-drop i fs in
       omega arith
 
-  -- so many with the next one are no more than all
-  pub walking-count : i + 1 ≤ length ds
-  walking-count = let c = here.count in omega arith
-
   split : (f : Option ℕ) → get_or fs i None ≡ f → drop i fs ≡ f ∷ drop (i + 1) fs
   split f e = drop_more fs i None walking-index ∙ ap (λ g. g ∷ drop (i + 1) fs) e
 

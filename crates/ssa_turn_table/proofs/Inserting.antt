@@ -13,7 +13,6 @@ use Rattle.ssa_merge.specs.Managers.{key_view, entry_view, table_view}
 use Rattle.ssa_merge.specs.declared.manager.ManagerKey.{ManagerKey as Key}
 use Rattle.ssa_turn_table.specs.declared.delta.Here.{Here}
 use Rattle.ssa_merge.specs.declared.managers.Entry as merge
-use Rattle.ssa_turn_table.specs.Coming.{AreComing}
 use Rattle.ssa_turn_table.specs.Going.{AllKeysAgree}
 use Rattle.ssa_turn_table.specs.Tables.{keys_view, here_view, heres_view}
 

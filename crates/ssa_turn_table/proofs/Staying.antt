@@ -1,5 +1,5 @@
 -- A set that stays, and what becomes of its entry.
-use Rattle.std.proofs.Common.{◌≡◌, List, [], ◌∷◌, Bool, true, false, not, ◌&&◌, Some, None, refl, ap, sym, ◌∙◌}
+use Rattle.std.proofs.Common.{◌≡◌, List, [], ◌∷◌, true, ◌&&◌, Some, None, refl, ap, sym, ◌∙◌}
 use Rattle.std.specs.Cmp.Lexicographic.{pointwise}
 use Rattle.std.specs.Prelude.{if◌then◌else◌}
 use Rattle.ssa_model.specs.definitions.Json.{Text, same_text}
@@ -13,6 +13,7 @@ use Rattle.ssa_path.specs.declared.trie.Trie.{Trie}
 use Rattle.ssa_path.specs.declared.trie.Trie.TheOpen.{Trie-F}
 use Rattle.ssa_path.specs.declared.trie.Trie.TheViews.{roll-Trie}
 use Rattle.ssa_path.specs.Trie.{paths}
+use Rattle.ssa_merge.proofs.GivenUp.{never}
 use Rattle.ssa_merge.specs.TableChanges.{changed_entry}
 use Rattle.ssa_merge.specs.declared.table_change.EntryChange.TheVariants.{Stays}
 use Rattle.ssa_turn_set.specs.declared.room.Room.{Room}
@@ -28,13 +29,9 @@ use Rattle.ssa_model.proofs.Basics.{both-true as both}
 
 -- ---- its record
 
-none-left : (b : Bool) → (b && not b) ≡ false
-none-left true = refl
-none-left false = refl
-
 -- a set without itself has no path
 pub minus-itself : (s : PathSet) → listed [] ≡ minus s s
-minus-itself s = same_sets _ _ (λ p. has-listed [] p ∙ sym (has-minus s s p ∙ none-left (has s p)))
+minus-itself s = same_sets _ _ (λ p. has-listed [] p ∙ sym (has-minus s s p ∙ never (has s p)))
 
 -- nothing is gained and lost, and no room is needed
 pub stays-between : (x y : Trie-F Trie) (r q : Room-F Room) → IsBare x → IsBare y → IsEmptyRoom r → IsEmptyRoom q
