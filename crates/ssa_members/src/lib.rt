@@ -1,7 +1,8 @@
 //! Values under names, in the order of the names' bytes.
 //!
-//! What a JSON object has is held so, as [`Members`]: one vector, in which a name is found by halving. An
-//! object of one member takes a few dozen bytes so, and members that come in order stay as they come.
+//! What a JSON object has is held so, as [`Members`]: one vector, in which a name is found by halving, and
+//! among few by a look at each. An object of one member takes a few dozen bytes so, and members that come
+//! in order stay as they come.
 //!
 //! ```
 //! let mut members = Members::new(rt.alloc());

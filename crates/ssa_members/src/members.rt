@@ -18,8 +18,9 @@ const FEW: usize = 8;
 
 /// Values under names, each name once, in the order of the names' bytes.
 ///
-/// They stand in one vector, so few of them take little memory, and a name is found by halving. A new
-/// name moves those behind it: many at once are put together by [`of_pairs`](Members::of_pairs).
+/// They stand in one vector, so few of them take little memory, and a name is found by halving, among few
+/// by a look at each. A new name moves those behind it: many at once are put together by
+/// [`of_pairs`](Members::of_pairs).
 #[derive(Drop)]
 pub struct Members<V> {
     entries: Vec<(String, V)>,

@@ -227,7 +227,15 @@ fn is_looked_into(object: &Json) -> bool {
     is_found && !is_other && object.is_object() && object.as_text().is_none()
 }
 
-const LOOKED_INTO: [(&str, &str); 2] = [(r#"{"a":"x","b":{}}"#, "true"), (r#""x""#, "false")];
+// Members are looked for among two, and among ten.
+const LOOKED_INTO: [(&str, &str); 3] = [
+    (r#"{"a":"x","b":{}}"#, "true"),
+    (
+        r#"{"a":"x","b":{},"d":1,"e":1,"f":1,"g":1,"h":1,"i":1,"j":1,"k":1}"#,
+        "true",
+    ),
+    (r#""x""#, "false"),
+];
 
 // Puts members in from the last to the first, one of them twice, the second time with this text.
 fn put_members(alloc: Global, members: &mut Members<Json>, text: &str) -> Result<(), AllocError> {
