@@ -1,5 +1,5 @@
 //! Vectors without room that nobody needs.
-ghost use Rattle.std.specs.Prelude.{◌≡◌, [], ◌∷◌, ◌++◌, OnOk};
+ghost use Rattle.std.specs.Prelude.{◌≡◌, ◌<◌, [], ◌∷◌, ◌++◌, length, vec_capacity, OnOk};
 
 use std::alloc::AllocError;
 
@@ -11,7 +11,8 @@ const MANY: usize = 64;
 fn widen<T>(items: &mut Vec<T>) -> Result<(), AllocError>
 where
     T: Drop,
-    ensures { OnOk result (items.new.items ≡ items.old.items) }
+    ensures items { OnOk result (items.new.items ≡ items.old.items) }
+    ensures room { OnOk result (length items.new.items < vec_capacity items.new) }
 {
     let room = items.len().saturating_mul(2).max(4);
     let mut wider = Vec::with_capacity(*items.allocator(), room)?;
