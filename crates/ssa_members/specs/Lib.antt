@@ -1,3 +1,6 @@
 pub mod Members
 pub mod Named
 pub mod formers
+pub mod ShortTexts
+pub mod SmallTexts
+pub mod Texts

@@ -18,6 +18,9 @@
 
 pub mod members;
 pub mod room;
+mod short_text;
+pub mod small_text;
 
 pub use members::{Members, order_names};
 pub use room::push_closely;
+pub use small_text::SmallText;

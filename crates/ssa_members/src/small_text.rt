@@ -1,0 +1,88 @@
+//! Texts that take no memory of their own where they are short.
+ghost use Rattle.std.specs.Prelude.{IsUtf8};
+ghost use Rattle.ssa_members.specs.SmallTexts.{place_bytes};
+
+use crate::short_text::ShortText;
+use std::alloc::{AllocError, Global};
+use std::fmt;
+
+// Where the bytes stand.
+#[derive(Drop)]
+enum Place {
+    Within(ShortText),
+    Beyond(Box<String>),
+}
+
+/// A text of which up to 22 bytes stand in the value itself, and more in memory of their own.
+///
+/// The names of fields are mostly so short: to copy or to drop one of them takes no call of the allocator, and to compare
+/// two of them reads no other memory.
+#[derive(Drop)]
+pub struct SmallText {
+    place: Place,
+    ghost utf8: { ∥ IsUtf8 (place_bytes place) ∥₁ },
+}
+
+impl SmallText {
+    ghost use Rattle.std.specs.Prelude.{◌≡◌, IfOk, string_bytes};
+    ghost use Rattle.ssa_members.specs.Texts.{text_bytes};
+
+    /// The text with these bytes.
+    pub fn from_str(alloc: Global, text: &str) -> Result<SmallText, AllocError>
+        ensures { IfOk result (λ t. text_bytes t ≡ text.now) }
+    {
+        if let Some(short) = ShortText::from_str(text) {
+            return Ok(SmallText {
+                place: Place::Within(short),
+            });
+        }
+        let long = Box::new(alloc, String::from_str(alloc, text)?)?;
+        Ok(SmallText {
+            place: Place::Beyond(long),
+        })
+    }
+
+    /// The same text. A long one keeps its memory, and that of a short one is given back.
+    pub fn from_string(alloc: Global, text: String) -> Result<SmallText, AllocError>
+        ensures { IfOk result (λ t. text_bytes t ≡ string_bytes text) }
+    {
+        if let Some(short) = ShortText::from_str(text.as_str()) {
+            return Ok(SmallText {
+                place: Place::Within(short),
+            });
+        }
+        let long = Box::new(alloc, text)?;
+        Ok(SmallText {
+            place: Place::Beyond(long),
+        })
+    }
+
+    /// The text.
+    #[inline(always)]
+    pub fn as_str(&self) -> &str
+        ensures { result.now ≡ text_bytes self.now }
+    {
+        match &self.place {
+            Place::Within(short) => short.as_str(),
+            Place::Beyond(long) => long.as_str(),
+        }
+    }
+
+    /// The same text. A short one takes no memory.
+    pub fn copy(&self, alloc: Global) -> Result<SmallText, AllocError>
+        ensures { IfOk result (λ t. text_bytes t ≡ text_bytes self.now) }
+    {
+        match &self.place {
+            Place::Within(short) => Ok(SmallText {
+                place: Place::Within(*short),
+            }),
+            Place::Beyond(long) => SmallText::from_str(alloc, long.as_str()),
+        }
+    }
+}
+
+impl fmt::Debug for SmallText {
+    fn fmt<W: fmt::Write>(&self, f: &mut fmt::Formatter<W>) -> fmt::Result {
+        fmt::Debug::fmt(self.as_str(), f)
+    }
+}
