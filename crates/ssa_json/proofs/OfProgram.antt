@@ -6,6 +6,9 @@ use Rattle.std.specs.List.{AllByRecursion}
 use Rattle.std.specs.List.Sorted.{IsStrictlySortedBy}
 use Rattle.std.specs.Map.{keys_of}
 use Rattle.std.specs.Str.{is_utf8}
+use Rattle.ssa_members.proofs.Texts.{text_is_utf8}
+use Rattle.ssa_members.specs.Texts.{text_bytes}
+use Rattle.ssa_members.specs.declared.small_text.SmallText.{SmallText}
 use Rattle.ssa_json.specs.View.{view, items_view, members_view}
 use Rattle.ssa_json.specs.Writable.{has_utf8, items_have_utf8, members_have_utf8, is_below, has_rising_names, items_have_rising_names, members_rise}
 use Rattle.ssa_json.specs.declared.value.Json.{Json}
@@ -14,6 +17,10 @@ use Rattle.ssa_json.proofs.Converting.{Found}
 -- a string of the program is UTF-8
 pub string_is_utf8 : (t : String Global) → is_utf8 (string_bytes t) ≡ true
 string_is_utf8 t = is_utf8-from_IsUtf8 (string_bytes t) (IsUtf8-string_bytes t)
+
+-- and so is a small text
+pub small_text_is_utf8 : (t : SmallText) → is_utf8 (text_bytes t) ≡ true
+small_text_is_utf8 t = is_utf8-from_IsUtf8 (text_bytes t) (text_is_utf8 t)
 
 -- ---- texts
 

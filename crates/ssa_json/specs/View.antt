@@ -2,13 +2,14 @@
 use Rattle.std.specs.Prelude.{List, [], ◌∷◌, map, Option, Some, None, String, string_bytes}
 use Rattle.std.specs.declared.alloc.Global.{Global}
 use Rattle.ssa_model.specs.definitions.Json as model
+use Rattle.ssa_members.specs.Texts.{text_bytes}
 use Rattle.ssa_json.specs.declared.value.Scalar.{Scalar}
 use Rattle.ssa_json.specs.declared.value.Scalar.TheVariants.{Text, Int, Bool}
 use Rattle.ssa_json.specs.declared.value.Json.{Json, fold-Json}
 use Rattle.ssa_json.specs.declared.value.Json.TheOpen.{Json-F}
 
 abbrev pub scalar_view : Scalar → model.Scalar
-scalar_view (Text s) = model.text (string_bytes s)
+scalar_view (Text s) = model.text (text_bytes s)
 scalar_view (Int z) = model.whole z
 scalar_view (Bool b) = model.truth b
 

@@ -12,7 +12,7 @@ impl Scalar {
         ensures { IfOk result (λ s. scalar_view s ≡ scalar_view self.now) }
     {
         match self {
-            Scalar::Text(text) => Ok(Scalar::Text(String::from_str(alloc, text.as_str())?)),
+            Scalar::Text(text) => Ok(Scalar::Text(text.copy(alloc)?)),
             Scalar::Int(n) => Ok(Scalar::Int(*n)),
             Scalar::Bool(b) => Ok(Scalar::Bool(*b)),
         }

@@ -6,6 +6,7 @@ ghost use Rattle.ssa_model.specs.definitions.Replies.{number_json};
 ghost use Rattle.ssa_json.specs.View.{view};
 
 use crate::value::{Json, Scalar};
+use ssa_members::SmallText;
 use std::alloc::{AllocError, Global};
 
 impl Json {
@@ -21,7 +22,7 @@ impl Json {
     pub fn of_text(alloc: Global, text: &str) -> Result<Json, AllocError>
         ensures { IfOk result (λ v. view v ≡ text_json text.now) }
     {
-        let text = String::from_str(alloc, text)?;
+        let text = SmallText::from_str(alloc, text)?;
         Ok(Json::Scalar(Scalar::Text(text)))
     }
 

@@ -7,7 +7,7 @@ ghost use Rattle.ssa_model.specs.definitions.Schema.{has_member};
 ghost use Rattle.ssa_json.specs.View.{view, members_view};
 
 use crate::value::{Json, Scalar};
-use ssa_members::Members;
+use ssa_members::{Members, SmallText};
 use std::alloc::{AllocError, Global};
 
 /// The member of a name, where there is one.
@@ -51,6 +51,6 @@ pub fn put_text(
     ensures ok { OnOk result (members_view members.new.entries ≡ with_member name.now (text_json text.now) (members_view members.old.entries)) }
     ensures err { OnErr result (members.new ≡ members.old) }
 {
-    let value = Json::Scalar(Scalar::Text(String::from_str(alloc, text)?));
+    let value = Json::Scalar(Scalar::Text(SmallText::from_str(alloc, text)?));
     put_member(alloc, members, name, value)
 }

@@ -9,7 +9,7 @@ use crate::reading_room::ReadingRoom;
 use crate::straight::read_straight;
 use crate::value::{Json, Scalar};
 use serde_json::{Map, Value};
-use ssa_members::Members;
+use ssa_members::{Members, SmallText};
 use std::alloc::Global;
 
 impl Json {
@@ -59,7 +59,7 @@ fn converted(alloc: Global, value: Value) -> Result<Json, JsonFault>
             Some(n) => Ok(Json::Scalar(Scalar::Int(n))),
             None => Err(JsonFault::NumberOutside),
         },
-        Value::String(text) => Ok(Json::Scalar(Scalar::Text(text))),
+        Value::String(text) => Ok(Json::Scalar(Scalar::Text(SmallText::from_string(alloc, text)?))),
         Value::Array(items) => Ok(Json::List(converted_items(alloc, items)?)),
         Value::Object(members) => Ok(Json::Object(converted_members(alloc, members)?)),
     }

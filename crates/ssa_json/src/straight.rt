@@ -14,7 +14,7 @@ use crate::reading_room::ReadingRoom;
 use crate::value::{Json, Scalar};
 use itoa::Buffer;
 use json::{Invalid, Reader, Token};
-use ssa_members::{Members, push_closely};
+use ssa_members::{Members, SmallText, push_closely};
 use std::alloc::{AllocError, AllocFailed, Global};
 
 const MOST_DEPTH: usize = 127;
@@ -95,7 +95,7 @@ fn read_value(alloc: Global, reader: &mut Reader<'_>, depth: usize) -> Result<Js
 {
     let token = reader.next().ok_or(NotStraight)?;
     match token {
-        Token::String(text) => Ok(Json::Scalar(Scalar::Text(String::from_str(alloc, text)?))),
+        Token::String(text) => Ok(Json::Scalar(Scalar::Text(SmallText::from_str(alloc, text)?))),
         Token::Number(text) => match whole_number(text) {
             Some(number) => Ok(Json::Scalar(Scalar::Int(number))),
             None => Err(NotStraight),

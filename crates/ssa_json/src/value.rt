@@ -4,12 +4,12 @@ ghost use Rattle.ssa_json.specs.View.{view, members_view, as_object};
 ghost use Rattle.ssa_json.specs.Lookups.{ObjectsAreMembers};
 ghost use Rattle.ssa_model.specs.definitions.Json.{is_object, as_text, member_at};
 
-use ssa_members::Members;
+use ssa_members::{Members, SmallText};
 
 /// A text, a whole number of 64 bits with sign, or a truth value.
 #[derive(Debug, Drop)]
 pub enum Scalar {
-    Text(String),
+    Text(SmallText),
     Int(i64),
     Bool(bool),
 }

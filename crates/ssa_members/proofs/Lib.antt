@@ -2,3 +2,4 @@ pub mod Lent
 pub mod Made
 pub mod Rising
 pub mod Searching
+pub mod Texts

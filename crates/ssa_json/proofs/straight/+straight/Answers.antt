@@ -8,6 +8,7 @@ use Rattle.std.specs.Prelude.{option_map}
 use Rattle.serde_json.specs.Find.{of_integer}
 use Rattle.serde_json.specs.Read.{of_json, of_items, of_members, converted}
 use Rattle.ssa_model.specs.definitions.Json.{Members, no_members}
+use Rattle.ssa_members.specs.Texts.{text_bytes}
 use Rattle.ssa_json.specs.PutInTurn.{put_in_turn}
 use Rattle.ssa_json.specs.View.{view, items_view}
 use Rattle.ssa_json.specs.Written.{data_of, members_data, items_narrow, members_narrow}
@@ -23,7 +24,7 @@ pub read_value-returns-in_ok-from_str-in-String-clause-ok : goal.read_value-retu
 read_value-returns-in_ok-from_str-in-String-clause-ok t c =
     let first : c.args.reader.now ≡ token_of c.in_ok-token.token ∷ c.next.new.self = grind arith in
     let is : c.args.reader.now ≡ Token.string c.in-String.text.now ∷ c.next.new.self = grind (arith, first) in
-    let copied : string_bytes c.in_ok-from_str-in-String.field-0 ≡ c.in-String.text.now = search rules in
+    let copied : text_bytes c.in_ok-from_str-in-String.field-0 ≡ c.in-String.text.now = search rules in
     let seen = ap data_of (view-Scalar (Text c.in_ok-from_str-in-String.field-0)) ∙ ap string copied in
     ap (converted of_json) (ap (value c.args.depth) is ∙ value_is c.args.depth _) ∙ ap (λ d. Some (d, c.next.new.self)) (sym seen)
 

@@ -10,13 +10,13 @@ use Rattle.ssa_json.specs.Written.{tokens_of, items_tokens, members_tokens}
 use Rattle.ssa_json.specs.View.{view, items_view, members_view}
 use Rattle.ssa_json.proofs.Views.{view-List, view-Object}
 use Rattle.ssa_json.proofs.Printing.{items_narrow-push, members_narrow-push}
-use Rattle.ssa_json.proofs.OfProgram.{string_is_utf8, items_have_utf8-push, items_have_rising_names-push, members_have_utf8-push, members_rise-push}
+use Rattle.ssa_json.proofs.OfProgram.{small_text_is_utf8, items_have_utf8-push, items_have_rising_names-push, members_have_utf8-push, members_rise-push}
 use Rattle.ssa_json.proofs.value.Json.TheLaws.{the_size}
 use Rattle.ssa_json.proofs.write.+encode.Goals as goal
 
 pub write_value-returns-in-Scalar-Text-clause-texts : goal.write_value-returns-in-Scalar-Text-clause-texts
 write_value-returns-in-Scalar-Text-clause-texts t c =
-    let text = string_is_utf8 c.in-Scalar-Text.text in
+    let text = small_text_is_utf8 c.in-Scalar-Text.text in
     on_ok_weaker c.string.result (λ _. search (rules, the_lemmas, text)) c.string.ensures.ok
 
 pub write_value-returns-in_ok-begin_array-in-List-clause-tokens : goal.write_value-returns-in_ok-begin_array-in-List-clause-tokens
