@@ -29,7 +29,7 @@ impl SmallText {
 
     /// The text with these bytes.
     pub fn from_str(alloc: Global, text: &str) -> Result<SmallText, AllocError>
-        ensures { IfOk result (λ t. text_bytes t ≡ text.now) }
+        ensures ok { IfOk result (λ t. text_bytes t ≡ text.now) }
     {
         if let Some(short) = ShortText::from_str(text) {
             return Ok(SmallText {
@@ -44,7 +44,7 @@ impl SmallText {
 
     /// The same text. A long one keeps its memory, and that of a short one is given back.
     pub fn from_string(alloc: Global, text: String) -> Result<SmallText, AllocError>
-        ensures { IfOk result (λ t. text_bytes t ≡ string_bytes text) }
+        ensures ok { IfOk result (λ t. text_bytes t ≡ string_bytes text) }
     {
         if let Some(short) = ShortText::from_str(text.as_str()) {
             return Ok(SmallText {
@@ -60,12 +60,20 @@ impl SmallText {
     /// The text.
     #[inline(always)]
     pub fn as_str(&self) -> &str
-        ensures { result.now ≡ text_bytes self.now }
+        ensures value { result.now ≡ text_bytes self.now }
     {
         match &self.place {
             Place::Within(short) => short.as_str(),
             Place::Beyond(long) => long.as_str(),
         }
+    }
+
+    /// The text's bytes.
+    #[inline(always)]
+    pub fn as_bytes(&self) -> &[u8]
+        ensures value { result.now ≡ text_bytes self.now }
+    {
+        self.as_str().as_bytes()
     }
 
     /// The same text. A short one takes no memory.

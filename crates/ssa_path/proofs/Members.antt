@@ -1,9 +1,11 @@
 -- The order of key fields, member by member.
-use Rattle.std.proofs.Common.{◌≡◌, ◌⊎◌, inl, inr, ℕ, ◌+◌, ◌<◌, ◌≤◌, List, [], ◌∷◌, ◌++◌, ◌-◌, ⊎_elim, length, drop, get_or, string_bytes, Bool, true, false, Ordering, Less, Equal, Greater, String, Global, ap, sym, ◌∙◌, refl, arith, append_assoc, true≢false}
+use Rattle.std.proofs.Common.{◌≡◌, ◌⊎◌, inl, inr, ℕ, ◌+◌, ◌<◌, ◌≤◌, List, [], ◌∷◌, ◌++◌, ◌-◌, ⊎_elim, length, drop, get_or, Bool, true, false, Ordering, Less, Equal, Greater, ap, sym, ◌∙◌, refl, arith, append_assoc, true≢false}
 use Rattle.std.proofs.lemmas.List.{drop_all, drop_more, drop-map, length-map, length-drop, drop-drop}
 use Rattle.std.specs.Prelude.{nat_lt}
 use Rattle.std.specs.Ordering.{nat_cmp, ordering_then, is_ne}
 use Rattle.std.proofs.lemmas.Bool.Decides.{nat_tests}
+use Rattle.ssa_members.specs.Texts.{text_bytes}
+use Rattle.ssa_members.specs.declared.small_text.SmallText.{SmallText}
 use Rattle.ssa_model.specs.definitions.Json.{Text, Scalar, quoted, scalar_text, compact_members}
 use Rattle.ssa_model.specs.definitions.Path.{key_members}
 use Rattle.ssa_json.specs.declared.value.Scalar as json
@@ -21,16 +23,16 @@ some_end : (ms : Members) → 0 < length ms → key_end ms ≡ 44 ∷ []
 some_end [] h = absurd (omega arith)
 some_end (m ∷ ms) h = refl
 
-length-left : (ks : List (String Global × json.Scalar)) (i : ℕ) → i < length ks → 0 < length (drop i (members_view ks))
+length-left : (ks : List (SmallText × json.Scalar)) (i : ℕ) → i < length ks → 0 < length (drop i (members_view ks))
 length-left ks i h = simp (drop-map, length-map, length-drop) (omega arith)
 
 -- in front of the members that are left stands a comma
-pub key_end-more : (ks : List (String Global × json.Scalar)) (i : ℕ) → i < length ks → key_end (drop i (members_view ks)) ≡ 44 ∷ []
+pub key_end-more : (ks : List (SmallText × json.Scalar)) (i : ℕ) → i < length ks → key_end (drop i (members_view ks)) ≡ 44 ∷ []
 key_end-more ks i h = some_end (drop i (members_view ks)) (length-left ks i h)
 
 -- where no member is left, the closing brace stands
-pub key_end-none : (ks : List (String Global × json.Scalar)) (i : ℕ) → length ks ≤ i → key_end (drop i (members_view ks)) ≡ 125 ∷ []
-key_end-none ks i h = ap key_end (drop-map (λ m. (string_bytes m.0, scalar_view m.1)) i ks ∙ ap members_view (drop_all i ks h))
+pub key_end-none : (ks : List (SmallText × json.Scalar)) (i : ℕ) → length ks ≤ i → key_end (drop i (members_view ks)) ≡ 125 ∷ []
+key_end-none ks i h = ap key_end (drop-map (λ m. (text_bytes m.0, scalar_view m.1)) i ks ∙ ap members_view (drop_all i ks h))
 
 -- ---- one member after another
 
@@ -218,22 +220,22 @@ pub member-parts : (m n : Text × Scalar) (ms ns : Members) → text_cmp (member
 member-parts m n ms ns = quoted-cmp m.0 n.0 (58 ∷ (scalar_text m.1 ++ key_end ms)) (58 ∷ (scalar_text n.1 ++ key_end ns))
 
 -- what is left at a place is the member there, and then what is left behind it
-pub member-at : (ks : List (String Global × json.Scalar)) (i : ℕ) (k : String Global × json.Scalar) → i < length ks → k ≡ get_or ks i k
-    → drop i (members_view ks) ≡ (string_bytes k.0, scalar_view k.1) ∷ drop (i + 1) (members_view ks)
+pub member-at : (ks : List (SmallText × json.Scalar)) (i : ℕ) (k : SmallText × json.Scalar) → i < length ks → k ≡ get_or ks i k
+    → drop i (members_view ks) ≡ (text_bytes k.0, scalar_view k.1) ∷ drop (i + 1) (members_view ks)
 member-at ks i k h is =
-    let view : String Global × json.Scalar → Text × Scalar = λ m. (string_bytes m.0, scalar_view m.1) in
-    drop-map view i ks ∙ ap members_view (drop_more ks i k h) ∙ (λ j. (string_bytes (sym is j).0, scalar_view (sym is j).1) ∷ sym (drop-map view (i + 1) ks) j)
+    let view : SmallText × json.Scalar → Text × Scalar = λ m. (text_bytes m.0, scalar_view m.1) in
+    drop-map view i ks ∙ ap members_view (drop_more ks i k h) ∙ (λ j. (text_bytes (sym is j).0, scalar_view (sym is j).1) ∷ sym (drop-map view (i + 1) ks) j)
 
 -- at a place of both lists the names decide, and then the values with what ends them
-pub members-at : (ks ls : List (String Global × json.Scalar)) (i : ℕ) (k l : String Global × json.Scalar) → i < length ks → i < length ls → k ≡ get_or ks i k
+pub members-at : (ks ls : List (SmallText × json.Scalar)) (i : ℕ) (k l : SmallText × json.Scalar) → i < length ks → i < length ls → k ≡ get_or ks i k
     → l ≡ get_or ls i l
     → text_cmp (member_text (drop i (members_view ks))) (member_text (drop i (members_view ls)))
-    ≡ ordering_then (text_cmp (quoted (string_bytes k.0)) (quoted (string_bytes l.0)))
+    ≡ ordering_then (text_cmp (quoted (text_bytes k.0)) (quoted (text_bytes l.0)))
     (text_cmp (scalar_text (scalar_view k.1) ++ key_end (drop (i + 1) (members_view ks)))
     (scalar_text (scalar_view l.1) ++ key_end (drop (i + 1) (members_view ls))))
 members-at ks ls i k l g h is_k is_l =
     (λ j. text_cmp (member_text (member-at ks i k g is_k j)) (member_text (member-at ls i l h is_l j)))
-    ∙ member-parts (string_bytes k.0, scalar_view k.1) (string_bytes l.0, scalar_view l.1) (drop (i + 1) (members_view ks)) (drop (i + 1) (members_view ls))
+    ∙ member-parts (text_bytes k.0, scalar_view k.1) (text_bytes l.0, scalar_view l.1) (drop (i + 1) (members_view ks)) (drop (i + 1) (members_view ls))
 
 -- what is decided stays so, whatever follows
 pub then_found : (o q : Ordering) → (o ≡ Equal → ⊥) → o ≡ ordering_then o q
@@ -242,5 +244,5 @@ then_found Equal q h = absurd (h refl)
 then_found Greater q h = refl
 
 -- there are as many members as the program holds
-pub length-members : (ks : List (String Global × json.Scalar)) → length (members_view ks) ≡ length ks
-length-members ks = length-map ks (λ m. (string_bytes m.0, scalar_view m.1))
+pub length-members : (ks : List (SmallText × json.Scalar)) → length (members_view ks) ≡ length ks
+length-members ks = length-map ks (λ m. (text_bytes m.0, scalar_view m.1))

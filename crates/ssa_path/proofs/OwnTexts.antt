@@ -1,10 +1,12 @@
 -- The own text of an element is read as the element.
-use Rattle.std.proofs.Common.{pos, negsuc, true≢false, ◌≡◌, ℕ, max, [], ◌∷◌, Bool, true, false, Some, Ok, String, Global, string_bytes, is_lt, nat_cmp, refl, sym, ap, ◌∙◌, arith, ◌++◌, ◌+◌, ◌<◌, take, get_or, length}
+use Rattle.std.proofs.Common.{pos, negsuc, true≢false, ◌≡◌, ℕ, max, [], ◌∷◌, Bool, true, false, Some, Ok, is_lt, nat_cmp, refl, sym, ap, ◌∙◌, arith, ◌++◌, ◌+◌, ◌<◌, take, get_or, length}
 use Rattle.std.proofs.lemmas.Bool.{and_parts, and_from}
 use Rattle.std.specs.Str.{is_utf8}
 use Rattle.std.proofs.lemmas.List.{take_more}
 use Rattle.std.specs.Cmp.Lexicographic.{slice_cmp}
 use Rattle.std.specs.Prelude.{◌≢◌, option_map, Err}
+use Rattle.ssa_members.specs.Texts.{text_bytes}
+use Rattle.ssa_members.specs.declared.small_text.SmallText.{SmallText}
 use Rattle.ssa_model.specs.definitions.FieldsV1.{is_in_range, are_in_range, names_rise, is_element}
 use Rattle.ssa_model.specs.definitions.Json.{Text, Scalar, text, whole, truth, scalar, object, compact, scalar_text}
 use Rattle.ssa_model.specs.definitions.Path.{Element, field, key, value, key_members, element_text}
@@ -16,7 +18,7 @@ use Rattle.ssa_json.specs.declared.value.Scalar as json
 use Rattle.ssa_json.specs.declared.value.Scalar.TheVariants.{Text as TextOf, Int, Bool as BoolOf}
 use Rattle.ssa_json.specs.Writable.{is_utf8_scalar, members_have_utf8, members_rise, members_depth}
 use Rattle.ssa_model.proofs.Tables.{text-itself as same_text-itself}
-use Rattle.ssa_json.proofs.OfProgram.{string_is_utf8}
+use Rattle.ssa_json.proofs.OfProgram.{small_text_is_utf8}
 use Rattle.ssa_json.proofs.ReadingBack.{compact-is-read}
 use Rattle.ssa_path.specs.Keys.{Members, members_view, names_rise_after, are_keys}
 use Rattle.ssa_path.proofs.Texts.{Fields}
@@ -75,7 +77,7 @@ own-text-is-read e h = own-if-spelled e (no-index e) (spelled e h)
 abbrev pub are_narrow : Fields → Bool
 are_narrow ks = members_narrow (key_members (members_view ks))
 
-are_narrow-push : (ks : Fields) (k : String Global × json.Scalar) → are_narrow ks ≡ true → is_narrow_scalar (scalar_view k.1) ≡ true
+are_narrow-push : (ks : Fields) (k : SmallText × json.Scalar) → are_narrow ks ≡ true → is_narrow_scalar (scalar_view k.1) ≡ true
     → are_narrow (ks ++ k ∷ []) ≡ true
 are_narrow-push [] k before here = and_from (is_narrow_scalar (scalar_view k.1)) true here refl
 are_narrow-push (first ∷ ks) k before here =
@@ -83,13 +85,13 @@ are_narrow-push (first ∷ ks) k before here =
     and_from _ _ parts.0 (are_narrow-push ks k parts.1 here)
 
 -- the next member's number fits too
-pub are_narrow-more : (ks : Fields) (i : ℕ) (k : String Global × json.Scalar) → i < length ks → k ≡ get_or ks i k
+pub are_narrow-more : (ks : Fields) (i : ℕ) (k : SmallText × json.Scalar) → i < length ks → k ≡ get_or ks i k
     → are_narrow (take i ks) ≡ true → is_narrow_scalar (scalar_view k.1) ≡ true → are_narrow (take (i + 1) ks) ≡ true
 are_narrow-more ks i k within is before here =
     ap are_narrow (take_more ks i k within ∙ ap (λ x. take i ks ++ x ∷ []) (sym is)) ∙ are_narrow-push (take i ks) k before here
 
 scalar-is-utf8 : (s : json.Scalar) → is_utf8_scalar (scalar_view s) ≡ true
-scalar-is-utf8 (TextOf t) = string_is_utf8 t
+scalar-is-utf8 (TextOf t) = small_text_is_utf8 t
 scalar-is-utf8 (Int n) = refl
 scalar-is-utf8 (BoolOf b) = refl
 
@@ -97,7 +99,7 @@ scalar-is-utf8 (BoolOf b) = refl
 pub texts-are-utf8 : (ks : Fields) → members_have_utf8 (key_members (members_view ks)) ≡ true
 texts-are-utf8 [] = refl
 texts-are-utf8 (k ∷ ks) =
-    and_from (is_utf8 (string_bytes k.0)) _ (string_is_utf8 k.0)
+    and_from (is_utf8 (text_bytes k.0)) _ (small_text_is_utf8 k.0)
     (and_from (is_utf8_scalar (scalar_view k.1)) (members_have_utf8 (key_members (members_view ks))) (scalar-is-utf8 k.1) (texts-are-utf8 ks))
 
 -- ---- the range of scalars and of key fields
@@ -150,8 +152,8 @@ element-of-program (key (k ∷ ks)) h =
 element-of-program (value s) h = record { lawful = h; narrow = narrow-in-range s h; texts = utf8-in-range s h }
 
 -- what `Elem::text` knows of each sort
-pub field-of-program : (n : String Global) → IsElementOfProgram (field (string_bytes n))
-field-of-program n = record { lawful = string_is_utf8 n; narrow = refl; texts = string_is_utf8 n }
+pub field-of-program : (n : SmallText) → IsElementOfProgram (field (text_bytes n))
+field-of-program n = record { lawful = small_text_is_utf8 n; narrow = refl; texts = small_text_is_utf8 n }
 
 -- the value of a scalar of 64 bits is an element of the program
 pub value-of-program : (s : json.Scalar) → is_narrow_scalar (scalar_view s) ≡ true → IsElementOfProgram (value (scalar_view s))

@@ -1,12 +1,13 @@
 -- The key fields of an item of a list: at least one, in the order of their names' bytes.
-use Rattle.std.specs.Prelude.{List, [], ◌∷◌, map, Bool, true, false, ◌&&◌, Option, Some, None, if◌then◌else◌, String, string_bytes}
-use Rattle.std.specs.declared.alloc.Global.{Global}
+use Rattle.std.specs.Prelude.{List, [], ◌∷◌, map, Bool, true, false, ◌&&◌, Option, Some, None, if◌then◌else◌}
 use Rattle.std.specs.Coded.{Coded, coded×, coded_list}
 use Rattle.std.specs.Ordering.{is_lt, nat_cmp}
 use Rattle.std.specs.Cmp.Lexicographic.{slice_cmp}
 use Rattle.ssa_model.specs.definitions.Json as model
 use Rattle.ssa_model.specs.definitions.Json.{same_text, same_scalar}
 use Rattle.ssa_model.specs.codes.Codes.{coded_text, coded_scalar}
+use Rattle.ssa_members.specs.Texts.{text_bytes}
+use Rattle.ssa_members.specs.declared.small_text.SmallText.{SmallText}
 use Rattle.ssa_json.specs.View.{scalar_view}
 use Rattle.ssa_json.specs.declared.value.Scalar.{Scalar}
 
@@ -16,8 +17,8 @@ Members = List (model.Text × model.Scalar)
 abbrev pub coded_members : Coded Members
 coded_members = coded_list (coded× coded_text coded_scalar)
 
-abbrev pub members_view : List (String Global × Scalar) → Members
-members_view = map (λ m. (string_bytes m.0, scalar_view m.1))
+abbrev pub members_view : List (SmallText × Scalar) → Members
+members_view = map (λ m. (text_bytes m.0, scalar_view m.1))
 
 -- each name stands behind the one before it, the first behind this one
 abbrev pub names_rise_after : model.Text → Members → Bool

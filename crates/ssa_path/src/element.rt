@@ -8,14 +8,14 @@ use crate::keys::{Keys, are_same_members};
 use crate::order::{order_keys, order_values};
 use ssa_json::text::is_same_text;
 use ssa_json::value::Scalar;
-use ssa_members::order_names;
+use ssa_members::{SmallText, order_names};
 use std::alloc::{AllocError, Global};
 use std::cmp::Ordering;
 
 /// A field of a record or an entry of a Dict, or an item of a list by its key fields or its value.
 #[derive(Debug, Drop)]
 pub enum Elem {
-    Field(String),
+    Field(SmallText),
     Key(Keys),
     Value(Scalar),
 }
@@ -92,7 +92,7 @@ impl Elem {
         ensures { IfOk result (λ e. element_view e ≡ element_view self.now) }
     {
         match self {
-            Elem::Field(name) => Ok(Elem::Field(String::from_str(alloc, name.as_str())?)),
+            Elem::Field(name) => Ok(Elem::Field(name.copy(alloc)?)),
             Elem::Key(keys) => {
                 let copied = keys.copy(alloc)?;
                 Ok(Elem::Key(copied))

@@ -16,7 +16,7 @@ use crate::keys::Keys;
 use ssa_json::fault::JsonFault;
 use ssa_json::reading_room::ReadingRoom;
 use ssa_json::value::{Json, Scalar};
-use ssa_members::Members;
+use ssa_members::{Members, SmallText};
 use std::alloc::{AllocError, Global};
 
 impl Elem {
@@ -79,7 +79,7 @@ fn spelled_element(
     ensures { IfOk result (λ o. option_map element_view o ≡ spelled_element json_reading text.now) }
 {
     if let Some(name) = after_beginning(text, "f:") {
-        let name = String::from_str(alloc, name)?;
+        let name = SmallText::from_str(alloc, name)?;
         return Ok(Some(Elem::Field(name)));
     }
     if let Some(json) = after_beginning(text, "v:") {
@@ -161,6 +161,7 @@ fn keys_of(alloc: Global, members: Members<Json>) -> Result<Option<Keys>, AllocE
         let Some(scalar) = into_scalar(member) else {
             return Ok(None);
         };
+        let name = SmallText::from_string(alloc, name)?;
         found.push((name, scalar))?;
     }
     Ok(Keys::new(found))

@@ -13,6 +13,7 @@ ghost use Rattle.ssa_path.specs.View.{element_view};
 use crate::element::Elem;
 use ssa_json::value::{Json, Scalar};
 use ssa_json::write::push_quoted;
+use ssa_members::SmallText;
 use std::alloc::{AllocError, Global};
 
 // The bytes that the text of an item has room for from the start.
@@ -22,7 +23,7 @@ impl Elem {
     // So many bytes the text is given room for: those of a field, and enough for most items.
     fn text_room(&self) -> usize {
         match self {
-            Elem::Field(name) => name.len().saturating_add(2),
+            Elem::Field(name) => name.as_str().len().saturating_add(2),
             Elem::Key(_) => ITEM_ROOM,
             Elem::Value(_) => ITEM_ROOM,
         }
@@ -69,7 +70,7 @@ impl Elem {
 
 /// The text of an element with these key fields, as [`Elem::name`] gives it, whether or not their
 /// names rise.
-pub fn key_name(alloc: Global, members: &[(String, Scalar)]) -> Result<String, AllocError>
+pub fn key_name(alloc: Global, members: &[(SmallText, Scalar)]) -> Result<String, AllocError>
     ensures { IfOk result (λ name. string_bytes name ≡ element_text (key (members_view members.now))) }
 {
     let mut text = Vec::new(alloc);
@@ -116,7 +117,7 @@ fn push_member(
 fn push_members(
     alloc: Global,
     text: &mut Vec<u8>,
-    members: &[(String, Scalar)],
+    members: &[(SmallText, Scalar)],
 ) -> Result<(), AllocError>
     ensures text { OnOk result (text.new.items ≡ text.old.items ++ compact_members false (key_members (members_view members.now))) }
     ensures narrow { OnOk result (members_narrow (key_members (members_view members.now)) ≡ true) }

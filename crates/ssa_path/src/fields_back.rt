@@ -13,6 +13,7 @@ use crate::element::Elem;
 use crate::field_set::FieldSet;
 use crate::trie::Trie;
 use ssa_json::value::Scalar;
+use ssa_members::SmallText;
 
 impl FieldSet {
     /// What the set is written as by `FieldSet::to_fields_v1` has no fault as FieldsV1, and says the
@@ -54,7 +55,7 @@ fn number_fits(scalar: &Scalar)
 }
 
 // Each number of key fields fits 64 bits.
-fn numbers_fit(members: &[(String, Scalar)])
+fn numbers_fit(members: &[(SmallText, Scalar)])
     ensures { members_narrow (key_members (members_view members.now)) ≡ true }
 {
     for member in members {

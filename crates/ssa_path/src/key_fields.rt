@@ -11,10 +11,11 @@ use crate::element::Elem;
 use crate::trie::Trie;
 use ssa_json::text::is_same_text;
 use ssa_json::value::Scalar;
+use ssa_members::SmallText;
 use std::alloc::{AllocError, Global};
 
 // Whether one of the key fields has the name.
-fn have_name(keys: &[(String, Scalar)], name: &str) -> bool
+fn have_name(keys: &[(SmallText, Scalar)], name: &str) -> bool
     ensures { result ≡ names_key (key (members_view keys.now)) (field name.now) }
 {
     for member in keys {
@@ -26,7 +27,7 @@ fn have_name(keys: &[(String, Scalar)], name: &str) -> bool
 }
 
 // Whether the element is that of one of the key fields.
-fn have_field(keys: &[(String, Scalar)], element: &Elem) -> bool
+fn have_field(keys: &[(SmallText, Scalar)], element: &Elem) -> bool
     ensures { result ≡ names_key (key (members_view keys.now)) (element_view element.now) }
 {
     match element {
@@ -37,7 +38,7 @@ fn have_field(keys: &[(String, Scalar)], element: &Elem) -> bool
 }
 
 // The key fields that the element names an item by.
-fn keys_in(element: &Elem) -> &[(String, Scalar)]
+fn keys_in(element: &Elem) -> &[(SmallText, Scalar)]
     ensures { members_view result.now ≡ keys_in (element_view element.now) }
 {
     match element {
@@ -48,7 +49,7 @@ fn keys_in(element: &Elem) -> &[(String, Scalar)]
 }
 
 // Whether the child's own place is in the set and is no key field.
-fn stays(keys: &[(String, Scalar)], child: &(Elem, Trie)) -> bool
+fn stays(keys: &[(SmallText, Scalar)], child: &(Elem, Trie)) -> bool
     ensures { result ≡ (is_one_of (paths child.now.1) [] && not (names_key (key (members_view keys.now)) (element_view child.now.0))) }
 {
     child.1.here && !have_field(keys, &child.0)
@@ -61,7 +62,7 @@ fn stays(keys: &[(String, Scalar)], child: &(Elem, Trie)) -> bool
 pub(crate) fn without_key_fields(
     alloc: Global,
     own: &Trie,
-    keys: &[(String, Scalar)],
+    keys: &[(SmallText, Scalar)],
     here: bool,
 ) -> Result<Trie, AllocError>
     requires { is_trie own.now ≡ true }

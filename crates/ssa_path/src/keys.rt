@@ -1,11 +1,13 @@
 // The key fields that name an item of a list.
-ghost use Rattle.std.specs.Prelude.{◌≡◌, true, IfOk, string_bytes};
+ghost use Rattle.std.specs.Prelude.{◌≡◌, true, IfOk};
 ghost use Rattle.std.specs.Cmp.Lexicographic.{pointwise};
+ghost use Rattle.ssa_members.specs.Texts.{text_bytes};
 ghost use Rattle.ssa_json.specs.View.{scalar_view};
 ghost use Rattle.ssa_path.specs.Keys.{are_keys, keys_of, members_view, names_rise_after, same_key};
 
 use ssa_json::text::is_same_text;
 use ssa_json::value::Scalar;
+use ssa_members::SmallText;
 use std::alloc::{AllocError, Global};
 use std::marker::Model;
 
@@ -14,7 +16,7 @@ use std::marker::Model;
 /// FieldsV1 writes an item of a map list by them, as `k:{"name":"web"}`.
 #[derive(Debug, Drop)]
 pub struct Keys {
-    members: Vec<(String, Scalar)>,
+    members: Vec<(SmallText, Scalar)>,
 }
 
 impl Model for Keys {
@@ -31,7 +33,7 @@ impl Model for Keys {
 }
 
 // Whether each name stands behind the one before it.
-fn do_names_rise(first: &str, members: &[(String, Scalar)]) -> bool
+fn do_names_rise(first: &str, members: &[(SmallText, Scalar)]) -> bool
     ensures { result ≡ names_rise_after first.now (members_view members.now) }
 {
     let mut last = first.as_bytes();
@@ -46,24 +48,24 @@ fn do_names_rise(first: &str, members: &[(String, Scalar)]) -> bool
 }
 
 // Whether there is a member, and the names rise.
-fn are_keys(members: &[(String, Scalar)]) -> bool
+fn are_keys(members: &[(SmallText, Scalar)]) -> bool
     ensures { result ≡ are_keys (members_view members.now) }
 {
     match members {
         [] => false,
-        [first, rest @ ..] => do_names_rise(&first.0, rest),
+        [first, rest @ ..] => do_names_rise(first.0.as_str(), rest),
     }
 }
 
 // Whether both members have one name and one value.
-fn is_same_member(member: &(String, Scalar), other: &(String, Scalar)) -> bool
-    ensures { result ≡ same_key (string_bytes member.now.0, scalar_view member.now.1) (string_bytes other.now.0, scalar_view other.now.1) }
+fn is_same_member(member: &(SmallText, Scalar), other: &(SmallText, Scalar)) -> bool
+    ensures { result ≡ same_key (text_bytes member.now.0, scalar_view member.now.1) (text_bytes other.now.0, scalar_view other.now.1) }
 {
     is_same_text(member.0.as_str(), other.0.as_str()) && member.1.same(&other.1)
 }
 
 /// Whether both have the same names and values. Takes no memory.
-pub fn are_same_members(members: &[(String, Scalar)], others: &[(String, Scalar)]) -> bool
+pub fn are_same_members(members: &[(SmallText, Scalar)], others: &[(SmallText, Scalar)]) -> bool
     ensures { result ≡ pointwise same_key (members_view members.now) (members_view others.now) }
 {
     match (members, others) {
@@ -79,13 +81,13 @@ pub fn are_same_members(members: &[(String, Scalar)], others: &[(String, Scalar)
 // The same members, with new memory.
 fn copy_members(
     alloc: Global,
-    members: &[(String, Scalar)],
-) -> Result<Vec<(String, Scalar)>, AllocError>
+    members: &[(SmallText, Scalar)],
+) -> Result<Vec<(SmallText, Scalar)>, AllocError>
     ensures { IfOk result (λ ms. members_view ms.items ≡ members_view members.now) }
 {
     let mut copies = Vec::new(alloc);
     for member in members {
-        let name = String::from_str(alloc, member.0.as_str())?;
+        let name = member.0.copy(alloc)?;
         let scalar = member.1.copy(alloc)?;
         copies.push((name, scalar))?;
     }
@@ -94,7 +96,7 @@ fn copy_members(
 
 impl Keys {
     /// The key fields with these names and values, where there is one and the names rise by bytes.
-    pub fn new(members: Vec<(String, Scalar)>) -> Option<Keys>
+    pub fn new(members: Vec<(SmallText, Scalar)>) -> Option<Keys>
         ensures { result ≡ keys_of (members_view members.items) }
     {
         if are_keys(&members) {
@@ -105,7 +107,7 @@ impl Keys {
     }
 
     /// The names and values, in the order of the names.
-    pub fn members(&self) -> &[(String, Scalar)]
+    pub fn members(&self) -> &[(SmallText, Scalar)]
         ensures same { members_view result.now ≡ self.now }
         ensures rise { are_keys self.now ≡ true }
     {
@@ -113,7 +115,7 @@ impl Keys {
     }
 
     /// The names and values themselves, in the order of the names.
-    pub fn into_members(self) -> Vec<(String, Scalar)>
+    pub fn into_members(self) -> Vec<(SmallText, Scalar)>
         ensures { members_view result.items ≡ self }
     {
         self.members

@@ -9,6 +9,7 @@ ghost use Rattle.ssa_path.specs.View.{element_view};
 use crate::element::Elem;
 use ssa_json::text::is_same_text;
 use ssa_json::value::Scalar;
+use ssa_members::SmallText;
 
 // The text of a scalar that is one.
 fn text_in(scalar: &Scalar) -> Option<&[u8]>
@@ -22,7 +23,10 @@ fn text_in(scalar: &Scalar) -> Option<&[u8]>
 }
 
 // The text of the first key field, where it has the same name in both.
-fn leading_key<'a>(keys: &[(String, Scalar)], others: &'a [(String, Scalar)]) -> Option<&'a [u8]>
+fn leading_key<'a>(
+    keys: &[(SmallText, Scalar)],
+    others: &'a [(SmallText, Scalar)],
+) -> Option<&'a [u8]>
     ensures { option_copied result ≡ leading_key (members_view keys.now) (members_view others.now) }
 {
     let [key, ..] = keys else {

@@ -11,6 +11,7 @@ ghost use Rattle.ssa_path.specs.Order.{mark, member_text, key_end, BeginAlike};
 
 use itoa::Buffer;
 use ssa_json::value::Scalar;
+use ssa_members::SmallText;
 use std::cmp::Ordering;
 
 // A digit of a hexadecimal number.
@@ -199,7 +200,7 @@ pub fn order_values(scalar: &Scalar, other: &Scalar) -> Ordering
 }
 
 // What stands behind the member at a place of an object.
-fn end_at(keys: &[(String, Scalar)], i: usize) -> &'static [u8]
+fn end_at(keys: &[(SmallText, Scalar)], i: usize) -> &'static [u8]
     requires { i < length keys.now }
     ensures { result.now ≡ key_end (drop (i + 1) (members_view keys.now)) }
 {
@@ -207,7 +208,7 @@ fn end_at(keys: &[(String, Scalar)], i: usize) -> &'static [u8]
 }
 
 // The order of the members at a place of two objects, with what stands behind them.
-fn order_members(keys: &[(String, Scalar)], others: &[(String, Scalar)], i: usize) -> Ordering
+fn order_members(keys: &[(SmallText, Scalar)], others: &[(SmallText, Scalar)], i: usize) -> Ordering
     requires own { i < length keys.now }
     requires others { i < length others.now }
     ensures { result ≡ slice_cmp nat_cmp (member_text (drop i (members_view keys.now)))
@@ -222,7 +223,7 @@ fn order_members(keys: &[(String, Scalar)], others: &[(String, Scalar)], i: usiz
 }
 
 // The order of the key fields as the members of an object.
-pub fn order_keys(keys: &[(String, Scalar)], others: &[(String, Scalar)]) -> Ordering
+pub fn order_keys(keys: &[(SmallText, Scalar)], others: &[(SmallText, Scalar)]) -> Ordering
     ensures { result ≡ slice_cmp nat_cmp (compact_members false (key_members (members_view keys.now)))
         (compact_members false (key_members (members_view others.now))) }
 {

@@ -8,6 +8,7 @@ ghost use Rattle.ssa_path.specs.View.{element_view, path_view};
 
 use crate::element::Elem;
 use ssa_json::value::{Json, Scalar};
+use ssa_members::SmallText;
 use std::alloc::{AllocError, Global};
 use std::cmp::Ordering;
 
@@ -23,7 +24,8 @@ fn push_text(alloc: Global, element: &Elem, texts: &mut Vec<Json>) -> Result<(),
     ensures { OnOk result (map view texts.new.items ≡ map view texts.old.items ++ text_of (element_view element.now) ∷ []) }
 {
     let name = element.name(alloc)?;
-    texts.push(Json::Scalar(Scalar::Text(name)))?;
+    let text = SmallText::from_string(alloc, name)?;
+    texts.push(Json::Scalar(Scalar::Text(text)))?;
     Ok(())
 }
 

@@ -1,4 +1,4 @@
-use Rattle.std.proofs.Common.{◌≡◌, [], Some, arith, string_bytes, option_map, sym, ap, ◌∙◌}
+use Rattle.std.proofs.Common.{◌≡◌, ◌∷◌, ◌++◌, [], Some, arith, string_bytes, option_map, sym, ap, ◌∙◌}
 use Rattle.std.proofs.lemmas.List.{nil_from_length}
 use Rattle.std.specs.Vec.Iter.{into_iter_items}
 use Rattle.ssa_model.specs.definitions.Path.{key}
@@ -19,7 +19,8 @@ loop-name-preserved c =
     l.invariant
     ∙ ap (λ es. with_keys (members_view l.found.items) (key_of (json_members es))) c.in-Some.ensures.steps.0
     ∙ with_keys-more (members_view l.found.items) (string_bytes c.in-Some.name) (view c.in-Some.member) (scalar_view scalar) left is
-    ∙ ap (λ front. with_keys front (key_of left)) (pushed l.found.items c.in-Some.name scalar c.push.new.self.items c.in_ok-push.ensures.items)
+    ∙ ap (λ n. with_keys (members_view l.found.items ++ (n, scalar_view scalar) ∷ []) (key_of left)) (sym c.in_ok-name.ensures.ok)
+    ∙ ap (λ front. with_keys front (key_of left)) (pushed l.found.items c.in_ok-name.name scalar c.push.new.self.items c.in_ok-push.ensures.items)
 
 pub returns : goal.returns
 returns c =

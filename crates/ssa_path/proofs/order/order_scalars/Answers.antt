@@ -1,5 +1,6 @@
-use Rattle.std.proofs.Common.{◌++◌, ◌∙◌, sym, string_bytes}
+use Rattle.std.proofs.Common.{◌++◌, ◌∙◌, sym}
 use Rattle.std.specs.Ordering.{ordering_then}
+use Rattle.ssa_members.specs.Texts.{text_bytes}
 use Rattle.ssa_model.specs.definitions.Json.{text, scalar_text}
 use Rattle.ssa_json.specs.View.{scalar_view}
 use Rattle.ssa_path.proofs.Parts.{text_cmp}
@@ -13,7 +14,7 @@ returns-in-Equal c =
     (scalar_text (text (c.as_bytes-in-Text-Text.ensures.value j)))) in
     c.cmp.ensures
     ∙ (λ i. ordering_then ((sym c.in-Equal.is ∙ texts) i) (text_cmp c.args.end.now c.args.other_end.now))
-    ∙ sym (quoted-cmp (string_bytes c.in-Text-Text.text) (string_bytes c.in-Text-Text.other_text) c.args.end.now c.args.other_end.now)
+    ∙ sym (quoted-cmp (text_bytes c.in-Text-Text.text) (text_bytes c.in-Text-Text.other_text) c.args.end.now c.args.other_end.now)
     ∙ (λ i. text_cmp (scalar_text (scalar_view (sym c.in-Text-Text.is-0 i)) ++ c.args.end.now)
     (scalar_text (scalar_view (sym c.in-Text-Text.is-1 i)) ++ c.args.other_end.now))
 
@@ -24,19 +25,19 @@ returns-in_default c =
     let rest = text_cmp c.args.end.now c.args.other_end.now in
     then_found c.order_quoted.result rest c.in_default.not-Equal
     ∙ (λ i. ordering_then (texts i) rest)
-    ∙ sym (quoted-cmp (string_bytes c.in-Text-Text.text) (string_bytes c.in-Text-Text.other_text) c.args.end.now c.args.other_end.now)
+    ∙ sym (quoted-cmp (text_bytes c.in-Text-Text.text) (text_bytes c.in-Text-Text.other_text) c.args.end.now c.args.other_end.now)
     ∙ (λ i. text_cmp (scalar_text (scalar_view (sym c.in-Text-Text.is-0 i)) ++ c.args.end.now)
     (scalar_text (scalar_view (sym c.in-Text-Text.is-1 i)) ++ c.args.other_end.now))
 
 pub returns-in-Text-Int : goal.returns-in-Text-Int
 returns-in-Text-Int c =
-    sym (text-number (string_bytes c.in-Text-Int.field-0-0) c.in-Text-Int.field-0-1 c.args.end.now c.args.other_end.now)
+    sym (text-number (text_bytes c.in-Text-Int.field-0-0) c.in-Text-Int.field-0-1 c.args.end.now c.args.other_end.now)
     ∙ (λ i. text_cmp (scalar_text (scalar_view (sym c.in-Text-Int.is-0 i)) ++ c.args.end.now)
     (scalar_text (scalar_view (sym c.in-Text-Int.is-1 i)) ++ c.args.other_end.now))
 
 pub returns-in-Int-Text : goal.returns-in-Int-Text
 returns-in-Int-Text c =
-    sym (number-text c.in-Int-Text.field-0-0 (string_bytes c.in-Int-Text.field-0-1) c.args.end.now c.args.other_end.now)
+    sym (number-text c.in-Int-Text.field-0-0 (text_bytes c.in-Int-Text.field-0-1) c.args.end.now c.args.other_end.now)
     ∙ (λ i. text_cmp (scalar_text (scalar_view (sym c.in-Int-Text.is-0 i)) ++ c.args.end.now)
     (scalar_text (scalar_view (sym c.in-Int-Text.is-1 i)) ++ c.args.other_end.now))
 
