@@ -1,6 +1,7 @@
 -- The compact text of a value is what is printed for its tokens.
-use Rattle.std.proofs.Common.{◌≡◌, ℕ, suc, ◌<◌, ◌^◌, nat_eq, ℤ, pos, negsuc, List, [], ◌∷◌, ◌++◌, Bool, true, false, refl, sym, ap, ap₂, ◌∙◌, subst, arith, rules, ltb-true, append-nil}
+use Rattle.std.proofs.Common.{◌≡◌, ℕ, suc, ◌<◌, ◌^◌, nat_eq, ℤ, pos, negsuc, List, [], ◌∷◌, ◌++◌, Bool, true, false, refl, sym, ap, ap₂, ◌∙◌, subst, string_bytes, FitsSigned, w64, to_z, of_z, arith, rules, ltb-true, append-nil, append_assoc}
 use Rattle.std.proofs.lemmas.Bool.{eqb-true, and_parts, and_from}
+use Rattle.std.proofs.lemmas.Int.{to_z-of_z}
 use Rattle.std.proofs.lemmas.Fmt.{PrependsLastDigit, decimal_from_prepends, length-decimal-le_succ}
 use Rattle.std.specs.Fmt as fmt
 use Rattle.json.specs.Print as print
@@ -79,6 +80,10 @@ pub whole-is : (z : ℤ) → is_narrow_whole z ≡ true → fmt.signed_decimal z
 whole-is (pos n) narrow = decimal-is n (let small = ltb-true n (2 ^ 63) narrow in omega arith)
 whole-is (negsuc n) narrow = ap (λ t. 45 ∷ t) (decimal-is (suc n) (let small = ltb-true n (2 ^ 63) narrow in omega arith))
 
+-- so it is when it is taken from its 64 bits
+pub written-is : (z : ℤ) → FitsSigned w64 z → is_narrow_whole z ≡ true → fmt.signed_decimal (to_z w64 (of_z w64 z)) ≡ whole_text z
+written-is z fits narrow = ap fmt.signed_decimal (to_z-of_z w64 z fits) ∙ whole-is z narrow
+
 -- ---- the text of the data is that of the value
 
 scalar-text : (s : Scalar) → is_narrow_scalar s ≡ true → written.compact_text (scalar_data s) ≡ scalar_text s
@@ -127,3 +132,23 @@ members_narrow-push [] m before here = rw here refl
 members_narrow-push (w ∷ ms) m before here =
     let parts = and_parts (is_narrow (view w.1)) (members_narrow (members_view ms)) before in
     and_from (is_narrow (view w.1)) _ parts.0 (members_narrow-push ms m parts.1 here)
+
+-- one item more is written behind those before
+pub item-written : (old : Text) {comma new : Text} (later : Bool) (v : Json) (vs : List Json) → comma ≡ old ++ comma_if later → new ≡ comma ++ compact (view v)
+    → new ++ compact_items true (items_view vs) ≡ old ++ compact_items later (items_view (v ∷ vs))
+item-written old later v vs behind written =
+    let rest = compact_items true (items_view vs) in
+    ap (λ t. t ++ rest) (written ∙ ap (λ t. t ++ compact (view v)) behind) ∙ append_assoc (old ++ comma_if later) (compact (view v)) rest
+    ∙ append_assoc old (comma_if later) (compact (view v) ++ rest)
+
+-- so is one member more
+pub member-written : (old : Text) {comma name colon new : Text} (later : Bool) (m : Found) (ms : List Found) → comma ≡ old ++ comma_if later
+    → name ≡ comma ++ quoted (string_bytes m.0) → colon ≡ name ++ 58 ∷ [] → new ≡ colon ++ compact (view m.1)
+    → new ++ compact_members true (members_view ms) ≡ old ++ compact_members later (members_view (m ∷ ms))
+member-written old {comma = comma} {name = name} later m ms behind named colon written =
+    let rest = compact_members true (members_view ms) in
+    let value = compact (view m.1) in
+    let key = quoted (string_bytes m.0) in
+    ap (λ t. t ++ rest) (written ∙ ap (λ t. t ++ value) colon) ∙ append_assoc (name ++ 58 ∷ []) value rest ∙ append_assoc name (58 ∷ []) (value ++ rest)
+    ∙ ap (λ t. t ++ 58 ∷ (value ++ rest)) (named ∙ ap (λ t. t ++ key) behind) ∙ append_assoc (old ++ comma_if later) key (58 ∷ (value ++ rest))
+    ∙ append_assoc old (comma_if later) (key ++ 58 ∷ (value ++ rest))

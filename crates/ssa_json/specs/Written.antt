@@ -5,7 +5,7 @@ use Rattle.json.specs.Token.{Token}
 use Rattle.json.specs.Tree as tree
 use Rattle.serde_json.specs.Data as json
 use Rattle.serde_json.specs.Find.{of_integer}
-use Rattle.serde_json.specs.Written.{outline, items_outline, members_outline}
+use Rattle.serde_json.specs.Written.{outline}
 use Rattle.ssa_model.specs.definitions.Json as model
 
 -- the value as any JSON data
@@ -31,14 +31,6 @@ abbrev mutual
 -- the tokens of the value
 abbrev pub tokens_of : model.Json → List Token
 tokens_of v = tree.json_tokens (outline (data_of v))
-
--- the tokens of the items, with the bracket that closes a list
-abbrev pub items_tokens : model.Items → List Token
-items_tokens vs = tree.items_tokens (items_outline (items_data vs))
-
--- the tokens of the members, with the bracket that closes an object
-abbrev pub members_tokens : model.Members → List Token
-members_tokens ms = tree.members_tokens (members_outline (members_data ms))
 
 -- the number fits in 64 bits, with its sign
 abbrev pub is_narrow_whole : ℤ → Bool

@@ -1,16 +1,18 @@
 //! Prints JSON values.
-ghost use Rattle.std.specs.Prelude.{◌≡◌, ◌≤◌, ◌++◌, Ok, IfOk, OnOk, string_bytes, true};
-ghost use Rattle.ssa_model.specs.definitions.Json.{compact, quoted};
+ghost use Rattle.std.specs.Prelude.{◌≡◌, ◌≤◌, [], ◌∷◌, ◌++◌, Ok, IfOk, OnOk, string_bytes, false, true};
+ghost use Rattle.std.specs.List.{list_all};
+ghost use Rattle.ssa_model.specs.definitions.Json.{comma_if, compact, compact_items, compact_members, quoted, scalar_text, whole_text};
+ghost use Rattle.ssa_json.specs.Plain.{is_plain};
 ghost use Rattle.ssa_json.specs.Reading.{json_reading};
-ghost use Rattle.ssa_json.specs.View.{view, items_view, members_view};
-ghost use Rattle.ssa_json.specs.Writable.{CompactIsRead, IsOfProgram, depth, has_rising_names, has_utf8, items_have_rising_names, items_have_utf8, max_depth, members_have_utf8, members_rise};
-ghost use Rattle.ssa_json.specs.Written.{DecimalsArePrinted, tokens_of, items_tokens, members_tokens, is_narrow, items_narrow, members_narrow};
+ghost use Rattle.ssa_json.specs.View.{view, scalar_view, items_view, members_view};
+ghost use Rattle.ssa_json.specs.Writable.{CompactIsRead, IsOfProgram, depth, has_rising_names, has_utf8, is_utf8_scalar, items_have_rising_names, items_have_utf8, max_depth, members_have_utf8, members_rise};
+ghost use Rattle.ssa_json.specs.Written.{DecimalsArePrinted, is_narrow, is_narrow_scalar, is_narrow_whole, items_narrow, members_narrow};
 
 use crate::value::{Json, Scalar};
+use itoa::Buffer;
 use json::Writer;
 use ssa_members::Members;
 use std::alloc::{AllocError, Global};
-use std::mem;
 
 // The bytes that a text has room for from the start.
 const FIRST_ROOM: usize = 128;
@@ -35,10 +37,7 @@ impl Json {
         ensures text { OnOk result (text.new.items ≡ text.old.items ++ compact (view self.now)) }
         ensures of_program { OnOk result (IsOfProgram (view self.now)) }
     {
-        let mut writer = Writer::new(mem::replace(text, Vec::new(alloc)));
-        let written = write_value(&mut writer, self);
-        *text = writer.into_inner();
-        written
+        write_value(alloc, text, self)
     }
 
     /// The compact spelling, as a text.
@@ -57,10 +56,11 @@ impl Json {
 pub fn push_quoted(alloc: Global, text: &mut Vec<u8>, string: &str) -> Result<(), AllocError>
     ensures { OnOk result (text.new.items ≡ text.old.items ++ quoted string.now) }
 {
-    let mut writer = Writer::new(mem::replace(text, Vec::new(alloc)));
-    let written = writer.string(string);
-    *text = writer.into_inner();
-    written
+    if is_plain(string) {
+        push_plain(text, string)
+    } else {
+        push_escaped(alloc, text, string)
+    }
 }
 
 /// Reading the compact text of a value gives the value, where its numbers fit 64 bits, its texts are
@@ -74,57 +74,131 @@ pub fn decimals_are_printed()
     ensures { DecimalsArePrinted }
 {}
 
-// Writes the tokens of a value behind those before. Where memory runs out, some of them may be written.
+// Whether each byte of a text stands for itself in quotes.
+fn is_plain(text: &str) -> bool
+    ensures { result ≡ list_all is_plain text.now }
+{
+    for byte in text.as_bytes() {
+        if *byte < 0x20 || *byte == b'"' || *byte == b'\\' {
+            return false;
+        }
+    }
+    true
+}
+
+// Appends a text that needs no escapes in quotes.
+fn push_plain(text: &mut Vec<u8>, string: &str) -> Result<(), AllocError>
+    ensures { OnOk result (text.new.items ≡ text.old.items ++ 34 ∷ (string.now ++ 34 ∷ [])) }
+{
+    text.reserve(string.len() + 2)?;
+    text.push(b'"')?;
+    text.extend_from_slice(string.as_bytes())?;
+    text.push(b'"')?;
+    Ok(())
+}
+
+// Appends a string in quotes, with its escapes. They are made in a text of its own.
+fn push_escaped(alloc: Global, text: &mut Vec<u8>, string: &str) -> Result<(), AllocError>
+    ensures { OnOk result (text.new.items ≡ text.old.items ++ quoted string.now) }
+{
+    let mut writer = Writer::new(Vec::with_capacity(alloc, string.len() + 2)?);
+    writer.string(string)?;
+    let quoted = writer.into_inner();
+    text.extend_from_slice(&quoted)
+}
+
+// Appends a whole number in decimal.
+fn push_whole(text: &mut Vec<u8>, number: i64) -> Result<(), AllocError>
+    ensures text { OnOk result (text.new.items ≡ text.old.items ++ whole_text number) }
+    ensures narrow { is_narrow_whole number ≡ true }
+{
+    let mut digits = Buffer::new();
+    text.extend_from_slice(digits.format(number).as_bytes())
+}
+
+// Appends a scalar.
+fn write_scalar(alloc: Global, text: &mut Vec<u8>, scalar: &Scalar) -> Result<(), AllocError>
+    ensures text { OnOk result (text.new.items ≡ text.old.items ++ scalar_text (scalar_view scalar.now)) }
+    ensures narrow { OnOk result (is_narrow_scalar (scalar_view scalar.now) ≡ true) }
+    ensures texts { OnOk result (is_utf8_scalar (scalar_view scalar.now) ≡ true) }
+{
+    match scalar {
+        Scalar::Text(string) => push_quoted(alloc, text, string.as_str()),
+        Scalar::Int(number) => push_whole(text, *number),
+        Scalar::Bool(true) => text.extend_from_slice(b"true"),
+        Scalar::Bool(false) => text.extend_from_slice(b"false"),
+    }
+}
+
+// Appends the comma in front of each item but the first.
+fn push_comma(text: &mut Vec<u8>, is_later: bool) -> Result<(), AllocError>
+    ensures { OnOk result (text.new.items ≡ text.old.items ++ comma_if is_later) }
+{
+    if is_later {
+        text.push(b',')?;
+    }
+    Ok(())
+}
+
+// Appends a value. Where memory runs out, part of it may stand there.
 #[cycle(encode)]
-fn write_value(writer: &mut Writer, value: &Json) -> Result<(), AllocError>
-    ensures tokens { OnOk result (writer.new.tokens ≡ writer.old.tokens ++ tokens_of (view value.now)) }
-    ensures before { writer.new.before ≡ writer.old.before }
+fn write_value(alloc: Global, text: &mut Vec<u8>, value: &Json) -> Result<(), AllocError>
+    ensures text { OnOk result (text.new.items ≡ text.old.items ++ compact (view value.now)) }
     ensures narrow { OnOk result (is_narrow (view value.now) ≡ true) }
     ensures texts { OnOk result (has_utf8 (view value.now) ≡ true) }
     ensures names { OnOk result (has_rising_names (view value.now) ≡ true) }
 {
     match value {
-        Json::Scalar(Scalar::Text(text)) => writer.string(text.as_str()),
-        Json::Scalar(Scalar::Int(n)) => writer.i64(*n),
-        Json::Scalar(Scalar::Bool(b)) => writer.boolean(*b),
+        Json::Scalar(scalar) => write_scalar(alloc, text, scalar),
         Json::List(items) => {
-            writer.begin_array()?;
-            write_items(writer, items)
+            text.push(b'[')?;
+            write_items(alloc, text, items)
         }
         Json::Object(members) => {
-            writer.begin_object()?;
-            write_members(writer, members)
+            text.push(b'{')?;
+            write_members(alloc, text, members)
         }
     }
 }
 
-// Writes the items of a list, and the bracket that closes it.
+// Appends the items of a list, and the bracket that closes it.
 #[cycle(encode)]
-fn write_items(writer: &mut Writer, items: &Vec<Json>) -> Result<(), AllocError>
-    ensures tokens { OnOk result (writer.new.tokens ≡ writer.old.tokens ++ items_tokens (items_view items.now.items)) }
-    ensures before { writer.new.before ≡ writer.old.before }
+fn write_items(alloc: Global, text: &mut Vec<u8>, items: &Vec<Json>) -> Result<(), AllocError>
+    ensures text { OnOk result (text.new.items ≡ text.old.items ++ compact_items false (items_view items.now.items)) }
     ensures narrow { OnOk result (items_narrow (items_view items.now.items) ≡ true) }
     ensures texts { OnOk result (items_have_utf8 (items_view items.now.items) ≡ true) }
     ensures names { OnOk result (items_have_rising_names (items_view items.now.items) ≡ true) }
 {
+    let mut is_later = false;
     for item in items {
-        write_value(writer, item)?;
+        push_comma(text, is_later)?;
+        write_value(alloc, text, item)?;
+        is_later = true;
     }
-    writer.end_array()
+    text.push(b']')?;
+    Ok(())
 }
 
-// Writes the members of an object, and the bracket that closes it.
+// Appends the members of an object, and the bracket that closes it.
 #[cycle(encode)]
-fn write_members(writer: &mut Writer, members: &Members<Json>) -> Result<(), AllocError>
-    ensures tokens { OnOk result (writer.new.tokens ≡ writer.old.tokens ++ members_tokens (members_view members.now.entries)) }
-    ensures before { writer.new.before ≡ writer.old.before }
+fn write_members(
+    alloc: Global,
+    text: &mut Vec<u8>,
+    members: &Members<Json>,
+) -> Result<(), AllocError>
+    ensures text { OnOk result (text.new.items ≡ text.old.items ++ compact_members false (members_view members.now.entries)) }
     ensures narrow { OnOk result (members_narrow (members_view members.now.entries) ≡ true) }
     ensures texts { OnOk result (members_have_utf8 (members_view members.now.entries) ≡ true) }
     ensures names { OnOk result (members_rise (members_view members.now.entries) ≡ true) }
 {
+    let mut is_later = false;
     for (key, member) in members.entries() {
-        writer.key(key.as_str())?;
-        write_value(writer, member)?;
+        push_comma(text, is_later)?;
+        push_quoted(alloc, text, key.as_str())?;
+        text.push(b':')?;
+        write_value(alloc, text, member)?;
+        is_later = true;
     }
-    writer.end_object()
+    text.push(b'}')?;
+    Ok(())
 }
