@@ -1,102 +1,47 @@
 -- How many of a set's children are left where it loses some of its paths, told child by child of what is lost.
-use Rattle.std.proofs.Common.{◌≡◌, ℕ, ◌+◌, ◌<◌, ◌≤◌, List, [], ◌∷◌, ◌++◌, length, get_or, take, Bool, true, false, not, ◌&&◌, cond, Option, Some, None, Ordering, Less, Equal, Greater, refl, sym, ap, ◌∙◌, arith, true≢false}
+use Rattle.std.specs.Prelude.{◌==◌}
+use Rattle.std.proofs.lemmas.Bool.{ne_eqb}
+use Rattle.std.proofs.Common.{eq-eqb, ◌≡◌, ℕ, ◌+◌, ◌<◌, ◌≤◌, List, [], ◌∷◌, ◌++◌, length, get_or, take, Bool, true, false, not, ◌&&◌, cond, Option, Some, None, refl, sym, ap, ◌∙◌, arith, true≢false}
 use Rattle.std.specs.List.{filter}
-use Rattle.std.specs.Ordering.{is_lt, is_eq, ordering_reverse}
-use Rattle.ssa_model.specs.definitions.FieldsV1.{heads, tails}
-use Rattle.ssa_model.specs.definitions.Path.{Element, Path, element_cmp, same_element, same_path}
+use Rattle.ssa_model.specs.definitions.FieldsV1.{heads, tails, with_head}
+use Rattle.ssa_model.specs.definitions.Path.{Element, Path, same_element, same_path}
 use Rattle.ssa_path.specs.declared.element.Elem.{Elem}
 use Rattle.ssa_path.specs.declared.trie.Trie.{Trie}
 use Rattle.ssa_path.specs.declared.trie.Trie.TheViews.{out-Trie}
-use Rattle.ssa_path.specs.Children.{child_at, elements, is_below, rises}
+use Rattle.ssa_path.specs.Children.{child_at, elements, rises}
 use Rattle.ssa_path.specs.View.{element_view}
-use Rattle.ssa_path.specs.Trie.{is_one_of, is_trie, paths, paths_below, IsWithin}
-use Rattle.ssa_path.proofs.Levels.{any-paths, found, same_path-reading, trie-parts}
+use Rattle.ssa_path.specs.Trie.{has_some, is_one_of, is_trie, paths, paths_below, IsWithin}
+use Rattle.ssa_path.proofs.Levels.{any-paths, found, one-level-root, same_path-reading, some-one, trie-parts}
 use Rattle.ssa_path.proofs.LyingWithin.{some-path}
 use Rattle.ssa_path.proofs.Lists.{taken-at}
-use Rattle.ssa_path.proofs.Orders.{element_cmp_total, both_first, both_second}
-use Rattle.ssa_path.proofs.Searching.{absent-below, apart-before}
-use Rattle.ssa_turn_set.specs.Room.{fresh, freshes, gone_of, leaving, left}
+use Rattle.ssa_path.proofs.Orders.{both_second}
+use Rattle.ssa_turn_set.specs.Room.{children, fresh, freshes, goes, gone_of, leaving, left}
 use Rattle.ssa_turn_set.proofs.Left.{all-children, goners-are, heads-gone, left-below, AllChildren, IsLeft, tails-filter}
 use Rattle.ssa_turn_set.proofs.NewRooms.{found-child}
+use Rattle.ssa_turn_set.proofs.Shared.{shared, shared-comm, there, there-most}
 use Rattle.ssa_turn_set.proofs.Places.{place-tails}
-use Rattle.ssa_turn_set.proofs.Reaching.{is_below-before}
 use Rattle.ssa_turn_set.proofs.Tails.{paths_of, tails-below}
-use Rattle.ssa_model.proofs.Fitting.{same_element-true}
-use Rattle.ssa_model.proofs.Basics.{both-true as both}
 use Rattle.ssa_model.proofs.Lists.{is_one_of-filter}
-use Rattle.ssa_model.proofs.Tables.{element-itself as same_element-itself}
 
--- what the paths count for, where the child stands there
-abbrev there : Option Trie → List Path → ℕ
-there None ps = 0
-there (Some c) ps = fresh ps
+-- 1 where none of the paths begins with the element
+abbrev pub stale : List Path → Element → ℕ
+stale ps e = fresh (tails e ps)
 
--- the lost children that stand there and with which none of the paths begins
-abbrev found_gone : List (Elem × Trie) → List (Elem × Trie) → List Path → ℕ
-found_gone [] cs ps = 0
-found_gone (d ∷ ds) cs ps = there (child_at (element_view d.0) cs) (tails (element_view d.0) ps) + found_gone ds cs ps
+shared-few : (ds cs : List (Elem × Trie)) (ps : List Path) → shared (stale ps) ds cs ≤ freshes ds ps
+shared-few [] cs ps = omega arith
+shared-few (d ∷ ds) cs ps =
+    let one = there-most (child_at (element_view d.0) cs) (fresh (tails (element_view d.0) ps)) in
+    let rest = shared-few ds cs ps in
+    omega arith
 
-there-most : (o : Option Trie) (ps : List Path) → there o ps ≤ fresh ps
-there-most None ps = omega arith
-there-most (Some c) ps = omega arith
-
-found-nowhere : (ds : List (Elem × Trie)) (ps : List Path) → found_gone ds [] ps ≡ 0
-found-nowhere [] ps = refl
-found-nowhere (d ∷ ds) ps = let none = found-nowhere ds ps in omega arith
-
--- the first child is none of those that are behind it
-found-behind : (c : Elem × Trie) (cs ds : List (Elem × Trie)) (ps : List Path) → is_below (element_view c.0) (elements ds) ≡ true
-    → found_gone ds (c ∷ cs) ps ≡ found_gone ds cs ps
-found-behind c cs [] ps h = refl
-found-behind c cs (d ∷ ds) ps h =
-    let e = element_view d.0 in
-    let apart = apart-before e (element_view c.0) e (same_element-itself e) (both_first _ _ h) in
-    λ i. there (cond (apart i) (Some c.1) (child_at e cs)) (tails e ps) + found-behind c cs ds ps (both_second _ _ h) i
-
--- with each child that stands there they go on to those behind it
-found-step : (c : Elem × Trie) (cs : List (Elem × Trie)) (ps : List Path)
-    → ((ds : List (Elem × Trie)) → rises (elements ds) ≡ true → found_gone ds cs ps ≤ freshes cs ps) → rises (elements (c ∷ cs)) ≡ true
-    → (ds : List (Elem × Trie)) → rises (elements ds) ≡ true → found_gone ds (c ∷ cs) ps ≤ freshes (c ∷ cs) ps
-found-step c cs ps rest rise [] h = omega arith
-found-step c cs ps rest rise (d ∷ ds) h = by (element_cmp (element_view c.0) (element_view d.0)) refl (found-step c cs ps rest rise ds (both_second _ _ h))
-  where
-    e : Element
-    e = element_view d.0
-
-    by : (o : Ordering) → element_cmp (element_view c.0) e ≡ o → found_gone ds (c ∷ cs) ps ≤ freshes (c ∷ cs) ps
-        → found_gone (d ∷ ds) (c ∷ cs) ps ≤ freshes (c ∷ cs) ps
-    by Less at more_here =
-        let behind = is_below-before (element_view c.0) e (elements ds) (ap is_lt at) (both_first _ _ h) in
-        let skipped = found-behind c cs (d ∷ ds) ps (both _ _ (ap is_lt at) behind) in
-        let more : found_gone (d ∷ ds) cs ps ≤ freshes cs ps = rest (d ∷ ds) h in
-        omega arith
-    by Equal at more_here =
-        let same : same_element e (element_view c.0) ≡ true = ap is_eq (element_cmp_total.antisymm e (element_view c.0) ∙ ap ordering_reverse at) in
-        let is = same_element-true e (element_view c.0) same in
-        let skipped = found-behind c cs ds ps (ap (λ x. is_below x (elements ds)) (sym is) ∙ both_first _ _ h) in
-        let most = there-most (child_at e (c ∷ cs)) (tails e ps) in
-        let alike = ap (λ x. fresh (tails x ps)) is in
-        let more : found_gone ds cs ps ≤ freshes cs ps = rest ds (both_second _ _ h) in
-        omega arith
-    by Greater at more_here =
-        let before : is_lt (element_cmp e (element_view c.0)) ≡ true = ap is_lt (element_cmp_total.antisymm e (element_view c.0) ∙ ap ordering_reverse at) in
-        let below = both _ _ before (is_below-before e (element_view c.0) (elements cs) before (both_first _ _ rise)) in
-        let none = ap (λ o. there o (tails e ps)) (absent-below e e (c ∷ cs) (same_element-itself e) below) in
-        omega arith
-
--- no more of them stand there than there are children with which none of the paths begins
-found-most : (cs ds : List (Elem × Trie)) (ps : List Path) → rises (elements cs) ≡ true → rises (elements ds) ≡ true → found_gone ds cs ps ≤ freshes cs ps
-found-most [] ds ps rise h = let none = found-nowhere ds ps in omega arith
-found-most (c ∷ cs) ds ps rise h = found-step c cs ps (λ es k. found-most cs es ps (both_second _ _ rise) k) rise ds h
-
-gone-there : (o : Option Trie) (e : Element) (ps : List Path) (d : Trie) (cs : List (Elem × Trie)) → child_at e cs ≡ o → rises (elements cs) ≡ true
-    → tails e ps ≡ left (tails e (paths_below cs)) (paths d) → gone_of o (paths d) ≡ there o (tails e ps)
+pub gone-there : (o : Option Trie) (e : Element) (ps : List Path) (d : Trie) (cs : List (Elem × Trie)) → child_at e cs ≡ o → rises (elements cs) ≡ true
+    → tails e ps ≡ left (tails e (paths_below cs)) (paths d) → gone_of o (paths d) ≡ there o (fresh (tails e ps))
 gone-there None e ps d cs at rise h = refl
 gone-there (Some c) e ps d cs at rise h = ap (λ l. fresh (left l (paths d))) (sym (tails-below e cs rise ∙ ap paths_of at)) ∙ ap fresh (sym h)
 
 -- those that go whole, told by what is left
-leaving-is : (ds cs : List (Elem × Trie)) (ps : List Path) → rises (elements cs) ≡ true → AllChildren (IsLeft (paths_below cs) ps) ds
-    → leaving ds cs ≡ found_gone ds cs ps
+pub leaving-is : (ds cs : List (Elem × Trie)) (ps : List Path) → rises (elements cs) ≡ true → AllChildren (IsLeft (paths_below cs) ps) ds
+    → leaving ds cs ≡ shared (stale ps) ds cs
 leaving-is [] cs ps rise h = refl
 leaving-is (d ∷ ds) cs ps rise h =
     let e = element_view d.0 in
@@ -114,7 +59,8 @@ left-most own lost trie trie_lost =
     let each = all-children (λ e c. tails e new ≡ filter (λ p. test (e ∷ p)) (paths c)) cs rise (λ e c at.
     tails-filter e test (paths own) ∙ ap (filter (λ p. test (e ∷ p))) (place-tails own e ∙ tails-below e cs rise ∙ ap paths_of at)) in
     let gone = goners-are test cs new each in
-    let most = found-most cs ds new rise (trie-parts lost _ refl trie_lost).0 in
+    let same = shared-comm (stale new) cs ds rise (trie-parts lost _ refl trie_lost).0 in
+    let most = shared-few cs ds new in
     let is = leaving-is ds cs new rise (left-below lost own trie_lost) in
     let few = heads-gone own (paths lost) in
     omega arith
@@ -135,15 +81,15 @@ freshes-nowhere : (ds : List (Elem × Trie)) → freshes ds [] ≡ length ds
 freshes-nowhere [] = refl
 freshes-nowhere (d ∷ ds) = let rest = freshes-nowhere ds in omega arith
 
-there-once : (o : Option Trie) → (o ≡ None → ⊥) → there o [] ≡ 1
+there-once : (o : Option Trie) → (o ≡ None → ⊥) → there o 1 ≡ 1
 there-once None some = absurd (some refl)
 there-once (Some c) some = refl
 
-found-all : (cs ds : List (Elem × Trie)) → AllChildren (λ e c. child_at e ds ≡ None → ⊥) cs → found_gone cs ds [] ≡ length cs
-found-all [] ds h = refl
-found-all (c ∷ cs) ds h =
+shared-all : (cs ds : List (Elem × Trie)) → AllChildren (λ e c. child_at e ds ≡ None → ⊥) cs → shared (stale []) cs ds ≡ length cs
+shared-all [] ds h = refl
+shared-all (c ∷ cs) ds h =
     let one = there-once (child_at (element_view c.0) ds) h.0 in
-    let rest = found-all cs ds h.1 in
+    let rest = shared-all cs ds h.1 in
     omega arith
 
 -- each child of a set within another has its counterpart there
@@ -162,8 +108,9 @@ within-few : (s l : Trie) → is_trie s ≡ true → is_trie l ≡ true → IsWi
 within-few s l trie trie_lost within =
     let cs = (out-Trie s).below.items in
     let ds = (out-Trie l).below.items in
-    let all = found-all cs ds (within-found s l trie trie_lost within) in
-    let most = found-most ds cs [] (trie-parts l _ refl trie_lost).0 (trie-parts s _ refl trie).0 in
+    let all = shared-all cs ds (within-found s l trie trie_lost within) in
+    let same = shared-comm (stale []) cs ds (trie-parts s _ refl trie).0 (trie-parts l _ refl trie_lost).0 in
+    let most = shared-few ds cs [] in
     let count = freshes-nowhere ds in
     omega arith
 
@@ -183,3 +130,52 @@ more-stays s l trie trie_lost more = by (left (paths s) (paths l)) refl
     by : (xs : List Path) → left (paths s) (paths l) ≡ xs → fresh xs ≡ 0
     by [] none = let few = within-few s l trie trie_lost (nothing-stays (paths s) (paths l) none) in absurd (omega arith)
     by (p ∷ xs) is = refl
+
+-- ---- whether a place goes whole
+
+-- of a place that goes whole each child does
+all-leave : (s l : Trie) → is_trie s ≡ true → is_trie l ≡ true → left (paths s) (paths l) ≡ [] → leaving (children l) (children s) ≡ length (children s)
+all-leave s l trie trie_lost none =
+    let rise = (trie-parts s _ refl trie).0 in
+    leaving-is (children l) (children s) (left (paths s) (paths l)) rise (left-below l s trie_lost)
+    ∙ ap (λ ps. shared (stale ps) (children l) (children s)) none
+    ∙ shared-comm (stale []) (children s) (children l) rise (trie-parts l _ refl trie_lost).0
+    ∙ shared-all (children s) (children l) (within-found s l trie trie_lost (nothing-stays (paths s) (paths l) none))
+
+some-head : (e : Element) (hs : List Element) → length (with_head e hs) ≡ 0 → ⊥
+some-head e [] none = omega arith
+some-head e (f ∷ fs) none = by (same_element e f) none
+  where
+    by : (b : Bool) → length (cond b (f ∷ fs) (e ∷ f ∷ fs)) ≡ 0 → ⊥
+    by true none = omega arith
+    by false none = omega arith
+
+headless : (ps : List Path) → length (heads ps) ≡ 0 → is_one_of ps [] ≡ false → ps ≡ []
+headless [] none apart = refl
+headless ([] ∷ ps) none apart = absurd (true≢false apart)
+headless ((e ∷ p) ∷ ps) none apart = absurd (some-head e (heads ps) none)
+
+-- nothing is left of a place all of whose children go whole, and its own path
+pub none-stays : (s l : Trie) → is_trie s ≡ true → is_trie l ≡ true → ((out-Trie s).here && not (out-Trie l).here) ≡ false
+    → leaving (children l) (children s) ≡ length (children s) → left (paths s) (paths l) ≡ []
+none-stays s l trie trie_lost root all =
+    let most = left-most s l trie trie_lost in
+    headless (left (paths s) (paths l)) (omega arith)
+    (is_one_of-filter (λ q. not (is_one_of (paths l) q)) (paths s) [] ∙ (λ i. one-level-root s i && not (one-level-root l i)) ∙ root)
+
+-- a place whose own path stays does not go whole
+pub root-stays : (s l : Trie) → (out-Trie s).here ≡ true → (out-Trie l).here ≡ false → false ≡ goes (paths s) (paths l)
+root-stays s l here gone =
+    let some = some-one (left (paths s) (paths l)) [] (is_one_of-filter (λ q. not (is_one_of (paths l) q)) (paths s) []
+    ∙ (λ i. (one-level-root s ∙ here) i && not ((one-level-root l ∙ gone) i))) in
+    sym (ap not some)
+
+-- a place without a path of its own that stays goes whole where as many of its children do as it has
+pub goes-is : (s l : Trie) (n : ℕ) → is_trie s ≡ true → is_trie l ≡ true → ((out-Trie s).here && not (out-Trie l).here) ≡ false
+    → n ≡ leaving (children l) (children s) → (n == length (children s)) ≡ goes (paths s) (paths l)
+goes-is s l n trie trie_lost root is = by (left (paths s) (paths l)) refl
+  where
+    by : (xs : List Path) → left (paths s) (paths l) ≡ xs → (n == length (children s)) ≡ not (has_some xs)
+    by [] none = eq-eqb n (length (children s)) (is ∙ all-leave s l trie trie_lost none)
+    by (p ∷ xs) some = ne_eqb n (length (children s)) (λ all.
+        let none : ◌≡◌ {A = List Path} (p ∷ xs) [] = sym some ∙ none-stays s l trie trie_lost root (sym is ∙ all) in cc)

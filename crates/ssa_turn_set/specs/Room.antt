@@ -6,6 +6,7 @@ use Rattle.ssa_path.specs.declared.element.Elem.{Elem}
 use Rattle.ssa_path.specs.declared.trie.Trie.{Trie}
 use Rattle.ssa_path.specs.declared.trie.Trie.TheOpen.{Trie-F}
 use Rattle.ssa_path.specs.declared.trie.Trie.TheFolds.{fold-Trie}
+use Rattle.ssa_path.specs.declared.trie.Trie.TheViews.{out-Trie}
 use Rattle.ssa_path.specs.Children.{child_at}
 use Rattle.ssa_path.specs.View.{element_view}
 use Rattle.std.specs.List.{filter}
@@ -121,3 +122,25 @@ gone_of (Some c) qs = fresh (left (paths c) qs)
 abbrev pub leaving : List (Elem × Trie) → List (Elem × Trie) → ℕ
 leaving [] cs = 0
 leaving (d ∷ ds) cs = gone_of (child_at (element_view d.0) cs) (paths d.1) + leaving ds cs
+
+-- whether nothing is left of a place that has the one paths and loses the others
+abbrev pub goes : List Path → List Path → Bool
+goes ps qs = not (has_some (left ps qs))
+
+-- the children of a place
+abbrev pub children : Trie → List (Elem × Trie)
+children t = (out-Trie t).below.items
+
+-- what counts only where there is no such child
+abbrev pub unless_there : Option Trie → ℕ → ℕ
+unless_there None n = n
+unless_there (Some c) n = 0
+
+-- 1 where the lost child stands there and goes whole, and is none of the others
+abbrev pub leaves_beside : List (Elem × Trie) → Elem × Trie → List (Elem × Trie) → ℕ
+leaves_beside gs d cs = unless_there (child_at (element_view d.0) gs) (gone_of (child_at (element_view d.0) cs) (paths d.1))
+
+-- the lost children that stand there, go whole and are none of the others
+abbrev pub leaving_beside : List (Elem × Trie) → List (Elem × Trie) → List (Elem × Trie) → ℕ
+leaving_beside gs [] cs = 0
+leaving_beside gs (d ∷ ds) cs = leaves_beside gs d cs + leaving_beside gs ds cs

@@ -1,13 +1,13 @@
 //! The record of a set that loses some of its paths, with its room.
-ghost use Rattle.std.specs.Prelude.{◌≡◌, ◌≤◌, List, [], true, IfOk};
+ghost use Rattle.std.specs.Prelude.{◌≡◌, ◌≤◌, ◌&&◌, if◌then◌else◌, List, [], true, IfOk};
 ghost use Rattle.ssa_model.specs.definitions.FieldsV1.{tails};
 ghost use Rattle.ssa_model.specs.definitions.Path.{Path};
 ghost use Rattle.ssa_model.specs.definitions.PathMap.{minus};
 ghost use Rattle.ssa_path.specs.Children.{elements, rises};
 ghost use Rattle.ssa_path.specs.Combine.{IsCombination};
-ghost use Rattle.ssa_path.specs.Trie.{are_filled_tries, is_trie, paths, paths_below, IsWithin};
+ghost use Rattle.ssa_path.specs.Trie.{are_filled_tries, is_filled, is_trie, paths, paths_below, IsWithin};
 ghost use Rattle.ssa_path.specs.View.{element_view};
-ghost use Rattle.ssa_turn_set.specs.Room.{fresh, gain_room, left, lose_room};
+ghost use Rattle.ssa_turn_set.specs.Room.{children, gain_room, goes, leaving, left, lose_room};
 ghost use Rattle.ssa_turn_set.specs.Turn.{IsBetween};
 
 use crate::making::{combine_exactly, make_children};
@@ -19,7 +19,6 @@ use ssa_path::combine::Combination;
 use ssa_path::element::Elem;
 use ssa_path::field_set::FieldSet;
 use ssa_path::trie::Trie;
-use ssa_path::within::lies_within;
 use std::alloc::{AllocError, Global};
 
 // The place of a child of this element: where there is none, the bare one.
@@ -37,24 +36,65 @@ pub(crate) fn place_or<'a>(own: &'a [(Elem, Trie)], element: &Elem, bare: &'a Tr
     }
 }
 
-// 1 where nothing is left of a place that loses these paths. Of one with more children than are lost something stays.
-pub(crate) fn count_gone(place: &Trie, lost: &Trie) -> usize
-    requires place { is_trie place.now ≡ true }
-    requires lost { is_trie lost.now ≡ true }
-    ensures one { result ≡ fresh (left (paths place.now) (paths lost.now)) }
-    ensures most { result ≤ 1 }
-{
-    if place.below.len() > lost.below.len() {
-        return 0;
-    }
-    if lies_within(place, lost) { 1 } else { 0 }
-}
-
 /// Room to take paths out of a set, and whether the set has all of them.
 #[derive(Drop)]
 pub struct LossRoom {
     pub room: Room,
     pub has_all: bool,
+}
+
+// 1 where the place has some path, and is told to go whole.
+pub(crate) fn count_whole(place: &Trie, goes: bool) -> usize
+    requires { is_trie place.now ≡ true }
+    ensures one { result ≡ if is_filled place.now && goes then 1 else 0 }
+    ensures most { result ≤ 1 }
+{
+    usize::from(goes && place.has_paths())
+}
+
+// Whether nothing is left of a place that loses these paths, where so many of its children go whole.
+pub(crate) fn goes_whole(own: &Trie, lost: &Trie, gone: usize) -> bool
+    requires own { is_trie own.now ≡ true }
+    requires lost { is_trie lost.now ≡ true }
+    requires gone { gone ≡ leaving (children lost.now) (children own.now) }
+    ensures { result ≡ goes (paths own.now) (paths lost.now) }
+{
+    if own.here && !lost.here {
+        return false;
+    }
+    gone == own.below.len()
+}
+
+// Room enough to take the paths of `lost` out of a place, and whether the place then goes whole.
+//
+// That is told from what the children tell, so that none of them is walked for it again at each place above.
+fn make_place_loss(alloc: Global, lost: &Trie, own: &Trie) -> Result<(LossRoom, bool), AllocError>
+    requires lost { is_trie lost.now ≡ true }
+    requires own { is_trie own.now ≡ true }
+    ensures room { IfOk result (λ l. lose_room lost.now (left (paths own.now) (paths lost.now)) l.0.room ≡ true) }
+    ensures all { IfOk result (λ l. l.0.has_all ≡ true → IsWithin (paths lost.now) (paths own.now)) }
+    ensures goes { IfOk result (λ l. l.1 ≡ goes (paths own.now) (paths lost.now)) }
+{
+    let bare = Trie {
+        here: false,
+        below: Vec::new(alloc),
+    };
+    let mut below = Vec::with_capacity(alloc, lost.below.len())?;
+    let mut going = 0;
+    let mut leaving = 0;
+    let mut has_all = own.here || !lost.here;
+    for child in &lost.below {
+        let place = place_or(&own.below, &child.0, &bare);
+        let (loss, goes) = make_place_loss(alloc, &child.1, place)?;
+        has_all &= loss.has_all;
+        going += usize::from(goes);
+        leaving += count_whole(place, goes);
+        below.push((Spare::Nothing, loss.room))?;
+    }
+    let children = make_children(alloc, going, own.below.len())?;
+    let room = Room { children, below };
+    let goes = goes_whole(own, lost, leaving);
+    Ok((LossRoom { room, has_all }, goes))
 }
 
 /// Room enough to take the paths of `lost` out of a set of the paths of `own`.
@@ -64,25 +104,8 @@ pub fn make_loss_room(alloc: Global, lost: &Trie, own: &Trie) -> Result<LossRoom
     ensures room { IfOk result (λ l. lose_room lost.now (left (paths own.now) (paths lost.now)) l.room ≡ true) }
     ensures all { IfOk result (λ l. l.has_all ≡ true → IsWithin (paths lost.now) (paths own.now)) }
 {
-    let bare = Trie {
-        here: false,
-        below: Vec::new(alloc),
-    };
-    let mut below = Vec::with_capacity(alloc, lost.below.len())?;
-    let mut going = 0;
-    let mut has_all = own.here || !lost.here;
-    for child in &lost.below {
-        let place = place_or(&own.below, &child.0, &bare);
-        let loss = make_loss_room(alloc, &child.1, place)?;
-        has_all &= loss.has_all;
-        going += count_gone(place, &child.1);
-        below.push((Spare::Nothing, loss.room))?;
-    }
-    let children = make_children(alloc, going, own.below.len())?;
-    Ok(LossRoom {
-        room: Room { children, below },
-        has_all,
-    })
+    let (loss, _goes) = make_place_loss(alloc, lost, own)?;
+    Ok(loss)
 }
 
 // No path, and the room that it needs. Takes no memory.

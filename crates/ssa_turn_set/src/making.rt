@@ -1,16 +1,15 @@
 //! The record between two sets, with its room.
-ghost use Rattle.std.specs.Prelude.{◌≡◌, ◌≤◌, ◌<◌, ◌+◌, ◌^◌, List, [], length, true, vec_capacity, IfOk};
-ghost use Rattle.ssa_model.specs.definitions.FieldsV1.{heads};
+ghost use Rattle.std.specs.Prelude.{◌≡◌, ◌≤◌, ◌<◌, ◌+◌, ◌-◌, ◌^◌, List, [], length, true, vec_capacity, IfOk};
 ghost use Rattle.ssa_model.specs.definitions.Path.{Path};
-ghost use Rattle.ssa_path.specs.Children.{child_at, elements, rises};
+ghost use Rattle.ssa_path.specs.Children.{elements, rises};
 ghost use Rattle.ssa_path.specs.View.{element_view};
 ghost use Rattle.ssa_path.specs.Trie.{are_filled_tries, is_trie, paths};
 ghost use Rattle.ssa_path.specs.Combine.{IsCombination};
-ghost use Rattle.ssa_turn_set.specs.Room.{fresh, gain_room, gone_of, leaving, left, serves};
+ghost use Rattle.ssa_turn_set.specs.Room.{children, fresh, gain_room, goes, leaves_beside, leaving_beside, left, serves};
 ghost use Rattle.ssa_turn_set.specs.Spare.{fits, fits_text};
 ghost use Rattle.ssa_turn_set.specs.Turn.{IsBetween};
 
-use crate::loss::{count_gone, make_loss_room, place_or};
+use crate::loss::{count_whole, goes_whole, make_loss_room, place_or};
 use crate::room::Room;
 use crate::spare::{Spare, emptied_keys};
 use crate::turn::{SetDelta, SetRoom};
@@ -20,6 +19,7 @@ use ssa_path::combine::{Combination, combine};
 use ssa_path::element::Elem;
 use ssa_path::field_set::FieldSet;
 use ssa_path::trie::Trie;
+use ssa_path::within::lies_within;
 use std::alloc::{AllocError, Global};
 
 // An empty text with room for this one.
@@ -71,31 +71,48 @@ pub(crate) fn make_children(
     Vec::with_capacity(alloc, len)
 }
 
-// 1 where a set's child of the same element goes whole with these paths.
-fn count_leaving(own: &[(Elem, Trie)], lost: &(Elem, Trie)) -> usize
+// 1 where nothing is left of a place that loses these paths, for which it is walked. Of one with more children than are lost
+// something stays.
+fn count_gone(place: &Trie, lost: &Trie) -> usize
+    requires place { is_trie place.now ≡ true }
+    requires lost { is_trie lost.now ≡ true }
+    ensures one { result ≡ fresh (left (paths place.now) (paths lost.now)) }
+    ensures most { result ≤ 1 }
+{
+    if place.below.len() > lost.below.len() {
+        return 0;
+    }
+    if lies_within(place, lost) { 1 } else { 0 }
+}
+
+// 1 where a set's child of the same element goes whole with these paths, unless it is among the gained.
+fn count_leaving(own: &[(Elem, Trie)], lost: &(Elem, Trie), gained: &[(Elem, Trie)]) -> usize
     requires rise { rises (elements own.now) ≡ true }
     requires tries { are_filled_tries own.now ≡ true }
     requires lost { is_trie lost.now.1 ≡ true }
-    ensures one { result ≡ gone_of (child_at (element_view lost.now.0) own.now) (paths lost.now.1) }
-    ensures most { result ≤ 1 }
+    requires gained { rises (elements gained.now) ≡ true }
+    ensures { result ≡ leaves_beside gained.now lost.now own.now }
 {
+    if find_child(gained, &lost.0).is_some() {
+        return 0;
+    }
     match find_child(own, &lost.0) {
         Some(place) => count_gone(place, &lost.1),
         None => 0,
     }
 }
 
-// How many of a set's children go whole where it loses these.
-fn count_all_leaving(own: &[(Elem, Trie)], lost: &[(Elem, Trie)]) -> usize
+// How many of a set's children go whole where it loses these, but for the gained.
+fn count_all_leaving(own: &[(Elem, Trie)], lost: &[(Elem, Trie)], gained: &[(Elem, Trie)]) -> usize
     requires rise { rises (elements own.now) ≡ true }
     requires tries { are_filled_tries own.now ≡ true }
     requires lost { are_filled_tries lost.now ≡ true }
-    ensures count { result ≡ leaving lost.now own.now }
-    ensures most { result ≤ length lost.now }
+    requires gained { rises (elements gained.now) ≡ true }
+    ensures { result ≡ leaving_beside gained.now lost.now own.now }
 {
     let mut count = 0;
     for child in lost {
-        count += count_leaving(own, child);
+        count += count_leaving(own, child, gained);
     }
     count
 }
@@ -105,19 +122,58 @@ fn make_coming_children(
     alloc: Global,
     coming: usize,
     own: &Trie,
-    lost: &Trie,
+    leaving: usize,
 ) -> Result<Vec<(Elem, Trie)>, AllocError>
-    requires own { is_trie own.now ≡ true }
-    requires lost { is_trie lost.now ≡ true }
     requires few { coming < 2 ^ 63 }
+    requires leaving { leaving ≤ length (children own.now) }
     ensures items { IfOk result (λ v. v.items ≡ []) }
-    ensures fits { IfOk result (λ v. 0 < coming → length (heads (left (paths own.now) (paths lost.now))) + coming ≤ vec_capacity v) }
+    ensures fits { IfOk result (λ v. 0 < coming → length (children own.now) - leaving + coming ≤ vec_capacity v) }
 {
     if coming == 0 {
         return Ok(Vec::new(alloc));
     }
-    let leaving = count_all_leaving(&own.below, &lost.below);
     Vec::with_capacity(alloc, own.below.len() - leaving + coming)
+}
+
+// Room enough to put the paths of `gained` into a place that lost those of `lost`, and whether it then had none left.
+//
+// That is told from what the children tell; those that are lost and not gained are walked, where it is asked how many go.
+fn make_place_gain(
+    alloc: Global,
+    gained: &Trie,
+    own: &Trie,
+    lost: &Trie,
+) -> Result<(Room, bool), AllocError>
+    requires gained { is_trie gained.now ≡ true }
+    requires own { is_trie own.now ≡ true }
+    requires lost { is_trie lost.now ≡ true }
+    ensures room { IfOk result (λ r. gain_room gained.now (left (paths own.now) (paths lost.now)) r.0 ≡ true) }
+    ensures goes { IfOk result (λ r. r.1 ≡ goes (paths own.now) (paths lost.now)) }
+{
+    let bare = Trie {
+        here: false,
+        below: Vec::new(alloc),
+    };
+    let mut below = Vec::with_capacity(alloc, gained.below.len())?;
+    let mut coming = 0;
+    let mut leaving = 0;
+    for child in &gained.below {
+        let place = place_or(&own.below, &child.0, &bare);
+        let gone = place_or(&lost.below, &child.0, &bare);
+        let (room, goes) = make_place_gain(alloc, &child.1, place, gone)?;
+        let comes = usize::from(goes);
+        let spare = make_spare_for(alloc, &child.0, comes)?;
+        coming += comes;
+        leaving += count_whole(place, goes);
+        below.push((spare, room))?;
+    }
+    if coming == 0 && own.below.len() > lost.below.len() {
+        let children = Vec::new(alloc);
+        return Ok((Room { children, below }, false));
+    }
+    leaving += count_all_leaving(&own.below, &lost.below, &gained.below);
+    let children = make_coming_children(alloc, coming, own, leaving)?;
+    Ok((Room { children, below }, goes_whole(own, lost, leaving)))
 }
 
 /// Room enough to put the paths of `gained` into a set that had those of `own` and lost those of
@@ -133,23 +189,13 @@ pub fn make_gain_room(
     requires lost { is_trie lost.now ≡ true }
     ensures { IfOk result (λ r. gain_room gained.now (left (paths own.now) (paths lost.now)) r ≡ true) }
 {
-    let bare = Trie {
-        here: false,
-        below: Vec::new(alloc),
-    };
-    let mut below = Vec::with_capacity(alloc, gained.below.len())?;
-    let mut coming = 0;
-    for child in &gained.below {
-        let place = place_or(&own.below, &child.0, &bare);
-        let gone = place_or(&lost.below, &child.0, &bare);
-        let comes = count_gone(place, gone);
-        let spare = make_spare_for(alloc, &child.0, comes)?;
-        let room = make_gain_room(alloc, &child.1, place, gone)?;
-        coming += comes;
-        below.push((spare, room))?;
+    if gained.below.is_empty() {
+        let children = Vec::new(alloc);
+        let below = Vec::new(alloc);
+        return Ok(Room { children, below });
     }
-    let children = make_coming_children(alloc, coming, own, lost)?;
-    Ok(Room { children, below })
+    let (room, _goes) = make_place_gain(alloc, gained, own, lost)?;
+    Ok(room)
 }
 
 // What a combination keeps of two tries, with no more room than it needs: a record keeps it for long.

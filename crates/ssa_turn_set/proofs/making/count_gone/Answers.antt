@@ -4,7 +4,7 @@ use Rattle.ssa_path.specs.declared.trie.Trie.TheViews.{out-Trie}
 use Rattle.ssa_path.specs.Trie.{paths, Exceeds, IsWithin}
 use Rattle.ssa_turn_set.proofs.Left.{all-goes, some-stays}
 use Rattle.ssa_turn_set.proofs.Staying.{more-stays}
-use Rattle.ssa_turn_set.proofs.loss.count_gone.Goals as goal
+use Rattle.ssa_turn_set.proofs.making.count_gone.Goals as goal
 
 pub returns-then-len-clause-one : goal.returns-then-len-clause-one
 returns-then-len-clause-one c =

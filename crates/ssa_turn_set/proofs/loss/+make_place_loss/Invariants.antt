@@ -2,14 +2,16 @@ use Rattle.std.proofs.Common.{◌≡◌, ◌≤◌, true, take}
 use Rattle.ssa_path.specs.declared.trie.Trie.TheViews.{out-Trie}
 use Rattle.ssa_path.specs.Trie.{paths_below}
 use Rattle.ssa_path.proofs.LyingWithin.{AreWithin}
-use Rattle.ssa_turn_set.specs.Room.{going, losses}
-use Rattle.ssa_turn_set.proofs.loss.+make_loss_room.Given as goal
+use Rattle.ssa_turn_set.specs.Room.{going, leaving, losses}
+use Rattle.ssa_turn_set.proofs.loss.+make_place_loss.Given as goal
 
 abbrev pub invariant-loop-child : goal.invariant-loop-child
 invariant-loop-child l = record {
   rooms : losses (take l.child-index l.child-items) (paths_below (out-Trie l.own).below.items) l.below.items ≡ true;
   count : l.going ≡ going (take l.child-index l.child-items) (paths_below (out-Trie l.own).below.items);
   few : l.going ≤ l.child-index;
+  leave : l.leaving ≡ leaving (take l.child-index l.child-items) (out-Trie l.own).below.items;
+  few_leave : l.leaving ≤ l.child-index;
   here : l.has_all ≡ true → (out-Trie l.lost).here ≡ true → (out-Trie l.own).here ≡ true;
   all : l.has_all ≡ true → AreWithin (take l.child-index l.child-items) (out-Trie l.own).below.items;
 }

@@ -9,16 +9,18 @@ use Rattle.ssa_path.proofs.Lists.{taken-at, child-trie, filled-at}
 use Rattle.ssa_path.proofs.LyingWithin.{AreWithin, within-all}
 use Rattle.ssa_path.proofs.Orders.{both_first, both_second}
 use Rattle.ssa_model.specs.definitions.FieldsV1.{tails}
-use Rattle.ssa_turn_set.specs.Room.{fresh, going, left, losses, lose_room}
+use Rattle.ssa_turn_set.specs.Room.{children, fresh, going, leaving, left, losses, lose_room}
 use Rattle.ssa_turn_set.proofs.Left.{going-one-more, loss-rolled, losses-more}
 use Rattle.ssa_turn_set.proofs.LossRecords.{has-more}
-use Rattle.ssa_turn_set.proofs.loss.+make_loss_room.Goals as goal
+use Rattle.ssa_turn_set.proofs.Staying.{leaving-one-more}
+use Rattle.ssa_turn_set.proofs.Telling.{fresh-most, goes-once, whole-gone}
+use Rattle.ssa_turn_set.proofs.loss.+make_place_loss.Goals as goal
 
 pub place_or-place-requires-clause-rise : goal.place_or-place-requires-clause-rise
 place_or-place-requires-clause-rise t c = (trie-parts c.args.own.now c.deref.result.now c.deref.ensures.value c.requires.own).0
 
-pub make_loss_room-requires : goal.make_loss_room-requires
-make_loss_room-requires t c =
+pub make_place_loss-requires : goal.make_place_loss-requires
+make_place_loss-requires t c =
     let lost = trie-parts c.args.lost.now c.deref-child-items.result.now c.deref-child-items.ensures.value c.requires.lost in (
       search (rules, the_lemmas),
       (
@@ -26,11 +28,6 @@ make_loss_room-requires t c =
         c.place_or-place.ensures.trie,
       ),
     )
-
-pub count_gone-going-requires-clause-lost : goal.count_gone-going-requires-clause-lost
-count_gone-going-requires-clause-lost t c =
-    let lost = trie-parts c.args.lost.now c.deref-child-items.result.now c.deref-child-items.ensures.value c.requires.lost in
-    child-trie c.deref-child-items.result.now c.loop-child.child-index c.child-item.result (omega arith) c.child-item.is lost.1
 
 pub loop-child-preserved : goal.loop-child-preserved
 loop-child-preserved t c =
@@ -43,19 +40,26 @@ loop-child-preserved t c =
     let both = c.loop-child.has_all in
     let tries = (trie-parts c.args.lost.now cs c.deref-child-items.ensures.value c.requires.lost).1 in
     let filled = both_second (is_trie d.1) _ (filled-at cs i d (omega arith) c.child-item.is tries) in
-    let rise = (trie-parts c.args.own.now ds refl c.requires.own).0 in
+    let own = trie-parts c.args.own.now ds refl c.requires.own in
+    let place = c.place_or-place.result.now in
     let behind = c.place_or-place.ensures.paths ∙ ap (λ l. tails (element_view d.0) (paths_below l)) c.deref.ensures.value in
     let room = ap (λ l. lose_room d.1 (left l qs) c.in_ok-loss.loss.room) (sym behind) ∙ c.in_ok-loss.ensures.room in
-    let one = c.count_gone-going.ensures.one ∙ ap (λ l. fresh (left l qs)) behind in
+    let one = c.from-going.ensures ∙ goes-once _ (paths place) qs c.in_ok-loss.ensures.goes in
+    let gone = one ∙ ap (λ l. fresh (left l qs)) behind in
+    let leaves = c.count_whole-leaving.ensures.one ∙ whole-gone (element_view d.0) ds place _ qs own.0 own.1 behind c.in_ok-loss.ensures.goes in
     let few = c.loop-child.invariant.few in
-    let most = c.count_gone-going.ensures.most in
+    let few_leave = c.loop-child.invariant.few_leave in
+    let most = fresh-most (left (paths place) qs) in
+    let most_leave = c.count_whole-leaving.ensures.most in
     record {
       rooms = (λ j. losses (taken-at cs i d (omega arith) c.child-item.is j) ps (c.in_ok-push.ensures.items j))
           ∙ losses-more (take i cs) d ps c.loop-child.below.items _ c.loop-child.invariant.rooms room;
-      count = going-one-more cs ps i c.loop-child.going c.count_gone-going.result d (omega arith) c.child-item.is c.loop-child.invariant.count one;
+      count = going-one-more cs ps i c.loop-child.going c.from-going.result d (omega arith) c.child-item.is c.loop-child.invariant.count gone;
       few = omega arith;
+      leave = leaving-one-more cs ds i c.loop-child.leaving c.count_whole-leaving.result d (omega arith) c.child-item.is c.loop-child.invariant.leave leaves;
+      few_leave = omega arith;
       here = λ all. c.loop-child.invariant.here (both_first both c.in_ok-loss.loss.has_all all);
-      all = λ all. has-more cs ds i d (paths c.place_or-place.result.now) (omega arith) c.child-item.is rise filled behind
+      all = λ all. has-more cs ds i d (paths c.place_or-place.result.now) (omega arith) c.child-item.is own.0 filled behind
           (c.in_ok-loss.ensures.all (both_second both c.in_ok-loss.loss.has_all all))
           (c.loop-child.invariant.all (both_first both c.in_ok-loss.loss.has_all all));
     }
@@ -79,3 +83,9 @@ returns-clause-all t c =
     let all = take_all c.loop-child.child-index cs c.loop-child-test.false in
     λ has. within-all c.args.lost.now c.args.own.now cs ds c.deref-child-items.ensures.value refl (c.loop-child.invariant.here has)
     (subst (λ l. AreWithin l ds) all (c.loop-child.invariant.all has))
+
+pub goes_whole-goes-requires-clause-gone : goal.goes_whole-goes-requires-clause-gone
+goes_whole-goes-requires-clause-gone t c =
+    c.loop-child.invariant.leave
+    ∙ ap (λ l. leaving l (children c.args.own.now)) (take_all c.loop-child.child-index c.deref-child-items.result.now c.loop-child-test.false
+    ∙ c.deref-child-items.ensures.value)
