@@ -55,11 +55,11 @@ fn are_keys(members: &[(String, Scalar)]) -> bool
     }
 }
 
-// Whether both members have one name and one value.
+// Whether both members have one name and one value. The names are mostly one, so the values are compared first.
 fn is_same_member(member: &(String, Scalar), other: &(String, Scalar)) -> bool
     ensures { result ≡ same_key (string_bytes member.now.0, scalar_view member.now.1) (string_bytes other.now.0, scalar_view other.now.1) }
 {
-    is_same_text(member.0.as_str(), other.0.as_str()) && member.1.same(&other.1)
+    member.1.same(&other.1) && is_same_text(member.0.as_str(), other.0.as_str())
 }
 
 /// Whether both have the same names and values. Takes no memory.
