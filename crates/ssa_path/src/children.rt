@@ -7,9 +7,9 @@ ghost use Rattle.ssa_path.specs.View.{element_view};
 use crate::element::Elem;
 use std::cmp::Ordering;
 
-// Of so few children each is looked at: to tell that two elements differ takes a few instructions,
-// and to order them a hundred.
-const FEW: usize = 8;
+/// Of so few children each is looked at: to tell that two elements differ takes a few instructions,
+/// and to order them a hundred.
+pub const FEW: usize = 8;
 
 /// The place of the child of this element among children in any order, looked for one after the other.
 pub fn scan<T>(children: &[(Elem, T)], element: &Elem) -> Option<usize>
