@@ -1,7 +1,8 @@
 -- A binary search among children that rise.
 use Rattle.std.proofs.Common.{◌≡◌, ℕ, zero, suc, ◌<◌, ◌≤◌, List, [], ◌∷◌, ◌++◌, length, get_or, take, drop, true, false, cond, Option, Some, None, Result, Ok, Err, Ordering, Less, Equal, Greater, refl, sym, ap, ◌∙◌, arith}
 use Rattle.std.specs.Ordering.{is_lt, is_eq, ordering_index, ordering_reverse}
-use Rattle.std.specs.Result.{MatchResult}
+use Rattle.std.specs.Option.{IfNone, IfSome}
+use Rattle.std.specs.Result.{MatchResult, result_ok}
 use Rattle.std.specs.List.Sorted.{IsBinarySearchResult}
 use Rattle.ssa_model.specs.definitions.Path.{Element, element_cmp, same_element}
 use Rattle.ssa_model.proofs.Texts.{same_element_same}
@@ -131,6 +132,12 @@ module _ {A : Type 0} where
       let before = below-middle (element_view c.0) e (elements (take i cs)) (elements (drop i cs)) (both_first _ _ h) in
       same_here e (element_view c.0) (apart-before e (element_view c.0) e (same_element-itself e) before) c.1 (child_at e cs)
       ∙ child-absent e cs i (both_second _ _ h)
+
+  -- what a search answers is the place of the element's child, or there is none
+  pub searched : (e : Element) (cs : List (Elem × A)) (r : Result ℕ ℕ) → IsSearchResult e cs r → IfSome (result_ok r) (IsChildAt e cs)
+      × IfNone (result_ok r) (child_at e cs ≡ None)
+  searched e cs (Ok i) h = (h, tt)
+  searched e cs (Err i) h = (tt, child-absent e cs i h.between)
 
   something : (x : Option A) (y : A) → x ≡ Some y → x ≡ None → ⊥
   something x y e h = let none : Some y ≡ None = sym e ∙ h in cc

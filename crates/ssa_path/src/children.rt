@@ -1,18 +1,63 @@
 // Children under elements that rise.
-ghost use Rattle.std.specs.Prelude.{◌≡◌, true, drop};
+ghost use Rattle.std.specs.Prelude.{◌≡◌, true, None, drop, IfNone, IfSome};
 ghost use Rattle.std.specs.Option.{option_copied};
-ghost use Rattle.ssa_path.specs.Children.{child_at, elements, heads_order, rises, IsSearchResult};
+ghost use Rattle.ssa_path.specs.Children.{child_at, elements, heads_order, rises, IsChildAt, IsSearchResult};
 ghost use Rattle.ssa_path.specs.View.{element_view};
 
 use crate::element::Elem;
 use std::cmp::Ordering;
 
-/// The place of the child of this element, or the place where one may be put.
-pub fn search<T>(children: &[(Elem, T)], element: &Elem) -> Result<usize, usize>
+/// Of so few children each is looked at: to tell that two elements differ takes a few instructions,
+/// and to order them a hundred.
+pub const FEW: usize = 8;
+
+/// The place of the child of this element among children in any order, looked for one after the other.
+pub fn scan<T>(children: &[(Elem, T)], element: &Elem) -> Option<usize>
+    ensures some { IfSome result (IsChildAt (element_view element.now) children.now) }
+    ensures none { IfNone result (child_at (element_view element.now) children.now ≡ None) }
+{
+    for (i, child) in children.iter().enumerate() {
+        if element.is_same(&child.0) {
+            return Some(i);
+        }
+    }
+    None
+}
+
+// The place of the child of this element, or the place where one may be put, looked for by halving.
+fn halve<T>(children: &[(Elem, T)], element: &Elem) -> Result<usize, usize>
     requires { rises (elements children.now) ≡ true }
     ensures { IsSearchResult (element_view element.now) children.now result }
 {
     children.binary_search_by(|child| child.0.order(element))
+}
+
+/// The place of the child of this element, or the place where one may be put.
+///
+/// Few are looked at first for the child itself. Where no place for one is needed, [`find`] takes less.
+pub fn search<T>(children: &[(Elem, T)], element: &Elem) -> Result<usize, usize>
+    requires { rises (elements children.now) ≡ true }
+    ensures { IsSearchResult (element_view element.now) children.now result }
+{
+    if children.len() <= FEW {
+        if let Some(i) = scan(children, element) {
+            return Ok(i);
+        }
+    }
+    halve(children, element)
+}
+
+/// The place of the child of this element, found by halving, among few by a look at each.
+pub fn find<T>(children: &[(Elem, T)], element: &Elem) -> Option<usize>
+    requires { rises (elements children.now) ≡ true }
+    ensures some { IfSome result (IsChildAt (element_view element.now) children.now) }
+    ensures none { IfNone result (child_at (element_view element.now) children.now ≡ None) }
+{
+    if children.len() <= FEW {
+        scan(children, element)
+    } else {
+        halve(children, element).ok()
+    }
 }
 
 /// The child of this element.
@@ -20,9 +65,9 @@ pub fn find_child<'a, T>(children: &'a [(Elem, T)], element: &Elem) -> Option<&'
     requires { rises (elements children.now) ≡ true }
     ensures { option_copied result ≡ child_at (element_view element.now) children.now }
 {
-    match search(children, element) {
-        Ok(i) => Some(&children[i].1),
-        Err(_) => None,
+    match find(children, element) {
+        Some(i) => Some(&children[i].1),
+        None => None,
     }
 }
 

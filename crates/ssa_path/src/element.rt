@@ -66,8 +66,21 @@ impl Elem {
     }
 
     /// Whether both are one element.
-    #[tactic(auto, using(crate::proofs::Sameness::same_values, crate::proofs::Sameness::same_keys))]
+    #[inline(always)]
     pub fn is_same(&self, other: &Elem) -> bool
+        ensures { result ≡ same_element (element_view self.now) (element_view other.now) }
+    {
+        match (self, other) {
+            (Elem::Field(name), Elem::Field(other_name)) => {
+                is_same_text(name.as_str(), other_name.as_str())
+            }
+            _ => self.is_same_of_sorts(other),
+        }
+    }
+
+    // Whether elements of which mostly one or both are items are one element.
+    #[tactic(auto, using(crate::proofs::Sameness::same_values, crate::proofs::Sameness::same_keys))]
+    fn is_same_of_sorts(&self, other: &Elem) -> bool
         ensures { result ≡ same_element (element_view self.now) (element_view other.now) }
     {
         match (self, other) {

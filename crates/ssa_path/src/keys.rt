@@ -57,11 +57,11 @@ fn are_keys(members: &[(SmallText, Scalar)]) -> bool
     }
 }
 
-// Whether both members have one name and one value.
+// Whether both members have one name and one value. The names are mostly one, so the values are compared first.
 fn is_same_member(member: &(SmallText, Scalar), other: &(SmallText, Scalar)) -> bool
     ensures { result ≡ same_key (text_bytes member.now.0, scalar_view member.now.1) (text_bytes other.now.0, scalar_view other.now.1) }
 {
-    is_same_text(member.0.as_str(), other.0.as_str()) && member.1.same(&other.1)
+    member.1.same(&other.1) && is_same_text(member.0.as_str(), other.0.as_str())
 }
 
 /// Whether both have the same names and values. Takes no memory.
@@ -85,7 +85,7 @@ fn copy_members(
 ) -> Result<Vec<(SmallText, Scalar)>, AllocError>
     ensures { IfOk result (λ ms. members_view ms.items ≡ members_view members.now) }
 {
-    let mut copies = Vec::new(alloc);
+    let mut copies = Vec::with_capacity(alloc, members.len())?;
     for member in members {
         let name = member.0.copy(alloc)?;
         let scalar = member.1.copy(alloc)?;

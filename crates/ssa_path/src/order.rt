@@ -10,6 +10,7 @@ ghost use Rattle.ssa_path.specs.Keys.{members_view};
 ghost use Rattle.ssa_path.specs.Order.{mark, member_text, key_end, BeginAlike};
 
 use itoa::Buffer;
+use ssa_json::text::is_same_text;
 use ssa_json::value::Scalar;
 use ssa_members::SmallText;
 use std::cmp::Ordering;
@@ -207,6 +208,18 @@ fn end_at(keys: &[(SmallText, Scalar)], i: usize) -> &'static [u8]
     if i + 1 < keys.len() { b"," } else { b"}" }
 }
 
+// The order of two names in quotes. Those at one place of two objects are mostly the same.
+#[inline(always)]
+fn order_quoted_names(name: &str, other: &str) -> Ordering
+    ensures { result ≡ slice_cmp nat_cmp (quoted name.now) (quoted other.now) }
+{
+    if is_same_text(name, other) {
+        Ordering::Equal
+    } else {
+        order_quoted(name.as_bytes(), other.as_bytes())
+    }
+}
+
 // The order of the members at a place of two objects, with what stands behind them.
 fn order_members(keys: &[(SmallText, Scalar)], others: &[(SmallText, Scalar)], i: usize) -> Ordering
     requires own { i < length keys.now }
@@ -216,7 +229,7 @@ fn order_members(keys: &[(SmallText, Scalar)], others: &[(SmallText, Scalar)], i
 {
     let own = &keys[i];
     let other = &others[i];
-    match order_quoted(own.0.as_bytes(), other.0.as_bytes()) {
+    match order_quoted_names(own.0.as_str(), other.0.as_str()) {
         Ordering::Equal => { order_scalars(&own.1, end_at(keys, i), &other.1, end_at(others, i)) }
         found => found,
     }

@@ -1,15 +1,11 @@
 -- A change in a child is a change below the parent.
-use Rattle.std.proofs.Common.{◌≡◌, ℕ, zero, suc, ◌+◌, ◌-◌, ◌<◌, ◌≤◌, List, [], ◌∷◌, length, get_or, set, take, drop, Bool, true, false, not, ◌&&◌, ◌||◌, cond, Option, Some, None, option_map, refl, sym, ap, subst, ◌∙◌, arith, true≢false}
-use Rattle.std.specs.Prelude.{slice_get, IfSome, IfNone, Result, Ok, Err}
-use Rattle.std.specs.Result.{result_ok}
-use Rattle.std.specs.List.{list_any, position, position_from}
+use Rattle.std.proofs.Common.{◌≡◌, ℕ, zero, suc, ◌-◌, ◌<◌, ◌≤◌, List, [], ◌∷◌, length, get_or, set, take, drop, Bool, true, false, not, ◌&&◌, ◌||◌, cond, Some, option_map, refl, sym, ap, subst, ◌∙◌, arith, true≢false}
+use Rattle.std.specs.Prelude.{slice_get}
+use Rattle.std.specs.List.{list_any}
 use Rattle.std.proofs.lemmas.List.{take_all}
-use Rattle.std.proofs.lemmas.List.Quantifiers.{position-Some}
-use Rattle.std.proofs.lemmas.Iterator.Adapters.{position_from-zero}
 use Rattle.std.proofs.lemmas.Option.{none-some, same_Some, slice_get-get_or, slice_get_read}
 use Rattle.ssa_model.specs.definitions.Path.{Element, Path, same_element, under}
-use Rattle.ssa_path.specs.Children.{child_at, elements, IsChildAt, IsSearchResult}
-use Rattle.ssa_path.proofs.Searching.{child-absent}
+use Rattle.ssa_path.specs.Children.{child_at, elements, IsChildAt}
 use Rattle.ssa_path.specs.declared.element.Elem.{Elem}
 use Rattle.ssa_path.specs.View.{element_view, path_view}
 use Rattle.ssa_path.proofs.Orders.{both_first, both_second}
@@ -233,38 +229,3 @@ child-fits fits p cs i c here trees h = (tree-at cs i c trees here, subst (λ o.
 -- the child that is read is the one at the place
 pub child-read : (cs : List Child) (i : ℕ) (c : Child) → i < length cs → c ≡ get_or cs i c → slice_get cs i ≡ Some c
 child-read cs i c lt is = slice_get_read cs (length cs) i c refl lt is
-
--- ---- a search in a list's own order
-
-none-from : (e : Element) (cs : List Child) (i : ℕ) → position_from (λ c. same_element e (element_view c.0)) i cs ≡ None → child_at e cs ≡ None
-none-from e [] i h = refl
-none-from e (c ∷ cs) i h =
-    elim (same_element e (element_view c.0)) as (λ b. cond b (Some i) (position_from (λ c. same_element e (element_view c.0)) (i + 1) cs) ≡ None
-    → cond b (Some c.1) (child_at e cs) ≡ None) [
-      | true ↦ λ t. absurd (none-some i (sym t))
-      | false ↦ λ t. none-from e cs (i + 1) t
-    ] h
-
--- where no child in a list's order has the element, no child is found under it
-pub scan-none : (e : Element) (cs : List Child) → position (λ c. same_element e (element_view c.0)) cs ≡ None → child_at e cs ≡ None
-scan-none e cs h = none-from e cs 0 (sym (position_from-zero (λ (c : Child). same_element e (element_view c.0)) cs) ∙ h)
-
-abbrev is_same : Element → Child → Bool
-is_same e c = same_element e (element_view c.0)
-
--- the first child in a list's order that has the element is its child
-pub scan-some : (e : Element) (cs : List Child) (i : ℕ) → position (λ c. same_element e (element_view c.0)) cs ≡ Some i → IsChildAt e cs i
-scan-some e [] i h = absurd (none-some i h)
-scan-some e (c ∷ cs) i h = record { within = (position-Some (is_same e) (c ∷ cs) i c h).0; same = λ d. (position-Some (is_same e) (c ∷ cs) i d h).1 }
-
--- what is searched in a list's order is the place of the element's child, or there is none
-pub scanned : (e : Element) (cs : List Child) (o : Option ℕ) → o ≡ position (λ c. same_element e (element_view c.0)) cs → IfSome o (IsChildAt e cs)
-    × IfNone o (child_at e cs ≡ None)
-scanned e cs None h = (tt, scan-none e cs (sym h))
-scanned e cs (Some i) h = (scan-some e cs i (sym h), tt)
-
--- what is searched by halves is the place of the element's child, or there is none
-pub searched : (e : Element) (cs : List Child) (r : Result ℕ ℕ) → IsSearchResult e cs r → IfSome (result_ok r) (IsChildAt e cs)
-    × IfNone (result_ok r) (child_at e cs ≡ None)
-searched e cs (Ok i) h = (h, tt)
-searched e cs (Err i) h = (tt, child-absent e cs i h.between)

@@ -1,14 +1,13 @@
 //! The way down to a place of a tree that is changed.
-ghost use Rattle.std.specs.Prelude.{◌≡◌, ◌<◌, true, length, IfNone, IfSome, None, position};
-ghost use Rattle.ssa_model.specs.definitions.Path.{same_element};
-ghost use Rattle.ssa_path.specs.Children.{child_at, elements, rises, IsChildAt};
+ghost use Rattle.std.specs.Prelude.{◌≡◌, ◌<◌, true, length, IfNone, IfSome, None};
+ghost use Rattle.ssa_path.specs.Children.{child_at, IsChildAt};
 ghost use Rattle.ssa_path.specs.View.{element_view, path_view};
 ghost use Rattle.ssa_typed.specs.Rows.{below, is_tree, are_trees};
 ghost use Rattle.ssa_turn_body.specs.Marks.{Place, seen};
 ghost use Rattle.ssa_typed.specs.Nodes.{node_on};
 ghost use Rattle.ssa_turn_body.specs.Descent.{node_in, FitsIn, IsChange, IsChildChange};
 
-use ssa_path::children::search;
+use ssa_path::children::{find, scan};
 use ssa_path::element::Elem;
 use ssa_typed::node::Node;
 
@@ -27,34 +26,10 @@ pub trait Change {
         ensures tree { is_tree node.new ≡ true };
 }
 
-// The place of the child of this element among children that stand in any order.
-fn scan(children: &[(Elem, Node)], element: &Elem) -> Option<usize>
-    ensures { result ≡ position (λ c. same_element (element_view element.now) (element_view c.0)) children.now }
-{
-    children.iter().position(|child| element.is_same(&child.0))
-}
-
-// The place of the child of this element among children whose elements rise.
-fn place_in_order(children: &[(Elem, Node)], element: &Elem) -> Option<usize>
-    requires { rises (elements children.now) ≡ true }
-    ensures some { IfSome result (IsChildAt (element_view element.now) children.now) }
-    ensures none { IfNone result (child_at (element_view element.now) children.now ≡ None) }
-{
-    search(children, element).ok()
-}
-
-// The place of the child of this element among children that stand in any order.
-fn place_in_list(children: &[(Elem, Node)], element: &Elem) -> Option<usize>
-    ensures some { IfSome result (IsChildAt (element_view element.now) children.now) }
-    ensures none { IfNone result (child_at (element_view element.now) children.now ≡ None) }
-{
-    scan(children, element)
-}
-
 /// The place of the child of this element among the children of a node.
 ///
-/// Takes as many comparisons as a binary search in a record or a Dict, and as there are items in a
-/// list.
+/// Takes as many comparisons as a binary search in a record or a Dict of more than a few, and as there are
+/// items in a list.
 pub fn place_of(node: &Node, element: &Elem) -> Option<usize>
     requires { is_tree node.now ≡ true }
     ensures some { IfSome result (IsChildAt (element_view element.now) (below node.now)) }
@@ -62,9 +37,9 @@ pub fn place_of(node: &Node, element: &Elem) -> Option<usize>
 {
     match node {
         Node::Leaf(_) => None,
-        Node::Branch(children) => place_in_order(children, element),
-        Node::Dict(children) => place_in_order(children, element),
-        Node::List(children) => place_in_list(children, element),
+        Node::Branch(children) => find(children, element),
+        Node::Dict(children) => find(children, element),
+        Node::List(children) => scan(children, element),
     }
 }
 

@@ -4,7 +4,7 @@ ghost use Rattle.ssa_path.specs.Children.{child_at, elements, rises, IsChildAt};
 ghost use Rattle.ssa_path.specs.View.{element_view};
 ghost use Rattle.ssa_turn_set.specs.Siblings.{has_any, kept};
 
-use ssa_path::children::search;
+use ssa_path::children::{FEW, find};
 use ssa_path::element::Elem;
 use ssa_path::trie::Trie;
 use std::cmp::Ordering;
@@ -12,13 +12,13 @@ use std::cmp::Ordering;
 // As many of the first children as are enough to have the element's child, where there is one.
 //
 // They are doubled until the last of them is not before the element, so that it costs no more than
-// the logarithm of how far the child stands.
+// the logarithm of how far the child stands. Among few none is ordered.
 fn reach(children: &[(Elem, Trie)], element: &Elem) -> usize
     requires { rises (elements children.now) ≡ true }
     ensures within { result ≤ length children.now }
     ensures enough { child_at (element_view element.now) (take result children.now) ≡ child_at (element_view element.now) children.now }
 {
-    let mut width = children.len().min(1);
+    let mut width = children.len().min(FEW);
     while width < children.len() && children[width - 1].0.order(element) == Ordering::Less {
         width += width.min(children.len() - width);
     }
@@ -31,9 +31,9 @@ pub(crate) fn place_of(children: &[(Elem, Trie)], element: &Elem) -> usize
     requires present { child_at (element_view element.now) children.now ≡ None → ⊥ }
     ensures { IsChildAt (element_view element.now) children.now result }
 {
-    match search(children, element) {
-        Ok(place) => place,
-        Err(_) => unreachable!(),
+    match find(children, element) {
+        Some(place) => place,
+        None => unreachable!(),
     }
 }
 

@@ -10,7 +10,7 @@ use Rattle.ssa_path.proofs.order.order_members.Goals as goal
 
 pub returns-in-Equal : goal.returns-in-Equal
 returns-in-Equal c =
-    let names = c.order_quoted.ensures ∙ (λ j. text_cmp (quoted (c.as_bytes.ensures.value j)) (quoted (c.as_bytes-2.ensures.value j))) in
+    let names = c.order_quoted_names.ensures ∙ (λ j. text_cmp (quoted (c.as_str.ensures.value j)) (quoted (c.as_str-2.ensures.value j))) in
     let k = c.index-keys-i.result in
     let l = c.index-others-i.result in
     c.order_scalars.ensures
@@ -22,11 +22,11 @@ returns-in-Equal c =
 
 pub returns-in_default : goal.returns-in_default
 returns-in_default c =
-    let names = c.order_quoted.ensures ∙ (λ j. text_cmp (quoted (c.as_bytes.ensures.value j)) (quoted (c.as_bytes-2.ensures.value j))) in
+    let names = c.order_quoted_names.ensures ∙ (λ j. text_cmp (quoted (c.as_str.ensures.value j)) (quoted (c.as_str-2.ensures.value j))) in
     let k = c.index-keys-i.result in
     let l = c.index-others-i.result in
     let rest = text_cmp (scalar_text (scalar_view k.1) ++ key_end (drop (c.args.i + 1) (members_view c.args.keys.now)))
     (scalar_text (scalar_view l.1) ++ key_end (drop (c.args.i + 1) (members_view c.args.others.now))) in
-    then_found c.order_quoted.result rest c.in_default.not-Equal
+    then_found c.order_quoted_names.result rest c.in_default.not-Equal
     ∙ ap (λ o. ordering_then o rest) names
     ∙ sym (members-at c.args.keys.now c.args.others.now c.args.i k l c.requires.own c.requires.others c.index-keys-i.is c.index-others-i.is)

@@ -2,7 +2,7 @@ use Rattle.std.proofs.Common.{rules, tests}
 use Rattle.std.proofs.lemmas.Fn.{always_returns_same}
 use Rattle.ssa_path.specs.View.{element_view}
 use Rattle.ssa_path.proofs.Searching.{compared, search-result}
-use Rattle.ssa_path.proofs.children.search.Goals as goal
+use Rattle.ssa_path.proofs.children.halve.Goals as goal
 
 pub returns : goal.returns
 returns g c =
