@@ -1,13 +1,9 @@
--- Room that is made as large serves wherever the first does: of texts, of members, of places.
+-- Room that is copied serves wherever the first does.
 use Rattle.std.proofs.Common.{◌≡◌, ℕ, ◌<◌, ◌+◌, List, [], ◌∷◌, ◌++◌, length, get_or, take, true, not, ◌&&◌, refl, sym, ap, ◌∙◌, true≢false, subst}
 use Rattle.std.proofs.lemmas.List.Elements.{AllZip-push}
 use Rattle.std.specs.List.{AllZip}
-use Rattle.std.specs.Prelude.{String, Vec, nat_le, vec_capacity}
-use Rattle.std.specs.declared.alloc.Global.{Global}
-use Rattle.ssa_model.specs.definitions.Json as json
-use Rattle.ssa_model.specs.definitions.Path.{Element, Path, field, key, value}
-use Rattle.ssa_json.specs.declared.value.Scalar.{Scalar}
-use Rattle.ssa_path.specs.Keys.{Members}
+use Rattle.std.specs.Prelude.{nat_le, vec_capacity}
+use Rattle.ssa_model.specs.definitions.Path.{Element, Path, same_element}
 use Rattle.ssa_path.specs.Trie.{has_some}
 use Rattle.ssa_path.specs.View.{element_view}
 use Rattle.ssa_path.specs.declared.element.Elem.{Elem}
@@ -15,20 +11,16 @@ use Rattle.ssa_path.specs.declared.trie.Trie.{Trie}
 use Rattle.ssa_path.specs.declared.trie.Trie.TheViews.{out-Trie}
 use Rattle.ssa_path.proofs.Lists.{taken-at}
 use Rattle.ssa_path.proofs.Orders.{both_first, both_second}
-use Rattle.ssa_turn_set.specs.Copies.{ChildServes, MemberServes, RoomServes, SpareServes}
+use Rattle.ssa_turn_set.specs.Copies.{ChildServes, RoomServes, SpareServes}
 use Rattle.ssa_turn_set.specs.Room.{below_child, gains, gain_one, holds, if_any, loses, lose_one, serves}
-use Rattle.ssa_turn_set.specs.Spare.{fits, holds_members, is_nothing}
+use Rattle.ssa_turn_set.specs.Spare.{is_nothing}
 use Rattle.ssa_turn_set.specs.declared.room.Room.{Room}
 use Rattle.ssa_turn_set.specs.declared.room.Room.TheOpen.{Room-F}
 use Rattle.ssa_turn_set.specs.declared.room.Room.TheViews.{out-Room, roll-Room, out-roll-Room}
 use Rattle.ssa_turn_set.specs.declared.spare.Spare.{Spare}
-use Rattle.ssa_turn_set.specs.declared.spare.Spare.TheVariants.{Keys}
+use Rattle.ssa_turn_set.specs.declared.spare.Spare.TheVariants.{Kept}
 use Rattle.ssa_turn_set.proofs.Rooms.{gain_room-level, lose_room-level}
 use Rattle.ssa_model.proofs.Basics.{both-true as both}
-
--- the room for key fields
-abbrev Rooms : Type 0
-Rooms = Vec (String Global × Scalar) Global
 
 -- ---- one more copy
 
@@ -39,31 +31,11 @@ each-pushed R xs i x lt is ys zs y pushed each serve =
     subst (AllZip R (take (i + 1) xs)) (sym pushed)
     (subst (λ l. AllZip R l (ys ++ y ∷ [])) (sym (taken-at xs i x lt is)) (AllZip-push R (take i xs) ys x y each serve))
 
--- ---- texts
-
 -- ---- the room for an element
 
--- room for the members of a key, copied, is enough for each that the first is enough for
-pub members-serve : (ms : Members) (rs cs : List (String Global × Scalar)) → AllZip MemberServes rs cs → holds_members ms rs ≡ true → holds_members ms cs ≡ true
-members-serve [] [] [] z h = refl
-members-serve [] [] (c ∷ cs) z h = absurd z
-members-serve [] (r ∷ rs) cs z h = absurd (true≢false (sym h))
-members-serve (m ∷ ms) [] cs z h = absurd (true≢false (sym h))
-members-serve (m ∷ ms) (r ∷ rs) [] z h = absurd z
-members-serve (m ∷ ms) (r ∷ rs) (c ∷ cs) z h =
-    let here = both_first _ _ h in
-    both _ _ (both _ _ (z.0.0 m.0 (both_first _ _ here)) (z.0.1 m.1 (both_second _ _ here))) (members-serve ms rs cs z.1 (both_second _ _ h))
-
--- copied room for a key's members serves for each element that the first does
-pub keys-serve : (rs cs : Rooms) → AllZip MemberServes rs.items cs.items → SpareServes (Keys rs) (Keys cs)
-keys-serve rs cs z = record { nothing = λ h. h; fits = fitting }
-  where
-    fitting : (e : Element) → fits e (Keys rs) ≡ true → fits e (Keys cs) ≡ true
-    fitting (field n) h = h
-    fitting (key ks) h = members-serve ks rs.items cs.items z h
-    fitting (value (json.text t)) h = h
-    fitting (value (json.whole n)) h = h
-    fitting (value (json.truth b)) h = h
+-- a copy of the element serves where the element does
+pub kept-serve : (x y : Elem) → element_view y ≡ element_view x → SpareServes (Kept x) (Kept y)
+kept-serve x y same = record { nothing = λ h. h; fits = λ e h. ap (same_element e) same ∙ h }
 
 -- ---- the room of a place
 

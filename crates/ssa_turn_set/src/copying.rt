@@ -1,52 +1,13 @@
 //! A copy of a record, which serves wherever the record does.
 ghost use Rattle.std.specs.Prelude.{◌≡◌, IfOk};
-ghost use Rattle.std.specs.List.{AllZip};
 ghost use Rattle.ssa_model.specs.definitions.PathMap.{PathSet};
-ghost use Rattle.ssa_turn_set.specs.Copies.{ChildServes, MemberServes, RoomServes, ScalarServes, SpareServes, TextServes};
+ghost use Rattle.ssa_turn_set.specs.Copies.{RoomServes, SpareServes};
 ghost use Rattle.ssa_turn_set.specs.Turn.{HasRoom, set_steps};
 
 use crate::room::Room;
 use crate::spare::Spare;
 use crate::turn::{SetDelta, SetRoom};
-use ssa_json::value::Scalar;
 use std::alloc::{AllocError, Global};
-
-// An empty text with as much room.
-fn copy_text_room(alloc: Global, room: &String) -> Result<String, AllocError>
-    ensures { IfOk result (λ t. TextServes room.now t) }
-{
-    String::with_capacity(alloc, room.capacity())
-}
-
-// A scalar of the same sort, a text empty and with as much room.
-fn copy_scalar_room(alloc: Global, room: &Scalar) -> Result<Scalar, AllocError>
-    ensures { IfOk result (λ s. ScalarServes room.now s) }
-{
-    match room {
-        Scalar::Text(text) => {
-            let copied = copy_text_room(alloc, text)?;
-            Ok(Scalar::Text(copied))
-        }
-        Scalar::Int(number) => Ok(Scalar::Int(*number)),
-        Scalar::Bool(truth) => Ok(Scalar::Bool(*truth)),
-    }
-}
-
-// Room for as many key fields, each as large.
-fn copy_member_rooms(
-    alloc: Global,
-    rooms: &Vec<(String, Scalar)>,
-) -> Result<Vec<(String, Scalar)>, AllocError>
-    ensures { IfOk result (λ v. AllZip MemberServes rooms.now.items v.items) }
-{
-    let mut copies = Vec::with_capacity(alloc, rooms.len())?;
-    for room in rooms {
-        let name = copy_text_room(alloc, &room.0)?;
-        let scalar = copy_scalar_room(alloc, &room.1)?;
-        copies.push((name, scalar))?;
-    }
-    Ok(copies)
-}
 
 // The same room for an element, with new memory.
 fn copy_spare(alloc: Global, spare: &Spare) -> Result<Spare, AllocError>
@@ -54,13 +15,9 @@ fn copy_spare(alloc: Global, spare: &Spare) -> Result<Spare, AllocError>
 {
     match spare {
         Spare::Nothing => Ok(Spare::Nothing),
-        Spare::Text(room) => {
-            let copied = copy_text_room(alloc, room)?;
-            Ok(Spare::Text(copied))
-        }
-        Spare::Keys(rooms) => {
-            let copied = copy_member_rooms(alloc, rooms)?;
-            Ok(Spare::Keys(copied))
+        Spare::Kept(element) => {
+            let copied = element.copy(alloc)?;
+            Ok(Spare::Kept(copied))
         }
     }
 }

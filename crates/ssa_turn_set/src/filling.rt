@@ -1,20 +1,7 @@
-//! Vectors and texts filled within their room.
-ghost use Rattle.std.specs.Prelude.{◌≡◌, ◌≤◌, [], length, vec_len, vec_capacity, string_bytes, string_capacity};
+//! Vectors filled within their room.
+ghost use Rattle.std.specs.Prelude.{◌≡◌, ◌≤◌, [], vec_len, vec_capacity};
 
 use ssa_reverse::room::exchange;
-
-// Copies a text into an empty one that has room for it.
-pub(crate) fn copy_text(room: &mut String, text: &str)
-    requires empty { string_bytes room.old ≡ [] }
-    requires fits { length text.now ≤ string_capacity room.old }
-    ensures text { string_bytes room.new ≡ text.now }
-    ensures capacity { string_capacity room.old ≤ string_capacity room.new }
-{
-    match room.push_str(text) {
-        Ok(()) => {}
-        Err(_) => unreachable!(),
-    }
-}
 
 // Exchanges the vectors where the empty one has more room.
 pub(crate) fn exchange_where_wider<X: Drop>(items: &mut Vec<X>, room: &mut Vec<X>)

@@ -6,14 +6,13 @@ ghost use Rattle.ssa_path.specs.View.{element_view};
 ghost use Rattle.ssa_path.specs.Trie.{are_filled_tries, is_trie, paths};
 ghost use Rattle.ssa_path.specs.Combine.{IsCombination};
 ghost use Rattle.ssa_turn_set.specs.Room.{children, fresh, gain_room, goes, leaves_beside, leaving_beside, left, serves};
-ghost use Rattle.ssa_turn_set.specs.Spare.{fits, fits_text};
+ghost use Rattle.ssa_turn_set.specs.Spare.{fits};
 ghost use Rattle.ssa_turn_set.specs.Turn.{IsBetween};
 
 use crate::loss::{count_whole, goes_whole, make_loss_room, place_or};
 use crate::room::Room;
-use crate::spare::{Spare, emptied_keys};
+use crate::spare::Spare;
 use crate::turn::{SetDelta, SetRoom};
-use ssa_json::value::Scalar;
 use ssa_path::children::find_child;
 use ssa_path::combine::{Combination, combine};
 use ssa_path::element::Elem;
@@ -22,28 +21,12 @@ use ssa_path::trie::Trie;
 use ssa_path::within::lies_within;
 use std::alloc::{AllocError, Global};
 
-// An empty text with room for this one.
-fn make_text(alloc: Global, text: &str) -> Result<Spare, AllocError>
-    ensures { IfOk result (λ s. fits_text text.now s ≡ true) }
-{
-    let room = String::with_capacity(alloc, text.len())?;
-    Ok(Spare::Text(room))
-}
-
-// Room for a copy of the element.
+// A copy of the element, as room for it.
 fn make_spare(alloc: Global, element: &Elem) -> Result<Spare, AllocError>
     ensures { IfOk result (λ s. fits (element_view element.now) s ≡ true) }
 {
-    match element {
-        Elem::Field(name) => make_text(alloc, name.as_str()),
-        Elem::Key(keys) => {
-            let copied = keys.copy(alloc)?;
-            Ok(emptied_keys(copied))
-        }
-        Elem::Value(Scalar::Text(text)) => make_text(alloc, text.as_str()),
-        Elem::Value(Scalar::Int(_)) => Ok(Spare::Nothing),
-        Elem::Value(Scalar::Bool(_)) => Ok(Spare::Nothing),
-    }
+    let kept = element.copy(alloc)?;
+    Ok(Spare::Kept(kept))
 }
 
 // Room for the element of a child that comes; one that is there already needs none.
