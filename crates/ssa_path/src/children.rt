@@ -34,12 +34,13 @@ fn halve<T>(children: &[(Elem, T)], element: &Elem) -> Result<usize, usize>
 
 /// The place of the child of this element, or the place where one may be put.
 ///
-/// Few are looked at first for the child itself. Where no place for one is needed, [`find`] takes less.
+/// An item is first looked for among few. The names of fields mostly differ in their first bytes, which
+/// order them as fast. Where no place for one is needed, [`find`] takes less.
 pub fn search<T>(children: &[(Elem, T)], element: &Elem) -> Result<usize, usize>
     requires { rises (elements children.now) ≡ true }
     ensures { IsSearchResult (element_view element.now) children.now result }
 {
-    if children.len() <= FEW {
+    if element.is_item() && children.len() <= FEW {
         if let Some(i) = scan(children, element) {
             return Ok(i);
         }
