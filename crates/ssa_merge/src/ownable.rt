@@ -6,6 +6,7 @@ ghost use Rattle.ssa_model.specs.definitions.PathMap.{empty, insert, paths, set_
 ghost use Rattle.ssa_model.specs.definitions.Valid.{metadata_path};
 ghost use Rattle.ssa_merge.specs.EntryReading.{first_of};
 
+use ssa_members::SmallText;
 use ssa_path::element::Elem;
 use ssa_path::field_set::FieldSet;
 use ssa_path::path::Path;
@@ -19,7 +20,7 @@ fn never_owned(alloc: Global) -> Result<FieldSet, AllocError>
     let mut never = FieldSet::new(alloc);
     never.insert(alloc, &Path::new(Vec::new(alloc)))?;
     let mut elements = Vec::new(alloc);
-    elements.push(Elem::Field(String::from_str(alloc, "metadata")?))?;
+    elements.push(Elem::Field(SmallText::from_str(alloc, "metadata")?))?;
     never.insert(alloc, &Path::new(elements))?;
     Ok(never)
 }

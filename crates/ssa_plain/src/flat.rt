@@ -3,7 +3,7 @@
 use crate::body::{Content, Row};
 use crate::path::{Path, Text, child};
 use ssa_json::value::{Json, Scalar};
-use ssa_members::Members;
+use ssa_members::{Members, SmallText};
 use ssa_path::element::Elem;
 use ssa_path::keys::Keys;
 use ssa_schema::kind::{Kind, find_field};
@@ -63,7 +63,7 @@ fn scalar_text(alloc: Global, scalar: &Scalar) -> Result<Text, AllocError> {
 
 // The place of a field.
 fn field_of(alloc: Global, place: &[Text], name: &str) -> Result<Path, AllocError> {
-    let element = Elem::Field(String::from_str(alloc, name)?);
+    let element = Elem::Field(SmallText::from_str(alloc, name)?);
     let text = element.text(alloc)?;
     child(alloc, place, &text)
 }
@@ -79,11 +79,11 @@ fn key_members(
     alloc: Global,
     item: &Json,
     names: &[String],
-) -> Result<Vec<(String, Scalar)>, AllocError> {
+) -> Result<Vec<(SmallText, Scalar)>, AllocError> {
     let mut found = Vec::new(alloc);
     for name in names {
         if let Some(Json::Scalar(scalar)) = item.member(name) {
-            let key = String::from_str(alloc, name)?;
+            let key = SmallText::from_str(alloc, name)?;
             found.push((key, scalar.copy(alloc)?))?;
         }
     }

@@ -11,12 +11,13 @@ use crate::places::ToldPlaces;
 use crate::spot::{Item, Spot, only_child};
 use ssa_json::text::is_same_text;
 use ssa_json::value::Scalar;
+use ssa_members::SmallText;
 use ssa_path::element::Elem;
 use ssa_schema::kind::{Kind, find_field};
 use std::alloc::{AllocError, Global};
 
 // Whether one of the key fields has the name.
-fn have_name(keys: &[(String, Scalar)], name: &str) -> bool
+fn have_name(keys: &[(SmallText, Scalar)], name: &str) -> bool
     ensures { result ≡ names_key (key (members_view keys.now)) (field name.now) }
 {
     for member in keys {

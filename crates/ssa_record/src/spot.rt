@@ -3,6 +3,7 @@ ghost use Rattle.std.specs.Prelude.{IfSome};
 ghost use Rattle.ssa_record.specs.Spots.{IsOnlyChild};
 
 use ssa_json::value::Scalar;
+use ssa_members::SmallText;
 use ssa_path::element::Elem;
 use ssa_path::trie::Trie;
 use ssa_schema::kind::Kind;
@@ -22,7 +23,7 @@ pub struct Spot<'a> {
 pub struct Item<'a> {
     pub touched: &'a Trie,
     pub node: &'a Node,
-    pub keys: &'a [(String, Scalar)],
+    pub keys: &'a [(SmallText, Scalar)],
     pub fields: &'a BTreeMap<String, Kind>,
 }
 

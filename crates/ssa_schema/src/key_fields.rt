@@ -9,7 +9,7 @@ ghost use Rattle.ssa_schema.specs.Kinds.{names_view};
 
 use ssa_json::members::find_member;
 use ssa_json::value::{Json, Scalar};
-use ssa_members::Members;
+use ssa_members::{Members, SmallText};
 use std::alloc::{AllocError, Global};
 
 /// The scalar under a name, where there is one.
@@ -30,13 +30,13 @@ pub fn key_members(
     alloc: Global,
     names: &[String],
     members: &Members<Json>,
-) -> Result<Vec<(String, Scalar)>, AllocError>
+) -> Result<Vec<(SmallText, Scalar)>, AllocError>
     ensures { IfOk result (λ ks. keys.members_view ks.items ≡ key_scalars (names_view names.now) (members_view members.now.entries)) }
 {
-    let mut found = Vec::new(alloc);
+    let mut found = Vec::with_capacity(alloc, names.len())?;
     for name in names {
         if let Some(scalar) = scalar_member(members, name.as_str()) {
-            let own = String::from_str(alloc, name.as_str())?;
+            let own = SmallText::from_str(alloc, name.as_str())?;
             let scalar = scalar.copy(alloc)?;
             found.push((own, scalar))?;
         }

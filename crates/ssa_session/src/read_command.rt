@@ -1,5 +1,5 @@
 //! Reads a line as a command.
-ghost use Rattle.std.specs.Prelude.{◌≡◌, IsTrue, Some, option_map, option_and_then, string_bytes};
+ghost use Rattle.std.specs.Prelude.{◌≡◌, IfOk, IsTrue, Some, option_map, option_and_then, string_bytes};
 ghost use Rattle.ssa_json.specs.View.{view, members_view};
 ghost use Rattle.ssa_model.specs.definitions.Json.{object, as_text, member_of};
 ghost use Rattle.ssa_model.specs.definitions.Session.{read_command, read_line};
@@ -127,8 +127,8 @@ fn command_of(alloc: Global, value: Json) -> Result<Command, LineFault>
         return Err(LineFault::CommandShape);
     }
     match word {
-        Word::Apply => apply_command(members),
-        Word::Update => update_command(members),
+        Word::Apply => apply_command(alloc, members),
+        Word::Update => update_command(alloc, members),
         Word::Strip => Ok(Command::Change(bench::Command::Strip)),
         Word::Undo => Ok(Command::Undo),
         Word::Redo => Ok(Command::Redo),
@@ -147,33 +147,36 @@ struct Request {
 }
 
 // Takes the request out of the members, where its moment is one.
-fn take_request(members: &mut Members<Json>) -> Option<Request>
+fn take_request(
+    alloc: Global,
+    members: &mut Members<Json>,
+) -> Result<Option<Request>, AllocError>
     requires { HasRequest (members_view members.old.entries) }
-    ensures { Requests result (members_view members.old.entries) }
+    ensures { IfOk result (λ request. Requests request (members_view members.old.entries)) }
 {
     let Some(text) = text_of(members, "at") else {
         unreachable!("the shape has a text");
     };
     let Ok(at) = Moment::read(text) else {
-        return None;
+        return Ok(None);
     };
     let Some(object) = members.remove("object") else {
         unreachable!("the shape has the member");
     };
-    let Some(who) = take_text(members, "manager") else {
+    let Some(who) = take_text(alloc, members, "manager")? else {
         unreachable!("the shape has a text");
     };
-    Some(Request { who, at, object })
+    Ok(Some(Request { who, at, object }))
 }
 
 // The apply command of members that follow its rule.
-fn apply_command(mut members: Members<Json>) -> Result<Command, LineFault>
+fn apply_command(alloc: Global, mut members: Members<Json>) -> Result<Command, LineFault>
     requires word { word_of (members_view members.entries) ≡ Some (word_text Word.Apply) }
     requires shape { IsTrue (follows_rule (members_view members.entries) (rule_at Word.Apply)) }
     ensures { ReadsCommand result (read_command readings (object (members_view members.entries))) }
 {
     let force = truth_of(&members, "force");
-    let Some(Request { who, at, object }) = take_request(&mut members) else {
+    let Some(Request { who, at, object }) = take_request(alloc, &mut members)? else {
         return Err(LineFault::BadMoment);
     };
     Ok(Command::Change(bench::Command::Apply {
@@ -185,12 +188,12 @@ fn apply_command(mut members: Members<Json>) -> Result<Command, LineFault>
 }
 
 // The update command of members that follow its rule.
-fn update_command(mut members: Members<Json>) -> Result<Command, LineFault>
+fn update_command(alloc: Global, mut members: Members<Json>) -> Result<Command, LineFault>
     requires word { word_of (members_view members.entries) ≡ Some (word_text Word.Update) }
     requires shape { IsTrue (follows_rule (members_view members.entries) (rule_at Word.Update)) }
     ensures { ReadsCommand result (read_command readings (object (members_view members.entries))) }
 {
-    let Some(Request { who, at, object }) = take_request(&mut members) else {
+    let Some(Request { who, at, object }) = take_request(alloc, &mut members)? else {
         return Err(LineFault::BadMoment);
     };
     Ok(Command::Change(bench::Command::Update { who, at, object }))
@@ -235,21 +238,25 @@ fn truth_of(members: &Members<Json>, name: &str) -> bool
 }
 
 // Takes out the text of the member of a name, where it is one.
-fn take_text(members: &mut Members<Json>, name: &str) -> Option<String>
-    ensures { option_map (λ text. string_bytes text) result ≡ option_and_then as_text (member_of name.now (members_view members.old.entries)) }
+fn take_text(
+    alloc: Global,
+    members: &mut Members<Json>,
+    name: &str,
+) -> Result<Option<String>, AllocError>
+    ensures { IfOk result (λ found. option_map (λ text. string_bytes text) found ≡ option_and_then as_text (member_of name.now (members_view members.old.entries))) }
 {
-    into_text(members.remove(name)?)
+    match members.remove(name) {
+        Some(value) => text_in(alloc, &value),
+        None => Ok(None),
+    }
 }
 
-// The text, where the value is one.
-fn into_text(value: Json) -> Option<String>
-    ensures { option_map (λ text. string_bytes text) result ≡ as_text (view value) }
+// The text, where the value is one, in memory of its own.
+fn text_in(alloc: Global, value: &Json) -> Result<Option<String>, AllocError>
+    ensures { IfOk result (λ found. option_map (λ text. string_bytes text) found ≡ as_text (view value.now)) }
 {
-    match value {
-        Json::Scalar(scalar) => match scalar {
-            Scalar::Text(text) => Some(text),
-            Scalar::Int(_) | Scalar::Bool(_) => None,
-        },
-        Json::List(_) | Json::Object(_) => None,
+    match value.as_text() {
+        Some(text) => Ok(Some(String::from_str(alloc, text)?)),
+        None => Ok(None),
     }
 }

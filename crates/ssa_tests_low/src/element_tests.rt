@@ -2,6 +2,7 @@
 use crate::questions::Question;
 use crate::support::{are_told, path, push_element};
 use ssa_json::value::Scalar;
+use ssa_members::SmallText;
 use ssa_path::element::{Elem, own_texts_are_read};
 use ssa_path::element_fault::ElemFault;
 use ssa_path::keys::Keys;
@@ -102,18 +103,18 @@ fn elements_stand_by_their_texts(rt: HostRuntime) -> Result<(), Fail> {
 // Puts a key field behind others.
 fn push_key(
     alloc: Global,
-    pairs: &mut Vec<(String, Scalar)>,
+    pairs: &mut Vec<(SmallText, Scalar)>,
     name: &str,
     value: Scalar,
 ) -> Result<(), AllocError> {
-    let name = String::from_str(alloc, name)?;
+    let name = SmallText::from_str(alloc, name)?;
     Ok(pairs.push((name, value))?)
 }
 
 // Puts key fields with whole numbers behind others.
 fn push_numbers(
     alloc: Global,
-    pairs: &mut Vec<(String, Scalar)>,
+    pairs: &mut Vec<(SmallText, Scalar)>,
     members: &[(&str, i64)],
 ) -> Result<(), AllocError> {
     for (name, number) in members {
@@ -207,8 +208,8 @@ fn read_again(alloc: Global, text: &str) -> Result<String, Fail> {
 }
 
 // Two key fields, one with escapes in its name and its value, the other with a negative number.
-fn push_escaped(alloc: Global, pairs: &mut Vec<(String, Scalar)>) -> Result<(), AllocError> {
-    let text = Scalar::Text(String::from_str(alloc, "\\\t")?);
+fn push_escaped(alloc: Global, pairs: &mut Vec<(SmallText, Scalar)>) -> Result<(), AllocError> {
+    let text = Scalar::Text(SmallText::from_str(alloc, "\\\t")?);
     push_key(alloc, pairs, "\"\n", text)?;
     push_key(alloc, pairs, "b", Scalar::Int(-1))
 }
@@ -226,9 +227,9 @@ fn escaped_key(alloc: Global) -> Result<Elem, Fail> {
 // The element of a name here.
 fn made(alloc: Global, name: &str) -> Result<Elem, Fail> {
     match name {
-        "field" => Ok(Elem::Field(String::from_str(alloc, "a\"")?)),
+        "field" => Ok(Elem::Field(SmallText::from_str(alloc, "a\"")?)),
         "key" => escaped_key(alloc),
-        "text" => Ok(Elem::Value(Scalar::Text(String::from_str(alloc, "\u{1f}\u{e9}")?))),
+        "text" => Ok(Elem::Value(Scalar::Text(SmallText::from_str(alloc, "\u{1f}\u{e9}")?))),
         "least" => Ok(Elem::Value(Scalar::Int(i64::MIN))),
         "most" => Ok(Elem::Value(Scalar::Int(i64::MAX))),
         _ => Err(Fail::new("no such name")),

@@ -7,7 +7,7 @@ use ssa_json::moment::Moment;
 use ssa_json::text::is_same_text;
 use ssa_json::value::{Json, Scalar};
 use ssa_json::write::compact_is_read;
-use ssa_members::Members;
+use ssa_members::{Members, SmallText};
 use std::alloc::{AllocError, Global};
 use std::test::Fail;
 
@@ -207,7 +207,7 @@ fn is_copied(alloc: Global, scalar: &Scalar) -> Result<bool, AllocError> {
 
 #[test]
 fn scalars_are_copied_and_compared(rt: HostRuntime) -> Result<(), Fail> {
-    let scalar = Scalar::Text(String::from_str(rt.alloc(), "x")?);
+    let scalar = Scalar::Text(SmallText::from_str(rt.alloc(), "x")?);
     let is_copied = is_copied(rt.alloc(), &scalar);
     drop(scalar);
     assert!(rt; is_copied? && is_same_text("ab", "ab") && !is_same_text("ab", "ac"));

@@ -5,6 +5,7 @@ ghost use Rattle.ssa_model.specs.definitions.Valid.{metadata_path};
 use crate::questions::{Question, QuestionOfTwo};
 use crate::samples::PLACES;
 use crate::support::{are_told, are_told_of_two, bodies, body, listed, look_at, set, shown, truth};
+use ssa_members::SmallText;
 use ssa_path::element::Elem;
 use ssa_path::field_set::FieldSet;
 use ssa_path::path::Path;
@@ -148,7 +149,7 @@ fn metadata(alloc: Global) -> Result<Path, Fail>
     ensures { IfOk result (λ p. p ≡ metadata_path) }
 {
     let mut elements = Vec::new(alloc);
-    elements.push(Elem::Field(String::from_str(alloc, "metadata")?))?;
+    elements.push(Elem::Field(SmallText::from_str(alloc, "metadata")?))?;
     Ok(Path::new(elements))
 }
 

@@ -12,7 +12,7 @@ use crate::item_keys::keys_of;
 use crate::node::{Leaf, Node};
 use crate::parts::{into_items, into_members, into_scalar};
 use ssa_json::value::Json;
-use ssa_members::Members;
+use ssa_members::{Members, SmallText};
 use ssa_path::element::Elem;
 use ssa_schema::kind::{Kind, ScalarKind};
 use std::alloc::{AllocError, Global};
@@ -89,6 +89,7 @@ fn field_child(
     match fields.get(name.as_str()) {
         Some(kind) => {
             let child = tree_of(alloc, kind, member)?;
+            let name = SmallText::from_string(alloc, name)?;
             Ok((Elem::Field(name), child))
         }
         None => unreachable!(),
@@ -127,6 +128,7 @@ fn entry_children(
     let mut children = Vec::new(alloc);
     for (name, member) in members.into_entries() {
         let child = tree_of(alloc, inside, member)?;
+        let name = SmallText::from_string(alloc, name)?;
         children.push((Elem::Field(name), child))?;
     }
     Ok(children)

@@ -7,7 +7,7 @@ ghost use Rattle.ssa_schema.specs.Kinds.{names_view};
 
 use crate::key_fields::key_members;
 use ssa_json::value::{Json, Scalar};
-use ssa_members::Members;
+use ssa_members::{Members, SmallText};
 use ssa_path::element::Elem;
 use ssa_path::element_text;
 use std::alloc::{AllocError, Global};
@@ -16,7 +16,7 @@ use std::alloc::{AllocError, Global};
 pub fn field_name(alloc: Global, name: &str) -> Result<String, AllocError>
     ensures { IfOk result (λ text. string_bytes text ≡ element_text (field name.now)) }
 {
-    Elem::Field(String::from_str(alloc, name)?).name(alloc)
+    Elem::Field(SmallText::from_str(alloc, name)?).name(alloc)
 }
 
 /// The text of an item of a set, as `v:"10.0.0.1"`.
