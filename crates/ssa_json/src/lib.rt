@@ -23,7 +23,7 @@ mod make;
 pub mod members;
 pub mod moment;
 mod piece;
-mod quotes;
+pub mod quotes;
 mod read;
 pub mod reader;
 pub mod reading_room;

@@ -1,5 +1,4 @@
-// What texts are between quotes. Most need no escapes, which sixteen bytes, or eight or four, tell at a time; the last of them
-// overlap those before.
+//! What bytes and texts are between quotes.
 ghost use Rattle.std.specs.Prelude.{◌≡◌, ◌<◌, ◌≤◌, ◌+◌, ◌++◌, length, take, OnOk};
 ghost use Rattle.std.specs.Bool.{OnTrue};
 ghost use Rattle.json.specs.Run.{is_plain};
@@ -9,6 +8,7 @@ ghost use Rattle.ssa_model.specs.definitions.Json.{escaped_byte, hex_digit};
 use std::alloc::AllocError;
 use std::simd::prelude::*;
 
+// Most texts need no escapes. Sixteen bytes tell it at a time, of a short text eight or four; the last overlap those before.
 #[inline(always)]
 fn are_four_plain(text: &[u8], at: usize) -> bool
     requires { at + 4 ≤ length text.now }
@@ -109,8 +109,8 @@ fn hex_digit(digit: u8) -> u8
     }
 }
 
-// A byte as it stands between quotes, and how many bytes that takes.
-fn escape(byte: u8) -> ([u8; 6], usize)
+/// A byte as it stands between quotes, and how many bytes that takes.
+pub fn escape(byte: u8) -> ([u8; 6], usize)
     ensures within { result.1 ≤ 6 }
     ensures bytes { take result.1 result.0 ≡ escaped_byte byte }
 {

@@ -1,6 +1,7 @@
 //! Prints JSON values.
 ghost use Rattle.std.specs.Prelude.{◌≡◌, ◌≤◌, [], ◌∷◌, ◌++◌, Ok, IfOk, OnOk, string_bytes, false, true};
 ghost use Rattle.ssa_model.specs.definitions.Json.{comma_if, compact, compact_items, compact_members, quoted, scalar_text, whole_text};
+ghost use Rattle.ssa_model.specs.definitions.Replies.{number_json};
 ghost use Rattle.ssa_json.specs.Reading.{json_reading};
 ghost use Rattle.ssa_json.specs.View.{view, scalar_view, items_view, members_view};
 ghost use Rattle.ssa_json.specs.Writable.{CompactIsRead, IsOfProgram, depth, has_rising_names, has_utf8, is_utf8_scalar, items_have_rising_names, items_have_utf8, max_depth, members_have_utf8, members_rise};
@@ -56,6 +57,14 @@ pub fn push_quoted(_alloc: Global, text: &mut Vec<u8>, string: &str) -> Result<(
     ensures { OnOk result (text.new.items ≡ text.old.items ++ quoted string.now) }
 {
     push_string(text, string)
+}
+
+/// Appends a count in decimal.
+pub fn push_decimal(text: &mut Vec<u8>, count: usize) -> Result<(), AllocError>
+    ensures { OnOk result (text.new.items ≡ text.old.items ++ compact (number_json count)) }
+{
+    let mut digits = Buffer::new();
+    text.extend_from_slice(digits.format(count).as_bytes())
 }
 
 /// Reading the compact text of a value gives the value, where its numbers fit 64 bits, its texts are
