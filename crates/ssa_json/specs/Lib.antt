@@ -10,4 +10,3 @@ pub mod FaultCodes
 pub mod Lookups
 pub mod Parts
 pub mod PutInTurn
-pub mod Plain
