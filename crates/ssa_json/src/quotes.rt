@@ -80,9 +80,10 @@ fn are_many_plain(text: &[u8]) -> bool
     are_sixteen_plain(text, text.len() - 16)
 }
 
-/// Whether a text stands between quotes as it is.
+// Whether a text stands between quotes as it is. Its callers need to know only that it does where this says so: the other
+// way is as right, and slower.
 #[inline(always)]
-pub fn has_no_escapes(text: &[u8]) -> bool
+pub(crate) fn has_no_escapes(text: &[u8]) -> bool
     ensures { OnTrue result (PlainBetween text.now 0 (length text.now)) }
 {
     let len = text.len();
@@ -133,9 +134,9 @@ pub fn escape(byte: u8) -> ([u8; 6], usize)
     }
 }
 
-/// Appends a byte as it stands between quotes.
+// Appends a byte as it stands between quotes.
 #[inline(always)]
-pub fn push_escaped(text: &mut Vec<u8>, byte: u8) -> Result<(), AllocError>
+pub(crate) fn push_escaped(text: &mut Vec<u8>, byte: u8) -> Result<(), AllocError>
     ensures { OnOk result (text.new.items ≡ text.old.items ++ escaped_byte byte) }
 {
     if is_plain(byte) {
