@@ -74,8 +74,8 @@ pub fn decimals_are_printed()
     ensures { DecimalsArePrinted }
 {}
 
-// Whether each byte of a text stands for itself in quotes.
-fn is_plain(text: &str) -> bool
+/// Whether each byte of a text stands for itself in quotes.
+pub fn is_plain(text: &str) -> bool
     ensures { result ≡ list_all is_plain text.now }
 {
     for byte in text.as_bytes() {
@@ -130,8 +130,8 @@ fn write_scalar(alloc: Global, text: &mut Vec<u8>, scalar: &Scalar) -> Result<()
     }
 }
 
-// Appends the comma in front of each item but the first.
-fn push_comma(text: &mut Vec<u8>, is_later: bool) -> Result<(), AllocError>
+/// Appends the comma in front of each item but the first.
+pub fn push_comma(text: &mut Vec<u8>, is_later: bool) -> Result<(), AllocError>
     ensures { OnOk result (text.new.items ≡ text.old.items ++ comma_if is_later) }
 {
     if is_later {
