@@ -25,6 +25,8 @@ pub mod FieldsReadings
 pub mod FieldsSaid
 pub mod FieldsSays
 pub mod FieldsBack
+pub mod FieldsTexts
 pub mod LyingWithin
 pub mod SortKeys
 pub mod LeadingTexts
+pub mod PathTexts
