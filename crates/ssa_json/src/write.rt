@@ -134,8 +134,8 @@ fn write_scalar(text: &mut Vec<u8>, scalar: &Scalar) -> Result<(), AllocError>
     }
 }
 
-// Appends the comma in front of each item but the first.
-fn push_comma(text: &mut Vec<u8>, is_later: bool) -> Result<(), AllocError>
+/// Appends the comma in front of each item but the first.
+pub fn push_comma(text: &mut Vec<u8>, is_later: bool) -> Result<(), AllocError>
     ensures { OnOk result (text.new.items ≡ text.old.items ++ comma_if is_later) }
 {
     if is_later {

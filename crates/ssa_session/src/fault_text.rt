@@ -10,11 +10,13 @@ ghost use Rattle.ssa_session.specs.Replies.{bench_json, clashes_json, conflict_j
 
 use crate::entry_fault_text::push_entry_fault;
 use crate::fault_line::{push_code, push_code_at, push_members};
-use crate::json_text::{push_comma, push_paths, push_string};
+use crate::json_text::push_string;
 use ssa_bench::fault::Fault;
 use ssa_json::fault_code::FaultCode;
+use ssa_json::write::push_comma;
 use ssa_merge::manager::ManagerKey;
 use ssa_path::field_set::FieldSet;
+use ssa_path::path_text::push_paths;
 use ssa_schema::body_fault::BodyFault;
 use std::alloc::{AllocError, Global};
 

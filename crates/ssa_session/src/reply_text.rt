@@ -8,11 +8,13 @@ ghost use Rattle.ssa_json.specs.View.{view};
 ghost use Rattle.ssa_merge.specs.Managers.{key_view, lent_keys};
 ghost use Rattle.ssa_bench.specs.Benches.{changed_view};
 
-use crate::json_text::{push_comma, push_number, push_paths, push_string, push_value};
+use crate::json_text::{push_number, push_string, push_value};
 use ssa_bench::bench::Bench;
 use ssa_bench::prepared::Changed;
 use ssa_json::value::Json;
+use ssa_json::write::push_comma;
 use ssa_merge::manager::ManagerKey;
+use ssa_path::path_text::push_paths;
 use std::alloc::{AllocError, Global};
 
 // The bytes that a reply has room for from the start, which most replies need.
