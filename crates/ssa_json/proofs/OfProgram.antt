@@ -9,8 +9,11 @@ use Rattle.std.specs.Str.{is_utf8}
 use Rattle.ssa_members.proofs.Texts.{text_is_utf8}
 use Rattle.ssa_members.specs.Texts.{text_bytes}
 use Rattle.ssa_members.specs.declared.small_text.SmallText.{SmallText}
+use Rattle.ssa_model.specs.definitions.Entries.{text_json}
+use Rattle.ssa_model.specs.definitions.Json.{Text, Json as Value, object, Members, no_members, member}
 use Rattle.ssa_json.specs.View.{view, items_view, members_view}
-use Rattle.ssa_json.specs.Writable.{has_utf8, items_have_utf8, members_have_utf8, is_below, has_rising_names, items_have_rising_names, members_rise}
+use Rattle.ssa_json.specs.Writable.{IsOfProgram, has_utf8, items_have_utf8, members_have_utf8, is_below, has_rising_names, items_have_rising_names, members_rise}
+use Rattle.ssa_json.specs.Written.{is_narrow, members_narrow}
 use Rattle.ssa_json.specs.declared.value.Json.{Json}
 use Rattle.ssa_json.proofs.Converting.{Found}
 
@@ -66,3 +69,22 @@ members_rise-push (w ∷ ms) m more sorted before here =
     let parts = and_parts (has_rising_names (view w.1)) (members_rise (members_view ms)) rise.1 in
     and_from (is_below (string_bytes w.0) _) _ (below-pushed w ms m more sorted.0)
     (and_from (has_rising_names (view w.1)) _ parts.0 (members_rise-push ms m more sorted.1 parts.1 here))
+
+-- ---- values made of others
+
+-- an object without members is of the program
+pub empty-of-program : IsOfProgram (object no_members)
+empty-of-program = record { narrow = refl; texts = refl; names = refl }
+
+-- with a member in front, whose name is below those of the others, an object is of the program where the value and the object are
+pub member-of-program : (n : Text) (v : Value) (ms : Members) → is_utf8 n ≡ true → is_below n ms ≡ true → IsOfProgram v → IsOfProgram (object ms)
+    → IsOfProgram (object (member n v ms))
+member-of-program n v ms named below here rest = record {
+  narrow = and_from (is_narrow v) (members_narrow ms) here.narrow rest.narrow;
+  texts = and_from (is_utf8 n) _ named (and_from (has_utf8 v) (members_have_utf8 ms) here.texts rest.texts);
+  names = and_from (is_below n ms) _ below (and_from (has_rising_names v) (members_rise ms) here.names rest.names);
+}
+
+-- a text in UTF-8 is of the program
+pub text-of-program : (t : Text) → is_utf8 t ≡ true → IsOfProgram (text_json t)
+text-of-program t is = record { narrow = refl; texts = is; names = refl }

@@ -10,3 +10,4 @@ pub mod FaultCodes
 pub mod Lookups
 pub mod Parts
 pub mod PutInTurn
+pub mod MemberTexts

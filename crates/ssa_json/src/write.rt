@@ -1,7 +1,10 @@
 //! Prints JSON values.
 ghost use Rattle.std.specs.Prelude.{◌≡◌, ◌≤◌, [], ◌∷◌, ◌++◌, Ok, IfOk, OnOk, string_bytes, false, true};
+ghost use Rattle.std.specs.Str.{is_utf8};
+ghost use Rattle.ssa_model.specs.definitions.Entries.{text_json};
 ghost use Rattle.ssa_model.specs.definitions.Json.{comma_if, compact, compact_items, compact_members, quoted, scalar_text, whole_text};
 ghost use Rattle.ssa_model.specs.definitions.Replies.{number_json};
+ghost use Rattle.ssa_json.specs.MemberTexts.{member_text, name_text};
 ghost use Rattle.ssa_json.specs.Reading.{json_reading};
 ghost use Rattle.ssa_json.specs.View.{view, scalar_view, items_view, members_view};
 ghost use Rattle.ssa_json.specs.Writable.{CompactIsRead, IsOfProgram, depth, has_rising_names, has_utf8, is_utf8_scalar, items_have_rising_names, items_have_utf8, max_depth, members_have_utf8, members_rise};
@@ -65,6 +68,49 @@ pub fn push_decimal(text: &mut Vec<u8>, count: usize) -> Result<(), AllocError>
 {
     let mut digits = Buffer::new();
     text.extend_from_slice(digits.format(count).as_bytes())
+}
+
+/// Appends the name of an object's member and the colon behind it, with a comma in front of each member but the first.
+/// Where memory runs out, part of it may stand there.
+pub fn push_name(text: &mut Vec<u8>, is_later: bool, name: &str) -> Result<(), AllocError>
+    ensures text { OnOk result (text.new.items ≡ text.old.items ++ name_text is_later name.now) }
+    ensures utf8 { OnOk result (is_utf8 name.now ≡ true) }
+{
+    push_comma(text, is_later)?;
+    push_string(text, name)?;
+    text.push(b':')?;
+    Ok(())
+}
+
+/// Appends a member of an object, with a comma in front of each but the first. Where memory runs out, part of it may
+/// stand there.
+pub fn push_member(
+    text: &mut Vec<u8>,
+    is_later: bool,
+    name: &str,
+    value: &Json,
+) -> Result<(), AllocError>
+    ensures text { OnOk result (text.new.items ≡ text.old.items ++ member_text is_later name.now (view value.now)) }
+    ensures utf8 { OnOk result (is_utf8 name.now ≡ true) }
+    ensures of_program { OnOk result (IsOfProgram (view value.now)) }
+{
+    push_name(text, is_later, name)?;
+    write_value(text, value)
+}
+
+/// Appends a member of an object whose value is a text, likewise.
+pub fn push_text_member(
+    text: &mut Vec<u8>,
+    is_later: bool,
+    name: &str,
+    value: &str,
+) -> Result<(), AllocError>
+    ensures text { OnOk result (text.new.items ≡ text.old.items ++ member_text is_later name.now (text_json value.now)) }
+    ensures utf8 { OnOk result (is_utf8 name.now ≡ true) }
+    ensures of_program { OnOk result (IsOfProgram (text_json value.now)) }
+{
+    push_name(text, is_later, name)?;
+    push_string(text, value)
 }
 
 /// Reading the compact text of a value gives the value, where its numbers fit 64 bits, its texts are
@@ -134,7 +180,7 @@ fn write_scalar(text: &mut Vec<u8>, scalar: &Scalar) -> Result<(), AllocError>
     }
 }
 
-/// Appends the comma in front of each item but the first.
+/// Appends the comma in front of each item and each member but the first.
 pub fn push_comma(text: &mut Vec<u8>, is_later: bool) -> Result<(), AllocError>
     ensures { OnOk result (text.new.items ≡ text.old.items ++ comma_if is_later) }
 {
