@@ -93,7 +93,7 @@ fn push_record(
     match history.entry(n) {
         Some(entry) => {
             let value = record_line(alloc, schema, identity, entry.1, entry.0)?;
-            push_line(alloc, text, &value)
+            push_line(text, &value)
         }
         None => unreachable!(),
     }
@@ -161,9 +161,9 @@ fn opening_text(
     let head = record_head(alloc, history.past_len(), history.future_len())?;
     let present = object_of_state(alloc, identity, schema, true, history.present())?;
     let mut text = Vec::new(alloc);
-    push_line(alloc, &mut text, &head)?;
-    push_line(alloc, &mut text, schema.json())?;
-    push_line(alloc, &mut text, &present)?;
+    push_line(&mut text, &head)?;
+    push_line(&mut text, schema.json())?;
+    push_line(&mut text, &present)?;
     Ok(text)
 }
 

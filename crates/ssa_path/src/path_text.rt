@@ -38,7 +38,7 @@ pub fn push_element(alloc: Global, text: &mut Vec<u8>, element: &Elem) -> Result
         }
     }
     let name = element.name(alloc)?;
-    push_quoted(alloc, text, name.as_str())
+    push_quoted(text, name.as_str())
 }
 
 /// Appends the path that a way leads along: the list of its elements' texts.

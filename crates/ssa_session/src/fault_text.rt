@@ -32,9 +32,9 @@ fn push_clash(
     text.extend_from_slice(b"{\"fields\":")?;
     push_paths(alloc, text, fields)?;
     text.extend_from_slice(b",\"manager\":")?;
-    push_string(alloc, text, manager.name.as_str())?;
+    push_string(text, manager.name.as_str())?;
     text.extend_from_slice(b",\"operation\":")?;
-    push_string(alloc, text, manager.operation.text())?;
+    push_string(text, manager.operation.text())?;
     text.push(b'}')?;
     Ok(())
 }
@@ -75,7 +75,7 @@ fn push_conflict(
 fn push_body_fault(alloc: Global, text: &mut Vec<u8>, fault: &BodyFault) -> Result<(), AllocError>
     ensures { OnOk result (text.new.items ≡ text.old.items ++ compact (told_json (told_view fault.now))) }
 {
-    push_code_at(alloc, text, fault.code(), fault.path())
+    push_code_at(text, fault.code(), fault.path())
 }
 
 // Appends the reply to a command that is refused.

@@ -8,41 +8,39 @@ ghost use Rattle.ssa_schema.specs.Kinds.{names_view};
 ghost use Rattle.ssa_session.specs.Replies.{names_json};
 
 use ssa_json::value::Json;
-use ssa_json::write::{decimals_are_printed, push_comma, push_quoted};
-use std::alloc::{AllocError, Global};
+use ssa_json::write::{push_comma, push_decimal, push_quoted};
+use std::alloc::AllocError;
 
 /// Appends a count in decimal.
-pub fn push_number(alloc: Global, text: &mut Vec<u8>, number: usize) -> Result<(), AllocError>
+pub fn push_number(text: &mut Vec<u8>, number: usize) -> Result<(), AllocError>
     ensures { OnOk result (text.new.items ≡ text.old.items ++ compact (number_json number)) }
 {
-    decimals_are_printed();
-    let digits = format!(in alloc; "{number}")?;
-    text.extend_from_slice(digits.as_bytes())
+    push_decimal(text, number)
 }
 
 /// Appends a string in quotes, with the escapes that it needs.
-pub fn push_string(alloc: Global, text: &mut Vec<u8>, string: &str) -> Result<(), AllocError>
+pub fn push_string(text: &mut Vec<u8>, string: &str) -> Result<(), AllocError>
     ensures { OnOk result (text.new.items ≡ text.old.items ++ compact (text_json string.now)) }
 {
-    push_quoted(alloc, text, string)
+    push_quoted(text, string)
 }
 
 /// Appends a value's text.
-pub fn push_value(alloc: Global, text: &mut Vec<u8>, value: &Json) -> Result<(), AllocError>
+pub fn push_value(text: &mut Vec<u8>, value: &Json) -> Result<(), AllocError>
     ensures { OnOk result (text.new.items ≡ text.old.items ++ compact (view value.now)) }
 {
-    value.push_text(alloc, text)
+    value.push_text(text)
 }
 
 /// Appends a path that is told by its elements' texts.
-pub fn push_names(alloc: Global, text: &mut Vec<u8>, names: &[String]) -> Result<(), AllocError>
+pub fn push_names(text: &mut Vec<u8>, names: &[String]) -> Result<(), AllocError>
     ensures { OnOk result (text.new.items ≡ text.old.items ++ compact (names_json (names_view names.now))) }
 {
     text.push(b'[')?;
     let mut is_later = false;
     for name in names {
         push_comma(text, is_later)?;
-        push_string(alloc, text, name.as_str())?;
+        push_string(text, name.as_str())?;
         is_later = true;
     }
     text.push(b']')?;

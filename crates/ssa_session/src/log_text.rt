@@ -39,7 +39,7 @@ fn push_labels(alloc: Global, text: &mut Vec<u8>, labels: &[&Label]) -> Result<(
     let mut is_later = false;
     for label in labels {
         push_comma(text, is_later)?;
-        push_value(alloc, text, &label.to_json(alloc)?)?;
+        push_value(text, &label.to_json(alloc)?)?;
         is_later = true;
     }
     text.push(b']')?;
