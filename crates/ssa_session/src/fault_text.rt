@@ -72,7 +72,7 @@ fn push_conflict(
     Ok(())
 }
 
-fn push_body_fault(alloc: Global, text: &mut Vec<u8>, fault: &BodyFault) -> Result<(), AllocError>
+fn push_body_fault(text: &mut Vec<u8>, fault: &BodyFault) -> Result<(), AllocError>
     ensures { OnOk result (text.new.items ≡ text.old.items ++ compact (told_json (told_view fault.now))) }
 {
     push_code_at(text, fault.code(), fault.path())
@@ -83,7 +83,7 @@ fn push_fault(alloc: Global, text: &mut Vec<u8>, fault: &Fault) -> Result<(), Al
     ensures { OnOk result (text.new.items ≡ text.old.items ++ compact (bench_json fault.now)) }
 {
     match fault {
-        Fault::Body(fault) => push_body_fault(alloc, text, fault),
+        Fault::Body(fault) => push_body_fault(text, fault),
         Fault::Conflict(clashes) => push_conflict(alloc, text, clashes),
         Fault::Entry(fault) => push_entry_fault(alloc, text, fault),
         _ => push_code(text, fault.code()),

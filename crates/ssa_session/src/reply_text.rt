@@ -139,11 +139,7 @@ fn push_manager(text: &mut Vec<u8>, manager: &ManagerKey) -> Result<(), AllocErr
 }
 
 // Appends the managers as a list.
-fn push_managers(
-    alloc: Global,
-    text: &mut Vec<u8>,
-    managers: &[&ManagerKey],
-) -> Result<(), AllocError>
+fn push_managers(text: &mut Vec<u8>, managers: &[&ManagerKey]) -> Result<(), AllocError>
     ensures { OnOk result (text.new.items ≡ text.old.items ++ compact (list_json key_json (lent_keys managers.now))) }
 {
     text.push(b'[')?;
@@ -161,7 +157,7 @@ fn push_owners(alloc: Global, text: &mut Vec<u8>, owners: &[&ManagerKey]) -> Res
     ensures { OnOk result (text.new.items ≡ text.old.items ++ compact (reply_json (model.owned_by (lent_keys owners.now)))) }
 {
     text.extend_from_slice(b"{\"done\":\"owners\",\"owners\":")?;
-    push_managers(alloc, text, owners)?;
+    push_managers(text, owners)?;
     text.push(b'}')?;
     Ok(())
 }
