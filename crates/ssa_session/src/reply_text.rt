@@ -57,7 +57,7 @@ pub fn owners_text(alloc: Global, owners: &[&ManagerKey]) -> Result<Vec<u8>, All
     ensures { IfOk result (λ text. text.items ≡ reply_text (model.owned_by (lent_keys owners.now))) }
 {
     let mut text = Vec::new(alloc);
-    push_owners(alloc, &mut text, owners)?;
+    push_owners(&mut text, owners)?;
     Ok(text)
 }
 
@@ -153,7 +153,7 @@ fn push_managers(text: &mut Vec<u8>, managers: &[&ManagerKey]) -> Result<(), All
     Ok(())
 }
 
-fn push_owners(alloc: Global, text: &mut Vec<u8>, owners: &[&ManagerKey]) -> Result<(), AllocError>
+fn push_owners(text: &mut Vec<u8>, owners: &[&ManagerKey]) -> Result<(), AllocError>
     ensures { OnOk result (text.new.items ≡ text.old.items ++ compact (reply_json (model.owned_by (lent_keys owners.now)))) }
 {
     text.extend_from_slice(b"{\"done\":\"owners\",\"owners\":")?;
