@@ -30,6 +30,8 @@ pub fn answer(alloc: Global, asked: &Asked, text: &str) -> Result<String, Fail> 
 pub enum AskedBeside {
     /// Its paths that are not over one of the other's.
     WithoutOver,
+    /// The same, where the others are taken out of it.
+    RemoveOver,
     /// Its paths that are over one of the other's.
     Over,
     /// Whether the two are the same.
@@ -45,6 +47,11 @@ fn told_beside(
 ) -> Result<String, Fail> {
     match asked {
         AskedBeside::WithoutOver => listed(alloc, &own.without_over(alloc, other)?),
+        AskedBeside::RemoveOver => {
+            let mut left = own.copy(alloc)?;
+            left.remove_over(other);
+            listed(alloc, &left)
+        }
         AskedBeside::Over => listed(alloc, &own.over(alloc, other)?),
         AskedBeside::Same => {
             let told = if own.is_same(other) { "same" } else { "other" };
@@ -112,6 +119,11 @@ fn sets_stand_beside_others(rt: HostRuntime) -> Result<(), Fail> {
     are_told_of_two(
         rt.alloc(),
         &QuestionOfTwo::Sets(AskedBeside::WithoutOver),
+        &WITHOUT_OVER,
+    )?;
+    are_told_of_two(
+        rt.alloc(),
+        &QuestionOfTwo::Sets(AskedBeside::RemoveOver),
         &WITHOUT_OVER,
     )?;
     are_told_of_two(rt.alloc(), &QuestionOfTwo::Sets(AskedBeside::Over), &OVER)?;

@@ -213,7 +213,9 @@ fn do_minus_and_meet_agree(alloc: Global, sets: &Sets) -> Result<bool, Fail> {
 fn do_parts_apart_agree(alloc: Global, sets: &Sets) -> Result<bool, Fail> {
     let over_some = sets.set.over(alloc, &sets.other)?;
     let over_none = sets.set.without_over(alloc, &sets.other)?;
-    are_parts(alloc, sets, &over_some, &over_none, true)
+    let mut left = sets.set.copy(alloc)?;
+    left.remove_over(&sets.other);
+    Ok(left.is_same(&over_none) && are_parts(alloc, sets, &over_some, &over_none, true)?)
 }
 
 // Whether the sets answer of some path as the lists do.
