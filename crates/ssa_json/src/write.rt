@@ -2,6 +2,8 @@
 ghost use Rattle.std.specs.Prelude.{◌≡◌, ◌≤◌, [], ◌∷◌, ◌++◌, Ok, IfOk, OnOk, string_bytes, false, true};
 ghost use Rattle.std.specs.List.{list_all};
 ghost use Rattle.ssa_model.specs.definitions.Json.{comma_if, compact, compact_items, compact_members, quoted, scalar_text, whole_text};
+ghost use Rattle.ssa_model.specs.definitions.Entries.{text_json};
+ghost use Rattle.ssa_json.specs.MemberTexts.{member_text, name_text};
 ghost use Rattle.ssa_json.specs.Plain.{is_plain};
 ghost use Rattle.ssa_json.specs.Reading.{json_reading};
 ghost use Rattle.ssa_json.specs.View.{view, scalar_view, items_view, members_view};
@@ -61,6 +63,53 @@ pub fn push_quoted(alloc: Global, text: &mut Vec<u8>, string: &str) -> Result<()
     } else {
         push_escaped(alloc, text, string)
     }
+}
+
+/// Appends the name of an object's member and the colon behind it, with a comma in front of each member but the first.
+/// Where memory runs out, part of it may stand there.
+pub fn push_name(
+    alloc: Global,
+    text: &mut Vec<u8>,
+    is_later: bool,
+    name: &str,
+) -> Result<(), AllocError>
+    ensures { OnOk result (text.new.items ≡ text.old.items ++ name_text is_later name.now) }
+{
+    push_comma(text, is_later)?;
+    push_quoted(alloc, text, name)?;
+    text.push(b':')?;
+    Ok(())
+}
+
+/// Appends a member of an object, with a comma in front of each but the first. Where memory runs out, part of it may
+/// stand there.
+pub fn push_member(
+    alloc: Global,
+    text: &mut Vec<u8>,
+    is_later: bool,
+    name: &str,
+    value: &Json,
+) -> Result<(), AllocError>
+    ensures text { OnOk result (text.new.items ≡ text.old.items ++ member_text is_later name.now (view value.now)) }
+    ensures of_program { OnOk result (IsOfProgram (view value.now)) }
+{
+    push_name(alloc, text, is_later, name)?;
+    value.push_text(alloc, text)
+}
+
+/// Appends a member of an object whose value is a text, likewise.
+pub fn push_text_member(
+    alloc: Global,
+    text: &mut Vec<u8>,
+    is_later: bool,
+    name: &str,
+    value: &str,
+) -> Result<(), AllocError>
+    ensures text { OnOk result (text.new.items ≡ text.old.items ++ member_text is_later name.now (text_json value.now)) }
+    ensures of_program { OnOk result (IsOfProgram (text_json value.now)) }
+{
+    push_name(alloc, text, is_later, name)?;
+    push_quoted(alloc, text, value)
 }
 
 /// Reading the compact text of a value gives the value, where its numbers fit 64 bits, its texts are
@@ -130,8 +179,8 @@ fn write_scalar(alloc: Global, text: &mut Vec<u8>, scalar: &Scalar) -> Result<()
     }
 }
 
-// Appends the comma in front of each item but the first.
-fn push_comma(text: &mut Vec<u8>, is_later: bool) -> Result<(), AllocError>
+/// Appends the comma in front of each item and each member but the first.
+pub fn push_comma(text: &mut Vec<u8>, is_later: bool) -> Result<(), AllocError>
     ensures { OnOk result (text.new.items ≡ text.old.items ++ comma_if is_later) }
 {
     if is_later {

@@ -1,0 +1,8 @@
+use Rattle.std.proofs.lemmas.Result.{on_ok_weaker}
+use Rattle.ssa_json.specs.View.{view}
+use Rattle.ssa_json.proofs.MemberTexts.{member-of}
+use Rattle.ssa_json.proofs.write.push_member.Goals as goal
+
+pub returns-clause-text : goal.returns-clause-text
+returns-clause-text c =
+    on_ok_weaker c.push_text.result (member-of c.args.text.now.items c.args.is_later c.args.name.now (view c.args.value.now) c.in_ok-push_name.ensures) c.push_text.ensures.text
