@@ -9,6 +9,11 @@ pub member-of : (before : Text) {named after : Text} (later : Bool) (n : Text) (
 unfolding member_text
 member-of before later n v name value = value ∙ ap (λ t. t ++ compact v) name ∙ append_assoc before (name_text later n) (compact v)
 
+-- a member is that of each value that its own value is
+pub member-as : (before : Text) {after : Text} (later : Bool) (n : Text) {v w : Json} → after ≡ before ++ member_text later n v → v ≡ w
+    → after ≡ before ++ member_text later n w
+member-as before later n is same = is ∙ ap (λ v. before ++ member_text later n v) same
+
 -- what is written behind a member is written with the member behind what stood before it
 pub writes-member : (before : Text) {after whole : Text} (later : Bool) (n : Text) (v : Json) (ms : Members) → after ≡ before ++ member_text later n v
     → whole ≡ after ++ compact_members true ms → whole ≡ before ++ compact_members later (member n v ms)

@@ -1,6 +1,7 @@
 //! Prints JSON values.
 ghost use Rattle.std.specs.Prelude.{◌≡◌, ◌≤◌, [], ◌∷◌, ◌++◌, Ok, IfOk, OnOk, string_bytes, false, true};
 ghost use Rattle.std.specs.List.{list_all};
+ghost use Rattle.std.specs.Str.{is_utf8};
 ghost use Rattle.ssa_model.specs.definitions.Json.{comma_if, compact, compact_items, compact_members, quoted, scalar_text, whole_text};
 ghost use Rattle.ssa_model.specs.definitions.Entries.{text_json};
 ghost use Rattle.ssa_json.specs.MemberTexts.{member_text, name_text};
@@ -73,7 +74,8 @@ pub fn push_name(
     is_later: bool,
     name: &str,
 ) -> Result<(), AllocError>
-    ensures { OnOk result (text.new.items ≡ text.old.items ++ name_text is_later name.now) }
+    ensures text { OnOk result (text.new.items ≡ text.old.items ++ name_text is_later name.now) }
+    ensures utf8 { OnOk result (is_utf8 name.now ≡ true) }
 {
     push_comma(text, is_later)?;
     push_quoted(alloc, text, name)?;
@@ -91,6 +93,7 @@ pub fn push_member(
     value: &Json,
 ) -> Result<(), AllocError>
     ensures text { OnOk result (text.new.items ≡ text.old.items ++ member_text is_later name.now (view value.now)) }
+    ensures utf8 { OnOk result (is_utf8 name.now ≡ true) }
     ensures of_program { OnOk result (IsOfProgram (view value.now)) }
 {
     push_name(alloc, text, is_later, name)?;
@@ -106,6 +109,7 @@ pub fn push_text_member(
     value: &str,
 ) -> Result<(), AllocError>
     ensures text { OnOk result (text.new.items ≡ text.old.items ++ member_text is_later name.now (text_json value.now)) }
+    ensures utf8 { OnOk result (is_utf8 name.now ≡ true) }
     ensures of_program { OnOk result (IsOfProgram (text_json value.now)) }
 {
     push_name(alloc, text, is_later, name)?;
