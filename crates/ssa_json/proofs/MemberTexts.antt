@@ -1,6 +1,6 @@
--- Objects and lists whose text is written member by member and item by item.
+-- Objects whose text is written member by member.
 use Rattle.std.proofs.Common.{◌≡◌, [], ◌∷◌, ◌++◌, Bool, true, false, ap, ◌∙◌, append_assoc}
-use Rattle.ssa_model.specs.definitions.Json.{Text, Json, object, list, Items, item, Members, member, comma_if, compact, compact_items, compact_members, quoted}
+use Rattle.ssa_model.specs.definitions.Json.{Text, Json, object, Members, member, comma_if, compact, compact_members, quoted}
 use Rattle.ssa_json.specs.MemberTexts.{name_text, member_text}
 
 -- behind a member's name stands its value
@@ -29,16 +29,3 @@ pub writes-object : (before : Text) {open_brace whole : Text} (ms : Members) →
     → whole ≡ before ++ compact (object ms)
 writes-object before ms is rest =
     rest ∙ ap (λ t. t ++ compact_members false ms) is ∙ append_assoc before (123 ∷ []) (compact_members false ms)
-
--- what is written behind an item is written with the item behind what stood before it
-pub writes-item : (before : Text) {comma after whole : Text} (later : Bool) (v : Json) (vs : Items) → comma ≡ before ++ comma_if later → after ≡ comma ++ compact v
-    → whole ≡ after ++ compact_items true vs → whole ≡ before ++ compact_items later (item v vs)
-writes-item before {comma = comma} later v vs behind is rest =
-    let tail = compact_items true vs in
-    rest ∙ ap (λ t. t ++ tail) is ∙ append_assoc comma (compact v) tail ∙ ap (λ t. t ++ (compact v ++ tail)) behind
-    ∙ append_assoc before (comma_if later) (compact v ++ tail)
-
--- all items of a list behind its bracket are the list
-pub writes-list : (before : Text) {bracket whole : Text} (vs : Items) → bracket ≡ before ++ 91 ∷ [] → whole ≡ bracket ++ compact_items false vs
-    → whole ≡ before ++ compact (list vs)
-writes-list before vs is rest = rest ∙ ap (λ t. t ++ compact_items false vs) is ∙ append_assoc before (91 ∷ []) (compact_items false vs)

@@ -2,8 +2,7 @@
 use Rattle.std.proofs.Common.{◌≡◌, List, [], ◌∷◌, ◌++◌, true, String, Global, Less, is_lt, string_bytes, string_cmp, refl, ap}
 use Rattle.std.proofs.lemmas.Bool.{and_parts, and_from}
 use Rattle.std.proofs.lemmas.Str.{IsUtf8-string_bytes, is_utf8-from_IsUtf8}
-use Rattle.std.proofs.lemmas.List.Elements.{All-head, All-tail}
-use Rattle.std.specs.List.{All, AllByRecursion}
+use Rattle.std.specs.List.{AllByRecursion}
 use Rattle.std.specs.List.Sorted.{IsStrictlySortedBy}
 use Rattle.std.specs.Map.{keys_of}
 use Rattle.std.specs.Str.{is_utf8}
@@ -12,7 +11,6 @@ use Rattle.ssa_members.specs.Texts.{text_bytes}
 use Rattle.ssa_members.specs.declared.small_text.SmallText.{SmallText}
 use Rattle.ssa_model.specs.definitions.Entries.{text_json}
 use Rattle.ssa_model.specs.definitions.Json.{Text, Json as Value, object, Members, no_members, member}
-use Rattle.ssa_model.specs.definitions.Replies.{list_json}
 use Rattle.ssa_json.specs.View.{view, items_view, members_view}
 use Rattle.ssa_json.specs.Writable.{IsOfProgram, has_utf8, items_have_utf8, members_have_utf8, is_below, has_rising_names, items_have_rising_names, members_rise}
 use Rattle.ssa_json.specs.Written.{is_narrow, members_narrow}
@@ -74,39 +72,19 @@ members_rise-push (w ∷ ms) m more sorted before here =
 
 -- ---- values made of others
 
--- what an object has of its members
-pub record MembersAreOfProgram (ms : Members) : Type 0 where
-  pub narrow : members_narrow ms ≡ true
-  pub texts : members_have_utf8 ms ≡ true
-  pub names : members_rise ms ≡ true
+-- an object without members is of the program
+pub empty-of-program : IsOfProgram (object no_members)
+empty-of-program = record { narrow = refl; texts = refl; names = refl }
 
-pub no_members-of-program : MembersAreOfProgram no_members
-no_members-of-program = record { narrow = refl; texts = refl; names = refl }
-
--- one member more, in front of those whose names are above its own
-pub member-of-program : (n : Text) (v : Value) (ms : Members) → is_utf8 n ≡ true → is_below n ms ≡ true → IsOfProgram v → MembersAreOfProgram ms
-    → MembersAreOfProgram (member n v ms)
-member-of-program n v ms named below is rest = record {
-  narrow = and_from (is_narrow v) _ is.narrow rest.narrow;
-  texts = and_from (is_utf8 n) _ named (and_from (has_utf8 v) _ is.texts rest.texts);
-  names = and_from (is_below n ms) _ below (and_from (has_rising_names v) _ is.names rest.names);
+-- with a member in front, whose name is below those of the others, an object is of the program where the value and the object are
+pub member-of-program : (n : Text) (v : Value) (ms : Members) → is_utf8 n ≡ true → is_below n ms ≡ true → IsOfProgram v → IsOfProgram (object ms)
+    → IsOfProgram (object (member n v ms))
+member-of-program n v ms named below here rest = record {
+  narrow = and_from (is_narrow v) (members_narrow ms) here.narrow rest.narrow;
+  texts = and_from (is_utf8 n) _ named (and_from (has_utf8 v) (members_have_utf8 ms) here.texts rest.texts);
+  names = and_from (is_below n ms) _ below (and_from (has_rising_names v) (members_rise ms) here.names rest.names);
 }
 
-pub object-of-program : (ms : Members) → MembersAreOfProgram ms → IsOfProgram (object ms)
-object-of-program ms is = record { narrow = is.narrow; texts = is.texts; names = is.names }
-
+-- a text in UTF-8 is of the program
 pub text-of-program : (t : Text) → is_utf8 t ≡ true → IsOfProgram (text_json t)
 text-of-program t is = record { narrow = refl; texts = is; names = refl }
-
-module _ {X : Type 0} (f : X → Value) where
-  -- a list whose items are of the program
-  pub list-of-program : (xs : List X) → All (λ x. IsOfProgram (f x)) xs → IsOfProgram (list_json f xs)
-  list-of-program [] all = record { narrow = refl; texts = refl; names = refl }
-  list-of-program (x ∷ xs) all =
-      let here = All-head (λ x. IsOfProgram (f x)) x xs all in
-      let rest = list-of-program xs (All-tail (λ x. IsOfProgram (f x)) x xs all) in
-      record {
-        narrow = and_from (is_narrow (f x)) _ here.narrow rest.narrow;
-        texts = and_from (has_utf8 (f x)) _ here.texts rest.texts;
-        names = and_from (has_rising_names (f x)) _ here.names rest.names;
-      }

@@ -1,5 +1,5 @@
 -- The compact text of a value is what is printed for its tokens.
-use Rattle.std.proofs.Common.{◌≡◌, ℕ, suc, ◌<◌, ◌^◌, nat_eq, ℤ, pos, negsuc, List, [], ◌∷◌, ◌++◌, Bool, true, false, refl, sym, ap, ap₂, ◌∙◌, subst, string_bytes, FitsSigned, w64, to_z, of_z, arith, rules, ltb-true, append-nil, append_assoc}
+use Rattle.std.proofs.Common.{◌≡◌, ℕ, suc, ◌<◌, ◌^◌, nat_eq, ℤ, pos, negsuc, List, [], ◌∷◌, ◌++◌, Bool, true, false, refl, sym, ap, ap₂, ◌∙◌, subst, FitsSigned, w64, to_z, of_z, arith, rules, ltb-true, append-nil, append_assoc}
 use Rattle.std.proofs.lemmas.Bool.{eqb-true, and_parts, and_from}
 use Rattle.std.proofs.lemmas.Int.{to_z-of_z}
 use Rattle.std.proofs.lemmas.Fmt.{PrependsLastDigit, decimal_from_prepends, length-decimal-le_succ}
@@ -134,21 +134,21 @@ members_narrow-push (w ∷ ms) m before here =
     and_from (is_narrow (view w.1)) _ parts.0 (members_narrow-push ms m parts.1 here)
 
 -- one item more is written behind those before
-pub item-written : (old : Text) {comma new : Text} (later : Bool) (v : Json) (vs : List Json) → comma ≡ old ++ comma_if later → new ≡ comma ++ compact (view v)
-    → new ++ compact_items true (items_view vs) ≡ old ++ compact_items later (items_view (v ∷ vs))
+pub item-written : (old : Text) {comma new : Text} (later : Bool) (v : model.Json) (vs : Items) → comma ≡ old ++ comma_if later
+    → new ≡ comma ++ compact v → new ++ compact_items true vs ≡ old ++ compact_items later (item v vs)
 item-written old later v vs behind written =
-    let rest = compact_items true (items_view vs) in
-    ap (λ t. t ++ rest) (written ∙ ap (λ t. t ++ compact (view v)) behind) ∙ append_assoc (old ++ comma_if later) (compact (view v)) rest
-    ∙ append_assoc old (comma_if later) (compact (view v) ++ rest)
+    let rest = compact_items true vs in
+    ap (λ t. t ++ rest) (written ∙ ap (λ t. t ++ compact v) behind) ∙ append_assoc (old ++ comma_if later) (compact v) rest
+    ∙ append_assoc old (comma_if later) (compact v ++ rest)
 
 -- so is one member more
-pub member-written : (old : Text) {comma name colon new : Text} (later : Bool) (m : Found) (ms : List Found) → comma ≡ old ++ comma_if later
-    → name ≡ comma ++ quoted (string_bytes m.0) → colon ≡ name ++ 58 ∷ [] → new ≡ colon ++ compact (view m.1)
-    → new ++ compact_members true (members_view ms) ≡ old ++ compact_members later (members_view (m ∷ ms))
-member-written old {comma = comma} {name = name} later m ms behind named colon written =
-    let rest = compact_members true (members_view ms) in
-    let value = compact (view m.1) in
-    let key = quoted (string_bytes m.0) in
+pub member-written : (old : Text) {comma name colon new : Text} (later : Bool) (n : Text) (v : model.Json) (ms : Members) → comma ≡ old ++ comma_if later
+    → name ≡ comma ++ quoted n → colon ≡ name ++ 58 ∷ [] → new ≡ colon ++ compact v
+    → new ++ compact_members true ms ≡ old ++ compact_members later (member n v ms)
+member-written old {comma = comma} {name = name} later n v ms behind named colon written =
+    let rest = compact_members true ms in
+    let value = compact v in
+    let key = quoted n in
     ap (λ t. t ++ rest) (written ∙ ap (λ t. t ++ value) colon) ∙ append_assoc (name ++ 58 ∷ []) value rest ∙ append_assoc name (58 ∷ []) (value ++ rest)
     ∙ ap (λ t. t ++ 58 ∷ (value ++ rest)) (named ∙ ap (λ t. t ++ key) behind) ∙ append_assoc (old ++ comma_if later) key (58 ∷ (value ++ rest))
     ∙ append_assoc old (comma_if later) (key ++ 58 ∷ (value ++ rest))

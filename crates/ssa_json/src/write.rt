@@ -127,8 +127,8 @@ pub fn decimals_are_printed()
     ensures { DecimalsArePrinted }
 {}
 
-// Whether each byte of a text stands for itself in quotes.
-fn is_plain(text: &str) -> bool
+/// Whether each byte of a text stands for itself in quotes.
+pub fn is_plain(text: &str) -> bool
     ensures { result ≡ list_all is_plain text.now }
 {
     for byte in text.as_bytes() {

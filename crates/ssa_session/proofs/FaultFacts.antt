@@ -20,7 +20,7 @@ use Rattle.ssa_merge.specs.declared.entry_fault.EntryFault.TheVariants as faults
 use Rattle.ssa_bench.specs.declared.fault.Fault as engine
 use Rattle.ssa_bench.specs.declared.fault.Fault.TheVariants.{Body, Conflict, Entry, OutOfMemory}
 use Rattle.ssa_session.specs.Replies.{bench_json, code_members, name_end, told_json, entry_json}
-use Rattle.ssa_session.proofs.ReplyFacts.{items_json-map}
+use Rattle.ssa_json.proofs.ItemTexts.{items_json-map}
 
 -- ---- a code's text
 

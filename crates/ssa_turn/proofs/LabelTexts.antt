@@ -9,7 +9,7 @@ use Rattle.ssa_model.specs.definitions.Replies.{label_json}
 use Rattle.ssa_json.specs.MemberTexts.{member_text}
 use Rattle.ssa_json.specs.Writable.{IsOfProgram}
 use Rattle.ssa_json.proofs.MemberTexts.{writes-member, writes-object}
-use Rattle.ssa_json.proofs.OfProgram.{member-of-program, no_members-of-program, object-of-program}
+use Rattle.ssa_json.proofs.OfProgram.{empty-of-program, member-of-program}
 
 -- an Apply
 pub applied-written : (who : Text) (force : Bool) (at : Text) (t0 : Text) {t1 t2 t3 t4 t5 t6 : Text} → t1 ≡ t0 ++ 123 ∷ []
@@ -41,12 +41,11 @@ applied-of-program who force at n1 v1 n2 v2 n3 v3 n4 v4 =
     let m3 = member (codes "force") (scalar (truth force)) m4 in
     let m2 = member (codes "do") (text_json (codes "apply")) m3 in
     let m1 = member (codes "at") (text_json at) m2 in
-    object-of-program m1
     (member-of-program (codes "at") (text_json at) m2 n1 refl v1
     (member-of-program (codes "do") (text_json (codes "apply")) m3 n2 refl v2
     (member-of-program (codes "force") (scalar (truth force)) m4 n3 refl v3
     (member-of-program (codes "manager") (text_json who) no_members n4 refl v4
-    no_members-of-program))))
+    empty-of-program))))
 
 -- an Update
 pub updated-written : (who at : Text) (t0 : Text) {t1 t2 t3 t4 t5 : Text} → t1 ≡ t0 ++ 123 ∷ []
@@ -73,11 +72,10 @@ updated-of-program who at n1 v1 n2 v2 n3 v3 =
     let m3 = member (codes "manager") (text_json who) no_members in
     let m2 = member (codes "do") (text_json (codes "update")) m3 in
     let m1 = member (codes "at") (text_json at) m2 in
-    object-of-program m1
     (member-of-program (codes "at") (text_json at) m2 n1 refl v1
     (member-of-program (codes "do") (text_json (codes "update")) m3 n2 refl v2
     (member-of-program (codes "manager") (text_json who) no_members n3 refl v3
-    no_members-of-program)))
+    empty-of-program)))
 
 -- a strip
 pub stripped-written : (t0 : Text) {t1 t2 t3 : Text} → t1 ≡ t0 ++ 123 ∷ []
@@ -93,6 +91,5 @@ pub stripped-of-program : is_utf8 (codes "do") ≡ true → IsOfProgram (text_js
     → IsOfProgram (label_json stripped)
 stripped-of-program n1 v1 =
     let m1 = member (codes "do") (text_json (codes "strip")) no_members in
-    object-of-program m1
     (member-of-program (codes "do") (text_json (codes "strip")) no_members n1 refl v1
-    no_members-of-program)
+    empty-of-program)

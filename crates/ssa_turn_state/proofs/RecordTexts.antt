@@ -10,7 +10,7 @@ use Rattle.ssa_model.specs.definitions.Replies.{list_json, paths_json}
 use Rattle.ssa_json.specs.MemberTexts.{member_text}
 use Rattle.ssa_json.specs.Writable.{IsOfProgram}
 use Rattle.ssa_json.proofs.MemberTexts.{writes-member, writes-object}
-use Rattle.ssa_json.proofs.OfProgram.{member-of-program, no_members-of-program, object-of-program}
+use Rattle.ssa_json.proofs.OfProgram.{empty-of-program, member-of-program}
 
 -- a record
 pub record-written : (version : Json) (kind : Kind) (d : Record) (t0 : Text) {t1 t2 t3 t4 t5 t6 t7 t8 t9 : Text} → t1 ≡ t0 ++ 123 ∷ []
@@ -57,7 +57,6 @@ record-of-program version kind d n1 v1 n2 v2 n3 v3 n4 v4 n5 v5 n6 v6 n7 v7 =
     let m3 = member (codes "gone") (list_json gone_json d.table.gone) m4 in
     let m2 = member (codes "cut") (paths_json d.body.cut) m3 in
     let m1 = member (codes "changed") (list_json change_json d.table.changed) m2 in
-    object-of-program m1
     (member-of-program (codes "changed") (list_json change_json d.table.changed) m2 n1 refl v1
     (member-of-program (codes "cut") (paths_json d.body.cut) m3 n2 refl v2
     (member-of-program (codes "gone") (list_json gone_json d.table.gone) m4 n3 refl v3
@@ -65,4 +64,4 @@ record-of-program version kind d n1 v1 n2 v2 n3 v3 n4 v4 n5 v5 n6 v6 n7 v7 =
     (member-of-program (codes "leaves") (list_json leaf_json d.body.leaves.entries) m6 n5 refl v5
     (member-of-program (codes "order") (list_json order_json d.body.order.entries) m7 n6 refl v6
     (member-of-program (codes "put") (list_json (put_json kind) d.body.put.entries) no_members n7 refl v7
-    no_members-of-program)))))))
+    empty-of-program)))))))

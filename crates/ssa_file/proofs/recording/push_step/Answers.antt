@@ -13,7 +13,7 @@ use Rattle.ssa_model.specs.definitions.Takes.{Takes}
 use Rattle.ssa_json.specs.MemberTexts.{member_text}
 use Rattle.ssa_json.specs.Writable.{IsOfProgram}
 use Rattle.ssa_json.proofs.MemberTexts.{member-of, writes-member, writes-object}
-use Rattle.ssa_json.proofs.OfProgram.{member-of-program, no_members-of-program, object-of-program}
+use Rattle.ssa_json.proofs.OfProgram.{empty-of-program, member-of-program}
 use Rattle.ssa_turn.specs.Histories.{label_view}
 use Rattle.ssa_turn_state.specs.States.{state_steps}
 use Rattle.ssa_file.proofs.recording.push_step.Goals as goal
@@ -38,10 +38,9 @@ line-of-program : (command record_value : Json)
 line-of-program command record_value n1 v1 n2 v2 =
     let m2 = member (codes "record") record_value no_members in
     let m1 = member (codes "command") command m2 in
-    object-of-program m1
     (member-of-program (codes "command") command m2 n1 refl v1
     (member-of-program (codes "record") record_value no_members n2 refl v2
-    no_members-of-program))
+    empty-of-program))
 
 pub push_text-requires-clause-taken : goal.push_text-requires-clause-taken
 push_text-requires-clause-taken c =

@@ -1,10 +1,10 @@
-use Rattle.std.proofs.Common.{◌≡◌, [], ◌∷◌, ◌++◌, ◌+◌, take, drop, string_cmp, sym, ap, ◌∙◌, subst, arith}
+use Rattle.std.proofs.Common.{◌≡◌, [], ◌∷◌, ◌++◌, ◌+◌, take, drop, string_bytes, string_cmp, sym, ap, ◌∙◌, subst, arith}
 use Rattle.std.proofs.lemmas.List.{take_more, drop_more, take-append-drop}
 use Rattle.std.specs.List.Sorted.{IsStrictlySortedBy}
 use Rattle.std.specs.Map.{keys_of}
 use Rattle.ssa_members.proofs.Lent.{lent-within-deepest}
 use Rattle.ssa_model.specs.definitions.Json.{quoted, compact_items, compact_members}
-use Rattle.ssa_json.specs.View.{items_view, members_view}
+use Rattle.ssa_json.specs.View.{view, items_view, members_view}
 use Rattle.ssa_json.proofs.Printing.{items_narrow-push, members_narrow-push, item-written, member-written}
 use Rattle.ssa_json.proofs.OfProgram.{items_have_utf8-push, items_have_rising_names-push, members_have_utf8-push, members_rise-push}
 use Rattle.ssa_json.proofs.value.Json.TheLaws.{the_size}
@@ -22,7 +22,7 @@ write_items-loop-item-preserved t c =
     let written = c.in_ok-write_value.ensures in
     record {
       text =
-          item-written l.text.items l.is_later x left c.in_ok-push_comma.ensures written.text
+          item-written l.text.items l.is_later (view x) (items_view left) c.in_ok-push_comma.ensures written.text
           ∙ ap (λ ys. l.text.items ++ compact_items l.is_later (items_view ys)) (sym here) ∙ l.invariant.text;
       narrow = rw more (items_narrow-push (take l.item-index xs) x l.invariant.narrow written.narrow);
       texts = rw more (items_have_utf8-push (take l.item-index xs) x l.invariant.texts written.texts);
@@ -43,7 +43,7 @@ write_members-loop-key-preserved t c =
     let written = c.in_ok-write_value.ensures in
     record {
       text =
-          member-written l.text.items l.is_later e left c.in_ok-push_comma.ensures
+          member-written l.text.items l.is_later (string_bytes e.0) (view e.1) (members_view left) c.in_ok-push_comma.ensures
           (c.in_ok-push_quoted.ensures ∙ ap (λ n. c.push_comma.new.text.items ++ quoted n) c.as_str.ensures.value) c.in_ok-push.ensures.items written.text
           ∙ ap (λ ys. l.text.items ++ compact_members l.is_later (members_view ys)) (sym here) ∙ l.invariant.text;
       narrow = rw more (members_narrow-push done e l.invariant.narrow written.narrow);

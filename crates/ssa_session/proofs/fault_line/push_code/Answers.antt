@@ -3,7 +3,7 @@ use Rattle.std.specs.Prelude.{codes}
 use Rattle.ssa_json.specs.FaultCodes.{code_view}
 use Rattle.ssa_session.specs.Replies.{code_members}
 use Rattle.ssa_session.proofs.FaultFacts.{code-text}
-use Rattle.ssa_session.proofs.ReplyFacts.{joined}
+use Rattle.ssa_json.proofs.ItemTexts.{joined}
 use Rattle.ssa_session.proofs.fault_line.push_code.Goals as goal
 
 pub returns : goal.returns

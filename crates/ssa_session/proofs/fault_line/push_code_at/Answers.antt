@@ -5,7 +5,7 @@ use Rattle.ssa_json.specs.FaultCodes.{code_view}
 use Rattle.ssa_schema.specs.Kinds.{names_view}
 use Rattle.ssa_session.specs.Replies.{code_members, names_json}
 use Rattle.ssa_session.proofs.FaultFacts.{code-text-at}
-use Rattle.ssa_session.proofs.ReplyFacts.{joined}
+use Rattle.ssa_json.proofs.ItemTexts.{joined}
 use Rattle.ssa_session.proofs.fault_line.push_code_at.Goals as goal
 
 pub returns : goal.returns

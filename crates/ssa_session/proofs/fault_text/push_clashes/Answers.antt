@@ -2,7 +2,7 @@ use Rattle.std.proofs.Common.{◌++◌, ap, ◌∙◌}
 use Rattle.ssa_model.specs.definitions.Json.{compact, list}
 use Rattle.ssa_model.specs.definitions.Replies.{clash_json}
 use Rattle.ssa_merge.specs.Managers.{clash_view}
-use Rattle.ssa_session.proofs.ReplyFacts.{item-written, list-written, items_json-map}
+use Rattle.ssa_json.proofs.ItemTexts.{item-written, list-written, items_json-map}
 use Rattle.ssa_session.proofs.fault_text.push_clashes.Goals as goal
 
 pub loop-clash-preserved : goal.loop-clash-preserved

@@ -1,7 +1,7 @@
 use Rattle.std.proofs.Common.{◌≡◌, ◌∷◌, ◌++◌, false}
 use Rattle.ssa_model.specs.definitions.Replies.{clash_json}
 use Rattle.ssa_merge.specs.Managers.{clash_view}
-use Rattle.ssa_session.proofs.ReplyFacts.{rest_text}
+use Rattle.ssa_json.proofs.ItemTexts.{rest_text}
 use Rattle.ssa_session.proofs.fault_text.push_clashes.Given as goal
 
 -- with what is left, the text is whole

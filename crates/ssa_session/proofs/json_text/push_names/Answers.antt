@@ -1,7 +1,7 @@
 use Rattle.std.proofs.Common.{◌++◌, ap, ◌∙◌, string_bytes}
 use Rattle.ssa_model.specs.definitions.Json.{compact, list}
 use Rattle.ssa_model.specs.definitions.Entries.{text_json}
-use Rattle.ssa_session.proofs.ReplyFacts.{list-written, items_json-map}
+use Rattle.ssa_json.proofs.ItemTexts.{list-written, items_json-map}
 use Rattle.ssa_session.proofs.json_text.push_names.Goals as goal
 
 pub returns : goal.returns

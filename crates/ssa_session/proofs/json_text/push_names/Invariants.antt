@@ -1,6 +1,6 @@
 use Rattle.std.proofs.Common.{◌≡◌, ◌∷◌, ◌++◌, false, string_bytes}
 use Rattle.ssa_model.specs.definitions.Entries.{text_json}
-use Rattle.ssa_session.proofs.ReplyFacts.{rest_text}
+use Rattle.ssa_json.proofs.ItemTexts.{rest_text}
 use Rattle.ssa_session.proofs.json_text.push_names.Given as goal
 
 -- with what is left, the text is whole

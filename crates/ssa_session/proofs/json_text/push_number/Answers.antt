@@ -1,5 +1,5 @@
 use Rattle.std.proofs.Common.{◌∙◌, arith, rules}
-use Rattle.ssa_session.proofs.ReplyFacts.{appended}
+use Rattle.ssa_json.proofs.ItemTexts.{appended}
 use Rattle.ssa_session.proofs.json_text.push_number.Goals as goal
 
 pub returns : goal.returns

@@ -4,7 +4,7 @@ use Rattle.ssa_model.specs.definitions.Json.{compact, list}
 use Rattle.ssa_model.specs.definitions.Replies.{items_json, path_json}
 use Rattle.ssa_path.specs.Listing.{way_view, ways_view}
 use Rattle.ssa_path.specs.declared.element.Elem.{Elem}
-use Rattle.ssa_session.proofs.ReplyFacts.{list-written, items_json-map}
+use Rattle.ssa_json.proofs.ItemTexts.{list-written, items_json-map}
 use Rattle.ssa_session.proofs.json_text.push_paths.Goals as goal
 
 pub returns : goal.returns

@@ -1,7 +1,7 @@
 use Rattle.std.proofs.Common.{◌≡◌, ◌∷◌, ◌++◌, false}
 use Rattle.ssa_model.specs.definitions.Replies.{path_json}
 use Rattle.ssa_path.specs.Listing.{way_view}
-use Rattle.ssa_session.proofs.ReplyFacts.{rest_text}
+use Rattle.ssa_json.proofs.ItemTexts.{rest_text}
 use Rattle.ssa_session.proofs.json_text.push_paths.Given as goal
 
 -- with what is left, the text is whole

@@ -5,7 +5,7 @@ use Rattle.ssa_model.specs.definitions.Path.{element_text}
 use Rattle.ssa_model.specs.definitions.Entries.{text_json}
 use Rattle.ssa_path.specs.View.{element_view}
 use Rattle.ssa_path.specs.declared.element.Elem.{Elem}
-use Rattle.ssa_session.proofs.ReplyFacts.{list-written, items_json-map}
+use Rattle.ssa_json.proofs.ItemTexts.{list-written, items_json-map}
 use Rattle.ssa_session.proofs.json_text.push_way.Goals as goal
 
 pub returns : goal.returns

@@ -4,7 +4,7 @@ use Rattle.ssa_model.specs.definitions.Path.{element_text}
 use Rattle.std.specs.Borrow.{Bor}
 use Rattle.ssa_path.specs.declared.element.Elem.{Elem}
 use Rattle.ssa_path.specs.View.{element_view}
-use Rattle.ssa_session.proofs.ReplyFacts.{rest_text}
+use Rattle.ssa_json.proofs.ItemTexts.{rest_text}
 use Rattle.ssa_session.proofs.json_text.push_way.Given as goal
 
 -- with what is left, the text is whole
