@@ -61,9 +61,9 @@ fn push_step(
     // The text of a record is said for kinds whose fields rise, as this one's do.
     let _kind = schema.kind();
     text.push(b'{')?;
-    push_name(alloc, text, false, "command")?;
+    push_name(text, false, "command")?;
     label.push_text(alloc, text)?;
-    push_name(alloc, text, true, "record")?;
+    push_name(text, true, "record")?;
     delta.push_text(alloc, identity.version(), text)?;
     text.push(b'}')?;
     Ok(())

@@ -1,6 +1,7 @@
 -- The compact text of a value is what is printed for its tokens.
 use Rattle.std.proofs.Common.{◌≡◌, ℕ, suc, ◌<◌, ◌^◌, nat_eq, ℤ, pos, negsuc, List, [], ◌∷◌, ◌++◌, Bool, true, false, refl, sym, ap, ap₂, ◌∙◌, subst, FitsSigned, w64, to_z, of_z, arith, rules, ltb-true, append-nil, append_assoc}
 use Rattle.std.proofs.lemmas.Bool.{eqb-true, and_parts, and_from}
+use Rattle.std.proofs.lemmas.Bool.Decides.{nat_tests}
 use Rattle.std.proofs.lemmas.Int.{to_z-of_z}
 use Rattle.std.proofs.lemmas.Fmt.{PrependsLastDigit, decimal_from_prepends, length-decimal-le_succ}
 use Rattle.std.specs.Fmt as fmt
@@ -57,7 +58,8 @@ module _ (x : ℕ) where
             ] refl
       ] refl
 
-escape-is : (t : Text) → print.escape t ≡ escaped t
+-- the escapes of a text are those that are printed
+pub escape-is : (t : Text) → print.escape t ≡ escaped t
 escape-is [] = refl
 escape-is (b ∷ bs) = ap₂ (λ t u. t ++ u) (escape_byte-is b) (escape-is bs)
 
@@ -80,9 +82,14 @@ pub whole-is : (z : ℤ) → is_narrow_whole z ≡ true → fmt.signed_decimal z
 whole-is (pos n) narrow = decimal-is n (let small = ltb-true n (2 ^ 63) narrow in omega arith)
 whole-is (negsuc n) narrow = ap (λ t. 45 ∷ t) (decimal-is (suc n) (let small = ltb-true n (2 ^ 63) narrow in omega arith))
 
--- so it is when it is taken from its 64 bits
-pub written-is : (z : ℤ) → FitsSigned w64 z → is_narrow_whole z ≡ true → fmt.signed_decimal (to_z w64 (of_z w64 z)) ≡ whole_text z
-written-is z fits narrow = ap fmt.signed_decimal (to_z-of_z w64 z fits) ∙ whole-is z narrow
+-- what fits 64 bits with sign is narrow
+pub narrow-fits : (z : ℤ) → FitsSigned w64 z → is_narrow_whole z ≡ true
+narrow-fits (pos n) h = let fits = h.sfits in grind (arith, nat_tests)
+narrow-fits (negsuc n) h = let fits = h.sfits in grind (arith, nat_tests)
+
+-- a number that is taken from its 64 bits is printed as its text
+pub written-is : (z : ℤ) → FitsSigned w64 z → fmt.signed_decimal (to_z w64 (of_z w64 z)) ≡ whole_text z
+written-is z h = ap fmt.signed_decimal (to_z-of_z w64 z h) ∙ whole-is z (narrow-fits z h)
 
 -- ---- the text of the data is that of the value
 

@@ -10,5 +10,4 @@ pub mod FaultCodes
 pub mod Lookups
 pub mod Parts
 pub mod PutInTurn
-pub mod Plain
 pub mod MemberTexts

@@ -23,6 +23,7 @@ mod make;
 pub mod members;
 pub mod moment;
 mod piece;
+pub mod quotes;
 mod read;
 pub mod reader;
 pub mod reading_room;

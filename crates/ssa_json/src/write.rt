@@ -1,19 +1,18 @@
 //! Prints JSON values.
 ghost use Rattle.std.specs.Prelude.{◌≡◌, ◌≤◌, [], ◌∷◌, ◌++◌, Ok, IfOk, OnOk, string_bytes, false, true};
-ghost use Rattle.std.specs.List.{list_all};
 ghost use Rattle.std.specs.Str.{is_utf8};
-ghost use Rattle.ssa_model.specs.definitions.Json.{comma_if, compact, compact_items, compact_members, quoted, scalar_text, whole_text};
 ghost use Rattle.ssa_model.specs.definitions.Entries.{text_json};
+ghost use Rattle.ssa_model.specs.definitions.Json.{comma_if, compact, compact_items, compact_members, quoted, scalar_text, whole_text};
+ghost use Rattle.ssa_model.specs.definitions.Replies.{number_json};
 ghost use Rattle.ssa_json.specs.MemberTexts.{member_text, name_text};
-ghost use Rattle.ssa_json.specs.Plain.{is_plain};
 ghost use Rattle.ssa_json.specs.Reading.{json_reading};
 ghost use Rattle.ssa_json.specs.View.{view, scalar_view, items_view, members_view};
 ghost use Rattle.ssa_json.specs.Writable.{CompactIsRead, IsOfProgram, depth, has_rising_names, has_utf8, is_utf8_scalar, items_have_rising_names, items_have_utf8, max_depth, members_have_utf8, members_rise};
 ghost use Rattle.ssa_json.specs.Written.{DecimalsArePrinted, is_narrow, is_narrow_scalar, is_narrow_whole, items_narrow, members_narrow};
 
+use crate::quotes::{has_no_escapes, push_escaped};
 use crate::value::{Json, Scalar};
 use itoa::Buffer;
-use json::Writer;
 use ssa_members::Members;
 use std::alloc::{AllocError, Global};
 
@@ -35,12 +34,13 @@ impl Json {
         Ok(text)
     }
 
-    /// Appends the compact spelling to a text. Where memory runs out, part of it may stand there.
-    pub fn push_text(&self, alloc: Global, text: &mut Vec<u8>) -> Result<(), AllocError>
+    /// Appends the compact spelling to a text. It takes no memory but the text's; where that runs out, part of the spelling
+    /// may stand there.
+    pub fn push_text(&self, _alloc: Global, text: &mut Vec<u8>) -> Result<(), AllocError>
         ensures text { OnOk result (text.new.items ≡ text.old.items ++ compact (view self.now)) }
         ensures of_program { OnOk result (IsOfProgram (view self.now)) }
     {
-        write_value(alloc, text, self)
+        write_value(text, self)
     }
 
     /// The compact spelling, as a text.
@@ -54,31 +54,30 @@ impl Json {
     }
 }
 
-/// Appends a string in quotes, with the escapes that it needs, to a text. Where memory runs out, part of it may stand
-/// there.
-pub fn push_quoted(alloc: Global, text: &mut Vec<u8>, string: &str) -> Result<(), AllocError>
+/// Appends a string in quotes, with the escapes that it needs, to a text. It takes no memory but the text's; where that
+/// runs out, part of the string may stand there.
+pub fn push_quoted(_alloc: Global, text: &mut Vec<u8>, string: &str) -> Result<(), AllocError>
     ensures { OnOk result (text.new.items ≡ text.old.items ++ quoted string.now) }
 {
-    if is_plain(string) {
-        push_plain(text, string)
-    } else {
-        push_escaped(alloc, text, string)
-    }
+    push_string(text, string)
+}
+
+/// Appends a count in decimal.
+pub fn push_decimal(text: &mut Vec<u8>, count: usize) -> Result<(), AllocError>
+    ensures { OnOk result (text.new.items ≡ text.old.items ++ compact (number_json count)) }
+{
+    let mut digits = Buffer::new();
+    text.extend_from_slice(digits.format(count).as_bytes())
 }
 
 /// Appends the name of an object's member and the colon behind it, with a comma in front of each member but the first.
 /// Where memory runs out, part of it may stand there.
-pub fn push_name(
-    alloc: Global,
-    text: &mut Vec<u8>,
-    is_later: bool,
-    name: &str,
-) -> Result<(), AllocError>
+pub fn push_name(text: &mut Vec<u8>, is_later: bool, name: &str) -> Result<(), AllocError>
     ensures text { OnOk result (text.new.items ≡ text.old.items ++ name_text is_later name.now) }
     ensures utf8 { OnOk result (is_utf8 name.now ≡ true) }
 {
     push_comma(text, is_later)?;
-    push_quoted(alloc, text, name)?;
+    push_string(text, name)?;
     text.push(b':')?;
     Ok(())
 }
@@ -86,7 +85,6 @@ pub fn push_name(
 /// Appends a member of an object, with a comma in front of each but the first. Where memory runs out, part of it may
 /// stand there.
 pub fn push_member(
-    alloc: Global,
     text: &mut Vec<u8>,
     is_later: bool,
     name: &str,
@@ -96,13 +94,12 @@ pub fn push_member(
     ensures utf8 { OnOk result (is_utf8 name.now ≡ true) }
     ensures of_program { OnOk result (IsOfProgram (view value.now)) }
 {
-    push_name(alloc, text, is_later, name)?;
-    value.push_text(alloc, text)
+    push_name(text, is_later, name)?;
+    write_value(text, value)
 }
 
 /// Appends a member of an object whose value is a text, likewise.
 pub fn push_text_member(
-    alloc: Global,
     text: &mut Vec<u8>,
     is_later: bool,
     name: &str,
@@ -112,8 +109,8 @@ pub fn push_text_member(
     ensures utf8 { OnOk result (is_utf8 name.now ≡ true) }
     ensures of_program { OnOk result (IsOfProgram (text_json value.now)) }
 {
-    push_name(alloc, text, is_later, name)?;
-    push_quoted(alloc, text, value)
+    push_name(text, is_later, name)?;
+    push_string(text, value)
 }
 
 /// Reading the compact text of a value gives the value, where its numbers fit 64 bits, its texts are
@@ -127,37 +124,37 @@ pub fn decimals_are_printed()
     ensures { DecimalsArePrinted }
 {}
 
-/// Whether each byte of a text stands for itself in quotes.
-pub fn is_plain(text: &str) -> bool
-    ensures { result ≡ list_all is_plain text.now }
+// Appends a string in quotes, with the escapes that it needs.
+fn push_string(text: &mut Vec<u8>, string: &str) -> Result<(), AllocError>
+    ensures { OnOk result (text.new.items ≡ text.old.items ++ quoted string.now) }
 {
-    for byte in text.as_bytes() {
-        if *byte < 0x20 || *byte == b'"' || *byte == b'\\' {
-            return false;
-        }
+    if has_no_escapes(string.as_bytes()) {
+        push_plain(text, string)
+    } else {
+        push_byte_by_byte(text, string)
     }
-    true
 }
 
 // Appends a text that needs no escapes in quotes.
 fn push_plain(text: &mut Vec<u8>, string: &str) -> Result<(), AllocError>
     ensures { OnOk result (text.new.items ≡ text.old.items ++ 34 ∷ (string.now ++ 34 ∷ [])) }
 {
-    text.reserve(string.len() + 2)?;
     text.push(b'"')?;
     text.extend_from_slice(string.as_bytes())?;
     text.push(b'"')?;
     Ok(())
 }
 
-// Appends a string in quotes, with its escapes. They are made in a text of its own.
-fn push_escaped(alloc: Global, text: &mut Vec<u8>, string: &str) -> Result<(), AllocError>
+// Appends a string in quotes byte by byte, with its escapes.
+fn push_byte_by_byte(text: &mut Vec<u8>, string: &str) -> Result<(), AllocError>
     ensures { OnOk result (text.new.items ≡ text.old.items ++ quoted string.now) }
 {
-    let mut writer = Writer::new(Vec::with_capacity(alloc, string.len() + 2)?);
-    writer.string(string)?;
-    let quoted = writer.into_inner();
-    text.extend_from_slice(&quoted)
+    text.push(b'"')?;
+    for byte in string.as_bytes() {
+        push_escaped(text, *byte)?;
+    }
+    text.push(b'"')?;
+    Ok(())
 }
 
 // Appends a whole number in decimal.
@@ -170,13 +167,13 @@ fn push_whole(text: &mut Vec<u8>, number: i64) -> Result<(), AllocError>
 }
 
 // Appends a scalar.
-fn write_scalar(alloc: Global, text: &mut Vec<u8>, scalar: &Scalar) -> Result<(), AllocError>
+fn write_scalar(text: &mut Vec<u8>, scalar: &Scalar) -> Result<(), AllocError>
     ensures text { OnOk result (text.new.items ≡ text.old.items ++ scalar_text (scalar_view scalar.now)) }
     ensures narrow { OnOk result (is_narrow_scalar (scalar_view scalar.now) ≡ true) }
     ensures texts { OnOk result (is_utf8_scalar (scalar_view scalar.now) ≡ true) }
 {
     match scalar {
-        Scalar::Text(string) => push_quoted(alloc, text, string.as_str()),
+        Scalar::Text(string) => push_string(text, string.as_str()),
         Scalar::Int(number) => push_whole(text, *number),
         Scalar::Bool(true) => text.extend_from_slice(b"true"),
         Scalar::Bool(false) => text.extend_from_slice(b"false"),
@@ -195,28 +192,28 @@ pub fn push_comma(text: &mut Vec<u8>, is_later: bool) -> Result<(), AllocError>
 
 // Appends a value. Where memory runs out, part of it may stand there.
 #[cycle(encode)]
-fn write_value(alloc: Global, text: &mut Vec<u8>, value: &Json) -> Result<(), AllocError>
+fn write_value(text: &mut Vec<u8>, value: &Json) -> Result<(), AllocError>
     ensures text { OnOk result (text.new.items ≡ text.old.items ++ compact (view value.now)) }
     ensures narrow { OnOk result (is_narrow (view value.now) ≡ true) }
     ensures texts { OnOk result (has_utf8 (view value.now) ≡ true) }
     ensures names { OnOk result (has_rising_names (view value.now) ≡ true) }
 {
     match value {
-        Json::Scalar(scalar) => write_scalar(alloc, text, scalar),
+        Json::Scalar(scalar) => write_scalar(text, scalar),
         Json::List(items) => {
             text.push(b'[')?;
-            write_items(alloc, text, items)
+            write_items(text, items)
         }
         Json::Object(members) => {
             text.push(b'{')?;
-            write_members(alloc, text, members)
+            write_members(text, members)
         }
     }
 }
 
 // Appends the items of a list, and the bracket that closes it.
 #[cycle(encode)]
-fn write_items(alloc: Global, text: &mut Vec<u8>, items: &Vec<Json>) -> Result<(), AllocError>
+fn write_items(text: &mut Vec<u8>, items: &Vec<Json>) -> Result<(), AllocError>
     ensures text { OnOk result (text.new.items ≡ text.old.items ++ compact_items false (items_view items.now.items)) }
     ensures narrow { OnOk result (items_narrow (items_view items.now.items) ≡ true) }
     ensures texts { OnOk result (items_have_utf8 (items_view items.now.items) ≡ true) }
@@ -225,7 +222,7 @@ fn write_items(alloc: Global, text: &mut Vec<u8>, items: &Vec<Json>) -> Result<(
     let mut is_later = false;
     for item in items {
         push_comma(text, is_later)?;
-        write_value(alloc, text, item)?;
+        write_value(text, item)?;
         is_later = true;
     }
     text.push(b']')?;
@@ -234,11 +231,7 @@ fn write_items(alloc: Global, text: &mut Vec<u8>, items: &Vec<Json>) -> Result<(
 
 // Appends the members of an object, and the bracket that closes it.
 #[cycle(encode)]
-fn write_members(
-    alloc: Global,
-    text: &mut Vec<u8>,
-    members: &Members<Json>,
-) -> Result<(), AllocError>
+fn write_members(text: &mut Vec<u8>, members: &Members<Json>) -> Result<(), AllocError>
     ensures text { OnOk result (text.new.items ≡ text.old.items ++ compact_members false (members_view members.now.entries)) }
     ensures narrow { OnOk result (members_narrow (members_view members.now.entries) ≡ true) }
     ensures texts { OnOk result (members_have_utf8 (members_view members.now.entries) ≡ true) }
@@ -247,9 +240,9 @@ fn write_members(
     let mut is_later = false;
     for (key, member) in members.entries() {
         push_comma(text, is_later)?;
-        push_quoted(alloc, text, key.as_str())?;
+        push_string(text, key.as_str())?;
         text.push(b':')?;
-        write_value(alloc, text, member)?;
+        write_value(text, member)?;
         is_later = true;
     }
     text.push(b'}')?;

@@ -36,6 +36,14 @@ impl SmallText {
                 place: Place::Within(short),
             });
         }
+        SmallText::from_long(alloc, text)
+    }
+
+    // The text with these bytes, in memory of its own.
+    #[inline(never)]
+    fn from_long(alloc: Global, text: &str) -> Result<SmallText, AllocError>
+        ensures ok { IfOk result (λ t. text_bytes t ≡ text.now) }
+    {
         let long = Box::new(alloc, String::from_str(alloc, text)?)?;
         Ok(SmallText {
             place: Place::Beyond(long),
@@ -77,6 +85,7 @@ impl SmallText {
     }
 
     /// The same text. A short one takes no memory.
+    #[inline(always)]
     pub fn copy(&self, alloc: Global) -> Result<SmallText, AllocError>
         ensures { IfOk result (λ t. text_bytes t ≡ text_bytes self.now) }
     {
@@ -84,7 +93,7 @@ impl SmallText {
             Place::Within(short) => Ok(SmallText {
                 place: Place::Within(*short),
             }),
-            Place::Beyond(long) => SmallText::from_str(alloc, long.as_str()),
+            Place::Beyond(long) => SmallText::from_long(alloc, long.as_str()),
         }
     }
 }

@@ -72,7 +72,7 @@ fn unneeded(
             return Ok(free);
         }
         if !entry.key.is_same(key) {
-            free = free.without_over(alloc, &entry.set)?;
+            free.remove_over(&entry.set);
         }
     }
     Ok(free)

@@ -387,7 +387,7 @@ pushed : (how : Combination) (cs0 ds0 : Children) (out us : Children) (u : Elem 
     → IsCombined how cs0 ds0 ((out ++ u ∷ []) ++ us)
 pushed how cs0 ds0 out us u h = subst (IsCombined how cs0 ds0) (sym (append_assoc out (u ∷ []) us)) h
 
-combining-own : (how : Combination) (cs0 ds0 : Children) (c : Elem × Trie) (cs ds out new : Children) (kept : Bool) → heads_order (c ∷ cs) ds ≡ Some Less
+pub combining-own : (how : Combination) (cs0 ds0 : Children) (c : Elem × Trie) (cs ds out new : Children) (kept : Bool) → heads_order (c ∷ cs) ds ≡ Some Less
     → kept ≡ keeps how true false → IsKept kept c out new
     → IsCombining how cs0 ds0 (c ∷ cs) ds out → IsCombining how cs0 ds0 cs ds new
 combining-own how cs0 ds0 c cs ds out new true order is (u, copy, items) h = record {
@@ -406,7 +406,7 @@ combining-own how cs0 ds0 c cs ds out new false order is items h = record {
   rest = λ us g. rw items (h.rest us (own-dropped how c cs ds us order h.own_rise h.others_rise (sym is) g));
 }
 
-combining-other : (how : Combination) (cs0 ds0 cs : Children) (d : Elem × Trie) (ds out new : Children) (kept : Bool) → heads_order cs (d ∷ ds) ≡ Some Greater
+pub combining-other : (how : Combination) (cs0 ds0 cs : Children) (d : Elem × Trie) (ds out new : Children) (kept : Bool) → heads_order cs (d ∷ ds) ≡ Some Greater
     → kept ≡ keeps how false true → IsKept kept d out new
     → IsCombining how cs0 ds0 cs (d ∷ ds) out → IsCombining how cs0 ds0 cs ds new
 combining-other how cs0 ds0 cs d ds out new true order is (u, copy, items) h = record {
@@ -434,7 +434,7 @@ grown-cases true how cs0 ds0 c d cs ds out new t is order made (x, same, items) 
 grown-cases false how cs0 ds0 c d cs ds out new t is order made items h us g =
     rw items (h.rest us (both-dropped how c d cs ds us t order h.own_rise h.others_rise made is g))
 
-combining-both : (how : Combination) (cs0 ds0 : Children) (c d : Elem × Trie) (cs ds out new : Children) (t : Trie)
+pub combining-both : (how : Combination) (cs0 ds0 : Children) (c d : Elem × Trie) (cs ds out new : Children) (t : Trie)
     → heads_order (c ∷ cs) (d ∷ ds) ≡ Some Equal → IsCombination how c.1 d.1 t → IsGrown (element_view c.0) t out new
     → IsCombining how cs0 ds0 (c ∷ cs) (d ∷ ds) out → IsCombining how cs0 ds0 cs ds new
 combining-both how cs0 ds0 c d cs ds out new t order made grown h = record {

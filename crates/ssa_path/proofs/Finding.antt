@@ -154,22 +154,30 @@ module _ (how : Combination) (cs0 ds : Children) (c : Elem × Trie) (cs out new 
     rest = rest;
   }
 
+-- the next child has no counterpart: it is passed, and copied where it is kept
+pub finding-alone : (how : Combination) (cs0 ds : Children) (c : Elem × Trie) (cs out new : Children) (kept : Bool) → keeps how false true ≡ false
+    → rises (elements ds) ≡ true → child_at (element_view c.0) ds ≡ None → kept ≡ keeps how true false → IsKept kept c out new
+    → IsFinding how cs0 ds (c ∷ cs) out → IsFinding how cs0 ds cs new
+finding-alone how cs0 ds c cs out new kept alone rise none kept_is made h =
+    finding-more how cs0 ds c cs out new alone rise h (rest-none how cs0 ds c cs out new alone rise h kept none kept_is made)
+
+-- the next child has a counterpart: it is passed, with the combination of the two where that has some path
+pub finding-both : (how : Combination) (cs0 ds : Children) (c : Elem × Trie) (cs out new : Children) (d t : Trie) → keeps how false true ≡ false
+    → rises (elements ds) ≡ true → child_at (element_view c.0) ds ≡ Some d → IsCombination how c.1 d t → IsGrown (element_view c.0) t out new
+    → IsFinding how cs0 ds (c ∷ cs) out → IsFinding how cs0 ds cs new
+finding-both how cs0 ds c cs out new d t alone rise some made grown h =
+    finding-more how cs0 ds c cs out new alone rise h (rest-some how cs0 ds c cs out new alone rise h d t (is_filled t) refl some made grown)
+
 -- ---- the same at a place in the own list
 
--- the next child has no counterpart: it is passed, and copied where it is kept
 pub none-at : (how : Combination) (cs ds : Children) (i : ℕ) (c : Elem × Trie) (out new : Children) (kept : Bool) → keeps how false true ≡ false
     → rises (elements ds) ≡ true → i < length cs → c ≡ get_or cs i c → child_at (element_view c.0) ds ≡ None → kept ≡ keeps how true false
     → IsKept kept c out new → IsFinding how cs ds (drop i cs) out → IsFinding how cs ds (drop (i + 1) cs) new
 none-at how cs ds i c out new kept alone rise lt is none kept_is made h =
-    let now = subst (λ l. IsFinding how cs ds l out) (left-at cs i c lt is) h in
-    let behind = drop (i + 1) cs in
-    finding-more how cs ds c behind out new alone rise now (rest-none how cs ds c behind out new alone rise now kept none kept_is made)
+    finding-alone how cs ds c (drop (i + 1) cs) out new kept alone rise none kept_is made (subst (λ l. IsFinding how cs ds l out) (left-at cs i c lt is) h)
 
--- the next child has a counterpart: it is passed, with the combination of the two where that has some path
 pub some-at : (how : Combination) (cs ds : Children) (i : ℕ) (c : Elem × Trie) (out new : Children) (d t : Trie) → keeps how false true ≡ false
     → rises (elements ds) ≡ true → i < length cs → c ≡ get_or cs i c → child_at (element_view c.0) ds ≡ Some d → IsCombination how c.1 d t
     → IsGrown (element_view c.0) t out new → IsFinding how cs ds (drop i cs) out → IsFinding how cs ds (drop (i + 1) cs) new
 some-at how cs ds i c out new d t alone rise lt is some made grown h =
-    let now = subst (λ l. IsFinding how cs ds l out) (left-at cs i c lt is) h in
-    let behind = drop (i + 1) cs in
-    finding-more how cs ds c behind out new alone rise now (rest-some how cs ds c behind out new alone rise now d t (is_filled t) refl some made grown)
+    finding-both how cs ds c (drop (i + 1) cs) out new d t alone rise some made grown (subst (λ l. IsFinding how cs ds l out) (left-at cs i c lt is) h)

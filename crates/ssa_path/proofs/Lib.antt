@@ -26,5 +26,7 @@ pub mod FieldsSaid
 pub mod FieldsSays
 pub mod FieldsBack
 pub mod LyingWithin
+pub mod Kept
+pub mod TakingOut
 pub mod SortKeys
 pub mod LeadingTexts

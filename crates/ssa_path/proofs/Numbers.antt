@@ -1,11 +1,8 @@
 -- The texts of numbers and truth values beside each other.
-use Rattle.std.proofs.Common.{◌≡◌, ℕ, zero, suc, ◌+◌, ◌/◌, ◌%◌, ◌<◌, List, [], ◌∷◌, ◌++◌, Bool, true, false, ◌&&◌, ◌||◌, not, Less, Greater, refl, sym, ap, ◌∙◌, true≢false, arith, ltb-true, pos, negsuc, ℤ, FitsSigned, w64, to_z, of_z, codes}
-use Rattle.std.proofs.lemmas.Int.{to_z-of_z}
+use Rattle.std.proofs.Common.{◌≡◌, ℕ, zero, suc, ◌+◌, ◌/◌, ◌%◌, ◌<◌, List, [], ◌∷◌, ◌++◌, Bool, true, false, ◌&&◌, ◌||◌, not, Less, Greater, refl, sym, ap, ◌∙◌, true≢false, arith, ltb-true, pos, negsuc, ℤ, codes}
 use Rattle.std.specs.Prelude.{◌==◌, nat_lt, if◌then◌else◌}
 use Rattle.std.proofs.lemmas.Bool.Decides.{nat_tests}
-use Rattle.std.specs.Fmt.{signed_decimal}
 use Rattle.ssa_model.specs.definitions.Json.{Scalar, text, whole, truth, digits_before, decimal, whole_text, scalar_text, escaped, quoted}
-use Rattle.ssa_json.proofs.Printing.{decimal-is}
 use Rattle.ssa_path.proofs.Parts.{text_cmp, AreWords, cmp-words}
 use Rattle.std.specs.Ordering.{ordering_then}
 use Rattle.ssa_path.proofs.Escapes.{quoted-words, words-append}
@@ -157,17 +154,6 @@ scalar-words (text a) (truth b) t u d e = λ r s q. apart ((quoted a ++ t ∷ []
 scalar-words (whole a) (text b) t u d e = λ r s q. apart ((quoted b ++ u ∷ []) ++ s) ((whole_text a ++ t ∷ []) ++ r) refl (whole-no_quote a t r) (sym q)
 scalar-words (truth a) (text b) t u d e = λ r s q. apart ((quoted b ++ u ∷ []) ++ s) ((scalar_text (truth a) ++ t ∷ []) ++ r) refl (truth-no_quote a t r)
     (sym q)
-
--- ---- what the code writes of a number
-
--- a whole number of 64 bits is written as its text
-pub whole-is : (z : ℤ) → FitsSigned w64 z → signed_decimal z ≡ whole_text z
-whole-is (pos n) h = let fits = h.sfits in decimal-is n (omega arith)
-whole-is (negsuc n) h = let fits = h.sfits in ap (λ ds. 45 ∷ ds) (decimal-is (suc n) (omega arith))
-
--- so it is when it is taken from its 64 bits
-pub written-is : (z : ℤ) → FitsSigned w64 z → signed_decimal (to_z w64 (of_z w64 z)) ≡ whole_text z
-written-is z h = ap signed_decimal (to_z-of_z w64 z h) ∙ whole-is z h
 
 -- ---- how scalars of different sorts compare
 

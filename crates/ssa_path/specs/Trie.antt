@@ -1,6 +1,6 @@
 -- The paths that a trie holds.
 use Rattle.std.specs.Prelude.{◌≡◌, List, [], ◌∷◌, ◌++◌, map, Bool, true, false, not, ◌&&◌, ◌||◌}
-use Rattle.std.specs.List.{list_any}
+use Rattle.std.specs.List.{filter, list_any}
 use Rattle.ssa_model.specs.definitions.Path.{Element, Path, same_path, under}
 use Rattle.ssa_path.specs.Children.{elements, rises}
 use Rattle.ssa_path.specs.View.{element_view}
@@ -8,6 +8,7 @@ use Rattle.ssa_path.specs.declared.element.Elem.{Elem}
 use Rattle.ssa_path.specs.declared.trie.Trie.{Trie}
 use Rattle.ssa_path.specs.declared.trie.Trie.TheOpen.{Trie-F}
 use Rattle.ssa_path.specs.declared.trie.Trie.TheFolds.{fold-Trie}
+use Rattle.ssa_path.specs.declared.trie.Trie.TheViews.{out-Trie}
 
 abbrev pub here_path : Bool → List Path
 here_path true = [] ∷ []
@@ -55,6 +56,14 @@ paths_below cs = paths_under (map (λ c. (c.0, shape c.1)) cs)
 
 abbrev pub are_filled_tries : List (Elem × Trie) → Bool
 are_filled_tries cs = all_filled (map (λ c. (c.0, shape c.1)) cs)
+
+-- whether the child has some path, told of its parts
+abbrev pub has_any : Elem × Trie → Bool
+has_any c = (out-Trie c.1).here || has_some {A = Elem × Trie} (out-Trie c.1).below.items
+
+-- the children that have some path
+abbrev pub kept : List (Elem × Trie) → List (Elem × Trie)
+kept = filter has_any
 
 -- whether a path is one of these
 abbrev pub is_one_of : List Path → Path → Bool

@@ -56,7 +56,7 @@ impl Combination {
     }
 
     // Whether the counterparts of so few children are searched for among so many others.
-    fn searches(self, own: usize, others: usize) -> bool
+    pub(crate) fn searches(self, own: usize, others: usize) -> bool
         ensures { OnTrue result (keeps self false true ≡ false) }
     {
         !self.keeps(false, true) && own < others / FEW_AMONG

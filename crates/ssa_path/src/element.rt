@@ -101,7 +101,18 @@ impl Elem {
     }
 
     /// The same element, with new memory.
+    #[inline(always)]
     pub fn copy(&self, alloc: Global) -> Result<Elem, AllocError>
+        ensures { IfOk result (λ e. element_view e ≡ element_view self.now) }
+    {
+        match self {
+            Elem::Field(name) => Ok(Elem::Field(name.copy(alloc)?)),
+            _ => self.copy_of_sorts(alloc),
+        }
+    }
+
+    // The same element, which is mostly an item, with new memory.
+    fn copy_of_sorts(&self, alloc: Global) -> Result<Elem, AllocError>
         ensures { IfOk result (λ e. element_view e ≡ element_view self.now) }
     {
         match self {

@@ -13,6 +13,7 @@ use crate::key_fields::without_key_fields;
 use crate::listing::{copy_ways, count_paths, list_ways};
 use crate::path::Path;
 use crate::same::same_tries;
+use crate::taking_out::take_out_over;
 use crate::trie::Trie;
 use crate::within::lies_within;
 use std::alloc::{AllocError, Global};
@@ -204,6 +205,13 @@ impl FieldSet {
         ensures { IfOk result (λ s. s ≡ set_of (set.paths self.now) (λ p. not (has_at_or_below held.now p))) }
     {
         self.combined(alloc, held, Combination::WithoutOver)
+    }
+
+    /// Takes out the paths at or below which the other set has a path. Takes no memory.
+    pub fn remove_over(&mut self, other: &FieldSet)
+        ensures { self.new ≡ set_of (set.paths self.old) (λ g. not (has_at_or_below other.now g)) }
+    {
+        take_out_over(&other.root, &mut self.root);
     }
 
     /// The paths of this set that have a path of the other at or below them.

@@ -38,6 +38,7 @@ pub mod order;
 pub mod path;
 mod same;
 pub mod sort_key;
+mod taking_out;
 pub mod top_path;
 pub mod trie;
 pub mod within;

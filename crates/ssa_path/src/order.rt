@@ -3,29 +3,18 @@ ghost use Rattle.std.specs.Prelude.{◌≡◌, ◌≤◌, ◌<◌, ◌+◌, ◌+
 ghost use Rattle.std.specs.Ordering.{nat_cmp};
 ghost use Rattle.std.specs.Cmp.Lexicographic.{slice_cmp};
 ghost use Rattle.std.specs.Int.{to_le_bytes, w32, w64};
-ghost use Rattle.ssa_model.specs.definitions.Json.{compact_members, hex_digit, quoted, scalar_text, whole_text};
+ghost use Rattle.ssa_model.specs.definitions.Json.{compact_members, quoted, scalar_text, whole_text};
 ghost use Rattle.ssa_model.specs.definitions.Path.{key_members};
 ghost use Rattle.ssa_json.specs.View.{scalar_view};
 ghost use Rattle.ssa_path.specs.Keys.{members_view};
 ghost use Rattle.ssa_path.specs.Order.{mark, member_text, key_end, BeginAlike};
 
 use itoa::Buffer;
+use ssa_json::quotes::escape;
 use ssa_json::text::is_same_text;
 use ssa_json::value::Scalar;
 use ssa_members::SmallText;
 use std::cmp::Ordering;
-
-// A digit of a hexadecimal number.
-fn hex_digit(digit: u8) -> u8
-    requires { digit < 16 }
-    ensures { result ≡ hex_digit digit }
-{
-    if digit < 10 {
-        b'0' + digit
-    } else {
-        b'a' + (digit - 10)
-    }
-}
 
 // A byte of a text as JSON has it in quotes, or the closing quote; and how many bytes that takes.
 fn mark(byte: Option<u8>) -> ([u8; 6], usize)
@@ -34,21 +23,7 @@ fn mark(byte: Option<u8>) -> ([u8; 6], usize)
 {
     match byte {
         None => ([b'"', 0, 0, 0, 0, 0], 1),
-        Some(b'"') => ([b'\\', b'"', 0, 0, 0, 0], 2),
-        Some(b'\\') => ([b'\\', b'\\', 0, 0, 0, 0], 2),
-        Some(0x08) => ([b'\\', b'b', 0, 0, 0, 0], 2),
-        Some(b'\t') => ([b'\\', b't', 0, 0, 0, 0], 2),
-        Some(b'\n') => ([b'\\', b'n', 0, 0, 0, 0], 2),
-        Some(0x0C) => ([b'\\', b'f', 0, 0, 0, 0], 2),
-        Some(b'\r') => ([b'\\', b'r', 0, 0, 0, 0], 2),
-        Some(byte) => {
-            if byte < 0x20 {
-                let (high, low) = (hex_digit(byte / 16), hex_digit(byte % 16));
-                ([b'\\', b'u', b'0', b'0', high, low], 6)
-            } else {
-                ([byte, 0, 0, 0, 0, 0], 1)
-            }
-        }
+        Some(byte) => escape(byte),
     }
 }
 

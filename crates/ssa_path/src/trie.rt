@@ -1,10 +1,10 @@
 // A set of paths as a tree: each place says whether the path to it is in the set.
-ghost use Rattle.std.specs.Prelude.{◌≡◌, true, false, None, IfOk, OnOk, OnErr, IfNone, IfSome};
+ghost use Rattle.std.specs.Prelude.{◌≡◌, true, false, None, vec_capacity, IfOk, OnOk, OnErr, IfNone, IfSome};
 ghost use Rattle.std.specs.List.{list_any};
 ghost use Rattle.ssa_model.specs.definitions.Path.{under};
 ghost use Rattle.ssa_path.specs.Children.{child_at, elements, rises, IsGapFor};
 ghost use Rattle.ssa_path.specs.View.{element_view, path_view};
-ghost use Rattle.ssa_path.specs.Trie.{is_one_of, paths, shape, is_trie, is_filled, are_filled_tries, IsCopy, IsGathered, IsInserted, IsOnly, IsPlace, IsRemoved};
+ghost use Rattle.ssa_path.specs.Trie.{has_any, kept, is_one_of, paths, shape, is_trie, is_filled, are_filled_tries, IsCopy, IsGathered, IsInserted, IsOnly, IsPlace, IsRemoved};
 
 use crate::children::{find_child, search};
 use crate::element::Elem;
@@ -71,6 +71,24 @@ pub fn gather(
     match search(below, element) {
         Err(place) => put_child(alloc, below, place, element, child),
         Ok(_) => unreachable!(),
+    }
+}
+
+// Whether the child has some path.
+fn has_any(child: &(Elem, Trie)) -> bool
+    ensures { result ≡ has_any child.now }
+{
+    child.1.here || !child.1.below.is_empty()
+}
+
+/// Takes out the children that have no path left, in one pass where there are any.
+pub fn take_out_bare(below: &mut Vec<(Elem, Trie)>, any_bare: bool)
+    requires { any_bare ≡ false → kept below.old.items ≡ below.old.items }
+    ensures items { below.new.items ≡ kept below.old.items }
+    ensures capacity { vec_capacity below.new ≡ vec_capacity below.old }
+{
+    if any_bare {
+        below.retain(|child| has_any(child));
     }
 }
 

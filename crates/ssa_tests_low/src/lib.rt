@@ -33,3 +33,5 @@ mod set_tests;
 mod sorted_set_tests;
 #[cfg(test)]
 mod support;
+#[cfg(test)]
+mod text_tests;

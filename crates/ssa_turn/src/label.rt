@@ -75,10 +75,10 @@ fn push_applied(
     let time = at.to_text(alloc)?;
     let force = Json::Scalar(Scalar::Bool(force));
     text.push(b'{')?;
-    push_text_member(alloc, text, false, "at", time.as_str())?;
-    push_text_member(alloc, text, true, "do", "apply")?;
-    push_member(alloc, text, true, "force", &force)?;
-    push_text_member(alloc, text, true, "manager", who)?;
+    push_text_member(text, false, "at", time.as_str())?;
+    push_text_member(text, true, "do", "apply")?;
+    push_member(text, true, "force", &force)?;
+    push_text_member(text, true, "manager", who)?;
     text.push(b'}')?;
     Ok(())
 }
@@ -94,19 +94,19 @@ fn push_updated(
 {
     let time = at.to_text(alloc)?;
     text.push(b'{')?;
-    push_text_member(alloc, text, false, "at", time.as_str())?;
-    push_text_member(alloc, text, true, "do", "update")?;
-    push_text_member(alloc, text, true, "manager", who)?;
+    push_text_member(text, false, "at", time.as_str())?;
+    push_text_member(text, true, "do", "update")?;
+    push_text_member(text, true, "manager", who)?;
     text.push(b'}')?;
     Ok(())
 }
 
-fn push_stripped(alloc: Global, text: &mut Vec<u8>) -> Result<(), AllocError>
+fn push_stripped(text: &mut Vec<u8>) -> Result<(), AllocError>
     ensures text { OnOk result (text.new.items ≡ text.old.items ++ compact (label_json stripped)) }
     ensures of_program { OnOk result (IsOfProgram (label_json stripped)) }
 {
     text.push(b'{')?;
-    push_text_member(alloc, text, false, "do", "strip")?;
+    push_text_member(text, false, "do", "strip")?;
     text.push(b'}')?;
     Ok(())
 }
@@ -132,7 +132,7 @@ impl Label {
         match self {
             Label::Apply { at, force, who } => push_applied(alloc, text, at, *force, who.as_str()),
             Label::Update { at, who } => push_updated(alloc, text, at, who.as_str()),
-            Label::Strip => push_stripped(alloc, text),
+            Label::Strip => push_stripped(text),
         }
     }
 

@@ -53,13 +53,13 @@ impl StateDelta {
             → IsOfProgram (record_json (text_json version.now) kind (state_steps self.now))) }
     {
         text.push(b'{')?;
-        push_member(alloc, text, false, "changed", &self.table.changed_to_json(alloc)?)?;
-        push_member(alloc, text, true, "cut", &self.body.cut_to_json(alloc)?)?;
-        push_member(alloc, text, true, "gone", &self.table.gone_to_json(alloc)?)?;
-        push_member(alloc, text, true, "here", &self.table.here_to_json(alloc, version)?)?;
-        push_member(alloc, text, true, "leaves", &self.body.leaves_to_json(alloc)?)?;
-        push_member(alloc, text, true, "order", &self.body.order_to_json(alloc)?)?;
-        push_member(alloc, text, true, "put", &self.body.put_to_json(alloc)?)?;
+        push_member(text, false, "changed", &self.table.changed_to_json(alloc)?)?;
+        push_member(text, true, "cut", &self.body.cut_to_json(alloc)?)?;
+        push_member(text, true, "gone", &self.table.gone_to_json(alloc)?)?;
+        push_member(text, true, "here", &self.table.here_to_json(alloc, version)?)?;
+        push_member(text, true, "leaves", &self.body.leaves_to_json(alloc)?)?;
+        push_member(text, true, "order", &self.body.order_to_json(alloc)?)?;
+        push_member(text, true, "put", &self.body.put_to_json(alloc)?)?;
         text.push(b'}')?;
         Ok(())
     }

@@ -35,7 +35,7 @@ fn push_time(alloc: Global, text: &mut Vec<u8>, at: Option<Moment>) -> Result<()
     match at {
         Some(at) => {
             let time = at.to_text(alloc)?;
-            push_text_member(alloc, text, true, "time", time.as_str())?;
+            push_text_member(text, true, "time", time.as_str())?;
             text.push(b'}')
         }
         None => text.push(b'}'),
@@ -53,13 +53,12 @@ fn push_change(
     ensures of_program { OnOk result (IsOfProgram (change_json (change_view change.now))) }
 {
     text.push(b'{')?;
-    push_name(alloc, text, false, "gain")?;
+    push_name(text, false, "gain")?;
     push_fields(alloc, text, &change.set.gain)?;
-    push_name(alloc, text, true, "lose")?;
+    push_name(text, true, "lose")?;
     push_fields(alloc, text, &change.set.lose)?;
-    push_text_member(alloc, text, true, "manager", change.key.name.as_str())?;
+    push_text_member(text, true, "manager", change.key.name.as_str())?;
     push_text_member(
-        alloc,
         text,
         true,
         "operation",

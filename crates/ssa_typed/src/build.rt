@@ -107,7 +107,7 @@ pub fn field_children(
     requires fits { FieldsFit (fields_view fields.now.entries) (members_view members.entries) }
     ensures { IfOk result (λ cs. AreNamed (field_places (fields_view fields.now.entries) (members_view members.entries)) cs.items) }
 {
-    let mut children = Vec::new(alloc);
+    let mut children = Vec::with_capacity(alloc, members.len())?;
     for (name, member) in members.into_entries() {
         children.push(field_child(alloc, fields, name, member)?)?;
     }
@@ -125,7 +125,7 @@ fn entry_children(
     requires fits { EntriesFit (kind_view inside.now) (members_view members.entries) }
     ensures { IfOk result (λ cs. AreNamed (entry_places (kind_view inside.now) (members_view members.entries)) cs.items) }
 {
-    let mut children = Vec::new(alloc);
+    let mut children = Vec::with_capacity(alloc, members.len())?;
     for (name, member) in members.into_entries() {
         let child = tree_of(alloc, inside, member)?;
         let name = SmallText::from_string(alloc, name)?;

@@ -44,7 +44,7 @@ write_members-loop-key-preserved t c =
     record {
       text =
           member-written l.text.items l.is_later (string_bytes e.0) (view e.1) (members_view left) c.in_ok-push_comma.ensures
-          (c.in_ok-push_quoted.ensures ∙ ap (λ n. c.push_comma.new.text.items ++ quoted n) c.as_str.ensures.value) c.in_ok-push.ensures.items written.text
+          (c.in_ok-push_string.ensures ∙ ap (λ n. c.push_comma.new.text.items ++ quoted n) c.as_str.ensures.value) c.in_ok-push.ensures.items written.text
           ∙ ap (λ ys. l.text.items ++ compact_members l.is_later (members_view ys)) (sym here) ∙ l.invariant.text;
       narrow = rw more (members_narrow-push done e l.invariant.narrow written.narrow);
       texts = rw more (members_have_utf8-push done e l.invariant.texts written.texts);

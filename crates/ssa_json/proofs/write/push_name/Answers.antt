@@ -10,7 +10,7 @@ returns-clause-text c =
     let old = c.args.text.now.items in
     let comma = comma_if c.args.is_later in
     let name = quoted c.args.name.now in
-    c.in_ok-push.ensures.items ∙ ap (λ t. t ++ 58 ∷ []) (c.in_ok-push_quoted.ensures ∙ ap (λ t. t ++ name) c.in_ok-push_comma.ensures)
+    c.in_ok-push.ensures.items ∙ ap (λ t. t ++ 58 ∷ []) (c.in_ok-push_string.ensures ∙ ap (λ t. t ++ name) c.in_ok-push_comma.ensures)
     ∙ append_assoc (old ++ comma) name (58 ∷ []) ∙ append_assoc old comma (name ++ 58 ∷ [])
 
 pub returns-clause-utf8 : goal.returns-clause-utf8

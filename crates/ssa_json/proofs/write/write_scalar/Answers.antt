@@ -6,4 +6,4 @@ use Rattle.ssa_json.proofs.write.write_scalar.Goals as goal
 pub returns-in-Text-clause-texts : goal.returns-in-Text-clause-texts
 returns-in-Text-clause-texts c =
     let text = small_text_is_utf8 c.in-Text.string in
-    on_ok_weaker c.push_quoted.result (λ _. search (rules, text)) c.push_quoted.ensures
+    on_ok_weaker c.push_string.result (λ _. search (rules, text)) c.push_string.ensures

@@ -8,7 +8,7 @@ use Rattle.ssa_merge.specs.Managers.{key_view, entry_view, table_view}
 use Rattle.ssa_merge.proofs.GivenUp.{twice}
 use Rattle.ssa_merge.proofs.HeldAbove.{unheld, unheld-nobody, unheld-none, unheld-other, unheld-own}
 use Rattle.ssa_merge.proofs.given_up.unneeded.Goals as goal
-use Rattle.ssa_merge.proofs.given_up.unneeded.Goals.{then-not-is_same+in_ok-free-2, else-not-is_same}
+use Rattle.ssa_merge.proofs.given_up.unneeded.Goals.{then-not-is_same, else-not-is_same}
 
 pub loop-entry-init : goal.loop-entry-init
 loop-entry-init c =
@@ -26,9 +26,9 @@ loop-entry-preserved c =
     let one : unheld free (table_view (drop i c.args.table.now)) a ≡ unheld free (entry_view e ∷ rest) a =
     ap (λ es. unheld free (table_view es) a) (left-at c.args.table.now i e c.loop-entry-test.true c.entry-item.is) in
     let more : unheld free (entry_view e ∷ rest) a ≡ unheld c.if-not-is_same.free rest a = elim c.if-not-is_same.branch [
-      | then-not-is_same+in_ok-free-2 w ↦
+      | then-not-is_same w ↦
           unheld-other free (entry_view e) rest a (sym c.is_same.ensures ∙ w.if-not-is_same.true)
-          ∙ ap (λ s. unheld s rest a) (sym w.in_ok-free-2.ensures ∙ sym w.free-is)
+          ∙ ap (λ s. unheld s rest a) (sym w.remove_over.ensures ∙ sym w.free-is)
       | else-not-is_same w ↦
           unheld-own free (entry_view e) rest a (sym c.is_same.ensures ∙ w.if-not-is_same.false) ∙ ap (λ s. unheld s rest a) (sym w.free-is)
     ] in

@@ -3,8 +3,8 @@ use Rattle.std.specs.Ordering.{nat_cmp}
 use Rattle.std.proofs.lemmas.Iterator.{YieldsList-from_slice}
 use Rattle.std.proofs.lemmas.Iterator.Consumers.{YieldsList-from_chain, YieldsList-at}
 use Rattle.std.proofs.lemmas.Iterator.Search.{cmp_from_yields_List}
+use Rattle.ssa_json.proofs.Printing.{written-is}
 use Rattle.ssa_path.proofs.Parts.{text_cmp}
-use Rattle.ssa_path.proofs.Numbers.{written-is}
 use Rattle.ssa_path.proofs.order.order_numbers.Goals as goal
 
 pub returns : goal.returns
