@@ -73,11 +73,11 @@ fn push_applied(
     ensures of_program { OnOk result (IsOfProgram (label_json (applied who.now force at.now))) }
 {
     let time = at.to_text(alloc)?;
-    let force = Json::Scalar(Scalar::Bool(force));
+    let forced = Json::Scalar(Scalar::Bool(force));
     text.push(b'{')?;
     push_text_member(text, false, "at", time.as_str())?;
     push_text_member(text, true, "do", "apply")?;
-    push_member(text, true, "force", &force)?;
+    push_member(text, true, "force", &forced)?;
     push_text_member(text, true, "manager", who)?;
     text.push(b'}')?;
     Ok(())

@@ -14,7 +14,7 @@ ghost use Rattle.ssa_turn_state.specs.States.{HasStateRoom, IsTaken, state_steps
 use crate::live_state::StateDelta;
 use ssa_json::members::put_member;
 use ssa_json::value::Json;
-use ssa_json::write::push_member;
+use ssa_json::write::{push_member, push_name};
 use ssa_members::Members;
 use std::alloc::{AllocError, Global};
 
@@ -38,7 +38,7 @@ impl StateDelta {
     /// Appends the compact text of the record's value, for objects of this `apiVersion`. Where memory runs out, part of
     /// it may stand there.
     ///
-    /// The members are written one after the other, and the value of each is dropped before the next is made.
+    /// The members are written one after the other. Where a value is made of one, it is dropped before the next is made.
     pub fn push_text(
         &self,
         alloc: Global,
@@ -53,7 +53,8 @@ impl StateDelta {
             → IsOfProgram (record_json (text_json version.now) kind (state_steps self.now))) }
     {
         text.push(b'{')?;
-        push_member(text, false, "changed", &self.table.changed_to_json(alloc)?)?;
+        push_name(text, false, "changed")?;
+        self.table.push_changed(alloc, text)?;
         push_member(text, true, "cut", &self.body.cut_to_json(alloc)?)?;
         push_member(text, true, "gone", &self.table.gone_to_json(alloc)?)?;
         push_member(text, true, "here", &self.table.here_to_json(alloc, version)?)?;

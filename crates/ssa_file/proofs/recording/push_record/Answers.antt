@@ -1,20 +1,17 @@
 -- The line of a record of the history is that of its step.
-use Rattle.std.proofs.Common.{◌≡◌, [], ◌∷◌, ◌++◌, ap, subst, ◌∙◌, append_assoc}
+use Rattle.std.proofs.Common.{◌++◌, ap, subst, ◌∙◌}
 use Rattle.ssa_model.specs.definitions.BenchText.{line}
 use Rattle.ssa_model.specs.definitions.HistoryRecords.{kept_from, kept_to}
-use Rattle.ssa_model.specs.definitions.Json.{Json, Text, compact}
+use Rattle.ssa_model.specs.definitions.RecordedBench.{record_line}
 use Rattle.ssa_json.specs.Writable.{IsOfProgram}
 use Rattle.ssa_turn.specs.Histories.{label_view}
 use Rattle.ssa_turn_state.specs.States.{state_steps}
-use Rattle.ssa_file.specs.Saving.{CannotHold}
+use Rattle.ssa_file.specs.Saving.{CannotHold, bench_with}
+use Rattle.ssa_file.proofs.LineTexts.{line-ended}
 use Rattle.ssa_file.proofs.RecordingFacts.{kept-is, kept-takes}
 use Rattle.ssa_file.proofs.Walking.{if-err, step-there}
 use Rattle.ssa_file.proofs.recording.push_record.Goals as goal
 use Rattle.std.proofs.lemmas.Result.{on_ok_weaker as on-ok}
-
--- a value with a line feed behind it is its line
-line-ended : (before : Text) {mid : Text} (v : Json) {w : Json} → mid ≡ before ++ compact v → v ≡ w → mid ++ 10 ∷ [] ≡ before ++ line w
-line-ended before v is same = ap (λ t. t ++ 10 ∷ []) is ∙ append_assoc before (compact v) (10 ∷ []) ∙ ap (λ v. before ++ line v) same
 
 pub push_step-requires-clause-taken : goal.push_step-requires-clause-taken
 push_step-requires-clause-taken c =
@@ -33,10 +30,11 @@ returns-clause-ok c =
     let n = c.args.n in
     let steps = state_steps c.in-Some.entry.0.now in
     let label = label_view c.in-Some.entry.1.now in
+    let made = record_line (bench_with c.args.schema.now c.args.identity.now t) label (kept_from t n) (kept_to t n) in
     on-ok c.end_line.result
-    (λ h s here. h ∙ line-ended c.args.text.now.items _
+    (λ h s here. h ∙ line-ended c.args.text.now.items made
     (c.in_ok-push_step.ensures.text t (kept_from t n) (kept_to t n) (kept-takes c.args.schema.now.kind t n s steps c.requires.valid here c.in-Some.ensures.steps))
-    (kept-is c.args.schema.now c.args.identity.now t n s label here c.in-Some.ensures.command))
+    ∙ ap (λ v. c.args.text.now.items ++ line v) (kept-is c.args.schema.now c.args.identity.now t n s label here c.in-Some.ensures.command))
     c.end_line.ensures.ok
 
 pub returns-clause-of_program : goal.returns-clause-of_program
@@ -57,9 +55,10 @@ returns-clause-refused c =
     let n = c.args.n in
     let steps = state_steps c.in-Some.entry.0.now in
     let label = label_view c.in-Some.entry.1.now in
+    let made = record_line (bench_with c.args.schema.now c.args.identity.now t) label (kept_from t n) (kept_to t n) in
     if-err c.end_line.result _ _
-    (λ f h s here. subst (CannotHold f) (line-ended c.args.text.now.items _
+    (λ f h s here. subst (CannotHold f) (line-ended c.args.text.now.items made
     (c.in_ok-push_step.ensures.text t (kept_from t n) (kept_to t n) (kept-takes c.args.schema.now.kind t n s steps c.requires.valid here c.in-Some.ensures.steps))
-    (kept-is c.args.schema.now c.args.identity.now t n s label here c.in-Some.ensures.command))
+    ∙ ap (λ v. c.args.text.now.items ++ line v) (kept-is c.args.schema.now c.args.identity.now t n s label here c.in-Some.ensures.command))
     h)
     c.end_line.ensures.refused
