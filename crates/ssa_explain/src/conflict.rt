@@ -52,12 +52,7 @@ fn part_at<'a>(value: &'a Json, element: &Elem) -> Option<&'a Json> {
 }
 
 // Appends the value at a path of an object.
-fn push_value_at(
-    alloc: Global,
-    text: &mut Vec<u8>,
-    object: &Json,
-    path: &Path,
-) -> Result<(), AllocError> {
+fn push_value_at(text: &mut Vec<u8>, object: &Json, path: &Path) -> Result<(), AllocError> {
     let mut here = object;
     for element in path.elements() {
         let Some(part) = part_at(here, element) else {
@@ -65,7 +60,7 @@ fn push_value_at(
         };
         here = part;
     }
-    push_value(alloc, text, here)
+    push_value(text, here)
 }
 
 // Appends the line of a field: who owns it, where it is, and both values.
@@ -82,13 +77,13 @@ fn push_field(
         push_element(alloc, text, element)?;
     }
     text.extend_from_slice(b" is ")?;
-    push_value_at(alloc, text, live, path)?;
+    push_value_at(text, live, path)?;
     text.extend_from_slice(b" by ")?;
     text.extend_from_slice(manager.name.as_bytes())?;
     text.extend_from_slice(b" (")?;
     text.extend_from_slice(manager.operation.text().as_bytes())?;
     text.extend_from_slice(b"), configured as ")?;
-    push_value_at(alloc, text, configured, path)?;
+    push_value_at(text, configured, path)?;
     text.push(b'\n')?;
     Ok(())
 }

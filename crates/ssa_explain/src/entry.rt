@@ -51,7 +51,7 @@ pub fn push_refused_entry(
 ) -> Result<(), AllocError> {
     let version = version_of(alloc, &object)?;
     let (value, entries) = file_parts(object);
-    push_members(alloc, text, &["metadata", "managedFields"])?;
+    push_members(text, &["metadata", "managedFields"])?;
     let Some(Json::List(items)) = entries else {
         return Ok(());
     };

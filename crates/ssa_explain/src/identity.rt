@@ -2,7 +2,7 @@
 
 use crate::way::{push_members, push_value};
 use ssa_json::value::Json;
-use std::alloc::{AllocError, Global};
+use std::alloc::AllocError;
 
 // The parts of an identity, in the order in which they are looked at.
 const PARTS: [&[&str]; 4] = [
@@ -45,45 +45,36 @@ fn are_same(part: Option<&Json>, other: Option<&Json>) -> bool {
 }
 
 // Appends a part that may be missing.
-fn push_part(alloc: Global, text: &mut Vec<u8>, part: Option<&Json>) -> Result<(), AllocError> {
+fn push_part(text: &mut Vec<u8>, part: Option<&Json>) -> Result<(), AllocError> {
     match part {
-        Some(value) => push_value(alloc, text, value),
+        Some(value) => push_value(text, value),
         None => text.extend_from_slice(b"missing"),
     }
 }
 
 /// Appends which part of the object's identity is missing, empty or no text.
-pub fn push_missing_part(
-    alloc: Global,
-    text: &mut Vec<u8>,
-    object: &Json,
-) -> Result<(), AllocError> {
+pub fn push_missing_part(text: &mut Vec<u8>, object: &Json) -> Result<(), AllocError> {
     for names in PARTS {
         let part = part_of(object, names);
         if !is_part(part, names) {
-            push_members(alloc, text, names)?;
+            push_members(text, names)?;
             text.extend_from_slice(b" is ")?;
-            return push_part(alloc, text, part);
+            return push_part(text, part);
         }
     }
     Ok(())
 }
 
 /// Appends which part of the object's identity is another than that of the object that is held.
-pub fn push_other_part(
-    alloc: Global,
-    text: &mut Vec<u8>,
-    object: &Json,
-    held: &Json,
-) -> Result<(), AllocError> {
+pub fn push_other_part(text: &mut Vec<u8>, object: &Json, held: &Json) -> Result<(), AllocError> {
     for names in PARTS {
         let (part, other) = (part_of(object, names), part_of(held, names));
         if !are_same(part, other) {
-            push_members(alloc, text, names)?;
+            push_members(text, names)?;
             text.extend_from_slice(b" is ")?;
-            push_part(alloc, text, part)?;
+            push_part(text, part)?;
             text.extend_from_slice(b", in the bench ")?;
-            return push_part(alloc, text, other);
+            return push_part(text, other);
         }
     }
     Ok(())

@@ -40,7 +40,7 @@ fn steps_in_members(
     for (name, member) in members.iter() {
         if let Some(mut steps) = steps_to_unread(alloc, member)? {
             let mut step = Vec::new(alloc);
-            push_member(alloc, &mut step, name.as_str())?;
+            push_member(&mut step, name.as_str())?;
             steps.push(step)?;
             return Ok(Some(steps));
         }

@@ -6,7 +6,7 @@
 //!
 //! ```
 //! let mut text = Vec::new(rt.alloc());
-//! push_members(rt.alloc(), &mut text, &["spec", "a key"])?;
+//! push_members(&mut text, &["spec", "a key"])?;
 //! assert_eq!(rt; text.as_slice(), br#".spec["a key"]"#.as_slice());
 //! ```
 #![tactic(auto)]

@@ -17,23 +17,23 @@ fn is_plain(name: &str) -> bool {
 }
 
 /// Appends a value as compact JSON.
-pub fn push_value(alloc: Global, text: &mut Vec<u8>, value: &Json) -> Result<(), AllocError> {
-    value.push_text(alloc, text)
+pub fn push_value(text: &mut Vec<u8>, value: &Json) -> Result<(), AllocError> {
+    value.push_text(text)
 }
 
 // Appends a scalar as compact JSON.
 fn push_scalar(alloc: Global, text: &mut Vec<u8>, scalar: &Scalar) -> Result<(), AllocError> {
-    push_value(alloc, text, &Json::Scalar(scalar.copy(alloc)?))
+    push_value(text, &Json::Scalar(scalar.copy(alloc)?))
 }
 
 /// Appends the step to a member: `.name`, or `["a name"]`.
-pub fn push_member(alloc: Global, text: &mut Vec<u8>, name: &str) -> Result<(), AllocError> {
+pub fn push_member(text: &mut Vec<u8>, name: &str) -> Result<(), AllocError> {
     if is_plain(name) {
         text.push(b'.')?;
         return text.extend_from_slice(name.as_bytes());
     }
     text.push(b'[')?;
-    push_quoted(alloc, text, name)?;
+    push_quoted(text, name)?;
     text.push(b']')?;
     Ok(())
 }
@@ -45,9 +45,9 @@ pub fn push_place(alloc: Global, text: &mut Vec<u8>, place: usize) -> Result<(),
 }
 
 /// Appends the steps to members inside one another.
-pub fn push_members(alloc: Global, text: &mut Vec<u8>, names: &[&str]) -> Result<(), AllocError> {
+pub fn push_members(text: &mut Vec<u8>, names: &[&str]) -> Result<(), AllocError> {
     for name in names {
-        push_member(alloc, text, name)?;
+        push_member(text, name)?;
     }
     Ok(())
 }
@@ -69,7 +69,7 @@ fn push_keys(alloc: Global, text: &mut Vec<u8>, keys: &Keys) -> Result<(), Alloc
 /// Appends the step that an element of a path is; the item of a set is `[="a"]`.
 pub fn push_element(alloc: Global, text: &mut Vec<u8>, element: &Elem) -> Result<(), AllocError> {
     match element {
-        Elem::Field(name) => push_member(alloc, text, name.as_str()),
+        Elem::Field(name) => push_member(text, name.as_str()),
         Elem::Key(keys) => push_keys(alloc, text, keys),
         Elem::Value(value) => {
             text.extend_from_slice(b"[=")?;

@@ -158,9 +158,9 @@ fn opening_text(
     let head = record_head(alloc, history.past_len(), history.future_len())?;
     let present = object_of_state(alloc, identity, schema, true, history.present())?;
     let mut text = Vec::new(alloc);
-    push_line(alloc, &mut text, &head)?;
-    push_line(alloc, &mut text, schema.json())?;
-    push_line(alloc, &mut text, &present)?;
+    push_line(&mut text, &head)?;
+    push_line(&mut text, schema.json())?;
+    push_line(&mut text, &present)?;
     Ok(text)
 }
 

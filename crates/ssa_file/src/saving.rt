@@ -80,14 +80,14 @@ pub(crate) fn end_line(text: &mut Vec<u8>) -> Result<(), SaveFault>
 }
 
 // Appends a value's line, where the text then has no more bytes than a file may have.
-pub(crate) fn push_line(alloc: Global, text: &mut Vec<u8>, value: &Json) -> Result<(), SaveFault>
+pub(crate) fn push_line(text: &mut Vec<u8>, value: &Json) -> Result<(), SaveFault>
     requires { length text.old.items ≤ most_bench_bytes }
     ensures ok { OnOk result (text.new.items ≡ text.old.items ++ line (view value.now)) }
     ensures fits { OnOk result (length text.new.items ≤ most_bench_bytes) }
     ensures of_program { OnOk result (IsOfProgram (view value.now)) }
     ensures refused { IfErr result (λ f. CannotHold f (text.old.items ++ line (view value.now))) }
 {
-    value.push_text(alloc, text)?;
+    value.push_text(text)?;
     end_line(text)
 }
 

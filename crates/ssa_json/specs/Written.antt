@@ -1,6 +1,5 @@
 -- What a value is written as.
 use Rattle.std.specs.Prelude.{◌≡◌, ℕ, ◌<◌, ℤ, pos, negsuc, ◌^◌, List, Bool, true, ◌&&◌, nat_lt}
-use Rattle.std.specs.Fmt as fmt
 use Rattle.json.specs.Token.{Token}
 use Rattle.json.specs.Tree as tree
 use Rattle.serde_json.specs.Data as json
@@ -56,7 +55,3 @@ abbrev mutual
   pub members_narrow : model.Members → Bool
   members_narrow model.no_members = true
   members_narrow (model.member k v ms) = is_narrow v && members_narrow ms
-
--- a number that fits in 64 bits is printed in the digits of its decimal writing
-abbrev pub DecimalsArePrinted : Type 0
-DecimalsArePrinted = (n : ℕ) → n < 2 ^ 64 → fmt.decimal n ≡ model.decimal n

@@ -80,10 +80,10 @@ fn are_many_plain(text: &[u8]) -> bool
     are_sixteen_plain(text, text.len() - 16)
 }
 
-// Whether a text stands between quotes as it is. Its callers need to know only that it does where this says so: the other
-// way is as right, and slower.
+/// Whether a text stands between quotes as it is. Its callers need to know only that it does where this says so: the other
+/// way is as right, and slower.
 #[inline(always)]
-pub(crate) fn has_no_escapes(text: &[u8]) -> bool
+pub fn has_no_escapes(text: &[u8]) -> bool
     ensures { OnTrue result (PlainBetween text.now 0 (length text.now)) }
 {
     let len = text.len();

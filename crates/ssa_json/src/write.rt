@@ -8,7 +8,7 @@ ghost use Rattle.ssa_json.specs.MemberTexts.{member_text, name_text};
 ghost use Rattle.ssa_json.specs.Reading.{json_reading};
 ghost use Rattle.ssa_json.specs.View.{view, scalar_view, items_view, members_view};
 ghost use Rattle.ssa_json.specs.Writable.{CompactIsRead, IsOfProgram, depth, has_rising_names, has_utf8, is_utf8_scalar, items_have_rising_names, items_have_utf8, max_depth, members_have_utf8, members_rise};
-ghost use Rattle.ssa_json.specs.Written.{DecimalsArePrinted, is_narrow, is_narrow_scalar, is_narrow_whole, items_narrow, members_narrow};
+ghost use Rattle.ssa_json.specs.Written.{is_narrow, is_narrow_scalar, is_narrow_whole, items_narrow, members_narrow};
 
 use crate::quotes::{has_no_escapes, push_escaped};
 use crate::value::{Json, Scalar};
@@ -30,13 +30,13 @@ impl Json {
         ensures of_program { OnOk result (IsOfProgram (view self.now)) }
     {
         let mut text = Vec::with_capacity(alloc, FIRST_ROOM)?;
-        self.push_text(alloc, &mut text)?;
+        self.push_text(&mut text)?;
         Ok(text)
     }
 
     /// Appends the compact spelling to a text. It takes no memory but the text's; where that runs out, part of the spelling
     /// may stand there.
-    pub fn push_text(&self, _alloc: Global, text: &mut Vec<u8>) -> Result<(), AllocError>
+    pub fn push_text(&self, text: &mut Vec<u8>) -> Result<(), AllocError>
         ensures text { OnOk result (text.new.items ≡ text.old.items ++ compact (view self.now)) }
         ensures of_program { OnOk result (IsOfProgram (view self.now)) }
     {
@@ -56,7 +56,7 @@ impl Json {
 
 /// Appends a string in quotes, with the escapes that it needs, to a text. It takes no memory but the text's; where that
 /// runs out, part of the string may stand there.
-pub fn push_quoted(_alloc: Global, text: &mut Vec<u8>, string: &str) -> Result<(), AllocError>
+pub fn push_quoted(text: &mut Vec<u8>, string: &str) -> Result<(), AllocError>
     ensures { OnOk result (text.new.items ≡ text.old.items ++ quoted string.now) }
 {
     push_string(text, string)
@@ -117,11 +117,6 @@ pub fn push_text_member(
 /// UTF-8, the names of its members rise, and it nests at most 127 deep.
 pub fn compact_is_read()
     ensures { CompactIsRead }
-{}
-
-/// A number of at most 64 bits is printed by `format!` as JSON writes it.
-pub fn decimals_are_printed()
-    ensures { DecimalsArePrinted }
 {}
 
 // Appends a string in quotes, with the escapes that it needs.

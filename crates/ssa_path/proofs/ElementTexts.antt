@@ -6,17 +6,18 @@ use Rattle.std.proofs.lemmas.Bool.{and_parts}
 use Rattle.std.proofs.lemmas.Str.Ascii.{IsAscii-nil, IsAscii-cons}
 use Rattle.std.proofs.lemmas.Str.{IsUtf8-append, IsUtf8-from_ascii, IsUtf8-from_is_utf8, is_utf8-from_IsUtf8}
 use Rattle.ssa_model.specs.definitions.Json.{Text, text, Json, object, same_text, comma_if, quoted, compact, compact_members, scalar_text}
+use Rattle.ssa_model.specs.definitions.Entries.{text_json}
 use Rattle.ssa_model.specs.definitions.Path.{Element, field, key, value, key_members, element_text}
 use Rattle.ssa_model.specs.definitions.Readings.{ReadFault, not_json}
 use Rattle.ssa_model.specs.definitions.ElementTexts.{ElementFault, bad_element, not_canonical, element_of, key_element, value_element}
 use Rattle.ssa_json.specs.Reading.{json_reading}
-use Rattle.ssa_json.specs.Writable.{has_utf8, is_utf8_scalar, members_have_utf8}
+use Rattle.ssa_json.specs.Writable.{IsOfProgram, has_utf8, is_utf8_scalar, members_have_utf8}
 use Rattle.ssa_json.specs.Written.{is_narrow_scalar, members_narrow}
 use Rattle.ssa_json.proofs.ReadingBack.{IsUtf8-scalar as scalar_is_utf8, IsUtf8-comma as comma_is_utf8}
 use Rattle.ssa_json.proofs.Converting.{json_reading-none}
 use Rattle.ssa_path.specs.Keys.{Members, members_view}
-use Rattle.ssa_path.specs.OwnText.{element_json}
-use Rattle.ssa_path.proofs.OwnTexts.{texts-are-utf8}
+use Rattle.ssa_path.specs.OwnText.{element_json, IsElementOfProgram}
+use Rattle.ssa_path.proofs.OwnTexts.{own-text-is-read, texts-are-utf8}
 use Rattle.ssa_path.proofs.Texts.{Fields}
 
 other_bytes : (u : Text) → is_utf8 u ≡ false → json_reading u ≡ Err not_json
@@ -51,9 +52,18 @@ element_text-is-utf8 (value s) texts is =
     (IsUtf8-from_is_utf8 u (read_utf8 u (value s) (λ r. elim (value_element r)
     [ None ↦ Err bad_element | Some e ↦ (if same_text (element_text e) (codes "v:" ++ u) then Ok e else Err not_canonical) ]) refl is))
 
+-- the own text of an element of the program is a value of the program
+pub text-of-program : (e : Element) → IsElementOfProgram e → IsOfProgram (text_json (element_text e))
+text-of-program e own = record {
+  narrow = refl;
+  texts = is_utf8-from_IsUtf8 (element_text e) (element_text-is-utf8 e own.texts (own-text-is-read e own));
+  names = refl;
+}
+
 -- ---- key fields
 
-one_ascii : (a : ℕ) → a < 128 → IsUtf8 (a ∷ [])
+-- one character of ASCII is UTF-8
+pub one_ascii : (a : ℕ) → a < 128 → IsUtf8 (a ∷ [])
 one_ascii a small = IsUtf8-from_ascii (a ∷ []) (IsAscii-cons a [] small IsAscii-nil)
 
 members_are_utf8 : (later : Bool) (ks : Members) → members_narrow (key_members ks) ≡ true → members_have_utf8 (key_members ks) ≡ true

@@ -4,7 +4,7 @@ use Rattle.ssa_model.specs.definitions.Json.{Json, scalar, list, object, Members
 use Rattle.ssa_model.specs.definitions.Path.{Path, element_text}
 use Rattle.ssa_model.specs.definitions.ElementTexts.{element_of}
 use Rattle.ssa_model.specs.definitions.PathMap.{PathSet, listed}
-use Rattle.ssa_model.specs.definitions.FieldsV1.{is_place_alone, nothing_written, dot_alone, is_no_object, IsCanonical, AreCanonical, is_nothing_inside, fields_faults, member_faults, said_paths, member_paths, said_set}
+use Rattle.ssa_model.specs.definitions.FieldsV1.{dot_alone, is_no_object, IsCanonical, AreCanonical, is_nothing_inside, fields_faults, member_faults, said_paths, member_paths, said_set}
 use Rattle.ssa_model.proofs.SaidSets.{no-dot}
 use Rattle.ssa_json.specs.Reading.{json_reading}
 use Rattle.ssa_path.specs.FieldsBack.{AreReadBack, IsReadBack}
@@ -17,7 +17,7 @@ use Rattle.ssa_path.specs.declared.element.Elem.{Elem}
 use Rattle.ssa_path.specs.declared.trie.Trie.{Trie}
 use Rattle.ssa_path.specs.declared.trie.Trie.TheViews.{out-Trie}
 use Rattle.ssa_path.proofs.FieldsLevels.{dotted, child_members, level-trie}
-use Rattle.ssa_path.proofs.FieldsMembers.{alone-place, more-than-place, not-dot}
+use Rattle.ssa_path.proofs.FieldsMembers.{alone-place, below-more, not-dot}
 use Rattle.ssa_path.proofs.FieldsReadings.{below-none, faults-dot, faults-child, element-right}
 use Rattle.ssa_path.proofs.FieldsSaid.{own-child}
 use Rattle.ssa_path.proofs.FieldsSays.{json-of-set, written-some}
@@ -48,11 +48,9 @@ place-back : (t : Trie) → is_trie t ≡ true → is_filled t ≡ true → has_
     → IsBackBelow (paths t) (below_json (paths t))
 place-back t h filled some back =
     let cs = (out-Trie t).below.items in
-    let more : is_place_alone (paths t) ≡ false = ap is_place_alone (paths-level t) ∙ more-than-place (out-Trie t).here cs some (trie-parts t _ refl h).1 in
-    let is : below_json (paths t) ≡ paths_json (paths t) = ap (λ b. cond b nothing_written (paths_json (paths t))) more in
     let other : paths_json (paths t) ≢ dot_alone = λ e. not-dot (out-Trie t).here cs some (sym (level-trie t h) ∙ e) in
     let inside : is_nothing_inside (paths_json (paths t)) ≡ false = sym (no-object-inside (paths_json (paths t))) ∙ written-some (paths t) filled in
-    subst (IsBackBelow (paths t)) (sym is)
+    subst (IsBackBelow (paths t)) (sym (below-more t h some))
     (record {
       no_fault = below-none (paths_json (paths t)) other back.no_fault;
       said = sym back.said ∙ ap (λ b. cond b ([] ∷ []) (said_paths json_reading (paths_json (paths t)))) (sym inside);

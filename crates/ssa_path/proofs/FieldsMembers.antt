@@ -144,7 +144,7 @@ alone-written ps v is written = record {
 }
 
 -- a place with children is not alone
-pub more-than-place : (b : Bool) (cs : List (Elem × Trie)) → has_some {A = Elem × Trie} cs ≡ true → are_filled_tries cs ≡ true
+more-than-place : (b : Bool) (cs : List (Elem × Trie)) → has_some {A = Elem × Trie} cs ≡ true → are_filled_tries cs ≡ true
     → is_place_alone (here_path b ++ paths_below cs) ≡ false
 more-than-place b [] some h = absurd (true≢false (sym some))
 more-than-place b (c ∷ cs) some h = by b (paths c.1) (both_second (is_trie c.1) _ (both_first (is_trie c.1 && is_filled c.1) _ h))
@@ -165,15 +165,19 @@ not-dot false (c ∷ cs) some e = let text : element_text (element_view c.0) ≡
     by (key ks) is = cc
     by (value s) is = cc
 
+-- a place with children is written as its paths are
+pub below-more : (t : Trie) → is_trie t ≡ true → has_some {A = Elem × Trie} (out-Trie t).below.items ≡ true → below_json (paths t) ≡ paths_json (paths t)
+below-more t h some =
+    ap (λ b. cond b nothing_written (paths_json (paths t)))
+    (ap is_place_alone (paths-level t) ∙ more-than-place (out-Trie t).here (out-Trie t).below.items some (trie-parts t _ refl h).1)
+
 -- the place is written with what is below it
 pub place-written : (t : Trie) (v : Json) → is_trie t ≡ true → has_some {A = Elem × Trie} (out-Trie t).below.items ≡ true → v ≡ paths_json (paths t)
     → IsCanonical v → IsWrittenBelow (paths t) v
 place-written t v h some is canonical =
-    let cs = (out-Trie t).below.items in
-    let more = ap is_place_alone (paths-level t) ∙ more-than-place (out-Trie t).here cs some (trie-parts t _ refl h).1 in
     record {
-      json = is ∙ ap (λ b. cond b nothing_written (paths_json (paths t))) (sym more);
-      not_dot = λ e. not-dot (out-Trie t).here cs some (sym (level-trie t h) ∙ sym is ∙ e);
+      json = is ∙ sym (below-more t h some);
+      not_dot = λ e. not-dot (out-Trie t).here (out-Trie t).below.items some (sym (level-trie t h) ∙ sym is ∙ e);
       canonical = canonical;
     }
 

@@ -25,8 +25,10 @@ pub mod FieldsReadings
 pub mod FieldsSaid
 pub mod FieldsSays
 pub mod FieldsBack
+pub mod FieldsTexts
 pub mod LyingWithin
 pub mod Kept
 pub mod TakingOut
 pub mod SortKeys
 pub mod LeadingTexts
+pub mod PathTexts

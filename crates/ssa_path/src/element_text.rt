@@ -88,10 +88,10 @@ fn push_scalar(alloc: Global, text: &mut Vec<u8>, scalar: &Scalar) -> Result<(),
     ensures narrow { OnOk result (is_narrow_scalar (scalar_view scalar.now) ≡ true) }
 {
     if let Scalar::Text(string) = scalar {
-        return push_quoted(alloc, text, string.as_str());
+        return push_quoted(text, string.as_str());
     }
     let value = Json::Scalar(scalar.copy(alloc)?);
-    value.push_text(alloc, text)
+    value.push_text(text)
 }
 
 // Appends a member, behind a comma where it is not the first.
@@ -108,7 +108,7 @@ fn push_member(
     if is_later {
         text.push(b',')?;
     }
-    push_quoted(alloc, text, name)?;
+    push_quoted(text, name)?;
     text.push(b':')?;
     push_scalar(alloc, text, scalar)
 }

@@ -114,7 +114,7 @@ fn schema_line(alloc: Global, name: &str, bytes: &[u8]) -> Result<Vec<u8>, Alloc
         text.extend_from_slice(b"the root")?;
     }
     for step in &place {
-        push_member(alloc, &mut text, step.as_str())?;
+        push_member(&mut text, step.as_str())?;
     }
     ended(text)
 }
@@ -145,7 +145,7 @@ fn object_line(
     };
     let mut text = begun(alloc, name)?;
     match fault {
-        Fault::Identity => push_missing_part(alloc, &mut text, &object)?,
+        Fault::Identity => push_missing_part(&mut text, &object)?,
         Fault::Entry(_) => match schema_of(alloc, schema) {
             Ok(schema) => push_refused_entry(alloc, &mut text, &schema, object)?,
             Err(_) => return Ok(Vec::new(alloc)),
@@ -224,7 +224,7 @@ fn refusal_lines(
     match fault {
         Fault::Identity => {
             let mut text = begun(alloc, name)?;
-            push_other_part(alloc, &mut text, &object, &held)?;
+            push_other_part(&mut text, &object, &held)?;
             ended(text)
         }
         Fault::Conflict(clashes) => {

@@ -15,7 +15,7 @@ fn ssa_words_example(rt: HostRuntime) -> Result<(), Fail> {
 #[test]
 fn ssa_explain_example(rt: HostRuntime) -> Result<(), Fail> {
     let mut text = Vec::new(rt.alloc());
-    push_members(rt.alloc(), &mut text, &["spec", "a key"])?;
+    push_members(&mut text, &["spec", "a key"])?;
     assert_eq!(rt; text.as_slice(), br#".spec["a key"]"#.as_slice());
     Ok(())
 }

@@ -6,10 +6,10 @@ ghost use Rattle.ssa_model.specs.definitions.Replies.{entry_fault_json};
 ghost use Rattle.ssa_session.specs.Replies.{entry_json};
 
 use crate::fault_line::{push_code, push_members};
-use crate::json_text::push_path;
 use ssa_json::fault_code::FaultCode;
 use ssa_merge::entry_fault::EntryFault;
 use ssa_path::path::Path;
+use ssa_path::path_text::push_path;
 use std::alloc::{AllocError, Global};
 
 // Appends the fault of an entry that owns the path, which nobody can own.

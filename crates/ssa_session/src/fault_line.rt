@@ -39,18 +39,13 @@ pub fn push_code(text: &mut Vec<u8>, code: FaultCode) -> Result<(), AllocError>
 }
 
 /// Appends a fault with a path, which is told by its elements' texts.
-pub fn push_code_at(
-    alloc: Global,
-    text: &mut Vec<u8>,
-    code: FaultCode,
-    path: &[String],
-) -> Result<(), AllocError>
+pub fn push_code_at(text: &mut Vec<u8>, code: FaultCode, path: &[String]) -> Result<(), AllocError>
     ensures { OnOk result (text.new.items ≡ text.old.items ++ compact (named_fault_json (code_view code) (names_view path.now))) }
 {
     text.push(b'{')?;
     push_members(text, code)?;
     text.extend_from_slice(b",\"path\":")?;
-    push_names(alloc, text, path)?;
+    push_names(text, path)?;
     text.push(b'}')?;
     Ok(())
 }

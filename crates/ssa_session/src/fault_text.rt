@@ -10,11 +10,13 @@ ghost use Rattle.ssa_session.specs.Replies.{bench_json, clashes_json, conflict_j
 
 use crate::entry_fault_text::push_entry_fault;
 use crate::fault_line::{push_code, push_code_at, push_members};
-use crate::json_text::{push_comma, push_paths, push_string};
+use crate::json_text::push_string;
 use ssa_bench::fault::Fault;
 use ssa_json::fault_code::FaultCode;
+use ssa_json::write::push_comma;
 use ssa_merge::manager::ManagerKey;
 use ssa_path::field_set::FieldSet;
+use ssa_path::path_text::push_paths;
 use ssa_schema::body_fault::BodyFault;
 use std::alloc::{AllocError, Global};
 
@@ -30,9 +32,9 @@ fn push_clash(
     text.extend_from_slice(b"{\"fields\":")?;
     push_paths(alloc, text, fields)?;
     text.extend_from_slice(b",\"manager\":")?;
-    push_string(alloc, text, manager.name.as_str())?;
+    push_string(text, manager.name.as_str())?;
     text.extend_from_slice(b",\"operation\":")?;
-    push_string(alloc, text, manager.operation.text())?;
+    push_string(text, manager.operation.text())?;
     text.push(b'}')?;
     Ok(())
 }
@@ -70,10 +72,10 @@ fn push_conflict(
     Ok(())
 }
 
-fn push_body_fault(alloc: Global, text: &mut Vec<u8>, fault: &BodyFault) -> Result<(), AllocError>
+fn push_body_fault(text: &mut Vec<u8>, fault: &BodyFault) -> Result<(), AllocError>
     ensures { OnOk result (text.new.items ≡ text.old.items ++ compact (told_json (told_view fault.now))) }
 {
-    push_code_at(alloc, text, fault.code(), fault.path())
+    push_code_at(text, fault.code(), fault.path())
 }
 
 // Appends the reply to a command that is refused.
@@ -81,7 +83,7 @@ fn push_fault(alloc: Global, text: &mut Vec<u8>, fault: &Fault) -> Result<(), Al
     ensures { OnOk result (text.new.items ≡ text.old.items ++ compact (bench_json fault.now)) }
 {
     match fault {
-        Fault::Body(fault) => push_body_fault(alloc, text, fault),
+        Fault::Body(fault) => push_body_fault(text, fault),
         Fault::Conflict(clashes) => push_conflict(alloc, text, clashes),
         Fault::Entry(fault) => push_entry_fault(alloc, text, fault),
         _ => push_code(text, fault.code()),

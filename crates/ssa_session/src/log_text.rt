@@ -5,7 +5,8 @@ ghost use Rattle.ssa_model.specs.definitions.Answers.{logged};
 ghost use Rattle.ssa_model.specs.definitions.Replies.{label_json, list_json, reply_json, reply_text};
 ghost use Rattle.ssa_turn.specs.Histories.{lent_labels};
 
-use crate::json_text::{push_comma, push_value};
+use crate::json_text::push_value;
+use ssa_json::write::push_comma;
 use ssa_turn::label::Label;
 use ssa_turn::timeline::Log;
 use std::alloc::{AllocError, Global};
@@ -38,7 +39,7 @@ fn push_labels(alloc: Global, text: &mut Vec<u8>, labels: &[&Label]) -> Result<(
     let mut is_later = false;
     for label in labels {
         push_comma(text, is_later)?;
-        push_value(alloc, text, &label.to_json(alloc)?)?;
+        push_value(text, &label.to_json(alloc)?)?;
         is_later = true;
     }
     text.push(b']')?;

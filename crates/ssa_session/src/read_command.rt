@@ -147,10 +147,7 @@ struct Request {
 }
 
 // Takes the request out of the members, where its moment is one.
-fn take_request(
-    alloc: Global,
-    members: &mut Members<Json>,
-) -> Result<Option<Request>, AllocError>
+fn take_request(alloc: Global, members: &mut Members<Json>) -> Result<Option<Request>, AllocError>
     requires { HasRequest (members_view members.old.entries) }
     ensures { IfOk result (λ request. Requests request (members_view members.old.entries)) }
 {

@@ -8,11 +8,13 @@ ghost use Rattle.ssa_json.specs.View.{view};
 ghost use Rattle.ssa_merge.specs.Managers.{key_view, lent_keys};
 ghost use Rattle.ssa_bench.specs.Benches.{changed_view};
 
-use crate::json_text::{push_comma, push_number, push_paths, push_string, push_value};
+use crate::json_text::{push_number, push_string, push_value};
 use ssa_bench::bench::Bench;
 use ssa_bench::prepared::Changed;
 use ssa_json::value::Json;
+use ssa_json::write::push_comma;
 use ssa_merge::manager::ManagerKey;
+use ssa_path::path_text::push_paths;
 use std::alloc::{AllocError, Global};
 
 // The bytes that a reply has room for from the start, which most replies need.
@@ -37,7 +39,7 @@ pub fn moved_text(
     ensures { IfOk result (λ text. text.items ≡ reply_text (model.moved word.now past future)) }
 {
     let mut text = Vec::with_capacity(alloc, FIRST_ROOM)?;
-    push_moved(alloc, &mut text, word, past, future)?;
+    push_moved(&mut text, word, past, future)?;
     Ok(text)
 }
 
@@ -46,7 +48,7 @@ pub fn shown_text(alloc: Global, object: &Json) -> Result<Vec<u8>, AllocError>
     ensures { IfOk result (λ text. text.items ≡ reply_text (model.shown (view object.now))) }
 {
     let mut text = Vec::new(alloc);
-    push_shown(alloc, &mut text, object)?;
+    push_shown(&mut text, object)?;
     Ok(text)
 }
 
@@ -55,7 +57,7 @@ pub fn owners_text(alloc: Global, owners: &[&ManagerKey]) -> Result<Vec<u8>, All
     ensures { IfOk result (λ text. text.items ≡ reply_text (model.owned_by (lent_keys owners.now))) }
 {
     let mut text = Vec::new(alloc);
-    push_owners(alloc, &mut text, owners)?;
+    push_owners(&mut text, owners)?;
     Ok(text)
 }
 
@@ -64,18 +66,18 @@ pub fn init_text(alloc: Global, bench: &Bench) -> Result<Vec<u8>, AllocError>
     ensures { IfOk result (λ text. text.items ≡ init_text bench.now) }
 {
     let mut text = Vec::new(alloc);
-    push_init(alloc, &mut text, bench)?;
+    push_init(&mut text, bench)?;
     Ok(text)
 }
 
-fn push_init(alloc: Global, text: &mut Vec<u8>, bench: &Bench) -> Result<(), AllocError>
+fn push_init(text: &mut Vec<u8>, bench: &Bench) -> Result<(), AllocError>
     ensures { OnOk result (text.new.items ≡ text.old.items ++ compact (init_json bench.now)) }
 {
     let (managers, paths) = bench.counts();
     text.extend_from_slice(b"{\"done\":\"init\",\"managers\":")?;
-    push_number(alloc, text, managers)?;
+    push_number(text, managers)?;
     text.extend_from_slice(b",\"paths\":")?;
-    push_number(alloc, text, paths)?;
+    push_number(text, paths)?;
     text.push(b'}')?;
     Ok(())
 }
@@ -91,9 +93,9 @@ fn push_changed(
     text.extend_from_slice(b"{\"added\":")?;
     push_paths(alloc, text, &changed.added)?;
     text.extend_from_slice(b",\"done\":")?;
-    push_string(alloc, text, word)?;
+    push_string(text, word)?;
     text.extend_from_slice(b",\"managers\":")?;
-    push_number(alloc, text, changed.managers)?;
+    push_number(text, changed.managers)?;
     text.extend_from_slice(b",\"modified\":")?;
     push_paths(alloc, text, &changed.modified)?;
     text.extend_from_slice(b",\"removed\":")?;
@@ -102,70 +104,60 @@ fn push_changed(
     Ok(())
 }
 
-fn push_moved(
-    alloc: Global,
-    text: &mut Vec<u8>,
-    word: &str,
-    past: usize,
-    future: usize,
-) -> Result<(), AllocError>
+fn push_moved(text: &mut Vec<u8>, word: &str, past: usize, future: usize) -> Result<(), AllocError>
     ensures { OnOk result (text.new.items ≡ text.old.items ++ compact (moved_json word.now past future)) }
 {
     text.extend_from_slice(b"{\"done\":")?;
-    push_string(alloc, text, word)?;
+    push_string(text, word)?;
     text.extend_from_slice(b",\"future\":")?;
-    push_number(alloc, text, future)?;
+    push_number(text, future)?;
     text.extend_from_slice(b",\"past\":")?;
-    push_number(alloc, text, past)?;
+    push_number(text, past)?;
     text.push(b'}')?;
     Ok(())
 }
 
-fn push_shown(alloc: Global, text: &mut Vec<u8>, object: &Json) -> Result<(), AllocError>
+fn push_shown(text: &mut Vec<u8>, object: &Json) -> Result<(), AllocError>
     ensures { OnOk result (text.new.items ≡ text.old.items ++ compact (reply_json (model.shown (view object.now)))) }
 {
     text.extend_from_slice(b"{\"done\":\"show\",\"object\":")?;
-    push_value(alloc, text, object)?;
+    push_value(text, object)?;
     text.push(b'}')?;
     Ok(())
 }
 
 // Appends a manager, as `{"manager":"kubectl","operation":"Apply"}`.
-fn push_manager(alloc: Global, text: &mut Vec<u8>, manager: &ManagerKey) -> Result<(), AllocError>
+fn push_manager(text: &mut Vec<u8>, manager: &ManagerKey) -> Result<(), AllocError>
     ensures { OnOk result (text.new.items ≡ text.old.items ++ compact (key_json (key_view manager.now))) }
 {
     text.extend_from_slice(b"{\"manager\":")?;
-    push_string(alloc, text, manager.name.as_str())?;
+    push_string(text, manager.name.as_str())?;
     text.extend_from_slice(b",\"operation\":")?;
-    push_string(alloc, text, manager.operation.text())?;
+    push_string(text, manager.operation.text())?;
     text.push(b'}')?;
     Ok(())
 }
 
 // Appends the managers as a list.
-fn push_managers(
-    alloc: Global,
-    text: &mut Vec<u8>,
-    managers: &[&ManagerKey],
-) -> Result<(), AllocError>
+fn push_managers(text: &mut Vec<u8>, managers: &[&ManagerKey]) -> Result<(), AllocError>
     ensures { OnOk result (text.new.items ≡ text.old.items ++ compact (list_json key_json (lent_keys managers.now))) }
 {
     text.push(b'[')?;
     let mut is_later = false;
     for manager in managers {
         push_comma(text, is_later)?;
-        push_manager(alloc, text, manager)?;
+        push_manager(text, manager)?;
         is_later = true;
     }
     text.push(b']')?;
     Ok(())
 }
 
-fn push_owners(alloc: Global, text: &mut Vec<u8>, owners: &[&ManagerKey]) -> Result<(), AllocError>
+fn push_owners(text: &mut Vec<u8>, owners: &[&ManagerKey]) -> Result<(), AllocError>
     ensures { OnOk result (text.new.items ≡ text.old.items ++ compact (reply_json (model.owned_by (lent_keys owners.now)))) }
 {
     text.extend_from_slice(b"{\"done\":\"owners\",\"owners\":")?;
-    push_managers(alloc, text, owners)?;
+    push_managers(text, owners)?;
     text.push(b'}')?;
     Ok(())
 }

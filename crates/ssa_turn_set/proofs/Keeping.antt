@@ -1,7 +1,6 @@
 -- The children of a place while a set is taken out: those that have no path left still stand among the others.
-use Rattle.std.proofs.Common.{◌≡◌, suc, ◌+◌, ◌<◌, List, [], ◌∷◌, ◌++◌, length, get_or, set, drop, take, true, false, not, ◌&&◌, cond, refl, sym, ap, ◌∙◌, arith, subst, length-set, get_or-set_same}
+use Rattle.std.proofs.Common.{◌≡◌, suc, ◌+◌, ◌<◌, List, [], ◌∷◌, ◌++◌, length, get_or, set, drop, take, true, false, not, ◌&&◌, refl, sym, ap, ◌∙◌, arith, subst, length-set, get_or-set_same}
 use Rattle.std.proofs.lemmas.List.{length-append}
-use Rattle.std.proofs.lemmas.List.Elements.{filter-append}
 use Rattle.ssa_model.specs.definitions.FieldsV1.{tails}
 use Rattle.ssa_model.specs.definitions.Path.{Element, Path, same_element}
 use Rattle.ssa_path.specs.declared.element.Elem.{Elem}
@@ -9,35 +8,11 @@ use Rattle.ssa_path.specs.declared.trie.Trie.{Trie}
 use Rattle.ssa_path.specs.Children.{elements, rises}
 use Rattle.ssa_path.specs.View.{element_view}
 use Rattle.ssa_path.specs.Trie.{is_one_of, paths_after, paths_below, paths, is_trie, is_filled, are_filled_tries}
-use Rattle.ssa_path.proofs.Levels.{filled-is, some-none}
-use Rattle.ssa_path.proofs.Orders.{both_first, both_second}
+use Rattle.ssa_path.proofs.Levels.{some-none}
 use Rattle.ssa_path.proofs.Removing.{child-goes, child-stays, goes-rises, goes-tries, set-rises, set-tries}
 use Rattle.ssa_turn_set.specs.Room.{fresh}
-use Rattle.ssa_turn_set.specs.Siblings.{has_any, kept}
 use Rattle.ssa_turn_set.proofs.Places.{found-paths, fresh-filled, set-apart}
 use Rattle.ssa_turn_set.proofs.Taking.{goes-apart, goes-tails}
-
--- ---- those that have some path
-
--- a child has some path just where its set has
-pub has-any-is : (c : Elem × Trie) → is_trie c.1 ≡ true → has_any c ≡ is_filled c.1
-has-any-is c h = sym (filled-is c.1 h)
-
--- where each child has some path, all are kept
-pub kept-all : (cs : List (Elem × Trie)) → are_filled_tries cs ≡ true → kept cs ≡ cs
-kept-all [] h = refl
-kept-all (c ∷ cs) h =
-    let own = both_first (is_trie c.1 && is_filled c.1) _ h in
-    let any = has-any-is c (both_first _ _ own) ∙ both_second (is_trie c.1) _ own in
-    ap (λ b. cond b (c ∷ kept cs) (kept cs)) any ∙ ap (λ l. c ∷ l) (kept-all cs (both_second (is_trie c.1 && is_filled c.1) _ h))
-
--- a child with some path is kept among the others
-pub kept-stays : (front back : List (Elem × Trie)) (c : Elem × Trie) → has_any c ≡ true → kept (front ++ c ∷ back) ≡ kept front ++ c ∷ kept back
-kept-stays front back c any = filter-append has_any front (c ∷ back) ∙ ap (λ b. kept front ++ cond b (c ∷ kept back) (kept back)) any
-
--- a child without a path is not kept
-pub kept-goes : (front back : List (Elem × Trie)) (c : Elem × Trie) → has_any c ≡ false → kept (front ++ c ∷ back) ≡ kept front ++ kept back
-kept-goes front back c any = filter-append has_any front (c ∷ back) ∙ ap (λ b. kept front ++ cond b (c ∷ kept back) (kept back)) any
 
 -- ---- one among others
 

@@ -5,13 +5,13 @@ use Rattle.ssa_path.specs.declared.element.Elem.{Elem}
 use Rattle.ssa_path.specs.declared.trie.Trie.{Trie}
 use Rattle.ssa_path.specs.Children.{child_at, elements, rises, IsChildAt}
 use Rattle.ssa_path.specs.View.{element_view}
-use Rattle.ssa_path.specs.Trie.{is_one_of, paths_below, paths, is_trie, is_filled, are_filled_tries}
+use Rattle.ssa_path.specs.Trie.{kept, is_one_of, paths_below, paths, is_trie, is_filled, are_filled_tries}
 use Rattle.ssa_path.proofs.Lists.{left-at}
 use Rattle.ssa_turn_set.specs.declared.room.Room.{Room}
 use Rattle.ssa_turn_set.specs.declared.spare.Spare.{Spare}
 use Rattle.ssa_turn_set.specs.Room.{gain_one, lose_one, loses}
-use Rattle.ssa_turn_set.specs.Siblings.{AreTaken, kept}
-use Rattle.ssa_turn_set.proofs.Keeping.{has-any-is, kept-all}
+use Rattle.ssa_turn_set.specs.Siblings.{AreTaken}
+use Rattle.ssa_path.proofs.Kept.{has-any-is, kept-all}
 use Rattle.ssa_turn_set.proofs.Losing.{losing-all, losing-within}
 use Rattle.ssa_turn_set.proofs.Passing.{IsPassing, kept-without, next-present, passed-child, passing-at, passing-more, passing-next, passing-none}
 use Rattle.ssa_turn_set.proofs.Places.{left-set}

@@ -9,7 +9,7 @@ use Rattle.ssa_path.specs.declared.element.Elem.{Elem}
 use Rattle.ssa_path.specs.declared.trie.Trie.{Trie}
 use Rattle.ssa_path.specs.Children.{child_at, elements, rises, IsChildAt}
 use Rattle.ssa_path.specs.View.{element_view}
-use Rattle.ssa_path.specs.Trie.{is_one_of, paths_after, paths_below, paths, is_trie, is_filled, are_filled_tries}
+use Rattle.ssa_path.specs.Trie.{has_any, kept, is_one_of, paths_after, paths_below, paths, is_trie, is_filled, are_filled_tries}
 use Rattle.ssa_path.proofs.FieldsMembers.{child-filled}
 use Rattle.ssa_path.proofs.Levels.{same_path-reading, any-after, any-below, found}
 use Rattle.ssa_path.proofs.Lists.{child-trie, elements-append, filled-without, left-at, parted, parted-set, rises-drop, taken-at}
@@ -19,8 +19,8 @@ use Rattle.ssa_path.proofs.Searching.{apart-before, below-middle}
 use Rattle.ssa_turn_set.specs.declared.room.Room.{Room}
 use Rattle.ssa_turn_set.specs.declared.spare.Spare.{Spare}
 use Rattle.ssa_turn_set.specs.Room.{gain_one, lose_one, loses}
-use Rattle.ssa_turn_set.specs.Siblings.{has_any, kept}
-use Rattle.ssa_turn_set.proofs.Keeping.{IsLessened, has-any-is, kept-all, kept-goes, kept-stays, less-goes, less-stays}
+use Rattle.ssa_path.proofs.Kept.{has-any-is, kept-all, kept-goes, kept-stays}
+use Rattle.ssa_turn_set.proofs.Keeping.{IsLessened, less-goes, less-stays}
 use Rattle.ssa_turn_set.proofs.Losing.{IsLosing, losing-more, losing-none}
 use Rattle.ssa_turn_set.proofs.Places.{left-set}
 use Rattle.ssa_turn_set.proofs.Reaching.{rises-joined, rises-near}

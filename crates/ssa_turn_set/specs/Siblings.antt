@@ -1,23 +1,13 @@
 -- The children of a place, of which some have no path left.
-use Rattle.std.specs.Prelude.{◌≡◌, ◌+◌, List, length, Bool, true, not, ◌&&◌, ◌||◌}
-use Rattle.std.specs.List.{filter}
+use Rattle.std.specs.Prelude.{◌≡◌, ◌+◌, List, length, true, not, ◌&&◌}
 use Rattle.ssa_model.specs.definitions.Path.{Path}
 use Rattle.ssa_path.specs.Children.{elements, rises}
-use Rattle.ssa_path.specs.Trie.{are_filled_tries, has_some, is_one_of, paths_below}
+use Rattle.ssa_path.specs.Trie.{are_filled_tries, is_one_of, paths_below}
 use Rattle.ssa_path.specs.declared.element.Elem.{Elem}
 use Rattle.ssa_path.specs.declared.trie.Trie.{Trie}
-use Rattle.ssa_path.specs.declared.trie.Trie.TheViews.{out-Trie}
 use Rattle.ssa_turn_set.specs.declared.room.Room.{Room}
 use Rattle.ssa_turn_set.specs.declared.spare.Spare.{Spare}
 use Rattle.ssa_turn_set.specs.Room.{freshes, gains, loses}
-
--- whether the child has some path, told of its parts
-abbrev pub has_any : Elem × Trie → Bool
-has_any c = (out-Trie c.1).here || has_some {A = Elem × Trie} (out-Trie c.1).below.items
-
--- the children that have some path
-abbrev pub kept : List (Elem × Trie) → List (Elem × Trie)
-kept = filter has_any
 
 -- the children ds have the paths of cs without those of the lost ones; room that was enough for this is enough to put them in again
 pub record AreTaken (lost cs : List (Elem × Trie)) (old : List (Spare × Room)) (ds : List (Elem × Trie)) (left : List (Spare × Room)) : Type 0 where

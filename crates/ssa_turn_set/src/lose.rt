@@ -9,11 +9,11 @@ ghost use Rattle.ssa_turn_set.specs.Siblings.{AreTaken};
 
 use crate::filling::exchange_where_short;
 use crate::room::Room;
-use crate::siblings::{place_from, place_of, take_out_bare};
+use crate::siblings::{place_from, place_of};
 use crate::spare::{Spare, empty_element};
 use ssa_json::value::Scalar;
 use ssa_path::element::Elem;
-use ssa_path::trie::Trie;
+use ssa_path::trie::{Trie, take_out_bare};
 use std::mem;
 
 /// Takes out the paths of `lost`, all of which the set has. Takes no memory.

@@ -1,8 +1,7 @@
-//! The children of a place: found one after the other, and those with no path left taken out.
-ghost use Rattle.std.specs.Prelude.{◌≡◌, ◌≤◌, true, false, None, length, take, drop, vec_capacity};
+//! The children of a place, found one after the other.
+ghost use Rattle.std.specs.Prelude.{◌≡◌, ◌≤◌, true, None, length, take, drop};
 ghost use Rattle.ssa_path.specs.Children.{child_at, elements, rises, IsChildAt};
 ghost use Rattle.ssa_path.specs.View.{element_view};
-ghost use Rattle.ssa_turn_set.specs.Siblings.{has_any, kept};
 
 use ssa_path::children::{FEW, find};
 use ssa_path::element::Elem;
@@ -49,22 +48,4 @@ pub(crate) fn place_from(children: &[(Elem, Trie)], start: usize, element: &Elem
     let near = &left[..reach(left, element)];
     let place = place_of(near, element);
     start + place
-}
-
-// Whether the child has some path.
-fn has_any(child: &(Elem, Trie)) -> bool
-    ensures { result ≡ has_any child.now }
-{
-    child.1.here || !child.1.below.is_empty()
-}
-
-// Takes out the children that have no path left, in one pass where there are any.
-pub(crate) fn take_out_bare(below: &mut Vec<(Elem, Trie)>, any_bare: bool)
-    requires { any_bare ≡ false → kept below.old.items ≡ below.old.items }
-    ensures items { below.new.items ≡ kept below.old.items }
-    ensures capacity { vec_capacity below.new ≡ vec_capacity below.old }
-{
-    if any_bare {
-        below.retain(|child| has_any(child));
-    }
 }

@@ -1,6 +1,5 @@
 //! The text of the managers of both tables that change.
 ghost use Rattle.std.specs.Prelude.{◌≡◌, ◌++◌, OnOk};
-ghost use Rattle.ssa_model.specs.definitions.FieldsV1.{fields_json};
 ghost use Rattle.ssa_model.specs.definitions.Json.{compact, compact_members, object};
 ghost use Rattle.ssa_model.specs.definitions.PathMap.{PathSet};
 ghost use Rattle.ssa_model.specs.definitions.RecordText.{change_json, time_members};
@@ -15,17 +14,7 @@ ghost use Rattle.ssa_turn_table.specs.Turning.{table_steps};
 use crate::delta::{EntryChange, TableDelta};
 use ssa_json::moment::Moment;
 use ssa_json::write::{push_comma, push_name, push_text_member};
-use ssa_path::field_set::FieldSet;
 use std::alloc::{AllocError, Global};
-
-// Appends a set of paths in FieldsV1 form.
-fn push_fields(alloc: Global, text: &mut Vec<u8>, set: &FieldSet) -> Result<(), AllocError>
-    ensures text { OnOk result (text.new.items ≡ text.old.items ++ compact (fields_json set.now)) }
-    ensures of_program { OnOk result (IsOfProgram (fields_json set.now)) }
-{
-    let value = set.to_fields_v1(alloc)?;
-    value.push_text(alloc, text)
-}
 
 // Appends a change's moment, where it is another, and the brace that closes the change.
 fn push_time(alloc: Global, text: &mut Vec<u8>, at: Option<Moment>) -> Result<(), AllocError>
@@ -54,9 +43,9 @@ fn push_change(
 {
     text.push(b'{')?;
     push_name(text, false, "gain")?;
-    push_fields(alloc, text, &change.set.gain)?;
+    change.set.gain.push_fields_v1(alloc, text)?;
     push_name(text, true, "lose")?;
-    push_fields(alloc, text, &change.set.lose)?;
+    change.set.lose.push_fields_v1(alloc, text)?;
     push_text_member(text, true, "manager", change.key.name.as_str())?;
     push_text_member(
         text,

@@ -9,7 +9,7 @@ use Rattle.ssa_session.proofs.entry_fault_text.push_absent_path.Goals as goal
 
 pub returns : goal.returns
 returns c =
-    let closed = joined _ (compact (path_json c.args.path.now)) (codes "}") c.in_ok-push_path.ensures c.in_ok-push-2.ensures.items in
+    let closed = joined _ (compact (path_json c.args.path.now)) (codes "}") c.in_ok-push_path.ensures.text c.in_ok-push-2.ensures.items in
     let placed = joined _ (codes ",\"path\":") _ c.in_ok-extend_from_slice.ensures.items closed in
     let told = joined _ (code_members absent_path) _ c.in_ok-push_members.ensures placed in
     let whole = joined c.args.text.now.items (codes "{") _ c.in_ok-push.ensures.items told in

@@ -11,7 +11,7 @@ use Rattle.ssa_turn_set.specs.declared.room.Room.TheViews.{out-Room}
 use Rattle.ssa_turn_set.specs.Room.{gain_room, loses}
 use Rattle.ssa_turn_set.specs.Spare.{fits, is_nothing}
 use Rattle.ssa_turn_set.specs.Siblings.{AreTaken}
-use Rattle.ssa_turn_set.proofs.Keeping.{kept-all}
+use Rattle.ssa_path.proofs.Kept.{kept-all}
 use Rattle.ssa_turn_set.proofs.Lone.{lone-child, lone-goes, lone-present, lone-stays}
 use Rattle.ssa_turn_set.proofs.Losing.{losing-within, losing-all, same-left, lost-place, lost-room, start-form, start-within, same-length}
 use Rattle.ssa_turn_set.proofs.Passing.{passed-child, next-present, next-rises, passing-at, passing-more, passing-next, passing-none}

@@ -14,9 +14,9 @@ returns-clause-text c =
     let change = change_view c.args.change.now in
     on_ok_weaker c.push_time.result
     (change-written change c.args.text.now.items c.in_ok-push.ensures.items
-    (member-of c.push.new.self.items false (codes "gain") (fields_json change.gain) c.in_ok-push_name.ensures.text c.in_ok-push_fields.ensures.text)
-    (member-of c.push_fields.new.text.items true (codes "lose") (fields_json change.lose) c.in_ok-push_name-2.ensures.text c.in_ok-push_fields-2.ensures.text)
-    (member-as c.push_fields-2.new.text.items true (codes "manager") c.in_ok-push_text_member.ensures.text (ap text_json c.as_str.ensures.value))
+    (member-of c.push.new.self.items false (codes "gain") (fields_json change.gain) c.in_ok-push_name.ensures.text c.in_ok-push_fields_v1.ensures.text)
+    (member-of c.push_fields_v1.new.text.items true (codes "lose") (fields_json change.lose) c.in_ok-push_name-2.ensures.text c.in_ok-push_fields_v1-2.ensures.text)
+    (member-as c.push_fields_v1-2.new.text.items true (codes "manager") c.in_ok-push_text_member.ensures.text (ap text_json c.as_str.ensures.value))
     (member-as c.push_text_member.new.text.items true (codes "operation") c.in_ok-push_text_member-2.ensures.text (ap text_json c.text.ensures)))
     c.push_time.ensures.text
 
@@ -24,8 +24,8 @@ pub returns-clause-of_program : goal.returns-clause-of_program
 returns-clause-of_program c =
     let change = change_view c.args.change.now in
     on_ok_weaker c.push_time.result
-    (change-of-program change c.in_ok-push_name.ensures.utf8 c.in_ok-push_fields.ensures.of_program
-    c.in_ok-push_name-2.ensures.utf8 c.in_ok-push_fields-2.ensures.of_program
+    (change-of-program change c.in_ok-push_name.ensures.utf8 c.in_ok-push_fields_v1.ensures.of_program
+    c.in_ok-push_name-2.ensures.utf8 c.in_ok-push_fields_v1-2.ensures.of_program
     c.in_ok-push_text_member.ensures.utf8 (subst IsOfProgram (ap text_json c.as_str.ensures.value) c.in_ok-push_text_member.ensures.of_program)
     c.in_ok-push_text_member-2.ensures.utf8 (subst IsOfProgram (ap text_json c.text.ensures) c.in_ok-push_text_member-2.ensures.of_program))
     c.push_time.ensures.of_program

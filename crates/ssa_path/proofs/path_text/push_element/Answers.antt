@@ -1,0 +1,23 @@
+use Rattle.std.proofs.Common.{[], ◌∷◌, ◌++◌, length, ap, subst, ◌∙◌}
+use Rattle.std.proofs.lemmas.Result.{on_ok_weaker}
+use Rattle.ssa_members.specs.Texts.{text_bytes}
+use Rattle.json.specs.Written.{PlainBetween}
+use Rattle.ssa_json.proofs.Plain.{escaped-plain}
+use Rattle.ssa_path.proofs.ElementTexts.{text-of-program}
+use Rattle.ssa_path.proofs.OwnTexts.{field-of-program}
+use Rattle.ssa_path.proofs.path_text.push_element.Goals as goal
+
+pub returns-then-has_no_escapes-clause-text : goal.returns-then-has_no_escapes-clause-text
+returns-then-has_no_escapes-clause-text c =
+    let old = c.args.text.now.items in
+    let name = text_bytes c.in-Field.name in
+    let plain : PlainBetween name 0 (length name) = subst (λ t. PlainBetween t 0 (length t)) c.as_bytes.ensures.value c.if-has_no_escapes.ensures in
+    rw c.in-Field.is (on_ok_weaker c.push_plain_field.result
+    (λ written. written ∙ ap (λ t. old ++ 34 ∷ 102 ∷ 58 ∷ (t ++ 34 ∷ [])) (c.as_str.ensures.value ∙ escaped-plain name plain)) c.push_plain_field.ensures)
+
+pub returns-then-has_no_escapes-clause-of_program : goal.returns-then-has_no_escapes-clause-of_program
+returns-then-has_no_escapes-clause-of_program c =
+    rw c.in-Field.is (on_ok_weaker c.push_plain_field.result (λ _. text-of-program _ (field-of-program c.in-Field.name)) c.push_plain_field.ensures)
+
+pub returns-clause-of_program : goal.returns-clause-of_program
+returns-clause-of_program c = on_ok_weaker c.push_quoted.result (λ _. text-of-program _ c.in_ok-name.ensures.of_program) c.push_quoted.ensures

@@ -1,0 +1,122 @@
+//! Elements and paths, appended to JSON text.
+ghost use Rattle.std.specs.Prelude.{◌≡◌, [], ◌∷◌, ◌++◌, OnOk};
+ghost use Rattle.ssa_model.specs.definitions.Entries.{text_json};
+ghost use Rattle.ssa_model.specs.definitions.Json.{compact, compact_items, list};
+ghost use Rattle.ssa_model.specs.definitions.Path.{element_text};
+ghost use Rattle.ssa_model.specs.definitions.Replies.{items_json, path_json, paths_json};
+ghost use Rattle.ssa_json.specs.Writable.{IsOfProgram};
+ghost use Rattle.ssa_path.specs.Listing.{way_view};
+ghost use Rattle.ssa_path.specs.TopPaths.{last_view, lent_path, text_of};
+ghost use Rattle.ssa_path.specs.View.{element_view};
+
+use crate::element::Elem;
+use crate::field_set::FieldSet;
+use crate::path::Path;
+use crate::top_path::LentPath;
+use ssa_json::quotes::has_no_escapes;
+use ssa_json::write::{push_comma, push_quoted};
+use std::alloc::{AllocError, Global};
+
+// Appends the text of a field whose name needs no escapes, in quotes.
+fn push_plain_field(text: &mut Vec<u8>, name: &str) -> Result<(), AllocError>
+    ensures { OnOk result (text.new.items ≡ text.old.items ++ 34 ∷ 102 ∷ 58 ∷ (name.now ++ 34 ∷ [])) }
+{
+    text.extend_from_slice(b"\"f:")?;
+    text.extend_from_slice(name.as_bytes())?;
+    text.push(b'"')?;
+    Ok(())
+}
+
+/// Appends the text of an element in quotes, as `"f:spec"`. Where memory runs out, part of it may stand there.
+pub fn push_element(alloc: Global, text: &mut Vec<u8>, element: &Elem) -> Result<(), AllocError>
+    ensures text { OnOk result (text.new.items ≡ text.old.items ++ compact (text_json (element_text (element_view element.now)))) }
+    ensures of_program { OnOk result (IsOfProgram (text_json (element_text (element_view element.now)))) }
+{
+    if let Elem::Field(name) = element {
+        if has_no_escapes(name.as_bytes()) {
+            return push_plain_field(text, name.as_str());
+        }
+    }
+    let name = element.name(alloc)?;
+    push_quoted(text, name.as_str())
+}
+
+/// Appends the path that a way leads along: the list of its elements' texts.
+pub fn push_way(alloc: Global, text: &mut Vec<u8>, way: &[&Elem]) -> Result<(), AllocError>
+    ensures text { OnOk result (text.new.items ≡ text.old.items ++ compact (path_json (way_view way.now))) }
+    ensures of_program { OnOk result (IsOfProgram (path_json (way_view way.now))) }
+{
+    text.push(b'[')?;
+    let mut is_later = false;
+    for element in way {
+        push_comma(text, is_later)?;
+        push_element(alloc, text, element)?;
+        is_later = true;
+    }
+    text.push(b']')?;
+    Ok(())
+}
+
+// Appends the last element's text, if there is one, and the bracket that closes the list.
+fn push_last(
+    alloc: Global,
+    text: &mut Vec<u8>,
+    is_later: bool,
+    last: Option<&Elem>,
+) -> Result<(), AllocError>
+    ensures text { OnOk result (text.new.items ≡ text.old.items ++ compact_items is_later (items_json text_of (last_view last.entry))) }
+    ensures of_program { OnOk result (IsOfProgram (list (items_json text_of (last_view last.entry)))) }
+{
+    if let Some(element) = last {
+        push_comma(text, is_later)?;
+        push_element(alloc, text, element)?;
+    }
+    text.push(b']')?;
+    Ok(())
+}
+
+impl<'a> LentPath<'a> {
+    /// Appends the list of the elements' texts.
+    pub fn push_text(&self, alloc: Global, text: &mut Vec<u8>) -> Result<(), AllocError>
+        ensures text { OnOk result (text.new.items ≡ text.old.items ++ compact (path_json (lent_path self.now))) }
+        ensures of_program { OnOk result (IsOfProgram (path_json (lent_path self.now))) }
+    {
+        text.push(b'[')?;
+        let mut is_later = false;
+        for element in self.place {
+            push_comma(text, is_later)?;
+            push_element(alloc, text, element)?;
+            is_later = true;
+        }
+        push_last(alloc, text, is_later, self.last)
+    }
+}
+
+/// Appends a path: the list of its elements' texts.
+pub fn push_path(alloc: Global, text: &mut Vec<u8>, path: &Path) -> Result<(), AllocError>
+    ensures text { OnOk result (text.new.items ≡ text.old.items ++ compact (path_json path.now)) }
+    ensures of_program { OnOk result (IsOfProgram (path_json path.now)) }
+{
+    let lent = LentPath {
+        place: path.elements(),
+        last: None,
+    };
+    lent.push_text(alloc, text)
+}
+
+/// Appends the paths of a set, in path order.
+pub fn push_paths(alloc: Global, text: &mut Vec<u8>, paths: &FieldSet) -> Result<(), AllocError>
+    ensures text { OnOk result (text.new.items ≡ text.old.items ++ compact (paths_json paths.now)) }
+    ensures of_program { OnOk result (IsOfProgram (paths_json paths.now)) }
+{
+    let ways = paths.ways(alloc)?;
+    text.push(b'[')?;
+    let mut is_later = false;
+    for way in &ways {
+        push_comma(text, is_later)?;
+        push_way(alloc, text, way)?;
+        is_later = true;
+    }
+    text.push(b']')?;
+    Ok(())
+}
