@@ -75,7 +75,7 @@ pub(crate) fn end_line(text: &mut Vec<u8>) -> Result<(), SaveFault>
     if text.len() >= MOST_FILE_BYTES {
         return Err(SaveFault::BenchTooLong);
     }
-    text.push(b'\n')?;
+    text.extend_from_slice(b"\n")?;
     Ok(())
 }
 

@@ -83,12 +83,7 @@ fn push_applied(
     Ok(())
 }
 
-fn push_updated(
-    alloc: Global,
-    text: &mut Vec<u8>,
-    at: &Moment,
-    who: &str,
-) -> Result<(), AllocError>
+fn push_updated(alloc: Global, text: &mut Vec<u8>, at: &Moment, who: &str) -> Result<(), AllocError>
     ensures text { OnOk result (text.new.items ≡ text.old.items ++ compact (label_json (updated who.now at.now))) }
     ensures of_program { OnOk result (IsOfProgram (label_json (updated who.now at.now))) }
 {

@@ -57,7 +57,12 @@ impl StateDelta {
         self.table.push_changed(alloc, text)?;
         push_member(text, true, "cut", &self.body.cut_to_json(alloc)?)?;
         push_member(text, true, "gone", &self.table.gone_to_json(alloc)?)?;
-        push_member(text, true, "here", &self.table.here_to_json(alloc, version)?)?;
+        push_member(
+            text,
+            true,
+            "here",
+            &self.table.here_to_json(alloc, version)?,
+        )?;
         push_member(text, true, "leaves", &self.body.leaves_to_json(alloc)?)?;
         push_member(text, true, "order", &self.body.order_to_json(alloc)?)?;
         push_member(text, true, "put", &self.body.put_to_json(alloc)?)?;

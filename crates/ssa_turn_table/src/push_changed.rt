@@ -1,5 +1,5 @@
 //! The text of the managers of both tables that change.
-ghost use Rattle.std.specs.Prelude.{◌≡◌, ◌++◌, OnOk};
+ghost use Rattle.std.specs.Prelude.{◌≡◌, ◌++◌, true, OnOk};
 ghost use Rattle.ssa_model.specs.definitions.Json.{compact, compact_members, object};
 ghost use Rattle.ssa_model.specs.definitions.PathMap.{PathSet};
 ghost use Rattle.ssa_model.specs.definitions.RecordText.{change_json, time_members};
@@ -25,18 +25,14 @@ fn push_time(alloc: Global, text: &mut Vec<u8>, at: Option<Moment>) -> Result<()
         Some(at) => {
             let time = at.to_text(alloc)?;
             push_text_member(text, true, "time", time.as_str())?;
-            text.push(b'}')
+            text.extend_from_slice(b"}")
         }
-        None => text.push(b'}'),
+        None => text.extend_from_slice(b"}"),
     }
 }
 
 // Appends the change of a manager.
-fn push_change(
-    alloc: Global,
-    text: &mut Vec<u8>,
-    change: &EntryChange,
-) -> Result<(), AllocError>
+fn push_change(alloc: Global, text: &mut Vec<u8>, change: &EntryChange) -> Result<(), AllocError>
     requires { (s : PathSet) × HasRoom change.now.set s }
     ensures text { OnOk result (text.new.items ≡ text.old.items ++ compact (change_json (change_view change.now))) }
     ensures of_program { OnOk result (IsOfProgram (change_json (change_view change.now))) }
@@ -47,12 +43,7 @@ fn push_change(
     push_name(text, true, "lose")?;
     change.set.lose.push_fields_v1(alloc, text)?;
     push_text_member(text, true, "manager", change.key.name.as_str())?;
-    push_text_member(
-        text,
-        true,
-        "operation",
-        change.key.operation.text(),
-    )?;
+    push_text_member(text, true, "operation", change.key.operation.text())?;
     push_time(alloc, text, change.at)
 }
 

@@ -23,7 +23,7 @@ pub returns-clause-of_program : goal.returns-clause-of_program
 returns-clause-of_program c =
     let time = ap text_json (c.as_str.ensures.value ∙ c.in_ok-time.ensures) in
     let force = view-Scalar (Bool c.args.force) in
-    applied-of-program c.args.who.now c.args.force c.args.at.now 
+    applied-of-program c.args.who.now c.args.force c.args.at.now
     c.in_ok-push_text_member.ensures.utf8 (subst IsOfProgram time c.in_ok-push_text_member.ensures.of_program)
     c.in_ok-push_text_member-2.ensures.utf8 c.in_ok-push_text_member-2.ensures.of_program
     c.in_ok-push_member.ensures.utf8 (subst IsOfProgram force c.in_ok-push_member.ensures.of_program)

@@ -9,5 +9,5 @@ returns-clause-text c =
 
 pub returns-clause-of_program : goal.returns-clause-of_program
 returns-clause-of_program c =
-    stripped-of-program 
+    stripped-of-program
     c.in_ok-push_text_member.ensures.utf8 c.in_ok-push_text_member.ensures.of_program

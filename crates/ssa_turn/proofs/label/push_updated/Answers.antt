@@ -18,7 +18,7 @@ returns-clause-text c =
 pub returns-clause-of_program : goal.returns-clause-of_program
 returns-clause-of_program c =
     let time = ap text_json (c.as_str.ensures.value ∙ c.in_ok-time.ensures) in
-    updated-of-program c.args.who.now c.args.at.now 
+    updated-of-program c.args.who.now c.args.at.now
     c.in_ok-push_text_member.ensures.utf8 (subst IsOfProgram time c.in_ok-push_text_member.ensures.of_program)
     c.in_ok-push_text_member-2.ensures.utf8 c.in_ok-push_text_member-2.ensures.of_program
     c.in_ok-push_text_member-3.ensures.utf8 c.in_ok-push_text_member-3.ensures.of_program
