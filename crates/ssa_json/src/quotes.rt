@@ -3,7 +3,7 @@ ghost use Rattle.std.specs.Prelude.{◌≡◌, ◌<◌, ◌≤◌, ◌+◌, ◌+
 ghost use Rattle.std.specs.Bool.{OnTrue};
 ghost use Rattle.json.specs.Run.{is_plain};
 ghost use Rattle.json.specs.Written.{PlainBetween};
-ghost use Rattle.ssa_model.specs.definitions.Json.{escaped_byte, hex_digit};
+ghost use Rattle.ssa_model.specs.definitions.Json.{escaped, escaped_byte, hex_digit};
 
 use std::alloc::AllocError;
 use std::simd::prelude::*;
@@ -80,10 +80,8 @@ fn are_many_plain(text: &[u8]) -> bool
     are_sixteen_plain(text, text.len() - 16)
 }
 
-/// Whether a text stands between quotes as it is. Its callers need to know only that it does where this says so: the other
-/// way is as right, and slower.
 #[inline(always)]
-pub fn has_no_escapes(text: &[u8]) -> bool
+fn are_all_plain(text: &[u8]) -> bool
     ensures { OnTrue result (PlainBetween text.now 0 (length text.now)) }
 {
     let len = text.len();
@@ -96,6 +94,15 @@ pub fn has_no_escapes(text: &[u8]) -> bool
     } else {
         are_few_plain(text)
     }
+}
+
+/// Whether a text stands between quotes as it is. Its callers need to know only that it does where this says so: the other
+/// way is as right, and slower.
+#[inline(always)]
+pub fn has_no_escapes(text: &[u8]) -> bool
+    ensures { OnTrue result (escaped text.now ≡ text.now) }
+{
+    are_all_plain(text)
 }
 
 // A digit of a hexadecimal number.

@@ -1,8 +1,7 @@
-use Rattle.std.proofs.Common.{[], ◌∷◌, ◌++◌, length, ap, subst, ◌∙◌}
+use Rattle.std.proofs.Common.{◌≡◌, [], ◌∷◌, ◌++◌, sym, ap, ◌∙◌}
 use Rattle.std.proofs.lemmas.Result.{on_ok_weaker}
+use Rattle.ssa_model.specs.definitions.Json.{escaped}
 use Rattle.ssa_members.specs.Texts.{text_bytes}
-use Rattle.json.specs.Written.{PlainBetween}
-use Rattle.ssa_json.proofs.Plain.{escaped-plain}
 use Rattle.ssa_path.proofs.ElementTexts.{text-of-program}
 use Rattle.ssa_path.proofs.OwnTexts.{field-of-program}
 use Rattle.ssa_path.proofs.path_text.push_element.Goals as goal
@@ -11,9 +10,9 @@ pub returns-then-has_no_escapes-clause-text : goal.returns-then-has_no_escapes-c
 returns-then-has_no_escapes-clause-text c =
     let old = c.args.text.now.items in
     let name = text_bytes c.in-Field.name in
-    let plain : PlainBetween name 0 (length name) = subst (λ t. PlainBetween t 0 (length t)) c.as_bytes.ensures.value c.if-has_no_escapes.ensures in
+    let plain : name ≡ escaped name = sym (ap escaped (sym c.as_bytes.ensures.value) ∙ c.if-has_no_escapes.ensures ∙ c.as_bytes.ensures.value) in
     rw c.in-Field.is (on_ok_weaker c.push_plain_field.result
-    (λ written. written ∙ ap (λ t. old ++ 34 ∷ 102 ∷ 58 ∷ (t ++ 34 ∷ [])) (c.as_str.ensures.value ∙ escaped-plain name plain)) c.push_plain_field.ensures)
+    (λ written. written ∙ ap (λ t. old ++ 34 ∷ 102 ∷ 58 ∷ (t ++ 34 ∷ [])) (c.as_str.ensures.value ∙ plain)) c.push_plain_field.ensures)
 
 pub returns-then-has_no_escapes-clause-of_program : goal.returns-then-has_no_escapes-clause-of_program
 returns-then-has_no_escapes-clause-of_program c =
