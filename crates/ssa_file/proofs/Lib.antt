@@ -4,3 +4,4 @@ pub mod ReadingFacts
 pub mod DeviceFacts
 pub mod Walking
 pub mod RecordingFacts
+pub mod LineTexts

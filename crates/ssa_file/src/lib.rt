@@ -22,5 +22,5 @@ pub use head::{RecordCounts, record_counts};
 pub use line::Line;
 pub use loading::{FileLine, LoadFault, read_value};
 pub use read_line::LineEnd;
-pub use recording::{record_head, record_line, recorded_text};
+pub use recording::{record_head, recorded_text};
 pub use saving::{MOST_FILE_BYTES, SaveFault, write_text};

@@ -1,9 +1,9 @@
 //! The text of a bench file of records.
-ghost use Rattle.std.specs.Prelude.{◌≡◌, ◌≤◌, ◌<◌, ◌^◌, ◌++◌, Some, codes, slice_get, IfErr, IfOk, OnOk, flat_map, length};
+ghost use Rattle.std.specs.Prelude.{◌≡◌, ◌≤◌, ◌<◌, ◌^◌, ◌++◌, Some, slice_get, IfErr, IfOk, OnOk, flat_map, length};
 ghost use Rattle.std.specs.List.{All};
 ghost use Rattle.ssa_model.specs.definitions.BenchText.{line};
 ghost use Rattle.ssa_model.specs.definitions.History.{Step, Timeline};
-ghost use Rattle.ssa_model.specs.definitions.Json.{member, no_members, object};
+ghost use Rattle.ssa_model.specs.definitions.Json.{compact};
 ghost use Rattle.ssa_model.specs.definitions.Limits.{most_bench_bytes};
 ghost use Rattle.ssa_model.specs.definitions.Operations.{State};
 ghost use Rattle.ssa_model.specs.definitions.RecordedBench.{record_head, record_line, recorded_text, recorded_values};
@@ -16,9 +16,9 @@ ghost use Rattle.ssa_turn_state.specs.States.{HasStateRoom, state_steps};
 ghost use Rattle.ssa_file.specs.Recording.{future_values, kept_value, opening_values, past_values};
 ghost use Rattle.ssa_file.specs.Saving.{CannotHold, bench_with};
 
-use crate::saving::{SaveFault, push_line, put_number};
-use ssa_json::members::put_member;
+use crate::saving::{SaveFault, end_line, push_line, put_number};
 use ssa_json::value::Json;
+use ssa_json::write::push_name;
 use ssa_members::Members;
 use ssa_object::identity::Identity;
 use ssa_object::object::object_of_state;
@@ -41,35 +41,32 @@ pub fn record_head(alloc: Global, past: usize, future: usize) -> Result<Json, Al
     Ok(Json::Object(members))
 }
 
-// The value of the line of a command and a record.
-fn line_value(alloc: Global, command: Json, written: Json) -> Result<Json, AllocError>
-    ensures { IfOk result (λ v. view v ≡ object (member (codes "command") (view command) (member (codes "record") (view written) no_members))) }
-{
-    let mut members = Members::new(alloc);
-    put_member(alloc, &mut members, "record", written)?;
-    put_member(alloc, &mut members, "command", command)?;
-    Ok(Json::Object(members))
-}
-
-/// The value of the line of a command and of the record of its two states, whichever of them the
-/// record leads to.
-pub fn record_line(
+// Appends the compact text of the line of a command and of the record of its two states, whichever of them the record
+// leads to.
+fn push_step(
     alloc: Global,
+    text: &mut Vec<u8>,
     schema: &Schema,
     identity: &Identity,
     label: &Label,
     delta: &StateDelta,
-) -> Result<Json, AllocError>
+) -> Result<(), AllocError>
     requires taken { (v w : State) × Takes schema.now.kind (state_steps delta.now) v w }
     requires room { (v : State) × HasStateRoom delta.now v }
-    ensures { IfOk result (λ j. (t : Timeline) (v w : State) → Takes schema.now.kind (state_steps delta.now) v w
-        → view j ≡ record_line (bench_with schema.now identity.now t) (label_view label.now) v w) }
+    ensures text { OnOk result ((t : Timeline) (v w : State) → Takes schema.now.kind (state_steps delta.now) v w
+        → text.new.items ≡ text.old.items ++ compact (record_line (bench_with schema.now identity.now t) (label_view label.now) v w)) }
+    ensures of_program { OnOk result ((t : Timeline) (v w : State) → Takes schema.now.kind (state_steps delta.now) v w
+        → IsOfProgram (record_line (bench_with schema.now identity.now t) (label_view label.now) v w)) }
 {
-    // The value of a record is said for kinds whose fields rise, as this one's do.
+    // The text of a record is said for kinds whose fields rise, as this one's do.
     let _kind = schema.kind();
-    let written = delta.to_json(alloc, identity.version())?;
-    let command = label.to_json(alloc)?;
-    line_value(alloc, command, written)
+    text.push(b'{')?;
+    push_name(text, false, "command")?;
+    label.push_text(alloc, text)?;
+    push_name(text, true, "record")?;
+    delta.push_text(alloc, identity.version(), text)?;
+    text.push(b'}')?;
+    Ok(())
 }
 
 // Appends the line of the n-th record of a history, where the text then has no more bytes than a
@@ -92,8 +89,8 @@ fn push_record(
 {
     match history.entry(n) {
         Some(entry) => {
-            let value = record_line(alloc, schema, identity, entry.1, entry.0)?;
-            push_line(text, &value)
+            push_step(alloc, text, schema, identity, entry.1, entry.0)?;
+            end_line(text)
         }
         None => unreachable!(),
     }

@@ -1,5 +1,5 @@
 //! The parts of a bench file's text, and how it is written.
-ghost use Rattle.std.specs.Prelude.{◌≡◌, ◌≤◌, ◌<◌, ◌^◌, ◌++◌, IfErr, OnErr, OnOk, length, true};
+ghost use Rattle.std.specs.Prelude.{◌≡◌, ◌≤◌, ◌<◌, ◌^◌, [], ◌∷◌, ◌++◌, IfErr, OnErr, OnOk, length, true};
 ghost use Rattle.std.specs.Io.KnownBytes.{Appends};
 ghost use Rattle.ssa_model.specs.definitions.Limits.{most_bench_bytes};
 ghost use Rattle.ssa_model.specs.definitions.BenchText.{line};
@@ -66,6 +66,19 @@ pub(crate) fn put_number(
     put_member(alloc, members, name, value)
 }
 
+// Ends the line that stands last, where the text then has no more bytes than a file may have.
+pub(crate) fn end_line(text: &mut Vec<u8>) -> Result<(), SaveFault>
+    ensures ok { OnOk result (text.new.items ≡ text.old.items ++ 10 ∷ []) }
+    ensures fits { OnOk result (length text.new.items ≤ most_bench_bytes) }
+    ensures refused { IfErr result (λ f. CannotHold f (text.old.items ++ 10 ∷ [])) }
+{
+    if text.len() >= MOST_FILE_BYTES {
+        return Err(SaveFault::BenchTooLong);
+    }
+    text.extend_from_slice(b"\n")?;
+    Ok(())
+}
+
 // Appends a value's line, where the text then has no more bytes than a file may have.
 pub(crate) fn push_line(text: &mut Vec<u8>, value: &Json) -> Result<(), SaveFault>
     requires { length text.old.items ≤ most_bench_bytes }
@@ -75,11 +88,7 @@ pub(crate) fn push_line(text: &mut Vec<u8>, value: &Json) -> Result<(), SaveFaul
     ensures refused { IfErr result (λ f. CannotHold f (text.old.items ++ line (view value.now))) }
 {
     value.push_text(text)?;
-    if text.len() >= MOST_FILE_BYTES {
-        return Err(SaveFault::BenchTooLong);
-    }
-    text.extend_from_slice(b"\n")?;
-    Ok(())
+    end_line(text)
 }
 
 /// Writes the text of a bench file, and hands it on. A fault leaves a beginning written.

@@ -1,2 +1,3 @@
 pub mod InARow
 pub mod KeptRecords
+pub mod LabelTexts

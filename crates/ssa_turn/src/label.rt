@@ -1,14 +1,17 @@
 //! The commands that made the states of a history, and how they are told.
-ghost use Rattle.std.specs.Prelude.{◌≡◌, IfOk, true};
+ghost use Rattle.std.specs.Prelude.{◌≡◌, ◌++◌, IfOk, OnOk, true};
 ghost use Rattle.ssa_model.specs.definitions.History.{applied, stripped, updated};
+ghost use Rattle.ssa_model.specs.definitions.Json.{compact};
 ghost use Rattle.ssa_model.specs.definitions.Replies.{label_json};
 ghost use Rattle.ssa_json.specs.View.{view};
+ghost use Rattle.ssa_json.specs.Writable.{IsOfProgram};
 ghost use Rattle.ssa_turn.specs.Histories.{label_view};
 ghost use Rattle.ssa_turn.specs.Dated.{is_dated};
 
 use ssa_json::members::{put_member, put_text};
 use ssa_json::moment::Moment;
 use ssa_json::value::{Json, Scalar};
+use ssa_json::write::{push_member, push_text_member};
 use ssa_members::Members;
 use std::alloc::{AllocError, Global};
 
@@ -59,6 +62,50 @@ fn stripped_json(alloc: Global) -> Result<Json, AllocError>
     Ok(Json::Object(members))
 }
 
+fn push_applied(
+    alloc: Global,
+    text: &mut Vec<u8>,
+    at: &Moment,
+    force: bool,
+    who: &str,
+) -> Result<(), AllocError>
+    ensures text { OnOk result (text.new.items ≡ text.old.items ++ compact (label_json (applied who.now force at.now))) }
+    ensures of_program { OnOk result (IsOfProgram (label_json (applied who.now force at.now))) }
+{
+    let time = at.to_text(alloc)?;
+    let forced = Json::Scalar(Scalar::Bool(force));
+    text.push(b'{')?;
+    push_text_member(text, false, "at", time.as_str())?;
+    push_text_member(text, true, "do", "apply")?;
+    push_member(text, true, "force", &forced)?;
+    push_text_member(text, true, "manager", who)?;
+    text.push(b'}')?;
+    Ok(())
+}
+
+fn push_updated(alloc: Global, text: &mut Vec<u8>, at: &Moment, who: &str) -> Result<(), AllocError>
+    ensures text { OnOk result (text.new.items ≡ text.old.items ++ compact (label_json (updated who.now at.now))) }
+    ensures of_program { OnOk result (IsOfProgram (label_json (updated who.now at.now))) }
+{
+    let time = at.to_text(alloc)?;
+    text.push(b'{')?;
+    push_text_member(text, false, "at", time.as_str())?;
+    push_text_member(text, true, "do", "update")?;
+    push_text_member(text, true, "manager", who)?;
+    text.push(b'}')?;
+    Ok(())
+}
+
+fn push_stripped(text: &mut Vec<u8>) -> Result<(), AllocError>
+    ensures text { OnOk result (text.new.items ≡ text.old.items ++ compact (label_json stripped)) }
+    ensures of_program { OnOk result (IsOfProgram (label_json stripped)) }
+{
+    text.push(b'{')?;
+    push_text_member(text, false, "do", "strip")?;
+    text.push(b'}')?;
+    Ok(())
+}
+
 impl Label {
     /// The label as a value, as
     /// `{"at":"2024-05-01T10:00:01Z","do":"apply","force":false,"manager":"kubectl"}`.
@@ -69,6 +116,18 @@ impl Label {
             Label::Apply { at, force, who } => applied_json(alloc, at, *force, who.as_str()),
             Label::Update { at, who } => updated_json(alloc, at, who.as_str()),
             Label::Strip => stripped_json(alloc),
+        }
+    }
+
+    /// Appends the compact text of the label's value. Where memory runs out, part of it may stand there.
+    pub fn push_text(&self, alloc: Global, text: &mut Vec<u8>) -> Result<(), AllocError>
+        ensures text { OnOk result (text.new.items ≡ text.old.items ++ compact (label_json (label_view self.now))) }
+        ensures of_program { OnOk result (IsOfProgram (label_json (label_view self.now))) }
+    {
+        match self {
+            Label::Apply { at, force, who } => push_applied(alloc, text, at, *force, who.as_str()),
+            Label::Update { at, who } => push_updated(alloc, text, at, who.as_str()),
+            Label::Strip => push_stripped(text),
         }
     }
 

@@ -10,3 +10,4 @@ pub mod Staying
 pub mod TableCopies
 pub mod RecordMembers
 pub mod Lessening
+pub mod ChangeTexts

@@ -11,6 +11,7 @@ mod copying;
 pub mod delta;
 mod going;
 pub mod live_table;
+mod push_changed;
 mod size;
 pub mod table;
 pub mod table_delta;

@@ -1,0 +1,95 @@
+-- The text of a label's value, written member by member.
+use Rattle.std.proofs.Common.{◌≡◌, [], ◌∷◌, ◌++◌, Bool, true, false, refl}
+use Rattle.std.specs.Prelude.{codes}
+use Rattle.std.specs.Str.{is_utf8}
+use Rattle.ssa_model.specs.definitions.Entries.{text_json}
+use Rattle.ssa_model.specs.definitions.History.{applied, stripped, updated}
+use Rattle.ssa_model.specs.definitions.Json.{Text, scalar, truth, member, no_members, compact}
+use Rattle.ssa_model.specs.definitions.Replies.{label_json}
+use Rattle.ssa_json.specs.MemberTexts.{member_text}
+use Rattle.ssa_json.specs.Writable.{IsOfProgram}
+use Rattle.ssa_json.proofs.MemberTexts.{writes-member, writes-object}
+use Rattle.ssa_json.proofs.OfProgram.{empty-of-program, member-of-program}
+
+-- an Apply
+pub applied-written : (who : Text) (force : Bool) (at : Text) (t0 : Text) {t1 t2 t3 t4 t5 t6 : Text} → t1 ≡ t0 ++ 123 ∷ []
+    → t2 ≡ t1 ++ member_text false (codes "at") (text_json at)
+    → t3 ≡ t2 ++ member_text true (codes "do") (text_json (codes "apply"))
+    → t4 ≡ t3 ++ member_text true (codes "force") (scalar (truth force))
+    → t5 ≡ t4 ++ member_text true (codes "manager") (text_json who)
+    → t6 ≡ t5 ++ 125 ∷ [] → t6 ≡ t0 ++ compact (label_json (applied who force at))
+applied-written who force at t0 {t1 = t1} {t2 = t2} {t3 = t3} {t4 = t4} {t5 = t5} e0 e1 e2 e3 e4 e5 =
+    let m4 = member (codes "manager") (text_json who) no_members in
+    let m3 = member (codes "force") (scalar (truth force)) m4 in
+    let m2 = member (codes "do") (text_json (codes "apply")) m3 in
+    let m1 = member (codes "at") (text_json at) m2 in
+    writes-object t0 m1 e0
+    (writes-member t1 false (codes "at") (text_json at) m2 e1
+    (writes-member t2 true (codes "do") (text_json (codes "apply")) m3 e2
+    (writes-member t3 true (codes "force") (scalar (truth force)) m4 e3
+    (writes-member t4 true (codes "manager") (text_json who) no_members e4
+    e5))))
+
+pub applied-of-program : (who : Text) (force : Bool) (at : Text)
+    → is_utf8 (codes "at") ≡ true → IsOfProgram (text_json at)
+    → is_utf8 (codes "do") ≡ true → IsOfProgram (text_json (codes "apply"))
+    → is_utf8 (codes "force") ≡ true → IsOfProgram (scalar (truth force))
+    → is_utf8 (codes "manager") ≡ true → IsOfProgram (text_json who)
+    → IsOfProgram (label_json (applied who force at))
+applied-of-program who force at n1 v1 n2 v2 n3 v3 n4 v4 =
+    let m4 = member (codes "manager") (text_json who) no_members in
+    let m3 = member (codes "force") (scalar (truth force)) m4 in
+    let m2 = member (codes "do") (text_json (codes "apply")) m3 in
+    let m1 = member (codes "at") (text_json at) m2 in
+    (member-of-program (codes "at") (text_json at) m2 n1 refl v1
+    (member-of-program (codes "do") (text_json (codes "apply")) m3 n2 refl v2
+    (member-of-program (codes "force") (scalar (truth force)) m4 n3 refl v3
+    (member-of-program (codes "manager") (text_json who) no_members n4 refl v4
+    empty-of-program))))
+
+-- an Update
+pub updated-written : (who at : Text) (t0 : Text) {t1 t2 t3 t4 t5 : Text} → t1 ≡ t0 ++ 123 ∷ []
+    → t2 ≡ t1 ++ member_text false (codes "at") (text_json at)
+    → t3 ≡ t2 ++ member_text true (codes "do") (text_json (codes "update"))
+    → t4 ≡ t3 ++ member_text true (codes "manager") (text_json who)
+    → t5 ≡ t4 ++ 125 ∷ [] → t5 ≡ t0 ++ compact (label_json (updated who at))
+updated-written who at t0 {t1 = t1} {t2 = t2} {t3 = t3} {t4 = t4} e0 e1 e2 e3 e4 =
+    let m3 = member (codes "manager") (text_json who) no_members in
+    let m2 = member (codes "do") (text_json (codes "update")) m3 in
+    let m1 = member (codes "at") (text_json at) m2 in
+    writes-object t0 m1 e0
+    (writes-member t1 false (codes "at") (text_json at) m2 e1
+    (writes-member t2 true (codes "do") (text_json (codes "update")) m3 e2
+    (writes-member t3 true (codes "manager") (text_json who) no_members e3
+    e4)))
+
+pub updated-of-program : (who at : Text)
+    → is_utf8 (codes "at") ≡ true → IsOfProgram (text_json at)
+    → is_utf8 (codes "do") ≡ true → IsOfProgram (text_json (codes "update"))
+    → is_utf8 (codes "manager") ≡ true → IsOfProgram (text_json who)
+    → IsOfProgram (label_json (updated who at))
+updated-of-program who at n1 v1 n2 v2 n3 v3 =
+    let m3 = member (codes "manager") (text_json who) no_members in
+    let m2 = member (codes "do") (text_json (codes "update")) m3 in
+    let m1 = member (codes "at") (text_json at) m2 in
+    (member-of-program (codes "at") (text_json at) m2 n1 refl v1
+    (member-of-program (codes "do") (text_json (codes "update")) m3 n2 refl v2
+    (member-of-program (codes "manager") (text_json who) no_members n3 refl v3
+    empty-of-program)))
+
+-- a strip
+pub stripped-written : (t0 : Text) {t1 t2 t3 : Text} → t1 ≡ t0 ++ 123 ∷ []
+    → t2 ≡ t1 ++ member_text false (codes "do") (text_json (codes "strip"))
+    → t3 ≡ t2 ++ 125 ∷ [] → t3 ≡ t0 ++ compact (label_json stripped)
+stripped-written t0 {t1 = t1} {t2 = t2} e0 e1 e2 =
+    let m1 = member (codes "do") (text_json (codes "strip")) no_members in
+    writes-object t0 m1 e0
+    (writes-member t1 false (codes "do") (text_json (codes "strip")) no_members e1
+    e2)
+
+pub stripped-of-program : is_utf8 (codes "do") ≡ true → IsOfProgram (text_json (codes "strip"))
+    → IsOfProgram (label_json stripped)
+stripped-of-program n1 v1 =
+    let m1 = member (codes "do") (text_json (codes "strip")) no_members in
+    (member-of-program (codes "do") (text_json (codes "strip")) no_members n1 refl v1
+    empty-of-program)
