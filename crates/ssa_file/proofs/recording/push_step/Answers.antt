@@ -4,11 +4,9 @@ use Rattle.std.specs.Cmp.{first_so, second_so}
 use Rattle.ssa_model.specs.definitions.Entries.{text_json, version_in}
 use Rattle.ssa_model.specs.definitions.Json.{compact}
 use Rattle.ssa_model.specs.definitions.Lawful.{has_metadata, is_ordered, is_root_kind}
-use Rattle.ssa_model.specs.definitions.Operations.{State}
 use Rattle.ssa_model.specs.definitions.Record.{record_of}
 use Rattle.ssa_model.specs.definitions.RecordText.{record_json}
 use Rattle.ssa_model.specs.definitions.Replies.{label_json}
-use Rattle.ssa_model.specs.definitions.Takes.{Takes}
 use Rattle.ssa_json.specs.Writable.{IsOfProgram}
 use Rattle.ssa_json.proofs.MemberTexts.{member-of}
 use Rattle.ssa_turn.specs.Histories.{label_view}
@@ -16,8 +14,8 @@ use Rattle.ssa_turn_state.specs.States.{state_steps}
 use Rattle.ssa_file.proofs.LineTexts.{line-of-program, line-written}
 use Rattle.ssa_file.proofs.recording.push_step.Goals as goal
 
-pub push_text-requires-clause-taken : goal.push_text-requires-clause-taken
-push_text-requires-clause-taken c =
+pub push_text-requires-2-clause-taken : goal.push_text-requires-2-clause-taken
+push_text-requires-2-clause-taken c =
     let h = c.requires.taken in
     (h.0, h.1, (c.args.schema.now.kind, h.2))
 
