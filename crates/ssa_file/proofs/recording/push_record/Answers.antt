@@ -33,7 +33,7 @@ returns-clause-ok c =
     let made = record_line (bench_with c.args.schema.now c.args.identity.now t) label (kept_from t n) (kept_to t n) in
     on-ok c.end_line.result
     (λ h s here. h ∙ line-ended c.args.text.now.items made
-    (c.in_ok-push_step.ensures.text t (kept_from t n) (kept_to t n) (kept-takes c.args.schema.now.kind t n s steps c.requires.valid here c.in-Some.ensures.steps))
+    (c.in_ok-push_step-in-Some.ensures.text t (kept_from t n) (kept_to t n) (kept-takes c.args.schema.now.kind t n s steps c.requires.valid here c.in-Some.ensures.steps))
     ∙ ap (λ v. c.args.text.now.items ++ line v) (kept-is c.args.schema.now c.args.identity.now t n s label here c.in-Some.ensures.command))
     c.end_line.ensures.ok
 
@@ -45,7 +45,7 @@ returns-clause-of_program c =
     let label = label_view c.in-Some.entry.1.now in
     on-ok c.end_line.result
     (λ h s here. subst IsOfProgram (kept-is c.args.schema.now c.args.identity.now t n s label here c.in-Some.ensures.command)
-    (c.in_ok-push_step.ensures.of_program t (kept_from t n) (kept_to t n)
+    (c.in_ok-push_step-in-Some.ensures.of_program t (kept_from t n) (kept_to t n)
     (kept-takes c.args.schema.now.kind t n s steps c.requires.valid here c.in-Some.ensures.steps)))
     c.end_line.ensures.ok
 
@@ -58,7 +58,7 @@ returns-clause-refused c =
     let made = record_line (bench_with c.args.schema.now c.args.identity.now t) label (kept_from t n) (kept_to t n) in
     if-err c.end_line.result _ _
     (λ f h s here. subst (CannotHold f) (line-ended c.args.text.now.items made
-    (c.in_ok-push_step.ensures.text t (kept_from t n) (kept_to t n) (kept-takes c.args.schema.now.kind t n s steps c.requires.valid here c.in-Some.ensures.steps))
+    (c.in_ok-push_step-in-Some.ensures.text t (kept_from t n) (kept_to t n) (kept-takes c.args.schema.now.kind t n s steps c.requires.valid here c.in-Some.ensures.steps))
     ∙ ap (λ v. c.args.text.now.items ++ line v) (kept-is c.args.schema.now c.args.identity.now t n s label here c.in-Some.ensures.command))
     h)
     c.end_line.ensures.refused
