@@ -1,5 +1,6 @@
 -- Which lines are which commands, and why the others are none.
-use Rattle.std.specs.Prelude.{◌≡◌, List, [], ◌∷◌, false, true, Option, Some, None, Result, Ok, Err, codes, string_bytes, is_some, option_and_then}
+use Rattle.std.specs.Prelude.{◌≡◌, List, [], ◌∷◌, false, true, Option, Some, None, Result, Ok, Err, codes, is_some, option_and_then}
+use Rattle.ssa_members.specs.Texts.{text_bytes}
 use Rattle.ssa_model.specs.definitions.Json.{Text, Members, member_of, as_text}
 use Rattle.ssa_model.specs.definitions.Readings.{not_json, null_value, number_outside}
 use Rattle.ssa_model.specs.definitions.Commands.{MemberRule, text_member, truth_member, texts_member, any_member, needs, may_have, CommandRule, text_in, value_in}
@@ -79,7 +80,7 @@ given_moment ms = text_in (member_of (codes "at") ms)
 
 -- the request is what the members give
 pub record IsRequest (ms : Members) (r : Request) : Type 0 where
-  pub manager_is : text_in (member_of (codes "manager") ms) ≡ string_bytes r.who
+  pub manager_is : text_in (member_of (codes "manager") ms) ≡ text_bytes r.who
   pub at_is : given_moment ms ≡ r.at
   pub moment : is_moment (given_moment ms) ≡ true
   pub object_is : value_in (member_of (codes "object") ms) ≡ view r.object

@@ -1,5 +1,6 @@
 //! Reads a line as a command.
-ghost use Rattle.std.specs.Prelude.{◌≡◌, IfOk, IsTrue, Some, option_map, option_and_then, string_bytes};
+ghost use Rattle.std.specs.Prelude.{◌≡◌, IsTrue, Some, option_map, option_and_then};
+ghost use Rattle.ssa_members.specs.Texts.{text_bytes};
 ghost use Rattle.ssa_json.specs.View.{view, members_view};
 ghost use Rattle.ssa_model.specs.definitions.Json.{object, as_text, member_of};
 ghost use Rattle.ssa_model.specs.definitions.Session.{read_command, read_line};
@@ -19,7 +20,7 @@ use ssa_json::members::find_member;
 use ssa_json::moment::Moment;
 use ssa_json::reading_room::ReadingRoom;
 use ssa_json::value::{Json, Scalar, objects_are_members};
-use ssa_members::Members;
+use ssa_members::{Members, SmallText};
 use ssa_path::element_fault::ElemFault;
 use ssa_told::path_texts::path_of_texts;
 use ssa_told::value_shape::{list_of, text_of};
@@ -141,29 +142,29 @@ fn command_of(alloc: Global, value: Json) -> Result<Command, LineFault>
 // Who asks for a change, when, and with which object.
 #[derive(Drop)]
 struct Request {
-    who: String,
+    who: SmallText,
     at: Moment,
     object: Json,
 }
 
 // Takes the request out of the members, where its moment is one.
-fn take_request(alloc: Global, members: &mut Members<Json>) -> Result<Option<Request>, AllocError>
+fn take_request(members: &mut Members<Json>) -> Option<Request>
     requires { HasRequest (members_view members.old.entries) }
-    ensures { IfOk result (λ request. Requests request (members_view members.old.entries)) }
+    ensures { Requests result (members_view members.old.entries) }
 {
     let Some(text) = text_of(members, "at") else {
         unreachable!("the shape has a text");
     };
     let Ok(at) = Moment::read(text) else {
-        return Ok(None);
+        return None;
     };
     let Some(object) = members.remove("object") else {
         unreachable!("the shape has the member");
     };
-    let Some(who) = take_text(alloc, members, "manager")? else {
+    let Some(who) = take_text(members, "manager") else {
         unreachable!("the shape has a text");
     };
-    Ok(Some(Request { who, at, object }))
+    Some(Request { who, at, object })
 }
 
 // The apply command of members that follow its rule.
@@ -173,9 +174,10 @@ fn apply_command(alloc: Global, mut members: Members<Json>) -> Result<Command, L
     ensures { ReadsCommand result (read_command readings (object (members_view members.entries))) }
 {
     let force = truth_of(&members, "force");
-    let Some(Request { who, at, object }) = take_request(alloc, &mut members)? else {
+    let Some(Request { who, at, object }) = take_request(&mut members) else {
         return Err(LineFault::BadMoment);
     };
+    let who = String::from_str(alloc, who.as_str())?;
     Ok(Command::Change(bench::Command::Apply {
         who,
         force,
@@ -190,9 +192,10 @@ fn update_command(alloc: Global, mut members: Members<Json>) -> Result<Command, 
     requires shape { IsTrue (follows_rule (members_view members.entries) (rule_at Word.Update)) }
     ensures { ReadsCommand result (read_command readings (object (members_view members.entries))) }
 {
-    let Some(Request { who, at, object }) = take_request(alloc, &mut members)? else {
+    let Some(Request { who, at, object }) = take_request(&mut members) else {
         return Err(LineFault::BadMoment);
     };
+    let who = String::from_str(alloc, who.as_str())?;
     Ok(Command::Change(bench::Command::Update { who, at, object }))
 }
 
@@ -235,25 +238,21 @@ fn truth_of(members: &Members<Json>, name: &str) -> bool
 }
 
 // Takes out the text of the member of a name, where it is one.
-fn take_text(
-    alloc: Global,
-    members: &mut Members<Json>,
-    name: &str,
-) -> Result<Option<String>, AllocError>
-    ensures { IfOk result (λ found. option_map (λ text. string_bytes text) found ≡ option_and_then as_text (member_of name.now (members_view members.old.entries))) }
+fn take_text(members: &mut Members<Json>, name: &str) -> Option<SmallText>
+    ensures { option_map (λ text. text_bytes text) result ≡ option_and_then as_text (member_of name.now (members_view members.old.entries)) }
 {
-    match members.remove(name) {
-        Some(value) => text_in(alloc, &value),
-        None => Ok(None),
-    }
+    into_text(members.remove(name)?)
 }
 
-// The text, where the value is one, in memory of its own.
-fn text_in(alloc: Global, value: &Json) -> Result<Option<String>, AllocError>
-    ensures { IfOk result (λ found. option_map (λ text. string_bytes text) found ≡ as_text (view value.now)) }
+// The text, where the value is one.
+fn into_text(value: Json) -> Option<SmallText>
+    ensures { option_map (λ text. text_bytes text) result ≡ as_text (view value) }
 {
-    match value.as_text() {
-        Some(text) => Ok(Some(String::from_str(alloc, text)?)),
-        None => Ok(None),
+    match value {
+        Json::Scalar(scalar) => match scalar {
+            Scalar::Text(text) => Some(text),
+            Scalar::Int(_) | Scalar::Bool(_) => None,
+        },
+        Json::List(_) | Json::Object(_) => None,
     }
 }

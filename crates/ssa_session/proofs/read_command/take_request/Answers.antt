@@ -1,4 +1,5 @@
-use Rattle.std.proofs.Common.{◌≡◌, ◌∙◌, ap, sym, refl, option_map, option_and_then, string_bytes, codes, Some}
+use Rattle.std.proofs.Common.{◌≡◌, ◌∙◌, ap, sym, refl, option_map, option_and_then, codes, Some}
+use Rattle.ssa_members.specs.Texts.{text_bytes}
 use Rattle.ssa_model.specs.definitions.Json.{as_text, member_of}
 use Rattle.ssa_model.specs.definitions.Commands.{value_in}
 use Rattle.ssa_json.specs.Moment.{is_moment}
@@ -18,14 +19,14 @@ unreachable-requires-in_default-remove c =
 pub unreachable-requires-in_default-take_text : goal.unreachable-requires-in_default-take_text
 unreachable-requires-in_default-take_text c =
     let same = other_member c.args.members.now.entries c.remove.new.self.entries (codes "object") (codes "manager") c.remove.ensures.entries refl in
-    there _ c.requires.1 (ap (option_and_then as_text) (sym same) ∙ sym c.take_text.ensures ∙ ap (option_map (λ t. string_bytes t)) c.in_default-take_text.is)
+    there _ c.requires.1 (ap (option_and_then as_text) (sym same) ∙ sym c.take_text.ensures ∙ ap (option_map (λ t. text_bytes t)) c.in_default-take_text.is)
 
 pub returns : goal.returns
 returns c =
     let ms = members_view c.args.members.now.entries in
     let same = other_member c.args.members.now.entries c.remove.new.self.entries (codes "object") (codes "manager") c.remove.ensures.entries refl in
-    let who-is : option_and_then as_text (member_of (codes "manager") ms) ≡ Some (string_bytes c.in-Some-take_text.who) =
-    ap (option_and_then as_text) (sym same) ∙ sym c.take_text.ensures ∙ ap (option_map (λ t. string_bytes t)) c.in-Some-take_text.is in
+    let who-is : option_and_then as_text (member_of (codes "manager") ms) ≡ Some (text_bytes c.in-Some-take_text.who) =
+    ap (option_and_then as_text) (sym same) ∙ sym c.take_text.ensures ∙ ap (option_map (λ t. text_bytes t)) c.in-Some-take_text.is in
     let at-is = text_in-is _ _ (sym c.text_of.ensures ∙ ap (option_map (λ t. t.now)) c.in-Some.is) in
     let object-is : member_of (codes "object") ms ≡ Some (view c.in-Some-remove.object) =
     sym (ap (option_map view) c.remove.ensures.value ∙ view-lookup (codes "object") c.args.members.now.entries) ∙ ap (option_map view) c.in-Some-remove.is in
