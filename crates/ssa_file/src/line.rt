@@ -2,6 +2,7 @@
 ghost use Rattle.std.specs.Prelude.{◌≡◌, ℕ, ◌<◌, ◌≤◌, List, [], ◌++◌, length, slice_index, take, IsTrue, ◌↔◌};
 ghost use Rattle.ssa_model.specs.definitions.Lines.{line_feed, HasNoLineFeed};
 
+use memchr::memchr;
 use std::alloc::Global;
 
 /// What is held of a line while it is read.
@@ -58,10 +59,8 @@ pub fn line_len(bytes: &[u8]) -> usize
     ensures before { HasNoLineFeed (take result bytes.now) }
     ensures found { result < length bytes.now → slice_index bytes.now result ≡ line_feed }
 {
-    for (i, byte) in bytes.iter().enumerate() {
-        if *byte == b'\n' {
-            return i;
-        }
+    match memchr(b'\n', bytes) {
+        Some(place) => place,
+        None => bytes.len(),
     }
-    bytes.len()
 }
