@@ -1,5 +1,6 @@
 -- What changes of a table say of its entries, one after the other.
-use Rattle.std.specs.Prelude.{◌≡◌, List, [], ◌∷◌, Bool, true, false, Option, option_map, filter_map}
+use Rattle.std.specs.List.{cons_option}
+use Rattle.std.specs.Prelude.{◌≡◌, List, [], ◌∷◌, ◌++◌, Bool, true, false, Option, option_map, filter_map, IfSome}
 use Rattle.ssa_model.specs.definitions.Json.{Text}
 use Rattle.ssa_model.specs.definitions.PathMap.{PathSet}
 use Rattle.ssa_model.specs.definitions.Table.{ManagerKey, Entry, Table, same_manager, entry_of, owned_by}
@@ -9,7 +10,7 @@ use Rattle.ssa_model.specs.definitions.Carry.{changed_entry}
 use Rattle.ssa_merge.specs.Managers.{key_view}
 use Rattle.ssa_turn_set.specs.Turn.{HasRoom}
 use Rattle.ssa_turn_table.specs.declared.delta.EntryChange.{EntryChange}
-use Rattle.ssa_turn_table.specs.Tables.{changes_view}
+use Rattle.ssa_turn_table.specs.Tables.{change_view, changes_view}
 
 -- the first of the changes is the manager's
 abbrev pub is_first : List Change → ManagerKey → Bool
@@ -47,3 +48,10 @@ pub record AreChanges (t u : Table) (es : List Entry) (cs : List EntryChange) : 
   pub own : AllEntries (λ e. owned_by t e.manager ≡ e.owned) es
   pub told : changes_view cs ≡ changes es u
   pub room : AllHaveRoom t cs
+
+-- the change that is told, where there is one, is put behind others, with room for a set
+pub record IsPutBehind (s : PathSet) (told : Option Change) (before after : List EntryChange) : Type 0 where
+  pub made : Option EntryChange
+  pub behind : after ≡ before ++ cons_option made []
+  pub tells : option_map change_view made ≡ told
+  pub room : IfSome made (λ c. HasRoom c.set s)

@@ -1,5 +1,6 @@
 //! The record of what a change makes of a table, in which no set that stays is copied or compared.
-ghost use Rattle.std.specs.Prelude.{◌≡◌, ◌≤◌, ◌&&◌, not, true, length, map, option_map, IfOk, IfSome};
+ghost use Rattle.std.specs.List.{cons_option};
+ghost use Rattle.std.specs.Prelude.{◌≡◌, ◌≤◌, ◌&&◌, ◌++◌, [], not, true, length, map, option_map, IfOk, IfSome, OnOk};
 ghost use Rattle.ssa_model.specs.definitions.Json.{same_text};
 ghost use Rattle.ssa_model.specs.definitions.PathMap.{PathSet, minus};
 ghost use Rattle.ssa_model.specs.definitions.Record.{change_of, changes, gone_from, table_record};
@@ -9,7 +10,7 @@ ghost use Rattle.ssa_merge.specs.Managers.{entry_view, key_view, table_view};
 ghost use Rattle.ssa_merge.specs.TableChanges.{changed_entries, changed_entry, leaves, lone, LeadsTo};
 ghost use Rattle.ssa_path.specs.Trie.{has_some, is_trie, paths};
 ghost use Rattle.ssa_turn_set.specs.Turn.{HasRoom, IsBetween};
-ghost use Rattle.ssa_turn_table.specs.Changing.{AllHaveRoom, change_in, owning};
+ghost use Rattle.ssa_turn_table.specs.Changing.{AllHaveRoom, IsPutBehind, change_in, owning};
 ghost use Rattle.ssa_turn_table.specs.Going.{AllKeysAgree};
 ghost use Rattle.ssa_turn_table.specs.Tables.{change_view, changes_view, heres_view, keys_view};
 ghost use Rattle.ssa_turn_table.specs.Turning.{HasTableRoom, table_steps};
@@ -76,43 +77,62 @@ fn is_kept(entry: &Entry, delta: &SetDelta, at: Moment) -> bool
     !delta.lose.has_paths() && is_same_moment(entry.at, at)
 }
 
-// The change of an entry whose manager loses these paths, and then has this moment.
-fn losing(
+// Puts the change of an entry whose manager loses these paths, and then has this moment, behind others, where there is one.
+//
+// It is made where it stands, since it is large.
+fn push_losing(
     alloc: Global,
     entry: &Entry,
     lost: FieldSet,
     at: Moment,
-) -> Result<Option<EntryChange>, AllocError>
-    ensures change { IfOk result (λ c. option_map change_view c ≡ change_of (entry_view entry.now) (Some (owning (entry_view entry.now) (minus entry.now.set lost) at))) }
-    ensures room { IfOk result (λ c. IfSome c (λ d. HasRoom d.set entry.now.set)) }
+    changed: &mut Vec<EntryChange>,
+) -> Result<(), AllocError>
+    ensures { OnOk result (IsPutBehind entry.now.set (change_of (entry_view entry.now) (Some (owning (entry_view entry.now) (minus entry.now.set lost) at))) changed.old.items changed.new.items) }
 {
     let delta = SetDelta::of_loss(alloc, &entry.set, lost)?;
     if is_kept(entry, &delta, at) {
-        return Ok(None);
+        return Ok(());
     }
     let key = entry.key.copy(alloc)?;
-    Ok(Some(EntryChange {
+    changed.push(EntryChange {
         key,
         set: delta,
         at: new_moment(entry.at, at),
-    }))
+    })?;
+    Ok(())
 }
 
-// The change of an entry by what becomes of it.
-fn change_by(
+// Puts a change behind others, where there is one.
+fn push_made(made: Option<EntryChange>, changed: &mut Vec<EntryChange>) -> Result<(), AllocError>
+    ensures { OnOk result (changed.new.items ≡ changed.old.items ++ cons_option made []) }
+{
+    if let Some(made) = made {
+        changed.push(made)?;
+    }
+    Ok(())
+}
+
+// Puts the change of an entry by what becomes of it behind others, where there is one.
+fn push_change_by(
     alloc: Global,
     entry: &Entry,
     change: table_change::EntryChange,
-) -> Result<Option<EntryChange>, AllocError>
-    ensures change { IfOk result (λ c. option_map change_view c ≡ change_in (changed_entry change (entry_view entry.now)) (entry_view entry.now)) }
-    ensures room { IfOk result (λ c. IfSome c (λ d. HasRoom d.set entry.now.set)) }
+    changed: &mut Vec<EntryChange>,
+) -> Result<(), AllocError>
+    ensures { OnOk result (IsPutBehind entry.now.set (change_in (changed_entry change (entry_view entry.now)) (entry_view entry.now)) changed.old.items changed.new.items) }
 {
     match change {
-        table_change::EntryChange::Stays => Ok(None),
-        table_change::EntryChange::Leaves => Ok(None),
-        table_change::EntryChange::Renewed(at) => renewed(alloc, entry, at),
-        table_change::EntryChange::Loses(lost, at) => losing(alloc, entry, lost, at),
-        table_change::EntryChange::Owns(set, at) => change_to(alloc, entry, &set, at),
+        table_change::EntryChange::Stays => Ok(()),
+        table_change::EntryChange::Leaves => Ok(()),
+        table_change::EntryChange::Renewed(at) => {
+            let made = renewed(alloc, entry, at)?;
+            push_made(made, changed)
+        }
+        table_change::EntryChange::Loses(lost, at) => push_losing(alloc, entry, lost, at, changed),
+        table_change::EntryChange::Owns(set, at) => {
+            let made = change_to(alloc, entry, &set, at)?;
+            push_made(made, changed)
+        }
     }
 }
 
@@ -146,9 +166,7 @@ fn changes_by(
     let mut changed = Vec::with_capacity(alloc, count_changing(&told))?;
     let mut place = 0;
     for change in told {
-        if let Some(made) = change_by(alloc, &entries[place], change)? {
-            changed.push(made)?;
-        }
+        push_change_by(alloc, &entries[place], change, &mut changed)?;
         place += 1;
     }
     Ok(changed)

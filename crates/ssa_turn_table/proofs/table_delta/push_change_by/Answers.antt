@@ -1,0 +1,49 @@
+use Rattle.std.proofs.Common.{None, ap, sym, ◌∙◌, subst}
+use Rattle.std.proofs.lemmas.List.{append-nil}
+use Rattle.std.proofs.lemmas.Result.{on_ok_weaker}
+use Rattle.std.specs.Prelude.{OnOk}
+use Rattle.ssa_model.specs.definitions.PathMap.{minus}
+use Rattle.ssa_merge.specs.Managers.{entry_view}
+use Rattle.ssa_merge.specs.TableChanges.{changed_entry}
+use Rattle.ssa_turn_table.specs.Changing.{change_in, IsPutBehind}
+use Rattle.ssa_turn_table.proofs.Staying.{lone-owning, stays-none}
+use Rattle.ssa_turn_table.proofs.table_delta.push_change_by.Goals as goal
+
+pub returns-in-Stays : goal.returns-in-Stays
+returns-in-Stays c =
+    let e = entry_view c.args.entry.now in
+    record {
+      made = None;
+      behind = sym (append-nil c.args.changed.now.items);
+      tells = stays-none e ∙ ap (λ f. change_in (changed_entry f e) e) (sym c.in-Stays.is);
+      room = tt;
+    }
+
+pub returns-in_ok-made-in-Renewed : goal.returns-in_ok-made-in-Renewed
+returns-in_ok-made-in-Renewed c =
+    let e = entry_view c.args.entry.now in
+    let by = sym (lone-owning e e.owned c.in-Renewed.at) ∙ ap (λ f. change_in (changed_entry f e) e) (sym c.in-Renewed.is) in
+    on_ok_weaker c.push_made.result (λ behind. record {
+      made = c.in_ok-made-in-Renewed.made;
+      behind = behind;
+      tells = c.in_ok-made-in-Renewed.ensures.change ∙ by;
+      room = c.in_ok-made-in-Renewed.ensures.room;
+    }) c.push_made.ensures
+
+pub returns-in_ok-made-in-Owns : goal.returns-in_ok-made-in-Owns
+returns-in_ok-made-in-Owns c =
+    let e = entry_view c.args.entry.now in
+    let by = sym (lone-owning e c.in-Owns.set c.in-Owns.at) ∙ ap (λ f. change_in (changed_entry f e) e) (sym c.in-Owns.is) in
+    on_ok_weaker c.push_made-in-Owns.result (λ behind. record {
+      made = c.in_ok-made-in-Owns.made;
+      behind = behind;
+      tells = c.in_ok-made-in-Owns.ensures.change ∙ by;
+      room = c.in_ok-made-in-Owns.ensures.room;
+    }) c.push_made-in-Owns.ensures
+
+pub returns-in-Loses : goal.returns-in-Loses
+returns-in-Loses c =
+    let e = entry_view c.args.entry.now in
+    let s = c.args.entry.now.set in
+    let by = sym (lone-owning e (minus s c.in-Loses.lost) c.in-Loses.at) ∙ ap (λ f. change_in (changed_entry f e) e) (sym c.in-Loses.is) in
+    subst (λ told. OnOk c.push_losing.result (IsPutBehind s told c.args.changed.now.items c.push_losing.new.changed.items)) by c.push_losing.ensures
