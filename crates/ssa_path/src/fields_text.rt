@@ -2,24 +2,25 @@
 ghost use Rattle.std.specs.Prelude.{◌≡◌, [], ◌∷◌, ◌++◌, true, OnOk, if◌then◌else◌};
 ghost use Rattle.ssa_model.specs.definitions.FieldsV1.{fields_json};
 ghost use Rattle.ssa_model.specs.definitions.Json.{compact};
+ghost use Rattle.ssa_model.specs.definitions.PathMap.{listed};
 ghost use Rattle.ssa_json.specs.Writable.{IsOfProgram};
 ghost use Rattle.ssa_path.specs.FieldsWriting.{below_json, dot_text, paths_json};
 ghost use Rattle.ssa_path.specs.Trie.{is_filled, is_trie, paths};
 
-use crate::field_set::FieldSet;
 use crate::path_text::push_element;
 use crate::trie::Trie;
 use ssa_json::write::push_comma;
 use std::alloc::{AllocError, Global};
 
-impl FieldSet {
-    /// Appends the set in FieldsV1 form, as [`FieldSet::to_fields_v1`] gives it, to a text. Where memory runs out,
-    /// part of it may stand there.
+impl Trie {
+    /// Appends the set of the trie's paths in FieldsV1 form, as [`Trie::to_fields_v1`] gives it, to a text. Where memory
+    /// runs out, part of it may stand there.
     pub fn push_fields_v1(&self, alloc: Global, text: &mut Vec<u8>) -> Result<(), AllocError>
-        ensures text { OnOk result (text.new.items ≡ text.old.items ++ compact (fields_json self.now)) }
-        ensures of_program { OnOk result (IsOfProgram (fields_json self.now)) }
+        requires { is_trie self.now ≡ true }
+        ensures text { OnOk result (text.new.items ≡ text.old.items ++ compact (fields_json (listed (paths self.now)))) }
+        ensures of_program { OnOk result (IsOfProgram (fields_json (listed (paths self.now)))) }
     {
-        push_place(alloc, text, self.root())
+        push_place(alloc, text, self)
     }
 }
 

@@ -46,9 +46,12 @@ const SAID: [(&str, &str); 7] = [
     ),
 ];
 
-// Whether a set is written as this FieldsV1.
+// Whether a set is written as this FieldsV1, as a value and straight into a text.
 fn is_written(alloc: Global, set: &FieldSet, text: &str) -> Result<bool, Fail> {
-    Ok(printed(alloc, &set.to_fields_v1(alloc)?)?.as_str() == text)
+    let mut written = Vec::new(alloc);
+    set.root().push_fields_v1(alloc, &mut written)?;
+    let value = printed(alloc, &set.to_fields_v1(alloc)?)?;
+    Ok(written.as_slice() == text.as_bytes() && value.as_str() == text)
 }
 
 // The paths of a set that is written as this FieldsV1.

@@ -1,38 +1,38 @@
--- Values told of paths, put in path order one after the other.
+-- What is told of paths, put in path order one after the other.
 use Rattle.std.proofs.Common.{◌≡◌, ◌<◌, List, [], ◌∷◌, ◌++◌, length, map, Less, Equal, Greater, refl, sym, ap, ◌∙◌, append_assoc, append-nil, arith}
 use Rattle.std.specs.BTreeMap.{insert_entry}
 use Rattle.std.specs.FinMap.Entries.{put, by_order}
-use Rattle.std.specs.Map.{values_of}
 use Rattle.std.specs.Ordering.{match_ordering, on}
 use Rattle.ssa_model.specs.definitions.Json.{Json, list}
 use Rattle.ssa_model.specs.definitions.Path.{Path, path_cmp}
 use Rattle.ssa_model.specs.definitions.PathMap.{from_entries}
 use Rattle.ssa_model.specs.definitions.Replies.{list_json}
 use Rattle.ssa_model.proofs.Texts.{same_path_same}
-use Rattle.ssa_json.specs.View.{items_of, view}
-use Rattle.ssa_json.specs.declared.value.Json as program
+use Rattle.ssa_json.specs.View.{items_of}
 use Rattle.ssa_json.proofs.Listed.{items-made}
 use Rattle.ssa_path.specs.TopPaths.{lent_path}
 use Rattle.ssa_path.specs.declared.top_path.LentPath.{LentPath}
-use Rattle.ssa_turn_body.specs.ToldValues.{as_values, in_path_order, told_view}
+use Rattle.ssa_turn_body.specs.ToldValues.{as_values, entry_json, told_json, told_view}
+use Rattle.ssa_turn_body.specs.declared.told_paths.Told.{Told}
 
 abbrev pub Entry : Type 0
-Entry = LentPath × program.Json
+Entry = LentPath × Told
 
 -- an entry more in the map is an entry more among the paths
-pub entry-put : (p : LentPath) (v : program.Json) (es : List Entry)
-    → told_view (insert_entry (on lent_path path_cmp) es p v) ≡ put path_cmp (lent_path p) (view v) (told_view es)
-entry-put p v [] = refl
-entry-put p v (e ∷ es) =
-    let own : Path × Json = (lent_path p, view v) in
-    let here : Path × Json = (lent_path e.0, view e.1) in
-    elim (path_cmp (lent_path p) (lent_path e.0)) as (λ o. told_view
-    (match_ordering o ((p, v) ∷ e ∷ es) ((e.0, v) ∷ es) (e ∷ insert_entry (on lent_path path_cmp) es p v))
-    ≡ by_order o (own ∷ here ∷ told_view es) ((lent_path e.0, view v) ∷ told_view es) (here ∷ put path_cmp (lent_path p) (view v) (told_view es))) [
-      | Less ↦ refl
-      | Equal ↦ refl
-      | Greater ↦ ap (λ l. here ∷ l) (entry-put p v es)
-    ]
+pub entry-put : (p : LentPath) (t : Told) (es : List Entry)
+    → told_view (insert_entry (on lent_path path_cmp) es p t) ≡ put path_cmp (lent_path p) (told_json (lent_path p) t) (told_view es)
+entry-put p t [] = refl
+entry-put p t (e ∷ es) =
+    let own : Path × Json = (lent_path p, told_json (lent_path p) t) in
+    let here : Path × Json = (lent_path e.0, entry_json e) in
+    elim (path_cmp (lent_path p) (lent_path e.0)) as (λ o. path_cmp (lent_path p) (lent_path e.0) ≡ o → told_view
+    (match_ordering o ((p, t) ∷ e ∷ es) ((e.0, t) ∷ es) (e ∷ insert_entry (on lent_path path_cmp) es p t))
+    ≡ by_order o (own ∷ here ∷ told_view es) ((lent_path e.0, told_json (lent_path p) t) ∷ told_view es)
+    (here ∷ put path_cmp (lent_path p) (told_json (lent_path p) t) (told_view es))) [
+      | Less ↦ λ is. refl
+      | Equal ↦ λ is. ap (λ q. (lent_path e.0, told_json q t) ∷ told_view es) (sym (same_path_same (lent_path p) (lent_path e.0) is))
+      | Greater ↦ λ is. ap (λ l. here ∷ l) (entry-put p t es)
+    ] refl
 
 module _ {X Y : Type 0} (f : Path × X → Y) where
   -- the entries with what a function makes of each
@@ -59,13 +59,18 @@ module _ {X Y : Type 0} (f : Path × X → Y) where
   values-with [] = refl
   values-with (e ∷ es) = ap (λ l. f e ∷ l) (values-with es)
 
+values-told : (es : List Entry) → map entry_json es ≡ map (λ e. e.1) (told_view es)
+values-told [] = refl
+values-told (e ∷ es) = ap (λ l. entry_json e ∷ l) (values-told es)
+
 -- the list of what is told, in path order
-pub told-listed : {X : Type 0} (f : Path × X → Json) (told : List (Path × Json)) (es : List (Path × X)) → told ≡ as_values f es
-    → list (items_of (in_path_order told)) ≡ list_json f (from_entries es).entries
-told-listed f told es is =
-    ap (λ l. list (items_of (in_path_order l))) is
-    ∙ ap (λ l. list (items_of l)) (ap (map (λ e. e.1)) (entries-with f es) ∙ values-with f (from_entries es).entries)
-    ∙ ap list (items-made f (from_entries es).entries)
+pub told-listed : {X : Type 0} (f : Path × X → Json) (told ordered : List Entry) (es : List (Path × X)) → told_view told ≡ as_values f es
+    → told_view ordered ≡ (from_entries (told_view told)).entries → list_json entry_json ordered ≡ list_json f (from_entries es).entries
+told-listed f told ordered es is order =
+    let entries = order ∙ ap (λ l. (from_entries l).entries) is ∙ entries-with f es in
+    ap list (sym (items-made entry_json ordered)
+    ∙ ap items_of (values-told ordered ∙ ap (map (λ e. e.1)) entries ∙ values-with f (from_entries es).entries)
+    ∙ items-made f (from_entries es).entries)
 
 -- of these entries the first are left, and those behind them are in the map
 pub record AreSorted (all rest sorted : List Entry) : Type 0 where
@@ -81,32 +86,20 @@ pub sorted-none : (es sorted : List Entry) → sorted ≡ [] → AreSorted es es
 sorted-none es sorted none = record { taken = []; whole = sym (append-nil es); done = ap told_view none }
 
 -- one more is taken off the end
-pub sorted-more : (all old new sorted sorted2 : List Entry) (p : LentPath) (v : program.Json) → AreSorted all old sorted → old ≡ new ++ (p, v) ∷ []
-    → sorted2 ≡ insert_entry (on lent_path path_cmp) sorted p v → AreSorted all new sorted2
-sorted-more all old new sorted sorted2 p v h is put_in = record {
-  taken = (p, v) ∷ h.taken;
-  whole = h.whole ∙ ap (λ l. l ++ h.taken) is ∙ append_assoc new ((p, v) ∷ []) h.taken;
-  done = ap told_view put_in ∙ entry-put p v sorted ∙ ap (put path_cmp (lent_path p) (view v)) h.done;
+pub sorted-more : (all old new sorted sorted2 : List Entry) (p : LentPath) (t : Told) → AreSorted all old sorted → old ≡ new ++ (p, t) ∷ []
+    → sorted2 ≡ insert_entry (on lent_path path_cmp) sorted p t → AreSorted all new sorted2
+sorted-more all old new sorted sorted2 p t h is put_in = record {
+  taken = (p, t) ∷ h.taken;
+  whole = h.whole ∙ ap (λ l. l ++ h.taken) is ∙ append_assoc new ((p, t) ∷ []) h.taken;
+  done = ap told_view put_in ∙ entry-put p t sorted ∙ ap (put path_cmp (lent_path p) (told_json (lent_path p) t)) h.done;
 }
 
 -- at last all are
 pub sorted-all : (all rest sorted : List Entry) → AreSorted all rest sorted → rest ≡ [] → told_view sorted ≡ (from_entries (told_view all)).entries
 sorted-all all rest sorted h none = h.done ∙ ap (λ l. (from_entries (told_view l)).entries) (sym (h.whole ∙ ap (λ l. l ++ h.taken) none))
 
--- ---- the values alone
-
--- a list whose elements are shown as themselves is itself
-pub itself : {A : Type 0} (xs : List A) → map (λ x. x) xs ≡ xs
-itself [] = refl
-itself (x ∷ xs) = ap (λ l. x ∷ l) (itself xs)
-
--- the values alone, as they are seen, are those of the entries
-pub values-shown : (es : List Entry) → map view (values_of es) ≡ map (λ e. e.1) (told_view es)
-values-shown [] = refl
-values-shown (e ∷ es) = ap (λ l. view e.1 ∷ l) (values-shown es)
-
--- of fewer than two entries the values are in path order as they are told
-pub few-in-order : (es : List Entry) → length es < 2 → in_path_order (told_view es) ≡ map (λ e. e.1) (told_view es)
+-- fewer than two entries are in path order as they are told
+pub few-in-order : (es : List Entry) → length es < 2 → told_view es ≡ (from_entries (told_view es)).entries
 few-in-order [] lt = refl
 few-in-order (e ∷ []) lt = refl
 few-in-order (e ∷ f ∷ es) lt = absurd (omega arith)

@@ -1,33 +1,38 @@
 -- What changes tell, each as a value beside its path.
 use Rattle.std.specs.Prelude.{ℕ, List, [], ◌∷◌, map, Option}
-use Rattle.ssa_model.specs.definitions.Json.{Json, list, item}
+use Rattle.ssa_model.specs.definitions.Json.{Json, list, item, no_items}
 use Rattle.ssa_model.specs.definitions.Path.{Element, Path}
-use Rattle.ssa_model.specs.definitions.PathMap.{from_entries}
 use Rattle.ssa_model.specs.definitions.RecordText.{place_items}
 use Rattle.ssa_model.specs.definitions.Replies.{path_json}
-use Rattle.ssa_json.specs.View.{view}
-use Rattle.ssa_json.specs.declared.value.Json as program
 use Rattle.ssa_path.specs.TopPaths.{lent_path}
 use Rattle.ssa_path.specs.View.{element_view, path_view}
 use Rattle.ssa_path.specs.declared.top_path.LentPath.{LentPath}
-use Rattle.ssa_typed.specs.Values.{value_of}
+use Rattle.ssa_typed.specs.Values.{leaf_value, value_of}
 use Rattle.ssa_typed.specs.declared.node.Node.{Node}
 use Rattle.ssa_turn_body.specs.Marks.{Child}
 use Rattle.ssa_turn_body.specs.Records.{place_after}
 use Rattle.ssa_turn_body.specs.declared.change.PlaceChange.{PlaceChange}
 use Rattle.ssa_turn_body.specs.declared.change.PlaceChange.TheVariants.{Leaf, Children}
+use Rattle.ssa_turn_body.specs.declared.told_paths.Told.{Told}
+use Rattle.ssa_turn_body.specs.declared.told_paths.Told.TheVariants.{Cut, Order, Put}
 
--- values beside paths that are lent
-abbrev pub told_view : List (LentPath × program.Json) → List (Path × Json)
-told_view = map (λ e. (lent_path e.0, view e.1))
+-- what is told of a path, as a value
+abbrev pub told_json : Path → Told → Json
+told_json p Cut = path_json p
+told_json p (Told.Leaf l) = list (item (path_json p) (item (leaf_value l.now) no_items))
+told_json p (Order es) = list (item (path_json p) (item (path_json (path_view es.now)) no_items))
+told_json p (Put c) = list (item (path_json p) (item (value_of c.node.now) (place_items c.place)))
+
+abbrev pub entry_json : LentPath × Told → Json
+entry_json e = told_json (lent_path e.0) e.1
+
+-- what is told, as values beside the paths
+abbrev pub told_view : List (LentPath × Told) → List (Path × Json)
+told_view = map (λ e. (lent_path e.0, entry_json e))
 
 -- each of what is told as a value
 abbrev pub as_values : {X : Type 0} → (Path × X → Json) → List (Path × X) → List (Path × Json)
 as_values f = map (λ e. (e.0, f e))
-
--- the values alone, in the order of their paths, the first at each path
-abbrev pub in_path_order : List (Path × Json) → List Json
-in_path_order es = map (λ e. e.1) (from_entries es).entries
 
 -- the path of what is told alone
 abbrev pub path_alone : {X : Type 0} → Path × X → Json

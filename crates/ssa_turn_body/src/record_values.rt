@@ -11,7 +11,7 @@ ghost use Rattle.ssa_turn_body.specs.Records.{body_told};
 ghost use Rattle.ssa_turn_body.specs.Writable.{AreWritable};
 
 use crate::steps::BodySteps;
-use crate::told_values::values_in_path_order;
+use crate::told_values::{in_path_order, told_list};
 use crate::writing::{told_cuts, told_leaves, told_orders};
 use crate::writing_parts::told_parts;
 use ssa_json::value::Json;
@@ -23,7 +23,8 @@ impl BodySteps {
         ensures { IfOk result (λ v. view v ≡ paths_json (body_told self.now).cut) }
     {
         let told = told_cuts(alloc, &self.steps)?;
-        let value = values_in_path_order(alloc, told)?;
+        let ordered = in_path_order(alloc, told)?;
+        let value = told_list(alloc, &ordered)?;
         Ok(value)
     }
 
@@ -32,7 +33,8 @@ impl BodySteps {
         ensures { IfOk result (λ v. view v ≡ list_json leaf_json (body_told self.now).leaves.entries) }
     {
         let told = told_leaves(alloc, &self.steps)?;
-        let value = values_in_path_order(alloc, told)?;
+        let ordered = in_path_order(alloc, told)?;
+        let value = told_list(alloc, &ordered)?;
         Ok(value)
     }
 
@@ -41,7 +43,8 @@ impl BodySteps {
         ensures { IfOk result (λ v. view v ≡ list_json order_json (body_told self.now).order.entries) }
     {
         let told = told_orders(alloc, &self.steps)?;
-        let value = values_in_path_order(alloc, told)?;
+        let ordered = in_path_order(alloc, told)?;
+        let value = told_list(alloc, &ordered)?;
         Ok(value)
     }
 
@@ -54,7 +57,8 @@ impl BodySteps {
             → view j ≡ list_json (put_json kind) (body_told self.now).put.entries) }
     {
         let told = told_parts(alloc, &self.steps)?;
-        let value = values_in_path_order(alloc, told)?;
+        let ordered = in_path_order(alloc, told)?;
+        let value = told_list(alloc, &ordered)?;
         Ok(value)
     }
 }

@@ -1,10 +1,7 @@
-//! What comes by changes, as values in the order of their paths.
+//! What changes tell of what comes.
 ghost use Rattle.std.specs.Prelude.{◌≡◌, ◌∷◌, ◌++◌, [], ◌<◌, ◌^◌, length, true, IfOk, IfSome, OnOk, Some, if◌then◌else◌, position};
 ghost use Rattle.std.specs.List.{position_from};
-ghost use Rattle.ssa_model.specs.definitions.Json.{item, list, no_items};
 ghost use Rattle.ssa_model.specs.definitions.Path.{same_element};
-ghost use Rattle.ssa_json.specs.View.{view};
-ghost use Rattle.ssa_path.specs.TopPaths.{lent_path};
 ghost use Rattle.ssa_path.specs.View.{element_view, path_view};
 ghost use Rattle.ssa_typed.specs.Rows.{are_trees, is_tree};
 ghost use Rattle.ssa_turn_body.specs.Found.{AreBelow};
@@ -15,7 +12,7 @@ ghost use Rattle.ssa_turn_body.specs.Writable.{AreWritable, IsWritable};
 
 use crate::change::PlaceChange;
 use crate::steps::Step;
-use ssa_json::value::Json;
+use crate::told_paths::{ComingChild, Told};
 use ssa_path::element::Elem;
 use ssa_path::top_path::LentPath;
 use ssa_typed::node::Node;
@@ -62,43 +59,12 @@ fn place_after(order: &[Elem], element: &Elem, place: usize) -> Option<usize>
     }
 }
 
-// The list of three values.
-fn list_of_three(alloc: Global, first: Json, second: Json, third: Json) -> Result<Json, AllocError>
-    ensures { IfOk result (λ v. view v ≡ list (item (view first) (item (view second) (item (view third) no_items)))) }
-{
-    let mut items = Vec::with_capacity(alloc, 3)?;
-    items.push(first)?;
-    items.push(second)?;
-    items.push(third)?;
-    Ok(Json::List(items))
-}
-
-// A path, the value that comes there, and the place of an item.
-fn coming_value(
-    alloc: Global,
-    path: &LentPath<'_>,
-    node: &Node,
-    place: Option<usize>,
-) -> Result<Json, AllocError>
-    requires tree { is_tree node.now ≡ true }
-    requires small { IfSome place (λ k. k < 2 ^ 63) }
-    ensures { IfOk result (λ v. view v ≡ coming_json (lent_path path.now, (node.now, place))) }
-{
-    let path = path.to_json(alloc)?;
-    let value = node.to_json(alloc)?;
-    match place {
-        None => Json::of_pair(alloc, path, value),
-        Some(place) => list_of_three(alloc, path, value, Json::of_count(place)),
-    }
-}
-
 // Puts a child that comes behind others.
 fn push_child<'a>(
-    alloc: Global,
     at: &'a [Elem],
     child: &'a (Elem, Node),
     place: Option<usize>,
-    told: &mut Vec<(LentPath<'a>, Json)>,
+    told: &mut Vec<(LentPath<'a>, Told<'a>)>,
 ) -> Result<(), AllocError>
     requires tree { is_tree child.now.1 ≡ true }
     requires small { IfSome place (λ k. k < 2 ^ 63) }
@@ -108,19 +74,21 @@ fn push_child<'a>(
         place: at,
         last: Some(&child.0),
     };
-    let value = coming_value(alloc, &path, &child.1, place)?;
-    told.push((path, value))?;
+    let coming = ComingChild {
+        node: &child.1,
+        place,
+    };
+    told.push((path, Told::Put(coming)))?;
     Ok(())
 }
 
 // Puts children that come at a place behind others, each with its place there.
 fn push_children<'a>(
-    alloc: Global,
     at: &'a [Elem],
     order: &[Elem],
     places: &[usize],
     held: &'a [(Elem, Node)],
-    told: &mut Vec<(LentPath<'a>, Json)>,
+    told: &mut Vec<(LentPath<'a>, Told<'a>)>,
 ) -> Result<(), AllocError>
     requires trees { are_trees held.now ≡ true }
     requires each { length held.now ≡ length places.now }
@@ -130,16 +98,15 @@ fn push_children<'a>(
     for (i, child) in held.iter().enumerate() {
         let own = places[i];
         let place = place_after(order, &child.0, own);
-        push_child(alloc, at, child, place, told)?;
+        push_child(at, child, place, told)?;
     }
     Ok(())
 }
 
 // Puts what comes by a change behind others.
 fn push_parts<'a>(
-    alloc: Global,
     step: &'a Step,
-    told: &mut Vec<(LentPath<'a>, Json)>,
+    told: &mut Vec<(LentPath<'a>, Told<'a>)>,
 ) -> Result<(), AllocError>
     requires { IsWritable step.now.change }
     ensures { OnOk result (told_view told.new.items ≡ told_view told.old.items ++ as_values coming_json (at_place (path_view step.now.path.items) (comes_in step.now.change))) }
@@ -147,7 +114,6 @@ fn push_parts<'a>(
     match &step.change {
         PlaceChange::Leaf(_) => Ok(()),
         PlaceChange::Children(edit) => push_children(
-            alloc,
             &step.path,
             &edit.order.after,
             &edit.come.places,
@@ -161,13 +127,13 @@ fn push_parts<'a>(
 pub fn told_parts<'a>(
     alloc: Global,
     steps: &'a [Step],
-) -> Result<Vec<(LentPath<'a>, Json)>, AllocError>
+) -> Result<Vec<(LentPath<'a>, Told<'a>)>, AllocError>
     requires { AreWritable steps.now }
     ensures { IfOk result (λ t. told_view t.items ≡ as_values coming_json (told_by comes_in steps.now)) }
 {
     let mut told = Vec::new(alloc);
     for step in steps {
-        push_parts(alloc, step, &mut told)?;
+        push_parts(step, &mut told)?;
     }
     Ok(told)
 }

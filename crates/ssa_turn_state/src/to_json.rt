@@ -55,7 +55,8 @@ impl StateDelta {
         text.push(b'{')?;
         push_name(text, false, "changed")?;
         self.table.push_changed(alloc, text)?;
-        push_member(text, true, "cut", &self.body.cut_to_json(alloc)?)?;
+        push_name(text, true, "cut")?;
+        self.body.push_cuts(alloc, text)?;
         push_member(text, true, "gone", &self.table.gone_to_json(alloc)?)?;
         push_member(
             text,
@@ -63,9 +64,12 @@ impl StateDelta {
             "here",
             &self.table.here_to_json(alloc, version)?,
         )?;
-        push_member(text, true, "leaves", &self.body.leaves_to_json(alloc)?)?;
-        push_member(text, true, "order", &self.body.order_to_json(alloc)?)?;
-        push_member(text, true, "put", &self.body.put_to_json(alloc)?)?;
+        push_name(text, true, "leaves")?;
+        self.body.push_leaves(alloc, text)?;
+        push_name(text, true, "order")?;
+        self.body.push_orders(alloc, text)?;
+        push_name(text, true, "put")?;
+        self.body.push_puts(alloc, text)?;
         text.push(b'}')?;
         Ok(())
     }

@@ -13,7 +13,7 @@ ghost use Rattle.ssa_turn_table.specs.Turning.{table_steps};
 
 use crate::delta::{EntryChange, TableDelta};
 use ssa_json::moment::Moment;
-use ssa_json::write::{push_comma, push_member, push_text_member};
+use ssa_json::write::{push_comma, push_name, push_text_member};
 use std::alloc::{AllocError, Global};
 
 // Appends a change's moment, where it is another, and the brace that closes the change.
@@ -38,8 +38,10 @@ fn push_change(alloc: Global, text: &mut Vec<u8>, change: &EntryChange) -> Resul
     ensures of_program { OnOk result (IsOfProgram (change_json (change_view change.now))) }
 {
     text.push(b'{')?;
-    push_member(text, false, "gain", &change.set.gain.to_fields_v1(alloc)?)?;
-    push_member(text, true, "lose", &change.set.lose.to_fields_v1(alloc)?)?;
+    push_name(text, false, "gain")?;
+    change.set.gain.push_fields_v1(alloc, text)?;
+    push_name(text, true, "lose")?;
+    change.set.lose.push_fields_v1(alloc, text)?;
     push_text_member(text, true, "manager", change.key.name.as_str())?;
     push_text_member(text, true, "operation", change.key.operation.text())?;
     push_time(alloc, text, change.at)

@@ -2,8 +2,9 @@ use Rattle.std.proofs.Common.{true, false, ap, subst}
 use Rattle.std.specs.Prelude.{codes}
 use Rattle.std.proofs.lemmas.Result.{on_ok_weaker}
 use Rattle.ssa_model.specs.definitions.Entries.{text_json}
+use Rattle.ssa_model.specs.definitions.FieldsV1.{fields_json}
 use Rattle.ssa_json.specs.Writable.{IsOfProgram}
-use Rattle.ssa_json.proofs.MemberTexts.{member-as}
+use Rattle.ssa_json.proofs.MemberTexts.{member-as, member-of}
 use Rattle.ssa_turn_table.specs.Tables.{change_view}
 use Rattle.ssa_turn_table.proofs.ChangeTexts.{change-of-program, change-written}
 use Rattle.ssa_turn_table.proofs.push_changed.push_change.Goals as goal
@@ -13,9 +14,10 @@ returns-clause-text c =
     let change = change_view c.args.change.now in
     on_ok_weaker c.push_time.result
     (change-written change c.args.text.now.items c.in_ok-push.ensures.items
-    (member-as c.push.new.self.items false (codes "gain") c.in_ok-push_member.ensures.text c.in_ok-to_fields_v1.ensures)
-    (member-as c.push_member.new.text.items true (codes "lose") c.in_ok-push_member-2.ensures.text c.in_ok-to_fields_v1-2.ensures)
-    (member-as c.push_member-2.new.text.items true (codes "manager") c.in_ok-push_text_member.ensures.text (ap text_json c.as_str.ensures.value))
+    (member-of c.push.new.self.items false (codes "gain") (fields_json change.gain) c.in_ok-push_name.ensures.text c.in_ok-push_fields_v1.ensures.text)
+    (member-of c.push_fields_v1.new.text.items true (codes "lose") (fields_json change.lose) c.in_ok-push_name-2.ensures.text
+    c.in_ok-push_fields_v1-2.ensures.text)
+    (member-as c.push_fields_v1-2.new.text.items true (codes "manager") c.in_ok-push_text_member.ensures.text (ap text_json c.as_str.ensures.value))
     (member-as c.push_text_member.new.text.items true (codes "operation") c.in_ok-push_text_member-2.ensures.text (ap text_json c.text.ensures)))
     c.push_time.ensures.text
 
@@ -23,8 +25,8 @@ pub returns-clause-of_program : goal.returns-clause-of_program
 returns-clause-of_program c =
     let change = change_view c.args.change.now in
     on_ok_weaker c.push_time.result
-    (change-of-program change c.in_ok-push_member.ensures.utf8 (subst IsOfProgram c.in_ok-to_fields_v1.ensures c.in_ok-push_member.ensures.of_program)
-    c.in_ok-push_member-2.ensures.utf8 (subst IsOfProgram c.in_ok-to_fields_v1-2.ensures c.in_ok-push_member-2.ensures.of_program)
+    (change-of-program change c.in_ok-push_name.ensures.utf8 c.in_ok-push_fields_v1.ensures.of_program
+    c.in_ok-push_name-2.ensures.utf8 c.in_ok-push_fields_v1-2.ensures.of_program
     c.in_ok-push_text_member.ensures.utf8 (subst IsOfProgram (ap text_json c.as_str.ensures.value) c.in_ok-push_text_member.ensures.of_program)
     c.in_ok-push_text_member-2.ensures.utf8 (subst IsOfProgram (ap text_json c.text.ensures) c.in_ok-push_text_member-2.ensures.of_program))
     c.push_time.ensures.of_program

@@ -1,11 +1,15 @@
 use Rattle.std.proofs.Common.{ap, ◌∙◌}
 use Rattle.ssa_model.specs.definitions.RecordText.{order_json}
+use Rattle.ssa_model.specs.definitions.Replies.{list_json}
 use Rattle.ssa_turn_body.specs.Records.{orders_in, told_by}
-use Rattle.ssa_turn_body.specs.ToldValues.{as_values, told_view}
+use Rattle.ssa_turn_body.specs.ToldValues.{as_values, entry_json}
 use Rattle.ssa_turn_body.proofs.ValuesInOrder.{told-listed}
 use Rattle.ssa_turn_body.proofs.steps.BodySteps.order_to_json.Goals as goal
 
 pub returns : goal.returns
 returns c =
+    let steps = c.args.self.now.steps.items in
     let is = c.in_ok-told.ensures ∙ ap (λ l. as_values order_json (told_by orders_in l)) c.deref.ensures.value in
-    c.in_ok-value.ensures ∙ told-listed order_json (told_view c.in_ok-told.told.items) (told_by orders_in c.args.self.now.steps.items) is
+    let same = ap (list_json entry_json) c.deref-2.ensures.value ∙ told-listed order_json c.in_ok-told.told.items c.in_ok-ordered.ordered.items (told_by orders_in steps) is
+    c.in_ok-ordered.ensures in
+    c.in_ok-value.ensures ∙ same
