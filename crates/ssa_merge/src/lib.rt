@@ -24,6 +24,7 @@ pub mod entry_fault;
 pub mod entry_members;
 pub mod entry_read;
 mod given_up;
+pub(crate) mod loss;
 pub mod manager;
 pub mod managers;
 pub mod names;

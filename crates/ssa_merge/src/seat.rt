@@ -1,20 +1,21 @@
 //! What becomes of a table of managers by a command.
 ghost use Rattle.std.specs.Prelude.{◌≡◌, ◌∷◌, [], true, false, filter, map, length, unwrap_or, IfOk, IfNone, IfSome, OnOk};
 ghost use Rattle.ssa_model.specs.definitions.History.{is_manager_name};
-ghost use Rattle.ssa_model.specs.definitions.PathMap.{empty, is_empty};
+ghost use Rattle.ssa_model.specs.definitions.PathMap.{empty, is_empty, minus};
 ghost use Rattle.ssa_model.specs.definitions.Table.{is_in_table, owned_by, reseated, same_manager, seat};
 ghost use Rattle.ssa_model.specs.definitions.Valid.{has_distinct_keys};
-ghost use Rattle.ssa_path.specs.Meet.{meet};
 ghost use Rattle.ssa_merge.specs.Managers.{key_view, entry_view, table_view};
 ghost use Rattle.ssa_merge.specs.TableChanges.{changed_entries, changed_entry, IsSeated, LeadsTo};
 ghost use Rattle.ssa_merge.specs.Tables.{acted, less, owns};
 
+use crate::loss::Loss;
 use crate::manager::ManagerKey;
 use crate::managers::{Entry, MOST_MANAGERS, Managers};
 use crate::plan::Refusal;
 use crate::table_change::{EntryChange, TableChange, count_kept};
 use ssa_json::moment::Moment;
 use ssa_path::field_set::FieldSet;
+use ssa_path::shared_set::SharedSet;
 use std::alloc::{AllocError, Global};
 
 /// Whether the table has the manager.
@@ -27,17 +28,6 @@ pub fn is_in_table(table: &[Entry], key: &ManagerKey) -> bool
     }
 }
 
-// What a set has of these paths, with no more room than they need: a record keeps them for long. Mostly it has them all.
-fn taken_from(alloc: Global, set: &FieldSet, lost: &FieldSet) -> Result<FieldSet, AllocError>
-    ensures { IfOk result (λ s. s ≡ meet set.now lost.now) }
-{
-    if lost.is_within(set) {
-        return lost.copy(alloc);
-    }
-    let met = lost.meet(alloc, set)?;
-    met.copy(alloc)
-}
-
 // What becomes of an entry whose manager loses nothing.
 fn untouched(entry: &Entry) -> EntryChange
     ensures { changed_entry result (entry_view entry.now) ≡ filter owns (entry_view entry.now ∷ []) }
@@ -48,22 +38,49 @@ fn untouched(entry: &Entry) -> EntryChange
     EntryChange::Stays
 }
 
-// What becomes of an entry whose manager loses these paths.
-fn losing(alloc: Global, entry: &Entry, lost: &FieldSet) -> Result<EntryChange, AllocError>
-    ensures { IfOk result (λ c. changed_entry c (entry_view entry.now) ≡ filter owns (less (entry_view entry.now) lost.now ∷ [])) }
+// What becomes of an entry whose manager loses these paths, all of which it owns.
+fn losing_all(alloc: Global, entry: &Entry, lost: &mut Loss) -> Result<EntryChange, AllocError>
+    requires { is_empty (minus lost.old entry.now.set) ≡ true }
+    ensures change { IfOk result (λ c. changed_entry c (entry_view entry.now) ≡ filter owns (less (entry_view entry.now) lost.old ∷ [])) }
+    ensures same { lost.new ≡ lost.old }
 {
-    if lost.is_empty() {
-        return Ok(untouched(entry));
-    }
-    let set = &entry.set;
-    let taken = taken_from(alloc, set, lost)?;
-    if taken.is_empty() {
-        return Ok(untouched(entry));
-    }
-    if taken.is_same(set) {
+    if lost.paths().is_same(&entry.set) {
         return Ok(EntryChange::Leaves);
     }
+    let all = lost.share(alloc)?;
+    Ok(EntryChange::Loses(all, entry.at))
+}
+
+// What becomes of an entry whose manager loses what it owns of these paths, with no more room than they need: a record keeps
+// them for long.
+fn losing_some(alloc: Global, entry: &Entry, lost: &FieldSet) -> Result<EntryChange, AllocError>
+    ensures { IfOk result (λ c. changed_entry c (entry_view entry.now) ≡ filter owns (less (entry_view entry.now) lost.now ∷ [])) }
+{
+    let set = &entry.set;
+    let met = lost.meet(alloc, set)?;
+    if met.is_empty() {
+        return Ok(untouched(entry));
+    }
+    if met.is_same(set) {
+        return Ok(EntryChange::Leaves);
+    }
+    let taken = SharedSet::new(alloc, met.copy(alloc)?)?;
     Ok(EntryChange::Loses(taken, entry.at))
+}
+
+// What becomes of an entry whose manager loses these paths. Mostly it owns them all.
+fn losing(alloc: Global, entry: &Entry, lost: &mut Loss) -> Result<EntryChange, AllocError>
+    ensures change { IfOk result (λ c. changed_entry c (entry_view entry.now) ≡ filter owns (less (entry_view entry.now) lost.old ∷ [])) }
+    ensures same { lost.new ≡ lost.old }
+{
+    let paths = lost.paths();
+    if paths.is_empty() {
+        return Ok(untouched(entry));
+    }
+    if paths.is_within(&entry.set) {
+        return losing_all(alloc, entry, lost);
+    }
+    losing_some(alloc, entry, paths)
 }
 
 // What becomes of the entry of a manager that keeps its paths; where a field changed, its moment is `at`.
@@ -102,12 +119,13 @@ fn reseated(
     entry: &Entry,
     key: &ManagerKey,
     owned: &mut Option<FieldSet>,
-    lost: &FieldSet,
+    lost: &mut Loss,
     changed: bool,
     at: Moment,
 ) -> Result<EntryChange, AllocError>
     ensures change { IfOk result (λ c. changed_entry c (entry_view entry.now)
-        ≡ filter owns (reseated (key_view key.now) (unwrap_or owned.old entry.now.set) lost.now changed at (entry_view entry.now) ∷ [])) }
+        ≡ filter owns (reseated (key_view key.now) (unwrap_or owned.old entry.now.set) lost.old changed at (entry_view entry.now) ∷ [])) }
+    ensures same { lost.new ≡ lost.old }
     ensures taken { same_manager (entry_view entry.now).manager (key_view key.now) ≡ true → owned.new ≡ None }
     ensures left { same_manager (entry_view entry.now).manager (key_view key.now) ≡ false → owned.new ≡ owned.old }
 {
@@ -134,9 +152,10 @@ fn reseated_entries(
     ensures taken { OnOk result (is_in_table (table_view table.now) (key_view key.now) ≡ true → owned.new ≡ None) }
     ensures left { OnOk result (is_in_table (table_view table.now) (key_view key.now) ≡ false → owned.new ≡ owned.old) }
 {
+    let mut loss = Loss::new(lost);
     let mut changes = Vec::with_capacity(alloc, table.len())?;
     for entry in table {
-        let change = reseated(alloc, entry, key, owned, lost, changed, at)?;
+        let change = reseated(alloc, entry, key, owned, &mut loss, changed, at)?;
         changes.push(change)?;
     }
     Ok(changes)

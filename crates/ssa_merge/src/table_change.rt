@@ -9,6 +9,7 @@ use crate::managers::{Entry, MOST_MANAGERS, Managers};
 use arrayvec::ArrayVec;
 use ssa_json::moment::Moment;
 use ssa_path::field_set::FieldSet;
+use ssa_path::shared_set::SharedSet;
 use std::alloc::{AllocError, Global};
 
 /// What becomes of an entry.
@@ -21,7 +22,7 @@ pub enum EntryChange {
     /// The manager owns what it owned, and has another moment.
     Renewed(Moment),
     /// The manager loses these paths, not all that it owned, and has this moment.
-    Loses(FieldSet, Moment),
+    Loses(SharedSet, Moment),
     /// The manager owns other paths, and has this moment.
     Owns(FieldSet, Moment),
 }
@@ -76,7 +77,7 @@ fn changed_entry(
         EntryChange::Leaves => return Ok(None),
         EntryChange::Stays => (entry.set.copy(alloc)?, entry.at),
         EntryChange::Renewed(at) => (entry.set.copy(alloc)?, at),
-        EntryChange::Loses(lost, at) => (entry.set.minus(alloc, &lost)?, at),
+        EntryChange::Loses(lost, at) => (lost.left_of(alloc, &entry.set)?, at),
         EntryChange::Owns(set, at) => (set, at),
     };
     let key = entry.key.copy(alloc)?;

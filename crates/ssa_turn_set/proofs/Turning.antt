@@ -8,6 +8,7 @@ use Rattle.ssa_path.specs.declared.trie.Trie.{Trie}
 use Rattle.ssa_path.specs.declared.combine.Combination.TheVariants.{Union, Minus}
 use Rattle.ssa_path.specs.Combine.{IsCombination}
 use Rattle.ssa_path.specs.Trie.{is_one_of, is_trie, paths}
+use Rattle.ssa_turn_set.specs.declared.room.Room.{Room}
 use Rattle.ssa_turn_set.specs.declared.turn.SetDelta.{SetDelta}
 use Rattle.ssa_turn_set.specs.Room.{gain_room, left, lose_room}
 use Rattle.ssa_path.proofs.Sets.{listed-combined}
@@ -186,6 +187,10 @@ pub left-paths : (s l : Trie) → is_trie s ≡ true → set_paths (minus (liste
 left-paths s l trie =
     paths-tested (listed (paths s)) (λ p. not (has (listed (paths l)) p))
     ∙ (λ i. filter (λ p. not (has-listed (paths l) p i)) (listed-paths s trie i))
+
+-- the record of these tries, with this room
+abbrev pub record_of : Trie → Trie → Room → Room → SetDelta
+record_of gain lose gain_room lose_room = record { gain = gain; lose = lose; room = record { gain = gain_room; lose = lose_room } }
 
 -- a record of what comes, what goes and room for both leads from the one set to the other
 pub between-is : (s t : Trie) (d : SetDelta) → is_trie s ≡ true → IsCombination Minus t s d.gain → IsCombination Minus s t d.lose

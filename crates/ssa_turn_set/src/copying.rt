@@ -4,6 +4,7 @@ ghost use Rattle.ssa_model.specs.definitions.PathMap.{PathSet};
 ghost use Rattle.ssa_turn_set.specs.Copies.{RoomServes, SpareServes};
 ghost use Rattle.ssa_turn_set.specs.Turn.{HasRoom, set_steps};
 
+use crate::kept_paths::KeptPaths;
 use crate::room::Room;
 use crate::spare::Spare;
 use crate::turn::{SetDelta, SetRoom};
@@ -42,13 +43,13 @@ impl SetDelta {
         ensures steps { IfOk result (λ d. set_steps d ≡ set_steps self.now) }
         ensures room { IfOk result (λ d. (s : PathSet) → HasRoom self.now s → HasRoom d s) }
     {
-        let gain = self.gain.copy(alloc)?;
-        let lose = self.lose.copy(alloc)?;
+        let gain = self.gain.as_trie().copy(alloc)?;
+        let lose = self.lose.as_trie().copy(alloc)?;
         let gain_room = copy_room(alloc, &self.room.gain)?;
         let lose_room = copy_room(alloc, &self.room.lose)?;
         Ok(SetDelta {
-            gain,
-            lose,
+            gain: KeptPaths::of_trie(gain),
+            lose: KeptPaths::of_trie(lose),
             room: SetRoom {
                 gain: gain_room,
                 lose: lose_room,

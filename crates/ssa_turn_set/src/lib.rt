@@ -18,6 +18,7 @@
 mod copying;
 pub(crate) mod filling;
 mod gain;
+pub mod kept_paths;
 pub mod live_set;
 mod lose;
 pub mod loss;

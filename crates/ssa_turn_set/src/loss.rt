@@ -10,6 +10,7 @@ ghost use Rattle.ssa_path.specs.View.{element_view};
 ghost use Rattle.ssa_turn_set.specs.Room.{children, gain_room, goes, leaving, left, lose_room};
 ghost use Rattle.ssa_turn_set.specs.Turn.{IsBetween};
 
+use crate::kept_paths::KeptPaths;
 use crate::making::{combine_exactly, make_children};
 use crate::room::Room;
 use crate::spare::Spare;
@@ -18,8 +19,10 @@ use ssa_path::children::find_child;
 use ssa_path::combine::Combination;
 use ssa_path::element::Elem;
 use ssa_path::field_set::FieldSet;
+use ssa_path::shared_set::SharedSet;
 use ssa_path::trie::Trie;
 use std::alloc::{AllocError, Global};
+use std::rc::Rc;
 
 // The place of a child of this element: where there is none, the bare one.
 pub(crate) fn place_or<'a>(own: &'a [(Elem, Trie)], element: &Elem, bare: &'a Trie) -> &'a Trie
@@ -109,7 +112,7 @@ pub fn make_loss_room(alloc: Global, lost: &Trie, own: &Trie) -> Result<LossRoom
 }
 
 // No path, and the room that it needs. Takes no memory.
-fn nothing(alloc: Global) -> (Trie, Room)
+fn nothing(alloc: Global) -> (KeptPaths, Room)
     ensures paths { paths result.0 ≡ [] }
     ensures trie { is_trie result.0 ≡ true }
     ensures room { (ps : List Path) → gain_room result.0 ps result.1 ≡ true }
@@ -122,23 +125,23 @@ fn nothing(alloc: Global) -> (Trie, Room)
         children: Vec::new(alloc),
         below: Vec::new(alloc),
     };
-    (none, room)
+    (KeptPaths::of_trie(none), room)
 }
 
 // What a set has of the lost paths, with the room to take it out, no more of either than is needed: mostly it has them all.
-fn taken(alloc: Global, lost: Trie, own: &Trie) -> Result<(Trie, Room), AllocError>
-    requires lost { is_trie lost ≡ true }
+fn taken(alloc: Global, lost: Rc<Trie>, own: &Trie) -> Result<(KeptPaths, Room), AllocError>
+    requires lost { is_trie lost.value ≡ true }
     requires own { is_trie own.now ≡ true }
-    ensures lost { IfOk result (λ t. IsCombination Combination.Meet lost own.now t.0) }
+    ensures lost { IfOk result (λ t. IsCombination Combination.Meet lost.value own.now t.0) }
     ensures room { IfOk result (λ t. lose_room t.0 (left (paths own.now) (paths t.0)) t.1 ≡ true) }
 {
     let loss = make_loss_room(alloc, &lost, own)?;
     if loss.has_all {
-        return Ok((lost, loss.room));
+        return Ok((KeptPaths::of_shared(lost), loss.room));
     }
     let met = combine_exactly(alloc, &lost, own, Combination::Meet)?;
     let met_loss = make_loss_room(alloc, &met, own)?;
-    Ok((met, met_loss.room))
+    Ok((KeptPaths::of_trie(met), met_loss.room))
 }
 
 impl SetDelta {
@@ -148,16 +151,12 @@ impl SetDelta {
     /// Of the set's other paths only so many are looked at as tell where nothing of it is left. A set
     /// that has all of these paths takes them into its record as they are. All memory that its turns
     /// want is taken here; `Err` comes where it is refused.
-    pub fn of_loss(
-        alloc: Global,
-        from: &FieldSet,
-        mut lost: FieldSet,
-    ) -> Result<SetDelta, AllocError>
+    pub fn of_loss(alloc: Global, from: &FieldSet, lost: SharedSet) -> Result<SetDelta, AllocError>
         ensures { IfOk result (λ d. IsBetween from.now (minus from.now lost) d) }
     {
         let own = from.root();
         let (gain, gain_room) = nothing(alloc);
-        let (lose, lose_room) = taken(alloc, lost.take_root(), own)?;
+        let (lose, lose_room) = taken(alloc, lost.into_root(), own)?;
         Ok(SetDelta {
             gain,
             lose,

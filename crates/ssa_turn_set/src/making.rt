@@ -9,6 +9,7 @@ ghost use Rattle.ssa_turn_set.specs.Room.{children, fresh, gain_room, goes, leav
 ghost use Rattle.ssa_turn_set.specs.Spare.{fits};
 ghost use Rattle.ssa_turn_set.specs.Turn.{IsBetween};
 
+use crate::kept_paths::KeptPaths;
 use crate::loss::{count_whole, goes_whole, make_loss_room, place_or};
 use crate::room::Room;
 use crate::spare::Spare;
@@ -208,8 +209,8 @@ pub fn between(alloc: Global, from: &FieldSet, to: &FieldSet) -> Result<SetDelta
     let gain_room = make_gain_room(alloc, &gained, own, &lost)?;
     let loss = make_loss_room(alloc, &lost, own)?;
     Ok(SetDelta {
-        gain: gained,
-        lose: lost,
+        gain: KeptPaths::of_trie(gained),
+        lose: KeptPaths::of_trie(lost),
         room: SetRoom {
             gain: gain_room,
             lose: loss.room,

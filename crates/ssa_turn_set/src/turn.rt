@@ -5,6 +5,7 @@ ghost use Rattle.ssa_path.specs.Trie.{is_trie, paths};
 ghost use Rattle.ssa_turn_set.specs.Turn.{SetFits, has_set_room, set_steps, set_back, set_target, LeadsBack, SetsAreLed, StepsAreFixed, TargetIsFixed};
 
 use crate::gain::gain;
+use crate::kept_paths::KeptPaths;
 use crate::lose::lose;
 use crate::room::Room;
 use ssa_path::trie::Trie;
@@ -21,8 +22,8 @@ pub struct SetRoom {
 /// turn, which serves the way back as well.
 #[derive(Drop)]
 pub struct SetDelta {
-    pub gain: Trie,
-    pub lose: Trie,
+    pub gain: KeptPaths,
+    pub lose: KeptPaths,
     pub room: SetRoom,
 }
 
@@ -41,8 +42,8 @@ pub fn turn_set(set: &mut Trie, delta: &mut SetDelta)
     ensures leads_back { set_target (set_steps delta.new) (listed (paths set.new)) ≡ listed (paths set.old) }
     ensures room { has_set_room delta.new (listed (paths set.new)) ≡ true }
 {
-    lose(&delta.lose, set, &mut delta.room.lose);
-    gain(&delta.gain, set, &mut delta.room.gain);
+    lose(delta.lose.as_trie(), set, &mut delta.room.lose);
+    gain(delta.gain.as_trie(), set, &mut delta.room.gain);
     mem::swap(&mut delta.gain, &mut delta.lose);
     mem::swap(&mut delta.room.gain, &mut delta.room.lose);
 }

@@ -1,29 +1,22 @@
-use Rattle.std.proofs.Common.{◌∷◌, [], not, cond, ap, ◌∙◌, sym}
-use Rattle.ssa_model.specs.definitions.PathMap.{is_empty}
+use Rattle.std.proofs.Common.{◌≡◌, ◌∷◌, [], filter, IfOk, ap, ◌∙◌, subst, sym}
+use Rattle.ssa_model.specs.definitions.PathMap.{is_empty, minus}
 use Rattle.ssa_merge.specs.Managers.{entry_view}
-use Rattle.ssa_merge.specs.Tables.{less}
-use Rattle.ssa_merge.proofs.GivenUp.{meet-none, minus-all}
-use Rattle.ssa_merge.proofs.TableChanges.{less-none, less-taken}
+use Rattle.ssa_merge.specs.TableChanges.{changed_entry}
+use Rattle.ssa_merge.specs.Tables.{less, owns}
+use Rattle.ssa_merge.proofs.GivenUp.{meet-none}
+use Rattle.ssa_merge.proofs.TableChanges.{less-none}
 use Rattle.ssa_merge.proofs.seat.losing.Goals as goal
 
-pub returns-then-is_empty : goal.returns-then-is_empty
-returns-then-is_empty c =
-    let e = entry_view c.args.entry.now in
-    c.untouched.ensures ∙ less-none e c.args.lost.now (meet-none e.owned c.args.lost.now (sym c.is_empty.ensures ∙ c.if-is_empty.true))
+pub losing_all-requires : goal.losing_all-requires
+losing_all-requires c = ap (λ s. is_empty (minus s c.args.entry.now.set)) (sym c.paths-paths.ensures) ∙ sym c.is_within.ensures ∙ c.if-is_within.true
 
-pub returns-then-is_empty-2 : goal.returns-then-is_empty-2
-returns-then-is_empty-2 c =
-    let none = ap is_empty (sym c.in_ok-taken.ensures) ∙ sym c.is_empty-2.ensures ∙ c.if-is_empty-2.true in
-    c.untouched-then-is_empty-2.ensures ∙ less-none (entry_view c.args.entry.now) c.args.lost.now none
-
-pub returns-then-is_same : goal.returns-then-is_same
-returns-then-is_same c =
+pub returns-then-is_empty-clause-change : goal.returns-then-is_empty-clause-change
+returns-then-is_empty-clause-change c =
     let e = entry_view c.args.entry.now in
-    let all = minus-all e.owned c.args.lost.now c.in_ok-taken.taken c.in_ok-taken.ensures in
-    sym (ap (λ b. cond (not b) (less e c.args.lost.now ∷ []) []) (sym all ∙ sym c.is_same.ensures ∙ c.if-is_same.true))
+    let none = ap is_empty (sym c.paths-paths.ensures) ∙ sym c.is_empty.ensures ∙ c.if-is_empty.true in
+    c.untouched.ensures ∙ less-none e c.args.lost.now (meet-none e.owned c.args.lost.now none)
 
-pub returns : goal.returns
-returns c =
+pub returns-clause-change : goal.returns-clause-change
+returns-clause-change c =
     let e = entry_view c.args.entry.now in
-    let all = minus-all e.owned c.args.lost.now c.in_ok-taken.taken c.in_ok-taken.ensures in
-    less-taken e c.args.lost.now c.in_ok-taken.taken c.in_ok-taken.ensures (sym all ∙ sym c.is_same.ensures ∙ c.if-is_same.false)
+    subst (λ s. IfOk c.losing_some.result (λ k. changed_entry k e ≡ filter owns (less e s ∷ []))) c.paths-paths.ensures c.losing_some.ensures

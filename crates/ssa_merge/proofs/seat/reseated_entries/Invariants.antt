@@ -12,5 +12,6 @@ invariant-loop-entry l = record {
   made : changed_entries l.changes.items (table_view (take l.entry-index l.table))
       ≡ filter owns (map (reseated (key_view l.key) (unwrap_or l.initial.owned (owned_by (table_view l.table) (key_view l.key))) l.lost l.changed l.at) (table_view (take l.entry-index l.table)));
   each : length l.changes.items ≡ l.entry-index;
+  loss : l.loss ≡ l.lost;
   owned : IsTaken (table_view (take l.entry-index l.table)) (key_view l.key) l.initial.owned l.owned;
 }

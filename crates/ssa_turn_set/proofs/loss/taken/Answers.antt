@@ -1,5 +1,12 @@
+use Rattle.std.proofs.Common.{◌≡◌, true, ap, sym, ◌∙◌, subst}
+use Rattle.ssa_path.specs.Combine.{IsCombination}
+use Rattle.ssa_path.specs.Trie.{paths, IsWithin}
+use Rattle.ssa_path.specs.declared.combine.Combination.TheVariants.{Meet}
 use Rattle.ssa_turn_set.proofs.LossRecords.{own-meet}
 use Rattle.ssa_turn_set.proofs.loss.taken.Goals as goal
 
 pub returns-then-loss-clause-lost : goal.returns-then-loss-clause-lost
-returns-then-loss-clause-lost c = own-meet c.args.lost c.args.own.now c.requires.lost (c.in_ok-loss.ensures.all c.if-loss.true)
+returns-then-loss-clause-lost c =
+    let own = c.args.own.now in
+    let within = subst (λ t. IsWithin (paths t) (paths own)) c.deref.ensures (c.in_ok-loss.ensures.all c.if-loss.true) in
+    subst (IsCombination Meet c.args.lost.value own) (sym c.of_shared.ensures) (own-meet c.args.lost.value own c.requires.lost within)
