@@ -39,6 +39,15 @@ impl Name {
         })
     }
 
+    /// The name that is this text.
+    pub fn from_string(alloc: Global, text: String) -> Result<Name, AllocError>
+        ensures ok { IfOk result (λ n. string_bytes n ≡ string_bytes text) }
+    {
+        Ok(Name {
+            text: SmallText::from_string(alloc, text)?,
+        })
+    }
+
     /// The name's text.
     #[inline(always)]
     pub fn as_str(&self) -> &str
