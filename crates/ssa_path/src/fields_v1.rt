@@ -64,7 +64,8 @@ fn place_members(alloc: Global, place: &Trie) -> Result<Members<Json>, AllocErro
 {
     let mut members = own_member(alloc, place.here)?;
     for child in &place.below {
-        let name = Name::from_string(alloc, child.0.name(alloc)?)?;
+        let text = child.0.name(alloc)?;
+        let name = Name::from_string(alloc, text)?;
         let value = below_value(alloc, &child.1)?;
         drop(members.insert(name, value)?);
     }
