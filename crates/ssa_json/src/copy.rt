@@ -56,7 +56,7 @@ fn copied_members(alloc: Global, members: &Members<Json>) -> Result<Members<Json
 {
     let mut found = Vec::with_capacity(alloc, members.len())?;
     for (name, member) in members.entries() {
-        let key = String::from_str(alloc, name.as_str())?;
+        let key = name.copy(alloc)?;
         found.push((key, copied(alloc, member)?))?;
     }
     Ok(Members::of_rising(found))

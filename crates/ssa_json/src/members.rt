@@ -7,7 +7,7 @@ ghost use Rattle.ssa_model.specs.definitions.Schema.{has_member};
 ghost use Rattle.ssa_json.specs.View.{view, members_view};
 
 use crate::value::{Json, Scalar};
-use ssa_members::{Members, SmallText};
+use ssa_members::{Members, Name, SmallText};
 use std::alloc::{AllocError, Global};
 
 /// The member of a name, where there is one.
@@ -35,7 +35,7 @@ pub fn put_member(
     ensures ok { OnOk result (members_view members.new.entries ≡ with_member name.now (view value) (members_view members.old.entries)) }
     ensures err { OnErr result (members.new ≡ members.old) }
 {
-    let key = String::from_str(alloc, name)?;
+    let key = Name::from_str(alloc, name)?;
     drop(members.insert(key, value)?);
     Ok(())
 }

@@ -9,7 +9,7 @@ use crate::reading_room::ReadingRoom;
 use crate::straight::read_straight;
 use crate::value::{Json, Scalar};
 use serde_json::{Map, Value};
-use ssa_members::{Members, SmallText};
+use ssa_members::{Members, Name, SmallText};
 use std::alloc::Global;
 
 impl Json {
@@ -82,7 +82,8 @@ fn converted_members(alloc: Global, members: Map<String, Value>) -> Result<Membe
 {
     let mut found = Members::new(alloc);
     for (name, member) in members {
-        drop(found.insert(name, converted(alloc, member)?)?);
+        let key = Name::from_string(alloc, name)?;
+        drop(found.insert(key, converted(alloc, member)?)?);
     }
     Ok(found)
 }

@@ -14,7 +14,7 @@ use crate::reading_room::ReadingRoom;
 use crate::value::{Json, Scalar};
 use itoa::Buffer;
 use json::{Invalid, Reader, Token};
-use ssa_members::{Members, SmallText, push_closely};
+use ssa_members::{Members, Name, SmallText, push_closely};
 use std::alloc::{AllocError, AllocFailed, Global};
 
 const MOST_DEPTH: usize = 127;
@@ -159,7 +159,7 @@ fn read_pairs(
     alloc: Global,
     reader: &mut Reader<'_>,
     depth: usize,
-) -> Result<Vec<(String, Json)>, NotStraight>
+) -> Result<Vec<(Name, Json)>, NotStraight>
     ensures ok { IfOk result (λ v. (found : model.Members) → (most : ℕ) → length reader.old ≤ most
         → converted (λ ms. of_members ms (members_data found)) (members (value depth) most reader.old)
         ≡ Some (members_data (put_in_turn v.items found), reader.new)) }
@@ -169,7 +169,7 @@ fn read_pairs(
 {
     let mut pairs = Vec::new(alloc);
     'members: while let Some(name) = reader.next_key()? {
-        let key = String::from_str(alloc, name)?;
+        let key = Name::from_str(alloc, name)?;
         let member = read_value(alloc, reader, depth)?;
         push_closely(&mut pairs, (key, member))?;
     }

@@ -1,5 +1,6 @@
 pub mod Members
 pub mod Named
+pub mod Names
 pub mod formers
 pub mod ShortTexts
 pub mod SmallTexts

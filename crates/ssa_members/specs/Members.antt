@@ -8,12 +8,10 @@ use Rattle.std.specs.List.Sorted.{IsStrictlySortedBy}
 use Rattle.std.specs.Map.{keys_of, lookup, update_all}
 use Rattle.std.specs.BTreeMap.{is_at}
 use Rattle.std.specs.Ordering.{eq_by_cmp, nat_cmp}
-use Rattle.std.specs.contracts.alloc.Global as heap
-use Rattle.std.specs.contracts.impls.GlobalAllocator.TheImpl.{ghosts}
-use Rattle.std.specs.contracts.string.String as text
 use Rattle.std.specs.declared.alloc.Global.{Global}
 use Rattle.std.specs.declared.cmp.Ordering.{Ordering}
 use Rattle.std.specs.declared.cmp.Ordering.TheVariants.{Less, Equal, Greater}
+use Rattle.ssa_members.specs.contracts.name.Name as name
 
 abbrev pub Name : Type 0
 Name = String Global
@@ -23,7 +21,7 @@ pub record Members (X : Type 0) : Type 0 where
   pub entries : List (Name × X)
 
 abbrev pub name_row : RattleType
-name_row = text.the_row heap.the_row ghosts
+name_row = name.the_row
 
 abbrev pub members_code : {X : Type 0} → Coded X → Coded (Members X)
 members_code x = code_by _ (coded_list (coded× name_row.coded x)) (λ m. m.entries) (λ es. record { entries = es }) (λ m i. m)

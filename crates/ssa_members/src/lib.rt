@@ -7,7 +7,7 @@
 //! ```
 //! let mut members = Members::new(rt.alloc());
 //! for (name, count) in [("b", 1), ("a", 2), ("b", 3)] {
-//!     members.insert(String::from_str(rt.alloc(), name)?, count)?;
+//!     members.insert(Name::from_str(rt.alloc(), name)?, count)?;
 //! }
 //! assert_eq!(rt; members.len(), 2);
 //! assert_eq!(rt; members.get("b"), Some(&3));
@@ -17,10 +17,12 @@
 #![tactic(auto)]
 
 pub mod members;
+pub mod name;
 pub mod room;
 mod short_text;
 pub mod small_text;
 
 pub use members::{Members, order_names};
+pub use name::Name;
 pub use room::push_closely;
 pub use small_text::SmallText;

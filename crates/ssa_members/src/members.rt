@@ -7,6 +7,7 @@ ghost use Rattle.std.specs.Ordering.{nat_cmp};
 ghost use Rattle.std.specs.Prelude.{string_bytes, string_cmp};
 ghost use Rattle.ssa_members.specs.Members.{get, text_cmp, IsMadeOf, IsPlaceOf, IsRising};
 
+use crate::name::Name;
 use std::alloc::{AllocError, Global};
 use std::cmp::Ordering;
 use std::collections::BTreeMap;
@@ -23,7 +24,7 @@ const FEW: usize = 8;
 /// [`of_pairs`](Members::of_pairs).
 #[derive(Drop)]
 pub struct Members<V> {
-    entries: Vec<(String, V)>,
+    entries: Vec<(Name, V)>,
 }
 
 impl<V> Model for Members<V> {
@@ -39,7 +40,7 @@ impl<V> Model for Members<V> {
 }
 
 // Whether each name is below the next.
-fn rises<V>(pairs: &[(String, V)]) -> bool
+fn rises<V>(pairs: &[(Name, V)]) -> bool
     ensures { IsTrue result → IsRising pairs.now }
 {
     let mut i: usize = 1;
@@ -66,7 +67,7 @@ pub fn order_names(name: &str, other: &str) -> Ordering
 }
 
 // The value under a name, looked for among the names one after the other.
-fn scan<'a, V>(entries: &'a [(String, V)], name: &str) -> Option<&'a V>
+fn scan<'a, V>(entries: &'a [(Name, V)], name: &str) -> Option<&'a V>
     ensures { option_copied result ≡ lookup (is_at (text_cmp name.now)) entries.now }
 {
     for entry in entries {
@@ -102,7 +103,7 @@ impl<V> Members<V> {
     }
 
     /// The names with their values, in the names' order.
-    pub fn entries(&self) -> &[(String, V)]
+    pub fn entries(&self) -> &[(Name, V)]
         ensures all { result.now ≡ self.now.entries }
         ensures ordered { IsRising self.now.entries }
     {
@@ -110,7 +111,7 @@ impl<V> Members<V> {
     }
 
     /// The names with their values, in the names' order.
-    pub fn into_entries(self) -> Vec<(String, V)>
+    pub fn into_entries(self) -> Vec<(Name, V)>
         ensures all { result.items ≡ self.entries }
         ensures ordered { IsRising self.entries }
     {
@@ -140,7 +141,7 @@ impl<V> Members<V> {
     }
 
     /// Puts a value under a name, and gives the one that was there. On `Err` all is as it was.
-    pub fn insert(&mut self, name: String, value: V) -> Result<Option<V>, AllocError>
+    pub fn insert(&mut self, name: Name, value: V) -> Result<Option<V>, AllocError>
     where
         V: Drop,
         ensures old { IfOk result (λ old. old ≡ get self.old (string_bytes name)) }
@@ -150,7 +151,10 @@ impl<V> Members<V> {
         ensures was_ordered { IsRising self.old.entries }
     {
         match self.place(name.as_str()) {
-            Ok(i) => Ok(Some(replace(&mut self.entries[i].1, value))),
+            Ok(i) => {
+                drop(name);
+                Ok(Some(replace(&mut self.entries[i].1, value)))
+            }
             Err(i) => {
                 self.entries.insert(i, (name, value))?;
                 Ok(None)
@@ -169,7 +173,8 @@ impl<V> Members<V> {
     {
         match self.place(name) {
             Ok(i) => {
-                let (_name, value) = self.entries.remove(i);
+                let (name, value) = self.entries.remove(i);
+                drop(name);
                 Some(value)
             }
             Err(_) => None,
@@ -191,7 +196,7 @@ impl<V> Members<V> {
     }
 
     /// Pairs whose names rise.
-    pub fn of_rising(pairs: Vec<(String, V)>) -> Members<V>
+    pub fn of_rising(pairs: Vec<(Name, V)>) -> Members<V>
         requires { IsRising pairs.items }
         ensures { result.entries ≡ pairs.items }
     {
@@ -200,7 +205,7 @@ impl<V> Members<V> {
 
     /// What all the pairs put in one after another leave: under each name the last value that comes with it.
     /// Pairs whose names rise stay where they are; of `n` others it takes about `n log n` comparisons.
-    pub fn of_pairs(alloc: Global, pairs: Vec<(String, V)>) -> Result<Members<V>, AllocError>
+    pub fn of_pairs(alloc: Global, pairs: Vec<(Name, V)>) -> Result<Members<V>, AllocError>
     where
         V: Drop,
         ensures { IfOk result (IsMadeOf pairs.items) }
@@ -208,7 +213,7 @@ impl<V> Members<V> {
         if rises(&pairs) {
             return Ok(Members { entries: pairs });
         }
-        let sorted: BTreeMap<String, V> = pairs.into_iter().collect(alloc)?;
+        let sorted: BTreeMap<Name, V> = pairs.into_iter().collect(alloc)?;
         let mut entries = Vec::with_capacity(alloc, sorted.len())?;
         for entry in sorted {
             entries.push(entry)?;

@@ -161,8 +161,7 @@ fn keys_of(alloc: Global, members: Members<Json>) -> Result<Option<Keys>, AllocE
         let Some(scalar) = into_scalar(member) else {
             return Ok(None);
         };
-        let name = SmallText::from_string(alloc, name)?;
-        found.push((name, scalar))?;
+        found.push((name.into_text(), scalar))?;
     }
     Ok(Keys::new(found))
 }

@@ -11,7 +11,7 @@ ghost use Rattle.ssa_path.specs.Trie.{is_filled, is_trie, paths};
 use crate::field_set::FieldSet;
 use crate::trie::Trie;
 use ssa_json::value::Json;
-use ssa_members::Members;
+use ssa_members::{Members, Name};
 use std::alloc::{AllocError, Global};
 
 impl FieldSet {
@@ -48,7 +48,7 @@ fn own_member(alloc: Global, here: bool) -> Result<Members<Json>, AllocError>
 {
     let mut members = Members::new(alloc);
     if here {
-        let name = String::from_str(alloc, ".")?;
+        let name = Name::from_str(alloc, ".")?;
         drop(members.insert(name, Json::Object(Members::new(alloc)))?);
     }
     Ok(members)
@@ -64,7 +64,8 @@ fn place_members(alloc: Global, place: &Trie) -> Result<Members<Json>, AllocErro
 {
     let mut members = own_member(alloc, place.here)?;
     for child in &place.below {
-        let name = child.0.name(alloc)?;
+        let text = child.0.name(alloc)?;
+        let name = Name::from_string(alloc, text)?;
         let value = below_value(alloc, &child.1)?;
         drop(members.insert(name, value)?);
     }

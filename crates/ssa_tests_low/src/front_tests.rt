@@ -2,7 +2,7 @@
 use crate::journal_tests::Counter;
 use crate::support::{schema, value};
 use ssa_json::{Json, Moment};
-use ssa_members::Members;
+use ssa_members::{Members, Name};
 use ssa_path::{Elem, FieldSet, Path};
 use ssa_reverse::Journal;
 use ssa_schema::{BodyFault, Schema};
@@ -13,7 +13,7 @@ use std::test::Fail;
 fn ssa_members_example(rt: HostRuntime) -> Result<(), Fail> {
     let mut members = Members::new(rt.alloc());
     for (name, count) in [("b", 1), ("a", 2), ("b", 3)] {
-        members.insert(String::from_str(rt.alloc(), name)?, count)?;
+        members.insert(Name::from_str(rt.alloc(), name)?, count)?;
     }
     assert_eq!(rt; members.len(), 2);
     assert_eq!(rt; members.get("b"), Some(&3));

@@ -12,7 +12,7 @@ use crate::item_keys::keys_of;
 use crate::node::{Leaf, Node};
 use crate::parts::{into_items, into_members, into_scalar};
 use ssa_json::value::Json;
-use ssa_members::{Members, SmallText};
+use ssa_members::{Members, Name};
 use ssa_path::element::Elem;
 use ssa_schema::kind::{Kind, ScalarKind};
 use std::alloc::{AllocError, Global};
@@ -79,7 +79,7 @@ pub fn tree_of(alloc: Global, kind: &Kind, value: Json) -> Result<Node, AllocErr
 fn field_child(
     alloc: Global,
     fields: &BTreeMap<String, Kind>,
-    name: String,
+    name: Name,
     member: Json,
 ) -> Result<(Elem, Node), AllocError>
     requires keyed { are_keyed (fields_view fields.now.entries) ≡ true }
@@ -89,8 +89,7 @@ fn field_child(
     match fields.get(name.as_str()) {
         Some(kind) => {
             let child = tree_of(alloc, kind, member)?;
-            let name = SmallText::from_string(alloc, name)?;
-            Ok((Elem::Field(name), child))
+            Ok((Elem::Field(name.into_text()), child))
         }
         None => unreachable!(),
     }
@@ -128,8 +127,7 @@ fn entry_children(
     let mut children = Vec::with_capacity(alloc, members.len())?;
     for (name, member) in members.into_entries() {
         let child = tree_of(alloc, inside, member)?;
-        let name = SmallText::from_string(alloc, name)?;
-        children.push((Elem::Field(name), child))?;
+        children.push((Elem::Field(name.into_text()), child))?;
     }
     Ok(children)
 }

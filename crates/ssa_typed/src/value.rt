@@ -8,7 +8,7 @@ ghost use Rattle.ssa_typed.specs.Values.{IsShownThere, items_of, leaf_value, mem
 
 use crate::node::{Leaf, Node};
 use ssa_json::value::Json;
-use ssa_members::Members;
+use ssa_members::{Members, Name};
 use ssa_path::element::Elem;
 use std::alloc::{AllocError, Global};
 
@@ -45,7 +45,7 @@ pub fn put_under(
 {
     match element {
         Elem::Field(name) => {
-            let key = String::from_str(alloc, name.as_str())?;
+            let key = Name::from_str(alloc, name.as_str())?;
             drop(members.insert(key, value)?);
             Ok(())
         }

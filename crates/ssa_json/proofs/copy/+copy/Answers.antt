@@ -23,7 +23,7 @@ copied_members-loop-name-preserved t c =
     let done = take l.name-index es in
     let more : take (l.name-index + 1) es ≡ done ++ e ∷ [] = take_more es l.name-index e (omega arith) ∙ ap (λ y. done ++ y ∷ []) (sym c.loop-name-item.is) in
     let j = c.in_ok-copied.field-0 in
-    let key : string_bytes c.in_ok-key.key ≡ string_bytes e.0 = c.in_ok-key.ensures.ok ∙ c.as_str.ensures.value in
+    let key : string_bytes c.in_ok-key.key ≡ string_bytes e.0 = c.in_ok-key.ensures in
     ap (map named) c.in_ok-push.ensures.items ∙ map-append named l.found.items ((c.in_ok-key.key, j) ∷ [])
     ∙ ap₂ (λ a b. a ++ b ∷ []) l.invariant (λ i. (key i, c.in_ok-copied.ensures i))
     ∙ sym (map-append named done (e ∷ [])) ∙ ap (map named) (sym more)

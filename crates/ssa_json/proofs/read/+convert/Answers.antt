@@ -55,7 +55,7 @@ converted_members-loop-name-init t c =
 pub converted_members-returns-in_err-converted : goal.converted_members-returns-in_err-converted
 converted_members-returns-in_err-converted t c =
     let l = c.loop-name in
-    let p = err_from_is_err_and c.from_residual.result c.from_residual.ensures.1 in
+    let p = err_from_is_err_and c.from_residual-in_err-converted.result c.from_residual-in_err-converted.ensures.1 in
     let so_far = l.invariant.converted ∙ ap (λ es. with_members (map named l.found.entries) (members_value (data_members es))) c.in-Some.ensures.steps in
     rw (p.1, p.2) (members-fault c.in_err-converted.field-0.0 (map named l.found.entries) (string_bytes c.in-Some.name) (data_view c.in-Some.member)
     (data_members c.next.new.self) _ so_far c.in_err-converted.ensures)
@@ -69,19 +69,22 @@ converted_members-loop-name-preserved t c =
     let step : l.name-iterator ≡ e ∷ left = c.in-Some.ensures.steps in
     let all : c.args.members.entries ≡ done ++ e ∷ left = l.invariant.split ∙ ap (λ es. done ++ es) step in
     let j = c.in_ok-converted.field-0 in
+    let k = c.in_ok-key.key in
+    let same : string_bytes k ≡ string_bytes e.0 = c.in_ok-key.ensures.ok in
     let sorted : IsStrictlySortedBy string_cmp (keys_of c.args.members.entries) = c.into_iter-name-iterator.ensures.into_iter_gives.5 in
-    let last = c.in_ok-insert.ensures.entries ∙ inserted-last done e left l.found.entries e.0 j
-    (subst (λ es. IsStrictlySortedBy string_cmp (keys_of es)) all sorted) l.invariant.names refl in
+    let last = c.in_ok-insert.ensures.entries ∙ inserted-last done e left l.found.entries k j
+    (subst (λ es. IsStrictlySortedBy string_cmp (keys_of es)) all sorted) l.invariant.names same in
     record {
       done = done ++ e ∷ [];
       split = all ∙ sym (append_assoc done (e ∷ []) left);
       names =
-          ap names last ∙ map-append (λ (f : Found). string_bytes f.0) l.found.entries ((e.0, j) ∷ [])
-          ∙ rw l.invariant.names (sym (map-append (λ (m : Entry). string_bytes m.0) done (e ∷ [])));
+          ap names last ∙ map-append (λ (f : Found). string_bytes f.0) l.found.entries ((k, j) ∷ [])
+          ∙ rw (l.invariant.names, same) (sym (map-append (λ (m : Entry). string_bytes m.0) done (e ∷ [])));
       converted =
           l.invariant.converted ∙ ap (λ es. with_members (map named l.found.entries) (members_value (data_members es))) step
           ∙ members-step (map named l.found.entries) (view j) (string_bytes e.0) (data_view e.1) (data_members left) c.in_ok-converted.ensures
-          ∙ ap (λ front. with_members front (members_value (data_members left))) (named_push l.found.entries e.0 j c.insert.new.self.entries last);
+          ∙ ap (λ bs. with_members (map named l.found.entries ++ (bs, view j) ∷ []) (members_value (data_members left))) (sym same)
+          ∙ ap (λ front. with_members front (members_value (data_members left))) (named_push l.found.entries k j c.insert.new.self.entries last);
     }
 
 pub converted_members-returns : goal.converted_members-returns

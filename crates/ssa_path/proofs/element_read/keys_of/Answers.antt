@@ -19,8 +19,8 @@ loop-name-preserved c =
     l.invariant
     ∙ ap (λ es. with_keys (members_view l.found.items) (key_of (json_members es))) c.in-Some.ensures.steps.0
     ∙ with_keys-more (members_view l.found.items) (string_bytes c.in-Some.name) (view c.in-Some.member) (scalar_view scalar) left is
-    ∙ ap (λ n. with_keys (members_view l.found.items ++ (n, scalar_view scalar) ∷ []) (key_of left)) (sym c.in_ok-name.ensures.ok)
-    ∙ ap (λ front. with_keys front (key_of left)) (pushed l.found.items c.in_ok-name.name scalar c.push.new.self.items c.in_ok-push.ensures.items)
+    ∙ ap (λ n. with_keys (members_view l.found.items ++ (n, scalar_view scalar) ∷ []) (key_of left)) (sym c.into_text.ensures)
+    ∙ ap (λ front. with_keys front (key_of left)) (pushed l.found.items c.into_text.result scalar c.push.new.self.items c.in_ok-push.ensures.items)
 
 pub returns : goal.returns
 returns c =

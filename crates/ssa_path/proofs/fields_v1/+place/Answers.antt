@@ -47,7 +47,7 @@ place_members-loop-child-preserved t c =
     let here = (out-Trie c.args.place.now).here in
     let name = c.in_ok-name.name in
     let e : Found = (name, c.in_ok-value.value) in
-    let text = c.in_ok-name.ensures.text in
+    let text = c.in_ok-name.ensures.ok ∙ c.in_ok-text.ensures.text in
     let value = c.in_ok-value.ensures.written in
     let rise = (trie-parts c.args.place.now cs c.deref-child-items.ensures.value c.requires).0 in
     let whole = parted cs i child (omega arith) c.child-item.is in
@@ -60,8 +60,8 @@ place_members-loop-child-preserved t c =
           ∙ ap (λ ds. dotted here (child_members ds)) (sym (taken cs i child (omega arith) c.child-item.is));
       canonical = subst (λ es. AreCanonical (members_view es)) (sym last)
           (canonical-more l.members.entries e l.invariant.canonical
-          (text-of-element (element_view child.0) (string_bytes name) c.in_ok-name.ensures.of_program text) value.not_dot value.canonical);
-      back = back-more cs i child (omega arith) c.child-item.is l.invariant.back c.in_ok-name.ensures.of_program c.in_ok-value.ensures.back;
+          (text-of-element (element_view child.0) (string_bytes name) c.in_ok-text.ensures.of_program text) value.not_dot value.canonical);
+      back = back-more cs i child (omega arith) c.child-item.is l.invariant.back c.in_ok-text.ensures.of_program c.in_ok-value.ensures.back;
     }
 
 pub place_members-returns-clause-json : goal.place_members-returns-clause-json

@@ -2,21 +2,18 @@ use Rattle.std.proofs.Common.{sym, ap, subst, ◌∙◌, Some, get_or, string_by
 use Rattle.std.specs.BTreeMap.{insert_entry}
 use Rattle.std.specs.List.{slice_set}
 use Rattle.std.specs.Result.{is_ok}
-use Rattle.ssa_members.specs.Members.{get, IsNameAt, IsRising}
+use Rattle.ssa_members.specs.Members.{get, IsRising}
 use Rattle.ssa_members.proofs.Searching.{gap-inside, name-inside, value-found, value-absent, put-in, put-over}
 use Rattle.ssa_members.proofs.Rising.{rising-either, rising-put-in, rising-exchanged}
-use Rattle.ssa_members.proofs.members.Members.insert.Given.{Over}
 use Rattle.ssa_members.proofs.members.Members.insert.Goals as goal
-
-place : (g : Over) (c : goal.After-drop-name g) → IsNameAt (string_bytes c.args.name) c.self.inside.entries.items c.in-Ok.i
-place g c = name-inside _ _ _ _ c.in-Ok.i c.self.view_is c.as_str.ensures.value c.in-Ok.ensures
 
 pub invariant_of-self : goal.invariant_of-self
 invariant_of-self g c =
     let es = c.self.inside.entries.items in
     let e = c.index_mut.result.now in
+    let place = name-inside es _ _ _ c.in-Ok.i c.self.view_is c.as_str.ensures.value c.in-Ok.ensures in
     subst (λ k. IsRising (slice_set es c.in-Ok.i (k, c.replace.new.dest))) (sym (ap (λ e. e.0) c.index_mut.ensures.value))
-    (rising-exchanged es c.in-Ok.i c.replace.new.dest e (place g c).within c.self.invariant)
+    (rising-exchanged es c.in-Ok.i c.replace.new.dest e place.within c.self.invariant)
 
 pub invariant_of-self-in-Err : goal.invariant_of-self-in-Err
 invariant_of-self-in-Err g c =
@@ -28,16 +25,19 @@ invariant_of-self-in-Err g c =
 pub returns-in-Ok-clause-old : goal.returns-in-Ok-clause-old
 returns-in-Ok-clause-old g c =
     let bs = string_bytes c.args.name in
-    let found = value-found bs c.self.inside.entries.items c.in-Ok.i c.index_mut.result.now c.self.invariant (place g c) in
+    let es = c.self.inside.entries.items in
+    let place = name-inside es _ _ _ c.in-Ok.i c.self.view_is c.as_str.ensures.value c.in-Ok.ensures in
+    let found = value-found bs es c.in-Ok.i c.index_mut.result.now c.self.invariant place in
     ap Some (c.replace.ensures.value ∙ ap (λ e. e.1) c.index_mut.ensures.value) ∙ sym found ∙ ap (λ m. get m bs) c.self.view_is
 
 pub returns-in-Ok-clause-entries : goal.returns-in-Ok-clause-entries
 returns-in-Ok-clause-entries g c =
     let es = c.self.inside.entries.items in
     let e = c.index_mut.result.now in
+    let place = name-inside es _ _ _ c.in-Ok.i c.self.view_is c.as_str.ensures.value c.in-Ok.ensures in
     ap (λ k. slice_set es c.in-Ok.i (k, c.replace.new.dest)) (ap (λ e. e.0) c.index_mut.ensures.value)
     ∙ ap (λ v. slice_set es c.in-Ok.i ((get_or es c.in-Ok.i e).0, v)) c.replace.ensures.after
-    ∙ sym (put-over es c.in-Ok.i c.args.name c.args.value e c.self.invariant (place g c))
+    ∙ sym (put-over es c.in-Ok.i c.args.name c.args.value e c.self.invariant place)
     ∙ ap (λ m. insert_entry string_cmp m.entries c.args.name c.args.value) c.self.view_is
 
 pub returns-in-Ok-clause-ordered : goal.returns-in-Ok-clause-ordered

@@ -1,0 +1,115 @@
+//! Names of members.
+ghost use Rattle.std.specs.Prelude.{◌≡◌, IfOk, Some, refl, string_bytes, string_cmp, string_eq};
+ghost use Rattle.std.specs.Cmp.{on_equiv, on_total, on_po, on_per, partial_equiv_from_equiv};
+ghost use Rattle.std.specs.Cmp.Lexicographic.{nat_list_eq_equiv, nat_list_cmp_total, texts_po, texts_ties};
+ghost use Rattle.ssa_members.specs.Texts.{text_bytes};
+
+use crate::members::order_names;
+use crate::small_text::SmallText;
+use std::alloc::{AllocError, Global};
+use std::cmp::Ordering;
+use std::marker::Model;
+
+/// The name of a member. A short one takes no memory of its own, as in a [`SmallText`]; in contracts it is the
+/// string of its bytes.
+#[derive(Drop)]
+pub struct Name {
+    text: SmallText,
+}
+
+impl Model for Name {
+    ghost use Rattle.std.specs.Prelude.{String};
+    ghost use Rattle.std.specs.declared.alloc.Global.{Global};
+    ghost use Rattle.ssa_members.specs.Names.{string_at, string_code};
+
+    ghost Value = { String Global };
+
+    ghost coded = { string_code };
+
+    ghost view = { λ n. string_at n.text.place n.text.utf8 };
+}
+
+impl Name {
+    /// The name with these bytes.
+    pub fn from_str(alloc: Global, text: &str) -> Result<Name, AllocError>
+        ensures ok { IfOk result (λ n. string_bytes n ≡ text.now) }
+    {
+        Ok(Name {
+            text: SmallText::from_str(alloc, text)?,
+        })
+    }
+
+    /// The name that is this text.
+    pub fn from_string(alloc: Global, text: String) -> Result<Name, AllocError>
+        ensures ok { IfOk result (λ n. string_bytes n ≡ string_bytes text) }
+    {
+        Ok(Name {
+            text: SmallText::from_string(alloc, text)?,
+        })
+    }
+
+    /// The name's text.
+    #[inline(always)]
+    pub fn as_str(&self) -> &str
+        ensures value { result.now ≡ string_bytes self.now }
+    {
+        self.text.as_str()
+    }
+
+    /// The same name. A short one takes no memory.
+    #[inline(always)]
+    pub fn copy(&self, alloc: Global) -> Result<Name, AllocError>
+        ensures { IfOk result (λ n. string_bytes n ≡ string_bytes self.now) }
+    {
+        Ok(Name {
+            text: self.text.copy(alloc)?,
+        })
+    }
+
+    /// The name as a text. Takes no memory.
+    #[inline(always)]
+    pub fn into_text(self) -> SmallText
+        ensures { text_bytes result ≡ string_bytes self }
+    {
+        let Name { text } = self;
+        text
+    }
+}
+
+impl PartialEq for Name {
+    ghost eq = { string_eq };
+
+    ghost laws = { on_per (λ x. string_bytes x) (partial_equiv_from_equiv nat_list_eq_equiv) };
+
+    fn eq(&self, other: &Name) -> bool {
+        self.as_str() == other.as_str()
+    }
+}
+
+impl Eq for Name {
+    ghost laws = { on_equiv (λ x. string_bytes x) nat_list_eq_equiv };
+}
+
+impl PartialOrd for Name {
+    ghost partial_cmp = { λ x y. Some (string_cmp x y) };
+
+    ghost laws = { on_po (λ x. string_bytes x) texts_po };
+
+    fn partial_cmp(&self, other: &Name) -> Option<Ordering> {
+        Some(self.cmp(other))
+    }
+}
+
+impl Ord for Name {
+    ghost cmp = { string_cmp };
+
+    ghost total = { on_total (λ x. string_bytes x) nat_list_cmp_total };
+
+    ghost matches_partial_cmp = { λ x y. refl };
+
+    ghost matches_eq = { λ x y. texts_ties (string_bytes x) (string_bytes y) };
+
+    fn cmp(&self, other: &Name) -> Ordering {
+        order_names(self.as_str(), other.as_str())
+    }
+}
