@@ -39,9 +39,9 @@ fn push_change(alloc: Global, text: &mut Vec<u8>, change: &EntryChange) -> Resul
 {
     text.push(b'{')?;
     push_name(text, false, "gain")?;
-    change.set.gain.push_fields_v1(alloc, text)?;
+    change.set.gain.as_trie().push_fields_v1(alloc, text)?;
     push_name(text, true, "lose")?;
-    change.set.lose.push_fields_v1(alloc, text)?;
+    change.set.lose.as_trie().push_fields_v1(alloc, text)?;
     push_text_member(text, true, "manager", change.key.name.as_str())?;
     push_text_member(text, true, "operation", change.key.operation.text())?;
     push_time(alloc, text, change.at)
