@@ -23,6 +23,7 @@ use ssa_merge::manager::ManagerKey;
 use ssa_merge::managers::Entry;
 use ssa_path::field_set::FieldSet;
 use ssa_told::told::{ToldChange, ToldHere, ToldTable};
+use ssa_turn_set::kept_paths::KeptPaths;
 use ssa_turn_set::loss::make_loss_room;
 use ssa_turn_set::making::make_gain_room;
 use ssa_turn_set::turn::{SetDelta, SetRoom};
@@ -68,8 +69,8 @@ fn set_delta(
     let gain_room = make_gain_room(alloc, &gained, own, &lost)?;
     let loss = make_loss_room(alloc, &lost, own)?;
     Ok(SetDelta {
-        gain: gained,
-        lose: lost,
+        gain: KeptPaths::of_trie(gained),
+        lose: KeptPaths::of_trie(lost),
         room: SetRoom {
             gain: gain_room,
             lose: loss.room,

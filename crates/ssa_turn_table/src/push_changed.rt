@@ -38,8 +38,18 @@ fn push_change(alloc: Global, text: &mut Vec<u8>, change: &EntryChange) -> Resul
     ensures of_program { OnOk result (IsOfProgram (change_json (change_view change.now))) }
 {
     text.push(b'{')?;
-    push_member(text, false, "gain", &change.set.gain.to_fields_v1(alloc)?)?;
-    push_member(text, true, "lose", &change.set.lose.to_fields_v1(alloc)?)?;
+    push_member(
+        text,
+        false,
+        "gain",
+        &change.set.gain.as_trie().to_fields_v1(alloc)?,
+    )?;
+    push_member(
+        text,
+        true,
+        "lose",
+        &change.set.lose.as_trie().to_fields_v1(alloc)?,
+    )?;
     push_text_member(text, true, "manager", change.key.name.as_str())?;
     push_text_member(text, true, "operation", change.key.operation.text())?;
     push_time(alloc, text, change.at)

@@ -17,8 +17,8 @@ fn change_size(change: &EntryChange) -> usize
     requires { (s : PathSet) × HasRoom change.now.set s }
     ensures { result ≡ min (change_size (change_view change.now)) (2 ^ 64 - 1) }
 {
-    let gained = count_paths(&change.set.gain);
-    let lost = count_paths(&change.set.lose);
+    let gained = count_paths(change.set.gain.as_trie());
+    let lost = count_paths(change.set.lose.as_trie());
     let paths = gained.saturating_add(lost);
     match change.at {
         Some(_) => paths.saturating_add(1),

@@ -20,8 +20,9 @@ use ssa_json::moment::Moment;
 use ssa_merge::manager::ManagerKey;
 use ssa_merge::managers::Entry;
 use ssa_merge::table_change::{self, TableChange, count_kept};
-use ssa_path::field_set::FieldSet;
+use ssa_path::shared_set::SharedSet;
 use ssa_path::trie::Trie;
+use ssa_turn_set::kept_paths::KeptPaths;
 use ssa_turn_set::room::Room;
 use ssa_turn_set::turn::{SetDelta, SetRoom};
 use std::alloc::{AllocError, Global};
@@ -31,14 +32,14 @@ fn set_stays(alloc: Global) -> SetDelta
     ensures { (s : PathSet) → IsBetween s s result }
 {
     SetDelta {
-        gain: Trie {
+        gain: KeptPaths::of_trie(Trie {
             here: false,
             below: Vec::new(alloc),
-        },
-        lose: Trie {
+        }),
+        lose: KeptPaths::of_trie(Trie {
             here: false,
             below: Vec::new(alloc),
-        },
+        }),
         room: SetRoom {
             gain: Room {
                 children: Vec::new(alloc),
@@ -73,14 +74,14 @@ fn is_kept(entry: &Entry, delta: &SetDelta, at: Moment) -> bool
     requires { is_trie delta.now.lose ≡ true }
     ensures { result ≡ (not (has_some (paths delta.now.lose)) && same_text entry.now.at at) }
 {
-    !delta.lose.has_paths() && is_same_moment(entry.at, at)
+    !delta.lose.as_trie().has_paths() && is_same_moment(entry.at, at)
 }
 
 // The change of an entry whose manager loses these paths, and then has this moment.
 fn losing(
     alloc: Global,
     entry: &Entry,
-    lost: FieldSet,
+    lost: SharedSet,
     at: Moment,
 ) -> Result<Option<EntryChange>, AllocError>
     ensures change { IfOk result (λ c. option_map change_view c ≡ change_of (entry_view entry.now) (Some (owning (entry_view entry.now) (minus entry.now.set lost) at))) }
@@ -99,6 +100,7 @@ fn losing(
 }
 
 // The change of an entry by what becomes of it.
+#[inline(never)]
 fn change_by(
     alloc: Global,
     entry: &Entry,

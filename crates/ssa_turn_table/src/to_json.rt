@@ -45,8 +45,8 @@ fn change_value(alloc: Global, change: &EntryChange) -> Result<Json, AllocError>
     requires { (s : PathSet) × HasRoom change.now.set s }
     ensures { IfOk result (λ v. view v ≡ change_json (change_view change.now)) }
 {
-    let gain = change.set.gain.to_fields_v1(alloc)?;
-    let lose = change.set.lose.to_fields_v1(alloc)?;
+    let gain = change.set.gain.as_trie().to_fields_v1(alloc)?;
+    let lose = change.set.lose.as_trie().to_fields_v1(alloc)?;
     let mut members = Members::new(alloc);
     put_text(
         alloc,
