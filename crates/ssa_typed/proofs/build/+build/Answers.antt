@@ -45,11 +45,11 @@ entry_children-loop-name-preserved t c =
       done = l.invariant.done ++ e ∷ [];
       split = l.invariant.split ∙ ap (λ es. l.invariant.done ++ es) steps ∙ sym (append_assoc l.invariant.done (e ∷ []) left);
       naming = naming-step (string_bytes e.0) (places k (view e.1)) (
-        Field c.in_ok-name.name,
+        Field c.into_text.result,
         c.in_ok-child.child,
       ) l.children.items c.push.new.self.items (names l.invariant.done) (names (l.invariant.done ++ e ∷ []))
           (entry_places k (members_view (into_iter_items l.name-iterator))) (entry_places k (members_view left)) (entry_places k (members_view c.args.members.entries))
-          (record { element = ap field c.in_ok-name.ensures.ok; placed = made.placed; tree = made.tree })
+          (record { element = ap field c.into_text.ensures; placed = made.placed; tree = made.tree })
           (λ p. ap (λ es. entry_places k (members_view es) p) steps)
           (map-append (λ (m : Found). string_bytes m.0) l.invariant.done (e ∷ []))
           c.in_ok-push.ensures.items l.invariant.naming;
@@ -106,7 +106,7 @@ field_child-returns t c =
     ap (λ m. model.kind_of m fs) (sym c.as_str.ensures.value)
     ∙ sym (field-found c.get.result c.as_str.result.now c.args.fields.now.entries c.get.ensures.value)
     ∙ ap (option_map (λ k. kind_view k.now)) c.in-Some.is in
-    record { element = ap field c.in_ok-name-in-Some.ensures.ok; placed = λ p. made.placed p ∙ sym (known-places n fs v k p found); tree = made.tree }
+    record { element = ap field c.into_text.ensures; placed = λ p. made.placed p ∙ sym (known-places n fs v k p found); tree = made.tree }
 
 pub field_children-field_child-requires : goal.field_children-field_child-requires
 field_children-field_child-requires t c =
