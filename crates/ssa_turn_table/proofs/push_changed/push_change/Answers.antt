@@ -1,4 +1,4 @@
-use Rattle.std.proofs.Common.{true, false, ap, subst, ◌∙◌}
+use Rattle.std.proofs.Common.{true, false, ap, subst}
 use Rattle.std.specs.Prelude.{codes}
 use Rattle.std.proofs.lemmas.Result.{on_ok_weaker}
 use Rattle.ssa_model.specs.definitions.Entries.{text_json}
