@@ -4,7 +4,7 @@ use Rattle.std.specs.Prelude.{codes}
 use Rattle.std.specs.Str.{is_utf8}
 use Rattle.ssa_model.specs.definitions.Entries.{operation_text, text_json}
 use Rattle.ssa_model.specs.definitions.FieldsV1.{fields_json}
-use Rattle.ssa_model.specs.definitions.Json.{Text, Json, Members, member, object, compact, compact_members}
+use Rattle.ssa_model.specs.definitions.Json.{Text, Json, member, object, compact, compact_members}
 use Rattle.ssa_model.specs.definitions.MemberNames.{is_below}
 use Rattle.ssa_model.specs.definitions.Record.{Change}
 use Rattle.ssa_model.specs.definitions.RecordText.{change_json, time_members}

@@ -104,17 +104,17 @@ fn losing(
 fn change_by(
     alloc: Global,
     entry: &Entry,
-    change: table_change::EntryChange,
+    change: &table_change::EntryChange,
 ) -> Result<Option<EntryChange>, AllocError>
-    ensures change { IfOk result (λ c. option_map change_view c ≡ change_in (changed_entry change (entry_view entry.now)) (entry_view entry.now)) }
+    ensures change { IfOk result (λ c. option_map change_view c ≡ change_in (changed_entry change.now (entry_view entry.now)) (entry_view entry.now)) }
     ensures room { IfOk result (λ c. IfSome c (λ d. HasRoom d.set entry.now.set)) }
 {
     match change {
         table_change::EntryChange::Stays => Ok(None),
         table_change::EntryChange::Leaves => Ok(None),
-        table_change::EntryChange::Renewed(at) => renewed(alloc, entry, at),
-        table_change::EntryChange::Loses(lost, at) => losing(alloc, entry, lost, at),
-        table_change::EntryChange::Owns(set, at) => change_to(alloc, entry, &set, at),
+        table_change::EntryChange::Renewed(at) => renewed(alloc, entry, *at),
+        table_change::EntryChange::Loses(lost, at) => losing(alloc, entry, lost.share()?, *at),
+        table_change::EntryChange::Owns(set, at) => change_to(alloc, entry, set, *at),
     }
 }
 
@@ -138,20 +138,18 @@ fn count_changing(told: &[table_change::EntryChange]) -> usize
 fn changes_by(
     alloc: Global,
     entries: &[Entry],
-    told: Vec<table_change::EntryChange>,
+    told: &[table_change::EntryChange],
 ) -> Result<Vec<EntryChange>, AllocError>
-    requires each { length told.items ≡ length entries.now }
+    requires each { length told.now ≡ length entries.now }
     requires distinct { has_distinct_keys (table_view entries.now) ≡ true }
-    ensures changes { IfOk result (λ cs. changes_view cs.items ≡ changes (table_view entries.now) (changed_entries told.items (table_view entries.now))) }
+    ensures changes { IfOk result (λ cs. changes_view cs.items ≡ changes (table_view entries.now) (changed_entries told.now (table_view entries.now))) }
     ensures room { IfOk result (λ cs. AllHaveRoom (table_view entries.now) cs.items) }
 {
-    let mut changed = Vec::with_capacity(alloc, count_changing(&told))?;
-    let mut place = 0;
-    for change in told {
-        if let Some(made) = change_by(alloc, &entries[place], change)? {
+    let mut changed = Vec::with_capacity(alloc, count_changing(told))?;
+    for (place, entry) in entries.iter().enumerate() {
+        if let Some(made) = change_by(alloc, entry, &told[place])? {
             changed.push(made)?;
         }
-        place += 1;
     }
     Ok(changed)
 }
@@ -217,7 +215,7 @@ pub fn table_delta(
     } = change;
     let gone = gone_by(alloc, entries, &changes)?;
     let here = here_by(alloc, count_kept(&changes), newcomer)?;
-    let changed = changes_by(alloc, entries, changes)?;
+    let changed = changes_by(alloc, entries, &changes)?;
     let room = make_table_room(alloc, gone.len(), here.len())?;
     Ok(TableDelta {
         changed,
