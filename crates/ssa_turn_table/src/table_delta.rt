@@ -117,21 +117,23 @@ fn push_made(made: Option<EntryChange>, changed: &mut Vec<EntryChange>) -> Resul
 fn push_change_by(
     alloc: Global,
     entry: &Entry,
-    change: table_change::EntryChange,
+    change: &table_change::EntryChange,
     changed: &mut Vec<EntryChange>,
 ) -> Result<(), AllocError>
-    ensures { OnOk result (IsPutBehind entry.now.set (change_in (changed_entry change (entry_view entry.now)) (entry_view entry.now)) changed.old.items changed.new.items) }
+    ensures { OnOk result (IsPutBehind entry.now.set (change_in (changed_entry change.now (entry_view entry.now)) (entry_view entry.now)) changed.old.items changed.new.items) }
 {
     match change {
         table_change::EntryChange::Stays => Ok(()),
         table_change::EntryChange::Leaves => Ok(()),
         table_change::EntryChange::Renewed(at) => {
-            let made = renewed(alloc, entry, at)?;
+            let made = renewed(alloc, entry, *at)?;
             push_made(made, changed)
         }
-        table_change::EntryChange::Loses(lost, at) => push_losing(alloc, entry, lost, at, changed),
+        table_change::EntryChange::Loses(lost, at) => {
+            push_losing(alloc, entry, lost.share()?, *at, changed)
+        }
         table_change::EntryChange::Owns(set, at) => {
-            let made = change_to(alloc, entry, &set, at)?;
+            let made = change_to(alloc, entry, set, *at)?;
             push_made(made, changed)
         }
     }
@@ -157,18 +159,16 @@ fn count_changing(told: &[table_change::EntryChange]) -> usize
 fn changes_by(
     alloc: Global,
     entries: &[Entry],
-    told: Vec<table_change::EntryChange>,
+    told: &[table_change::EntryChange],
 ) -> Result<Vec<EntryChange>, AllocError>
-    requires each { length told.items ≡ length entries.now }
+    requires each { length told.now ≡ length entries.now }
     requires distinct { has_distinct_keys (table_view entries.now) ≡ true }
-    ensures changes { IfOk result (λ cs. changes_view cs.items ≡ changes (table_view entries.now) (changed_entries told.items (table_view entries.now))) }
+    ensures changes { IfOk result (λ cs. changes_view cs.items ≡ changes (table_view entries.now) (changed_entries told.now (table_view entries.now))) }
     ensures room { IfOk result (λ cs. AllHaveRoom (table_view entries.now) cs.items) }
 {
-    let mut changed = Vec::with_capacity(alloc, count_changing(&told))?;
-    let mut place = 0;
-    for change in told {
-        push_change_by(alloc, &entries[place], change, &mut changed)?;
-        place += 1;
+    let mut changed = Vec::with_capacity(alloc, count_changing(told))?;
+    for (place, entry) in entries.iter().enumerate() {
+        push_change_by(alloc, entry, &told[place], &mut changed)?;
     }
     Ok(changed)
 }
@@ -234,7 +234,7 @@ pub fn table_delta(
     } = change;
     let gone = gone_by(alloc, entries, &changes)?;
     let here = here_by(alloc, count_kept(&changes), newcomer)?;
-    let changed = changes_by(alloc, entries, changes)?;
+    let changed = changes_by(alloc, entries, &changes)?;
     let room = make_table_room(alloc, gone.len(), here.len())?;
     Ok(TableDelta {
         changed,

@@ -3,9 +3,10 @@ use Rattle.std.proofs.lemmas.List.{append-nil}
 use Rattle.std.proofs.lemmas.Result.{on_ok_weaker}
 use Rattle.std.specs.Prelude.{OnOk}
 use Rattle.ssa_model.specs.definitions.PathMap.{minus}
+use Rattle.ssa_model.specs.definitions.Record.{change_of}
 use Rattle.ssa_merge.specs.Managers.{entry_view}
 use Rattle.ssa_merge.specs.TableChanges.{changed_entry}
-use Rattle.ssa_turn_table.specs.Changing.{change_in, IsPutBehind}
+use Rattle.ssa_turn_table.specs.Changing.{change_in, owning, IsPutBehind}
 use Rattle.ssa_turn_table.proofs.Staying.{lone-owning, stays-none}
 use Rattle.ssa_turn_table.proofs.table_delta.push_change_by.Goals as goal
 
@@ -41,9 +42,11 @@ returns-in_ok-made-in-Owns c =
       room = c.in_ok-made-in-Owns.ensures.room;
     }) c.push_made-in-Owns.ensures
 
-pub returns-in-Loses : goal.returns-in-Loses
-returns-in-Loses c =
+pub returns-in_ok-share-in-Loses : goal.returns-in_ok-share-in-Loses
+returns-in_ok-share-in-Loses c =
     let e = entry_view c.args.entry.now in
     let s = c.args.entry.now.set in
-    let by = sym (lone-owning e (minus s c.in-Loses.lost) c.in-Loses.at) ∙ ap (λ f. change_in (changed_entry f e) e) (sym c.in-Loses.is) in
-    subst (λ told. OnOk c.push_losing.result (IsPutBehind s told c.args.changed.now.items c.push_losing.new.changed.items)) by c.push_losing.ensures
+    let at = c.in-Loses.at in
+    let put = λ told. OnOk c.push_losing.result (IsPutBehind s told c.args.changed.now.items c.push_losing.new.changed.items) in
+    let told = subst (λ l. put (change_of e (Some (owning e (minus s l) at)))) c.in_ok-share-in-Loses.ensures c.push_losing.ensures in
+    subst put (sym (lone-owning e (minus s c.in-Loses.lost) at) ∙ ap (λ f. change_in (changed_entry f e) e) (sym c.in-Loses.is)) told

@@ -1,5 +1,5 @@
 use Rattle.std.proofs.Common.{◌≡◌, length, map, ap, ◌∙◌, arith}
-use Rattle.ssa_model.specs.definitions.Record.{gone_from, table_record}
+use Rattle.ssa_model.specs.definitions.Record.{changes, gone_from, table_record}
 use Rattle.ssa_merge.specs.Managers.{table_view}
 use Rattle.ssa_merge.specs.TableChanges.{changed_entries, lone}
 use Rattle.ssa_turn_table.specs.declared.delta.TableDelta.{TableDelta}
@@ -16,7 +16,7 @@ returns-clause-record c = λ u h.
     let d : TableDelta = record { changed = c.in_ok-changed.changed; gone = c.in_ok-gone.gone; here = c.in_ok-here.here; room = c.in_ok-room.room } in
     let kept = c.count_kept.ensures.count t (ap length c.deref-2.ensures.value ∙ h.each) ∙ ap (λ xs. length (changed_entries xs t)) c.deref-2.ensures.value in
     led-record t fs o u h.new h.leads (table_steps d)
-    c.in_ok-changed.ensures.changes
+    (c.in_ok-changed.ensures.changes ∙ ap (λ xs. changes t (changed_entries xs t)) c.deref-3.ensures.value)
     (c.in_ok-gone.ensures ∙ ap (λ xs. gone_from t (changed_entries xs t)) c.deref.ensures.value)
     (c.in_ok-here.ensures.here ∙ ap (λ n. map (λ e. (n, e)) (lone o)) kept)
 
