@@ -1,9 +1,9 @@
-use Rattle.std.proofs.Common.{Some, None, ap, sym, ◌∙◌, subst}
+use Rattle.std.proofs.Common.{Option, Some, None, ap, sym, ◌∙◌, subst}
 use Rattle.std.proofs.lemmas.List.{append-nil}
 use Rattle.std.proofs.lemmas.Result.{on_ok_weaker}
 use Rattle.std.specs.Prelude.{OnOk}
 use Rattle.ssa_model.specs.definitions.PathMap.{minus}
-use Rattle.ssa_model.specs.definitions.Record.{change_of}
+use Rattle.ssa_model.specs.definitions.Record.{Change, change_of}
 use Rattle.ssa_merge.specs.Managers.{entry_view}
 use Rattle.ssa_merge.specs.TableChanges.{changed_entry}
 use Rattle.ssa_turn_table.specs.Changing.{change_in, owning, IsPutBehind}
@@ -47,6 +47,6 @@ returns-in_ok-share-in-Loses c =
     let e = entry_view c.args.entry.now in
     let s = c.args.entry.now.set in
     let at = c.in-Loses.at in
-    let put = λ told. OnOk c.push_losing.result (IsPutBehind s told c.args.changed.now.items c.push_losing.new.changed.items) in
+    let put : Option Change → Type 0 = λ told. OnOk c.push_losing.result (IsPutBehind s told c.args.changed.now.items c.push_losing.new.changed.items) in
     let told = subst (λ l. put (change_of e (Some (owning e (minus s l) at)))) c.in_ok-share-in-Loses.ensures c.push_losing.ensures in
     subst put (sym (lone-owning e (minus s c.in-Loses.lost) at) ∙ ap (λ f. change_in (changed_entry f e) e) (sym c.in-Loses.is)) told
