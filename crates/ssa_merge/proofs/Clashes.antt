@@ -1,5 +1,5 @@
 -- Whom a change clashes with, one entry more.
-use Rattle.std.proofs.Common.{◌≡◌, List, [], ◌∷◌, ◌++◌, true, false, sym, ap, ◌∙◌}
+use Rattle.std.proofs.Common.{◌≡◌, List, [], ◌∷◌, ◌++◌, true, false, refl, sym, ap, ◌∙◌}
 use Rattle.std.proofs.lemmas.List.{map-append, append_assoc}
 use Rattle.std.specs.Prelude.{if◌then◌else◌}
 use Rattle.ssa_model.specs.definitions.PathMap.{PathSet, has, is_empty, paths, set_of}
@@ -9,6 +9,7 @@ use Rattle.ssa_path.specs.Meet.{meet}
 use Rattle.ssa_path.proofs.Sets.{meet-comm}
 use Rattle.ssa_merge.specs.Managers.{clash_view, clashes_view, key_view}
 use Rattle.ssa_merge.specs.declared.manager.ManagerKey as merge
+use Rattle.ssa_merge.proofs.GivenUp.{meet-none}
 
 module _ (a : ManagerKey) (changed : PathSet) (e : Entry) (es : Table) where
   -- the manager itself clashes with no change of its own
@@ -36,3 +37,13 @@ pub found-more : (found more : List (merge.ManagerKey × PathSet)) (k : merge.Ma
 found-more found more k fields left is =
     sym (append_assoc (clashes_view found) (record { manager = key_view k; fields = fields } ∷ []) left)
     ∙ ap (λ cs. cs ++ left) (sym (map-append clash_view found ((k, fields) ∷ [])) ∙ ap clashes_view (sym is))
+
+-- where nothing changed, nobody clashes
+pub no-clashes : (a : ManagerKey) (changed : PathSet) → is_empty changed ≡ true → (es : Table) → clashes a changed es ≡ []
+no-clashes a changed none [] = refl
+no-clashes a changed none (e ∷ es) =
+    let rest = no-clashes a changed none es in
+    elim (same_manager e.manager a) as (λ b. same_manager e.manager a ≡ b → clashes a changed (e ∷ es) ≡ []) [
+      | true ↦ λ own. clash-own a changed e es own ∙ rest
+      | false ↦ λ other. clash-none a changed e es other (ap is_empty (meet-comm changed e.owned) ∙ meet-none e.owned changed none) ∙ rest
+    ] refl

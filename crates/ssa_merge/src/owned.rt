@@ -55,7 +55,8 @@ pub fn owned_over(
     }
 }
 
-/// The managers other than this one that own changed fields, in table order, each with these fields.
+/// The managers other than this one that own changed fields, in table order, each with these fields. Where no field
+/// changed, nobody's are looked at.
 pub fn clashes(
     alloc: Global,
     table: &[Entry],
@@ -65,6 +66,9 @@ pub fn clashes(
     ensures { IfOk result (λ found. clashes_view found.items ≡ clashes (key_view key.now) changed.now (table_view table.now)) }
 {
     let mut found = Vec::new(alloc);
+    if changed.is_empty() {
+        return Ok(found);
+    }
     for entry in table {
         if !entry.key.is_same(key) {
             let fields = changed.meet(alloc, &entry.set)?;

@@ -3,9 +3,14 @@ use Rattle.ssa_model.specs.definitions.Operations.{clashes}
 use Rattle.ssa_path.proofs.Lists.{left-at}
 use Rattle.ssa_model.specs.definitions.PathMap.{is_empty}
 use Rattle.ssa_merge.specs.Managers.{key_view, entry_view, table_view, clashes_view}
-use Rattle.ssa_merge.proofs.Clashes.{clash-none, clash-own, clash-some, found-more}
+use Rattle.ssa_merge.proofs.Clashes.{clash-none, clash-own, clash-some, found-more, no-clashes}
 use Rattle.ssa_merge.proofs.owned.clashes.Goals as goal
 use Rattle.ssa_merge.proofs.owned.clashes.Goals.{then-not-is_same+in_ok-fields+then-not-is_empty+in_ok-other+in_ok-push, then-not-is_same+in_ok-fields+else-not-is_empty, else-not-is_same}
+
+pub returns-then-is_empty : goal.returns-then-is_empty
+returns-then-is_empty c =
+    ap clashes_view c.new-found.ensures.items
+    ∙ sym (no-clashes (key_view c.args.key.now) c.args.changed.now (sym c.is_empty.ensures ∙ c.if-is_empty.true) (table_view c.args.table.now))
 
 pub loop-entry-preserved : goal.loop-entry-preserved
 loop-entry-preserved c =
@@ -21,13 +26,13 @@ loop-entry-preserved c =
       | then-not-is_same+in_ok-fields+then-not-is_empty+in_ok-other+in_ok-push w ↦
           let fields = w.in_ok-fields.fields in
           ap (λ cs. clashes_view found ++ cs) (clash-some a changed (entry_view e) rest fields (sym c.is_same.ensures ∙ w.if-not-is_same.true)
-          w.in_ok-fields.ensures (sym w.is_empty.ensures ∙ w.if-not-is_empty.true)
+          w.in_ok-fields.ensures (sym w.is_empty-then-not-is_same.ensures ∙ w.if-not-is_empty.true)
           ∙ (λ i. record { manager = sym w.in_ok-other.ensures i; fields = fields } ∷ clashes a changed rest))
           ∙ found-more found c.if-not-is_same.found.items w.in_ok-other.other fields (clashes a changed rest)
           (ap (λ v. v.items) w.found-is ∙ w.in_ok-push.ensures.items)
       | then-not-is_same+in_ok-fields+else-not-is_empty w ↦
           ap (λ cs. clashes_view found ++ cs) (clash-none a changed (entry_view e) rest (sym c.is_same.ensures ∙ w.if-not-is_same.true)
-          (ap is_empty (sym w.in_ok-fields.ensures) ∙ sym w.is_empty.ensures ∙ w.if-not-is_empty.false))
+          (ap is_empty (sym w.in_ok-fields.ensures) ∙ sym w.is_empty-then-not-is_same.ensures ∙ w.if-not-is_empty.false))
           ∙ ap (λ v. clashes_view v.items ++ clashes a changed rest) (sym w.found-is)
       | else-not-is_same w ↦
           ap (λ cs. clashes_view found ++ cs) (clash-own a changed (entry_view e) rest (sym c.is_same.ensures ∙ w.if-not-is_same.false))
