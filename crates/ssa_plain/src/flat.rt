@@ -49,7 +49,7 @@ fn add_root_members(
 ) -> Result<(), AllocError> {
     for (name, member) in members.entries() {
         if name.as_str() != "metadata" || !is_bare(member) {
-            add_field(alloc, member, name, fields, &[], rows)?;
+            add_field(alloc, member, name.as_str(), fields, &[], rows)?;
         }
     }
     Ok(())
@@ -205,7 +205,7 @@ fn add_fields(
     rows: &mut Vec<Row>,
 ) -> Result<(), AllocError> {
     for (name, member) in members.entries() {
-        add_field(alloc, member, name, fields, place, rows)?;
+        add_field(alloc, member, name.as_str(), fields, place, rows)?;
     }
     Ok(())
 }
@@ -220,7 +220,7 @@ fn add_entries(
     rows: &mut Vec<Row>,
 ) -> Result<(), AllocError> {
     for (name, member) in members.entries() {
-        let below = field_of(alloc, place, name)?;
+        let below = field_of(alloc, place, name.as_str())?;
         add_places(alloc, member, kind, &below, rows)?;
     }
     Ok(())

@@ -47,7 +47,7 @@ fn add_members(
     owned: &mut Vec<Path>,
 ) -> Result<(), AllocError> {
     for (name, below) in members.entries() {
-        add_member(alloc, name, below, place, owned)?;
+        add_member(alloc, name.as_str(), below, place, owned)?;
     }
     Ok(())
 }

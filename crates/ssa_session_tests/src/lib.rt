@@ -7,6 +7,8 @@ mod falters;
 #[cfg(test)]
 mod file_tests;
 #[cfg(test)]
+mod forcing_tests;
+#[cfg(test)]
 mod front_tests;
 #[cfg(test)]
 mod limit_tests;

@@ -17,8 +17,8 @@ fn answer_and_save(
     Ok((reply, file))
 }
 
-// The same of the bench of a file.
-fn goes_on(alloc: Global, file: &str, line: &str) -> Result<(Vec<u8>, Vec<u8>), Fail> {
+/// What the bench of a file answers to a line, and its file afterwards.
+pub fn goes_on(alloc: Global, file: &str, line: &str) -> Result<(Vec<u8>, Vec<u8>), Fail> {
     let mut bench = loaded(alloc, file.as_bytes())?;
     answer_and_save(alloc, &mut bench, line)
 }

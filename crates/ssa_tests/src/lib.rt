@@ -1,5 +1,5 @@
-//! Tests of benches by their calls, of the files that benches are taken from and saved in, and the examples
-//! on the first pages of the crates below: of what no contract says.
+//! Tests of benches by their calls, of the files that benches are taken from and saved in and their lines, and the
+//! examples on the first pages of the crates below: of what no contract says.
 #![tactic(auto)]
 
 #[cfg(test)]
@@ -10,6 +10,8 @@ mod bodies;
 mod commands;
 #[cfg(test)]
 mod front_tests;
+#[cfg(test)]
+mod line_tests;
 #[cfg(test)]
 mod loading_tests;
 #[cfg(test)]

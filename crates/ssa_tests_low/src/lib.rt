@@ -22,6 +22,8 @@ mod kind_tests;
 #[cfg(test)]
 mod merge_tests;
 #[cfg(test)]
+mod name_tests;
+#[cfg(test)]
 mod questions;
 #[cfg(test)]
 mod samples;
