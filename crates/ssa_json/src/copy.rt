@@ -8,6 +8,7 @@ use std::alloc::{AllocError, Global};
 
 impl Scalar {
     /// The same scalar, in memory of its own.
+    #[inline(always)]
     pub fn copy(&self, alloc: Global) -> Result<Scalar, AllocError>
         ensures { IfOk result (λ s. scalar_view s ≡ scalar_view self.now) }
     {

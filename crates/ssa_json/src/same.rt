@@ -9,6 +9,7 @@ use ssa_members::Members;
 
 impl Scalar {
     /// Whether the two are one scalar.
+    #[inline(always)]
     pub fn same(&self, other: &Scalar) -> bool
         ensures test { result ≡ same_scalar (scalar_view self.now) (scalar_view other.now) }
         ensures value { IsTrue result ↔ (scalar_view self.now ≡ scalar_view other.now) }

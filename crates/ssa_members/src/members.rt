@@ -163,6 +163,7 @@ impl<V> Members<V> {
     }
 
     /// Takes the value under a name out, where there is one.
+    #[inline(always)]
     pub fn remove(&mut self, name: &str) -> Option<V>
     where
         V: Drop,
@@ -213,6 +214,16 @@ impl<V> Members<V> {
         if rises(&pairs) {
             return Ok(Members { entries: pairs });
         }
+        Members::of_unordered(alloc, pairs)
+    }
+
+    // The same of pairs in any order. Members mostly come in order, and this takes much of the stack.
+    #[inline(never)]
+    fn of_unordered(alloc: Global, pairs: Vec<(Name, V)>) -> Result<Members<V>, AllocError>
+    where
+        V: Drop,
+        ensures { IfOk result (IsMadeOf pairs.items) }
+    {
         let sorted: BTreeMap<Name, V> = pairs.into_iter().collect(alloc)?;
         let mut entries = Vec::with_capacity(alloc, sorted.len())?;
         for entry in sorted {

@@ -109,6 +109,7 @@ impl Ord for Name {
 
     ghost matches_eq = { λ x y. texts_ties (string_bytes x) (string_bytes y) };
 
+    #[inline(always)]
     fn cmp(&self, other: &Name) -> Ordering {
         order_names(self.as_str(), other.as_str())
     }

@@ -35,6 +35,7 @@ impl Model for Identity {
 }
 
 // The member of a member.
+#[inline(always)]
 fn member_in<'a>(object: &'a Json, outer: &str, inner: &str) -> Option<&'a Json>
     ensures { option_map (λ v. view v.now) result ≡ value_at (outer.now ∷ inner.now ∷ []) (view object.now) }
 {
@@ -55,6 +56,7 @@ fn is_named(value: &Json) -> bool
 }
 
 // Whether the object has a member of the name that is a text and isn't empty.
+#[inline(always)]
 fn has_named(object: &Json, name: &str) -> bool
     ensures { result ≡ is_named_text (value_at (name.now ∷ []) (view object.now)) }
 {
@@ -75,6 +77,7 @@ fn has_named_in(object: &Json, outer: &str, inner: &str) -> bool
 }
 
 // Whether the object has no such member of a member.
+#[inline(always)]
 fn lacks(object: &Json, outer: &str, inner: &str) -> bool
     ensures { result ≡ is_missing (value_at (outer.now ∷ inner.now ∷ []) (view object.now)) }
 {

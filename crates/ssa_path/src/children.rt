@@ -12,6 +12,7 @@ use std::cmp::Ordering;
 pub const FEW: usize = 8;
 
 /// The place of the child of this element among children in any order, looked for one after the other.
+#[inline(always)]
 pub fn scan<T>(children: &[(Elem, T)], element: &Elem) -> Option<usize>
     ensures some { IfSome result (IsChildAt (element_view element.now) children.now) }
     ensures none { IfNone result (child_at (element_view element.now) children.now ≡ None) }
@@ -25,6 +26,7 @@ pub fn scan<T>(children: &[(Elem, T)], element: &Elem) -> Option<usize>
 }
 
 // The place of the child of this element, or the place where one may be put, looked for by halving.
+#[inline(always)]
 fn halve<T>(children: &[(Elem, T)], element: &Elem) -> Result<usize, usize>
     requires { rises (elements children.now) ≡ true }
     ensures { IsSearchResult (element_view element.now) children.now result }
@@ -36,6 +38,7 @@ fn halve<T>(children: &[(Elem, T)], element: &Elem) -> Result<usize, usize>
 ///
 /// An item is first looked for among few. The names of fields mostly differ in their first bytes, which
 /// order them as fast. Where no place for one is needed, [`find`] takes less.
+#[inline(always)]
 pub fn search<T>(children: &[(Elem, T)], element: &Elem) -> Result<usize, usize>
     requires { rises (elements children.now) ≡ true }
     ensures { IsSearchResult (element_view element.now) children.now result }
@@ -49,6 +52,7 @@ pub fn search<T>(children: &[(Elem, T)], element: &Elem) -> Result<usize, usize>
 }
 
 /// The place of the child of this element, found by halving, among few by a look at each.
+#[inline(always)]
 pub fn find<T>(children: &[(Elem, T)], element: &Elem) -> Option<usize>
     requires { rises (elements children.now) ≡ true }
     ensures some { IfSome result (IsChildAt (element_view element.now) children.now) }
@@ -62,6 +66,7 @@ pub fn find<T>(children: &[(Elem, T)], element: &Elem) -> Option<usize>
 }
 
 /// The child of this element.
+#[inline(always)]
 pub fn find_child<'a, T>(children: &'a [(Elem, T)], element: &Elem) -> Option<&'a T>
     requires { rises (elements children.now) ≡ true }
     ensures { option_copied result ≡ child_at (element_view element.now) children.now }
@@ -73,6 +78,7 @@ pub fn find_child<'a, T>(children: &'a [(Elem, T)], element: &Elem) -> Option<&'
 }
 
 /// How the next children of two lists compare: where one list has no more, the other's is first.
+#[inline(always)]
 pub fn order_at<A, B>(
     own: &[(Elem, A)],
     i: usize,

@@ -80,6 +80,7 @@ fn push_copy(
 }
 
 // Adds a child that has some path behind the others. On `Err` the others are as they were.
+#[inline(always)]
 fn push_child(
     alloc: Global,
     children: &mut Vec<(Elem, Trie)>,
@@ -116,6 +117,7 @@ pub fn push_filled(
 
 // The combination of what is below two places.
 #[cycle(combine)]
+#[inline(always)]
 fn combine_children(
     alloc: Global,
     own: &[(Elem, Trie)],

@@ -49,6 +49,7 @@ impl Elem {
     }
 
     // The order of elements of which mostly one or both are items.
+    #[inline(always)]
     fn order_of_sorts(&self, other: &Elem) -> Ordering
         ensures { result ≡ element_cmp (element_view self.now) (element_view other.now) }
     {
@@ -80,6 +81,7 @@ impl Elem {
 
     // Whether elements of which mostly one or both are items are one element.
     #[tactic(auto, using(crate::proofs::Sameness::same_values, crate::proofs::Sameness::same_keys))]
+    #[inline(always)]
     fn is_same_of_sorts(&self, other: &Elem) -> bool
         ensures { result ≡ same_element (element_view self.now) (element_view other.now) }
     {
@@ -112,6 +114,7 @@ impl Elem {
     }
 
     // The same element, which is mostly an item, with new memory.
+    #[inline(always)]
     fn copy_of_sorts(&self, alloc: Global) -> Result<Elem, AllocError>
         ensures { IfOk result (λ e. element_view e ≡ element_view self.now) }
     {

@@ -241,6 +241,7 @@ impl FieldSet {
     }
 
     /// The paths of the set, in path order, each as references to elements of the set.
+    #[inline(always)]
     pub fn ways(&self, alloc: Global) -> Result<Vec<Vec<&Elem>>, AllocError>
         ensures { IfOk result (λ ways. ways_view ways.items ≡ set.paths self.now) }
     {

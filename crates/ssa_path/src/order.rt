@@ -112,6 +112,7 @@ pub fn past_four(text: &[u8], other: &[u8], i: usize) -> usize
 }
 
 // The order of two texts in quotes.
+#[inline(always)]
 pub fn order_quoted(text: &[u8], other: &[u8]) -> Ordering
     ensures { result ≡ slice_cmp nat_cmp (quoted text.now) (quoted other.now) }
 {

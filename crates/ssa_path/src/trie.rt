@@ -21,6 +21,7 @@ pub struct Trie {
 }
 
 // A child with new memory.
+#[inline(always)]
 pub(crate) fn copy_child(alloc: Global, child: &(Elem, Trie)) -> Result<(Elem, Trie), AllocError>
     ensures { IfOk result (λ c. IsCopy child.now c) }
 {
@@ -82,6 +83,7 @@ fn has_any(child: &(Elem, Trie)) -> bool
 }
 
 /// Takes out the children that have no path left, in one pass where there are any.
+#[inline(always)]
 pub fn take_out_bare(below: &mut Vec<(Elem, Trie)>, any_bare: bool)
     requires { any_bare ≡ false → kept below.old.items ≡ below.old.items }
     ensures items { below.new.items ≡ kept below.old.items }

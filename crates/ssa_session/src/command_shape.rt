@@ -75,6 +75,7 @@ fn is_list_of_texts(value: &Json) -> bool
 }
 
 // Whether an update command may have the member.
+#[inline(always)]
 fn is_update_member(name: &str, value: &Json) -> bool
     ensures { result ≡ is_known_member (member_rules Word.Update) name.now (view value.now) }
 {

@@ -11,6 +11,7 @@ use ssa_json::value::Json;
 use ssa_members::Members;
 
 /// The text of the member of a name, where it is one.
+#[inline(always)]
 pub fn text_of<'a>(members: &'a Members<Json>, name: &str) -> Option<&'a str>
     ensures { option_map (λ text. text.now) result ≡ option_and_then as_text (member_of name.now (members_view members.now.entries)) }
 {

@@ -30,6 +30,7 @@ pub trait Change {
 ///
 /// Takes as many comparisons as a binary search in a record or a Dict of more than a few, and as there are
 /// items in a list.
+#[inline(always)]
 pub fn place_of(node: &Node, element: &Elem) -> Option<usize>
     requires { is_tree node.now ≡ true }
     ensures some { IfSome result (IsChildAt (element_view element.now) (below node.now)) }

@@ -24,6 +24,7 @@ use std::alloc::{AllocError, Global};
 use std::mem;
 
 // Whether both leaves are of one sort and have the same content.
+#[inline(always)]
 fn same_leaf(own: &Leaf, other: &Leaf) -> bool
     ensures { is_swapped (leaf_content own.now) (leaf_content other.now) ≡ not result }
 {
@@ -81,6 +82,7 @@ fn push_leaf(
 }
 
 // The edit of the children at the end of a way, where any goes, comes or is exchanged.
+#[inline(always)]
 fn push_edit(
     alloc: Global,
     way: &[&Elem],
@@ -203,6 +205,7 @@ fn walk_edit<'a>(
 
 // The changes that lead from the children of a place to these, those in the children first.
 #[cycle(walk)]
+#[inline(always)]
 fn walk_children<'a>(
     alloc: Global,
     way: &mut Vec<&'a Elem>,

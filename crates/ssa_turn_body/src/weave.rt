@@ -16,6 +16,7 @@ fn next<X>(stack: &mut Vec<X>) -> Option<X>
 }
 
 // Turns a list round.
+#[inline(always)]
 fn turn_round<X>(items: &mut Vec<X>)
     ensures items { items.new.items ≡ reverse items.old.items }
     ensures capacity { vec_capacity items.new ≡ vec_capacity items.old }

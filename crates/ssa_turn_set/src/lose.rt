@@ -95,6 +95,7 @@ fn take_one_out(
 
 // Takes out the paths of a child, and tells whether it has none left: then its element is room.
 #[cycle(lose)]
+#[inline(always)]
 fn lose_child(lost: &(Elem, Trie), child: &mut (Elem, Trie), room: &mut (Spare, Room)) -> bool
     requires element { same_element (element_view lost.now.0) (element_view child.old.0) ≡ true }
     requires trie { is_trie child.old.1 ≡ true }

@@ -25,6 +25,7 @@ use std::alloc::{AllocError, Global};
 use std::rc::Rc;
 
 // The place of a child of this element: where there is none, the bare one.
+#[inline(always)]
 pub(crate) fn place_or<'a>(own: &'a [(Elem, Trie)], element: &Elem, bare: &'a Trie) -> &'a Trie
     requires rise { rises (elements own.now) ≡ true }
     requires tries { are_filled_tries own.now ≡ true }

@@ -25,6 +25,7 @@ fn reach(children: &[(Elem, Trie)], element: &Elem) -> usize
 }
 
 // The place of the child of this element, which is there.
+#[inline(always)]
 pub(crate) fn place_of(children: &[(Elem, Trie)], element: &Elem) -> usize
     requires rise { rises (elements children.now) ≡ true }
     requires present { child_at (element_view element.now) children.now ≡ None → ⊥ }

@@ -169,6 +169,7 @@ fn push_alone(
 
 // Adds what is told of a child behind the others, where it is some path. Mostly it is none, and
 // nothing is called.
+#[inline(always)]
 fn push_told(
     alloc: Global,
     told: &mut Vec<(Elem, Trie)>,

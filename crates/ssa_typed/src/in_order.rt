@@ -48,6 +48,7 @@ fn by_texts<'a>(
 /// The fields of a record and the entries of a Dict stand so already, the items of a list stand in
 /// the list's order. Takes about n log n comparisons, mostly of numbers in a long list whose elements
 /// have texts that begin alike.
+#[inline(always)]
 pub fn in_order<'a>(
     alloc: Global,
     children: &'a [(Elem, Node)],
@@ -78,6 +79,7 @@ pub fn find_in_order<'a>(sorted: &[&'a (Elem, Node)], element: &Elem) -> Option<
 }
 
 /// Whether both have children of the same elements in the same order. Takes no memory.
+#[inline(always)]
 pub fn stand_alike(own: &[(Elem, Node)], others: &[(Elem, Node)]) -> bool
     ensures { result ≡ true → elements own.now ≡ elements others.now }
 {

@@ -68,6 +68,7 @@ impl<'a> Ordered<'a> {
 
 impl Node {
     // The children in the order of their elements. Takes memory for the items of a list alone.
+    #[inline(always)]
     pub(crate) fn ordered(&self, alloc: Global) -> Result<Ordered<'_>, AllocError>
         requires { is_tree self.now ≡ true }
         ensures { IfOk result (λ o. IsInOrder (below self.now) (lent_children o)) }

@@ -9,6 +9,7 @@ use crate::node::{Leaf, Node};
 
 impl Leaf {
     // Whether both leaves have the same contents.
+    #[inline(always)]
     fn is_same(&self, other: &Leaf) -> bool
         ensures { result ≡ true → leaf_content other.now ≡ leaf_content self.now }
     {

@@ -1,5 +1,5 @@
 use Rattle.std.proofs.Common.{◌≡◌, ◌++◌}
-use Rattle.ssa_members.proofs.members.Members.of_pairs.Given as goal
+use Rattle.ssa_members.proofs.members.Members.of_unordered.Given as goal
 
 -- the entries so far are taken over
 abbrev pub invariant-loop-entry : goal.invariant-loop-entry
