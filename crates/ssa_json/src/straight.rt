@@ -88,6 +88,7 @@ fn read_whole(alloc: Global, room: &mut ReadingRoom, text: &str) -> Result<Json,
 }
 
 #[cycle(straight)]
+#[inline(always)]
 fn read_value(alloc: Global, reader: &mut Reader<'_>, depth: usize) -> Result<Json, NotStraight>
     ensures ok { IfOk result (λ v. converted of_json (value depth reader.old) ≡ Some (data_of (view v), reader.new)) }
     ensures shorter { OnOk result (length reader.new < length reader.old) }

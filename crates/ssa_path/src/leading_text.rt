@@ -46,6 +46,7 @@ fn leading_key<'a>(
 // same bytes.
 //
 // Elements with a value share their mark, elements with key fields their first name.
+#[inline(always)]
 pub(crate) fn leading_text<'a>(first: &Elem, element: &'a Elem) -> Option<&'a [u8]>
     ensures { option_copied result ≡ leading_text (element_view first.now) (element_view element.now) }
 {

@@ -7,6 +7,7 @@ ghost use Rattle.ssa_path.specs.Trie.{is_trie, paths};
 use crate::trie::Trie;
 
 /// Whether two tries have the same paths. Takes no memory.
+#[inline(always)]
 pub(crate) fn same_tries(own: &Trie, other: &Trie) -> bool
     requires own { is_trie own.now ≡ true }
     requires other { is_trie other.now ≡ true }

@@ -12,6 +12,7 @@ use std::alloc::{AllocError, Global};
 
 // Whether these tries are the points below a node, each child's behind the child's element. Where
 // the numbers of children differ, none are put in order.
+#[inline(always)]
 fn are_points_below(alloc: Global, node: &Node, held: &[(Elem, Trie)]) -> Result<bool, AllocError>
     requires { is_tree node.now ≡ true }
     ensures { IfOk result (λ b. b ≡ true → IsCollected Points node.now held.now) }

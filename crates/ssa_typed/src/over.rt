@@ -197,6 +197,7 @@ fn over_fields(
 // Puts the configuration's tree over the live one: its content at each place that it has, else the
 // live tree's. Takes no memory where both have the same places in the same order.
 #[cycle(over)]
+#[inline(always)]
 pub(crate) fn over_node(alloc: Global, live: &Node, config: &mut Node) -> Result<bool, AllocError>
     requires live { is_tree live.now ≡ true }
     requires config { is_tree config.old ≡ true }

@@ -19,6 +19,7 @@ use std::collections::BTreeMap;
 
 /// The first fault of a value, in the order of the walk; none where it fits.
 #[cycle(walk)]
+#[inline(always)]
 pub fn value_fault(alloc: Global, value: &Json, kind: &Kind) -> Result<Option<Found>, AllocError>
     ensures { IfOk result (λ f. Finds f (faults (kind_view kind.now) (view value.now))) }
 {
