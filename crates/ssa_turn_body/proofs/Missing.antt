@@ -1,7 +1,7 @@
 -- Children whose places are not told, found one after the other.
 use Rattle.std.proofs.Common.{◌≡◌, ℕ, zero, suc, ◌+◌, ◌<◌, List, [], ◌∷◌, length, get_or, take, ◌++◌, true, false, Option, Some, None, refl, sym, ap, ◌∙◌, arith, true≢false}
 use Rattle.std.specs.Prelude.{is_some}
-use Rattle.std.proofs.lemmas.List.{take_more, length-take-le}
+use Rattle.std.proofs.lemmas.List.{take_more, length-append, length-take-le}
 use Rattle.ssa_model.specs.definitions.Path.{Element}
 use Rattle.ssa_path.specs.Children.{elements}
 use Rattle.ssa_path.specs.View.{element_view}
@@ -84,6 +84,16 @@ present-place fs i lt some = ap (nones 0) (take_more fs i None lt) ∙ by (get_o
     by : (f : Option ℕ) → is_some f ≡ true → nones 0 (take i fs ++ f ∷ []) ≡ nones 0 (take i fs)
     by None e = absurd (true≢false (sym e))
     by (Some k) e = nones-push-some (take i fs) 0 k
+
+-- a child whose place is not told is one more
+pub counted-missing : (fs : Found) (i : ℕ) → i < length fs → is_some (get_or fs i None) ≡ false → length (nones 0 (take (i + 1) fs)) ≡ length (nones 0 (take i fs)) + 1
+counted-missing fs i lt none =
+    let long_take = length-take-le i fs (omega arith) in
+    ap (λ xs. length (nones 0 xs)) (take_more fs i None lt) ∙ by (get_or fs i None) none (omega arith)
+  where
+    by : (f : Option ℕ) → is_some f ≡ false → i ≡ 0 + length (take i fs) → length (nones 0 (take i fs ++ f ∷ [])) ≡ length (nones 0 (take i fs)) + 1
+    by None e l = ap length (nones-push-none (take i fs) 0 i l) ∙ length-append (nones 0 (take i fs)) (i ∷ [])
+    by (Some k) e l = absurd (true≢false e)
 
 -- what is read stands there, whatever is read past the end
 pub get-again : (cs : List Child) (i : ℕ) (d e : Child) → i < length cs → get_or cs i e ≡ get_or cs i d

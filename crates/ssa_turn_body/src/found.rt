@@ -7,7 +7,7 @@ ghost use Rattle.ssa_turn_body.specs.Between.{IsEditBetween};
 ghost use Rattle.ssa_turn_body.specs.Edits.{told_unless};
 ghost use Rattle.ssa_turn_body.specs.Woven.{room_for, ArePlaces};
 ghost use Rattle.ssa_turn_body.specs.Orders.{is_none};
-ghost use Rattle.ssa_turn_body.specs.Found.{all_differ, filled, nothing_told, somes, AreFound, AreBelow, AreMissing, IsReordering, IsTurnedRound};
+ghost use Rattle.ssa_turn_body.specs.Found.{all_differ, filled, nones, nothing_told, somes, AreFound, AreBelow, AreMissing, IsReordering, IsTurnedRound};
 
 use crate::children::{ChildrenEdit, Orders, Placed};
 use crate::descent::place_of;
@@ -91,7 +91,21 @@ fn turned_round(
     Ok(back)
 }
 
-// The children whose places are not told.
+// How many places are not told.
+fn count_missing(found: &[Option<usize>]) -> usize
+    ensures { result ≡ length (nones 0 found.now) }
+{
+    let mut count: usize = 0;
+    for i in 0..found.len() {
+        if found[i].is_some() {
+            continue;
+        }
+        count += 1;
+    }
+    count
+}
+
+// The children whose places are not told. They are kept long, so they take room for themselves alone.
 fn missing(
     alloc: Global,
     children: &[(Elem, Node)],
@@ -100,8 +114,9 @@ fn missing(
     requires { length found.now ≡ length children.now }
     ensures { IfOk result (λ p. AreMissing found.now children.now p) }
 {
-    let mut places = Vec::new(alloc);
-    let mut elements = Vec::new(alloc);
+    let count = count_missing(found);
+    let mut places = Vec::with_capacity(alloc, count)?;
+    let mut elements = Vec::with_capacity(alloc, count)?;
     for i in 0..found.len() {
         if found[i].is_some() {
             continue;

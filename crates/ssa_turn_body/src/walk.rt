@@ -16,6 +16,7 @@ use crate::found::edit_between;
 use crate::side_by_side::places_of;
 use crate::steps::Step;
 use ssa_json::value::Scalar;
+use ssa_members::push_closely;
 use ssa_path::element::Elem;
 use ssa_path::path::{copy_way, lent_way};
 use ssa_typed::in_order::stand_alike;
@@ -48,7 +49,8 @@ fn is_same_leaf(from: &Node, to: &Node) -> bool
     }
 }
 
-// Puts a change of the place to which this way leads behind the others.
+// Puts a change of the place to which this way leads behind the others. Most turns change one place, and
+// their steps are kept.
 fn push_step(
     alloc: Global,
     way: &[&Elem],
@@ -58,7 +60,7 @@ fn push_step(
     ensures { OnOk result (MayAdd false (way_view way.now) change steps.old.items steps.new.items) }
 {
     let path = copy_way(alloc, way)?;
-    steps.push(Step { path, change })?;
+    push_closely(steps, Step { path, change })?;
     Ok(())
 }
 
