@@ -1,3 +1,4 @@
+pub mod Eights
 pub mod Lent
 pub mod Made
 pub mod Rising

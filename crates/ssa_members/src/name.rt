@@ -4,7 +4,6 @@ ghost use Rattle.std.specs.Cmp.{on_equiv, on_total, on_po, on_per, partial_equiv
 ghost use Rattle.std.specs.Cmp.Lexicographic.{nat_list_eq_equiv, nat_list_cmp_total, texts_po, texts_ties};
 ghost use Rattle.ssa_members.specs.Texts.{text_bytes};
 
-use crate::members::order_names;
 use crate::small_text::SmallText;
 use std::alloc::{AllocError, Global};
 use std::cmp::Ordering;
@@ -82,7 +81,7 @@ impl PartialEq for Name {
     ghost laws = { on_per (λ x. string_bytes x) (partial_equiv_from_equiv nat_list_eq_equiv) };
 
     fn eq(&self, other: &Name) -> bool {
-        self.as_str() == other.as_str()
+        self.text.is_same(&other.text)
     }
 }
 
@@ -111,6 +110,6 @@ impl Ord for Name {
 
     #[inline(always)]
     fn cmp(&self, other: &Name) -> Ordering {
-        order_names(self.as_str(), other.as_str())
+        self.text.order(&other.text)
     }
 }

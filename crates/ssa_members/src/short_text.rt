@@ -1,6 +1,8 @@
 // Texts whose bytes stand in the value itself.
-ghost use Rattle.std.specs.Prelude.{IsUtf8, ◌≤◌, take};
+ghost use Rattle.std.specs.Prelude.{IsUtf8, ◌≡◌, ◌≤◌, ◌+◌, bytes_eq, drop, take};
+ghost use Rattle.std.specs.Int.{to_le_bytes, w64};
 
+use std::cmp::Ordering;
 use std::str::from_utf8_unchecked;
 
 /// A text of up to 22 bytes, which is as many as make a `SmallText` no larger than a `String`.
@@ -12,8 +14,37 @@ pub struct ShortText {
     ghost utf8: { ∥ IsUtf8 (take len bytes) ∥₁ },
 }
 
+// The eight bytes at a place as one number.
+#[inline(always)]
+fn eight_at(bytes: &[u8; 22], i: usize) -> u64
+    requires { i + 8 ≤ 22 }
+    ensures { to_le_bytes w64 result ≡ take 8 (drop i bytes.now) }
+{
+    u64::from_le_bytes([
+        bytes[i],
+        bytes[i + 1],
+        bytes[i + 2],
+        bytes[i + 3],
+        bytes[i + 4],
+        bytes[i + 5],
+        bytes[i + 6],
+        bytes[i + 7],
+    ])
+}
+
+// Whether the eight bytes at a place are the same, which is one comparison.
+#[inline(always)]
+fn are_eight_same(bytes: &[u8; 22], others: &[u8; 22], i: usize) -> bool
+    requires { i + 8 ≤ 22 }
+    ensures { result ≡ bytes_eq (take 8 (drop i bytes.now)) (take 8 (drop i others.now)) }
+{
+    eight_at(bytes, i) == eight_at(others, i)
+}
+
 impl ShortText {
-    ghost use Rattle.std.specs.Prelude.{◌≡◌, IfSome};
+    ghost use Rattle.std.specs.Prelude.{◌≡◌, ◌<◌, IfSome, bytes_eq};
+    ghost use Rattle.std.specs.Cmp.Lexicographic.{slice_cmp};
+    ghost use Rattle.std.specs.Ordering.{nat_cmp};
     ghost use Rattle.ssa_members.specs.ShortTexts.{short_bytes};
 
     /// The text with these bytes, where it is so short.
@@ -38,5 +69,69 @@ impl ShortText {
         ensures { result.now ≡ short_bytes self.now }
     {
         unsafe { from_utf8_unchecked(&self.bytes[..self.len as usize]) }
+    }
+
+    // Whether both texts have the same bytes, of which both have fewer than eight. Behind them mostly zeros stand, so
+    // one comparison mostly tells.
+    #[inline(always)]
+    fn are_few_same(&self, other: &ShortText) -> bool
+        requires lengths { self.now.len ≡ other.now.len }
+        requires few { self.now.len < 8 }
+        ensures { result ≡ bytes_eq (short_bytes self.now) (short_bytes other.now) }
+    {
+        if are_eight_same(&self.bytes, &other.bytes, 0) {
+            return true;
+        }
+        if self.bytes[0] != other.bytes[0] {
+            return self.len == 0;
+        }
+        self.as_str() == other.as_str()
+    }
+
+    // Whether both texts have the same bytes, of which both have as many, eight at least. The first eight, the last
+    // eight and those between are all of them.
+    #[inline(always)]
+    fn are_many_same(&self, other: &ShortText) -> bool
+        requires lengths { self.now.len ≡ other.now.len }
+        requires many { 8 ≤ self.now.len }
+        ensures { result ≡ bytes_eq (short_bytes self.now) (short_bytes other.now) }
+    {
+        let len = self.len as usize;
+        if !are_eight_same(&self.bytes, &other.bytes, 0) {
+            return false;
+        }
+        if !are_eight_same(&self.bytes, &other.bytes, len - 8) {
+            return false;
+        }
+        len <= 16 || are_eight_same(&self.bytes, &other.bytes, 8)
+    }
+
+    /// Whether both texts have the same bytes.
+    #[inline(always)]
+    pub fn is_same(&self, other: &ShortText) -> bool
+        ensures { result ≡ bytes_eq (short_bytes self.now) (short_bytes other.now) }
+    {
+        if self.len != other.len {
+            return false;
+        }
+        if self.len < 8 {
+            self.are_few_same(other)
+        } else {
+            self.are_many_same(other)
+        }
+    }
+
+    /// The order of the texts' bytes. Most texts differ in the first one, or not at all.
+    #[inline(always)]
+    pub fn order(&self, other: &ShortText) -> Ordering
+        ensures { result ≡ slice_cmp nat_cmp (short_bytes self.now) (short_bytes other.now) }
+    {
+        if self.len > 0 && other.len > 0 && self.bytes[0] != other.bytes[0] {
+            return self.bytes[0].cmp(&other.bytes[0]);
+        }
+        if self.is_same(other) {
+            return Ordering::Equal;
+        }
+        self.as_str().cmp(other.as_str())
     }
 }

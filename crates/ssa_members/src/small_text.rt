@@ -4,6 +4,7 @@ ghost use Rattle.ssa_members.specs.SmallTexts.{place_bytes};
 
 use crate::short_text::ShortText;
 use std::alloc::{AllocError, Global};
+use std::cmp::Ordering;
 use std::fmt;
 
 // Where the bytes stand.
@@ -24,7 +25,9 @@ pub struct SmallText {
 }
 
 impl SmallText {
-    ghost use Rattle.std.specs.Prelude.{◌≡◌, IfOk, string_bytes};
+    ghost use Rattle.std.specs.Prelude.{◌≡◌, IfOk, bytes_eq, string_bytes};
+    ghost use Rattle.std.specs.Cmp.Lexicographic.{slice_cmp};
+    ghost use Rattle.std.specs.Ordering.{nat_cmp};
     ghost use Rattle.ssa_members.specs.Texts.{text_bytes};
 
     /// The text with these bytes.
@@ -82,6 +85,29 @@ impl SmallText {
         ensures value { result.now ≡ text_bytes self.now }
     {
         self.as_str().as_bytes()
+    }
+
+    /// Whether both texts have the same bytes. Two short ones are compared with no call.
+    #[inline(always)]
+    pub fn is_same(&self, other: &SmallText) -> bool
+        ensures { result ≡ bytes_eq (text_bytes self.now) (text_bytes other.now) }
+    {
+        match (&self.place, &other.place) {
+            (Place::Within(own), Place::Within(others)) => own.is_same(others),
+            _ => self.as_str() == other.as_str(),
+        }
+    }
+
+    /// The order of the texts' bytes. Two short ones that are the same, or whose first bytes differ, are compared
+    /// with no call.
+    #[inline(always)]
+    pub fn order(&self, other: &SmallText) -> Ordering
+        ensures { result ≡ slice_cmp nat_cmp (text_bytes self.now) (text_bytes other.now) }
+    {
+        match (&self.place, &other.place) {
+            (Place::Within(own), Place::Within(others)) => own.order(others),
+            _ => self.as_str().cmp(other.as_str()),
+        }
     }
 
     /// The same text. A short one takes no memory.
