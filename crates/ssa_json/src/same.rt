@@ -10,12 +10,13 @@ use ssa_members::Members;
 impl Scalar {
     /// Whether the two are one scalar.
     #[inline(always)]
+    #[tactic(auto, using(crate::proofs::SameTexts::by_bytes))]
     pub fn same(&self, other: &Scalar) -> bool
         ensures test { result ≡ same_scalar (scalar_view self.now) (scalar_view other.now) }
         ensures value { IsTrue result ↔ (scalar_view self.now ≡ scalar_view other.now) }
     {
         match (self, other) {
-            (Scalar::Text(a), Scalar::Text(b)) => is_same_text(a.as_str(), b.as_str()),
+            (Scalar::Text(a), Scalar::Text(b)) => a.is_same(b),
             (Scalar::Int(a), Scalar::Int(b)) => *a == *b,
             (Scalar::Bool(a), Scalar::Bool(b)) => *a == *b,
             _ => false,
