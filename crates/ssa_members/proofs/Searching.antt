@@ -1,10 +1,11 @@
 -- A binary search among names that rise, and what is found, put in and taken out at its place.
-use Rattle.std.proofs.Common.{◌≡◌, ℕ, zero, suc, ◌+◌, ◌<◌, ◌≤◌, List, [], ◌∷◌, Bool, cond, drop, length, get_or, slice_index_or, Some, None, Result, Ok, Err, Ordering, Less, Equal, Greater, refl, sym, ap, subst, ◌∙◌, ⊎_elim, arith, string_bytes, string_cmp, nat_cmp}
+use Rattle.std.proofs.Common.{◌≡◌, ℕ, zero, suc, ◌+◌, ◌<◌, ◌≤◌, List, [], ◌∷◌, Bool, true, false, true≢false, cond, drop, length, get_or, slice_index_or, Some, None, Result, Ok, Err, Ordering, Less, Equal, Greater, refl, sym, ap, subst, ◌∙◌, ⊎_elim, arith, string_bytes, string_cmp, nat_cmp}
 use Rattle.std.proofs.lemmas.Bool.{cases_lt}
 use Rattle.std.proofs.lemmas.Cmp.{nat_list_cmp_total}
 use Rattle.std.proofs.lemmas.Map.Keys.{Less-from_sorted, sorted_tail}
 use Rattle.std.proofs.lemmas.Map.Entries.{length-keys_of, lookup_head, lookup_tail}
-use Rattle.std.proofs.lemmas.List.{drop_more, get_or-map}
+use Rattle.std.proofs.lemmas.List.{drop_more, get_or-map, get_or_default}
+use Rattle.std.proofs.lemmas.Option.{none-some}
 use Rattle.std.specs.BTreeMap.{insert_entry, is_at}
 use Rattle.std.specs.Cmp.Lexicographic.{slice_cmp}
 use Rattle.std.specs.List.{insert, remove, slice_set}
@@ -36,6 +37,11 @@ below-same : (bs : List ℕ) (f k : Name) → string_cmp f k ≡ Less → text_c
 below-same bs f k less same =
     nat_list_cmp_total.congr bs (string_bytes k) (string_bytes f) same ∙ nat_list_cmp_total.antisymm (string_bytes k) (string_bytes f) ∙ ap ordering_reverse less
 
+told_same : (o : Ordering) → is_eq o ≡ true → o ≡ Equal
+told_same Less told = absurd (true≢false (sym told))
+told_same Equal told = refl
+told_same Greater told = absurd (true≢false (sym told))
+
 module _ {X : Type 0} where
   -- what is found from an entry on: its value, where the name is its, else what is found behind it
   pub found-from : (bs : List ℕ) (es : List (Name × X)) (i : ℕ) (e : Name × X) (here : Bool) → i < length es → e ≡ slice_index_or es i e
@@ -44,6 +50,24 @@ module _ {X : Type 0} where
   found-from bs es i e here within is told =
       ap (lookup (is_at (text_cmp bs))) (drop_more es i e within ∙ ap (λ d. d ∷ drop (i + 1) es) (sym is))
       ∙ ap (λ b. cond b (Some e.1) (lookup (is_at (text_cmp bs)) (drop (i + 1) es))) told
+
+  -- a name that compares as the same stands where it is read
+  pub name-read : (bs : List ℕ) (es : List (Name × X)) (i : ℕ) (d : Name × X) → i < length es → d ≡ slice_index_or es i d → is_at (text_cmp bs) d.0 ≡ true
+      → IsNameAt bs es i
+  name-read bs es i d lt is told = record {
+    within = lt;
+    same = λ e. ap (λ x. text_cmp bs x.0) (get_or_default es i e d lt ∙ sym is) ∙ told_same (text_cmp bs d.0) told;
+  }
+
+  -- where nothing is found, nothing is taken out
+  pub absent-stays : (bs : List ℕ) (es : List (Name × X)) → lookup (is_at (text_cmp bs)) es ≡ None → remove_entry (is_at (text_cmp bs)) es ≡ es
+  absent-stays bs [] none = refl
+  absent-stays bs (e ∷ es) none = by (is_at (text_cmp bs) e.0) none (absent-stays bs es)
+    where
+      by : (b : Bool) → cond b (Some e.1) (lookup (is_at (text_cmp bs)) es) ≡ None → (lookup (is_at (text_cmp bs)) es ≡ None → remove_entry (is_at (text_cmp bs)) es ≡ es)
+          → cond b es (e ∷ remove_entry (is_at (text_cmp bs)) es) ≡ e ∷ es
+      by true h rest = absurd (none-some e.1 (sym h))
+      by false h rest = ap (λ l. e ∷ l) (rest h)
 
   -- how the name of an entry compares with these bytes
   abbrev pub compared : List ℕ → Name × X → Ordering

@@ -1,11 +1,11 @@
 //! Values under names, in a vector that is ordered by the names.
-ghost use Rattle.std.specs.Prelude.{◌≡◌, ◌↔◌, [], ℕ, length, IfOk, IfErr, IsTrue, OnErr, OnOk, Some, None, option_copied};
+ghost use Rattle.std.specs.Prelude.{◌≡◌, ◌↔◌, [], ℕ, length, IfOk, IfErr, IsTrue, OnErr, OnOk, MatchOption, Some, None, option_copied};
 ghost use Rattle.std.specs.BTreeMap.{insert_entry, is_at};
 ghost use Rattle.std.specs.Map.{lookup, remove_entry, set_value};
 ghost use Rattle.std.specs.Cmp.Lexicographic.{slice_cmp};
 ghost use Rattle.std.specs.Ordering.{nat_cmp};
 ghost use Rattle.std.specs.Prelude.{string_bytes, string_cmp};
-ghost use Rattle.ssa_members.specs.Members.{get, text_cmp, IsMadeOf, IsPlaceOf, IsRising};
+ghost use Rattle.ssa_members.specs.Members.{get, text_cmp, IsMadeOf, IsNameAt, IsPlaceOf, IsRising};
 
 use crate::name::Name;
 use std::alloc::{AllocError, Global};
@@ -66,13 +66,14 @@ pub fn order_names(name: &str, other: &str) -> Ordering
     name.cmp(other)
 }
 
-// The value under a name, looked for among the names one after the other.
-fn scan<'a, V>(entries: &'a [(Name, V)], name: &str) -> Option<&'a V>
-    ensures { option_copied result ≡ lookup (is_at (text_cmp name.now)) entries.now }
+// Where the name stands, if it does, looked for among the names one after the other.
+#[inline(always)]
+fn scan<V>(entries: &[(Name, V)], name: &str) -> Option<usize>
+    ensures { MatchOption result (lookup (is_at (text_cmp name.now)) entries.now ≡ None) (IsNameAt name.now entries.now) }
 {
-    for entry in entries {
-        if name == entry.0.as_str() {
-            return Some(&entry.1);
+    for i in 0..entries.len() {
+        if name == entries[i].0.as_str() {
+            return Some(i);
         }
     }
     None
@@ -127,16 +128,27 @@ impl<V> Members<V> {
             .binary_search_by(|entry| order_names(entry.0.as_str(), name))
     }
 
-    /// The value under a name.
-    pub fn get(&self, name: &str) -> Option<&V>
-        ensures value { option_copied result ≡ get self.now name.now }
+    // Where the name stands, if it does.
+    #[inline(always)]
+    fn find(&self, name: &str) -> Option<usize>
+        ensures { MatchOption result (get self.now name.now ≡ None) (IsNameAt name.now self.now.entries) }
     {
         if self.entries.len() <= FEW {
             return scan(&self.entries, name);
         }
         match self.place(name) {
-            Ok(i) => Some(&self.entries[i].1),
+            Ok(i) => Some(i),
             Err(_) => None,
+        }
+    }
+
+    /// The value under a name.
+    pub fn get(&self, name: &str) -> Option<&V>
+        ensures value { option_copied result ≡ get self.now name.now }
+    {
+        match self.find(name) {
+            Some(i) => Some(&self.entries[i].1),
+            None => None,
         }
     }
 
@@ -172,13 +184,13 @@ impl<V> Members<V> {
         ensures ordered { IsRising self.new.entries }
         ensures was_ordered { IsRising self.old.entries }
     {
-        match self.place(name) {
-            Ok(i) => {
+        match self.find(name) {
+            Some(i) => {
                 let (name, value) = self.entries.remove(i);
                 drop(name);
                 Some(value)
             }
-            Err(_) => None,
+            None => None,
         }
     }
 
@@ -190,9 +202,9 @@ impl<V> Members<V> {
         ensures absent { IfErr result (λ v. (v ≡ value) × (get self.old name.now ≡ None) × (self.new ≡ self.old)) }
         ensures was_ordered { IsRising self.old.entries }
     {
-        match self.place(name) {
-            Ok(i) => Ok(replace(&mut self.entries[i].1, value)),
-            Err(_) => Err(value),
+        match self.find(name) {
+            Some(i) => Ok(replace(&mut self.entries[i].1, value)),
+            None => Err(value),
         }
     }
 

@@ -5,5 +5,5 @@ use Rattle.ssa_members.specs.Members.{text_cmp}
 use Rattle.ssa_members.proofs.members.scan.Given as goal
 
 -- the name is none of those before
-abbrev pub invariant-loop-entry : goal.invariant-loop-entry
-invariant-loop-entry g l = lookup (is_at (text_cmp l.name)) (drop l.entry-index l.entries) ≡ lookup (is_at (text_cmp l.name)) l.entries
+abbrev pub invariant-loop-i : goal.invariant-loop-i
+invariant-loop-i g l = lookup (is_at (text_cmp l.name)) (drop l.i l.entries) ≡ lookup (is_at (text_cmp l.name)) l.entries
