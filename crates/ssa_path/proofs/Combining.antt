@@ -342,11 +342,12 @@ both-kept how c d cs ds us u order own_rise other_rise is made filled h =
       lower = λ e a b. both _ _ (ap (λ g. is_lt (element_cmp e g)) is ∙ both_first _ _ a) (h.lower e (both_second _ _ a) (both_second _ _ b));
     }
 
--- heads of one element are left out, where their combination has no path
-pub both-dropped : (how : Combination) (c d : Elem × Trie) (cs ds us : Children) (t : Trie) → heads_order (c ∷ cs) (d ∷ ds) ≡ Some Equal
+-- heads of one element are left out, where their combination keeps no path
+pub both-gone : (how : Combination) (c d : Elem × Trie) (cs ds us : Children) → heads_order (c ∷ cs) (d ∷ ds) ≡ Some Equal
     → rises (elements (c ∷ cs)) ≡ true → rises (elements (d ∷ ds)) ≡ true
-    → IsCombination how c.1 d.1 t → is_filled t ≡ false → IsCombined how cs ds us → IsCombined how (c ∷ cs) (d ∷ ds) us
-both-dropped how c d cs ds us t order own_rise other_rise made none h =
+    → ((p : Path) → false ≡ keeps how (is_one_of (paths c.1) p) (is_concerned how (paths d.1) p)) → IsCombined how cs ds us
+    → IsCombined how (c ∷ cs) (d ∷ ds) us
+both-gone how c d cs ds us order own_rise other_rise none h =
     let f = element_view c.0 in
     let same = tied-heads c d cs ds order in
     let own = both_first (is_below f (elements cs)) _ own_rise in
@@ -354,13 +355,19 @@ both-dropped how c d cs ds us t order own_rise other_rise made none h =
     record {
       paths_are = λ e p.
           sym (gone (same_element e f) (holds us e p))
-          ∙ fronted how f cs ds us own other h (is_one_of (paths c.1)) (is_concerned how (paths d.1)) nothing
-          (λ q. ap (λ ps. is_one_of ps q) (sym (some-none (paths t) none)) ∙ made.paths_are q) e p
+          ∙ fronted how f cs ds us own other h (is_one_of (paths c.1)) (is_concerned how (paths d.1)) nothing none e p
           ∙ (λ i. keeps how (sym (any-child same_path same_path-reading e c cs p) i) (sym (meets-first how d ds f e p (sym same)) i));
       risen = h.risen;
       tries = h.tries;
       lower = λ e a b. h.lower e (both_second _ _ a) (both_second _ _ b);
     }
+
+-- heads of one element are left out, where their combination has no path
+pub both-dropped : (how : Combination) (c d : Elem × Trie) (cs ds us : Children) (t : Trie) → heads_order (c ∷ cs) (d ∷ ds) ≡ Some Equal
+    → rises (elements (c ∷ cs)) ≡ true → rises (elements (d ∷ ds)) ≡ true
+    → IsCombination how c.1 d.1 t → is_filled t ≡ false → IsCombined how cs ds us → IsCombined how (c ∷ cs) (d ∷ ds) us
+both-dropped how c d cs ds us t order own_rise other_rise made none h =
+    both-gone how c d cs ds us order own_rise other_rise (λ q. ap (λ ps. is_one_of ps q) (sym (some-none (paths t) none)) ∙ made.paths_are q) h
 
 -- ---- a walk over both lists
 

@@ -11,6 +11,7 @@ pub mod Lists
 pub mod Members
 pub mod Numbers
 pub mod Orders
+pub mod Parted
 pub mod Parts
 pub mod Readings
 pub mod Removing

@@ -6,6 +6,7 @@ pub mod Keys
 pub mod Listing
 pub mod Meet
 pub mod Order
+pub mod Parting
 pub mod Trie
 pub mod View
 pub mod OwnText

@@ -36,6 +36,7 @@ pub mod keys;
 mod leading_text;
 pub mod listing;
 pub mod order;
+pub mod parting;
 pub mod path;
 pub mod path_text;
 mod same;
