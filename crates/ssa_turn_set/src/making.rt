@@ -18,6 +18,7 @@ use ssa_path::children::find_child;
 use ssa_path::combine::{Combination, combine};
 use ssa_path::element::Elem;
 use ssa_path::field_set::FieldSet;
+use ssa_path::parting::part;
 use ssa_path::trie::Trie;
 use ssa_path::within::lies_within;
 use std::alloc::{AllocError, Global};
@@ -204,13 +205,12 @@ pub fn between(alloc: Global, from: &FieldSet, to: &FieldSet) -> Result<SetDelta
     ensures { IfOk result (λ d. IsBetween from.now to.now d) }
 {
     let (own, other) = (from.root(), to.root());
-    let gained = combine_exactly(alloc, other, own, Combination::Minus)?;
-    let lost = combine_exactly(alloc, own, other, Combination::Minus)?;
-    let gain_room = make_gain_room(alloc, &gained, own, &lost)?;
-    let loss = make_loss_room(alloc, &lost, own)?;
+    let alone = part(alloc, own, other)?;
+    let gain_room = make_gain_room(alloc, &alone.other, own, &alone.own)?;
+    let loss = make_loss_room(alloc, &alone.own, own)?;
     Ok(SetDelta {
-        gain: KeptPaths::of_trie(gained),
-        lose: KeptPaths::of_trie(lost),
+        gain: KeptPaths::of_trie(alone.other),
+        lose: KeptPaths::of_trie(alone.own),
         room: SetRoom {
             gain: gain_room,
             lose: loss.room,
