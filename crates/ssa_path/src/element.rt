@@ -6,9 +6,8 @@ ghost use Rattle.ssa_path.specs.View.{element_view};
 
 use crate::keys::{Keys, are_same_members};
 use crate::order::{order_keys, order_values};
-use ssa_json::text::is_same_text;
 use ssa_json::value::Scalar;
-use ssa_members::{SmallText, order_names};
+use ssa_members::SmallText;
 use std::alloc::{AllocError, Global};
 use std::cmp::Ordering;
 
@@ -41,9 +40,7 @@ impl Elem {
         ensures { result ≡ element_cmp (element_view self.now) (element_view other.now) }
     {
         match (self, other) {
-            (Elem::Field(name), Elem::Field(other_name)) => {
-                order_names(name.as_str(), other_name.as_str())
-            }
+            (Elem::Field(name), Elem::Field(other_name)) => name.order(other_name),
             _ => self.order_of_sorts(other),
         }
     }
@@ -54,7 +51,7 @@ impl Elem {
         ensures { result ≡ element_cmp (element_view self.now) (element_view other.now) }
     {
         match (self, other) {
-            (Elem::Field(name), Elem::Field(other_name)) => name.as_str().cmp(other_name.as_str()),
+            (Elem::Field(name), Elem::Field(other_name)) => name.order(other_name),
             (Elem::Key(keys), Elem::Key(others)) => order_keys(keys.members(), others.members()),
             (Elem::Value(scalar), Elem::Value(other_scalar)) => order_values(scalar, other_scalar),
             (Elem::Field(_), Elem::Key(_)) => Ordering::Less,
@@ -68,27 +65,24 @@ impl Elem {
 
     /// Whether both are one element.
     #[inline(always)]
+    #[tactic(auto, using(crate::proofs::Sameness::by_bytes))]
     pub fn is_same(&self, other: &Elem) -> bool
         ensures { result ≡ same_element (element_view self.now) (element_view other.now) }
     {
         match (self, other) {
-            (Elem::Field(name), Elem::Field(other_name)) => {
-                is_same_text(name.as_str(), other_name.as_str())
-            }
+            (Elem::Field(name), Elem::Field(other_name)) => name.is_same(other_name),
             _ => self.is_same_of_sorts(other),
         }
     }
 
     // Whether elements of which mostly one or both are items are one element.
-    #[tactic(auto, using(crate::proofs::Sameness::same_values, crate::proofs::Sameness::same_keys))]
+    #[tactic(auto, using(crate::proofs::Sameness::by_bytes, crate::proofs::Sameness::same_values, crate::proofs::Sameness::same_keys))]
     #[inline(always)]
     fn is_same_of_sorts(&self, other: &Elem) -> bool
         ensures { result ≡ same_element (element_view self.now) (element_view other.now) }
     {
         match (self, other) {
-            (Elem::Field(name), Elem::Field(other_name)) => {
-                is_same_text(name.as_str(), other_name.as_str())
-            }
+            (Elem::Field(name), Elem::Field(other_name)) => name.is_same(other_name),
             (Elem::Key(keys), Elem::Key(others)) => {
                 are_same_members(keys.members(), others.members())
             }

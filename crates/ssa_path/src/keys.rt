@@ -5,7 +5,6 @@ ghost use Rattle.ssa_members.specs.Texts.{text_bytes};
 ghost use Rattle.ssa_json.specs.View.{scalar_view};
 ghost use Rattle.ssa_path.specs.Keys.{are_keys, keys_of, members_view, names_rise_after, same_key};
 
-use ssa_json::text::is_same_text;
 use ssa_json::value::Scalar;
 use ssa_members::SmallText;
 use std::alloc::{AllocError, Global};
@@ -58,10 +57,11 @@ fn are_keys(members: &[(SmallText, Scalar)]) -> bool
 }
 
 // Whether both members have one name and one value. The names are mostly one, so the values are compared first.
+#[tactic(auto, using(crate::proofs::Sameness::by_bytes))]
 fn is_same_member(member: &(SmallText, Scalar), other: &(SmallText, Scalar)) -> bool
     ensures { result ≡ same_key (text_bytes member.now.0, scalar_view member.now.1) (text_bytes other.now.0, scalar_view other.now.1) }
 {
-    member.1.same(&other.1) && is_same_text(member.0.as_str(), other.0.as_str())
+    member.1.same(&other.1) && member.0.is_same(&other.0)
 }
 
 /// Whether both have the same names and values. Takes no memory.
