@@ -1,7 +1,6 @@
 -- Equality of elements, part by part.
-use Rattle.std.proofs.Common.{◌≡◌, [], Bool, true, ◌&&◌, bytes_eq, sym, ap, ◌∙◌}
+use Rattle.std.proofs.Common.{◌≡◌, [], Bool, true, ◌&&◌, sym, ap, ◌∙◌}
 use Rattle.std.proofs.lemmas.Bool.{and_parts}
-use Rattle.std.proofs.lemmas.Map.Text.{is_eq-slice_cmp}
 use Rattle.std.specs.Cmp.Lexicographic.{pointwise}
 use Rattle.ssa_model.specs.definitions.Json.{Text, Scalar, text, same_text, same_scalar}
 use Rattle.ssa_model.specs.definitions.Path.{Element, key, value, same_element}
@@ -10,10 +9,6 @@ use Rattle.ssa_model.proofs.Scalars.{same_scalar-true, same_scalar-itself}
 use Rattle.ssa_model.proofs.Tables.{element-itself, same_text-true, text-itself}
 use Rattle.ssa_model.proofs.Tests.{same_tests, pointwise-true, pointwise-itself}
 use Rattle.ssa_path.specs.Keys.{Members, same_key}
-
--- comparing bytes is comparing texts
-pub by_bytes : (s t : Text) → bytes_eq s t ≡ same_text s t
-by_bytes s t = sym (is_eq-slice_cmp s t)
 
 -- a test that holds of equal elements alone
 agree : (b : Bool) (d e : Element) → (b ≡ true → d ≡ e) → (d ≡ e → b ≡ true) → b ≡ same_element d e

@@ -65,7 +65,7 @@ impl Elem {
 
     /// Whether both are one element.
     #[inline(always)]
-    #[tactic(auto, using(crate::proofs::Sameness::by_bytes))]
+    #[tactic(auto, using(ssa_json::proofs::SameTexts::by_bytes))]
     pub fn is_same(&self, other: &Elem) -> bool
         ensures { result ≡ same_element (element_view self.now) (element_view other.now) }
     {
@@ -76,7 +76,7 @@ impl Elem {
     }
 
     // Whether elements of which mostly one or both are items are one element.
-    #[tactic(auto, using(crate::proofs::Sameness::by_bytes, crate::proofs::Sameness::same_values, crate::proofs::Sameness::same_keys))]
+    #[tactic(auto, using(ssa_json::proofs::SameTexts::by_bytes, crate::proofs::Sameness::same_values, crate::proofs::Sameness::same_keys))]
     #[inline(always)]
     fn is_same_of_sorts(&self, other: &Elem) -> bool
         ensures { result ≡ same_element (element_view self.now) (element_view other.now) }

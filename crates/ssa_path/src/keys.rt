@@ -57,7 +57,7 @@ fn are_keys(members: &[(SmallText, Scalar)]) -> bool
 }
 
 // Whether both members have one name and one value. The names are mostly one, so the values are compared first.
-#[tactic(auto, using(crate::proofs::Sameness::by_bytes))]
+#[tactic(auto, using(ssa_json::proofs::SameTexts::by_bytes))]
 fn is_same_member(member: &(SmallText, Scalar), other: &(SmallText, Scalar)) -> bool
     ensures { result ≡ same_key (text_bytes member.now.0, scalar_view member.now.1) (text_bytes other.now.0, scalar_view other.now.1) }
 {
