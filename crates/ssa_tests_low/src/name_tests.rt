@@ -1,7 +1,7 @@
 // Tests of names of members, short and long, and of the order in which they stand.
 use crate::support::{printed, value};
 use ssa_json::value::{Json, Scalar};
-use ssa_members::{Members, Name};
+use ssa_members::{Members, Name, SmallText};
 use std::alloc::{AllocError, Global};
 use std::test::Fail;
 
@@ -28,6 +28,47 @@ fn is_kept(alloc: Global, text: &str) -> Result<bool, AllocError> {
 fn names_are_kept_within_and_beyond_the_value(rt: HostRuntime) -> Result<(), Fail> {
     for name in NAMES {
         assert!(rt; is_kept(rt.alloc(), name)?, "at {name:?}");
+    }
+    Ok(())
+}
+
+// Texts in the order of their bytes, which differ in length alone, in the first byte, in one between or in the last: of
+// 0, 1, 3, 7, 8, 9, 16, 17, 22 and 23 bytes.
+const TEXTS: [&str; 16] = [
+    "",
+    "a",
+    "abcdefg",
+    "abcdefgh",
+    "abcdefghi",
+    "abcdefghijklmnop",
+    "abcdefghijklmnopq",
+    "abcdefghijklmnopqrstuv",
+    "abcdefghijklmnopqrstuvw",
+    "abcdefghijklmnopqrstux",
+    "abcdefghijklmnoz",
+    "abcdefghijkzmnopqrstuv",
+    "abcdefz",
+    "abz",
+    "b",
+    "bbcdefghijklmnopqrstuv",
+];
+
+// Whether a text is told to be the one at its place, and none of the others, and to stand there among them.
+fn is_told_apart(alloc: Global, text: &str, place: usize) -> Result<bool, AllocError> {
+    let own = SmallText::from_str(alloc, text)?;
+    for (i, other) in TEXTS.iter().enumerate() {
+        let other = SmallText::from_str(alloc, other)?;
+        if own.is_same(&other) != (place == i) || own.order(&other) != place.cmp(&i) {
+            return Ok(false);
+        }
+    }
+    Ok(true)
+}
+
+#[test]
+fn texts_are_told_apart_by_each_of_their_bytes(rt: HostRuntime) -> Result<(), Fail> {
+    for (place, text) in TEXTS.iter().enumerate() {
+        assert!(rt; is_told_apart(rt.alloc(), text, place)?, "at {text:?}");
     }
     Ok(())
 }
