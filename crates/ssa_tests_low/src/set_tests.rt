@@ -2,6 +2,7 @@
 use crate::questions::{Question, QuestionOfTwo};
 use crate::support::{are_told, are_told_of_two, listed, path, set, truth};
 use ssa_path::field_set::FieldSet;
+use ssa_path::parting::part;
 use ssa_path::path::Path;
 use ssa_path::trie::Trie;
 use std::alloc::Global;
@@ -36,6 +37,16 @@ pub enum AskedBeside {
     Over,
     /// Whether the two are the same.
     Same,
+    /// What it has alone, and what the other has alone.
+    Parted,
+}
+
+// The paths that each of two sets has alone.
+fn parted(alloc: Global, own: &FieldSet, other: &FieldSet) -> Result<String, Fail> {
+    let alone = part(alloc, own.root(), other.root())?;
+    let own_alone = listed(alloc, &FieldSet::from_root(alone.own))?;
+    let other_alone = listed(alloc, &FieldSet::from_root(alone.other))?;
+    Ok([own_alone.as_str(), other_alone.as_str()].join(alloc, " | ")?)
 }
 
 // The answer of two sets.
@@ -57,6 +68,7 @@ fn told_beside(
             let told = if own.is_same(other) { "same" } else { "other" };
             Ok(String::from_str(alloc, told)?)
         }
+        AskedBeside::Parted => parted(alloc, own, other),
     }
 }
 
@@ -114,6 +126,21 @@ const SAME: [(&str, &str, &str); 6] = [
     ("f:a", "f:a/f:b", "other"),
 ];
 
+// A set that has paths of the first, and others under the same places, beside them and below them.
+const GROWN: &str =
+    r#"/ f:metadata/f:labels/f:app f:spec f:spec/f:ports/k:{"port":80} f:spec/f:ports/k:{"port":80}/f:name f:spec/f:ports/k:{"port":81}/f:name f:spec/f:replicas/v:1"#;
+
+const PARTED: [(&str, &str, &str); 4] = [
+    (
+        OWNED,
+        GROWN,
+        r#"f:spec/f:ports/k:{"port":80}/f:port f:spec/f:replicas f:status | f:metadata/f:labels/f:app f:spec/f:ports/k:{"port":81}/f:name f:spec/f:replicas/v:1"#,
+    ),
+    (APART, APART, " | "),
+    ("", "/ f:a/f:b f:a/f:c f:d", " | / f:a/f:b f:a/f:c f:d"),
+    ("/ f:a f:a/f:b f:c", "f:a f:d", "/ f:a/f:b f:c | f:d"),
+];
+
 #[test]
 fn sets_stand_beside_others(rt: HostRuntime) -> Result<(), Fail> {
     are_told_of_two(
@@ -127,6 +154,11 @@ fn sets_stand_beside_others(rt: HostRuntime) -> Result<(), Fail> {
         &WITHOUT_OVER,
     )?;
     are_told_of_two(rt.alloc(), &QuestionOfTwo::Sets(AskedBeside::Over), &OVER)?;
+    are_told_of_two(
+        rt.alloc(),
+        &QuestionOfTwo::Sets(AskedBeside::Parted),
+        &PARTED,
+    )?;
     are_told_of_two(rt.alloc(), &QuestionOfTwo::Sets(AskedBeside::Same), &SAME)
 }
 
