@@ -22,7 +22,7 @@ pub mod room;
 mod short_text;
 pub mod small_text;
 
-pub use members::{Members, order_names};
+pub use members::Members;
 pub use name::Name;
 pub use room::push_closely;
 pub use small_text::SmallText;

@@ -53,9 +53,9 @@ fn rises<V>(pairs: &[(Name, V)]) -> bool
     true
 }
 
-/// The order of two names by their bytes. Most differ in the first one.
+// The order of two names by their bytes. Most differ in the first one.
 #[inline(always)]
-pub fn order_names(name: &str, other: &str) -> Ordering
+fn order_names(name: &str, other: &str) -> Ordering
     ensures { result ≡ slice_cmp nat_cmp name.now other.now }
 {
     if let ([first, ..], [other_first, ..]) = (name.as_bytes(), other.as_bytes()) {

@@ -1,22 +1,22 @@
 -- Two lists of children that rise, parted into what each has alone.
-use Rattle.std.proofs.Common.{◌≡◌, ℕ, ◌+◌, List, [], ◌∷◌, ◌++◌, get_or, drop, Bool, true, false, not, ◌&&◌, ◌||◌, Some, None, Less, Equal, Greater, refl, sym, ap, subst, ◌∙◌}
+use Rattle.std.proofs.Common.{◌≡◌, ℕ, ◌+◌, [], ◌∷◌, ◌++◌, get_or, drop, Bool, true, false, not, ◌&&◌, Some, None, Less, Equal, Greater, refl, sym, ap, subst, ◌∙◌}
 use Rattle.std.specs.Bool.{MatchBool}
 use Rattle.std.specs.Ordering.{ordering_reverse}
-use Rattle.ssa_model.specs.definitions.Path.{Path, element_cmp}
+use Rattle.ssa_model.specs.definitions.Path.{element_cmp}
 use Rattle.ssa_path.specs.declared.combine.Combination.TheVariants.{Minus}
 use Rattle.ssa_path.specs.declared.element.Elem.{Elem}
 use Rattle.ssa_path.specs.declared.trie.Trie.{Trie}
 use Rattle.ssa_path.specs.declared.trie.Trie.TheOpen.{Trie-F}
 use Rattle.ssa_path.specs.declared.trie.Trie.TheViews.{out-Trie, roll-Trie}
-use Rattle.ssa_path.specs.Children.{elements, rises, heads_order}
+use Rattle.ssa_path.specs.Children.{heads_order}
 use Rattle.ssa_path.specs.Combine.{IsCombination, IsCombined, IsGrown, IsKept}
 use Rattle.ssa_path.specs.Parting.{IsLeft}
 use Rattle.ssa_path.specs.Parting.IsLeft.{Nothing_left, Some_left}
 use Rattle.ssa_path.specs.View.{element_view}
-use Rattle.ssa_path.specs.Trie.{is_one_of, here_path, paths, paths_below, is_trie, is_filled, has_some, are_filled_tries, IsWithin}
+use Rattle.ssa_path.specs.Trie.{is_one_of, paths, is_trie, is_filled, IsWithin}
 use Rattle.ssa_path.proofs.Combining.{Children, IsCombining, both-within, both-gone, both-at, own-at, other-at, combined-place, combining-all, heads-none}
-use Rattle.ssa_path.proofs.Orders.{element_cmp_total, both_first, both_second}
-use Rattle.ssa_path.proofs.Levels.{filled-is, one-level-root, paths-level, some-none, trie-parts}
+use Rattle.ssa_path.proofs.Orders.{element_cmp_total, both_second}
+use Rattle.ssa_path.proofs.Levels.{one-level-root, some-none, trie-parts}
 use Rattle.ssa_path.proofs.Lists.{left-at}
 
 -- ---- how the heads of two lists compare the other way round
@@ -65,23 +65,6 @@ grown-left false c d t old new is made items =
 -- what one child has and the other lacks is what is left of it
 pub left-grown : (c d : Elem × Trie) (t : Trie) (old new : Children) → IsCombination Minus c.1 d.1 t → IsGrown (element_view c.0) t old new → IsLeft c d old new
 left-grown c d t old new made grown = grown-left (is_filled t) c d t old new refl made grown
-
-first-true : (x y : Bool) → y ≡ false → (x || y) ≡ true → x ≡ true
-first-true true y none e = refl
-first-true false y none e = sym none ∙ e
-
-leaf-here : (t : Trie) → (is_trie t && is_filled t) ≡ true → (out-Trie t).below.items ≡ [] → paths t ≡ [] ∷ []
-leaf-here t h none =
-    let trie = both_first (is_trie t) _ h in
-    let some = sym (filled-is t trie) ∙ both_second (is_trie t) _ h in
-    let here = first-true _ _ (ap (has_some {A = Elem × Trie}) none) some in
-    paths-level t ∙ (λ i. here_path (here i) ++ paths_below (none i))
-
--- of places that have paths, and none below, each is all that the other is
-pub leaf-left : (c d : Elem × Trie) (old : Children) → (is_trie c.1 && is_filled c.1) ≡ true → (is_trie d.1 && is_filled d.1) ≡ true
-    → (out-Trie c.1).below.items ≡ [] → (out-Trie d.1).below.items ≡ [] → IsLeft c d old old
-leaf-left c d old own other own_none other_none =
-    Nothing_left (λ p h. subst (λ ps. is_one_of ps p ≡ true) (leaf-here c.1 own own_none ∙ sym (leaf-here d.1 other other_none)) h) refl
 
 -- ---- steps along both lists
 

@@ -49,8 +49,8 @@ fn is_same_leaf(from: &Node, to: &Node) -> bool
     }
 }
 
-// Puts a change of the place to which this way leads behind the others. Most turns change one place, and
-// their steps are kept.
+// Puts a change of the place to which this way leads behind the others. A record mostly has one, and is kept
+// long, so the first takes room for itself alone.
 fn push_step(
     alloc: Global,
     way: &[&Elem],
