@@ -39,7 +39,7 @@ fn told_conflict(alloc: Global, clashes: &[(ManagerKey, FieldSet)]) -> Result<Te
     let mut reply = refusal(alloc, "Conflict")?;
     for (key, fields) in clashes {
         let applies = matches!(key.operation, Operation::Apply);
-        add_manager(&mut reply, key.name.as_bytes(), applies)?;
+        add_manager(&mut reply, key.name.as_str().as_bytes(), applies)?;
         add_set(alloc, &mut reply, "fields", fields)?;
     }
     Ok(reply)

@@ -79,7 +79,7 @@ fn push_field(
     text.extend_from_slice(b" is ")?;
     push_value_at(text, live, path)?;
     text.extend_from_slice(b" by ")?;
-    text.extend_from_slice(manager.name.as_bytes())?;
+    text.extend_from_slice(manager.name.as_str().as_bytes())?;
     text.extend_from_slice(b" (")?;
     text.extend_from_slice(manager.operation.text().as_bytes())?;
     text.extend_from_slice(b"), configured as ")?;

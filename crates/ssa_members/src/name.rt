@@ -1,5 +1,5 @@
 //! Names of members.
-ghost use Rattle.std.specs.Prelude.{◌≡◌, IfOk, Some, refl, string_bytes, string_cmp, string_eq};
+ghost use Rattle.std.specs.Prelude.{◌≡◌, [], IfOk, Some, refl, string_bytes, string_cmp, string_eq};
 ghost use Rattle.std.specs.Cmp.{on_equiv, on_total, on_po, on_per, partial_equiv_from_equiv};
 ghost use Rattle.std.specs.Cmp.Lexicographic.{nat_list_eq_equiv, nat_list_cmp_total, texts_po, texts_ties};
 ghost use Rattle.ssa_members.specs.Texts.{text_bytes};
@@ -7,6 +7,7 @@ ghost use Rattle.ssa_members.specs.Texts.{text_bytes};
 use crate::small_text::SmallText;
 use std::alloc::{AllocError, Global};
 use std::cmp::Ordering;
+use std::fmt;
 use std::marker::Model;
 
 /// The name of a member. A short one takes no memory of its own, as in a [`SmallText`]; in contracts it is the
@@ -29,6 +30,15 @@ impl Model for Name {
 }
 
 impl Name {
+    /// The name without a byte. Takes no memory.
+    pub fn new() -> Name
+        ensures { string_bytes result ≡ [] }
+    {
+        Name {
+            text: SmallText::new(),
+        }
+    }
+
     /// The name with these bytes.
     pub fn from_str(alloc: Global, text: &str) -> Result<Name, AllocError>
         ensures ok { IfOk result (λ n. string_bytes n ≡ text.now) }
@@ -111,5 +121,11 @@ impl Ord for Name {
     #[inline(always)]
     fn cmp(&self, other: &Name) -> Ordering {
         self.text.order(&other.text)
+    }
+}
+
+impl fmt::Debug for Name {
+    fn fmt<W: fmt::Write>(&self, f: &mut fmt::Formatter<W>) -> fmt::Result {
+        fmt::Debug::fmt(self.as_str(), f)
     }
 }

@@ -42,10 +42,20 @@ fn are_eight_same(bytes: &[u8; 22], others: &[u8; 22], i: usize) -> bool
 }
 
 impl ShortText {
-    ghost use Rattle.std.specs.Prelude.{◌≡◌, ◌<◌, IfSome, bytes_eq};
+    ghost use Rattle.std.specs.Prelude.{◌≡◌, ◌<◌, [], IfSome, bytes_eq};
     ghost use Rattle.std.specs.Cmp.Lexicographic.{slice_cmp};
     ghost use Rattle.std.specs.Ordering.{nat_cmp};
     ghost use Rattle.ssa_members.specs.ShortTexts.{short_bytes};
+
+    /// The text without a byte.
+    pub fn new() -> ShortText
+        ensures { short_bytes result ≡ [] }
+    {
+        ShortText {
+            len: 0,
+            bytes: [0; 22],
+        }
+    }
 
     /// The text with these bytes, where it is so short.
     pub fn from_str(text: &str) -> Option<ShortText>

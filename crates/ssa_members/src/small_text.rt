@@ -25,10 +25,19 @@ pub struct SmallText {
 }
 
 impl SmallText {
-    ghost use Rattle.std.specs.Prelude.{◌≡◌, IfOk, bytes_eq, string_bytes};
+    ghost use Rattle.std.specs.Prelude.{◌≡◌, [], IfOk, bytes_eq, string_bytes};
     ghost use Rattle.std.specs.Cmp.Lexicographic.{slice_cmp};
     ghost use Rattle.std.specs.Ordering.{nat_cmp};
     ghost use Rattle.ssa_members.specs.Texts.{text_bytes};
+
+    /// The text without a byte. Takes no memory.
+    pub fn new() -> SmallText
+        ensures { text_bytes result ≡ [] }
+    {
+        SmallText {
+            place: Place::Within(ShortText::new()),
+        }
+    }
 
     /// The text with these bytes.
     pub fn from_str(alloc: Global, text: &str) -> Result<SmallText, AllocError>

@@ -25,6 +25,7 @@ use crate::seat::{emptied, seat};
 use crate::state::State;
 use crate::table_change::TableChange;
 use ssa_json::moment::Moment;
+use ssa_members::Name;
 use ssa_path::field_set::FieldSet;
 use ssa_typed::body::{Body, MOST_PLACES, Merged};
 use ssa_typed::compare::Comparison;
@@ -66,7 +67,7 @@ impl Change {
 fn key_of(alloc: Global, who: &str, operation: Operation) -> Result<ManagerKey, AllocError>
     ensures { IfOk result (λ k. key_view k ≡ record { name = who.now; operation = operation_view operation }) }
 {
-    let name = String::from_str(alloc, who)?;
+    let name = Name::from_str(alloc, who)?;
     Ok(ManagerKey { name, operation })
 }
 

@@ -17,6 +17,7 @@ use crate::seat::is_in_table;
 use ssa_json::moment::Moment;
 use ssa_json::text::is_same_text;
 use ssa_json::value::Json;
+use ssa_members::Name;
 use ssa_path::field_set::FieldSet;
 use ssa_typed::body::Body;
 use std::alloc::Global;
@@ -68,7 +69,7 @@ pub fn read_entry(
         return Err(EntryFault::BadMoment);
     };
     let set = FieldSet::from_fields_v1(alloc, said.fields)?;
-    let name = String::from_str(alloc, said.name)?;
+    let name = Name::from_str(alloc, said.name)?;
     let key = ManagerKey {
         name,
         operation: said.operation,

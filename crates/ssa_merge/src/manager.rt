@@ -4,7 +4,7 @@ ghost use Rattle.ssa_model.specs.definitions.Entries.{operation_text};
 ghost use Rattle.ssa_model.specs.definitions.Table.{same_operation, same_manager};
 ghost use Rattle.ssa_merge.specs.Managers.{operation_view, key_view};
 
-use ssa_json::text::is_same_text;
+use ssa_members::Name;
 use std::alloc::{AllocError, Global};
 
 /// How a manager came to own its fields, as `operation` in an entry of `managedFields`.
@@ -17,7 +17,7 @@ pub enum Operation {
 /// A manager. One name has an entry of its own for each operation.
 #[derive(Debug, Drop)]
 pub struct ManagerKey {
-    pub name: String,
+    pub name: Name,
     pub operation: Operation,
 }
 
@@ -50,15 +50,14 @@ impl ManagerKey {
     pub fn is_same(&self, other: &ManagerKey) -> bool
         ensures { result ≡ same_manager (key_view self.now) (key_view other.now) }
     {
-        is_same_text(self.name.as_str(), other.name.as_str())
-            && self.operation.is_same(other.operation)
+        self.name == other.name && self.operation.is_same(other.operation)
     }
 
-    /// The same manager, with new memory.
+    /// The same manager. A short name takes no memory.
     pub fn copy(&self, alloc: Global) -> Result<ManagerKey, AllocError>
         ensures { IfOk result (λ k. key_view k ≡ key_view self.now) }
     {
-        let name = String::from_str(alloc, self.name.as_str())?;
+        let name = self.name.copy(alloc)?;
         Ok(ManagerKey {
             name,
             operation: self.operation,

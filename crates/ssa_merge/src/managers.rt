@@ -11,6 +11,7 @@ ghost use Rattle.ssa_merge.specs.Managers.{key_view, entry_view, table_view, cla
 use crate::manager::{ManagerKey, Operation};
 use arrayvec::ArrayVec;
 use ssa_json::moment::Moment;
+use ssa_members::Name;
 use ssa_path::field_set::FieldSet;
 use std::alloc::{AllocError, Global};
 use std::default::MadeWith;
@@ -34,7 +35,7 @@ impl MadeWith<Global> for Entry {
     fn made_with(alloc: Global) -> Entry {
         Entry {
             key: ManagerKey {
-                name: String::new(alloc),
+                name: Name::new(),
                 operation: Operation::Apply,
             },
             set: FieldSet::new(alloc),

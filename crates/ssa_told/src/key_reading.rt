@@ -9,7 +9,7 @@ ghost use Rattle.ssa_told.specs.Telling.{Tells, TellsKey, TellsList};
 use crate::value_shape::{list_of, pair_in};
 use ssa_json::members::find_member;
 use ssa_json::value::Json;
-use ssa_members::Members;
+use ssa_members::{Members, Name};
 use ssa_merge::entry_members::operation_of;
 use ssa_merge::manager::{ManagerKey, Operation};
 use std::alloc::{AllocError, Global};
@@ -30,7 +30,7 @@ fn key_of(alloc: Global, name: &Json, operation: &Json) -> Result<Option<Manager
     let Some(operation) = told_operation(operation) else {
         return Ok(None);
     };
-    let name = String::from_str(alloc, name)?;
+    let name = Name::from_str(alloc, name)?;
     Ok(Some(ManagerKey { name, operation }))
 }
 
