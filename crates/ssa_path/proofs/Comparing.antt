@@ -1,5 +1,5 @@
 -- Two tries are the same where their places and children are, one by one.
-use Rattle.std.proofs.Common.{◌≡◌, ℕ, ◌+◌, ◌<◌, ◌≤◌, List, [], ◌∷◌, ◌++◌, length, get_or, drop, Option, Some, None, Bool, true, false, ◌&&◌, not, refl, sym, ap, subst, ◌∙◌, true≢false, arith}
+use Rattle.std.proofs.Common.{◌≡◌, ◌≢◌, ℕ, suc, ◌+◌, ◌<◌, ◌≤◌, List, [], ◌∷◌, ◌++◌, length, get_or, drop, Option, Some, None, Bool, true, false, ◌&&◌, not, refl, sym, ap, subst, ◌∙◌, true≢false, arith}
 use Rattle.std.proofs.lemmas.List.{drop_all}
 use Rattle.std.specs.Option.{MatchOption, is_some}
 use mathlib.Core.Bool.{beq}
@@ -98,6 +98,18 @@ pub one-more : (c : Elem × Trie) (cs : Children) → are_filled_tries (c ∷ cs
     × (same_paths [] (paths_below (c ∷ cs)) ≡ false)
 one-more c cs tries = some-more (element_view c.0) (paths c.1) (paths_below cs)
     (both_second (is_trie c.1) _ (both_first (is_trie c.1 && is_filled c.1) _ tries))
+
+-- children with the same paths are as many
+same-width : (cs ds : Children) → rises (elements cs) ≡ true → rises (elements ds) ≡ true → are_filled_tries cs ≡ true → are_filled_tries ds ≡ true
+    → same_paths (paths_below cs) (paths_below ds) ≡ true → length cs ≡ length ds
+same-width [] [] rise other_rise tries other_tries same = refl
+same-width [] (d ∷ ds) rise other_rise tries other_tries same = absurd (true≢false (sym same ∙ (one-more d ds other_tries).1))
+same-width (c ∷ cs) [] rise other_rise tries other_tries same = absurd (true≢false (sym same ∙ (one-more c cs tries).0))
+same-width (c ∷ cs) (d ∷ ds) rise other_rise tries other_tries same =
+    let both = sym (same-first c d cs ds rise other_rise tries other_tries) ∙ same in
+    ap suc (same-width cs ds (both_second _ _ rise) (both_second _ _ other_rise)
+    (both_second (is_trie c.1 && is_filled c.1) _ tries) (both_second (is_trie d.1 && is_filled d.1) _ other_tries)
+    (both_second (same_paths (paths c.1) (paths d.1)) _ (both_second (same_element (element_view c.0) (element_view d.0)) _ both)))
 
 -- ---- a walk over the children of both
 
@@ -223,6 +235,21 @@ pub other-level : (s t : Trie) → not (beq (out-Trie s).here (out-Trie t).here)
 other-level s t h =
     (λ i. same_paths (paths-level s i) (paths-level t i))
     ∙ other-here (out-Trie s).here (out-Trie t).here (out-Trie s).below.items (out-Trie t).below.items h
+
+-- where one place has more children than the other, the paths differ
+pub other-width : (s t : Trie) → is_trie s ≡ true → is_trie t ≡ true → not (beq (out-Trie s).here (out-Trie t).here) ≡ false
+    → length (out-Trie s).below.items ≢ length (out-Trie t).below.items → same_paths (paths s) (paths t) ≡ false
+other-width s t h g here differ =
+    let cs = (out-Trie s).below.items in
+    let ds = (out-Trie t).below.items in
+    let own = trie-parts s cs refl h in
+    let other = trie-parts t ds refl g in
+    same-level s t cs ds refl refl here
+    ∙ not-true _ (λ same. differ (same-width cs ds own.0 other.0 own.1 other.1 same))
+  where
+    not-true : (b : Bool) → b ≢ true → b ≡ false
+    not-true true k = absurd (k refl)
+    not-true false k = refl
 
 -- ---- the sets
 

@@ -28,6 +28,7 @@ pub mod FieldsSays
 pub mod FieldsBack
 pub mod FieldsTexts
 pub mod LyingWithin
+pub mod Meeting
 pub mod Kept
 pub mod TakingOut
 pub mod SortKeys

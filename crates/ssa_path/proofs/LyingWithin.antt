@@ -39,18 +39,26 @@ or-by : (a b : Bool) (Q : Type 0) → (a || b) ≡ true → (a ≡ true → Q) �
 or-by true b Q h f g = f refl
 or-by false b Q h f g = g h
 
--- one more child whose paths are the others' too
-pub within-more : (cs ds : List (Elem × Trie)) (i : ℕ) (c : Elem × Trie) (place : Trie) → i < length cs → c ≡ get_or cs i c → rises (elements ds) ≡ true
-    → child_at (element_view c.0) ds ≡ Some place → IsWithin (paths c.1) (paths place) → AreWithin (take i cs) ds → AreWithin (take (i + 1) cs) ds
-within-more cs ds i c place lt is rise at within before e p h =
+-- a path of the first children up to a place is one of those before it, or of the one there
+pub by-child : (cs : List (Elem × Trie)) (i : ℕ) (c : Elem × Trie) → i < length cs → c ≡ get_or cs i c → (e : Element) (p : Path) (Q : Type 0)
+    → (is_one_of (paths_below (take i cs)) (e ∷ p) ≡ true → Q) → (e ≡ element_view c.0 → is_one_of (paths c.1) p ≡ true → Q)
+    → is_one_of (paths_below (take (i + 1) cs)) (e ∷ p) ≡ true → Q
+by-child cs i c lt is e p Q before here h =
+    let f = element_view c.0 in
     let split = ap (λ l. is_one_of (paths_below l) (e ∷ p)) (taken-at cs i c lt is)
     ∙ ap (λ l. is_one_of l (e ∷ p)) (paths_below-append (take i cs) (c ∷ []))
     ∙ list_any-append (same_path (e ∷ p)) (paths_below (take i cs)) (paths_below (c ∷ [])) in
-    let last = list_any-append (same_path (e ∷ p)) (paths_after (element_view c.0) (paths c.1)) [] ∙ or_false _ ∙ in-child e (element_view c.0) (paths c.1) p in
-    or-by (is_one_of (paths_below (take i cs)) (e ∷ p)) _ _ (sym split ∙ h) (before e p) (λ k.
+    let last = list_any-append (same_path (e ∷ p)) (paths_after f (paths c.1)) [] ∙ or_false _ ∙ in-child e f (paths c.1) p in
+    or-by (is_one_of (paths_below (take i cs)) (e ∷ p)) _ Q (sym split ∙ h) before (λ k.
     let both = sym last ∙ k in
-    let same = same_element-true e (element_view c.0) (both_first (same_element e (element_view c.0)) (is_one_of (paths c.1) p) both) in
-    at-child e ds place p rise (ap (λ x. child_at x ds) same ∙ at) ∙ within p (both_second (same_element e (element_view c.0)) (is_one_of (paths c.1) p) both))
+    here (same_element-true e f (both_first (same_element e f) (is_one_of (paths c.1) p) both)) (both_second (same_element e f) (is_one_of (paths c.1) p) both))
+
+-- one more child whose paths are the others' too
+pub within-more : (cs ds : List (Elem × Trie)) (i : ℕ) (c : Elem × Trie) (place : Trie) → i < length cs → c ≡ get_or cs i c → rises (elements ds) ≡ true
+    → child_at (element_view c.0) ds ≡ Some place → IsWithin (paths c.1) (paths place) → AreWithin (take i cs) ds → AreWithin (take (i + 1) cs) ds
+within-more cs ds i c place lt is rise at within before e p =
+    by-child cs i c lt is e p (is_one_of (paths_below ds) (e ∷ p) ≡ true) (before e p)
+    (λ same has. at-child e ds place p rise (ap (λ x. child_at x ds) same ∙ at) ∙ within p has)
 
 -- a path of a child is one of the trie's behind the child's element
 child-has : (t : Trie) (cs : List (Elem × Trie)) (i : ℕ) (c : Elem × Trie) (p : Path) → cs ≡ (out-Trie t).below.items → i < length cs → c ≡ get_or cs i c
@@ -79,15 +87,16 @@ exceeds-none t o cs i c below lt is filled trie none =
           ∙ ap (λ x. found same_path x some.0) none,
     )
 
--- and so has one that has more than theirs
-pub exceeds-child : (t o : Trie) (cs : List (Elem × Trie)) (i : ℕ) (c : Elem × Trie) (place : Trie) → cs ≡ (out-Trie t).below.items → i < length cs
+-- a path of a child that their child has or has not is one that they have or have not
+pub told-child : (b : Bool) (t o : Trie) (cs : List (Elem × Trie)) (i : ℕ) (c : Elem × Trie) (place : Trie) → cs ≡ (out-Trie t).below.items → i < length cs
     → c ≡ get_or cs i c → is_trie o ≡ true
-    → child_at (element_view c.0) (out-Trie o).below.items ≡ Some place → Exceeds (paths c.1) (paths place) → Exceeds (paths t) (paths o)
-exceeds-child t o cs i c place below lt is trie at more =
+    → child_at (element_view c.0) (out-Trie o).below.items ≡ Some place → (p : Path) × (is_one_of (paths c.1) p ≡ true) × (is_one_of (paths place) p ≡ b)
+    → (p : Path) × (is_one_of (paths t) p ≡ true) × (is_one_of (paths o) p ≡ b)
+told-child b t o cs i c place below lt is trie at told =
     let e = element_view c.0 in (
-      e ∷ more.0,
-      child-has t cs i c more.0 below lt is more.1,
-      any-level same_path same_path-reading o e more.0 ∙ at-child e (out-Trie o).below.items place more.0 (trie-parts o _ refl trie).0 at ∙ more.2,
+      e ∷ told.0,
+      child-has t cs i c told.0 below lt is told.1,
+      any-level same_path same_path-reading o e told.0 ∙ at-child e (out-Trie o).below.items place told.0 (trie-parts o _ refl trie).0 at ∙ told.2,
     )
 
 -- all children and the place itself are within
@@ -101,7 +110,7 @@ within-all t o cs ds below other here within (e ∷ p) h =
 -- ---- as sets
 
 -- a set with a path is not empty
-some-there : (es : List (Path × Unit {0})) (p : Path) → is_some (find path_cmp p es) ≡ true → elim es [ [] ↦ true | e ∷ rest ↦ false ] ≡ false
+pub some-there : (es : List (Path × Unit {0})) (p : Path) → is_some (find path_cmp p es) ≡ true → elim es [ [] ↦ true | e ∷ rest ↦ false ] ≡ false
 some-there [] p h = absurd (true≢false (sym h))
 some-there (e ∷ es) p h = refl
 

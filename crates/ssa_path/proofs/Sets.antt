@@ -78,7 +78,7 @@ listed-insert n m p e =
     same_sets _ _ (λ q. has-listed (paths m) q ∙ e q ∙ ap (λ b. same_path q p || b) (sym (has-listed (paths n) q)) ∙ sym (has-insert p (listed (paths n)) q))
 
 -- a path is in the meet of two sets where it is in both
-has-meet : (s t : PathSet) (q : Path) → has (meet s t) q ≡ (has s q && has t q)
+pub has-meet : (s t : PathSet) (q : Path) → has (meet s t) q ≡ (has s q && has t q)
 has-meet s t q = has-set_of (set_paths s) (has t) q ∙ ap (λ b. b && has t q) (sym (has-paths s q))
 
 -- either set may come first in a meet

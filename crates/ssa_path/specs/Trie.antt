@@ -77,6 +77,14 @@ IsWithin ps qs = (p : Path) → is_one_of ps p ≡ true → is_one_of qs p ≡ t
 abbrev pub Exceeds : List Path → List Path → Type 0
 Exceeds ps qs = (p : Path) × (is_one_of ps p ≡ true) × (is_one_of qs p ≡ false)
 
+-- some of the paths is one of the others
+abbrev pub Meet : List Path → List Path → Type 0
+Meet ps qs = (p : Path) × (is_one_of ps p ≡ true) × (is_one_of qs p ≡ true)
+
+-- none of the paths is one of the others
+abbrev pub AreApart : List Path → List Path → Type 0
+AreApart ps qs = (p : Path) → is_one_of ps p ≡ true → is_one_of qs p ≡ false
+
 -- ---- what functions over tries give
 
 -- a child under the same element with the same paths

@@ -15,7 +15,7 @@ use crate::path::Path;
 use crate::same::same_tries;
 use crate::taking_out::take_out_over;
 use crate::trie::Trie;
-use crate::within::lies_within;
+use crate::within::{lies_within, share_path};
 use std::alloc::{AllocError, Global};
 use std::marker::Model;
 use std::{fmt, mem};
@@ -133,6 +133,13 @@ impl FieldSet {
         ensures { result ≡ is_empty (minus self.now other.now) }
     {
         lies_within(&self.root, &other.root)
+    }
+
+    /// Whether some path is in both sets. Takes no memory, and stops at the first.
+    pub fn meets(&self, other: &FieldSet) -> bool
+        ensures { result ≡ not (is_empty (meet self.now other.now)) }
+    {
+        share_path(&self.root, &other.root)
     }
 
     /// Whether both sets have the same paths. Takes no memory.

@@ -16,6 +16,9 @@ pub(crate) fn same_tries(own: &Trie, other: &Trie) -> bool
     if own.here != other.here {
         return false;
     }
+    if own.below.len() != other.below.len() {
+        return false;
+    }
     let mut rest = other.below.iter();
     for child in &own.below {
         let Some(other_child) = rest.next() else {

@@ -1,11 +1,17 @@
 use Rattle.std.proofs.Common.{◌∙◌, ◌+◌, sym, refl, subst, drop, arith}
 use Rattle.ssa_path.specs.declared.trie.Trie.TheViews.{out-Trie}
-use Rattle.ssa_path.proofs.Comparing.{IsComparing, comparing-none, comparing-at, comparing-more, element-differs, other-level, own-ends, own-longer, paths-differ, same-level}
+use Rattle.ssa_path.proofs.Comparing.{IsComparing, comparing-none, comparing-at, comparing-more, element-differs, other-level, other-width, own-ends, own-longer, paths-differ, same-level}
 use Rattle.ssa_path.proofs.same.+same_tries.Goals as goal
 use Rattle.ssa_path.proofs.same.+same_tries.Goals.{then-not-is_same-via-then-not-is_same, then-not-is_same-via-else-not-is_same+then-not-same_tries}
 
 pub returns-then-own-other : goal.returns-then-own-other
 returns-then-own-other t c = sym (other-level c.args.own.now c.args.other.now c.if-own-other.true)
+
+pub returns-then-len : goal.returns-then-len
+returns-then-len t c =
+    sym (other-width c.args.own.now c.args.other.now c.requires.own c.requires.other c.if-own-other.false
+    (λ same. c.if-len.true
+    (c.len.ensures ∙ (out-Trie c.args.own.now).below.ok.0 ∙ same ∙ sym (out-Trie c.args.other.now).below.ok.0 ∙ sym c.len-2.ensures)))
 
 pub loop-child-init : goal.loop-child-init
 loop-child-init t c =

@@ -1,4 +1,4 @@
-use Rattle.std.proofs.Common.{◌∙◌, [], refl, ap, sym, subst, arith, rules, true≢false}
+use Rattle.std.proofs.Common.{◌∙◌, [], false, refl, ap, sym, subst, arith, rules, true≢false}
 use Rattle.std.proofs.lemmas.List.{take_all}
 use Rattle.std.specs.Bool.{MatchBool}
 use Rattle.std.specs.Option.{option_copied}
@@ -10,7 +10,7 @@ use Rattle.ssa_path.specs.Trie.{paths, is_trie, Exceeds, IsWithin}
 use Rattle.ssa_path.proofs.Levels.{one-level-root, is_trie-child, trie-parts}
 use Rattle.ssa_path.proofs.Orders.{both_first, both_second}
 use Rattle.ssa_path.proofs.Lists.{filled-at}
-use Rattle.ssa_path.proofs.LyingWithin.{AreWithin, within-more, within-all, exceeds-none, exceeds-child}
+use Rattle.ssa_path.proofs.LyingWithin.{AreWithin, within-more, within-all, exceeds-none, told-child}
 use Rattle.ssa_path.proofs.within.+lies_within.Goals as goal
 use Rattle.ssa_path.proofs.within.+lies_within.Goals.{else-own-via-then-own+else-not-other, else-own-via-else-own}
 
@@ -49,7 +49,7 @@ pub returns-then-not-lies_within : goal.returns-then-not-lies_within
 returns-then-not-lies_within t c =
     let cs = c.deref-child-items.result.now in
     let place = c.in-Some.place.now in
-    exceeds-child c.args.own.now c.args.other.now cs c.loop-child.child-index c.child-item.result place c.deref-child-items.ensures.value (omega arith)
+    told-child false c.args.own.now c.args.other.now cs c.loop-child.child-index c.child-item.result place c.deref-child-items.ensures.value (omega arith)
     c.child-item.is c.requires.other
     (ap (child_at (element_view c.child-item.result.0)) (sym c.deref.ensures.value) ∙ sym c.find_child.ensures ∙ ap option_copied c.in-Some.is)
     (subst (λ b. MatchBool b (IsWithin (paths c.child-item.result.1) (paths place)) (Exceeds (paths c.child-item.result.1) (paths place)))
