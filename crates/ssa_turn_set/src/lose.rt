@@ -1,10 +1,10 @@
 //! A set of paths taken out of another, its places made room for the way back.
-ghost use Rattle.std.specs.Prelude.{◌≡◌, ◌&&◌, List, length, not, true, vec_capacity};
+ghost use Rattle.std.specs.Prelude.{◌≡◌, ◌&&◌, List, [], length, not, true, vec_capacity};
 ghost use Rattle.ssa_model.specs.definitions.Path.{Path, same_element};
 ghost use Rattle.ssa_path.specs.Children.{elements, rises};
 ghost use Rattle.ssa_path.specs.View.{element_view};
 ghost use Rattle.ssa_path.specs.Trie.{are_filled_tries, is_one_of, paths, paths_below, is_trie, is_filled};
-ghost use Rattle.ssa_turn_set.specs.Room.{gain_one, gain_room, lose_one, lose_room, loses};
+ghost use Rattle.ssa_turn_set.specs.Room.{children, gain_one, gain_room, lose_one, lose_room, loses};
 ghost use Rattle.ssa_turn_set.specs.Siblings.{AreTaken};
 
 use crate::filling::exchange_where_short;
@@ -15,6 +15,19 @@ use ssa_json::value::Scalar;
 use ssa_path::element::Elem;
 use ssa_path::trie::{Trie, take_out_bare};
 use std::mem;
+
+// Takes the path of a place out where nothing below it is lost: the room for it is the room to put it in again.
+#[inline(always)]
+fn lose_leaf(lost: &Trie, set: &mut Trie)
+    requires set { is_trie set.old ≡ true }
+    requires lost { is_trie lost.now ≡ true }
+    requires leaf { children lost.now ≡ [] }
+    ensures paths { (p : Path) → is_one_of (paths set.new) p ≡ (is_one_of (paths set.old) p && not (is_one_of (paths lost.now) p)) }
+    ensures trie { is_trie set.new ≡ true }
+    ensures room { (ps : List Path) → (room : Room) → lose_room lost.now ps room ≡ true → gain_room lost.now ps room ≡ true }
+{
+    set.here = set.here && !lost.here;
+}
 
 /// Takes out the paths of `lost`, all of which the set has. Takes no memory.
 ///
@@ -29,6 +42,10 @@ pub fn lose(lost: &Trie, set: &mut Trie, room: &mut Room)
     ensures trie { is_trie set.new ≡ true }
     ensures room { lose_room lost.now (paths set.new) room.old ≡ true → gain_room lost.now (paths set.new) room.new ≡ true }
 {
+    if lost.below.is_empty() {
+        lose_leaf(lost, set);
+        return;
+    }
     let Trie { here, below } = set;
     let Room {
         children,

@@ -69,6 +69,25 @@ pub(crate) fn goes_whole(own: &Trie, lost: &Trie, gone: usize) -> bool
     gone == own.below.len()
 }
 
+// The same as `make_place_loss` tells, where nothing below the place is lost: no room is needed. Takes no memory.
+#[inline(always)]
+fn make_leaf_loss(alloc: Global, lost: &Trie, own: &Trie) -> (LossRoom, bool)
+    requires lost { is_trie lost.now ≡ true }
+    requires own { is_trie own.now ≡ true }
+    requires leaf { children lost.now ≡ [] }
+    ensures room { lose_room lost.now (left (paths own.now) (paths lost.now)) result.0.room ≡ true }
+    ensures all { result.0.has_all ≡ true → IsWithin (paths lost.now) (paths own.now) }
+    ensures goes { result.1 ≡ goes (paths own.now) (paths lost.now) }
+{
+    let room = Room {
+        children: Vec::new(alloc),
+        below: Vec::new(alloc),
+    };
+    let has_all = own.here || !lost.here;
+    let goes = goes_whole(own, lost, 0);
+    (LossRoom { room, has_all }, goes)
+}
+
 // Room enough to take the paths of `lost` out of a place, and whether the place then goes whole.
 //
 // That is told from what the children tell, so that none of them is walked for it again at each place above.
@@ -79,6 +98,9 @@ fn make_place_loss(alloc: Global, lost: &Trie, own: &Trie) -> Result<(LossRoom, 
     ensures all { IfOk result (λ l. l.0.has_all ≡ true → IsWithin (paths lost.now) (paths own.now)) }
     ensures goes { IfOk result (λ l. l.1 ≡ goes (paths own.now) (paths lost.now)) }
 {
+    if lost.below.is_empty() {
+        return Ok(make_leaf_loss(alloc, lost, own));
+    }
     let bare = Trie {
         here: false,
         below: Vec::new(alloc),

@@ -54,7 +54,8 @@ fn set_stays(alloc: Global) -> SetDelta
     }
 }
 
-// The change of an entry whose set stays.
+// The change of an entry whose set stays. It is rare, and apart for the sake of the stack, as `change_to`.
+#[inline(never)]
 fn renewed(alloc: Global, entry: &Entry, at: Moment) -> Result<Option<EntryChange>, AllocError>
     ensures change { IfOk result (λ c. option_map change_view c ≡ change_of (entry_view entry.now) (Some (owning (entry_view entry.now) entry.now.set at))) }
     ensures room { IfOk result (λ c. IfSome c (λ d. HasRoom d.set entry.now.set)) }
