@@ -1,16 +1,21 @@
 -- A journal and the value beside it, seen as a timeline.
-use Rattle.std.specs.Prelude.{◌≡◌, List, reverse}
+use Rattle.std.specs.Prelude.{◌≡◌, Box, List, box_value, map, reverse}
+use Rattle.std.specs.declared.alloc.Global.{Global}
 use Rattle.ssa_reverse.specs.declared.journal.Journal.{Journal}
 use Rattle.ssa_reverse.specs.declared.reversible.Reversible.{Ghosts}
 use Rattle.ssa_reverse.specs.Timeline.{AllFit, Timeline, steps_along}
 
+-- the records of boxes, one in each, with their labels
+abbrev pub entries_of : {D L : Type 0} → List (Box (D × L) Global) → List (D × L)
+entries_of = map box_value
+
 -- the records that lead back with their labels, the oldest first
 abbrev pub past_of : {T L D : Type 0} {g : Ghosts T D} → Journal T L D g → List (D × L)
-past_of j = j.past.items
+past_of j = entries_of j.past.items
 
 -- the records that lead forward with their labels, the next to be redone first
 abbrev pub future_of : {T L D : Type 0} {g : Ghosts T D} → Journal T L D g → List (D × L)
-future_of j = reverse j.future.items
+future_of j = reverse (entries_of j.future.items)
 
 abbrev pub HoldsSame : {T L D : Type 0} {g : Ghosts T D} → Journal T L D g → Journal T L D g → Type 0
 HoldsSame j k = (past_of j ≡ past_of k) × (future_of j ≡ future_of k)

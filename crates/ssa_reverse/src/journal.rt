@@ -11,16 +11,16 @@ use std::alloc::{AllocError, Global};
 /// is kept by the caller, who hands it to each call as the last call left it.
 #[derive(Drop)]
 pub struct Journal<T: Reversible, L: Drop> {
-    // In each the next to be moved stands last.
-    past: Vec<(T::Delta, L)>,
-    future: Vec<(T::Delta, L)>,
+    // In each the next to be moved stands last. A record stays where it lies in memory when it moves.
+    past: Vec<Box<(T::Delta, L)>>,
+    future: Vec<Box<(T::Delta, L)>>,
     ghost past_room: { vec_len past + vec_len future ≤ vec_capacity past },
     ghost future_room: { vec_len past + vec_len future ≤ vec_capacity future },
 }
 
 impl<T: Reversible, L: Drop> Journal<T, L> {
     ghost use Rattle.ssa_reverse.specs.Timeline.{preceded, recorded, undone, redone};
-    ghost use Rattle.ssa_reverse.specs.Journals.{future_of, past_of, timeline_of, GoesWith, HoldsSame};
+    ghost use Rattle.ssa_reverse.specs.Journals.{entries_of, future_of, past_of, timeline_of, GoesWith, HoldsSame};
 
     /// The journal with no record, which goes with any value. Takes no memory.
     pub fn new(alloc: Global) -> Self
@@ -54,9 +54,9 @@ impl<T: Reversible, L: Drop> Journal<T, L> {
 
     /// The records that lead back, the next to be undone last, and those that lead forward, the next
     /// to be redone last, each with its label. A journal keeps nothing else. Takes no memory.
-    pub fn into_parts(self) -> (Vec<(T::Delta, L)>, Vec<(T::Delta, L)>)
-        ensures past { result.0.items ≡ past_of self }
-        ensures future { reverse result.1.items ≡ future_of self }
+    pub fn into_parts(self) -> (Vec<Box<(T::Delta, L)>>, Vec<Box<(T::Delta, L)>>)
+        ensures past { entries_of result.0.items ≡ past_of self }
+        ensures future { reverse (entries_of result.1.items) ≡ future_of self }
     {
         let Journal { past, future } = self;
         (past, future)
@@ -67,7 +67,7 @@ impl<T: Reversible, L: Drop> Journal<T, L> {
     ///
     /// All memory that a later undo or redo wants for the journal itself is taken here. Where it
     /// is refused, or the turn is, the record is dropped and all else is as it was.
-    pub fn record(&mut self, value: &mut T, mut delta: T::Delta, label: L) -> Result<(), AllocError>
+    pub fn record(&mut self, value: &mut T, delta: T::Delta, label: L) -> Result<(), AllocError>
         requires whole { GoesWith self.old (T.meaning value.old) }
         requires fits { T.takes (T.steps delta) (T.meaning value.old) (T.target (T.steps delta) (T.meaning value.old)) }
         requires room { T.has_room delta (T.meaning value.old) }
@@ -82,9 +82,10 @@ impl<T: Reversible, L: Drop> Journal<T, L> {
         if waiting < places {
             self.future.reserve(places - waiting)?;
         }
-        value.turn(&mut delta)?;
+        let mut back = Box::new(*self.past.allocator(), (delta, label))?;
+        value.turn(&mut back.0)?;
         self.future.clear();
-        push_within(&mut self.past, (delta, label));
+        push_within(&mut self.past, back);
         Ok(())
     }
 
@@ -107,9 +108,9 @@ impl<T: Reversible, L: Drop> Journal<T, L> {
         let places = self.future.len() + 1;
         self.future.reserve(1)?;
         self.past.reserve(places)?;
-        let mut entry = (delta, label);
-        value.turn(&mut entry.0)?;
-        push_within(&mut self.future, entry);
+        let mut forward = Box::new(*self.future.allocator(), (delta, label))?;
+        value.turn(&mut forward.0)?;
+        push_within(&mut self.future, forward);
         Ok(())
     }
 
@@ -124,16 +125,16 @@ impl<T: Reversible, L: Drop> Journal<T, L> {
         ensures err { OnErr result ((value.new ≡ value.old) × HoldsSame self.new self.old) }
         ensures sure { IsTrue T.SURE → IsOk result }
     {
-        let Some((mut delta, label)) = self.past.pop() else {
+        let Some(mut entry) = self.past.pop() else {
             return Ok(false);
         };
-        match value.turn(&mut delta) {
+        match value.turn(&mut entry.0) {
             Ok(()) => {
-                push_within(&mut self.future, (delta, label));
+                push_within(&mut self.future, entry);
                 Ok(true)
             }
             Err(error) => {
-                push_within(&mut self.past, (delta, label));
+                push_within(&mut self.past, entry);
                 Err(error)
             }
         }
@@ -150,16 +151,16 @@ impl<T: Reversible, L: Drop> Journal<T, L> {
         ensures err { OnErr result ((value.new ≡ value.old) × HoldsSame self.new self.old) }
         ensures sure { IsTrue T.SURE → IsOk result }
     {
-        let Some((mut delta, label)) = self.future.pop() else {
+        let Some(mut entry) = self.future.pop() else {
             return Ok(false);
         };
-        match value.turn(&mut delta) {
+        match value.turn(&mut entry.0) {
             Ok(()) => {
-                push_within(&mut self.past, (delta, label));
+                push_within(&mut self.past, entry);
                 Ok(true)
             }
             Err(error) => {
-                push_within(&mut self.future, (delta, label));
+                push_within(&mut self.future, entry);
                 Err(error)
             }
         }
