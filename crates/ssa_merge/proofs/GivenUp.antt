@@ -13,7 +13,7 @@ use Rattle.ssa_path.proofs.Sets.{meet-comm}
 use Rattle.ssa_path.specs.Meet.{meet}
 use Rattle.ssa_typed.specs.Reached.{PointsKeepAll, PointsTellPlaces}
 use Rattle.ssa_merge.specs.Absent.{absent}
-use Rattle.ssa_model.proofs.Basics.{and-false, and-true as whatever}
+use Rattle.ssa_model.proofs.Basics.{and-false, and-true as whatever, or-false}
 use Rattle.ssa_model.proofs.Tests.{same_tests}
 
 both : (a b c : Bool) → ((a && b) && c) ≡ (a && (b && c))
@@ -168,6 +168,11 @@ minus-all s t m is = same_tests _ _ (all-lost s t m is) (own-lost s t m is)
 -- what is added to no path is the whole set
 pub empty_union : (s : PathSet) → union empty s ≡ s
 empty_union s = same_sets _ _ (λ q. has-set_of (paths s) (λ p. true) q ∙ whatever (is_one_of (paths s) q) ∙ sym (has-paths s q))
+
+-- a set to which no path is added is whole
+pub union-none : (s t : PathSet) → is_empty t ≡ true → s ≡ union s t
+union-none s t none =
+    same_sets _ _ (λ q. sym (has-union s t q ∙ ap (λ x. has s q || has x q) (is_empty-true t none) ∙ or-false (has s q)))
 
 -- what a manager owns after an Update may be told by its entry: what was there without what is gone, with what is gained
 pub owned-after : (table : Table) (a : ManagerKey) (o : Option Entry) (gone gained : PathSet) → o ≡ entry_of table a

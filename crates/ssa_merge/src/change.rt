@@ -208,6 +208,43 @@ pub fn change_apply(
     applied(alloc, state, &key, config, force, at)
 }
 
+// The paths of either set, none where they are those of the first.
+fn joined(alloc: Global, set: &FieldSet, other: &FieldSet) -> Result<Option<FieldSet>, AllocError>
+    ensures { IfOk result (λ all. unwrap_or all set.now ≡ union set.now other.now) }
+{
+    if other.is_empty() {
+        return Ok(None);
+    }
+    let all = set.union(alloc, other)?;
+    Ok(Some(all))
+}
+
+// The set that was made, or else this one.
+fn made_or<'a>(made: &'a Option<FieldSet>, set: &'a FieldSet) -> &'a FieldSet
+    ensures { result.now ≡ unwrap_or made.now set.now }
+{
+    match made {
+        Some(made) => made,
+        None => set,
+    }
+}
+
+// What a manager who owned these paths owns then: those that are not gone, and what it gained.
+fn owned_with(
+    alloc: Global,
+    set: &FieldSet,
+    gone: &FieldSet,
+    gained: &FieldSet,
+) -> Result<FieldSet, AllocError>
+    ensures { IfOk result (λ s. s ≡ union (minus set.now gone.now) gained.now) }
+{
+    if gone.is_empty() {
+        return set.union(alloc, gained);
+    }
+    let stayed = set.minus(alloc, gone)?;
+    stayed.union(alloc, gained)
+}
+
 // What a manager owns after an Update: what it owned and is still there, and what was modified or
 // added. Who owned nothing gets a set with no more room than it needs: the table keeps it.
 fn owned_after_update(
@@ -218,13 +255,11 @@ fn owned_after_update(
 ) -> Result<FieldSet, AllocError>
     ensures { IfOk result (λ s. s ≡ union (minus (owned_by (state_view state.now).table (key_view key.now)) comparison.now.removed) (union comparison.now.modified comparison.now.added)) }
 {
-    let gained = comparison.modified.union(alloc, &comparison.added)?;
+    let changed = &comparison.modified;
+    let more = joined(alloc, changed, &comparison.added)?;
+    let gained = made_or(&more, changed);
     match state.managers.get(key) {
-        Some(entry) => {
-            let stayed = entry.set.minus(alloc, &comparison.removed)?;
-            let owned = stayed.union(alloc, &gained)?;
-            Ok(owned)
-        }
+        Some(entry) => owned_with(alloc, &entry.set, &comparison.removed, gained),
         None => gained.copy(alloc),
     }
 }
@@ -243,8 +278,9 @@ fn updated(
     let comparison = state.body.compare(alloc, &object)?;
     let owned = owned_after_update(alloc, state, key, &comparison)?;
     let changed = &comparison.modified;
-    let lost = changed.union(alloc, &comparison.removed)?;
-    match seat(alloc, &state.managers, key, Some(owned), &lost, changed, at) {
+    let more = joined(alloc, changed, &comparison.removed)?;
+    let lost = made_or(&more, changed);
+    match seat(alloc, &state.managers, key, Some(owned), lost, changed, at) {
         Ok(table) => Ok(Change {
             body: body_if_other(&state.body, object, &comparison),
             table,

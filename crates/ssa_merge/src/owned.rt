@@ -70,12 +70,10 @@ pub fn clashes(
         return Ok(found);
     }
     for entry in table {
-        if !entry.key.is_same(key) {
+        if !entry.key.is_same(key) && changed.meets(&entry.set) {
             let fields = changed.meet(alloc, &entry.set)?;
-            if !fields.is_empty() {
-                let other = entry.key.copy(alloc)?;
-                found.push((other, fields))?;
-            }
+            let other = entry.key.copy(alloc)?;
+            found.push((other, fields))?;
         }
     }
     Ok(found)

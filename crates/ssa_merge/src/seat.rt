@@ -74,7 +74,7 @@ fn losing(alloc: Global, entry: &Entry, lost: &mut Loss) -> Result<EntryChange, 
     ensures same { lost.new ≡ lost.old }
 {
     let paths = lost.paths();
-    if paths.is_empty() {
+    if !paths.meets(&entry.set) {
         return Ok(untouched(entry));
     }
     if paths.is_within(&entry.set) {

@@ -22,8 +22,9 @@ returns-in-Ok c =
     let are = c.in_ok-comparison.ensures in
     let owned_is : c.in_ok-owned.owned ≡ owned = c.in_ok-owned.ensures
     ∙ (λ i. union (minus (owned_by state.table u) (are.removed_are i)) (union (are.modified_are i) (are.added_are i))) in
-    let lost_is : c.in_ok-lost.lost ≡ union changed gone = c.in_ok-lost.ensures ∙ (λ i. union (are.modified_are i) (are.removed_are i)) in
-    let seats : ◌≡◌ {A = Table} (seat state.table u c.in_ok-owned.owned c.in_ok-lost.lost c.in_ok-comparison.comparison.modified c.args.at) table =
+    let lost_is : c.made_or-lost.result.now ≡ union changed gone = c.made_or-lost.ensures ∙ c.in_ok-more.ensures
+    ∙ (λ i. union (are.modified_are i) (are.removed_are i)) in
+    let seats : ◌≡◌ {A = Table} (seat state.table u c.in_ok-owned.owned c.made_or-lost.result.now c.in_ok-comparison.comparison.modified c.args.at) table =
     λ i. seat state.table u (owned_is i) (lost_is i) (are.modified_are i) c.args.at in
     let change : Change = record { body = c.body_if_other.result; table = c.in-Ok.table; comparison = c.in_ok-comparison.comparison } in
     let is_seated : Table → Type 0 = IsSeated state.table (Ok c.in-Ok.table) in
@@ -41,8 +42,9 @@ returns-in-Err c =
     let are = c.in_ok-comparison.ensures in
     let owned_is : c.in_ok-owned.owned ≡ owned = c.in_ok-owned.ensures
     ∙ (λ i. union (minus (owned_by state.table u) (are.removed_are i)) (union (are.modified_are i) (are.added_are i))) in
-    let lost_is : c.in_ok-lost.lost ≡ union changed gone = c.in_ok-lost.ensures ∙ (λ i. union (are.modified_are i) (are.removed_are i)) in
-    let seats : ◌≡◌ {A = Table} (seat state.table u c.in_ok-owned.owned c.in_ok-lost.lost c.in_ok-comparison.comparison.modified c.args.at) table =
+    let lost_is : c.made_or-lost.result.now ≡ union changed gone = c.made_or-lost.ensures ∙ c.in_ok-more.ensures
+    ∙ (λ i. union (are.modified_are i) (are.removed_are i)) in
+    let seats : ◌≡◌ {A = Table} (seat state.table u c.in_ok-owned.owned c.made_or-lost.result.now c.in_ok-comparison.comparison.modified c.args.at) table =
     λ i. seat state.table u (owned_is i) (lost_is i) (are.modified_are i) c.args.at in
     let is_seated : Table → Type 0 = IsSeated state.table (Err c.in-Err.refusal) in
     unplaced state object table c.in-Err.refusal (subst is_seated seats c.in-Err.ensures)
