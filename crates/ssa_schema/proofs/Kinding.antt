@@ -1,6 +1,7 @@
 -- Laws of building kinds.
-use Rattle.std.proofs.Common.{◌≡◌, ℕ, zero, suc, List, [], ◌∷◌, map, String, Global, Vec, BTreeMap, string_bytes, refl, ap, true, false, ◌∙◌, rules}
+use Rattle.std.proofs.Common.{◌≡◌, ℕ, zero, suc, List, [], ◌∷◌, map, String, Global, Vec, string_bytes, refl, ap, true, false, ◌∙◌, rules}
 use Rattle.std.specs.Prelude.{if◌then◌else◌}
+use Rattle.ssa_members.specs.Members.{Members as Entries}
 use Rattle.ssa_model.specs.definitions.Json.{Text, Json, scalar, list, object, Scalar, Items, Members}
 use Rattle.ssa_model.specs.definitions.Kind as model
 use Rattle.ssa_model.specs.definitions.Schema.{kind_fields, is_atomic, shape_of_schema}
@@ -42,11 +43,11 @@ kind_at_object n ms e = ap (λ b. if b then model.atomic_of (shape_of_schema (su
 -- ---- views
 
 -- the kind of a record is seen as a record of the map's fields
-pub kind_view-Record : (m : BTreeMap (String Global) kind.Kind) → kind_view (kind.Record m) ≡ model.record_of (fields_view m.entries)
+pub kind_view-Record : (m : Entries kind.Kind) → kind_view (kind.Record m) ≡ model.record_of (fields_view m.entries)
 kind_view-Record m = search (rules, kind.the_lemmas)
 
 -- where the map is empty, it is a record without fields
-pub kind_view-none : (m : BTreeMap (String Global) kind.Kind) → m.entries ≡ [] → kind_view (kind.Record m) ≡ model.record_of model.no_fields
+pub kind_view-none : (m : Entries kind.Kind) → m.entries ≡ [] → kind_view (kind.Record m) ≡ model.record_of model.no_fields
 kind_view-none m none = kind_view-Record m ∙ ap (λ es. model.record_of (fields_view es)) none
 
 -- the kind of an atomic value is seen as that of its shape
@@ -54,7 +55,7 @@ pub kind_view-AtomicOf : (s : Shape) → kind_view (kind.AtomicOf s) ≡ model.a
 kind_view-AtomicOf s = search (rules, kind.the_lemmas)
 
 -- the kind of a map list is seen as that of its keys' names and the map's fields
-pub kind_view-ItemsOf : (keys : Vec (String Global) Global) (m : BTreeMap (String Global) kind.Kind)
+pub kind_view-ItemsOf : (keys : Vec (String Global) Global) (m : Entries kind.Kind)
     → kind_view (kind.ItemsOf keys m) ≡ model.items_of (names_view keys.items) (fields_view m.entries)
 kind_view-ItemsOf keys m = search (rules, kind.the_lemmas)
 

@@ -1,13 +1,11 @@
 -- Kinds and shapes made under names, one schema after another.
-use Rattle.std.proofs.Common.{◌≡◌, List, [], ◌∷◌, ◌++◌, map, String, Global, string_bytes, string_cmp, refl, sym, ap, ap₂, ◌∙◌}
+use Rattle.std.proofs.Common.{◌≡◌, List, [], ◌∷◌, ◌++◌, map, String, Global, string_bytes, refl, sym, ap, ap₂, ◌∙◌}
 use Rattle.std.proofs.lemmas.List.{map-append}
-use Rattle.std.specs.BTreeMap.{insert_entry}
-use Rattle.std.specs.List.Sorted.{IsStrictlySortedBy}
-use Rattle.std.specs.Map.{keys_of}
+use Rattle.ssa_members.specs.Members.{IsRising}
 use Rattle.ssa_model.specs.definitions.Json.{Text, Json}
 use Rattle.ssa_json.specs.View.{view}
 use Rattle.ssa_json.proofs.Converting.{Found}
-use Rattle.ssa_json.proofs.Ordered.{names, inserted-last}
+use Rattle.ssa_json.proofs.Ordered.{names, rising-by-names}
 
 -- what was made under a name, and what is asked for there
 abbrev pub named : {X M : Type 0} → (X → M) → String Global × X → Text × M
@@ -29,14 +27,17 @@ names-made : {X M : Type 0} (seen : X → M) (read : Json → M) (ms : List (Str
     → names ms ≡ names es
 names-made {X} {M} seen read ms es same = sym (made_names seen ms) ∙ ap (map (λ (x : Text × M). x.0)) same ∙ asked_names read es
 
--- one more is made, under a name above those before
-pub made-more : {X M : Type 0} (seen : X → M) (read : Json → M) (done : List Found) (e : Found) (left : List Found) (found now : List (String Global × X))
-    (k : String Global) (x : X)
-    → IsStrictlySortedBy string_cmp (keys_of (done ++ e ∷ left)) → map (named seen) found ≡ map (asked read) done → now ≡ insert_entry string_cmp found k x
-    → string_bytes k ≡ string_bytes e.0 → seen x ≡ read (view e.1)
+-- one more is made, and put behind those before
+pub made-more : {X M : Type 0} (seen : X → M) (read : Json → M) (done : List Found) (e : Found) (found now : List (String Global × X)) (k : String Global) (x : X)
+    → map (named seen) found ≡ map (asked read) done → now ≡ found ++ (k, x) ∷ [] → string_bytes k ≡ string_bytes e.0 → seen x ≡ read (view e.1)
     → map (named seen) now ≡ map (asked read) (done ++ e ∷ [])
-made-more seen read done e left found now k x ordered same put key made =
-    ap (map (named seen)) (put ∙ inserted-last done e left found k x ordered (names-made seen read found done same) key)
+made-more seen read done e found now k x same put key made =
+    ap (map (named seen)) put
     ∙ map-append (named seen) found ((k, x) ∷ [])
     ∙ ap₂ (λ a b. a ++ b ∷ []) same (λ i. (key i, made i))
     ∙ sym (map-append (asked read) done (e ∷ []))
+
+-- under names that rise, what is made rises
+pub made-rises : {X M : Type 0} (seen : X → M) (read : Json → M) (ms : List (String Global × X)) (es : List Found) → map (named seen) ms ≡ map (asked read) es
+    → IsRising es → IsRising ms
+made-rises seen read ms es same = rising-by-names ms es (names-made seen read ms es same)

@@ -1,5 +1,5 @@
 -- Fields in a map: their names rise, and so at each level where they do in each kind inside.
-use Rattle.std.proofs.Common.{◌≡◌, List, [], ◌∷◌, Bool, true, ◌&&◌, refl, ap, String, Global, string_bytes, string_cmp, nat_cmp, Less, Equal, Greater}
+use Rattle.std.proofs.Common.{◌≡◌, List, [], ◌∷◌, ◌++◌, Bool, true, ◌&&◌, refl, ap, String, Global, string_bytes, string_cmp, nat_cmp, Less, Equal, Greater}
 use Rattle.std.specs.declared.cmp.Ordering.{Ordering}
 use Rattle.std.specs.Ordering.{is_lt, match_ordering}
 use Rattle.std.specs.Cmp.Lexicographic.{slice_cmp}
@@ -48,7 +48,12 @@ one_put n k f fs rest Less own first others more = both _ _ own (both _ _ first 
 one_put n k f fs rest Equal own first others more = both _ _ own others
 one_put n k f fs rest Greater own first others more = both _ _ first more
 
--- one kind more
+-- one kind more, behind the others
+pub ordered-push : (fs : List Field) (f : Field) → all_ordered fs ≡ true → is_ordered (kind_view f.1) ≡ true → all_ordered (fs ++ f ∷ []) ≡ true
+ordered-push [] f h own = both _ _ own refl
+ordered-push (e ∷ fs) f h own = both _ _ (both_first _ _ h) (ordered-push fs f (both_second (is_ordered (kind_view e.1)) _ h) own)
+
+-- one kind more, in its place
 pub ordered-insert : (n : String Global) (k : Kind) (fs : List Field) → is_ordered (kind_view k) ≡ true → all_ordered fs ≡ true
     → all_ordered (insert_entry string_cmp fs n k) ≡ true
 ordered-insert n k [] own h = both _ _ own refl

@@ -1,5 +1,6 @@
 -- Laws of building shapes.
-use Rattle.std.proofs.Common.{◌≡◌, ℕ, zero, suc, List, [], ◌∷◌, map, String, Global, BTreeMap, string_bytes, refl, ap, ◌∙◌, rules}
+use Rattle.std.proofs.Common.{◌≡◌, ℕ, zero, suc, List, [], ◌∷◌, map, String, Global, string_bytes, refl, ap, ◌∙◌, rules}
+use Rattle.ssa_members.specs.Members.{Members as Entries}
 use Rattle.ssa_model.specs.definitions.Json.{Text, Json, scalar, list, object, Scalar, Items, Members}
 use Rattle.ssa_model.specs.definitions.Kind as model
 use Rattle.ssa_model.specs.definitions.Schema.{shape_fields}
@@ -35,11 +36,11 @@ shape_at_object n ms = refl
 -- ---- views
 
 -- the shape of a record is seen as a record of the map's fields
-pub shape_view-Record : (m : BTreeMap (String Global) shape.Shape) → shape_view (shape.Record m) ≡ model.record_shape (shape_fields_view m.entries)
+pub shape_view-Record : (m : Entries shape.Shape) → shape_view (shape.Record m) ≡ model.record_shape (shape_fields_view m.entries)
 shape_view-Record m = search (rules, shape.the_lemmas)
 
 -- where the map is empty, it is a record without fields
-pub shape_view-none : (m : BTreeMap (String Global) shape.Shape) → m.entries ≡ [] → shape_view (shape.Record m) ≡ model.record_shape model.no_shape_fields
+pub shape_view-none : (m : Entries shape.Shape) → m.entries ≡ [] → shape_view (shape.Record m) ≡ model.record_shape model.no_shape_fields
 shape_view-none m none = shape_view-Record m ∙ ap (λ es. model.record_shape (shape_fields_view es)) none
 
 -- ---- fields by name

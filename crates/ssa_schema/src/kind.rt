@@ -5,7 +5,7 @@ ghost use Rattle.ssa_json.specs.View.{scalar_view};
 ghost use Rattle.ssa_schema.specs.Kinds.{scalar_kind_view, shape_view, shape_fields_view, kind_view, fields_view};
 
 use ssa_json::value::Scalar;
-use std::collections::BTreeMap;
+use ssa_members::Members;
 
 /// A kind of scalars.
 #[derive(Clone, Copy, Debug, PartialEq, Eq)]
@@ -20,7 +20,7 @@ pub enum ScalarKind {
 #[derive(Drop)]
 pub enum Shape {
     Scalar(ScalarKind),
-    Record(BTreeMap<String, Shape>),
+    Record(Members<Shape>),
     Dict(Box<Shape>),
     List(Box<Shape>),
 }
@@ -33,7 +33,7 @@ pub enum Kind {
     /// A value that is replaced and owned whole.
     AtomicOf(Shape),
     /// An object with named fields.
-    Record(BTreeMap<String, Kind>),
+    Record(Members<Kind>),
     /// An object with any names and one kind of values.
     Dict(Box<Kind>),
     /// A list of scalars that differ.
@@ -41,7 +41,7 @@ pub enum Kind {
     /// A list of objects that differ in the fields that `keys` names.
     ItemsOf {
         keys: Vec<String>,
-        fields: BTreeMap<String, Kind>,
+        fields: Members<Kind>,
     },
 }
 
@@ -60,14 +60,14 @@ impl ScalarKind {
 }
 
 /// The kind of the field of a name, where there is one.
-pub fn find_field<'a>(fields: &'a BTreeMap<String, Kind>, name: &str) -> Option<&'a Kind>
+pub fn find_field<'a>(fields: &'a Members<Kind>, name: &str) -> Option<&'a Kind>
     ensures { option_map (λ k. kind_view k.now) result ≡ kind_of name.now (fields_view fields.now.entries) }
 {
     fields.get(name)
 }
 
 /// The shape of the field of a name, where there is one.
-pub fn find_shape<'a>(fields: &'a BTreeMap<String, Shape>, name: &str) -> Option<&'a Shape>
+pub fn find_shape<'a>(fields: &'a Members<Shape>, name: &str) -> Option<&'a Shape>
     ensures { option_map (λ s. shape_view s.now) result ≡ shape_of name.now (shape_fields_view fields.now.entries) }
 {
     fields.get(name)

@@ -15,7 +15,6 @@ use crate::kind::{Kind, ScalarKind, find_field};
 use ssa_json::value::Json;
 use ssa_members::Members;
 use std::alloc::{AllocError, Global};
-use std::collections::BTreeMap;
 
 /// The first fault of a value, in the order of the walk; none where it fits.
 #[cycle(walk)]
@@ -43,7 +42,7 @@ pub fn value_fault(alloc: Global, value: &Json, kind: &Kind) -> Result<Option<Fo
 fn fields_fault(
     alloc: Global,
     members: &Members<Json>,
-    fields: &BTreeMap<String, Kind>,
+    fields: &Members<Kind>,
 ) -> Result<Option<Found>, AllocError>
     ensures { IfOk result (λ f. Finds f (field_faults (fields_view fields.now.entries) (members_view members.now.entries))) }
 {
@@ -103,7 +102,7 @@ fn items_fault(
     alloc: Global,
     items: &[Json],
     keys: &[String],
-    fields: &BTreeMap<String, Kind>,
+    fields: &Members<Kind>,
 ) -> Result<Option<Found>, AllocError>
     ensures { IfOk result (λ f. Finds f (item_faults (names_view keys.now) (fields_view fields.now.entries) [] (items_view items.now))) }
 {
@@ -129,7 +128,7 @@ fn keyed_fault(
     alloc: Global,
     members: &Members<Json>,
     keys: &[String],
-    fields: &BTreeMap<String, Kind>,
+    fields: &Members<Kind>,
     is_new: bool,
 ) -> Result<Option<Found>, AllocError>
     ensures { IfOk result (λ f. Finds f (keyed_faults is_new (names_view keys.now) (fields_view fields.now.entries) (members_view members.now.entries))) }

@@ -11,7 +11,6 @@ use crate::kind::{Kind, find_field};
 use ssa_json::members::find_member;
 use ssa_json::value::Json;
 use ssa_members::Members;
-use std::collections::BTreeMap;
 
 // What is wrong with a key.
 fn key_misfit(value: Option<&Json>, kind: Option<&Kind>) -> Option<Misfit>
@@ -29,7 +28,7 @@ fn key_misfit(value: Option<&Json>, kind: Option<&Kind>) -> Option<Misfit>
 pub fn keys_misfit(
     members: &Members<Json>,
     keys: &[String],
-    fields: &BTreeMap<String, Kind>,
+    fields: &Members<Kind>,
 ) -> Option<Misfit>
     ensures { Breaks result (key_faults (names_view keys.now) (fields_view fields.now.entries) (members_view members.now.entries)) }
 {

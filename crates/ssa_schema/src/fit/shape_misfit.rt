@@ -8,7 +8,6 @@ use crate::fit::found::Misfit;
 use crate::kind::{ScalarKind, Shape, find_shape};
 use ssa_json::value::{Json, Scalar};
 use ssa_members::Members;
-use std::collections::BTreeMap;
 
 /// What is wrong with a scalar.
 pub fn scalar_misfit(scalar: &Scalar, wanted: &ScalarKind) -> Option<Misfit>
@@ -37,7 +36,7 @@ pub fn shape_misfit(value: &Json, shape: &Shape) -> Option<Misfit>
 
 // The first thing that is wrong with the members of an object with named fields.
 #[cycle(shape)]
-fn fields_misfit(members: &Members<Json>, fields: &BTreeMap<String, Shape>) -> Option<Misfit>
+fn fields_misfit(members: &Members<Json>, fields: &Members<Shape>) -> Option<Misfit>
     ensures { Breaks result (shape_field_faults (shape_fields_view fields.now.entries) (members_view members.now.entries)) }
 {
     for (name, member) in members.entries() {

@@ -15,7 +15,6 @@ use ssa_json::members::find_member;
 use ssa_json::value::Json;
 use ssa_members::Members;
 use std::alloc::{AllocError, Global};
-use std::collections::BTreeMap;
 
 /// The kind that a schema asks for, where so many levels are left.
 #[cycle(kinds)]
@@ -24,7 +23,7 @@ pub fn kind_of(alloc: Global, schema: &Json, levels: usize) -> Result<Kind, Allo
     ensures ordered { IfOk result (λ k. is_ordered (kind_view k) ≡ true) }
 {
     if levels == 0 {
-        return Ok(Kind::Record(BTreeMap::new(alloc)));
+        return Ok(Kind::Record(Members::new(alloc)));
     }
     match schema {
         Json::Object(members) => {
@@ -34,8 +33,8 @@ pub fn kind_of(alloc: Global, schema: &Json, levels: usize) -> Result<Kind, Allo
                 kind_of_object(alloc, members, levels - 1)
             }
         }
-        Json::List(_) => Ok(Kind::Record(BTreeMap::new(alloc))),
-        Json::Scalar(_) => Ok(Kind::Record(BTreeMap::new(alloc))),
+        Json::List(_) => Ok(Kind::Record(Members::new(alloc))),
+        Json::Scalar(_) => Ok(Kind::Record(Members::new(alloc))),
     }
 }
 
@@ -84,13 +83,13 @@ fn item_kinds(
     alloc: Global,
     members: &Members<Json>,
     levels: usize,
-) -> Result<BTreeMap<String, Kind>, AllocError>
+) -> Result<Members<Kind>, AllocError>
     ensures kind { IfOk result (λ m. fields_view m.entries ≡ kind_fields (kind_at levels) (property_members (item_members (members_view members.now.entries)))) }
     ensures ordered { IfOk result (λ m. are_ordered (fields_view m.entries) ≡ true) }
 {
     match item_members(members) {
         Some(items) => property_kinds(alloc, items, levels),
-        None => Ok(BTreeMap::new(alloc)),
+        None => Ok(Members::new(alloc)),
     }
 }
 
@@ -115,13 +114,13 @@ fn property_kinds(
     alloc: Global,
     members: &Members<Json>,
     levels: usize,
-) -> Result<BTreeMap<String, Kind>, AllocError>
+) -> Result<Members<Kind>, AllocError>
     ensures kind { IfOk result (λ m. fields_view m.entries ≡ kind_fields (kind_at levels) (property_members (members_view members.now.entries))) }
     ensures ordered { IfOk result (λ m. are_ordered (fields_view m.entries) ≡ true) }
 {
     match property_members(members) {
         Some(properties) => kinds_of(alloc, properties, levels),
-        None => Ok(BTreeMap::new(alloc)),
+        None => Ok(Members::new(alloc)),
     }
 }
 
@@ -131,14 +130,14 @@ fn kinds_of(
     alloc: Global,
     schemas: &Members<Json>,
     levels: usize,
-) -> Result<BTreeMap<String, Kind>, AllocError>
+) -> Result<Members<Kind>, AllocError>
     ensures kind { IfOk result (λ m. fields_view m.entries ≡ kind_fields (kind_at levels) (members_view schemas.now.entries)) }
     ensures ordered { IfOk result (λ m. are_ordered (fields_view m.entries) ≡ true) }
 {
-    let mut found = BTreeMap::new(alloc);
+    let mut found = Vec::with_capacity(alloc, schemas.len())?;
     for (name, schema) in schemas.entries() {
-        let key = String::from_str(alloc, name.as_str())?;
-        drop(found.insert(key, kind_of(alloc, schema, levels)?)?);
+        let key = name.copy(alloc)?;
+        found.push((key, kind_of(alloc, schema, levels)?))?;
     }
-    Ok(found)
+    Ok(Members::of_rising(found))
 }

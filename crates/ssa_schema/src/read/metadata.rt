@@ -6,8 +6,8 @@ ghost use Rattle.ssa_schema.specs.Kinds.{kind_view, fields_view};
 ghost use Rattle.ssa_model.specs.definitions.Lawful.{is_ordered, are_ordered};
 
 use crate::kind::{Kind, ScalarKind};
+use ssa_members::{Members, Name};
 use std::alloc::{AllocError, Global};
-use std::collections::BTreeMap;
 
 // Any names with texts.
 fn text_dict(alloc: Global) -> Result<Kind, AllocError>
@@ -19,24 +19,24 @@ fn text_dict(alloc: Global) -> Result<Kind, AllocError>
 // The fields with one more, in the place of one of the same name.
 fn with_field(
     alloc: Global,
-    fields: BTreeMap<String, Kind>,
+    fields: Members<Kind>,
     name: &str,
     kind: Kind,
-) -> Result<BTreeMap<String, Kind>, AllocError>
+) -> Result<Members<Kind>, AllocError>
     ensures fields { IfOk result (λ m. fields_view m.entries ≡ with_field name.now (kind_view kind) (fields_view fields.entries)) }
     ensures ordered { IfOk result (λ m. is_ordered (kind_view kind) ≡ true → are_ordered (fields_view fields.entries) ≡ true → are_ordered (fields_view m.entries) ≡ true) }
 {
     let mut made = fields;
-    let key = String::from_str(alloc, name)?;
+    let key = Name::from_str(alloc, name)?;
     drop(made.insert(key, kind)?);
     Ok(made)
 }
 
 // What `metadata` may hold beside the identity.
-fn metadata_fields(alloc: Global) -> Result<BTreeMap<String, Kind>, AllocError>
+fn metadata_fields(alloc: Global) -> Result<Members<Kind>, AllocError>
     ensures { IfOk result (λ m. fields_view m.entries ≡ metadata_fields) }
 {
-    let none = BTreeMap::new(alloc);
+    let none = Members::new(alloc);
     let labelled = with_field(alloc, none, "labels", text_dict(alloc)?)?;
     let finalizers = Kind::SetOf(ScalarKind::Text);
     let finalized = with_field(alloc, labelled, "finalizers", finalizers)?;

@@ -12,7 +12,6 @@ use ssa_json::members::find_member;
 use ssa_json::value::Json;
 use ssa_members::Members;
 use std::alloc::{AllocError, Global};
-use std::collections::BTreeMap;
 
 /// The kind of a scalar's schema.
 pub fn scalar_kind_of(members: &Members<Json>) -> ScalarKind
@@ -33,12 +32,12 @@ pub fn shape_of(alloc: Global, schema: &Json, levels: usize) -> Result<Shape, Al
     ensures { IfOk result (λ s. shape_view s ≡ shape_at levels (view schema.now)) }
 {
     if levels == 0 {
-        return Ok(Shape::Record(BTreeMap::new(alloc)));
+        return Ok(Shape::Record(Members::new(alloc)));
     }
     match schema {
         Json::Object(members) => shape_of_object(alloc, members, levels - 1),
-        Json::List(_) => Ok(Shape::Record(BTreeMap::new(alloc))),
-        Json::Scalar(_) => Ok(Shape::Record(BTreeMap::new(alloc))),
+        Json::List(_) => Ok(Shape::Record(Members::new(alloc))),
+        Json::Scalar(_) => Ok(Shape::Record(Members::new(alloc))),
     }
 }
 
@@ -69,7 +68,7 @@ fn list_shape(alloc: Global, members: &Members<Json>, levels: usize) -> Result<S
             let inside = shape_of(alloc, items, levels)?;
             Ok(Shape::List(Box::new(alloc, inside)?))
         }
-        None => Ok(Shape::Record(BTreeMap::new(alloc))),
+        None => Ok(Shape::Record(Members::new(alloc))),
     }
 }
 
@@ -93,12 +92,12 @@ fn property_shapes(
     alloc: Global,
     members: &Members<Json>,
     levels: usize,
-) -> Result<BTreeMap<String, Shape>, AllocError>
+) -> Result<Members<Shape>, AllocError>
     ensures { IfOk result (λ m. shape_fields_view m.entries ≡ shape_fields (shape_at levels) (property_members (members_view members.now.entries))) }
 {
     match property_members(members) {
         Some(properties) => shapes_of(alloc, properties, levels),
-        None => Ok(BTreeMap::new(alloc)),
+        None => Ok(Members::new(alloc)),
     }
 }
 
@@ -108,13 +107,13 @@ fn shapes_of(
     alloc: Global,
     schemas: &Members<Json>,
     levels: usize,
-) -> Result<BTreeMap<String, Shape>, AllocError>
+) -> Result<Members<Shape>, AllocError>
     ensures { IfOk result (λ m. shape_fields_view m.entries ≡ shape_fields (shape_at levels) (members_view schemas.now.entries)) }
 {
-    let mut found = BTreeMap::new(alloc);
+    let mut found = Vec::with_capacity(alloc, schemas.len())?;
     for (name, schema) in schemas.entries() {
-        let key = String::from_str(alloc, name.as_str())?;
-        drop(found.insert(key, shape_of(alloc, schema, levels)?)?);
+        let key = name.copy(alloc)?;
+        found.push((key, shape_of(alloc, schema, levels)?))?;
     }
-    Ok(found)
+    Ok(Members::of_rising(found))
 }

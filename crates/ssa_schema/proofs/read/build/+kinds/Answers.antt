@@ -1,18 +1,17 @@
-use Rattle.std.proofs.Common.{◌≡◌, suc, ◌-◌, arith, [], ◌∷◌, ◌++◌, map, string_bytes, string_cmp, true, sym, ap, ◌∙◌, subst, append_assoc, append-nil, drop, ◌+◌}
-use Rattle.std.specs.List.Sorted.{IsStrictlySortedBy}
-use Rattle.std.specs.Map.{keys_of}
-use Rattle.std.proofs.lemmas.List.{drop_all}
-use Rattle.ssa_members.proofs.Lent.{next-lent}
-use Rattle.ssa_json.proofs.Converting.{Found}
-use Rattle.ssa_schema.specs.Kinds.{kind_view}
-use Rattle.ssa_schema.proofs.Ordered.{all_ordered, fields-ordered, ordered-insert}
-use Rattle.ssa_schema.proofs.Made.{asked, made-more}
+use Rattle.std.proofs.Common.{◌≡◌, suc, ◌-◌, arith, [], ◌∷◌, ◌++◌, map, take, true, sym, ap, ◌∙◌, subst, ◌+◌}
+use Rattle.std.proofs.lemmas.List.{take_all, take_more}
+use Rattle.ssa_members.specs.Members.{IsRising}
+use Rattle.ssa_schema.specs.Kinds.{kind_view, fields_view}
+use Rattle.ssa_schema.proofs.Ordered.{all_ordered, fields-ordered, ordered-push}
+use Rattle.ssa_schema.proofs.Made.{asked, made-more, made-rises}
 use Rattle.ssa_schema.proofs.Kinding.{fields-made, kind_view-none, kind_view-AtomicOf, kind_at_atomic, kind_at_none, kind_at_object, kind_at_list, kind_at_scalar}
 use Rattle.std.proofs.lemmas.Result.{IfOk-weaker}
 use Rattle.ssa_json.specs.View.{view, members_view, items_view, scalar_view}
 use Rattle.ssa_json.proofs.Views.{view-Object}
 use Rattle.ssa_schema.specs.Builds.{shape_at, kind_at}
 use Rattle.ssa_model.specs.definitions.Json.{object}
+use Rattle.ssa_model.specs.definitions.Lawful.{are_ordered}
+use Rattle.ssa_model.specs.definitions.Schema.{kind_fields}
 use Rattle.ssa_model.specs.definitions.Kind.{atomic_of}
 use Rattle.ssa_schema.proofs.Distinct.{view-List, view-Scalar}
 use Rattle.ssa_schema.proofs.read.build.+kinds.Goals as goal
@@ -20,33 +19,40 @@ use Rattle.ssa_schema.proofs.read.build.+kinds.Goals as goal
 pub kinds_of-loop-name-preserved : goal.kinds_of-loop-name-preserved
 kinds_of-loop-name-preserved t c =
     let l = c.loop-name in
-    let n = c.args.levels in
-    let done = l.invariant.done in
-    let e : Found = c.loop-name-item.result in
-    let left = (drop (c.loop-name.name-index + 1) c.entries-name-items.result.now) in
-    let all : c.args.schemas.now.entries ≡ done ++ e ∷ left = l.invariant.split ∙ ap (λ es. done ++ es) (next-lent c.entries-name-items.result.now c.loop-name.name-index c.loop-name-item.result (omega arith) c.loop-name-item.is) in
-    let key : string_bytes c.in_ok-key.key ≡ string_bytes e.0 = c.in_ok-key.ensures.ok ∙ c.as_str.ensures.value in
+    let es = c.entries-name-items.result.now in
+    let e = c.loop-name-item.result in
+    let done = take l.name-index es in
+    let more : take (l.name-index + 1) es ≡ done ++ e ∷ [] = take_more es l.name-index e (omega arith) ∙ ap (λ y. done ++ y ∷ []) (sym c.loop-name-item.is) in
     record {
-      done = done ++ e ∷ [];
-      split = all ∙ sym (append_assoc done (e ∷ []) left);
-      same = made-more kind_view (kind_at n) done e left l.found.entries c.insert.new.self.entries c.in_ok-key.key c.in_ok-kind_of.field-0
-          (subst (λ es. IsStrictlySortedBy string_cmp (keys_of es)) all c.entries-name-items.ensures.ordered) l.invariant.same c.in_ok-insert.ensures.entries key
-          c.in_ok-kind_of.ensures.kind;
-      sorted = c.insert.ensures.ordered;
-      ordered = subst (λ fs. all_ordered fs ≡ true) (sym c.in_ok-insert.ensures.entries)
-          (ordered-insert c.in_ok-key.key c.in_ok-kind_of.field-0 l.found.entries c.in_ok-kind_of.ensures.ordered l.invariant.ordered);
+      same = made-more kind_view (kind_at c.args.levels) done e l.found.items _ c.in_ok-key.key c.in_ok-kind_of.field-0
+          l.invariant.same c.in_ok-push.ensures.items c.in_ok-key.ensures c.in_ok-kind_of.ensures.kind
+          ∙ ap (map (asked (kind_at c.args.levels))) (sym more);
+      ordered = subst (λ fs. all_ordered fs ≡ true) (sym c.in_ok-push.ensures.items)
+          (ordered-push l.found.items (c.in_ok-key.key, c.in_ok-kind_of.field-0) l.invariant.ordered c.in_ok-kind_of.ensures.ordered);
     }
+
+pub kinds_of-of_rising-requires : goal.kinds_of-of_rising-requires
+kinds_of-of_rising-requires t c =
+    let l = c.loop-name in
+    let es = c.entries-name-items.result.now in
+    let rise : IsRising es = subst IsRising (sym c.entries-name-items.ensures.all) c.entries-name-items.ensures.ordered in
+    made-rises kind_view (kind_at c.args.levels) l.found.items es (l.invariant.same ∙ ap (map (asked (kind_at c.args.levels))) (take_all l.name-index es (omega arith))) rise
 
 pub kinds_of-returns-clause-kind : goal.kinds_of-returns-clause-kind
 kinds_of-returns-clause-kind t c =
     let l = c.loop-name in
-    let n = c.args.levels in
-    let all : l.invariant.done ≡ c.args.schemas.now.entries = sym (append-nil l.invariant.done)
-    ∙ ap (λ es. l.invariant.done ++ es) (sym (drop_all c.loop-name.name-index c.entries-name-items.result.now (omega arith))) ∙ sym l.invariant.split in
-    fields-made n l.found.entries c.args.schemas.now.entries (l.invariant.same ∙ ap (map (asked (kind_at n))) all)
+    let es = c.entries-name-items.result.now in
+    ap fields_view c.of_rising.ensures ∙ fields-made c.args.levels l.found.items es (l.invariant.same ∙ ap (map (asked (kind_at c.args.levels))) (take_all l.name-index es (omega arith)))
+    ∙ ap (λ es. kind_fields (kind_at c.args.levels) (members_view es)) c.entries-name-items.ensures.all
 
 pub kinds_of-returns-clause-ordered : goal.kinds_of-returns-clause-ordered
-kinds_of-returns-clause-ordered t c = fields-ordered c.loop-name.found.entries c.loop-name.invariant.sorted c.loop-name.invariant.ordered
+kinds_of-returns-clause-ordered t c =
+    let l = c.loop-name in
+    let es = c.entries-name-items.result.now in
+    let rise : IsRising es = subst IsRising (sym c.entries-name-items.ensures.all) c.entries-name-items.ensures.ordered in
+    ap (λ fs. are_ordered (fields_view fs)) c.of_rising.ensures
+    ∙ fields-ordered l.found.items (made-rises kind_view (kind_at c.args.levels) l.found.items es
+    (l.invariant.same ∙ ap (map (asked (kind_at c.args.levels))) (take_all l.name-index es (omega arith))) rise) l.invariant.ordered
 
 pub kind_of-returns-then-levels-eq0-clause-kind : goal.kind_of-returns-then-levels-eq0-clause-kind
 kind_of-returns-then-levels-eq0-clause-kind t c =

@@ -1,7 +1,4 @@
-use Rattle.std.proofs.Common.{◌≡◌, List, ◌++◌, ◌+◌, ◌*◌, map, string_cmp, true, drop}
-use Rattle.std.specs.List.Sorted.{IsStrictlySortedBy}
-use Rattle.std.specs.Map.{keys_of}
-use Rattle.ssa_json.proofs.Converting.{Found}
+use Rattle.std.proofs.Common.{◌≡◌, ◌+◌, ◌*◌, map, take, true}
 use Rattle.ssa_schema.specs.Kinds.{kind_view}
 use Rattle.ssa_schema.specs.Builds.{kind_at}
 use Rattle.ssa_schema.proofs.Made.{named, asked}
@@ -32,9 +29,6 @@ decreases-kinds_of l = 6 * l.levels + 1
 -- the schemas so far have their kinds
 abbrev pub invariant-kinds_of-loop-name : goal.invariant-kinds_of-loop-name
 invariant-kinds_of-loop-name l = record {
-  done : List Found;
-  split : l.schemas.entries ≡ done ++ (drop l.name-index l.name-items);
-  same : map (named kind_view) l.found.entries ≡ map (asked (kind_at l.levels)) done;
-  sorted : IsStrictlySortedBy string_cmp (keys_of l.found.entries);
-  ordered : all_ordered l.found.entries ≡ true;
+  same : map (named kind_view) l.found.items ≡ map (asked (kind_at l.levels)) (take l.name-index l.name-items);
+  ordered : all_ordered l.found.items ≡ true;
 }

@@ -1,13 +1,11 @@
-use Rattle.std.proofs.Common.{◌≡◌, suc, ◌-◌, arith, [], ◌∷◌, ◌++◌, map, string_bytes, string_cmp, sym, ap, ◌∙◌, subst, append_assoc, append-nil, drop, ◌+◌}
-use Rattle.std.specs.List.Sorted.{IsStrictlySortedBy}
-use Rattle.std.specs.Map.{keys_of}
-use Rattle.std.proofs.lemmas.List.{drop_all}
-use Rattle.ssa_members.proofs.Lent.{next-lent}
-use Rattle.ssa_json.proofs.Converting.{Found}
-use Rattle.ssa_schema.specs.Kinds.{shape_view}
-use Rattle.ssa_schema.proofs.Made.{asked, made-more}
+use Rattle.std.proofs.Common.{◌≡◌, suc, ◌-◌, arith, [], ◌∷◌, ◌++◌, map, take, sym, ap, ◌∙◌, subst, ◌+◌}
+use Rattle.std.proofs.lemmas.List.{take_all, take_more}
+use Rattle.ssa_members.specs.Members.{IsRising}
+use Rattle.ssa_schema.specs.Kinds.{shape_view, shape_fields_view}
+use Rattle.ssa_schema.proofs.Made.{asked, made-more, made-rises}
 use Rattle.ssa_schema.proofs.Shaping.{fields-made, shape_view-none, shape_at_none, shape_at_object, shape_at_list, shape_at_scalar}
 use Rattle.std.proofs.lemmas.Result.{IfOk-weaker}
+use Rattle.ssa_model.specs.definitions.Schema.{shape_fields}
 use Rattle.ssa_json.specs.View.{view, members_view, items_view, scalar_view}
 use Rattle.ssa_json.proofs.Views.{view-Object}
 use Rattle.ssa_schema.specs.Builds.{shape_at}
@@ -17,27 +15,27 @@ use Rattle.ssa_schema.proofs.read.shapes.+shapes.Goals as goal
 pub shapes_of-loop-name-preserved : goal.shapes_of-loop-name-preserved
 shapes_of-loop-name-preserved t c =
     let l = c.loop-name in
-    let n = c.args.levels in
-    let done = l.invariant.done in
-    let e : Found = c.loop-name-item.result in
-    let left = (drop (c.loop-name.name-index + 1) c.entries-name-items.result.now) in
-    let all : c.args.schemas.now.entries ≡ done ++ e ∷ left = l.invariant.split ∙ ap (λ es. done ++ es) (next-lent c.entries-name-items.result.now c.loop-name.name-index c.loop-name-item.result (omega arith) c.loop-name-item.is) in
-    let key : string_bytes c.in_ok-key.key ≡ string_bytes e.0 = c.in_ok-key.ensures.ok ∙ c.as_str.ensures.value in
-    record {
-      done = done ++ e ∷ [];
-      split = all ∙ sym (append_assoc done (e ∷ []) left);
-      same = made-more shape_view (shape_at n) done e left l.found.entries c.insert.new.self.entries c.in_ok-key.key c.in_ok-shape_of.field-0
-          (subst (λ es. IsStrictlySortedBy string_cmp (keys_of es)) all c.entries-name-items.ensures.ordered) l.invariant.same c.in_ok-insert.ensures.entries key
-          c.in_ok-shape_of.ensures;
-    }
+    let es = c.entries-name-items.result.now in
+    let e = c.loop-name-item.result in
+    let done = take l.name-index es in
+    let more : take (l.name-index + 1) es ≡ done ++ e ∷ [] = take_more es l.name-index e (omega arith) ∙ ap (λ y. done ++ y ∷ []) (sym c.loop-name-item.is) in
+    made-more shape_view (shape_at c.args.levels) done e l.found.items _ c.in_ok-key.key c.in_ok-shape_of.field-0
+    l.invariant c.in_ok-push.ensures.items c.in_ok-key.ensures c.in_ok-shape_of.ensures
+    ∙ ap (map (asked (shape_at c.args.levels))) (sym more)
+
+pub shapes_of-of_rising-requires : goal.shapes_of-of_rising-requires
+shapes_of-of_rising-requires t c =
+    let l = c.loop-name in
+    let es = c.entries-name-items.result.now in
+    let rise : IsRising es = subst IsRising (sym c.entries-name-items.ensures.all) c.entries-name-items.ensures.ordered in
+    made-rises shape_view (shape_at c.args.levels) l.found.items es (l.invariant ∙ ap (map (asked (shape_at c.args.levels))) (take_all l.name-index es (omega arith))) rise
 
 pub shapes_of-returns : goal.shapes_of-returns
 shapes_of-returns t c =
     let l = c.loop-name in
-    let n = c.args.levels in
-    let all : l.invariant.done ≡ c.args.schemas.now.entries = sym (append-nil l.invariant.done)
-    ∙ ap (λ es. l.invariant.done ++ es) (sym (drop_all c.loop-name.name-index c.entries-name-items.result.now (omega arith))) ∙ sym l.invariant.split in
-    fields-made n l.found.entries c.args.schemas.now.entries (l.invariant.same ∙ ap (map (asked (shape_at n))) all)
+    let es = c.entries-name-items.result.now in
+    ap shape_fields_view c.of_rising.ensures ∙ fields-made c.args.levels l.found.items es (l.invariant ∙ ap (map (asked (shape_at c.args.levels))) (take_all l.name-index es (omega arith)))
+    ∙ ap (λ es. shape_fields (shape_at c.args.levels) (members_view es)) c.entries-name-items.ensures.all
 
 pub shape_of-returns-then-levels-eq0 : goal.shape_of-returns-then-levels-eq0
 shape_of-returns-then-levels-eq0 t c =

@@ -1,5 +1,4 @@
-use Rattle.std.proofs.Common.{◌≡◌, List, ◌++◌, ◌+◌, ◌*◌, map, drop}
-use Rattle.ssa_json.proofs.Converting.{Found}
+use Rattle.std.proofs.Common.{◌≡◌, ◌+◌, ◌*◌, map, take}
 use Rattle.ssa_schema.specs.Kinds.{shape_view}
 use Rattle.ssa_schema.specs.Builds.{shape_at}
 use Rattle.ssa_schema.proofs.Made.{named, asked}
@@ -25,8 +24,4 @@ decreases-shapes_of l = 5 * l.levels + 1
 
 -- the schemas so far have their shapes
 abbrev pub invariant-shapes_of-loop-name : goal.invariant-shapes_of-loop-name
-invariant-shapes_of-loop-name l = record {
-  done : List Found;
-  split : l.schemas.entries ≡ done ++ (drop l.name-index l.name-items);
-  same : map (named shape_view) l.found.entries ≡ map (asked (shape_at l.levels)) done;
-}
+invariant-shapes_of-loop-name l = map (named shape_view) l.found.items ≡ map (asked (shape_at l.levels)) (take l.name-index l.name-items)
