@@ -1,6 +1,6 @@
 -- Taking the body of a command's object, test by test.
 use Rattle.std.proofs.Common.{List, [], ◌∷◌, Option, Some, None, ◌≡◌, Bool, true, false, not, ◌&&◌, refl, sym, ap, ◌∙◌, true≢false}
-use Rattle.std.specs.Prelude.{if◌then◌else◌, Ok, Err, Result, is_some, unwrap_or, option_map}
+use Rattle.std.specs.Prelude.{if◌then◌else◌, Ok, Err, Result, is_some, unwrap_or, option_map, codes}
 use Rattle.ssa_model.specs.definitions.Json.{Json, scalar, list, object, is_object}
 use Rattle.ssa_model.specs.definitions.Schema.{Schema}
 use Rattle.ssa_model.specs.definitions.History.{Bench}
@@ -9,7 +9,7 @@ use Rattle.ssa_model.specs.definitions.Kind as kinds
 use Rattle.ssa_model.specs.definitions.Kind.{Kind, faults, wrong_type}
 use Rattle.ssa_model.specs.definitions.Body.{flat}
 use Rattle.ssa_model.specs.definitions.Objects as objects
-use Rattle.ssa_model.specs.definitions.Objects.{identity_of, body_value, file_value}
+use Rattle.ssa_model.specs.definitions.Objects.{identity_of, is_identity, is_some_object, same_identity, value_at, body_value, file_value}
 use Rattle.ssa_model.specs.definitions.GivenEntries as entries
 use Rattle.ssa_model.specs.definitions.Table.{Table}
 use Rattle.ssa_model.specs.definitions.Operations.{State}
@@ -78,6 +78,17 @@ command_body-taken bench v o i m = command_body-tested bench v o ∙ (λ k. test
 pub regrouped : (a b c : Bool) → (a && b) ≡ true → c ≡ true → (a && (b && c)) ≡ true
 regrouped true b c h e = λ i. h i && e i
 regrouped false b c h e = h
+
+apart : (a b c : Bool) → c ≡ false → (a && (b && c)) ≡ false
+apart true true c e = e
+apart true false c e = refl
+apart false b c e = refl
+
+-- an object of another identity than the bench's is refused
+pub command_body-other : (bench : Bench) (v : Json) → is_object v ≡ true → same_identity (identity_of v) bench.identity ≡ false
+    → command_body bench v ≡ Err identity_fault
+command_body-other bench v o other = command_body-tested bench v o
+    ∙ ap (λ b. tested bench v b (gives_managed_fields v)) (apart (is_some_object (value_at (codes "metadata" ∷ []) v)) (is_identity (identity_of v)) _ other)
 
 -- a value that is no object is refused as of the wrong type, at the root
 pub command_body-no_object : (bench : Bench) (v : Json) → is_object v ≡ false → command_body bench v ≡ Err (body_fault wrong_type [])

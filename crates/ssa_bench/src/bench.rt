@@ -41,7 +41,7 @@ use ssa_merge::owned::owners;
 use ssa_merge::state::State;
 use ssa_model::{recorded_values_are_shallow, rising_names_are_distinct};
 use ssa_object::body_value::{body_value, file_parts};
-use ssa_object::identity::{Identity, gives_managed_fields, has_identity};
+use ssa_object::identity::{Identity, gives_managed_fields};
 use ssa_object::object::object_of_state;
 use ssa_path::path::Path;
 use ssa_schema::body_fault::BodyFault;
@@ -185,7 +185,7 @@ impl Bench {
         if !object.is_object() {
             return Err(Fault::Body(BodyFault::WrongType(Vec::new(alloc))));
         }
-        if !has_identity(&object) || !self.identity.is_same_as(&object) {
+        if !self.identity.is_same_as(&object) {
             return Err(Fault::Identity);
         }
         if gives_managed_fields(&object) {

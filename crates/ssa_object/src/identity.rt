@@ -174,8 +174,18 @@ impl Identity {
         version
     }
 
-    /// Whether the object's identity is this one, absence of the namespace included.
+    /// Whether the object's identity is this one, absence of the namespace included. Such an object has `metadata` and all
+    /// that an identity needs, so it need not be asked [`has_identity`].
     pub fn is_same_as(&self, object: &Json) -> bool
+        ensures same { result ≡ same_identity (identity_of (view object.now)) self.now }
+        ensures whole { result ≡ true → (is_some_object (value_at (codes "metadata" ∷ []) (view object.now)) && is_identity (identity_of (view object.now))) ≡ true }
+    {
+        let _ = &self.name;
+        self.has_same_parts(object)
+    }
+
+    // Whether each part of the object's identity is this one's.
+    fn has_same_parts(&self, object: &Json) -> bool
         ensures { result ≡ same_identity (identity_of (view object.now)) self.now }
     {
         let version = is_same_value(object.member("apiVersion"), &self.version);
