@@ -47,6 +47,7 @@ impl Operation {
 
 impl ManagerKey {
     /// Whether both are one manager.
+    #[inline(always)]
     pub fn is_same(&self, other: &ManagerKey) -> bool
         ensures { result ≡ same_manager (key_view self.now) (key_view other.now) }
     {

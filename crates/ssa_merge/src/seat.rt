@@ -53,6 +53,7 @@ fn losing_all(alloc: Global, entry: &Entry, lost: &mut Loss) -> Result<EntryChan
 
 // What becomes of an entry whose manager loses what it owns of these paths, with no more room than they need: a record keeps
 // them for long.
+#[inline(never)]
 fn losing_some(alloc: Global, entry: &Entry, lost: &FieldSet) -> Result<EntryChange, AllocError>
     ensures { IfOk result (λ c. changed_entry c (entry_view entry.now) ≡ filter owns (less (entry_view entry.now) lost.now ∷ [])) }
 {
@@ -74,11 +75,14 @@ fn losing(alloc: Global, entry: &Entry, lost: &mut Loss) -> Result<EntryChange, 
     ensures same { lost.new ≡ lost.old }
 {
     let paths = lost.paths();
-    if !paths.meets(&entry.set) {
+    if paths.is_empty() {
         return Ok(untouched(entry));
     }
     if paths.is_within(&entry.set) {
         return losing_all(alloc, entry, lost);
+    }
+    if !paths.meets(&entry.set) {
+        return Ok(untouched(entry));
     }
     losing_some(alloc, entry, paths)
 }

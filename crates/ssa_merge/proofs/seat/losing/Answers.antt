@@ -6,11 +6,18 @@ use Rattle.ssa_path.proofs.Sets.{meet-comm}
 use Rattle.ssa_merge.specs.Managers.{entry_view}
 use Rattle.ssa_merge.specs.TableChanges.{changed_entry}
 use Rattle.ssa_merge.specs.Tables.{less, owns}
+use Rattle.ssa_merge.proofs.GivenUp.{meet-none}
 use Rattle.ssa_merge.proofs.TableChanges.{less-none}
 use Rattle.ssa_merge.proofs.seat.losing.Goals as goal
 
 pub losing_all-requires : goal.losing_all-requires
 losing_all-requires c = ap (λ s. is_empty (minus s c.args.entry.now.set)) (sym c.paths-paths.ensures) ∙ sym c.is_within.ensures ∙ c.if-is_within.true
+
+pub returns-then-is_empty-clause-change : goal.returns-then-is_empty-clause-change
+returns-then-is_empty-clause-change c =
+    let e = entry_view c.args.entry.now in
+    let none = ap is_empty (sym c.paths-paths.ensures) ∙ sym c.is_empty.ensures ∙ c.if-is_empty.true in
+    c.untouched.ensures ∙ less-none e c.args.lost.now (meet-none e.owned c.args.lost.now none)
 
 pub returns-then-not-meets-clause-change : goal.returns-then-not-meets-clause-change
 returns-then-not-meets-clause-change c =
