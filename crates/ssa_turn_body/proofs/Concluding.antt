@@ -1,8 +1,9 @@
 -- The edit of a place whose common children are led leads to the second children and says what is other there.
-use Rattle.std.proofs.Common.{◌≡◌, ℕ, List, [], ◌∷◌, ◌++◌, Bool, true, false, not, ◌&&◌, ◌||◌, Option, Some, None, option_map, Vec, Global, reverse, refl, sym, ap, subst, ◌∙◌}
+use Rattle.std.proofs.Common.{◌≡◌, ℕ, List, [], ◌∷◌, ◌++◌, Bool, true, false, not, ◌&&◌, ◌||◌, Box, Option, Some, None, option_map, Vec, Global, reverse, refl, sym, ap, subst, ◌∙◌}
 use Rattle.std.specs.Cmp.Lexicographic.{pointwise}
 use Rattle.std.specs.List.{list_any}
 use Rattle.std.specs.Prelude.{is_some, if◌then◌else◌}
+use Rattle.std.specs.Box.{with_value}
 use Rattle.std.proofs.lemmas.Option.{none-some, same_Some}
 use Rattle.ssa_model.specs.definitions.Body.{Content}
 use Rattle.ssa_model.specs.definitions.Kind.{is_among}
@@ -154,12 +155,15 @@ one-order-back es fs = symmetric (pointwise same_element) (pointwise-true same_e
 module _ (o : Content) (cs ds : List Child) (fs : Found) (s : ChildrenEdit) (between : IsEditBetween cs ds fs s) (h : Vec Child Global)
     (own_apart : are_apart (elements cs) ≡ true) (apart : are_apart (elements ds) ≡ true)
     (found : AreFound cs ds fs) (holds : h.items ≡ fresh fs ds) (trees : are_trees ds ≡ true) (own_stand : may_stand o (elements cs) ≡ true)
-    (stand : may_stand o (elements ds) ≡ true) (order : with_order o (elements cs) ≡ o) where
+    (stand : may_stand o (elements ds) ≡ true) (order : with_order o (elements cs) ≡ o) (room : Box ChildrenEdit Global) where
   abbrev ks : Kids
   ks = led_kids o cs ds
 
   abbrev made : ChildrenEdit
   made = record s { held = h }
+
+  abbrev boxed : Box ChildrenEdit Global
+  boxed = with_value room made
 
   abbrev keeps : Bool
   keeps = is_none s.before.items
@@ -238,18 +242,18 @@ module _ (o : Content) (cs ds : List Child) (fs : Found) (s : ChildrenEdit) (bet
   abbrev wanted : Marks
   wanted = from_place (with_order o (elements ds), kids ds)
 
-  told-there : (x : Step) → x.change ≡ Children made → AreTold (path_view x.path.items) (contents led_now) (contents wanted) (x ∷ [])
+  told-there : (x : Step) → x.change ≡ Children boxed → AreTold (path_view x.path.items) (contents led_now) (contents wanted) (x ∷ [])
   told-there x is =
       subst (λ (m : Marks). AreTold (path_view x.path.items) (contents m) (contents wanted) (x ∷ [])) (λ i q. led-place o cs ds order q i)
       (subst (λ (m : Marks). AreTold (path_view x.path.items) (contents (from_place (with_order o (names ks), ks))) (contents m) (x ∷ []))
       (λ i q. final-place o ds q i)
-      (edit-step-told o keeps ks (kids ds) made there x is))
+      (edit-step-told o keeps ks (kids ds) boxed there x is))
 
-  told-back : (x t : Step) (y : Place) → x.change ≡ Children made → t.path.items ≡ x.path.items → ChangeGives x.change (o, ks) t.change y
+  told-back : (x t : Step) (y : Place) → x.change ≡ Children boxed → t.path.items ≡ x.path.items → ChangeGives x.change (o, ks) t.change y
       → AreTold (path_view x.path.items) (contents wanted) (contents led_now) (t ∷ [])
   told-back x t y is path given = by t.change refl (subst (λ c. ChangeGives c (o, ks) t.change y) is given)
     where
-      by : (c : PlaceChange) → t.change ≡ c → ChangeGives (Children made) (o, ks) c y
+      by : (c : PlaceChange) → t.change ≡ c → ChangeGives (Children boxed) (o, ks) c y
           → AreTold (path_view x.path.items) (contents wanted) (contents led_now) (t ∷ [])
       by (Leaf u) e g = absurd g
       by (Children u) e g =
@@ -257,7 +261,7 @@ module _ (o : Content) (cs ds : List Child) (fs : Found) (s : ChildrenEdit) (bet
           (subst (λ (m : Marks). AreTold (path_view t.path.items) (contents wanted) (contents m) (t ∷ [])) (λ i q. led-place o cs ds order q i)
           (subst (λ (m : Marks). AreTold (path_view t.path.items) (contents m) (contents (from_place (with_order o (names ks), ks))) (t ∷ []))
           (λ i q. final-place o ds q i)
-          (edit-step-told o keeps (kids ds) ks u (back-again u y g) t e)))
+          (edit-step-told o keeps (kids ds) ks u (back-again u.value y g) t e)))
 
   -- it names each child that goes and each that comes once
   made-once : NamesOnce made
@@ -273,11 +277,11 @@ module _ (o : Content) (cs ds : List Child) (fs : Found) (s : ChildrenEdit) (bet
       }
 
   -- the edit leads from the children that are led so far to the second ones
-  pub finish : (p : Path) (old new : List Step) → MayAdd (is_idle s) p (Children (record s { held = h })) old new
+  pub finish : (p : Path) (old new : List Step) → MayAdd (is_idle s) p (Children boxed) old new
       → AreLeading p (led o cs ds) (from_place (with_order o (elements ds), kids ds)) old new
   finish p old new added = by (is_idle s) refl added
     where
-      by : (b : Bool) → is_idle s ≡ b → MayAdd b p (Children (record s { held = h })) old new
+      by : (b : Bool) → is_idle s ≡ b → MayAdd b p (Children boxed) old new
           → AreLeading p (led o cs ds) (from_place (with_order o (elements ds), kids ds)) old new
       by true e a = leading-same p led_now wanted old new a (idle-told o cs ds fs s between h own_apart apart found holds order e)
       by false e a = record {
@@ -286,14 +290,14 @@ module _ (o : Content) (cs ds : List Child) (fs : Found) (s : ChildrenEdit) (bet
         led = subst (λ r. IsLed r led_now wanted (a.0 ∷ [])) a.1
             (led-own a.0 led_now wanted o (elements cs) refl
             (subst (λ x. ChangeFits x (o, ks)) (sym a.2) (edit-fits o cs ds fs s between h own_apart apart found holds trees stand))
-            (λ t y g q. put o cs ds fs s between h own_apart apart found holds t y (subst (λ x. ChangeGives x (o, ks) t y) a.2 g) q));
+            (λ t y g q. put o cs ds fs s between h own_apart apart found holds room t y (subst (λ x. ChangeGives x (o, ks) t y) a.2 g) q));
         saying = subst (λ r. AreSaying r led_now wanted (a.0 ∷ [])) a.1 (record {
           told = told-there a.0 a.2;
           back =
               turned-own a.0 led_now o (elements cs) refl (λ ts. AreTold (path_view a.0.path.items) (contents wanted) (contents led_now) (reverse ts))
               (λ t y path g. told-back a.0 t y a.2 path g);
         });
-        once = once-added p (Children made) old new made-once a;
+        once = once-added p (Children boxed) old new made-once a;
         writable = (
           fit-writable a.0.change (o, ks) (subst (λ x. ChangeFits x (o, ks)) (sym a.2)
               (edit-fits o cs ds fs s between h own_apart apart found holds trees stand)),

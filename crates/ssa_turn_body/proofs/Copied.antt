@@ -64,7 +64,8 @@ kids-kept (c ∷ cs) (d ∷ ds) e h =
 -- ---- an edit
 
 module _ (s c : ChildrenEdit) (copy : EditIsCopied s c) where
-  put-copied : parts_in (Children c) ≡ parts_in (Children s)
+  put-copied : parts_of (path_view c.order.after.items) c.come.places.items c.held.items
+      ≡ parts_of (path_view s.order.after.items) s.come.places.items s.held.items
   put-copied =
       parts-from (path_view c.order.after.items) c.come.places.items c.held.items
       ∙ (λ i. parts_from (copy.order_after i) (copy.come i) (copy.held i))
@@ -162,14 +163,14 @@ say-same (Children s) (Children c) copy = record {
   cut = ap (map (λ e. (e ∷ [], tt))) copy.gone_named;
   leaf = refl;
   order = λ i. told_order (copy.order_before i) (copy.order_after i);
-  put = put-copied s c copy;
+  put = put-copied s.value c.value copy;
 }
 
 change-fits : (x y : PlaceChange) (v : Place) → ChangeIsCopied x y → ChangeFits x v → ChangeFits y v
 change-fits (Leaf s) (Leaf c) v copy h = h
 change-fits (Leaf s) (Children c) v copy h = absurd copy
 change-fits (Children s) (Leaf c) v copy h = absurd copy
-change-fits (Children s) (Children c) v copy h = edit-fits s c copy v h
+change-fits (Children s) (Children c) v copy h = edit-fits s.value c.value copy v h
 
 change-gives : (x y t : PlaceChange) (v w : Place) → ChangeIsCopied x y → HoldsTrees x → ChangeGives y v t w → ChangeGives x v t w
 change-gives (Leaf s) (Leaf c) (Leaf t) v w copy h g = record { taken = g.taken; put = g.put ∙ copy; none_before = g.none_before; none_after = g.none_after }
@@ -177,7 +178,7 @@ change-gives (Leaf s) (Leaf c) (Children t) v w copy h g = absurd g
 change-gives (Leaf s) (Children c) t v w copy h g = absurd copy
 change-gives (Children s) (Leaf c) t v w copy h g = absurd copy
 change-gives (Children s) (Children c) (Leaf t) v w copy h g = absurd g
-change-gives (Children s) (Children c) (Children t) v w copy h g = edit-gives s c copy h t v w g
+change-gives (Children s) (Children c) (Children t) v w copy h g = edit-gives s.value c.value copy h t.value v w g
 
 -- ---- a change at a path
 

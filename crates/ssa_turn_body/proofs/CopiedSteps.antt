@@ -102,7 +102,7 @@ copy-writable : (x y : PlaceChange) → ChangeIsCopied x y → IsWritable x → 
 copy-writable (Leaf s) (Leaf c) copy h = tt
 copy-writable (Leaf s) (Children c) copy h = absurd copy
 copy-writable (Children s) (Leaf c) copy h = absurd copy
-copy-writable (Children s) (Children c) copy h = edit-writable s c copy h
+copy-writable (Children s) (Children c) copy h = edit-writable s.value c.value copy h
 
 copies-writable : (ss cs : List Step) → AllZip StepIsCopied ss cs → AreWritable ss → AreWritable cs
 copies-writable [] [] z h = tt

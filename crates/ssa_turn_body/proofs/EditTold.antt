@@ -1,5 +1,5 @@
 -- An edit of the children of a place says what the place before and the place after say.
-use Rattle.std.proofs.Common.{◌≡◌, ℕ, List, [], ◌∷◌, Bool, true, false, ◌&&◌, not, Option, Some, None, option_map, refl, sym, ap, ◌∙◌}
+use Rattle.std.proofs.Common.{◌≡◌, ℕ, List, [], ◌∷◌, Bool, true, false, ◌&&◌, not, Box, Global, Option, Some, None, option_map, refl, sym, ap, ◌∙◌}
 use Rattle.std.specs.Prelude.{is_some, if◌then◌else◌}
 use Rattle.std.specs.FinMap.Entries.{find}
 use Rattle.ssa_model.specs.definitions.Body.{Content}
@@ -66,7 +66,7 @@ child_said x y k = record {
   put = if is_some (told_in y []) && (not (is_some (told_in x [])) && true) then Some (told_in y, k) else None;
 }
 
-module _ (o : Content) (n : Bool) (ks ls : Kids) (x : ChildrenEdit) (h : IsEdit o n ks ls x) where
+module _ (o : Content) (n : Bool) (ks ls : Kids) (x : Box ChildrenEdit Global) (h : IsEdit o n ks ls x.value) where
   abbrev first : Contents
   first = contents (from_place (with_order o (names ks), ks))
 
@@ -76,19 +76,19 @@ module _ (o : Content) (n : Bool) (ks ls : Kids) (x : ChildrenEdit) (h : IsEdit 
   abbrev order : List Element
   order = told_unless n (names ls)
 
-  cut-is : (e : Element) → find path_cmp (e ∷ []) (Rattle.ssa_turn_body.proofs.EditSays.singles (named_in x.gone))
+  cut-is : (e : Element) → find path_cmp (e ∷ []) (Rattle.ssa_turn_body.proofs.EditSays.singles (named_in x.value.gone))
       ≡ (if is_some (named ks e) && not (is_some (named ls e)) then Some tt else None)
   cut-is e =
-      cut-found (named_in x.gone) e
+      cut-found (named_in x.value.gone) e
       ∙ ap (λ es. if is_among e es then Some tt else None) (h.gone ∙ fresh-known h.back (names ks) (names ls) h.gone_known)
       ∙ ap (λ b. if b then Some tt else None) (among-filter (λ f. not (is_among f (names ls))) (names ks) e
       ∙ (λ i. named-among ks e i && not (named-among ls e i)))
 
-  put-is : (e : Element) → option_map shown (find path_cmp (e ∷ []) (parts_of (path_view x.order.after.items) x.come.places.items x.held.items))
+  put-is : (e : Element) → option_map shown (find path_cmp (e ∷ []) (parts_of (path_view x.value.order.after.items) x.value.come.places.items x.value.held.items))
       ≡ come_first order h.found 0 ls e
   put-is e =
-      (λ i. option_map shown (find path_cmp (e ∷ []) (parts_of (h.order_after i) (h.come i) x.held.items)))
-      ∙ parts-come order h.found 0 ls x.held.items e h.held h.trees
+      (λ i. option_map shown (find path_cmp (e ∷ []) (parts_of (h.order_after i) (h.come i) x.value.held.items)))
+      ∙ parts-come order h.found 0 ls x.value.held.items e h.held h.trees
 
   among-first : (e : Element) (f : Marks) → named ks e ≡ Some f → is_among e (names ks) ≡ true
   among-first e f is = named-among ks e ∙ ap is_some is
@@ -140,26 +140,26 @@ module _ (o : Content) (n : Bool) (ks ls : Kids) (x : ChildrenEdit) (h : IsEdit 
       (λ i. find path_cmp [] (told_order (h.order_before i) (h.order_after i)))
       ∙ order-said o n (names ks) (names ls) h.stand_before h.stand_after h.in_order in
       (λ i. record {
-        cut = cut-root (named_in x.gone) i;
+        cut = cut-root (named_in x.value.gone) i;
         leaf = sym (no-swap o (names ks) (names ls) h.stand_before) i;
         order = order_is i;
-        put = option_map shown (part-root (path_view x.order.after.items) x.come.places.items x.held.items i);
+        put = option_map shown (part-root (path_view x.value.order.after.items) x.value.come.places.items x.value.held.items i);
       })
       ∙ sym (root-said first second)
   edit-says (e ∷ []) =
       (λ i. record {
         cut = cut-is e i;
         leaf = None;
-        order = order-below (path_view x.order.before.items) (path_view x.order.after.items) e [] i;
+        order = order-below (path_view x.value.order.before.items) (path_view x.value.order.after.items) e [] i;
         put = put-is e i;
       })
       ∙ child-by e (named ks e) (named ls e) refl refl
   edit-says (e ∷ g ∷ q) =
       (λ i. record {
-        cut = cut-deeper (named_in x.gone) e g q i;
+        cut = cut-deeper (named_in x.value.gone) e g q i;
         leaf = None;
-        order = order-below (path_view x.order.before.items) (path_view x.order.after.items) e (g ∷ q) i;
-        put = option_map shown (part-deeper (path_view x.order.after.items) x.come.places.items x.held.items e g q i);
+        order = order-below (path_view x.value.order.before.items) (path_view x.value.order.after.items) e (g ∷ q) i;
+        put = option_map shown (part-deeper (path_view x.value.order.after.items) x.value.come.places.items x.value.held.items e g q i);
       })
       ∙ sym (deep-said (named ks e) (named ls e) g q (λ f k is_f is_k. h.same e f k is_f is_k))
 

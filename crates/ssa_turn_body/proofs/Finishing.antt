@@ -1,7 +1,8 @@
 -- The edit of a place whose common children are led, and what both places are by the kind of one of them.
-use Rattle.std.proofs.Common.{◌≡◌, ℕ, zero, suc, ◌+◌, ◌≤◌, List, [], ◌∷◌, length, true, false, ◌&&◌, Option, Some, None, option_map, Vec, Global, refl, sym, ap, subst, ◌∙◌, arith, rules, true≢false, vec_capacity}
+use Rattle.std.proofs.Common.{◌≡◌, ℕ, zero, suc, ◌+◌, ◌≤◌, List, [], ◌∷◌, length, true, false, ◌&&◌, Box, Option, Some, None, option_map, Vec, Global, refl, sym, ap, subst, ◌∙◌, arith, rules, true≢false, vec_capacity}
 use Rattle.std.specs.List.Sorted.{SwapsInRange}
 use Rattle.std.specs.Prelude.{slice_get, is_some}
+use Rattle.std.specs.Box.{with_value}
 use Rattle.std.specs.List.{list_any}
 use Rattle.std.proofs.lemmas.Option.{none-some, same_Some}
 use Rattle.ssa_model.specs.definitions.Body.{Content, leaf, atom, record_branch, dict_branch, list_branch, is_leaf}
@@ -207,10 +208,11 @@ module _ (o : Content) (cs ds : List Child) (fs : Found) (s : ChildrenEdit) (bet
   idle-told order idle = alike-told o cs ds (sym (names-from (λ e q. led o cs ds (e ∷ q)) (elements cs)) ∙ ap names (idle-same idle) ∙ names-kids ds) order
 
   -- whatever the edit gives, the place tells what the second tells
-  pub put : (t : PlaceChange) (y : Place) → ChangeGives (Children (record s { held = h })) (o, led_kids o cs ds) t y → (q : Path)
+  pub put : (b : Box ChildrenEdit Global) (t : PlaceChange) (y : Place)
+      → ChangeGives (Children (with_value b (record s { held = h }))) (o, led_kids o cs ds) t y → (q : Path)
       → from_place y q ≡ from_place (with_order o (elements ds), kids ds) q
-  put (Leaf t) y g q = absurd g
-  put (Children t) y g q =
+  put b (Leaf t) y g q = absurd g
+  put b (Children t) y g q =
       let is : y.1 ≡ kids ds = g.children ∙ edit-leaves in
       λ i. from_place ((g.own ∙ ap (λ ls. with_order o (names ls)) is ∙ ap (with_order o) (names-kids ds)) i, is i) q
 

@@ -28,7 +28,7 @@ use Rattle.ssa_turn_body.proofs.EditSays.{head_or, rest_after}
 -- what the change holds is made of trees
 abbrev pub HoldsTrees : PlaceChange → Type 0
 HoldsTrees (Leaf s) = Unit {0}
-HoldsTrees (Children s) = are_trees s.held.items ≡ true
+HoldsTrees (Children s) = are_trees s.value.held.items ≡ true
 
 -- what each of the changes holds is made of trees
 abbrev pub AllHoldTrees : List Step → Type 0
@@ -119,13 +119,13 @@ changes-one (Leaf s) (Leaf t) e h g =
 changes-one (Leaf s) (Children t) e h g = absurd (true≢false (ap is_leaf_change e))
 changes-one (Children s) (Leaf t) e h g = absurd (true≢false (sym (ap is_leaf_change e)))
 changes-one (Children s) (Children t) e h g =
-    let same : edit_steps s ≡ edit_steps t = ap (edit_or (edit_steps s)) e in
+    let same : edit_steps s.value ≡ edit_steps t.value = ap (edit_or (edit_steps s.value)) e in
     record {
       cut = ap (λ (z : EditSteps). map (λ x. (x ∷ [], tt)) z.gone.1) same;
       leaf = refl;
       order = ap (λ (z : EditSteps). told_order z.order_before z.order_after) same;
-      put = ap (λ (z : EditSteps). parts_of z.order_after z.come.0 s.held.items) same
-          ∙ parts-alike (path_view t.order.after.items) t.come.places.items s.held.items t.held.items (ap (λ (z : EditSteps). z.held) same) h g;
+      put = ap (λ (z : EditSteps). parts_of z.order_after z.come.0 s.value.held.items) same
+          ∙ parts-alike (path_view t.value.order.after.items) t.value.come.places.items s.value.held.items t.value.held.items (ap (λ (z : EditSteps). z.held) same) h g;
     }
 
 record AreAllOne (us ss : List Step) : Type 0 where

@@ -71,7 +71,7 @@ edit-by s v w own ns h =
 
 fits-by : (c : PlaceChange) (v w : Place) → v.0 ≡ w.0 → names v.1 ≡ names w.1 → ChangeFits c v → ChangeFits c w
 fits-by (Leaf s) v w own ns h = ap (λ x. is_leaf (Some x)) (sym own) ∙ h
-fits-by (Children s) v w own ns h = edit-by s v w own ns h
+fits-by (Children s) v w own ns h = edit-by s.value v w own ns h
 
 -- ---- at a path
 

@@ -140,7 +140,7 @@ change-names : (x y : PlaceChange) (v w : Place) → ChangeNamesOnce x → Chang
 change-names (Leaf s) (Leaf t) v w once fits gives = tt
 change-names (Leaf s) (Children t) v w once fits gives = absurd gives
 change-names (Children s) (Leaf t) v w once fits gives = absurd gives
-change-names (Children s) (Children t) v w once fits gives = edit-names s t v w once fits gives
+change-names (Children s) (Children t) v w once fits gives = edit-names s.value t.value v w once fits gives
 
 names-in : (x y : PlaceChange) (a b : Option Node) → ChangeNamesOnce x → FitsIn (λ n. ChangeFits x (seen n)) a
     → GivesIn (λ n m. ChangeGives x (seen n) y (seen m)) a b → ChangeNamesOnce y
@@ -190,7 +190,7 @@ change-names-copied : (x y : PlaceChange) → ChangeIsCopied x y → ChangeNames
 change-names-copied (Leaf s) (Leaf c) copy once = tt
 change-names-copied (Leaf s) (Children c) copy once = absurd copy
 change-names-copied (Children s) (Leaf c) copy once = absurd copy
-change-names-copied (Children s) (Children c) copy once = edit-names-copied s c copy once
+change-names-copied (Children s) (Children c) copy once = edit-names-copied s.value c.value copy once
 
 changes-copied : (q : Path) (ss cs : List Step) → AllZip StepIsCopied ss cs → changes_at q cs ≡ changes_at q ss
 changes-copied q [] [] z = refl

@@ -55,7 +55,7 @@ parts-are order (k ∷ ks) (h ∷ hs) = ap (λ l. parts_of order (k ∷ []) (h �
 
 parts-in : (x : PlaceChange) → parts_in x ≡ with part_of (comes_in x)
 parts-in (Leaf s) = refl
-parts-in (Children s) = parts-are (path_view s.order.after.items) s.come.places.items s.held.items
+parts-in (Children s) = parts-are (path_view s.value.order.after.items) s.value.come.places.items s.value.held.items
 
 at-place : (p : Path) (es : List (Path × Coming)) → at_place p (with part_of es) ≡ with part_of (at_place p es)
 at-place p [] = refl
@@ -80,7 +80,7 @@ comes-trees order (k ∷ ks) (x ∷ hs) h = (both_first (is_tree x.1) (are_trees
 
 change-trees : (x : PlaceChange) → IsWritable x → AllAt IsOfTree (comes_in x)
 change-trees (Leaf s) h = tt
-change-trees (Children s) h = comes-trees (path_view s.order.after.items) s.come.places.items s.held.items h.trees
+change-trees (Children s) h = comes-trees (path_view s.value.order.after.items) s.value.come.places.items s.value.held.items h.trees
 
 place-trees : (p : Path) (es ds : List (Path × Coming)) → AllAt IsOfTree es → AllAt IsOfTree ds → AllAt IsOfTree (at_place p es ++ ds)
 place-trees p [] ds h g = g

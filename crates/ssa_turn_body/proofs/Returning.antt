@@ -22,7 +22,7 @@ change-back : (s t : PlaceChange) (x y : Place) → ChangeFits s x → ChangeGiv
 change-back (Leaf s) (Leaf t) x y h g = leaf-back s t x y h g
 change-back (Leaf s) (Children t) x y h g = absurd g
 change-back (Children s) (Leaf t) x y h g = absurd g
-change-back (Children s) (Children t) x y h g = edit-back s t x y h g
+change-back (Children s) (Children t) x y h g = edit-back s.value t.value x y h g
 
 change-again : (s t u : PlaceChange) (x y z : Place) → ChangeFits s x → ChangeGives s x t y → ChangeGives t y u z → (z ≡ x) × (change_steps u ≡ change_steps s)
 change-again (Leaf s) (Leaf t) (Leaf u) x y z h g k = let a = leaf-again s t u x y z h g k in (a.0, ap leaf_change a.1)
@@ -30,7 +30,7 @@ change-again (Leaf s) (Leaf t) (Children u) x y z h g k = absurd k
 change-again (Leaf s) (Children t) u x y z h g k = absurd g
 change-again (Children s) (Leaf t) u x y z h g k = absurd g
 change-again (Children s) (Children t) (Leaf u) x y z h g k = absurd k
-change-again (Children s) (Children t) (Children u) x y z h g k = let a = edit-again s t u x y z h g k in (a.0, ap children_change a.1)
+change-again (Children s) (Children t) (Children u) x y z h g k = let a = edit-again s.value t.value u.value x y z h g k in (a.0, ap children_change a.1)
 
 -- two trees tell the same at each path
 abbrev pub SameMarks : Node → Node → Type 0

@@ -113,8 +113,8 @@ leaf-once p q (Children s) h = omega arith
 order-once : (p q : Path) (c : PlaceChange) → ChangeNamesOnce c → entries_at q (at_place p (orders_in c)) ≤ one_if (same_path q p)
 order-once p q (Leaf s) h = omega arith
 order-once p q (Children s) h =
-    let after = path_view s.order.after.items in
-    elim (are_some_items (path_view s.order.before.items) && are_some_items after) as (λ b.
+    let after = path_view s.value.order.after.items in
+    elim (are_some_items (path_view s.value.order.before.items) && are_some_items after) as (λ b.
     entries_at q (at_place p (if b then ([], after) ∷ [] else [])) ≤ one_if (same_path q p)) [
       | true ↦ one-root p q after
       | false ↦ omega arith
@@ -168,15 +168,15 @@ named-once p q (e ∷ es) h =
 cut-once : (p q : Path) (c : PlaceChange) → ChangeNamesOnce c → entries_at q (at_place p (cuts_in c)) ≤ one_if (same_path (parent q) p)
 cut-once p q (Leaf s) h = omega arith
 cut-once p q (Children s) h =
-    let same = cuts-at p q (named_in s.gone) in
-    let once = named-once p q (named_in s.gone) h.gone in
+    let same = cuts-at p q (named_in s.value.gone) in
+    let once = named-once p q (named_in s.value.gone) h.gone in
     omega arith
 
 part-once : (p q : Path) (c : PlaceChange) → ChangeNamesOnce c → entries_at q (at_place p (parts_in c)) ≤ one_if (same_path (parent q) p)
 part-once p q (Leaf s) h = omega arith
 part-once p q (Children s) h =
-    let same = parts-at p q (path_view s.order.after.items) s.come.places.items s.held.items h.held in
-    let once = named-once p q (elements s.held.items) h.come in
+    let same = parts-at p q (path_view s.value.order.after.items) s.value.come.places.items s.value.held.items h.held in
+    let once = named-once p q (elements s.value.held.items) h.come in
     omega arith
 
 -- ---- what one change says
@@ -201,9 +201,9 @@ change-total : (c : PlaceChange) → ChangeNamesOnce c
     + (total (λ e. 1) (cuts_in c) + (total (λ e. 1) (leaves_in c) + total (λ e. length e.1) (orders_in c))) ≡ change_size c
 change-total (Leaf s) h = omega arith
 change-total (Children s) h =
-    let parts = total-parts (path_view s.order.after.items) s.come.places.items s.held.items h.held h.trees in
-    let trees = sum-total (λ (x : Child). length (rows x.1)) s.held.items in
-    let cuts = total-cuts (named_in s.gone) in
+    let parts = total-parts (path_view s.value.order.after.items) s.value.come.places.items s.value.held.items h.held h.trees in
+    let trees = sum-total (λ (x : Child). length (rows x.1)) s.value.held.items in
+    let cuts = total-cuts (named_in s.value.gone) in
     let order = sum-total (λ (e : Path × List Element). length e.1) (orders_in (Children s)) in
     omega arith
 

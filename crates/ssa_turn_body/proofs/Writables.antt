@@ -37,7 +37,7 @@ fit-writable (Leaf s) v h = tt
 fit-writable (Children s) v h = record {
   trees = h.trees;
   each = h.held;
-  small = places-small s.gone.places.items s.come.places.items (length s.held.items + length (staying s v.1)) (vec_capacity s.room) h.come h.room s.room.small;
+  small = places-small s.value.gone.places.items s.value.come.places.items (length s.value.held.items + length (staying s.value v.1)) (vec_capacity s.value.room) h.come h.room s.value.room.small;
 }
 
 fit-in : (x : PlaceChange) (o : Option Node) → FitsIn (λ n. ChangeFits x (seen n)) o → IsWritable x

@@ -26,7 +26,7 @@ pub record EditIsCopied (s c : ChildrenEdit) : Type 0 where
 
 abbrev pub ChangeIsCopied : PlaceChange → PlaceChange → Type 0
 ChangeIsCopied (Leaf s) (Leaf c) = leaf_steps c ≡ leaf_steps s
-ChangeIsCopied (Children s) (Children c) = EditIsCopied s c
+ChangeIsCopied (Children s) (Children c) = EditIsCopied s.value c.value
 ChangeIsCopied _ _ = ⊥
 
 pub record StepIsCopied (s c : Step) : Type 0 where

@@ -25,7 +25,7 @@ pub record NamesOnce (s : ChildrenEdit) : Type 0 where
 
 abbrev pub ChangeNamesOnce : PlaceChange → Type 0
 ChangeNamesOnce (Leaf s) = Unit {0}
-ChangeNamesOnce (Children s) = NamesOnce s
+ChangeNamesOnce (Children s) = NamesOnce s.value
 
 abbrev pub AllNameOnce : List Step → Type 0
 AllNameOnce [] = Unit {0}

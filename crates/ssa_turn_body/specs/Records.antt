@@ -25,7 +25,7 @@ leaves_in (Children s) = []
 -- the children that go
 abbrev pub cuts_in : PlaceChange → List (Path × Unit {0})
 cuts_in (Leaf s) = []
-cuts_in (Children s) = map (λ e. (e ∷ [], tt)) (named_in s.gone)
+cuts_in (Children s) = map (λ e. (e ∷ [], tt)) (named_in s.value.gone)
 
 -- the items of a list, and not none
 abbrev pub are_some_items : List Element → Bool
@@ -38,7 +38,7 @@ told_order before after = if are_some_items before && are_some_items after then 
 -- the items in their order afterwards, where they are exchanged
 abbrev pub orders_in : PlaceChange → List (Path × List Element)
 orders_in (Leaf s) = []
-orders_in (Children s) = told_order (path_view s.order.before.items) (path_view s.order.after.items)
+orders_in (Children s) = told_order (path_view s.value.order.before.items) (path_view s.value.order.after.items)
 
 -- where an item that comes stands afterwards: as it came in, or in the order that is told
 abbrev pub place_after : List Element → Element → ℕ → Option ℕ
@@ -53,7 +53,7 @@ parts_of order (k ∷ ks) (h ∷ hs) =
 -- the children that come
 abbrev pub parts_in : PlaceChange → List (Path × Part)
 parts_in (Leaf s) = []
-parts_in (Children s) = parts_of (path_view s.order.after.items) s.come.places.items s.held.items
+parts_in (Children s) = parts_of (path_view s.value.order.after.items) s.value.come.places.items s.value.held.items
 
 -- ---- changes at many places, by whole paths
 

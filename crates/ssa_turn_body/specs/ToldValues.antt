@@ -57,7 +57,7 @@ comes_of order (k ∷ ks) (h ∷ hs) = coming_at order k h ∷ comes_of order ks
 
 abbrev pub comes_in : PlaceChange → List (Path × Coming)
 comes_in (Leaf s) = []
-comes_in (Children s) = comes_of (path_view s.order.after.items) s.come.places.items s.held.items
+comes_in (Children s) = comes_of (path_view s.value.order.after.items) s.value.come.places.items s.value.held.items
 
 abbrev pub coming_json : Path × Coming → Json
 coming_json e = list (item (path_json e.0) (item (value_of e.1.0) (place_items e.1.1)))

@@ -15,7 +15,7 @@ pub record IsWritableEdit (s : ChildrenEdit) : Type 0 where
 
 abbrev pub IsWritable : PlaceChange → Type 0
 IsWritable (Leaf s) = Unit {0}
-IsWritable (Children s) = IsWritableEdit s
+IsWritable (Children s) = IsWritableEdit s.value
 
 abbrev pub AreWritable : List Step → Type 0
 AreWritable [] = Unit {0}

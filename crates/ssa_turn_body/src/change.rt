@@ -3,11 +3,11 @@ use crate::children::{ChildrenEdit, LeafSwap};
 use crate::descent::Change;
 use ssa_typed::node::Node;
 
-/// A change of one place.
+/// A change of one place. Most are of a leaf, which is much smaller than an edit of children, so that is kept apart.
 #[derive(Drop)]
 pub enum PlaceChange {
     Leaf(LeafSwap),
-    Children(ChildrenEdit),
+    Children(Box<ChildrenEdit>),
 }
 
 impl Change for PlaceChange {

@@ -93,7 +93,7 @@ fn copy_change(alloc: Global, change: &PlaceChange) -> Result<PlaceChange, Alloc
         }
         PlaceChange::Children(edit) => {
             let copied = copy_edit(alloc, edit)?;
-            Ok(PlaceChange::Children(copied))
+            Ok(PlaceChange::Children(Box::new(alloc, copied)?))
         }
     }
 }

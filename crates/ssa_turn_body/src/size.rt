@@ -1,13 +1,11 @@
 //! How much the record of a body holds, counted in its steps.
-ghost use Rattle.std.specs.Prelude.{◌≡◌, ◌+◌, ◌-◌, ◌^◌, length, min};
-ghost use Rattle.std.specs.List.{sum_by};
+ghost use Rattle.std.specs.Prelude.{◌≡◌, ◌-◌, ◌^◌, min};
 ghost use Rattle.ssa_model.specs.definitions.Body.{Body};
 ghost use Rattle.ssa_model.specs.definitions.Facts.{body_size};
 ghost use Rattle.ssa_path.specs.View.{path_view};
-ghost use Rattle.ssa_turn_body.specs.Edits.{named_in};
-ghost use Rattle.ssa_turn_body.specs.Records.{are_some_items, body_told, told_order};
+ghost use Rattle.ssa_turn_body.specs.Records.{are_some_items, body_told};
 ghost use Rattle.ssa_turn_body.specs.Rooms.{HasBodyRoom};
-ghost use Rattle.ssa_turn_body.specs.Sizes.{change_size, steps_size, trees_size};
+ghost use Rattle.ssa_turn_body.specs.Sizes.{change_size, edit_size, order_size, steps_size, trees_size};
 
 use crate::change::PlaceChange;
 use crate::children::{ChildrenEdit, Orders};
@@ -27,7 +25,7 @@ fn are_some_items(elements: &[Elem]) -> bool
 
 // How many items are told in their order.
 fn order_size(order: &Orders) -> usize
-    ensures { result ≡ sum_by (λ e. length e.1) (told_order (path_view order.now.before.items) (path_view order.now.after.items)) }
+    ensures { result ≡ order_size order.now }
 {
     if are_some_items(&order.before) && are_some_items(&order.after) {
         order.after.len()
@@ -49,7 +47,7 @@ fn trees_size(held: &[(Elem, Node)]) -> usize
 
 // What the edit of a place says.
 fn edit_size(edit: &ChildrenEdit) -> usize
-    ensures { result ≡ min (change_size (PlaceChange.Children edit.now)) (2 ^ 64 - 1) }
+    ensures { result ≡ min (edit_size edit.now) (2 ^ 64 - 1) }
 {
     let gone = edit.gone.elements.len();
     let order = order_size(&edit.order);

@@ -88,10 +88,10 @@ fn push_leaf(
 fn push_edit(
     alloc: Global,
     way: &[&Elem],
-    edit: ChildrenEdit,
+    edit: Box<ChildrenEdit>,
     steps: &mut Vec<Step>,
 ) -> Result<(), AllocError>
-    ensures { OnOk result (MayAdd (is_idle edit) (way_view way.now) (PlaceChange.Children edit) steps.old.items steps.new.items) }
+    ensures { OnOk result (MayAdd (is_idle edit.value) (way_view way.now) (PlaceChange.Children edit) steps.old.items steps.new.items) }
 {
     if edit.before.is_empty() && edit.gone.places.is_empty() && edit.come.places.is_empty() {
         return Ok(());
@@ -201,7 +201,8 @@ fn walk_edit<'a>(
         i += 1;
     }
     edit.held = held;
-    push_edit(alloc, way, edit, steps)?;
+    let boxed = Box::new(alloc, edit)?;
+    push_edit(alloc, way, boxed, steps)?;
     Ok(())
 }
 

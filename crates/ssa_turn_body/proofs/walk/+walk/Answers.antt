@@ -1,6 +1,7 @@
 use Rattle.std.proofs.Common.{◌≡◌, true, zero-add, ◌+◌, ◌*◌, ◌<◌, ◌≤◌, ◌∷◌, ◌++◌, [], length, drop, Some, None, Vec, Global, refl, ap, sym, subst, ◌∙◌, arith, rules}
 use Rattle.std.proofs.lemmas.List.{drop-set-lt, map-append, nil_from_length}
 use Rattle.std.specs.Vec.Iter.{into_iter_items}
+use Rattle.std.specs.Box.{with_value}
 use Rattle.ssa_model.specs.definitions.Body.{is_leaf}
 use Rattle.ssa_path.specs.Children.{elements}
 use Rattle.ssa_path.specs.Listing.{way_view}
@@ -15,6 +16,7 @@ use Rattle.ssa_turn_body.specs.Between.{IsEditBetween}
 use Rattle.ssa_turn_body.specs.Found.{AreFound}
 use Rattle.ssa_turn_body.specs.Told.{from_place}
 use Rattle.ssa_turn_body.specs.declared.change.PlaceChange.TheVariants.{Children}
+use Rattle.ssa_turn_body.specs.declared.children.ChildrenEdit.{ChildrenEdit}
 use Rattle.ssa_turn_body.specs.declared.steps.Step.{Step}
 use Rattle.std.specs.Borrow.{Bor}
 use Rattle.ssa_path.specs.declared.element.Elem.{Elem}
@@ -247,16 +249,21 @@ walk_edit-returns-clause-led t c =
     subst (λ xs. IsEditBetween xs ds fs s) c.children.ensures.own
     (subst (λ xs. IsEditBetween c.children.result.now xs fs s) c.deref-2.ensures.value
     (subst (λ gs. IsEditBetween c.children.result.now c.deref-2.result.now gs s) c.deref-3.ensures.value c.in_ok-edit.ensures)) in
+    let made : ChildrenEdit = record s { held = l.held } in
+    let room = c.in_ok-boxed.boxed in
+    let is : room.value ≡ made = c.in_ok-boxed.ensures.ok in
     let added =
-    subst (λ q. MayAdd (is_idle s) q (Children (record s { held = l.held })) l.steps.items c.push_edit.new.steps.items)
-    (ap way_view (c.deref-4.ensures.value ∙ l.invariant.way)) c.in_ok-push_edit.ensures in
+    subst (λ q. MayAdd (is_idle s) q (Children (with_value room made)) l.steps.items c.push_edit.new.steps.items)
+    (ap way_view (c.deref-4.ensures.value ∙ l.invariant.way))
+    (subst (λ x. MayAdd (is_idle x) (way_view c.deref-4.result.now) (Children (with_value room x)) l.steps.items c.push_edit.new.steps.items) is
+    c.in_ok-push_edit.ensures) in
     let last =
     finish o cs ds fs s between l.held ((level-below n).apart c.requires.from) apart found end.0 c.requires.to
-    (own-stands n (elements ds) c.requires.from c.requires.stand) c.requires.stand (own-order n c.requires.from) p l.steps.items c.push_edit.new.steps.items
+    (own-stands n (elements ds) c.requires.from c.requires.stand) c.requires.stand (own-order n c.requires.from) room p l.steps.items c.push_edit.new.steps.items
     added in
     leading-from p (marks n) (led o cs []) _ old c.push_edit.new.steps.items (led-start n)
     (leading-then p (led o cs []) (led o cs ds) _ old l.steps.items c.push_edit.new.steps.items (joins-final o cs ds) end.1 last
-    (once-last (is_idle s) p (Children (record s { held = l.held })) old l.steps.items c.push_edit.new.steps.items end.2 end.1.once.places added
+    (once-last (is_idle s) p (Children (with_value room made)) old l.steps.items c.push_edit.new.steps.items end.2 end.1.once.places added
     last.once.places))
 
 -- ---- the children of a place
