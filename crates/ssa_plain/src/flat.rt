@@ -8,7 +8,6 @@ use ssa_path::element::Elem;
 use ssa_path::keys::Keys;
 use ssa_schema::kind::{Kind, find_field};
 use std::alloc::{AllocError, Global};
-use std::collections::BTreeMap;
 
 /// The body of a fitting object: each of its places with its content.
 ///
@@ -44,7 +43,7 @@ fn is_bare(metadata: &Json) -> bool {
 fn add_root_members(
     alloc: Global,
     members: &Members<Json>,
-    fields: &BTreeMap<String, Kind>,
+    fields: &Members<Kind>,
     rows: &mut Vec<Row>,
 ) -> Result<(), AllocError> {
     for (name, member) in members.entries() {
@@ -182,7 +181,7 @@ fn add_field(
     alloc: Global,
     value: &Json,
     name: &str,
-    fields: &BTreeMap<String, Kind>,
+    fields: &Members<Kind>,
     place: &[Text],
     rows: &mut Vec<Row>,
 ) -> Result<(), AllocError> {
@@ -200,7 +199,7 @@ fn add_field(
 fn add_fields(
     alloc: Global,
     members: &Members<Json>,
-    fields: &BTreeMap<String, Kind>,
+    fields: &Members<Kind>,
     place: &[Text],
     rows: &mut Vec<Row>,
 ) -> Result<(), AllocError> {
@@ -232,7 +231,7 @@ fn add_items(
     alloc: Global,
     items: &Vec<Json>,
     keys: &[String],
-    fields: &BTreeMap<String, Kind>,
+    fields: &Members<Kind>,
     place: &[Text],
     rows: &mut Vec<Row>,
 ) -> Result<(), AllocError> {
@@ -248,7 +247,7 @@ fn add_item(
     alloc: Global,
     item: &Json,
     keys: &[String],
-    fields: &BTreeMap<String, Kind>,
+    fields: &Members<Kind>,
     place: &[Text],
     rows: &mut Vec<Row>,
 ) -> Result<(), AllocError> {

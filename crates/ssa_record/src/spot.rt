@@ -3,12 +3,11 @@ ghost use Rattle.std.specs.Prelude.{IfSome};
 ghost use Rattle.ssa_record.specs.Spots.{IsOnlyChild};
 
 use ssa_json::value::Scalar;
-use ssa_members::SmallText;
+use ssa_members::{Members, SmallText};
 use ssa_path::element::Elem;
 use ssa_path::trie::Trie;
 use ssa_schema::kind::Kind;
 use ssa_typed::node::Node;
-use std::collections::BTreeMap;
 
 /// A place of a body at which the schema has a kind, with what is touched at and below it.
 #[derive(Drop)]
@@ -24,7 +23,7 @@ pub struct Item<'a> {
     pub touched: &'a Trie,
     pub node: &'a Node,
     pub keys: &'a [(SmallText, Scalar)],
-    pub fields: &'a BTreeMap<String, Kind>,
+    pub fields: &'a Members<Kind>,
 }
 
 /// The only child of a place that isn't touched itself.

@@ -1,8 +1,8 @@
 -- Trees of values of each kind.
-use Rattle.std.proofs.Common.{◌≡◌, List, [], ◌∷◌, ◌++◌, Bool, true, false, Box, String, Global, string_bytes, nat_cmp, refl, sym, ap, ◌∙◌, subst₂, append-nil, true≢false, rules, is_some}
+use Rattle.std.proofs.Common.{◌≡◌, ℕ, ◌≤◌, List, [], ◌∷◌, ◌++◌, Bool, true, false, cond, Box, String, Global, string_bytes, nat_cmp, refl, sym, ap, ◌∙◌, subst, subst₂, arith, append-nil, true≢false, rules, is_some}
 use Rattle.std.specs.Prelude.{Option, None, Some, if◌then◌else◌, option_map}
 use Rattle.std.specs.Borrow.{Bor}
-use Rattle.std.specs.Map.{lookup}
+use Rattle.std.specs.Map.{lookup, values_of}
 use Rattle.std.specs.BTreeMap.{is_at}
 use Rattle.std.specs.Cmp.Lexicographic.{slice_cmp}
 pub use Rattle.ssa_schema.proofs.Kinding.{kind_view-ItemsOf}
@@ -26,6 +26,7 @@ use Rattle.ssa_typed.proofs.Building.{Child}
 use Rattle.ssa_typed.proofs.Fitting.{values-apart, items-apart}
 use Rattle.ssa_typed.proofs.Levels.{Children, own-Branch, own-Dict, own-List, tree-Branch, tree-Dict, tree-List, level-Branch, level-Dict, level-List}
 use Rattle.ssa_model.proofs.Basics.{both-true as both}
+use denote.Param.Weighed.{most}
 
 -- ---- kinds
 
@@ -53,6 +54,17 @@ pub field-found : (r : Option (Bor kind.Kind)) (n : Text) (es : List (String Glo
     → option_map (λ k. k.now) r ≡ lookup (is_at (λ k. slice_cmp nat_cmp n (string_bytes k))) es
     → option_map (λ k. kind_view k.now) r ≡ model.kind_of n (fields_view es)
 field-found r n es e = view_of_ref kind_view r ∙ ap (option_map kind_view) e ∙ fields-lookup n es
+
+-- what is found under a name is no deeper than the deepest of the values
+pub found-within-deepest : {X : Type 0} (f : X → ℕ) (t : String Global → Bool) (es : List (String Global × X)) (x : X) → lookup t es ≡ Some x → f x ≤ most f (values_of es)
+found-within-deepest f t [] x h = absurd (true≢false (sym (ap is_some h)))
+found-within-deepest {X} f t (e ∷ es) x h = by (t e.0) h (found-within-deepest f t es x)
+  where
+    by : (b : Bool) → ◌≡◌ {A = Option X} (cond b (Some e.1) (lookup t es)) (Some x) → (lookup t es ≡ Some x → f x ≤ most f (values_of es)) → f x ≤ most f (values_of (e ∷ es))
+    by true here rest =
+        let same : e.1 ≡ x = ap (λ (o : Option X). elim o [ None ↦ e.1 | Some y ↦ y ]) here in
+        subst (λ y. f y ≤ most f (values_of (e ∷ es))) same (omega arith)
+    by false behind rest = let deep = rest behind in omega (arith, deep)
 
 -- the kind that a name has is one
 known : Option model.Kind → model.Kind → model.Kind

@@ -16,7 +16,6 @@ use ssa_members::{Members, Name};
 use ssa_path::element::Elem;
 use ssa_schema::kind::{Kind, ScalarKind};
 use std::alloc::{AllocError, Global};
-use std::collections::BTreeMap;
 
 // An item of a set, under its value.
 fn value_child(alloc: Global, item: Json) -> Result<(Elem, Node), AllocError>
@@ -78,7 +77,7 @@ pub fn tree_of(alloc: Global, kind: &Kind, value: Json) -> Result<Node, AllocErr
 #[cycle(build)]
 fn field_child(
     alloc: Global,
-    fields: &BTreeMap<String, Kind>,
+    fields: &Members<Kind>,
     name: Name,
     member: Json,
 ) -> Result<(Elem, Node), AllocError>
@@ -99,7 +98,7 @@ fn field_child(
 #[cycle(build)]
 pub fn field_children(
     alloc: Global,
-    fields: &BTreeMap<String, Kind>,
+    fields: &Members<Kind>,
     members: Members<Json>,
 ) -> Result<Vec<(Elem, Node)>, AllocError>
     requires keyed { are_keyed (fields_view fields.now.entries) ≡ true }
@@ -136,7 +135,7 @@ fn entry_children(
 #[cycle(build)]
 fn item_child(
     alloc: Global,
-    fields: &BTreeMap<String, Kind>,
+    fields: &Members<Kind>,
     keys: &[String],
     item: Json,
 ) -> Result<(Elem, Node), AllocError>
@@ -155,7 +154,7 @@ fn item_child(
 #[cycle(build)]
 fn item_children(
     alloc: Global,
-    fields: &BTreeMap<String, Kind>,
+    fields: &Members<Kind>,
     keys: &[String],
     items: Vec<Json>,
 ) -> Result<Vec<(Elem, Node)>, AllocError>

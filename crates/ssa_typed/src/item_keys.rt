@@ -12,13 +12,12 @@ use ssa_path::keys::Keys;
 use ssa_schema::key_fields::key_members;
 use ssa_schema::kind::Kind;
 use std::alloc::{AllocError, Global};
-use std::collections::BTreeMap;
 
 /// The key fields of an item that has them.
 pub fn keys_of(
     alloc: Global,
     names: &[String],
-    fields: &BTreeMap<String, Kind>,
+    fields: &Members<Kind>,
     members: &Members<Json>,
 ) -> Result<Keys, AllocError>
     requires names { are_key_names (names_view names.now) ≡ true }

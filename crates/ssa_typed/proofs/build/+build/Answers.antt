@@ -1,5 +1,7 @@
-use Rattle.std.proofs.Common.{◌≡◌, [], ◌∷◌, ◌++◌, Some, option_map, string_bytes, refl, sym, ap, ◌∙◌, subst, subst₂, append_assoc, append-nil, rules, arith}
+use Rattle.std.proofs.Common.{◌≡◌, [], ◌∷◌, ◌++◌, Some, option_map, string_bytes, nat_cmp, refl, sym, ap, ◌∙◌, subst, subst₂, append_assoc, append-nil, rules, arith}
 use Rattle.std.proofs.lemmas.List.{map-append, nil_from_length}
+use Rattle.std.specs.BTreeMap.{is_at}
+use Rattle.std.specs.Cmp.Lexicographic.{slice_cmp}
 use Rattle.std.specs.Vec.Iter.{into_iter_items}
 use Rattle.ssa_model.specs.definitions.Json as values
 use Rattle.ssa_model.specs.definitions.Path.{field}
@@ -12,13 +14,14 @@ use Rattle.ssa_schema.specs.Kinds.{kind_view, fields_view, names_view, scalar_ki
 use Rattle.ssa_model.specs.definitions.Lawful.{is_keyed, are_key_names}
 use Rattle.ssa_schema.specs.declared.kind.Kind as kind
 use Rattle.ssa_schema.proofs.Kinding.{kind_view-Record}
+use Rattle.ssa_schema.proofs.kind.Kind.TheLaws.{the_size}
 use Rattle.ssa_path.proofs.Orders.{both_first, both_second}
 use Rattle.ssa_path.specs.declared.element.Elem.TheVariants.{Field}
 use Rattle.ssa_model.specs.laws.Faultless.{Fits, EntriesFit, FieldsFit}
 use Rattle.ssa_typed.specs.Flats.{member_places}
 use Rattle.ssa_typed.proofs.Building.{listing-step, naming-none, naming-step, naming-end}
 use Rattle.ssa_model.proofs.FaultlessParts.{ItemsFitAfter, member-first, member-rest, entry-first, entry-rest, item-first, item-rest}
-use Rattle.ssa_typed.proofs.Trees.{kind_view-Dict, kind_view-SetOf, kind_view-ItemsOf, keyed-at, field-found, known-is, known-there, known-places, member-places, record-placed, record-tree, record-made, dict-made, set-made, items-made}
+use Rattle.ssa_typed.proofs.Trees.{found-within-deepest, kind_view-Dict, kind_view-SetOf, kind_view-ItemsOf, keyed-at, field-found, known-is, known-there, known-places, member-places, record-placed, record-tree, record-made, dict-made, set-made, items-made}
 use Rattle.ssa_typed.proofs.build.+build.Goals as goal
 
 pub entry_children-tree_of-requires : goal.entry_children-tree_of-requires
@@ -78,8 +81,10 @@ field_child-tree_of-requires t c =
     let found : model.kind_of n fs ≡ Some k =
     ap (λ m. model.kind_of m fs) (sym c.as_str.ensures.value)
     ∙ sym (field-found c.get.result c.as_str.result.now c.args.fields.now.entries c.get.ensures.value)
-    ∙ ap (option_map (λ k. kind_view k.now)) c.in-Some.is in (
-      search (rules, kind.the_lemmas),
+    ∙ ap (option_map (λ k. kind_view k.now)) c.in-Some.is in
+    let there = sym c.get.ensures.value ∙ ap (option_map (λ k. k.now)) c.in-Some.is in
+    let deep = found-within-deepest the_size (is_at (λ m. slice_cmp nat_cmp c.as_str.result.now (string_bytes m))) c.args.fields.now.entries c.in-Some.kind.now there in (
+      omega (arith, deep),
       (
         keyed-at n fs k c.requires.keyed found,
         subst (λ j. Fits j (view c.args.member)) (known-is n fs fit.0 k fit.1.0 found) fit.1.1,
