@@ -37,6 +37,8 @@ pub enum AskedBeside {
     Over,
     /// Whether the two are the same.
     Same,
+    /// Whether some path is in both.
+    Meets,
     /// What it has alone, and what the other has alone.
     Parted,
 }
@@ -68,6 +70,7 @@ fn told_beside(
             let told = if own.is_same(other) { "same" } else { "other" };
             Ok(String::from_str(alloc, told)?)
         }
+        AskedBeside::Meets => truth(alloc, own.meets(other)),
         AskedBeside::Parted => parted(alloc, own, other),
     }
 }
@@ -117,13 +120,28 @@ const KEYLESS: [(&str, &str); 2] = [
     ),
 ];
 
-const SAME: [(&str, &str, &str); 6] = [
+const SAME: [(&str, &str, &str); 8] = [
     (OWNED, OWNED, "same"),
     ("", "", "same"),
     ("/ f:a f:b", "f:a f:b", "other"),
     ("f:a f:b", "/ f:a f:b", "other"),
     ("f:a", "f:b", "other"),
     ("f:a", "f:a/f:b", "other"),
+    ("f:a f:b", "f:a", "other"),
+    ("f:a/f:b", "f:a/f:b f:c", "other"),
+];
+
+// Whether some path is in both of two sets: a beginning of one is none of a set's paths.
+const MEETS: [(&str, &str, &str); 9] = [
+    (OWNED, "f:a f:status", "true"),
+    (OWNED, r#"f:spec/f:ports/k:{"port":80}/f:name"#, "true"),
+    (OWNED, r#"f:spec/f:ports/k:{"port":81}/f:name"#, "false"),
+    (OWNED, "f:spec/f:ports f:status/f:phase", "false"),
+    ("/ f:a", "/ f:b", "true"),
+    ("/ f:a", "f:b", "false"),
+    ("f:a f:b/f:c", "f:a/f:c f:b/f:c", "true"),
+    ("", "/", "false"),
+    ("", "", "false"),
 ];
 
 // A set that has paths of the first, and others under the same places, beside them and below them.
@@ -159,7 +177,8 @@ fn sets_stand_beside_others(rt: HostRuntime) -> Result<(), Fail> {
         &QuestionOfTwo::Sets(AskedBeside::Parted),
         &PARTED,
     )?;
-    are_told_of_two(rt.alloc(), &QuestionOfTwo::Sets(AskedBeside::Same), &SAME)
+    are_told_of_two(rt.alloc(), &QuestionOfTwo::Sets(AskedBeside::Same), &SAME)?;
+    are_told_of_two(rt.alloc(), &QuestionOfTwo::Sets(AskedBeside::Meets), &MEETS)
 }
 
 // The paths of a set in which `f:data` is put too.

@@ -207,7 +207,12 @@ fn are_parts(
 fn do_minus_and_meet_agree(alloc: Global, sets: &Sets) -> Result<bool, Fail> {
     let minus = sets.set.minus(alloc, &sets.other)?;
     let meet = sets.set.meet(alloc, &sets.other)?;
-    Ok(meet.is_within(&sets.other) && are_parts(alloc, sets, &meet, &minus, false)?)
+    let do_meet = sets.set.meets(&sets.other);
+    Ok(
+        do_meet != meet.is_empty()
+            && meet.is_within(&sets.other)
+            && are_parts(alloc, sets, &meet, &minus, false)?,
+    )
 }
 
 fn do_parts_apart_agree(alloc: Global, sets: &Sets) -> Result<bool, Fail> {
