@@ -57,9 +57,7 @@ fn is_unchanged(entry: &Entry, set: &FieldSet, at: Moment) -> bool
     entry.set.is_same(set) && is_same_moment(entry.at, at)
 }
 
-// The change of an entry whose manager owns these paths then, with this moment. It is rare beside losses, and holds much on the
-// stack, which is cleared wherever it is inlined.
-#[inline(never)]
+// The change of an entry whose manager owns these paths then, with this moment.
 pub(crate) fn change_to(
     alloc: Global,
     entry: &Entry,

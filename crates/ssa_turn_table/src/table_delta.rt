@@ -21,6 +21,7 @@ use ssa_json::moment::Moment;
 use ssa_merge::manager::ManagerKey;
 use ssa_merge::managers::Entry;
 use ssa_merge::table_change::{self, TableChange, count_kept};
+use ssa_path::field_set::FieldSet;
 use ssa_path::shared_set::SharedSet;
 use ssa_path::trie::Trie;
 use ssa_turn_set::kept_paths::KeptPaths;
@@ -54,8 +55,7 @@ fn set_stays(alloc: Global) -> SetDelta
     }
 }
 
-// The change of an entry whose set stays. It is rare, and apart for the sake of the stack, as `change_to`.
-#[inline(never)]
+// The change of an entry whose set stays.
 fn renewed(alloc: Global, entry: &Entry, at: Moment) -> Result<Option<EntryChange>, AllocError>
     ensures change { IfOk result (λ c. option_map change_view c ≡ change_of (entry_view entry.now) (Some (owning (entry_view entry.now) entry.now.set at))) }
     ensures room { IfOk result (λ c. IfSome c (λ d. HasRoom d.set entry.now.set)) }
@@ -114,6 +114,36 @@ fn push_made(made: Option<EntryChange>, changed: &mut Vec<EntryChange>) -> Resul
     Ok(())
 }
 
+// Puts the change of an entry whose set stays behind others, where there is one. It is rare beside losses, and apart from them: what
+// it holds on the stack is cleared wherever it is inlined.
+#[inline(never)]
+fn push_renewed(
+    alloc: Global,
+    entry: &Entry,
+    at: Moment,
+    changed: &mut Vec<EntryChange>,
+) -> Result<(), AllocError>
+    ensures { OnOk result (IsPutBehind entry.now.set (change_of (entry_view entry.now) (Some (owning (entry_view entry.now) entry.now.set at))) changed.old.items changed.new.items) }
+{
+    let made = renewed(alloc, entry, at)?;
+    push_made(made, changed)
+}
+
+// Puts the change of an entry whose manager owns these paths then behind others, where there is one, apart as well.
+#[inline(never)]
+fn push_owning(
+    alloc: Global,
+    entry: &Entry,
+    set: &FieldSet,
+    at: Moment,
+    changed: &mut Vec<EntryChange>,
+) -> Result<(), AllocError>
+    ensures { OnOk result (IsPutBehind entry.now.set (change_of (entry_view entry.now) (Some (owning (entry_view entry.now) set.now at))) changed.old.items changed.new.items) }
+{
+    let made = change_to(alloc, entry, set, at)?;
+    push_made(made, changed)
+}
+
 // Puts the change of an entry by what becomes of it behind others, where there is one.
 fn push_change_by(
     alloc: Global,
@@ -126,17 +156,11 @@ fn push_change_by(
     match change {
         table_change::EntryChange::Stays => Ok(()),
         table_change::EntryChange::Leaves => Ok(()),
-        table_change::EntryChange::Renewed(at) => {
-            let made = renewed(alloc, entry, *at)?;
-            push_made(made, changed)
-        }
+        table_change::EntryChange::Renewed(at) => push_renewed(alloc, entry, *at, changed),
         table_change::EntryChange::Loses(lost, at) => {
             push_losing(alloc, entry, lost.share()?, *at, changed)
         }
-        table_change::EntryChange::Owns(set, at) => {
-            let made = change_to(alloc, entry, set, *at)?;
-            push_made(made, changed)
-        }
+        table_change::EntryChange::Owns(set, at) => push_owning(alloc, entry, set, *at, changed),
     }
 }
 

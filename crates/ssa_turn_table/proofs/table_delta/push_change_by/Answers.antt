@@ -1,6 +1,5 @@
 use Rattle.std.proofs.Common.{Option, Some, None, ap, sym, ◌∙◌, subst}
 use Rattle.std.proofs.lemmas.List.{append-nil}
-use Rattle.std.proofs.lemmas.Result.{on_ok_weaker}
 use Rattle.std.specs.Prelude.{OnOk}
 use Rattle.ssa_model.specs.definitions.PathMap.{minus}
 use Rattle.ssa_model.specs.definitions.Record.{Change, change_of}
@@ -20,27 +19,17 @@ returns-in-Stays c =
       room = tt;
     }
 
-pub returns-in_ok-made-in-Renewed : goal.returns-in_ok-made-in-Renewed
-returns-in_ok-made-in-Renewed c =
+pub returns-in-Renewed : goal.returns-in-Renewed
+returns-in-Renewed c =
     let e = entry_view c.args.entry.now in
-    let by = sym (lone-owning e e.owned c.in-Renewed.at) ∙ ap (λ f. change_in (changed_entry f e) e) (sym c.in-Renewed.is) in
-    on_ok_weaker c.push_made.result (λ behind. record {
-      made = c.in_ok-made-in-Renewed.made;
-      behind = behind;
-      tells = c.in_ok-made-in-Renewed.ensures.change ∙ by;
-      room = c.in_ok-made-in-Renewed.ensures.room;
-    }) c.push_made.ensures
+    let put : Option Change → Type 0 = λ told. OnOk c.push_renewed.result (IsPutBehind e.owned told c.args.changed.now.items c.push_renewed.new.changed.items) in
+    subst put (sym (lone-owning e e.owned c.in-Renewed.at) ∙ ap (λ f. change_in (changed_entry f e) e) (sym c.in-Renewed.is)) c.push_renewed.ensures
 
-pub returns-in_ok-made-in-Owns : goal.returns-in_ok-made-in-Owns
-returns-in_ok-made-in-Owns c =
+pub returns-in-Owns : goal.returns-in-Owns
+returns-in-Owns c =
     let e = entry_view c.args.entry.now in
-    let by = sym (lone-owning e c.in-Owns.set c.in-Owns.at) ∙ ap (λ f. change_in (changed_entry f e) e) (sym c.in-Owns.is) in
-    on_ok_weaker c.push_made-in-Owns.result (λ behind. record {
-      made = c.in_ok-made-in-Owns.made;
-      behind = behind;
-      tells = c.in_ok-made-in-Owns.ensures.change ∙ by;
-      room = c.in_ok-made-in-Owns.ensures.room;
-    }) c.push_made-in-Owns.ensures
+    let put : Option Change → Type 0 = λ told. OnOk c.push_owning.result (IsPutBehind e.owned told c.args.changed.now.items c.push_owning.new.changed.items) in
+    subst put (sym (lone-owning e c.in-Owns.set c.in-Owns.at) ∙ ap (λ f. change_in (changed_entry f e) e) (sym c.in-Owns.is)) c.push_owning.ensures
 
 pub returns-in_ok-share-in-Loses : goal.returns-in_ok-share-in-Loses
 returns-in_ok-share-in-Loses c =
