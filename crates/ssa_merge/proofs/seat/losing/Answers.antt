@@ -23,7 +23,7 @@ pub returns-then-not-meets-clause-change : goal.returns-then-not-meets-clause-ch
 returns-then-not-meets-clause-change c =
     let e = entry_view c.args.entry.now in
     let none = not_false _ (sym c.meets.ensures ∙ c.if-not-meets.true) in
-    c.untouched.ensures
+    c.untouched-then-not-meets.ensures
     ∙ less-none e c.args.lost.now (ap is_empty (meet-comm e.owned c.args.lost.now) ∙ ap (λ s. is_empty (meet s e.owned)) (sym c.paths-paths.ensures) ∙ none)
 
 pub returns-clause-change : goal.returns-clause-change
