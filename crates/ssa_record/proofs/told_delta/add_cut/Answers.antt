@@ -13,4 +13,5 @@ returns-in-Children c =
     let p = path_view c.args.place.now in
     subst (λ x. OnOk c.add_gone.result (AddsPaths (told_paths (at_place p (cuts_in x))) c.args.cut.now c.add_gone.new.cut)) (sym c.in-Children.is)
     (subst (λ ps. OnOk c.add_gone.result (AddsPaths ps c.args.cut.now c.add_gone.new.cut))
-    (ap (λ es. paths_after p (path_view es)) c.deref.ensures.value ∙ sym (cuts-told p (path_view c.in-Children.edit.gone.elements.items))) c.add_gone.ensures)
+    (ap (λ es. paths_after p (path_view es)) (c.deref-in-Children.ensures.value ∙ ap (λ e. e.gone.elements.items) c.deref.ensures)
+    ∙ sym (cuts-told p (path_view c.in-Children.edit.value.gone.elements.items))) c.add_gone.ensures)
