@@ -33,8 +33,13 @@ fn print_text<R: Print>(rt: &R, text: &[u8]) -> io::Result<()> {
 
 // Prints the line of a run, and before it the first difference, if there is one.
 fn run_seed<R: AllocGlobal + Print>(rt: &R, seed: u64) -> Result<bool, Stop> {
+    let mut beside = Beside::begin(rt.alloc(), seed)?;
+    run_begun(rt, seed, &mut beside)
+}
+
+// The same of a run that is begun, which is lent, so that there is one place to drop it.
+fn run_begun<R: AllocGlobal + Print>(rt: &R, seed: u64, beside: &mut Beside) -> Result<bool, Stop> {
     let alloc = rt.alloc();
-    let mut beside = Beside::begin(alloc, seed)?;
     let differences = match beside.run(alloc) {
         Ok(()) => "0",
         Err(Stop::Difference(what)) => {
@@ -43,7 +48,7 @@ fn run_seed<R: AllocGlobal + Print>(rt: &R, seed: u64) -> Result<bool, Stop> {
         }
         Err(stop) => return Err(stop),
     };
-    print_text(rt, &line(alloc, seed, &beside, differences)?)?;
+    print_text(rt, &line(alloc, seed, beside, differences)?)?;
     Ok(differences == "0" && beside.tally().is_whole())
 }
 
