@@ -23,6 +23,7 @@ use ssa_session::reply_text::init_text;
 use ssa_session::write_line::write_reply;
 use ssa_words::call::Call;
 use std::alloc::Global;
+use std::mem::ManuallyDrop;
 use std::rt::Files;
 
 /// Carries out a call on the files that it names, with these three for standard input, output and error, and gives the
@@ -286,7 +287,9 @@ fn hold_session<'a, T: Files + AllocGlobal, R: Source, W: Sink>(
     writer: &mut W,
     name: &'a str,
 ) -> Result<Status, Trouble<'a>> {
-    let mut bench = load_bench(rt, name)?;
+    // (a session ends its process, with which its memory goes: to give back a whole history piece by piece would take
+    // a thirtieth of a session)
+    let mut bench = ManuallyDrop::new(load_bench(rt, name)?);
     hold_and_save(rt, reader, writer, name, &mut bench)
 }
 

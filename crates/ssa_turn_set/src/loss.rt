@@ -151,7 +151,22 @@ fn nothing(alloc: Global) -> (KeptPaths, Room)
     (KeptPaths::of_trie(none), room)
 }
 
+// What a set has of the lost paths, not all of them, with the room to take it out. It is rare, and apart: what it holds on the
+// stack is cleared wherever it is inlined.
+#[inline(never)]
+fn taken_partly(alloc: Global, lost: &Trie, own: &Trie) -> Result<(KeptPaths, Room), AllocError>
+    requires lost { is_trie lost.now ≡ true }
+    requires own { is_trie own.now ≡ true }
+    ensures lost { IfOk result (λ t. IsCombination Combination.Meet lost.now own.now t.0) }
+    ensures room { IfOk result (λ t. lose_room t.0 (left (paths own.now) (paths t.0)) t.1 ≡ true) }
+{
+    let met = combine_exactly(alloc, lost, own, Combination::Meet)?;
+    let loss = make_loss_room(alloc, &met, own)?;
+    Ok((KeptPaths::of_trie(met), loss.room))
+}
+
 // What a set has of the lost paths, with the room to take it out, no more of either than is needed: mostly it has them all.
+#[inline(always)]
 fn taken(alloc: Global, lost: Rc<Trie>, own: &Trie) -> Result<(KeptPaths, Room), AllocError>
     requires lost { is_trie lost.value ≡ true }
     requires own { is_trie own.now ≡ true }
@@ -162,9 +177,7 @@ fn taken(alloc: Global, lost: Rc<Trie>, own: &Trie) -> Result<(KeptPaths, Room),
     if loss.has_all {
         return Ok((KeptPaths::of_shared(lost), loss.room));
     }
-    let met = combine_exactly(alloc, &lost, own, Combination::Meet)?;
-    let met_loss = make_loss_room(alloc, &met, own)?;
-    Ok((KeptPaths::of_trie(met), met_loss.room))
+    taken_partly(alloc, &lost, own)
 }
 
 impl SetDelta {

@@ -40,7 +40,8 @@ pub(crate) fn is_same_moment(before: Moment, after: Moment) -> bool
     before == after
 }
 
-// The moment afterwards, where it is another.
+// The moment afterwards, where it is another. (Inlined, a moment that may be there is moved byte by byte.)
+#[inline(never)]
 pub(crate) fn new_moment(before: Moment, after: Moment) -> Option<Moment>
     ensures { result ≡ new_moment before after }
 {
