@@ -26,6 +26,16 @@ impl Line {
         Line::Kept(Vec::new(alloc))
     }
 
+    /// Forgets what has come. What was kept of it stays as room for the next line.
+    pub fn clear(&mut self, alloc: Global)
+        ensures { (most : ℕ) → Holds most self.new [] }
+    {
+        match self {
+            Line::Kept(bytes) => bytes.clear(),
+            Line::TooLong | Line::OutOfMemory => *self = Line::new(alloc),
+        }
+    }
+
     /// Whether no byte has come.
     pub fn is_empty(&self) -> bool
         ensures { (most : ℕ) (text : List ℕ) → Holds most self.now text → IsTrue result ↔ (text ≡ []) }

@@ -60,7 +60,7 @@ pub fn read_line<R: Source>(
     ensures failed { R.has_failed reader.new ≡ is_fault result }
     ensures line_feed { (result ≡ Ok LineEnd.LineFeed) → R.turns_left reader.new < R.turns_left reader.old }
 {
-    *line = Line::new(alloc);
+    line.clear(alloc);
     loop {
         if let Some(end) = take_piece(reader, line, most)? {
             return Ok(end);

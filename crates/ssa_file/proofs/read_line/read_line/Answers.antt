@@ -4,7 +4,7 @@ use Rattle.ssa_file.proofs.ReadingFacts.{TakesLine-none, TakesLine-more, ok-some
 use Rattle.ssa_file.proofs.read_line.read_line.Goals as goal
 
 pub loop-end-init : goal.loop-end-init
-loop-end-init g c = record { taken = TakesLine-none _ _ _ (c.new.ensures c.args.most); turns = search rules; ends = search rules }
+loop-end-init g c = record { taken = TakesLine-none _ _ _ (c.clear.ensures c.args.most); turns = search rules; ends = search rules }
 
 pub returns-in_err-end-clause-takes : goal.returns-in_err-end-clause-takes
 returns-in_err-end-clause-takes g c =
