@@ -33,8 +33,8 @@ where
     T: Drop,
     ensures { OnOk result (items.new.items ≡ items.old.items ++ item ∷ []) }
 {
-    if items.is_empty() {
-        items.reserve_exact(first)?;
+    if items.capacity() == 0 {
+        *items = Vec::with_capacity(*items.allocator(), first)?;
     } else if items.len() == items.capacity() && items.len() < MANY {
         widen(items)?;
     }
