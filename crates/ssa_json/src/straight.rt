@@ -14,7 +14,7 @@ use crate::reading_room::ReadingRoom;
 use crate::value::{Json, Scalar};
 use itoa::Buffer;
 use json::{Invalid, Reader, Token};
-use ssa_members::{Members, Name, SmallText, push_closely};
+use ssa_members::{Members, Name, SmallText, push_closely, push_loosely};
 use std::alloc::{AllocError, AllocFailed, Global};
 
 const MOST_DEPTH: usize = 127;
@@ -172,7 +172,7 @@ fn read_pairs(
     'members: while let Some(name) = reader.next_key()? {
         let key = Name::from_str(alloc, name)?;
         let member = read_value(alloc, reader, depth)?;
-        push_closely(&mut pairs, (key, member))?;
+        push_loosely(&mut pairs, (key, member))?;
     }
     Ok(pairs)
 }

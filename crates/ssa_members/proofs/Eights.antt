@@ -21,7 +21,7 @@ pub tied-told : (a d : List ℕ) → bytes_eq a d ≡ true → Equal ≡ slice_c
 tied-told a d told = sym (ap (slice_cmp nat_cmp a) (sym (same-told a d told)) ∙ tied_itself nat_list_cmp_total a)
 
 -- texts of other bytes are told apart
-told-apart : (a d : List ℕ) → (a ≡ d → ⊥) → false ≡ bytes_eq a d
+pub told-apart : (a d : List ℕ) → (a ≡ d → ⊥) → false ≡ bytes_eq a d
 told-apart a d apart = by (bytes_eq a d) refl
   where
     by : (b : Bool) → bytes_eq a d ≡ b → false ≡ b

@@ -24,5 +24,5 @@ pub mod small_text;
 
 pub use members::Members;
 pub use name::Name;
-pub use room::push_closely;
+pub use room::{push_closely, push_loosely};
 pub use small_text::SmallText;

@@ -66,13 +66,15 @@ fn order_names(name: &str, other: &str) -> Ordering
     name.cmp(other)
 }
 
-// Where the name stands, if it does, looked for among the names one after the other.
+// Where the name stands, if it does, looked for among the names one after the other. Bytes are compared, by a call, only
+// where the lengths are the same.
 #[inline(always)]
 fn scan<V>(entries: &[(Name, V)], name: &str) -> Option<usize>
     ensures { MatchOption result (lookup (is_at (text_cmp name.now)) entries.now ≡ None) (IsNameAt name.now entries.now) }
 {
     for i in 0..entries.len() {
-        if name == entries[i].0.as_str() {
+        let other = entries[i].0.as_str();
+        if name.len() == other.len() && name == other {
             return Some(i);
         }
     }

@@ -6,18 +6,39 @@ use std::alloc::AllocError;
 // Vectors of so many elements and more are left to grow where they stand, if there is room behind them.
 const MANY: usize = 64;
 
-// Gives a vector without spare room that for twice as many elements, and for four at least. To move few elements
-// costs less than to ask whether they can stay.
+// Vectors of fewer elements get room for four times as many.
+const VERY_FEW: usize = 4;
+
+// Gives a vector without spare room that for twice as many elements, and one of very few that for four times as many. To
+// move few elements costs less than to ask whether they can stay.
 fn widen<T>(items: &mut Vec<T>) -> Result<(), AllocError>
 where
     T: Drop,
+    requires some { 0 < length items.old.items }
+    requires few { length items.old.items < 64 }
     ensures items { OnOk result (items.new.items ≡ items.old.items) }
     ensures room { OnOk result (length items.new.items < vec_capacity items.new) }
 {
-    let room = items.len().saturating_mul(2).max(4);
-    let mut wider = Vec::with_capacity(*items.allocator(), room)?;
+    let times = if items.len() < VERY_FEW { 4 } else { 2 };
+    let mut wider = Vec::with_capacity(*items.allocator(), items.len() * times)?;
     wider.append(items)?;
     *items = wider;
+    Ok(())
+}
+
+// Puts an element behind the others. The first one takes room for so many.
+#[inline(always)]
+fn push_from<T>(items: &mut Vec<T>, item: T, first: usize) -> Result<(), AllocError>
+where
+    T: Drop,
+    ensures { OnOk result (items.new.items ≡ items.old.items ++ item ∷ []) }
+{
+    if items.capacity() == 0 {
+        *items = Vec::with_capacity(*items.allocator(), first)?;
+    } else if items.len() == items.capacity() && items.len() < MANY {
+        widen(items)?;
+    }
+    items.push(item)?;
     Ok(())
 }
 
@@ -29,11 +50,15 @@ where
     T: Drop,
     ensures { OnOk result (items.new.items ≡ items.old.items ++ item ∷ []) }
 {
-    if items.is_empty() {
-        items.reserve_exact(1)?;
-    } else if items.len() == items.capacity() && items.len() < MANY {
-        widen(items)?;
-    }
-    items.push(item)?;
-    Ok(())
+    push_from(items, item, 1)
+}
+
+/// Puts an element behind the others, as [`push_closely`] does, where few are alone: the first one takes room for two,
+/// and the third for eight.
+pub fn push_loosely<T>(items: &mut Vec<T>, item: T) -> Result<(), AllocError>
+where
+    T: Drop,
+    ensures { OnOk result (items.new.items ≡ items.old.items ++ item ∷ []) }
+{
+    push_from(items, item, 2)
 }

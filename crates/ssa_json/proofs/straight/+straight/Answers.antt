@@ -131,7 +131,7 @@ read_pairs-members-preserved t c =
     let lesser = done.shorter in
     let copied : string_bytes key ≡ k = search rules in
     let put_in = λ (found : Members).
-    ap (λ ps. put_in_turn ps found) c.in_ok-push_closely.ensures ∙ put-append l.pairs.items ((key, v) ∷ []) found in
+    ap (λ ps. put_in_turn ps found) c.in_ok-push_loosely.ensures ∙ put-append l.pairs.items ((key, v) ∷ []) found in
     let spelled = λ (found : Members).
     ap members_data (put_in found) ∙ put-data (string_bytes key) (view v) (put_in_turn l.pairs.items found)
     ∙ ap (λ name. put name (data_of (view v)) (members_data (put_in_turn l.pairs.items found))) copied in
