@@ -1,7 +1,6 @@
 pub mod Eights
 pub mod Lent
 pub mod Made
-pub mod Parts
 pub mod Rising
 pub mod Searching
 pub mod Texts

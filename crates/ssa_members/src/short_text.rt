@@ -1,5 +1,5 @@
 // Texts whose bytes stand in the value itself.
-ghost use Rattle.std.specs.Prelude.{IsUtf8, ◌≡◌, ◌≤◌, ◌+◌, bytes_eq, drop, length, take};
+ghost use Rattle.std.specs.Prelude.{IsUtf8, ◌≡◌, ◌≤◌, ◌+◌, bytes_eq, drop, take};
 ghost use Rattle.std.specs.Int.{to_le_bytes, w64};
 
 use std::cmp::Ordering;
@@ -41,74 +41,6 @@ fn are_eight_same(bytes: &[u8; 22], others: &[u8; 22], i: usize) -> bool
     eight_at(bytes, i) == eight_at(others, i)
 }
 
-// Copies so many bytes, by one move and no call.
-#[inline(always)]
-fn copy_as_one<const N: usize>(place: &mut [u8], part: &[u8])
-    requires places { length place.old ≡ N }
-    requires bytes { length part.now ≡ N }
-    ensures { place.new ≡ part.now }
-{
-    let Some(part) = part.as_array::<N>() else {
-        unreachable!()
-    };
-    let Some(place) = place.as_mut_array::<N>() else {
-        unreachable!()
-    };
-    *place = *part;
-}
-
-// Puts so many bytes of a text, from a place on, where they stand in it, behind those that are there already.
-#[inline(always)]
-fn put_part<const N: usize>(bytes: &mut [u8; 22], text: &[u8], i: usize)
-    requires within { i + N ≤ length text.now }
-    requires room { length text.now ≤ 22 }
-    requires before { take i bytes.old ≡ take i text.now }
-    ensures { take (i + N) bytes.new ≡ take (i + N) text.now }
-{
-    copy_as_one::<N>(&mut bytes[i..i + N], &text[i..i + N]);
-}
-
-// The bytes of a text, with zeros behind them. The parts that they are put in may overlap.
-#[inline(always)]
-fn put_parts(text: &[u8]) -> [u8; 22]
-    requires { length text.now ≤ 22 }
-    ensures { take (length text.now) result ≡ text.now }
-{
-    let len = text.len();
-    let mut bytes = [0; 22];
-    if len >= 8 {
-        if len > 16 {
-            put_part::<16>(&mut bytes, text, 0);
-            put_part::<8>(&mut bytes, text, len - 8);
-        } else {
-            put_part::<8>(&mut bytes, text, 0);
-            put_part::<8>(&mut bytes, text, len - 8);
-        }
-    } else if len >= 4 {
-        put_part::<4>(&mut bytes, text, 0);
-        put_part::<4>(&mut bytes, text, len - 4);
-    } else if len >= 2 {
-        put_part::<2>(&mut bytes, text, 0);
-        put_part::<2>(&mut bytes, text, len - 2);
-    } else if len == 1 {
-        put_part::<1>(&mut bytes, text, 0);
-    }
-    bytes
-}
-
-// The same bytes, taken in the three words that the text is moved by from there on: the first six stand in one with its
-// length. So they are read from the array once, and not copied in pieces as small as those that were put there.
-#[inline(always)]
-fn in_parts(bytes: &[u8; 22]) -> [u8; 22]
-    ensures { result ≡ bytes.now }
-{
-    let mut parts = [0; 22];
-    put_part::<6>(&mut parts, bytes, 0);
-    put_part::<8>(&mut parts, bytes, 6);
-    put_part::<8>(&mut parts, bytes, 14);
-    parts
-}
-
 impl ShortText {
     ghost use Rattle.std.specs.Prelude.{◌≡◌, ◌<◌, [], IfSome, bytes_eq};
     ghost use Rattle.std.specs.Cmp.Lexicographic.{slice_cmp};
@@ -126,7 +58,6 @@ impl ShortText {
     }
 
     /// The text with these bytes, where it is so short.
-    #[inline(always)]
     pub fn from_str(text: &str) -> Option<ShortText>
         ensures { IfSome result (λ s. short_bytes s ≡ text.now) }
     {
@@ -134,9 +65,11 @@ impl ShortText {
         if len > 22 {
             return None;
         }
+        let mut bytes = [0; 22];
+        bytes[..len].copy_from_slice(text.as_bytes());
         Some(ShortText {
             len: len as u8,
-            bytes: in_parts(&put_parts(text.as_bytes())),
+            bytes,
         })
     }
 

@@ -40,7 +40,6 @@ impl SmallText {
     }
 
     /// The text with these bytes.
-    #[inline(always)]
     pub fn from_str(alloc: Global, text: &str) -> Result<SmallText, AllocError>
         ensures ok { IfOk result (λ t. text_bytes t ≡ text.now) }
     {
