@@ -13,7 +13,7 @@ loop-i-preserved c = c.loop-i.invariant ∙ same-at c.args.text.now c.args.other
 
 pub returns-then-text-i : goal.returns-then-text-i
 returns-then-text-i c =
-    c.order_marks.ensures ∙ sym (c.loop-i.invariant ∙ differ-at c.args.text.now c.args.other.now c.loop-i.i (omega arith) (omega arith) c.if-text-i.true)
+    c.order_bytes.ensures ∙ sym (c.loop-i.invariant ∙ differ-at c.args.text.now c.args.other.now c.loop-i.i (omega arith) (omega arith) c.if-text-i.true)
 
 pub returns : goal.returns
 returns c =
@@ -21,5 +21,5 @@ returns c =
     elim c.loop-i-test.branch [ then-loop-i-test+else-i-other w ↦ inr w.if-i-other.false | else-loop-i-test w ↦ inl w.loop-i-test.false ] in
     let own = c.copied.ensures ∙ looked c.args.text.now c.loop-i.i c.get.result c.get.ensures.lookup.0 c.get.ensures.lookup.1 in
     let others = c.copied-2.ensures ∙ looked c.args.other.now c.loop-i.i c.get-2.result c.get-2.ensures.lookup.0 c.get-2.ensures.lookup.1 in
-    c.order_marks-2.ensures ∙ (λ i. text_cmp (mark (own i)) (mark (others i)))
+    c.order_marks.ensures ∙ (λ i. text_cmp (mark (own i)) (mark (others i)))
     ∙ sym (c.loop-i.invariant ∙ marks-at c.args.text.now c.args.other.now c.loop-i.i past)
