@@ -1,7 +1,7 @@
 //! Values under names, in a vector that is ordered by the names.
-ghost use Rattle.std.specs.Prelude.{◌≡◌, ◌↔◌, [], ℕ, length, IfOk, IfErr, IsTrue, OnErr, OnOk, MatchOption, Some, None, option_copied};
+ghost use Rattle.std.specs.Prelude.{◌≡◌, ◌<◌, ◌↔◌, [], ℕ, length, IfOk, IfErr, IsTrue, OnErr, OnOk, MatchOption, Some, None, option_copied};
 ghost use Rattle.std.specs.BTreeMap.{insert_entry, is_at};
-ghost use Rattle.std.specs.List.{list_any};
+ghost use Rattle.std.specs.List.{list_any, remove, slice_index_or};
 ghost use Rattle.std.specs.Map.{lookup, remove_entry, set_value};
 ghost use Rattle.std.specs.Cmp.Lexicographic.{slice_cmp};
 ghost use Rattle.std.specs.Ordering.{nat_cmp};
@@ -78,6 +78,22 @@ fn scan<V>(entries: &[(Name, V)], name: &str) -> Option<usize>
         }
     }
     None
+}
+
+// Takes out the entry at a place. Where it is the last one, none has to move.
+#[inline(always)]
+fn take_entry<V>(entries: &mut Vec<(Name, V)>, i: usize) -> (Name, V)
+    requires { i < length entries.old.items }
+    ensures value { result ≡ slice_index_or entries.old.items i result }
+    ensures items { entries.new.items ≡ remove entries.old.items i }
+{
+    if i + 1 < entries.len() {
+        return entries.remove(i);
+    }
+    let Some(last) = entries.pop() else {
+        unreachable!("the place is inside");
+    };
+    last
 }
 
 // Whether the name is one of these. Most tell by their length that they are another.
@@ -200,7 +216,7 @@ impl<V> Members<V> {
     {
         match self.find(name) {
             Some(i) => {
-                let (name, value) = self.entries.remove(i);
+                let (name, value) = take_entry(&mut self.entries, i);
                 drop(name);
                 Some(value)
             }
