@@ -1,5 +1,5 @@
 // The order of elements' texts by their bytes. The texts themselves are never made.
-ghost use Rattle.std.specs.Prelude.{◌≡◌, ◌≤◌, ◌<◌, ◌+◌, ◌++◌, [], ◌∷◌, false, length, take, drop, IfSome, Some};
+ghost use Rattle.std.specs.Prelude.{◌≡◌, ◌⊎◌, ◌≤◌, ◌<◌, ◌+◌, ◌++◌, [], ◌∷◌, false, length, take, drop, IfSome, Some};
 ghost use Rattle.std.specs.Ordering.{nat_cmp};
 ghost use Rattle.std.specs.Cmp.Lexicographic.{slice_cmp};
 ghost use Rattle.std.specs.Int.{to_le_bytes, w32, w64};
@@ -59,16 +59,15 @@ fn order_marks(byte: Option<u8>, other: Option<u8>) -> Ordering
     }
 }
 
-// The order of two bytes as texts have them in quotes. Bytes above the backslash, as small letters are, stand for
-// themselves.
+// The order of two bytes as texts have them in quotes. Letters and digits, among others, stand for themselves.
 #[inline(always)]
 fn order_bytes(byte: u8, other: u8) -> Ordering
     ensures { result ≡ slice_cmp nat_cmp (mark (Some byte)) (mark (Some other)) }
 {
-    if byte > b'\\' && other > b'\\' {
+    if byte > b'"' && byte != b'\\' && other > b'"' && other != b'\\' {
         byte.cmp(&other)
     } else {
-        order_marks(Some(byte), Some(other))
+        order_escapes(Some(byte), Some(other))
     }
 }
 
@@ -124,6 +123,20 @@ pub fn past_four(text: &[u8], other: &[u8], i: usize) -> usize
     }
 }
 
+// How many bytes the shorter text has.
+#[inline(always)]
+fn shorter_len(text: &[u8], other: &[u8]) -> usize
+    ensures own { result ≤ length text.now }
+    ensures others { result ≤ length other.now }
+    ensures shorter { (result ≡ length text.now) ⊎ (result ≡ length other.now) }
+{
+    if text.len() < other.len() {
+        text.len()
+    } else {
+        other.len()
+    }
+}
+
 // The order of two texts in quotes.
 #[inline(always)]
 pub fn order_quoted(text: &[u8], other: &[u8]) -> Ordering
@@ -131,7 +144,8 @@ pub fn order_quoted(text: &[u8], other: &[u8]) -> Ordering
 {
     let eights = alike_in_eights(text, other);
     let mut i = past_four(text, other, eights);
-    while i < text.len() && i < other.len() {
+    let both = shorter_len(text, other);
+    while i < both {
         if text[i] != other[i] {
             return order_bytes(text[i], other[i]);
         }
