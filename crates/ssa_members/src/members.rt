@@ -1,11 +1,12 @@
 //! Values under names, in a vector that is ordered by the names.
-ghost use Rattle.std.specs.Prelude.{◌≡◌, ◌↔◌, [], ℕ, length, IfOk, IfErr, IsTrue, OnErr, OnOk, MatchOption, Some, None, option_copied};
+ghost use Rattle.std.specs.Prelude.{◌≡◌, ◌<◌, ◌↔◌, [], ℕ, length, IfOk, IfErr, IsTrue, OnErr, OnOk, MatchOption, Some, None, option_copied};
 ghost use Rattle.std.specs.BTreeMap.{insert_entry, is_at};
+ghost use Rattle.std.specs.List.{list_any, remove, slice_index_or};
 ghost use Rattle.std.specs.Map.{lookup, remove_entry, set_value};
 ghost use Rattle.std.specs.Cmp.Lexicographic.{slice_cmp};
 ghost use Rattle.std.specs.Ordering.{nat_cmp};
-ghost use Rattle.std.specs.Prelude.{string_bytes, string_cmp};
-ghost use Rattle.ssa_members.specs.Members.{get, text_cmp, IsMadeOf, IsNameAt, IsPlaceOf, IsRising};
+ghost use Rattle.std.specs.Prelude.{bytes_eq, map, string_bytes, string_cmp};
+ghost use Rattle.ssa_members.specs.Members.{get, left_without, text_cmp, IsMadeOf, IsNameAt, IsPlaceOf, IsRising};
 
 use crate::name::Name;
 use std::alloc::{AllocError, Global};
@@ -79,6 +80,35 @@ fn scan<V>(entries: &[(Name, V)], name: &str) -> Option<usize>
         }
     }
     None
+}
+
+// Takes out the entry at a place. Where it is the last one, none has to move.
+#[inline(always)]
+fn take_entry<V>(entries: &mut Vec<(Name, V)>, i: usize) -> (Name, V)
+    requires { i < length entries.old.items }
+    ensures value { result ≡ slice_index_or entries.old.items i result }
+    ensures items { entries.new.items ≡ remove entries.old.items i }
+{
+    if i + 1 < entries.len() {
+        return entries.remove(i);
+    }
+    let Some(last) = entries.pop() else {
+        unreachable!("the place is inside");
+    };
+    last
+}
+
+// Whether the name is one of these. Most tell by their length that they are another.
+#[inline(always)]
+fn is_among(name: &str, names: &[&str]) -> bool
+    ensures { result ≡ list_any (bytes_eq name.now) (map (λ n. n.now) names.now) }
+{
+    for other in names {
+        if name.len() == other.len() && name == *other {
+            return true;
+        }
+    }
+    false
 }
 
 impl<V> Members<V> {
@@ -188,12 +218,22 @@ impl<V> Members<V> {
     {
         match self.find(name) {
             Some(i) => {
-                let (name, value) = self.entries.remove(i);
+                let (name, value) = take_entry(&mut self.entries, i);
                 drop(name);
                 Some(value)
             }
             None => None,
         }
+    }
+
+    /// Takes out the values under these names, in one pass over all.
+    pub fn remove_all(&mut self, names: &[&str])
+    where
+        V: Drop,
+        ensures { self.new.entries ≡ left_without (map (λ n. n.now) names.now) self.old.entries }
+    {
+        self.entries
+            .retain(|entry| !is_among(entry.0.as_str(), names));
     }
 
     /// Puts a value in the place of the one under a name, which it gives. Where there is none, the value

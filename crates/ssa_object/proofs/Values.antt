@@ -1,13 +1,14 @@
 -- Members taken out of an object, and out of its metadata.
-use Rattle.std.proofs.Common.{◌≡◌, List, [], ◌∷◌, Bool, true, false, ◌||◌, cond, Option, Some, None, Ordering, Less, Equal, Greater, String, Global, string_bytes, string_cmp, nat_cmp, refl, sym, ap, ◌∙◌}
+use Rattle.std.proofs.Common.{◌≡◌, List, [], ◌∷◌, Bool, true, false, ◌||◌, cond, not, Option, Some, None, Less, String, Global, string_bytes, string_cmp, nat_cmp, refl, sym, ap, ◌∙◌}
 use Rattle.std.specs.Prelude.{if◌then◌else◌, codes, option_and_then, unwrap_or, OnOk, IfErr, Result, Ok, Err}
-use Rattle.std.specs.Ordering.{is_eq, ordering_reverse}
+use Rattle.std.proofs.lemmas.Map.Text.{is_eq-slice_cmp}
+use Rattle.std.specs.Ordering.{is_eq}
 use Rattle.std.specs.Cmp.Lexicographic.{slice_cmp, nat_list_cmp_total}
 use Rattle.std.specs.List.{list_any, AllByRecursion}
 use Rattle.std.specs.List.Sorted.{IsStrictlySortedBy}
 use Rattle.std.specs.Map.{keys_of, lookup, remove_entry, set_value}
 use Rattle.std.specs.BTreeMap.{is_at}
-use Rattle.ssa_members.specs.Members.{Members as Entries}
+use Rattle.ssa_members.specs.Members.{left_without, Members as Entries}
 use Rattle.ssa_model.specs.definitions.Json.{Text, Json, scalar, list, object, same_text, Members, no_members, member, member_of}
 use Rattle.ssa_model.specs.definitions.Objects.{value_at, without, without_names, without_in_metadata, file_names, file_value}
 use Rattle.ssa_json.specs.View.{view, members_view}
@@ -27,21 +28,18 @@ finds n = is_at (λ k. slice_cmp nat_cmp n (string_bytes k))
 by_one_name : (k n : Text) → list_any (same_text k) (n ∷ []) ≡ is_eq (slice_cmp nat_cmp n k)
 by_one_name k n = or-false (same_text k n) ∙ ap is_eq (nat_list_cmp_total.antisymm k n) ∙ is_eq-reverse (slice_cmp nat_cmp n k)
 
--- ---- names taken out one after the other
+-- ---- names taken out
 
--- without no name all members stay
-pub without-none : (ms : Members) → without [] ms ≡ ms
-without-none no_members = refl
-without-none (member k v ms) = ap (member k v) (without-none ms)
-
--- members left out by one name and then by others are left out by all of them
-pub without-first : (n : Text) (ns : List Text) (ms : Members) → without ns (without (n ∷ []) ms) ≡ without (n ∷ ns) ms
-without-first n ns no_members = refl
-without-first n ns (member k v ms) =
-    elim (same_text k n) as (λ b. without ns (if b || false then without (n ∷ []) ms else member k v (without (n ∷ []) ms))
-    ≡ (if b || list_any (same_text k) ns then without (n ∷ ns) ms else member k v (without (n ∷ ns) ms))) [
-      | true ↦ without-first n ns ms
-      | false ↦ ap (λ rest. if list_any (same_text k) ns then rest else member k v rest) (without-first n ns ms)
+-- what is left without some names
+pub members-left : (ns : List Text) (es : List Found) → members_view (left_without ns es) ≡ without ns (members_view es)
+members-left ns [] = refl
+members-left ns (e ∷ es) =
+    let k = string_bytes e.0 in
+    ap (λ b. members_view (cond (not b) (e ∷ left_without ns es) (left_without ns es))) (λ i. list_any (λ n. sym (is_eq-slice_cmp k n) i) ns)
+    ∙ elim (list_any (same_text k) ns) as (λ b. members_view (cond (not b) (e ∷ left_without ns es) (left_without ns es))
+    ≡ (if b then without ns (members_view es) else member k (view e.1) (without ns (members_view es)))) [
+      | true ↦ members-left ns es
+      | false ↦ ap (member k (view e.1)) (members-left ns es)
     ]
 
 -- a name that is left out anyway
@@ -111,11 +109,6 @@ removed n (e ∷ es) none =
 pub without-removed : (n : Text) (old new : List Found) → new ≡ remove_entry (finds n) old → IsStrictlySortedBy string_cmp (keys_of old)
     → members_view new ≡ without (n ∷ []) (members_view old)
 without-removed n old new is rises = ap members_view is ∙ removed n old (gone n old rises)
-
--- one name of several taken out
-pub removed-next : (n : Text) (ns : List Text) (old new : List Found) → new ≡ remove_entry (finds n) old → IsStrictlySortedBy string_cmp (keys_of old)
-    → without ns (members_view new) ≡ without (n ∷ ns) (members_view old)
-removed-next n ns old new is rises = ap (without ns) (without-removed n old new is rises) ∙ without-first n ns (members_view old)
 
 -- the value of one name
 pub value_at-one : (n : Text) (ms : Members) → member_of n ms ≡ value_at (n ∷ []) (object ms)

@@ -73,9 +73,7 @@ fn value_without(object: Json, names: &[&str]) -> Json
 fn remove_members(members: &mut Members<Json>, names: &[&str])
     ensures { members_view members.new.entries ≡ without (map (λ n. n.now) names.now) (members_view members.old.entries) }
 {
-    for name in names {
-        drop(members.remove(*name));
-    }
+    members.remove_all(names);
 }
 
 // Takes the members of these names out of the metadata.

@@ -1,5 +1,5 @@
 -- The order of quoted texts, byte by byte.
-use Rattle.std.proofs.Common.{◌≡◌, ℕ, ◌/◌, ◌%◌, List, [], ◌∷◌, ◌++◌, take, Bool, true, false, Ordering, Less, Equal, Greater, refl, sym, ap, ◌∙◌, append_assoc, true≢false, ◌⊎◌, inl, inr, codes, length, drop, get_or, ◌+◌, ◌<◌, ◌≤◌, Option, Some, None, Bor, ltb, ltb-true, arith}
+use Rattle.std.proofs.Common.{◌≡◌, ℕ, ◌/◌, ◌%◌, List, bytes_eq, [], ◌∷◌, ◌++◌, take, Bool, true, false, Ordering, Less, Equal, Greater, refl, sym, ap, ◌∙◌, append_assoc, true≢false, ◌⊎◌, inl, inr, codes, length, drop, get_or, ◌+◌, ◌<◌, ◌≤◌, Option, Some, None, Bor, ltb, ltb-true, arith}
 use Rattle.std.specs.Prelude.{is_some, IfSome}
 use Rattle.std.specs.Option.{option_copied}
 use Rattle.std.proofs.lemmas.Bool.Decides.{nat_tests}
@@ -9,7 +9,7 @@ use Rattle.std.specs.Ordering.{ordering_then}
 use Rattle.std.specs.FinMap.{slice_cmp-IsAntisymmetric, nat_cmp-IsAntisymmetric}
 use Rattle.ssa_model.specs.definitions.Json.{hex_digit, escaped_byte, escaped, quoted, text}
 use Rattle.std.specs.Cmp.{tied_itself}
-use Rattle.std.specs.Cmp.Lexicographic.{nat_list_cmp_total}
+use Rattle.std.specs.Cmp.Lexicographic.{nat_list_cmp_total, bytes_decides}
 use Rattle.ssa_model.specs.definitions.Path.{Element, value}
 use Rattle.ssa_model.proofs.Texts.{element_text-injective}
 use Rattle.std.proofs.Math.Seq.{take-add}
@@ -187,6 +187,10 @@ pub looked : (xs : List ℕ) (i : ℕ) (r : Option (Bor ℕ)) → is_some r ≡ 
     → option_copied r ≡ first (drop i xs)
 looked xs i None e h = let past : length xs ≤ i = grind (arith, nat_tests) in ap first (sym (drop_all i xs past))
 looked xs i (Some x) e h = ap Some h ∙ ap first (sym (drop_more xs i x.now (ltb-true i (length xs) (sym e))))
+
+-- texts with the same bytes are tied
+pub same-told : (a d : List ℕ) → bytes_eq a d ≡ true → Equal ≡ text_cmp (quoted a) (quoted d)
+same-told a d h = sym (ap (λ t. text_cmp (quoted a) (quoted t)) (sym ((bytes_decides a d).0 h)) ∙ itself (quoted a))
 
 -- ---- a beginning of two texts
 

@@ -1,8 +1,9 @@
 // The order of elements' texts by their bytes. The texts themselves are never made.
-ghost use Rattle.std.specs.Prelude.{◌≡◌, ◌≤◌, ◌<◌, ◌+◌, ◌++◌, [], ◌∷◌, false, length, take, drop, IfSome};
+ghost use Rattle.std.specs.Prelude.{◌≡◌, ◌⊎◌, ◌≤◌, ◌<◌, ◌+◌, ◌++◌, [], ◌∷◌, false, length, take, drop, IfSome, Some};
 ghost use Rattle.std.specs.Ordering.{nat_cmp};
 ghost use Rattle.std.specs.Cmp.Lexicographic.{slice_cmp};
 ghost use Rattle.std.specs.Int.{to_le_bytes, w32, w64};
+ghost use Rattle.ssa_members.specs.Texts.{text_bytes};
 ghost use Rattle.ssa_model.specs.definitions.Json.{compact_members, quoted, scalar_text, whole_text};
 ghost use Rattle.ssa_model.specs.definitions.Path.{key_members};
 ghost use Rattle.ssa_json.specs.View.{scalar_view};
@@ -11,7 +12,6 @@ ghost use Rattle.ssa_path.specs.Order.{mark, member_text, key_end, BeginAlike};
 
 use itoa::Buffer;
 use ssa_json::quotes::escape;
-use ssa_json::text::is_same_text;
 use ssa_json::value::Scalar;
 use ssa_members::SmallText;
 use std::cmp::Ordering;
@@ -56,6 +56,18 @@ fn order_marks(byte: Option<u8>, other: Option<u8>) -> Ordering
     match (single_mark(byte), single_mark(other)) {
         (Some(own), Some(others)) => own.cmp(&others),
         _ => order_escapes(byte, other),
+    }
+}
+
+// The order of two bytes as texts have them in quotes. Letters and digits, among others, stand for themselves.
+#[inline(always)]
+fn order_bytes(byte: u8, other: u8) -> Ordering
+    ensures { result ≡ slice_cmp nat_cmp (mark (Some byte)) (mark (Some other)) }
+{
+    if byte > b'"' && byte != b'\\' && other > b'"' && other != b'\\' {
+        byte.cmp(&other)
+    } else {
+        order_escapes(Some(byte), Some(other))
     }
 }
 
@@ -111,6 +123,20 @@ pub fn past_four(text: &[u8], other: &[u8], i: usize) -> usize
     }
 }
 
+// How many bytes the shorter text has.
+#[inline(always)]
+fn shorter_len(text: &[u8], other: &[u8]) -> usize
+    ensures own { result ≤ length text.now }
+    ensures others { result ≤ length other.now }
+    ensures shorter { (result ≡ length text.now) ⊎ (result ≡ length other.now) }
+{
+    if text.len() < other.len() {
+        text.len()
+    } else {
+        other.len()
+    }
+}
+
 // The order of two texts in quotes.
 #[inline(always)]
 pub fn order_quoted(text: &[u8], other: &[u8]) -> Ordering
@@ -118,16 +144,69 @@ pub fn order_quoted(text: &[u8], other: &[u8]) -> Ordering
 {
     let eights = alike_in_eights(text, other);
     let mut i = past_four(text, other, eights);
-    while i < text.len() && i < other.len() {
+    let both = shorter_len(text, other);
+    while i < both {
         if text[i] != other[i] {
-            return order_marks(Some(text[i]), Some(other[i]));
+            return order_bytes(text[i], other[i]);
         }
         i += 1;
     }
     order_marks(text.get(i).copied(), other.get(i).copied())
 }
 
+// The order of two texts in quotes. Most texts of a list differ in their first byte, or are the same. Those that begin
+// alike mostly differ in their last byte.
+#[inline(always)]
+fn order_texts(text: &SmallText, other: &SmallText) -> Ordering
+    ensures { result ≡ slice_cmp nat_cmp (quoted (text_bytes text.now)) (quoted (text_bytes other.now)) }
+{
+    let bytes = text.as_bytes();
+    let others = other.as_bytes();
+    if bytes.len() > 0 && others.len() > 0 {
+        if bytes[0] != others[0] {
+            return order_bytes(bytes[0], others[0]);
+        }
+        if bytes[bytes.len() - 1] == others[others.len() - 1] && text.is_same(other) {
+            return Ordering::Equal;
+        }
+    }
+    order_quoted(bytes, others)
+}
+
+// The order of two names in quotes. Those at one place of two objects are mostly the same.
+#[inline(always)]
+fn order_names(name: &SmallText, other: &SmallText) -> Ordering
+    ensures { result ≡ slice_cmp nat_cmp (quoted (text_bytes name.now)) (quoted (text_bytes other.now)) }
+{
+    if name.is_same(other) {
+        Ordering::Equal
+    } else {
+        order_quoted(name.as_bytes(), other.as_bytes())
+    }
+}
+
+// The order of what stands behind two scalars, where it is not one byte and not none.
+#[inline(never)]
+fn order_long_ends(end: &[u8], other: &[u8]) -> Ordering
+    ensures { result ≡ slice_cmp nat_cmp end.now other.now }
+{
+    end.cmp(other)
+}
+
+// The order of what stands behind two scalars. It is one byte or none.
+#[inline(always)]
+fn order_ends(end: &[u8], other: &[u8]) -> Ordering
+    ensures { result ≡ slice_cmp nat_cmp end.now other.now }
+{
+    match (end, other) {
+        ([], []) => Ordering::Equal,
+        ([byte], [other_byte]) => byte.cmp(other_byte),
+        _ => order_long_ends(end, other),
+    }
+}
+
 // The order of the numbers' digits, each with an end behind it.
+#[inline(never)]
 fn order_numbers(number: i64, end: &[u8], other: i64, other_end: &[u8]) -> Ordering
     ensures { result ≡ slice_cmp nat_cmp (whole_text number ++ end.now) (whole_text other ++ other_end.now) }
 {
@@ -141,13 +220,14 @@ fn order_numbers(number: i64, end: &[u8], other: i64, other_end: &[u8]) -> Order
 }
 
 // The order of the scalars' texts, each with an end behind it.
+#[inline(always)]
 pub fn order_scalars(scalar: &Scalar, end: &[u8], other: &Scalar, other_end: &[u8]) -> Ordering
     ensures { result ≡ slice_cmp nat_cmp (scalar_text (scalar_view scalar.now) ++ end.now) (scalar_text (scalar_view other.now) ++ other_end.now) }
 {
     match (scalar, other) {
         (Scalar::Text(text), Scalar::Text(other_text)) => {
-            match order_quoted(text.as_bytes(), other_text.as_bytes()) {
-                Ordering::Equal => end.cmp(other_end),
+            match order_texts(text, other_text) {
+                Ordering::Equal => order_ends(end, other_end),
                 found => found,
             }
         }
@@ -161,7 +241,7 @@ pub fn order_scalars(scalar: &Scalar, end: &[u8], other: &Scalar, other_end: &[u
         (Scalar::Int(_), Scalar::Bool(_)) => Ordering::Less,
         (Scalar::Bool(_), Scalar::Int(_)) => Ordering::Greater,
         (Scalar::Bool(truth), Scalar::Bool(other_truth)) => {
-            truth.cmp(other_truth).then(end.cmp(other_end))
+            truth.cmp(other_truth).then(order_ends(end, other_end))
         }
     }
 }
@@ -170,9 +250,6 @@ pub fn order_scalars(scalar: &Scalar, end: &[u8], other: &Scalar, other_end: &[u
 pub fn order_values(scalar: &Scalar, other: &Scalar) -> Ordering
     ensures { result ≡ slice_cmp nat_cmp (scalar_text (scalar_view scalar.now)) (scalar_text (scalar_view other.now)) }
 {
-    if let (Scalar::Text(text), Scalar::Text(other_text)) = (scalar, other) {
-        return order_quoted(text.as_bytes(), other_text.as_bytes());
-    }
     order_scalars(scalar, b"", other, b"")
 }
 
@@ -184,18 +261,6 @@ fn end_at(keys: &[(SmallText, Scalar)], i: usize) -> &'static [u8]
     if i + 1 < keys.len() { b"," } else { b"}" }
 }
 
-// The order of two names in quotes. Those at one place of two objects are mostly the same.
-#[inline(always)]
-fn order_quoted_names(name: &str, other: &str) -> Ordering
-    ensures { result ≡ slice_cmp nat_cmp (quoted name.now) (quoted other.now) }
-{
-    if is_same_text(name, other) {
-        Ordering::Equal
-    } else {
-        order_quoted(name.as_bytes(), other.as_bytes())
-    }
-}
-
 // The order of the members at a place of two objects, with what stands behind them.
 fn order_members(keys: &[(SmallText, Scalar)], others: &[(SmallText, Scalar)], i: usize) -> Ordering
     requires own { i < length keys.now }
@@ -205,7 +270,7 @@ fn order_members(keys: &[(SmallText, Scalar)], others: &[(SmallText, Scalar)], i
 {
     let own = &keys[i];
     let other = &others[i];
-    match order_quoted_names(own.0.as_str(), other.0.as_str()) {
+    match order_names(&own.0, &other.0) {
         Ordering::Equal => { order_scalars(&own.1, end_at(keys, i), &other.1, end_at(others, i)) }
         found => found,
     }

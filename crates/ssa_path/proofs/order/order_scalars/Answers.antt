@@ -1,7 +1,7 @@
 use Rattle.std.proofs.Common.{◌++◌, ◌∙◌, sym}
 use Rattle.std.specs.Ordering.{ordering_then}
 use Rattle.ssa_members.specs.Texts.{text_bytes}
-use Rattle.ssa_model.specs.definitions.Json.{text, scalar_text}
+use Rattle.ssa_model.specs.definitions.Json.{scalar_text}
 use Rattle.ssa_json.specs.View.{scalar_view}
 use Rattle.ssa_path.proofs.Parts.{text_cmp}
 use Rattle.ssa_path.proofs.Members.{then_found}
@@ -10,21 +10,17 @@ use Rattle.ssa_path.proofs.order.order_scalars.Goals as goal
 
 pub returns-in-Equal : goal.returns-in-Equal
 returns-in-Equal c =
-    let texts = c.order_quoted.ensures ∙ (λ j. text_cmp (scalar_text (text (c.as_bytes.ensures.value j)))
-    (scalar_text (text (c.as_bytes-in-Text-Text.ensures.value j)))) in
-    c.cmp.ensures
-    ∙ (λ i. ordering_then ((sym c.in-Equal.is ∙ texts) i) (text_cmp c.args.end.now c.args.other_end.now))
+    c.order_ends.ensures
+    ∙ (λ i. ordering_then ((sym c.in-Equal.is ∙ c.order_texts.ensures) i) (text_cmp c.args.end.now c.args.other_end.now))
     ∙ sym (quoted-cmp (text_bytes c.in-Text-Text.text) (text_bytes c.in-Text-Text.other_text) c.args.end.now c.args.other_end.now)
     ∙ (λ i. text_cmp (scalar_text (scalar_view (sym c.in-Text-Text.is-0 i)) ++ c.args.end.now)
     (scalar_text (scalar_view (sym c.in-Text-Text.is-1 i)) ++ c.args.other_end.now))
 
 pub returns-in_default : goal.returns-in_default
 returns-in_default c =
-    let texts = c.order_quoted.ensures ∙ (λ j. text_cmp (scalar_text (text (c.as_bytes.ensures.value j)))
-    (scalar_text (text (c.as_bytes-in-Text-Text.ensures.value j)))) in
     let rest = text_cmp c.args.end.now c.args.other_end.now in
-    then_found c.order_quoted.result rest c.in_default.not-Equal
-    ∙ (λ i. ordering_then (texts i) rest)
+    then_found c.order_texts.result rest c.in_default.not-Equal
+    ∙ (λ i. ordering_then (c.order_texts.ensures i) rest)
     ∙ sym (quoted-cmp (text_bytes c.in-Text-Text.text) (text_bytes c.in-Text-Text.other_text) c.args.end.now c.args.other_end.now)
     ∙ (λ i. text_cmp (scalar_text (scalar_view (sym c.in-Text-Text.is-0 i)) ++ c.args.end.now)
     (scalar_text (scalar_view (sym c.in-Text-Text.is-1 i)) ++ c.args.other_end.now))

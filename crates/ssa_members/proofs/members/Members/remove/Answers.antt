@@ -8,20 +8,20 @@ use Rattle.ssa_members.proofs.members.Members.remove.Goals as goal
 
 pub invariant_of-self : goal.invariant_of-self
 invariant_of-self g c =
-    subst IsRising (sym c.remove-name.ensures.items) (rising-taken-out c.self.inside.entries.items c.in-Some.i c.self.invariant)
+    subst IsRising (sym c.take_entry-name.ensures.items) (rising-taken-out c.self.inside.entries.items c.in-Some.i c.self.invariant)
 
 pub returns-in-Some-clause-value : goal.returns-in-Some-clause-value
 returns-in-Some-clause-value g c =
     let es = c.self.inside.entries.items in
     let place = name-inside es _ _ c.args.name.now c.in-Some.i c.self.view_is refl c.in-Some.ensures in
-    ap (λ e. Some e.1) c.remove-name.ensures.value ∙ sym (value-found c.args.name.now es c.in-Some.i c.remove-name.result c.self.invariant place)
+    ap (λ e. Some e.1) c.take_entry-name.ensures.value ∙ sym (value-found c.args.name.now es c.in-Some.i c.take_entry-name.result c.self.invariant place)
     ∙ ap (λ m. get m c.args.name.now) c.self.view_is
 
 pub returns-in-Some-clause-entries : goal.returns-in-Some-clause-entries
 returns-in-Some-clause-entries g c =
     let es = c.self.inside.entries.items in
     let place = name-inside es _ _ c.args.name.now c.in-Some.i c.self.view_is refl c.in-Some.ensures in
-    c.remove-name.ensures.items ∙ sym (taken-out c.args.name.now es c.in-Some.i c.remove-name.result c.self.invariant place)
+    c.take_entry-name.ensures.items ∙ sym (taken-out c.args.name.now es c.in-Some.i c.take_entry-name.result c.self.invariant place)
     ∙ ap (λ m. remove_entry (is_at (text_cmp c.args.name.now)) m.entries) c.self.view_is
 
 pub returns-in-Some-clause-ordered : goal.returns-in-Some-clause-ordered
