@@ -25,10 +25,10 @@ pub struct SmallText {
 }
 
 impl SmallText {
-    ghost use Rattle.std.specs.Prelude.{◌≡◌, [], IfOk, bytes_eq, string_bytes};
+    ghost use Rattle.std.specs.Prelude.{◌≡◌, [], true, IfOk, bytes_eq, string_bytes};
     ghost use Rattle.std.specs.Cmp.Lexicographic.{slice_cmp};
     ghost use Rattle.std.specs.Ordering.{nat_cmp};
-    ghost use Rattle.ssa_members.specs.Texts.{text_bytes};
+    ghost use Rattle.ssa_members.specs.Texts.{is_short, text_bytes};
 
     /// The text without a byte. Takes no memory.
     pub fn new() -> SmallText
@@ -129,6 +129,31 @@ impl SmallText {
                 place: Place::Within(*short),
             }),
             Place::Beyond(long) => SmallText::from_long(alloc, long.as_str()),
+        }
+    }
+
+    /// Whether the text is so short that it stands in the value itself.
+    #[inline(always)]
+    pub fn is_short(&self) -> bool
+        ensures { result ≡ is_short self.now }
+    {
+        match &self.place {
+            Place::Within(_) => true,
+            Place::Beyond(_) => false,
+        }
+    }
+
+    /// The same text, which is short. Takes no memory and cannot fail.
+    #[inline(always)]
+    pub fn copy_short(&self) -> SmallText
+        requires { is_short self.now ≡ true }
+        ensures { text_bytes result ≡ text_bytes self.now }
+    {
+        match &self.place {
+            Place::Within(short) => SmallText {
+                place: Place::Within(*short),
+            },
+            Place::Beyond(_) => unreachable!(),
         }
     }
 }

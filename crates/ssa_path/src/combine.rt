@@ -8,7 +8,7 @@ ghost use Rattle.ssa_path.specs.Combine.{is_concerned, keeps, IsCombination, IsC
 
 use crate::children::{find_child, order_at};
 use crate::element::Elem;
-use crate::trie::{Trie, copy_child};
+use crate::trie::{Trie, push_copy};
 use std::alloc::{AllocError, Global};
 use std::cmp::Ordering;
 
@@ -55,6 +55,18 @@ impl Combination {
         }
     }
 
+    // Whether nothing is kept below two places, told where nothing is below one of them.
+    #[inline(always)]
+    fn leaves_none(self, own: &[(Elem, Trie)], others: &[(Elem, Trie)]) -> bool
+        ensures { OnTrue result (IsCombined self own.now others.now []) }
+    {
+        if own.is_empty() {
+            others.is_empty() || !self.keeps(false, true)
+        } else {
+            others.is_empty() && !self.keeps(true, false)
+        }
+    }
+
     // Whether the counterparts of so few children are searched for among so many others.
     pub(crate) fn searches(self, own: usize, others: usize) -> bool
         ensures { OnTrue result (keeps self false true ≡ false) }
@@ -65,7 +77,7 @@ impl Combination {
 
 // Adds a copy of the child, where it is kept.
 #[inline(always)]
-fn push_copy(
+fn push_kept(
     alloc: Global,
     children: &mut Vec<(Elem, Trie)>,
     child: &(Elem, Trie),
@@ -74,7 +86,7 @@ fn push_copy(
     ensures { OnOk result (IsKept kept child.now children.old.items children.new.items) }
 {
     if kept {
-        children.push(copy_child(alloc, child)?)?;
+        push_copy(alloc, child, children)?;
     }
     Ok(())
 }
@@ -82,6 +94,28 @@ fn push_copy(
 // Adds a child that has some path behind the others. On `Err` the others are as they were.
 #[inline(always)]
 fn push_child(
+    alloc: Global,
+    children: &mut Vec<(Elem, Trie)>,
+    element: &Elem,
+    child: Trie,
+) -> Result<(), AllocError>
+    requires trie { is_trie child ≡ true }
+    requires filled { is_filled child ≡ true }
+    ensures ok { OnOk result (IsGrown (element_view element.now) child children.old.items children.new.items) }
+    ensures err { OnErr result (children.new.items ≡ children.old.items) }
+{
+    match element {
+        Elem::Field(name) if name.is_short() => {
+            children.push((Elem::Field(name.copy_short()), child))?;
+        }
+        _ => push_long_child(alloc, children, element, child)?,
+    }
+    Ok(())
+}
+
+// Adds a child that has some path behind the others. On `Err` the others are as they were.
+#[inline(never)]
+fn push_long_child(
     alloc: Global,
     children: &mut Vec<(Elem, Trie)>,
     element: &Elem,
@@ -115,6 +149,49 @@ pub fn push_filled(
     Ok(())
 }
 
+// The combination of what is below two places, which mostly is nothing, and then nothing is called.
+#[cycle(combine)]
+#[inline(always)]
+fn combine_below(
+    alloc: Global,
+    own: &[(Elem, Trie)],
+    others: &[(Elem, Trie)],
+    how: Combination,
+) -> Result<Vec<(Elem, Trie)>, AllocError>
+    requires own_rise { rises (elements own.now) ≡ true }
+    requires own_tries { are_filled_tries own.now ≡ true }
+    requires others_rise { rises (elements others.now) ≡ true }
+    requires others_tries { are_filled_tries others.now ≡ true }
+    ensures { IfOk result (λ v. IsCombined how own.now others.now v.items) }
+{
+    if how.leaves_none(own, others) {
+        return Ok(Vec::new(alloc));
+    }
+    combine_many(alloc, own, others, how)
+}
+
+// The combination of what is below two places, of which one mostly has something below.
+#[cycle(combine)]
+#[inline(never)]
+fn combine_many(
+    alloc: Global,
+    own: &[(Elem, Trie)],
+    others: &[(Elem, Trie)],
+    how: Combination,
+) -> Result<Vec<(Elem, Trie)>, AllocError>
+    requires own_rise { rises (elements own.now) ≡ true }
+    requires own_tries { are_filled_tries own.now ≡ true }
+    requires others_rise { rises (elements others.now) ≡ true }
+    requires others_tries { are_filled_tries others.now ≡ true }
+    ensures { IfOk result (λ v. IsCombined how own.now others.now v.items) }
+{
+    if how.searches(own.len(), others.len()) {
+        combine_found(alloc, own, others, how)
+    } else {
+        combine_children(alloc, own, others, how)
+    }
+}
+
 // The combination of what is below two places.
 #[cycle(combine)]
 #[inline(always)]
@@ -136,11 +213,11 @@ fn combine_children(
     while let Some(order) = order_at(own, i, others, j) {
         match order {
             Ordering::Less => {
-                push_copy(alloc, &mut combined, &own[i], how.keeps(true, false))?;
+                push_kept(alloc, &mut combined, &own[i], how.keeps(true, false))?;
                 i += 1;
             }
             Ordering::Greater => {
-                push_copy(alloc, &mut combined, &others[j], how.keeps(false, true))?;
+                push_kept(alloc, &mut combined, &others[j], how.keeps(false, true))?;
                 j += 1;
             }
             Ordering::Equal => {
@@ -159,6 +236,7 @@ fn combine_children(
 // The combination of what is below two places, where nothing that the other place has alone is kept: each child finds its
 // counterpart, so that few children among many others cost a search each.
 #[cycle(combine)]
+#[inline(never)]
 fn combine_found(
     alloc: Global,
     own: &[(Elem, Trie)],
@@ -175,7 +253,7 @@ fn combine_found(
     let mut combined = Vec::new(alloc);
     for mine in own {
         match find_child(others, &mine.0) {
-            None => push_copy(alloc, &mut combined, mine, how.keeps(true, false))?,
+            None => push_kept(alloc, &mut combined, mine, how.keeps(true, false))?,
             Some(theirs) => {
                 let child = combine(alloc, &mine.1, theirs, how)?;
                 push_filled(alloc, &mut combined, &mine.0, child)?;
@@ -187,6 +265,7 @@ fn combine_found(
 
 /// The paths that the combination keeps of those of two tries.
 #[cycle(combine)]
+#[inline(always)]
 pub fn combine(
     alloc: Global,
     own: &Trie,
@@ -197,11 +276,7 @@ pub fn combine(
     requires other { is_trie other.now ≡ true }
     ensures { IfOk result (λ t. IsCombination how own.now other.now t) }
 {
-    let below = if how.searches(own.below.len(), other.below.len()) {
-        combine_found(alloc, &own.below, &other.below, how)?
-    } else {
-        combine_children(alloc, &own.below, &other.below, how)?
-    };
+    let below = combine_below(alloc, &own.below, &other.below, how)?;
     let concerned = how.is_concerned(other);
     Ok(Trie {
         here: how.keeps(own.here, concerned),

@@ -2,6 +2,7 @@
 ghost use Rattle.std.specs.Prelude.{◌≡◌, true, false, None, vec_capacity, IfOk, OnOk, OnErr, IfNone, IfSome};
 ghost use Rattle.std.specs.List.{list_any};
 ghost use Rattle.ssa_model.specs.definitions.Path.{under};
+ghost use Rattle.ssa_path.specs.Combine.{IsKept};
 ghost use Rattle.ssa_path.specs.Children.{child_at, elements, rises, IsGapFor};
 ghost use Rattle.ssa_path.specs.View.{element_view, path_view};
 ghost use Rattle.ssa_path.specs.Trie.{has_any, kept, is_one_of, paths, shape, is_trie, is_filled, are_filled_tries, IsCopy, IsGathered, IsInserted, IsOnly, IsPlace, IsRemoved};
@@ -20,14 +21,68 @@ pub struct Trie {
     pub below: Vec<(Elem, Trie)>,
 }
 
+// Adds a copy of the child behind the others. Of a short field with nothing below it, as most are, it is put together
+// at its place with no call.
+#[cycle(copy)]
+#[inline(always)]
+pub(crate) fn push_copy(
+    alloc: Global,
+    child: &(Elem, Trie),
+    copies: &mut Vec<(Elem, Trie)>,
+) -> Result<(), AllocError>
+    ensures { OnOk result (IsKept true child.now copies.old.items copies.new.items) }
+{
+    match &child.0 {
+        Elem::Field(name) if name.is_short() && child.1.below.is_empty() => {
+            let trie = Trie {
+                here: child.1.here,
+                below: Vec::new(alloc),
+            };
+            copies.push((Elem::Field(name.copy_short()), trie))?;
+        }
+        _ => push_long_copy(alloc, child, copies)?,
+    }
+    Ok(())
+}
+
+// Adds a copy of the child behind the others.
+#[cycle(copy)]
+#[inline(never)]
+fn push_long_copy(
+    alloc: Global,
+    child: &(Elem, Trie),
+    copies: &mut Vec<(Elem, Trie)>,
+) -> Result<(), AllocError>
+    ensures { OnOk result (IsKept true child.now copies.old.items copies.new.items) }
+{
+    copies.push(copy_child(alloc, child)?)?;
+    Ok(())
+}
+
 // A child with new memory.
+#[cycle(copy)]
 #[inline(always)]
 pub(crate) fn copy_child(alloc: Global, child: &(Elem, Trie)) -> Result<(Elem, Trie), AllocError>
     ensures { IfOk result (λ c. IsCopy child.now c) }
 {
     let element = child.0.copy(alloc)?;
-    let trie = child.1.copy(alloc)?;
+    let trie = copied(alloc, &child.1)?;
     Ok((element, trie))
+}
+
+// The same trie, with new memory.
+#[cycle(copy)]
+fn copied(alloc: Global, trie: &Trie) -> Result<Trie, AllocError>
+    ensures { IfOk result (λ t. shape t ≡ shape trie.now) }
+{
+    let mut below = Vec::with_capacity(alloc, trie.below.len())?;
+    for child in &trie.below {
+        push_copy(alloc, child, &mut below)?;
+    }
+    Ok(Trie {
+        here: trie.here,
+        below,
+    })
 }
 
 // Puts a child at its place among the others.
@@ -126,16 +181,7 @@ impl Trie {
     pub fn copy(&self, alloc: Global) -> Result<Trie, AllocError>
         ensures { IfOk result (λ t. shape t ≡ shape self.now) }
     {
-        let mut below = Vec::with_capacity(alloc, self.below.len())?;
-        for child in &self.below {
-            let element = child.0.copy(alloc)?;
-            let trie = child.1.copy(alloc)?;
-            below.push((element, trie))?;
-        }
-        Ok(Trie {
-            here: self.here,
-            below,
-        })
+        copied(alloc, self)
     }
 
     /// Adds a path. On `Err` the paths are as they were.

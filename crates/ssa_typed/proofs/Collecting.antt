@@ -52,6 +52,14 @@ collects-nothing All d e p = refl
 
 -- ---- a place over what was collected below it
 
+-- of a node with nothing below nothing is collected
+pub nothing-below : (what : Collected) (n : Node) → below n ≡ [] → IsCollected what n []
+nothing-below what n none = record {
+  paths_are = λ e p. sym (ap (λ cs. collects what (is_in_dict n) e (child_at e cs) p) none ∙ collects-nothing what (is_in_dict n) e p);
+  risen = refl;
+  tries = refl;
+}
+
 -- what is collected of a child itself and of what is below it makes the child's trie
 pub child-trie : (what : Collected) (d : Bool) (e : Element) (c : Node) (x : Trie-F Trie) → is_tree c ≡ true → x.here ≡ collects what d e (Some c) []
     → IsCollected what c x.below.items → IsChildTrie (Some what) d e c (roll-Trie x)

@@ -6,7 +6,7 @@ use Rattle.ssa_path.specs.Children.{child_at, elements, rises}
 use Rattle.ssa_path.specs.View.{element_view}
 use Rattle.ssa_typed.specs.Copies.{kept, kept_below}
 use Rattle.ssa_typed.specs.Points.{content_in}
-use Rattle.ssa_typed.specs.Rows.{Row, rows, rows_below, content_at, under_element, is_tree, are_trees, are_apart, are_fields, are_items}
+use Rattle.ssa_typed.specs.Rows.{Row, rows, rows_below, content_at, under_element, is_tree, are_trees, are_apart, are_fields, are_items, leaf_content}
 use Rattle.ssa_typed.specs.declared.node.Leaf.{Leaf}
 use Rattle.ssa_typed.specs.declared.node.Node.{Node, Leaf as LeafOf, Branch, Dict, List as ListOf, the_lemmas}
 use Rattle.ssa_typed.proofs.Building.{Child}
@@ -88,6 +88,12 @@ kept-rows n m e = ap (λ (k : List Row × Bool). k.0) e
 -- of nodes that keep the same both are trees, or neither is
 pub kept-tree : (n m : Node) → kept n ≡ kept m → is_tree n ≡ is_tree m
 kept-tree n m e = ap (λ (k : List Row × Bool). k.1) e
+
+-- leaves of the same contents keep the same
+pub kept-leaf : (l k : Leaf) (n : Node) → leaf_content l ≡ leaf_content k → n ≡ LeafOf k → kept (LeafOf l) ≡ kept n
+kept-leaf l k n same is =
+    let pairs : kept (LeafOf l) ≡ kept (LeafOf k) = search (rules, the_lemmas, same) in
+    pairs ∙ ap kept (sym is)
 
 -- each leaf is a tree
 pub tree-Leaf : (l : Leaf) → is_tree (LeafOf l) ≡ true

@@ -185,8 +185,9 @@ fn push_told(
     Ok(())
 }
 
-// Adds what differs in a child that both trees have.
+// Adds what differs in a child that both trees have. Most are the same, for which nothing is made ready.
 #[cycle(differing)]
+#[inline(always)]
 fn push_differing(
     alloc: Global,
     told: &mut PartsBelow,
@@ -200,6 +201,23 @@ fn push_differing(
     if child.1.is_plainly_same(after) {
         return Ok(());
     }
+    push_parts(alloc, told, child, after)?;
+    Ok(())
+}
+
+// Adds what differs in a child that both trees have and that mostly is another one.
+#[cycle(differing)]
+#[inline(always)]
+fn push_parts(
+    alloc: Global,
+    told: &mut PartsBelow,
+    child: &(Elem, Node),
+    after: &Node,
+) -> Result<(), AllocError>
+    requires before { is_tree child.now.1 ≡ true }
+    requires after { is_tree after.now ≡ true }
+    ensures { OnOk result (AreToldBoth child.now after.now told.old told.new) }
+{
     let parts = differing_parts(alloc, &child.1, after)?;
     push_told(alloc, &mut told.added, &child.0, parts.added)?;
     push_told(alloc, &mut told.modified, &child.0, parts.modified)?;

@@ -2,11 +2,11 @@
 //! stands there is the live tree; of `false` nothing is promised.
 ghost use Rattle.std.specs.Prelude.{◌≡◌, drop, true, IfOk, OnOk};
 ghost use Rattle.ssa_path.specs.Children.{elements, heads_order, rises};
-ghost use Rattle.ssa_typed.specs.Copies.{AddsCopy};
 ghost use Rattle.ssa_typed.specs.Over.{AreAlikeBelow, AreAlikeTrees, AreOver, AreOverInOrder, IsOver};
 ghost use Rattle.ssa_typed.specs.Rows.{are_apart, are_trees, is_tree};
 ghost use Rattle.ssa_typed.specs.Same.{AreSame, AreSameChildren, HaveSame};
 
+use crate::copy::push_copy;
 use crate::in_order::stand_alike;
 use crate::merged_order::sorted_out;
 use crate::node::Node;
@@ -40,21 +40,6 @@ fn over_alike(
     Ok(same)
 }
 
-// Adds a live child that the configuration lacks behind the merged ones.
-#[inline(always)]
-fn push_copy(
-    alloc: Global,
-    merged: &mut Vec<(Elem, Node)>,
-    child: &(Elem, Node),
-) -> Result<(), AllocError>
-    ensures { OnOk result (AddsCopy child.now merged.old.items merged.new.items) }
-{
-    let element = child.0.copy(alloc)?;
-    let node = child.1.copy(alloc)?;
-    merged.push((element, node))?;
-    Ok(())
-}
-
 // The live children in their order, each with the configuration's child of its element over it, and
 // behind them what the configuration alone has, in its order. What the configuration has is moved,
 // and what it lacks is copied.
@@ -84,7 +69,7 @@ fn over_found(
                 same &= over_node(alloc, &child.1, &mut node)?;
                 merged.push((element, node))?;
             }
-            None => push_copy(alloc, &mut merged, child)?,
+            None => push_copy(alloc, &child.0, &child.1, &mut merged)?,
         }
     }
     merged.append(&mut new)?;
@@ -153,7 +138,8 @@ fn over_beside(
     while let Some(order) = order_beside(live, i, &left) {
         match order {
             Ordering::Less => {
-                push_copy(alloc, &mut merged, &live[i])?;
+                let child = &live[i];
+                push_copy(alloc, &child.0, &child.1, &mut merged)?;
                 i += 1;
             }
             Ordering::Greater => {

@@ -33,7 +33,26 @@ impl Collected {
     }
 }
 
+// What is collected below a node. Below most, which are leaves, there is nothing.
+#[cycle(collect)]
+#[inline(always)]
+fn collect_under(
+    alloc: Global,
+    node: &Node,
+    what: Collected,
+) -> Result<Vec<(Elem, Trie)>, AllocError>
+    requires { is_tree node.now ≡ true }
+    ensures { IfOk result (λ v. IsCollected what node.now v.items) }
+{
+    if node.children().is_empty() {
+        return Ok(Vec::new(alloc));
+    }
+    collect_below(alloc, node, what)
+}
+
 // What is collected below a node, each child's behind the child's element.
+#[cycle(collect)]
+#[inline(never)]
 fn collect_below(
     alloc: Global,
     node: &Node,
@@ -47,7 +66,7 @@ fn collect_below(
     let mut collected = Vec::with_capacity(alloc, children.len())?;
     for i in 0..children.len() {
         let child = children.at(i);
-        let below = collect_below(alloc, &child.1, what)?;
+        let below = collect_under(alloc, &child.1, what)?;
         let here = what.has_place(child, in_dict);
         push_filled(alloc, &mut collected, &child.0, Trie { here, below })?;
     }
@@ -64,7 +83,7 @@ pub(crate) fn collect_child(
     requires { is_tree child.now.1 ≡ true }
     ensures { IfOk result (λ t. IsChildTrie (Some what) in_dict (element_view child.now.0) child.now.1 t) }
 {
-    let parts = collect_below(alloc, &child.1, what)?;
+    let parts = collect_under(alloc, &child.1, what)?;
     let here = what.has_place(child, in_dict);
     Ok(Trie { here, below: parts })
 }

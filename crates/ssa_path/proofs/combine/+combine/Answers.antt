@@ -11,25 +11,18 @@ use Rattle.ssa_path.proofs.Lists.{child-trie}
 use Rattle.ssa_path.proofs.Combining.{Children, combining-all, combined-place, heads-none, own-at, other-at, both-at}
 use Rattle.ssa_path.proofs.Finding.{IsFinding, finding-all, none-at, some-at}
 use Rattle.ssa_path.proofs.combine.+combine.Goals as goal
-use Rattle.ssa_path.proofs.combine.+combine.Goals.{combine-then-searches+in_ok-below, combine-else-searches+in_ok-below-2, combine_found-in-None+in_ok-push_copy-in-None, combine_found-in-Some+in_ok-child-in-Some+in_ok-push_filled-in-Some}
+use Rattle.ssa_path.proofs.combine.+combine.Goals.{combine_found-in-None+in_ok-push_kept-in-None, combine_found-in-Some+in_ok-child-in-Some+in_ok-push_filled-in-Some}
 
-pub combine-combine_children-requires : goal.combine-combine_children-requires
-combine-combine_children-requires t c =
-    let own = trie-parts c.args.own.now c.deref-else-searches.result.now c.deref-else-searches.ensures.value c.requires.own in
-    let others = trie-parts c.args.other.now c.deref-else-searches-2.result.now c.deref-else-searches-2.ensures.value c.requires.other in
+pub combine-combine_below-requires : goal.combine-combine_below-requires
+combine-combine_below-requires t c =
+    let own = trie-parts c.args.own.now c.deref.result.now c.deref.ensures.value c.requires.own in
+    let others = trie-parts c.args.other.now c.deref-2.result.now c.deref-2.ensures.value c.requires.other in
     (search (rules, the_lemmas), (own.0, (own.1, (others.0, others.1))))
 
 pub combine-returns : goal.combine-returns
 combine-returns t c =
-    let Below : Children → Type 0 = IsCombined c.args.how (out-Trie c.args.own.now).below.items (out-Trie c.args.other.now).below.items in
-    let below : Below c.if-searches.below.items =
-    elim c.if-searches.branch [
-      | combine-then-searches+in_ok-below w ↦
-          subst Below (sym (ap (λ v. v.items) w.below-is)) (rw (w.deref.ensures.value, w.deref-then-searches.ensures.value) at w.in_ok-below.ensures)
-      | combine-else-searches+in_ok-below-2 w ↦
-          subst Below (sym (ap (λ v. v.items) w.below-is))
-          (rw (w.deref-else-searches.ensures.value, w.deref-else-searches-2.ensures.value) at w.in_ok-below-2.ensures)
-    ] in
+    let below : IsCombined c.args.how (out-Trie c.args.own.now).below.items (out-Trie c.args.other.now).below.items c.in_ok-below.below.items =
+    rw (c.deref.ensures.value, c.deref-2.ensures.value) at c.in_ok-below.ensures in
     let here = c.keeps.ensures ∙ ap (keeps c.args.how (out-Trie c.args.own.now).here) c.is_concerned-concerned.ensures in
     combined-place c.args.how _ c.args.own.now c.args.other.now here below
 
@@ -38,15 +31,15 @@ combine_children-loop-order-preserved-in-Less t c =
     let heads : heads_order (drop c.loop-order.i c.args.own.now) (drop c.loop-order.j c.args.others.now) ≡ Some Less = sym c.order_at.ensures ∙ c.in-Some.is
     ∙ ap Some c.in-Less.is in
     own-at c.args.how c.args.own.now c.args.others.now c.loop-order.i c.loop-order.j c.index-own-i.result c.loop-order.combined.items
-    c.push_copy.new.children.items c.keeps.result heads c.index-own-i.is c.keeps.ensures c.in_ok-push_copy-in-Less.ensures c.loop-order.invariant
+    c.push_kept.new.children.items c.keeps.result heads c.index-own-i.is c.keeps.ensures c.in_ok-push_kept-in-Less.ensures c.loop-order.invariant
 
 pub combine_children-loop-order-preserved-in-Greater : goal.combine_children-loop-order-preserved-in-Greater
 combine_children-loop-order-preserved-in-Greater t c =
     let heads : heads_order (drop c.loop-order.i c.args.own.now) (drop c.loop-order.j c.args.others.now) ≡ Some Greater = sym c.order_at.ensures
     ∙ c.in-Some.is ∙ ap Some c.in-Greater.is in
     other-at c.args.how c.args.own.now c.args.others.now c.loop-order.i c.loop-order.j c.index-others-j.result c.loop-order.combined.items
-    c.push_copy-in-Greater.new.children.items c.keeps-in-Greater.result heads c.index-others-j.is c.keeps-in-Greater.ensures
-    c.in_ok-push_copy-in-Greater.ensures c.loop-order.invariant
+    c.push_kept-in-Greater.new.children.items c.keeps-in-Greater.result heads c.index-others-j.is c.keeps-in-Greater.ensures
+    c.in_ok-push_kept-in-Greater.ensures c.loop-order.invariant
 
 pub combine_children-loop-order-preserved : goal.combine_children-loop-order-preserved
 combine_children-loop-order-preserved t c =
@@ -60,12 +53,6 @@ pub combine_children-returns : goal.combine_children-returns
 combine_children-returns t c =
     let none = heads-none _ _ (sym c.order_at.ensures ∙ c.in_default.is) in
     combining-all c.args.how c.args.own.now c.args.others.now _ _ _ none.0 none.1 c.loop-order.invariant
-
-pub combine-combine_found-requires : goal.combine-combine_found-requires
-combine-combine_found-requires t c =
-    let own = trie-parts c.args.own.now c.deref.result.now c.deref.ensures.value c.requires.own in
-    let others = trie-parts c.args.other.now c.deref-then-searches.result.now c.deref-then-searches.ensures.value c.requires.other in
-    (search (rules, the_lemmas), (own.0, (own.1, (others.0, (others.1, c.if-searches.ensures)))))
 
 pub combine_found-combine-requires : goal.combine_found-combine-requires
 combine_found-combine-requires t c =
@@ -81,11 +68,11 @@ pub combine_found-loop-mine-preserved : goal.combine_found-loop-mine-preserved
 combine_found-loop-mine-preserved t c =
     let Next : Children → Type 0 = IsFinding c.args.how c.args.own.now c.args.others.now (drop (c.loop-mine.mine-index + 1) c.args.own.now) in
     elim c.match-find_child.branch [
-      | combine_found-in-None+in_ok-push_copy-in-None w ↦
+      | combine_found-in-None+in_ok-push_kept-in-None w ↦
           subst Next (sym (ap (λ v. v.items) w.combined-is))
           (none-at c.args.how c.args.own.now c.args.others.now c.loop-mine.mine-index c.mine-item.result c.loop-mine.combined.items
-          w.push_copy.new.children.items w.keeps.result c.requires.own_alone c.requires.others_rise c.loop-mine-test.true c.mine-item.is
-          (sym c.find_child.ensures ∙ ap option_copied w.in-None.is) w.keeps.ensures w.in_ok-push_copy-in-None.ensures c.loop-mine.invariant)
+          w.push_kept.new.children.items w.keeps.result c.requires.own_alone c.requires.others_rise c.loop-mine-test.true c.mine-item.is
+          (sym c.find_child.ensures ∙ ap option_copied w.in-None.is) w.keeps.ensures w.in_ok-push_kept-in-None.ensures c.loop-mine.invariant)
       | combine_found-in-Some+in_ok-child-in-Some+in_ok-push_filled-in-Some w ↦
           subst Next (sym (ap (λ v. v.items) w.combined-is))
           (some-at c.args.how c.args.own.now c.args.others.now c.loop-mine.mine-index c.mine-item.result c.loop-mine.combined.items

@@ -34,7 +34,7 @@ differing_below-push_differing-requires t c =
     let own = child-read (below n) (lent_children c.in_ok-own.field-0) c.loop-order.i r c.at-in-Equal.ensures.read c.in_ok-own.ensures in
     let other = child-read (below m) (lent_children c.in_ok-others.field-0) c.loop-order.j s c.at-in-Equal-2.ensures.read c.in_ok-others.ensures in
     let small = smaller n (element_view r.0) r.1 own in
-    let falls : 3 * length (rows r.1) + 2 < 3 * length (rows n) = omega arith in
+    let falls : 4 * length (rows r.1) + 3 < 4 * length (rows n) = omega arith in
     (search (rules, falls), (tree-child n (element_view r.0) r.1 c.requires.before own, tree-child m (element_view s.0) s.1 c.requires.after other))
 
 pub differing_below-loop-order-preserved-in-Less : goal.differing_below-loop-order-preserved-in-Less

@@ -5,13 +5,16 @@ use Rattle.ssa_typed.proofs.Differing.{AreComparing}
 use Rattle.ssa_typed.proofs.compare.+differing.Given as goal
 
 abbrev pub decreases-push_differing : goal.decreases-push_differing
-decreases-push_differing l = 3 * length (rows l.child.now.1) + 2
+decreases-push_differing l = 4 * length (rows l.child.now.1) + 3
+
+abbrev pub decreases-push_parts : goal.decreases-push_parts
+decreases-push_parts l = 4 * length (rows l.child.now.1) + 2
 
 abbrev pub decreases-differing_parts : goal.decreases-differing_parts
-decreases-differing_parts l = 3 * length (rows l.before.now) + 1
+decreases-differing_parts l = 4 * length (rows l.before.now) + 1
 
 abbrev pub decreases-differing_below : goal.decreases-differing_below
-decreases-differing_below l = 3 * length (rows l.before.now)
+decreases-differing_below l = 4 * length (rows l.before.now)
 
 abbrev pub invariant-differing_below-loop-order : goal.invariant-differing_below-loop-order
 invariant-differing_below-loop-order l =

@@ -110,8 +110,8 @@ over_beside-loop-order-preserved-in-Less t c =
     let so_far = subst (λ l. IsOverSoFar cs c.args.config.now.items l ds c.loop-order.merged.items) left c.loop-order.invariant.0 in
     let first = subst (λ l. heads_order l ds ≡ Some Less) left heads in
     let x = c.in_ok-push_copy-in-Less.ensures in (
-      over-copied cs c.args.config.now.items child (drop (i + 1) cs) ds c.loop-order.merged.items c.push_copy.new.merged.items x.0 so_far first x.1 x.2 x.3,
-      λ h. same-copied cs c.args.config.now.items child (drop (i + 1) cs) ds c.loop-order.merged.items c.push_copy.new.merged.items x.0 so_far first x.1 x.2 x.3
+      over-copied cs c.args.config.now.items child (drop (i + 1) cs) ds c.loop-order.merged.items c.push_copy.new.copies.items x.0 so_far first x.1 x.2 x.3,
+      λ h. same-copied cs c.args.config.now.items child (drop (i + 1) cs) ds c.loop-order.merged.items c.push_copy.new.copies.items x.0 so_far first x.1 x.2 x.3
           (subst (λ l. IsSameSoFar cs l c.loop-order.merged.items) left (c.loop-order.invariant.1 h)),
     )
 
