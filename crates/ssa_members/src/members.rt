@@ -67,15 +67,21 @@ fn order_names(name: &str, other: &str) -> Ordering
     name.cmp(other)
 }
 
-// Where the name stands, if it does, looked for among the names one after the other. Bytes are compared, by a call, only
-// where the lengths are the same.
+// Whether both are one name. Most differ in their lengths, and bytes are compared, by a call, only where these are the same.
+#[inline(always)]
+fn is_one_name(name: &str, other: &str) -> bool
+    ensures { result ≡ bytes_eq name.now other.now }
+{
+    name.len() == other.len() && name == other
+}
+
+// Where the name stands, if it does, looked for among the names one after the other.
 #[inline(always)]
 fn scan<V>(entries: &[(Name, V)], name: &str) -> Option<usize>
     ensures { MatchOption result (lookup (is_at (text_cmp name.now)) entries.now ≡ None) (IsNameAt name.now entries.now) }
 {
     for i in 0..entries.len() {
-        let other = entries[i].0.as_str();
-        if name.len() == other.len() && name == other {
+        if is_one_name(name, entries[i].0.as_str()) {
             return Some(i);
         }
     }
@@ -98,13 +104,13 @@ fn take_entry<V>(entries: &mut Vec<(Name, V)>, i: usize) -> (Name, V)
     last
 }
 
-// Whether the name is one of these. Most tell by their length that they are another.
+// Whether the name is one of these.
 #[inline(always)]
 fn is_among(name: &str, names: &[&str]) -> bool
     ensures { result ≡ list_any (bytes_eq name.now) (map (λ n. n.now) names.now) }
 {
     for other in names {
-        if name.len() == other.len() && name == *other {
+        if is_one_name(name, *other) {
             return true;
         }
     }
