@@ -287,8 +287,8 @@ fn hold_session<'a, T: Files + AllocGlobal, R: Source, W: Sink>(
     writer: &mut W,
     name: &'a str,
 ) -> Result<Status, Trouble<'a>> {
-    // (a session ends its process, with which its memory goes: to give back a whole history piece by piece would take
-    // a thirtieth of a session)
+    // (not dropped: the program ends with its session, and all memory with it; to give a history back piece by piece takes some
+    // four hundredths of a session)
     let mut bench = ManuallyDrop::new(load_bench(rt, name)?);
     hold_and_save(rt, reader, writer, name, &mut bench)
 }
