@@ -1,5 +1,5 @@
 //! Vectors without room that nobody needs.
-ghost use Rattle.std.specs.Prelude.{◌≡◌, ◌<◌, [], ◌∷◌, ◌++◌, length, vec_capacity, OnOk};
+ghost use Rattle.std.specs.Prelude.{◌≡◌, ◌<◌, [], ◌∷◌, ◌++◌, length, vec_capacity, OnErr, OnOk};
 
 use std::alloc::AllocError;
 
@@ -16,7 +16,7 @@ where
     T: Drop,
     requires some { 0 < length items.old.items }
     requires few { length items.old.items < 64 }
-    ensures items { OnOk result (items.new.items ≡ items.old.items) }
+    ensures items { items.new.items ≡ items.old.items }
     ensures room { OnOk result (length items.new.items < vec_capacity items.new) }
 {
     let times = if items.len() < VERY_FEW { 4 } else { 2 };
@@ -26,12 +26,13 @@ where
     Ok(())
 }
 
-// Puts an element behind the others. The first one takes room for so many.
+// Puts an element behind the others. The first one takes room for so many. On `Err` the others are as they were.
 #[inline(always)]
 fn push_from<T>(items: &mut Vec<T>, item: T, first: usize) -> Result<(), AllocError>
 where
     T: Drop,
-    ensures { OnOk result (items.new.items ≡ items.old.items ++ item ∷ []) }
+    ensures ok { OnOk result (items.new.items ≡ items.old.items ++ item ∷ []) }
+    ensures err { OnErr result (items.new.items ≡ items.old.items) }
 {
     if items.capacity() == 0 {
         *items = Vec::with_capacity(*items.allocator(), first)?;
@@ -44,21 +45,23 @@ where
 
 /// Puts an element behind the others. The first one takes room for itself alone, where a vector's own `push`
 /// takes room for four: of many vectors with one element each, as JSON text can have, most of the memory
-/// would be such room.
+/// would be such room. On `Err` the others are as they were.
 pub fn push_closely<T>(items: &mut Vec<T>, item: T) -> Result<(), AllocError>
 where
     T: Drop,
-    ensures { OnOk result (items.new.items ≡ items.old.items ++ item ∷ []) }
+    ensures ok { OnOk result (items.new.items ≡ items.old.items ++ item ∷ []) }
+    ensures err { OnErr result (items.new.items ≡ items.old.items) }
 {
     push_from(items, item, 1)
 }
 
 /// Puts an element behind the others, as [`push_closely`] does, where few are alone: the first one takes room for two,
-/// and the third for eight.
+/// and the third for eight. On `Err` the others are as they were.
 pub fn push_loosely<T>(items: &mut Vec<T>, item: T) -> Result<(), AllocError>
 where
     T: Drop,
-    ensures { OnOk result (items.new.items ≡ items.old.items ++ item ∷ []) }
+    ensures ok { OnOk result (items.new.items ≡ items.old.items ++ item ∷ []) }
+    ensures err { OnErr result (items.new.items ≡ items.old.items) }
 {
     push_from(items, item, 2)
 }

@@ -1,5 +1,5 @@
 // The order of elements' texts by their bytes. The texts themselves are never made.
-ghost use Rattle.std.specs.Prelude.{◌≡◌, ◌⊎◌, ◌≤◌, ◌<◌, ◌+◌, ◌++◌, [], ◌∷◌, false, length, take, drop, IfSome, Some};
+ghost use Rattle.std.specs.Prelude.{◌≡◌, ◌≤◌, ◌<◌, ◌+◌, ◌++◌, [], ◌∷◌, false, length, take, drop, IfSome, Some};
 ghost use Rattle.std.specs.Ordering.{nat_cmp};
 ghost use Rattle.std.specs.Cmp.Lexicographic.{slice_cmp};
 ghost use Rattle.std.specs.Int.{to_le_bytes, w32, w64};
@@ -123,20 +123,6 @@ pub fn past_four(text: &[u8], other: &[u8], i: usize) -> usize
     }
 }
 
-// How many bytes the shorter text has.
-#[inline(always)]
-fn shorter_len(text: &[u8], other: &[u8]) -> usize
-    ensures own { result ≤ length text.now }
-    ensures others { result ≤ length other.now }
-    ensures shorter { (result ≡ length text.now) ⊎ (result ≡ length other.now) }
-{
-    if text.len() < other.len() {
-        text.len()
-    } else {
-        other.len()
-    }
-}
-
 // The order of two texts in quotes.
 #[inline(always)]
 pub fn order_quoted(text: &[u8], other: &[u8]) -> Ordering
@@ -144,7 +130,7 @@ pub fn order_quoted(text: &[u8], other: &[u8]) -> Ordering
 {
     let eights = alike_in_eights(text, other);
     let mut i = past_four(text, other, eights);
-    let both = shorter_len(text, other);
+    let both = text.len().min(other.len());
     while i < both {
         if text[i] != other[i] {
             return order_bytes(text[i], other[i]);

@@ -78,9 +78,9 @@ read_items-items-preserved t c =
       most = n - 1;
       enough = omega (arith, l.invariant.enough);
       read = l.invariant.read ∙ ap (parse_map (before l.found.items)) turn ∙ one_more l.found.items v _
-          ∙ ap (λ vs. parse_map (before vs) (converted of_items (items p (n - 1) r))) (sym c.in_ok-push_closely.ensures);
+          ∙ ap (λ vs. parse_map (before vs) (converted of_items (items p (n - 1) r))) (sym c.in_ok-push_closely.ensures.ok);
       shorter = omega (arith, l.invariant.shorter);
-      narrow = subst (λ vs. items_narrow (items_view vs) ≡ true) (sym c.in_ok-push_closely.ensures)
+      narrow = subst (λ vs. items_narrow (items_view vs) ≡ true) (sym c.in_ok-push_closely.ensures.ok)
           (items_narrow-push l.found.items v l.invariant.narrow done.narrow);
     }
 
@@ -131,7 +131,7 @@ read_pairs-members-preserved t c =
     let lesser = done.shorter in
     let copied : string_bytes key ≡ k = search rules in
     let put_in = λ (found : Members).
-    ap (λ ps. put_in_turn ps found) c.in_ok-push_loosely.ensures ∙ put-append l.pairs.items ((key, v) ∷ []) found in
+    ap (λ ps. put_in_turn ps found) c.in_ok-push_loosely.ensures.ok ∙ put-append l.pairs.items ((key, v) ∷ []) found in
     let spelled = λ (found : Members).
     ap members_data (put_in found) ∙ put-data (string_bytes key) (view v) (put_in_turn l.pairs.items found)
     ∙ ap (λ name. put name (data_of (view v)) (members_data (put_in_turn l.pairs.items found))) copied in
