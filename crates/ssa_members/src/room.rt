@@ -6,11 +6,8 @@ use std::alloc::AllocError;
 // Vectors of so many elements and more are left to grow where they stand, if there is room behind them.
 const MANY: usize = 64;
 
-// Vectors of fewer elements get room for four times as many.
-const VERY_FEW: usize = 4;
-
-// Gives a vector without spare room that for twice as many elements, and one of very few that for four times as many. To
-// move few elements costs less than to ask whether they can stay.
+// Gives a vector without spare room that for twice as many elements, and one of two or three that for four times as many:
+// where there are more than two, there mostly are some. To move few elements costs less than to ask whether they can stay.
 fn widen<T>(items: &mut Vec<T>) -> Result<(), AllocError>
 where
     T: Drop,
@@ -19,7 +16,10 @@ where
     ensures items { items.new.items ≡ items.old.items }
     ensures room { OnOk result (length items.new.items < vec_capacity items.new) }
 {
-    let times = if items.len() < VERY_FEW { 4 } else { 2 };
+    let times = match items.len() {
+        2 | 3 => 4,
+        _ => 2,
+    };
     let mut wider = Vec::with_capacity(*items.allocator(), items.len() * times)?;
     wider.append(items)?;
     *items = wider;

@@ -116,7 +116,7 @@ pub behind-append : (way : Path) (ps qs : List Path) → behind way (ps ++ qs) �
 behind-append way [] qs = refl
 behind-append way (p ∷ ps) qs = ap (λ l. (way ++ p) ∷ l) (behind-append way ps qs)
 
-behind-after : (way : Path) (e : Element) (ps : List Path) → behind (way ++ e ∷ []) ps ≡ behind way (paths_after e ps)
+pub behind-after : (way : Path) (e : Element) (ps : List Path) → behind (way ++ e ∷ []) ps ≡ behind way (paths_after e ps)
 behind-after way e [] = refl
 behind-after way e (p ∷ ps) = λ i. append_assoc way (e ∷ []) p i ∷ behind-after way e ps i
 
@@ -140,7 +140,7 @@ way-back ws longer x n now is len rest =
 abbrev pub shown : Bool → List (Elem × Trie) → List Path
 shown here cs = here_path here ++ paths_below cs
 
-shown-push : (here : Bool) (cs : List (Elem × Trie)) (c : Elem × Trie) → shown here (cs ++ c ∷ []) ≡ shown here cs ++ paths_after (element_view c.0) (paths c.1)
+pub shown-push : (here : Bool) (cs : List (Elem × Trie)) (c : Elem × Trie) → shown here (cs ++ c ∷ []) ≡ shown here cs ++ paths_after (element_view c.0) (paths c.1)
 shown-push here cs c =
     ap (λ ps. here_path here ++ ps) (paths_below-append cs (c ∷ []) ∙ ap (λ ps. paths_below cs ++ ps) (append-nil (paths_after (element_view c.0) (paths c.1))))
     ∙ sym (append_assoc (here_path here) (paths_below cs) (paths_after (element_view c.0) (paths c.1)))

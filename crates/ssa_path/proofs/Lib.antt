@@ -34,3 +34,4 @@ pub mod TakingOut
 pub mod SortKeys
 pub mod LeadingTexts
 pub mod PathTexts
+pub mod WrittenPaths

@@ -9,6 +9,7 @@ pub mod Order
 pub mod Parting
 pub mod Trie
 pub mod View
+pub mod WrittenPaths
 pub mod OwnText
 pub mod FieldsReading
 pub mod FieldsWriting

@@ -247,9 +247,9 @@ impl FieldSet {
         copy_ways(alloc, &ways)
     }
 
-    /// The paths of the set, in path order, each as references to elements of the set.
+    // The paths of the set, in path order, each as references to elements of the set.
     #[inline(always)]
-    pub fn ways(&self, alloc: Global) -> Result<Vec<Vec<&Elem>>, AllocError>
+    fn ways(&self, alloc: Global) -> Result<Vec<Vec<&Elem>>, AllocError>
         ensures { IfOk result (λ ways. ways_view ways.items ≡ set.paths self.now) }
     {
         let mut way = Vec::new(alloc);

@@ -1,18 +1,21 @@
 //! Elements and paths, appended to JSON text.
-ghost use Rattle.std.specs.Prelude.{◌≡◌, [], ◌∷◌, ◌++◌, OnOk};
+ghost use Rattle.std.specs.Prelude.{◌≡◌, [], ◌∷◌, ◌++◌, true, OnOk};
 ghost use Rattle.ssa_model.specs.definitions.Entries.{text_json};
 ghost use Rattle.ssa_model.specs.definitions.Json.{compact, compact_items, list};
 ghost use Rattle.ssa_model.specs.definitions.Path.{element_text};
 ghost use Rattle.ssa_model.specs.definitions.Replies.{items_json, path_json, paths_json};
 ghost use Rattle.ssa_json.specs.Writable.{IsOfProgram};
-ghost use Rattle.ssa_path.specs.Listing.{way_view};
+ghost use Rattle.ssa_path.specs.Listing.{behind, way_view};
 ghost use Rattle.ssa_path.specs.TopPaths.{last_view, lent_path, text_of};
+ghost use Rattle.ssa_path.specs.Trie.{here_path, is_trie, paths};
 ghost use Rattle.ssa_path.specs.View.{element_view};
+ghost use Rattle.ssa_path.specs.WrittenPaths.{AreWritten};
 
 use crate::element::Elem;
 use crate::field_set::FieldSet;
 use crate::path::Path;
 use crate::top_path::LentPath;
+use crate::trie::Trie;
 use ssa_json::quotes::has_no_escapes;
 use ssa_json::write::{push_comma, push_quoted};
 use std::alloc::{AllocError, Global};
@@ -104,19 +107,54 @@ pub fn push_path(alloc: Global, text: &mut Vec<u8>, path: &Path) -> Result<(), A
     lent.push_text(alloc, text)
 }
 
+// Appends the path that a way leads along, where it is in the set.
+fn push_here(
+    alloc: Global,
+    text: &mut Vec<u8>,
+    is_later: &mut bool,
+    here: bool,
+    way: &[&Elem],
+) -> Result<(), AllocError>
+    ensures { OnOk result (AreWritten is_later.old text.old.items (behind (way_view way.now) (here_path here)) is_later.new text.new.items) }
+{
+    if here {
+        push_comma(text, *is_later)?;
+        push_way(alloc, text, way)?;
+        *is_later = true;
+    }
+    Ok(())
+}
+
+// Appends the paths of a trie to which this way leads, in path order, a comma in front of each but the first of all.
+fn push_ways<'a>(
+    alloc: Global,
+    text: &mut Vec<u8>,
+    is_later: &mut bool,
+    trie: &'a Trie,
+    way: &mut Vec<&'a Elem>,
+) -> Result<(), AllocError>
+    requires { is_trie trie.now ≡ true }
+    ensures way { OnOk result (way.new.items ≡ way.old.items) }
+    ensures written { OnOk result (AreWritten is_later.old text.old.items (behind (way_view way.old.items) (paths trie.now)) is_later.new text.new.items) }
+{
+    push_here(alloc, text, is_later, trie.here, way)?;
+    for child in &trie.below {
+        way.push(&child.0)?;
+        push_ways(alloc, text, is_later, &child.1, way)?;
+        let _ = way.pop();
+    }
+    Ok(())
+}
+
 /// Appends the paths of a set, in path order.
 pub fn push_paths(alloc: Global, text: &mut Vec<u8>, paths: &FieldSet) -> Result<(), AllocError>
     ensures text { OnOk result (text.new.items ≡ text.old.items ++ compact (paths_json paths.now)) }
     ensures of_program { OnOk result (IsOfProgram (paths_json paths.now)) }
 {
-    let ways = paths.ways(alloc)?;
-    text.push(b'[')?;
     let mut is_later = false;
-    for way in &ways {
-        push_comma(text, is_later)?;
-        push_way(alloc, text, way)?;
-        is_later = true;
-    }
+    let mut way = Vec::new(alloc);
+    text.push(b'[')?;
+    push_ways(alloc, text, &mut is_later, paths.root(), &mut way)?;
     text.push(b']')?;
     Ok(())
 }
