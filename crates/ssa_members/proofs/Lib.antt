@@ -3,4 +3,5 @@ pub mod Lent
 pub mod Made
 pub mod Rising
 pub mod Searching
+pub mod Shifted
 pub mod Texts

@@ -40,6 +40,7 @@ impl Name {
     }
 
     /// The name with these bytes.
+    #[inline(always)]
     pub fn from_str(alloc: Global, text: &str) -> Result<Name, AllocError>
         ensures ok { IfOk result (λ n. string_bytes n ≡ text.now) }
     {

@@ -2,6 +2,7 @@
 ghost use Rattle.std.specs.Prelude.{IsUtf8, ◌≡◌, ◌≤◌, ◌+◌, bytes_eq, drop, take};
 ghost use Rattle.std.specs.Int.{to_le_bytes, w64};
 
+use crate::words::{eight_at, held};
 use std::cmp::Ordering;
 use std::str::from_utf8_unchecked;
 
@@ -12,24 +13,6 @@ pub struct ShortText {
     bytes: [u8; 22],
     ghost within: { len ≤ 22 },
     ghost utf8: { ∥ IsUtf8 (take len bytes) ∥₁ },
-}
-
-// The eight bytes at a place as one number.
-#[inline(always)]
-fn eight_at(bytes: &[u8; 22], i: usize) -> u64
-    requires { i + 8 ≤ 22 }
-    ensures { to_le_bytes w64 result ≡ take 8 (drop i bytes.now) }
-{
-    u64::from_le_bytes([
-        bytes[i],
-        bytes[i + 1],
-        bytes[i + 2],
-        bytes[i + 3],
-        bytes[i + 4],
-        bytes[i + 5],
-        bytes[i + 6],
-        bytes[i + 7],
-    ])
 }
 
 // Whether the eight bytes at a place are the same, which is one comparison.
@@ -58,6 +41,7 @@ impl ShortText {
     }
 
     /// The text with these bytes, where it is so short.
+    #[inline(always)]
     pub fn from_str(text: &str) -> Option<ShortText>
         ensures { IfSome result (λ s. short_bytes s ≡ text.now) }
     {
@@ -65,11 +49,9 @@ impl ShortText {
         if len > 22 {
             return None;
         }
-        let mut bytes = [0; 22];
-        bytes[..len].copy_from_slice(text.as_bytes());
         Some(ShortText {
             len: len as u8,
-            bytes,
+            bytes: held(text.as_bytes()),
         })
     }
 

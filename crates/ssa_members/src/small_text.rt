@@ -40,6 +40,7 @@ impl SmallText {
     }
 
     /// The text with these bytes.
+    #[inline(always)]
     pub fn from_str(alloc: Global, text: &str) -> Result<SmallText, AllocError>
         ensures ok { IfOk result (λ t. text_bytes t ≡ text.now) }
     {
@@ -51,14 +52,22 @@ impl SmallText {
         SmallText::from_long(alloc, text)
     }
 
-    // The text with these bytes, in memory of its own.
+    // These bytes in memory of their own. It gives a pointer alone, so that no text that is mostly short need stand in
+    // memory for a call.
     #[inline(never)]
+    fn boxed(alloc: Global, text: &str) -> Result<Box<String>, AllocError>
+        ensures ok { IfOk result (λ b. string_bytes b.value ≡ text.now) }
+    {
+        Ok(Box::new(alloc, String::from_str(alloc, text)?)?)
+    }
+
+    // The text with these bytes, in memory of its own.
+    #[inline(always)]
     fn from_long(alloc: Global, text: &str) -> Result<SmallText, AllocError>
         ensures ok { IfOk result (λ t. text_bytes t ≡ text.now) }
     {
-        let long = Box::new(alloc, String::from_str(alloc, text)?)?;
         Ok(SmallText {
-            place: Place::Beyond(long),
+            place: Place::Beyond(SmallText::boxed(alloc, text)?),
         })
     }
 
