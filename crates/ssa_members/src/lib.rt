@@ -21,7 +21,7 @@ pub mod name;
 pub mod room;
 mod short_text;
 pub mod small_text;
-mod words;
+pub mod words;
 
 pub use members::Members;
 pub use name::Name;

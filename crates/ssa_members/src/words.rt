@@ -1,4 +1,4 @@
-// The bytes of short texts, copied as words: that takes a few moves, and a copy of any length takes a call.
+//! Bytes of texts as words: to compare or copy as many at once takes a few moves, where any length of them takes a call.
 ghost use Rattle.std.specs.Prelude.{◌≡◌, ◌≤◌, ◌<◌, ◌+◌, ◌-◌, ◌++◌, length, take, drop};
 ghost use Rattle.std.specs.Int.{to_le_bytes, w32, w64};
 
@@ -20,9 +20,9 @@ pub fn eight_at(bytes: &[u8], i: usize) -> u64
     ])
 }
 
-// The four bytes at a place as one number.
+/// The four bytes at a place as one number.
 #[inline(always)]
-fn four_at(bytes: &[u8], i: usize) -> u32
+pub fn four_at(bytes: &[u8], i: usize) -> u32
     requires { i + 4 ≤ length bytes.now }
     ensures { to_le_bytes w32 result ≡ take 4 (drop i bytes.now) }
 {

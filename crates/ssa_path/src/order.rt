@@ -2,7 +2,6 @@
 ghost use Rattle.std.specs.Prelude.{◌≡◌, ◌≤◌, ◌<◌, ◌+◌, ◌++◌, [], ◌∷◌, false, length, take, drop, IfSome, Some};
 ghost use Rattle.std.specs.Ordering.{nat_cmp};
 ghost use Rattle.std.specs.Cmp.Lexicographic.{slice_cmp};
-ghost use Rattle.std.specs.Int.{to_le_bytes, w32, w64};
 ghost use Rattle.ssa_members.specs.Texts.{text_bytes};
 ghost use Rattle.ssa_model.specs.definitions.Json.{compact_members, quoted, scalar_text, whole_text};
 ghost use Rattle.ssa_model.specs.definitions.Path.{key_members};
@@ -14,6 +13,7 @@ use itoa::Buffer;
 use ssa_json::quotes::escape;
 use ssa_json::value::Scalar;
 use ssa_members::SmallText;
+use ssa_members::words::{eight_at, four_at};
 use std::cmp::Ordering;
 
 // A byte of a text as JSON has it in quotes, or the closing quote; and how many bytes that takes.
@@ -69,33 +69,6 @@ fn order_bytes(byte: u8, other: u8) -> Ordering
     } else {
         order_escapes(Some(byte), Some(other))
     }
-}
-
-// The eight bytes at a place as one number.
-#[inline(always)]
-fn eight_at(bytes: &[u8], i: usize) -> u64
-    requires { i + 8 ≤ length bytes.now }
-    ensures { to_le_bytes w64 result ≡ take 8 (drop i bytes.now) }
-{
-    u64::from_le_bytes([
-        bytes[i],
-        bytes[i + 1],
-        bytes[i + 2],
-        bytes[i + 3],
-        bytes[i + 4],
-        bytes[i + 5],
-        bytes[i + 6],
-        bytes[i + 7],
-    ])
-}
-
-// The four bytes at a place as one number.
-#[inline(always)]
-fn four_at(bytes: &[u8], i: usize) -> u32
-    requires { i + 4 ≤ length bytes.now }
-    ensures { to_le_bytes w32 result ≡ take 4 (drop i bytes.now) }
-{
-    u32::from_le_bytes([bytes[i], bytes[i + 1], bytes[i + 2], bytes[i + 3]])
 }
 
 /// How many bytes both texts begin with alike, in whole eights: eight are one comparison.
