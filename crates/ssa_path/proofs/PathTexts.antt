@@ -1,5 +1,5 @@
 -- Paths, appended to a text element by element.
-use Rattle.std.proofs.Common.{◌≡◌, ℕ, ◌+◌, ◌<◌, ◌≤◌, List, ◌++◌, Bool, true, take, drop, length, get_or, sym, ap, subst, ◌∙◌, take_all, Vec, Global}
+use Rattle.std.proofs.Common.{◌≡◌, ℕ, ◌+◌, ◌<◌, ◌≤◌, List, ◌++◌, Bool, true, take, drop, length, get_or, sym, ap, subst, ◌∙◌, take_all}
 use Rattle.std.proofs.lemmas.List.{drop_all}
 use Rattle.std.specs.Borrow.{Bor}
 use Rattle.ssa_model.specs.definitions.Json.{Text, Json, list, comma_if, compact, compact_items}
@@ -8,7 +8,6 @@ use Rattle.ssa_model.specs.definitions.Replies.{items_json, path_json}
 use Rattle.ssa_json.specs.Writable.{IsOfProgram}
 use Rattle.ssa_json.proofs.ItemTexts.{both-of-program, items_json-map}
 use Rattle.ssa_json.proofs.Printing as one
-use Rattle.ssa_path.specs.Listing.{way_view}
 use Rattle.ssa_path.specs.TopPaths.{text_of}
 use Rattle.ssa_path.specs.View.{element_view, path_view}
 use Rattle.ssa_path.specs.declared.element.Elem.{Elem}
@@ -21,10 +20,6 @@ own_text e = text_of (element_view e)
 -- so of an element that is lent
 abbrev pub lent_text : Bor Elem → Json
 lent_text e = own_text e.now
-
--- the path of a way, as a value
-abbrev pub way_text : Vec (Bor Elem) Global → Json
-way_text way = path_json (way_view way.items)
 
 -- ---- elements, and a path behind them
 
