@@ -1,6 +1,5 @@
 -- What is left of paths without some of them, place by place.
 use Rattle.std.proofs.Common.{◌≡◌, ℕ, suc, ◌+◌, ◌<◌, ◌≤◌, List, [], ◌∷◌, ◌++◌, length, get_or, take, Bool, true, false, not, ◌&&◌, ◌||◌, cond, Option, Some, None, refl, sym, ap, ◌∙◌, arith, subst, true≢false}
-use Rattle.std.specs.Prelude.{vec_capacity}
 use Rattle.std.specs.List.{filter}
 use Rattle.std.proofs.lemmas.List.Elements.{filter-append}
 use Rattle.ssa_model.specs.definitions.FieldsV1.{heads, tails, with_head}
@@ -19,9 +18,9 @@ use Rattle.ssa_path.proofs.Lists.{taken-at}
 use Rattle.ssa_path.proofs.Searching.{absent-below}
 use Rattle.ssa_turn_set.specs.declared.room.Room.{Room}
 use Rattle.ssa_turn_set.specs.declared.room.Room.TheOpen.{Room-F}
-use Rattle.ssa_turn_set.specs.declared.room.Room.TheViews.{out-Room, roll-Room, out-roll-Room}
+use Rattle.ssa_turn_set.specs.declared.room.Room.TheViews.{out-Room}
 use Rattle.ssa_turn_set.specs.declared.spare.Spare.{Spare}
-use Rattle.ssa_turn_set.specs.Room.{fresh, freshes, gain_room, gains, going, left, lose_one, lose_room, loses, losses}
+use Rattle.ssa_turn_set.specs.Room.{fresh, freshes, gain_room, gains, going, left, lose_one, lose_room, loses, losses, own_children, rooms_of, width}
 use Rattle.ssa_turn_set.proofs.Places.{fresh-filled, place-tails, roomy-holds}
 use Rattle.ssa_turn_set.proofs.Rooms.{gain_room-level, lose_room-level}
 use Rattle.ssa_turn_set.proofs.Tails.{paths_of, tails-below}
@@ -199,10 +198,6 @@ heads-gone own qs =
     let most = heads-filter test cs in
     omega arith
 
--- no more children are left than there were
-pub heads-left : (own : Trie) (qs : List Path) → length (heads (left (paths own) qs)) ≤ length (out-Trie own).below.items
-heads-left own qs = let most = heads-gone own qs in omega arith
-
 -- ---- whether some path is left
 
 -- where all of the paths are lost, nothing is left
@@ -240,36 +235,33 @@ losses-more (c ∷ ds) d ps (x ∷ rs) r h k = both _ _ (both_first _ _ h) (loss
 -- ---- the room of a place
 
 -- room for a set's children is enough where some of them go, and for each child that is lost it is enough
-pub loss-rolled : (t s : Trie) (x : Room-F Room) → is_trie t ≡ true → x.children.items ≡ []
-    → (0 < going (out-Trie t).below.items (paths_below (out-Trie s).below.items) → length (out-Trie s).below.items ≤ vec_capacity x.children)
-    → losses (out-Trie t).below.items (paths_below (out-Trie s).below.items) x.below.items ≡ true → lose_room t (left (paths s) (paths t)) (roll-Room x) ≡ true
-loss-rolled t s x h empty fits l =
+pub loss-held : (t s : Trie) (r : Room) (x : Room-F Room) → out-Room r ≡ x → is_trie t ≡ true → own_children x ≡ []
+    → (0 < going (out-Trie t).below.items (paths_below (out-Trie s).below.items) → length (heads (left (paths s) (paths t))) ≤ width x)
+    → losses (out-Trie t).below.items (paths_below (out-Trie s).below.items) (rooms_of x) ≡ true → lose_room t (left (paths s) (paths t)) r ≡ true
+loss-held t s r x is h empty fits l =
     let ds = (out-Trie t).below.items in
     let old = paths_below (out-Trie s).below.items in
     let new = left (paths s) (paths t) in
     let each = left-below t s h in
-    let is : out-Room (roll-Room x) ≡ x = out-roll-Room x in
-    let few = heads-left s (paths t) in
-    lose_room-level t new (roll-Room x)
+    lose_room-level t new r
     ∙ both _ _
-    (roomy-holds (freshes ds new) (length (heads new)) (roll-Room x) (record {
-      empty = ap (λ y. y.children.items) is ∙ empty;
-      fits = λ lt. subst (λ n. length (heads new) ≤ n) (sym (ap (λ y. vec_capacity y.children) is)) (let enough =
-          fits (subst (λ n. 0 < n) (sym (going-is ds old new each)) lt) in omega arith);
+    (roomy-holds (freshes ds new) (length (heads new)) r (record {
+      empty = ap own_children is ∙ empty;
+      fits = λ lt. subst (λ n. length (heads new) ≤ n) (sym (ap width is))
+          (fits (subst (λ n. 0 < n) (sym (going-is ds old new each)) lt));
     }))
-    (ap (λ y. loses ds new y.below.items) is ∙ sym (losses-are ds old new x.below.items each) ∙ l)
+    (ap (λ y. loses ds new (rooms_of y)) is ∙ sym (losses-are ds old new (rooms_of x) each) ∙ l)
 
 -- room for what is left of a set's children and for those that come is enough, where each child's room is
-pub gain-left : (t : Trie) (ps : List Path) (x : Room-F Room) (n : ℕ) → x.children.items ≡ [] → length (heads ps) ≤ n
-    → (0 < freshes (out-Trie t).below.items ps → n + freshes (out-Trie t).below.items ps ≤ vec_capacity x.children)
-    → gains (out-Trie t).below.items ps x.below.items ≡ true → gain_room t ps (roll-Room x) ≡ true
-gain-left t ps x n empty few fits l =
+pub gain-left : (t : Trie) (ps : List Path) (r : Room) (x : Room-F Room) (n : ℕ) → out-Room r ≡ x → own_children x ≡ [] → length (heads ps) ≤ n
+    → (0 < freshes (out-Trie t).below.items ps → n + freshes (out-Trie t).below.items ps ≤ width x)
+    → gains (out-Trie t).below.items ps (rooms_of x) ≡ true → gain_room t ps r ≡ true
+gain-left t ps r x n is empty few fits l =
     let ds = (out-Trie t).below.items in
-    let is : out-Room (roll-Room x) ≡ x = out-roll-Room x in
-    gain_room-level t ps (roll-Room x)
+    gain_room-level t ps r
     ∙ both _ _
-    (roomy-holds (freshes ds ps) (length (heads ps) + freshes ds ps) (roll-Room x) (record {
-      empty = ap (λ y. y.children.items) is ∙ empty;
-      fits = λ lt. subst (λ m. length (heads ps) + freshes ds ps ≤ m) (sym (ap (λ y. vec_capacity y.children) is)) (let enough = fits lt in omega arith);
+    (roomy-holds (freshes ds ps) (length (heads ps) + freshes ds ps) r (record {
+      empty = ap own_children is ∙ empty;
+      fits = λ lt. subst (λ m. length (heads ps) + freshes ds ps ≤ m) (sym (ap width is)) (let enough = fits lt in omega arith);
     }))
-    (ap (λ y. gains ds ps y.below.items) is ∙ l)
+    (ap (λ y. gains ds ps (rooms_of y)) is ∙ l)

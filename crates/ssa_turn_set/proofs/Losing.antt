@@ -2,7 +2,6 @@
 use Rattle.std.proofs.Common.{◌≡◌, ℕ, zero, suc, ◌+◌, ◌<◌, ◌≤◌, List, [], ◌∷◌, ◌++◌, length, get_or, drop, take, Bool, true, false, not, ◌&&◌, ◌||◌, refl, sym, ap, ◌∙◌, arith, subst, length-drop, true≢false}
 use Rattle.std.proofs.Math.Bool.{and-true}
 use Rattle.std.proofs.lemmas.List.{take_all}
-use Rattle.std.specs.Prelude.{vec_capacity}
 use Rattle.ssa_model.specs.definitions.FieldsV1.{heads, tails}
 use Rattle.ssa_model.specs.definitions.Path.{Element, Path, same_element, same_path}
 use Rattle.ssa_path.specs.declared.element.Elem.{Elem}
@@ -18,9 +17,9 @@ use Rattle.ssa_path.proofs.Lists.{elements-append}
 use Rattle.ssa_path.proofs.Levels.{same_path-reading, any-level, any-made, one-level-root, one-made-root, one-below-root}
 use Rattle.ssa_turn_set.specs.declared.room.Room.{Room}
 use Rattle.ssa_turn_set.specs.declared.room.Room.TheOpen.{Room-F}
-use Rattle.ssa_turn_set.specs.declared.room.Room.TheViews.{out-Room, roll-Room, out-roll-Room}
+use Rattle.ssa_turn_set.specs.declared.room.Room.TheViews.{out-Room}
 use Rattle.ssa_turn_set.specs.declared.spare.Spare.{Spare}
-use Rattle.ssa_turn_set.specs.Room.{fresh, freshes, holds, lose_one, lose_room, gain_room, gains, loses, gain_one}
+use Rattle.ssa_turn_set.specs.Room.{fresh, freshes, holds, lose_one, lose_room, gain_room, gains, loses, gain_one, own_children, rooms_of, width}
 use Rattle.ssa_turn_set.specs.Siblings.{AreTaken}
 use Rattle.ssa_turn_set.proofs.Rooms.{AreAlike, gains-more, loses-some, loses-alike, gains-alike, freshes-alike, lose_room-level}
 use Rattle.ssa_turn_set.proofs.Places.{all-taken, within-both, gain-made, lose-own, lose-below, roomy}
@@ -170,6 +169,12 @@ losing-all cs ds rs ns now i le e h =
       room = λ k. (λ j. gains (sym all j) (paths_below now) (sym news j)) ∙ h.back ((λ j. loses (all j) (paths_below now) (olds j)) ∙ k);
     }
 
+-- the same is told of equal children and rooms
+pub taken-same : (ls ds cs ms ns : List (Elem × Trie)) (rs ts news : List (Spare × Room)) → ls ≡ ds → rs ≡ ts → ms ≡ ns → AreTaken ls cs rs ms news
+    → AreTaken ds cs ts ns news
+taken-same ls ds cs ms ns rs ts news lost rooms now taken =
+    subst (λ l. AreTaken ds cs ts l news) now (subst (λ l. AreTaken ds cs l ms news) rooms (subst (λ l. AreTaken l cs rs ms news) lost taken))
+
 -- ---- the place as a whole
 
 -- a place that has what the one set has and the other has not, itself and below, has the paths without the other's
@@ -183,38 +188,37 @@ lost-place x l s here below (e ∷ p) =
     ∙ (λ i. sym (any-level same_path same_path-reading s e p) i && not (sym (any-level same_path same_path-reading l e p) i))
 
 -- room that is enough to take a set out of a place is, once turned, enough to put it in again
-pub lost-room : (t : Trie) (x : Trie-F Trie) (r : Room) (y : Room-F Room) → is_trie (roll-Trie x) ≡ true → y.children.items ≡ []
-    → (length x.below.items ≤ vec_capacity (out-Room r).children
-    → length x.below.items + freshes (out-Trie t).below.items (paths_below x.below.items) ≤ vec_capacity y.children)
-    → (loses (out-Trie t).below.items (paths_below x.below.items) (out-Room r).below.items ≡ true
-    → gains (out-Trie t).below.items (paths_below x.below.items) y.below.items ≡ true)
-    → lose_room t (paths (roll-Trie x)) r ≡ true → gain_room t (paths (roll-Trie x)) (roll-Room y) ≡ true
-lost-room t x r y h empty fits back k =
+pub lost-room : (t : Trie) (x : Trie-F Trie) (r s : Room) (y : Room-F Room) → out-Room s ≡ y → is_trie (roll-Trie x) ≡ true → own_children y ≡ []
+    → (length x.below.items ≤ width (out-Room r)
+    → length x.below.items + freshes (out-Trie t).below.items (paths_below x.below.items) ≤ width y)
+    → (loses (out-Trie t).below.items (paths_below x.below.items) (rooms_of (out-Room r)) ≡ true
+    → gains (out-Trie t).below.items (paths_below x.below.items) (rooms_of y) ≡ true)
+    → lose_room t (paths (roll-Trie x)) r ≡ true → gain_room t (paths (roll-Trie x)) s ≡ true
+lost-room t x r s y room h empty fits back k =
     let ds = (out-Trie t).below.items in
-    let s = roll-Trie x in
-    let set : out-Trie s ≡ x = out-roll-Trie x in
-    let room : out-Room (roll-Room y) ≡ y = out-roll-Room y in
-    let own : 0 < freshes ds (paths_below x.below.items) → length x.below.items ≤ vec_capacity (out-Room r).children =
-    subst (λ z. 0 < freshes ds (paths_below z.below.items) → length z.below.items ≤ vec_capacity (out-Room r).children) set (lose-own t s r h k).fits in
-    let enough : 0 < freshes ds (paths_below x.below.items) → length x.below.items + freshes ds (paths_below x.below.items) ≤ vec_capacity y.children =
+    let after = roll-Trie x in
+    let set : out-Trie after ≡ x = out-roll-Trie x in
+    let own : 0 < freshes ds (paths_below x.below.items) → length x.below.items ≤ width (out-Room r) =
+    subst (λ z. 0 < freshes ds (paths_below z.below.items) → length z.below.items ≤ width (out-Room r)) set (lose-own t after r h k).fits in
+    let enough : 0 < freshes ds (paths_below x.below.items) → length x.below.items + freshes ds (paths_below x.below.items) ≤ width y =
     λ lt. fits (own lt) in
-    let below = back (subst (λ z. loses ds (paths_below z.below.items) (out-Room r).below.items ≡ true) set (lose-below t s r k)) in
-    gain-made t s (roll-Room y) h
+    let below = back (subst (λ z. loses ds (paths_below z.below.items) (rooms_of (out-Room r)) ≡ true) set (lose-below t after r k)) in
+    gain-made t after s h
     (record {
-      empty = ap (λ z. z.children.items) room ∙ empty;
+      empty = ap own_children room ∙ empty;
       fits = subst (λ z. 0 < freshes ds (paths_below z.below.items)
-          → length z.below.items + freshes ds (paths_below z.below.items) ≤ vec_capacity (out-Room (roll-Room y)).children) (sym set)
+          → length z.below.items + freshes ds (paths_below z.below.items) ≤ width (out-Room s)) (sym set)
           (subst (λ z. 0 < freshes ds (paths_below x.below.items)
-          → length x.below.items + freshes ds (paths_below x.below.items) ≤ vec_capacity z.children) (sym room) enough);
+          → length x.below.items + freshes ds (paths_below x.below.items) ≤ width z) (sym room) enough);
     })
-    (subst (λ z. gains ds (paths_below z.below.items) (out-Room (roll-Room y)).below.items ≡ true) (sym set)
-    (ap (λ z. gains ds (paths_below x.below.items) z.below.items) room ∙ below))
+    (subst (λ z. gains ds (paths_below z.below.items) (rooms_of (out-Room s)) ≡ true) (sym set)
+    (ap (λ z. gains ds (paths_below x.below.items) (rooms_of z)) room ∙ below))
 
 -- ---- the requirements of a place, told of what is below it
 
 -- of room to take a set out, the place's own vector is empty and each child's room is enough
-pub start-form : (t : Trie) (ps : List Path) (r : Room) → lose_room t ps r ≡ true → ((out-Room r).children.items ≡ [])
-    × (loses (out-Trie t).below.items ps (out-Room r).below.items ≡ true)
+pub start-form : (t : Trie) (ps : List Path) (r : Room) → lose_room t ps r ≡ true → (own_children (out-Room r) ≡ [])
+    × (loses (out-Trie t).below.items ps (rooms_of (out-Room r)) ≡ true)
 start-form t ps r h =
     let parts = sym (lose_room-level t ps r) ∙ h in (
       (roomy (freshes (out-Trie t).below.items ps) (length (heads ps)) r (both_first _ _ parts)).empty,

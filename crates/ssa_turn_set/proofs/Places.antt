@@ -2,7 +2,7 @@
 use Rattle.std.proofs.Common.{◌≡◌, ℕ, zero, suc, ◌+◌, ◌<◌, ◌≤◌, List, [], ◌∷◌, ◌++◌, length, get_or, set, drop, take, true, false, not, cond, refl, sym, ap, ◌∙◌, arith, subst, true≢false}
 use Rattle.std.proofs.lemmas.List.{append-nil, drop_all, take-append-drop, drop-set-lt, length-drop}
 use Rattle.std.proofs.lemmas.Bool.{le-leb, leb-true}
-use Rattle.std.specs.Prelude.{nat_le, vec_capacity}
+use Rattle.std.specs.Prelude.{nat_le}
 use Rattle.ssa_model.specs.definitions.FieldsV1.{heads, tails}
 use Rattle.ssa_model.specs.definitions.Path.{Element, Path, same_element}
 use Rattle.ssa_path.specs.declared.element.Elem.{Elem}
@@ -16,9 +16,9 @@ use Rattle.ssa_path.proofs.Searching.{child-found, child-absent}
 use Rattle.ssa_path.proofs.Lists.{parted, parted-set}
 use Rattle.ssa_path.proofs.Levels.{paths-level, trie-parts, some-one}
 use Rattle.ssa_turn_set.specs.declared.room.Room.{Room}
-use Rattle.ssa_turn_set.specs.declared.room.Room.TheViews.{out-Room, roll-Room, out-roll-Room}
+use Rattle.ssa_turn_set.specs.declared.room.Room.TheViews.{out-Room}
 use Rattle.ssa_turn_set.specs.declared.room.Room.TheOpen.{Room-F}
-use Rattle.ssa_turn_set.specs.Room.{fresh, freshes, holds, if_any, gain_room, lose_room, gains, loses}
+use Rattle.ssa_turn_set.specs.Room.{fresh, freshes, holds, if_any, gain_room, lose_room, gains, loses, own_children, rooms_of, width}
 use Rattle.ssa_turn_set.proofs.Tails.{heads-count, tails-below, tails-apart, paths_of}
 use Rattle.ssa_path.proofs.FieldsLevels.{tails-here}
 use Rattle.ssa_turn_set.proofs.Rooms.{gain_room-level, lose_room-level, AreAlike, all-alike, gains-alike, loses-alike, freshes-alike}
@@ -46,20 +46,20 @@ fits_any (suc f) n c h = le-leb n c (h (omega arith))
 -- room for n children, where f come or go
 pub record IsRoomy (f n : ℕ) (r : Room) : Type 0 where
   -- the place's own vector is empty
-  pub empty : (out-Room r).children.items ≡ []
+  pub empty : own_children (out-Room r) ≡ []
   -- where some come or go, the vector has place for so many
-  pub fits : 0 < f → n ≤ vec_capacity (out-Room r).children
+  pub fits : 0 < f → n ≤ width (out-Room r)
 
 -- what is tested of the place's own room holds
 pub roomy : (f n : ℕ) (r : Room) → holds f n r ≡ true → IsRoomy f n r
 roomy f n r h = record {
-  empty = no_items (out-Room r).children.items (both_first _ _ h);
-  fits = any_fits f n _ (both_second (not (has_some {A = Elem × Trie} (out-Room r).children.items)) _ h);
+  empty = no_items (own_children (out-Room r)) (both_first _ _ h);
+  fits = any_fits f n _ (both_second (not (has_some {A = Elem × Trie} (own_children (out-Room r)))) _ h);
 }
 
 -- room of which this holds passes the test
 pub roomy-holds : (f n : ℕ) (r : Room) → IsRoomy f n r → holds f n r ≡ true
-roomy-holds f n r h = both _ _ (items_none (out-Room r).children.items h.empty) (fits_any f n _ h.fits)
+roomy-holds f n r h = both _ _ (items_none (own_children (out-Room r)) h.empty) (fits_any f n _ h.fits)
 
 -- the paths of a place count as those below it
 pub place-tails : (s : Trie) (e : Element) → tails e (paths s) ≡ tails e (paths_below (out-Trie s).below.items)
@@ -97,7 +97,7 @@ gain-own t s r h k = roomy _ _ r (sym (gain-holds t s r h) ∙ both_first _ _ (s
 
 -- of room to put a set in, each child's room is enough
 pub gain-below : (t s : Trie) (r : Room) → gain_room t (paths s) r ≡ true
-    → gains (out-Trie t).below.items (paths_below (out-Trie s).below.items) (out-Room r).below.items ≡ true
+    → gains (out-Trie t).below.items (paths_below (out-Trie s).below.items) (rooms_of (out-Room r)) ≡ true
 gain-below t s r k =
     let ds = (out-Trie t).below.items in
     sym (gains-alike ds _ _ _ (place-alike ds s)) ∙ both_second (holds (freshes ds (paths s)) (length (heads (paths s)) + freshes ds (paths s)) r) _
@@ -105,13 +105,13 @@ gain-below t s r k =
 
 -- where the place's own room and each child's are enough, the room is enough to put the set in
 pub gain-made : (t s : Trie) (r : Room) → is_trie s ≡ true → IsRoomy (coming t s) (length (out-Trie s).below.items + coming t s) r
-    → gains (out-Trie t).below.items (paths_below (out-Trie s).below.items) (out-Room r).below.items ≡ true → gain_room t (paths s) r ≡ true
+    → gains (out-Trie t).below.items (paths_below (out-Trie s).below.items) (rooms_of (out-Room r)) ≡ true → gain_room t (paths s) r ≡ true
 gain-made t s r h k l = gain_room-level t (paths s) r ∙ both _ _ (gain-holds t s r h
     ∙ roomy-holds _ _ r k) (gains-alike (out-Trie t).below.items _ _ _ (place-alike (out-Trie t).below.items s) ∙ l)
 
 -- where the place's own room and each child's are enough, the room is enough to take the set out
 pub lose-made : (t s : Trie) (r : Room) → is_trie s ≡ true → IsRoomy (coming t s) (length (out-Trie s).below.items) r
-    → loses (out-Trie t).below.items (paths_below (out-Trie s).below.items) (out-Room r).below.items ≡ true → lose_room t (paths s) r ≡ true
+    → loses (out-Trie t).below.items (paths_below (out-Trie s).below.items) (rooms_of (out-Room r)) ≡ true → lose_room t (paths s) r ≡ true
 lose-made t s r h k l = lose_room-level t (paths s) r ∙ both _ _ (lose-holds t s r h
     ∙ roomy-holds _ _ r k) (loses-alike (out-Trie t).below.items _ _ _ (place-alike (out-Trie t).below.items s) ∙ l)
 
@@ -121,24 +121,23 @@ lose-own t s r h k = roomy _ _ r (sym (lose-holds t s r h) ∙ both_first _ _ (s
 
 -- of room to take a set out, each child's room is enough
 pub lose-below : (t s : Trie) (r : Room) → lose_room t (paths s) r ≡ true
-    → loses (out-Trie t).below.items (paths_below (out-Trie s).below.items) (out-Room r).below.items ≡ true
+    → loses (out-Trie t).below.items (paths_below (out-Trie s).below.items) (rooms_of (out-Room r)) ≡ true
 lose-below t s r k =
     let ds = (out-Trie t).below.items in
     sym (loses-alike ds _ _ _ (place-alike ds s)) ∙ both_second (holds (freshes ds (paths s)) (length (heads (paths s))) r) _
     (sym (lose_room-level t (paths s) r) ∙ k)
 
 -- a room is enough to take a set out where its own vector is and each child's room is
-pub lose-rolled : (t s : Trie) (x : Room-F Room) → is_trie s ≡ true → x.children.items ≡ []
-    → (0 < coming t s → length (out-Trie s).below.items ≤ vec_capacity x.children)
-    → loses (out-Trie t).below.items (paths_below (out-Trie s).below.items) x.below.items ≡ true → lose_room t (paths s) (roll-Room x) ≡ true
-lose-rolled t s x h empty fits l =
-    let is : out-Room (roll-Room x) ≡ x = out-roll-Room x in
-    lose-made t s (roll-Room x) h
+pub lose-held : (t s : Trie) (r : Room) (x : Room-F Room) → out-Room r ≡ x → is_trie s ≡ true → own_children x ≡ []
+    → (0 < coming t s → length (out-Trie s).below.items ≤ width x)
+    → loses (out-Trie t).below.items (paths_below (out-Trie s).below.items) (rooms_of x) ≡ true → lose_room t (paths s) r ≡ true
+lose-held t s r x is h empty fits l =
+    lose-made t s r h
     (record {
-      empty = ap (λ y. y.children.items) is ∙ empty;
-      fits = λ lt. subst (λ n. length (out-Trie s).below.items ≤ n) (sym (ap (λ y. vec_capacity y.children) is)) (fits lt);
+      empty = ap own_children is ∙ empty;
+      fits = λ lt. subst (λ n. length (out-Trie s).below.items ≤ n) (sym (ap width is)) (fits lt);
     })
-    (ap (λ y. loses (out-Trie t).below.items (paths_below (out-Trie s).below.items) y.below.items) is ∙ l)
+    (ap (λ y. loses (out-Trie t).below.items (paths_below (out-Trie s).below.items) (rooms_of y)) is ∙ l)
 
 -- where there is room for more children than there are, there is room for those that come; else none comes
 pub comes-within : (f n c : ℕ) → (0 < f → n + f ≤ c) → n < c → n + f ≤ c
@@ -172,7 +171,8 @@ filled-more ps qs h k = let one = a_path ps k in some-one qs one.0 (h one.0 one.
 pub left-set : {A : Type 0} (xs : List A) (i : ℕ) (x : A) → drop (i + 1) (set xs i x) ≡ drop (i + 1) xs
 left-set xs i x = drop-set-lt (i + 1) xs i x (omega arith)
 
-nothing-left : {A : Type 0} (xs : List A) → length xs ≡ 0 → xs ≡ []
+-- a list without length has no element
+pub nothing-left : {A : Type 0} (xs : List A) → length xs ≡ 0 → xs ≡ []
 nothing-left [] e = refl
 nothing-left (x ∷ xs) e = absurd (omega arith)
 

@@ -1,5 +1,7 @@
 -- The rooms of a set that is put into another or taken out of it.
 use Rattle.std.proofs.Common.{◌≡◌, suc, ◌+◌, List, [], ◌∷◌, ◌++◌, length, map, true, ◌&&◌, refl, sym, ap, ◌∙◌, true≢false}
+use Rattle.std.specs.declared.alloc.Global.{Global}
+use Rattle.std.proofs.Common.{Vec}
 use Rattle.ssa_model.specs.definitions.FieldsV1.{heads, tails}
 use Rattle.ssa_model.specs.definitions.Path.{Element, Path}
 use Rattle.ssa_path.specs.declared.element.Elem.{Elem}
@@ -9,10 +11,34 @@ use Rattle.ssa_path.specs.declared.trie.Trie.TheFolds.{fold_out-Trie}
 use Rattle.ssa_path.specs.View.{element_view}
 use Rattle.ssa_path.proofs.Orders.{both_first, both_second}
 use Rattle.ssa_turn_set.specs.declared.room.Room.{Room}
-use Rattle.ssa_turn_set.specs.declared.room.Room.TheViews.{out-Room}
+use Rattle.ssa_turn_set.specs.declared.room.Room.TheOpen.{Room-F}
+use Rattle.ssa_turn_set.specs.declared.room.Room.TheVariants as room
+use Rattle.ssa_turn_set.specs.declared.room.Room.TheViews.{out-Room, roll-Room, out-roll-Room}
 use Rattle.ssa_turn_set.specs.declared.spare.Spare.{Spare}
-use Rattle.ssa_turn_set.specs.Room.{fresh, freshes, holds, Need, gain_step, gain_room, lose_step, lose_room, gains, loses, gain_one, lose_one}
+use Rattle.ssa_turn_set.specs.Room.{fresh, freshes, holds, Need, gain_step, gain_room, lose_step, lose_room, gains, loses, gain_one, lose_one, rooms_of}
 use Rattle.ssa_model.proofs.Basics.{both-true as both}
+
+-- ---- the kinds of rooms
+
+pub nothing-out : out-Room room.Nothing ≡ Room-F.Nothing
+unfolding out-Room denote.Hole.Carrier.out
+nothing-out = refl
+
+pub lone-out : (v : Vec (Elem × Trie) Global) (s : Spare) → out-Room (room.Lone v s) ≡ Room-F.Lone v s
+unfolding out-Room denote.Hole.Carrier.out
+lone-out v s = refl
+
+pub each-out : (v : Vec (Elem × Trie) Global) (rs : Vec (Spare × Room) Global) → out-Room (room.Each v rs) ≡ Room-F.Each v rs
+unfolding roll-Room denote.Hole.Carrier.roll
+each-out v rs = out-roll-Room (Room-F.Each v rs)
+
+-- what a room of one kind is, told of parts that are equal to its own
+pub is-lone : (r : Room) (v w : Vec (Elem × Trie) Global) (s t : Spare) → r ≡ room.Lone v s → w ≡ v → t ≡ s → out-Room r ≡ Room-F.Lone w t
+is-lone r v w s t is children spare = ap out-Room is ∙ lone-out v s ∙ (λ i. Room-F.Lone (sym children i) (sym spare i))
+
+pub is-each : (r : Room) (v w : Vec (Elem × Trie) Global) (rs ts : Vec (Spare × Room) Global) → r ≡ room.Each v rs → w ≡ v → ts ≡ rs
+    → out-Room r ≡ Room-F.Each w ts
+is-each r v w rs ts is children rooms = ap out-Room is ∙ each-out v rs ∙ (λ i. Room-F.Each (sym children i) (sym rooms i))
 
 -- ---- one level
 
@@ -22,18 +48,18 @@ freshes-map f (d ∷ ds) ps = ap (λ n. fresh (tails (element_view d.0) ps) + n)
 
 -- room to take a set out of a place is the place's own room, and that of each child
 pub lose_room-level : (t : Trie) (ps : List Path) (r : Room)
-    → lose_room t ps r ≡ (holds (freshes (out-Trie t).below.items ps) (length (heads ps)) r && loses (out-Trie t).below.items ps (out-Room r).below.items)
+    → lose_room t ps r ≡ (holds (freshes (out-Trie t).below.items ps) (length (heads ps)) r && loses (out-Trie t).below.items ps (rooms_of (out-Room r)))
 lose_room-level t ps r =
     (λ i. fold_out-Trie Need lose_step t i ps r)
-    ∙ ap (λ n. holds n (length (heads ps)) r && loses (out-Trie t).below.items ps (out-Room r).below.items) (freshes-map lose_room (out-Trie t).below.items ps)
+    ∙ ap (λ n. holds n (length (heads ps)) r && loses (out-Trie t).below.items ps (rooms_of (out-Room r))) (freshes-map lose_room (out-Trie t).below.items ps)
 
 -- room to put a set into a place is the place's own room, and that of each child
 pub gain_room-level : (t : Trie) (ps : List Path) (r : Room)
     → gain_room t ps r ≡ (holds (freshes (out-Trie t).below.items ps) (length (heads ps) + freshes (out-Trie t).below.items ps) r
-    && gains (out-Trie t).below.items ps (out-Room r).below.items)
+    && gains (out-Trie t).below.items ps (rooms_of (out-Room r)))
 gain_room-level t ps r =
     (λ i. fold_out-Trie Need gain_step t i ps r)
-    ∙ ap (λ n. holds n (length (heads ps) + n) r && gains (out-Trie t).below.items ps (out-Room r).below.items)
+    ∙ ap (λ n. holds n (length (heads ps) + n) r && gains (out-Trie t).below.items ps (rooms_of (out-Room r)))
     (freshes-map gain_room (out-Trie t).below.items ps)
 
 -- ---- what matters of the paths

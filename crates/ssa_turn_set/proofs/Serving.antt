@@ -2,7 +2,7 @@
 use Rattle.std.proofs.Common.{◌≡◌, ℕ, ◌<◌, ◌+◌, List, [], ◌∷◌, ◌++◌, length, get_or, take, true, not, ◌&&◌, refl, sym, ap, ◌∙◌, true≢false, subst}
 use Rattle.std.proofs.lemmas.List.Elements.{AllZip-push}
 use Rattle.std.specs.List.{AllZip}
-use Rattle.std.specs.Prelude.{nat_le, vec_capacity}
+use Rattle.std.specs.Prelude.{nat_le}
 use Rattle.ssa_model.specs.definitions.Path.{Element, Path, same_element}
 use Rattle.ssa_path.specs.Trie.{has_some}
 use Rattle.ssa_path.specs.View.{element_view}
@@ -12,11 +12,11 @@ use Rattle.ssa_path.specs.declared.trie.Trie.TheViews.{out-Trie}
 use Rattle.ssa_path.proofs.Lists.{taken-at}
 use Rattle.ssa_path.proofs.Orders.{both_first, both_second}
 use Rattle.ssa_turn_set.specs.Copies.{ChildServes, RoomServes, SpareServes}
-use Rattle.ssa_turn_set.specs.Room.{below_child, gains, gain_one, holds, if_any, loses, lose_one, serves}
+use Rattle.ssa_turn_set.specs.Room.{below_child, gains, gain_one, holds, if_any, lone_rooms, loses, lose_one, own_children, rooms_of, serves, width}
 use Rattle.ssa_turn_set.specs.Spare.{is_nothing}
 use Rattle.ssa_turn_set.specs.declared.room.Room.{Room}
 use Rattle.ssa_turn_set.specs.declared.room.Room.TheOpen.{Room-F}
-use Rattle.ssa_turn_set.specs.declared.room.Room.TheViews.{out-Room, roll-Room, out-roll-Room}
+use Rattle.ssa_turn_set.specs.declared.room.Room.TheViews.{out-Room}
 use Rattle.ssa_turn_set.specs.declared.spare.Spare.{Spare}
 use Rattle.ssa_turn_set.specs.declared.spare.Spare.TheVariants.{Kept}
 use Rattle.ssa_turn_set.proofs.Rooms.{gain_room-level, lose_room-level}
@@ -38,6 +38,10 @@ pub kept-serve : (x y : Elem) → element_view y ≡ element_view x → SpareSer
 kept-serve x y same = record { nothing = λ h. h; fits = λ e h. ap (same_element e) same ∙ h }
 
 -- ---- the room of a place
+
+-- the room of one child serves where its element's does
+pub lone-serves : (s c : Spare) → SpareServes s c → AllZip ChildServes (lone_rooms s) (lone_rooms c)
+lone-serves s c serve = ((serve, record { gain = λ t ps h. h; lose = λ t ps h. h }), tt)
 
 spare-serves : (e : Element) (ps : List Path) (s c : Spare) → SpareServes s c → serves e ps s ≡ true → serves e ps c ≡ true
 spare-serves e [] s c serve h = serve.fits e h
@@ -71,30 +75,27 @@ loses-serve (d ∷ ds) ps (r ∷ rs) (c ∷ cs) z h =
     both _ _ (both _ _ (z.0.0.nothing (both_first _ _ here)) (z.0.1.lose d.1 below (both_second (is_nothing r.0) _ here)))
     (loses-serve ds ps rs cs z.1 (both_second (lose_one d below r) _ h))
 
-module _ (r : Room) (x : Room-F Room) (empty : x.children.items ≡ []) (as_large : vec_capacity x.children ≡ vec_capacity (out-Room r).children)
-    (each : AllZip ChildServes (out-Room r).below.items x.below.items) where
-  is : out-Room (roll-Room x) ≡ x
-  is = out-roll-Room x
-
-  own-serves : (f n : ℕ) → holds f n r ≡ true → holds f n (roll-Room x) ≡ true
+module _ (r q : Room) (x : Room-F Room) (is : out-Room q ≡ x) (empty : own_children x ≡ []) (as_large : width x ≡ width (out-Room r))
+    (each : AllZip ChildServes (rooms_of (out-Room r)) (rooms_of x)) where
+  own-serves : (f n : ℕ) → holds f n r ≡ true → holds f n q ≡ true
   own-serves f n h =
-      ap (λ (y : Room-F Room). not (has_some {A = Elem × Trie} y.children.items) && if_any f (nat_le n (vec_capacity y.children))) is
+      ap (λ (y : Room-F Room). not (has_some {A = Elem × Trie} (own_children y)) && if_any f (nat_le n (width y))) is
       ∙ both _ _ (ap (λ l. not (has_some l)) empty)
-      (ap (λ m. if_any f (nat_le n m)) as_large ∙ both_second (not (has_some {A = Elem × Trie} (out-Room r).children.items)) _ h)
+      (ap (λ m. if_any f (nat_le n m)) as_large ∙ both_second (not (has_some {A = Elem × Trie} (own_children (out-Room r)))) _ h)
 
   -- room that is as large, at the place and for each child, serves wherever the first does
-  pub room-serves : RoomServes r (roll-Room x)
+  pub room-serves : RoomServes r q
   room-serves = record {
     gain = λ t ps h.
         let parts = sym (gain_room-level t ps r) ∙ h in
-        gain_room-level t ps (roll-Room x)
+        gain_room-level t ps q
         ∙ both _ _ (own-serves _ _ (both_first _ _ parts))
-        (ap (λ (y : Room-F Room). gains (out-Trie t).below.items ps y.below.items) is
+        (ap (λ (y : Room-F Room). gains (out-Trie t).below.items ps (rooms_of y)) is
         ∙ gains-serve (out-Trie t).below.items ps _ _ each (both_second (holds _ _ r) _ parts));
     lose = λ t ps h.
         let parts = sym (lose_room-level t ps r) ∙ h in
-        lose_room-level t ps (roll-Room x)
+        lose_room-level t ps q
         ∙ both _ _ (own-serves _ _ (both_first _ _ parts))
-        (ap (λ (y : Room-F Room). loses (out-Trie t).below.items ps y.below.items) is
+        (ap (λ (y : Room-F Room). loses (out-Trie t).below.items ps (rooms_of y)) is
         ∙ loses-serve (out-Trie t).below.items ps _ _ each (both_second (holds _ _ r) _ parts));
   }

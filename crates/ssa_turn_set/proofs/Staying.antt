@@ -1,7 +1,7 @@
 -- How many of a set's children are left where it loses some of its paths, told child by child of what is lost.
 use Rattle.std.specs.Prelude.{◌==◌}
 use Rattle.std.proofs.lemmas.Bool.{ne_eqb}
-use Rattle.std.proofs.Common.{eq-eqb, ◌≡◌, ℕ, ◌+◌, ◌<◌, ◌≤◌, List, [], ◌∷◌, ◌++◌, length, get_or, take, Bool, true, false, not, ◌&&◌, cond, Option, Some, None, refl, sym, ap, ◌∙◌, arith, true≢false}
+use Rattle.std.proofs.Common.{eq-eqb, ◌≡◌, ℕ, zero, suc, ◌+◌, ◌<◌, ◌≤◌, List, [], ◌∷◌, ◌++◌, length, get_or, take, Bool, true, false, not, ◌&&◌, cond, Option, Some, None, refl, sym, ap, ◌∙◌, arith, true≢false}
 use Rattle.std.specs.List.{filter}
 use Rattle.ssa_model.specs.definitions.FieldsV1.{heads, tails, with_head}
 use Rattle.ssa_model.specs.definitions.Path.{Element, Path, same_element, same_path}
@@ -64,6 +64,15 @@ left-most own lost trie trie_lost =
     let is = leaving-is ds cs new rise (left-below lost own trie_lost) in
     let few = heads-gone own (paths lost) in
     omega arith
+
+fits-left : (n k len w : ℕ) → n + k ≤ len → (k < len → len ≤ w) → n ≤ w
+fits-left zero k len w most fits = omega arith
+fits-left (suc n) k len w most fits = let enough = fits (omega arith) in omega arith
+
+-- room for all children is enough for those that are left, and none is needed where all go whole
+pub left-fits : (own lost : Trie) (w : ℕ) → is_trie own ≡ true → is_trie lost ≡ true
+    → (leaving (children lost) (children own) < length (children own) → length (children own) ≤ w) → length (heads (left (paths own) (paths lost))) ≤ w
+left-fits own lost w trie trie_lost fits = fits-left _ _ _ w (left-most own lost trie trie_lost) fits
 
 leaving-more : (ds : List (Elem × Trie)) (d : Elem × Trie) (cs : List (Elem × Trie))
     → leaving (ds ++ d ∷ []) cs ≡ leaving ds cs + gone_of (child_at (element_view d.0) cs) (paths d.1)

@@ -123,6 +123,13 @@ leaving-split gained own lost trie_gained trie trie_lost =
     let second = beside-is gs ls cs new rise each ∙ shared-comm beside cs ls rise rise_lost in
     omega arith
 
+-- those that go whole of the gained, and of the others, are all that do
+pub all-told : (gained own lost : Trie) (n : ℕ) → is_trie gained ≡ true → is_trie own ≡ true → is_trie lost ≡ true
+    → n ≡ shared (stale (left (paths own) (paths lost))) (children gained) (children own)
+    → n + leaving_beside (children gained) (children lost) (children own) ≡ leaving (children lost) (children own)
+all-told gained own lost n trie_gained trie trie_lost count =
+    ap (λ m. m + leaving_beside (children gained) (children lost) (children own)) count ∙ sym (leaving-split gained own lost trie_gained trie trie_lost)
+
 pub fresh-most : (ps : List Path) → fresh ps ≤ 1
 fresh-most [] = omega arith
 fresh-most (p ∷ ps) = omega arith

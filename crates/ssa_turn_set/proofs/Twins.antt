@@ -14,7 +14,7 @@ use Rattle.ssa_path.specs.declared.trie.Trie.TheViews.{out-Trie, roll-Trie, out-
 use Rattle.ssa_path.proofs.FieldsLevels.{heads-below}
 use Rattle.ssa_path.proofs.Levels.{paths-level, trie-parts}
 use Rattle.ssa_path.proofs.Orders.{both_first, both_second}
-use Rattle.ssa_turn_set.specs.Room.{fresh, freshes, gain_room, gains, holds, lose_room, loses, serves}
+use Rattle.ssa_turn_set.specs.Room.{fresh, freshes, gain_room, gains, holds, lose_room, loses, rooms_of, serves}
 use Rattle.ssa_turn_set.specs.Spare.{is_nothing}
 use Rattle.ssa_turn_set.specs.declared.room.Room.{Room}
 use Rattle.ssa_turn_set.specs.declared.room.Room.TheViews.{out-Room}
@@ -156,11 +156,11 @@ need-same : (t u : Trie) → AreTwins (out-Trie t).below.items (out-Trie u).belo
 need-same t u twins each = record {
   gain = λ ps r.
       gain_room-level t ps r
-      ∙ (λ i. holds (twins-fresh _ _ ps twins i) (length (heads ps) + twins-fresh _ _ ps twins i) r && need-gains _ _ ps (out-Room r).below.items each i)
+      ∙ (λ i. holds (twins-fresh _ _ ps twins i) (length (heads ps) + twins-fresh _ _ ps twins i) r && need-gains _ _ ps (rooms_of (out-Room r)) each i)
       ∙ sym (gain_room-level u ps r);
   lose = λ ps r.
       lose_room-level t ps r
-      ∙ (λ i. holds (twins-fresh _ _ ps twins i) (length (heads ps)) r && need-loses _ _ ps (out-Room r).below.items each i)
+      ∙ (λ i. holds (twins-fresh _ _ ps twins i) (length (heads ps)) r && need-loses _ _ ps (rooms_of (out-Room r)) each i)
       ∙ sym (lose_room-level u ps r);
 }
 

@@ -12,9 +12,38 @@ use Rattle.ssa_path.specs.View.{element_view}
 use Rattle.std.specs.List.{filter}
 use Rattle.ssa_path.specs.Trie.{has_some, is_one_of, paths}
 use Rattle.ssa_turn_set.specs.declared.room.Room.{Room}
+use Rattle.ssa_turn_set.specs.declared.room.Room.TheOpen.{Room-F}
+use Rattle.ssa_turn_set.specs.declared.room.Room.TheVariants as room
 use Rattle.ssa_turn_set.specs.declared.room.Room.TheViews.{out-Room}
 use Rattle.ssa_turn_set.specs.declared.spare.Spare.{Spare}
 use Rattle.ssa_turn_set.specs.Spare.{fits, is_nothing}
+
+-- ---- what a room has
+
+-- the vector for the place's own children, where there is one
+abbrev pub own_children : Room-F Room → List (Elem × Trie)
+own_children Room-F.Nothing = []
+own_children (Room-F.Lone v s) = v.items
+own_children (Room-F.Each v rs) = v.items
+
+-- how many children it can take
+abbrev pub width : Room-F Room → ℕ
+width Room-F.Nothing = 0
+width (Room-F.Lone v s) = vec_capacity v
+width (Room-F.Each v rs) = vec_capacity v
+
+-- the room of one child, below which nothing comes or goes
+abbrev pub lone_room : Spare → Spare × Room
+lone_room s = (s, room.Nothing)
+
+abbrev pub lone_rooms : Spare → List (Spare × Room)
+lone_rooms s = lone_room s ∷ []
+
+-- the rooms of the children
+abbrev pub rooms_of : Room-F Room → List (Spare × Room)
+rooms_of Room-F.Nothing = []
+rooms_of (Room-F.Lone v s) = lone_rooms s
+rooms_of (Room-F.Each v rs) = rs.items
 
 -- ---- the children of a place
 
@@ -38,7 +67,7 @@ if_any (suc n) b = b
 
 -- the place's own vector is empty, and where some children come or go it has room for so many in all
 abbrev pub holds : ℕ → ℕ → Room → Bool
-holds coming all r = not (has_some {A = Elem × Trie} (out-Room r).children.items) && if_any coming (nat_le all (vec_capacity (out-Room r).children))
+holds coming all r = not (has_some {A = Elem × Trie} (own_children (out-Room r))) && if_any coming (nat_le all (width (out-Room r)))
 
 -- ---- the places, where these are the paths without the set
 
@@ -61,7 +90,7 @@ each_gains (d ∷ ds) ps (r ∷ rs) =
 abbrev pub gain_step : Trie-F Need → Need
 gain_step x ps r =
     let coming = freshes x.below.items ps in
-    holds coming (length (heads ps) + coming) r && each_gains x.below.items ps (out-Room r).below.items
+    holds coming (length (heads ps) + coming) r && each_gains x.below.items ps (rooms_of (out-Room r))
 
 -- the room is enough for putting the set in
 abbrev pub gain_room : Trie → Need
@@ -75,7 +104,7 @@ each_loses (d ∷ ds) ps [] = false
 each_loses (d ∷ ds) ps (r ∷ rs) = (is_nothing r.0 && d.1 (below_child d ps) r.1) && each_loses ds ps rs
 
 abbrev pub lose_step : Trie-F Need → Need
-lose_step x ps r = holds (freshes x.below.items ps) (length (heads ps)) r && each_loses x.below.items ps (out-Room r).below.items
+lose_step x ps r = holds (freshes x.below.items ps) (length (heads ps)) r && each_loses x.below.items ps (rooms_of (out-Room r))
 
 -- the room is enough for taking the set out
 abbrev pub lose_room : Trie → Need
@@ -130,6 +159,12 @@ goes ps qs = not (has_some (left ps qs))
 -- the children of a place
 abbrev pub children : Trie → List (Elem × Trie)
 children t = (out-Trie t).below.items
+
+-- whether there is one child alone, and nothing below it
+abbrev pub lone_leaf : List (Elem × Trie) → Bool
+lone_leaf [] = false
+lone_leaf (d ∷ []) = not (has_some {A = Elem × Trie} (children d.1))
+lone_leaf (d ∷ e ∷ ds) = false
 
 -- what counts only where there is no such child
 abbrev pub unless_there : Option Trie → ℕ → ℕ

@@ -1,7 +1,8 @@
 //! A copy of a record, which serves wherever the record does.
 ghost use Rattle.std.specs.Prelude.{◌≡◌, IfOk};
 ghost use Rattle.ssa_model.specs.definitions.PathMap.{PathSet};
-ghost use Rattle.ssa_turn_set.specs.Copies.{RoomServes, SpareServes};
+ghost use Rattle.std.specs.List.{AllZip};
+ghost use Rattle.ssa_turn_set.specs.Copies.{ChildServes, RoomServes, SpareServes};
 ghost use Rattle.ssa_turn_set.specs.Turn.{HasRoom, set_steps};
 
 use crate::kept_paths::KeptPaths;
@@ -23,18 +24,38 @@ fn copy_spare(alloc: Global, spare: &Spare) -> Result<Spare, AllocError>
     }
 }
 
-// The same room for a place and those below it, with new memory.
-fn copy_room(alloc: Global, room: &Room) -> Result<Room, AllocError>
-    ensures { IfOk result (λ r. RoomServes room.now r) }
+// The same rooms for the children of a place, with new memory.
+#[cycle(copy)]
+fn copy_each(alloc: Global, rooms: &[(Spare, Room)]) -> Result<Vec<(Spare, Room)>, AllocError>
+    ensures { IfOk result (λ v. AllZip ChildServes rooms.now v.items) }
 {
-    let mut below = Vec::with_capacity(alloc, room.below.len())?;
-    for child in &room.below {
+    let mut below = Vec::with_capacity(alloc, rooms.len())?;
+    for child in rooms {
         let spare = copy_spare(alloc, &child.0)?;
         let place = copy_room(alloc, &child.1)?;
         below.push((spare, place))?;
     }
-    let children = Vec::with_capacity(alloc, room.children.capacity())?;
-    Ok(Room { children, below })
+    Ok(below)
+}
+
+// The same room for a place and those below it, with new memory.
+#[cycle(copy)]
+fn copy_room(alloc: Global, room: &Room) -> Result<Room, AllocError>
+    ensures { IfOk result (λ r. RoomServes room.now r) }
+{
+    match room {
+        Room::Nothing => Ok(Room::Nothing),
+        Room::Lone { children, spare } => {
+            let spare = copy_spare(alloc, spare)?;
+            let children = Vec::with_capacity(alloc, children.capacity())?;
+            Ok(Room::Lone { children, spare })
+        }
+        Room::Each { children, below } => {
+            let below = copy_each(alloc, below)?;
+            let children = Vec::with_capacity(alloc, children.capacity())?;
+            Ok(Room::Each { children, below })
+        }
+    }
 }
 
 impl SetDelta {

@@ -3,7 +3,7 @@ ghost use Rattle.std.specs.Prelude.{◌≡◌, ◌≤◌, ◌+◌, ◌||◌, [],
 ghost use Rattle.ssa_model.specs.definitions.Path.{Path};
 ghost use Rattle.ssa_path.specs.Children.{elements, rises};
 ghost use Rattle.ssa_path.specs.Trie.{is_one_of, paths, paths_below, is_trie, are_filled_tries};
-ghost use Rattle.ssa_turn_set.specs.Room.{freshes, gain_room, gains, lose_room, loses};
+ghost use Rattle.ssa_turn_set.specs.Room.{children, freshes, gain_room, gains, lone_rooms, lose_room, loses};
 ghost use Rattle.ssa_turn_set.specs.Weaving.{AreGathered};
 
 use crate::filling::exchange_where_wider;
@@ -19,6 +19,33 @@ use ssa_reverse::room::push_within;
 // compares each with those that come.
 const FEW: usize = 8;
 
+// Adds the path of a place where nothing below it is gained.
+#[inline(always)]
+fn gain_leaf(gained: &Trie, set: &mut Trie)
+    requires set { is_trie set.old ≡ true }
+    requires leaf { children gained.now ≡ [] }
+    ensures paths { (p : Path) → is_one_of (paths set.new) p ≡ (is_one_of (paths gained.now) p || is_one_of (paths set.old) p) }
+    ensures trie { is_trie set.new ≡ true }
+{
+    set.here = gained.here || set.here;
+}
+
+// Adds the path of one child, below which nothing is gained: it comes to the place where it is not there.
+fn put_lone_in(gained: &[(Elem, Trie)], below: &mut Vec<(Elem, Trie)>, spare: &mut Spare)
+    requires gained_rise { rises (elements gained.now) ≡ true }
+    requires gained_tries { are_filled_tries gained.now ≡ true }
+    requires rise { rises (elements below.old.items) ≡ true }
+    requires tries { are_filled_tries below.old.items ≡ true }
+    requires fits { length below.old.items + freshes gained.now (paths_below below.old.items) ≤ vec_capacity below.old }
+    requires room { gains gained.now (paths_below below.old.items) (lone_rooms spare.old) ≡ true }
+    ensures gathered { AreGathered gained.now below.old.items below.new.items }
+    ensures room { loses gained.now (paths_below below.old.items) (lone_rooms spare.new) ≡ true }
+{
+    let child = &gained[0];
+    let place = open_within(below, &child.0, spare);
+    gain_leaf(&child.1, &mut below[place].1);
+}
+
 /// Adds the paths of `gained`. Takes no memory.
 ///
 /// The room that is left is enough to take them out again.
@@ -32,16 +59,24 @@ pub fn gain(gained: &Trie, set: &mut Trie, room: &mut Room)
     ensures room { lose_room gained.now (paths set.old) room.new ≡ true }
 {
     let Trie { here, below } = set;
-    let Room {
-        children,
-        below: rooms,
-    } = room;
     *here = gained.here || *here;
-    if below.len() < children.capacity() && gained.below.len() > FEW {
-        weave_in(&gained.below, below, children, rooms);
-    } else {
-        exchange_where_wider(below, children);
-        put_each_in(&gained.below, below, rooms);
+    match room {
+        Room::Nothing => {}
+        Room::Lone { children, spare } => {
+            exchange_where_wider(below, children);
+            put_lone_in(&gained.below, below, spare);
+        }
+        Room::Each {
+            children,
+            below: rooms,
+        } => {
+            if below.len() < children.capacity() && gained.below.len() > FEW {
+                weave_in(&gained.below, below, children, rooms);
+            } else {
+                exchange_where_wider(below, children);
+                put_each_in(&gained.below, below, rooms);
+            }
+        }
     }
 }
 

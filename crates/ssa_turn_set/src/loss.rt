@@ -7,7 +7,7 @@ ghost use Rattle.ssa_path.specs.Children.{elements, rises};
 ghost use Rattle.ssa_path.specs.Combine.{IsCombination};
 ghost use Rattle.ssa_path.specs.Trie.{are_filled_tries, is_filled, is_trie, paths, paths_below, IsWithin};
 ghost use Rattle.ssa_path.specs.View.{element_view};
-ghost use Rattle.ssa_turn_set.specs.Room.{children, gain_room, goes, leaving, left, lose_room};
+ghost use Rattle.ssa_turn_set.specs.Room.{children, gain_room, goes, leaving, left, lone_leaf, lose_room};
 ghost use Rattle.ssa_turn_set.specs.Turn.{IsBetween};
 
 use crate::kept_paths::KeptPaths;
@@ -69,23 +69,55 @@ pub(crate) fn goes_whole(own: &Trie, lost: &Trie, gone: usize) -> bool
     gone == own.below.len()
 }
 
-// The same as `make_place_loss` tells, where nothing below the place is lost: no room is needed. Takes no memory.
+// Whether a place has what it loses, and whether it goes whole, where nothing below it is lost.
 #[inline(always)]
-fn make_leaf_loss(alloc: Global, lost: &Trie, own: &Trie) -> (LossRoom, bool)
+fn leaf_loss(lost: &Trie, own: &Trie) -> (bool, bool)
     requires lost { is_trie lost.now ≡ true }
     requires own { is_trie own.now ≡ true }
     requires leaf { children lost.now ≡ [] }
-    ensures room { lose_room lost.now (left (paths own.now) (paths lost.now)) result.0.room ≡ true }
-    ensures all { result.0.has_all ≡ true → IsWithin (paths lost.now) (paths own.now) }
+    ensures all { result.0 ≡ true → IsWithin (paths lost.now) (paths own.now) }
     ensures goes { result.1 ≡ goes (paths own.now) (paths lost.now) }
 {
-    let room = Room {
-        children: Vec::new(alloc),
+    let has_all = own.here || !lost.here;
+    (has_all, goes_whole(own, lost, 0))
+}
+
+// Whether there is one child alone, and nothing below it.
+#[inline(always)]
+pub(crate) fn is_lone(set: &Trie) -> bool
+    ensures { result ≡ lone_leaf (children set.now) }
+{
+    set.below.len() == 1 && set.below[0].1.below.is_empty()
+}
+
+// The same as `make_place_loss` tells, where one child is lost and nothing below it.
+fn make_lone_loss(alloc: Global, lost: &Trie, own: &Trie) -> Result<(LossRoom, bool), AllocError>
+    requires lost { is_trie lost.now ≡ true }
+    requires own { is_trie own.now ≡ true }
+    requires lone { lone_leaf (children lost.now) ≡ true }
+    ensures room { IfOk result (λ l. lose_room lost.now (left (paths own.now) (paths lost.now)) l.0.room ≡ true) }
+    ensures all { IfOk result (λ l. l.0.has_all ≡ true → IsWithin (paths lost.now) (paths own.now)) }
+    ensures goes { IfOk result (λ l. l.1 ≡ goes (paths own.now) (paths lost.now)) }
+{
+    let bare = Trie {
+        here: false,
         below: Vec::new(alloc),
     };
-    let has_all = own.here || !lost.here;
-    let goes = goes_whole(own, lost, 0);
-    (LossRoom { room, has_all }, goes)
+    let child = &lost.below[0];
+    let place = place_or(&own.below, &child.0, &bare);
+    let (child_has_all, goes) = leaf_loss(&child.1, place);
+    let leaving = count_whole(place, goes);
+    let children = make_children(alloc, usize::from(goes), leaving, own.below.len())?;
+    let mut has_both = own.here || !lost.here;
+    has_both &= child_has_all;
+    let spare = Spare::Nothing;
+    let room = Room::Lone { children, spare };
+    let goes = goes_whole(own, lost, leaving);
+    let loss = LossRoom {
+        room,
+        has_all: has_both,
+    };
+    Ok((loss, goes))
 }
 
 // Room enough to take the paths of `lost` out of a place, and whether the place then goes whole.
@@ -99,7 +131,12 @@ fn make_place_loss(alloc: Global, lost: &Trie, own: &Trie) -> Result<(LossRoom, 
     ensures goes { IfOk result (λ l. l.1 ≡ goes (paths own.now) (paths lost.now)) }
 {
     if lost.below.is_empty() {
-        return Ok(make_leaf_loss(alloc, lost, own));
+        let (has_all, goes) = leaf_loss(lost, own);
+        let room = Room::Nothing;
+        return Ok((LossRoom { room, has_all }, goes));
+    }
+    if is_lone(lost) {
+        return make_lone_loss(alloc, lost, own);
     }
     let bare = Trie {
         here: false,
@@ -117,8 +154,8 @@ fn make_place_loss(alloc: Global, lost: &Trie, own: &Trie) -> Result<(LossRoom, 
         leaving += count_whole(place, goes);
         below.push((Spare::Nothing, loss.room))?;
     }
-    let children = make_children(alloc, going, own.below.len())?;
-    let room = Room { children, below };
+    let children = make_children(alloc, going, leaving, own.below.len())?;
+    let room = Room::Each { children, below };
     let goes = goes_whole(own, lost, leaving);
     Ok((LossRoom { room, has_all }, goes))
 }
@@ -144,11 +181,7 @@ fn nothing(alloc: Global) -> (KeptPaths, Room)
         here: false,
         below: Vec::new(alloc),
     };
-    let room = Room {
-        children: Vec::new(alloc),
-        below: Vec::new(alloc),
-    };
-    (KeptPaths::of_trie(none), room)
+    (KeptPaths::of_trie(none), Room::Nothing)
 }
 
 // What a set has of the lost paths, not all of them, with the room to take it out. It is rare, and apart: what it holds on the

@@ -1,16 +1,17 @@
 //! The record between two sets, with its room.
 ghost use Rattle.std.specs.Prelude.{◌≡◌, ◌≤◌, ◌<◌, ◌+◌, ◌-◌, ◌^◌, List, [], length, true, vec_capacity, IfOk};
+ghost use Rattle.ssa_model.specs.definitions.FieldsV1.{heads};
 ghost use Rattle.ssa_model.specs.definitions.Path.{Path};
 ghost use Rattle.ssa_path.specs.Children.{elements, rises};
 ghost use Rattle.ssa_path.specs.View.{element_view};
 ghost use Rattle.ssa_path.specs.Trie.{are_filled_tries, is_trie, paths};
 ghost use Rattle.ssa_path.specs.Combine.{IsCombination};
-ghost use Rattle.ssa_turn_set.specs.Room.{children, fresh, gain_room, goes, leaves_beside, leaving_beside, left, serves};
+ghost use Rattle.ssa_turn_set.specs.Room.{children, fresh, freshes, gain_room, goes, leaves_beside, leaving, leaving_beside, left, lone_leaf, serves};
 ghost use Rattle.ssa_turn_set.specs.Spare.{fits};
 ghost use Rattle.ssa_turn_set.specs.Turn.{IsBetween};
 
 use crate::kept_paths::KeptPaths;
-use crate::loss::{count_whole, goes_whole, make_loss_room, place_or};
+use crate::loss::{count_whole, goes_whole, is_lone, make_loss_room, place_or};
 use crate::room::Room;
 use crate::spare::Spare;
 use crate::turn::{SetDelta, SetRoom};
@@ -41,16 +42,17 @@ fn make_spare_for(alloc: Global, element: &Elem, coming: usize) -> Result<Spare,
     make_spare(alloc, element)
 }
 
-// An empty vector with room for so many children, where some come or go.
+// An empty vector with room for a place's children, where some are lost whole, but not all: so many of them leave.
 pub(crate) fn make_children(
     alloc: Global,
-    fresh: usize,
+    going: usize,
+    leaving: usize,
     len: usize,
 ) -> Result<Vec<(Elem, Trie)>, AllocError>
     ensures items { IfOk result (λ v. v.items ≡ []) }
-    ensures fits { IfOk result (λ v. 0 < fresh → len ≤ vec_capacity v) }
+    ensures fits { IfOk result (λ v. 0 < going → leaving < len → len ≤ vec_capacity v) }
 {
-    if fresh == 0 {
+    if going == 0 || leaving >= len {
         return Ok(Vec::new(alloc));
     }
     Vec::with_capacity(alloc, len)
@@ -120,6 +122,61 @@ fn make_coming_children(
     Vec::with_capacity(alloc, own.below.len() - leaving + coming)
 }
 
+// The vector for a place's children, where so many come, and whether it had none left: of the gained so many had gone whole.
+fn make_gain_children(
+    alloc: Global,
+    gained: &Trie,
+    own: &Trie,
+    lost: &Trie,
+    coming: usize,
+    going: usize,
+) -> Result<(Vec<(Elem, Trie)>, bool), AllocError>
+    requires gained { is_trie gained.now ≡ true }
+    requires own { is_trie own.now ≡ true }
+    requires lost { is_trie lost.now ≡ true }
+    requires few { coming < 2 ^ 63 }
+    requires coming { coming ≡ freshes (children gained.now) (left (paths own.now) (paths lost.now)) }
+    requires going { going + leaving_beside (children gained.now) (children lost.now) (children own.now) ≡ leaving (children lost.now) (children own.now) }
+    ensures items { IfOk result (λ r. r.0.items ≡ []) }
+    ensures fits { IfOk result (λ r. 0 < coming → length (heads (left (paths own.now) (paths lost.now))) + coming ≤ vec_capacity r.0) }
+    ensures goes { IfOk result (λ r. r.1 ≡ goes (paths own.now) (paths lost.now)) }
+{
+    if coming == 0 && own.below.len() > lost.below.len() {
+        return Ok((Vec::new(alloc), false));
+    }
+    let leaving = going + count_all_leaving(&own.below, &lost.below, &gained.below);
+    let children = make_coming_children(alloc, coming, own, leaving)?;
+    Ok((children, goes_whole(own, lost, leaving)))
+}
+
+// The same as `make_place_gain` tells, where one child is gained and nothing below it.
+fn make_lone_gain(
+    alloc: Global,
+    gained: &Trie,
+    own: &Trie,
+    lost: &Trie,
+) -> Result<(Room, bool), AllocError>
+    requires gained { is_trie gained.now ≡ true }
+    requires own { is_trie own.now ≡ true }
+    requires lost { is_trie lost.now ≡ true }
+    requires lone { lone_leaf (children gained.now) ≡ true }
+    ensures room { IfOk result (λ r. gain_room gained.now (left (paths own.now) (paths lost.now)) r.0 ≡ true) }
+    ensures goes { IfOk result (λ r. r.1 ≡ goes (paths own.now) (paths lost.now)) }
+{
+    let bare = Trie {
+        here: false,
+        below: Vec::new(alloc),
+    };
+    let child = &gained.below[0];
+    let place = place_or(&own.below, &child.0, &bare);
+    let gone = place_or(&lost.below, &child.0, &bare);
+    let comes = count_gone(place, gone);
+    let spare = make_spare_for(alloc, &child.0, comes)?;
+    let going = count_whole(place, comes == 1);
+    let (children, goes) = make_gain_children(alloc, gained, own, lost, comes, going)?;
+    Ok((Room::Lone { children, spare }, goes))
+}
+
 // Room enough to put the paths of `gained` into a place that lost those of `lost`, and whether it then had none left.
 //
 // That is told from what the children tell; those that are lost and not gained are walked, where it is asked how many go.
@@ -135,6 +192,9 @@ fn make_place_gain(
     ensures room { IfOk result (λ r. gain_room gained.now (left (paths own.now) (paths lost.now)) r.0 ≡ true) }
     ensures goes { IfOk result (λ r. r.1 ≡ goes (paths own.now) (paths lost.now)) }
 {
+    if is_lone(gained) {
+        return make_lone_gain(alloc, gained, own, lost);
+    }
     let bare = Trie {
         here: false,
         below: Vec::new(alloc),
@@ -152,13 +212,8 @@ fn make_place_gain(
         leaving += count_whole(place, goes);
         below.push((spare, room))?;
     }
-    if coming == 0 && own.below.len() > lost.below.len() {
-        let children = Vec::new(alloc);
-        return Ok((Room { children, below }, false));
-    }
-    leaving += count_all_leaving(&own.below, &lost.below, &gained.below);
-    let children = make_coming_children(alloc, coming, own, leaving)?;
-    Ok((Room { children, below }, goes_whole(own, lost, leaving)))
+    let (children, goes) = make_gain_children(alloc, gained, own, lost, coming, leaving)?;
+    Ok((Room::Each { children, below }, goes))
 }
 
 /// Room enough to put the paths of `gained` into a set that had those of `own` and lost those of
@@ -175,9 +230,7 @@ pub fn make_gain_room(
     ensures { IfOk result (λ r. gain_room gained.now (left (paths own.now) (paths lost.now)) r ≡ true) }
 {
     if gained.below.is_empty() {
-        let children = Vec::new(alloc);
-        let below = Vec::new(alloc);
-        return Ok(Room { children, below });
+        return Ok(Room::Nothing);
     }
     let (room, _goes) = make_place_gain(alloc, gained, own, lost)?;
     Ok(room)

@@ -16,11 +16,9 @@ use Rattle.ssa_path.specs.Trie.{paths}
 use Rattle.ssa_merge.proofs.GivenUp.{never}
 use Rattle.ssa_merge.specs.TableChanges.{changed_entry}
 use Rattle.ssa_merge.specs.declared.table_change.EntryChange.TheVariants.{Stays}
-use Rattle.ssa_turn_set.specs.declared.room.Room.{Room}
-use Rattle.ssa_turn_set.specs.declared.room.Room.TheOpen.{Room-F}
-use Rattle.ssa_turn_set.specs.declared.room.Room.TheViews.{roll-Room}
+use Rattle.ssa_turn_set.specs.declared.room.Room.TheVariants.{Nothing}
 use Rattle.ssa_turn_set.specs.Turn.{IsBetween, SetSteps, set_between, set_target}
-use Rattle.ssa_turn_set.proofs.Bare.{IsBare, IsEmptyRoom, bare-gain, bare-lose, bare-paths, bare-trie}
+use Rattle.ssa_turn_set.proofs.Bare.{IsBare, bare-gain, bare-lose, bare-paths, bare-trie}
 use Rattle.ssa_turn_set.proofs.Turning.{led-between}
 use Rattle.ssa_turn_table.specs.Changing.{change_in, owning}
 use Rattle.ssa_turn_table.proofs.Changes.{led-steps}
@@ -34,9 +32,9 @@ pub minus-itself : (s : PathSet) → listed [] ≡ minus s s
 minus-itself s = same_sets _ _ (λ p. has-listed [] p ∙ sym (has-minus s s p ∙ never (has s p)))
 
 -- nothing is gained and lost, and no room is needed
-pub stays-between : (x y : Trie-F Trie) (r q : Room-F Room) → IsBare x → IsBare y → IsEmptyRoom r → IsEmptyRoom q
-    → (s : PathSet) → IsBetween s s (record { gain = roll-Trie x; lose = roll-Trie y; room = record { gain = roll-Room r; lose = roll-Room q } })
-stays-between x y r q bare_x bare_y none_r none_q s =
+pub stays-between : (x y : Trie-F Trie) → IsBare x → IsBare y
+    → (s : PathSet) → IsBetween s s (record { gain = roll-Trie x; lose = roll-Trie y; room = record { gain = Nothing; lose = Nothing } })
+stays-between x y bare_x bare_y s =
     let d : SetSteps = record { gain = listed (paths (roll-Trie x)); lose = listed (paths (roll-Trie y)) } in
     let gained = ap listed (bare-paths x bare_x) ∙ minus-itself s in
     let lost = ap listed (bare-paths y bare_y) ∙ minus-itself s in
@@ -48,7 +46,7 @@ stays-between x y r q bare_x bare_y none_r none_q s =
       room = record {
         gain_trie = bare-trie x bare_x;
         lose_trie = bare-trie y bare_y;
-        room = both _ _ (bare-gain x bare_x r none_r without) (bare-lose y bare_y q none_q without);
+        room = both _ _ (bare-gain x bare_x without) (bare-lose y bare_y without);
       };
     }
 

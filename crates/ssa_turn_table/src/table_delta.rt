@@ -43,14 +43,8 @@ fn set_stays(alloc: Global) -> SetDelta
             below: Vec::new(alloc),
         }),
         room: SetRoom {
-            gain: Room {
-                children: Vec::new(alloc),
-                below: Vec::new(alloc),
-            },
-            lose: Room {
-                children: Vec::new(alloc),
-                below: Vec::new(alloc),
-            },
+            gain: Room::Nothing,
+            lose: Room::Nothing,
         },
     }
 }

@@ -1,5 +1,6 @@
 use Rattle.std.proofs.Common.{◌≡◌, refl, ap, sym, ◌∙◌, subst, take, arith, rules}
 use Rattle.std.proofs.lemmas.List.{take_all}
+use Rattle.std.specs.Prelude.{vec_capacity}
 use Rattle.ssa_path.specs.declared.trie.Trie.{the_lemmas}
 use Rattle.ssa_path.specs.declared.trie.Trie.TheViews.{out-Trie}
 use Rattle.ssa_path.specs.Trie.{is_trie, paths, paths_below}
@@ -10,9 +11,10 @@ use Rattle.ssa_path.proofs.LyingWithin.{AreWithin, within-all}
 use Rattle.ssa_path.proofs.Orders.{both_first, both_second}
 use Rattle.ssa_model.specs.definitions.FieldsV1.{tails}
 use Rattle.ssa_turn_set.specs.Room.{children, fresh, going, leaving, left, losses, lose_room}
-use Rattle.ssa_turn_set.proofs.Left.{going-one-more, loss-rolled, losses-more}
+use Rattle.ssa_turn_set.proofs.Left.{going-one-more, loss-held, losses-more}
 use Rattle.ssa_turn_set.proofs.LossRecords.{has-more}
-use Rattle.ssa_turn_set.proofs.Staying.{leaving-one-more}
+use Rattle.ssa_turn_set.proofs.Staying.{leaving-one-more, left-fits}
+use Rattle.ssa_turn_set.proofs.Rooms.{each-out}
 use Rattle.ssa_turn_set.proofs.Telling.{fresh-most, goes-once, whole-gone}
 use Rattle.ssa_turn_set.proofs.loss.+make_place_loss.Goals as goal
 
@@ -72,8 +74,11 @@ returns-clause-room t c =
     let len = c.len-2.ensures in
     let counted : c.loop-child.going ≡ going (out-Trie c.args.lost.now).below.items ps =
     c.loop-child.invariant.count ∙ ap (λ l. going l ps) all in
-    loss-rolled c.args.lost.now c.args.own.now _ c.requires.lost c.in_ok-children.ensures.items (λ lt. let fits =
-    c.in_ok-children.ensures.fits (omega arith) in omega arith)
+    let left : c.loop-child.leaving ≡ leaving (children c.args.lost.now) (children c.args.own.now) =
+    c.loop-child.invariant.leave ∙ ap (λ l. leaving l (children c.args.own.now)) all in
+    loss-held c.args.lost.now c.args.own.now _ _ (each-out _ _) c.requires.lost c.in_ok-children.ensures.items
+    (λ lt. left-fits c.args.own.now c.args.lost.now (vec_capacity c.in_ok-children.children) c.requires.own c.requires.lost
+    (λ some. let fits = c.in_ok-children.ensures.fits (omega arith) (omega arith) in omega arith))
     (ap (λ l. losses l ps c.loop-child.below.items) (sym all) ∙ c.loop-child.invariant.rooms)
 
 pub returns-clause-all : goal.returns-clause-all

@@ -1,7 +1,7 @@
 use Rattle.std.proofs.Common.{refl, ap, ◌∙◌}
 use Rattle.ssa_path.specs.Trie.{is_trie, paths}
 use Rattle.ssa_turn_set.specs.Room.{gain_room}
-use Rattle.ssa_turn_set.specs.declared.room.Room.TheViews.{roll-Room}
+use Rattle.ssa_turn_set.specs.declared.room.Room.TheVariants.{Nothing}
 use Rattle.ssa_turn_set.proofs.Bare.{bare-gain, bare-paths, bare-trie}
 use Rattle.ssa_turn_set.proofs.loss.nothing.Goals as goal
 
@@ -13,6 +13,4 @@ returns-clause-trie c = ap is_trie c.of_trie.ensures ∙ bare-trie _ (record { h
 
 pub returns-clause-room : goal.returns-clause-room
 returns-clause-room c = λ ps.
-    ap (λ t. gain_room t ps (roll-Room record { children = c.new-2.result; below = c.new-3.result })) c.of_trie.ensures
-    ∙ bare-gain _ (record { here = refl; below = c.new.ensures.items }) _
-    (record { children = c.new-2.ensures.items; below = c.new-3.ensures.items }) ps
+    ap (λ t. gain_room t ps Nothing) c.of_trie.ensures ∙ bare-gain _ (record { here = refl; below = c.new.ensures.items }) ps

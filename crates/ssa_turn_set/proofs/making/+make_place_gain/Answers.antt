@@ -1,21 +1,19 @@
-use Rattle.std.proofs.Common.{◌≡◌, ◌+◌, ℕ, List, true, refl, length, ap, sym, ◌∙◌, take, arith, rules}
+use Rattle.std.proofs.Common.{◌≡◌, refl, length, ap, sym, ◌∙◌, take, arith, rules}
 use Rattle.std.proofs.lemmas.List.{take_all}
-use Rattle.ssa_path.specs.declared.element.Elem.{Elem}
-use Rattle.ssa_path.specs.declared.trie.Trie.{the_lemmas, Trie}
-use Rattle.ssa_path.specs.declared.trie.Trie.TheViews.{out-Trie}
-use Rattle.ssa_path.specs.Trie.{is_trie, paths, paths_below}
+use Rattle.ssa_path.specs.declared.trie.Trie.{the_lemmas}
+use Rattle.ssa_path.specs.Trie.{paths, paths_below}
 use Rattle.ssa_path.specs.Children.{child_at}
 use Rattle.ssa_path.specs.View.{element_view}
 use Rattle.ssa_path.proofs.Levels.{trie-parts}
 use Rattle.ssa_path.proofs.Lists.{taken-at, child-trie}
 use Rattle.ssa_model.specs.definitions.FieldsV1.{heads, tails}
-use Rattle.ssa_turn_set.specs.Room.{children, fresh, freshes, gain_room, gains, leaving, leaving_beside, left}
+use Rattle.ssa_turn_set.specs.Room.{children, fresh, freshes, gain_room, gains, left}
 use Rattle.ssa_turn_set.proofs.Left.{gain-left, left-behind}
 use Rattle.ssa_turn_set.proofs.NewRooms.{counted-more}
-use Rattle.ssa_turn_set.proofs.Rooms.{gains-more}
+use Rattle.ssa_turn_set.proofs.Rooms.{each-out, gains-more}
 use Rattle.ssa_turn_set.proofs.Shared.{shared, shared-one-more, there}
-use Rattle.ssa_turn_set.proofs.Staying.{left-most, more-stays, stale}
-use Rattle.ssa_turn_set.proofs.Telling.{fresh-most, goes-not, goes-once, leaving-split, whole-there}
+use Rattle.ssa_turn_set.proofs.Staying.{stale}
+use Rattle.ssa_turn_set.proofs.Telling.{all-told, fresh-most, goes-once, whole-there}
 use Rattle.ssa_turn_set.proofs.making.+make_place_gain.Goals as goal
 use Rattle.ssa_model.proofs.Basics.{both-true as both}
 
@@ -70,70 +68,23 @@ loop-child-preserved t c =
       few_leave = omega arith;
     }
 
-pub returns-then-len-clause-room : goal.returns-then-len-clause-room
-returns-then-len-clause-room t c =
+pub make_gain_children-requires-clause-coming : goal.make_gain_children-requires-clause-coming
+make_gain_children-requires-clause-coming t c =
+    let all = take_all c.loop-child.child-index c.deref-child-items.result.now c.loop-child-test.false ∙ c.deref-child-items.ensures.value in
+    c.loop-child.invariant.count ∙ ap (λ l. freshes l (left (paths c.args.own.now) (paths c.args.lost.now))) all
+
+pub make_gain_children-requires-clause-going : goal.make_gain_children-requires-clause-going
+make_gain_children-requires-clause-going t c =
     let all = take_all c.loop-child.child-index c.deref-child-items.result.now c.loop-child-test.false ∙ c.deref-child-items.ensures.value in
     let new = left (paths c.args.own.now) (paths c.args.lost.now) in
-    let counted : c.loop-child.coming ≡ freshes (children c.args.gained.now) new = c.loop-child.invariant.count ∙ ap (λ l. freshes l new) all in
-    gain-left c.args.gained.now new _ (length (heads new)) c.new-children.ensures.items (omega arith) (λ lt. absurd (omega arith))
-    (ap (λ l. gains l new c.loop-child.below.items) (sym all) ∙ c.loop-child.invariant.rooms)
-
-pub returns-then-len-clause-goes : goal.returns-then-len-clause-goes
-returns-then-len-clause-goes t c =
-    let own = (out-Trie c.args.own.now).below.ok.0 in
-    let lost = (out-Trie c.args.lost.now).below.ok.0 in
-    goes-not _ (more-stays c.args.own.now c.args.lost.now c.requires.own c.requires.lost (omega arith))
-
-pub count_all_leaving-leaving-requires-clause-rise : goal.count_all_leaving-leaving-requires-clause-rise
-count_all_leaving-leaving-requires-clause-rise t c = (trie-parts c.args.own.now c.deref-2.result.now c.deref-2.ensures.value c.requires.own).0
-
-pub count_all_leaving-leaving-requires-clause-gained : goal.count_all_leaving-leaving-requires-clause-gained
-count_all_leaving-leaving-requires-clause-gained t c = (trie-parts c.args.gained.now c.deref-4.result.now c.deref-4.ensures.value c.requires.gained).0
-
--- those that go whole of the gained, and of the others, are all that do
-all-told : (gained own lost : Trie) (n more : ℕ) (cs ls ds gs : List (Elem × Trie)) → is_trie gained ≡ true → is_trie own ≡ true → is_trie lost ≡ true
-    → n ≡ shared (stale (left (paths own) (paths lost))) cs (children own) → cs ≡ children gained → more ≡ leaving_beside gs ls ds
-    → gs ≡ children gained → ls ≡ children lost → ds ≡ children own → n + more ≡ leaving (children lost) (children own)
-all-told gained own lost n more cs ls ds gs trie_gained trie trie_lost first all second gs_is ls_is ds_is =
-    (λ i. (first ∙ ap (λ l. shared (stale (left (paths own) (paths lost))) l (children own)) all) i
-    + (second ∙ (λ i. leaving_beside (gs_is i) (ls_is i) (ds_is i))) i)
-    ∙ sym (leaving-split gained own lost trie_gained trie trie_lost)
-
-pub overflow_add-leaving-2 : goal.overflow_add-leaving-2
-overflow_add-leaving-2 t c =
-    let all = take_all c.loop-child.child-index c.deref-child-items.result.now c.loop-child-test.false ∙ c.deref-child-items.ensures.value in
-    let told = all-told c.args.gained.now c.args.own.now c.args.lost.now c.loop-child.leaving c.count_all_leaving-leaving.result _ _ _ _
-    c.requires.gained c.requires.own c.requires.lost c.loop-child.invariant.leave all c.count_all_leaving-leaving.ensures
-    c.deref-4.ensures.value c.deref-3.ensures.value c.deref-2.ensures.value in
-    let most = left-most c.args.own.now c.args.lost.now c.requires.own c.requires.lost in
-    let own = (out-Trie c.args.own.now).below.ok.0 in
-    omega arith
-
-pub make_coming_children-requires-clause-leaving : goal.make_coming_children-requires-clause-leaving
-make_coming_children-requires-clause-leaving t c =
-    let all = take_all c.loop-child.child-index c.deref-child-items.result.now c.loop-child-test.false ∙ c.deref-child-items.ensures.value in
-    let told = all-told c.args.gained.now c.args.own.now c.args.lost.now c.loop-child.leaving c.count_all_leaving-leaving.result _ _ _ _
-    c.requires.gained c.requires.own c.requires.lost c.loop-child.invariant.leave all c.count_all_leaving-leaving.ensures
-    c.deref-4.ensures.value c.deref-3.ensures.value c.deref-2.ensures.value in
-    let most = left-most c.args.own.now c.args.lost.now c.requires.own c.requires.lost in
-    omega arith
-
-pub goes_whole-requires-clause-gone : goal.goes_whole-requires-clause-gone
-goes_whole-requires-clause-gone t c =
-    let all = take_all c.loop-child.child-index c.deref-child-items.result.now c.loop-child-test.false ∙ c.deref-child-items.ensures.value in
-    all-told c.args.gained.now c.args.own.now c.args.lost.now c.loop-child.leaving c.count_all_leaving-leaving.result _ _ _ _
-    c.requires.gained c.requires.own c.requires.lost c.loop-child.invariant.leave all c.count_all_leaving-leaving.ensures
-    c.deref-4.ensures.value c.deref-3.ensures.value c.deref-2.ensures.value
+    all-told c.args.gained.now c.args.own.now c.args.lost.now c.loop-child.leaving c.requires.gained c.requires.own c.requires.lost
+    (c.loop-child.invariant.leave ∙ ap (λ l. shared (stale new) l (children c.args.own.now)) all)
 
 pub returns-clause-room : goal.returns-clause-room
 returns-clause-room t c =
     let all = take_all c.loop-child.child-index c.deref-child-items.result.now c.loop-child-test.false ∙ c.deref-child-items.ensures.value in
     let new = left (paths c.args.own.now) (paths c.args.lost.now) in
     let counted : c.loop-child.coming ≡ freshes (children c.args.gained.now) new = c.loop-child.invariant.count ∙ ap (λ l. freshes l new) all in
-    let told = all-told c.args.gained.now c.args.own.now c.args.lost.now c.loop-child.leaving c.count_all_leaving-leaving.result _ _ _ _
-    c.requires.gained c.requires.own c.requires.lost c.loop-child.invariant.leave all c.count_all_leaving-leaving.ensures
-    c.deref-4.ensures.value c.deref-3.ensures.value c.deref-2.ensures.value in
-    let most = left-most c.args.own.now c.args.lost.now c.requires.own c.requires.lost in
-    gain-left c.args.gained.now new _ (length (heads new)) c.in_ok-children.ensures.items (omega arith) (λ lt. let fits =
+    gain-left c.args.gained.now new _ _ (length (heads new)) (each-out _ _) c.in_ok-children.ensures.items (omega arith) (λ lt. let fits =
     c.in_ok-children.ensures.fits (omega arith) in omega arith)
     (ap (λ l. gains l new c.loop-child.below.items) (sym all) ∙ c.loop-child.invariant.rooms)
