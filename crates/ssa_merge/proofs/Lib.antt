@@ -7,6 +7,7 @@ pub mod HeldAbove
 mod KeptSets
 pub mod Acting
 mod Clashes
+mod Untaken
 pub mod RootedPruned
 pub mod KeptPlaces
 pub mod Applied

@@ -1,5 +1,5 @@
 //! What a command changes of a state, told without what stays.
-ghost use Rattle.std.specs.Prelude.{◌≡◌, ◌≤◌, true, unwrap_or, IfOk};
+ghost use Rattle.std.specs.Prelude.{◌≡◌, ◌≤◌, true, if◌then◌else◌, unwrap_or, IfOk};
 ghost use Rattle.ssa_model.specs.definitions.Body.{Body as ModelBody, points};
 ghost use Rattle.ssa_model.specs.definitions.Fitting.{IsBodyOf};
 ghost use Rattle.ssa_model.specs.definitions.History.{is_manager_name};
@@ -125,6 +125,14 @@ fn unless_live(merged: Merged) -> Option<Body>
     }
 }
 
+// What the others lose by an Apply without a conflict: what changed where it is forced. Else none of them owns any of
+// that, and their sets need no look.
+fn taken<'a>(changed: &'a FieldSet, nothing: &'a FieldSet, forced: bool) -> &'a FieldSet
+    ensures { result.now ≡ (if forced then changed.now else nothing.now) }
+{
+    if forced { changed } else { nothing }
+}
+
 // What an Apply changes whose body is this one, where the manager then owns these points, or keeps what it has where
 // none are told.
 fn applied_with(
@@ -150,7 +158,9 @@ fn applied_with(
     if merged.body.size() > MOST_PLACES {
         return Err(Refusal::TooManyPaths);
     }
-    match seat(alloc, &state.managers, key, owned, changed, changed, at) {
+    let nothing = FieldSet::new(alloc);
+    let lost = taken(changed, &nothing, force);
+    match seat(alloc, &state.managers, key, owned, lost, changed, at) {
         Ok(table) => Ok(Change {
             body: unless_live(merged),
             table,
