@@ -12,10 +12,10 @@ use Rattle.ssa_path.proofs.Lists.{taken-at}
 use Rattle.ssa_path.specs.Meet.{meet}
 use Rattle.ssa_merge.specs.Managers.{entry_view, table_view}
 use Rattle.ssa_merge.specs.Tables.{owns, less, acted}
-use Rattle.ssa_merge.specs.TableChanges.{changed_entry, changed_entries}
+use Rattle.ssa_merge.specs.TableChanges.{changed_entry, changed_entries, leaves}
 use Rattle.ssa_merge.specs.declared.managers.Entry as merge
 use Rattle.ssa_merge.specs.declared.table_change.EntryChange.{EntryChange}
-use Rattle.ssa_merge.specs.declared.table_change.EntryChange.TheVariants.{Leaves}
+use Rattle.ssa_merge.specs.declared.table_change.EntryChange.TheVariants.{Stays, Leaves, Renewed, Loses, Owns}
 use Rattle.ssa_merge.proofs.GivenUp.{minus-meet, minus-none}
 
 -- an entry that owns something is kept
@@ -67,6 +67,24 @@ pub all-leave : (n : ℕ) (table : Table) → changed_entries (replicate n Leave
 all-leave zero table = refl
 all-leave (suc n) [] = refl
 all-leave (suc n) (e ∷ es) = all-leave n es
+
+abbrev kept : List EntryChange → ℕ
+kept cs = length (filter (λ c. not (leaves c)) cs)
+
+one-kept : (c : EntryChange) (cs : List EntryChange) (e : Entry) (es : Table) → kept cs ≡ length (changed_entries cs es)
+    → kept (c ∷ cs) ≡ length (changed_entries (c ∷ cs) (e ∷ es))
+one-kept Stays cs e es before = ap suc before
+one-kept Leaves cs e es before = before
+one-kept (Renewed at) cs e es before = ap suc before
+one-kept (Loses lost at) cs e es before = ap suc before
+one-kept (Owns set at) cs e es before = ap suc before
+
+-- as many do not leave as there are entries after the change
+pub kept-counted : (cs : List EntryChange) (table : Table) → length cs ≡ length table
+    → length (filter (λ c. not (leaves c)) cs) ≡ length (changed_entries cs table)
+kept-counted [] table same = refl
+kept-counted (c ∷ cs) [] same = let no : ⊥ = omega arith in absurd no
+kept-counted (c ∷ cs) (e ∷ es) same = one-kept c cs e es (kept-counted cs es (let rest : length cs ≡ length es = omega arith in rest))
 
 -- one entry more, and what becomes of it
 pub changed-more : (cs : List EntryChange) (c : EntryChange) (table : Table) (e : Entry) → length cs ≡ length table

@@ -56,13 +56,13 @@ pub fn count_kept(changes: &[EntryChange]) -> usize
     ensures count { (t : Table) → length changes.now ≡ length t → result ≡ length (changed_entries changes.now t) }
     ensures most { result ≤ length changes.now }
 {
-    match changes {
-        [] => 0,
-        [first, rest @ ..] => {
-            let others = count_kept(rest);
-            if first.leaves() { others } else { others + 1 }
+    let mut kept = 0;
+    for change in changes {
+        if !change.leaves() {
+            kept += 1;
         }
     }
+    kept
 }
 
 // The entry after a change, with a set of its own.
