@@ -218,14 +218,19 @@ fn gone_by(
     Ok(gone)
 }
 
-// The manager that comes, at its place.
-fn here_by(alloc: Global, place: usize, newcomer: Option<Entry>) -> Result<Vec<Here>, AllocError>
-    ensures here { IfOk result (λ hs. heres_view hs.items ≡ map (λ e. (place, e)) (lone newcomer)) }
+// The manager that comes, behind those that stay: they are counted where one comes.
+fn here_by(
+    alloc: Global,
+    told: &[table_change::EntryChange],
+    newcomer: Option<Entry>,
+) -> Result<Vec<Here>, AllocError>
+    ensures here { IfOk result (λ hs. (t : Table) → length told.now ≡ length t → heres_view hs.items ≡ map (λ e. (length (changed_entries told.now t), e)) (lone newcomer)) }
     ensures keys { IfOk result (λ hs. AllKeysAgree hs.items) }
 {
     let mut here = Vec::new(alloc);
     if let Some(entry) = newcomer {
         let key = entry.key.copy(alloc)?;
+        let place = count_kept(told);
         here.push(Here { place, entry, key })?;
     }
     Ok(here)
@@ -252,7 +257,7 @@ pub fn table_delta(
         newcomer,
     } = change;
     let gone = gone_by(alloc, entries, &changes)?;
-    let here = here_by(alloc, count_kept(&changes), newcomer)?;
+    let here = here_by(alloc, &changes, newcomer)?;
     let changed = changes_by(alloc, entries, &changes)?;
     let room = make_table_room(alloc, gone.len(), here.len())?;
     Ok(TableDelta {

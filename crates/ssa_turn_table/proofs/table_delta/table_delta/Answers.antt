@@ -14,11 +14,11 @@ returns-clause-record c = λ u h.
     let fs = c.args.change.entries.items in
     let o = c.args.change.newcomer in
     let d : TableDelta = record { changed = c.in_ok-changed.changed; gone = c.in_ok-gone.gone; here = c.in_ok-here.here; room = c.in_ok-room.room } in
-    let kept = c.count_kept.ensures.count t (ap length c.deref-2.ensures.value ∙ h.each) ∙ ap (λ xs. length (changed_entries xs t)) c.deref-2.ensures.value in
+    let here = c.in_ok-here.ensures.here t (ap length c.deref-2.ensures.value ∙ h.each) in
     led-record t fs o u h.new h.leads (table_steps d)
     (c.in_ok-changed.ensures.changes ∙ ap (λ xs. changes t (changed_entries xs t)) c.deref-3.ensures.value)
     (c.in_ok-gone.ensures ∙ ap (λ xs. gone_from t (changed_entries xs t)) c.deref.ensures.value)
-    (c.in_ok-here.ensures.here ∙ ap (λ n. map (λ e. (n, e)) (lone o)) kept)
+    (here ∙ ap (λ xs. map (λ e. (length (changed_entries xs t), e)) (lone o)) c.deref-2.ensures.value)
 
 pub returns-clause-room : goal.returns-clause-room
 returns-clause-room c =
