@@ -1,5 +1,6 @@
 // Tests of texts that stand in the value itself where they are short.
 use ssa_members::SmallText;
+use ssa_members::words::{eight_at, four_at, held};
 use std::alloc::{AllocError, Global};
 use std::test::Fail;
 
@@ -32,8 +33,38 @@ fn are_kept(alloc: Global) -> Result<bool, AllocError> {
     Ok(true)
 }
 
+// Whether each beginning of a text is.
+fn are_beginnings_kept(alloc: Global, text: &str) -> Result<bool, AllocError> {
+    let mut beginning = String::new(alloc);
+    for letter in text.chars() {
+        if !is_kept(alloc, beginning.as_str())? {
+            return Ok(false);
+        }
+        beginning.push(letter)?;
+    }
+    Ok(true)
+}
+
 #[test]
 fn texts_are_kept_within_and_beyond_the_value(rt: HostRuntime) -> Result<(), Fail> {
     assert!(rt; are_kept(rt.alloc())?);
+    Ok(())
+}
+
+#[test]
+fn texts_of_each_length_are_kept(rt: HostRuntime) -> Result<(), Fail> {
+    assert!(rt; are_beginnings_kept(rt.alloc(), TEXTS[5])?);
+    Ok(())
+}
+
+#[test]
+fn bytes_are_read_and_held_as_words(rt: HostRuntime) -> Result<(), Fail> {
+    let bytes = [1, 0, 0, 0, 2, 0, 0, 0, 3];
+    assert_eq!(rt; four_at(&bytes, 0), 1);
+    assert_eq!(rt; four_at(&bytes, 4), 2);
+    assert_eq!(rt; eight_at(&bytes, 0), 8_589_934_593);
+    assert_eq!(rt; eight_at(&bytes, 1), 216_172_782_147_338_240);
+    assert_eq!(rt; held(b"spec")[..4], b"spec"[..]);
+    assert_eq!(rt; held(b"kubernetes.io")[..13], b"kubernetes.io"[..]);
     Ok(())
 }
