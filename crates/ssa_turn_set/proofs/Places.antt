@@ -28,7 +28,8 @@ use Rattle.ssa_model.proofs.Basics.{both-true as both}
 
 -- ---- what is told of the place's own room
 
-no_items : {A : Type 0} (xs : List A) → not (has_some xs) ≡ true → xs ≡ []
+-- a list of which there is nothing is empty
+pub no_items : {A : Type 0} (xs : List A) → not (has_some xs) ≡ true → xs ≡ []
 no_items [] h = refl
 no_items (x ∷ xs) h = absurd (true≢false (sym h))
 
