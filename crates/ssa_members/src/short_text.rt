@@ -1,6 +1,5 @@
 // Texts whose bytes stand in the value itself.
 ghost use Rattle.std.specs.Prelude.{IsUtf8, ◌≡◌, ◌≤◌, ◌+◌, bytes_eq, drop, take};
-ghost use Rattle.std.specs.Int.{to_le_bytes, w64};
 
 use crate::words::{eight_at, held};
 use std::cmp::Ordering;

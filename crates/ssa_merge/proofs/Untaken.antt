@@ -9,14 +9,7 @@ use Rattle.ssa_model.specs.definitions.Operations.{Clash, clashes, clashes_of, i
 use Rattle.ssa_path.specs.Meet.{meet}
 use Rattle.ssa_merge.specs.Tables.{owns}
 use Rattle.ssa_merge.proofs.GivenUp.{meet-none, minus-none}
-
-none-first : {A : Type 0} (xs ys : List A) → xs ++ ys ≡ [] → xs ≡ []
-none-first [] ys h = refl
-none-first (x ∷ xs) ys h = cc
-
-none-then : {A : Type 0} (xs ys : List A) → xs ++ ys ≡ [] → ys ≡ []
-none-then [] ys h = h
-none-then (x ∷ xs) ys h = cc
+use Rattle.ssa_model.proofs.Faults.{nil_first, nil_second}
 
 -- who has no clash owns nothing that changed
 shares-none : (b : Bool) (c : Clash) → (if b then [] else c ∷ []) ≡ [] → b ≡ true
@@ -59,8 +52,8 @@ module _ (a : ManagerKey) (owned changed : PathSet) (renewed : Bool) (at : Text)
   entries-stay [] quiet = refl
   entries-stay (e ∷ es) quiet =
       let first = if same_manager e.manager a then [] else clashes_of changed e in
-      let here = entry-stays e (none-first first (clashes a changed es) quiet) in
-      let rest = entries-stay es (none-then first (clashes a changed es) quiet) in
+      let here = entry-stays e (nil_first first (clashes a changed es) quiet) in
+      let rest = entries-stay es (nil_second first (clashes a changed es) quiet) in
       λ i. here i ∷ rest i
 
 -- where nobody clashes, the table is seated as if what changed were taken from nobody
