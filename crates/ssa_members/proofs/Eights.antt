@@ -1,4 +1,4 @@
--- Texts that are compared eight bytes at a time.
+-- Texts that are compared a word at a time.
 use Rattle.std.proofs.Common.{◌≡◌, ℕ, ◌+◌, ◌-◌, ◌<◌, ◌≤◌, List, length, get_or, take, drop, Bool, true, false, bytes_eq, refl, sym, ap, subst, ◌∙◌, ⊎_elim, true≢false, Equal, arith}
 use Rattle.std.proofs.lemmas.Bool.{cases_lt}
 use Rattle.std.proofs.lemmas.Bool.Decides.{same_from_decides}
@@ -28,25 +28,38 @@ told-apart a d apart = by (bytes_eq a d) refl
     by true e = absurd (apart ((bytes_decides a d).0 e))
     by false e = refl
 
-module _ (a d : List ℕ) where
-  -- the eight bytes from a place on are the same
-  abbrev AreEightSame : ℕ → Type 0
-  AreEightSame i = take 8 (drop i a) ≡ take 8 (drop i d)
+module _ (w : ℕ) (a d : List ℕ) where
+  -- so many bytes from a place on are the same
+  abbrev AreSameAt : ℕ → Type 0
+  AreSameAt i = take w (drop i a) ≡ take w (drop i d)
 
-  -- the same as a test
+  same-at : (i k : ℕ) → AreSameAt i → i ≤ k → k < i + w → get_or a k 0 ≡ get_or d k 0
+  same-at i k same from to =
+      let at : i + (k - i) ≡ k = omega arith in
+      let within : k - i < w = omega arith in
+      let own = get_or-take w (drop i a) (k - i) 0 within ∙ get_or-drop i a (k - i) 0 ∙ ap (λ j. get_or a j 0) at in
+      let others = get_or-take w (drop i d) (k - i) 0 within ∙ get_or-drop i d (k - i) 0 ∙ ap (λ j. get_or d j 0) at in
+      sym own ∙ ap (λ l. get_or l (k - i) 0) same ∙ others
+
+  -- where the first bytes are the same, the last tell of texts of up to twice as many
+  pub told-by_last : length a ≡ length d → w ≤ length a → length a ≤ w + w → bytes_eq (take w (drop 0 a)) (take w (drop 0 d)) ≡ true
+      → bytes_eq (take w (drop (length a - w) a)) (take w (drop (length a - w) d)) ≡ bytes_eq a d
+  told-by_last long many few first = same_from_decides _ _ (
+    λ last. ext_get_or 0 a d long (λ k lt. ⊎_elim
+        (λ (low : k < w). same-at 0 k (same-told _ _ first) (omega arith) (omega arith))
+        (λ (high : w ≤ k). same-at (length a - w) k (same-told _ _ last) (omega arith) (omega arith))
+        (cases_lt k w)),
+    λ same. sym (told-same _ _ (ap (λ l. take w (drop (length a - w) l)) same)),
+  )
+      (bytes_decides a d)
+
+module _ (a d : List ℕ) where
+  -- whether the eight bytes from a place on are the same
   abbrev pub are_eight_same : ℕ → Bool
   are_eight_same i = bytes_eq (take 8 (drop i a)) (take 8 (drop i d))
 
-  same-at : (i k : ℕ) → AreEightSame i → i ≤ k → k < i + 8 → get_or a k 0 ≡ get_or d k 0
-  same-at i k same from to =
-      let at : i + (k - i) ≡ k = omega arith in
-      let within : k - i < 8 = omega arith in
-      let own = get_or-take 8 (drop i a) (k - i) 0 within ∙ get_or-drop i a (k - i) 0 ∙ ap (λ j. get_or a j 0) at in
-      let others = get_or-take 8 (drop i d) (k - i) 0 within ∙ get_or-drop i d (k - i) 0 ∙ ap (λ j. get_or d j 0) at in
-      sym own ∙ ap (λ l. get_or l (k - i) 0) same ∙ others
-
   -- eight bytes within texts that are the same are the same
-  eight-within : (n i : ℕ) → i + 8 ≤ n → take n a ≡ take n d → AreEightSame i
+  eight-within : (n i : ℕ) → i + 8 ≤ n → take n a ≡ take n d → AreSameAt 8 a d i
   eight-within n i within same =
       let own = ap (drop i) (take-take (i + 8) n a within) ∙ drop-take i 8 a in
       let others = ap (drop i) (take-take (i + 8) n d within) ∙ drop-take i 8 d in
@@ -70,23 +83,23 @@ module _ (a d : List ℕ) where
 
       -- the first eight bytes tell of up to eight
       pub same-by_first : n ≤ 8 → are_eight_same 0 ≡ true → true ≡ bytes_eq (take n a) (take m d)
-      same-by_first few first = at_length (told-same _ _ (all-same (λ k lt. same-at 0 k (same-told _ _ first) (omega arith) (omega arith))))
+      same-by_first few first = at_length (told-same _ _ (all-same (λ k lt. same-at 8 a d 0 k (same-told _ _ first) (omega arith) (omega arith))))
 
       -- the first eight and the last eight tell of up to sixteen
       pub same-by_two : n ≤ 16 → are_eight_same 0 ≡ true → are_eight_same (n - 8) ≡ true → true ≡ bytes_eq (take n a) (take m d)
       same-by_two few first last = at_length (told-same _ _ (all-same (λ k lt. ⊎_elim
-          (λ (low : k < 8). same-at 0 k (same-told _ _ first) (omega arith) (omega arith))
-          (λ (high : 8 ≤ k). same-at (n - 8) k (same-told _ _ last) (omega arith) (omega arith))
+          (λ (low : k < 8). same-at 8 a d 0 k (same-told _ _ first) (omega arith) (omega arith))
+          (λ (high : 8 ≤ k). same-at 8 a d (n - 8) k (same-told _ _ last) (omega arith) (omega arith))
           (cases_lt k 8))))
 
       -- with the eight behind the first they tell of up to twenty-four
       pub told-by_third : 16 ≤ n → n ≤ 24 → are_eight_same 0 ≡ true → are_eight_same (n - 8) ≡ true → are_eight_same 8 ≡ bytes_eq (take n a) (take m d)
       told-by_third many few first last = at_length (same_from_decides (are_eight_same 8) (bytes_eq (take n a) (take n d)) (
         λ second. all-same (λ k lt. ⊎_elim
-            (λ (low : k < 8). same-at 0 k (same-told _ _ first) (omega arith) (omega arith))
+            (λ (low : k < 8). same-at 8 a d 0 k (same-told _ _ first) (omega arith) (omega arith))
             (λ (high : 8 ≤ k). ⊎_elim
-            (λ (low : k < 16). same-at 8 k (same-told _ _ second) (omega arith) (omega arith))
-            (λ (higher : 16 ≤ k). same-at (n - 8) k (same-told _ _ last) (omega arith) (omega arith))
+            (λ (low : k < 16). same-at 8 a d 8 k (same-told _ _ second) (omega arith) (omega arith))
+            (λ (higher : 16 ≤ k). same-at 8 a d (n - 8) k (same-told _ _ last) (omega arith) (omega arith))
             (cases_lt k 16))
             (cases_lt k 8)),
         λ same. sym (told-same _ _ (eight-within n 8 (omega arith) same)),

@@ -1,5 +1,5 @@
 //! Values under names, in a vector that is ordered by the names.
-ghost use Rattle.std.specs.Prelude.{◌≡◌, ◌<◌, ◌↔◌, [], ℕ, length, IfOk, IfErr, IsTrue, OnErr, OnOk, MatchOption, Some, None, option_copied};
+ghost use Rattle.std.specs.Prelude.{◌≡◌, ◌<◌, ◌↔◌, [], ℕ, length, IfOk, IfErr, IfSome, IsTrue, OnErr, OnOk, MatchOption, Some, None, option_copied};
 ghost use Rattle.std.specs.BTreeMap.{insert_entry, is_at};
 ghost use Rattle.std.specs.List.{list_any, remove, slice_index_or};
 ghost use Rattle.std.specs.Map.{lookup, remove_entry, set_value};
@@ -9,6 +9,7 @@ ghost use Rattle.std.specs.Prelude.{bytes_eq, map, string_bytes, string_cmp};
 ghost use Rattle.ssa_members.specs.Members.{get, left_without, text_cmp, IsMadeOf, IsNameAt, IsPlaceOf, IsRising};
 
 use crate::name::Name;
+use crate::words::are_same;
 use std::alloc::{AllocError, Global};
 use std::cmp::Ordering;
 use std::collections::BTreeMap;
@@ -67,12 +68,12 @@ fn order_names(name: &str, other: &str) -> Ordering
     name.cmp(other)
 }
 
-// Whether both are one name. Most differ in their lengths, and bytes are compared, by a call, only where these are the same.
+// Whether both are one name. Most differ in their lengths, and bytes are compared only where these are the same.
 #[inline(always)]
 fn is_one_name(name: &str, other: &str) -> bool
     ensures { result ≡ bytes_eq name.now other.now }
 {
-    name.len() == other.len() && name == other
+    name.len() == other.len() && are_same(name.as_bytes(), other.as_bytes())
 }
 
 // Where the name stands, if it does, looked for among the names one after the other.
@@ -83,6 +84,21 @@ fn scan<V>(entries: &[(Name, V)], name: &str) -> Option<usize>
     for i in 0..entries.len() {
         if is_one_name(name, entries[i].0.as_str()) {
             return Some(i);
+        }
+    }
+    None
+}
+
+// Where the name stands, if it does so near behind a place.
+#[inline(always)]
+fn scan_near<V>(entries: &[(Name, V)], near: usize, name: &str) -> Option<usize>
+    ensures { IfSome result (IsNameAt name.now entries.now) }
+{
+    let start = near.min(entries.len());
+    let end = entries.len().min(start + FEW);
+    for place in start..end {
+        if is_one_name(name, entries[place].0.as_str()) {
+            return Some(place);
         }
     }
     None
@@ -187,6 +203,22 @@ impl<V> Members<V> {
         match self.find(name) {
             Some(i) => Some(&self.entries[i].1),
             None => None,
+        }
+    }
+
+    /// The value under a name, which is looked for first at a place and behind it: names that are asked for as they rise
+    /// stand there.
+    ///
+    /// The place then is the one behind the name's. What is told does not depend on it.
+    pub fn get_near(&self, near: &mut usize, name: &str) -> Option<&V>
+        ensures value { option_copied result ≡ get self.now name.now }
+    {
+        match scan_near(&self.entries, *near, name) {
+            Some(i) => {
+                *near = i + 1;
+                Some(&self.entries[i].1)
+            }
+            None => self.get(name),
         }
     }
 

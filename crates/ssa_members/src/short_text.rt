@@ -1,7 +1,7 @@
 // Texts whose bytes stand in the value itself.
-ghost use Rattle.std.specs.Prelude.{IsUtf8, ◌≡◌, ◌≤◌, ◌+◌, bytes_eq, drop, take};
+ghost use Rattle.std.specs.Prelude.{IsUtf8, ◌≤◌, take};
 
-use crate::words::{eight_at, held};
+use crate::words::{are_eight_same, held};
 use std::cmp::Ordering;
 use std::str::from_utf8_unchecked;
 
@@ -12,15 +12,6 @@ pub struct ShortText {
     bytes: [u8; 22],
     ghost within: { len ≤ 22 },
     ghost utf8: { ∥ IsUtf8 (take len bytes) ∥₁ },
-}
-
-// Whether the eight bytes at a place are the same, which is one comparison.
-#[inline(always)]
-fn are_eight_same(bytes: &[u8; 22], others: &[u8; 22], i: usize) -> bool
-    requires { i + 8 ≤ 22 }
-    ensures { result ≡ bytes_eq (take 8 (drop i bytes.now)) (take 8 (drop i others.now)) }
-{
-    eight_at(bytes, i) == eight_at(others, i)
 }
 
 impl ShortText {

@@ -1,5 +1,5 @@
 //! Bytes of texts as words: to compare or copy as many at once takes a few moves, where any length of them takes a call.
-ghost use Rattle.std.specs.Prelude.{◌≡◌, ◌≤◌, ◌<◌, ◌+◌, ◌-◌, ◌++◌, length, take, drop};
+ghost use Rattle.std.specs.Prelude.{◌≡◌, ◌≤◌, ◌<◌, ◌+◌, ◌-◌, ◌++◌, bytes_eq, length, take, drop};
 ghost use Rattle.std.specs.Int.{to_le_bytes, w32, w64};
 
 /// The eight bytes at a place as one number.
@@ -139,5 +139,43 @@ pub(crate) fn held(text: &[u8]) -> [u8; 22]
         many_held(text)
     } else {
         put_down_word(as_word(text))
+    }
+}
+
+// Whether the eight bytes at a place are the same, which is one comparison.
+#[inline(always)]
+pub(crate) fn are_eight_same(bytes: &[u8], others: &[u8], i: usize) -> bool
+    requires own { i + 8 ≤ length bytes.now }
+    requires others { i + 8 ≤ length others.now }
+    ensures { result ≡ bytes_eq (take 8 (drop i bytes.now)) (take 8 (drop i others.now)) }
+{
+    eight_at(bytes, i) == eight_at(others, i)
+}
+
+// Whether the four bytes at a place are the same, which is one comparison.
+#[inline(always)]
+fn are_four_same(bytes: &[u8], others: &[u8], i: usize) -> bool
+    requires own { i + 4 ≤ length bytes.now }
+    requires others { i + 4 ≤ length others.now }
+    ensures { result ≡ bytes_eq (take 4 (drop i bytes.now)) (take 4 (drop i others.now)) }
+{
+    four_at(bytes, i) == four_at(others, i)
+}
+
+/// Whether two texts of as many bytes have the same ones. The first and the last bytes of most are all of them, four or
+/// eight of each; others are compared by a call.
+#[inline(always)]
+pub(crate) fn are_same(text: &[u8], other: &[u8]) -> bool
+    requires { length text.now ≡ length other.now }
+    ensures { result ≡ bytes_eq text.now other.now }
+{
+    let len = text.len();
+    if len < 4 || len > 16 {
+        return text == other;
+    }
+    if len <= 8 {
+        are_four_same(text, other, 0) && are_four_same(text, other, len - 4)
+    } else {
+        are_eight_same(text, other, 0) && are_eight_same(text, other, len - 8)
     }
 }

@@ -3,7 +3,7 @@ use Rattle.std.proofs.lemmas.Bool.Decides.{same_from_decides}
 use Rattle.std.proofs.lemmas.Nat.{from_le_bytes-to_le_bytes_8}
 use Rattle.std.specs.Cmp.Lexicographic.{bytes_decides}
 use Rattle.std.specs.Int.{from_le_bytes, to_le_bytes, w64}
-use Rattle.ssa_members.proofs.short_text.are_eight_same.Goals as goal
+use Rattle.ssa_members.proofs.words.are_eight_same.Goals as goal
 
 pub returns : goal.returns
 returns c =
