@@ -66,6 +66,18 @@ pub fn find_field<'a>(fields: &'a Members<Kind>, name: &str) -> Option<&'a Kind>
     fields.get(name)
 }
 
+/// The kind of the field of a name, where there is one, which is looked for first near the one that was found before
+/// ([`Members::get_near`]).
+pub fn find_field_near<'a>(
+    fields: &'a Members<Kind>,
+    near: &mut usize,
+    name: &str,
+) -> Option<&'a Kind>
+    ensures { option_map (λ k. kind_view k.now) result ≡ kind_of name.now (fields_view fields.now.entries) }
+{
+    fields.get_near(near, name)
+}
+
 /// The shape of the field of a name, where there is one.
 pub fn find_shape<'a>(fields: &'a Members<Shape>, name: &str) -> Option<&'a Shape>
     ensures { option_map (λ s. shape_view s.now) result ≡ shape_of name.now (shape_fields_view fields.now.entries) }

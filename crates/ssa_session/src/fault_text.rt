@@ -20,6 +20,9 @@ use ssa_path::path_text::push_paths;
 use ssa_schema::body_fault::BodyFault;
 use std::alloc::{AllocError, Global};
 
+// The bytes that a refusal has room for from the start, which most need.
+const FIRST_ROOM: usize = 240;
+
 // Appends a manager that a command clashes with, and its fields.
 fn push_clash(
     alloc: Global,
@@ -94,7 +97,7 @@ fn push_fault(alloc: Global, text: &mut Vec<u8>, fault: &Fault) -> Result<(), Al
 pub fn fault_text(alloc: Global, fault: &Fault) -> Result<Vec<u8>, AllocError>
     ensures { IfOk result (λ text. (g : model.Fault) → IsFault fault.now g → text.items ≡ compact (fault_reply g)) }
 {
-    let mut text = Vec::new(alloc);
+    let mut text = Vec::with_capacity(alloc, FIRST_ROOM)?;
     push_fault(alloc, &mut text, fault)?;
     Ok(text)
 }

@@ -37,7 +37,10 @@ fn node_is_read(node: &Node)
 {
     for child in node.children() {
         child.0.is_of_program();
-        node_is_read(&child.1);
+        match &child.1 {
+            Node::Leaf(_) => {}
+            _ => node_is_read(&child.1),
+        }
     }
 }
 

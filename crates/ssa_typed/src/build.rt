@@ -78,6 +78,7 @@ pub fn tree_of(alloc: Global, kind: &Kind, value: Json) -> Result<Node, AllocErr
 fn field_child(
     alloc: Global,
     fields: &Members<Kind>,
+    near: &mut usize,
     name: Name,
     member: Json,
 ) -> Result<(Elem, Node), AllocError>
@@ -85,7 +86,7 @@ fn field_child(
     requires fits { MemberFits (fields_view fields.now.entries) (string_bytes name) (view member) }
     ensures { IfOk result (λ c. IsChild (field (string_bytes name)) (member_places (fields_view fields.now.entries) (string_bytes name) (view member)) c) }
 {
-    match fields.get(name.as_str()) {
+    match fields.get_near(near, name.as_str()) {
         Some(kind) => {
             let child = tree_of(alloc, kind, member)?;
             Ok((Elem::Field(name.into_text()), child))
@@ -106,8 +107,9 @@ pub fn field_children(
     ensures { IfOk result (λ cs. AreNamed (field_places (fields_view fields.now.entries) (members_view members.entries)) cs.items) }
 {
     let mut children = Vec::with_capacity(alloc, members.len())?;
+    let mut near = 0;
     for (name, member) in members.into_entries() {
-        children.push(field_child(alloc, fields, name, member)?)?;
+        children.push(field_child(alloc, fields, &mut near, name, member)?)?;
     }
     Ok(children)
 }

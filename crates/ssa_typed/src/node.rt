@@ -113,7 +113,11 @@ impl Node {
     {
         let mut size: usize = 1;
         for child in self.children() {
-            size = size.saturating_add(child.1.size());
+            let below = match &child.1 {
+                Node::Leaf(_) => 1,
+                _ => child.1.size(),
+            };
+            size = size.saturating_add(below);
         }
         size
     }

@@ -11,7 +11,7 @@ use crate::fit::leading::{repeated_item, repeated_value, scalar_of};
 use crate::fit::names::{field_name, key_name, value_name};
 use crate::fit::repeated::is_other;
 use crate::fit::shape_misfit::{scalar_misfit, shape_misfit};
-use crate::kind::{Kind, ScalarKind, find_field};
+use crate::kind::{Kind, ScalarKind, find_field_near};
 use ssa_json::value::Json;
 use ssa_members::Members;
 use std::alloc::{AllocError, Global};
@@ -46,8 +46,9 @@ fn fields_fault(
 ) -> Result<Option<Found>, AllocError>
     ensures { IfOk result (λ f. Finds f (field_faults (fields_view fields.now.entries) (members_view members.now.entries))) }
 {
+    let mut near = 0;
     for (name, member) in members.entries() {
-        let Some(kind) = find_field(fields, name.as_str()) else {
+        let Some(kind) = find_field_near(fields, &mut near, name.as_str()) else {
             let unknown = Found::here(alloc, Misfit::UnknownField);
             return Ok(Some(unknown.below(field_name(alloc, name.as_str())?)?));
         };

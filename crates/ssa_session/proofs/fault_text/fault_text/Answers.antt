@@ -6,5 +6,5 @@ use Rattle.ssa_session.proofs.fault_text.fault_text.Goals as goal
 
 pub returns : goal.returns
 returns c =
-    λ g told. c.in_ok-push_fault.ensures ∙ ap (λ t. t ++ compact (bench_json c.args.fault.now)) c.new-text.ensures.items
+    λ g told. c.in_ok-push_fault.ensures ∙ ap (λ t. t ++ compact (bench_json c.args.fault.now)) c.in_ok-text.ensures.items
     ∙ ap compact (bench_json-told c.args.fault.now g told)
