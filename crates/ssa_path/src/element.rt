@@ -96,7 +96,8 @@ impl Elem {
         }
     }
 
-    /// The same element, with new memory.
+    /// The same element. A name or a value is in new memory; key fields are held by one more, and
+    /// `Err` comes as well where too many hold them.
     #[inline(always)]
     pub fn copy(&self, alloc: Global) -> Result<Elem, AllocError>
         ensures { IfOk result (λ e. element_view e ≡ element_view self.now) }
@@ -107,7 +108,7 @@ impl Elem {
         }
     }
 
-    // The same element, which is mostly an item, with new memory.
+    // The same element, which is mostly an item.
     #[inline(always)]
     fn copy_of_sorts(&self, alloc: Global) -> Result<Elem, AllocError>
         ensures { IfOk result (λ e. element_view e ≡ element_view self.now) }
@@ -115,8 +116,8 @@ impl Elem {
         match self {
             Elem::Field(name) => Ok(Elem::Field(name.copy(alloc)?)),
             Elem::Key(keys) => {
-                let copied = keys.copy(alloc)?;
-                Ok(Elem::Key(copied))
+                let shared = keys.share()?;
+                Ok(Elem::Key(shared))
             }
             Elem::Value(scalar) => {
                 let copied = scalar.copy(alloc)?;

@@ -163,5 +163,5 @@ fn keys_of(alloc: Global, members: Members<Json>) -> Result<Option<Keys>, AllocE
         };
         found.push((name.into_text(), scalar))?;
     }
-    Ok(Keys::new(found))
+    Keys::new(alloc, found)
 }

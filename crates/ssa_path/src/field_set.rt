@@ -165,7 +165,7 @@ impl FieldSet {
         self.root.remove(path.elements())
     }
 
-    /// The same set, with new memory.
+    /// The same set, with new memory but for key fields, which both hold.
     pub fn copy(&self, alloc: Global) -> Result<FieldSet, AllocError>
         ensures { IfOk result (λ s. s ≡ self.now) }
     {

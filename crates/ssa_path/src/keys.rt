@@ -9,13 +9,15 @@ use ssa_json::value::Scalar;
 use ssa_members::SmallText;
 use std::alloc::{AllocError, Global};
 use std::marker::Model;
+use std::rc::Rc;
 
 /// The key fields of an item of a list, at least one, in the order of their names' bytes.
 ///
-/// FieldsV1 writes an item of a map list by them, as `k:{"name":"web"}`.
+/// FieldsV1 writes an item of a map list by them, as `k:{"name":"web"}`. Several may hold them at
+/// once: they are never changed, and go with the last who holds them.
 #[derive(Debug, Drop)]
 pub struct Keys {
-    members: Vec<(SmallText, Scalar)>,
+    members: Rc<Vec<(SmallText, Scalar)>>,
 }
 
 impl Model for Keys {
@@ -26,9 +28,9 @@ impl Model for Keys {
 
     ghost coded = { coded_members };
 
-    ghost view = { λ k. members_view k.members.items };
+    ghost view = { λ k. members_view k.members.value.items };
 
-    ghost invariant = { λ k. are_keys (members_view k.members.items) ≡ true };
+    ghost invariant = { λ k. are_keys (members_view k.members.value.items) ≡ true };
 }
 
 // Whether each name stands behind the one before it.
@@ -78,31 +80,18 @@ pub fn are_same_members(members: &[(SmallText, Scalar)], others: &[(SmallText, S
     }
 }
 
-// The same members, with new memory.
-fn copy_members(
-    alloc: Global,
-    members: &[(SmallText, Scalar)],
-) -> Result<Vec<(SmallText, Scalar)>, AllocError>
-    ensures { IfOk result (λ ms. members_view ms.items ≡ members_view members.now) }
-{
-    let mut copies = Vec::with_capacity(alloc, members.len())?;
-    for member in members {
-        let name = member.0.copy(alloc)?;
-        let scalar = member.1.copy(alloc)?;
-        copies.push((name, scalar))?;
-    }
-    Ok(copies)
-}
-
 impl Keys {
     /// The key fields with these names and values, where there is one and the names rise by bytes.
-    pub fn new(members: Vec<(SmallText, Scalar)>) -> Option<Keys>
-        ensures { result ≡ keys_of (members_view members.items) }
+    /// Where there are none such, no memory is taken.
+    pub fn new(alloc: Global, members: Vec<(SmallText, Scalar)>) -> Result<Option<Keys>, AllocError>
+        ensures { IfOk result (λ k. k ≡ keys_of (members_view members.items)) }
     {
-        if are_keys(&members) {
-            Some(Keys { members })
-        } else {
-            None
+        if !are_keys(&members) {
+            return Ok(None);
+        }
+        match Rc::new(alloc, members) {
+            Ok(members) => Ok(Some(Keys { members })),
+            Err(_) => Err(AllocError),
         }
     }
 
@@ -114,18 +103,13 @@ impl Keys {
         &self.members
     }
 
-    /// The names and values themselves, in the order of the names.
-    pub fn into_members(self) -> Vec<(SmallText, Scalar)>
-        ensures { members_view result.items ≡ self }
-    {
-        self.members
-    }
-
-    /// The same key fields, with new memory.
-    pub fn copy(&self, alloc: Global) -> Result<Keys, AllocError>
+    /// The same key fields for one more who holds them. Takes no memory; `Err` comes where too many
+    /// hold them.
+    #[inline(always)]
+    pub fn share(&self) -> Result<Keys, AllocError>
         ensures { IfOk result (λ k. k ≡ self.now) }
     {
-        let members = copy_members(alloc, &self.members)?;
+        let members = self.members.clone()?;
         Ok(Keys { members })
     }
 }

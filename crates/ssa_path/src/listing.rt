@@ -8,7 +8,7 @@ use crate::path::{Path, copy_way};
 use crate::trie::Trie;
 use std::alloc::{AllocError, Global};
 
-/// The paths that ways lead along, with new memory.
+/// The paths that ways lead along, made of copies of their elements.
 pub(crate) fn copy_ways(alloc: Global, ways: &[Vec<&Elem>]) -> Result<Vec<Path>, AllocError>
     ensures { IfOk result (λ paths. paths.items ≡ ways_view ways.now) }
 {

@@ -43,7 +43,7 @@ fn order_elements(elements: &[Elem], others: &[Elem]) -> Ordering
     }
 }
 
-/// The same elements, with new memory.
+/// Copies of the elements, one after another.
 pub fn copy_elements(alloc: Global, elements: &[Elem]) -> Result<Vec<Elem>, AllocError>
     ensures { IfOk result (λ es. path_view es.items ≡ path_view elements.now) }
 {
@@ -66,7 +66,7 @@ pub fn lent_way(alloc: Global, elements: &[Elem]) -> Result<Vec<&Elem>, AllocErr
     Ok(way)
 }
 
-/// The elements of a way, with new memory.
+/// Copies of the elements of a way, one after another.
 pub fn copy_way(alloc: Global, way: &[&Elem]) -> Result<Vec<Elem>, AllocError>
     ensures { IfOk result (λ es. path_view es.items ≡ way_view way.now) }
 {
@@ -107,7 +107,7 @@ impl Path {
         order_elements(&self.elements, &other.elements)
     }
 
-    /// The same path, with new memory.
+    /// The same path, with new memory but for key fields, which both hold.
     pub fn copy(&self, alloc: Global) -> Result<Path, AllocError>
         ensures { IfOk result (λ p. p ≡ self.now) }
     {

@@ -24,7 +24,9 @@ use std::alloc::{AllocError, Global};
 fn push_plain_field(text: &mut Vec<u8>, name: &str) -> Result<(), AllocError>
     ensures { OnOk result (text.new.items ≡ text.old.items ++ 34 ∷ 102 ∷ 58 ∷ (name.now ++ 34 ∷ [])) }
 {
-    text.extend_from_slice(b"\"f:")?;
+    text.push(b'"')?;
+    text.push(b'f')?;
+    text.push(b':')?;
     text.extend_from_slice(name.as_bytes())?;
     text.push(b'"')?;
     Ok(())

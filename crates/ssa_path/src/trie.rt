@@ -59,7 +59,7 @@ fn push_long_copy(
     Ok(())
 }
 
-// A child with new memory.
+// A copy of a child.
 #[cycle(copy)]
 #[inline(always)]
 pub(crate) fn copy_child(alloc: Global, child: &(Elem, Trie)) -> Result<(Elem, Trie), AllocError>
@@ -70,7 +70,7 @@ pub(crate) fn copy_child(alloc: Global, child: &(Elem, Trie)) -> Result<(Elem, T
     Ok((element, trie))
 }
 
-// The same trie, with new memory.
+// The same trie, with new memory but for key fields, which both hold.
 #[cycle(copy)]
 fn copied(alloc: Global, trie: &Trie) -> Result<Trie, AllocError>
     ensures { IfOk result (λ t. shape t ≡ shape trie.now) }
@@ -177,7 +177,7 @@ impl Trie {
         self.here || !self.below.is_empty()
     }
 
-    /// The same trie, with new memory.
+    /// The same trie, with new memory but for key fields, which both hold.
     pub fn copy(&self, alloc: Global) -> Result<Trie, AllocError>
         ensures { IfOk result (λ t. shape t ≡ shape self.now) }
     {

@@ -92,7 +92,7 @@ fn key_members(
 // The text of a map list's item, none where it has no key fields.
 fn key_element(alloc: Global, item: &Json, names: &[String]) -> Result<Option<Text>, AllocError> {
     let members = key_members(alloc, item, names)?;
-    match Keys::new(members) {
+    match Keys::new(alloc, members)? {
         Some(keys) => Ok(Some(Elem::Key(keys).text(alloc)?)),
         None => Ok(None),
     }

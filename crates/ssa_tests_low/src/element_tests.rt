@@ -123,12 +123,12 @@ fn push_numbers(
     Ok(())
 }
 
-// How many key fields the copy of those with these whole numbers has, where their names rise.
-fn copied_len(alloc: Global, members: &[(&str, i64)]) -> Result<Option<usize>, AllocError> {
+// How many key fields one more holds of those with these whole numbers, where their names rise.
+fn shared_len(alloc: Global, members: &[(&str, i64)]) -> Result<Option<usize>, AllocError> {
     let mut pairs = Vec::new(alloc);
     push_numbers(alloc, &mut pairs, members)?;
-    match Keys::new(pairs) {
-        Some(keys) => Ok(Some(keys.copy(alloc)?.members().len())),
+    match Keys::new(alloc, pairs)? {
+        Some(keys) => Ok(Some(keys.share()?.members().len())),
         None => Ok(None),
     }
 }
@@ -146,7 +146,7 @@ const KEYS: [(&[(&str, i64)], Option<usize>); 6] = [
 fn names_of_keys_rise(rt: HostRuntime) {
     for (members, want) in &KEYS {
         assert_eq!(rt;
-            copied_len(rt.alloc(), members),
+            shared_len(rt.alloc(), members),
             Ok(*want),
             "at {members:?}"
         );
@@ -218,7 +218,7 @@ fn push_escaped(alloc: Global, pairs: &mut Vec<(SmallText, Scalar)>) -> Result<(
 fn escaped_key(alloc: Global) -> Result<Elem, Fail> {
     let mut pairs = Vec::new(alloc);
     push_escaped(alloc, &mut pairs)?;
-    match Keys::new(pairs) {
+    match Keys::new(alloc, pairs)? {
         Some(keys) => Ok(Elem::Key(keys)),
         None => Err(Fail::new("the names rise")),
     }

@@ -17,7 +17,7 @@ use ssa_path::path::copy_elements;
 use ssa_typed::node::Node;
 use std::alloc::{AllocError, Global};
 
-// The same places and elements, with new memory.
+// The same places and elements, copied.
 fn copy_placed(alloc: Global, placed: &Placed) -> Result<Placed, AllocError>
     ensures places { IfOk result (λ p. p.places.items ≡ placed.now.places.items) }
     ensures named { IfOk result (λ p. named_in p ≡ named_in placed.now) }
@@ -27,7 +27,7 @@ fn copy_placed(alloc: Global, placed: &Placed) -> Result<Placed, AllocError>
     Ok(Placed { places, elements })
 }
 
-// The same orders, with new memory.
+// The same orders, copied.
 fn copy_orders(alloc: Global, orders: &Orders) -> Result<Orders, AllocError>
     ensures after { IfOk result (λ o. path_view o.after.items ≡ path_view orders.now.after.items) }
     ensures before { IfOk result (λ o. path_view o.before.items ≡ path_view orders.now.before.items) }
@@ -37,7 +37,7 @@ fn copy_orders(alloc: Global, orders: &Orders) -> Result<Orders, AllocError>
     Ok(Orders { after, before })
 }
 
-// The same children, with new memory.
+// The same children, copied.
 fn copy_held(alloc: Global, held: &Vec<(Elem, Node)>) -> Result<Vec<(Elem, Node)>, AllocError>
     ensures { IfOk result (λ v. kept_below v.items ≡ kept_below held.now.items) }
 {
@@ -58,7 +58,7 @@ fn copy_place_room(alloc: Global, room: &Vec<(Elem, Node)>) -> Result<Vec<(Elem,
     Vec::with_capacity(alloc, room.capacity())
 }
 
-// The same edit, its room as well, with new memory.
+// The same edit, its room as well, copied.
 fn copy_edit(alloc: Global, edit: &ChildrenEdit) -> Result<ChildrenEdit, AllocError>
     ensures { IfOk result (λ e. EditIsCopied edit.now e) }
 {
@@ -82,7 +82,7 @@ fn copy_edit(alloc: Global, edit: &ChildrenEdit) -> Result<ChildrenEdit, AllocEr
     })
 }
 
-// The same change, with new memory.
+// The same change, copied.
 fn copy_change(alloc: Global, change: &PlaceChange) -> Result<PlaceChange, AllocError>
     ensures { IfOk result (λ c. ChangeIsCopied change.now c) }
 {
@@ -98,7 +98,7 @@ fn copy_change(alloc: Global, change: &PlaceChange) -> Result<PlaceChange, Alloc
     }
 }
 
-// The same change at the same path, with new memory.
+// The same change at the same path, copied.
 fn copy_step(alloc: Global, step: &Step) -> Result<Step, AllocError>
     ensures { IfOk result (λ s. StepIsCopied step.now s) }
 {
@@ -108,7 +108,7 @@ fn copy_step(alloc: Global, step: &Step) -> Result<Step, AllocError>
 }
 
 impl BodySteps {
-    /// The same steps, their room as well, with new memory.
+    /// The same steps, their room as well, copied.
     pub fn copy(&self, alloc: Global) -> Result<BodySteps, AllocError>
         ensures told { IfOk result (λ s. body_told s ≡ body_told self.now) }
         ensures room { IfOk result (λ s. (b : Body) → HasBodyRoom self.now b → HasBodyRoom s b) }

@@ -214,7 +214,7 @@ fn room_needed(gone: &[usize], come: &[usize], count: usize) -> usize
     }
 }
 
-// The elements of these children, with new memory.
+// Copies of the elements of these children, one after another.
 fn elements_of(alloc: Global, children: &[(Elem, Node)]) -> Result<Vec<Elem>, AllocError>
     ensures { IfOk result (λ v. path_view v.items ≡ elements children.now) }
 {

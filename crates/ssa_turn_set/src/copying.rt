@@ -11,7 +11,7 @@ use crate::spare::Spare;
 use crate::turn::{SetDelta, SetRoom};
 use std::alloc::{AllocError, Global};
 
-// The same room for an element, with new memory.
+// The same room for an element, copied.
 fn copy_spare(alloc: Global, spare: &Spare) -> Result<Spare, AllocError>
     ensures { IfOk result (λ s. SpareServes spare.now s) }
 {
@@ -24,7 +24,7 @@ fn copy_spare(alloc: Global, spare: &Spare) -> Result<Spare, AllocError>
     }
 }
 
-// The same rooms for the children of a place, with new memory.
+// The same rooms for the children of a place, copied.
 #[cycle(copy)]
 fn copy_each(alloc: Global, rooms: &[(Spare, Room)]) -> Result<Vec<(Spare, Room)>, AllocError>
     ensures { IfOk result (λ v. AllZip ChildServes rooms.now v.items) }
@@ -38,7 +38,7 @@ fn copy_each(alloc: Global, rooms: &[(Spare, Room)]) -> Result<Vec<(Spare, Room)
     Ok(below)
 }
 
-// The same room for a place and those below it, with new memory.
+// The same room for a place and those below it, copied.
 #[cycle(copy)]
 fn copy_room(alloc: Global, room: &Room) -> Result<Room, AllocError>
     ensures { IfOk result (λ r. RoomServes room.now r) }
@@ -59,7 +59,7 @@ fn copy_room(alloc: Global, room: &Room) -> Result<Room, AllocError>
 }
 
 impl SetDelta {
-    /// The same record, its room as well, with new memory.
+    /// The same record, its room as well, copied.
     pub fn copy(&self, alloc: Global) -> Result<SetDelta, AllocError>
         ensures steps { IfOk result (λ d. set_steps d ≡ set_steps self.now) }
         ensures room { IfOk result (λ d. (s : PathSet) → HasRoom self.now s → HasRoom d s) }

@@ -7,7 +7,7 @@ use crate::live_state::StateDelta;
 use std::alloc::{AllocError, Global};
 
 impl StateDelta {
-    /// The same record, its room as well, with new memory.
+    /// The same record, its room as well, copied.
     pub fn clone(&self, alloc: Global) -> Result<StateDelta, AllocError>
         ensures steps { IfOk result (λ d. state_steps d ≡ state_steps self.now) }
         ensures room { IfOk result (λ d. (v : State) → HasStateRoom self.now v → HasStateRoom d v) }

@@ -9,7 +9,7 @@ use crate::delta::{EntryChange, Here, TableDelta, TableRoom};
 use ssa_merge::manager::ManagerKey;
 use std::alloc::{AllocError, Global};
 
-// The same change, its room as well, with new memory.
+// The same change, its room as well, copied.
 fn copy_change(alloc: Global, change: &EntryChange) -> Result<EntryChange, AllocError>
     ensures { IfOk result (λ c. ChangeIsCopied change.now c) }
 {
@@ -22,7 +22,7 @@ fn copy_change(alloc: Global, change: &EntryChange) -> Result<EntryChange, Alloc
     })
 }
 
-// The same changes, with new memory.
+// The same changes, copied.
 fn copy_changed(alloc: Global, changed: &Vec<EntryChange>) -> Result<Vec<EntryChange>, AllocError>
     ensures { IfOk result (λ v. AllZip ChangeIsCopied changed.now.items v.items) }
 {
@@ -46,7 +46,7 @@ fn copy_gone(alloc: Global, gone: &Vec<ManagerKey>) -> Result<Vec<ManagerKey>, A
     Ok(copies)
 }
 
-// The same entry at the same place, with new memory.
+// The same entry at the same place, copied.
 fn copy_one_here(alloc: Global, here: &Here) -> Result<Here, AllocError>
     ensures { IfOk result (λ h. HereIsCopied here.now h) }
 {
@@ -59,7 +59,7 @@ fn copy_one_here(alloc: Global, here: &Here) -> Result<Here, AllocError>
     })
 }
 
-// The same entries, with new memory.
+// The same entries, copied.
 fn copy_here(alloc: Global, here: &Vec<Here>) -> Result<Vec<Here>, AllocError>
     ensures { IfOk result (λ v. AllZip HereIsCopied here.now.items v.items) }
 {
@@ -84,7 +84,7 @@ fn copy_table_room(alloc: Global, room: &TableRoom) -> Result<TableRoom, AllocEr
 }
 
 impl TableDelta {
-    /// The same record, its room as well, with new memory.
+    /// The same record, its room as well, copied.
     pub fn copy(&self, alloc: Global) -> Result<TableDelta, AllocError>
         ensures steps { IfOk result (λ d. table_steps d ≡ table_steps self.now) }
         ensures room { IfOk result (λ d. (t : Table) → HasTableRoom self.now t → HasTableRoom d t) }

@@ -167,7 +167,7 @@ impl Body {
         let _root = self.root();
     }
 
-    /// The same body, with new memory.
+    /// The same body, with new memory but for key fields, which both hold.
     pub fn clone(&self, alloc: Global) -> Result<Body, AllocError>
         ensures { IfOk result (λ b. b ≡ self.now) }
     {

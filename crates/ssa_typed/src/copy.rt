@@ -25,7 +25,7 @@ impl Leaf {
 }
 
 impl Node {
-    /// The same tree, with new memory.
+    /// The same tree, with new memory but for key fields, which both hold.
     pub fn copy(&self, alloc: Global) -> Result<Node, AllocError>
         ensures { IfOk result (λ n. kept n ≡ kept self.now) }
     {

@@ -25,7 +25,7 @@ pub fn keys_of(
     ensures { IfOk result (λ k. k ≡ key_scalars (names_view names.now) (members_view members.now.entries)) }
 {
     let _fields = fields;
-    match Keys::new(key_members(alloc, names, members)?) {
+    match Keys::new(alloc, key_members(alloc, names, members)?)? {
         Some(keys) => Ok(keys),
         None => unreachable!(),
     }
