@@ -1,5 +1,5 @@
 -- How many places a tree has: as many as its body has paths, since its rows have each path once.
-use Rattle.std.proofs.Common.{◌≡◌, ℕ, zero, suc, ◌+◌, ◌-◌, ◌^◌, ◌<◌, ◌≤◌, List, [], ◌∷◌, ◌++◌, length, get_or, take, Bool, true, false, not, ◌&&◌, cond, Some, None, refl, sym, ap, ◌∙◌, min, arith, length-append}
+use Rattle.std.proofs.Common.{◌≡◌, ℕ, zero, suc, ◌+◌, ◌-◌, ◌^◌, ◌<◌, ◌≤◌, List, [], ◌∷◌, ◌++◌, length, get_or, take, Bool, true, false, not, ◌&&◌, cond, Some, None, refl, sym, ap, ◌∙◌, min, arith, rules, length-append}
 use Rattle.std.specs.Prelude.{is_some}
 use Rattle.std.specs.List.{list_any}
 use Rattle.std.specs.FinMap.Entries.{length-put}
@@ -13,7 +13,8 @@ use Rattle.ssa_path.specs.View.{element_view}
 use Rattle.ssa_path.proofs.Orders.{both_first, both_second}
 use Rattle.ssa_typed.specs.Rows.{Row, rows, rows_below, under_element, below, content_at, body_of, are_apart, is_tree, are_trees}
 use Rattle.ssa_typed.specs.Points.{content_in}
-use Rattle.ssa_typed.specs.declared.node.Node.{Node}
+use Rattle.ssa_typed.specs.declared.node.Leaf.{Leaf}
+use Rattle.ssa_typed.specs.declared.node.Node.{Node, Leaf as LeafNode, the_lemmas}
 use Rattle.ssa_typed.proofs.Levels.{level-below}
 use Rattle.ssa_typed.proofs.Lookups.{or_else, content_at-append, content_at-under, content-below, child_at-none, or_none}
 use Rattle.ssa_model.proofs.Tables.{element-itself as same_element-itself}
@@ -34,6 +35,10 @@ length-first c cs = length-append (under_element (element_view c.0) (rows c.1)) 
 -- a node has one row more than all its children
 pub length-level : (n : Node) → length (rows n) ≡ suc (length (rows_below (below n)))
 length-level n = ap length (level-below n).rows_are
+
+-- a leaf has one row
+pub length-leaf : (n : Node) (l : Leaf) → n ≡ LeafNode l → length (rows n) ≡ 1
+length-leaf n l is = ap (λ m. length (rows m)) is ∙ search (rules, the_lemmas)
 
 length-push : (cs : List (Elem × Node)) (c : Elem × Node) → length (rows_below (cs ++ c ∷ [])) ≡ length (rows_below cs) + length (rows c.1)
 length-push [] c = let first = length-first c [] in omega arith

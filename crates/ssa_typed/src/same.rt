@@ -47,8 +47,23 @@ impl Node {
         }
     }
 
-    // Whether the tree is the other. Takes no memory.
+    // Whether the tree is the other. Of leaves, as most are, it is asked here, with no call. Takes no memory.
+    #[cycle(is_same)]
+    #[inline(always)]
     pub(crate) fn is_same(&self, other: &Node) -> bool
+        requires own { is_tree self.now ≡ true }
+        requires other { is_tree other.now ≡ true }
+        ensures { result ≡ true → AreSame self.now other.now }
+    {
+        match (self, other) {
+            (Node::Leaf(own), Node::Leaf(other)) => own.is_same(other),
+            _ => self.is_same_below(other),
+        }
+    }
+
+    // Whether the tree is the other, where one of them is no leaf.
+    #[cycle(is_same)]
+    fn is_same_below(&self, other: &Node) -> bool
         requires own { is_tree self.now ≡ true }
         requires other { is_tree other.now ≡ true }
         ensures { result ≡ true → AreSame self.now other.now }

@@ -80,9 +80,9 @@ field_child-tree_of-requires t c =
     let fit = c.requires.fits in
     let found : model.kind_of n fs ≡ Some k =
     ap (λ m. model.kind_of m fs) (sym c.as_str.ensures.value)
-    ∙ sym (field-found c.get.result c.as_str.result.now c.args.fields.now.entries c.get.ensures.value)
+    ∙ sym (field-found c.get_near.result c.as_str.result.now c.args.fields.now.entries c.get_near.ensures.value)
     ∙ ap (option_map (λ k. kind_view k.now)) c.in-Some.is in
-    let there = sym c.get.ensures.value ∙ ap (option_map (λ k. k.now)) c.in-Some.is in
+    let there = sym c.get_near.ensures.value ∙ ap (option_map (λ k. k.now)) c.in-Some.is in
     let deep = found-within-deepest the_size (is_at (λ m. slice_cmp nat_cmp c.as_str.result.now (string_bytes m))) c.args.fields.now.entries c.in-Some.kind.now there in (
       omega (arith, deep),
       (
@@ -97,7 +97,7 @@ field_child-unreachable-requires t c =
     let n = string_bytes c.args.name in
     known-there n fs c.requires.fits.0 c.requires.fits.1.0
     (ap (λ m. model.kind_of m fs) (sym c.as_str.ensures.value)
-    ∙ sym (field-found c.get.result c.as_str.result.now c.args.fields.now.entries c.get.ensures.value)
+    ∙ sym (field-found c.get_near.result c.as_str.result.now c.args.fields.now.entries c.get_near.ensures.value)
     ∙ ap (option_map (λ k. kind_view k.now)) c.in-None.is)
 
 pub field_child-returns : goal.field_child-returns
@@ -109,7 +109,7 @@ field_child-returns t c =
     let made = c.in_ok-child-in-Some.ensures in
     let found : model.kind_of n fs ≡ Some k =
     ap (λ m. model.kind_of m fs) (sym c.as_str.ensures.value)
-    ∙ sym (field-found c.get.result c.as_str.result.now c.args.fields.now.entries c.get.ensures.value)
+    ∙ sym (field-found c.get_near.result c.as_str.result.now c.args.fields.now.entries c.get_near.ensures.value)
     ∙ ap (option_map (λ k. kind_view k.now)) c.in-Some.is in
     record { element = ap field c.into_text.ensures; placed = λ p. made.placed p ∙ sym (known-places n fs v k p found); tree = made.tree }
 

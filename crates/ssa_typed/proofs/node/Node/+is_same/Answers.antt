@@ -10,14 +10,14 @@ use Rattle.ssa_typed.proofs.SameTrees.{same-level}
 use Rattle.ssa_typed.proofs.Sizes.{smaller}
 use Rattle.ssa_typed.proofs.node.Node.+is_same.Goals as goal
 
-pub bounds-others-i : goal.bounds-others-i
-bounds-others-i t c =
+pub is_same_below-bounds-others-i : goal.is_same_below-bounds-others-i
+is_same_below-bounds-others-i t c =
     let same = ap elements c.children-own.ensures.own ∙ c.is_alike.ensures.children c.if-not-is_alike.false ∙ ap elements (sym c.children-others.ensures.own) in
     let long = same-length c.children-own.result.now c.children-others.result.now same in
     omega arith
 
-pub is_same-requires : goal.is_same-requires
-is_same-requires t c =
+pub is_same_below-is_same-requires : goal.is_same_below-is_same-requires
+is_same_below-is_same-requires t c =
     let n = c.args.self.now in
     let m = c.args.other.now in
     let child = c.index-own-i.result in
@@ -33,8 +33,8 @@ is_same-requires t c =
     let small = smaller n e child.1 own in
     (search (rules, small), (tree-child n e child.1 c.requires.own own, tree-child m e (get_or ds i c.index-others-i.result).1 c.requires.other other))
 
-pub loop-i-preserved : goal.loop-i-preserved
-loop-i-preserved t c =
+pub is_same_below-loop-i-preserved : goal.is_same_below-loop-i-preserved
+is_same_below-loop-i-preserved t c =
     let cs = c.children-own.result.now in
     let ds = c.children-others.result.now in
     let i = c.loop-i.i in
@@ -45,8 +45,8 @@ loop-i-preserved t c =
     each-more AreSame cs ds i c.index-own-i.result (get_or ds i c.index-others-i.result) c.loop-i-test.true lt c.index-own-i.is
     (ap (get_or ds i) c.index-others-i.is) one c.loop-i.invariant
 
-pub returns : goal.returns
-returns t c =
+pub is_same_below-returns : goal.is_same_below-returns
+is_same_below-returns t c =
     let n = c.args.self.now in
     let m = c.args.other.now in
     let i = c.loop-i.i in
