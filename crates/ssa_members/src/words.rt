@@ -129,9 +129,9 @@ fn many_held(text: &[u8]) -> [u8; 22]
     )
 }
 
-/// The bytes of a text of up to twenty-two, and zeros behind them.
+// The bytes of a text of up to twenty-two, and zeros behind them.
 #[inline(always)]
-pub fn held(text: &[u8]) -> [u8; 22]
+pub(crate) fn held(text: &[u8]) -> [u8; 22]
     requires { length text.now ≤ 22 }
     ensures { take (length text.now) result ≡ text.now }
 {

@@ -108,16 +108,12 @@ fn make_lone_loss(alloc: Global, lost: &Trie, own: &Trie) -> Result<(LossRoom, b
     let (child_has_all, goes) = leaf_loss(&child.1, place);
     let leaving = count_whole(place, goes);
     let children = make_children(alloc, usize::from(goes), leaving, own.below.len())?;
-    let mut has_both = own.here || !lost.here;
-    has_both &= child_has_all;
+    let mut has_all = own.here || !lost.here;
+    has_all &= child_has_all;
     let spare = Spare::Nothing;
     let room = Room::Lone { children, spare };
     let goes = goes_whole(own, lost, leaving);
-    let loss = LossRoom {
-        room,
-        has_all: has_both,
-    };
-    Ok((loss, goes))
+    Ok((LossRoom { room, has_all }, goes))
 }
 
 // Room enough to take the paths of `lost` out of a place, and whether the place then goes whole.
