@@ -12,7 +12,7 @@ use Rattle.ssa_path.specs.declared.trie.Trie.TheViews.{out-Trie}
 use Rattle.ssa_path.proofs.Lists.{taken-at}
 use Rattle.ssa_path.proofs.Orders.{both_first, both_second}
 use Rattle.ssa_turn_set.specs.Copies.{ChildServes, RoomServes, SpareServes}
-use Rattle.ssa_turn_set.specs.Room.{below_child, gains, gain_one, holds, if_any, lone_rooms, loses, lose_one, own_children, rooms_of, serves, width}
+use Rattle.ssa_turn_set.specs.Room.{below_child, gains, gain_one, has_place, holds, if_any, lone_rooms, loses, lose_one, own_children, rooms_of, serves, width}
 use Rattle.ssa_turn_set.specs.Spare.{is_nothing}
 use Rattle.ssa_turn_set.specs.declared.room.Room.{Room}
 use Rattle.ssa_turn_set.specs.declared.room.Room.TheOpen.{Room-F}
@@ -75,13 +75,13 @@ loses-serve (d ∷ ds) ps (r ∷ rs) (c ∷ cs) z h =
     both _ _ (both _ _ (z.0.0.nothing (both_first _ _ here)) (z.0.1.lose d.1 below (both_second (is_nothing r.0) _ here)))
     (loses-serve ds ps rs cs z.1 (both_second (lose_one d below r) _ h))
 
-module _ (r q : Room) (x : Room-F Room) (is : out-Room q ≡ x) (empty : own_children x ≡ []) (as_large : width x ≡ width (out-Room r))
+module _ (r q : Room) (x : Room-F Room) (is : out-Room q ≡ x) (empty : own_children x ≡ []) (as_large : width x ≡ width (out-Room r)) (as_placed : has_place x ≡ has_place (out-Room r))
     (each : AllZip ChildServes (rooms_of (out-Room r)) (rooms_of x)) where
   own-serves : (f n : ℕ) → holds f n r ≡ true → holds f n q ≡ true
   own-serves f n h =
-      ap (λ (y : Room-F Room). not (has_some {A = Elem × Trie} (own_children y)) && if_any f (nat_le n (width y))) is
+      ap (λ (y : Room-F Room). not (has_some {A = Elem × Trie} (own_children y)) && if_any f (has_place y && nat_le n (width y))) is
       ∙ both _ _ (ap (λ l. not (has_some l)) empty)
-      (ap (λ m. if_any f (nat_le n m)) as_large ∙ both_second (not (has_some {A = Elem × Trie} (own_children (out-Room r)))) _ h)
+      ((λ i. if_any f (as_placed i && nat_le n (as_large i))) ∙ both_second (not (has_some {A = Elem × Trie} (own_children (out-Room r)))) _ h)
 
   -- room that is as large, at the place and for each child, serves wherever the first does
   pub room-serves : RoomServes r q

@@ -45,10 +45,18 @@ fn copy_room(alloc: Global, room: &Room) -> Result<Room, AllocError>
 {
     match room {
         Room::Nothing => Ok(Room::Nothing),
-        Room::Lone { children, spare } => {
+        Room::Lone {
+            above,
+            children,
+            spare,
+        } => {
             let spare = copy_spare(alloc, spare)?;
             let children = Vec::with_capacity(alloc, children.capacity())?;
-            Ok(Room::Lone { children, spare })
+            Ok(Room::Lone {
+                above: *above,
+                children,
+                spare,
+            })
         }
         Room::Each { children, below } => {
             let below = copy_each(alloc, below)?;
