@@ -182,7 +182,6 @@ fn make_place_loss(
 }
 
 /// Room enough to take the paths of `lost` out of a set of the paths of `own`.
-#[inline(always)]
 pub fn make_loss_room(alloc: Global, lost: &Trie, own: &Trie) -> Result<LossRoom, AllocError>
     requires lost { is_trie lost.now ≡ true }
     requires own { is_trie own.now ≡ true }
@@ -210,30 +209,42 @@ fn nothing(alloc: Global) -> (KeptPaths, Room)
 // What a set has of the lost paths, not all of them, with the room to take it out. It is rare, and apart: what it holds on the
 // stack is cleared wherever it is inlined.
 #[inline(never)]
-fn taken_partly(alloc: Global, lost: &Trie, own: &Trie) -> Result<(KeptPaths, Room), AllocError>
+fn taken_partly(
+    alloc: Global,
+    lost: &Trie,
+    own: &Trie,
+    room: &mut Room,
+) -> Result<KeptPaths, AllocError>
     requires lost { is_trie lost.now ≡ true }
     requires own { is_trie own.now ≡ true }
-    ensures lost { IfOk result (λ t. IsCombination Combination.Meet lost.now own.now t.0) }
-    ensures room { IfOk result (λ t. lose_room t.0 (left (paths own.now) (paths t.0)) t.1 ≡ true) }
+    ensures lost { IfOk result (λ t. IsCombination Combination.Meet lost.now own.now t) }
+    ensures room { IfOk result (λ t. lose_room t (left (paths own.now) (paths t)) room.new ≡ true) }
 {
     let met = combine_exactly(alloc, lost, own, Combination::Meet)?;
     let loss = make_loss_room(alloc, &met, own)?;
-    Ok((KeptPaths::of_trie(met), loss.room))
+    *room = loss.room;
+    Ok(KeptPaths::of_trie(met))
 }
 
 // What a set has of the lost paths, with the room to take it out, no more of either than is needed: mostly it has them all.
 #[inline(always)]
-fn taken(alloc: Global, lost: Rc<Trie>, own: &Trie) -> Result<(KeptPaths, Room), AllocError>
+fn taken(
+    alloc: Global,
+    lost: Rc<Trie>,
+    own: &Trie,
+    room: &mut Room,
+) -> Result<KeptPaths, AllocError>
     requires lost { is_trie lost.value ≡ true }
     requires own { is_trie own.now ≡ true }
-    ensures lost { IfOk result (λ t. IsCombination Combination.Meet lost.value own.now t.0) }
-    ensures room { IfOk result (λ t. lose_room t.0 (left (paths own.now) (paths t.0)) t.1 ≡ true) }
+    requires nothing { out-Room room.old ≡ Room-F.Nothing }
+    ensures lost { IfOk result (λ t. IsCombination Combination.Meet lost.value own.now t) }
+    ensures room { IfOk result (λ t. lose_room t (left (paths own.now) (paths t)) room.new ≡ true) }
 {
-    let loss = make_loss_room(alloc, &lost, own)?;
-    if loss.has_all {
-        return Ok((KeptPaths::of_shared(lost), loss.room));
+    let (has_all, _goes) = make_place_loss(alloc, &lost, own, room)?;
+    if has_all {
+        return Ok(KeptPaths::of_shared(lost));
     }
-    taken_partly(alloc, &lost, own)
+    taken_partly(alloc, &lost, own, room)
 }
 
 impl SetDelta {
@@ -248,7 +259,8 @@ impl SetDelta {
     {
         let own = from.root();
         let (gain, gain_room) = nothing(alloc);
-        let (lose, lose_room) = taken(alloc, lost.into_root(), own)?;
+        let mut lose_room = Room::Nothing;
+        let lose = taken(alloc, lost.into_root(), own, &mut lose_room)?;
         Ok(SetDelta {
             gain,
             lose,
