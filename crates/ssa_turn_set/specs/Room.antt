@@ -1,5 +1,6 @@
 -- Room for a set of paths that is put into another, place by place, as the other stands without it.
-use Rattle.std.specs.Prelude.{ℕ, zero, suc, ◌+◌, List, [], ◌∷◌, length, map, Bool, true, false, not, ◌&&◌, if◌then◌else◌, nat_le, vec_capacity, Option, Some, None}
+use Rattle.std.specs.declared.alloc.Global.{Global}
+use Rattle.std.specs.Prelude.{◌≡◌, Vec, ℕ, zero, suc, ◌+◌, List, [], ◌∷◌, length, map, Bool, true, false, not, ◌&&◌, if◌then◌else◌, nat_le, vec_capacity, Option, Some, None}
 use Rattle.ssa_model.specs.definitions.FieldsV1.{heads, tails}
 use Rattle.ssa_model.specs.definitions.Path.{Element, Path}
 use Rattle.ssa_path.specs.declared.element.Elem.{Elem}
@@ -53,6 +54,13 @@ rooms_of Room-F.Nothing = []
 rooms_of (Room-F.Lone zero v s) = lone_rooms s
 rooms_of (Room-F.Lone (suc n) v s) = (spare.Nothing, room.Lone n v s) ∷ []
 rooms_of (Room-F.Each v rs) = rs.items
+
+-- the room of a place where one child is concerned: that child's spare and its room, and this vector for the place's children
+pub record IsRoomOfOne (v : Vec (Elem × Trie) Global) (s : Spare) (inner r : Room) : Type 0 where
+  pub own : own_children (out-Room r) ≡ v.items
+  pub place : has_place (out-Room r) ≡ true
+  pub wide : width (out-Room r) ≡ vec_capacity v
+  pub rooms : rooms_of (out-Room r) ≡ (s, inner) ∷ []
 
 -- ---- the children of a place
 

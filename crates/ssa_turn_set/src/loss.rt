@@ -1,5 +1,5 @@
 //! The record of a set that loses some of its paths, with its room.
-ghost use Rattle.std.specs.Prelude.{◌≡◌, ◌≤◌, ◌&&◌, if◌then◌else◌, List, [], length, true, IfOk};
+ghost use Rattle.std.specs.Prelude.{◌≡◌, ◌≤◌, ◌<◌, ◌∷◌, ◌&&◌, if◌then◌else◌, List, [], length, true, IfOk};
 ghost use Rattle.ssa_model.specs.definitions.FieldsV1.{tails};
 ghost use Rattle.ssa_model.specs.definitions.Path.{Path};
 ghost use Rattle.ssa_model.specs.definitions.PathMap.{minus};
@@ -7,10 +7,11 @@ ghost use Rattle.ssa_path.specs.Children.{elements, rises};
 ghost use Rattle.ssa_path.specs.Combine.{IsCombination};
 ghost use Rattle.ssa_path.specs.Trie.{are_filled_tries, is_filled, is_trie, paths, paths_below, IsWithin};
 ghost use Rattle.ssa_path.specs.View.{element_view};
-ghost use Rattle.ssa_turn_set.specs.Room.{children, gain_room, goes, leaving, left, lose_room};
+ghost use Rattle.ssa_turn_set.specs.Room.{children, gain_room, goes, has_place, leaving, left, lose_room, own_children, rooms_of, width};
 ghost use Rattle.ssa_turn_set.specs.Turn.{IsBetween};
 ghost use Rattle.ssa_turn_set.specs.declared.room.Room.TheOpen.{Room-F};
 ghost use Rattle.ssa_turn_set.specs.declared.room.Room.TheViews.{out-Room};
+ghost use Rattle.ssa_turn_set.specs.declared.spare.Spare.TheVariants.{Nothing};
 
 use crate::kept_paths::KeptPaths;
 use crate::making::{combine_exactly, is_lowered, make_children, put_above};
@@ -84,6 +85,28 @@ fn leaf_loss(lost: &Trie, own: &Trie) -> (bool, bool)
     (has_all, goes_whole(own, lost, 0))
 }
 
+// Makes of the room of the one child that is lost, which goes whole or stays, that of its place: where it stays, no memory is
+// taken for the room of one child further down. So many of the place's children leave.
+#[inline(always)]
+fn put_loss_above(
+    alloc: Global,
+    goes: bool,
+    leaving: usize,
+    len: usize,
+    room: &mut Room,
+) -> Result<(), AllocError>
+    ensures rooms { IfOk result (λ _. rooms_of (out-Room room.new) ≡ (Nothing, room.old) ∷ []) }
+    ensures own { IfOk result (λ _. own_children (out-Room room.old) ≡ [] → own_children (out-Room room.new) ≡ []) }
+    ensures place { IfOk result (λ _. goes ≡ true → has_place (out-Room room.new) ≡ true) }
+    ensures fits { IfOk result (λ _. goes ≡ true → leaving < len → len ≤ width (out-Room room.new)) }
+{
+    if !goes && is_lowered(room) {
+        return Ok(());
+    }
+    let children = make_children(alloc, usize::from(goes), leaving, len)?;
+    put_above(alloc, children, Spare::Nothing, room)
+}
+
 // The same as `make_place_loss` tells, where one child is lost.
 #[cycle(loss)]
 #[inline(never)]
@@ -109,10 +132,7 @@ fn make_one_loss(
     let place = place_or(&own.below, &child.0, &bare);
     let (child_has_all, goes) = make_place_loss(alloc, &child.1, place, room)?;
     let leaving = count_whole(place, goes);
-    if goes || !is_lowered(room) {
-        let children = make_children(alloc, usize::from(goes), leaving, own.below.len())?;
-        put_above(alloc, children, Spare::Nothing, room)?;
-    }
+    put_loss_above(alloc, goes, leaving, own.below.len(), room)?;
     let mut has_all = own.here || !lost.here;
     has_all &= child_has_all;
     Ok((has_all, goes_whole(own, lost, leaving)))

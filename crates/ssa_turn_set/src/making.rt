@@ -1,16 +1,17 @@
 //! The record between two sets, with its room.
-ghost use Rattle.std.specs.Prelude.{◌≡◌, ◌≤◌, ◌<◌, ◌+◌, ◌-◌, ◌^◌, List, [], length, true, vec_capacity, IfOk};
+ghost use Rattle.std.specs.Prelude.{◌≡◌, ◌≤◌, ◌<◌, ◌+◌, ◌-◌, ◌^◌, ◌∷◌, List, [], length, true, false, vec_capacity, IfOk};
 ghost use Rattle.ssa_model.specs.definitions.FieldsV1.{heads};
 ghost use Rattle.ssa_model.specs.definitions.Path.{Path};
 ghost use Rattle.ssa_path.specs.Children.{elements, rises};
 ghost use Rattle.ssa_path.specs.View.{element_view};
 ghost use Rattle.ssa_path.specs.Trie.{are_filled_tries, is_trie, paths};
 ghost use Rattle.ssa_path.specs.Combine.{IsCombination};
-ghost use Rattle.ssa_turn_set.specs.Room.{children, fresh, freshes, gain_room, goes, leaves_beside, leaving, leaving_beside, left, serves};
+ghost use Rattle.ssa_turn_set.specs.Room.{children, fresh, freshes, gain_room, goes, has_place, leaves_beside, leaving, leaving_beside, left, own_children, rooms_of, serves, width, IsRoomOfOne};
 ghost use Rattle.ssa_turn_set.specs.Spare.{fits};
 ghost use Rattle.ssa_turn_set.specs.Turn.{IsBetween};
 ghost use Rattle.ssa_turn_set.specs.declared.room.Room.TheOpen.{Room-F};
 ghost use Rattle.ssa_turn_set.specs.declared.room.Room.TheViews.{out-Room};
+ghost use Rattle.ssa_turn_set.specs.declared.spare.Spare.TheVariants.{Nothing};
 
 use crate::kept_paths::KeptPaths;
 use crate::loss::{count_whole, goes_whole, make_loss_room, place_or};
@@ -64,6 +65,9 @@ pub(crate) fn make_children(
 // Takes the room for one child one place further down. Another room, or one that is too far down already, stays as it is.
 #[inline(always)]
 pub(crate) fn is_lowered(room: &mut Room) -> bool
+    ensures lowered { result ≡ true → rooms_of (out-Room room.new) ≡ (Nothing, room.old) ∷ [] }
+    ensures own { own_children (out-Room room.new) ≡ own_children (out-Room room.old) }
+    ensures same { result ≡ false → room.new ≡ room.old }
 {
     match room {
         Room::Lone { above, .. } if *above < 255 => {
@@ -81,6 +85,7 @@ fn make_one_each(
     spare: Spare,
     place: Room,
 ) -> Result<Room, AllocError>
+    ensures { IfOk result (IsRoomOfOne children spare place) }
 {
     let mut below = Vec::with_capacity(alloc, 1)?;
     below.push((spare, place))?;
@@ -95,10 +100,15 @@ pub(crate) fn put_above(
     spare: Spare,
     room: &mut Room,
 ) -> Result<(), AllocError>
+    ensures { IfOk result (λ _. IsRoomOfOne children spare room.old room.new) }
 {
     match room {
         Room::Nothing => {
-            *room = Room::Lone { above: 0, children, spare };
+            *room = Room::Lone {
+                above: 0,
+                children,
+                spare,
+            };
         }
         _ => {
             let place = mem::replace(room, Room::Nothing);
@@ -199,6 +209,30 @@ fn make_gain_children(
     Ok((children, goes_whole(own, lost, leaving)))
 }
 
+// Makes of the room of the one child that is gained, which comes or is there, that of its place, with this vector for its children:
+// where it is there, no memory is taken for the room of one child further down.
+#[inline(always)]
+fn put_gain_above(
+    alloc: Global,
+    element: &Elem,
+    comes: usize,
+    children: Vec<(Elem, Trie)>,
+    room: &mut Room,
+) -> Result<(), AllocError>
+    requires empty { children.items ≡ [] }
+    ensures rooms { IfOk result (λ _. (s : Spare) × (rooms_of (out-Room room.new) ≡ (s, room.old) ∷ [])
+        × ((ps : List Path) → comes ≡ fresh ps → serves (element_view element.now) ps s ≡ true)) }
+    ensures own { IfOk result (λ _. own_children (out-Room room.old) ≡ [] → own_children (out-Room room.new) ≡ []) }
+    ensures place { IfOk result (λ _. 0 < comes → has_place (out-Room room.new) ≡ true) }
+    ensures wide { IfOk result (λ _. 0 < comes → vec_capacity children ≤ width (out-Room room.new)) }
+{
+    if comes == 0 && is_lowered(room) {
+        return Ok(());
+    }
+    let spare = make_spare_for(alloc, element, comes)?;
+    put_above(alloc, children, spare, room)
+}
+
 // The same as `make_place_gain` tells, where one child is gained.
 #[cycle(gain_room)]
 #[inline(never)]
@@ -228,10 +262,7 @@ fn make_one_gain(
     let comes = usize::from(goes);
     let going = count_whole(place, goes);
     let (children, place_goes) = make_gain_children(alloc, gained, own, lost, comes, going)?;
-    if goes || !is_lowered(room) {
-        let spare = make_spare_for(alloc, &child.0, comes)?;
-        put_above(alloc, children, spare, room)?;
-    }
+    put_gain_above(alloc, &child.0, comes, children, room)?;
     Ok(place_goes)
 }
 

@@ -16,13 +16,13 @@ use Rattle.ssa_turn_set.proofs.LossRecords.{has-more}
 use Rattle.ssa_turn_set.proofs.Staying.{leaving-one-more, left-fits}
 use Rattle.ssa_turn_set.proofs.Rooms.{each-out}
 use Rattle.ssa_turn_set.proofs.Telling.{fresh-most, goes-once, whole-gone}
-use Rattle.ssa_turn_set.proofs.loss.+make_place_loss.Goals as goal
+use Rattle.ssa_turn_set.proofs.loss.+loss.Goals as goal
 
-pub place_or-place-requires-clause-rise : goal.place_or-place-requires-clause-rise
-place_or-place-requires-clause-rise t c = (trie-parts c.args.own.now c.deref.result.now c.deref.ensures.value c.requires.own).0
+pub make_each_loss-place_or-place-requires-clause-rise : goal.make_each_loss-place_or-place-requires-clause-rise
+make_each_loss-place_or-place-requires-clause-rise t c = (trie-parts c.args.own.now c.deref.result.now c.deref.ensures.value c.requires.own).0
 
-pub make_place_loss-requires : goal.make_place_loss-requires
-make_place_loss-requires t c =
+pub make_each_loss-make_place_loss-requires : goal.make_each_loss-make_place_loss-requires
+make_each_loss-make_place_loss-requires t c =
     let lost = trie-parts c.args.lost.now c.deref-child-items.result.now c.deref-child-items.ensures.value c.requires.lost in (
       search (rules, the_lemmas),
       (
@@ -31,8 +31,8 @@ make_place_loss-requires t c =
       ),
     )
 
-pub loop-child-preserved : goal.loop-child-preserved
-loop-child-preserved t c =
+pub make_each_loss-loop-child-preserved : goal.make_each_loss-loop-child-preserved
+make_each_loss-loop-child-preserved t c =
     let cs = c.deref-child-items.result.now in
     let ds = (out-Trie c.args.own.now).below.items in
     let i = c.loop-child.child-index in
@@ -66,8 +66,8 @@ loop-child-preserved t c =
           (c.loop-child.invariant.all (both_first both c.in_ok-loss.loss.has_all all));
     }
 
-pub returns-clause-room : goal.returns-clause-room
-returns-clause-room t c =
+pub make_each_loss-returns-clause-room : goal.make_each_loss-returns-clause-room
+make_each_loss-returns-clause-room t c =
     let all = take_all c.loop-child.child-index c.deref-child-items.result.now c.loop-child-test.false ∙ c.deref-child-items.ensures.value in
     let ps = paths_below (out-Trie c.args.own.now).below.items in
     let own = (out-Trie c.args.own.now).below.ok.0 in
@@ -81,16 +81,16 @@ returns-clause-room t c =
     (λ some. let fits = c.in_ok-children.ensures.fits (omega arith) (omega arith) in omega arith))
     (ap (λ l. losses l ps c.loop-child.below.items) (sym all) ∙ c.loop-child.invariant.rooms)
 
-pub returns-clause-all : goal.returns-clause-all
-returns-clause-all t c =
+pub make_each_loss-returns-clause-all : goal.make_each_loss-returns-clause-all
+make_each_loss-returns-clause-all t c =
     let cs = c.deref-child-items.result.now in
     let ds = (out-Trie c.args.own.now).below.items in
     let all = take_all c.loop-child.child-index cs c.loop-child-test.false in
     λ has. within-all c.args.lost.now c.args.own.now cs ds c.deref-child-items.ensures.value refl (c.loop-child.invariant.here has)
     (subst (λ l. AreWithin l ds) all (c.loop-child.invariant.all has))
 
-pub goes_whole-goes-requires-clause-gone : goal.goes_whole-goes-requires-clause-gone
-goes_whole-goes-requires-clause-gone t c =
+pub make_each_loss-goes_whole-goes-requires-clause-gone : goal.make_each_loss-goes_whole-goes-requires-clause-gone
+make_each_loss-goes_whole-goes-requires-clause-gone t c =
     c.loop-child.invariant.leave
     ∙ ap (λ l. leaving l (children c.args.own.now)) (take_all c.loop-child.child-index c.deref-child-items.result.now c.loop-child-test.false
     ∙ c.deref-child-items.ensures.value)

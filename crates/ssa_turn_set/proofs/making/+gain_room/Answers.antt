@@ -14,17 +14,17 @@ use Rattle.ssa_turn_set.proofs.Rooms.{each-out, gains-more}
 use Rattle.ssa_turn_set.proofs.Shared.{shared, shared-one-more, there}
 use Rattle.ssa_turn_set.proofs.Staying.{stale}
 use Rattle.ssa_turn_set.proofs.Telling.{all-told, fresh-most, goes-once, whole-there}
-use Rattle.ssa_turn_set.proofs.making.+make_place_gain.Goals as goal
+use Rattle.ssa_turn_set.proofs.making.+gain_room.Goals as goal
 use Rattle.ssa_model.proofs.Basics.{both-true as both}
 
-pub place_or-place-requires-clause-rise : goal.place_or-place-requires-clause-rise
-place_or-place-requires-clause-rise t c = (trie-parts c.args.own.now c.deref.result.now c.deref.ensures.value c.requires.own).0
+pub make_each_gain-place_or-place-requires-clause-rise : goal.make_each_gain-place_or-place-requires-clause-rise
+make_each_gain-place_or-place-requires-clause-rise t c = (trie-parts c.args.own.now c.deref.result.now c.deref.ensures.value c.requires.own).0
 
-pub place_or-gone-requires-clause-rise : goal.place_or-gone-requires-clause-rise
-place_or-gone-requires-clause-rise t c = (trie-parts c.args.lost.now c.deref-in-loop-child.result.now c.deref-in-loop-child.ensures.value c.requires.lost).0
+pub make_each_gain-place_or-gone-requires-clause-rise : goal.make_each_gain-place_or-gone-requires-clause-rise
+make_each_gain-place_or-gone-requires-clause-rise t c = (trie-parts c.args.lost.now c.deref-in-loop-child.result.now c.deref-in-loop-child.ensures.value c.requires.lost).0
 
-pub make_place_gain-requires : goal.make_place_gain-requires
-make_place_gain-requires t c =
+pub make_each_gain-make_place_gain-requires : goal.make_each_gain-make_place_gain-requires
+make_each_gain-make_place_gain-requires t c =
     let gained = trie-parts c.args.gained.now c.deref-child-items.result.now c.deref-child-items.ensures.value c.requires.gained in (
       search (rules, the_lemmas),
       (
@@ -33,8 +33,8 @@ make_place_gain-requires t c =
       ),
     )
 
-pub loop-child-preserved : goal.loop-child-preserved
-loop-child-preserved t c =
+pub make_each_gain-loop-child-preserved : goal.make_each_gain-loop-child-preserved
+make_each_gain-loop-child-preserved t c =
     let cs = c.deref-child-items.result.now in
     let i = c.loop-child.child-index in
     let d = c.child-item.result in
@@ -68,20 +68,20 @@ loop-child-preserved t c =
       few_leave = omega arith;
     }
 
-pub make_gain_children-requires-clause-coming : goal.make_gain_children-requires-clause-coming
-make_gain_children-requires-clause-coming t c =
+pub make_each_gain-make_gain_children-requires-clause-coming : goal.make_each_gain-make_gain_children-requires-clause-coming
+make_each_gain-make_gain_children-requires-clause-coming t c =
     let all = take_all c.loop-child.child-index c.deref-child-items.result.now c.loop-child-test.false ∙ c.deref-child-items.ensures.value in
     c.loop-child.invariant.count ∙ ap (λ l. freshes l (left (paths c.args.own.now) (paths c.args.lost.now))) all
 
-pub make_gain_children-requires-clause-going : goal.make_gain_children-requires-clause-going
-make_gain_children-requires-clause-going t c =
+pub make_each_gain-make_gain_children-requires-clause-going : goal.make_each_gain-make_gain_children-requires-clause-going
+make_each_gain-make_gain_children-requires-clause-going t c =
     let all = take_all c.loop-child.child-index c.deref-child-items.result.now c.loop-child-test.false ∙ c.deref-child-items.ensures.value in
     let new = left (paths c.args.own.now) (paths c.args.lost.now) in
     all-told c.args.gained.now c.args.own.now c.args.lost.now c.loop-child.leaving c.requires.gained c.requires.own c.requires.lost
     (c.loop-child.invariant.leave ∙ ap (λ l. shared (stale new) l (children c.args.own.now)) all)
 
-pub returns-clause-room : goal.returns-clause-room
-returns-clause-room t c =
+pub make_each_gain-returns-clause-room : goal.make_each_gain-returns-clause-room
+make_each_gain-returns-clause-room t c =
     let all = take_all c.loop-child.child-index c.deref-child-items.result.now c.loop-child-test.false ∙ c.deref-child-items.ensures.value in
     let new = left (paths c.args.own.now) (paths c.args.lost.now) in
     let counted : c.loop-child.coming ≡ freshes (children c.args.gained.now) new = c.loop-child.invariant.count ∙ ap (λ l. freshes l new) all in
