@@ -3,16 +3,16 @@ use Rattle.std.proofs.Common.{◌≡◌, ℕ, suc, ◌+◌, ◌<◌, List, [], �
 use Rattle.std.specs.declared.alloc.Global.{Global}
 use Rattle.std.proofs.lemmas.List.{length-append, length-take-le}
 use Rattle.ssa_model.specs.definitions.FieldsV1.{tails}
-use Rattle.ssa_model.specs.definitions.Path.{Path, same_element}
+use Rattle.ssa_model.specs.definitions.Path.{Path}
 use Rattle.ssa_model.proofs.Basics.{both-true as both}
 use Rattle.ssa_model.proofs.Tables.{element-itself as same_element-itself}
 use Rattle.ssa_path.specs.declared.element.Elem.{Elem}
 use Rattle.ssa_path.specs.declared.trie.Trie.{Trie}
 use Rattle.ssa_path.specs.declared.trie.Trie.TheOpen.{Trie-F}
 use Rattle.ssa_path.specs.declared.trie.Trie.TheViews.{out-Trie, roll-Trie, out-roll-Trie}
-use Rattle.ssa_path.specs.Children.{child_at, elements, rises, IsChildAt}
+use Rattle.ssa_path.specs.Children.{child_at, IsChildAt}
 use Rattle.ssa_path.specs.View.{element_view}
-use Rattle.ssa_path.specs.Trie.{are_filled_tries, is_filled, is_one_of, is_trie, paths, paths_below}
+use Rattle.ssa_path.specs.Trie.{is_filled, is_one_of, is_trie, paths, paths_below}
 use Rattle.ssa_path.proofs.Levels.{trie-parts}
 use Rattle.ssa_path.proofs.Orders.{both_first, both_second}
 use Rattle.ssa_turn_set.specs.declared.room.Room.{Room}
@@ -20,7 +20,7 @@ use Rattle.ssa_turn_set.specs.declared.room.Room.TheVariants.{Lone}
 use Rattle.ssa_turn_set.specs.declared.room.Room.TheViews.{out-Room}
 use Rattle.ssa_turn_set.specs.declared.spare.Spare.{Spare}
 use Rattle.ssa_turn_set.specs.declared.spare.Spare.TheVariants.{Kept, Nothing}
-use Rattle.ssa_turn_set.specs.Room.{children, freshes, gain_one, gain_room, gains, has_place, lose_one, lose_room, loses, own_children, rooms_of, serves}
+use Rattle.ssa_turn_set.specs.Room.{children, freshes, gain_one, gain_room, gains, has_place, lose_room, loses, own_children, rooms_of, serves}
 use Rattle.ssa_turn_set.specs.Siblings.{AreTaken}
 use Rattle.ssa_turn_set.specs.Spare.{fits}
 use Rattle.ssa_turn_set.specs.Weaving.{AreGathered, IsOpened}

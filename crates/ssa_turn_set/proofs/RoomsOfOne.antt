@@ -1,5 +1,5 @@
 -- The room of a place where one child is concerned.
-use Rattle.std.proofs.Common.{◌≡◌, ◌+◌, ◌<◌, ◌≤◌, List, [], ◌∷◌, length, true, ◌&&◌, refl, sym, ap, ◌∙◌, arith, subst}
+use Rattle.std.proofs.Common.{◌≡◌, ◌+◌, ◌<◌, ◌≤◌, List, [], ◌∷◌, length, true, refl, ◌∙◌, arith}
 use Rattle.ssa_model.specs.definitions.FieldsV1.{heads, tails}
 use Rattle.ssa_model.specs.definitions.Path.{Path}
 use Rattle.ssa_model.proofs.Basics.{both-true as both}

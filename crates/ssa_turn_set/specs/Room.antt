@@ -178,12 +178,6 @@ goes ps qs = not (has_some (left ps qs))
 abbrev pub children : Trie → List (Elem × Trie)
 children t = (out-Trie t).below.items
 
--- whether there is one child alone, and nothing below it
-abbrev pub lone_leaf : List (Elem × Trie) → Bool
-lone_leaf [] = false
-lone_leaf (d ∷ []) = not (has_some {A = Elem × Trie} (children d.1))
-lone_leaf (d ∷ e ∷ ds) = false
-
 -- what counts only where there is no such child
 abbrev pub unless_there : Option Trie → ℕ → ℕ
 unless_there None n = n

@@ -13,7 +13,7 @@ use Rattle.ssa_turn_set.specs.declared.room.Room.{Room}
 use Rattle.ssa_turn_set.specs.declared.spare.Spare.{Spare}
 use Rattle.ssa_turn_set.specs.declared.room.Room.TheVariants.{Each}
 use Rattle.ssa_turn_set.specs.declared.room.Room.TheViews.{out-Room}
-use Rattle.ssa_turn_set.specs.Room.{freshes, gain_room, gains, lone_rooms, lose_room, loses, own_children, rooms_of, width}
+use Rattle.ssa_turn_set.specs.Room.{freshes, gain_room, gains, lose_room, loses, own_children, rooms_of, width}
 use Rattle.ssa_turn_set.proofs.Bare.{gain-leaf, leaf-lose}
 use Rattle.ssa_turn_set.proofs.Rooms.{each-out}
 use Rattle.ssa_turn_set.proofs.Coming.{opened-fits, opened-more, opened-room, passed-next, passed-one}

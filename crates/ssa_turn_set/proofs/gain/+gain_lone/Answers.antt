@@ -3,12 +3,11 @@ use Rattle.std.specs.Prelude.{vec_capacity}
 use Rattle.ssa_path.specs.declared.trie.Trie.{the_lemmas}
 use Rattle.ssa_path.specs.declared.trie.Trie.TheViews.{out-Trie}
 use Rattle.ssa_path.specs.Children.{child_at, elements, rises, IsChildAt}
-use Rattle.ssa_path.specs.Trie.{are_filled_tries, is_one_of, paths, paths_below}
+use Rattle.ssa_path.specs.Trie.{is_one_of, paths_below}
 use Rattle.ssa_path.specs.View.{element_view}
 use Rattle.ssa_path.proofs.Levels.{is_trie-made, trie-parts}
 use Rattle.ssa_path.proofs.Lists.{child-trie}
-use Rattle.ssa_turn_set.specs.declared.room.Room.TheVariants.{Lone}
-use Rattle.ssa_turn_set.specs.Room.{freshes, gain_room, gains, lone_rooms, lose_room, loses, own_children, rooms_of, width}
+use Rattle.ssa_turn_set.specs.Room.{freshes, gains, lone_rooms, loses, own_children, rooms_of, width}
 use Rattle.ssa_turn_set.proofs.Gaining.{gained-place}
 use Rattle.ssa_turn_set.proofs.LoneStaying.{gain-back, gain-gathered, gain-inner, gain-one, gain-present}
 use Rattle.ssa_turn_set.proofs.Places.{coming, comes-wide, gain-below, gain-own, lose-held}

@@ -8,7 +8,7 @@ use Rattle.ssa_path.proofs.Levels.{is_trie-made, trie-parts}
 use Rattle.ssa_path.proofs.Lists.{left-at}
 use Rattle.ssa_path.proofs.Orders.{both_first, both_second}
 use Rattle.ssa_turn_set.specs.declared.room.Room.TheVariants.{Each}
-use Rattle.ssa_turn_set.specs.Room.{gain_room, lone_rooms, lose_room, loses, own_children, rooms_of, serves, width}
+use Rattle.ssa_turn_set.specs.Room.{gain_room, lose_room, loses, own_children, rooms_of, serves, width}
 use Rattle.ssa_turn_set.specs.Spare.{is_nothing}
 use Rattle.ssa_turn_set.specs.Siblings.{AreTaken}
 use Rattle.ssa_path.proofs.Kept.{kept-all}
@@ -20,7 +20,7 @@ use Rattle.ssa_turn_set.proofs.Passing.{passed-child, next-present, next-rises, 
 use Rattle.ssa_turn_set.proofs.Places.{left-set}
 use Rattle.ssa_turn_set.proofs.lose.+lose.Goals.{lose_each-then-here, lose_each-else-here}
 use Rattle.ssa_turn_set.proofs.lose.+lose.Goals as goal
-use Rattle.ssa_model.proofs.Basics.{and-true, both-true as both, not_true}
+use Rattle.ssa_model.proofs.Basics.{both-true as both, not_true}
 
 -- ---- the place
 

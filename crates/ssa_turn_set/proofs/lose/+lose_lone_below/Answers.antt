@@ -1,13 +1,13 @@
-use Rattle.std.proofs.Common.{rules, ◌≡◌, ◌≤◌, ◌<◌, ◌+◌, ◌-◌, ◌&&◌, Bool, true, false, not, suc, ℕ, ap, sym, refl, ◌∙◌, length, set, get_or-set_same, arith, subst}
+use Rattle.std.proofs.Common.{rules, ◌≡◌, ◌-◌, ◌&&◌, true, false, not, suc, ℕ, ap, sym, refl, ◌∙◌, length, get_or-set_same, arith}
 use Rattle.ssa_path.specs.declared.trie.Trie.TheViews.{out-Trie}
 use Rattle.ssa_path.specs.declared.element.Elem.{Elem}
 use Rattle.ssa_path.specs.declared.trie.Trie.{Trie, the_lemmas}
 use Rattle.ssa_path.specs.Children.{child_at, elements, rises, IsChildAt}
-use Rattle.ssa_path.specs.Trie.{are_filled_tries, is_filled, is_one_of, paths, paths_below}
+use Rattle.ssa_path.specs.Trie.{are_filled_tries, is_filled, is_one_of, paths_below}
 use Rattle.ssa_path.specs.View.{element_view}
 use Rattle.ssa_path.proofs.Levels.{is_trie-made, trie-parts}
 use Rattle.ssa_turn_set.specs.declared.room.Room.TheVariants.{Lone}
-use Rattle.ssa_turn_set.specs.Room.{gain_room, lone_rooms, lose_room, loses, own_children, rooms_of, width}
+use Rattle.ssa_turn_set.specs.Room.{lone_rooms, loses, own_children, rooms_of, width}
 use Rattle.ssa_turn_set.specs.Siblings.{AreTaken}
 use Rattle.ssa_turn_set.proofs.LoneStaying.{fewer, lose-back, lose-goes, lose-inner, lose-one, lose-present, lose-short, lose-stays}
 use Rattle.ssa_turn_set.proofs.Losing.{lost-place, lost-room, start-form, start-within, taken-same}

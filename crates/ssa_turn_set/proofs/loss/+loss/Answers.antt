@@ -1,4 +1,4 @@
-use Rattle.std.proofs.Common.{◌≡◌, ◌<◌, ◌∷◌, [], ◌&&◌, ℕ, List, Bool, true, false, true≢false, refl, ap, sym, ◌∙◌, subst, take, length, arith, rules}
+use Rattle.std.proofs.Common.{◌≡◌, ◌<◌, ◌∷◌, [], ◌&&◌, ℕ, List, Bool, true, false, true≢false, refl, ap, sym, ◌∙◌, subst, take, arith, rules}
 use Rattle.std.proofs.lemmas.List.{take_all}
 use Rattle.std.specs.Int.{from_bool}
 use Rattle.std.specs.Prelude.{if◌then◌else◌, vec_capacity}
@@ -134,7 +134,7 @@ make_one_loss-returns-clause-room t c =
     let place = c.place_or-place.result.now in
     let whole = c.in_ok-child_has_all.goes in
     let ps = paths_below (children c.args.own.now) in
-    let all = alone _ d c.requires.one c.index-child.ensures in
+    let all : children c.args.lost.now ≡ d ∷ [] = alone _ d c.requires.one c.index-child.ensures in
     let behind = c.place_or-place.ensures.paths ∙ ap (λ l. tails (element_view d.0) (paths_below l)) c.deref.ensures.value in
     let one : from_bool whole ≡ fresh (left (tails (element_view d.0) ps) (paths d.1)) =
     goes-once _ (paths place) (paths d.1) c.in_ok-child_has_all.ensures.goes ∙ ap (λ l. fresh (left l (paths d.1))) behind in
