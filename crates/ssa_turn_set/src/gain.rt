@@ -64,8 +64,8 @@ fn gain_lone(
     ensures trie { is_trie set.new ≡ true }
     ensures room { lose_room gained.now (paths set.old) (Lone above children.new spare.new) ≡ true }
 {
-    let Trie { here, below } = set;
-    *here = gained.here || *here;
+    let Trie { here: own, below } = set;
+    *own = gained.here || *own;
     if above == 0 {
         exchange_where_wider(below, children);
         return put_lone_in(&gained.below, below, spare);

@@ -101,8 +101,8 @@ fn lose_lone_below(
     ensures room { lose_room lost.now (paths set.new) (Lone above children.old spare.old) ≡ true
         → gain_room lost.now (paths set.new) (Lone above children.new spare.new) ≡ true }
 {
-    let Trie { here, below } = set;
-    *here = *here && !lost.here;
+    let Trie { here: own, below } = set;
+    *own = *own && !lost.here;
     if above == 0 {
         let before = below.len();
         take_lone_out(&lost.below, below, spare);

@@ -70,7 +70,7 @@ pub(crate) fn is_lowered(room: &mut Room) -> bool
     ensures same { result ≡ false → room.new ≡ room.old }
 {
     match room {
-        Room::Lone { above, .. } if *above < 255 => {
+        Room::Lone { above, .. } if *above < u8::MAX => {
             *above += 1;
             true
         }

@@ -55,8 +55,8 @@ returns-then-above-eq0-clause-paths t c =
     let same = c.exchange_where_wider.ensures.items in
     gained-place _ c.args.gained.now c.args.set.now
     (elim c.if-gained.branch [
-      | then-gained w ↦ w.here-is ∙ w.if-gained.true ∙ sym (ap (λ b. b || (out-Trie c.args.set.now).here) w.if-gained.true)
-      | else-gained w ↦ w.here-is ∙ sym (ap (λ b. b || (out-Trie c.args.set.now).here) w.if-gained.false)
+      | then-gained w ↦ w.own-is ∙ w.if-gained.true ∙ sym (ap (λ b. b || (out-Trie c.args.set.now).here) w.if-gained.true)
+      | else-gained w ↦ w.own-is ∙ sym (ap (λ b. b || (out-Trie c.args.set.now).here) w.if-gained.false)
     ])
     (λ p. c.put_lone_in.ensures.gathered.paths_are p
     ∙ (λ j. is_one_of (paths_below (c.deref.ensures.value j)) p || is_one_of (paths_below (same j)) p))
@@ -119,8 +119,8 @@ returns-clause-paths t c =
     let below = c.gain_lone.ensures in
     gained-place _ c.args.gained.now c.args.set.now
     (elim c.if-gained.branch [
-      | then-gained w ↦ w.here-is ∙ w.if-gained.true ∙ sym (ap (λ b. b || (out-Trie c.args.set.now).here) w.if-gained.true)
-      | else-gained w ↦ w.here-is ∙ sym (ap (λ b. b || (out-Trie c.args.set.now).here) w.if-gained.false)
+      | then-gained w ↦ w.own-is ∙ w.if-gained.true ∙ sym (ap (λ b. b || (out-Trie c.args.set.now).here) w.if-gained.true)
+      | else-gained w ↦ w.own-is ∙ sym (ap (λ b. b || (out-Trie c.args.set.now).here) w.if-gained.false)
     ])
     (gain-gathered c.args.gained.now c.args.set.now _ _ (next _ c.if-above-eq0.false) _ _ c.requires.gained c.requires.set c.requires.room d c.index-child.ensures
     c.place_of-place.result c.index_mut.result.now at c.index_mut.ensures.value c.gain_lone.new.set c.gain_lone.new.children c.gain_lone.new.spare

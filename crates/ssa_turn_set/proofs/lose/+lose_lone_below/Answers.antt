@@ -12,7 +12,7 @@ use Rattle.ssa_turn_set.specs.Siblings.{AreTaken}
 use Rattle.ssa_turn_set.proofs.LoneStaying.{fewer, lose-back, lose-goes, lose-inner, lose-one, lose-present, lose-short, lose-stays}
 use Rattle.ssa_turn_set.proofs.Losing.{lost-place, lost-room, start-form, start-within, taken-same}
 use Rattle.ssa_turn_set.proofs.Rooms.{lone-at, lone-out}
-use Rattle.ssa_turn_set.proofs.lose.+lose_lone_below.Goals.{then-here, else-here}
+use Rattle.ssa_turn_set.proofs.lose.+lose_lone_below.Goals.{then-own, else-own}
 use Rattle.ssa_turn_set.proofs.lose.+lose_lone_below.Goals as goal
 
 -- ---- the child that goes, or stays
@@ -42,9 +42,9 @@ returns-then-above-eq0-clause-paths t c =
     let taken = c.take_lone_out.ensures.taken in
     let now = c.exchange_where_short.ensures.items in
     lost-place _ c.args.lost.now c.args.set.now
-    (elim c.if-here.branch [
-      | then-here w ↦ w.here-is ∙ sym (ap (λ b. b && not (out-Trie c.args.lost.now).here) w.if-here.true)
-      | else-here w ↦ w.here-is ∙ w.if-here.false ∙ sym (ap (λ b. b && not (out-Trie c.args.lost.now).here) w.if-here.false)
+    (elim c.if-own.branch [
+      | then-own w ↦ w.own-is ∙ sym (ap (λ b. b && not (out-Trie c.args.lost.now).here) w.if-own.true)
+      | else-own w ↦ w.own-is ∙ w.if-own.false ∙ sym (ap (λ b. b && not (out-Trie c.args.lost.now).here) w.if-own.false)
     ])
     (λ p. ap (λ l. is_one_of (paths_below l) p) now ∙ taken.paths_are p
     ∙ ap (λ l. is_one_of (paths_below (out-Trie c.args.set.now).below.items) p && not (is_one_of (paths_below l) p)) c.deref.ensures.value)
@@ -117,9 +117,9 @@ returns-else-not-has_paths-clause-paths t c =
     d c.index-child.ensures c.place_of-place.result c.index_mut.result.now at c.index_mut.ensures.value
     c.lose_lone_below.new.set c.lose_lone_below.new.children c.lose_lone_below.new.spare below.paths below.trie below.room told in
     lost-place _ c.args.lost.now c.args.set.now
-    (elim c.if-here.branch [
-      | then-here w ↦ w.here-is ∙ sym (ap (λ b. b && not (out-Trie c.args.lost.now).here) w.if-here.true)
-      | else-here w ↦ w.here-is ∙ w.if-here.false ∙ sym (ap (λ b. b && not (out-Trie c.args.lost.now).here) w.if-here.false)
+    (elim c.if-own.branch [
+      | then-own w ↦ w.own-is ∙ sym (ap (λ b. b && not (out-Trie c.args.lost.now).here) w.if-own.true)
+      | else-own w ↦ w.own-is ∙ w.if-own.false ∙ sym (ap (λ b. b && not (out-Trie c.args.lost.now).here) w.if-own.false)
     ])
     taken.paths_are
 
@@ -167,9 +167,9 @@ returns-then-not-has_paths-clause-paths t c =
     c.lose_lone_below.new.set c.lose_lone_below.new.children c.lose_lone_below.new.spare below.paths below.trie below.room told in
     let removed = c.remove.ensures.by_index.2 in
     lost-place _ c.args.lost.now c.args.set.now
-    (elim c.if-here.branch [
-      | then-here w ↦ w.here-is ∙ sym (ap (λ b. b && not (out-Trie c.args.lost.now).here) w.if-here.true)
-      | else-here w ↦ w.here-is ∙ w.if-here.false ∙ sym (ap (λ b. b && not (out-Trie c.args.lost.now).here) w.if-here.false)
+    (elim c.if-own.branch [
+      | then-own w ↦ w.own-is ∙ sym (ap (λ b. b && not (out-Trie c.args.lost.now).here) w.if-own.true)
+      | else-own w ↦ w.own-is ∙ w.if-own.false ∙ sym (ap (λ b. b && not (out-Trie c.args.lost.now).here) w.if-own.false)
     ])
     (λ p. ap (λ l. is_one_of (paths_below l) p) removed ∙ taken.paths_are p)
 
