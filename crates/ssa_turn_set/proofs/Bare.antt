@@ -13,7 +13,7 @@ use Rattle.ssa_path.proofs.Levels.{is_trie-made, paths-made}
 use Rattle.ssa_path.proofs.Orders.{both_second}
 use Rattle.ssa_turn_set.specs.declared.room.Room.TheVariants.{Nothing}
 use Rattle.ssa_turn_set.specs.declared.room.Room.TheViews.{out-Room}
-use Rattle.ssa_turn_set.specs.Room.{children, freshes, gain_room, gains, holds, if_any, lose_room, loses, own_children, rooms_of, width}
+use Rattle.ssa_turn_set.specs.Room.{children, freshes, gain_room, gains, has_place, holds, if_any, lose_room, loses, own_children, rooms_of, width}
 use Rattle.ssa_turn_set.proofs.Places.{nothing-left}
 use Rattle.ssa_turn_set.proofs.Rooms.{gain_room-level, gains-some, lose_room-level, loses-some, nothing-out}
 
@@ -40,14 +40,14 @@ module _ (t : Trie) (leaf : children t ≡ []) (ps : List Path) where
   leaf-gain =
       gain_room-level t ps Nothing
       ∙ (λ i. (not (has_some {A = Elem × Trie} (own_children (nothing-out i)))
-      && if_any (freshes (leaf i) ps) (nat_le (length (heads ps) + freshes (leaf i) ps) (width (nothing-out i)))) && gains (leaf i) ps (rooms_of (nothing-out i)))
+      && if_any (freshes (leaf i) ps) (has_place (nothing-out i) && nat_le (length (heads ps) + freshes (leaf i) ps) (width (nothing-out i)))) && gains (leaf i) ps (rooms_of (nothing-out i)))
 
   -- to take it out, no room is needed
   pub leaf-lose : lose_room t ps Nothing ≡ true
   leaf-lose =
       lose_room-level t ps Nothing
       ∙ (λ i. (not (has_some {A = Elem × Trie} (own_children (nothing-out i)))
-      && if_any (freshes (leaf i) ps) (nat_le (length (heads ps)) (width (nothing-out i)))) && loses (leaf i) ps (rooms_of (nothing-out i)))
+      && if_any (freshes (leaf i) ps) (has_place (nothing-out i) && nat_le (length (heads ps)) (width (nothing-out i)))) && loses (leaf i) ps (rooms_of (nothing-out i)))
 
 -- what needs no room to be put in has nothing below it
 pub gain-leaf : (t : Trie) (ps : List Path) → gain_room t ps Nothing ≡ true → children t ≡ []

@@ -20,7 +20,7 @@ use Rattle.ssa_turn_set.specs.declared.room.Room.{Room}
 use Rattle.ssa_turn_set.specs.declared.room.Room.TheOpen.{Room-F}
 use Rattle.ssa_turn_set.specs.declared.room.Room.TheViews.{out-Room}
 use Rattle.ssa_turn_set.specs.declared.spare.Spare.{Spare}
-use Rattle.ssa_turn_set.specs.Room.{fresh, freshes, gain_room, gains, going, left, lose_one, lose_room, loses, losses, own_children, rooms_of, width}
+use Rattle.ssa_turn_set.specs.Room.{fresh, freshes, gain_room, gains, going, has_place, left, lose_one, lose_room, loses, losses, own_children, rooms_of, width}
 use Rattle.ssa_turn_set.proofs.Places.{fresh-filled, place-tails, roomy-holds}
 use Rattle.ssa_turn_set.proofs.Rooms.{gain_room-level, lose_room-level}
 use Rattle.ssa_turn_set.proofs.Tails.{paths_of, tails-below}
@@ -236,9 +236,10 @@ losses-more (c ∷ ds) d ps (x ∷ rs) r h k = both _ _ (both_first _ _ h) (loss
 
 -- room for a set's children is enough where some of them go, and for each child that is lost it is enough
 pub loss-held : (t s : Trie) (r : Room) (x : Room-F Room) → out-Room r ≡ x → is_trie t ≡ true → own_children x ≡ []
+    → (0 < going (out-Trie t).below.items (paths_below (out-Trie s).below.items) → has_place x ≡ true)
     → (0 < going (out-Trie t).below.items (paths_below (out-Trie s).below.items) → length (heads (left (paths s) (paths t))) ≤ width x)
     → losses (out-Trie t).below.items (paths_below (out-Trie s).below.items) (rooms_of x) ≡ true → lose_room t (left (paths s) (paths t)) r ≡ true
-loss-held t s r x is h empty fits l =
+loss-held t s r x is h empty place fits l =
     let ds = (out-Trie t).below.items in
     let old = paths_below (out-Trie s).below.items in
     let new = left (paths s) (paths t) in
@@ -247,6 +248,7 @@ loss-held t s r x is h empty fits l =
     ∙ both _ _
     (roomy-holds (freshes ds new) (length (heads new)) r (record {
       empty = ap own_children is ∙ empty;
+      place = λ lt. ap has_place is ∙ place (subst (λ n. 0 < n) (sym (going-is ds old new each)) lt);
       fits = λ lt. subst (λ n. length (heads new) ≤ n) (sym (ap width is))
           (fits (subst (λ n. 0 < n) (sym (going-is ds old new each)) lt));
     }))
@@ -254,14 +256,16 @@ loss-held t s r x is h empty fits l =
 
 -- room for what is left of a set's children and for those that come is enough, where each child's room is
 pub gain-left : (t : Trie) (ps : List Path) (r : Room) (x : Room-F Room) (n : ℕ) → out-Room r ≡ x → own_children x ≡ [] → length (heads ps) ≤ n
+    → (0 < freshes (out-Trie t).below.items ps → has_place x ≡ true)
     → (0 < freshes (out-Trie t).below.items ps → n + freshes (out-Trie t).below.items ps ≤ width x)
     → gains (out-Trie t).below.items ps (rooms_of x) ≡ true → gain_room t ps r ≡ true
-gain-left t ps r x n is empty few fits l =
+gain-left t ps r x n is empty few place fits l =
     let ds = (out-Trie t).below.items in
     gain_room-level t ps r
     ∙ both _ _
     (roomy-holds (freshes ds ps) (length (heads ps) + freshes ds ps) r (record {
       empty = ap own_children is ∙ empty;
+      place = λ lt. ap has_place is ∙ place lt;
       fits = λ lt. subst (λ m. length (heads ps) + freshes ds ps ≤ m) (sym (ap width is)) (let enough = fits lt in omega arith);
     }))
     (ap (λ y. gains ds ps (rooms_of y)) is ∙ l)

@@ -19,10 +19,10 @@ use Rattle.ssa_turn_set.specs.declared.room.Room.{Room}
 use Rattle.ssa_turn_set.specs.declared.room.Room.TheOpen.{Room-F}
 use Rattle.ssa_turn_set.specs.declared.room.Room.TheViews.{out-Room}
 use Rattle.ssa_turn_set.specs.declared.spare.Spare.{Spare}
-use Rattle.ssa_turn_set.specs.Room.{fresh, freshes, holds, lose_one, lose_room, gain_room, gains, loses, gain_one, own_children, rooms_of, width}
+use Rattle.ssa_turn_set.specs.Room.{fresh, freshes, has_place, holds, lose_one, lose_room, gain_room, gains, loses, gain_one, own_children, rooms_of, width}
 use Rattle.ssa_turn_set.specs.Siblings.{AreTaken}
-use Rattle.ssa_turn_set.proofs.Rooms.{AreAlike, gains-more, loses-some, loses-alike, gains-alike, freshes-alike, lose_room-level}
-use Rattle.ssa_turn_set.proofs.Places.{all-taken, within-both, gain-made, lose-own, lose-below, roomy}
+use Rattle.ssa_turn_set.proofs.Rooms.{AreAlike, gains-more, loses-some, loses-alike, gains-alike, freshes-alike, gain_room-level, lose_room-level}
+use Rattle.ssa_turn_set.proofs.Places.{IsRoomy, all-taken, within-both, gain-made, lose-own, lose-below, roomy}
 use Rattle.ssa_turn_set.proofs.Gaining.{one-more}
 use Rattle.ssa_model.proofs.Basics.{both-true as both}
 
@@ -189,8 +189,8 @@ lost-place x l s here below (e ∷ p) =
 
 -- room that is enough to take a set out of a place is, once turned, enough to put it in again
 pub lost-room : (t : Trie) (x : Trie-F Trie) (r s : Room) (y : Room-F Room) → out-Room s ≡ y → is_trie (roll-Trie x) ≡ true → own_children y ≡ []
-    → (length x.below.items ≤ width (out-Room r)
-    → length x.below.items + freshes (out-Trie t).below.items (paths_below x.below.items) ≤ width y)
+    → (has_place (out-Room r) ≡ true → length x.below.items ≤ width (out-Room r)
+    → (has_place y ≡ true) × (length x.below.items + freshes (out-Trie t).below.items (paths_below x.below.items) ≤ width y))
     → (loses (out-Trie t).below.items (paths_below x.below.items) (rooms_of (out-Room r)) ≡ true
     → gains (out-Trie t).below.items (paths_below x.below.items) (rooms_of y) ≡ true)
     → lose_room t (paths (roll-Trie x)) r ≡ true → gain_room t (paths (roll-Trie x)) s ≡ true
@@ -198,18 +198,21 @@ lost-room t x r s y room h empty fits back k =
     let ds = (out-Trie t).below.items in
     let after = roll-Trie x in
     let set : out-Trie after ≡ x = out-roll-Trie x in
-    let own : 0 < freshes ds (paths_below x.below.items) → length x.below.items ≤ width (out-Room r) =
-    subst (λ z. 0 < freshes ds (paths_below z.below.items) → length z.below.items ≤ width (out-Room r)) set (lose-own t after r h k).fits in
-    let enough : 0 < freshes ds (paths_below x.below.items) → length x.below.items + freshes ds (paths_below x.below.items) ≤ width y =
-    λ lt. fits (own lt) in
+    let own : IsRoomy (freshes ds (paths_below x.below.items)) (length x.below.items) r =
+    subst (λ z. IsRoomy (freshes ds (paths_below z.below.items)) (length z.below.items) r) set (lose-own t after r h k) in
+    let enough : 0 < freshes ds (paths_below x.below.items)
+    → (has_place y ≡ true) × (length x.below.items + freshes ds (paths_below x.below.items) ≤ width y) =
+    λ lt. fits (own.place lt) (own.fits lt) in
     let below = back (subst (λ z. loses ds (paths_below z.below.items) (rooms_of (out-Room r)) ≡ true) set (lose-below t after r k)) in
     gain-made t after s h
     (record {
       empty = ap own_children room ∙ empty;
+      place = subst (λ z. 0 < freshes ds (paths_below z.below.items) → has_place (out-Room s) ≡ true) (sym set)
+          (λ lt. ap has_place room ∙ (enough lt).0);
       fits = subst (λ z. 0 < freshes ds (paths_below z.below.items)
           → length z.below.items + freshes ds (paths_below z.below.items) ≤ width (out-Room s)) (sym set)
           (subst (λ z. 0 < freshes ds (paths_below x.below.items)
-          → length x.below.items + freshes ds (paths_below x.below.items) ≤ width z) (sym room) enough);
+          → length x.below.items + freshes ds (paths_below x.below.items) ≤ width z) (sym room) (λ lt. (enough lt).1));
     })
     (subst (λ z. gains ds (paths_below z.below.items) (rooms_of (out-Room s)) ≡ true) (sym set)
     (ap (λ z. gains ds (paths_below x.below.items) (rooms_of z)) room ∙ below))
@@ -224,6 +227,12 @@ start-form t ps r h =
       (roomy (freshes (out-Trie t).below.items ps) (length (heads ps)) r (both_first _ _ parts)).empty,
       both_second (holds (freshes (out-Trie t).below.items ps) (length (heads ps)) r) _ parts,
     )
+
+-- of room to put a set in, the place's own vector is empty
+pub gain-form : (t : Trie) (ps : List Path) (r : Room) → gain_room t ps r ≡ true → own_children (out-Room r) ≡ []
+gain-form t ps r h =
+    let coming = freshes (out-Trie t).below.items ps in
+    (roomy coming (length (heads ps) + coming) r (both_first _ _ (sym (gain_room-level t ps r) ∙ h))).empty
 
 -- what lies within a set lies within it below the place too
 pub start-within : (l s : Trie) → ((p : Path) → is_one_of (paths l) p ≡ true → is_one_of (paths s) p ≡ true) → (p : Path)

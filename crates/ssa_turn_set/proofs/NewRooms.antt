@@ -1,5 +1,5 @@
 -- Room made for a set that is put into another or taken out of it.
-use Rattle.std.proofs.Common.{◌≡◌, ℕ, ◌+◌, ◌<◌, List, [], ◌∷◌, length, get_or, take, Bool, true, false, ◌&&◌, cond, Option, Some, sym, ap, ◌∙◌, arith, true≢false}
+use Rattle.std.proofs.Common.{◌≡◌, ℕ, ◌+◌, ◌<◌, List, [], ◌∷◌, length, get_or, take, Bool, true, false, ◌&&◌, cond, Option, Some, sym, ap, ◌∙◌, arith}
 use Rattle.ssa_model.specs.definitions.FieldsV1.{tails}
 use Rattle.ssa_model.specs.definitions.Path.{Element, Path, same_element}
 use Rattle.ssa_path.specs.declared.element.Elem.{Elem}
@@ -10,10 +10,9 @@ use Rattle.ssa_path.specs.Trie.{is_trie, is_filled, are_filled_tries}
 use Rattle.ssa_path.proofs.Orders.{both_first, both_second}
 use Rattle.ssa_path.proofs.Lists.{taken-at}
 use Rattle.ssa_turn_set.specs.declared.spare.Spare.{Spare}
-use Rattle.ssa_turn_set.specs.Room.{children, fresh, freshes, lone_leaf, serves}
+use Rattle.ssa_turn_set.specs.Room.{fresh, freshes, serves}
 use Rattle.ssa_turn_set.specs.Spare.{fits, is_nothing}
 use Rattle.ssa_turn_set.proofs.Losing.{freshes-more}
-use Rattle.ssa_turn_set.proofs.Places.{no_items}
 
 child-is : (b : Bool) (x c : Trie) (rest : Option Trie) → (is_trie x && is_filled x) ≡ true → (rest ≡ Some c → (is_trie c && is_filled c) ≡ true)
     → cond b (Some x) rest ≡ Some c → (is_trie c && is_filled c) ≡ true
@@ -41,8 +40,8 @@ counted-more cs ps i count one c lt is e f = (λ j. e j + f j) ∙ sym (ap (λ l
 
 -- ---- one child alone
 
--- it is all there is, and has nothing below it
-pub lone-parts : (ds : List (Elem × Trie)) (d : Elem × Trie) → lone_leaf ds ≡ true → d ≡ get_or ds 0 d → (ds ≡ d ∷ []) × (children d.1 ≡ [])
-lone-parts [] d h is = absurd (true≢false (sym h))
-lone-parts (c ∷ []) d h is = (ap (λ x. x ∷ []) (sym is), ap (λ x. children x.1) is ∙ no_items (children c.1) h)
-lone-parts (c ∷ e ∷ ds) d h is = absurd (true≢false (sym h))
+-- one alone is all there is
+pub alone : (ds : List (Elem × Trie)) (d : Elem × Trie) → length ds ≡ 1 → d ≡ get_or ds 0 d → ds ≡ d ∷ []
+alone [] d one is = absurd (omega arith)
+alone (c ∷ []) d one is = ap (λ x. x ∷ []) (sym is)
+alone (c ∷ e ∷ ds) d one is = absurd (omega arith)

@@ -1,5 +1,5 @@
 -- One place of a set: what the room says of it, and what is found there.
-use Rattle.std.proofs.Common.{◌≡◌, ℕ, zero, suc, ◌+◌, ◌<◌, ◌≤◌, List, [], ◌∷◌, ◌++◌, length, get_or, set, drop, take, true, false, not, cond, refl, sym, ap, ◌∙◌, arith, subst, true≢false}
+use Rattle.std.proofs.Common.{◌≡◌, ℕ, zero, suc, ◌+◌, ◌<◌, ◌≤◌, List, [], ◌∷◌, ◌++◌, length, get_or, set, drop, take, Bool, true, false, not, ◌&&◌, cond, refl, sym, ap, ◌∙◌, arith, subst, true≢false}
 use Rattle.std.proofs.lemmas.List.{append-nil, drop_all, take-append-drop, drop-set-lt, length-drop}
 use Rattle.std.proofs.lemmas.Bool.{le-leb, leb-true}
 use Rattle.std.specs.Prelude.{nat_le}
@@ -18,7 +18,7 @@ use Rattle.ssa_path.proofs.Levels.{paths-level, trie-parts, some-one}
 use Rattle.ssa_turn_set.specs.declared.room.Room.{Room}
 use Rattle.ssa_turn_set.specs.declared.room.Room.TheViews.{out-Room}
 use Rattle.ssa_turn_set.specs.declared.room.Room.TheOpen.{Room-F}
-use Rattle.ssa_turn_set.specs.Room.{fresh, freshes, holds, if_any, gain_room, lose_room, gains, loses, own_children, rooms_of, width}
+use Rattle.ssa_turn_set.specs.Room.{fresh, freshes, has_place, holds, if_any, gain_room, lose_room, gains, loses, own_children, rooms_of, width}
 use Rattle.ssa_turn_set.proofs.Tails.{heads-count, tails-below, tails-apart, paths_of}
 use Rattle.ssa_path.proofs.FieldsLevels.{tails-here}
 use Rattle.ssa_turn_set.proofs.Rooms.{gain_room-level, lose_room-level, AreAlike, all-alike, gains-alike, loses-alike, freshes-alike}
@@ -36,31 +36,36 @@ no_items (x ∷ xs) h = absurd (true≢false (sym h))
 items_none : {A : Type 0} (xs : List A) → xs ≡ [] → not (has_some xs) ≡ true
 items_none xs e = ap (λ l. not (has_some l)) e
 
-any_fits : (f n c : ℕ) → if_any f (nat_le n c) ≡ true → 0 < f → n ≤ c
-any_fits zero n c h lt = absurd (omega arith)
-any_fits (suc f) n c h lt = leb-true n c h
+any_fits : (f n c : ℕ) (b : Bool) → if_any f (b && nat_le n c) ≡ true → 0 < f → (b ≡ true) × (n ≤ c)
+any_fits zero n c b h lt = absurd (omega arith)
+any_fits (suc f) n c b h lt = (both_first _ _ h, leb-true n c (both_second b _ h))
 
-fits_any : (f n c : ℕ) → (0 < f → n ≤ c) → if_any f (nat_le n c) ≡ true
-fits_any zero n c h = refl
-fits_any (suc f) n c h = le-leb n c (h (omega arith))
+fits_any : (f n c : ℕ) (b : Bool) → (0 < f → b ≡ true) → (0 < f → n ≤ c) → if_any f (b && nat_le n c) ≡ true
+fits_any zero n c b k h = refl
+fits_any (suc f) n c b k h = both _ _ (k (omega arith)) (le-leb n c (h (omega arith)))
 
 -- room for n children, where f come or go
 pub record IsRoomy (f n : ℕ) (r : Room) : Type 0 where
   -- the place's own vector is empty
   pub empty : own_children (out-Room r) ≡ []
-  -- where some come or go, the vector has place for so many
+  -- where some come or go, they have place in it
+  pub place : 0 < f → has_place (out-Room r) ≡ true
+  -- and it is wide enough for so many
   pub fits : 0 < f → n ≤ width (out-Room r)
 
 -- what is tested of the place's own room holds
 pub roomy : (f n : ℕ) (r : Room) → holds f n r ≡ true → IsRoomy f n r
-roomy f n r h = record {
-  empty = no_items (own_children (out-Room r)) (both_first _ _ h);
-  fits = any_fits f n _ (both_second (not (has_some {A = Elem × Trie} (own_children (out-Room r)))) _ h);
-}
+roomy f n r h =
+    let fits = any_fits f n _ _ (both_second (not (has_some {A = Elem × Trie} (own_children (out-Room r)))) _ h) in
+    record {
+      empty = no_items (own_children (out-Room r)) (both_first _ _ h);
+      place = λ lt. (fits lt).0;
+      fits = λ lt. (fits lt).1;
+    }
 
 -- room of which this holds passes the test
 pub roomy-holds : (f n : ℕ) (r : Room) → IsRoomy f n r → holds f n r ≡ true
-roomy-holds f n r h = both _ _ (items_none (own_children (out-Room r)) h.empty) (fits_any f n _ h.fits)
+roomy-holds f n r h = both _ _ (items_none (own_children (out-Room r)) h.empty) (fits_any f n _ _ h.place h.fits)
 
 -- the paths of a place count as those below it
 pub place-tails : (s : Trie) (e : Element) → tails e (paths s) ≡ tails e (paths_below (out-Trie s).below.items)
@@ -130,15 +135,23 @@ lose-below t s r k =
 
 -- a room is enough to take a set out where its own vector is and each child's room is
 pub lose-held : (t s : Trie) (r : Room) (x : Room-F Room) → out-Room r ≡ x → is_trie s ≡ true → own_children x ≡ []
-    → (0 < coming t s → length (out-Trie s).below.items ≤ width x)
+    → (0 < coming t s → has_place x ≡ true) → (0 < coming t s → length (out-Trie s).below.items ≤ width x)
     → loses (out-Trie t).below.items (paths_below (out-Trie s).below.items) (rooms_of x) ≡ true → lose_room t (paths s) r ≡ true
-lose-held t s r x is h empty fits l =
+lose-held t s r x is h empty place fits l =
     lose-made t s r h
     (record {
       empty = ap own_children is ∙ empty;
+      place = λ lt. ap has_place is ∙ place lt;
       fits = λ lt. subst (λ n. length (out-Trie s).below.items ≤ n) (sym (ap width is)) (fits lt);
     })
     (ap (λ y. loses (out-Trie t).below.items (paths_below (out-Trie s).below.items) (rooms_of y)) is ∙ l)
+
+-- above the place of a child that comes or goes alone none does
+pub none-comes : (t s : Trie) (r : Room) → is_trie s ≡ true → gain_room t (paths s) r ≡ true → has_place (out-Room r) ≡ false → 0 < coming t s → ⊥
+none-comes t s r h k above lt = true≢false (sym ((gain-own t s r h k).place lt) ∙ above)
+
+pub none-goes : (t s : Trie) (r : Room) → is_trie s ≡ true → lose_room t (paths s) r ≡ true → has_place (out-Room r) ≡ false → 0 < coming t s → ⊥
+none-goes t s r h k above lt = true≢false (sym ((lose-own t s r h k).place lt) ∙ above)
 
 -- where there is room for more children than there are, there is room for those that come; else none comes
 pub comes-within : (f n c : ℕ) → (0 < f → n + f ≤ c) → n < c → n + f ≤ c

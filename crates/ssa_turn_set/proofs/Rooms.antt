@@ -1,5 +1,5 @@
 -- The rooms of a set that is put into another or taken out of it.
-use Rattle.std.proofs.Common.{◌≡◌, suc, ◌+◌, List, [], ◌∷◌, ◌++◌, length, map, true, ◌&&◌, refl, sym, ap, ◌∙◌, true≢false}
+use Rattle.std.proofs.Common.{◌≡◌, ℕ, suc, ◌+◌, List, [], ◌∷◌, ◌++◌, length, map, true, ◌&&◌, refl, sym, ap, ◌∙◌, true≢false}
 use Rattle.std.specs.declared.alloc.Global.{Global}
 use Rattle.std.proofs.Common.{Vec}
 use Rattle.ssa_model.specs.definitions.FieldsV1.{heads, tails}
@@ -24,18 +24,19 @@ pub nothing-out : out-Room room.Nothing ≡ Room-F.Nothing
 unfolding out-Room denote.Hole.Carrier.out
 nothing-out = refl
 
-pub lone-out : (v : Vec (Elem × Trie) Global) (s : Spare) → out-Room (room.Lone v s) ≡ Room-F.Lone v s
+pub lone-out : (n : ℕ) (v : Vec (Elem × Trie) Global) (s : Spare) → out-Room (room.Lone n v s) ≡ Room-F.Lone n v s
 unfolding out-Room denote.Hole.Carrier.out
-lone-out v s = refl
+lone-out n v s = refl
+
+-- the room for one child, told of how many places down it is
+pub lone-at : (n m : ℕ) (v : Vec (Elem × Trie) Global) (s : Spare) → n ≡ m → out-Room (room.Lone n v s) ≡ Room-F.Lone m v s
+lone-at n m v s e = lone-out n v s ∙ (λ i. Room-F.Lone (e i) v s)
 
 pub each-out : (v : Vec (Elem × Trie) Global) (rs : Vec (Spare × Room) Global) → out-Room (room.Each v rs) ≡ Room-F.Each v rs
 unfolding roll-Room denote.Hole.Carrier.roll
 each-out v rs = out-roll-Room (Room-F.Each v rs)
 
 -- what a room of one kind is, told of parts that are equal to its own
-pub is-lone : (r : Room) (v w : Vec (Elem × Trie) Global) (s t : Spare) → r ≡ room.Lone v s → w ≡ v → t ≡ s → out-Room r ≡ Room-F.Lone w t
-is-lone r v w s t is children spare = ap out-Room is ∙ lone-out v s ∙ (λ i. Room-F.Lone (sym children i) (sym spare i))
-
 pub is-each : (r : Room) (v w : Vec (Elem × Trie) Global) (rs ts : Vec (Spare × Room) Global) → r ≡ room.Each v rs → w ≡ v → ts ≡ rs
     → out-Room r ≡ Room-F.Each w ts
 is-each r v w rs ts is children rooms = ap out-Room is ∙ each-out v rs ∙ (λ i. Room-F.Each (sym children i) (sym rooms i))

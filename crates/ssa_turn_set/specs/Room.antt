@@ -1,5 +1,6 @@
 -- Room for a set of paths that is put into another, place by place, as the other stands without it.
-use Rattle.std.specs.Prelude.{ℕ, zero, suc, ◌+◌, List, [], ◌∷◌, length, map, Bool, true, false, not, ◌&&◌, if◌then◌else◌, nat_le, vec_capacity, Option, Some, None}
+use Rattle.std.specs.declared.alloc.Global.{Global}
+use Rattle.std.specs.Prelude.{◌≡◌, Vec, ℕ, zero, suc, ◌+◌, List, [], ◌∷◌, length, map, Bool, true, false, not, ◌&&◌, if◌then◌else◌, nat_le, vec_capacity, Option, Some, None}
 use Rattle.ssa_model.specs.definitions.FieldsV1.{heads, tails}
 use Rattle.ssa_model.specs.definitions.Path.{Element, Path}
 use Rattle.ssa_path.specs.declared.element.Elem.{Elem}
@@ -16,6 +17,7 @@ use Rattle.ssa_turn_set.specs.declared.room.Room.TheOpen.{Room-F}
 use Rattle.ssa_turn_set.specs.declared.room.Room.TheVariants as room
 use Rattle.ssa_turn_set.specs.declared.room.Room.TheViews.{out-Room}
 use Rattle.ssa_turn_set.specs.declared.spare.Spare.{Spare}
+use Rattle.ssa_turn_set.specs.declared.spare.Spare.TheVariants as spare
 use Rattle.ssa_turn_set.specs.Spare.{fits, is_nothing}
 
 -- ---- what a room has
@@ -23,14 +25,21 @@ use Rattle.ssa_turn_set.specs.Spare.{fits, is_nothing}
 -- the vector for the place's own children, where there is one
 abbrev pub own_children : Room-F Room → List (Elem × Trie)
 own_children Room-F.Nothing = []
-own_children (Room-F.Lone v s) = v.items
+own_children (Room-F.Lone n v s) = v.items
 own_children (Room-F.Each v rs) = v.items
 
 -- how many children it can take
 abbrev pub width : Room-F Room → ℕ
 width Room-F.Nothing = 0
-width (Room-F.Lone v s) = vec_capacity v
+width (Room-F.Lone n v s) = vec_capacity v
 width (Room-F.Each v rs) = vec_capacity v
+
+-- whether children of the place may come or go: above the place of a child that comes or goes alone none does
+abbrev pub has_place : Room-F Room → Bool
+has_place Room-F.Nothing = true
+has_place (Room-F.Lone zero v s) = true
+has_place (Room-F.Lone (suc n) v s) = false
+has_place (Room-F.Each v rs) = true
 
 -- the room of one child, below which nothing comes or goes
 abbrev pub lone_room : Spare → Spare × Room
@@ -42,8 +51,16 @@ lone_rooms s = lone_room s ∷ []
 -- the rooms of the children
 abbrev pub rooms_of : Room-F Room → List (Spare × Room)
 rooms_of Room-F.Nothing = []
-rooms_of (Room-F.Lone v s) = lone_rooms s
+rooms_of (Room-F.Lone zero v s) = lone_rooms s
+rooms_of (Room-F.Lone (suc n) v s) = (spare.Nothing, room.Lone n v s) ∷ []
 rooms_of (Room-F.Each v rs) = rs.items
+
+-- the room of a place where one child is concerned: that child's spare and its room, and this vector for the place's children
+pub record IsRoomOfOne (v : Vec (Elem × Trie) Global) (s : Spare) (inner r : Room) : Type 0 where
+  pub own : own_children (out-Room r) ≡ v.items
+  pub place : has_place (out-Room r) ≡ true
+  pub wide : width (out-Room r) ≡ vec_capacity v
+  pub rooms : rooms_of (out-Room r) ≡ (s, inner) ∷ []
 
 -- ---- the children of a place
 
@@ -65,9 +82,10 @@ abbrev pub if_any : ℕ → Bool → Bool
 if_any zero b = true
 if_any (suc n) b = b
 
--- the place's own vector is empty, and where some children come or go it has room for so many in all
+-- the place's own vector is empty, and where some children come or go it is theirs, with room for so many in all
 abbrev pub holds : ℕ → ℕ → Room → Bool
-holds coming all r = not (has_some {A = Elem × Trie} (own_children (out-Room r))) && if_any coming (nat_le all (width (out-Room r)))
+holds coming all r =
+    not (has_some {A = Elem × Trie} (own_children (out-Room r))) && if_any coming (has_place (out-Room r) && nat_le all (width (out-Room r)))
 
 -- ---- the places, where these are the paths without the set
 
@@ -159,12 +177,6 @@ goes ps qs = not (has_some (left ps qs))
 -- the children of a place
 abbrev pub children : Trie → List (Elem × Trie)
 children t = (out-Trie t).below.items
-
--- whether there is one child alone, and nothing below it
-abbrev pub lone_leaf : List (Elem × Trie) → Bool
-lone_leaf [] = false
-lone_leaf (d ∷ []) = not (has_some {A = Elem × Trie} (children d.1))
-lone_leaf (d ∷ e ∷ ds) = false
 
 -- what counts only where there is no such child
 abbrev pub unless_there : Option Trie → ℕ → ℕ

@@ -11,7 +11,7 @@ use crate::spare::Spare;
 use crate::turn::{SetDelta, SetRoom};
 use std::alloc::{AllocError, Global};
 
-// The same room for an element, copied.
+// The same room for an element, with new memory.
 fn copy_spare(alloc: Global, spare: &Spare) -> Result<Spare, AllocError>
     ensures { IfOk result (λ s. SpareServes spare.now s) }
 {
@@ -24,7 +24,7 @@ fn copy_spare(alloc: Global, spare: &Spare) -> Result<Spare, AllocError>
     }
 }
 
-// The same rooms for the children of a place, copied.
+// The same rooms for the children of a place, with new memory.
 #[cycle(copy)]
 fn copy_each(alloc: Global, rooms: &[(Spare, Room)]) -> Result<Vec<(Spare, Room)>, AllocError>
     ensures { IfOk result (λ v. AllZip ChildServes rooms.now v.items) }
@@ -38,17 +38,25 @@ fn copy_each(alloc: Global, rooms: &[(Spare, Room)]) -> Result<Vec<(Spare, Room)
     Ok(below)
 }
 
-// The same room for a place and those below it, copied.
+// The same room for a place and those below it, with new memory.
 #[cycle(copy)]
 fn copy_room(alloc: Global, room: &Room) -> Result<Room, AllocError>
     ensures { IfOk result (λ r. RoomServes room.now r) }
 {
     match room {
         Room::Nothing => Ok(Room::Nothing),
-        Room::Lone { children, spare } => {
+        Room::Lone {
+            above,
+            children,
+            spare,
+        } => {
             let spare = copy_spare(alloc, spare)?;
             let children = Vec::with_capacity(alloc, children.capacity())?;
-            Ok(Room::Lone { children, spare })
+            Ok(Room::Lone {
+                above: *above,
+                children,
+                spare,
+            })
         }
         Room::Each { children, below } => {
             let below = copy_each(alloc, below)?;
@@ -59,7 +67,7 @@ fn copy_room(alloc: Global, room: &Room) -> Result<Room, AllocError>
 }
 
 impl SetDelta {
-    /// The same record, its room as well, copied.
+    /// The same record, its room as well, with new memory.
     pub fn copy(&self, alloc: Global) -> Result<SetDelta, AllocError>
         ensures steps { IfOk result (λ d. set_steps d ≡ set_steps self.now) }
         ensures room { IfOk result (λ d. (s : PathSet) → HasRoom self.now s → HasRoom d s) }

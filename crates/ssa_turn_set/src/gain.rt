@@ -5,10 +5,12 @@ ghost use Rattle.ssa_path.specs.Children.{elements, rises};
 ghost use Rattle.ssa_path.specs.Trie.{is_one_of, paths, paths_below, is_trie, are_filled_tries};
 ghost use Rattle.ssa_turn_set.specs.Room.{children, freshes, gain_room, gains, lone_rooms, lose_room, loses};
 ghost use Rattle.ssa_turn_set.specs.Weaving.{AreGathered};
+ghost use Rattle.ssa_turn_set.specs.declared.room.Room.TheVariants.{Each, Lone};
 
 use crate::filling::exchange_where_wider;
 use crate::opening::open_within;
 use crate::room::Room;
+use crate::siblings::place_of;
 use crate::spare::Spare;
 use crate::weaving::{open_place, pass_rest, turn_round};
 use ssa_path::element::Elem;
@@ -46,6 +48,33 @@ fn put_lone_in(gained: &[(Elem, Trie)], below: &mut Vec<(Elem, Trie)>, spare: &m
     gain_leaf(&child.1, &mut below[place].1);
 }
 
+// Adds the paths of `gained`, of which one child comes, with nothing below it, so many places down: each of those above stays.
+#[inline(never)]
+fn gain_lone(
+    above: u8,
+    gained: &Trie,
+    set: &mut Trie,
+    children: &mut Vec<(Elem, Trie)>,
+    spare: &mut Spare,
+)
+    requires set { is_trie set.old ≡ true }
+    requires gained { is_trie gained.now ≡ true }
+    requires room { gain_room gained.now (paths set.old) (Lone above children.old spare.old) ≡ true }
+    ensures paths { (p : Path) → is_one_of (paths set.new) p ≡ (is_one_of (paths gained.now) p || is_one_of (paths set.old) p) }
+    ensures trie { is_trie set.new ≡ true }
+    ensures room { lose_room gained.now (paths set.old) (Lone above children.new spare.new) ≡ true }
+{
+    let Trie { here: own, below } = set;
+    *own = gained.here || *own;
+    if above == 0 {
+        exchange_where_wider(below, children);
+        return put_lone_in(&gained.below, below, spare);
+    }
+    let child = &gained.below[0];
+    let place = place_of(below, &child.0);
+    gain_lone(above - 1, &child.1, &mut below[place].1, children, spare);
+}
+
 /// Adds the paths of `gained`. Takes no memory.
 ///
 /// The room that is left is enough to take them out again.
@@ -58,25 +87,43 @@ pub fn gain(gained: &Trie, set: &mut Trie, room: &mut Room)
     ensures trie { is_trie set.new ≡ true }
     ensures room { lose_room gained.now (paths set.old) room.new ≡ true }
 {
-    let Trie { here, below } = set;
-    *here = gained.here || *here;
     match room {
-        Room::Nothing => {}
-        Room::Lone { children, spare } => {
-            exchange_where_wider(below, children);
-            put_lone_in(&gained.below, below, spare);
-        }
+        Room::Nothing => gain_leaf(gained, set),
+        Room::Lone {
+            above,
+            children,
+            spare,
+        } => gain_lone(*above, gained, set, children, spare),
         Room::Each {
             children,
             below: rooms,
-        } => {
-            if below.len() < children.capacity() && gained.below.len() > FEW {
-                weave_in(&gained.below, below, children, rooms);
-            } else {
-                exchange_where_wider(below, children);
-                put_each_in(&gained.below, below, rooms);
-            }
-        }
+        } => gain_each(gained, set, children, rooms),
+    }
+}
+
+// Adds the paths of `gained`, with a room for each of its children.
+#[cycle(gain)]
+#[inline(never)]
+fn gain_each(
+    gained: &Trie,
+    set: &mut Trie,
+    children: &mut Vec<(Elem, Trie)>,
+    rooms: &mut Vec<(Spare, Room)>,
+)
+    requires set { is_trie set.old ≡ true }
+    requires gained { is_trie gained.now ≡ true }
+    requires room { gain_room gained.now (paths set.old) (Each children.old rooms.old) ≡ true }
+    ensures paths { (p : Path) → is_one_of (paths set.new) p ≡ (is_one_of (paths gained.now) p || is_one_of (paths set.old) p) }
+    ensures trie { is_trie set.new ≡ true }
+    ensures room { lose_room gained.now (paths set.old) (Each children.new rooms.new) ≡ true }
+{
+    let Trie { here, below } = set;
+    *here = gained.here || *here;
+    if below.len() < children.capacity() && gained.below.len() > FEW {
+        weave_in(&gained.below, below, children, rooms);
+    } else {
+        exchange_where_wider(below, children);
+        put_each_in(&gained.below, below, rooms);
     }
 }
 

@@ -7,6 +7,7 @@ ghost use Rattle.ssa_path.specs.Trie.{are_filled_tries, is_one_of, paths, paths_
 ghost use Rattle.ssa_turn_set.specs.Room.{children, gain_one, gain_room, lone_room, lone_rooms, lose_one, lose_room, loses, serves};
 ghost use Rattle.ssa_turn_set.specs.Siblings.{AreTaken};
 ghost use Rattle.ssa_turn_set.specs.Spare.{is_nothing};
+ghost use Rattle.ssa_turn_set.specs.declared.room.Room.TheVariants.{Each, Lone};
 
 use crate::filling::exchange_where_short;
 use crate::room::Room;
@@ -82,6 +83,39 @@ fn take_lone_out(lost: &[(Elem, Trie)], below: &mut Vec<(Elem, Trie)>, spare: &m
     }
 }
 
+// Takes out the paths of `lost`, of which one child goes, with nothing below it, so many places down: each of those above stays.
+#[inline(never)]
+fn lose_lone_below(
+    above: u8,
+    lost: &Trie,
+    set: &mut Trie,
+    children: &mut Vec<(Elem, Trie)>,
+    spare: &mut Spare,
+)
+    requires set { is_trie set.old ≡ true }
+    requires lost { is_trie lost.now ≡ true }
+    requires within { (p : Path) → is_one_of (paths lost.now) p ≡ true → is_one_of (paths set.old) p ≡ true }
+    requires form { (ps : List Path) × (lose_room lost.now ps (Lone above children.old spare.old) ≡ true) }
+    ensures paths { (p : Path) → is_one_of (paths set.new) p ≡ (is_one_of (paths set.old) p && not (is_one_of (paths lost.now) p)) }
+    ensures trie { is_trie set.new ≡ true }
+    ensures room { lose_room lost.now (paths set.new) (Lone above children.old spare.old) ≡ true
+        → gain_room lost.now (paths set.new) (Lone above children.new spare.new) ≡ true }
+{
+    let Trie { here: own, below } = set;
+    *own = *own && !lost.here;
+    if above == 0 {
+        let before = below.len();
+        take_lone_out(&lost.below, below, spare);
+        return exchange_where_short(below, children, before);
+    }
+    let child = &lost.below[0];
+    let place = place_of(below, &child.0);
+    lose_lone_below(above - 1, &child.1, &mut below[place].1, children, spare);
+    if !below[place].1.has_paths() {
+        below.remove(place);
+    }
+}
+
 /// Takes out the paths of `lost`, all of which the set has. Takes no memory.
 ///
 /// Where the room is enough for this, the room that is left is enough to put them in again.
@@ -95,23 +129,43 @@ pub fn lose(lost: &Trie, set: &mut Trie, room: &mut Room)
     ensures trie { is_trie set.new ≡ true }
     ensures room { lose_room lost.now (paths set.new) room.old ≡ true → gain_room lost.now (paths set.new) room.new ≡ true }
 {
-    let Trie { here, below } = set;
-    *here = *here && !lost.here;
-    let before = below.len();
     match room {
-        Room::Nothing => {}
-        Room::Lone { children, spare } => {
-            take_lone_out(&lost.below, below, spare);
-            exchange_where_short(below, children, before);
-        }
+        Room::Nothing => lose_leaf(lost, set),
+        Room::Lone {
+            above,
+            children,
+            spare,
+        } => lose_lone_below(*above, lost, set, children, spare),
         Room::Each {
             children,
             below: rooms,
-        } => {
-            take_out(&lost.below, below, rooms);
-            exchange_where_short(below, children, before);
-        }
+        } => lose_each(lost, set, children, rooms),
     }
+}
+
+// Takes out the paths of `lost`, with a room for each of its children.
+#[cycle(lose)]
+#[inline(never)]
+fn lose_each(
+    lost: &Trie,
+    set: &mut Trie,
+    children: &mut Vec<(Elem, Trie)>,
+    rooms: &mut Vec<(Spare, Room)>,
+)
+    requires set { is_trie set.old ≡ true }
+    requires lost { is_trie lost.now ≡ true }
+    requires within { (p : Path) → is_one_of (paths lost.now) p ≡ true → is_one_of (paths set.old) p ≡ true }
+    requires form { (ps : List Path) × (lose_room lost.now ps (Each children.old rooms.old) ≡ true) }
+    ensures paths { (p : Path) → is_one_of (paths set.new) p ≡ (is_one_of (paths set.old) p && not (is_one_of (paths lost.now) p)) }
+    ensures trie { is_trie set.new ≡ true }
+    ensures room { lose_room lost.now (paths set.new) (Each children.old rooms.old) ≡ true
+        → gain_room lost.now (paths set.new) (Each children.new rooms.new) ≡ true }
+{
+    let Trie { here, below } = set;
+    *here = *here && !lost.here;
+    let before = below.len();
+    take_out(&lost.below, below, rooms);
+    exchange_where_short(below, children, before);
 }
 
 // Takes out the paths of children: of one alone where it stands, and of more in one pass, in which all go that have

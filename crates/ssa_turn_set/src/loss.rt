@@ -1,5 +1,5 @@
 //! The record of a set that loses some of its paths, with its room.
-ghost use Rattle.std.specs.Prelude.{◌≡◌, ◌≤◌, ◌&&◌, if◌then◌else◌, List, [], true, IfOk};
+ghost use Rattle.std.specs.Prelude.{◌≡◌, ◌≤◌, ◌<◌, ◌∷◌, ◌&&◌, if◌then◌else◌, List, [], length, true, IfOk};
 ghost use Rattle.ssa_model.specs.definitions.FieldsV1.{tails};
 ghost use Rattle.ssa_model.specs.definitions.Path.{Path};
 ghost use Rattle.ssa_model.specs.definitions.PathMap.{minus};
@@ -7,11 +7,14 @@ ghost use Rattle.ssa_path.specs.Children.{elements, rises};
 ghost use Rattle.ssa_path.specs.Combine.{IsCombination};
 ghost use Rattle.ssa_path.specs.Trie.{are_filled_tries, is_filled, is_trie, paths, paths_below, IsWithin};
 ghost use Rattle.ssa_path.specs.View.{element_view};
-ghost use Rattle.ssa_turn_set.specs.Room.{children, gain_room, goes, leaving, left, lone_leaf, lose_room};
+ghost use Rattle.ssa_turn_set.specs.Room.{children, gain_room, goes, has_place, leaving, left, lose_room, own_children, rooms_of, width};
 ghost use Rattle.ssa_turn_set.specs.Turn.{IsBetween};
+ghost use Rattle.ssa_turn_set.specs.declared.room.Room.TheOpen.{Room-F};
+ghost use Rattle.ssa_turn_set.specs.declared.room.Room.TheViews.{out-Room};
+ghost use Rattle.ssa_turn_set.specs.declared.spare.Spare.TheVariants.{Nothing};
 
 use crate::kept_paths::KeptPaths;
-use crate::making::{combine_exactly, make_children};
+use crate::making::{combine_exactly, is_lowered, make_children, put_above};
 use crate::room::Room;
 use crate::spare::Spare;
 use crate::turn::{SetDelta, SetRoom};
@@ -82,21 +85,43 @@ fn leaf_loss(lost: &Trie, own: &Trie) -> (bool, bool)
     (has_all, goes_whole(own, lost, 0))
 }
 
-// Whether there is one child alone, and nothing below it.
+// Makes of the room of the one child that is lost, which goes whole or stays, that of its place: where it stays, no memory is
+// taken for the room of one child further down. So many of the place's children leave.
 #[inline(always)]
-pub(crate) fn is_lone(set: &Trie) -> bool
-    ensures { result ≡ lone_leaf (children set.now) }
+fn put_loss_above(
+    alloc: Global,
+    goes: bool,
+    leaving: usize,
+    len: usize,
+    room: &mut Room,
+) -> Result<(), AllocError>
+    ensures rooms { IfOk result (λ _. rooms_of (out-Room room.new) ≡ (Nothing, room.old) ∷ []) }
+    ensures own { IfOk result (λ _. own_children (out-Room room.old) ≡ [] → own_children (out-Room room.new) ≡ []) }
+    ensures place { IfOk result (λ _. goes ≡ true → has_place (out-Room room.new) ≡ true) }
+    ensures fits { IfOk result (λ _. goes ≡ true → leaving < len → len ≤ width (out-Room room.new)) }
 {
-    set.below.len() == 1 && set.below[0].1.below.is_empty()
+    if !goes && is_lowered(room) {
+        return Ok(());
+    }
+    let children = make_children(alloc, usize::from(goes), leaving, len)?;
+    put_above(alloc, children, Spare::Nothing, room)
 }
 
-// The same as `make_place_loss` tells, where one child is lost and nothing below it.
-fn make_lone_loss(alloc: Global, lost: &Trie, own: &Trie) -> Result<(LossRoom, bool), AllocError>
+// The same as `make_place_loss` tells, where one child is lost.
+#[cycle(loss)]
+#[inline(never)]
+fn make_one_loss(
+    alloc: Global,
+    lost: &Trie,
+    own: &Trie,
+    room: &mut Room,
+) -> Result<(bool, bool), AllocError>
     requires lost { is_trie lost.now ≡ true }
     requires own { is_trie own.now ≡ true }
-    requires lone { lone_leaf (children lost.now) ≡ true }
-    ensures room { IfOk result (λ l. lose_room lost.now (left (paths own.now) (paths lost.now)) l.0.room ≡ true) }
-    ensures all { IfOk result (λ l. l.0.has_all ≡ true → IsWithin (paths lost.now) (paths own.now)) }
+    requires one { length (children lost.now) ≡ 1 }
+    requires nothing { out-Room room.old ≡ Room-F.Nothing }
+    ensures room { IfOk result (λ l. lose_room lost.now (left (paths own.now) (paths lost.now)) room.new ≡ true) }
+    ensures all { IfOk result (λ l. l.0 ≡ true → IsWithin (paths lost.now) (paths own.now)) }
     ensures goes { IfOk result (λ l. l.1 ≡ goes (paths own.now) (paths lost.now)) }
 {
     let bare = Trie {
@@ -105,35 +130,29 @@ fn make_lone_loss(alloc: Global, lost: &Trie, own: &Trie) -> Result<(LossRoom, b
     };
     let child = &lost.below[0];
     let place = place_or(&own.below, &child.0, &bare);
-    let (child_has_all, goes) = leaf_loss(&child.1, place);
+    let (child_has_all, goes) = make_place_loss(alloc, &child.1, place, room)?;
     let leaving = count_whole(place, goes);
-    let children = make_children(alloc, usize::from(goes), leaving, own.below.len())?;
-    let mut has_all = own.here || !lost.here;
-    has_all &= child_has_all;
-    let spare = Spare::Nothing;
-    let room = Room::Lone { children, spare };
-    let goes = goes_whole(own, lost, leaving);
-    Ok((LossRoom { room, has_all }, goes))
+    put_loss_above(alloc, goes, leaving, own.below.len(), room)?;
+    let mut has_both = own.here || !lost.here;
+    has_both &= child_has_all;
+    Ok((has_both, goes_whole(own, lost, leaving)))
 }
 
-// Room enough to take the paths of `lost` out of a place, and whether the place then goes whole.
-//
-// That is told from what the children tell, so that none of them is walked for it again at each place above.
-fn make_place_loss(alloc: Global, lost: &Trie, own: &Trie) -> Result<(LossRoom, bool), AllocError>
+// The same as `make_place_loss` tells, where any number of children is lost.
+#[cycle(loss)]
+#[inline(never)]
+fn make_each_loss(
+    alloc: Global,
+    lost: &Trie,
+    own: &Trie,
+    room: &mut Room,
+) -> Result<(bool, bool), AllocError>
     requires lost { is_trie lost.now ≡ true }
     requires own { is_trie own.now ≡ true }
-    ensures room { IfOk result (λ l. lose_room lost.now (left (paths own.now) (paths lost.now)) l.0.room ≡ true) }
-    ensures all { IfOk result (λ l. l.0.has_all ≡ true → IsWithin (paths lost.now) (paths own.now)) }
+    ensures room { IfOk result (λ l. lose_room lost.now (left (paths own.now) (paths lost.now)) room.new ≡ true) }
+    ensures all { IfOk result (λ l. l.0 ≡ true → IsWithin (paths lost.now) (paths own.now)) }
     ensures goes { IfOk result (λ l. l.1 ≡ goes (paths own.now) (paths lost.now)) }
 {
-    if lost.below.is_empty() {
-        let (has_all, goes) = leaf_loss(lost, own);
-        let room = Room::Nothing;
-        return Ok((LossRoom { room, has_all }, goes));
-    }
-    if is_lone(lost) {
-        return make_lone_loss(alloc, lost, own);
-    }
     let bare = Trie {
         here: false,
         below: Vec::new(alloc),
@@ -144,16 +163,42 @@ fn make_place_loss(alloc: Global, lost: &Trie, own: &Trie) -> Result<(LossRoom, 
     let mut has_all = own.here || !lost.here;
     for child in &lost.below {
         let place = place_or(&own.below, &child.0, &bare);
-        let (loss, goes) = make_place_loss(alloc, &child.1, place)?;
-        has_all &= loss.has_all;
+        let mut child_room = Room::Nothing;
+        let (child_has_all, goes) = make_place_loss(alloc, &child.1, place, &mut child_room)?;
+        has_all &= child_has_all;
         going += usize::from(goes);
         leaving += count_whole(place, goes);
-        below.push((Spare::Nothing, loss.room))?;
+        below.push((Spare::Nothing, child_room))?;
     }
     let children = make_children(alloc, going, leaving, own.below.len())?;
-    let room = Room::Each { children, below };
-    let goes = goes_whole(own, lost, leaving);
-    Ok((LossRoom { room, has_all }, goes))
+    *room = Room::Each { children, below };
+    Ok((has_all, goes_whole(own, lost, leaving)))
+}
+
+// Makes room enough to take the paths of `lost` out of a place, and tells whether the place has all of them, and whether it then
+// goes whole.
+//
+// That is told from what the children tell, so that none of them is walked for it again at each place above.
+#[cycle(loss)]
+#[inline(always)]
+fn make_place_loss(
+    alloc: Global,
+    lost: &Trie,
+    own: &Trie,
+    room: &mut Room,
+) -> Result<(bool, bool), AllocError>
+    requires lost { is_trie lost.now ≡ true }
+    requires own { is_trie own.now ≡ true }
+    requires nothing { out-Room room.old ≡ Room-F.Nothing }
+    ensures room { IfOk result (λ l. lose_room lost.now (left (paths own.now) (paths lost.now)) room.new ≡ true) }
+    ensures all { IfOk result (λ l. l.0 ≡ true → IsWithin (paths lost.now) (paths own.now)) }
+    ensures goes { IfOk result (λ l. l.1 ≡ goes (paths own.now) (paths lost.now)) }
+{
+    match lost.below.len() {
+        0 => Ok(leaf_loss(lost, own)),
+        1 => make_one_loss(alloc, lost, own, room),
+        _ => make_each_loss(alloc, lost, own, room),
+    }
 }
 
 /// Room enough to take the paths of `lost` out of a set of the paths of `own`.
@@ -163,8 +208,9 @@ pub fn make_loss_room(alloc: Global, lost: &Trie, own: &Trie) -> Result<LossRoom
     ensures room { IfOk result (λ l. lose_room lost.now (left (paths own.now) (paths lost.now)) l.room ≡ true) }
     ensures all { IfOk result (λ l. l.has_all ≡ true → IsWithin (paths lost.now) (paths own.now)) }
 {
-    let (loss, _goes) = make_place_loss(alloc, lost, own)?;
-    Ok(loss)
+    let mut room = Room::Nothing;
+    let (has_all, _goes) = make_place_loss(alloc, lost, own, &mut room)?;
+    Ok(LossRoom { room, has_all })
 }
 
 // No path, and the room that it needs. Takes no memory.
@@ -183,30 +229,42 @@ fn nothing(alloc: Global) -> (KeptPaths, Room)
 // What a set has of the lost paths, not all of them, with the room to take it out. It is rare, and apart: what it holds on the
 // stack is cleared wherever it is inlined.
 #[inline(never)]
-fn taken_partly(alloc: Global, lost: &Trie, own: &Trie) -> Result<(KeptPaths, Room), AllocError>
+fn taken_partly(
+    alloc: Global,
+    lost: &Trie,
+    own: &Trie,
+    room: &mut Room,
+) -> Result<KeptPaths, AllocError>
     requires lost { is_trie lost.now ≡ true }
     requires own { is_trie own.now ≡ true }
-    ensures lost { IfOk result (λ t. IsCombination Combination.Meet lost.now own.now t.0) }
-    ensures room { IfOk result (λ t. lose_room t.0 (left (paths own.now) (paths t.0)) t.1 ≡ true) }
+    ensures lost { IfOk result (λ t. IsCombination Combination.Meet lost.now own.now t) }
+    ensures room { IfOk result (λ t. lose_room t (left (paths own.now) (paths t)) room.new ≡ true) }
 {
     let met = combine_exactly(alloc, lost, own, Combination::Meet)?;
     let loss = make_loss_room(alloc, &met, own)?;
-    Ok((KeptPaths::of_trie(met), loss.room))
+    *room = loss.room;
+    Ok(KeptPaths::of_trie(met))
 }
 
 // What a set has of the lost paths, with the room to take it out, no more of either than is needed: mostly it has them all.
 #[inline(always)]
-fn taken(alloc: Global, lost: Rc<Trie>, own: &Trie) -> Result<(KeptPaths, Room), AllocError>
+fn taken(
+    alloc: Global,
+    lost: Rc<Trie>,
+    own: &Trie,
+    room: &mut Room,
+) -> Result<KeptPaths, AllocError>
     requires lost { is_trie lost.value ≡ true }
     requires own { is_trie own.now ≡ true }
-    ensures lost { IfOk result (λ t. IsCombination Combination.Meet lost.value own.now t.0) }
-    ensures room { IfOk result (λ t. lose_room t.0 (left (paths own.now) (paths t.0)) t.1 ≡ true) }
+    requires nothing { out-Room room.old ≡ Room-F.Nothing }
+    ensures lost { IfOk result (λ t. IsCombination Combination.Meet lost.value own.now t) }
+    ensures room { IfOk result (λ t. lose_room t (left (paths own.now) (paths t)) room.new ≡ true) }
 {
-    let loss = make_loss_room(alloc, &lost, own)?;
-    if loss.has_all {
-        return Ok((KeptPaths::of_shared(lost), loss.room));
+    let (has_all, _goes) = make_place_loss(alloc, &lost, own, room)?;
+    if has_all {
+        return Ok(KeptPaths::of_shared(lost));
     }
-    taken_partly(alloc, &lost, own)
+    taken_partly(alloc, &lost, own, room)
 }
 
 impl SetDelta {
@@ -221,7 +279,8 @@ impl SetDelta {
     {
         let own = from.root();
         let (gain, gain_room) = nothing(alloc);
-        let (lose, lose_room) = taken(alloc, lost.into_root(), own)?;
+        let mut lose_room = Room::Nothing;
+        let lose = taken(alloc, lost.into_root(), own, &mut lose_room)?;
         Ok(SetDelta {
             gain,
             lose,

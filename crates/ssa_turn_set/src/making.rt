@@ -1,17 +1,20 @@
 //! The record between two sets, with its room.
-ghost use Rattle.std.specs.Prelude.{◌≡◌, ◌≤◌, ◌<◌, ◌+◌, ◌-◌, ◌^◌, List, [], length, true, vec_capacity, IfOk};
+ghost use Rattle.std.specs.Prelude.{◌≡◌, ◌≤◌, ◌<◌, ◌+◌, ◌-◌, ◌^◌, ◌∷◌, List, [], length, true, false, vec_capacity, IfOk};
 ghost use Rattle.ssa_model.specs.definitions.FieldsV1.{heads};
 ghost use Rattle.ssa_model.specs.definitions.Path.{Path};
 ghost use Rattle.ssa_path.specs.Children.{elements, rises};
 ghost use Rattle.ssa_path.specs.View.{element_view};
 ghost use Rattle.ssa_path.specs.Trie.{are_filled_tries, is_trie, paths};
 ghost use Rattle.ssa_path.specs.Combine.{IsCombination};
-ghost use Rattle.ssa_turn_set.specs.Room.{children, fresh, freshes, gain_room, goes, leaves_beside, leaving, leaving_beside, left, lone_leaf, serves};
+ghost use Rattle.ssa_turn_set.specs.Room.{children, fresh, freshes, gain_room, goes, has_place, leaves_beside, leaving, leaving_beside, left, own_children, rooms_of, serves, width, IsRoomOfOne};
 ghost use Rattle.ssa_turn_set.specs.Spare.{fits};
 ghost use Rattle.ssa_turn_set.specs.Turn.{IsBetween};
+ghost use Rattle.ssa_turn_set.specs.declared.room.Room.TheOpen.{Room-F};
+ghost use Rattle.ssa_turn_set.specs.declared.room.Room.TheViews.{out-Room};
+ghost use Rattle.ssa_turn_set.specs.declared.spare.Spare.TheVariants.{Nothing};
 
 use crate::kept_paths::KeptPaths;
-use crate::loss::{count_whole, goes_whole, is_lone, make_loss_room, place_or};
+use crate::loss::{count_whole, goes_whole, make_loss_room, place_or};
 use crate::room::Room;
 use crate::spare::Spare;
 use crate::turn::{SetDelta, SetRoom};
@@ -23,6 +26,7 @@ use ssa_path::parting::part;
 use ssa_path::trie::Trie;
 use ssa_path::within::lies_within;
 use std::alloc::{AllocError, Global};
+use std::mem;
 
 // A copy of the element, as room for it.
 fn make_spare(alloc: Global, element: &Elem) -> Result<Spare, AllocError>
@@ -56,6 +60,62 @@ pub(crate) fn make_children(
         return Ok(Vec::new(alloc));
     }
     Vec::with_capacity(alloc, len)
+}
+
+// Takes the room for one child one place further down. Another room, or one that is too far down already, stays as it is.
+#[inline(always)]
+pub(crate) fn is_lowered(room: &mut Room) -> bool
+    ensures lowered { result ≡ true → rooms_of (out-Room room.new) ≡ (Nothing, room.old) ∷ [] }
+    ensures own { own_children (out-Room room.new) ≡ own_children (out-Room room.old) }
+    ensures same { result ≡ false → room.new ≡ room.old }
+{
+    match room {
+        Room::Lone { above, .. } if *above < u8::MAX => {
+            *above += 1;
+            true
+        }
+        _ => false,
+    }
+}
+
+// The room of a place with this room for the one child that is concerned.
+fn make_one_each(
+    alloc: Global,
+    children: Vec<(Elem, Trie)>,
+    spare: Spare,
+    place: Room,
+) -> Result<Room, AllocError>
+    ensures { IfOk result (IsRoomOfOne children spare place) }
+{
+    let mut below = Vec::with_capacity(alloc, 1)?;
+    below.push((spare, place))?;
+    Ok(Room::Each { children, below })
+}
+
+// Makes of the room for the one child that is concerned that of its place.
+#[inline(always)]
+pub(crate) fn put_above(
+    alloc: Global,
+    children: Vec<(Elem, Trie)>,
+    spare: Spare,
+    room: &mut Room,
+) -> Result<(), AllocError>
+    ensures { IfOk result (λ _. IsRoomOfOne children spare room.old room.new) }
+{
+    match room {
+        Room::Nothing => {
+            *room = Room::Lone {
+                above: 0,
+                children,
+                spare,
+            };
+        }
+        _ => {
+            let place = mem::replace(room, Room::Nothing);
+            *room = make_one_each(alloc, children, spare, place)?;
+        }
+    }
+    Ok(())
 }
 
 // 1 where nothing is left of a place that loses these paths, for which it is walked. Of one with more children than are lost
@@ -149,19 +209,47 @@ fn make_gain_children(
     Ok((children, goes_whole(own, lost, leaving)))
 }
 
-// The same as `make_place_gain` tells, where one child is gained and nothing below it.
-fn make_lone_gain(
+// Makes of the room of the one child that is gained, which comes or is there, that of its place, with this vector for its children:
+// where it is there, no memory is taken for the room of one child further down.
+#[inline(always)]
+fn put_gain_above(
+    alloc: Global,
+    element: &Elem,
+    comes: usize,
+    children: Vec<(Elem, Trie)>,
+    room: &mut Room,
+) -> Result<(), AllocError>
+    requires empty { children.items ≡ [] }
+    ensures rooms { IfOk result (λ _. (s : Spare) × (rooms_of (out-Room room.new) ≡ (s, room.old) ∷ [])
+        × ((ps : List Path) → comes ≡ fresh ps → serves (element_view element.now) ps s ≡ true)) }
+    ensures own { IfOk result (λ _. own_children (out-Room room.old) ≡ [] → own_children (out-Room room.new) ≡ []) }
+    ensures place { IfOk result (λ _. 0 < comes → has_place (out-Room room.new) ≡ true) }
+    ensures wide { IfOk result (λ _. 0 < comes → vec_capacity children ≤ width (out-Room room.new)) }
+{
+    if comes == 0 && is_lowered(room) {
+        return Ok(());
+    }
+    let spare = make_spare_for(alloc, element, comes)?;
+    put_above(alloc, children, spare, room)
+}
+
+// The same as `make_place_gain` tells, where one child is gained.
+#[cycle(gain_room)]
+#[inline(never)]
+fn make_one_gain(
     alloc: Global,
     gained: &Trie,
     own: &Trie,
     lost: &Trie,
-) -> Result<(Room, bool), AllocError>
+    room: &mut Room,
+) -> Result<bool, AllocError>
     requires gained { is_trie gained.now ≡ true }
     requires own { is_trie own.now ≡ true }
     requires lost { is_trie lost.now ≡ true }
-    requires lone { lone_leaf (children gained.now) ≡ true }
-    ensures room { IfOk result (λ r. gain_room gained.now (left (paths own.now) (paths lost.now)) r.0 ≡ true) }
-    ensures goes { IfOk result (λ r. r.1 ≡ goes (paths own.now) (paths lost.now)) }
+    requires one { length (children gained.now) ≡ 1 }
+    requires nothing { out-Room room.old ≡ Room-F.Nothing }
+    ensures room { IfOk result (λ r. gain_room gained.now (left (paths own.now) (paths lost.now)) room.new ≡ true) }
+    ensures goes { IfOk result (λ r. r ≡ goes (paths own.now) (paths lost.now)) }
 {
     let bare = Trie {
         here: false,
@@ -170,31 +258,30 @@ fn make_lone_gain(
     let child = &gained.below[0];
     let place = place_or(&own.below, &child.0, &bare);
     let gone = place_or(&lost.below, &child.0, &bare);
-    let comes = count_gone(place, gone);
-    let spare = make_spare_for(alloc, &child.0, comes)?;
-    let going = count_whole(place, comes == 1);
-    let (children, goes) = make_gain_children(alloc, gained, own, lost, comes, going)?;
-    Ok((Room::Lone { children, spare }, goes))
+    let goes = make_place_gain(alloc, &child.1, place, gone, room)?;
+    let comes = usize::from(goes);
+    let going = count_whole(place, goes);
+    let (children, place_goes) = make_gain_children(alloc, gained, own, lost, comes, going)?;
+    put_gain_above(alloc, &child.0, comes, children, room)?;
+    Ok(place_goes)
 }
 
-// Room enough to put the paths of `gained` into a place that lost those of `lost`, and whether it then had none left.
-//
-// That is told from what the children tell; those that are lost and not gained are walked, where it is asked how many go.
-fn make_place_gain(
+// The same as `make_place_gain` tells, where any number of children is gained.
+#[cycle(gain_room)]
+#[inline(never)]
+fn make_each_gain(
     alloc: Global,
     gained: &Trie,
     own: &Trie,
     lost: &Trie,
-) -> Result<(Room, bool), AllocError>
+    room: &mut Room,
+) -> Result<bool, AllocError>
     requires gained { is_trie gained.now ≡ true }
     requires own { is_trie own.now ≡ true }
     requires lost { is_trie lost.now ≡ true }
-    ensures room { IfOk result (λ r. gain_room gained.now (left (paths own.now) (paths lost.now)) r.0 ≡ true) }
-    ensures goes { IfOk result (λ r. r.1 ≡ goes (paths own.now) (paths lost.now)) }
+    ensures room { IfOk result (λ r. gain_room gained.now (left (paths own.now) (paths lost.now)) room.new ≡ true) }
+    ensures goes { IfOk result (λ r. r ≡ goes (paths own.now) (paths lost.now)) }
 {
-    if is_lone(gained) {
-        return make_lone_gain(alloc, gained, own, lost);
-    }
     let bare = Trie {
         here: false,
         below: Vec::new(alloc),
@@ -205,15 +292,43 @@ fn make_place_gain(
     for child in &gained.below {
         let place = place_or(&own.below, &child.0, &bare);
         let gone = place_or(&lost.below, &child.0, &bare);
-        let (room, goes) = make_place_gain(alloc, &child.1, place, gone)?;
+        let mut child_room = Room::Nothing;
+        let goes = make_place_gain(alloc, &child.1, place, gone, &mut child_room)?;
         let comes = usize::from(goes);
         let spare = make_spare_for(alloc, &child.0, comes)?;
         coming += comes;
         leaving += count_whole(place, goes);
-        below.push((spare, room))?;
+        below.push((spare, child_room))?;
     }
     let (children, goes) = make_gain_children(alloc, gained, own, lost, coming, leaving)?;
-    Ok((Room::Each { children, below }, goes))
+    *room = Room::Each { children, below };
+    Ok(goes)
+}
+
+// Makes room enough to put the paths of `gained` into a place that lost those of `lost`, and tells whether it then had none left.
+//
+// That is told from what the children tell; those that are lost and not gained are walked, where it is asked how many go.
+#[cycle(gain_room)]
+#[inline(always)]
+fn make_place_gain(
+    alloc: Global,
+    gained: &Trie,
+    own: &Trie,
+    lost: &Trie,
+    room: &mut Room,
+) -> Result<bool, AllocError>
+    requires gained { is_trie gained.now ≡ true }
+    requires own { is_trie own.now ≡ true }
+    requires lost { is_trie lost.now ≡ true }
+    requires nothing { out-Room room.old ≡ Room-F.Nothing }
+    ensures room { IfOk result (λ r. gain_room gained.now (left (paths own.now) (paths lost.now)) room.new ≡ true) }
+    ensures goes { IfOk result (λ r. r ≡ goes (paths own.now) (paths lost.now)) }
+{
+    match gained.below.len() {
+        0 => Ok(count_gone(own, lost) == 1),
+        1 => make_one_gain(alloc, gained, own, lost, room),
+        _ => make_each_gain(alloc, gained, own, lost, room),
+    }
 }
 
 /// Room enough to put the paths of `gained` into a set that had those of `own` and lost those of
@@ -232,7 +347,8 @@ pub fn make_gain_room(
     if gained.below.is_empty() {
         return Ok(Room::Nothing);
     }
-    let (room, _goes) = make_place_gain(alloc, gained, own, lost)?;
+    let mut room = Room::Nothing;
+    let _goes = make_place_gain(alloc, gained, own, lost, &mut room)?;
     Ok(room)
 }
 

@@ -2,9 +2,9 @@ use Rattle.std.proofs.Common.{sym, ap, subst, ◌∙◌, arith}
 use Rattle.std.proofs.lemmas.List.{take_all}
 use Rattle.std.specs.List.{AllZip}
 use Rattle.ssa_turn_set.specs.Copies.{ChildServes}
-use Rattle.ssa_turn_set.specs.Room.{lone_rooms, rooms_of, width}
+use Rattle.ssa_turn_set.specs.Room.{has_place, rooms_of, width}
 use Rattle.ssa_turn_set.specs.declared.room.Room.TheViews.{out-Room}
-use Rattle.ssa_turn_set.proofs.Rooms.{each-out, lone-out}
+use Rattle.ssa_turn_set.proofs.Rooms.{each-out}
 use Rattle.ssa_turn_set.proofs.Serving.{each-pushed, lone-serves, room-serves}
 use Rattle.ssa_turn_set.proofs.copying.+copy.Goals as goal
 
@@ -20,16 +20,14 @@ copy_each-returns t c =
 
 pub copy_room-returns-in_ok-children-in-Lone : goal.copy_room-returns-in_ok-children-in-Lone
 copy_room-returns-in_ok-children-in-Lone t c =
-    let is = ap out-Room c.in-Lone.is ∙ lone-out _ _ in
-    room-serves c.args.room.now _ _ (lone-out _ _) c.in_ok-children-in-Lone.ensures.items
-    (c.in_ok-children-in-Lone.ensures.exact ∙ c.capacity.ensures ∙ sym (ap width is))
-    (subst (λ x. AllZip ChildServes (rooms_of x) (lone_rooms c.in_ok-spare-in-Lone.spare)) (sym is) (lone-serves _ _ c.in_ok-spare-in-Lone.ensures))
+    lone-serves c.args.room.now _ _ c.in_ok-children-in-Lone.children _ c.in_ok-spare-in-Lone.spare c.in-Lone.is c.in_ok-children-in-Lone.ensures.items
+    (c.in_ok-children-in-Lone.ensures.exact ∙ c.capacity.ensures) c.in_ok-spare-in-Lone.ensures
 
 pub copy_room-returns-in_ok-children-in-Each : goal.copy_room-returns-in_ok-children-in-Each
 copy_room-returns-in_ok-children-in-Each t c =
     let is = ap out-Room c.in-Each.is ∙ each-out _ _ in
     let below = c.in_ok-below-in-Each.below.items in
     room-serves c.args.room.now _ _ (each-out _ _) c.in_ok-children-in-Each.ensures.items
-    (c.in_ok-children-in-Each.ensures.exact ∙ c.capacity-in-Each.ensures ∙ sym (ap width is))
+    (c.in_ok-children-in-Each.ensures.exact ∙ c.capacity-in-Each.ensures ∙ sym (ap width is)) (sym (ap has_place is))
     (subst (λ x. AllZip ChildServes (rooms_of x) below) (sym is)
     (subst (λ l. AllZip ChildServes l below) c.deref.ensures.value c.in_ok-below-in-Each.ensures))

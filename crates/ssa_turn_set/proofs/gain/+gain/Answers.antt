@@ -11,53 +11,37 @@ use Rattle.ssa_path.proofs.Lists.{left-at, parted-set}
 use Rattle.ssa_path.proofs.Orders.{both_first}
 use Rattle.ssa_turn_set.specs.declared.room.Room.{Room}
 use Rattle.ssa_turn_set.specs.declared.spare.Spare.{Spare}
+use Rattle.ssa_turn_set.specs.declared.room.Room.TheVariants.{Each}
 use Rattle.ssa_turn_set.specs.declared.room.Room.TheViews.{out-Room}
-use Rattle.ssa_turn_set.specs.Room.{freshes, gain_room, gains, lone_rooms, lose_room, loses, own_children, rooms_of, width}
+use Rattle.ssa_turn_set.specs.Room.{freshes, gain_room, gains, lose_room, loses, own_children, rooms_of, width}
 use Rattle.ssa_turn_set.proofs.Bare.{gain-leaf, leaf-lose}
-use Rattle.ssa_turn_set.proofs.Rooms.{each-out, is-each, is-lone, lone-out}
+use Rattle.ssa_turn_set.proofs.Rooms.{each-out}
 use Rattle.ssa_turn_set.proofs.Coming.{opened-fits, opened-more, opened-room, passed-next, passed-one}
 use Rattle.ssa_turn_set.proofs.Gaining.{IsGaining, gaining-all, gaining-at, gaining-fits, gaining-next, gaining-none, gaining-within, gained-place}
 use Rattle.ssa_turn_set.proofs.Places.{coming, comes-wide, comes-within, gain-below, gain-own, lose-held}
-use Rattle.ssa_turn_set.proofs.gain.+gain.Goals.{gain-then-gained, gain-else-gained}
+use Rattle.ssa_turn_set.proofs.gain.+gain.Goals.{gain_each-then-gained, gain_each-else-gained}
 use Rattle.ssa_turn_set.proofs.gain.+gain.Goals as goal
 
 -- ---- the place
 
-pub gain-put_lone_in-requires : goal.gain-put_lone_in-requires
-gain-put_lone_in-requires t c =
+pub gain-gain_leaf-requires-clause-leaf : goal.gain-gain_leaf-requires-clause-leaf
+gain-gain_leaf-requires-clause-leaf t c =
+    gain-leaf c.args.gained.now _ (ap (gain_room c.args.gained.now _) (sym c.in-Nothing.is) ∙ c.requires.room)
+
+pub gain-returns-in-Nothing-clause-room : goal.gain-returns-in-Nothing-clause-room
+gain-returns-in-Nothing-clause-room t c =
+    let none = gain-leaf c.args.gained.now _ (ap (gain_room c.args.gained.now _) (sym c.in-Nothing.is) ∙ c.requires.room) in
+    ap (lose_room c.args.gained.now _) c.in-Nothing.is ∙ leaf-lose c.args.gained.now none _
+
+pub gain_each-weave_in-requires : goal.gain_each-weave_in-requires
+gain_each-weave_in-requires t c =
     let set = trie-parts c.args.set.now _ refl c.requires.set in
     let gained = trie-parts c.args.gained.now c.deref.result.now c.deref.ensures.value c.requires.gained in
-    let own = gain-own c.args.gained.now c.args.set.now c.args.room.now c.requires.set c.requires.room in
-    let below = gain-below c.args.gained.now c.args.set.now c.args.room.now c.requires.room in
-    let given = c.deref.ensures.value in
-    let is = is-lone c.args.room.now _ _ _ _ c.in-Lone.is c.in-Lone.children-is c.in-Lone.spare-is in
-    let wider = c.exchange_where_wider.ensures in
-    let capacity = vec_capacity c.exchange_where_wider.new.items in
+    let own = gain-own c.args.gained.now c.args.set.now _ c.requires.set c.requires.room in
+    let below = gain-below c.args.gained.now c.args.set.now _ c.requires.room in
+    let is = each-out c.args.children.now c.args.rooms.now in
     let cs = (out-Trie c.args.set.now).below.items in
-    let fits : length cs + coming c.args.gained.now c.args.set.now ≤ capacity =
-    let len = (out-Trie c.args.set.now).below.ok.0 in
-    let most = (out-Trie c.args.set.now).below.ok.1 in
-    let kept = wider.kept in
-    comes-wide _ _ _ _ own.fits (omega arith) (subst (λ n. n ≤ capacity) (ap width (sym is)) wider.wide) in
-    record {
-      gained_rise = gained.0;
-      gained_tries = gained.1;
-      rise = ap (λ l. rises (elements l)) wider.items ∙ set.0;
-      tries = ap are_filled_tries wider.items ∙ set.1;
-      fits = subst (λ l. length l + freshes c.deref.result.now (paths_below l) ≤ capacity) (sym wider.items)
-          (subst (λ l. length cs + freshes l (paths_below cs) ≤ capacity) (sym given) fits);
-      room = (λ j. gains (given j) (paths_below (wider.items j)) (rooms_of (sym is j))) ∙ below;
-    }
-
-pub gain-weave_in-requires : goal.gain-weave_in-requires
-gain-weave_in-requires t c =
-    let set = trie-parts c.args.set.now _ refl c.requires.set in
-    let gained = trie-parts c.args.gained.now c.deref-then-len-gt-FEW.result.now c.deref-then-len-gt-FEW.ensures.value c.requires.gained in
-    let own = gain-own c.args.gained.now c.args.set.now c.args.room.now c.requires.set c.requires.room in
-    let below = gain-below c.args.gained.now c.args.set.now c.args.room.now c.requires.room in
-    let is = is-each c.args.room.now _ _ _ _ c.in-Each.is c.in-Each.children-is c.in-Each.rooms-is in
-    let cs = (out-Trie c.args.set.now).below.items in
-    let fits : length cs + coming c.args.gained.now c.args.set.now ≤ width (out-Room c.args.room.now) =
+    let fits : length cs + coming c.args.gained.now c.args.set.now ≤ width (out-Room (Each c.args.children.now c.args.rooms.now)) =
     let len = (out-Trie c.args.set.now).below.ok.0 in
     let a = c.len.ensures in
     let b = c.capacity.ensures in
@@ -76,9 +60,9 @@ gain-weave_in-requires t c =
               (
                 ap own_children (sym is) ∙ own.empty,
                 (
-                  subst (λ x. length cs + freshes c.deref-then-len-gt-FEW.result.now (paths_below cs) ≤ width x) is
-                      (subst (λ l. length cs + freshes l (paths_below cs) ≤ width (out-Room c.args.room.now)) (sym c.deref-then-len-gt-FEW.ensures.value) fits),
-                  (λ j. gains (c.deref-then-len-gt-FEW.ensures.value j) (paths_below cs) (rooms_of (sym is j))) ∙ below,
+                  subst (λ x. length cs + freshes c.deref.result.now (paths_below cs) ≤ width x) is
+                      (subst (λ l. length cs + freshes l (paths_below cs) ≤ width (out-Room (Each c.args.children.now c.args.rooms.now))) (sym c.deref.ensures.value) fits),
+                  (λ j. gains (c.deref.ensures.value j) (paths_below cs) (rooms_of (sym is j))) ∙ below,
                 ),
               ),
             ),
@@ -87,16 +71,16 @@ gain-weave_in-requires t c =
       ),
     )
 
-pub gain-put_each_in-requires : goal.gain-put_each_in-requires
-gain-put_each_in-requires t c =
+pub gain_each-put_each_in-requires : goal.gain_each-put_each_in-requires
+gain_each-put_each_in-requires t c =
     let set = trie-parts c.args.set.now _ refl c.requires.set in
     let gained = trie-parts c.args.gained.now c.deref-else-len-capacity.result.now c.deref-else-len-capacity.ensures.value c.requires.gained in
-    let own = gain-own c.args.gained.now c.args.set.now c.args.room.now c.requires.set c.requires.room in
-    let below = gain-below c.args.gained.now c.args.set.now c.args.room.now c.requires.room in
+    let own = gain-own c.args.gained.now c.args.set.now _ c.requires.set c.requires.room in
+    let below = gain-below c.args.gained.now c.args.set.now _ c.requires.room in
     let given = c.deref-else-len-capacity.ensures.value in
-    let is = is-each c.args.room.now _ _ _ _ c.in-Each.is c.in-Each.children-is c.in-Each.rooms-is in
-    let wider = c.exchange_where_wider-else-len-capacity.ensures in
-    let capacity = vec_capacity c.exchange_where_wider-else-len-capacity.new.items in
+    let is = each-out c.args.children.now c.args.rooms.now in
+    let wider = c.exchange_where_wider.ensures in
+    let capacity = vec_capacity c.exchange_where_wider.new.items in
     let cs = (out-Trie c.args.set.now).below.items in
     let fits : length cs + coming c.args.gained.now c.args.set.now ≤ capacity =
     let len = (out-Trie c.args.set.now).below.ok.0 in
@@ -268,91 +252,50 @@ weave_in-returns-clause-room t c =
 
 -- ---- the place as a whole
 
-pub gain-returns-in-Nothing-clause-paths : goal.gain-returns-in-Nothing-clause-paths
-gain-returns-in-Nothing-clause-paths t c =
-    let none = gain-leaf c.args.gained.now _ (ap (gain_room c.args.gained.now _) (sym c.in-Nothing.is) ∙ c.requires.room) in
+pub gain_each-returns-then-len-gt-FEW-clause-paths : goal.gain_each-returns-then-len-gt-FEW-clause-paths
+gain_each-returns-then-len-gt-FEW-clause-paths t c =
     gained-place _ c.args.gained.now c.args.set.now
     (elim c.if-gained.branch [
-      | gain-then-gained w ↦ w.here-is ∙ w.if-gained.true ∙ sym (ap (λ b. b || (out-Trie c.args.set.now).here) w.if-gained.true)
-      | gain-else-gained w ↦ w.here-is ∙ sym (ap (λ b. b || (out-Trie c.args.set.now).here) w.if-gained.false)
-    ])
-    (λ p. ap (λ l. is_one_of (paths_below l) p || is_one_of (paths_below (out-Trie c.args.set.now).below.items) p) (sym none))
-
-pub gain-returns-in-Nothing-clause-room : goal.gain-returns-in-Nothing-clause-room
-gain-returns-in-Nothing-clause-room t c =
-    let none = gain-leaf c.args.gained.now _ (ap (gain_room c.args.gained.now _) (sym c.in-Nothing.is) ∙ c.requires.room) in
-    ap (lose_room c.args.gained.now _) c.in-Nothing.is ∙ leaf-lose c.args.gained.now none _
-
-pub gain-returns-in-Lone-clause-paths : goal.gain-returns-in-Lone-clause-paths
-gain-returns-in-Lone-clause-paths t c =
-    let same = c.exchange_where_wider.ensures.items in
-    gained-place _ c.args.gained.now c.args.set.now
-    (elim c.if-gained.branch [
-      | gain-then-gained w ↦ w.here-is ∙ w.if-gained.true ∙ sym (ap (λ b. b || (out-Trie c.args.set.now).here) w.if-gained.true)
-      | gain-else-gained w ↦ w.here-is ∙ sym (ap (λ b. b || (out-Trie c.args.set.now).here) w.if-gained.false)
-    ])
-    (λ p. c.put_lone_in.ensures.gathered.paths_are p
-    ∙ (λ j. is_one_of (paths_below (c.deref.ensures.value j)) p || is_one_of (paths_below (same j)) p))
-
-pub gain-returns-in-Lone-clause-trie : goal.gain-returns-in-Lone-clause-trie
-gain-returns-in-Lone-clause-trie t c = is_trie-made _ c.put_lone_in.ensures.gathered.risen c.put_lone_in.ensures.gathered.tries
-
-pub gain-returns-in-Lone-clause-room : goal.gain-returns-in-Lone-clause-room
-gain-returns-in-Lone-clause-room t c =
-    let own = gain-own c.args.gained.now c.args.set.now c.args.room.now c.requires.set c.requires.room in
-    let below = (out-Trie c.args.set.now).below in
-    let len = below.ok.0 in
-    let is = is-lone c.args.room.now _ _ _ _ c.in-Lone.is c.in-Lone.children-is c.in-Lone.spare-is in
-    let wide = ap width is in
-    let wider = c.exchange_where_wider.ensures in
-    lose-held c.args.gained.now c.args.set.now _ _ (lone-out _ _) c.requires.set wider.empty
-    (λ lt. let fits = own.fits lt in let left = wider.room (omega arith) in omega arith)
-    ((λ j. loses (sym c.deref.ensures.value j) (paths_below (sym wider.items j)) (lone_rooms c.put_lone_in.new.spare)) ∙ c.put_lone_in.ensures.room)
-
-pub gain-returns-then-len-gt-FEW-clause-paths : goal.gain-returns-then-len-gt-FEW-clause-paths
-gain-returns-then-len-gt-FEW-clause-paths t c =
-    gained-place _ c.args.gained.now c.args.set.now
-    (elim c.if-gained.branch [
-      | gain-then-gained w ↦ w.here-is ∙ w.if-gained.true ∙ sym (ap (λ b. b || (out-Trie c.args.set.now).here) w.if-gained.true)
-      | gain-else-gained w ↦ w.here-is ∙ sym (ap (λ b. b || (out-Trie c.args.set.now).here) w.if-gained.false)
+      | gain_each-then-gained w ↦ w.here-is ∙ w.if-gained.true ∙ sym (ap (λ b. b || (out-Trie c.args.set.now).here) w.if-gained.true)
+      | gain_each-else-gained w ↦ w.here-is ∙ sym (ap (λ b. b || (out-Trie c.args.set.now).here) w.if-gained.false)
     ])
     (λ p. c.weave_in.ensures.gathered.paths_are p
-    ∙ ap (λ l. is_one_of (paths_below l) p || is_one_of (paths_below (out-Trie c.args.set.now).below.items) p) c.deref-then-len-gt-FEW.ensures.value)
+    ∙ ap (λ l. is_one_of (paths_below l) p || is_one_of (paths_below (out-Trie c.args.set.now).below.items) p) c.deref.ensures.value)
 
-pub gain-returns-then-len-gt-FEW-clause-trie : goal.gain-returns-then-len-gt-FEW-clause-trie
-gain-returns-then-len-gt-FEW-clause-trie t c = is_trie-made _ c.weave_in.ensures.gathered.risen c.weave_in.ensures.gathered.tries
+pub gain_each-returns-then-len-gt-FEW-clause-trie : goal.gain_each-returns-then-len-gt-FEW-clause-trie
+gain_each-returns-then-len-gt-FEW-clause-trie t c = is_trie-made _ c.weave_in.ensures.gathered.risen c.weave_in.ensures.gathered.tries
 
-pub gain-returns-then-len-gt-FEW-clause-room : goal.gain-returns-then-len-gt-FEW-clause-room
-gain-returns-then-len-gt-FEW-clause-room t c =
+pub gain_each-returns-then-len-gt-FEW-clause-room : goal.gain_each-returns-then-len-gt-FEW-clause-room
+gain_each-returns-then-len-gt-FEW-clause-room t c =
     let below = (out-Trie c.args.set.now).below in
     let len = below.ok.0 in
     let most = below.ok.1 in
     let left = c.weave_in.ensures.left in
-    lose-held c.args.gained.now c.args.set.now _ _ (each-out _ _) c.requires.set c.weave_in.ensures.empty (λ lt. omega arith)
-    (ap (λ l. loses l (paths_below below.items) c.weave_in.new.rooms.items) (sym c.deref-then-len-gt-FEW.ensures.value) ∙ c.weave_in.ensures.room)
+    lose-held c.args.gained.now c.args.set.now _ _ (each-out _ _) c.requires.set c.weave_in.ensures.empty (λ lt. refl) (λ lt. omega arith)
+    (ap (λ l. loses l (paths_below below.items) c.weave_in.new.rooms.items) (sym c.deref.ensures.value) ∙ c.weave_in.ensures.room)
 
-pub gain-returns-else-len-capacity-clause-paths : goal.gain-returns-else-len-capacity-clause-paths
-gain-returns-else-len-capacity-clause-paths t c =
-    let same = c.exchange_where_wider-else-len-capacity.ensures.items in
+pub gain_each-returns-else-len-capacity-clause-paths : goal.gain_each-returns-else-len-capacity-clause-paths
+gain_each-returns-else-len-capacity-clause-paths t c =
+    let same = c.exchange_where_wider.ensures.items in
     gained-place _ c.args.gained.now c.args.set.now
     (elim c.if-gained.branch [
-      | gain-then-gained w ↦ w.here-is ∙ w.if-gained.true ∙ sym (ap (λ b. b || (out-Trie c.args.set.now).here) w.if-gained.true)
-      | gain-else-gained w ↦ w.here-is ∙ sym (ap (λ b. b || (out-Trie c.args.set.now).here) w.if-gained.false)
+      | gain_each-then-gained w ↦ w.here-is ∙ w.if-gained.true ∙ sym (ap (λ b. b || (out-Trie c.args.set.now).here) w.if-gained.true)
+      | gain_each-else-gained w ↦ w.here-is ∙ sym (ap (λ b. b || (out-Trie c.args.set.now).here) w.if-gained.false)
     ])
     (λ p. c.put_each_in.ensures.gathered.paths_are p
     ∙ (λ j. is_one_of (paths_below (c.deref-else-len-capacity.ensures.value j)) p || is_one_of (paths_below (same j)) p))
 
-pub gain-returns-else-len-capacity-clause-trie : goal.gain-returns-else-len-capacity-clause-trie
-gain-returns-else-len-capacity-clause-trie t c = is_trie-made _ c.put_each_in.ensures.gathered.risen c.put_each_in.ensures.gathered.tries
+pub gain_each-returns-else-len-capacity-clause-trie : goal.gain_each-returns-else-len-capacity-clause-trie
+gain_each-returns-else-len-capacity-clause-trie t c = is_trie-made _ c.put_each_in.ensures.gathered.risen c.put_each_in.ensures.gathered.tries
 
-pub gain-returns-else-len-capacity-clause-room : goal.gain-returns-else-len-capacity-clause-room
-gain-returns-else-len-capacity-clause-room t c =
-    let own = gain-own c.args.gained.now c.args.set.now c.args.room.now c.requires.set c.requires.room in
+pub gain_each-returns-else-len-capacity-clause-room : goal.gain_each-returns-else-len-capacity-clause-room
+gain_each-returns-else-len-capacity-clause-room t c =
+    let own = gain-own c.args.gained.now c.args.set.now _ c.requires.set c.requires.room in
     let below = (out-Trie c.args.set.now).below in
     let len = below.ok.0 in
-    let is = is-each c.args.room.now _ _ _ _ c.in-Each.is c.in-Each.children-is c.in-Each.rooms-is in
+    let is = each-out c.args.children.now c.args.rooms.now in
     let wide = ap width is in
-    let wider = c.exchange_where_wider-else-len-capacity.ensures in
-    lose-held c.args.gained.now c.args.set.now _ _ (each-out _ _) c.requires.set wider.empty
+    let wider = c.exchange_where_wider.ensures in
+    lose-held c.args.gained.now c.args.set.now _ _ (each-out _ _) c.requires.set wider.empty (λ lt. refl)
     (λ lt. let fits = own.fits lt in let left = wider.room (omega arith) in omega arith)
     ((λ j. loses (sym c.deref-else-len-capacity.ensures.value j) (paths_below (sym wider.items j)) c.put_each_in.new.rooms.items) ∙ c.put_each_in.ensures.room)

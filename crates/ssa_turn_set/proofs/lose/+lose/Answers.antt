@@ -7,46 +7,39 @@ use Rattle.ssa_path.specs.Trie.{are_filled_tries, paths, paths_below, is_one_of}
 use Rattle.ssa_path.proofs.Levels.{is_trie-made, trie-parts}
 use Rattle.ssa_path.proofs.Lists.{left-at}
 use Rattle.ssa_path.proofs.Orders.{both_first, both_second}
-use Rattle.ssa_turn_set.specs.declared.room.Room.TheViews.{out-Room}
-use Rattle.ssa_turn_set.specs.Room.{gain_room, lone_rooms, lose_room, loses, own_children, rooms_of, serves, width}
+use Rattle.ssa_turn_set.specs.declared.room.Room.TheVariants.{Each}
+use Rattle.ssa_turn_set.specs.Room.{gain_room, lose_room, loses, own_children, rooms_of, serves, width}
 use Rattle.ssa_turn_set.specs.Spare.{is_nothing}
 use Rattle.ssa_turn_set.specs.Siblings.{AreTaken}
 use Rattle.ssa_path.proofs.Kept.{kept-all}
 use Rattle.ssa_turn_set.proofs.Bare.{leaf-gain, lose-leaf}
-use Rattle.ssa_turn_set.proofs.Rooms.{each-out, is-each, is-lone, lone-out}
+use Rattle.ssa_turn_set.proofs.Rooms.{each-out}
 use Rattle.ssa_turn_set.proofs.Lone.{lone-child, lone-goes, lone-present, lone-stays}
 use Rattle.ssa_turn_set.proofs.Losing.{losing-within, losing-all, same-left, lost-place, lost-room, start-form, start-within, same-length, taken-same}
 use Rattle.ssa_turn_set.proofs.Passing.{passed-child, next-present, next-rises, passing-at, passing-more, passing-next, passing-none}
 use Rattle.ssa_turn_set.proofs.Places.{left-set}
-use Rattle.ssa_turn_set.proofs.lose.+lose.Goals.{lose-then-here, lose-else-here}
+use Rattle.ssa_turn_set.proofs.lose.+lose.Goals.{lose_each-then-here, lose_each-else-here}
 use Rattle.ssa_turn_set.proofs.lose.+lose.Goals as goal
-use Rattle.ssa_model.proofs.Basics.{and-true, both-true as both, not_true}
+use Rattle.ssa_model.proofs.Basics.{both-true as both, not_true}
 
 -- ---- the place
 
-pub lose-take_lone_out-requires : goal.lose-take_lone_out-requires
-lose-take_lone_out-requires t c =
+pub lose-lose_leaf-requires-clause-leaf : goal.lose-lose_leaf-requires-clause-leaf
+lose-lose_leaf-requires-clause-leaf t c =
+    lose-leaf c.args.lost.now c.requires.form.0 (ap (lose_room c.args.lost.now c.requires.form.0) (sym c.in-Nothing.is) ∙ c.requires.form.1)
+
+pub lose-returns-in-Nothing-clause-room : goal.lose-returns-in-Nothing-clause-room
+lose-returns-in-Nothing-clause-room t c k =
+    let none = lose-leaf c.args.lost.now c.requires.form.0 (ap (lose_room c.args.lost.now c.requires.form.0) (sym c.in-Nothing.is) ∙ c.requires.form.1) in
+    ap (gain_room c.args.lost.now _) c.in-Nothing.is ∙ leaf-gain c.args.lost.now none _
+
+pub lose_each-take_out-requires : goal.lose_each-take_out-requires
+lose_each-take_out-requires t c =
     let set = trie-parts c.args.set.now _ refl c.requires.set in
     let lost = trie-parts c.args.lost.now c.deref.result.now c.deref.ensures.value c.requires.lost in
-    let form = start-form c.args.lost.now c.requires.form.0 c.args.room.now c.requires.form.1 in
+    let form = start-form c.args.lost.now c.requires.form.0 _ c.requires.form.1 in
     let given = c.deref.ensures.value in
-    let is = is-lone c.args.room.now _ _ _ _ c.in-Lone.is c.in-Lone.children-is c.in-Lone.spare-is in
-    record {
-      rise = set.0;
-      tries = set.1;
-      lost_rise = lost.0;
-      lost_tries = lost.1;
-      within = λ p k. start-within c.args.lost.now c.args.set.now c.requires.within p (ap (λ l. is_one_of (paths_below l) p) (sym given) ∙ k);
-      form = (c.requires.form.0, (λ j. loses (given j) c.requires.form.0 (rooms_of (sym is j))) ∙ form.1);
-    }
-
-pub lose-take_out-requires : goal.lose-take_out-requires
-lose-take_out-requires t c =
-    let set = trie-parts c.args.set.now _ refl c.requires.set in
-    let lost = trie-parts c.args.lost.now c.deref-in-Each.result.now c.deref-in-Each.ensures.value c.requires.lost in
-    let form = start-form c.args.lost.now c.requires.form.0 c.args.room.now c.requires.form.1 in
-    let given = c.deref-in-Each.ensures.value in
-    let is = is-each c.args.room.now _ _ _ _ c.in-Each.is c.in-Each.children-is c.in-Each.rooms-is in (
+    let is = each-out c.args.children.now c.args.rooms.now in (
       search (rules, the_lemmas),
       (
         set.0,
@@ -66,109 +59,48 @@ lose-take_out-requires t c =
       ),
     )
 
-pub lose-exchange_where_short-requires : goal.lose-exchange_where_short-requires
-lose-exchange_where_short-requires t c =
-    let form = start-form c.args.lost.now c.requires.form.0 c.args.room.now c.requires.form.1 in
-    let is = is-lone c.args.room.now _ _ _ _ c.in-Lone.is c.in-Lone.children-is c.in-Lone.spare-is in
-    let told = c.len-before.ensures in
-    let most = (out-Trie c.args.set.now).below.ok.1 in
-    let capacity = c.take_lone_out.ensures.capacity in
-    record { empty = ap own_children (sym is) ∙ form.0; before = omega arith }
-
-pub lose-exchange_where_short-requires-in-Each : goal.lose-exchange_where_short-requires-in-Each
-lose-exchange_where_short-requires-in-Each t c =
-    let form = start-form c.args.lost.now c.requires.form.0 c.args.room.now c.requires.form.1 in
-    let is = is-each c.args.room.now _ _ _ _ c.in-Each.is c.in-Each.children-is c.in-Each.rooms-is in
+pub lose_each-exchange_where_short-requires : goal.lose_each-exchange_where_short-requires
+lose_each-exchange_where_short-requires t c =
+    let form = start-form c.args.lost.now c.requires.form.0 _ c.requires.form.1 in
     let told = c.len-before.ensures in
     let most = (out-Trie c.args.set.now).below.ok.1 in
     let capacity = c.take_out.ensures.capacity in
-    record { empty = ap own_children (sym is) ∙ form.0; before = omega arith }
+    record { empty = ap own_children (sym (each-out _ _)) ∙ form.0; before = omega arith }
 
-pub lose-returns-in-Nothing-clause-paths : goal.lose-returns-in-Nothing-clause-paths
-lose-returns-in-Nothing-clause-paths t c =
-    let own = (out-Trie c.args.set.now).below.items in
-    let none = lose-leaf c.args.lost.now c.requires.form.0 (ap (lose_room c.args.lost.now c.requires.form.0) (sym c.in-Nothing.is) ∙ c.requires.form.1) in
-    lost-place _ c.args.lost.now c.args.set.now
-    (elim c.if-here.branch [
-      | lose-then-here w ↦ w.here-is ∙ sym (ap (λ b. b && not (out-Trie c.args.lost.now).here) w.if-here.true)
-      | lose-else-here w ↦ w.here-is ∙ w.if-here.false ∙ sym (ap (λ b. b && not (out-Trie c.args.lost.now).here) w.if-here.false)
-    ])
-    (λ p. sym (and-true (is_one_of (paths_below own) p)) ∙ ap (λ l. is_one_of (paths_below own) p && not (is_one_of (paths_below l) p)) (sym none))
-
-pub lose-returns-in-Nothing-clause-room : goal.lose-returns-in-Nothing-clause-room
-lose-returns-in-Nothing-clause-room t c k =
-    let none = lose-leaf c.args.lost.now c.requires.form.0 (ap (lose_room c.args.lost.now c.requires.form.0) (sym c.in-Nothing.is) ∙ c.requires.form.1) in
-    ap (gain_room c.args.lost.now _) c.in-Nothing.is ∙ leaf-gain c.args.lost.now none _
-
-pub lose-returns-in-Lone-clause-paths : goal.lose-returns-in-Lone-clause-paths
-lose-returns-in-Lone-clause-paths t c =
-    let taken = c.take_lone_out.ensures.taken in
+pub lose_each-returns-clause-paths : goal.lose_each-returns-clause-paths
+lose_each-returns-clause-paths t c =
+    let taken = c.take_out.ensures.taken in
     let now = c.exchange_where_short.ensures.items in
     lost-place _ c.args.lost.now c.args.set.now
     (elim c.if-here.branch [
-      | lose-then-here w ↦ w.here-is ∙ sym (ap (λ b. b && not (out-Trie c.args.lost.now).here) w.if-here.true)
-      | lose-else-here w ↦ w.here-is ∙ w.if-here.false ∙ sym (ap (λ b. b && not (out-Trie c.args.lost.now).here) w.if-here.false)
+      | lose_each-then-here w ↦ w.here-is ∙ sym (ap (λ b. b && not (out-Trie c.args.lost.now).here) w.if-here.true)
+      | lose_each-else-here w ↦ w.here-is ∙ w.if-here.false ∙ sym (ap (λ b. b && not (out-Trie c.args.lost.now).here) w.if-here.false)
     ])
     (λ p. ap (λ l. is_one_of (paths_below l) p) now ∙ taken.paths_are p
     ∙ ap (λ l. is_one_of (paths_below (out-Trie c.args.set.now).below.items) p && not (is_one_of (paths_below l) p)) c.deref.ensures.value)
 
-pub lose-returns-in-Lone-clause-trie : goal.lose-returns-in-Lone-clause-trie
-lose-returns-in-Lone-clause-trie t c =
+pub lose_each-returns-clause-trie : goal.lose_each-returns-clause-trie
+lose_each-returns-clause-trie t c =
     let now = c.exchange_where_short.ensures.items in
-    is_trie-made _ (ap (λ l. rises (elements l)) now ∙ c.take_lone_out.ensures.taken.risen) (ap are_filled_tries now ∙ c.take_lone_out.ensures.taken.tries)
-
-pub lose-returns-in-Lone-clause-room : goal.lose-returns-in-Lone-clause-room
-lose-returns-in-Lone-clause-room t c =
-    let ds = (out-Trie c.args.lost.now).below.items in
-    let is = is-lone c.args.room.now _ _ _ _ c.in-Lone.is c.in-Lone.children-is c.in-Lone.spare-is in
-    let rs = rooms_of (out-Room c.args.room.now) in
-    let news = lone_rooms c.take_lone_out.new.spare in
-    let taken : AreTaken ds (out-Trie c.args.set.now).below.items rs c.exchange_where_short.new.items.items news =
-    taken-same _ ds _ _ _ _ rs news c.deref.ensures.value (ap rooms_of (sym is)) (sym c.exchange_where_short.ensures.items) c.take_lone_out.ensures.taken in
-    let old = (out-Trie c.args.set.now).below.ok.0 in
-    let told = c.len-before.ensures in
-    let now = c.take_lone_out.new.below.ok.0 in
-    let same = ap length c.exchange_where_short.ensures.items in
-    let wide = ap width is in
-    let counted = taken.len in
-    lost-room c.args.lost.now _ c.args.room.now _ _ (lone-out _ _) (lose-returns-in-Lone-clause-trie t c) c.exchange_where_short.ensures.empty
-    (λ fits. let left = c.exchange_where_short.ensures.room (omega arith) in omega arith)
-    taken.room
-
-pub lose-returns-in-Each-clause-paths : goal.lose-returns-in-Each-clause-paths
-lose-returns-in-Each-clause-paths t c =
-    let taken = c.take_out.ensures.taken in
-    let now = c.exchange_where_short-in-Each.ensures.items in
-    lost-place _ c.args.lost.now c.args.set.now
-    (elim c.if-here.branch [
-      | lose-then-here w ↦ w.here-is ∙ sym (ap (λ b. b && not (out-Trie c.args.lost.now).here) w.if-here.true)
-      | lose-else-here w ↦ w.here-is ∙ w.if-here.false ∙ sym (ap (λ b. b && not (out-Trie c.args.lost.now).here) w.if-here.false)
-    ])
-    (λ p. ap (λ l. is_one_of (paths_below l) p) now ∙ taken.paths_are p
-    ∙ ap (λ l. is_one_of (paths_below (out-Trie c.args.set.now).below.items) p && not (is_one_of (paths_below l) p)) c.deref-in-Each.ensures.value)
-
-pub lose-returns-in-Each-clause-trie : goal.lose-returns-in-Each-clause-trie
-lose-returns-in-Each-clause-trie t c =
-    let now = c.exchange_where_short-in-Each.ensures.items in
     is_trie-made _ (ap (λ l. rises (elements l)) now ∙ c.take_out.ensures.taken.risen) (ap are_filled_tries now ∙ c.take_out.ensures.taken.tries)
 
-pub lose-returns-in-Each-clause-room : goal.lose-returns-in-Each-clause-room
-lose-returns-in-Each-clause-room t c =
+pub lose_each-returns-clause-room : goal.lose_each-returns-clause-room
+lose_each-returns-clause-room t c =
     let ds = (out-Trie c.args.lost.now).below.items in
-    let is = is-each c.args.room.now _ _ _ _ c.in-Each.is c.in-Each.children-is c.in-Each.rooms-is in
-    let rs = rooms_of (out-Room c.args.room.now) in
+    let is = each-out c.args.children.now c.args.rooms.now in
     let news = c.take_out.new.rooms.items in
-    let taken : AreTaken ds (out-Trie c.args.set.now).below.items rs c.exchange_where_short-in-Each.new.items.items news =
-    taken-same _ ds _ _ _ _ rs news c.deref-in-Each.ensures.value (ap rooms_of (sym is)) (sym c.exchange_where_short-in-Each.ensures.items) c.take_out.ensures.taken in
+    let taken : AreTaken ds (out-Trie c.args.set.now).below.items c.args.rooms.now.items c.exchange_where_short.new.items.items news =
+    taken-same _ ds _ _ _ _ _ news c.deref.ensures.value refl (sym c.exchange_where_short.ensures.items) c.take_out.ensures.taken in
     let old = (out-Trie c.args.set.now).below.ok.0 in
     let told = c.len-before.ensures in
     let now = c.take_out.new.below.ok.0 in
-    let same = ap length c.exchange_where_short-in-Each.ensures.items in
+    let same = ap length c.exchange_where_short.ensures.items in
     let wide = ap width is in
     let counted = taken.len in
-    lost-room c.args.lost.now _ c.args.room.now _ _ (each-out _ _) (lose-returns-in-Each-clause-trie t c) c.exchange_where_short-in-Each.ensures.empty
-    (λ fits. let left = c.exchange_where_short-in-Each.ensures.room (omega arith) in omega arith)
-    taken.room
+    lost-room c.args.lost.now _ (Each c.args.children.now c.args.rooms.now) _ _ (each-out _ _) (lose_each-returns-clause-trie t c)
+    c.exchange_where_short.ensures.empty
+    (λ place fits. let left = c.exchange_where_short.ensures.room (omega arith) in (refl, omega arith))
+    (λ k. taken.room (ap (λ x. loses ds (paths_below c.exchange_where_short.new.items.items) (rooms_of x)) (sym is) ∙ k))
 
 -- ---- children taken out one after the other
 

@@ -15,13 +15,16 @@ decreases-take_out-loop-i l = length l.lost - l.i
 
 -- a list of children is as deep as the deepest of them, and a child as its set: so each step from one function to another counts as well
 abbrev pub decreases-lose : goal.decreases-lose
-decreases-lose l = 4 * goal.size-lose l
+decreases-lose l = 5 * goal.size-lose l + 1
 
-abbrev pub decreases-take_one_out : goal.decreases-take_one_out
-decreases-take_one_out l = 4 * goal.size-take_one_out l + 2
-
-abbrev pub decreases-take_out : goal.decreases-take_out
-decreases-take_out l = 4 * goal.size-take_out l + 3
+abbrev pub decreases-lose_each : goal.decreases-lose_each
+decreases-lose_each l = 5 * goal.size-lose_each l
 
 abbrev pub decreases-lose_child : goal.decreases-lose_child
-decreases-lose_child l = 4 * goal.size-lose_child l + 1
+decreases-lose_child l = 5 * goal.size-lose_child l + 2
+
+abbrev pub decreases-take_one_out : goal.decreases-take_one_out
+decreases-take_one_out l = 5 * goal.size-take_one_out l + 3
+
+abbrev pub decreases-take_out : goal.decreases-take_out
+decreases-take_out l = 5 * goal.size-take_out l + 4
