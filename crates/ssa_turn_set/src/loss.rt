@@ -133,9 +133,9 @@ fn make_one_loss(
     let (child_has_all, goes) = make_place_loss(alloc, &child.1, place, room)?;
     let leaving = count_whole(place, goes);
     put_loss_above(alloc, goes, leaving, own.below.len(), room)?;
-    let mut has_both = own.here || !lost.here;
-    has_both &= child_has_all;
-    Ok((has_both, goes_whole(own, lost, leaving)))
+    let mut has_all = own.here || !lost.here;
+    has_all &= child_has_all;
+    Ok((has_all, goes_whole(own, lost, leaving)))
 }
 
 // The same as `make_place_loss` tells, where any number of children is lost.

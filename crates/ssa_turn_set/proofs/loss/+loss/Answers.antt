@@ -165,9 +165,9 @@ make_one_loss-returns-clause-all t c has =
     let here : (out-Trie c.args.lost.now).here ≡ true → (out-Trie c.args.own.now).here ≡ true =
     elim c.if-own.branch [
       | make_one_loss-then-own w ↦ λ k. w.if-own.true
-      | make_one_loss-else-own w ↦ λ k. absurd (true≢false (sym k ∙ not_true _ (sym w.has_both-is ∙ both_first _ _ has)))
+      | make_one_loss-else-own w ↦ λ k. absurd (true≢false (sym k ∙ not_true _ (sym w.has_all-is ∙ both_first _ _ has)))
     ] in
     within-all c.args.lost.now c.args.own.now cs ds refl refl here
     (subst (λ l. AreWithin l ds) (take_all 1 cs (omega arith))
     (has-more cs ds 0 d (paths c.place_or-place.result.now) (omega arith) c.index-child.ensures own.0 filled behind
-    (c.in_ok-child_has_all.ensures.all (both_second c.if-own.has_both _ has)) (λ e p k. absurd (true≢false (sym k)))))
+    (c.in_ok-child_has_all.ensures.all (both_second c.if-own.has_all _ has)) (λ e p k. absurd (true≢false (sym k)))))
