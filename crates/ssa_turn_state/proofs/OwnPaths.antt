@@ -1,5 +1,5 @@
 -- The paths of a tree are read from their texts where each element is one of the program's, and the moments of entries are moments.
-use Rattle.std.proofs.Common.{◌≡◌, ℕ, ◌+◌, ◌<◌, List, [], ◌∷◌, ◌++◌, length, get_or, take, Bool, true, false, ◌&&◌, ◌||◌, cond, Option, Some, None, refl, sym, ap, subst, ◌∙◌, true≢false}
+use Rattle.std.proofs.Common.{◌≡◌, ℕ, ◌+◌, ◌<◌, List, [], ◌∷◌, ◌++◌, length, get_or, take, Bool, true, false, ◌&&◌, ◌||◌, cond, Option, Some, None, refl, sym, ap, subst, ◌∙◌, true≢false, rules}
 use Rattle.std.proofs.lemmas.List.{map-append}
 use Rattle.std.specs.Prelude.{is_some, Ok}
 use Rattle.ssa_model.specs.definitions.Body.{Content}
@@ -20,7 +20,8 @@ use Rattle.ssa_path.proofs.OwnTexts.{own-text-is-read}
 use Rattle.ssa_merge.specs.Managers.{entry_view, table_view}
 use Rattle.ssa_merge.specs.declared.managers.Entry.{Entry}
 use Rattle.ssa_typed.specs.Rows.{rows, rows_below, under_element, content_at, own_content, body_of}
-use Rattle.ssa_typed.specs.declared.node.Node.{Node}
+use Rattle.ssa_typed.specs.declared.node.Leaf.{Leaf}
+use Rattle.ssa_typed.specs.declared.node.Node.{Node, Leaf as LeafNode, the_lemmas}
 use Rattle.ssa_typed.proofs.Looks.{get-body}
 use Rattle.ssa_typed.proofs.Lookups.{or_else, content_at-append, content_at-under}
 use Rattle.ssa_model.proofs.Fitting.{same_element-true}
@@ -83,6 +84,10 @@ pub tree-read : (n : Node) (cs : List (Elem × Node)) → rows n ≡ ([], own_co
 tree-read n cs is h [] there = tt
 tree-read n cs is h (e ∷ p) there =
     children-read cs e p h (sym (ap is_some (get-body n (e ∷ p) ∙ ap (λ rs. content_at rs (e ∷ p)) is)) ∙ there)
+
+-- the one path of a leaf is read
+pub leaf-read : (n : Node) (l : Leaf) → n ≡ LeafNode l → HasReadPaths readings (body_of n)
+leaf-read n l is = subst (λ m. HasReadPaths readings (body_of m)) (sym is) (tree-read (LeafNode l) [] (search (rules, the_lemmas)) tt)
 
 -- ---- moments
 
