@@ -146,3 +146,33 @@ fn names_stand_in_the_order_of_their_bytes(rt: HostRuntime) -> Result<(), Fail> 
     assert!(rt; are_rising(alloc, collected(alloc)?)?);
     Ok(())
 }
+
+// Whether the number under the name is found, whatever the place at which it is looked for first.
+fn is_found_near(members: &Members<Json>, name: &str, number: i64) -> bool {
+    for place in 0..12 {
+        let mut near = place;
+        match members.get_near(&mut near, name) {
+            Some(Json::Scalar(Scalar::Int(found))) if *found == number => {}
+            _ => return false,
+        }
+    }
+    true
+}
+
+// Whether each number is found so.
+fn are_found_near(members: &Members<Json>) -> bool {
+    for (name, number) in MIXED {
+        if !is_found_near(members, name, number) {
+            return false;
+        }
+    }
+    true
+}
+
+#[test]
+fn names_are_found_from_each_place(rt: HostRuntime) -> Result<(), Fail> {
+    let members = collected(rt.alloc())?;
+    assert!(rt; are_found_near(&members));
+    assert!(rt; members.get_near(&mut 0, "specz").is_none());
+    Ok(())
+}
