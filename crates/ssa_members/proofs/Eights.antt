@@ -1,11 +1,13 @@
 -- Texts that are compared a word at a time.
 use Rattle.std.proofs.Common.{◌≡◌, ℕ, ◌+◌, ◌-◌, ◌<◌, ◌≤◌, List, length, get_or, take, drop, Bool, true, false, bytes_eq, refl, sym, ap, subst, ◌∙◌, ⊎_elim, true≢false, Equal, arith}
+use Rattle.std.proofs.Common.{nat_eq, eqb-true, eq-eqb}
 use Rattle.std.proofs.lemmas.Bool.{cases_lt}
 use Rattle.std.proofs.lemmas.Bool.Decides.{same_from_decides}
 use Rattle.std.proofs.lemmas.Cmp.{nat_list_cmp_total}
 use Rattle.std.proofs.lemmas.List.{drop-take, ext_get_or, get_or-drop, get_or-take, length-take-le, take-take}
 use Rattle.std.specs.Cmp.{tied_itself}
 use Rattle.std.specs.Cmp.Lexicographic.{bytes_decides, slice_cmp}
+use Rattle.std.specs.Int.{Width, from_le_bytes, to_le_bytes}
 use Rattle.std.specs.Ordering.{nat_cmp}
 
 -- texts of the same bytes are told the same
@@ -27,6 +29,15 @@ told-apart a d apart = by (bytes_eq a d) refl
     by : (b : Bool) → bytes_eq a d ≡ b → false ≡ b
     by true e = absurd (apart ((bytes_decides a d).0 e))
     by false e = refl
+
+-- numbers that are told back from their bytes are the same where the bytes are
+pub told-by_words : (w : Width) (m n : ℕ) (bs cs : List ℕ) → to_le_bytes w m ≡ bs → to_le_bytes w n ≡ cs → from_le_bytes w (to_le_bytes w m) ≡ m
+    → from_le_bytes w (to_le_bytes w n) ≡ n → nat_eq m n ≡ bytes_eq bs cs
+told-by_words w m n bs cs own others back other_back = same_from_decides (nat_eq m n) _ (
+  λ same. sym own ∙ ap (to_le_bytes w) (eqb-true m n same) ∙ others,
+  λ same. eq-eqb m n (sym back ∙ ap (from_le_bytes w) (own ∙ same ∙ sym others) ∙ other_back),
+)
+    (bytes_decides bs cs)
 
 module _ (w : ℕ) (a d : List ℕ) where
   -- so many bytes from a place on are the same

@@ -36,11 +36,6 @@ pub each-out : (v : Vec (Elem × Trie) Global) (rs : Vec (Spare × Room) Global)
 unfolding roll-Room denote.Hole.Carrier.roll
 each-out v rs = out-roll-Room (Room-F.Each v rs)
 
--- what a room of one kind is, told of parts that are equal to its own
-pub is-each : (r : Room) (v w : Vec (Elem × Trie) Global) (rs ts : Vec (Spare × Room) Global) → r ≡ room.Each v rs → w ≡ v → ts ≡ rs
-    → out-Room r ≡ Room-F.Each w ts
-is-each r v w rs ts is children rooms = ap out-Room is ∙ each-out v rs ∙ (λ i. Room-F.Each (sym children i) (sym rooms i))
-
 -- ---- one level
 
 freshes-map : {A B : Type 0} (f : A → B) (ds : List (Elem × A)) (ps : List Path) → freshes (map (λ d. (d.0, f d.1)) ds) ps ≡ freshes ds ps

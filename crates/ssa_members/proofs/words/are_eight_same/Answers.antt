@@ -1,18 +1,9 @@
-use Rattle.std.proofs.Common.{take, drop, nat_eq, eqb-true, eq-eqb, sym, ap, ◌∙◌}
-use Rattle.std.proofs.lemmas.Bool.Decides.{same_from_decides}
 use Rattle.std.proofs.lemmas.Nat.{from_le_bytes-to_le_bytes_8}
-use Rattle.std.specs.Cmp.Lexicographic.{bytes_decides}
-use Rattle.std.specs.Int.{from_le_bytes, to_le_bytes, w64}
+use Rattle.std.specs.Int.{w64}
+use Rattle.ssa_members.proofs.Eights.{told-by_words}
 use Rattle.ssa_members.proofs.words.are_eight_same.Goals as goal
 
 pub returns : goal.returns
 returns c =
-    let own = c.eight_at.result in
-    let others = c.eight_at-2.result in
-    same_from_decides (nat_eq own others) _ (
-      λ same. sym c.eight_at.ensures ∙ ap (to_le_bytes w64) (eqb-true own others same) ∙ c.eight_at-2.ensures,
-      λ same. eq-eqb own others (sym (from_le_bytes-to_le_bytes_8 own c.eight_at.type_inv)
-          ∙ ap (from_le_bytes w64) (c.eight_at.ensures ∙ same ∙ sym c.eight_at-2.ensures)
-          ∙ from_le_bytes-to_le_bytes_8 others c.eight_at-2.type_inv),
-    )
-    (bytes_decides (take 8 (drop c.args.i c.args.bytes.now)) (take 8 (drop c.args.i c.args.others.now)))
+    told-by_words w64 _ _ _ _ c.eight_at.ensures c.eight_at-2.ensures
+    (from_le_bytes-to_le_bytes_8 _ c.eight_at.type_inv) (from_le_bytes-to_le_bytes_8 _ c.eight_at-2.type_inv)

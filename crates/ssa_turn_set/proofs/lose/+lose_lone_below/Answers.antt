@@ -1,4 +1,5 @@
-use Rattle.std.proofs.Common.{rules, ◌≡◌, ◌-◌, ◌&&◌, true, false, not, suc, ℕ, ap, sym, refl, ◌∙◌, length, get_or-set_same, arith}
+use Rattle.std.proofs.Common.{rules, ◌≡◌, ◌-◌, ◌+◌, ◌&&◌, true, false, not, suc, ℕ, [], ◌∷◌, ◌++◌, ap, sym, refl, ◌∙◌, arith}
+use Rattle.std.proofs.Common.{length, set, take, drop, get_or-set_same}
 use Rattle.ssa_path.specs.declared.trie.Trie.TheViews.{out-Trie}
 use Rattle.ssa_path.specs.declared.element.Elem.{Elem}
 use Rattle.ssa_path.specs.declared.trie.Trie.{Trie, the_lemmas}
@@ -7,13 +8,22 @@ use Rattle.ssa_path.specs.Trie.{are_filled_tries, is_filled, is_one_of, paths_be
 use Rattle.ssa_path.specs.View.{element_view}
 use Rattle.ssa_path.proofs.Levels.{is_trie-made, trie-parts}
 use Rattle.ssa_turn_set.specs.declared.room.Room.TheVariants.{Lone}
-use Rattle.ssa_turn_set.specs.Room.{lone_rooms, loses, own_children, rooms_of, width}
+use Rattle.ssa_turn_set.specs.declared.spare.Spare.TheVariants.{Kept, Nothing}
+use Rattle.ssa_turn_set.specs.Room.{children, lone_rooms, loses, own_children, rooms_of, width}
 use Rattle.ssa_turn_set.specs.Siblings.{AreTaken}
 use Rattle.ssa_turn_set.proofs.LoneStaying.{fewer, lose-back, lose-goes, lose-inner, lose-one, lose-present, lose-short, lose-stays}
 use Rattle.ssa_turn_set.proofs.Losing.{lost-place, lost-room, start-form, start-within, taken-same}
 use Rattle.ssa_turn_set.proofs.Rooms.{lone-at, lone-out}
-use Rattle.ssa_turn_set.proofs.lose.+lose_lone_below.Goals.{then-own, else-own}
+use Rattle.ssa_turn_set.proofs.lose.+lose_lone_below.Goals.{then-own, else-own, After-has_paths, Else-above-eq0, Joined-own}
 use Rattle.ssa_turn_set.proofs.lose.+lose_lone_below.Goals as goal
+
+-- the place's own path goes where it is lost
+own-goes : (t : ℕ) (c : Joined-own t) → c.if-own.own ≡ ((out-Trie c.args.set.now).here && not (out-Trie c.args.lost.now).here)
+own-goes t c =
+    elim c.if-own.branch [
+      | then-own w ↦ w.own-is ∙ sym (ap (λ b. b && not (out-Trie c.args.lost.now).here) w.if-own.true)
+      | else-own w ↦ w.own-is ∙ w.if-own.false ∙ sym (ap (λ b. b && not (out-Trie c.args.lost.now).here) w.if-own.false)
+    ]
 
 -- ---- the child that goes, or stays
 
@@ -42,10 +52,7 @@ returns-then-above-eq0-clause-paths t c =
     let taken = c.take_lone_out.ensures.taken in
     let now = c.exchange_where_short.ensures.items in
     lost-place _ c.args.lost.now c.args.set.now
-    (elim c.if-own.branch [
-      | then-own w ↦ w.own-is ∙ sym (ap (λ b. b && not (out-Trie c.args.lost.now).here) w.if-own.true)
-      | else-own w ↦ w.own-is ∙ w.if-own.false ∙ sym (ap (λ b. b && not (out-Trie c.args.lost.now).here) w.if-own.false)
-    ])
+    (own-goes t (goal.at.returns-then-above-eq0-clause-paths t c).Joined-own)
     (λ p. ap (λ l. is_one_of (paths_below l) p) now ∙ taken.paths_are p
     ∙ ap (λ l. is_one_of (paths_below (out-Trie c.args.set.now).below.items) p && not (is_one_of (paths_below l) p)) c.deref.ensures.value)
 
@@ -78,9 +85,14 @@ returns-then-above-eq0-clause-room t c =
 next : (n : ℕ) → ¬ (n ≡ 0) → suc (n - 1) ≡ n
 next n some = omega arith
 
+-- the lost set has one child there
+one-child : (t : ℕ) (c : Else-above-eq0 t) → length (children c.args.lost.now) ≡ 1
+one-child t c =
+    lose-one _ _ _ _ (next _ c.if-above-eq0.false) _ _ c.requires.lost c.requires.set c.requires.within _ c.requires.form.1
+
 pub index-child-requires : goal.index-child-requires
 index-child-requires t c =
-    let one = lose-one c.args.lost.now c.args.set.now _ _ (next _ c.if-above-eq0.false) _ _ c.requires.lost c.requires.set c.requires.within c.requires.form.0 c.requires.form.1 in
+    let one = one-child t (goal.at.index-child-requires t c).Else-above-eq0 in
     let len = (out-Trie c.args.lost.now).below.ok.0 in
     omega arith
 
@@ -89,118 +101,84 @@ place_of-place-requires-clause-rise t c = (trie-parts c.args.set.now c.deref-2.r
 
 pub place_of-place-requires-clause-present : goal.place_of-place-requires-clause-present
 place_of-place-requires-clause-present t c none =
-    lose-present c.args.lost.now c.args.set.now _ _ (next _ c.if-above-eq0.false) _ _ c.requires.lost c.requires.set c.requires.within c.requires.form.0 c.requires.form.1
+    lose-present _ _ _ _ (next _ c.if-above-eq0.false) _ _ c.requires.lost c.requires.set c.requires.within _ c.requires.form.1
     c.index-child.result.now c.index-child.ensures
     (ap (child_at (element_view c.index-child.result.now.0)) (sym c.deref-2.ensures.value) ∙ none)
 
 pub lose_lone_below-requires : goal.lose_lone_below-requires
 lose_lone_below-requires t c =
-    let d = c.index-child.result.now in
-    let at : IsChildAt (element_view d.0) (out-Trie c.args.set.now).below.items c.place_of-place.result = rw c.deref-2.ensures.value at c.place_of-place.ensures in
-    let asked = lose-inner c.args.lost.now c.args.set.now _ _ (next _ c.if-above-eq0.false) _ _ c.requires.lost c.requires.set c.requires.within c.requires.form.0 c.requires.form.1
-    d c.index-child.ensures c.place_of-place.result c.index_mut.result.now at c.index_mut.ensures.value in
-    let one = lose-one c.args.lost.now c.args.set.now _ _ (next _ c.if-above-eq0.false) _ _ c.requires.lost c.requires.set c.requires.within c.requires.form.0 c.requires.form.1 in (
+    let asked = lose-inner _ _ _ _ (next _ c.if-above-eq0.false) _ _ c.requires.lost c.requires.set c.requires.within _ c.requires.form.1
+    c.index-child.result.now c.index-child.ensures c.place_of-place.result c.index_mut.result.now
+    (rw c.deref-2.ensures.value at c.place_of-place.ensures) c.index_mut.ensures.value in
+    let one = one-child t (goal.at.lose_lone_below-requires t c).Else-above-eq0 in (
       search (rules, the_lemmas),
       (asked.0, (asked.1, (asked.2, asked.3))),
     )
 
+-- ---- the child, once the rest is taken out below it
+
+-- it stands at the place that was found
+stands : (t : ℕ) (c : After-has_paths t) → IsChildAt (element_view c.index-child.result.now.0) (children c.args.set.now) c.place_of-place.result
+stands t c = rw c.deref-2.ensures.value at c.place_of-place.ensures
+
+-- it was asked whether it has some path left
+told : (t : ℕ) (c : After-has_paths t) → is_filled c.lose_lone_below.new.set ≡ c.has_paths.result
+told t c =
+    sym (ap (λ (x : Elem × Trie). is_filled x.1) (c.index.ensures ∙ get_or-set_same (children c.args.set.now) c.place_of-place.result
+    (c.index_mut.result.now.0, c.lose_lone_below.new.set) c.index.result.now (stands t c).within))
+    ∙ sym c.has_paths.ensures
+
+-- where it has, it stays among the others
+stays : (t : ℕ) (c : After-has_paths t) → c.has_paths.result ≡ true → AreTaken (children c.args.lost.now) (children c.args.set.now)
+    ((Nothing, Lone (c.args.above - 1) c.args.children.now c.args.spare.now) ∷ [])
+    (set (children c.args.set.now) c.place_of-place.result (c.index_mut.result.now.0, c.lose_lone_below.new.set))
+    ((Nothing, Lone (c.args.above - 1) c.lose_lone_below.new.children c.lose_lone_below.new.spare) ∷ [])
+stays t c some =
+    lose-stays _ _ _ _ (next _ c.if-above-eq0.false) _ _ c.requires.lost c.requires.set c.requires.within _ c.requires.form.1
+    _ c.index-child.ensures _ _ (stands t c) c.index_mut.ensures.value
+    _ _ _ c.lose_lone_below.ensures.paths c.lose_lone_below.ensures.trie c.lose_lone_below.ensures.room (told t c ∙ some)
+
+-- where it has none, it goes
+goes : (t : ℕ) (c : After-has_paths t) → c.has_paths.result ≡ false → AreTaken (children c.args.lost.now) (children c.args.set.now)
+    ((Nothing, Lone (c.args.above - 1) c.args.children.now c.args.spare.now) ∷ [])
+    (take c.place_of-place.result (set (children c.args.set.now) c.place_of-place.result (c.index_mut.result.now.0, c.lose_lone_below.new.set))
+    ++ drop (c.place_of-place.result + 1) (set (children c.args.set.now) c.place_of-place.result (c.index_mut.result.now.0, c.lose_lone_below.new.set)))
+    ((Kept c.index-child.result.now.0, Lone (c.args.above - 1) c.lose_lone_below.new.children c.lose_lone_below.new.spare) ∷ [])
+goes t c none =
+    lose-goes _ _ _ _ (next _ c.if-above-eq0.false) _ _ c.requires.lost c.requires.set c.requires.within _ c.requires.form.1
+    _ c.index-child.ensures _ _ (stands t c) c.index_mut.ensures.value
+    _ _ _ c.lose_lone_below.ensures.paths c.lose_lone_below.ensures.trie c.lose_lone_below.ensures.room (told t c ∙ none)
+
 pub returns-else-not-has_paths-clause-paths : goal.returns-else-not-has_paths-clause-paths
 returns-else-not-has_paths-clause-paths t c =
-    let d = c.index-child.result.now in
-    let at : IsChildAt (element_view d.0) (out-Trie c.args.set.now).below.items c.place_of-place.result = rw c.deref-2.ensures.value at c.place_of-place.ensures in
-    let below = c.lose_lone_below.ensures in
-    let told : is_filled c.lose_lone_below.new.set ≡ true =
-    sym (ap (λ (x : Elem × Trie). is_filled x.1) (c.index.ensures ∙ get_or-set_same (out-Trie c.args.set.now).below.items c.place_of-place.result
-    (c.index_mut.result.now.0, c.lose_lone_below.new.set) c.index.result.now at.within))
-    ∙ sym c.has_paths.ensures ∙ c.if-not-has_paths.false in
-    let taken = lose-stays c.args.lost.now c.args.set.now _ _ (next _ c.if-above-eq0.false) _ _ c.requires.lost c.requires.set c.requires.within c.requires.form.0 c.requires.form.1
-    d c.index-child.ensures c.place_of-place.result c.index_mut.result.now at c.index_mut.ensures.value
-    c.lose_lone_below.new.set c.lose_lone_below.new.children c.lose_lone_below.new.spare below.paths below.trie below.room told in
-    lost-place _ c.args.lost.now c.args.set.now
-    (elim c.if-own.branch [
-      | then-own w ↦ w.own-is ∙ sym (ap (λ b. b && not (out-Trie c.args.lost.now).here) w.if-own.true)
-      | else-own w ↦ w.own-is ∙ w.if-own.false ∙ sym (ap (λ b. b && not (out-Trie c.args.lost.now).here) w.if-own.false)
-    ])
-    taken.paths_are
+    lost-place _ c.args.lost.now c.args.set.now (own-goes t (goal.at.returns-else-not-has_paths-clause-paths t c).Joined-own)
+    (stays t (goal.at.returns-else-not-has_paths-clause-paths t c).After-has_paths c.if-not-has_paths.false).paths_are
 
 pub returns-else-not-has_paths-clause-trie : goal.returns-else-not-has_paths-clause-trie
 returns-else-not-has_paths-clause-trie t c =
-    let d = c.index-child.result.now in
-    let at : IsChildAt (element_view d.0) (out-Trie c.args.set.now).below.items c.place_of-place.result = rw c.deref-2.ensures.value at c.place_of-place.ensures in
-    let below = c.lose_lone_below.ensures in
-    let told : is_filled c.lose_lone_below.new.set ≡ true =
-    sym (ap (λ (x : Elem × Trie). is_filled x.1) (c.index.ensures ∙ get_or-set_same (out-Trie c.args.set.now).below.items c.place_of-place.result
-    (c.index_mut.result.now.0, c.lose_lone_below.new.set) c.index.result.now at.within))
-    ∙ sym c.has_paths.ensures ∙ c.if-not-has_paths.false in
-    let taken = lose-stays c.args.lost.now c.args.set.now _ _ (next _ c.if-above-eq0.false) _ _ c.requires.lost c.requires.set c.requires.within c.requires.form.0 c.requires.form.1
-    d c.index-child.ensures c.place_of-place.result c.index_mut.result.now at c.index_mut.ensures.value
-    c.lose_lone_below.new.set c.lose_lone_below.new.children c.lose_lone_below.new.spare below.paths below.trie below.room told in
+    let taken = stays t (goal.at.returns-else-not-has_paths-clause-trie t c).After-has_paths c.if-not-has_paths.false in
     is_trie-made _ taken.risen taken.tries
 
 pub returns-else-not-has_paths-clause-room : goal.returns-else-not-has_paths-clause-room
 returns-else-not-has_paths-clause-room t c k =
-    let d = c.index-child.result.now in
-    let at : IsChildAt (element_view d.0) (out-Trie c.args.set.now).below.items c.place_of-place.result = rw c.deref-2.ensures.value at c.place_of-place.ensures in
-    let below = c.lose_lone_below.ensures in
-    let told : is_filled c.lose_lone_below.new.set ≡ true =
-    sym (ap (λ (x : Elem × Trie). is_filled x.1) (c.index.ensures ∙ get_or-set_same (out-Trie c.args.set.now).below.items c.place_of-place.result
-    (c.index_mut.result.now.0, c.lose_lone_below.new.set) c.index.result.now at.within))
-    ∙ sym c.has_paths.ensures ∙ c.if-not-has_paths.false in
-    let taken = lose-stays c.args.lost.now c.args.set.now _ _ (next _ c.if-above-eq0.false) _ _ c.requires.lost c.requires.set c.requires.within c.requires.form.0 c.requires.form.1
-    d c.index-child.ensures c.place_of-place.result c.index_mut.result.now at c.index_mut.ensures.value
-    c.lose_lone_below.new.set c.lose_lone_below.new.children c.lose_lone_below.new.spare below.paths below.trie below.room told in
-    let whole = returns-else-not-has_paths-clause-trie t c in
-    lose-back c.args.lost.now _ _ _ (next _ c.if-above-eq0.false) c.args.children.now c.lose_lone_below.new.children c.args.spare.now c.lose_lone_below.new.spare
-    whole (out-Trie c.args.set.now).below.items taken k
+    lose-back _ _ _ _ (next _ c.if-above-eq0.false) _ _ _ _ (returns-else-not-has_paths-clause-trie t c) _
+    (stays t (goal.at.returns-else-not-has_paths-clause-room t c).After-has_paths c.if-not-has_paths.false) k
 
 pub returns-then-not-has_paths-clause-paths : goal.returns-then-not-has_paths-clause-paths
 returns-then-not-has_paths-clause-paths t c =
-    let d = c.index-child.result.now in
-    let at : IsChildAt (element_view d.0) (out-Trie c.args.set.now).below.items c.place_of-place.result = rw c.deref-2.ensures.value at c.place_of-place.ensures in
-    let below = c.lose_lone_below.ensures in
-    let told : is_filled c.lose_lone_below.new.set ≡ false =
-    sym (ap (λ (x : Elem × Trie). is_filled x.1) (c.index.ensures ∙ get_or-set_same (out-Trie c.args.set.now).below.items c.place_of-place.result
-    (c.index_mut.result.now.0, c.lose_lone_below.new.set) c.index.result.now at.within))
-    ∙ sym c.has_paths.ensures ∙ c.if-not-has_paths.true in
-    let taken = lose-goes c.args.lost.now c.args.set.now _ _ (next _ c.if-above-eq0.false) _ _ c.requires.lost c.requires.set c.requires.within c.requires.form.0 c.requires.form.1
-    d c.index-child.ensures c.place_of-place.result c.index_mut.result.now at c.index_mut.ensures.value
-    c.lose_lone_below.new.set c.lose_lone_below.new.children c.lose_lone_below.new.spare below.paths below.trie below.room told in
-    let removed = c.remove.ensures.by_index.2 in
-    lost-place _ c.args.lost.now c.args.set.now
-    (elim c.if-own.branch [
-      | then-own w ↦ w.own-is ∙ sym (ap (λ b. b && not (out-Trie c.args.lost.now).here) w.if-own.true)
-      | else-own w ↦ w.own-is ∙ w.if-own.false ∙ sym (ap (λ b. b && not (out-Trie c.args.lost.now).here) w.if-own.false)
-    ])
-    (λ p. ap (λ l. is_one_of (paths_below l) p) removed ∙ taken.paths_are p)
+    let taken = goes t (goal.at.returns-then-not-has_paths-clause-paths t c).After-has_paths c.if-not-has_paths.true in
+    lost-place _ c.args.lost.now c.args.set.now (own-goes t (goal.at.returns-then-not-has_paths-clause-paths t c).Joined-own)
+    (λ p. ap (λ l. is_one_of (paths_below l) p) c.remove.ensures.by_index.2 ∙ taken.paths_are p)
 
 pub returns-then-not-has_paths-clause-trie : goal.returns-then-not-has_paths-clause-trie
 returns-then-not-has_paths-clause-trie t c =
-    let d = c.index-child.result.now in
-    let at : IsChildAt (element_view d.0) (out-Trie c.args.set.now).below.items c.place_of-place.result = rw c.deref-2.ensures.value at c.place_of-place.ensures in
-    let below = c.lose_lone_below.ensures in
-    let told : is_filled c.lose_lone_below.new.set ≡ false =
-    sym (ap (λ (x : Elem × Trie). is_filled x.1) (c.index.ensures ∙ get_or-set_same (out-Trie c.args.set.now).below.items c.place_of-place.result
-    (c.index_mut.result.now.0, c.lose_lone_below.new.set) c.index.result.now at.within))
-    ∙ sym c.has_paths.ensures ∙ c.if-not-has_paths.true in
-    let taken = lose-goes c.args.lost.now c.args.set.now _ _ (next _ c.if-above-eq0.false) _ _ c.requires.lost c.requires.set c.requires.within c.requires.form.0 c.requires.form.1
-    d c.index-child.ensures c.place_of-place.result c.index_mut.result.now at c.index_mut.ensures.value
-    c.lose_lone_below.new.set c.lose_lone_below.new.children c.lose_lone_below.new.spare below.paths below.trie below.room told in
+    let taken = goes t (goal.at.returns-then-not-has_paths-clause-trie t c).After-has_paths c.if-not-has_paths.true in
     let removed = c.remove.ensures.by_index.2 in
     is_trie-made _ (ap (λ l. rises (elements l)) removed ∙ taken.risen) (ap are_filled_tries removed ∙ taken.tries)
 
 pub returns-then-not-has_paths-clause-room : goal.returns-then-not-has_paths-clause-room
 returns-then-not-has_paths-clause-room t c k =
-    let d = c.index-child.result.now in
-    let at : IsChildAt (element_view d.0) (out-Trie c.args.set.now).below.items c.place_of-place.result = rw c.deref-2.ensures.value at c.place_of-place.ensures in
-    let below = c.lose_lone_below.ensures in
-    let told : is_filled c.lose_lone_below.new.set ≡ false =
-    sym (ap (λ (x : Elem × Trie). is_filled x.1) (c.index.ensures ∙ get_or-set_same (out-Trie c.args.set.now).below.items c.place_of-place.result
-    (c.index_mut.result.now.0, c.lose_lone_below.new.set) c.index.result.now at.within))
-    ∙ sym c.has_paths.ensures ∙ c.if-not-has_paths.true in
-    let taken = lose-goes c.args.lost.now c.args.set.now _ _ (next _ c.if-above-eq0.false) _ _ c.requires.lost c.requires.set c.requires.within c.requires.form.0 c.requires.form.1
-    d c.index-child.ensures c.place_of-place.result c.index_mut.result.now at c.index_mut.ensures.value
-    c.lose_lone_below.new.set c.lose_lone_below.new.children c.lose_lone_below.new.spare below.paths below.trie below.room told in
-    let removed = c.remove.ensures.by_index.2 in
-    let whole = returns-then-not-has_paths-clause-trie t c in
-    absurd (lose-short c.args.lost.now _ _ _ (next _ c.if-above-eq0.false) c.args.children.now c.lose_lone_below.new.children c.args.spare.now c.lose_lone_below.new.spare
-    whole (out-Trie c.args.set.now).below.items _ _ _ removed taken (fewer _ c.place_of-place.result _ at.within) k)
+    let after = (goal.at.returns-then-not-has_paths-clause-room t c).After-has_paths in
+    absurd (lose-short _ _ _ _ (next _ c.if-above-eq0.false) _ c.lose_lone_below.new.children _ c.lose_lone_below.new.spare
+    (returns-then-not-has_paths-clause-trie t c) _ _ _ _ c.remove.ensures.by_index.2 (goes t after c.if-not-has_paths.true)
+    (fewer _ c.place_of-place.result _ (stands t after).within) k)

@@ -1,4 +1,4 @@
-use Rattle.std.proofs.Common.{◌≡◌, ◌∷◌, [], refl, length, ap, sym, ◌∙◌, take, arith, rules}
+use Rattle.std.proofs.Common.{◌≡◌, ℕ, ◌∷◌, [], refl, length, ap, sym, ◌∙◌, take, arith, rules}
 use Rattle.std.proofs.lemmas.List.{take_all}
 use Rattle.ssa_path.specs.declared.trie.Trie.{the_lemmas}
 use Rattle.ssa_path.specs.Trie.{paths, paths_below}
@@ -15,6 +15,7 @@ use Rattle.ssa_turn_set.proofs.RoomsOfOne.{one-gained}
 use Rattle.ssa_turn_set.proofs.Shared.{shared, shared-one-more, there}
 use Rattle.ssa_turn_set.proofs.Staying.{stale}
 use Rattle.ssa_turn_set.proofs.Telling.{all-told, fresh-most, goes-once, whole-there}
+use Rattle.ssa_turn_set.proofs.making.+gain_room.Goals.{make_one_gain-After-count_whole-going}
 use Rattle.ssa_turn_set.proofs.making.+gain_room.Goals as goal
 use Rattle.ssa_model.proofs.Basics.{both-true as both}
 
@@ -98,64 +99,63 @@ make_one_gain-place_or-place-requires-clause-rise t c = (trie-parts c.args.own.n
 pub make_one_gain-place_or-gone-requires-clause-rise : goal.make_one_gain-place_or-gone-requires-clause-rise
 make_one_gain-place_or-gone-requires-clause-rise t c = (trie-parts c.args.lost.now c.deref-2.result.now c.deref-2.ensures.value c.requires.lost).0
 
-pub make_one_gain-make_gain_children-requires-clause-coming : goal.make_one_gain-make_gain_children-requires-clause-coming
-make_one_gain-make_gain_children-requires-clause-coming t c =
-    let d = c.index-child.result.now in
-    let e = element_view d.0 in
-    let place = c.place_or-place.result.now in
-    let gone = c.place_or-gone.result.now in
-    let new = left (paths c.args.own.now) (paths c.args.lost.now) in
-    let all : children c.args.gained.now ≡ d ∷ [] = alone _ d c.requires.one c.index-child.ensures in
-    let behind : tails e new ≡ left (paths place) (paths gone) =
-    left-behind c.args.own.now c.args.lost.now e (paths place) (paths gone) c.requires.lost
+-- behind the child's element is left what its place has without what goes there
+behind : (t : ℕ) (c : make_one_gain-After-count_whole-going t)
+    → tails (element_view c.index-child.result.now.0) (left (paths c.args.own.now) (paths c.args.lost.now))
+    ≡ left (paths c.place_or-place.result.now) (paths c.place_or-gone.result.now)
+behind t c =
+    let e = element_view c.index-child.result.now.0 in
+    left-behind c.args.own.now c.args.lost.now e (paths c.place_or-place.result.now) (paths c.place_or-gone.result.now) c.requires.lost
     (c.place_or-place.ensures.paths ∙ ap (λ l. tails e (paths_below l)) c.deref.ensures.value)
-    (c.place_or-gone.ensures.paths ∙ ap (λ l. tails e (paths_below l)) c.deref-2.ensures.value) in
-    let one : c.from-comes.result ≡ fresh (tails e new) =
-    c.from-comes.ensures ∙ goes-once _ (paths place) (paths gone) c.in_ok-goes.ensures.goes ∙ ap fresh (sym behind) in
+    (c.place_or-gone.ensures.paths ∙ ap (λ l. tails e (paths_below l)) c.deref-2.ensures.value)
+
+-- the child is counted where nothing is left behind its element
+comes : (t : ℕ) (c : make_one_gain-After-count_whole-going t)
+    → c.from-comes.result ≡ fresh (tails (element_view c.index-child.result.now.0) (left (paths c.args.own.now) (paths c.args.lost.now)))
+comes t c =
+    c.from-comes.ensures ∙ goes-once _ (paths c.place_or-place.result.now) (paths c.place_or-gone.result.now) c.in_ok-goes.ensures.goes
+    ∙ ap fresh (sym (behind t c))
+
+-- and it is the only one that can come
+all-comes : (t : ℕ) (c : make_one_gain-After-count_whole-going t)
+    → c.from-comes.result ≡ freshes (children c.args.gained.now) (left (paths c.args.own.now) (paths c.args.lost.now))
+all-comes t c =
+    let d = c.index-child.result.now in
+    let new = left (paths c.args.own.now) (paths c.args.lost.now) in
+    let one = comes t c in
     let once : c.from-comes.result ≡ freshes (d ∷ []) new = omega arith in
-    once ∙ ap (λ l. freshes l new) (sym all)
+    once ∙ ap (λ l. freshes l new) (sym (alone _ d c.requires.one c.index-child.ensures))
+
+pub make_one_gain-make_gain_children-requires-clause-coming : goal.make_one_gain-make_gain_children-requires-clause-coming
+make_one_gain-make_gain_children-requires-clause-coming t c = all-comes t c
 
 pub make_one_gain-make_gain_children-requires-clause-going : goal.make_one_gain-make_gain_children-requires-clause-going
 make_one_gain-make_gain_children-requires-clause-going t c =
     let d = c.index-child.result.now in
     let e = element_view d.0 in
     let place = c.place_or-place.result.now in
-    let gone = c.place_or-gone.result.now in
     let ds = children c.args.own.now in
     let new = left (paths c.args.own.now) (paths c.args.lost.now) in
-    let all : children c.args.gained.now ≡ d ∷ [] = alone _ d c.requires.one c.index-child.ensures in
-    let at = c.place_or-place.ensures.paths ∙ ap (λ l. tails e (paths_below l)) c.deref.ensures.value in
-    let behind : tails e new ≡ left (paths place) (paths gone) =
-    left-behind c.args.own.now c.args.lost.now e (paths place) (paths gone) c.requires.lost at
-    (c.place_or-gone.ensures.paths ∙ ap (λ l. tails e (paths_below l)) c.deref-2.ensures.value) in
     let own = trie-parts c.args.own.now ds refl c.requires.own in
     let leaves : c.count_whole-going.result ≡ there (child_at e ds) (fresh (tails e new)) =
     c.count_whole-going.ensures.one
-    ∙ whole-there e ds place _ (left (paths place) (paths gone)) own.0 own.1 at c.in_ok-goes.ensures.goes
-    ∙ ap (λ l. there (child_at e ds) (fresh l)) (sym behind) in
+    ∙ whole-there e ds place _ (left (paths place) (paths c.place_or-gone.result.now)) own.0 own.1
+    (c.place_or-place.ensures.paths ∙ ap (λ l. tails e (paths_below l)) c.deref.ensures.value) c.in_ok-goes.ensures.goes
+    ∙ ap (λ l. there (child_at e ds) (fresh l)) (sym (behind t c)) in
     let once : c.count_whole-going.result ≡ shared (stale new) (d ∷ []) ds = omega arith in
     all-told c.args.gained.now c.args.own.now c.args.lost.now c.count_whole-going.result c.requires.gained c.requires.own c.requires.lost
-    (once ∙ ap (λ l. shared (stale new) l ds) (sym all))
+    (once ∙ ap (λ l. shared (stale new) l ds) (sym (alone _ d c.requires.one c.index-child.ensures)))
 
 pub make_one_gain-returns-clause-room : goal.make_one_gain-returns-clause-room
 make_one_gain-returns-clause-room t c =
+    let after = (goal.at.make_one_gain-returns-clause-room t c).After-count_whole-going in
     let d = c.index-child.result.now in
-    let e = element_view d.0 in
-    let place = c.place_or-place.result.now in
-    let gone = c.place_or-gone.result.now in
     let new = left (paths c.args.own.now) (paths c.args.lost.now) in
-    let all : children c.args.gained.now ≡ d ∷ [] = alone _ d c.requires.one c.index-child.ensures in
-    let behind : tails e new ≡ left (paths place) (paths gone) =
-    left-behind c.args.own.now c.args.lost.now e (paths place) (paths gone) c.requires.lost
-    (c.place_or-place.ensures.paths ∙ ap (λ l. tails e (paths_below l)) c.deref.ensures.value)
-    (c.place_or-gone.ensures.paths ∙ ap (λ l. tails e (paths_below l)) c.deref-2.ensures.value) in
-    let one : c.from-comes.result ≡ fresh (tails e new) =
-    c.from-comes.ensures ∙ goes-once _ (paths place) (paths gone) c.in_ok-goes.ensures.goes ∙ ap fresh (sym behind) in
-    let once : c.from-comes.result ≡ freshes (d ∷ []) new = omega arith in
-    let counted : c.from-comes.result ≡ freshes (children c.args.gained.now) new = once ∙ ap (λ l. freshes l new) (sym all) in
+    let counted : c.from-comes.result ≡ freshes (children c.args.gained.now) new = all-comes t after in
     let made = c.in_ok-put_gain_above.ensures in
-    one-gained c.args.gained.now new d made.rooms.0 c.make_place_gain.new.room c.put_gain_above.new.room all made.rooms.1 made.own
+    one-gained c.args.gained.now new d made.rooms.0 c.make_place_gain.new.room c.put_gain_above.new.room
+    (alone _ d c.requires.one c.index-child.ensures) made.rooms.1 made.own
     (λ lt. made.place (omega arith))
     (λ lt. let fits = c.in_ok-children.ensures.fits (omega arith) in let wide = made.wide (omega arith) in omega arith)
-    (made.rooms.2 (tails e new) one)
-    (ap (λ l. gain_room d.1 l c.make_place_gain.new.room) behind ∙ c.in_ok-goes.ensures.room)
+    (made.rooms.2 (tails (element_view d.0) new) (comes t after))
+    (ap (λ l. gain_room d.1 l c.make_place_gain.new.room) (behind t after) ∙ c.in_ok-goes.ensures.room)
