@@ -209,7 +209,7 @@ impl<V> Members<V> {
     /// The value under a name, which is looked for first at a place and behind it: names that are asked for as they rise
     /// stand there.
     ///
-    /// The place then is the one behind the name's. What is told does not depend on it.
+    /// Where it stands there, the place becomes the one behind it, and else stays. What is told does not depend on it.
     pub fn get_near(&self, near: &mut usize, name: &str) -> Option<&V>
         ensures value { option_copied result ≡ get self.now name.now }
     {
