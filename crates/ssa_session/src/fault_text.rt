@@ -11,6 +11,7 @@ ghost use Rattle.ssa_session.specs.Replies.{bench_json, clashes_json, conflict_j
 use crate::entry_fault_text::push_entry_fault;
 use crate::fault_line::{push_code, push_code_at, push_members};
 use crate::json_text::push_string;
+use crate::reply_text::FIRST_ROOM;
 use ssa_bench::fault::Fault;
 use ssa_json::fault_code::FaultCode;
 use ssa_json::write::push_comma;
@@ -19,9 +20,6 @@ use ssa_path::field_set::FieldSet;
 use ssa_path::path_text::push_paths;
 use ssa_schema::body_fault::BodyFault;
 use std::alloc::{AllocError, Global};
-
-// The bytes that a refusal has room for from the start, which most need.
-const FIRST_ROOM: usize = 240;
 
 // Appends a manager that a command clashes with, and its fields.
 fn push_clash(

@@ -18,7 +18,7 @@ use ssa_path::path_text::push_paths;
 use std::alloc::{AllocError, Global};
 
 // The bytes that a reply has room for from the start, which most replies need.
-const FIRST_ROOM: usize = 240;
+pub(crate) const FIRST_ROOM: usize = 240;
 
 /// The reply to a command that makes a state: what it changes.
 pub fn changed_text(alloc: Global, word: &str, changed: &Changed) -> Result<Vec<u8>, AllocError>

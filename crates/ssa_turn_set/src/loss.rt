@@ -14,7 +14,7 @@ ghost use Rattle.ssa_turn_set.specs.declared.room.Room.TheViews.{out-Room};
 ghost use Rattle.ssa_turn_set.specs.declared.spare.Spare.TheVariants.{Nothing};
 
 use crate::kept_paths::KeptPaths;
-use crate::making::{combine_exactly, is_lowered, make_children, put_above};
+use crate::making::{combine_exactly, lower_lone, make_children, put_above};
 use crate::room::Room;
 use crate::spare::Spare;
 use crate::turn::{SetDelta, SetRoom};
@@ -100,7 +100,7 @@ fn put_loss_above(
     ensures place { IfOk result (λ _. goes ≡ true → has_place (out-Room room.new) ≡ true) }
     ensures fits { IfOk result (λ _. goes ≡ true → leaving < len → len ≤ width (out-Room room.new)) }
 {
-    if !goes && is_lowered(room) {
+    if !goes && lower_lone(room) {
         return Ok(());
     }
     let children = make_children(alloc, usize::from(goes), leaving, len)?;

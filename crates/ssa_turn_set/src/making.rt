@@ -62,9 +62,10 @@ pub(crate) fn make_children(
     Vec::with_capacity(alloc, len)
 }
 
-// Takes the room for one child one place further down. Another room, or one that is too far down already, stays as it is.
+// Takes the room for one child one place further down, and tells whether it did: another room, or one that is too far
+// down already, stays as it is.
 #[inline(always)]
-pub(crate) fn is_lowered(room: &mut Room) -> bool
+pub(crate) fn lower_lone(room: &mut Room) -> bool
     ensures lowered { result ≡ true → rooms_of (out-Room room.new) ≡ (Nothing, room.old) ∷ [] }
     ensures own { own_children (out-Room room.new) ≡ own_children (out-Room room.old) }
     ensures same { result ≡ false → room.new ≡ room.old }
@@ -226,7 +227,7 @@ fn put_gain_above(
     ensures place { IfOk result (λ _. 0 < comes → has_place (out-Room room.new) ≡ true) }
     ensures wide { IfOk result (λ _. 0 < comes → vec_capacity children ≤ width (out-Room room.new)) }
 {
-    if comes == 0 && is_lowered(room) {
+    if comes == 0 && lower_lone(room) {
         return Ok(());
     }
     let spare = make_spare_for(alloc, element, comes)?;
