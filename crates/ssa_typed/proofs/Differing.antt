@@ -1,8 +1,8 @@
 -- The walk over two trees that tells how they differ.
-use Rattle.std.proofs.Common.{◌≡◌, ℕ, ◌+◌, inl, inr, List, [], ◌∷◌, drop, Bool, true, false, not, ◌&&◌, Option, Some, None, Less, Equal, Greater, Vec, Global, refl, sym, ap, subst, ◌∙◌}
+use Rattle.std.proofs.Common.{◌≡◌, ℕ, ◌+◌, inl, inr, List, [], ◌∷◌, drop, Bool, true, false, not, ◌&&◌, Option, Some, None, Less, Equal, Greater, Vec, Global, refl, sym, ap, subst, ◌∙◌, true≢false}
 use Rattle.std.specs.Prelude.{is_some, slice_get}
 use Rattle.ssa_model.specs.definitions.Path.{Element, Path, same_path}
-use Rattle.ssa_model.specs.definitions.PathMap.{PathSet, get, has, paths as set_paths, listed}
+use Rattle.ssa_model.specs.definitions.PathMap.{PathSet, empty, get, has, paths as set_paths, listed}
 use Rattle.ssa_model.specs.definitions.Body.{Body, Content, leaf, atom, record_branch, dict_branch, list_branch, is_other_leaf, points, added, modified, removed}
 use Rattle.ssa_model.proofs.PathMaps.{has-paths, has-set_of, same_sets}
 use Rattle.ssa_path.specs.Children.{elements, heads_order, is_below}
@@ -14,18 +14,22 @@ use Rattle.ssa_path.specs.Trie.{is_one_of, paths}
 use Rattle.ssa_path.specs.View.{element_view}
 use Rattle.ssa_path.proofs.Levels.{any-made, is_trie-made, one-made-root, same_path-reading}
 use Rattle.ssa_path.proofs.Orders.{both_second}
-use Rattle.ssa_typed.specs.Differences.{Difference, Added, Modified, Removed, differs, differs_here, differs_below, differs_at, told_of_lost, told_of_new, AreDiffering, AreToldBoth, IsDiffering, IsDifference, IsToldAlone, IsToldBoth}
+use Rattle.ssa_typed.specs.Differences.{Difference, Added, Modified, Removed, differs, differs_here, differs_below, differs_at, told_of_lost, told_of_new, AreDiffering, AreToldBoth, IsDiffering, IsDifference, IsToldAlone, IsToldBoth, IsToldLost}
 use Rattle.ssa_typed.specs.InOrder.{IsInOrder}
+use Rattle.ssa_typed.specs.Over.{IsOver}
 use Rattle.ssa_typed.specs.Points.{point_in, collects_of, is_in_dict, is_point_of}
 use Rattle.ssa_typed.specs.Rows.{rows, below, content_at, body_of, is_tree}
 use Rattle.ssa_typed.specs.declared.compare.PartsBelow.{PartsBelow}
+use Rattle.ssa_typed.specs.declared.compare.Scope.{Scope}
+use Rattle.ssa_typed.specs.declared.compare.Scope.TheVariants.{Whole, Part}
 use Rattle.ssa_typed.specs.declared.node.Node.{Node}
-use Rattle.ssa_typed.specs.declared.points.Collected.TheVariants.{Points, All}
+use Rattle.ssa_typed.specs.declared.points.Collected.TheVariants.{Points}
 use Rattle.ssa_typed.proofs.Collecting.{point-level}
 use Rattle.ssa_typed.proofs.Lookups.{content-level, content-root}
 use Rattle.ssa_typed.proofs.Looks.{get-body}
 use Rattle.ssa_typed.proofs.Making.{TellsNothing, IsMaking, making-all, making-more, making-skip, front-own, front-other, front-both}
 use Rattle.ssa_typed.proofs.References.{left-read}
+use Rattle.ssa_typed.proofs.Repeating.{RepeatChildren, repeat-past-both, repeat-past-lost}
 use Rattle.ssa_typed.proofs.Stands.{points-body}
 use Rattle.ssa_model.proofs.Lists.{has-listed}
 use Rattle.ssa_model.proofs.Basics.{and-true as and_true, and-false as and_false}
@@ -45,20 +49,23 @@ pub tells-nothing : (what : Difference) (d : Bool) → TellsNothing (differs wha
 tells-nothing Added d e [] = refl
 tells-nothing Added d e (f ∷ p) = refl
 tells-nothing Modified d e p = refl
-tells-nothing Removed d e p = refl
+tells-nothing (Removed Whole) d e p = refl
+tells-nothing (Removed Part) d e p = refl
 
 lost-differs : (what : Difference) (d : Bool) (e : Element) (c : Node) (p : Path)
     → collects_of (told_of_lost what) d e (Some c) p ≡ differs what d e (Some c) None p
 lost-differs Added d e c [] = refl
 lost-differs Added d e c (f ∷ p) = refl
 lost-differs Modified d e c p = sym (other-none (content_at (rows c) p))
-lost-differs Removed d e c p = sym (and_true _)
+lost-differs (Removed Whole) d e c p = sym (and_true _)
+lost-differs (Removed Part) d e c p = refl
 
 new-differs : (what : Difference) (d : Bool) (e : Element) (c : Node) (p : Path)
     → collects_of (told_of_new what) d e (Some c) p ≡ differs what d e None (Some c) p
 new-differs Added d e c p = sym (and_true _)
 new-differs Modified d e c p = refl
-new-differs Removed d e c p = refl
+new-differs (Removed Whole) d e c p = refl
+new-differs (Removed Part) d e c p = refl
 
 -- ---- what differs at and below two nodes
 
@@ -67,12 +74,14 @@ module _ (n m : Node) (before : is_tree n ≡ true) (after : is_tree m ≡ true)
   pub differs-level : (what : Difference) (d : Bool) (e f : Element) (p : Path) → differs what d e (Some n) (Some m) (f ∷ p) ≡ differs_below what n m f p
   differs-level Added d e f p = (λ i. point-level m after d e f p i && not (is_some (content-level n f p before i)))
   differs-level Modified d e f p = (λ i. is_other_leaf (content-level n f p before i) (content-level m f p after i))
-  differs-level Removed d e f p = (λ i. is_some (content-level n f p before i) && not (is_some (content-level m f p after i)))
+  differs-level (Removed Part) d e f p = refl
+  differs-level (Removed Whole) d e f p = (λ i. is_some (content-level n f p before i) && not (is_some (content-level m f p after i)))
 
 differs-root : (n m : Node) (what : Difference) (d : Bool) (e : Element) → differs what d e (Some n) (Some m) [] ≡ differs_here what n m
 differs-root n m Added d e = ap (λ o. point_in d e (Some m) [] && not (is_some o)) (content-root n) ∙ and_false _
 differs-root n m Modified d e = (λ i. is_other_leaf (content-root n i) (content-root m i))
-differs-root n m Removed d e = (λ i. is_some (content-root n i) && not (is_some (content-root m i)))
+differs-root n m (Removed Part) d e = refl
+differs-root n m (Removed Whole) d e = (λ i. is_some (content-root n i) && not (is_some (content-root m i)))
 
 -- a place over what differs below it
 pub difference-made : (what : Difference) (n m : Node) (x : Trie-F Trie) → x.here ≡ differs_here what n m → IsDiffering what n m x.below.items
@@ -191,60 +200,79 @@ module _ (what : Difference) (d : Bool) (cs0 ds0 : List (Elem × Node)) where
 
 -- ---- all that is told, by one walk
 
+-- a child that only the tree before has is passed, with what is removed by a whole tree or by a part
+comparing-removed : (scope : Scope) (d : Bool) (cs0 ds0 : List (Elem × Node)) (i j : ℕ) (c : Elem × Node) (out new : List (Elem × Trie))
+    → heads_order (drop i cs0) (drop j ds0) ≡ Some Less → slice_get cs0 i ≡ Some c → IsToldLost scope d c out new
+    → IsComparing (Removed scope) d cs0 ds0 (drop i cs0) (drop j ds0) out → IsComparing (Removed scope) d cs0 ds0 (drop (i + 1) cs0) (drop j ds0) new
+comparing-removed Whole d cs0 ds0 i j c out new order is told h = comparing-lost (Removed Whole) d cs0 ds0 i j c out new order is told h
+comparing-removed Part d cs0 ds0 i j c out new order is same h =
+    subst (IsComparing (Removed Part) d cs0 ds0 (drop (i + 1) cs0) (drop j ds0)) (sym same)
+    (comparing-past-lost (Removed Part) d cs0 ds0 i j c out order is refl h)
+
 -- so far all three are told: what is added, modified and removed
-pub record AreComparing (d : Bool) (cs0 ds0 cs ds : List (Elem × Node)) (told : PartsBelow) : Type 0 where
+pub record AreComparing (scope : Scope) (d : Bool) (cs0 ds0 cs ds : List (Elem × Node)) (told : PartsBelow) : Type 0 where
   -- what is added among the children passed
   pub added_so_far : IsComparing Added d cs0 ds0 cs ds told.added.items
   -- what is modified among them
   pub modified_so_far : IsComparing Modified d cs0 ds0 cs ds told.modified.items
   -- what is removed among them
-  pub removed_so_far : IsComparing Removed d cs0 ds0 cs ds told.removed.items
+  pub removed_so_far : IsComparing (Removed scope) d cs0 ds0 cs ds told.removed.items
+  -- where the flag still stands, all the children stay as they are if those that are left do
+  pub repeats_so_far : told.repeats ≡ true → RepeatChildren cs ds → RepeatChildren cs0 ds0
 
 -- the children of a trie, as the program holds them
 abbrev Tries : Type 0
 Tries = Vec (Elem × Trie) Global
 
-module _ (d : Bool) (cs0 ds0 : List (Elem × Node)) (i j : ℕ) (old : PartsBelow) (h : AreComparing d cs0 ds0 (drop i cs0) (drop j ds0) old) where
-  -- a lost child is passed: more is removed
+module _ (scope : Scope) (d : Bool) (cs0 ds0 : List (Elem × Node)) (i j : ℕ) (old : PartsBelow)
+    (h : AreComparing scope d cs0 ds0 (drop i cs0) (drop j ds0) old) where
+  -- a lost child is passed: more is removed, unless the tree after is a part
   pub past-lost : (c : Elem × Node) (new : Tries) → heads_order (drop i cs0) (drop j ds0) ≡ Some Less → slice_get cs0 i ≡ Some c
-      → IsToldAlone (Some All) d c old.removed.items new.items
-      → AreComparing d cs0 ds0 (drop (i + 1) cs0) (drop j ds0) (record old { removed = new })
+      → IsToldLost scope d c old.removed.items new.items
+      → AreComparing scope d cs0 ds0 (drop (i + 1) cs0) (drop j ds0) (record old { removed = new })
   past-lost c new order is told = record {
     added_so_far = comparing-past-lost Added d cs0 ds0 i j c old.added.items order is refl h.added_so_far;
     modified_so_far = comparing-past-lost Modified d cs0 ds0 i j c old.modified.items order is refl h.modified_so_far;
-    removed_so_far = comparing-lost Removed d cs0 ds0 i j c old.removed.items new.items order is told h.removed_so_far;
+    removed_so_far = comparing-removed scope d cs0 ds0 i j c old.removed.items new.items order is told h.removed_so_far;
+    repeats_so_far = λ all rest.
+        h.repeats_so_far all (repeat-past-lost cs0 ds0 i j h.added_so_far.own_rise h.added_so_far.others_rise c order is rest);
   }
 
   -- a new child is passed: more is added
   pub past-new : (c : Elem × Node) (new : Tries) → heads_order (drop i cs0) (drop j ds0) ≡ Some Greater → slice_get ds0 j ≡ Some c
       → IsToldAlone (Some Points) d c old.added.items new.items
-      → AreComparing d cs0 ds0 (drop i cs0) (drop (j + 1) ds0) (record old { added = new })
+      → AreComparing scope d cs0 ds0 (drop i cs0) (drop (j + 1) ds0) (record old { added = new; repeats = false })
   past-new c new order is told = record {
     added_so_far = comparing-new Added d cs0 ds0 i j c old.added.items new.items order is told h.added_so_far;
     modified_so_far = comparing-past-new Modified d cs0 ds0 i j c old.modified.items order is refl h.modified_so_far;
-    removed_so_far = comparing-past-new Removed d cs0 ds0 i j c old.removed.items order is refl h.removed_so_far;
+    removed_so_far = comparing-past-new (Removed scope) d cs0 ds0 i j c old.removed.items order is refl h.removed_so_far;
+    repeats_so_far = λ all rest. absurd (true≢false (sym all));
   }
 
   -- a child of both trees is passed, with all that is told of it
   pub past-both : (c b : Elem × Node) (new : PartsBelow)
       → heads_order (drop i cs0) (drop j ds0) ≡ Some Equal → slice_get cs0 i ≡ Some c → slice_get ds0 j ≡ Some b
-      → is_tree c.1 ≡ true → is_tree b.1 ≡ true → AreToldBoth c b.1 old new
-      → AreComparing d cs0 ds0 (drop (i + 1) cs0) (drop (j + 1) ds0) new
-  past-both c b new order is_c is_b before after told = record {
+      → is_tree c.1 ≡ true → is_tree b.1 ≡ true → AreToldBoth scope c b.1 old new
+      → (new.repeats ≡ true → (old.repeats ≡ true) × IsOver c.1 b.1 c.1)
+      → AreComparing scope d cs0 ds0 (drop (i + 1) cs0) (drop (j + 1) ds0) new
+  past-both c b new order is_c is_b before after told repeats = record {
     added_so_far = comparing-both Added d cs0 ds0 i j c b old.added.items new.added.items order is_c is_b before after told.added_told h.added_so_far;
     modified_so_far = comparing-both Modified d cs0 ds0 i j c b old.modified.items new.modified.items order is_c is_b before after told.modified_told
         h.modified_so_far;
-    removed_so_far = comparing-both Removed d cs0 ds0 i j c b old.removed.items new.removed.items order is_c is_b before after told.removed_told
+    removed_so_far = comparing-both (Removed scope) d cs0 ds0 i j c b old.removed.items new.removed.items order is_c is_b before after told.removed_told
         h.removed_so_far;
+    repeats_so_far = λ all rest.
+        let both = repeats all in
+        h.repeats_so_far both.0 (repeat-past-both cs0 ds0 i j h.added_so_far.own_rise h.added_so_far.others_rise c b order is_c is_b both.1 rest);
   }
 
 -- where no child is left, all that differs below the two nodes is told
-pub past-all : (d : Bool) (cs0 ds0 : List (Elem × Node)) (n m : Node) (cs ds : List (Elem × Node)) (v : PartsBelow) → d ≡ is_in_dict m
-    → IsInOrder (below n) cs0 → IsInOrder (below m) ds0 → cs ≡ [] → ds ≡ [] → AreComparing d cs0 ds0 cs ds v → AreDiffering n m v
-past-all d cs0 ds0 n m cs ds v is own other none_own none_other h = record {
+pub past-all : (scope : Scope) (d : Bool) (cs0 ds0 : List (Elem × Node)) (n m : Node) (cs ds : List (Elem × Node)) (v : PartsBelow) → d ≡ is_in_dict m
+    → IsInOrder (below n) cs0 → IsInOrder (below m) ds0 → cs ≡ [] → ds ≡ [] → AreComparing scope d cs0 ds0 cs ds v → AreDiffering scope n m v
+past-all scope d cs0 ds0 n m cs ds v is own other none_own none_other h = record {
   added_below = comparing-all Added d cs0 ds0 n m cs ds v.added.items is own other none_own none_other h.added_so_far;
   modified_below = comparing-all Modified d cs0 ds0 n m cs ds v.modified.items is own other none_own none_other h.modified_so_far;
-  removed_below = comparing-all Removed d cs0 ds0 n m cs ds v.removed.items is own other none_own none_other h.removed_so_far;
+  removed_below = comparing-all (Removed scope) d cs0 ds0 n m cs ds v.removed.items is own other none_own none_other h.removed_so_far;
 }
 
 -- ---- THE BRIDGE: the comparison of the bodies that the trees stand for
@@ -253,7 +281,8 @@ past-all d cs0 ds0 n m cs ds v is own other none_own none_other h = record {
 abbrev pub difference_of : Difference → Body → Body → PathSet
 difference_of Added before after = added before after
 difference_of Modified before after = modified before after
-difference_of Removed before after = removed before after
+difference_of (Removed Whole) before after = removed before after
+difference_of (Removed Part) before after = empty
 
 leaf_there : (x y : Option Content) → (is_some x && is_other_leaf x y) ≡ is_other_leaf x y
 leaf_there None y = refl
@@ -264,7 +293,7 @@ has-difference : (what : Difference) (n m : Node) (q : Path) → has (difference
       | Added ↦ is_point_of (rows m) q && not (is_some (content_at (rows n) q))
       | Modified ↦ is_other_leaf (content_at (rows n) q)
           (content_at (rows m) q)
-      | Removed ↦ is_some (content_at (rows n) q) && not (is_some (content_at (rows m) q))
+      | Removed scope ↦ elim scope [ Whole ↦ is_some (content_at (rows n) q) && not (is_some (content_at (rows m) q)) | Part ↦ false ]
     ]
 has-difference Added n m q =
     has-set_of (set_paths (points (body_of m))) (λ p. not (has (body_of n) p)) q
@@ -273,7 +302,8 @@ has-difference Modified n m q =
     has-set_of (set_paths (body_of n)) (λ p. is_other_leaf (get (body_of n) p) (get (body_of m) p)) q
     ∙ ap (λ b. b && is_other_leaf (get (body_of n) q) (get (body_of m) q)) (sym (has-paths (body_of n) q))
     ∙ leaf_there (get (body_of n) q) (get (body_of m) q) ∙ (λ i. is_other_leaf (get-body n q i) (get-body m q i))
-has-difference Removed n m q =
+has-difference (Removed Part) n m q = refl
+has-difference (Removed Whole) n m q =
     has-set_of (set_paths (body_of n)) (λ p. not (has (body_of m) p)) q
     ∙ ap (λ b. b && not (has (body_of m) q)) (sym (has-paths (body_of n) q)) ∙ (λ i. is_some (get-body n q i) && not (is_some (get-body m q i)))
 
@@ -281,10 +311,12 @@ has-differing : (what : Difference) (n m : Node) → is_tree n ≡ true → is_t
     → has (difference_of what (body_of n) (body_of m)) q ≡ differs_at what n m q
 has-differing Added n m before after [] = has-difference Added n m []
 has-differing Modified n m before after [] = has-difference Modified n m [] ∙ (λ i. is_other_leaf (content-root n i) (content-root m i))
-has-differing Removed n m before after [] = has-difference Removed n m [] ∙ (λ i. is_some (content-root n i) && not (is_some (content-root m i)))
+has-differing (Removed Part) n m before after [] = refl
+has-differing (Removed Whole) n m before after [] = has-difference (Removed Whole) n m [] ∙ (λ i. is_some (content-root n i) && not (is_some (content-root m i)))
 has-differing Added n m before after (f ∷ p) = has-difference Added n m (f ∷ p) ∙ differs-level n m before after Added false f f p
 has-differing Modified n m before after (f ∷ p) = has-difference Modified n m (f ∷ p) ∙ differs-level n m before after Modified false f f p
-has-differing Removed n m before after (f ∷ p) = has-difference Removed n m (f ∷ p) ∙ differs-level n m before after Removed false f f p
+has-differing (Removed Part) n m before after (f ∷ p) = refl
+has-differing (Removed Whole) n m before after (f ∷ p) = has-difference (Removed Whole) n m (f ∷ p) ∙ differs-level n m before after (Removed Whole) false f f p
 
 -- the listed paths of the trie are the difference of the bodies
 pub difference-listed : (what : Difference) (n m : Node) (t : Trie) → is_tree n ≡ true → is_tree m ≡ true → IsDifference what n m t

@@ -23,6 +23,7 @@ pub mod Overlaying
 pub mod Pairs
 pub mod Reached
 pub mod References
+pub mod Repeating
 pub mod Restricting
 pub mod Rooted
 pub mod RootedBodies

@@ -32,7 +32,8 @@ use Rattle.ssa_model.proofs.Basics.{both-true as both, some≢none as some-none}
 
 -- ---- contents of one sort
 
-is_listing : Content → Bool
+-- the content is a list's
+unfoldable pub is_listing : Content → Bool
 is_listing (list_branch es) = true
 is_listing _ = false
 
@@ -55,7 +56,8 @@ leaf-alike (list_branch fs) record_branch h k = k
 leaf-alike (list_branch fs) dict_branch h k = k
 leaf-alike (list_branch fs) (list_branch es) h k = k
 
-list-alike : (c : Content) (es : List Element) → are_alike (Some c) (Some (list_branch es)) ≡ true → is_listing c ≡ true
+-- what is of one sort with a list is a list
+pub list-alike : (c : Content) (es : List Element) → are_alike (Some c) (Some (list_branch es)) ≡ true → is_listing c ≡ true
 unfolding is_listing
 list-alike (leaf s) es h = h
 list-alike (atom v) es h = h
@@ -63,14 +65,16 @@ list-alike record_branch es h = h
 list-alike dict_branch es h = h
 list-alike (list_branch fs) es h = refl
 
-record-alone : (c : Content) → are_alike (Some c) (Some record_branch) ≡ true → record_branch ≡ c
+-- what is of one sort with a record is a record
+pub record-alone : (c : Content) → are_alike (Some c) (Some record_branch) ≡ true → record_branch ≡ c
 record-alone (leaf s) h = absurd (true≢false (sym h))
 record-alone (atom v) h = absurd (true≢false (sym h))
 record-alone record_branch h = refl
 record-alone dict_branch h = absurd (true≢false (sym h))
 record-alone (list_branch es) h = absurd (true≢false (sym h))
 
-dict-alone : (c : Content) → are_alike (Some c) (Some dict_branch) ≡ true → dict_branch ≡ c
+-- what is of one sort with a Dict is a Dict
+pub dict-alone : (c : Content) → are_alike (Some c) (Some dict_branch) ≡ true → dict_branch ≡ c
 dict-alone (leaf s) h = absurd (true≢false (sym h))
 dict-alone (atom v) h = absurd (true≢false (sym h))
 dict-alone record_branch h = absurd (true≢false (sym h))
@@ -115,7 +119,8 @@ listing-made (Node-F.Branch v) k = absurd (true≢false (sym k))
 listing-made (Node-F.Dict v) k = absurd (true≢false (sym k))
 listing-made (Node-F.List v) k = refl
 
-order-made : (x : Node-F Node) → is_listing (content_of x) ≡ true → order_at (Some (content_of x)) ≡ elements (below_of x)
+-- the order of a list is that of its items
+pub order-made : (x : Node-F Node) → is_listing (content_of x) ≡ true → order_at (Some (content_of x)) ≡ elements (below_of x)
 order-made x k = ap (λ c. order_at (Some c)) (listing-made x k)
 
 rolled : (n : Node) → is_tree n ≡ true → is_tree (roll-Node (out-Node n)) ≡ true

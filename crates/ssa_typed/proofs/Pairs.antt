@@ -107,7 +107,8 @@ beside m cs ds i c d own apart same lt is other_is =
 
 -- ---- nothing is new
 
-none-pass : (test : Element → Bool) (es : List Element) → ((e : Element) → is_among e es ≡ true → test e ≡ false) → filter test es ≡ []
+-- where none of the elements passes the test, none is left
+pub none-pass : (test : Element → Bool) (es : List Element) → ((e : Element) → is_among e es ≡ true → test e ≡ false) → filter test es ≡ []
 none-pass test [] h = refl
 none-pass test (e ∷ es) h =
     ap (λ b. cond b (e ∷ filter test es) (filter test es)) (h e (true_or (same_element e e) (is_among e es) (same_element-itself e)))

@@ -17,6 +17,8 @@ use Rattle.ssa_typed.specs.Points.{content_in, point_in}
 use Rattle.ssa_typed.specs.Rows.{rows, below, content_at, is_tree}
 use Rattle.ssa_typed.specs.Same.{AreSame}
 use Rattle.ssa_typed.specs.declared.compare.PartsBelow.{PartsBelow}
+use Rattle.ssa_typed.specs.declared.compare.Scope.{Scope}
+use Rattle.ssa_typed.specs.declared.compare.Scope.TheVariants.{Whole, Part}
 use Rattle.ssa_typed.specs.declared.node.Node.{Node}
 use Rattle.ssa_typed.proofs.Differing.{difference_of}
 use Rattle.ssa_typed.proofs.Lookups.{content-level, content-root}
@@ -60,14 +62,15 @@ untold : (what : Difference) (in_dict : Bool) (e : Element) (c d : Option Node) 
     → differs what in_dict e c d p ≡ false
 untold Added in_dict e c d p h = no-new-point in_dict e d p (is_some (content_in c p)) (sym h.0)
 untold Modified in_dict e c d p h = h.1
-untold Removed in_dict e c d p h = both-or-neither (is_some (content_in c p)) (is_some (content_in d p)) h.0
+untold (Removed Whole) in_dict e c d p h = both-or-neither (is_some (content_in c p)) (is_some (content_in d p)) h.0
+untold (Removed Part) in_dict e c d p h = refl
 
 module _ (n m : Node) (before : is_tree n ≡ true) (after : is_tree m ≡ true) (h : AreUnchanged n m) where
   -- of unchanged trees nothing is told at the root
   pub nothing-here : (what : Difference) → false ≡ differs_here what n m
   nothing-here Added = refl
   nothing-here Modified = sym ((λ i. is_other_leaf (sym (content-root n) i) (sym (content-root m) i)) ∙ (h []).1)
-  nothing-here Removed = refl
+  nothing-here (Removed scope) = refl
 
   -- below unchanged trees nothing differs
   pub nothing-below : (what : Difference) (ts : List (Elem × Trie)) → ts ≡ [] → IsDiffering what n m ts
@@ -86,11 +89,11 @@ module _ (n m : Node) (before : is_tree n ≡ true) (after : is_tree m ≡ true)
   nothing-told what (e ∷ p) = sym ((nothing-below what [] refl).paths_are e p)
 
   -- so nothing comes of a child that is unchanged
-  pub nothing-grown : (f : Elem) (told : PartsBelow) → AreToldBoth (f, n) m told told
-  nothing-grown f told = record {
+  pub nothing-grown : (scope : Scope) (f : Elem) (told : PartsBelow) → AreToldBoth scope (f, n) m told told
+  nothing-grown scope f told = record {
     added_told = inr (nothing-told Added, refl);
     modified_told = inr (nothing-told Modified, refl);
-    removed_told = inr (nothing-told Removed, refl);
+    removed_told = inr (nothing-told (Removed scope), refl);
   }
 
 -- ---- a body beside itself
@@ -106,7 +109,8 @@ none-differs Added b q =
 none-differs Modified b q =
     has-set_of (set_paths b) (λ p. is_other_leaf (get b p) (get b p)) q
     ∙ ap (λ t. is_one_of (set_paths b) q && t) (other-itself (get b q)) ∙ and_false _
-none-differs Removed b q =
+none-differs (Removed Part) b q = refl
+none-differs (Removed Whole) b q =
     has-set_of (set_paths b) (λ p. not (has b p)) q ∙ ap (λ t. t && not (has b q)) (sym (has-paths b q))
     ∙ both-or-neither (has b q) (has b q) refl
 

@@ -11,13 +11,13 @@ ghost use Rattle.ssa_model.specs.definitions.Lawful.{is_lawful, is_ordered};
 ghost use Rattle.ssa_model.specs.definitions.Valid.{IsRooted};
 ghost use Rattle.ssa_typed.specs.Alike.{AreAlike};
 ghost use Rattle.ssa_typed.specs.Cut.{uncut};
-ghost use Rattle.ssa_typed.specs.Differences.{IsComparison};
+ghost use Rattle.ssa_typed.specs.Differences.{IsComparison, IsPartComparison};
 ghost use Rattle.ssa_typed.specs.Look.{look_of, look_at};
 ghost use Rattle.ssa_typed.specs.Flats.{IsFlattening};
 ghost use Rattle.ssa_typed.specs.Reached.{PartsAreOfPlaces, PointsKeepAll, PointsTellPlaces};
 ghost use Rattle.ssa_typed.specs.Rows.{body_of, is_tree};
 
-use crate::compare::{Comparison, differing};
+use crate::compare::{Comparison, PartComparison, Scope, differing};
 use crate::cut::cut_root;
 use crate::lacking::lacking_paths;
 use crate::node::{Look, Node};
@@ -222,11 +222,24 @@ impl Body {
     pub fn compare(&self, alloc: Global, after: &Body) -> Result<Comparison, AllocError>
         ensures { IfOk result (λ c. IsComparison self.now after.now c) }
     {
-        let told = differing(alloc, &self.root, &after.root)?;
+        let told = differing(alloc, Scope::Whole, &self.root, &after.root)?;
         Ok(Comparison {
             added: FieldSet::from_root(told.added),
             modified: FieldSet::from_root(told.modified),
             removed: FieldSet::from_root(told.removed),
+        })
+    }
+
+    /// How a part that is put over this body differs from it, and whether the body stays as it is.
+    /// No merged body is made for it.
+    pub fn compare_part(&self, alloc: Global, part: &Body) -> Result<PartComparison, AllocError>
+        ensures { IfOk result (λ c. IsPartComparison self.now part.now c) }
+    {
+        let told = differing(alloc, Scope::Part, &self.root, &part.root)?;
+        Ok(PartComparison {
+            added: FieldSet::from_root(told.added),
+            modified: FieldSet::from_root(told.modified),
+            repeats: told.repeats,
         })
     }
 

@@ -1,14 +1,16 @@
 //! What one body has otherwise than another that comes before it.
-ghost use Rattle.std.specs.Prelude.{◌≡◌, ◌&&◌, true, drop, Some, IfOk, OnOk};
-ghost use Rattle.ssa_model.specs.definitions.Body.{Body, is_other_leaf};
+ghost use Rattle.std.specs.Prelude.{◌≡◌, ◌&&◌, true, not, drop, Some, IfOk, OnOk};
+ghost use Rattle.ssa_model.specs.definitions.Body.{Body, is_leaf, is_other_leaf};
 ghost use Rattle.ssa_model.specs.definitions.PathMap.{is_empty};
 ghost use Rattle.ssa_path.specs.Children.{heads_order};
 ghost use Rattle.ssa_path.specs.Combine.{IsGrown};
 ghost use Rattle.ssa_path.specs.Trie.{is_trie};
 ghost use Rattle.ssa_path.specs.View.{element_view};
-ghost use Rattle.ssa_typed.specs.Differences.{AreDifferences, AreDiffering, AreToldBoth, IsComparison, IsToldAlone, TellsNothing};
+ghost use Rattle.ssa_typed.specs.Alike.{are_alike};
+ghost use Rattle.ssa_typed.specs.Differences.{AreDifferences, AreDiffering, AreToldBoth, IsComparison, IsToldAlone, IsToldLost, TellsNothing};
 ghost use Rattle.ssa_typed.specs.Ordered.{lent_children};
-ghost use Rattle.ssa_typed.specs.Rows.{is_tree, leaf_content, own_content};
+ghost use Rattle.ssa_typed.specs.Over.{HaveOver, IsOver};
+ghost use Rattle.ssa_typed.specs.Rows.{below, is_tree, leaf_content, own_content};
 ghost use Rattle.ssa_typed.specs.Same.{AreSame};
 
 use crate::node::{Leaf, Node};
@@ -53,12 +55,36 @@ impl Comparison {
     }
 }
 
-// What differs at and below two places, by what the comparison tells of it.
+/// How a part differs from the body that it is put over.
+///
+/// `added` and `modified` are those of a [`Comparison`] of the body with what it then is: what the
+/// part lacks stays, so that nothing is removed.
+#[derive(Drop)]
+pub struct PartComparison {
+    /// The points of the part at whose paths nothing stood.
+    pub added: FieldSet,
+    /// The paths at which both have leaves of one sort with other contents.
+    pub modified: FieldSet,
+    /// Whether the part, put over the body, leaves it as it is. Of `false` nothing is promised.
+    pub repeats: bool,
+}
+
+// What the tree after is: all that then stands, so that the other places are removed, or a part that
+// is put over the tree before and removes none.
+#[derive(Clone, Copy, Drop)]
+pub(crate) enum Scope {
+    Whole,
+    Part,
+}
+
+// What differs at and below two places, by what the comparison tells of it. `repeats` is set only
+// where the tree after, put over the tree before, leaves it as it is.
 #[derive(Drop)]
 pub(crate) struct Parts {
     pub(crate) added: Trie,
     pub(crate) modified: Trie,
     pub(crate) removed: Trie,
+    pub(crate) repeats: bool,
 }
 
 // What differs below two places, each child's behind the child's element.
@@ -67,6 +93,7 @@ struct PartsBelow {
     added: Vec<(Elem, Trie)>,
     modified: Vec<(Elem, Trie)>,
     removed: Vec<(Elem, Trie)>,
+    repeats: bool,
 }
 
 impl Leaf {
@@ -96,6 +123,18 @@ impl Node {
             (Node::Branch(_), _) => false,
             (Node::Dict(_), _) => false,
             (Node::List(_), _) => false,
+        }
+    }
+
+    // Whether both nodes are records, both Dicts or both lists.
+    fn is_branch_like(&self, after: &Node) -> bool
+        ensures { result ≡ true → (not (is_leaf (Some (own_content after.now))) && are_alike (Some (own_content self.now)) (Some (own_content after.now))) ≡ true }
+    {
+        match (self, after) {
+            (Node::Branch(_), Node::Branch(_)) => true,
+            (Node::Dict(_), Node::Dict(_)) => true,
+            (Node::List(_), Node::List(_)) => true,
+            _ => false,
         }
     }
 
@@ -131,6 +170,7 @@ fn no_parts(alloc: Global) -> Parts
             here: false,
             below: removed,
         },
+        repeats: true,
     }
 }
 
@@ -167,6 +207,25 @@ fn push_alone(
     Ok(())
 }
 
+// Adds all that a child has which only the tree before has, unless the other is a part.
+#[inline(always)]
+fn push_lost(
+    alloc: Global,
+    scope: Scope,
+    told: &mut Vec<(Elem, Trie)>,
+    child: &(Elem, Node),
+    in_dict: bool,
+) -> Result<(), AllocError>
+    requires { is_tree child.now.1 ≡ true }
+    ensures { OnOk result (IsToldLost scope in_dict child.now told.old.items told.new.items) }
+{
+    match scope {
+        Scope::Whole => push_alone(alloc, told, child, in_dict, Collected::All)?,
+        Scope::Part => {}
+    }
+    Ok(())
+}
+
 // Adds what is told of a child behind the others, where it is some path. Mostly it is none, and
 // nothing is called.
 #[inline(always)]
@@ -190,18 +249,20 @@ fn push_told(
 #[inline(always)]
 fn push_differing(
     alloc: Global,
+    scope: Scope,
     told: &mut PartsBelow,
     child: &(Elem, Node),
     after: &Node,
 ) -> Result<(), AllocError>
     requires before { is_tree child.now.1 ≡ true }
     requires after { is_tree after.now ≡ true }
-    ensures { OnOk result (AreToldBoth child.now after.now told.old told.new) }
+    ensures told { OnOk result (AreToldBoth scope child.now after.now told.old told.new) }
+    ensures repeats { OnOk result (told.new.repeats ≡ true → (told.old.repeats ≡ true) × IsOver child.now.1 after.now child.now.1) }
 {
     if child.1.is_plainly_same(after) {
         return Ok(());
     }
-    push_parts(alloc, told, child, after)?;
+    push_parts(alloc, scope, told, child, after)?;
     Ok(())
 }
 
@@ -210,27 +271,36 @@ fn push_differing(
 #[inline(always)]
 fn push_parts(
     alloc: Global,
+    scope: Scope,
     told: &mut PartsBelow,
     child: &(Elem, Node),
     after: &Node,
 ) -> Result<(), AllocError>
     requires before { is_tree child.now.1 ≡ true }
     requires after { is_tree after.now ≡ true }
-    ensures { OnOk result (AreToldBoth child.now after.now told.old told.new) }
+    ensures told { OnOk result (AreToldBoth scope child.now after.now told.old told.new) }
+    ensures repeats { OnOk result (told.new.repeats ≡ true → (told.old.repeats ≡ true) × IsOver child.now.1 after.now child.now.1) }
 {
-    let parts = differing_parts(alloc, &child.1, after)?;
+    let parts = differing_parts(alloc, scope, &child.1, after)?;
     push_told(alloc, &mut told.added, &child.0, parts.added)?;
     push_told(alloc, &mut told.modified, &child.0, parts.modified)?;
     push_told(alloc, &mut told.removed, &child.0, parts.removed)?;
+    told.repeats = told.repeats && parts.repeats;
     Ok(())
 }
 
 // What differs below two nodes.
 #[cycle(differing)]
-fn differing_below(alloc: Global, before: &Node, after: &Node) -> Result<PartsBelow, AllocError>
+fn differing_below(
+    alloc: Global,
+    scope: Scope,
+    before: &Node,
+    after: &Node,
+) -> Result<PartsBelow, AllocError>
     requires before { is_tree before.now ≡ true }
     requires after { is_tree after.now ≡ true }
-    ensures { IfOk result (λ v. AreDiffering before.now after.now v) }
+    ensures told { IfOk result (λ v. AreDiffering scope before.now after.now v) }
+    ensures repeats { IfOk result (λ v. v.repeats ≡ true → HaveOver (below before.now) (below after.now) (below before.now)) }
 {
     let own = &before.ordered(alloc)?;
     let others = &after.ordered(alloc)?;
@@ -240,11 +310,12 @@ fn differing_below(alloc: Global, before: &Node, after: &Node) -> Result<PartsBe
         added: Vec::new(alloc),
         modified: Vec::new(alloc),
         removed: Vec::new(alloc),
+        repeats: true,
     };
     while let Some(order) = order_at(own, i, others, j) {
         match order {
             Ordering::Less => {
-                push_alone(alloc, &mut told.removed, own.at(i), in_dict, Collected::All)?;
+                push_lost(alloc, scope, &mut told.removed, own.at(i), in_dict)?;
                 i += 1;
             }
             Ordering::Greater => {
@@ -255,10 +326,11 @@ fn differing_below(alloc: Global, before: &Node, after: &Node) -> Result<PartsBe
                     in_dict,
                     Collected::Points,
                 )?;
+                told.repeats = false;
                 j += 1;
             }
             Ordering::Equal => {
-                push_differing(alloc, &mut told, own.at(i), &others.at(j).1)?;
+                push_differing(alloc, scope, &mut told, own.at(i), &others.at(j).1)?;
                 i += 1;
                 j += 1;
             }
@@ -269,13 +341,20 @@ fn differing_below(alloc: Global, before: &Node, after: &Node) -> Result<PartsBe
 
 // What differs between two trees, found by one walk over both.
 #[cycle(differing)]
-fn differing_parts(alloc: Global, before: &Node, after: &Node) -> Result<Parts, AllocError>
+fn differing_parts(
+    alloc: Global,
+    scope: Scope,
+    before: &Node,
+    after: &Node,
+) -> Result<Parts, AllocError>
     requires before { is_tree before.now ≡ true }
     requires after { is_tree after.now ≡ true }
-    ensures { IfOk result (λ v. AreDifferences before.now after.now v) }
+    ensures told { IfOk result (λ v. AreDifferences scope before.now after.now v) }
+    ensures repeats { IfOk result (λ v. v.repeats ≡ true → IsOver before.now after.now before.now) }
 {
-    let below = differing_below(alloc, before, after)?;
+    let below = differing_below(alloc, scope, before, after)?;
     let here = before.is_other_leaf(after);
+    let repeats = below.repeats && before.is_branch_like(after);
     Ok(Parts {
         added: Trie {
             here: false,
@@ -289,18 +368,25 @@ fn differing_parts(alloc: Global, before: &Node, after: &Node) -> Result<Parts, 
             here: false,
             below: below.removed,
         },
+        repeats,
     })
 }
 
 // What differs between two trees.
-pub(crate) fn differing(alloc: Global, before: &Node, after: &Node) -> Result<Parts, AllocError>
+pub(crate) fn differing(
+    alloc: Global,
+    scope: Scope,
+    before: &Node,
+    after: &Node,
+) -> Result<Parts, AllocError>
     requires before { is_tree before.now ≡ true }
     requires after { is_tree after.now ≡ true }
-    ensures { IfOk result (λ v. AreDifferences before.now after.now v) }
+    ensures told { IfOk result (λ v. AreDifferences scope before.now after.now v) }
+    ensures repeats { IfOk result (λ v. v.repeats ≡ true → IsOver before.now after.now before.now) }
 {
     if before.is_plainly_same(after) {
         return Ok(no_parts(alloc));
     }
-    let parts = differing_parts(alloc, before, after)?;
+    let parts = differing_parts(alloc, scope, before, after)?;
     Ok(parts)
 }

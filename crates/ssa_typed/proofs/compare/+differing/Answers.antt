@@ -1,4 +1,4 @@
-use Rattle.std.proofs.Common.{◌+◌, ◌*◌, ◌<◌, ◌∙◌, ap, length, refl, sym, Some, arith, rules}
+use Rattle.std.proofs.Common.{◌+◌, ◌*◌, ◌<◌, ◌∙◌, ap, length, refl, sym, Some, arith, rules, true≢false}
 use Rattle.ssa_path.specs.View.{element_view}
 use Rattle.ssa_path.proofs.Combining.{heads-none}
 use Rattle.ssa_typed.specs.Differences.{Added, Modified, Removed}
@@ -7,19 +7,21 @@ use Rattle.ssa_typed.specs.Rows.{below, rows}
 use Rattle.ssa_typed.proofs.Differing.{difference-made, past-all, past-both, past-lost, past-new}
 use Rattle.ssa_typed.proofs.Lookups.{tree-child}
 use Rattle.ssa_typed.proofs.References.{child-read}
+use Rattle.ssa_typed.proofs.Repeating.{repeat-all, repeat-level, repeat-same}
 use Rattle.ssa_typed.proofs.Sizes.{smaller}
 use Rattle.ssa_typed.proofs.Unchanged.{nothing-grown, same-unchanged}
 use Rattle.ssa_typed.proofs.compare.+differing.Goals as goal
+use Rattle.ssa_typed.proofs.compare.+differing.Goals.{differing_parts-then-below, differing_parts-else-below}
 
-pub differing_below-push_alone-requires : goal.differing_below-push_alone-requires
-differing_below-push_alone-requires t c =
+pub differing_below-push_lost-requires : goal.differing_below-push_lost-requires
+differing_below-push_lost-requires t c =
     let n = c.args.before.now in
     let r = c.at.result.now in
     let child = child-read (below n) (lent_children c.in_ok-own.field-0) c.loop-order.i r c.at.ensures.read c.in_ok-own.ensures in
     tree-child n (element_view r.0) r.1 c.requires.before child
 
-pub differing_below-push_alone-requires-in-Greater : goal.differing_below-push_alone-requires-in-Greater
-differing_below-push_alone-requires-in-Greater t c =
+pub differing_below-push_alone-requires : goal.differing_below-push_alone-requires
+differing_below-push_alone-requires t c =
     let m = c.args.after.now in
     let s = c.at-in-Greater.result.now in
     let child = child-read (below m) (lent_children c.in_ok-others.field-0) c.loop-order.j s c.at-in-Greater.ensures.read c.in_ok-others.ensures in
@@ -41,15 +43,15 @@ pub differing_below-loop-order-preserved-in-Less : goal.differing_below-loop-ord
 differing_below-loop-order-preserved-in-Less t c =
     let l = c.loop-order in
     let heads = sym c.order_at.ensures ∙ c.in-Some.is ∙ ap Some c.in-Less.is in
-    past-lost c.is_dict-in_dict.result (lent_children c.in_ok-own.field-0) (lent_children c.in_ok-others.field-0) l.i l.j l.told l.invariant
-    c.at.result.now c.push_alone.new.told heads c.at.ensures.read c.in_ok-push_alone-in-Less.ensures
+    past-lost c.args.scope c.is_dict-in_dict.result (lent_children c.in_ok-own.field-0) (lent_children c.in_ok-others.field-0) l.i l.j l.told l.invariant
+    c.at.result.now c.push_lost.new.told heads c.at.ensures.read c.in_ok-push_lost-in-Less.ensures
 
 pub differing_below-loop-order-preserved-in-Greater : goal.differing_below-loop-order-preserved-in-Greater
 differing_below-loop-order-preserved-in-Greater t c =
     let l = c.loop-order in
     let heads = sym c.order_at.ensures ∙ c.in-Some.is ∙ ap Some c.in-Greater.is in
-    past-new c.is_dict-in_dict.result (lent_children c.in_ok-own.field-0) (lent_children c.in_ok-others.field-0) l.i l.j l.told l.invariant
-    c.at-in-Greater.result.now c.push_alone-in-Greater.new.told heads c.at-in-Greater.ensures.read c.in_ok-push_alone-in-Greater.ensures
+    past-new c.args.scope c.is_dict-in_dict.result (lent_children c.in_ok-own.field-0) (lent_children c.in_ok-others.field-0) l.i l.j l.told l.invariant
+    c.at-in-Greater.result.now c.push_alone.new.told heads c.at-in-Greater.ensures.read c.in_ok-push_alone-in-Greater.ensures
 
 pub differing_below-loop-order-preserved : goal.differing_below-loop-order-preserved
 differing_below-loop-order-preserved t c =
@@ -63,30 +65,51 @@ differing_below-loop-order-preserved t c =
     let heads = sym c.order_at.ensures ∙ c.in-Some.is ∙ ap Some c.in-Equal.is in
     let before = tree-child n (element_view r.0) r.1 c.requires.before (child-read (below n) cs l.i r c.at-in-Equal.ensures.read c.in_ok-own.ensures) in
     let after = tree-child m (element_view s.0) s.1 c.requires.after (child-read (below m) ds l.j s c.at-in-Equal-2.ensures.read c.in_ok-others.ensures) in
-    past-both c.is_dict-in_dict.result cs ds l.i l.j l.told l.invariant r s c.push_differing.new.told heads c.at-in-Equal.ensures.read
-    c.at-in-Equal-2.ensures.read before after c.in_ok-push_differing-in-Equal.ensures
+    past-both c.args.scope c.is_dict-in_dict.result cs ds l.i l.j l.told l.invariant r s c.push_differing.new.told heads c.at-in-Equal.ensures.read
+    c.at-in-Equal-2.ensures.read before after c.in_ok-push_differing-in-Equal.ensures.told c.in_ok-push_differing-in-Equal.ensures.repeats
 
-pub differing_below-returns : goal.differing_below-returns
-differing_below-returns t c =
+pub differing_below-returns-clause-told : goal.differing_below-returns-clause-told
+differing_below-returns-clause-told t c =
     let l = c.loop-order in
     let none = heads-none _ _ (sym c.order_at.ensures ∙ c.in_default.is) in
-    past-all c.is_dict-in_dict.result (lent_children c.in_ok-own.field-0) (lent_children c.in_ok-others.field-0) c.args.before.now c.args.after.now _ _ l.told
+    past-all c.args.scope c.is_dict-in_dict.result (lent_children c.in_ok-own.field-0) (lent_children c.in_ok-others.field-0) c.args.before.now c.args.after.now _ _ l.told
     c.is_dict-in_dict.ensures c.in_ok-own.ensures c.in_ok-others.ensures none.0 none.1 l.invariant
 
-pub differing_parts-returns : goal.differing_parts-returns
-differing_parts-returns t c =
+pub differing_below-returns-clause-repeats : goal.differing_below-returns-clause-repeats
+differing_below-returns-clause-repeats t c repeats =
+    let l = c.loop-order in
+    let none = heads-none _ _ (sym c.order_at.ensures ∙ c.in_default.is) in
+    repeat-all (lent_children c.in_ok-own.field-0) (lent_children c.in_ok-others.field-0) c.args.before.now c.args.after.now _ _ c.in_ok-own.ensures
+    c.in_ok-others.ensures none.0 none.1 (l.invariant.repeats_so_far repeats)
+
+pub differing_parts-returns-clause-told : goal.differing_parts-returns-clause-told
+differing_parts-returns-clause-told t c =
     let n = c.args.before.now in
     let m = c.args.after.now in
-    let below = c.in_ok-below.ensures in
+    let below = c.in_ok-below.ensures.told in
     record {
       added_trie = difference-made Added n m _ refl below.added_below;
       modified_trie = difference-made Modified n m _ c.is_other_leaf-here.ensures below.modified_below;
-      removed_trie = difference-made Removed n m _ refl below.removed_below;
+      removed_trie = difference-made (Removed c.args.scope) n m _ refl below.removed_below;
     }
 
-pub push_differing-returns-then-is_plainly_same : goal.push_differing-returns-then-is_plainly_same
-push_differing-returns-then-is_plainly_same t c =
+pub push_differing-returns-then-is_plainly_same-clause-told : goal.push_differing-returns-then-is_plainly_same-clause-told
+push_differing-returns-then-is_plainly_same-clause-told t c =
     let child = c.args.child.now in
     let m = c.args.after.now in
-    nothing-grown child.1 m c.requires.before c.requires.after (same-unchanged child.1 m (c.is_plainly_same.ensures c.if-is_plainly_same.true)) child.0
+    nothing-grown child.1 m c.requires.before c.requires.after (same-unchanged child.1 m (c.is_plainly_same.ensures c.if-is_plainly_same.true))
+    c.args.scope child.0
     c.args.told.now
+
+pub push_differing-returns-then-is_plainly_same-clause-repeats : goal.push_differing-returns-then-is_plainly_same-clause-repeats
+push_differing-returns-then-is_plainly_same-clause-repeats t c repeats =
+    (repeats, repeat-same c.args.child.now.1 c.args.after.now c.requires.before (c.is_plainly_same.ensures c.if-is_plainly_same.true))
+
+pub differing_parts-returns-clause-repeats : goal.differing_parts-returns-clause-repeats
+differing_parts-returns-clause-repeats t c repeats =
+    elim c.if-below.branch [
+      | differing_parts-then-below w ↦
+          repeat-level c.args.before.now c.args.after.now c.requires.before c.requires.after (w.is_branch_like-repeats.ensures (sym w.repeats-is ∙ repeats))
+          (c.in_ok-below.ensures.repeats w.if-below.true)
+      | differing_parts-else-below w ↦ absurd (true≢false (sym repeats ∙ w.repeats-is ∙ w.if-below.false))
+    ]

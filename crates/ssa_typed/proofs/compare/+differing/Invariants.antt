@@ -18,7 +18,7 @@ decreases-differing_below l = 4 * length (rows l.before.now)
 
 abbrev pub invariant-differing_below-loop-order : goal.invariant-differing_below-loop-order
 invariant-differing_below-loop-order l =
-    AreComparing l.in_dict (lent_children l.own) (lent_children l.others) (drop l.i (lent_children l.own)) (drop l.j (lent_children l.others)) l.told
+    AreComparing l.scope l.in_dict (lent_children l.own) (lent_children l.others) (drop l.i (lent_children l.own)) (drop l.j (lent_children l.others)) l.told
 
 abbrev pub decreases-differing_below-loop-order : goal.decreases-differing_below-loop-order
 decreases-differing_below-loop-order l = (length (lent_children l.own) - l.i) + (length (lent_children l.others) - l.j)

@@ -1,0 +1,22 @@
+use Rattle.std.proofs.Common.{◌∙◌, sym}
+use Rattle.ssa_model.specs.definitions.Body.{added, modified, over}
+use Rattle.ssa_typed.specs.Differences.{Added, Modified}
+use Rattle.ssa_typed.proofs.Differing.{difference-listed}
+use Rattle.ssa_typed.proofs.OverNodes.{over-body}
+use Rattle.ssa_typed.proofs.body.Body.compare_part.Goals as goal
+
+pub returns : goal.returns
+returns c =
+    let n = c.self.inside.root in
+    let m = c.part.inside.root in
+    let told = c.in_ok-told.told in
+    record {
+      added_are = c.from_root.ensures
+          ∙ difference-listed Added n m told.added c.self.invariant.tree c.part.invariant.tree c.in_ok-told.ensures.told.added_trie
+          ∙ (λ i. added (c.self.view_is i) (c.part.view_is i));
+      modified_are = c.from_root-2.ensures
+          ∙ difference-listed Modified n m told.modified c.self.invariant.tree c.part.invariant.tree c.in_ok-told.ensures.told.modified_trie
+          ∙ (λ i. modified (c.self.view_is i) (c.part.view_is i));
+      repeats = λ repeats.
+          sym (over-body n m n (c.in_ok-told.ensures.repeats repeats) ∙ (λ i. over (c.self.view_is i) (c.part.view_is i))) ∙ c.self.view_is;
+    }
