@@ -6,6 +6,7 @@ pub mod Collecting
 pub mod Copying
 pub mod Cutting
 pub mod Differing
+pub mod DifferingLeaves
 pub mod EmptyMetadata
 pub mod Finding
 pub mod Fitting

@@ -7,6 +7,8 @@ ghost use Rattle.ssa_path.specs.Combine.{IsGrown};
 ghost use Rattle.ssa_path.specs.Trie.{is_trie};
 ghost use Rattle.ssa_path.specs.View.{element_view};
 ghost use Rattle.ssa_typed.specs.Alike.{are_alike};
+ghost use Rattle.ssa_typed.specs.declared.compare.Scope.{Scope};
+ghost use Rattle.ssa_typed.specs.declared.node.Node.{Leaf as LeafOf};
 ghost use Rattle.ssa_typed.specs.Differences.{AreDifferences, AreDiffering, AreToldBoth, IsComparison, IsToldAlone, IsToldLost, TellsNothing};
 ghost use Rattle.ssa_typed.specs.Ordered.{lent_children};
 ghost use Rattle.ssa_typed.specs.Over.{HaveOver, IsOver};
@@ -244,7 +246,34 @@ fn push_told(
     Ok(())
 }
 
-// Adds what differs in a child that both trees have. Most are the same, for which nothing is made ready.
+// Adds a leaf of both trees where it has other contents, with no walk below it.
+#[inline(always)]
+fn push_leaf(
+    alloc: Global,
+    told: &mut PartsBelow,
+    element: &Elem,
+    own: &Leaf,
+    other: &Leaf,
+) -> Result<(), AllocError>
+    ensures told { OnOk result ((scope : Scope) → AreToldBoth scope (element.now, LeafOf own.now) (LeafOf other.now) told.old told.new) }
+    ensures repeats { OnOk result (told.new.repeats ≡ true → (told.old.repeats ≡ true) × IsOver (LeafOf own.now) (LeafOf other.now) (LeafOf own.now)) }
+{
+    if own.is_same(other) {
+        return Ok(());
+    }
+    told.repeats = false;
+    if own.is_other(other) {
+        let here = Trie {
+            here: true,
+            below: Vec::new(alloc),
+        };
+        push_filled(alloc, &mut told.modified, element, here)?;
+    }
+    Ok(())
+}
+
+// Adds what differs in a child that both trees have. Most are the same, for which nothing is made ready;
+// leaves, as most are, are compared here, with no call.
 #[cycle(differing)]
 #[inline(always)]
 fn push_differing(
@@ -259,6 +288,9 @@ fn push_differing(
     ensures told { OnOk result (AreToldBoth scope child.now after.now told.old told.new) }
     ensures repeats { OnOk result (told.new.repeats ≡ true → (told.old.repeats ≡ true) × IsOver child.now.1 after.now child.now.1) }
 {
+    if let (Node::Leaf(own), Node::Leaf(other)) = (&child.1, after) {
+        return push_leaf(alloc, told, &child.0, own, other);
+    }
     if child.1.is_plainly_same(after) {
         return Ok(());
     }

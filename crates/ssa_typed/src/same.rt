@@ -10,7 +10,7 @@ use crate::node::{Leaf, Node};
 impl Leaf {
     // Whether both leaves have the same contents.
     #[inline(always)]
-    fn is_same(&self, other: &Leaf) -> bool
+    pub(crate) fn is_same(&self, other: &Leaf) -> bool
         ensures { result ≡ true → leaf_content other.now ≡ leaf_content self.now }
     {
         match (self, other) {

@@ -1,11 +1,12 @@
-use Rattle.std.proofs.Common.{◌+◌, ◌*◌, ◌<◌, ◌∙◌, ap, length, refl, sym, Some, arith, rules, true≢false}
+use Rattle.std.proofs.Common.{◌+◌, ◌*◌, ◌<◌, ◌∙◌, ap, length, refl, sym, Some, arith, rules, subst₂, true≢false}
 use Rattle.ssa_path.specs.View.{element_view}
 use Rattle.ssa_path.proofs.Combining.{heads-none}
-use Rattle.ssa_typed.specs.Differences.{Added, Modified, Removed}
+use Rattle.ssa_typed.specs.Differences.{Added, Modified, Removed, AreToldBoth}
 use Rattle.ssa_typed.specs.Ordered.{lent_children}
 use Rattle.ssa_typed.specs.Rows.{below, rows}
 use Rattle.ssa_typed.proofs.Differing.{difference-made, past-all, past-both, past-lost, past-new}
 use Rattle.ssa_typed.proofs.Lookups.{tree-child}
+use Rattle.ssa_typed.proofs.OverNodes.{ok-gives}
 use Rattle.ssa_typed.proofs.References.{child-read}
 use Rattle.ssa_typed.proofs.Repeating.{repeat-all, repeat-level, repeat-same}
 use Rattle.ssa_typed.proofs.Sizes.{smaller}
@@ -92,6 +93,13 @@ differing_parts-returns-clause-told t c =
       modified_trie = difference-made Modified n m _ c.is_other_leaf-here.ensures below.modified_below;
       removed_trie = difference-made (Removed c.args.scope) n m _ refl below.removed_below;
     }
+
+pub push_differing-returns-in-Leaf-Leaf-clause-told : goal.push_differing-returns-in-Leaf-Leaf-clause-told
+push_differing-returns-in-Leaf-Leaf-clause-told t c =
+    let leaves = c.in-Leaf-Leaf in
+    ok-gives c.push_leaf.result c.push_leaf.ensures.told
+    (λ told. subst₂ (λ n m. AreToldBoth c.args.scope (c.args.child.now.0, n) m c.args.told.now c.push_leaf.new.told) (sym leaves.is-0) (sym leaves.is-1)
+    (told c.args.scope))
 
 pub push_differing-returns-then-is_plainly_same-clause-told : goal.push_differing-returns-then-is_plainly_same-clause-told
 push_differing-returns-then-is_plainly_same-clause-told t c =
