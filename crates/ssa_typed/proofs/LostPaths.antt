@@ -1,13 +1,18 @@
 -- What a tree has lost along the paths of a trie, level by level.
-use Rattle.std.proofs.Common.{◌≡◌, ℕ, ◌+◌, ◌<◌, List, [], ◌∷◌, ◌++◌, length, get_or, drop, Bool, true, false, not, ◌&&◌, ◌||◌, Option, Some, None, refl, sym, ap, subst, ◌∙◌}
+use Rattle.std.proofs.Common.{◌≡◌, ℕ, ◌+◌, ◌<◌, List, [], ◌∷◌, ◌++◌, length, get_or, drop, Bool, true, false, not, ◌&&◌, ◌||◌, Option, Some, None, refl, sym, ap, subst, ◌∙◌, true≢false}
 use Rattle.std.specs.Prelude.{is_some}
 use Rattle.std.specs.Cmp.{first_so, second_so}
-use Rattle.ssa_model.specs.definitions.Body.{Body}
-use Rattle.ssa_model.specs.definitions.Path.{Element, Path, same_element, under}
-use Rattle.ssa_model.specs.definitions.PathMap.{PathSet, has, has_at_or_above, has_at_or_below, listed}
-use Rattle.ssa_model.proofs.Basics.{and-true as and_true, not_true}
+use Rattle.ssa_model.specs.definitions.Body.{Body, points, restricted}
+use Rattle.ssa_model.specs.definitions.Path.{Element, Path, is_root, same_element, under}
+use Rattle.ssa_model.specs.definitions.PathMap.{PathSet, has, has_at_or_above, has_at_or_below, listed, set_of}
+use Rattle.ssa_model.specs.definitions.PathMap.{paths as set_paths}
+use Rattle.ssa_model.proofs.Basics.{and-true as and_true, first_false, second_false, not_true, or_true, yes_no}
+use Rattle.ssa_model.proofs.Fitting.{same_element-true}
 use Rattle.ssa_model.proofs.Lists.{any-listed}
-use Rattle.ssa_model.proofs.Tables.{element-itself as same_element-itself}
+use Rattle.ssa_model.proofs.PathMaps.{has-paths, has-set_of, has-union}
+use Rattle.ssa_model.proofs.Pruned.{from_one, some_one}
+use Rattle.ssa_model.proofs.Tables.{either, element-itself as same_element-itself, has-restricted, true_or}
+use Rattle.ssa_model.proofs.Tests.{by_test}
 use Rattle.ssa_path.specs.Children.{child_at, elements, rises}
 use Rattle.ssa_path.specs.Combine.{IsGrown}
 use Rattle.ssa_path.specs.declared.element.Elem.{Elem}
@@ -19,9 +24,11 @@ use Rattle.ssa_path.proofs.Levels.{any-below, below-more, found, paths-level, un
 use Rattle.ssa_path.proofs.Lists.{left-at}
 use Rattle.ssa_path.proofs.Orders.{both_second}
 use Rattle.ssa_path.proofs.Searching.{child-found}
+use Rattle.ssa_typed.specs.Cut.{uncut}
 use Rattle.ssa_typed.specs.Differences.{Removed, differs, differs_at, differs_below, IsDifference, IsDiffering}
 use Rattle.ssa_typed.specs.Lost.{is_along, AreLostAlong, IsLostAlong, LostAlong}
 use Rattle.ssa_typed.specs.Points.{is_in_dict, IsAllPlaces}
+use Rattle.ssa_typed.specs.Reached.{PointsTellPlaces}
 use Rattle.ssa_typed.specs.Rows.{below, body_of, content_at, is_tree, rows}
 use Rattle.ssa_typed.specs.declared.node.Node.{Node}
 use Rattle.ssa_typed.proofs.Cutting.{goes-more}
@@ -144,3 +151,50 @@ along-trees n m g gone b a before after same own other along p lost =
     (λ i. sym (any-listed (λ q. under q p) (paths g)) i || sym (any-listed (under p) (paths g)) i)
     ∙ (λ i. has_at_or_above (same i) p || has_at_or_below (same i) p)
     ∙ along p (sym (λ i. has (own i) p) ∙ ap is_some (get-body n p) ∙ there) (sym (λ i. has (other i) p) ∙ ap is_some (get-body m p) ∙ away)
+
+-- ---- what a cut takes
+
+-- of two beginnings of a path one is a beginning of the other
+pub comparable : (g q x : Path) → under g x ≡ true → under q x ≡ true → (under g q || under q g) ≡ true
+comparable [] q x u v = refl
+comparable (e ∷ g) [] x u v = refl
+comparable (e ∷ g) (f ∷ q) [] u v = absurd (true≢false (sym u))
+comparable (e ∷ g) (f ∷ q) (h ∷ x) u v =
+    let first = same_element-true e h (first_so (same_element e h) (under g x) u) in
+    let second = same_element-true f h (first_so (same_element f h) (under q x) v) in
+    (λ i. (same_element (first i) (second i) && under g q) || (same_element (second i) (first i) && under q g))
+    ∙ (λ i. (same_element-itself h i && under g q) || (same_element-itself h i && under q g))
+    ∙ comparable g q x (second_so (same_element e h) (under g x) u) (second_so (same_element f h) (under q x) v)
+
+module _ (b : Body) (told : PointsTellPlaces b) (gone held : PathSet) where
+  abbrev Free : PathSet
+  Free = set_of (set_paths (points b)) (λ q. not (has_at_or_above gone q))
+
+  abbrev Left : PathSet
+  Left = uncut b gone held
+
+  -- a point that stays leaves all above it
+  left-point : (p q : Path) → has (points b) q ≡ true → under p q ≡ true → has_at_or_above gone q ≡ false → has_at_or_below Left p ≡ true
+  left-point p q point above free =
+      let in_free : has Free q ≡ true = has-set_of (set_paths (points b)) (λ x. not (has_at_or_above gone x)) q
+      ∙ (λ i. (sym (has-paths (points b) q) ∙ point) i && not (free i)) in
+      from_one (under p) (set_paths Left) q (sym (has-paths Left q) ∙ has-union Free held q ∙ true_or (has Free q) (has held q) in_free) above
+
+  -- a path above a point that goes is along the paths that go
+  gone-point : (p q : Path) → under p q ≡ true → has_at_or_above gone q ≡ true → (has_at_or_above gone p || has_at_or_below gone p) ≡ true
+  gone-point p q above goes =
+      let g = some_one (λ x. under x q) (set_paths gone) goes in
+      either (under g.0 p) (under p g.0) (comparable g.0 p q g.2 above)
+      (λ up. true_or (has_at_or_above gone p) (has_at_or_below gone p) (from_one (λ x. under x p) (set_paths gone) g.0 g.1 up))
+      (λ down. or_true (has_at_or_above gone p) (has_at_or_below gone p) (from_one (under p) (set_paths gone) g.0 g.1 down))
+
+  -- what a cut takes is along the paths that go
+  pub cut-along : LostAlong gone b (restricted b (λ p. is_root p || has_at_or_below Left p))
+  cut-along p there away =
+      let goes : (is_root p || has_at_or_below Left p) ≡ false =
+      sym (ap (λ t. (is_root p || has_at_or_below Left p) && t) there ∙ and_true _) ∙ sym (has-restricted b (λ q. is_root q || has_at_or_below Left q) p) ∙ away in
+      let point = some_one (under p) (set_paths (points b))
+      (sym (ap (λ r. r || has_at_or_below (points b) p) (first_false (is_root p) (has_at_or_below Left p) goes)) ∙ sym (told p) ∙ there) in
+      by_test (has_at_or_above gone point.0) (gone-point p point.0 point.2)
+      (λ free. yes_no (has_at_or_below Left p) (left-point p point.0 (has-paths (points b) point.0 ∙ point.1) point.2 free)
+      (second_false (is_root p) (has_at_or_below Left p) goes))

@@ -14,7 +14,7 @@ ghost use Rattle.ssa_typed.specs.Cut.{uncut};
 ghost use Rattle.ssa_typed.specs.Differences.{IsComparison};
 ghost use Rattle.ssa_typed.specs.Look.{look_of, look_at};
 ghost use Rattle.ssa_typed.specs.Flats.{IsFlattening};
-ghost use Rattle.ssa_typed.specs.Lost.{LostAlong};
+ghost use Rattle.ssa_typed.specs.Lost.{CutsAreAlong, LostAlong};
 ghost use Rattle.ssa_typed.specs.Reached.{PartsAreOfPlaces, PointsKeepAll, PointsTellPlaces};
 ghost use Rattle.ssa_typed.specs.Rows.{body_of, is_tree};
 
@@ -167,6 +167,13 @@ impl Body {
         ensures { PartsAreOfPlaces self.now }
     {
         let _root = self.root();
+    }
+
+    /// What a cut of the body takes is at, above or below a path that goes.
+    pub fn cuts_are_along(&self)
+        ensures { CutsAreAlong self.now }
+    {
+        self.points_tell_places();
     }
 
     /// The same body, with new memory but for key fields, which both hold.
