@@ -1,7 +1,7 @@
 -- What stays of the merged body, told by what others and the configuration have above the paths that go.
 use Rattle.std.proofs.Common.{◌≡◌, [], ◌∷◌, Bool, true, false, not, ◌&&◌, ◌||◌, refl, sym, ap, subst, ◌∙◌, true≢false}
 use Rattle.std.specs.Cmp.{both_ways, first_so, second_so}
-use Rattle.ssa_model.specs.definitions.Path.{Path, is_item, is_key_field, is_root, parent, same_element, under}
+use Rattle.ssa_model.specs.definitions.Path.{Path, is_item, is_key_field, is_root, parent, under}
 use Rattle.ssa_model.specs.definitions.PathMap.{PathSet, get, has, has_at_or_above, has_at_or_below, paths, set_of, union}
 use Rattle.ssa_model.specs.definitions.Body as model
 use Rattle.ssa_model.specs.definitions.Body.{is_bare, is_dict, is_leaf, is_ownable, is_point, over, points}
@@ -9,26 +9,14 @@ use Rattle.ssa_model.specs.definitions.Table.{ManagerKey, Table, owned_by, owned
 use Rattle.ssa_model.specs.definitions.Operations.{State, dropped, kept, pruned}
 use Rattle.ssa_model.specs.definitions.Valid.{AllEntries, OwnsOwnable}
 use Rattle.ssa_model.proofs.Basics.{not_true, or_true, yes_no}
-use Rattle.ssa_model.proofs.Fitting.{same_element-true}
 use Rattle.ssa_model.proofs.PathMaps.{has-paths, has-points, has-set_of, has-union, is_one_of}
 use Rattle.ssa_model.proofs.Pruned.{some_one, under-trans}
-use Rattle.ssa_model.proofs.Tables.{either, element-itself, has-over, others-kept, ownable-has, points-kept, spared, true_or, under-itself}
+use Rattle.ssa_model.proofs.Tables.{either, has-over, others-kept, ownable-has, points-kept, spared, true_or, under-itself}
 use Rattle.ssa_typed.specs.Cut.{uncut}
 use Rattle.ssa_typed.specs.Reached.{PartsAreOfPlaces, PointsTellPlaces}
+use Rattle.ssa_typed.proofs.LostPaths.{comparable}
 use Rattle.ssa_merge.proofs.HeldAbove.{below-one, one-below}
 use Rattle.ssa_merge.proofs.RootedPruned.{others-all}
-
--- of two beginnings of a path one is a beginning of the other
-comparable : (g q x : Path) → under g x ≡ true → under q x ≡ true → (under g q || under q g) ≡ true
-comparable [] q x u v = refl
-comparable (e ∷ g) [] x u v = refl
-comparable (e ∷ g) (f ∷ q) [] u v = absurd (true≢false (sym u))
-comparable (e ∷ g) (f ∷ q) (h ∷ x) u v =
-    let first = same_element-true e h (first_so (same_element e h) (under g x) u) in
-    let second = same_element-true f h (first_so (same_element f h) (under q x) v) in
-    (λ i. (same_element (first i) (second i) && under g q) || (same_element (second i) (first i) && under q g))
-    ∙ (λ i. (element-itself h i && under g q) || (element-itself h i && under q g))
-    ∙ comparable g q x (second_so (same_element e h) (under g x) u) (second_so (same_element f h) (under q x) v)
 
 -- what a set has at or below a place it has at or below each place above
 below-above : (s : PathSet) (p q : Path) → under p q ≡ true → has_at_or_below s q ≡ true → has_at_or_below s p ≡ true

@@ -16,8 +16,8 @@ use Rattle.ssa_path.specs.View.{element_view}
 use Rattle.ssa_path.proofs.Levels.{any-made, is_trie-made, one-made-root, same_path-reading}
 use Rattle.ssa_path.proofs.Orders.{both_second}
 use Rattle.ssa_typed.specs.InOrder.{IsInOrder}
-use Rattle.ssa_typed.specs.Points.{is_point_by, is_point_of, point_in, collects, is_in_dict, IsCollected, IsChildTrie, IsPointTrie}
-use Rattle.ssa_typed.specs.Rows.{rows, below, body_of, is_tree}
+use Rattle.ssa_typed.specs.Points.{is_point_by, is_point_of, point_in, collects, is_in_dict, IsAllPlaces, IsCollected, IsChildTrie, IsPointTrie}
+use Rattle.ssa_typed.specs.Rows.{rows, below, body_of, content_at, is_tree}
 use Rattle.ssa_typed.specs.declared.node.Node.{Node}
 use Rattle.ssa_typed.specs.declared.points.Collected.{Collected}
 use Rattle.ssa_typed.specs.declared.points.Collected.TheVariants.{Points, All}
@@ -76,6 +76,14 @@ point-trie n x tree here h = record { paths_are = held; trie = is_trie-made x h.
     held : (p : Path) → is_one_of (paths (roll-Trie x)) p ≡ is_point_of (rows n) p
     held [] = one-made-root x ∙ here
     held (f ∷ p) = any-made same_path same_path-reading x f p ∙ h.paths_are f p ∙ sym (point-level n tree false f f p)
+
+-- all that is collected below a root, with the root itself, makes the trie of all places of a tree
+pub places-trie : (n : Node) (x : Trie-F Trie) → is_tree n ≡ true → x.here ≡ true → IsCollected All n x.below.items → IsAllPlaces n (roll-Trie x)
+places-trie n x tree here h = record { paths_are = held; trie = is_trie-made x h.risen h.tries }
+  where
+    held : (p : Path) → is_one_of (paths (roll-Trie x)) p ≡ is_some (content_at (rows n) p)
+    held [] = one-made-root x ∙ here ∙ sym (ap is_some (content-root n))
+    held (f ∷ p) = any-made same_path same_path-reading x f p ∙ h.paths_are f p ∙ sym (ap is_some (content-level n f p tree))
 
 -- ---- the walk over the children
 

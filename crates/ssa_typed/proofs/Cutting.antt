@@ -93,7 +93,8 @@ module _ (ps qs : List Path) (alike : (e : Element) (p : Path) → is_one_of ps 
 
 -- ---- what goes
 
-goes-more : GoesOn (λ p g. under g p)
+-- whether a path is under another is told of the rests behind one element in both
+pub goes-more : GoesOn (λ p g. under g p)
 goes-more e f p q = ap (λ b. b && under q p) (same_either_way e f)
 
 goes-first : (b : Bool) (c : Trie) (x : Option Trie) (p : Path) → (b ≡ true → x ≡ None)

@@ -92,7 +92,8 @@ difference-made what n m x here h = record { paths_are = held; trie = is_trie-ma
     held [] = one-made-root x ∙ here
     held (f ∷ p) = any-made same_path same_path-reading x f p ∙ h.paths_are f p
 
-differs-whole : (what : Difference) (d : Bool) (e : Element) (n m : Node) → is_tree n ≡ true → is_tree m ≡ true → (p : Path)
+-- whether a path of two nodes is told is told alike of children
+pub differs-whole : (what : Difference) (d : Bool) (e : Element) (n m : Node) → is_tree n ≡ true → is_tree m ≡ true → (p : Path)
     → differs_at what n m p ≡ differs what d e (Some n) (Some m) p
 differs-whole what d e n m before after [] = sym (differs-root n m what d e)
 differs-whole what d e n m before after (f ∷ p) = sym (differs-level n m before after what d e f p)
@@ -288,7 +289,8 @@ leaf_there : (x y : Option Content) → (is_some x && is_other_leaf x y) ≡ is_
 leaf_there None y = refl
 leaf_there (Some c) y = refl
 
-has-difference : (what : Difference) (n m : Node) (q : Path) → has (difference_of what (body_of n) (body_of m)) q
+-- what the difference of two bodies has is told by the rows
+pub has-difference : (what : Difference) (n m : Node) (q : Path) → has (difference_of what (body_of n) (body_of m)) q
     ≡ elim what [
       | Added ↦ is_point_of (rows m) q && not (is_some (content_at (rows n) q))
       | Modified ↦ is_other_leaf (content_at (rows n) q)
@@ -307,7 +309,8 @@ has-difference (Removed Whole) n m q =
     has-set_of (set_paths (body_of n)) (λ p. not (has (body_of m) p)) q
     ∙ ap (λ b. b && not (has (body_of m) q)) (sym (has-paths (body_of n) q)) ∙ (λ i. is_some (get-body n q i) && not (is_some (get-body m q i)))
 
-has-differing : (what : Difference) (n m : Node) → is_tree n ≡ true → is_tree m ≡ true → (q : Path)
+-- the difference of two bodies has what is told of their trees
+pub has-differing : (what : Difference) (n m : Node) → is_tree n ≡ true → is_tree m ≡ true → (q : Path)
     → has (difference_of what (body_of n) (body_of m)) q ≡ differs_at what n m q
 has-differing Added n m before after [] = has-difference Added n m []
 has-differing Modified n m before after [] = has-difference Modified n m [] ∙ (λ i. is_other_leaf (content-root n i) (content-root m i))

@@ -18,6 +18,7 @@ pub mod Laws
 pub mod Levels
 pub mod Looks
 pub mod Lookups
+pub mod LostPaths
 pub mod Making
 pub mod OverNodes
 pub mod Overlaying

@@ -7,6 +7,7 @@ pub mod Flats
 pub mod InOrder
 pub mod Lacking
 pub mod Look
+pub mod Lost
 pub mod MergedOrder
 pub mod Nodes
 pub mod Ordered

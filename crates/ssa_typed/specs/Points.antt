@@ -64,6 +64,11 @@ pub record IsChildTrie (what : Option Collected) (in_dict : Bool) (e : Element) 
   pub paths_are : (p : Path) → is_one_of (paths t) p ≡ collects_of what in_dict e (Some c) p
   pub trie : is_trie t ≡ true
 
+-- the trie of all places of a tree
+pub record IsAllPlaces (n : Node) (t : Trie) : Type 0 where
+  pub paths_are : (p : Path) → is_one_of (paths t) p ≡ is_some (content_at (rows n) p)
+  pub trie : is_trie t ≡ true
+
 -- the trie of the points of a tree
 pub record IsPointTrie (n : Node) (t : Trie) : Type 0 where
   pub paths_are : (p : Path) → is_one_of (paths t) p ≡ is_point_of (rows n) p

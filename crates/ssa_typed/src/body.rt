@@ -1,6 +1,6 @@
 //! Bodies, seen as finite maps from whole paths to contents.
 ghost use Rattle.std.specs.Prelude.{◌≡◌, [], ◌∷◌, ◌-◌, ◌^◌, ◌||◌, true, not, min, option_map, IfOk};
-ghost use Rattle.ssa_model.specs.definitions.Body.{over, points, record_branch, restricted};
+ghost use Rattle.ssa_model.specs.definitions.Body.{over, points, record_branch, removed, restricted};
 ghost use Rattle.ssa_model.specs.definitions.Fitting.{IsBodyOf};
 ghost use Rattle.ssa_model.specs.definitions.Kind.{Kind};
 ghost use Rattle.ssa_model.specs.definitions.Objects.{shown};
@@ -14,12 +14,14 @@ ghost use Rattle.ssa_typed.specs.Cut.{uncut};
 ghost use Rattle.ssa_typed.specs.Differences.{IsComparison, IsPartComparison};
 ghost use Rattle.ssa_typed.specs.Look.{look_of, look_at};
 ghost use Rattle.ssa_typed.specs.Flats.{IsFlattening};
+ghost use Rattle.ssa_typed.specs.Lost.{CutsAreAlong, LostAlong};
 ghost use Rattle.ssa_typed.specs.Reached.{PartsAreOfPlaces, PointsKeepAll, PointsTellPlaces};
 ghost use Rattle.ssa_typed.specs.Rows.{body_of, is_tree};
 
 use crate::compare::{Comparison, PartComparison, Scope, differing};
 use crate::cut::cut_root;
 use crate::lacking::lacking_paths;
+use crate::lost::lost_paths;
 use crate::node::{Look, Node};
 use crate::over::over_node;
 use ssa_json::value::Json;
@@ -167,6 +169,13 @@ impl Body {
         let _root = self.root();
     }
 
+    /// What a cut of the body takes is at, above or below a path that goes.
+    pub fn cuts_are_along(&self)
+        ensures { CutsAreAlong self.now }
+    {
+        self.points_tell_places();
+    }
+
     /// The same body, with new memory but for key fields, which both hold.
     pub fn clone(&self, alloc: Global) -> Result<Body, AllocError>
         ensures { IfOk result (λ b. b ≡ self.now) }
@@ -202,6 +211,24 @@ impl Body {
         ensures { IfOk result (λ s. s ≡ set_of (paths set.now) (λ p. not (has self.now p))) }
     {
         let root = lacking_paths(alloc, &self.root, set.root())?;
+        Ok(FieldSet::from_root(root))
+    }
+
+    /// The paths of this body at which the body `after` has nothing, where each of them is at, above or
+    /// below a path of `gone`: what a cut of these paths takes.
+    ///
+    /// One walk along the paths of `gone`, with no look at what else the bodies have. What is below a
+    /// path of `gone` at which both have something, and a list of which many items go, is compared whole.
+    pub fn lost_along(
+        &self,
+        alloc: Global,
+        after: &Body,
+        gone: &FieldSet,
+    ) -> Result<FieldSet, AllocError>
+        requires along { LostAlong gone.now self.now after.now }
+        ensures { IfOk result (λ s. s ≡ removed self.now after.now) }
+    {
+        let root = lost_paths(alloc, &self.root, &after.root, gone.root())?;
         Ok(FieldSet::from_root(root))
     }
 

@@ -1,7 +1,7 @@
 //! The points of a tree: its leaves, items of lists, entries of Dicts and empty branches.
 ghost use Rattle.std.specs.Prelude.{◌≡◌, [], true, Some, IfOk};
 ghost use Rattle.ssa_path.specs.View.{element_view};
-ghost use Rattle.ssa_typed.specs.Points.{collects, ends_here, IsChildTrie, IsCollected, IsPointTrie};
+ghost use Rattle.ssa_typed.specs.Points.{collects, ends_here, IsAllPlaces, IsChildTrie, IsCollected, IsPointTrie};
 ghost use Rattle.ssa_typed.specs.Rows.{is_tree};
 
 use crate::node::Node;
@@ -108,5 +108,15 @@ impl Node {
     {
         let below = collect_below(alloc, self, Collected::Points)?;
         Ok(Trie { here: false, below })
+    }
+
+    // All places of the tree, its own among them. Of a leaf they are told with no call.
+    #[inline(always)]
+    pub(crate) fn all_places(&self, alloc: Global) -> Result<Trie, AllocError>
+        requires { is_tree self.now ≡ true }
+        ensures { IfOk result (λ t. IsAllPlaces self.now t) }
+    {
+        let below = collect_under(alloc, self, Collected::All)?;
+        Ok(Trie { here: true, below })
     }
 }
