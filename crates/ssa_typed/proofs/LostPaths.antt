@@ -26,6 +26,7 @@ use Rattle.ssa_path.proofs.Orders.{both_second}
 use Rattle.ssa_path.proofs.Searching.{child-found}
 use Rattle.ssa_typed.specs.Cut.{uncut}
 use Rattle.ssa_typed.specs.Differences.{Removed, differs, differs_at, differs_below, IsDifference, IsDiffering}
+use Rattle.ssa_typed.specs.declared.compare.Scope.TheVariants.{Whole}
 use Rattle.ssa_typed.specs.Lost.{is_along, AreLostAlong, IsLostAlong, LostAlong}
 use Rattle.ssa_typed.specs.Points.{is_in_dict, IsAllPlaces}
 use Rattle.ssa_typed.specs.Reached.{PointsTellPlaces}
@@ -56,12 +57,12 @@ along-root n m g here along e p lost =
 
 -- what is lost below two nodes at the elements of the tries
 abbrev pub loses : Node → Node → Test Trie Node
-loses n m e part other p = is_some part && differs_below Removed n m e p
+loses n m e part other p = is_some part && differs_below (Removed Whole) n m e p
 
 -- the trie of what is lost at and below the children of an element
 pub record IsPart (n m : Node) (e : Element) (t : Trie) : Type 0 where
   -- its paths are those that are lost
-  pub paths_are : (p : Path) → is_one_of (paths t) p ≡ differs_below Removed n m e p
+  pub paths_are : (p : Path) → is_one_of (paths t) p ≡ differs_below (Removed Whole) n m e p
   -- it is a trie
   pub trie : is_trie t ≡ true
 
@@ -73,18 +74,18 @@ module _ (n m : Node) (before : is_tree n ≡ true) (after : is_tree m ≡ true)
   -- all of a child that the tree after has not is lost
   pub part-alone : (t : Trie) → child_at e (below m) ≡ None → IsAllPlaces x t → IsPart n m e t
   part-alone t none h = record {
-    paths_are = λ p. h.paths_are p ∙ sym (and_true _) ∙ (λ i. differs Removed (is_in_dict m) e (sym there i) (sym none i) p);
+    paths_are = λ p. h.paths_are p ∙ sym (and_true _) ∙ (λ i. differs (Removed Whole) (is_in_dict m) e (sym there i) (sym none i) p);
     trie = h.trie;
   }
 
   module _ (y : Node) (other : child_at e (below m) ≡ Some y) where
-    child-level : (p : Path) → differs_at Removed x y p ≡ differs_below Removed n m e p
+    child-level : (p : Path) → differs_at (Removed Whole) x y p ≡ differs_below (Removed Whole) n m e p
     child-level p =
-        differs-whole Removed (is_in_dict m) e x y (tree-child n e x before there) (tree-child m e y after other) p
-        ∙ (λ i. differs Removed (is_in_dict m) e (sym there i) (sym other i) p)
+        differs-whole (Removed Whole) (is_in_dict m) e x y (tree-child n e x before there) (tree-child m e y after other) p
+        ∙ (λ i. differs (Removed Whole) (is_in_dict m) e (sym there i) (sym other i) p)
 
     -- of a child that both trees have, that is lost which differs so
-    pub part-both : (t : Trie) → IsDifference Removed x y t → IsPart n m e t
+    pub part-both : (t : Trie) → IsDifference (Removed Whole) x y t → IsPart n m e t
     part-both t h = record { paths_are = λ p. h.paths_are p ∙ child-level p; trie = h.trie }
 
 module _ (n m : Node) (ts : List (Elem × Trie)) (rise : rises (elements ts) ≡ true) (along : AreLostAlong (paths_below ts) n m) where
@@ -99,10 +100,10 @@ module _ (n m : Node) (ts : List (Elem × Trie)) (rise : rises (elements ts) ≡
       ∙ along e p (sym (child-level n m before after e x there y other p) ∙ lost)
 
   -- at no other elements anything is lost
-  nowhere-else : (e : Element) (p : Path) → (is_some (child_at e ts) && differs_below Removed n m e p) ≡ differs_below Removed n m e p
+  nowhere-else : (e : Element) (p : Path) → (is_some (child_at e ts) && differs_below (Removed Whole) n m e p) ≡ differs_below (Removed Whole) n m e p
   nowhere-else e p =
-      elim (child_at e ts) as (λ o. child_at e ts ≡ o → (is_some o && differs_below Removed n m e p) ≡ differs_below Removed n m e p) [
-        | None ↦ λ none. elim (differs_below Removed n m e p) as (λ b. differs_below Removed n m e p ≡ b → false ≡ b) [
+      elim (child_at e ts) as (λ o. child_at e ts ≡ o → (is_some o && differs_below (Removed Whole) n m e p) ≡ differs_below (Removed Whole) n m e p) [
+        | None ↦ λ none. elim (differs_below (Removed Whole) n m e p) as (λ b. differs_below (Removed Whole) n m e p ≡ b → false ≡ b) [
           | true ↦ λ lost. sym (along-below e ts p rise ∙ ap (λ o. along_in o p) none) ∙ along e p lost
           | false ↦ λ same. refl
         ] refl
@@ -110,7 +111,7 @@ module _ (n m : Node) (ts : List (Elem × Trie)) (rise : rises (elements ts) ≡
       ] refl
 
   -- where no trie is left, all is told that is lost below the nodes
-  pub losing-all : (left out : List (Elem × Trie)) → left ≡ [] → IsLosing n m ts left out → IsDiffering Removed n m out
+  pub losing-all : (left out : List (Elem × Trie)) → left ≡ [] → IsLosing n m ts left out → IsDiffering (Removed Whole) n m out
   losing-all left out none h =
       let made = making-all (loses n m) ts [] left [] out (λ e p. refl) none refl h in
       record { paths_are = λ e p. made.paths_are e p ∙ nowhere-else e p; risen = made.risen; tries = made.tries }
@@ -135,7 +136,7 @@ module _ (n m : Node) (ts : List (Elem × Trie)) (i : ℕ) (c : Elem × Trie) (o
       let e = element_view c.0 in
       making-skip (loses n m) e (Some c.1) None ts [] (c ∷ Rest) [] Rest [] out (λ e p. refl)
       (front-own c Rest [] refl now.own_rise refl) (both_second _ _ now.own_rise) refl
-      (λ p. ap (λ o. differs Removed (is_in_dict m) e o (child_at e (below m)) p) none) now
+      (λ p. ap (λ o. differs (Removed Whole) (is_in_dict m) e o (child_at e (below m)) p) none) now
 
 -- ---- THE BRIDGE: what is lost from one body to another
 
@@ -145,7 +146,7 @@ pub along-trees : (n m : Node) (g : Trie) (gone : PathSet) (b a : Body) → is_t
     → LostAlong gone b a → IsLostAlong (paths g) n m
 along-trees n m g gone b a before after same own other along p lost =
     let both : (is_some (content_at (rows n) p) && not (is_some (content_at (rows m) p))) ≡ true =
-    sym (sym (has-differing Removed n m before after p) ∙ has-difference Removed n m p) ∙ lost in
+    sym (sym (has-differing (Removed Whole) n m before after p) ∙ has-difference (Removed Whole) n m p) ∙ lost in
     let there = first_so (is_some (content_at (rows n) p)) (not (is_some (content_at (rows m) p))) both in
     let away = not_true _ (second_so (is_some (content_at (rows n) p)) (not (is_some (content_at (rows m) p))) both) in
     (λ i. sym (any-listed (λ q. under q p) (paths g)) i || sym (any-listed (under p) (paths g)) i)

@@ -6,6 +6,7 @@ use Rattle.ssa_model.specs.definitions.Path.{Element, Path, is_root, under}
 use Rattle.ssa_model.specs.definitions.PathMap.{PathSet, has, has_at_or_above, has_at_or_below}
 use Rattle.ssa_typed.specs.Cut.{uncut}
 use Rattle.ssa_typed.specs.Differences.{Removed, differs_at, differs_below}
+use Rattle.ssa_typed.specs.declared.compare.Scope.TheVariants.{Whole}
 use Rattle.ssa_typed.specs.declared.node.Node.{Node}
 
 -- each path at which the body before alone has something is at, above or below a path of `gone`
@@ -24,8 +25,8 @@ is_along gone p = list_any (λ g. under g p) gone || list_any (under p) gone
 
 -- each path that is lost from one tree to the other is along these
 abbrev pub IsLostAlong : List Path → Node → Node → Type 0
-IsLostAlong gone before after = (p : Path) → differs_at Removed before after p ≡ true → is_along gone p ≡ true
+IsLostAlong gone before after = (p : Path) → differs_at (Removed Whole) before after p ≡ true → is_along gone p ≡ true
 
 -- each path that is lost below two nodes is along these
 abbrev pub AreLostAlong : List Path → Node → Node → Type 0
-AreLostAlong gone before after = (e : Element) (p : Path) → differs_below Removed before after e p ≡ true → is_along gone (e ∷ p) ≡ true
+AreLostAlong gone before after = (e : Element) (p : Path) → differs_below (Removed Whole) before after e p ≡ true → is_along gone (e ∷ p) ≡ true

@@ -5,9 +5,10 @@ ghost use Rattle.ssa_path.specs.Children.{elements, rises};
 ghost use Rattle.ssa_path.specs.Trie.{are_filled_tries, is_trie, paths, paths_below};
 ghost use Rattle.ssa_typed.specs.Differences.{Removed, IsDifference, IsDiffering};
 ghost use Rattle.ssa_typed.specs.Lost.{AreLostAlong, IsLostAlong};
+ghost use Rattle.ssa_typed.specs.declared.compare.Scope.TheVariants.{Whole};
 ghost use Rattle.ssa_typed.specs.Rows.{is_tree};
 
-use crate::compare::differing;
+use crate::compare::{Scope, differing};
 use crate::node::Node;
 use ssa_path::children::FEW;
 use ssa_path::combine::push_filled;
@@ -29,7 +30,7 @@ fn lost_below(
     requires rise { rises (elements gone.now) ≡ true }
     requires tries { are_filled_tries gone.now ≡ true }
     requires along { AreLostAlong (paths_below gone.now) before.now after.now }
-    ensures { IfOk result (λ v. IsDiffering Removed before.now after.now v.items) }
+    ensures { IfOk result (λ v. IsDiffering (Removed Whole) before.now after.now v.items) }
 {
     let mut lost = Vec::new(alloc);
     for part in gone {
@@ -66,11 +67,11 @@ pub(crate) fn lost_paths(
     requires after { is_tree after.now ≡ true }
     requires trie { is_trie gone.now ≡ true }
     requires along { IsLostAlong (paths gone.now) before.now after.now }
-    ensures { IfOk result (λ t. IsDifference Removed before.now after.now t) }
+    ensures { IfOk result (λ t. IsDifference (Removed Whole) before.now after.now t) }
 {
     let in_list = matches!(before, Node::List(_)) || matches!(after, Node::List(_));
     if gone.here || (in_list && gone.below.len() > FEW) {
-        let told = differing(alloc, before, after)?;
+        let told = differing(alloc, Scope::Whole, before, after)?;
         return Ok(told.removed);
     }
     let below = lost_below(alloc, before, after, &gone.below)?;

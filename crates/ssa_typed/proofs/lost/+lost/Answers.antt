@@ -4,6 +4,7 @@ use Rattle.ssa_path.specs.View.{element_view}
 use Rattle.ssa_path.proofs.Levels.{trie-parts}
 use Rattle.ssa_path.proofs.Lists.{child-trie as trie-at}
 use Rattle.ssa_typed.specs.Differences.{Removed}
+use Rattle.ssa_typed.specs.declared.compare.Scope.TheVariants.{Whole}
 use Rattle.ssa_typed.specs.Rows.{rows}
 use Rattle.ssa_typed.proofs.Differing.{difference-made}
 use Rattle.ssa_typed.proofs.Lookups.{tree-child}
@@ -85,4 +86,4 @@ lost_paths-lost_below-requires t c =
     (search rules, (c.requires.before, (c.requires.after, (parts.0, (parts.1, rw c.deref.ensures.value along)))))
 
 pub lost_paths-returns : goal.lost_paths-returns
-lost_paths-returns t c = difference-made Removed c.args.before.now c.args.after.now _ refl c.in_ok-below.ensures
+lost_paths-returns t c = difference-made (Removed Whole) c.args.before.now c.args.after.now _ refl c.in_ok-below.ensures
