@@ -141,6 +141,47 @@ fn compared(alloc: Global, before: &Body, after: &Body) -> Result<String, Fail> 
     told(alloc, &before.compare(alloc, after)?)
 }
 
+// A body and a part that is put over it, the paths that it adds and modifies, and whether it leaves the body as it is: with
+// fewer fields and entries and its items in another order, with another leaf, with new items, with a new entry, and with
+// another atomic value.
+const PARTS: [(&str, &str, &str); 6] = [
+    (
+        r#"{"a":1,"d":{"x":1,"z":1},"l":[{"n":2,"t":1},{"n":1}],"r":{"x":1},"s":[3,2,1]}"#,
+        r#"{"d":{"z":1},"l":[{"n":1},{"n":2}],"r":{},"s":[1,3]}"#,
+        " |  | true",
+    ),
+    (
+        r#"{"a":1,"l":[{"n":2,"t":1},{"n":1}]}"#,
+        r#"{"l":[{"n":2,"t":3}]}"#,
+        r#" | f:l/k:{"n":2}/f:t | false"#,
+    ),
+    (
+        r#"{"a":1,"l":[{"n":2},{"n":1}]}"#,
+        r#"{"l":[{"n":3},{"n":2}]}"#,
+        r#"f:l/k:{"n":3} f:l/k:{"n":3}/f:n |  | false"#,
+    ),
+    (
+        r#"{"a":1,"s":[2,1]}"#,
+        r#"{"s":[3,2]}"#,
+        "f:s/v:3 |  | false",
+    ),
+    (
+        r#"{"a":1,"d":{"x":1}}"#,
+        r#"{"a":2,"d":{"z":1}}"#,
+        "f:d/f:z | f:a | false",
+    ),
+    (r#"{"v":[1,2]}"#, r#"{"v":[2,1]}"#, " | f:v | false"),
+];
+
+// How a part that is put over a body differs from it.
+fn compared_part(alloc: Global, body: &Body, part: &Body) -> Result<String, Fail> {
+    let differing = body.compare_part(alloc, part)?;
+    let added = listed(alloc, &differing.added)?;
+    let modified = listed(alloc, &differing.modified)?;
+    let repeats = truth(alloc, differing.repeats)?;
+    Ok([added.as_str(), modified.as_str(), repeats.as_str()].join(alloc, " | ")?)
+}
+
 // The body that is set beside paths.
 const SAMPLE: &str = r#"{"a":1,"d":{"x":1,"z":2},"l":[{"n":2,"t":1},{"n":1}],"s":[2,1,3]}"#;
 
@@ -304,6 +345,8 @@ const SAME: [(&str, &str, &str); 6] = [
 pub enum AskedBeside {
     /// The paths that the other adds, modifies and removes.
     Compared,
+    /// The paths that the other, a part that is put over the body, adds and modifies, and whether it leaves the body as it is.
+    Part,
     /// Whether the two are one.
     Same,
 }
@@ -317,6 +360,7 @@ fn told_beside(
 ) -> Result<String, Fail> {
     match asked {
         AskedBeside::Compared => compared(alloc, own, other),
+        AskedBeside::Part => compared_part(alloc, own, other),
         AskedBeside::Same => truth(alloc, own.is_same(other)),
     }
 }
@@ -335,6 +379,11 @@ fn bodies_are_merged_and_compared(rt: HostRuntime) -> Result<(), Fail> {
         rt.alloc(),
         &QuestionOfTwo::Bodies(AskedBeside::Compared),
         &COMPARED,
+    )?;
+    are_told_of_two(
+        rt.alloc(),
+        &QuestionOfTwo::Bodies(AskedBeside::Part),
+        &PARTS,
     )?;
     are_told_of_two(rt.alloc(), &QuestionOfTwo::Bodies(AskedBeside::Same), &SAME)
 }
