@@ -1,6 +1,10 @@
 //! Tests of bodies beside others, and beside sets of paths.
-ghost use Rattle.std.specs.Prelude.{◌≡◌, IfOk};
+ghost use Rattle.std.specs.Prelude.{◌≡◌, ◌||◌, IfOk};
+ghost use Rattle.ssa_model.specs.definitions.Body.{restricted};
+ghost use Rattle.ssa_model.specs.definitions.Path.{is_root};
+ghost use Rattle.ssa_model.specs.definitions.PathMap.{has_at_or_below};
 ghost use Rattle.ssa_model.specs.definitions.Valid.{metadata_path};
+ghost use Rattle.ssa_typed.specs.Cut.{uncut};
 
 use crate::questions::{Question, QuestionOfTwo};
 use crate::samples::PLACES;
@@ -196,7 +200,9 @@ fn metadata(alloc: Global) -> Result<Path, Fail>
 
 // A sample without what is at and below the first paths, but for what is at or above the others. It has no `metadata`, so
 // each part of it is rooted.
-fn cut_of(alloc: Global, sample: Body, gone: &FieldSet, held: &FieldSet) -> Result<Body, Fail> {
+fn cut_of(alloc: Global, sample: Body, gone: &FieldSet, held: &FieldSet) -> Result<Body, Fail>
+    ensures { IfOk result (λ b. b ≡ restricted sample (λ p. is_root p || has_at_or_below (uncut sample gone.now held.now) p)) }
+{
     if sample.get(&metadata(alloc)?).is_some() {
         return Err(Fail::new("the sample has metadata"));
     }
@@ -284,6 +290,64 @@ const SORTS_CUT: [(&str, &str, &str); 8] = [
     (SOME_BELOW, "f:d", "Dict 1"),
     (SOME_BELOW, "f:s", "list 2"),
 ];
+
+// The body of which paths are told that it loses.
+const MANY: &str =
+    r#"{"a":1,"d":{"x":1,"z":2},"e":{"x":{"x":1}},"l":[{"n":2,"t":1},{"n":1}],"s":[10,9,8,7,6,5,4,3,2,1]}"#;
+
+// The paths that a body loses where it is cut.
+fn lost_of(
+    alloc: Global,
+    whole: &Body,
+    gone: &FieldSet,
+    held: &FieldSet,
+) -> Result<FieldSet, Fail> {
+    let rest = cut_of(alloc, whole.clone(alloc)?, gone, held)?;
+    whole.cuts_are_along();
+    Ok(whole.lost_along(alloc, &rest, gone)?)
+}
+
+/// The paths that the body of many places loses without the first paths, but for what is at or above the second.
+pub fn told_lost(alloc: Global, gone: &str, held: &str) -> Result<String, Fail> {
+    let gone = set(alloc, gone)?;
+    let held = set(alloc, held)?;
+    let whole = body(alloc, PLACES, MANY)?;
+    listed(alloc, &lost_of(alloc, &whole, &gone, &held)?)
+}
+
+// Paths that go and paths that are held, and those that are lost: of each sort of place a part, and two that are not there;
+// below places that stand since something below them is held; a field of an item; an entry with the Dict above it; most
+// items of a list; all that is not held; and none.
+const LOST: [(&str, &str, &str); 7] = [
+    (
+        r#"f:a f:d/f:x f:d/f:y f:l/k:{"n":1} f:q f:s/v:1"#,
+        "",
+        r#"f:a f:d/f:x f:l/k:{"n":1} f:l/k:{"n":1}/f:n f:s/v:1"#,
+    ),
+    (
+        "f:d f:l f:s",
+        r#"f:d/f:z f:l/k:{"n":1} f:s/v:3"#,
+        r#"f:d/f:x f:l/k:{"n":1}/f:n f:l/k:{"n":2} f:l/k:{"n":2}/f:n f:l/k:{"n":2}/f:t f:s/v:1 f:s/v:10 f:s/v:2 f:s/v:4 f:s/v:5 f:s/v:6 f:s/v:7 f:s/v:8 f:s/v:9"#,
+    ),
+    (r#"f:l/k:{"n":2}/f:t"#, "", r#"f:l/k:{"n":2}/f:t"#),
+    ("f:e/f:x", "", "f:e f:e/f:x f:e/f:x/f:x"),
+    (
+        "f:s/v:1 f:s/v:10 f:s/v:2 f:s/v:3 f:s/v:4 f:s/v:5 f:s/v:6 f:s/v:8 f:s/v:9",
+        "",
+        "f:s/v:1 f:s/v:10 f:s/v:2 f:s/v:3 f:s/v:4 f:s/v:5 f:s/v:6 f:s/v:8 f:s/v:9",
+    ),
+    (
+        "/",
+        "f:d/f:z f:e/f:x f:l f:s",
+        r#"f:a f:d/f:x f:e/f:x/f:x f:l/k:{"n":1} f:l/k:{"n":1}/f:n f:l/k:{"n":2} f:l/k:{"n":2}/f:n f:l/k:{"n":2}/f:t f:s/v:1 f:s/v:10 f:s/v:2 f:s/v:3 f:s/v:4 f:s/v:5 f:s/v:6 f:s/v:7 f:s/v:8 f:s/v:9"#,
+    ),
+    ("", "", ""),
+];
+
+#[test]
+fn lost_paths_are_told(rt: HostRuntime) -> Result<(), Fail> {
+    are_told_of_two(rt.alloc(), &QuestionOfTwo::Lost, &LOST)
+}
 
 #[test]
 fn what_goes_is_cut_and_what_stays_is_of_its_sort(rt: HostRuntime) -> Result<(), Fail> {

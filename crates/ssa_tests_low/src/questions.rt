@@ -60,6 +60,8 @@ pub enum QuestionOfTwo {
     Bodies(merge_tests::AskedBeside),
     /// A question of what is cut from the sample of a body.
     Cut(merge_tests::AskedOfCut),
+    /// Which paths a body loses without the first text's, but for what is at or above the second's.
+    Lost,
 }
 
 /// The answer to a question of two texts.
@@ -76,5 +78,6 @@ pub fn answer_of_two(
         QuestionOfTwo::Over(asked) => merge_tests::told_over(alloc, asked, first, second),
         QuestionOfTwo::Bodies(asked) => merge_tests::beside(alloc, asked, first, second),
         QuestionOfTwo::Cut(asked) => merge_tests::told_of_cut(alloc, asked, first, second),
+        QuestionOfTwo::Lost => merge_tests::told_lost(alloc, first, second),
     }
 }

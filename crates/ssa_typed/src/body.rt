@@ -225,7 +225,7 @@ impl Body {
         after: &Body,
         gone: &FieldSet,
     ) -> Result<FieldSet, AllocError>
-        requires along { LostAlong gone.now self.now after.now }
+        requires { LostAlong gone.now self.now after.now }
         ensures { IfOk result (λ s. s ≡ removed self.now after.now) }
     {
         let root = lost_paths(alloc, &self.root, &after.root, gone.root())?;

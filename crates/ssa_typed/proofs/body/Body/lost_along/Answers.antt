@@ -9,7 +9,7 @@ use Rattle.ssa_typed.proofs.body.Body.lost_along.Goals as goal
 pub lost_paths-requires-clause-along : goal.lost_paths-requires-clause-along
 lost_paths-requires-clause-along c =
     along-trees c.self.inside.root c.after.inside.root c.root.result.now c.args.gone.now _ _ c.self.invariant.tree c.after.invariant.tree c.root.ensures.same
-    c.self.view_is c.after.view_is c.requires.along
+    c.self.view_is c.after.view_is c.requires
 
 pub returns : goal.returns
 returns c =
