@@ -57,25 +57,21 @@ fn left_out(
 }
 
 // Those of the paths that are no key fields, and that have no path of the other managers at or
-// below them.
-fn unneeded(
-    alloc: Global,
-    absent: &FieldSet,
-    table: &[Entry],
-    key: &ManagerKey,
-) -> Result<FieldSet, AllocError>
-    ensures { IfOk result (λ s. s ≡ set_of (paths absent.now) (λ g. not (is_key_field g) && not (has_at_or_below (owned_by_others (table_view table.now) (key_view key.now)) g))) }
+// below them. Takes no memory.
+fn unneeded(absent: FieldSet, table: &[Entry], key: &ManagerKey) -> FieldSet
+    ensures { result ≡ set_of (paths absent) (λ g. not (is_key_field g) && not (has_at_or_below (owned_by_others (table_view table.now) (key_view key.now)) g)) }
 {
-    let mut free = absent.without_key_fields(alloc)?;
+    let mut free = absent;
+    free.remove_key_fields();
     for entry in table {
         if free.is_empty() {
-            return Ok(free);
+            return free;
         }
         if !entry.key.is_same(key) {
             free.remove_over(&entry.set);
         }
     }
-    Ok(free)
+    free
 }
 
 // What stands above the paths that go, or at them: paths of the other managers, and points of the
@@ -120,7 +116,7 @@ pub fn pruned(
     config.points_tell_places();
     let merged = state.body.over(alloc, config)?;
     let table = state.managers.entries();
-    let gone = unneeded(alloc, &absent, table, key)?;
+    let gone = unneeded(absent, table, key);
     if gone.is_empty() {
         merged.body.points_keep_all();
         return Ok(merged);

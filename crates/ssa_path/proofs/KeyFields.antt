@@ -1,6 +1,6 @@
--- The children of a place, put together again without key fields, from their end on.
-use Rattle.std.proofs.Common.{◌≡◌, ℕ, ◌+◌, ◌<◌, ◌≤◌, List, [], ◌∷◌, ◌++◌, length, get_or, drop, Bool, true, false, ◌&&◌, ◌||◌, not, refl, sym, ap, subst, ◌∙◌, append_assoc, append-nil}
-use Rattle.std.proofs.lemmas.List.{drop_all}
+-- The children of a place without key fields, which are taken out where they stand.
+use Rattle.std.proofs.Common.{◌≡◌, ℕ, ◌+◌, ◌<◌, ◌≤◌, List, [], ◌∷◌, ◌++◌, length, get_or, set, drop, take, Bool, true, false, ◌&&◌, ◌||◌, not, refl, sym, ap, subst, ◌∙◌, append_assoc, append-nil, arith}
+use Rattle.std.proofs.lemmas.List.{drop_all, drop-set-lt}
 use Rattle.std.specs.Bool.{MatchBool}
 use Rattle.std.specs.Ordering.{is_lt}
 use Rattle.ssa_model.specs.definitions.Path.{Element, Path, field, key, value, element_cmp, is_key_field, names_key, same_element, same_path}
@@ -8,7 +8,7 @@ use Rattle.ssa_path.specs.Children.{elements, is_below, rises}
 use Rattle.ssa_path.specs.Combine.{IsGrown}
 use Rattle.ssa_path.specs.KeyFields.{keys_in, IsWithoutKeyFields}
 use Rattle.ssa_path.specs.Keys.{Members}
-use Rattle.ssa_path.specs.Trie.{is_one_of, paths, paths_below, is_trie, is_filled, are_filled_tries}
+use Rattle.ssa_path.specs.Trie.{kept, is_one_of, paths, paths_below, is_trie, is_filled, are_filled_tries}
 use Rattle.ssa_path.specs.View.{element_view}
 use Rattle.ssa_path.specs.declared.element.Elem.{Elem}
 use Rattle.ssa_path.specs.declared.trie.Trie.{Trie}
@@ -18,6 +18,7 @@ use Rattle.ssa_path.proofs.Combining.{holds-first}
 use Rattle.ssa_path.proofs.Levels.{same_path-reading, any-child, any-made, any-level, is_trie-made, one-level-root, one-made-root, some-none, trie-parts}
 use Rattle.ssa_path.proofs.Lists.{left-at}
 use Rattle.ssa_path.proofs.Orders.{both_first, both_second}
+use Rattle.ssa_path.proofs.TakingOut.{AllKept, all-made, all-taken, grown-behind}
 use Rattle.ssa_model.proofs.Fitting.{same_element-true}
 use Rattle.ssa_model.proofs.Basics.{both-true as both}
 
@@ -118,7 +119,7 @@ module _ (test : Path → Bool) (c : Elem × Trie) (t : Trie) (cs us : Children)
       gone true a = refl
       gone false a = refl
 
--- ---- a walk over the children
+-- ---- one child after another
 
 -- whatever is left of the rest of the children, behind what was left so far it is left of all
 pub record IsLeaving (test : Path → Bool) (all cs out : Children) : Type 0 where
@@ -130,7 +131,7 @@ pub record IsLeaving (test : Path → Bool) (all cs out : Children) : Type 0 whe
   pub rest : (us : Children) → IsLeft test cs us → IsLeft test all (out ++ us)
 
 -- before the walk all children of the trie are left
-pub leaving-none : (test : Path → Bool) (t : Trie) (cs : Children) → cs ≡ (out-Trie t).below.items → is_trie t ≡ true → IsLeaving test cs cs []
+leaving-none : (test : Path → Bool) (t : Trie) (cs : Children) → cs ≡ (out-Trie t).below.items → is_trie t ≡ true → IsLeaving test cs cs []
 leaving-none test t cs is trie =
     let parts = trie-parts t cs is trie in
     record { rise = parts.0; tries = parts.1; rest = λ us h. h }
@@ -147,23 +148,59 @@ grown-cases true test all c cs out new t is trie made (d, same, items) h us g =
 grown-cases false test all c cs out new t is trie made items h us g = rw items (h.rest us (left-dropped test c t cs us made g is))
 
 -- the next child is passed, with what passes of it where that is some path
-pub leaving-more : (test : Path → Bool) (all : Children) (i : ℕ) (c : Elem × Trie) (out new : Children) (t : Trie) → i < length all → c ≡ get_or all i c
-    → is_trie t ≡ true
+leaving-more : (test : Path → Bool) (all cs : Children) (c : Elem × Trie) (out new : Children) (t : Trie) → is_trie t ≡ true
     → ((p : Path) → is_one_of (paths t) p ≡ (is_one_of (paths c.1) p && test (element_view c.0 ∷ p)))
-    → IsGrown (element_view c.0) t out new → IsLeaving test all (drop i all) out → IsLeaving test all (drop (i + 1) all) new
-leaving-more test all i c out new t lt is trie made grown was =
-    let h : IsLeaving test all (c ∷ drop (i + 1) all) out = subst (λ l. IsLeaving test all l out) (left-at all i c lt is) was in
+    → IsGrown (element_view c.0) t out new → IsLeaving test all (c ∷ cs) out → IsLeaving test all cs new
+leaving-more test all cs c out new t trie made grown h = record {
+  rise = both_second _ _ h.rise;
+  tries = both_second (is_trie c.1 && is_filled c.1) _ h.tries;
+  rest = grown-cases (is_filled t) test all c cs out new t refl trie made grown h;
+}
+
+-- ---- the children where they stand
+
+-- up to this place the children have come to what passes of them
+pub record IsTakingKeys (test : Path → Bool) (cs now : Children) (i : ℕ) (any_bare : Bool) : Type 0 where
+  -- what passes of those behind, behind what is kept so far, is what passes of all
+  pub walk : IsLeaving test cs (drop i now) (kept (take i now))
+  -- where none is told to have no path left, all are kept
+  pub all_kept : AllKept any_bare (take i now)
+
+pub keys-none : (test : Path → Bool) (t : Trie) (cs : Children) → cs ≡ (out-Trie t).below.items → is_trie t ≡ true → IsTakingKeys test cs cs 0 false
+keys-none test t cs is trie = record { walk = leaving-none test t cs is trie; all_kept = λ none. refl }
+
+-- the next child is a trie
+pub keys-next : (test : Path → Bool) (cs now : Children) (i : ℕ) (any_bare : Bool) (c : Elem × Trie) → i < length now → c ≡ get_or now i c
+    → IsTakingKeys test cs now i any_bare → is_trie c.1 ≡ true
+keys-next test cs now i any_bare c lt is h =
+    let walk = subst (λ l. IsLeaving test cs l (kept (take i now))) (left-at now i c lt is) h.walk in
+    both_first (is_trie c.1) _ (both_first (is_trie c.1 && is_filled c.1) _ walk.tries)
+
+-- the next child comes to what passes of it
+pub keys-more : (test : Path → Bool) (cs now : Children) (i : ℕ) (any_bare bare : Bool) (c u : Elem × Trie) → i < length now → c ≡ get_or now i c
+    → u.0 ≡ c.0 → is_trie u.1 ≡ true → ((p : Path) → is_one_of (paths u.1) p ≡ (is_one_of (paths c.1) p && test (element_view c.0 ∷ p)))
+    → bare ≡ not (is_filled u.1) → IsTakingKeys test cs now i any_bare → IsTakingKeys test cs (set now i u) (i + 1) (any_bare || bare)
+keys-more test cs now i any_bare bare c u lt is same trie made told h =
+    let next = drop-set-lt (i + 1) now i u (omega arith) in
+    let out = kept (take i now) in
+    let new = kept (take (i + 1) (set now i u)) in
     record {
-      rise = both_second _ _ h.rise;
-      tries = both_second (is_trie c.1 && is_filled c.1) _ h.tries;
-      rest = grown-cases (is_filled t) test all c (drop (i + 1) all) out new t refl trie made grown h;
+      walk = subst (λ l. IsLeaving test cs l new) (sym next)
+          (leaving-more test cs (drop (i + 1) now) c out new u.1 trie made (grown-behind (is_filled u.1) now i c u refl lt same trie)
+          (subst (λ l. IsLeaving test cs l out) (left-at now i c lt is) h.walk));
+      all_kept = all-made now i u any_bare bare lt trie told h.all_kept;
     }
 
--- behind the last child, what is there is what passes of all
-pub leaving-all : (test : Path → Bool) (all : Children) (i : ℕ) (out : Children) → length all ≤ i → IsLeaving test all (drop i all) out → IsLeft test all out
-leaving-all test all i out le h =
-    let none : IsLeft test (drop i all) [] = subst (λ l. IsLeft test l []) (sym (drop_all i all le)) (left-none test) in
-    subst (IsLeft test all) (append-nil out) (h.rest [] none)
+-- behind the last child, what is kept is what passes of all
+pub keys-all : (test : Path → Bool) (cs now : Children) (i : ℕ) (any_bare : Bool) → length now ≤ i → IsTakingKeys test cs now i any_bare
+    → IsLeft test cs (kept now) × AllKept any_bare now
+keys-all test cs now i any_bare le h =
+    let none = drop_all i now le in
+    let all = all-taken now i none in
+    let left : IsLeft test (drop i now) [] = subst (λ l. IsLeft test l []) (sym none) (left-none test) in (
+      subst (λ l. IsLeft test cs (kept l)) all (subst (IsLeft test cs) (append-nil (kept (take i now))) (h.walk.rest [] left)),
+      subst (AllKept any_bare) all h.all_kept,
+    )
 
 -- ---- a place over what is left below
 

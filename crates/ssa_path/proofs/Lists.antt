@@ -1,5 +1,5 @@
 -- Lists of children: one after another, parted at a place, and copied.
-use Rattle.std.proofs.Common.{◌≡◌, ℕ, suc, ◌+◌, ◌<◌, List, [], ◌∷◌, ◌++◌, length, get_or, take, drop, map, Bool, true, false, ◌&&◌, ◌||◌, refl, sym, ap, ◌∙◌, append_assoc, arith, set, length-set, get_or-set_same}
+use Rattle.std.proofs.Common.{◌≡◌, ℕ, suc, ◌+◌, ◌<◌, ◌≤◌, List, [], ◌∷◌, ◌++◌, length, get_or, take, drop, map, Bool, true, false, ◌&&◌, ◌||◌, refl, sym, ap, ◌∙◌, append_assoc, arith, set, length-set, get_or-set_same, get_or-set_other}
 use Rattle.std.proofs.lemmas.List.{take_more, take-append-drop, take-set, drop-set-lt}
 use Rattle.std.proofs.lemmas.List.Folds.{list_any-append}
 use Rattle.ssa_model.specs.definitions.Path.{Element, Path, same_path}
@@ -14,6 +14,15 @@ use Rattle.ssa_path.proofs.Orders.{both_first, both_second, and_assoc}
 use Rattle.ssa_path.proofs.Levels.{shape-made, shape-level}
 use Rattle.ssa_model.proofs.Basics.{or_swap, both-true as both}
 pub use Rattle.ssa_members.proofs.Lent.{next-lent as left-at}
+
+-- with another at a place, those behind it are as they were
+pub unvisited-set : {A : Type 0} (now old : List A) (i : ℕ) (x : A)
+    → (length now ≡ length old) × ((k : ℕ) (d : A) → i ≤ k → get_or now k d ≡ get_or old k d)
+    → (length (set now i x) ≡ length old) × ((k : ℕ) (d : A) → i + 1 ≤ k → get_or (set now i x) k d ≡ get_or old k d)
+unvisited-set now old i x h = (
+  length-set now i x ∙ h.0,
+  λ k d le. get_or-set_other now i k x d (omega arith) ∙ h.1 k d (omega arith),
+)
 
 -- ---- one after another
 

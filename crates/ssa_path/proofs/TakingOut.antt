@@ -42,7 +42,7 @@ all-next : (now : Children) (i : ℕ) (c : Elem × Trie) (any_bare : Bool) → i
 all-next now i c any_bare lt is trie filled all none =
     next-kept now i c lt is trie filled ∙ ap (λ l. l ++ c ∷ []) (all none) ∙ sym (taken-at now i c lt is)
 
-grown-behind : (b : Bool) (now : Children) (i : ℕ) (c u : Elem × Trie) → is_filled u.1 ≡ b → i < length now → u.0 ≡ c.0 → is_trie u.1 ≡ true
+pub grown-behind : (b : Bool) (now : Children) (i : ℕ) (c u : Elem × Trie) → is_filled u.1 ≡ b → i < length now → u.0 ≡ c.0 → is_trie u.1 ≡ true
     → MatchBool b ((x : Elem) × (element_view x ≡ element_view c.0) × (kept (take (i + 1) (set now i u)) ≡ kept (take i now) ++ (x, u.1) ∷ []))
     (kept (take (i + 1) (set now i u)) ≡ kept (take i now))
 grown-behind true now i c u is lt same trie =
@@ -59,14 +59,14 @@ or-false-other false true h = refl
 or-false-other false false h = absurd (true≢false h)
 or-false-other true b h = absurd (true≢false h)
 
-all-made : (now : Children) (i : ℕ) (u : Elem × Trie) (any_bare bare : Bool) → i < length now → is_trie u.1 ≡ true → bare ≡ not (is_filled u.1)
+pub all-made : (now : Children) (i : ℕ) (u : Elem × Trie) (any_bare bare : Bool) → i < length now → is_trie u.1 ≡ true → bare ≡ not (is_filled u.1)
     → AllKept any_bare (take i now) → AllKept (any_bare || bare) (take (i + 1) (set now i u))
 all-made now i u any_bare bare lt trie is all none =
     let filled = or-false-other any_bare (is_filled u.1) (ap (λ b. any_bare || b) (sym is) ∙ none) in
     let more = take_more_set now i u lt in
     ap kept more ∙ kept-stays (take i now) [] u (has-any-is u trie ∙ filled) ∙ ap (λ l. l ++ u ∷ []) (all (or-false-own any_bare bare none)) ∙ sym more
 
-all-taken : (now : Children) (i : ℕ) → drop i now ≡ [] → take i now ≡ now
+pub all-taken : (now : Children) (i : ℕ) → drop i now ≡ [] → take i now ≡ now
 all-taken now i none = sym (append-nil (take i now)) ∙ ap (λ l. take i now ++ l) (sym none) ∙ take-append-drop i now
 
 -- ---- a walk over both lists

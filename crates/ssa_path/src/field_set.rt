@@ -9,7 +9,7 @@ ghost use Rattle.ssa_path.specs.Trie.{is_trie, paths};
 
 use crate::combine::{Combination, combine};
 use crate::element::Elem;
-use crate::key_fields::without_key_fields;
+use crate::key_fields::take_out_key_fields;
 use crate::listing::{copy_ways, count_paths, list_ways};
 use crate::path::Path;
 use crate::same::same_tries;
@@ -228,15 +228,15 @@ impl FieldSet {
         self.combined(alloc, held, Combination::Over)
     }
 
-    /// The paths of this set that are no key fields of items.
+    /// Takes out the paths that are key fields of items. Takes no memory.
     ///
     /// A key field is told from the path alone: its name is one of those that the element before
     /// it has.
-    pub fn without_key_fields(&self, alloc: Global) -> Result<FieldSet, AllocError>
-        ensures { IfOk result (λ s. s ≡ set_of (set.paths self.now) (λ p. not (is_key_field p))) }
+    pub fn remove_key_fields(&mut self)
+        ensures { self.new ≡ set_of (set.paths self.old) (λ p. not (is_key_field p)) }
     {
-        let root = without_key_fields(alloc, &self.root, &[], self.root.here)?;
-        Ok(FieldSet { root })
+        let here = self.root.here;
+        take_out_key_fields(&mut self.root, &[], here);
     }
 
     /// The paths of the set, in path order.

@@ -50,7 +50,7 @@ pub fn fault_of_spec(alloc: Global, spec: &str) -> Result<String, Fail> {
     fault_under(alloc, SPEC, &body)
 }
 
-const SPECS: [(&str, &str); 32] = [
+const SPECS: [(&str, &str); 45] = [
     (r#"{"image":"a","replicas":3}"#, "fits"),
     (r#"{"image":1,"zzz":1}"#, "WrongType f:spec f:image"),
     (r#"{"aaa":1,"image":1}"#, "UnknownField f:spec f:aaa"),
@@ -63,6 +63,23 @@ const SPECS: [(&str, &str); 32] = [
     (
         r#"{"hosts":["x","x"]}"#,
         r#"DuplicateItem f:spec f:hosts v:"x""#,
+    ),
+    // Few items, and one more.
+    (r#"{"hosts":["x"]}"#, "fits"),
+    (r#"{"hosts":["x","y","z"]}"#, "fits"),
+    (
+        r#"{"hosts":["x","y","x"]}"#,
+        r#"DuplicateItem f:spec f:hosts v:"x""#,
+    ),
+    (r#"{"hosts":["w","x","y","z"]}"#, "fits"),
+    (
+        r#"{"hosts":["x","y","y","x"]}"#,
+        r#"DuplicateItem f:spec f:hosts v:"y""#,
+    ),
+    (r#"{"hosts":["v","w","x","y","z"]}"#, "fits"),
+    (
+        r#"{"hosts":["x","y","z","y","x"]}"#,
+        r#"DuplicateItem f:spec f:hosts v:"y""#,
     ),
     (
         r#"{"hosts":["x","w","v","u","t","s","r","q","p","o","n","m","l","k","j","i","h","g","f","e","d","m","x"]}"#,
@@ -90,6 +107,18 @@ const SPECS: [(&str, &str); 32] = [
         r#"{"ports":[{"name":"a","port":1},{"name":"a"}]}"#,
         r#"DuplicateItem f:spec f:ports k:{"name":"a"}"#,
     ),
+    (
+        r#"{"ports":[{"name":"a"},{"name":"b"},{"name":"b"}]}"#,
+        r#"DuplicateItem f:spec f:ports k:{"name":"b"}"#,
+    ),
+    (
+        r#"{"ports":[{"name":"a"},{"name":"b"},{"name":"c"},{"name":"d"},{"name":"a"}]}"#,
+        r#"DuplicateItem f:spec f:ports k:{"name":"a"}"#,
+    ),
+    (
+        r#"{"ports":[{"name":"a"},{"name":"b"},{"name":"c"},{"name":"d"},{"name":"e"}]}"#,
+        "fits",
+    ),
     (r#"{"ports":[{"port":1}]}"#, "MissingKey f:spec f:ports"),
     (r#"{"ports":[{"name":1}]}"#, "WrongType f:spec f:ports"),
     (r#"{"ports":[1]}"#, "WrongType f:spec f:ports"),
@@ -103,6 +132,18 @@ const SPECS: [(&str, &str); 32] = [
     ),
     (
         r#"{"routes":[{"name":"x","port":-1},{"name":"x","port":1}]}"#,
+        "fits",
+    ),
+    (
+        r#"{"routes":[{"name":"x","port":1},{"name":"x","port":2},{"name":"y","port":1}]}"#,
+        "fits",
+    ),
+    (
+        r#"{"routes":[{"name":"x","port":1},{"name":"y","port":1},{"name":"x","port":1}]}"#,
+        r#"DuplicateItem f:spec f:routes k:{"name":"x","port":1}"#,
+    ),
+    (
+        r#"{"routes":[{"name":"x","port":1},{"name":"x","port":2},{"name":"y","port":1},{"name":"y","port":2}]}"#,
         "fits",
     ),
     (

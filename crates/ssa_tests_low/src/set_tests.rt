@@ -18,10 +18,16 @@ pub enum Asked {
     Alone,
 }
 
+// What stays of a set whose fields that are keys are taken out.
+fn keyless(alloc: Global, own: &mut FieldSet) -> Result<String, Fail> {
+    own.remove_key_fields();
+    listed(alloc, own)
+}
+
 /// The answer to a question of a set of paths.
 pub fn answer(alloc: Global, asked: &Asked, text: &str) -> Result<String, Fail> {
     match asked {
-        Asked::Keyless => listed(alloc, &set(alloc, text)?.without_key_fields(alloc)?),
+        Asked::Keyless => keyless(alloc, &mut set(alloc, text)?),
         Asked::Copied => copy_and_own(alloc, &set(alloc, text)?),
         Asked::Alone => alone(alloc, &path(alloc, text)?),
     }
@@ -109,7 +115,7 @@ const OVER: [(&str, &str, &str); 3] = [
     (APART, "", ""),
 ];
 
-const KEYLESS: [(&str, &str); 2] = [
+const KEYLESS: [(&str, &str); 5] = [
     (
         OWNED,
         r#"/ f:spec f:spec/f:ports/k:{"port":80} f:spec/f:ports/k:{"port":80}/f:name f:spec/f:replicas f:status"#,
@@ -118,6 +124,13 @@ const KEYLESS: [(&str, &str); 2] = [
         r#"f:port f:port/f:protocol k:{"port":80,"protocol":"TCP"}/f:port k:{"port":80,"protocol":"TCP"}/f:port/f:protocol k:{"port":80,"protocol":"TCP"}/f:protocol k:{"port":80,"protocol":"TCP"}/k:{"port":80}/f:port k:{"port":80,"protocol":"TCP"}/k:{"port":80}/f:protocol"#,
         r#"f:port f:port/f:protocol k:{"port":80,"protocol":"TCP"}/f:port/f:protocol k:{"port":80,"protocol":"TCP"}/k:{"port":80}/f:protocol"#,
     ),
+    // Nothing is left of an item of which its key field alone is there, nor of what is above it.
+    (r#"f:ports/k:{"port":80}/f:port"#, ""),
+    (
+        r#"f:a f:ports/k:{"port":80}/f:port f:ports/k:{"port":81} f:ports/k:{"port":81}/f:port f:z"#,
+        r#"f:a f:ports/k:{"port":81} f:z"#,
+    ),
+    ("/ v:80/f:port", "/ v:80/f:port"),
 ];
 
 const SAME: [(&str, &str, &str); 8] = [

@@ -1,11 +1,41 @@
 //! The first item of a list that equals an earlier one.
 ghost use Rattle.std.specs.Prelude.{◌≡◌, [], map, IfOk};
+ghost use Rattle.std.specs.List.{list_any};
 ghost use Rattle.ssa_schema.specs.Repeats.{row_view, same_row, repeat_from, is_other, lesser, least_repeat, same_tagged, placed_view};
 
 use crate::fit::distinct_tags::have_distinct_tags;
 use crate::fit::item_key::ItemKey;
 use crate::fit::tagged_key::TaggedKey;
 use std::alloc::{AllocError, Global};
+
+// The most keys that are compared each with those in front of it. Few lists of small objects have more
+// items, and that costs less than putting so few in order, and takes no memory.
+const FEW: usize = 4;
+
+// Whether the key is one of these.
+#[inline(always)]
+fn is_one_of(keys: &[ItemKey], key: &ItemKey) -> bool
+    ensures { result ≡ list_any (same_row (row_view key.now)) (map row_view keys.now) }
+{
+    for other in keys {
+        if key.is_same(other) {
+            return true;
+        }
+    }
+    false
+}
+
+// The place of the first key that equals an earlier one, found by comparing each with those in front of it.
+fn repeat_in_pairs(keys: &[ItemKey]) -> Option<usize>
+    ensures { result ≡ repeat_from same_row 0 [] (map row_view keys.now) }
+{
+    for (place, key) in keys.iter().enumerate() {
+        if is_one_of(&keys[..place], key) {
+            return Some(place);
+        }
+    }
+    None
+}
 
 // The lesser of the numbers, where the first is there.
 fn lesser(least: Option<usize>, place: usize) -> Option<usize>
@@ -54,10 +84,13 @@ fn repeat_in_order(alloc: Global, keys: &[ItemKey]) -> Result<Option<usize>, All
 }
 
 /// The place of the first key that equals an earlier one. Takes about n log n comparisons, mostly of
-/// numbers alone.
+/// numbers alone. Few keys are compared each with those in front of it, which takes no memory.
 pub fn first_repeat(alloc: Global, keys: &[ItemKey]) -> Result<Option<usize>, AllocError>
     ensures { IfOk result (λ place. place ≡ repeat_from same_row 0 [] (map row_view keys.now)) }
 {
+    if keys.len() <= FEW {
+        return Ok(repeat_in_pairs(keys));
+    }
     if have_distinct_tags(alloc, keys)? {
         return Ok(None);
     }

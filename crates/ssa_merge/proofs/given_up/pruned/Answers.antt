@@ -12,8 +12,8 @@ returns-then-is_empty-clause-body c =
     let state = state_view c.args.state.now in
     let a = key_view c.args.key.now in
     let config = c.args.config in
-    let gone = c.in_ok-gone.ensures ∙ dropped-absent state a config c.in_ok-absent.absent _ c.in_ok-absent.ensures c.entries-table.ensures.same in
-    all-stays state a config c.in_ok-merged.merged.body c.in_ok-gone.gone gone (sym c.is_empty.ensures ∙ c.if-is_empty.true)
+    let gone = c.unneeded-gone.ensures ∙ dropped-absent state a config c.in_ok-absent.absent _ c.in_ok-absent.ensures c.entries-table.ensures.same in
+    all-stays state a config c.in_ok-merged.merged.body c.unneeded-gone.result gone (sym c.is_empty.ensures ∙ c.if-is_empty.true)
     c.in_ok-merged.ensures.body c.points_keep_all.ensures
 
 pub cut-requires : goal.cut-requires
@@ -21,9 +21,9 @@ cut-requires c =
     let state = state_view c.args.state.now in
     let a = key_view c.args.key.now in
     let config = c.args.config in
-    let gone = c.in_ok-gone.ensures ∙ dropped-absent state a config c.in_ok-absent.absent _ c.in_ok-absent.ensures c.entries-table.ensures.same in
+    let gone = c.unneeded-gone.ensures ∙ dropped-absent state a config c.in_ok-absent.absent _ c.in_ok-absent.ensures c.entries-table.ensures.same in
     let is =
-    cut-pruned state a config c.in_ok-merged.merged.body c.in_ok-gone.gone c.in_ok-held.held _ c.args.config_points.now c.in_ok-merged.ensures.body gone
+    cut-pruned state a config c.in_ok-merged.merged.body c.unneeded-gone.result c.in_ok-held.held _ c.args.config_points.now c.in_ok-merged.ensures.body gone
     c.entries-table.ensures.same c.requires.points c.in_ok-held.ensures c.requires.owned
     c.points_tell_places-2.ensures c.points_tell_places.ensures c.parts_are_of_places.ensures in
     subst IsRooted (sym is)
@@ -34,8 +34,8 @@ returns-clause-body c =
     let state = state_view c.args.state.now in
     let a = key_view c.args.key.now in
     let config = c.args.config in
-    let gone = c.in_ok-gone.ensures ∙ dropped-absent state a config c.in_ok-absent.absent _ c.in_ok-absent.ensures c.entries-table.ensures.same in
+    let gone = c.unneeded-gone.ensures ∙ dropped-absent state a config c.in_ok-absent.absent _ c.in_ok-absent.ensures c.entries-table.ensures.same in
     c.in_ok-body.ensures
-    ∙ cut-pruned state a config c.in_ok-merged.merged.body c.in_ok-gone.gone c.in_ok-held.held _ c.args.config_points.now c.in_ok-merged.ensures.body gone
+    ∙ cut-pruned state a config c.in_ok-merged.merged.body c.unneeded-gone.result c.in_ok-held.held _ c.args.config_points.now c.in_ok-merged.ensures.body gone
     c.entries-table.ensures.same c.requires.points c.in_ok-held.ensures c.requires.owned
     c.points_tell_places-2.ensures c.points_tell_places.ensures c.parts_are_of_places.ensures

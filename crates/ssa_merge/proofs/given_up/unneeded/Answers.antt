@@ -13,8 +13,8 @@ use Rattle.ssa_merge.proofs.given_up.unneeded.Goals.{then-not-is_same, else-not-
 pub loop-entry-init : goal.loop-entry-init
 loop-entry-init c =
     let others = owned_by_others (table_view c.args.table.now) (key_view c.args.key.now) in
-    sym (twice (paths c.args.absent.now) (λ p. not (is_key_field p)) (λ p. not (has_at_or_below others p)))
-    ∙ ap (λ s. set_of (paths s) (λ p. not (has_at_or_below others p))) (sym c.in_ok-free.ensures)
+    sym (twice (paths c.args.absent) (λ p. not (is_key_field p)) (λ p. not (has_at_or_below others p)))
+    ∙ ap (λ s. set_of (paths s) (λ p. not (has_at_or_below others p))) (sym c.remove_key_fields.ensures)
 
 pub loop-entry-preserved : goal.loop-entry-preserved
 loop-entry-preserved c =
