@@ -10,6 +10,7 @@ mod Clashes
 mod Untaken
 pub mod RootedPruned
 pub mod KeptPlaces
+pub mod ToldApart
 pub mod Applied
 pub mod Fits
 pub mod Valid

@@ -1,6 +1,6 @@
 //! What a command changes of a state, told without what stays.
-ghost use Rattle.std.specs.Prelude.{◌≡◌, ◌≤◌, true, if◌then◌else◌, unwrap_or, IfOk};
-ghost use Rattle.ssa_model.specs.definitions.Body.{Body as ModelBody, points};
+ghost use Rattle.std.specs.Prelude.{◌≡◌, ◌≤◌, ◌-◌, ◌^◌, true, if◌then◌else◌, min, unwrap_or, IfOk, None};
+ghost use Rattle.ssa_model.specs.definitions.Body.{Body as ModelBody, modified, points};
 ghost use Rattle.ssa_model.specs.definitions.Fitting.{IsBodyOf};
 ghost use Rattle.ssa_model.specs.definitions.History.{is_manager_name};
 ghost use Rattle.ssa_model.specs.definitions.Kind.{Kind};
@@ -11,12 +11,12 @@ ghost use Rattle.ssa_model.specs.definitions.Operations as model;
 ghost use Rattle.ssa_model.specs.definitions.Operations.{apply, clashes, pruned, strip, update};
 ghost use Rattle.ssa_model.specs.definitions.Valid.{AllEntries, IsValidState, OwnsOwnable};
 ghost use Rattle.ssa_typed.specs.Alike.{AreAlike};
-ghost use Rattle.ssa_typed.specs.Differences.{IsComparison};
+ghost use Rattle.ssa_typed.specs.Differences.{IsComparison, IsPartComparison};
 ghost use Rattle.ssa_merge.specs.Managers.{conflict_view, key_view, operation_view};
 ghost use Rattle.ssa_merge.specs.States.{state_view, applier, updater};
 ghost use Rattle.ssa_merge.specs.Plans.{body_after, changed_state, conflict_of, ChangesInOrder, IsChange, IsChanged, IsPlan};
 
-use crate::given_up::pruned;
+use crate::given_up::{PrunedBody, given_up, pruned};
 use crate::manager::{ManagerKey, Operation};
 use crate::managers::Managers;
 use crate::owned::clashes;
@@ -27,8 +27,8 @@ use crate::table_change::TableChange;
 use ssa_json::moment::Moment;
 use ssa_members::Name;
 use ssa_path::field_set::FieldSet;
-use ssa_typed::body::{Body, MOST_PLACES, Merged};
-use ssa_typed::compare::Comparison;
+use ssa_typed::body::{Body, MOST_PLACES};
+use ssa_typed::compare::{Comparison, PartComparison};
 use std::alloc::{AllocError, Global};
 
 /// What a command changes of a state, and how the body then differs from the one before.
@@ -103,25 +103,60 @@ fn body_if_other(live: &Body, after: Body, comparison: &Comparison) -> Option<Bo
     }
 }
 
-// How the merged body differs from the live one.
-fn compared(alloc: Global, live: &Body, merged: &Merged) -> Result<Comparison, AllocError>
-    requires { merged.now.is_live ≡ true → merged.now.body ≡ live.now }
-    ensures { IfOk result (IsComparison live.now merged.now.body) }
-{
-    if merged.is_live {
-        return Ok(Comparison::of_same(alloc));
-    }
-    live.compare(alloc, &merged.body)
+// What an Apply makes of the body, none where it stays, and how it then differs from the one before.
+#[derive(Drop)]
+struct BodyChange {
+    body: Option<Body>,
+    comparison: Comparison,
 }
 
-// The merged body, none where it is the live body.
-fn unless_live(merged: Merged) -> Option<Body>
-    ensures { (live : ModelBody) → (merged.is_live ≡ true → merged.body ≡ live) → body_after result live ≡ merged.body }
+// What an Apply of a configuration makes of the body, where it is told how the configuration differs from the live body. A
+// configuration that repeats what is there, and by which nothing goes, is not merged.
+fn merging(
+    alloc: Global,
+    state: &State,
+    key: &ManagerKey,
+    config: Body,
+    told: PartComparison,
+    config_points: &FieldSet,
+    keeps: bool,
+) -> Result<BodyChange, AllocError>
+    requires alike { AreAlike state.now.body config }
+    requires owned { AllEntries (OwnsOwnable state.now.body) state.now.managers }
+    requires told { IsPartComparison state.now.body config told }
+    requires points { config_points.now ≡ points config }
+    requires kept { keeps ≡ true → owned_by state.now.managers (key_view key.now) ≡ config_points.now }
+    ensures body { IfOk result (λ m. body_after m.body state.now.body ≡ pruned (state_view state.now) (key_view key.now) config) }
+    ensures comparison { IfOk result (λ m. IsComparison state.now.body (pruned (state_view state.now) (key_view key.now) config) m.comparison) }
 {
-    if merged.is_live {
-        None
-    } else {
-        Some(merged.body)
+    let gone = given_up(alloc, state, key, &config, config_points, keeps)?;
+    state.body.points_tell_places();
+    config.points_tell_places();
+    if gone.is_empty() && told.repeats {
+        state.body.points_keep_all();
+        return Ok(BodyChange {
+            body: None,
+            comparison: Comparison::of_same(alloc),
+        });
+    }
+    let PrunedBody { body, removed } = pruned(alloc, state, key, config, config_points, &gone)?;
+    Ok(BodyChange {
+        body: Some(body),
+        comparison: Comparison {
+            added: told.added,
+            modified: told.modified,
+            removed,
+        },
+    })
+}
+
+// How many places the body after a change has.
+fn size_after(live: &Body, after: &Option<Body>) -> usize
+    ensures { result ≡ min (size (body_after after.now live.now)) (2 ^ 64 - 1) }
+{
+    match after {
+        Some(body) => body.size(),
+        None => live.size(),
     }
 }
 
@@ -133,36 +168,34 @@ fn taken<'a>(changed: &'a FieldSet, nothing: &'a FieldSet, forced: bool) -> &'a 
     if forced { changed } else { nothing }
 }
 
-// What an Apply changes whose body is this one, where the manager then owns these points, or keeps what it has where
-// none are told.
+// What an Apply changes that makes this of the body and has no conflict, where the manager then owns these points, or keeps
+// what it has where none are told.
 fn applied_with(
     alloc: Global,
     state: &State,
     key: &ManagerKey,
-    merged: Merged,
+    merging: BodyChange,
     owned: Option<FieldSet>,
     force: bool,
     at: Moment,
 ) -> Result<Change, Refusal>
     requires named { is_manager_name (key_view key.now).name ≡ true }
-    requires live { merged.is_live ≡ true → merged.body ≡ state.now.body }
-    ensures { (config : ModelBody) → merged.body ≡ pruned (state_view state.now) (key_view key.now) config
+    ensures { (config : ModelBody) → body_after merging.body state.now.body ≡ pruned (state_view state.now) (key_view key.now) config
+        → IsComparison state.now.body (pruned (state_view state.now) (key_view key.now) config) merging.comparison
+        → conflict_of force (clashes (key_view key.now) (modified state.now.body config) state.now.managers) ≡ None
         → unwrap_or owned (owned_by state.now.managers (key_view key.now)) ≡ points config
         → IsChanged (state_view state.now) result (apply (state_view state.now) (key_view key.now) config force at) }
 {
-    let comparison = compared(alloc, &state.body, &merged)?;
-    let changed = &comparison.modified;
-    if let Some(found) = conflict_of(alloc, &state.managers, key, changed, force)? {
-        return Err(Refusal::Conflict(found));
-    }
-    if merged.body.size() > MOST_PLACES {
+    let BodyChange { body, comparison } = merging;
+    if size_after(&state.body, &body) > MOST_PLACES {
         return Err(Refusal::TooManyPaths);
     }
+    let changed = &comparison.modified;
     let nothing = FieldSet::new(alloc);
     let lost = taken(changed, &nothing, force);
     match seat(alloc, &state.managers, key, owned, lost, changed, at) {
         Ok(table) => Ok(Change {
-            body: unless_live(merged),
+            body,
             table,
             comparison,
         }),
@@ -170,8 +203,37 @@ fn applied_with(
     }
 }
 
-// What an Apply of a configuration by a manager changes. Mostly the manager owns the points of its
-// configuration already, and they are not made anew.
+// What an Apply of a configuration without a conflict changes. Mostly the manager owns the points of its configuration
+// already, and they are not made anew.
+fn applied_freely(
+    alloc: Global,
+    state: &State,
+    key: &ManagerKey,
+    config: Body,
+    told: PartComparison,
+    force: bool,
+    at: Moment,
+) -> Result<Change, Refusal>
+    requires alike { AreAlike state.now.body config }
+    requires named { is_manager_name (key_view key.now).name ≡ true }
+    requires owned { AllEntries (OwnsOwnable state.now.body) state.now.managers }
+    requires told { IsPartComparison state.now.body config told }
+    requires quiet { conflict_of force (clashes (key_view key.now) (modified state.now.body config) state.now.managers) ≡ None }
+    ensures { IsChanged (state_view state.now) result (apply (state_view state.now) (key_view key.now) config force at) }
+{
+    if let Some(entry) = state.managers.get(key) {
+        if config.has_points(alloc, &entry.set)? {
+            let made = merging(alloc, state, key, config, told, &entry.set, true)?;
+            return applied_with(alloc, state, key, made, None, force, at);
+        }
+    }
+    let points = config.points(alloc)?;
+    let made = merging(alloc, state, key, config, told, &points, false)?;
+    applied_with(alloc, state, key, made, Some(points), force, at)
+}
+
+// What an Apply of a configuration by a manager changes. Whether it conflicts is told by what the configuration would
+// modify, before anything is merged.
 fn applied(
     alloc: Global,
     state: &State,
@@ -185,15 +247,12 @@ fn applied(
     requires owned { AllEntries (OwnsOwnable state.now.body) state.now.managers }
     ensures { IsChanged (state_view state.now) result (apply (state_view state.now) (key_view key.now) config force at) }
 {
-    if let Some(entry) = state.managers.get(key) {
-        if config.has_points(alloc, &entry.set)? {
-            let merged = pruned(alloc, state, key, config, &entry.set, true)?;
-            return applied_with(alloc, state, key, merged, None, force, at);
-        }
+    config.points_tell_places();
+    let told = state.body.compare_part(alloc, &config)?;
+    if let Some(found) = conflict_of(alloc, &state.managers, key, &told.modified, force)? {
+        return Err(Refusal::Conflict(found));
     }
-    let points = config.points(alloc)?;
-    let merged = pruned(alloc, state, key, config, &points, false)?;
-    applied_with(alloc, state, key, merged, Some(points), force, at)
+    applied_freely(alloc, state, key, config, told, force, at)
 }
 
 /// What an Apply of a configuration by a manager changes, or why it is refused: see

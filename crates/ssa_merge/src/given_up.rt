@@ -1,10 +1,10 @@
-//! What an applier gives up, and what stays of the merged body.
+//! What an applier gives up, and what becomes of the body.
 ghost use Rattle.std.specs.Prelude.{◌≡◌, not, ◌&&◌, true, IfOk};
 ghost use Rattle.ssa_model.specs.definitions.PathMap.{has_at_or_below, paths, set_of, union};
 ghost use Rattle.ssa_model.specs.definitions.Path.{is_key_field, is_root};
-ghost use Rattle.ssa_model.specs.definitions.Body.{points};
+ghost use Rattle.ssa_model.specs.definitions.Body.{points, removed};
 ghost use Rattle.ssa_model.specs.definitions.Table.{owned_by, owned_by_others};
-ghost use Rattle.ssa_model.specs.definitions.Operations.{pruned};
+ghost use Rattle.ssa_model.specs.definitions.Operations.{dropped, pruned};
 ghost use Rattle.ssa_model.specs.definitions.Valid.{AllEntries, OwnsOwnable};
 ghost use Rattle.ssa_typed.specs.Alike.{AreAlike};
 ghost use Rattle.ssa_merge.specs.Absent.{absent};
@@ -17,7 +17,7 @@ use crate::owned::owned_over;
 use crate::state::State;
 use ssa_path::field_set::FieldSet;
 use ssa_path::path::Path;
-use ssa_typed::body::{Body, Merged};
+use ssa_typed::body::Body;
 use std::alloc::{AllocError, Global};
 
 // The set without the root.
@@ -93,42 +93,65 @@ fn held_over(
     Ok(held)
 }
 
-/// The body after an Apply: the configuration over the live body, without what the manager gives up
-/// and nobody else needs. The configuration's memory becomes the body's. Where `keeps` tells that the
-/// manager owns the points of the configuration already, nothing is looked for that it gives up.
+/// The paths that a manager gives up by an Apply of a configuration and that nobody else needs. Where `keeps` tells that
+/// the manager owns the points of the configuration already, nothing is looked for.
+pub fn given_up(
+    alloc: Global,
+    state: &State,
+    key: &ManagerKey,
+    config: &Body,
+    config_points: &FieldSet,
+    keeps: bool,
+) -> Result<FieldSet, AllocError>
+    requires points { config_points.now ≡ points config.now }
+    requires kept { keeps ≡ true → owned_by state.now.managers (key_view key.now) ≡ config_points.now }
+    ensures { IfOk result (λ s. s ≡ dropped (state_view state.now) (key_view key.now) config.now) }
+{
+    let absent = left_out(alloc, state, key, config, config_points, keeps)?;
+    Ok(unneeded(absent, state.managers.entries(), key))
+}
+
+/// The body after an Apply, and what the live body loses by it.
+#[derive(Drop)]
+pub struct PrunedBody {
+    pub body: Body,
+    /// The paths at which nothing stands any more.
+    pub removed: FieldSet,
+}
+
+/// The body after an Apply: the configuration over the live body, without the paths that are given up. The
+/// configuration's memory becomes the body's.
 pub fn pruned(
     alloc: Global,
     state: &State,
     key: &ManagerKey,
     config: Body,
     config_points: &FieldSet,
-    keeps: bool,
-) -> Result<Merged, AllocError>
+    gone: &FieldSet,
+) -> Result<PrunedBody, AllocError>
     requires alike { AreAlike state.now.body config }
     requires owned { AllEntries (OwnsOwnable state.now.body) state.now.managers }
     requires points { config_points.now ≡ points config }
-    requires kept { keeps ≡ true → owned_by state.now.managers (key_view key.now) ≡ config_points.now }
-    ensures body { IfOk result (λ m. m.body ≡ pruned (state_view state.now) (key_view key.now) config) }
-    ensures live { IfOk result (λ m. m.is_live ≡ true → m.body ≡ state.now.body) }
+    requires gone { gone.now ≡ dropped (state_view state.now) (key_view key.now) config }
+    ensures body { IfOk result (λ p. p.body ≡ pruned (state_view state.now) (key_view key.now) config) }
+    ensures removed { IfOk result (λ p. p.removed ≡ removed state.now.body p.body) }
 {
-    let absent = left_out(alloc, state, key, &config, config_points, keeps)?;
     config.stands_rooted();
     config.points_tell_places();
-    let merged = state.body.over(alloc, config)?;
-    let table = state.managers.entries();
-    let gone = unneeded(absent, table, key);
+    let merged = state.body.over(alloc, config)?.body;
+    merged.points_tell_places();
     if gone.is_empty() {
-        merged.body.points_keep_all();
-        return Ok(merged);
+        merged.points_keep_all();
+        return Ok(PrunedBody {
+            body: merged,
+            removed: FieldSet::new(alloc),
+        });
     }
-    let held = held_over(alloc, table, key, config_points, &gone)?;
-    let whole = merged.body;
-    whole.stands_rooted();
-    whole.points_tell_places();
-    whole.parts_are_of_places();
-    let body = whole.cut(alloc, &gone, &held)?;
-    Ok(Merged {
-        body,
-        is_live: false,
-    })
+    let held = held_over(alloc, state.managers.entries(), key, config_points, gone)?;
+    merged.stands_rooted();
+    merged.parts_are_of_places();
+    merged.cuts_are_along();
+    let body = merged.cut(alloc, gone, &held)?;
+    let removed = state.body.lost_along(alloc, &body, gone)?;
+    Ok(PrunedBody { body, removed })
 }

@@ -44,14 +44,6 @@ pub struct Body {
     root: Node,
 }
 
-/// A configuration over a live body, and whether this left the live body as it was. Where it says
-/// `false` nothing is promised.
-#[derive(Drop)]
-pub struct Merged {
-    pub body: Body,
-    pub is_live: bool,
-}
-
 impl Model for Body {
     ghost use Rattle.ssa_model.specs.definitions.Body as model;
     ghost use Rattle.ssa_model.specs.codes.Codes.{coded_body};
@@ -190,17 +182,13 @@ impl Body {
     /// Takes about n log n comparisons for n children of a place. What the configuration has is moved
     /// and what it lacks is copied; where both have the same places in the same order, no memory is
     /// taken.
-    pub fn over(&self, alloc: Global, config: Body) -> Result<Merged, AllocError>
+    pub fn over(&self, alloc: Global, config: Body) -> Result<Body, AllocError>
         requires { AreAlike self.now config }
-        ensures body { IfOk result (λ m. m.body ≡ over self.now config) }
-        ensures live { IfOk result (λ m. m.is_live ≡ true → m.body ≡ self.now) }
+        ensures { IfOk result (λ b. b ≡ over self.now config) }
     {
         let Body { mut root } = config;
-        let is_live = over_node(alloc, &self.root, &mut root)?;
-        Ok(Merged {
-            body: Body { root },
-            is_live,
-        })
+        over_node(alloc, &self.root, &mut root)?;
+        Ok(Body { root })
     }
 
     /// The paths of a set at which the body has nothing.

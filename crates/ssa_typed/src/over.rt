@@ -1,10 +1,8 @@
-//! A configuration put over a live tree, in the configuration's own memory. Each function tells whether what then
-//! stands there is the live tree; of `false` nothing is promised.
-ghost use Rattle.std.specs.Prelude.{◌≡◌, drop, true, IfOk, OnOk};
+//! A configuration put over a live tree, in the configuration's own memory.
+ghost use Rattle.std.specs.Prelude.{◌≡◌, drop, true, OnOk};
 ghost use Rattle.ssa_path.specs.Children.{elements, heads_order, rises};
 ghost use Rattle.ssa_typed.specs.Over.{AreAlikeBelow, AreAlikeTrees, AreOver, AreOverInOrder, IsOver};
 ghost use Rattle.ssa_typed.specs.Rows.{are_apart, are_trees, is_tree};
-ghost use Rattle.ssa_typed.specs.Same.{AreSame, AreSameChildren, HaveSame};
 
 use crate::copy::push_copy;
 use crate::in_order::stand_alike;
@@ -23,21 +21,19 @@ fn over_alike(
     alloc: Global,
     live: &[(Elem, Node)],
     config: &mut Vec<(Elem, Node)>,
-) -> Result<bool, AllocError>
+) -> Result<(), AllocError>
     requires live { are_trees live.now ≡ true }
     requires config { are_trees config.old.items ≡ true }
     requires apart { are_apart (elements live.now) ≡ true }
     requires alike { AreAlikeBelow live.now config.old.items }
     requires same { elements live.now ≡ elements config.old.items }
-    ensures over { OnOk result (AreOver live.now config.old.items config.new.items) }
-    ensures same { IfOk result (λ same. same ≡ true → AreSameChildren live.now config.new.items) }
+    ensures { OnOk result (AreOver live.now config.old.items config.new.items) }
 {
-    let mut same = true;
     for (i, child) in live.iter().enumerate() {
         let own = &mut config[i];
-        same &= over_node(alloc, &child.1, &mut own.1)?;
+        over_node(alloc, &child.1, &mut own.1)?;
     }
-    Ok(same)
+    Ok(())
 }
 
 // The live children in their order, each with the configuration's child of its element over it, and
@@ -48,25 +44,23 @@ fn over_found(
     alloc: Global,
     live: &[(Elem, Node)],
     config: &mut Vec<(Elem, Node)>,
-) -> Result<bool, AllocError>
+) -> Result<(), AllocError>
     requires live { are_trees live.now ≡ true }
     requires config { are_trees config.old.items ≡ true }
     requires apart { are_apart (elements live.now) ≡ true }
     requires config_apart { are_apart (elements config.old.items) ≡ true }
     requires alike { AreAlikeBelow live.now config.old.items }
-    ensures over { OnOk result (AreOver live.now config.old.items config.new.items) }
-    ensures same { IfOk result (λ same. same ≡ true → AreSameChildren live.now config.new.items) }
+    ensures { OnOk result (AreOver live.now config.old.items config.new.items) }
 {
     let parts = sorted_out(alloc, live, mem::replace(config, Vec::new(alloc)))?;
     let mut beside = parts.beside;
     let mut new = parts.new;
-    let mut same = new.is_empty();
     let mut merged = Vec::with_capacity(alloc, live.len())?;
     for (i, child) in live.iter().enumerate() {
         let own = mem::replace(&mut beside[i], None);
         match own {
             Some((element, mut node)) => {
-                same &= over_node(alloc, &child.1, &mut node)?;
+                over_node(alloc, &child.1, &mut node)?;
                 merged.push((element, node))?;
             }
             None => push_copy(alloc, &child.0, &child.1, &mut merged)?,
@@ -74,7 +68,7 @@ fn over_found(
     }
     merged.append(&mut new)?;
     *config = merged;
-    Ok(same)
+    Ok(())
 }
 
 // The items of a list over the live ones. A configuration mostly repeats the live children, so that
@@ -84,14 +78,13 @@ fn over_items(
     alloc: Global,
     live: &[(Elem, Node)],
     config: &mut Vec<(Elem, Node)>,
-) -> Result<bool, AllocError>
+) -> Result<(), AllocError>
     requires live { are_trees live.now ≡ true }
     requires config { are_trees config.old.items ≡ true }
     requires apart { are_apart (elements live.now) ≡ true }
     requires config_apart { are_apart (elements config.old.items) ≡ true }
     requires alike { AreAlikeBelow live.now config.old.items }
-    ensures over { OnOk result (AreOver live.now config.old.items config.new.items) }
-    ensures same { IfOk result (λ same. same ≡ true → AreSameChildren live.now config.new.items) }
+    ensures { OnOk result (AreOver live.now config.old.items config.new.items) }
 {
     if stand_alike(live, config) {
         return over_alike(alloc, live, config);
@@ -122,18 +115,16 @@ fn over_beside(
     alloc: Global,
     live: &[(Elem, Node)],
     config: &mut Vec<(Elem, Node)>,
-) -> Result<bool, AllocError>
+) -> Result<(), AllocError>
     requires live { are_trees live.now ≡ true }
     requires config { are_trees config.old.items ≡ true }
     requires live_rise { rises (elements live.now) ≡ true }
     requires rise { rises (elements config.old.items) ≡ true }
     requires alike { AreAlikeBelow live.now config.old.items }
-    ensures over { OnOk result (AreOverInOrder live.now config.old.items config.new.items) }
-    ensures same { IfOk result (λ same. same ≡ true → HaveSame live.now config.new.items) }
+    ensures { OnOk result (AreOverInOrder live.now config.old.items config.new.items) }
 {
     let mut merged = Vec::with_capacity(alloc, live.len().max(config.len()))?;
     let mut left = VecDeque::from(mem::replace(config, Vec::new(alloc)));
-    let mut same = true;
     let mut i = 0;
     while let Some(order) = order_beside(live, i, &left) {
         match order {
@@ -145,18 +136,17 @@ fn over_beside(
             Ordering::Greater => {
                 let new = left.pop_front().unwrap();
                 merged.push(new)?;
-                same = false;
             }
             Ordering::Equal => {
                 let (element, mut node) = left.pop_front().unwrap();
-                same &= over_node(alloc, &live[i].1, &mut node)?;
+                over_node(alloc, &live[i].1, &mut node)?;
                 merged.push((element, node))?;
                 i += 1;
             }
         }
     }
     *config = merged;
-    Ok(same)
+    Ok(())
 }
 
 // The fields of a record or the entries of a Dict over the live ones, in the order of their elements.
@@ -165,14 +155,13 @@ fn over_fields(
     alloc: Global,
     live: &[(Elem, Node)],
     config: &mut Vec<(Elem, Node)>,
-) -> Result<bool, AllocError>
+) -> Result<(), AllocError>
     requires live { are_trees live.now ≡ true }
     requires config { are_trees config.old.items ≡ true }
     requires live_rise { rises (elements live.now) ≡ true }
     requires rise { rises (elements config.old.items) ≡ true }
     requires alike { AreAlikeBelow live.now config.old.items }
-    ensures over { OnOk result (AreOverInOrder live.now config.old.items config.new.items) }
-    ensures same { IfOk result (λ same. same ≡ true → HaveSame live.now config.new.items) }
+    ensures { OnOk result (AreOverInOrder live.now config.old.items config.new.items) }
 {
     if stand_alike(live, config) {
         return over_alike(alloc, live, config);
@@ -184,15 +173,14 @@ fn over_fields(
 // live tree's. Takes no memory where both have the same places in the same order.
 #[cycle(over)]
 #[inline(always)]
-pub(crate) fn over_node(alloc: Global, live: &Node, config: &mut Node) -> Result<bool, AllocError>
+pub(crate) fn over_node(alloc: Global, live: &Node, config: &mut Node) -> Result<(), AllocError>
     requires live { is_tree live.now ≡ true }
     requires config { is_tree config.old ≡ true }
     requires alike { AreAlikeTrees live.now config.old }
-    ensures over { OnOk result (IsOver live.now config.old config.new) }
-    ensures same { IfOk result (λ same. same ≡ true → AreSame live.now config.new) }
+    ensures { OnOk result (IsOver live.now config.old config.new) }
 {
     match config {
-        Node::Leaf(leaf) => Ok(live.is_leaf_of(leaf)),
+        Node::Leaf(_) => Ok(()),
         Node::Branch(children) => over_fields(alloc, live.children(), children),
         Node::Dict(children) => over_fields(alloc, live.children(), children),
         Node::List(children) => over_items(alloc, live.children(), children),
