@@ -48,13 +48,18 @@ module _ (state : State) (a : ManagerKey) (config : bodies.Body) (force : Bool) 
 
 -- ---- the conflict
 
+-- a conflict that is not found is none
+pub none-found : (o : Option (Vec (Key × PathSet) Global)) → ((f : Vec (Key × PathSet) Global) → o ≡ Some f → ⊥) → conflict_view o ≡ None
+none-found None none = refl
+none-found (Some f) none = absurd (none f refl)
+
+unless-told : (b : Bool) (clash : List Clash) → (if b then Some clash else None) ≡ None → b ≡ false
+unless-told true clash h = cc
+unless-told false clash h = refl
+
 -- where there is no conflict, nothing forbids the Apply
-pub no-conflict : (force : Bool) (clash : List Clash) (o : Option (Vec (Key × PathSet) Global)) → ((f : Vec (Key × PathSet) Global) → o ≡ Some f → ⊥)
-    → conflict_view o ≡ conflict_of force clash → not (force || is_none clash) ≡ false
-no-conflict true clash o none h = refl
-no-conflict false [] o none h = refl
-no-conflict false (x ∷ xs) None none h = cc
-no-conflict false (x ∷ xs) (Some f) none h = absurd (none f refl)
+pub no-conflict : (force : Bool) (clash : List Clash) → conflict_of force clash ≡ None → not (force || is_none clash) ≡ false
+no-conflict force clash = unless-told (not (force || is_none clash)) clash
 
 -- the clashes of a conflict are all that there are, and are not forced
 pub some-conflict : (force : Bool) (clash found : List Clash) → Some found ≡ conflict_of force clash → (found ≡ clash) × (not (force || is_none clash) ≡ true)

@@ -200,21 +200,18 @@ module _ (state : State) (a : ManagerKey) (config : model.Body) (config_told : P
 -- ---- what is taken away
 
 -- what the live body loses by a cut of the merged one is along the paths that go
-pub lost-along : (live config after : model.Body) (gone : PathSet) → LostAlong gone (over live config) after → LostAlong gone live after
-lost-along live config after gone along p there off = along p (has-over live config p ∙ true_or (has live p) (has config p) there) off
+pub lost-along : (live config left : model.Body) (gone : PathSet) → LostAlong gone (over live config) left → LostAlong gone live left
+lost-along live config left gone along p there off = along p (has-over live config p ∙ true_or (has live p) (has config p) there) off
 
 -- a body that has all that is there loses nothing
-nothing-lost : (before after : model.Body) → ((p : Path) → has before p ≡ true → has after p ≡ false → ⊥) → empty ≡ removed before after
-nothing-lost before after all =
+pub none-lost : (before after : model.Body) → ((p : Path) → has before p ≡ true → has after p ≡ true) → empty ≡ removed before after
+none-lost before after all =
     same_sets _ _ (λ p. sym (has-set_of (paths before) (λ q. not (has after q)) p ∙ ap (λ b. b && not (has after p)) (sym (has-paths before p))
     ∙ elim (has before p) as (λ t. has before p ≡ t → (t && not (has after p)) ≡ false) [
-      | true ↦ λ there. elim (has after p) as (λ t. has after p ≡ t → not t ≡ false) [ true ↦ λ stays. refl | false ↦ λ off. absurd (all p there off) ] refl
+      | true ↦ λ there. ap not (all p there)
       | false ↦ λ new. refl
     ] refl))
 
--- where no path goes, nothing is lost
-pub none-lost : (gone : PathSet) (before after : model.Body) → LostAlong gone before after → is_empty gone ≡ true → empty ≡ removed before after
-none-lost gone before after along none =
-    nothing-lost before after (λ p there off.
-    let lies = ap (λ s. has_at_or_above s p || has_at_or_below s p) (sym (is_empty-true gone none)) ∙ along p there off in
-    true≢false (sym lies))
+-- the merged body has all that the live one has
+pub merged-has : (live config merged : model.Body) → merged ≡ over live config → (p : Path) → has live p ≡ true → has merged p ≡ true
+merged-has live config merged is p there = ap (λ b. has b p) is ∙ has-over live config p ∙ true_or (has live p) (has config p) there

@@ -182,7 +182,7 @@ fn applied_with(
     requires named { is_manager_name (key_view key.now).name ≡ true }
     ensures { (config : ModelBody) → body_after merging.body state.now.body ≡ pruned (state_view state.now) (key_view key.now) config
         → IsComparison state.now.body (pruned (state_view state.now) (key_view key.now) config) merging.comparison
-        → conflict_of force (clashes (key_view key.now) (modified state.now.body config) state.now.managers) ≡ None
+        → conflict_of force (clashes (key_view key.now) (modified state.now.body (pruned (state_view state.now) (key_view key.now) config)) state.now.managers) ≡ None
         → unwrap_or owned (owned_by state.now.managers (key_view key.now)) ≡ points config
         → IsChanged (state_view state.now) result (apply (state_view state.now) (key_view key.now) config force at) }
 {
@@ -218,7 +218,7 @@ fn applied_freely(
     requires named { is_manager_name (key_view key.now).name ≡ true }
     requires owned { AllEntries (OwnsOwnable state.now.body) state.now.managers }
     requires told { IsPartComparison state.now.body config told }
-    requires quiet { conflict_of force (clashes (key_view key.now) (modified state.now.body config) state.now.managers) ≡ None }
+    requires quiet { conflict_of force (clashes (key_view key.now) (modified state.now.body (pruned (state_view state.now) (key_view key.now) config)) state.now.managers) ≡ None }
     ensures { IsChanged (state_view state.now) result (apply (state_view state.now) (key_view key.now) config force at) }
 {
     if let Some(entry) = state.managers.get(key) {

@@ -138,7 +138,7 @@ pub fn pruned(
 {
     config.stands_rooted();
     config.points_tell_places();
-    let merged = state.body.over(alloc, config)?.body;
+    let merged = state.body.over(alloc, config)?;
     merged.points_tell_places();
     if gone.is_empty() {
         merged.points_keep_all();

@@ -1,30 +1,18 @@
-use Rattle.std.proofs.Common.{rules, ◌≡◌, ◌≤◌, ◌-◌, ◌^◌, true, if◌then◌else◌, min, unwrap_or, IfOk, None, ℕ, ◌+◌, ◌*◌, ◌<◌, length, ◌/◌, ◌%◌, Bool, false, nat_eq, nat_lt, List, [], ◌∷◌, ◌++◌, slice_index_or, slice_set, bit_and, bit_or, Fits, w8, w32, w64, Bor, MutBor}
-use Rattle.ssa_model.specs.definitions.Body.{Body as ModelBody}
-use Rattle.ssa_model.specs.definitions.Body.{modified, points}
-use Rattle.ssa_model.specs.definitions.Fitting.{IsBodyOf}
-use Rattle.ssa_model.specs.definitions.History.{is_manager_name}
-use Rattle.ssa_model.specs.definitions.Kind.{Kind}
-use Rattle.ssa_model.specs.definitions.Limits.{most_places}
-use Rattle.ssa_model.specs.definitions.PathMap.{minus, size, union}
+use Rattle.std.proofs.Common.{◌≡◌, ◌∙◌, ap, sym}
 use Rattle.ssa_model.specs.definitions.Table.{owned_by}
-use Rattle.ssa_model.specs.definitions.Operations as model
-use Rattle.ssa_model.specs.definitions.Operations.{apply, clashes, pruned, strip, update}
-use Rattle.ssa_model.specs.definitions.Valid.{AllEntries, IsValidState, OwnsOwnable}
-use Rattle.ssa_typed.specs.Alike.{AreAlike}
-use Rattle.ssa_typed.specs.Differences.{IsComparison, IsPartComparison}
-use Rattle.ssa_merge.specs.Managers.{conflict_view, key_view, operation_view}
-use Rattle.ssa_merge.specs.States.{state_view, applier, updater}
-use Rattle.ssa_merge.specs.Plans.{body_after, changed_state, conflict_of, ChangesInOrder, IsChange, IsChanged, IsPlan}
+use Rattle.ssa_merge.specs.Managers.{key_view}
+use Rattle.ssa_merge.proofs.GivenUp.{owned-entry, set_in}
 use Rattle.ssa_merge.proofs.change.applied_freely.Goals as goal
 
--- src/change.rt:226:24
 pub merging-requires-clause-kept : goal.merging-requires-clause-kept
-merging-requires-clause-kept c = ?
+merging-requires-clause-kept c = λ _. owned-entry c.args.state.now.managers (key_view c.args.key.now) ∙ ap set_in (sym c.in-Some.ensures)
 
--- src/change.rt:227:13
 pub returns-then-branch : goal.returns-then-branch
-returns-then-branch c = ?
+returns-then-branch c =
+    let own : owned_by c.args.state.now.managers (key_view c.args.key.now) ≡ c.in-Some.entry.now.set =
+    owned-entry c.args.state.now.managers (key_view c.args.key.now) ∙ ap set_in (sym c.in-Some.ensures) in
+    c.applied_with.ensures c.args.config c.in_ok-made.ensures.body c.in_ok-made.ensures.comparison c.requires.quiet (own ∙ c.in_ok-has_points.ensures c.if-branch.true)
 
--- src/change.rt:208:1
 pub returns : goal.returns
-returns c = ?
+returns c =
+    c.applied_with-2.ensures c.args.config c.in_ok-made-2.ensures.body c.in_ok-made-2.ensures.comparison c.requires.quiet c.in_ok-points.ensures

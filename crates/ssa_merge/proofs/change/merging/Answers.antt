@@ -1,30 +1,31 @@
-use Rattle.std.proofs.Common.{rules, ◌≡◌, ◌≤◌, ◌-◌, ◌^◌, true, if◌then◌else◌, min, unwrap_or, IfOk, None, ℕ, ◌+◌, ◌*◌, ◌<◌, length, ◌/◌, ◌%◌, Bool, false, nat_eq, nat_lt, List, [], ◌∷◌, ◌++◌, slice_index_or, slice_set, bit_and, bit_or, Fits, w8, w32, w64, Bor, MutBor}
-use Rattle.ssa_model.specs.definitions.Body.{Body as ModelBody}
-use Rattle.ssa_model.specs.definitions.Body.{modified, points}
-use Rattle.ssa_model.specs.definitions.Fitting.{IsBodyOf}
-use Rattle.ssa_model.specs.definitions.History.{is_manager_name}
-use Rattle.ssa_model.specs.definitions.Kind.{Kind}
-use Rattle.ssa_model.specs.definitions.Limits.{most_places}
-use Rattle.ssa_model.specs.definitions.PathMap.{minus, size, union}
-use Rattle.ssa_model.specs.definitions.Table.{owned_by}
-use Rattle.ssa_model.specs.definitions.Operations as model
-use Rattle.ssa_model.specs.definitions.Operations.{apply, clashes, pruned, strip, update}
-use Rattle.ssa_model.specs.definitions.Valid.{AllEntries, IsValidState, OwnsOwnable}
-use Rattle.ssa_typed.specs.Alike.{AreAlike}
-use Rattle.ssa_typed.specs.Differences.{IsComparison, IsPartComparison}
-use Rattle.ssa_merge.specs.Managers.{conflict_view, key_view, operation_view}
-use Rattle.ssa_merge.specs.States.{state_view, applier, updater}
-use Rattle.ssa_merge.specs.Plans.{body_after, changed_state, conflict_of, ChangesInOrder, IsChange, IsChanged, IsPlan}
+use Rattle.std.proofs.Common.{ap, sym, subst, ◌∙◌}
+use Rattle.ssa_model.specs.definitions.Body.{removed}
+use Rattle.ssa_typed.specs.Differences.{IsComparison}
+use Rattle.ssa_merge.specs.Managers.{key_view}
+use Rattle.ssa_merge.specs.States.{state_view}
+use Rattle.ssa_merge.proofs.GivenUp.{all-stays}
+use Rattle.ssa_merge.proofs.ToldApart.{added-told, modified-told}
 use Rattle.ssa_merge.proofs.change.merging.Goals as goal
 
--- src/change.rt:137:9
 pub returns-then-told-clause-body : goal.returns-then-told-clause-body
-returns-then-told-clause-body c = ?
+returns-then-told-clause-body c =
+    all-stays (state_view c.args.state.now) (key_view c.args.key.now) c.args.config c.args.state.now.body c.in_ok-gone.gone c.in_ok-gone.ensures
+    (sym c.is_empty.ensures ∙ c.if-is_empty.true) (sym (c.requires.told.repeats c.if-told.true)) c.points_keep_all.ensures
 
--- src/change.rt:137:9
 pub returns-then-told-clause-comparison : goal.returns-then-told-clause-comparison
-returns-then-told-clause-comparison c = ?
+returns-then-told-clause-comparison c =
+    subst (λ b. IsComparison c.args.state.now.body b c.of_same.result)
+    (all-stays (state_view c.args.state.now) (key_view c.args.key.now) c.args.config c.args.state.now.body c.in_ok-gone.gone c.in_ok-gone.ensures
+    (sym c.is_empty.ensures ∙ c.if-is_empty.true) (sym (c.requires.told.repeats c.if-told.true)) c.points_keep_all.ensures)
+    (c.of_same.ensures c.args.state.now.body)
 
--- src/change.rt:115:1
 pub returns-clause-comparison : goal.returns-clause-comparison
-returns-clause-comparison c = ?
+returns-clause-comparison c =
+    let state = state_view c.args.state.now in
+    let a = key_view c.args.key.now in
+    let config = c.args.config in
+    record {
+      added_are = c.requires.told.added_are ∙ sym (added-told state a config c.points_tell_places-2.ensures c.points_tell_places.ensures);
+      modified_are = c.requires.told.modified_are ∙ sym (modified-told state a config c.points_tell_places-2.ensures);
+      removed_are = c.in_ok-body.ensures.removed ∙ ap (removed state.body) c.in_ok-body.ensures.body;
+    }
