@@ -70,7 +70,7 @@ fn ssa_typed_example(rt: HostRuntime) -> Result<(), Fail> {
     let schema = schema(rt.alloc(), text)?;
     let live = Body::from_json(rt.alloc(), &schema, value(rt.alloc(), r#"{"s":[2,1]}"#)?)?;
     let config = Body::from_json(rt.alloc(), &schema, value(rt.alloc(), r#"{"s":[3,2]}"#)?)?;
-    let merged = live.over(rt.alloc(), config)?.body.to_json(rt.alloc())?;
+    let merged = live.over(rt.alloc(), config)?.to_json(rt.alloc())?;
     assert_eq!(rt; merged.to_string(rt.alloc())?.as_str(), r#"{"s":[2,1,3]}"#);
     Ok(())
 }

@@ -13,7 +13,7 @@ use ssa_members::SmallText;
 use ssa_path::element::Elem;
 use ssa_path::field_set::FieldSet;
 use ssa_path::path::Path;
-use ssa_typed::body::{Body, Merged};
+use ssa_typed::body::Body;
 use ssa_typed::compare::Comparison;
 use std::alloc::Global;
 use std::test::Fail;
@@ -44,29 +44,19 @@ const OVER: [(&str, &str, &str); 6] = [
     (r#"{"v":[1,2]}"#, r#"{"v":[3]}"#, r#"{"v":[3]}"#),
 ];
 
-// The second body over the first.
-fn over(alloc: Global, live: &str, config: &str) -> Result<Merged, Fail> {
-    let (live, config) = bodies(alloc, PLACES, live, config)?;
-    Ok(live.over(alloc, config)?)
-}
-
-/// What is asked of a live body with a configuration over it.
+/// What is asked of a live body and a configuration.
 pub enum AskedOver {
-    /// What it is.
+    /// What the one with the other over it is.
     Shown,
-    /// Whether it is told to be as it was.
+    /// Whether it is told, before anything is merged, to be as it was.
     Left,
 }
 
-// The answer of what they are merged to.
-fn told_merged(alloc: Global, asked: &AskedOver, merged: &Merged) -> Result<String, Fail> {
-    match asked {
-        AskedOver::Shown => shown(alloc, &merged.body),
-        AskedOver::Left => {
-            let told = if merged.is_live { "as it was" } else { "other" };
-            Ok(String::from_str(alloc, told)?)
-        }
-    }
+// Whether the live body is told to be as it was.
+fn told_left(alloc: Global, live: &Body, config: &Body) -> Result<String, Fail> {
+    let told = live.compare_part(alloc, config)?;
+    let text = if told.repeats { "as it was" } else { "other" };
+    Ok(String::from_str(alloc, text)?)
 }
 
 /// The answer of their texts.
@@ -76,7 +66,11 @@ pub fn told_over(
     live: &str,
     config: &str,
 ) -> Result<String, Fail> {
-    told_merged(alloc, asked, &over(alloc, live, config)?)
+    let (live, config) = bodies(alloc, PLACES, live, config)?;
+    match asked {
+        AskedOver::Shown => shown(alloc, &live.over(alloc, config)?),
+        AskedOver::Left => told_left(alloc, &live, &config),
+    }
 }
 
 // A live body and a configuration, and whether the one with the other over it is told to be as it was.

@@ -1,12 +1,11 @@
 -- Copies of trees, level by level.
-use Rattle.std.proofs.Common.{◌≡◌, List, [], ◌∷◌, ◌++◌, Bool, true, false, ◌&&◌, cond, Option, Some, None, refl, sym, ap, ◌∙◌, rules}
-use Rattle.ssa_model.specs.definitions.Body.{Content, list_branch}
-use Rattle.ssa_model.specs.definitions.Path.{Element, Path, same_element}
-use Rattle.ssa_path.specs.Children.{child_at, elements, rises}
+use Rattle.std.proofs.Common.{◌≡◌, List, [], ◌∷◌, ◌++◌, Bool, true, ◌&&◌, refl, sym, ap, ◌∙◌, rules}
+use Rattle.ssa_model.specs.definitions.Body.{list_branch}
+use Rattle.ssa_model.specs.definitions.Path.{Element}
+use Rattle.ssa_path.specs.Children.{elements, rises}
 use Rattle.ssa_path.specs.View.{element_view}
 use Rattle.ssa_typed.specs.Copies.{kept, kept_below}
-use Rattle.ssa_typed.specs.Points.{content_in}
-use Rattle.ssa_typed.specs.Rows.{Row, rows, rows_below, content_at, under_element, is_tree, are_trees, are_apart, are_fields, are_items, leaf_content}
+use Rattle.ssa_typed.specs.Rows.{Row, rows, rows_below, under_element, is_tree, are_trees, are_apart, are_fields, are_items, leaf_content}
 use Rattle.ssa_typed.specs.declared.node.Leaf.{Leaf}
 use Rattle.ssa_typed.specs.declared.node.Node.{Node, Leaf as LeafOf, Branch, Dict, List as ListOf, the_lemmas}
 use Rattle.ssa_typed.proofs.Building.{Child}
@@ -42,38 +41,20 @@ unfolding are_trees_of
 trees-kept [] = refl
 trees-kept (c ∷ cs) = ap (λ b. is_tree c.1 && b) (trees-kept cs)
 
-child_of : Element → List Kept → Option (List Row)
-child_of e [] = None
-child_of e (k ∷ ks) = cond (same_element e k.0) (Some k.1.0) (child_of e ks)
-
-content_of : Option (List Row) → Path → Option Content
-content_of None p = None
-content_of (Some rs) p = content_at rs p
-
-content-kept : (cs : List Child) (e : Element) (p : Path) → content_in (child_at e cs) p ≡ content_of (child_of e (kept_below cs)) p
-unfolding content_of child_of
-content-kept [] e p = refl
-content-kept (c ∷ cs) e p =
-    elim (same_element e (element_view c.0)) as (λ b. content_in (cond b (Some c.1) (child_at e cs)) p
-    ≡ content_of (cond b (Some (rows c.1)) (child_of e (kept_below cs))) p) [ true ↦ refl | false ↦ content-kept cs e p ]
-
--- children that keep the same have the same rows, elements and contents, and are trees alike
+-- children that keep the same have the same rows and elements, and are trees alike
 pub record AreSame (cs ds : List Child) : Type 0 where
   -- they have the same rows
   pub rows_same : rows_below cs ≡ rows_below ds
   -- they stand under the same elements
   pub elements_same : elements cs ≡ elements ds
-  -- what is found below an element is the same
-  pub contents_same : (e : Element) (p : Path) → content_in (child_at e cs) p ≡ content_in (child_at e ds) p
   -- all are trees in both lists, or in neither
   pub trees_same : are_trees cs ≡ are_trees ds
 
--- children that keep the same are the same in rows, elements and contents, and whether they are trees
+-- children that keep the same are the same in rows and elements, and whether they are trees
 pub kept-same : (cs ds : List Child) → kept_below cs ≡ kept_below ds → AreSame cs ds
 kept-same cs ds e_same = record {
   rows_same = rows-kept cs ∙ ap rows_of e_same ∙ sym (rows-kept ds);
   elements_same = elements-kept cs ∙ ap elements_of e_same ∙ sym (elements-kept ds);
-  contents_same = λ e p. content-kept cs e p ∙ ap (λ ks. content_of (child_of e ks) p) e_same ∙ sym (content-kept ds e p);
   trees_same = trees-kept cs ∙ ap are_trees_of e_same ∙ sym (trees-kept ds);
 }
 

@@ -1,6 +1,6 @@
 -- A node made of the children of one node over those of another.
 use Rattle.std.proofs.Common.{◌≡◌, suc, ◌+◌, ◌*◌, ◌<◌, length, List, [], ◌∷◌, ◌++◌, Bool, true, false, not, ◌&&◌, cond, Option, Some, None, refl, sym, ap, subst, ◌∙◌, true≢false, arith, rules, Result, Ok, Err}
-use Rattle.std.specs.Prelude.{filter, IfOk, OnOk}
+use Rattle.std.specs.Prelude.{filter, OnOk}
 use Rattle.std.specs.List.{list_any}
 use Rattle.ssa_model.specs.definitions.Body.{Content, leaf, atom, record_branch, dict_branch, list_branch, joined, over_content, over, is_leaf, order_at}
 use Rattle.ssa_model.specs.definitions.Kind.{is_among}
@@ -13,7 +13,6 @@ use Rattle.ssa_typed.specs.Alike.{are_alike, AreAlike}
 use Rattle.ssa_typed.specs.Over.{AreAlikeBelow, AreAlikeTrees, IsOver, AreOver, AreOverInOrder, HaveOver}
 use Rattle.ssa_typed.specs.Points.{content_in}
 use Rattle.ssa_typed.specs.Rows.{body_of, rows, rows_below, below, below_of, content_of, own_content, leaf_content, is_tree, are_trees, are_apart, are_fields, are_items}
-use Rattle.ssa_typed.specs.Same.{AreSame, AreSameChildren, HaveSame}
 use Rattle.ssa_typed.specs.declared.node.Leaf.{Leaf}
 use Rattle.ssa_typed.specs.declared.node.Leaf.TheVariants.{Scalar, Atomic}
 use Rattle.ssa_typed.specs.declared.node.Node.{Node, Leaf as LeafOf, Branch, Dict, List as ListOf, the_lemmas}
@@ -25,7 +24,6 @@ use Rattle.ssa_typed.proofs.Looks.{get-body}
 use Rattle.ssa_typed.proofs.Lookups.{child_at-rest, content-root}
 use Rattle.ssa_typed.proofs.Sizes.{length-level}
 use Rattle.ssa_typed.proofs.Overlaying.{alike-below, alike-root, over-apart, over-level}
-use Rattle.ssa_typed.proofs.SameTrees.{same-node}
 use Rattle.ssa_model.proofs.Fitting.{same_element-true}
 use Rattle.ssa_model.proofs.Tables.{element-itself as same_element-itself}
 use Rattle.ssa_model.proofs.Basics.{both-true as both, some≢none as some-none}
@@ -273,13 +271,6 @@ module _ (n m : Node) (live : is_tree n ≡ true) (config : is_tree m ≡ true) 
       (over-level n m m live config config
       (ap (λ c. Some c) own ∙ sym (ap (λ c. over_content (Some (own_content n)) (Some c)) own ∙ over-leaf (Some (own_content n)) l)) none)
 
-  -- that leaf is the live node, where this has its contents
-  pub leaf-same : (l : Leaf) → m ≡ LeafOf l → leaf_content l ≡ own_content n → AreSame n (LeafOf l)
-  leaf-same l is same =
-      let own = ap own_content is ∙ own-Leaf l in
-      let none = leaf-below m l own ∙ sym (no-children l is) in
-      subst (AreSame n) is (same-node n m live config (own ∙ same) (λ e p. ap (λ cs. content_in (child_at e cs) p) none))
-
   -- children of both nodes, in the order of their elements
   stand-named : (cs : List Child) → is_listing (own_content n) ≡ false → is_listing (own_content m) ≡ false → AreOverInOrder (below n) (below m) cs
       → ((rises (elements cs) && are_fields (elements cs)) && are_trees cs) ≡ true
@@ -336,37 +327,6 @@ module _ (n m : Node) (live : is_tree n ≡ true) (config : is_tree m ≡ true) 
         ∙ sym (ap (λ c. over_content (Some (own_content n)) (Some c)) own))
         (λ e p. ap (λ cs. content_in (child_at e cs) p) (below-List v) ∙ h.contents e p)
 
-    module _ (cs : List Child) (seen : cs ≡ below n) where
-      same-below : (x : Node) → below x ≡ v.items → HaveSame cs v.items → HaveSame (below n) (below x)
-      same-below x is same e p =
-          ap (λ ds. content_in (child_at e ds) p) is ∙ same e p ∙ ap (λ ds. content_in (child_at e ds) p) seen
-
-      -- that record is the live node where the same stands below each field
-      pub record-same : m ≡ Branch w → AreOverInOrder cs w.items v.items → HaveSame cs v.items → AreSame n (Branch v)
-      record-same is put same =
-          let own = ap own_content is ∙ own-Branch w in
-          let sort = record-alone (own_content n) (ap (λ c. are_alike (Some (own_content n)) (Some c)) (sym own) ∙ alike-root n m alike) in
-          let made = record-over is (order-live cs (below n) w.items v.items seen put) in
-          same-node n (Branch v) live made.tree (own-Branch v ∙ sort) (same-below (Branch v) (below-Branch v) same)
-
-      -- that Dict is the live node where the same stands below each entry
-      pub dict-same : m ≡ Dict w → AreOverInOrder cs w.items v.items → HaveSame cs v.items → AreSame n (Dict v)
-      dict-same is put same =
-          let own = ap own_content is ∙ own-Dict w in
-          let sort = dict-alone (own_content n) (ap (λ c. are_alike (Some (own_content n)) (Some c)) (sym own) ∙ alike-root n m alike) in
-          let made = dict-over is (order-live cs (below n) w.items v.items seen put) in
-          same-node n (Dict v) live made.tree (own-Dict v ∙ sort) (same-below (Dict v) (below-Dict v) same)
-
-      -- that list is the live node where its items are the live ones in their order
-      pub list-same : m ≡ ListOf w → AreOver cs w.items v.items → AreSameChildren cs v.items → AreSame n (ListOf v)
-      list-same is put same =
-          let own = ap own_content is ∙ own-List w in
-          let sort = list-alike (own_content n) (elements w.items) (ap (λ c. are_alike (Some (own_content n)) (Some c)) (sym own) ∙ alike-root n m alike) in
-          let made = list-over is (over-live cs (below n) w.items v.items seen put) in
-          let order = same.elements_same ∙ ap elements seen in
-          same-node n (ListOf v) live made.tree (own-List v ∙ ap list_branch order ∙ sym (listing-made (out-Node n) sort))
-          (same-below (ListOf v) (below-List v) same.contents_same)
-
 -- ---- what rises below a node
 
 rises-made : (x : Node-F Node) → is_tree (roll-Node x) ≡ true → is_listing (content_of x) ≡ false → rises (elements (below_of x)) ≡ true
@@ -399,18 +359,9 @@ pub ok-gives : {A E : Type 0} {P Q : Type 0} (r : Result A E) → OnOk r P → (
 ok-gives (Ok x) h f = f h
 ok-gives (Err e) h f = tt
 
--- so does a success that gives more by what it holds
-pub ok-gives-more : {A E : Type 0} {P : Type 0} {Q R : A → Type 0} (r : Result A E) → OnOk r P → IfOk r Q → ((x : A) → P → Q x → R x) → IfOk r R
-ok-gives-more (Ok x) h k f = f x h k
-ok-gives-more (Err e) h k f = tt
-
 -- what equals one node over another is that, too
 pub left-over : (n m x y : Node) → x ≡ y → IsOver n m y → IsOver n m x
 left-over n m x y e h = subst (IsOver n m) (sym e) h
-
--- what equals a node that is the live one is that, too
-pub left-same : (n x y : Node) → x ≡ y → AreSame n y → AreSame n x
-left-same n x y e h = subst (AreSame n) (sym e) h
 
 module _ (n m : Node) (cs ds : List Child) (own : cs ≡ below n) (is : below m ≡ ds) (live : is_tree n ≡ true) (config : is_tree m ≡ true)
     (alike : AreAlikeTrees n m) where

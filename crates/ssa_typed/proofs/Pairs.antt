@@ -48,8 +48,7 @@ module _ (R : Node → Node → Type 0) where
   each-push (x ∷ cs) [] c d one h = absurd h
   each-push (x ∷ cs) (y ∷ ds) c d one h = (h.0, each-push cs ds c d one h.1)
 
-  -- the next child and one more are, too
-  pub each-next : (cs ds more : List Child) (i : ℕ) (c d : Child) → i < length cs → c ≡ get_or cs i c → more ≡ ds ++ d ∷ [] → R c.1 d.1
+  each-next : (cs ds more : List Child) (i : ℕ) (c d : Child) → i < length cs → c ≡ get_or cs i c → more ≡ ds ++ d ∷ [] → R c.1 d.1
       → Each (take i cs) ds → Each (take (i + 1) cs) more
   each-next cs ds more i c d lt is pushed one h = subst₂ Each (sym (taken-at cs i c lt is)) (sym pushed) (each-push (take i cs) ds c d one h)
 
@@ -58,12 +57,6 @@ module _ (R : Node → Node → Type 0) where
       → Each (take i cs) (take i ds) → Each (take (i + 1) cs) (take (i + 1) ds)
   each-more cs ds i c d lt other_lt is other_is one h =
       each-next cs (take i ds) (take (i + 1) ds) i c d lt is (taken-at ds i d other_lt other_is) one h
-
-  -- the next child and the one put in its place are, too
-  pub each-put : (cs ds new : List Child) (i : ℕ) (c d : Child) → i < length cs → i < length ds → c ≡ get_or cs i c → new ≡ set ds i d → R c.1 d.1
-      → Each (take i cs) (take i ds) → Each (take (i + 1) cs) (take (i + 1) new)
-  each-put cs ds new i c d lt other_lt is put one h =
-      each-next cs (take i ds) (take (i + 1) new) i c d lt is (ap (take (i + 1)) put ∙ take_more_set ds i d other_lt) one h
 
 -- with the same elements there are as many children
 pub same-length : (cs ds : List Child) → elements cs ≡ elements ds → length cs ≡ length ds

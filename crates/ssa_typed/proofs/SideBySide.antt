@@ -12,7 +12,6 @@ use Rattle.ssa_typed.specs.Copies.{kept}
 use Rattle.ssa_typed.specs.Over.{AreAlikeBelow, AreAlikeTrees, AreOverInOrder, HaveOver, IsOver}
 use Rattle.ssa_typed.specs.Points.{content_in}
 use Rattle.ssa_typed.specs.Rows.{are_trees, content_at, is_tree, rows}
-use Rattle.ssa_typed.specs.Same.{AreSame, HaveSame}
 use Rattle.ssa_typed.specs.declared.node.Node.{Node}
 use Rattle.ssa_typed.proofs.Building.{Child}
 use Rattle.ssa_typed.proofs.Copying.{kept-rows, kept-tree}
@@ -57,15 +56,6 @@ module _ (f : Element) (own other : Option Node) (cs0 ds0 cs ds us : List Child)
     lower = λ e a b. let parts = front.lower e a b in both _ _ (ap (λ g. is_lt (element_cmp e g)) placed ∙ parts.0) (h.lower e parts.1 parts.2);
   }
 
-  same-front : ((p : Path) → content_at (rows x.1) p ≡ content_in own p) → HaveSame cs us → HaveSame cs0 (x ∷ us)
-  same-front child h e p =
-      ap (λ g. content_in (cond (same_element e g) (Some x.1) (child_at e us)) p) placed
-      ∙ (elim (same_element e f) as (λ t. content_in (cond t (Some x.1) (child_at e us)) p ≡ content_in (cond t own (child_at e cs)) p) [
-        | true ↦ child p
-        | false ↦ h e p
-      ])
-      ∙ sym (λ i. content_in (front.own e i) p)
-
 -- ---- the walk over both lists
 
 -- what is left of both lists can be put one over the other, and what is made of it, behind what is there, is made of both
@@ -83,10 +73,6 @@ pub record IsOverSoFar (cs0 ds0 cs ds out : List Child) : Type 0 where
   -- what is made of what is left completes what is there
   pub rest : (us : List Child) → IsMadeOver cs ds us → IsMadeOver cs0 ds0 (out ++ us)
 
--- what has the same as the live children left completes what is there to what has the same as all
-abbrev pub IsSameSoFar : List Child → List Child → List Child → Type 0
-IsSameSoFar cs0 cs out = (us : List Child) → HaveSame cs us → HaveSame cs0 (out ++ us)
-
 -- before the walk all is left
 pub over-start : (cs ds : List Child) → rises (elements cs) ≡ true → rises (elements ds) ≡ true → are_trees cs ≡ true → are_trees ds ≡ true
     → AreAlikeBelow cs ds → IsOverSoFar cs ds cs ds []
@@ -100,10 +86,6 @@ over-start cs ds own_rise others_rise own_trees others_trees alike =
       rest = λ us h. h;
     }
 
--- and so far there is no difference
-pub same-start : (cs : List Child) → IsSameSoFar cs cs []
-same-start cs us h = h
-
 -- where nothing is left, all are there
 pub over-end : (cs0 ds0 cs ds out : List Child) → cs ≡ [] → ds ≡ [] → IsOverSoFar cs0 ds0 cs ds out → AreOverInOrder cs0 ds0 out
 over-end cs0 ds0 cs ds out e f h =
@@ -111,10 +93,6 @@ over-end cs0 ds0 cs ds out e f h =
     let left : IsMadeOver cs ds [] = rw (e, f) none in
     let made = subst (IsMadeOver cs0 ds0) (append-nil out) (h.rest [] left) in
     record { rise = made.rise; contents = made.contents; trees = made.trees }
-
--- so is the live node, where it was the same all along
-pub same-end : (cs0 cs out : List Child) → cs ≡ [] → IsSameSoFar cs0 cs out → HaveSame cs0 out
-same-end cs0 cs out e h = subst (HaveSame cs0) (append-nil out) (h [] (rw e (λ e p. refl)))
 
 behind : (out new us : List Child) (x : Child) → new ≡ out ++ x ∷ [] → new ++ us ≡ out ++ x ∷ us
 behind out new us x pushed = ap (λ l. l ++ us) pushed ∙ append_assoc out (x ∷ []) us
@@ -141,14 +119,6 @@ module _ (cs0 ds0 : List Child) (c : Child) (cs ds out new : List Child) (x : Ch
               tree = kept-tree x.1 c.1 copy ∙ both_first (is_tree c.1) _ h.own_trees;
             }) g));
       }
-
-  -- and the live node is the same if it was so far
-  pub same-copied : IsSameSoFar cs0 (c ∷ cs) out → IsSameSoFar cs0 cs new
-  same-copied so_far us g =
-      let front = front-own c cs ds order h.own_rise h.others_rise in
-      subst (HaveSame cs0) (sym (behind out new us x pushed))
-      (so_far (x ∷ us) (same-front (element_view c.0) (Some c.1) None (c ∷ cs) ds cs ds us x front same
-      (λ p. ap (λ rs. content_at rs p) (kept-rows x.1 c.1 copy)) g))
 
 -- a child that the configuration alone has is moved
 pub over-moved : (cs0 ds0 cs : List Child) (d : Child) (ds out new : List Child) → heads_order cs (d ∷ ds) ≡ Some Greater → new ≡ out ++ d ∷ []
@@ -202,12 +172,3 @@ module _ (cs0 ds0 : List Child) (c d : Child) (cs ds out : List Child) (h : IsOv
               (h.rest (x ∷ us) (made-front e (Some c.1) (Some d.1) (c ∷ cs) (d ∷ ds) cs ds us x front same
               (record { element = same; content = over.content; tree = over.tree }) g));
         }
-
-    -- and the live node is the same if it was so far and this child is
-    pub same-both : AreSame c.1 n → IsSameSoFar cs0 (c ∷ cs) out → IsSameSoFar cs0 cs new
-    same-both one so_far us g =
-        let x : Child = (d.0, n) in
-        let front = front-both c d cs ds order h.own_rise h.others_rise in
-        subst (HaveSame cs0) (sym (behind out new us x pushed))
-        (so_far (x ∷ us) (same-front (element_view c.0) (Some c.1) (Some d.1) (c ∷ cs) (d ∷ ds) cs ds us x front
-        (sym (tied-heads c d cs ds order)) one g))

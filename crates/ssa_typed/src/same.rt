@@ -23,16 +23,6 @@ impl Leaf {
 }
 
 impl Node {
-    // Whether the node is a leaf of these contents.
-    pub(crate) fn is_leaf_of(&self, leaf: &Leaf) -> bool
-        ensures { result ≡ true → leaf_content leaf.now ≡ own_content self.now }
-    {
-        match self {
-            Node::Leaf(own) => own.is_same(leaf),
-            _ => false,
-        }
-    }
-
     // Whether the same stands at both places themselves, with children of the same elements in the same order.
     fn is_alike(&self, other: &Node) -> bool
         ensures own { result ≡ true → own_content other.now ≡ own_content self.now }

@@ -1,33 +1,30 @@
 use Rattle.std.specs.Option.{option_to_list}
 use Rattle.std.specs.Prelude.{filter}
-use Rattle.std.proofs.Common.{◌≡◌, ◌<◌, ◌+◌, ◌*◌, ◌++◌, length, drop, get_or, Some, Less, Equal, Greater, refl, set, sym, ap, subst, subst₂, ◌∙◌, true≢false, arith, rules}
+use Rattle.std.proofs.Common.{◌≡◌, ◌<◌, ◌+◌, ◌*◌, ◌++◌, length, drop, get_or, Some, Less, Equal, Greater, refl, set, sym, ap, subst, subst₂, ◌∙◌, arith, rules}
 use Rattle.ssa_path.specs.Children.{elements, heads_order}
 use Rattle.ssa_path.specs.View.{element_view}
 use Rattle.ssa_path.proofs.Combining.{both-within, heads-none, own-within}
 use Rattle.ssa_path.proofs.Lists.{left-at}
-use Rattle.ssa_path.proofs.Orders.{both_first, both_second}
 use Rattle.ssa_typed.specs.MergedOrder.{is_new}
-use Rattle.ssa_typed.specs.Rows.{below, leaf_content, rows, rows_below}
-use Rattle.ssa_typed.specs.Same.{AreSame}
+use Rattle.ssa_typed.specs.Rows.{below, rows, rows_below}
 use Rattle.ssa_typed.specs.declared.node.Node.TheVariants
 use Rattle.ssa_typed.proofs.Building.{Child}
 use Rattle.ssa_typed.proofs.Levels.{Children, rises-apart}
 use Rattle.ssa_typed.proofs.Lookups.{child-tree}
-use Rattle.ssa_typed.proofs.OverNodes.{below-Branch, below-Dict, below-List, children-alike, config-apart, config-trees, dict-over, dict-rises, dict-same, leaf-over, leaf-same, list-over, list-same, live-entries-rise, live-fields-rise, left-over, left-same, live-smaller, ok-gives, ok-gives-more, order-live, over-live, record-over, record-rises, record-same}
+use Rattle.ssa_typed.proofs.OverNodes.{below-Branch, below-Dict, below-List, children-alike, config-apart, config-trees, dict-over, dict-rises, leaf-over, list-over, live-entries-rise, live-fields-rise, left-over, live-smaller, ok-gives, order-live, over-live, record-over, record-rises}
 use Rattle.ssa_typed.proofs.Overlaying.{child-at-index}
-use Rattle.ssa_typed.proofs.Pairs.{each-next, each-put, other-there, overlaid-all, overlaid-more, overlaid-order, own-there, within}
-use Rattle.ssa_typed.proofs.SameTrees.{alike-same, merged-same, same-copy}
-use Rattle.ssa_typed.proofs.SideBySide.{IsOverSoFar, IsSameSoFar, heads-alike, over-both, over-copied, over-end, over-moved, over-start, same-both, same-copied, same-end, same-start}
+use Rattle.ssa_typed.proofs.Pairs.{other-there, overlaid-all, overlaid-more, overlaid-order, own-there, within}
+use Rattle.ssa_typed.proofs.SideBySide.{IsOverSoFar, heads-alike, over-both, over-copied, over-end, over-moved, over-start}
 use Rattle.ssa_typed.proofs.Sizes.{larger-children}
 use Rattle.ssa_typed.proofs.SortedOut.{config-child, merging-all, merging-copied, merging-own, own-child}
-use Rattle.ssa_typed.proofs.over.+over.Goals.{over_found-in-Some+in_ok-same-in-Some+in_ok-push-in-Some, over_found-in-None+in_ok-push_copy-in-None}
+use Rattle.ssa_typed.proofs.over.+over.Goals.{over_found-in-Some+in_ok-over_node-in-Some+in_ok-push-in-Some, over_found-in-None+in_ok-push_copy-in-None}
 use Rattle.ssa_typed.proofs.over.+over.Goals as goal
 
 pub over_alike-index_mut-own-requires : goal.over_alike-index_mut-own-requires
 over_alike-index_mut-own-requires t c =
     let v = c.loop-i.config in
     let there = within c.args.live.now c.args.config.now.items v.items c.loop-i.i c.index-live-i.result c.requires.same c.requires.apart c.loop-i-test.true
-    c.index-live-i.is c.loop-i.invariant.0 in
+    c.index-live-i.is c.loop-i.invariant in
     omega (arith, there, v.ok.0)
 
 pub over_alike-over_node-requires : goal.over_alike-over_node-requires
@@ -38,9 +35,9 @@ over_alike-over_node-requires t c =
     let e = element_view child.0 in
     let d = c.index_mut-own.result.now in
     let own = own-there cs ds c.loop-i.config.items c.loop-i.i child c.requires.same c.requires.apart c.loop-i-test.true c.index-live-i.is
-    c.loop-i.invariant.0 in
+    c.loop-i.invariant in
     let other = other-there cs ds c.loop-i.config.items c.loop-i.i child c.requires.same c.requires.apart c.loop-i-test.true c.index-live-i.is
-    c.loop-i.invariant.0 d c.index_mut-own.ensures.value in
+    c.loop-i.invariant d c.index_mut-own.ensures.value in
     let part = larger-children e cs child.1 own in
     let small : 4 * length (rows child.1) < 4 * length (rows_below cs) + 1 = omega arith in (
       search (rules, small),
@@ -61,26 +58,17 @@ over_alike-loop-i-preserved t c =
     let xs = c.loop-i.config.items in
     let i = c.loop-i.i in
     let child = c.index-live-i.result in
-    let there = within cs ds xs i child c.requires.same c.requires.apart c.loop-i-test.true c.index-live-i.is c.loop-i.invariant.0 in (
-      overlaid-more cs ds xs i child c.requires.same c.requires.apart c.loop-i-test.true c.index-live-i.is c.loop-i.invariant.0
-          c.index_mut-own.result.now c.index_mut-own.ensures.value c.over_node.new.config _ c.in_ok-same.ensures.over refl,
-      λ h. each-put AreSame cs xs _ i child (c.index_mut-own.result.now.0, c.over_node.new.config) c.loop-i-test.true there c.index-live-i.is refl
-          (c.in_ok-same.ensures.same (both_second c.loop-i.same _ h)) (c.loop-i.invariant.1 (both_first c.loop-i.same _ h)),
-    )
+    overlaid-more cs ds xs i child c.requires.same c.requires.apart c.loop-i-test.true c.index-live-i.is c.loop-i.invariant c.index_mut-own.result.now
+    c.index_mut-own.ensures.value c.over_node.new.config _ c.in_ok-over_node.ensures refl
 
-pub over_alike-returns-clause-over : goal.over_alike-returns-clause-over
-over_alike-returns-clause-over t c =
-    overlaid-all c.args.live.now c.args.config.now.items c.loop-i.config.items c.loop-i.i c.requires.same c.loop-i-test.false c.loop-i.invariant.0
+pub over_alike-returns : goal.over_alike-returns
+over_alike-returns t c =
+    overlaid-all c.args.live.now c.args.config.now.items c.loop-i.config.items c.loop-i.i c.requires.same c.loop-i-test.false c.loop-i.invariant
 
-pub over_alike-returns-clause-same : goal.over_alike-returns-clause-same
-over_alike-returns-clause-same t c same =
-    alike-same c.args.live.now c.args.config.now.items c.loop-i.config.items c.loop-i.i c.requires.same c.loop-i-test.false
-    (over_alike-returns-clause-over t c) (c.loop-i.invariant.1 same)
-
-pub over_fields-returns-then-stand_alike-clause-over : goal.over_fields-returns-then-stand_alike-clause-over
-over_fields-returns-then-stand_alike-clause-over t c =
+pub over_fields-returns-then-stand_alike : goal.over_fields-returns-then-stand_alike
+over_fields-returns-then-stand_alike t c =
     let same = c.stand_alike.ensures c.if-stand_alike.true ∙ ap elements c.deref.ensures.value in
-    ok-gives c.over_alike.result c.over_alike.ensures.over (overlaid-order c.args.live.now c.args.config.now.items c.over_alike.new.config.items same
+    ok-gives c.over_alike.result c.over_alike.ensures (overlaid-order c.args.live.now c.args.config.now.items c.over_alike.new.config.items same
     c.requires.rise)
 
 pub over_fields-over_alike-requires : goal.over_fields-over_alike-requires
@@ -94,10 +82,8 @@ over_beside-loop-order-init t c =
     let cs = c.args.live.now in
     let ds = c.args.config.now.items in
     let none = c.in_ok-merged.ensures.items in
-    let lent = c.from-left.ensures.0 ∙ ap (λ (v : Children). v.items) c.replace.ensures.value in (
-      rw (none, lent) (over-start cs ds c.requires.live_rise c.requires.rise c.requires.live c.requires.config c.requires.alike),
-      λ _. rw none (same-start cs),
-    )
+    let lent = c.from-left.ensures.0 ∙ ap (λ (v : Children). v.items) c.replace.ensures.value in
+    rw (none, lent) (over-start cs ds c.requires.live_rise c.requires.rise c.requires.live c.requires.config c.requires.alike)
 
 pub over_beside-loop-order-preserved-in-Less : goal.over_beside-loop-order-preserved-in-Less
 over_beside-loop-order-preserved-in-Less t c =
@@ -107,25 +93,20 @@ over_beside-loop-order-preserved-in-Less t c =
     let child = c.index-live-i.result in
     let heads = sym c.order_beside.ensures ∙ c.in-Some.is ∙ ap Some c.in-Less.is in
     let left = left-at cs i child (own-within cs ds i heads) c.index-live-i.is in
-    let so_far = subst (λ l. IsOverSoFar cs c.args.config.now.items l ds c.loop-order.merged.items) left c.loop-order.invariant.0 in
+    let so_far = subst (λ l. IsOverSoFar cs c.args.config.now.items l ds c.loop-order.merged.items) left c.loop-order.invariant in
     let first = subst (λ l. heads_order l ds ≡ Some Less) left heads in
-    let x = c.in_ok-push_copy-in-Less.ensures in (
-      over-copied cs c.args.config.now.items child (drop (i + 1) cs) ds c.loop-order.merged.items c.push_copy.new.copies.items x.0 so_far first x.1 x.2 x.3,
-      λ h. same-copied cs c.args.config.now.items child (drop (i + 1) cs) ds c.loop-order.merged.items c.push_copy.new.copies.items x.0 so_far first x.1 x.2 x.3
-          (subst (λ l. IsSameSoFar cs l c.loop-order.merged.items) left (c.loop-order.invariant.1 h)),
-    )
+    let x = c.in_ok-push_copy-in-Less.ensures in
+    over-copied cs c.args.config.now.items child (drop (i + 1) cs) ds c.loop-order.merged.items c.push_copy.new.copies.items x.0 so_far first x.1 x.2 x.3
 
-pub over_beside-loop-order-preserved-in-Greater : goal.over_beside-loop-order-preserved-in-Greater
-over_beside-loop-order-preserved-in-Greater t c =
+pub over_beside-loop-order-preserved-in-Continue-branch-3 : goal.over_beside-loop-order-preserved-in-Continue-branch-3
+over_beside-loop-order-preserved-in-Continue-branch-3 t c =
     let cs = c.args.live.now in
     let new = c.pop_front.new.self.items in
     let heads = sym c.order_beside.ensures ∙ c.in-Some.is ∙ ap Some c.in-Greater.is in
-    let first = c.pop_front.ensures.items ∙ ap (λ o. option_to_list o ++ new) c.unwrap-new.ensures in (
-      over-moved cs c.args.config.now.items (drop c.loop-order.i cs) c.unwrap-new.result new c.loop-order.merged.items c.push.new.self.items
-          (subst (λ l. heads_order (drop c.loop-order.i cs) l ≡ Some Greater) first heads) c.in_ok-push-in-Greater.ensures.items
-          (subst (λ l. IsOverSoFar cs c.args.config.now.items (drop c.loop-order.i cs) l c.loop-order.merged.items) first c.loop-order.invariant.0),
-      λ h. absurd (true≢false (sym h)),
-    )
+    let first = c.pop_front.ensures.items ∙ ap (λ o. option_to_list o ++ new) c.unwrap-new.ensures in
+    over-moved cs c.args.config.now.items (drop c.loop-order.i cs) c.unwrap-new.result new c.loop-order.merged.items c.push.new.self.items
+    (subst (λ l. heads_order (drop c.loop-order.i cs) l ≡ Some Greater) first heads) c.in_ok-push-in-Greater.ensures.items
+    (subst (λ l. IsOverSoFar cs c.args.config.now.items (drop c.loop-order.i cs) l c.loop-order.merged.items) first c.loop-order.invariant)
 
 pub over_beside-over_node-requires : goal.over_beside-over_node-requires
 over_beside-over_node-requires t c =
@@ -140,7 +121,7 @@ over_beside-over_node-requires t c =
     let left = left-at cs i child lt is in
     let first = c.pop_front-in-Equal.ensures.items ∙ ap (λ o. option_to_list o ++ new) c.unwrap-element.ensures in
     let alike = heads-alike cs c.args.config.now.items child d (drop (i + 1) cs) new c.loop-order.merged.items
-    (subst₂ (λ k l. IsOverSoFar cs c.args.config.now.items k l c.loop-order.merged.items) left first c.loop-order.invariant.0)
+    (subst₂ (λ k l. IsOverSoFar cs c.args.config.now.items k l c.loop-order.merged.items) left first c.loop-order.invariant)
     (subst₂ (λ k l. heads_order k l ≡ Some Equal) left first heads) in
     let own = child-at-index cs i child lt is (rises-apart (elements cs) c.requires.live_rise) in
     let part = larger-children (element_view child.0) cs child.1 own in
@@ -159,26 +140,15 @@ over_beside-loop-order-preserved t c =
     let is = ap (get_or cs i) c.index-live-i-in-Equal.is in
     let left = left-at cs i child lt is in
     let first = c.pop_front-in-Equal.ensures.items ∙ ap (λ o. option_to_list o ++ new) c.unwrap-element.ensures in
-    let so_far = subst₂ (λ k l. IsOverSoFar cs c.args.config.now.items k l c.loop-order.merged.items) left first c.loop-order.invariant.0 in
+    let so_far = subst₂ (λ k l. IsOverSoFar cs c.args.config.now.items k l c.loop-order.merged.items) left first c.loop-order.invariant in
     let tied = subst₂ (λ k l. heads_order k l ≡ Some Equal) left first heads in
-    let made = c.in_ok-same-in-Equal.ensures in
-    let pushed = c.in_ok-push-in-Equal.ensures.items in (
-      over-both cs c.args.config.now.items child d (drop (i + 1) cs) new c.loop-order.merged.items so_far tied c.over_node.new.config
-          c.push-in-Equal.new.self.items pushed made.over,
-      λ h. same-both cs c.args.config.now.items child d (drop (i + 1) cs) new c.loop-order.merged.items so_far tied c.over_node.new.config
-          c.push-in-Equal.new.self.items pushed (made.same (both_second c.loop-order.same _ h))
-          (subst (λ l. IsSameSoFar cs l c.loop-order.merged.items) left (c.loop-order.invariant.1 (both_first c.loop-order.same _ h))),
-    )
+    over-both cs c.args.config.now.items child d (drop (i + 1) cs) new c.loop-order.merged.items so_far tied c.over_node.new.config
+    c.push-in-Equal.new.self.items c.in_ok-push-in-Equal.ensures.items c.in_ok-over_node-in-Equal.ensures
 
-pub over_beside-returns-clause-over : goal.over_beside-returns-clause-over
-over_beside-returns-clause-over t c =
+pub over_beside-returns : goal.over_beside-returns
+over_beside-returns t c =
     let none = heads-none _ _ (sym c.order_beside.ensures ∙ c.in_default.is) in
-    over-end c.args.live.now c.args.config.now.items _ _ c.loop-order.merged.items none.0 none.1 c.loop-order.invariant.0
-
-pub over_beside-returns-clause-same : goal.over_beside-returns-clause-same
-over_beside-returns-clause-same t c same =
-    let none = heads-none _ _ (sym c.order_beside.ensures ∙ c.in_default.is) in
-    same-end c.args.live.now _ c.loop-order.merged.items none.0 (c.loop-order.invariant.1 same)
+    over-end c.args.live.now c.args.config.now.items _ _ c.loop-order.merged.items none.0 none.1 c.loop-order.invariant
 
 pub over_found-over_node-requires : goal.over_found-over_node-requires
 over_found-over_node-requires t c =
@@ -190,8 +160,8 @@ over_found-over_node-requires t c =
     let child = c.index-live-i.result in
     let e = element_view child.0 in
     let d : Child = (c.in-Some.element, c.in-Some.node) in
-    let own = own-child cs ds slots xs i child c.index_mut.result.now c.requires.apart c.loop-i-test.true c.index-live-i.is c.loop-i.invariant.0 in
-    let other = config-child cs ds slots xs i child c.index_mut.result.now c.requires.apart c.loop-i-test.true c.index-live-i.is c.loop-i.invariant.0
+    let own = own-child cs ds slots xs i child c.index_mut.result.now c.requires.apart c.loop-i-test.true c.index-live-i.is c.loop-i.invariant in
+    let other = config-child cs ds slots xs i child c.index_mut.result.now c.requires.apart c.loop-i-test.true c.index-live-i.is c.loop-i.invariant
     c.index_mut.ensures.value d (sym c.in-Some.ensures.value) in
     let part = larger-children e cs child.1 own in
     let small : 4 * length (rows child.1) < 4 * length (rows_below cs) + 1 = omega arith in (
@@ -215,67 +185,35 @@ over_found-loop-i-preserved t c =
     let i = c.loop-i.i in
     let child = c.index-live-i.result in
     let o = c.index_mut.result.now in
-    let merging = c.loop-i.invariant.0 in
-    let so_far = c.loop-i.invariant.1 in
+    let merging = c.loop-i.invariant in
     let emptied = ap (set slots i) c.replace-own.ensures.after in
     elim c.match-own.branch [
-      | over_found-in-Some+in_ok-same-in-Some+in_ok-push-in-Some w ↦
+      | over_found-in-Some+in_ok-over_node-in-Some+in_ok-push-in-Some w ↦
           let pushed = ap (λ (v : Children). v.items) w.merged-is ∙ w.in_ok-push-in-Some.ensures.items in
-          let made = w.in_ok-same-in-Some.ensures in (
-            merging-own cs ds slots xs i child o c.requires.apart c.loop-i-test.true c.index-live-i.is merging c.index_mut.ensures.value
-                (w.in-Some.element, w.in-Some.node) w.over_node.new.config c.match-own.merged.items _ (sym w.in-Some.ensures.value) made.over pushed emptied,
-            λ h.
-                let both = sym w.same-is ∙ h in
-                let before = so_far (both_first c.loop-i.same _ both) in (
-                  before.0,
-                  each-next AreSame cs xs c.match-own.merged.items i child (w.in-Some.element, w.over_node.new.config) c.loop-i-test.true c.index-live-i.is
-                      pushed (made.same (both_second c.loop-i.same _ both)) before.1,
-                ),
-          )
+          merging-own cs ds slots xs i child o c.requires.apart c.loop-i-test.true c.index-live-i.is merging c.index_mut.ensures.value
+          (w.in-Some.element, w.in-Some.node) w.over_node.new.config c.match-own.merged.items _ (sym w.in-Some.ensures.value)
+          w.in_ok-over_node-in-Some.ensures pushed emptied
       | over_found-in-None+in_ok-push_copy-in-None w ↦
           let own = own-child cs ds slots xs i child o c.requires.apart c.loop-i-test.true c.index-live-i.is merging in
           let x = w.in_ok-push_copy-in-None.ensures in
-          let pushed = ap (λ (v : Children). v.items) w.merged-is ∙ x.3 in (
-            merging-copied cs ds slots xs i child o c.requires.apart c.loop-i-test.true c.index-live-i.is merging c.index_mut.ensures.value
-                x.0 c.match-own.merged.items _ (sym w.in-None.ensures.value) (child-tree (element_view child.0) cs child.1 c.requires.live own)
-                x.1 x.2 pushed emptied,
-            λ h.
-                let before = so_far (sym w.same-is ∙ h) in (
-                  before.0,
-                  each-next AreSame cs xs c.match-own.merged.items i child x.0 c.loop-i-test.true c.index-live-i.is pushed (same-copy child.1 x.0.1 x.2) before.1,
-                ),
-          )
+          let pushed = ap (λ (v : Children). v.items) w.merged-is ∙ x.3 in
+          merging-copied cs ds slots xs i child o c.requires.apart c.loop-i-test.true c.index-live-i.is merging c.index_mut.ensures.value
+          x.0 c.match-own.merged.items _ (sym w.in-None.ensures.value) (child-tree (element_view child.0) cs child.1 c.requires.live own)
+          x.1 x.2 pushed emptied
     ]
 
-pub over_found-returns-clause-over : goal.over_found-returns-clause-over
-over_found-returns-clause-over t c =
+pub over_found-returns : goal.over_found-returns
+over_found-returns t c =
     let cs = c.args.live.now in
     let new = c.in_ok-parts.ensures.new ∙ ap (λ (v : Children). filter (is_new cs) v.items) c.replace.ensures.value in
     merging-all cs c.args.config.now.items c.loop-i.beside.items c.loop-i.merged.items c.in_ok-parts.parts.new.items c.append.new.self.items
-    c.loop-i.i c.loop-i-test.false c.requires.config c.loop-i.invariant.0 new c.in_ok-append.ensures.items
+    c.loop-i.i c.loop-i-test.false c.requires.config c.loop-i.invariant new c.in_ok-append.ensures.items
 
-pub over_found-returns-clause-same : goal.over_found-returns-clause-same
-over_found-returns-clause-same t c same =
-    let cs = c.args.live.now in
-    let new = c.in_ok-parts.ensures.new ∙ ap (λ (v : Children). filter (is_new cs) v.items) c.replace.ensures.value in
-    let left = c.loop-i.invariant.1 same in
-    merged-same cs c.args.config.now.items c.loop-i.merged.items c.in_ok-parts.parts.new.items c.append.new.self.items
-    c.loop-i.i c.loop-i-test.false new c.in_ok-append.ensures.items (over_found-returns-clause-over t c) left.0 left.1
-
-pub over_node-returns-in-Leaf-clause-over : goal.over_node-returns-in-Leaf-clause-over
-over_node-returns-in-Leaf-clause-over t c =
+pub over_node-returns-in-Leaf : goal.over_node-returns-in-Leaf
+over_node-returns-in-Leaf t c =
     let n = c.args.live.now in
     let m = c.args.config.now in
-    left-over n m _ (TheVariants.Leaf c.in-Leaf.leaf) (rw (c.in-Leaf.is, TheVariants.outs-Leaf c.in-Leaf.leaf) refl)
-    (leaf-over n m c.requires.live c.requires.config c.requires.alike c.in-Leaf.leaf c.in-Leaf.is)
-
-pub over_node-returns-in-Leaf-clause-same : goal.over_node-returns-in-Leaf-clause-same
-over_node-returns-in-Leaf-clause-same t c h =
-    let n = c.args.live.now in
-    let m = c.args.config.now in
-    left-same n _ (TheVariants.Leaf c.in-Leaf.leaf) (rw (c.in-Leaf.is, TheVariants.outs-Leaf c.in-Leaf.leaf) refl)
-    (leaf-same n m c.requires.live c.requires.config c.requires.alike c.in-Leaf.leaf c.in-Leaf.is
-    (sym (ap leaf_content c.in-Leaf.leaf-is) ∙ c.is_leaf_of.ensures h))
+    left-over n m m _ c.in-Leaf.is (leaf-over n m c.requires.live c.requires.config c.requires.alike c.in-Leaf.field-0 c.in-Leaf.is)
 
 pub over_node-over_fields-requires : goal.over_node-over_fields-requires
 over_node-over_fields-requires t c =
@@ -302,12 +240,12 @@ over_node-over_fields-requires t c =
       ),
     )
 
-pub over_node-returns-in-Branch-clause-over : goal.over_node-returns-in-Branch-clause-over
-over_node-returns-in-Branch-clause-over t c =
+pub over_node-returns-in-Branch : goal.over_node-returns-in-Branch
+over_node-returns-in-Branch t c =
     let n = c.args.live.now in
     let m = c.args.config.now in
     let is = c.in-Branch.is ∙ ap TheVariants.Branch (sym c.in-Branch.children-is) in
-    ok-gives c.over_fields.result c.over_fields.ensures.over
+    ok-gives c.over_fields.result c.over_fields.ensures
     (λ h. left-over n m _ (TheVariants.Branch c.over_fields.new.config) (rw (c.in-Branch.is, TheVariants.outs-Branch c.in-Branch.children) refl)
     (record-over n m c.requires.live c.requires.config c.requires.alike c.over_fields.new.config _ is (order-live _ _ _ _ c.children.ensures.own h)))
 
@@ -336,12 +274,12 @@ over_node-over_fields-requires-in-Dict t c =
       ),
     )
 
-pub over_node-returns-in-Dict-clause-over : goal.over_node-returns-in-Dict-clause-over
-over_node-returns-in-Dict-clause-over t c =
+pub over_node-returns-in-Dict : goal.over_node-returns-in-Dict
+over_node-returns-in-Dict t c =
     let n = c.args.live.now in
     let m = c.args.config.now in
     let is = c.in-Dict.is ∙ ap TheVariants.Dict (sym c.in-Dict.children-is) in
-    ok-gives c.over_fields-in-Dict.result c.over_fields-in-Dict.ensures.over
+    ok-gives c.over_fields-in-Dict.result c.over_fields-in-Dict.ensures
     (λ h. left-over n m _ (TheVariants.Dict c.over_fields-in-Dict.new.config) (rw (c.in-Dict.is, TheVariants.outs-Dict c.in-Dict.children) refl)
     (dict-over n m c.requires.live c.requires.config c.requires.alike c.over_fields-in-Dict.new.config _ is
     (order-live _ _ _ _ c.children-in-Dict.ensures.own h)))
@@ -371,41 +309,11 @@ over_node-over_items-requires t c =
       ),
     )
 
-pub over_node-returns-in-List-clause-over : goal.over_node-returns-in-List-clause-over
-over_node-returns-in-List-clause-over t c =
+pub over_node-returns-in-List : goal.over_node-returns-in-List
+over_node-returns-in-List t c =
     let n = c.args.live.now in
     let m = c.args.config.now in
     let is = c.in-List.is ∙ ap TheVariants.List (sym c.in-List.children-is) in
-    ok-gives c.over_items.result c.over_items.ensures.over
+    ok-gives c.over_items.result c.over_items.ensures
     (λ h. left-over n m _ (TheVariants.List c.over_items.new.config) (rw (c.in-List.is, TheVariants.outs-List c.in-List.children) refl)
     (list-over n m c.requires.live c.requires.config c.requires.alike c.over_items.new.config _ is (over-live _ _ _ _ c.children-in-List.ensures.own h)))
-
-pub over_node-returns-in-Branch-clause-same : goal.over_node-returns-in-Branch-clause-same
-over_node-returns-in-Branch-clause-same t c =
-    let n = c.args.live.now in
-    let m = c.args.config.now in
-    let is = c.in-Branch.is ∙ ap TheVariants.Branch (sym c.in-Branch.children-is) in
-    ok-gives-more c.over_fields.result c.over_fields.ensures.over c.over_fields.ensures.same
-    (λ _ over same h. left-same n _ (TheVariants.Branch c.over_fields.new.config) (rw (c.in-Branch.is, TheVariants.outs-Branch c.in-Branch.children) refl)
-    (record-same n m c.requires.live c.requires.config c.requires.alike c.over_fields.new.config _ c.children.result.now c.children.ensures.own is
-    over (same h)))
-
-pub over_node-returns-in-Dict-clause-same : goal.over_node-returns-in-Dict-clause-same
-over_node-returns-in-Dict-clause-same t c =
-    let n = c.args.live.now in
-    let m = c.args.config.now in
-    let is = c.in-Dict.is ∙ ap TheVariants.Dict (sym c.in-Dict.children-is) in
-    ok-gives-more c.over_fields-in-Dict.result c.over_fields-in-Dict.ensures.over c.over_fields-in-Dict.ensures.same
-    (λ _ over same h. left-same n _ (TheVariants.Dict c.over_fields-in-Dict.new.config) (rw (c.in-Dict.is, TheVariants.outs-Dict c.in-Dict.children) refl)
-    (dict-same n m c.requires.live c.requires.config c.requires.alike c.over_fields-in-Dict.new.config _ c.children-in-Dict.result.now
-    c.children-in-Dict.ensures.own is over (same h)))
-
-pub over_node-returns-in-List-clause-same : goal.over_node-returns-in-List-clause-same
-over_node-returns-in-List-clause-same t c =
-    let n = c.args.live.now in
-    let m = c.args.config.now in
-    let is = c.in-List.is ∙ ap TheVariants.List (sym c.in-List.children-is) in
-    ok-gives-more c.over_items.result c.over_items.ensures.over c.over_items.ensures.same
-    (λ _ over same h. left-same n _ (TheVariants.List c.over_items.new.config) (rw (c.in-List.is, TheVariants.outs-List c.in-List.children) refl)
-    (list-same n m c.requires.live c.requires.config c.requires.alike c.over_items.new.config _ c.children-in-List.result.now c.children-in-List.ensures.own is
-    over (same h)))

@@ -1,8 +1,7 @@
-use Rattle.std.proofs.Common.{◌≡◌, ◌+◌, ◌-◌, ◌*◌, [], drop, length, take, true}
+use Rattle.std.proofs.Common.{◌+◌, ◌-◌, ◌*◌, drop, length}
 use Rattle.ssa_typed.specs.Rows.{rows, rows_below}
-use Rattle.ssa_typed.specs.Same.{AreSame}
-use Rattle.ssa_typed.proofs.Pairs.{Each, IsOverlaid}
-use Rattle.ssa_typed.proofs.SideBySide.{IsOverSoFar, IsSameSoFar}
+use Rattle.ssa_typed.proofs.Pairs.{IsOverlaid}
+use Rattle.ssa_typed.proofs.SideBySide.{IsOverSoFar}
 use Rattle.ssa_typed.proofs.SortedOut.{IsMerging}
 use Rattle.ssa_typed.proofs.over.+over.Given as goal
 
@@ -27,17 +26,14 @@ decreases-over_node l = 4 * length (rows l.live.now)
 abbrev pub invariant-over_alike-loop-i : goal.invariant-over_alike-loop-i
 invariant-over_alike-loop-i l =
     IsOverlaid l.live l.fn.config.items l.config.items l.i
-    × (l.same ≡ true → Each AreSame (take l.i l.live) (take l.i l.config.items))
 
 abbrev pub invariant-over_found-loop-i : goal.invariant-over_found-loop-i
 invariant-over_found-loop-i l =
     IsMerging l.live l.fn.config.items l.beside.items l.merged.items l.i
-    × (l.same ≡ true → (l.new.items ≡ []) × Each AreSame (take l.i l.live) l.merged.items)
 
 abbrev pub invariant-over_beside-loop-order : goal.invariant-over_beside-loop-order
 invariant-over_beside-loop-order l =
     IsOverSoFar l.live l.fn.config.items (drop l.i l.live) l.left.items l.merged.items
-    × (l.same ≡ true → IsSameSoFar l.live (drop l.i l.live) l.merged.items)
 
 abbrev pub decreases-over_beside-loop-order : goal.decreases-over_beside-loop-order
 decreases-over_beside-loop-order l = (length l.live - l.i) + length l.left.items

@@ -6,7 +6,6 @@ use Rattle.ssa_typed.specs.Rows.{body_of}
 use Rattle.ssa_typed.proofs.AnyTree.{tree-root}
 use Rattle.ssa_typed.proofs.OverNodes.{over-body, alike-bodies}
 use Rattle.ssa_typed.proofs.RootedBodies.{over-rooted}
-use Rattle.ssa_typed.proofs.SameTrees.{same-body}
 use Rattle.ssa_typed.proofs.body.Body.over.Goals as goal
 
 pub over_node-requires-clause-alike : goal.over_node-requires-clause-alike
@@ -19,14 +18,11 @@ invariant_of-result c =
     let m = c.config.inside.root in
     let alike = subst₂ (λ a b. AreAlike a b) (sym c.self.view_is) (sym c.config.view_is) c.requires in
     record {
-      tree = c.in_ok-is_live.ensures.over.tree;
-      rooted = subst IsRooted (sym (over-body n m c.over_node.new.config c.in_ok-is_live.ensures.over))
+      tree = c.in_ok-over_node.ensures.tree;
+      rooted = subst IsRooted (sym (over-body n m c.over_node.new.config c.in_ok-over_node.ensures))
           (over-rooted (body_of n) (body_of m) alike c.self.invariant.rooted c.config.invariant.rooted (tree-root n) (tree-root m));
     }
 
-pub returns-clause-body : goal.returns-clause-body
-returns-clause-body c =
-    over-body c.self.inside.root c.config.inside.root c.over_node.new.config c.in_ok-is_live.ensures.over ∙ (λ i. over (c.self.view_is i) (c.config.view_is i))
-
-pub returns-clause-live : goal.returns-clause-live
-returns-clause-live c h = same-body c.self.inside.root c.over_node.new.config (c.in_ok-is_live.ensures.same h) ∙ c.self.view_is
+pub returns : goal.returns
+returns c =
+    over-body c.self.inside.root c.config.inside.root c.over_node.new.config c.in_ok-over_node.ensures ∙ (λ i. over (c.self.view_is i) (c.config.view_is i))
