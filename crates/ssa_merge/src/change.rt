@@ -28,7 +28,8 @@ use ssa_json::moment::Moment;
 use ssa_members::Name;
 use ssa_path::field_set::FieldSet;
 use ssa_typed::body::{Body, MOST_PLACES};
-use ssa_typed::compare::{Comparison, PartComparison};
+use ssa_typed::compare::Comparison;
+use ssa_typed::part::PartComparison;
 use std::alloc::{AllocError, Global};
 
 /// What a command changes of a state, and how the body then differs from the one before.

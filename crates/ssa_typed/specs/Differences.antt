@@ -11,12 +11,12 @@ use Rattle.ssa_path.specs.View.{element_view}
 use Rattle.ssa_typed.specs.Points.{content_in, point_in, is_in_dict, IsChildTrie}
 use Rattle.ssa_typed.specs.Rows.{rows, own_content, below, content_at, is_tree}
 use Rattle.ssa_typed.specs.declared.compare.Comparison.{Comparison}
-use Rattle.ssa_typed.specs.declared.compare.PartComparison.{PartComparison}
 use Rattle.ssa_typed.specs.declared.compare.Parts.{Parts}
 use Rattle.ssa_typed.specs.declared.compare.PartsBelow.{PartsBelow}
 use Rattle.ssa_typed.specs.declared.compare.Scope.{Scope}
 use Rattle.ssa_typed.specs.declared.compare.Scope.TheVariants.{Whole, Part}
 use Rattle.ssa_typed.specs.declared.node.Node.{Node}
+use Rattle.ssa_typed.specs.declared.part.PartComparison.{PartComparison}
 use Rattle.ssa_typed.specs.declared.points.Collected.{Collected}
 use Rattle.ssa_typed.specs.declared.points.Collected.TheVariants.{Points, All}
 

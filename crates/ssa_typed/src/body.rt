@@ -18,12 +18,13 @@ ghost use Rattle.ssa_typed.specs.Lost.{CutsAreAlong, LostAlong};
 ghost use Rattle.ssa_typed.specs.Reached.{PartsAreOfPlaces, PointsKeepAll, PointsTellPlaces};
 ghost use Rattle.ssa_typed.specs.Rows.{body_of, is_tree};
 
-use crate::compare::{Comparison, PartComparison, Scope, differing};
+use crate::compare::{Comparison, Scope, differing};
 use crate::cut::cut_root;
 use crate::lacking::lacking_paths;
 use crate::lost::lost_paths;
 use crate::node::{Look, Node};
 use crate::over::over_node;
+use crate::part::PartComparison;
 use ssa_json::value::Json;
 use ssa_path::field_set::FieldSet;
 use ssa_path::path::Path;

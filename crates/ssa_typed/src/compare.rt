@@ -13,7 +13,6 @@ ghost use Rattle.ssa_typed.specs.Differences.{AreDifferences, AreDiffering, AreT
 ghost use Rattle.ssa_typed.specs.Ordered.{lent_children};
 ghost use Rattle.ssa_typed.specs.Over.{HaveOver, IsOver};
 ghost use Rattle.ssa_typed.specs.Rows.{below, is_tree, leaf_content, own_content};
-ghost use Rattle.ssa_typed.specs.Same.{AreSame};
 
 use crate::node::{Leaf, Node};
 use crate::ordered::Ordered;
@@ -55,20 +54,6 @@ impl Comparison {
     {
         self.added.is_empty() && (self.modified.is_empty() && self.removed.is_empty())
     }
-}
-
-/// How a part differs from the body that it is put over.
-///
-/// `added` and `modified` are those of a [`Comparison`] of the body with what it then is: what the
-/// part lacks stays, so that nothing is removed.
-#[derive(Drop)]
-pub struct PartComparison {
-    /// The points of the part at whose paths nothing stood.
-    pub added: FieldSet,
-    /// The paths at which both have leaves of one sort with other contents.
-    pub modified: FieldSet,
-    /// Whether the part, put over the body, leaves it as it is. Of `false` nothing is promised.
-    pub repeats: bool,
 }
 
 // What the tree after is: all that then stands, so that the other places are removed, or a part that
@@ -137,19 +122,6 @@ impl Node {
             (Node::Dict(_), Node::Dict(_)) => true,
             (Node::List(_), Node::List(_)) => true,
             _ => false,
-        }
-    }
-
-    // Whether both trees are one, asked of no records: their fields are compared one by one anyway.
-    // Leaves, the items of a list and the entries of a Dict are mostly unchanged.
-    fn is_plainly_same(&self, after: &Node) -> bool
-        requires before { is_tree self.now ≡ true }
-        requires after { is_tree after.now ≡ true }
-        ensures { result ≡ true → AreSame self.now after.now }
-    {
-        match after {
-            Node::Branch(_) => false,
-            _ => self.is_same(after),
         }
     }
 }

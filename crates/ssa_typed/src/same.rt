@@ -69,4 +69,17 @@ impl Node {
         }
         true
     }
+
+    // Whether both trees are one, asked of no records: their fields are compared one by one anyway.
+    // Leaves, the items of a list and the entries of a Dict are mostly unchanged.
+    pub(crate) fn is_plainly_same(&self, after: &Node) -> bool
+        requires before { is_tree self.now ≡ true }
+        requires after { is_tree after.now ≡ true }
+        ensures { result ≡ true → AreSame self.now after.now }
+    {
+        match after {
+            Node::Branch(_) => false,
+            _ => self.is_same(after),
+        }
+    }
 }

@@ -1,0 +1,17 @@
+//! What a part that is put over a body has otherwise than it.
+
+use ssa_path::field_set::FieldSet;
+
+/// How a part differs from the body that it is put over.
+///
+/// They are those of a [`Comparison`](crate::compare::Comparison): what the part lacks stays, so that
+/// nothing is removed.
+#[derive(Drop)]
+pub struct PartComparison {
+    /// The points of the part at whose paths nothing stood.
+    pub added: FieldSet,
+    /// The paths at which both have leaves of one sort with other contents.
+    pub modified: FieldSet,
+    /// Whether the part, put over the body, leaves it as it is. Of `false` nothing is promised.
+    pub repeats: bool,
+}
