@@ -1,5 +1,5 @@
 -- What a value is written as.
-use Rattle.std.specs.Prelude.{◌≡◌, ℕ, ◌<◌, ℤ, pos, negsuc, ◌^◌, List, Bool, true, ◌&&◌, nat_lt}
+use Rattle.std.specs.Prelude.{ℤ, pos, negsuc, ◌^◌, List, Bool, true, ◌&&◌, nat_lt}
 use Rattle.json.specs.Token.{Token}
 use Rattle.json.specs.Tree as tree
 use Rattle.serde_json.specs.Data as json

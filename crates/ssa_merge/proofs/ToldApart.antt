@@ -4,7 +4,7 @@ use Rattle.std.specs.Cmp.{both_ways, first_so, second_so}
 use Rattle.std.specs.List.{list_any}
 use Rattle.std.specs.Prelude.{is_some, option_map, Option, Some, None, if◌then◌else◌}
 use Rattle.ssa_model.specs.definitions.Path.{Element, Path, is_item, is_root, parent, under}
-use Rattle.ssa_model.specs.definitions.PathMap.{PathSet, empty, get, has, has_at_or_above, has_at_or_below, is_empty, paths, set_of}
+use Rattle.ssa_model.specs.definitions.PathMap.{PathSet, empty, get, has, has_at_or_below, paths, set_of}
 use Rattle.ssa_model.specs.definitions.Body as model
 use Rattle.ssa_model.specs.definitions.Body.{Content, leaf, atom, record_branch, dict_branch, list_branch, added, is_bare, is_dict, is_leaf, is_other_leaf, is_point, modified, over, over_content, points, removed, restricted_content, strictly_under}
 use Rattle.ssa_model.specs.definitions.Table.{ManagerKey}
@@ -17,7 +17,7 @@ use Rattle.ssa_model.proofs.Scalars.{same_scalar-itself}
 use Rattle.ssa_model.proofs.Tables.{either, element-itself, has-over, has-restricted, points-kept, true_or}
 use Rattle.ssa_typed.specs.Lost.{LostAlong}
 use Rattle.ssa_typed.specs.Reached.{PointsTellPlaces}
-use Rattle.ssa_merge.proofs.GivenUp.{is_empty-true}
+use Rattle.ssa_typed.proofs.Differing.{other-none}
 use Rattle.ssa_merge.proofs.HeldAbove.{below-one, one-below}
 
 -- ---- contents
@@ -30,14 +30,6 @@ other-list (Some (atom v)) es = refl
 other-list (Some record_branch) es = refl
 other-list (Some dict_branch) es = refl
 other-list (Some (list_branch fs)) es = refl
-
-other-none : (o : Option Content) → is_other_leaf o None ≡ false
-other-none None = refl
-other-none (Some (leaf s)) = refl
-other-none (Some (atom v)) = refl
-other-none (Some record_branch) = refl
-other-none (Some dict_branch) = refl
-other-none (Some (list_branch fs)) = refl
 
 -- what stays of a place is no other leaf
 other-stayed : (stays : Path → Bool) (p : Path) (o : Option Content) → is_other_leaf o (option_map (restricted_content stays p) o) ≡ false

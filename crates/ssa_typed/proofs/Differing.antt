@@ -36,7 +36,8 @@ use Rattle.ssa_model.proofs.Basics.{and-true as and_true, and-false as and_false
 
 -- ---- what differs, told of children that only one tree has
 
-other-none : (o : Option Content) → is_other_leaf o None ≡ false
+-- where nothing stands is no other leaf
+pub other-none : (o : Option Content) → is_other_leaf o None ≡ false
 other-none None = refl
 other-none (Some (leaf s)) = refl
 other-none (Some (atom v)) = refl
