@@ -3,13 +3,12 @@ use Rattle.std.proofs.Common.{◌≡◌, ℕ, ◌+◌, ◌-◌, ◌^◌, ◌≤�
 use Rattle.std.proofs.lemmas.Option.{none-some, same_Some}
 use Rattle.std.specs.Prelude.{IfSome, nat_lt, if◌then◌else◌}
 use Rattle.ssa_model.specs.definitions.Facts.{record_size}
-use Rattle.ssa_model.specs.definitions.History.{Timeline, moved_to}
-use Rattle.ssa_model.specs.definitions.HistoryRecords.{kept_facts, kept_from, kept_size, kept_to, state_at}
+use Rattle.ssa_model.specs.definitions.History.{Timeline}
+use Rattle.ssa_model.specs.definitions.HistoryRecords.{kept_facts, kept_from, kept_size, kept_to}
 use Rattle.ssa_model.specs.definitions.Kind.{Kind}
 use Rattle.ssa_model.specs.definitions.Record.{record_of}
-use Rattle.ssa_model.specs.definitions.Valid.{AllValid, IsValidState}
+use Rattle.ssa_model.specs.definitions.Valid.{AllValid}
 use Rattle.ssa_model.specs.laws.RecordSizes.{SizeBound}
-use Rattle.ssa_model.proofs.ValidTimelines.{present_valid}
 use Rattle.ssa_model.proofs.ValidTimelines.{state-valid}
 
 -- the n-th record of a valid history holds at most as much as there are facts in which its two states differ

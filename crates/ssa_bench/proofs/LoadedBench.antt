@@ -1,7 +1,7 @@
 -- What was read of a bench file so far, and what is known of the whole where all of it was read or its next line is refused.
-use Rattle.std.proofs.Common.{◌≡◌, ◌≤◌, ℕ, List, [], length, Bool, true, false, Option, Some, None, option_map, refl, sym, ap, subst, ◌∙◌, arith}
+use Rattle.std.proofs.Common.{◌≡◌, ◌≤◌, ℕ, List, length, Bool, true, false, Option, Some, None, option_map, refl, sym, ap, subst, ◌∙◌, arith}
 use Rattle.std.proofs.lemmas.Bool.Decides.{nat_tests}
-use Rattle.std.proofs.lemmas.Option.{none-some, same_Some}
+use Rattle.std.proofs.lemmas.Option.{none-some}
 use Rattle.std.specs.Prelude.{Result, Ok, Err, nat_le, if◌then◌else◌}
 use Rattle.ssa_model.specs.definitions.Limits.{most_bench_bytes}
 use Rattle.ssa_model.specs.definitions.Json.{Json}
@@ -12,7 +12,6 @@ use Rattle.ssa_model.specs.laws.LineByLine.{FilesAreRead, Move, Next, Reader, af
 use Rattle.ssa_model.specs.laws.RecordedBenches.{Counts, counts_in, MoveFault, no_move_text, record_does_not_fit, recorded_bench_in, recorded_fault, RecordedFilesAreTaken, TakenIsRecordedText}
 use Rattle.ssa_model.proofs.LineByLine.{after_head}
 use Rattle.ssa_json.specs.Readings.{readings}
-use Rattle.ssa_file.specs.declared.head.RecordCounts.{RecordCounts}
 use Rattle.ssa_file.specs.declared.loading.LoadFault.{LoadFault}
 use Rattle.ssa_file.specs.declared.loading.LoadFault.TheVariants.{BenchText, RecordDoesNotFit, Io, OutOfMemory}
 use Rattle.ssa_bench.specs.Loading.{IsRefused, Loads, ReadRefuses, ReadsEnd, ReadsHistory, ReadsMoves, ReadsPart}

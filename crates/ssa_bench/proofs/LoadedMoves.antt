@@ -1,18 +1,17 @@
 -- Laws of loading the moves of a bench, line after line.
-use Rattle.std.proofs.Common.{◌≡◌, ◌<◌, ◌+◌, ◌-◌, ℕ, suc, List, [], Option, Some, None, refl, sym, ap, subst, ◌∙◌, arith}
+use Rattle.std.proofs.Common.{◌≡◌, ◌<◌, ◌+◌, ◌-◌, ℕ, suc, List, Option, Some, None, sym, ap, subst, ◌∙◌, arith}
 use Rattle.std.specs.Prelude.{Result, Ok, Err}
 use Rattle.ssa_model.specs.definitions.Json.{Json}
 use Rattle.ssa_model.specs.definitions.Operations.{State}
 use Rattle.ssa_model.specs.definitions.History.{Bench, Label, present}
-use Rattle.ssa_model.specs.laws.LineByLine.{Move, Reader, after_move, after_value, along, at_last, moved_by}
+use Rattle.ssa_model.specs.laws.LineByLine.{Move, Reader, after_move, after_value, along, moved_by}
 use Rattle.ssa_model.specs.laws.RecordedBenches.{MoveFault, value_move}
 use Rattle.ssa_json.specs.Readings.{readings}
 use Rattle.ssa_json.specs.View.{view}
-use Rattle.ssa_file.specs.Loading.{ReadsValue}
 use Rattle.ssa_file.specs.declared.loading.FileLine.{FileLine}
 use Rattle.ssa_file.specs.declared.loading.LoadFault.{LoadFault}
 use Rattle.ssa_file.specs.declared.loading.LoadFault.TheVariants.{BenchText, RecordDoesNotFit, Io, OutOfMemory}
-use Rattle.ssa_bench.specs.Loading.{ReadRefuses, ReadsEnd, ReadsLine, ReadsMoves}
+use Rattle.ssa_bench.specs.Loading.{ReadRefuses, ReadsLine, ReadsMoves}
 use Rattle.ssa_bench.specs.Taking.{MovesBy, Refuses}
 
 -- so many of the lines were read: what is read of all is what is read of the rest

@@ -1,10 +1,10 @@
 -- Laws of loading a bench part by part.
-use Rattle.std.proofs.Common.{◌≡◌, ℕ, List, [], Option, Some, None, option_map, sym, ap, subst, ◌∙◌}
+use Rattle.std.proofs.Common.{◌≡◌, ℕ, List, Option, Some, None, sym, ap, subst, ◌∙◌}
 use Rattle.std.proofs.lemmas.Result.{err_from_is_err_and}
 use Rattle.std.specs.Prelude.{Result, Ok, Err}
 use Rattle.std.specs.Result.{IsErrAnd}
 use Rattle.ssa_model.specs.definitions.Json.{Json}
-use Rattle.ssa_model.specs.laws.LineByLine.{Reader, after_part, after_value}
+use Rattle.ssa_model.specs.laws.LineByLine.{after_part, after_value}
 use Rattle.ssa_json.specs.View.{view}
 use Rattle.ssa_file.specs.Loading.{ReadsValue}
 use Rattle.ssa_file.specs.declared.loading.FileLine.{FileLine}

@@ -1,11 +1,9 @@
 -- Laws of taking a bench from the lines of its file, one by one.
-use Rattle.std.proofs.Common.{◌≡◌, ◌≤◌, ◌<◌, ◌+◌, ℕ, List, [], ◌∷◌, length, take, Bool, true, false, ◌&&◌, Option, Some, None, is_some, option_map, option_and_then, refl, sym, ap, subst, ◌∙◌, arith}
+use Rattle.std.proofs.Common.{◌≡◌, ◌<◌, ℕ, List, [], ◌∷◌, length, take, Bool, true, false, ◌&&◌, Option, Some, None, refl, sym, ap, ◌∙◌, arith}
 use Rattle.std.specs.List.{All}
-use Rattle.std.proofs.lemmas.Bool.{and_parts}
-use Rattle.std.proofs.lemmas.Bool.Decides.{nat_tests}
 use Rattle.std.proofs.lemmas.List.Elements.{All-cons, All-head, All-tail, All-take}
-use Rattle.std.proofs.lemmas.Option.{none-some, same_Some}
-use Rattle.std.specs.Prelude.{codes, nat_le, Result, Ok, Err}
+use Rattle.std.proofs.lemmas.Option.{none-some}
+use Rattle.std.specs.Prelude.{codes, Result, Ok, Err}
 use Rattle.ssa_model.specs.definitions.Json.{Json, compact, same_text, member_at}
 use Rattle.ssa_model.specs.definitions.Commands.{value_in}
 use Rattle.ssa_model.specs.definitions.Entries.{text_json, version_in}
@@ -18,20 +16,17 @@ use Rattle.ssa_model.specs.definitions.Schema as schemas
 use Rattle.ssa_model.specs.definitions.Schema.{Schema}
 use Rattle.ssa_model.specs.definitions.History.{Bench, Label, applied, updated, stripped, Step, Timeline, last_state, present}
 use Rattle.ssa_model.specs.definitions.BenchFile.{IsLabel, IsReadBack, IsStep, IsValidBench}
-use Rattle.ssa_model.specs.definitions.Carry.{carry}
-use Rattle.ssa_model.specs.definitions.Record.{Record, record_of}
-use Rattle.ssa_model.specs.definitions.Takes.{Takes}
+use Rattle.ssa_model.specs.definitions.Record.{record_of}
 use Rattle.ssa_model.specs.definitions.RecordReading.{Test, has_members, is_record_shape, HasReadPaths, IsReadState}
 use Rattle.ssa_model.specs.definitions.RecordText.{record_json}
-use Rattle.ssa_model.specs.definitions.RecordedBench.{record_head, HasReadHistory, HasReadStep}
+use Rattle.ssa_model.specs.definitions.RecordedBench.{HasReadHistory, HasReadStep}
 use Rattle.ssa_model.specs.definitions.Table.{Table}
 use Rattle.ssa_model.specs.definitions.Valid.{AllEntries, IsValidHistory, IsValidState, KeepsOrder, MakesNamed, MakesValid, is_named}
-use Rattle.ssa_model.specs.laws.BenchFiles.{given_if, is_label, is_written_as, label_in, number_in, said_label, schema_in}
+use Rattle.ssa_model.specs.laws.BenchFiles.{given_if, is_label, is_written_as, label_in, said_label, schema_in}
 use Rattle.ssa_model.specs.laws.LineByLine.{preceded}
-use Rattle.ssa_model.specs.laws.RecordedBenches.{Counts, counts_in, is_label_shape, is_move_shape, no_move_text, record_does_not_fit, value_move}
+use Rattle.ssa_model.specs.laws.RecordedBenches.{is_label_shape, is_move_shape, no_move_text, record_does_not_fit, value_move}
 use Rattle.ssa_model.specs.laws.RecordedMoves.{IsReadBackState, LineIsMove, LineOfParts, MisfitIsTold, ShapelessIsNoMove, TellsLines}
-use Rattle.ssa_model.proofs.Given.{and_then-back, given-back}
-use Rattle.ssa_model.proofs.RecordTakes.{fixes_target}
+use Rattle.ssa_model.proofs.Given.{given-back}
 use Rattle.ssa_model.proofs.RecordsBack.{record_texts_have_shape}
 use Rattle.ssa_model.proofs.ValidTimelines.{present_valid}
 use Rattle.ssa_json.specs.Readings.{readings}
@@ -41,17 +36,14 @@ use Rattle.ssa_schema.specs.declared.fault.SchemaFault.{SchemaFault}
 use Rattle.ssa_schema.specs.declared.fault.SchemaFault.TheVariants as faults
 use Rattle.ssa_schema.specs.declared.fault.SchemaFault.TheVariants.{SchemaKeyword, SchemaShape, SchemaKeys, SchemaDepth}
 use Rattle.ssa_told.specs.LineValues.{IsLine, line_shape}
-use Rattle.ssa_record.specs.RecordAnswers.{IsAnswer, IsFitting, IsMisfit, IsRecordOf}
+use Rattle.ssa_record.specs.RecordAnswers.{IsAnswer, IsFitting, IsMisfit}
 use Rattle.ssa_record.specs.declared.read_record.RecordAnswer.{RecordAnswer}
 use Rattle.ssa_record.specs.declared.read_record.RecordAnswer.TheVariants.{NoRecord, Misfit, Fits}
 use Rattle.ssa_told.specs.declared.line_values.LineValues.{LineValues}
-use Rattle.ssa_file.specs.declared.head.RecordCounts.{RecordCounts}
 use Rattle.ssa_turn.specs.Histories.{label_view}
 use Rattle.ssa_turn.specs.declared.label.Label as labels
-use Rattle.ssa_turn_state.specs.States.{IsTaken}
 use Rattle.ssa_turn_state.specs.declared.live_state.StateDelta.{StateDelta}
-use Rattle.ssa_bench.specs.Taking.{IsTaken as IsTakenFrom, IsToldMove, TellsMove, answered_step, counts_view, held_counts, of_schema_fault, written_label}
-use Rattle.ssa_model.proofs.RecordTakes.{taken-there}
+use Rattle.ssa_bench.specs.Taking.{IsTaken as IsTakenFrom, IsToldMove, TellsMove, answered_step, of_schema_fault, written_label}
 
 -- ---- the head
 

@@ -135,9 +135,10 @@ fn merging(
     config.points_tell_places();
     if gone.is_empty() && told.repeats {
         state.body.points_keep_all();
+        let comparison = Comparison::of_same(alloc);
         return Ok(BodyChange {
             body: None,
-            comparison: Comparison::of_same(alloc),
+            comparison,
         });
     }
     let PrunedBody { body, removed } = pruned(alloc, state, key, config, config_points, &gone)?;

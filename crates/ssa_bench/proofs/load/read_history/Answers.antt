@@ -1,4 +1,4 @@
-use Rattle.std.proofs.Common.{◌≡◌, ◌≤◌, length, ap, arith}
+use Rattle.std.proofs.Common.{ap, arith}
 use Rattle.ssa_model.specs.definitions.History.{Bench}
 use Rattle.ssa_bench.specs.Loading.{ReadsHistory}
 use Rattle.ssa_bench.proofs.LoadedParts.{fault-handed}

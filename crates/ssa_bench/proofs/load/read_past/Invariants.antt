@@ -1,4 +1,4 @@
-use Rattle.std.proofs.Common.{◌≡◌, ◌+◌, ◌≤◌, length}
+use Rattle.std.proofs.Common.{◌≡◌, ◌+◌, length}
 use Rattle.ssa_model.specs.definitions.History.{past_len}
 use Rattle.ssa_model.specs.laws.LineByLine.{preceded}
 use Rattle.ssa_bench.proofs.LoadedMoves.{Went}

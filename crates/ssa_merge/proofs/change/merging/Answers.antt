@@ -14,10 +14,10 @@ returns-then-told-clause-body c =
 
 pub returns-then-told-clause-comparison : goal.returns-then-told-clause-comparison
 returns-then-told-clause-comparison c =
-    subst (λ b. IsComparison c.args.state.now.body b c.of_same.result)
+    subst (λ b. IsComparison c.args.state.now.body b c.of_same-comparison.result)
     (all-stays (state_view c.args.state.now) (key_view c.args.key.now) c.args.config c.args.state.now.body c.in_ok-gone.gone c.in_ok-gone.ensures
     (sym c.is_empty.ensures ∙ c.if-is_empty.true) (sym (c.requires.told.repeats c.if-told.true)) c.points_keep_all.ensures)
-    (c.of_same.ensures c.args.state.now.body)
+    (c.of_same-comparison.ensures c.args.state.now.body)
 
 pub returns-clause-comparison : goal.returns-clause-comparison
 returns-clause-comparison c =

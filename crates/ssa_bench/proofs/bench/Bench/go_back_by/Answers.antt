@@ -1,5 +1,4 @@
-use Rattle.std.proofs.Common.{◌≡◌, ◌<◌, Ok, ap, length, refl, sym, subst, ◌∙◌}
-use Rattle.ssa_model.specs.definitions.Carry.{carry}
+use Rattle.std.proofs.Common.{◌≡◌, ◌<◌, Ok, ap, length, sym, subst, ◌∙◌}
 use Rattle.ssa_model.specs.definitions.History as model
 use Rattle.ssa_model.specs.definitions.History.{last_state, past_len, present, with_timeline}
 use Rattle.ssa_model.specs.definitions.Limits.{most_past}
@@ -11,7 +10,7 @@ use Rattle.std.proofs.Common.{take}
 use Rattle.ssa_json.specs.View.{view}
 use Rattle.ssa_turn.specs.Histories.{label_view}
 use Rattle.ssa_turn.specs.TablesBack.{HasTableBack}
-use Rattle.ssa_turn_state.specs.States.{HasStateRoom, state_steps}
+use Rattle.ssa_turn_state.specs.States.{state_steps}
 use Rattle.ssa_bench.specs.BenchView.{bench_view}
 use Rattle.ssa_bench.specs.Taking.{IsToldMove, TellsMove}
 use Rattle.ssa_bench.proofs.TakenLines.{preceded-history}

@@ -1,16 +1,14 @@
-use Rattle.std.proofs.Common.{◌≡◌, ◌≤◌, ◌<◌, Ok, ap, length, refl, sym, subst, ◌∙◌}
-use Rattle.ssa_model.specs.definitions.Carry.{carry}
+use Rattle.std.proofs.Common.{◌≤◌, ◌<◌, Ok, ap, length, sym, subst, ◌∙◌}
 use Rattle.ssa_model.specs.definitions.History as model
 use Rattle.ssa_model.specs.definitions.History.{appended, past_len, present, with_timeline}
 use Rattle.ssa_model.specs.definitions.Limits.{most_past}
-use Rattle.ssa_model.specs.definitions.Operations.{State}
 use Rattle.ssa_model.specs.definitions.Valid.{IsNextStep, IsValidHistory}
 use Rattle.ssa_model.proofs.RecordTakes.{fixes_target}
 use Rattle.ssa_model.proofs.ValidHistories.{next_keeps_history}
 use Rattle.ssa_json.specs.View.{view}
 use Rattle.ssa_turn.specs.Histories.{label_view}
 use Rattle.ssa_turn.specs.TablesBack.{HasTableBack}
-use Rattle.ssa_turn_state.specs.States.{HasStateRoom, state_steps}
+use Rattle.ssa_turn_state.specs.States.{state_steps}
 use Rattle.ssa_bench.specs.BenchView.{bench_view}
 use Rattle.ssa_bench.specs.Taking.{IsToldMove, TellsMove}
 use Rattle.ssa_bench.proofs.bench.Bench.go_on_by.Goals as goal

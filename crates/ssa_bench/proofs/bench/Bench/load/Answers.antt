@@ -1,10 +1,4 @@
-use Rattle.std.proofs.Common.{◌≡◌, ◌≤◌, ℕ, length, List, Option, Some, ap, sym, subst, ◌∙◌, arith}
-use Rattle.std.specs.Prelude.{Ok}
-use Rattle.ssa_model.specs.definitions.BenchFile.{IsValidBench}
-use Rattle.ssa_model.specs.definitions.History.{Bench, appended}
-use Rattle.ssa_model.specs.definitions.RecordedBench.{HasReadHistory}
 use Rattle.ssa_model.specs.laws.BenchFiles.{schema_in}
-use Rattle.ssa_model.specs.laws.LineByLine.{along, at_place, ended_with, moves_from, on_from, preceded, with_part}
 use Rattle.ssa_model.specs.laws.RecordedBenches.{present_in}
 use Rattle.ssa_model.proofs.LineByLine.{after_head, after_now, after_source}
 use Rattle.ssa_json.specs.Readings.{readings}

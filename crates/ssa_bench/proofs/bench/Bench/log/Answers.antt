@@ -1,4 +1,4 @@
-use Rattle.std.proofs.Common.{sym, ap, ◌∙◌, map, take, drop}
+use Rattle.std.proofs.Common.{sym, ap, ◌∙◌, take, drop}
 use Rattle.std.proofs.lemmas.List.{take-map, drop-map}
 use Rattle.ssa_model.specs.definitions.Answers.{logged, labels_of}
 use Rattle.ssa_bench.proofs.bench.Bench.log.Goals as goal

@@ -1,12 +1,10 @@
-use Rattle.std.proofs.Common.{◌≡◌, ◌≤◌, ℕ, Bool, List, Option, length, true, ap, sym, subst, ◌∙◌}
+use Rattle.std.proofs.Common.{◌≡◌, ◌≤◌, ℕ, Bool, List, Option, length, true, sym, subst, ◌∙◌}
 use Rattle.std.specs.Io.KnownBytes.{Appends}
 use Rattle.ssa_model.specs.definitions.Limits.{most_bench_bytes}
 use Rattle.ssa_model.specs.definitions.Json.{Text}
-use Rattle.ssa_model.specs.definitions.RecordedBench.{recorded_text, recorded_values}
-use Rattle.std.proofs.lemmas.List.Elements.{All-head, All-tail}
+use Rattle.ssa_model.specs.definitions.RecordedBench.{recorded_text}
 use Rattle.ssa_json.specs.Devices.{AppendsPart}
 use Rattle.ssa_json.specs.Readings.{readings}
-use Rattle.ssa_json.specs.Writable.{IsOfProgram}
 use Rattle.ssa_file.specs.Saving.{NotSaved}
 use Rattle.ssa_file.specs.declared.saving.SaveFault.TheVariants.{Io}
 use Rattle.ssa_model.proofs.Results.{handed-on}
