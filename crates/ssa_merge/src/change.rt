@@ -113,7 +113,7 @@ struct BodyChange {
 
 // What an Apply of a configuration makes of the body, where it is told how the configuration differs from the live body. A
 // configuration that repeats what is there, and by which nothing goes, is not merged.
-fn merging(
+fn body_change(
     alloc: Global,
     state: &State,
     key: &ManagerKey,
@@ -176,19 +176,19 @@ fn applied_with(
     alloc: Global,
     state: &State,
     key: &ManagerKey,
-    merging: BodyChange,
+    made: BodyChange,
     owned: Option<FieldSet>,
     force: bool,
     at: Moment,
 ) -> Result<Change, Refusal>
     requires named { is_manager_name (key_view key.now).name ≡ true }
-    ensures { (config : ModelBody) → body_after merging.body state.now.body ≡ pruned (state_view state.now) (key_view key.now) config
-        → IsComparison state.now.body (pruned (state_view state.now) (key_view key.now) config) merging.comparison
+    ensures { (config : ModelBody) → body_after made.body state.now.body ≡ pruned (state_view state.now) (key_view key.now) config
+        → IsComparison state.now.body (pruned (state_view state.now) (key_view key.now) config) made.comparison
         → conflict_of force (clashes (key_view key.now) (modified state.now.body (pruned (state_view state.now) (key_view key.now) config)) state.now.managers) ≡ None
         → unwrap_or owned (owned_by state.now.managers (key_view key.now)) ≡ points config
         → IsChanged (state_view state.now) result (apply (state_view state.now) (key_view key.now) config force at) }
 {
-    let BodyChange { body, comparison } = merging;
+    let BodyChange { body, comparison } = made;
     if size_after(&state.body, &body) > MOST_PLACES {
         return Err(Refusal::TooManyPaths);
     }
@@ -225,12 +225,12 @@ fn applied_freely(
 {
     if let Some(entry) = state.managers.get(key) {
         if config.has_points(alloc, &entry.set)? {
-            let made = merging(alloc, state, key, config, told, &entry.set, true)?;
+            let made = body_change(alloc, state, key, config, told, &entry.set, true)?;
             return applied_with(alloc, state, key, made, None, force, at);
         }
     }
     let points = config.points(alloc)?;
-    let made = merging(alloc, state, key, config, told, &points, false)?;
+    let made = body_change(alloc, state, key, config, told, &points, false)?;
     applied_with(alloc, state, key, made, Some(points), force, at)
 }
 

@@ -206,8 +206,9 @@ impl Body {
     /// The paths of this body at which the body `after` has nothing, where each of them is at, above or
     /// below a path of `gone`: what a cut of these paths takes.
     ///
-    /// One walk along the paths of `gone`, with no look at what else the bodies have. What is below a
-    /// path of `gone` at which both have something, and a list of which many items go, is compared whole.
+    /// One walk along the paths of `gone`; the few items of a list that go are looked for among all. What is
+    /// below a path of `gone` at which both have something, and a list of which more than a few items go, is
+    /// compared whole.
     pub fn lost_along(
         &self,
         alloc: Global,

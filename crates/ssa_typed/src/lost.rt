@@ -1,5 +1,4 @@
-//! What a tree has lost, where that is along the paths of a set: told by a walk along these, with no
-//! look at what else the trees have.
+//! What a tree has lost, where that is along the paths of a set: told by a walk along these.
 ghost use Rattle.std.specs.Prelude.{◌≡◌, true, IfOk};
 ghost use Rattle.ssa_path.specs.Children.{elements, rises};
 ghost use Rattle.ssa_path.specs.Trie.{are_filled_tries, is_trie, paths, paths_below};

@@ -4,8 +4,8 @@ use ssa_path::field_set::FieldSet;
 
 /// How a part differs from the body that it is put over.
 ///
-/// They are those of a [`Comparison`](crate::compare::Comparison): what the part lacks stays, so that
-/// nothing is removed.
+/// `added` and `modified` are as in a [`Comparison`](crate::compare::Comparison); what the part lacks
+/// stays, so that nothing is removed.
 #[derive(Drop)]
 pub struct PartComparison {
     /// The points of the part at whose paths nothing stood.

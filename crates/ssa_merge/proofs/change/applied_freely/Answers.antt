@@ -4,8 +4,8 @@ use Rattle.ssa_merge.specs.Managers.{key_view}
 use Rattle.ssa_merge.proofs.GivenUp.{owned-entry, set_in}
 use Rattle.ssa_merge.proofs.change.applied_freely.Goals as goal
 
-pub merging-requires-clause-kept : goal.merging-requires-clause-kept
-merging-requires-clause-kept c = λ _. owned-entry c.args.state.now.managers (key_view c.args.key.now) ∙ ap set_in (sym c.in-Some.ensures)
+pub body_change-requires-clause-kept : goal.body_change-requires-clause-kept
+body_change-requires-clause-kept c = λ _. owned-entry c.args.state.now.managers (key_view c.args.key.now) ∙ ap set_in (sym c.in-Some.ensures)
 
 pub returns-then-branch : goal.returns-then-branch
 returns-then-branch c =

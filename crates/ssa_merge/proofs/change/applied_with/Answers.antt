@@ -42,12 +42,12 @@ returns-in-Ok c = λ config merging compared free own.
     let quiet = no-conflict c.args.force clash free in
     let few = few_places c.size_after.result (size body) (c.size_after.ensures ∙ ap (λ b. min (size b) (2 ^ 64 - 1)) merging) c.if-size_after-gt-MOST_PLACES.false in
     let lost = c.taken-lost.ensures ∙ (λ i. if c.args.force then compared.modified_are i else c.new-nothing.ensures i) in
-    let seats : ◌≡◌ {A = Table} (seat state.table a (unwrap_or c.args.owned (owned_by state.table a)) c.taken-lost.result.now c.args.merging.comparison.modified c.args.at)
+    let seats : ◌≡◌ {A = Table} (seat state.table a (unwrap_or c.args.owned (owned_by state.table a)) c.taken-lost.result.now c.args.made.comparison.modified c.args.at)
     table
     = (λ i. seat state.table a (own i) (lost i) (compared.modified_are i) c.args.at)
     ∙ seat-unforced state.table a (points config) changed c.args.at c.args.force quiet in
     let given = apply-decided state a config c.args.force c.args.at body clash (size body) table refl refl refl refl in
-    let change : Change = record { body = c.args.merging.body; table = c.in-Ok.table; comparison = c.args.merging.comparison } in
+    let change : Change = record { body = c.args.made.body; table = c.in-Ok.table; comparison = c.args.made.comparison } in
     let is_seated : Table → Type 0 = IsSeated state.table (Ok c.in-Ok.table) in
     let is_changed : Result State model.Refusal → Type 0 = IsChanged state (Ok change) in
     subst is_changed (sym given)
@@ -64,7 +64,7 @@ returns-in-Err c = λ config merging compared free own.
     let quiet = no-conflict c.args.force clash free in
     let few = few_places c.size_after.result (size body) (c.size_after.ensures ∙ ap (λ b. min (size b) (2 ^ 64 - 1)) merging) c.if-size_after-gt-MOST_PLACES.false in
     let lost = c.taken-lost.ensures ∙ (λ i. if c.args.force then compared.modified_are i else c.new-nothing.ensures i) in
-    let seats : ◌≡◌ {A = Table} (seat state.table a (unwrap_or c.args.owned (owned_by state.table a)) c.taken-lost.result.now c.args.merging.comparison.modified c.args.at)
+    let seats : ◌≡◌ {A = Table} (seat state.table a (unwrap_or c.args.owned (owned_by state.table a)) c.taken-lost.result.now c.args.made.comparison.modified c.args.at)
     table
     = (λ i. seat state.table a (own i) (lost i) (compared.modified_are i) c.args.at)
     ∙ seat-unforced state.table a (points config) changed c.args.at c.args.force quiet in

@@ -5,7 +5,7 @@ use Rattle.ssa_merge.specs.Managers.{key_view}
 use Rattle.ssa_merge.specs.States.{state_view}
 use Rattle.ssa_merge.proofs.GivenUp.{all-stays}
 use Rattle.ssa_merge.proofs.ToldApart.{added-told, modified-told}
-use Rattle.ssa_merge.proofs.change.merging.Goals as goal
+use Rattle.ssa_merge.proofs.change.body_change.Goals as goal
 
 pub returns-then-told-clause-body : goal.returns-then-told-clause-body
 returns-then-told-clause-body c =
