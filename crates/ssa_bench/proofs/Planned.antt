@@ -93,7 +93,7 @@ pub record IsRecorded (before : State) (label : Label) (change : Change) (p : Pr
   -- its label is the one that was given
   pub label_is : p.step.label ≡ label
   -- its record is that of the state and the one after the change
-  pub record_is : state_steps p.step.delta ≡ record_of before (changed_state before change.body change.table)
+  pub record_is : state_steps p.step.delta ≡ record_of before (changed_state before change.body change.comparison.removed change.table)
   -- it has the room that turning the state by the record wants
   pub room : HasStateRoom p.step.delta before
   -- what it tells of what changed is what the change changes
@@ -102,11 +102,11 @@ pub record IsRecorded (before : State) (label : Label) (change : Change) (p : Pr
 -- the change keeps a state valid, and the order of the managers that stay
 pub record IsKept (kind : Kind) (before : State) (change : Change) : Type 0 where
   -- the state after the change is valid
-  pub valid : IsValidState kind (changed_state before change.body change.table)
+  pub valid : IsValidState kind (changed_state before change.body change.comparison.removed change.table)
   -- the managers that stay keep their order
   pub order : KeepsOrder before.table (changed_table change.table before.table)
   -- the new table is read back from its entries' texts
-  pub back : HasTableBack (changed_state before change.body change.table)
+  pub back : HasTableBack (changed_state before change.body change.comparison.removed change.table)
 
 -- a record of two valid states leads from the first to the second
 pub record IsLed (d : Record) (before after : State) : Type 0 where
@@ -147,7 +147,7 @@ module _ (bench : Bench) (word : Text) (label : Label) where
   planned change p after made is now kept =
       let before = present bench.timeline in
       let kind = bench.schema.kind in
-      let target = changed_state before change.body change.table in
+      let target = changed_state before change.body change.comparison.removed change.table in
       let same : target ≡ after = λ i. record { body = is.body_is i; table = is.table_leads.leads i } in
       let leads = led-by kind (state_steps p.step.delta) before target made.record_is now kept.valid kept.order in
       let led : led_to bench p ≡ target = leads.led in

@@ -5,7 +5,7 @@ ghost use Rattle.ssa_model.specs.definitions.Record.{record_of};
 ghost use Rattle.ssa_model.specs.definitions.RecordReading.{HasReadPaths};
 ghost use Rattle.ssa_model.specs.definitions.Valid.{IsValidState, KeepsOrder};
 ghost use Rattle.ssa_json.specs.Readings.{readings};
-ghost use Rattle.ssa_merge.specs.Plans.{changed_state};
+ghost use Rattle.ssa_merge.specs.Plans.{changed_state, CanStand};
 ghost use Rattle.ssa_merge.specs.States.{state_view};
 ghost use Rattle.ssa_merge.specs.TableChanges.{changed_table, LeadsTo};
 ghost use Rattle.ssa_turn.specs.TablesBack.{HasTableBack};
@@ -63,14 +63,15 @@ pub(crate) fn accepted(
     label: Label,
     change: Change,
 ) -> Result<Prepared, AllocError>
-    requires valid { (kind : Kind) × IsValidState kind (state_view state.now) × IsValidState kind (changed_state (state_view state.now) change.body change.table) }
+    requires valid { (kind : Kind) × IsValidState kind (state_view state.now) × IsValidState kind (changed_state (state_view state.now) change.body change.comparison.removed change.table) }
+    requires stands { CanStand change.body change.comparison.removed state.now.body }
     requires read { HasReadPaths readings (state_view state.now).body }
     requires leads { LeadsTo (state_view state.now).table change.table (changed_table change.table (state_view state.now).table) }
     requires order { KeepsOrder (state_view state.now).table (changed_table change.table (state_view state.now).table) }
     ensures label { IfOk result (λ p. p.step.label ≡ label) }
-    ensures record { IfOk result (λ p. state_steps p.step.delta ≡ record_of (state_view state.now) (changed_state (state_view state.now) change.body change.table)) }
+    ensures record { IfOk result (λ p. state_steps p.step.delta ≡ record_of (state_view state.now) (changed_state (state_view state.now) change.body change.comparison.removed change.table)) }
     ensures room { IfOk result (λ p. HasStateRoom p.step.delta (state_view state.now)) }
-    ensures back { HasTableBack (state_view state.now) → HasTableBack (changed_state (state_view state.now) change.body change.table) }
+    ensures back { HasTableBack (state_view state.now) → HasTableBack (changed_state (state_view state.now) change.body change.comparison.removed change.table) }
     ensures changed { IfOk result (λ p. changed_view p.changed ≡ changed_by (state_view state.now) change) }
 {
     let Change {
@@ -80,7 +81,7 @@ pub(crate) fn accepted(
     } = change;
     table.new_sets_are_read();
     let managers = table.managers();
-    let delta = StateDelta::of_change(alloc, state, body, table)?;
+    let delta = StateDelta::of_change(alloc, state, body, &comparison.removed, table)?;
     let changed = Changed {
         added: comparison.added,
         modified: comparison.modified,

@@ -1,6 +1,7 @@
 -- The decisions of an Apply, over what was computed.
-use Rattle.std.proofs.Common.{◌≡◌, ℕ, ◌<◌, ◌≤◌, List, [], ◌∷◌, length, Bool, true, false, not, ◌||◌, nat_lt, refl, sym, ap, ◌∙◌, arith, min, ◌-◌, ◌^◌}
-use Rattle.std.proofs.Math.Nat.{min-le_left, min-eq_left, min-eq_right}
+use Rattle.std.proofs.Common.{◌≡◌, ℕ, ◌<◌, ◌≤◌, List, [], ◌∷◌, length, Bool, true, false, not, ◌||◌, nat_lt, refl, sym, ap, subst, ◌∙◌, arith}
+use Rattle.std.proofs.Math.Dec.{ltb}
+use Rattle.std.proofs.lemmas.Bool.{ltb-false, ltb-true}
 use Rattle.std.proofs.lemmas.Bool.Decides.{nat_tests}
 use Rattle.std.specs.declared.alloc.Global.{Global}
 use Rattle.std.specs.Prelude.{Option, Some, None, Result, Ok, Err, Vec, if◌then◌else◌}
@@ -20,7 +21,7 @@ use Rattle.ssa_merge.specs.declared.change.Change.{Change}
 use Rattle.ssa_merge.specs.declared.manager.ManagerKey.{ManagerKey as Key}
 use Rattle.ssa_merge.specs.declared.plan.Refusal.{Refusal}
 use Rattle.ssa_merge.specs.declared.plan.Refusal.TheVariants.{Conflict, TooManyPaths, TooManyManagers, OutOfMemory}
-use Rattle.ssa_model.proofs.Basics.{at_most}
+use Rattle.ssa_model.proofs.Basics.{at_most, yes_no}
 
 more : (m n : ℕ) → m < n → nat_lt m n ≡ true
 more m n h = grind (arith, nat_tests)
@@ -106,21 +107,25 @@ decided-state force clash places body table h n fits =
     quiet force clash places body table h ∙ few places body table n
     ∙ ap (λ b. if b then Err too_many_managers else Ok (record { body = body; table = table })) (at_most most_managers (length table) fits)
 
--- ---- places, counted up to the largest number
+-- ---- places
 
--- a count that stops at the largest number and is above the limit stands for places above the limit
-pub more_places : (n m : ℕ) → n ≡ min m (2 ^ 64 - 1) → most_places < n → most_places < m
-more_places n m is h = grind (arith, min-le_left m (2 ^ 64 - 1))
+-- a body that is found to have too many places has too many
+pub too-many : (found : Bool) (made body : bodies.Body) → made ≡ body → (found ≡ true → most_places < size made) → found ≡ true → most_places < size body
+too-many found made body is h t = subst (λ b. most_places < size b) is (h t)
 
--- a count that stops at the largest number and is within the limit stands for places within the limit
-pub few_places : (n m : ℕ) → n ≡ min m (2 ^ 64 - 1) → n ≤ most_places → m ≤ most_places
-few_places n m is h = grind (arith, min-eq_left, min-eq_right)
+-- one that is not has few enough
+pub few-enough : (found : Bool) (made body : bodies.Body) → made ≡ body → (most_places < size made → found ≡ true) → found ≡ false → size body ≤ most_places
+few-enough found made body is h f =
+    elim (ltb most_places (size body)) as (λ t. ltb most_places (size body) ≡ t → size body ≤ most_places) [
+      | true ↦ λ more. yes_no found (h (subst (λ b. most_places < size b) (sym is) (ltb-true most_places (size body) more))) f
+      | false ↦ λ few. ltb-false most_places (size body) few
+    ] refl
 
 -- ---- the change
 
 -- an Apply whose managers all have a place makes its change, which leads to the new body and the new table
 pub seated : (before : State) (force : Bool) (clash : List Clash) (places : ℕ) (change : Change) (body : bodies.Body) (table : Table)
-    → not (force || is_none clash) ≡ false → places ≤ most_places → body_after change.body before.body ≡ body → LeadsTo before.table change.table table
+    → not (force || is_none clash) ≡ false → places ≤ most_places → body_after change.body change.comparison.removed before.body ≡ body → LeadsTo before.table change.table table
     → IsComparison before.body body change.comparison → IsChanged before (Ok change) (counted force clash places body table)
 seated before force clash places change body table h n is leads compared = (
   record { body = body; table = table },
@@ -141,7 +146,7 @@ unseated before force clash places body table OutOfMemory h n given = tt
 -- ---- an Update
 
 -- an Update whose managers all have a place makes its change
-pub placed : (before : State) (change : Change) (body : bodies.Body) (table : Table) → body_after change.body before.body ≡ body
+pub placed : (before : State) (change : Change) (body : bodies.Body) (table : Table) → body_after change.body change.comparison.removed before.body ≡ body
     → LeadsTo before.table change.table table
     → IsComparison before.body body change.comparison → IsChanged before (Ok change) (if_seated (record { body = body; table = table }))
 placed before change body table is leads compared = (

@@ -84,25 +84,25 @@ no-entries s h = elim s.entries as (λ es. elim es [ [] ↦ true | e ∷ rest �
 pub is_empty-true : (s : PathSet) → is_empty s ≡ true → s ≡ empty
 is_empty-true s h = same_sets s empty (λ p. has-paths s p ∙ ap (λ ps. is_one_of ps p) (no-entries s h))
 
+-- where nothing is given up, all points of the merged body are kept
+pub points-stay : (state : State) (a : ManagerKey) (config : model.Body) → is_empty (dropped state a config) ≡ true
+    → (p : Path) → has (model.points (model.over state.body config)) p ≡ true → has (kept state a config) p ≡ true
+points-stay state a config none p point =
+    has-union (set_of (paths (model.points (model.over state.body config))) (λ q. not (has_at_or_above (dropped state a config) q)))
+    (union (owned_by_others state.table a) (model.points config)) p
+    ∙ true_or _ _
+    (has-set_of (paths (model.points (model.over state.body config))) (λ q. not (has_at_or_above (dropped state a config) q)) p
+    ∙ (λ i. (sym (has-paths (model.points (model.over state.body config)) p) ∙ point) i && not (spared i)))
+  where
+    spared : has_at_or_above (dropped state a config) p ≡ false
+    spared = ap (λ s. has_at_or_above s p) (is_empty-true (dropped state a config) none)
+
 -- where nothing is given up, all of the merged body stays
 pub all-stays : (state : State) (a : ManagerKey) (config merged : model.Body) (gone : PathSet) → gone ≡ dropped state a config → is_empty gone ≡ true
     → merged ≡ model.over state.body config → PointsKeepAll merged → merged ≡ pruned state a config
 all-stays state a config merged gone is none made law =
-    sym (law (kept state a config) there) ∙ ap (λ b. model.restricted b (λ p. is_root p || has_at_or_below (kept state a config) p)) made
-  where
-    spared : (p : Path) → has_at_or_above (dropped state a config) p ≡ false
-    spared p = ap (λ s. has_at_or_above s p) (sym is ∙ is_empty-true gone none)
-
-    there : (p : Path) → has (model.points merged) p ≡ true → has (kept state a config) p ≡ true
-    there p h =
-        has-union (set_of (paths (model.points (model.over state.body config))) (λ q. not (has_at_or_above (dropped state a config) q)))
-        (union (owned_by_others state.table a) (model.points config)) p
-        ∙ true_or _ _
-        (has-set_of (paths (model.points (model.over state.body config))) (λ q. not (has_at_or_above (dropped state a config) q)) p
-        ∙ (λ i. point i && not (spared p i)))
-      where
-        point : is_one_of (paths (model.points (model.over state.body config))) p ≡ true
-        point = sym (has-paths (model.points (model.over state.body config)) p) ∙ ap (λ b. has (model.points b) p) (sym made) ∙ h
+    sym (law (kept state a config) (λ p h. points-stay state a config (ap is_empty (sym is) ∙ none) p (ap (λ b. has (model.points b) p) (sym made) ∙ h)))
+    ∙ ap (λ b. model.restricted b (λ p. is_root p || has_at_or_below (kept state a config) p)) made
 
 -- ---- a set that loses nothing
 

@@ -7,10 +7,11 @@ use Rattle.ssa_model.specs.definitions.Path.{Path, under}
 use Rattle.ssa_model.specs.definitions.PathMap.{PathSet, empty, has, has_at_or_below, is_empty, paths, set_of, union}
 use Rattle.ssa_model.specs.definitions.Table.{ManagerKey, Entry, Table, owned_by_others, same_manager}
 use Rattle.ssa_model.proofs.PathMaps.{has-paths, has-set_of, has-union, is_one_of, same_sets}
-use Rattle.ssa_model.proofs.Pruned.{from_one, some_one}
+use Rattle.ssa_model.proofs.Pruned.{some_one}
 use Rattle.ssa_model.proofs.Tables.{either, true_or}
 use Rattle.ssa_model.proofs.Basics.{and-true, or_true}
 use Rattle.ssa_path.proofs.Lists.{left-at}
+use Rattle.ssa_typed.proofs.LostPlaces.{below-one}
 use Rattle.ssa_merge.specs.Managers.{entry_view, table_view}
 use Rattle.ssa_merge.specs.declared.managers.Entry as merge
 use Rattle.ssa_merge.proofs.GivenUp.{empty_union, is_empty-true, twice}
@@ -23,9 +24,6 @@ Below s p = (q : Path) × (has s q ≡ true) × (under p q ≡ true)
 
 pub one-below : (s : PathSet) (p : Path) → has_at_or_below s p ≡ true → Below s p
 one-below s p h = let x = some_one (under p) (paths s) h in (x.0, has-paths s x.0 ∙ x.1, x.2)
-
-pub below-one : (s : PathSet) (p q : Path) → has s q ≡ true → under p q ≡ true → has_at_or_below s p ≡ true
-below-one s p q one u = from_one (under p) (paths s) q (sym (has-paths s q) ∙ one) u
 
 -- what either of two sets has at or below a path, both have together
 pub below-union : (s t : PathSet) (p : Path) → has_at_or_below (union s t) p ≡ (has_at_or_below s p || has_at_or_below t p)

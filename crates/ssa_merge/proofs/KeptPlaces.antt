@@ -1,5 +1,5 @@
 -- What stays of the merged body, told by what others and the configuration have above the paths that go.
-use Rattle.std.proofs.Common.{◌≡◌, [], ◌∷◌, Bool, true, false, not, ◌&&◌, ◌||◌, refl, sym, ap, subst, ◌∙◌, true≢false}
+use Rattle.std.proofs.Common.{◌≡◌, [], ◌∷◌, Bool, true, false, not, ◌&&◌, ◌||◌, refl, sym, ap, ◌∙◌, true≢false}
 use Rattle.std.specs.Cmp.{both_ways, first_so, second_so}
 use Rattle.ssa_model.specs.definitions.Path.{Path, is_item, is_key_field, is_root, parent, under}
 use Rattle.ssa_model.specs.definitions.PathMap.{PathSet, get, has, has_at_or_above, has_at_or_below, paths, set_of, union}
@@ -11,29 +11,37 @@ use Rattle.ssa_model.specs.definitions.Valid.{AllEntries, OwnsOwnable}
 use Rattle.ssa_model.proofs.Basics.{not_true, or_true, yes_no}
 use Rattle.ssa_model.proofs.PathMaps.{has-paths, has-points, has-set_of, has-union, is_one_of}
 use Rattle.ssa_model.proofs.Pruned.{some_one, under-trans}
-use Rattle.ssa_model.proofs.Tables.{either, has-over, others-kept, ownable-has, points-kept, spared, true_or, under-itself}
+use Rattle.ssa_model.proofs.Tables.{apart_by, either, has-over, others-kept, ownable-has, points-kept, spared, true_or, under-itself}
 use Rattle.ssa_typed.specs.Cut.{uncut}
+use Rattle.ssa_typed.specs.LostWith.{AreFree, left_with}
 use Rattle.ssa_typed.specs.Reached.{PartsAreOfPlaces, PointsTellPlaces}
 use Rattle.ssa_typed.proofs.LostPaths.{comparable}
-use Rattle.ssa_merge.proofs.HeldAbove.{below-one, one-below}
+use Rattle.ssa_typed.proofs.LostPlaces.{below-one, passed, passes}
+use Rattle.ssa_merge.proofs.HeldAbove.{one-below}
+use Rattle.ssa_merge.proofs.Overlaid.{over-parts, over-told}
 use Rattle.ssa_merge.proofs.RootedPruned.{others-all}
 
 -- what a set has at or below a place it has at or below each place above
-below-above : (s : PathSet) (p q : Path) → under p q ≡ true → has_at_or_below s q ≡ true → has_at_or_below s p ≡ true
+pub below-above : (s : PathSet) (p q : Path) → under p q ≡ true → has_at_or_below s q ≡ true → has_at_or_below s p ≡ true
 below-above s p q u h = let x = one-below s q h in below-one s p x.0 x.1 (under-trans p q x.0 u x.2)
-
--- a path of a set passes a test where it does of those that pass
-passes : (s : PathSet) (test : Path → Bool) (q : Path) → has s q ≡ true → test q ≡ true → has (set_of (paths s) test) q ≡ true
-passes s test q one passing = has-set_of (paths s) test q ∙ (λ i. (sym (has-paths s q) ∙ one) i && passing i)
-
-passed : (s : PathSet) (test : Path → Bool) (q : Path) → has (set_of (paths s) test) q ≡ true → has s q ≡ true
-passed s test q one = has-paths s q ∙ first_so (is_one_of (paths s) q) (test q) (sym (has-set_of (paths s) test q) ∙ one)
 
 -- what others and the configuration have at or above the paths that go
 abbrev held_over : State → ManagerKey → model.Body → PathSet
 held_over state a config =
     let gone = dropped state a config in
     union (set_of (paths (owned_by_others state.table a)) (has_at_or_below gone)) (set_of (paths (points config)) (has_at_or_below gone))
+
+-- the configuration has no path that goes, and others have none at or below it
+gone-free : (state : State) (a : ManagerKey) (config : model.Body) (g : Path) → has (dropped state a config) g ≡ true
+    → (has config g ≡ false) × (has_at_or_below (owned_by_others state.table a) g ≡ false)
+gone-free state a config g lost =
+    let others = owned_by_others state.table a in
+    let test = second_so (is_one_of (paths (owned_by state.table a)) g) (not (has config g) && (not (is_key_field g) && not (has_at_or_below others g)))
+    (sym (has-set_of (paths (owned_by state.table a)) (λ p. not (has config p) && (not (is_key_field p) && not (has_at_or_below others p))) g) ∙ lost) in
+    let rest = second_so (not (has config g)) (not (is_key_field g) && not (has_at_or_below others g)) test in (
+      not_true (has config g) (first_so (not (has config g)) (not (is_key_field g) && not (has_at_or_below others g)) test),
+      not_true (has_at_or_below others g) (second_so (not (is_key_field g)) (not (has_at_or_below others g)) rest),
+    )
 
 module _ (state : State) (a : ManagerKey) (config : model.Body) (owned : AllEntries (OwnsOwnable state.body) state.table)
     (told : PointsTellPlaces (over state.body config)) (config_told : PointsTellPlaces config) where
@@ -55,16 +63,6 @@ module _ (state : State) (a : ManagerKey) (config : model.Body) (owned : AllEntr
   abbrev stay : PathSet
   stay = kept state a config
 
-  -- the configuration has no path that goes, and others have none at or below it
-  gone-free : (g : Path) → has gone g ≡ true → (has config g ≡ false) × (has_at_or_below others g ≡ false)
-  gone-free g lost =
-      let test = second_so (is_one_of (paths (owned_by state.table a)) g) (not (has config g) && (not (is_key_field g) && not (has_at_or_below others g)))
-      (sym (has-set_of (paths (owned_by state.table a)) (λ p. not (has config p) && (not (is_key_field p) && not (has_at_or_below others p))) g) ∙ lost) in
-      let rest = second_so (not (has config g)) (not (is_key_field g) && not (has_at_or_below others g)) test in (
-        not_true (has config g) (first_so (not (has config g)) (not (is_key_field g) && not (has_at_or_below others g)) test),
-        not_true (has_at_or_below others g) (second_so (not (is_key_field g)) (not (has_at_or_below others g)) rest),
-      )
-
   spared-left : (x : Path) → has (spared state a config) x ≡ true → has left x ≡ true
   spared-left x h = has-union (spared state a config) held x ∙ true_or (has (spared state a config) x) (has held x) h
 
@@ -78,8 +76,8 @@ module _ (state : State) (a : ManagerKey) (config : model.Body) (owned : AllEntr
       (λ h. has-union (spared state a config) (union others (points config)) x ∙ true_or (has (spared state a config) x) (has (union others (points config)) x) h)
       (λ h. either (has (set_of (paths others) (has_at_or_below gone)) x) (has (set_of (paths (points config)) (has_at_or_below gone)) x)
       (sym (has-union (set_of (paths others) (has_at_or_below gone)) (set_of (paths (points config)) (has_at_or_below gone)) x) ∙ h)
-      (λ k. others-kept state a config x (passed others (has_at_or_below gone) x k))
-      (λ k. points-kept state a config x (passed (points config) (has_at_or_below gone) x k)))
+      (λ k. others-kept state a config x (passed others (has_at_or_below gone) x k).0)
+      (λ k. points-kept state a config x (passed (points config) (has_at_or_below gone) x k).0))
 
   -- a place that is below no path that goes, and is held where it is above one, is at or above something that is left
   place-left : (q : Path) → has merged q ≡ true → is_root q ≡ false → ((g : Path) → has gone g ≡ true → under g q ≡ true → ⊥)
@@ -116,7 +114,7 @@ module _ (state : State) (a : ManagerKey) (config : model.Body) (owned : AllEntr
           let ownable = others-all (λ p. is_ownable state.body p ≡ true) state.table a owned q own in
           place-left q (has-over state.body config q ∙ true_or (has state.body q) (has config q) (ownable-has state.body q ownable))
           (not-root q (is_ownable state.body q) ownable (root-not-ownable q))
-          (λ g lost u. yes_no (has_at_or_below others g) (below-one others g q own u) (gone-free g lost).1)
+          (λ g lost u. yes_no (has_at_or_below others g) (below-one others g q own u) (gone-free state a config g lost).1)
           (λ above. has-union (set_of (paths others) (has_at_or_below gone)) (set_of (paths (points config)) (has_at_or_below gone)) q
           ∙ true_or (has (set_of (paths others) (has_at_or_below gone)) q) (has (set_of (paths (points config)) (has_at_or_below gone)) q)
           (passes others (has_at_or_below gone) q own above))
@@ -128,7 +126,7 @@ module _ (state : State) (a : ManagerKey) (config : model.Body) (owned : AllEntr
           place-left q (has-over state.body config q ∙ or_true (has state.body q) (has config q) there)
           (not-root q (is_point config q) (second_so (has config q) (is_point config q) facts) (λ r i. not (r i) && (is_leaf (get config q) || (is_item q || (is_dict (get config (parent q)) || is_bare config q)))))
           (λ g lost u. yes_no (has config g) (config_told g ∙ or_true (is_root g) (has_at_or_below (points config) g) (below-one (points config) g q own u))
-          (gone-free g lost).0)
+          (gone-free state a config g lost).0)
           (λ above. has-union (set_of (paths others) (has_at_or_below gone)) (set_of (paths (points config)) (has_at_or_below gone)) q
           ∙ or_true (has (set_of (paths others) (has_at_or_below gone)) q) (has (set_of (paths (points config)) (has_at_or_below gone)) q)
           (passes (points config) (has_at_or_below gone) q own above))
@@ -141,21 +139,34 @@ module _ (state : State) (a : ManagerKey) (config : model.Body) (owned : AllEntr
       (λ h. let x = one-below stay p h in below-above left p x.0 x.2 (kept-left x.0 x.1))
 
   -- so what is left is the body after the Apply
-  pub left-pruned : PartsAreOfPlaces merged → model.restricted merged (λ p. is_root p || has_at_or_below left p) ≡ pruned state a config
+  left-pruned : PartsAreOfPlaces merged → model.restricted merged (λ p. is_root p || has_at_or_below left p) ≡ pruned state a config
   left-pruned law = law left stay (λ p there. same-places p)
 
--- so is what is cut from the merged body, for this table and these points of the configuration
-pub cut-pruned : (state : State) (a : ManagerKey) (config body : model.Body) (going above : PathSet) (table : Table) (pointed : PathSet)
-    → body ≡ over state.body config → going ≡ dropped state a config → table ≡ state.table → pointed ≡ points config
-    → above ≡ union (set_of (paths (owned_by_others table a)) (has_at_or_below going)) (set_of (paths pointed) (has_at_or_below going))
-    → AllEntries (OwnsOwnable state.body) state.table → PointsTellPlaces body → PointsTellPlaces config → PartsAreOfPlaces body
-    → model.restricted body (λ p. is_root p || has_at_or_below (uncut body going above) p) ≡ pruned state a config
-cut-pruned state a config body going above table pointed made going_is same points_are above_is owned told config_told law =
-    (λ i. model.restricted (made i) (λ p. is_root p || has_at_or_below (uncut (made i) (going_is i) (held_is i)) p))
-    ∙ left-pruned state a config owned (subst PointsTellPlaces made told) config_told (subst PartsAreOfPlaces made law)
-  where
-    held_is : above ≡ held_over state a config
-    held_is =
-        above_is
-        ∙ (λ i. union (set_of (paths (owned_by_others (same i) a)) (has_at_or_below (going_is i)))
-        (set_of (paths (points_are i)) (has_at_or_below (going_is i))))
+-- ---- told by the two bodies, of which none is put over the other
+
+-- what others have above the paths that go
+abbrev pub above_gone : Table → ManagerKey → PathSet → PathSet
+above_gone table a gone = set_of (paths (owned_by_others table a)) (has_at_or_below gone)
+
+module _ (state : State) (a : ManagerKey) (config : model.Body) (going above : PathSet) (going_is : going ≡ dropped state a config)
+    (above_is : above ≡ above_gone state.table a going) where
+  -- nothing that goes is the configuration's or held
+  pub gone-are-free : AreFree config going above
+  gone-are-free g lost =
+      let free = gone-free state a config g (sym (ap (λ s. has s g) going_is) ∙ lost) in (
+        free.0,
+        apart_by (has_at_or_below above g) (λ h.
+            let x = one-below above g h in
+            let own = (passed (owned_by_others state.table a) (has_at_or_below going) x.0 (sym (ap (λ s. has s x.0) above_is) ∙ x.1)).0 in
+            yes_no (has_at_or_below (owned_by_others state.table a) g) (below-one (owned_by_others state.table a) g x.0 own x.2) free.1),
+      )
+
+  -- so what is left with the configuration is the body after the Apply
+  pub left-with-pruned : AllEntries (OwnsOwnable state.body) state.table → PointsTellPlaces state.body → PointsTellPlaces config
+      → PartsAreOfPlaces state.body → PartsAreOfPlaces config → left_with state.body config going above ≡ pruned state a config
+  left-with-pruned owned told config_told parts config_parts =
+      (λ i. model.restricted (over state.body config) (λ p. is_root p || has_at_or_below (uncut (over state.body config) (going_is i) (held_is i)) p))
+      ∙ left-pruned state a config owned (over-told state.body config told config_told) config_told (over-parts state.body config parts config_parts)
+    where
+      held_is : union above (set_of (paths (points config)) (has_at_or_below going)) ≡ held_over state a config
+      held_is = λ i. union ((above_is ∙ ap (above_gone state.table a) going_is) i) (set_of (paths (points config)) (has_at_or_below (going_is i)))

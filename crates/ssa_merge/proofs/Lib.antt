@@ -11,6 +11,8 @@ mod Untaken
 pub mod RootedPruned
 pub mod KeptPlaces
 pub mod ToldApart
+pub mod Overlaid
+pub mod AppliedParts
 pub mod Applied
 pub mod Fits
 pub mod Valid

@@ -4,7 +4,7 @@ use Rattle.std.specs.Cmp.{both_ways, first_so, second_so}
 use Rattle.std.specs.List.{list_any}
 use Rattle.std.specs.Prelude.{is_some, option_map, Option, Some, None, if◌then◌else◌}
 use Rattle.ssa_model.specs.definitions.Path.{Element, Path, is_item, is_root, parent, under}
-use Rattle.ssa_model.specs.definitions.PathMap.{PathSet, empty, get, has, has_at_or_below, paths, set_of}
+use Rattle.ssa_model.specs.definitions.PathMap.{empty, get, has, has_at_or_below, paths, set_of}
 use Rattle.ssa_model.specs.definitions.Body as model
 use Rattle.ssa_model.specs.definitions.Body.{Content, leaf, atom, record_branch, dict_branch, list_branch, added, is_bare, is_dict, is_leaf, is_other_leaf, is_point, modified, over, over_content, points, removed, restricted_content, strictly_under}
 use Rattle.ssa_model.specs.definitions.Table.{ManagerKey}
@@ -15,10 +15,10 @@ use Rattle.ssa_model.proofs.Pruned.{from_one, some_one, under-trans}
 use Rattle.ssa_model.proofs.SameValues.{same_json-itself}
 use Rattle.ssa_model.proofs.Scalars.{same_scalar-itself}
 use Rattle.ssa_model.proofs.Tables.{either, element-itself, has-over, has-restricted, points-kept, true_or}
-use Rattle.ssa_typed.specs.Lost.{LostAlong}
 use Rattle.ssa_typed.specs.Reached.{PointsTellPlaces}
 use Rattle.ssa_typed.proofs.Differing.{other-none}
-use Rattle.ssa_merge.proofs.HeldAbove.{below-one, one-below}
+use Rattle.ssa_typed.proofs.LostPlaces.{below-one}
+use Rattle.ssa_merge.proofs.HeldAbove.{one-below}
 
 -- ---- contents
 
@@ -47,7 +47,8 @@ parent-above [] = refl
 parent-above (e ∷ []) = refl
 parent-above (e ∷ f ∷ p) = λ i. element-itself e i && parent-above (f ∷ p) i
 
-under-root : (p q : Path) → under p q ≡ true → is_root q ≡ true → is_root p ≡ true
+-- only the root is above the root
+pub under-root : (p q : Path) → under p q ≡ true → is_root q ≡ true → is_root p ≡ true
 under-root [] q u r = refl
 under-root (e ∷ p) [] u r = absurd (true≢false (sym u))
 under-root (e ∷ p) (f ∷ q) u r = absurd (true≢false (sym r))
@@ -74,7 +75,7 @@ module _ (state : State) (a : ManagerKey) (config : model.Body) (config_told : P
   stays p = is_root p || has_at_or_below (kept state a config) p
 
   -- what the configuration has stays
-  config-stays : (p : Path) → has config p ≡ true → stays p ≡ true
+  pub config-stays : (p : Path) → has config p ≡ true → stays p ≡ true
   config-stays p there =
       either (is_root p) (has_at_or_below (points config) p) (sym (config_told p) ∙ there)
       (true_or (is_root p) (has_at_or_below (kept state a config) p))
@@ -191,10 +192,6 @@ module _ (state : State) (a : ManagerKey) (config : model.Body) (config_told : P
 
 -- ---- what is taken away
 
--- what the live body loses by a cut of the merged one is along the paths that go
-pub lost-along : (live config left : model.Body) (gone : PathSet) → LostAlong gone (over live config) left → LostAlong gone live left
-lost-along live config left gone along p there off = along p (has-over live config p ∙ true_or (has live p) (has config p) there) off
-
 -- a body that has all that is there loses nothing
 pub none-lost : (before after : model.Body) → ((p : Path) → has before p ≡ true → has after p ≡ true) → empty ≡ removed before after
 none-lost before after all =
@@ -203,7 +200,3 @@ none-lost before after all =
       | true ↦ λ there. ap not (all p there)
       | false ↦ λ new. refl
     ] refl))
-
--- the merged body has all that the live one has
-pub merged-has : (live config merged : model.Body) → merged ≡ over live config → (p : Path) → has live p ≡ true → has merged p ≡ true
-merged-has live config merged is p there = ap (λ b. has b p) is ∙ has-over live config p ∙ true_or (has live p) (has config p) there

@@ -1,11 +1,11 @@
 -- Changes of valid states lead to valid states, and keep the managers' order.
 use Rattle.std.proofs.Common.{◌≡◌, ◌≤◌, List, [], ◌∷◌, Bool, true, refl, sym, subst, ◌∙◌}
-use Rattle.std.specs.Prelude.{Result, Ok, Err, None, IfOk, filter, map}
+use Rattle.std.specs.Prelude.{Result, Ok, Err, IfOk, filter, map}
 use Rattle.ssa_model.specs.definitions.Limits.{most_places}
 use Rattle.ssa_model.specs.definitions.Json.{Text}
 use Rattle.ssa_model.specs.definitions.Kind.{Kind}
 use Rattle.ssa_model.specs.definitions.Fitting.{IsBodyOf}
-use Rattle.ssa_model.specs.definitions.PathMap.{size, minus, union}
+use Rattle.ssa_model.specs.definitions.PathMap.{PathSet, size, minus, union}
 use Rattle.ssa_model.specs.definitions.Body.{Body, points, added, modified, removed}
 use Rattle.ssa_model.specs.definitions.History.{is_manager_name}
 use Rattle.ssa_model.specs.definitions.Table.{ManagerKey, is_in_table, owned_by}
@@ -19,19 +19,20 @@ use Rattle.ssa_merge.specs.States.{state_view}
 use Rattle.ssa_merge.specs.TableChanges.{changed_table, LeadsTo}
 use Rattle.ssa_merge.specs.Plans.{changed_state, ChangesInOrder, IsChange, IsChanged, IsPlan, IsPlanned}
 use Rattle.ssa_merge.specs.declared.change.Change.{Change}
+use Rattle.ssa_merge.specs.declared.change.NewBody.TheVariants.{Same}
 use Rattle.ssa_merge.specs.declared.table_change.TableChange.{TableChange}
 use Rattle.ssa_merge.specs.declared.plan.Plan.{Plan}
 use Rattle.ssa_merge.specs.declared.plan.Refusal.{Refusal}
 use Rattle.ssa_merge.specs.declared.plan.Refusal.TheVariants.{Conflict, TooManyPaths, TooManyManagers, OutOfMemory}
 
 -- the state that a change leads to
-same_state : (before : State) (c : Change) (after : State) → IsChange before c after → after ≡ changed_state before c.body c.table
+same_state : (before : State) (c : Change) (after : State) → IsChange before c after → after ≡ changed_state before c.body c.comparison.removed c.table
 same_state before c after h = λ i. record { body = sym h.body_is i; table = sym h.table_leads.leads i }
 
 -- an Apply of a configuration of the state's kind leads from a valid state to a valid one
 pub applied_valid : (state : State) (a : ManagerKey) (config : Body) (force : Bool) (at : Text) (r : Result Change Refusal) → is_manager_name a.name ≡ true
     → IsRooted config → IsChanged state r (apply state a config force at)
-    → IfOk r (λ c. (kind : Kind) → IsValidState kind state → IsBodyOf kind config → IsValidState kind (changed_state state c.body c.table))
+    → IfOk r (λ c. (kind : Kind) → IsValidState kind state → IsBodyOf kind config → IsValidState kind (changed_state state c.body c.comparison.removed c.table))
 applied_valid state a config force at (Ok c) name rooted h = λ kind valid fits.
     subst (IsValidState kind) (same_state state c h.0 h.2) (apply_keeps_valid kind state h.0 a config force at valid fits rooted name h.1)
 applied_valid state a config force at (Err f) name rooted h = tt
@@ -40,15 +41,15 @@ applied_valid state a config force at (Err f) name rooted h = tt
 pub updated_valid : (state : State) (u : ManagerKey) (object : Body) (at : Text) (r : Result Change Refusal) → is_manager_name u.name ≡ true
     → IsRooted object → IsChanged state r (update state u object at)
     → IfOk r (λ c. (kind : Kind) → IsValidState kind state → IsBodyOf kind object → size object ≤ most_places
-    → IsValidState kind (changed_state state c.body c.table))
+    → IsValidState kind (changed_state state c.body c.comparison.removed c.table))
 updated_valid state u object at (Ok c) name rooted h = λ kind valid fits few.
     subst (IsValidState kind) (same_state state c h.0 h.2) (update_keeps_valid kind state h.0 u object at valid fits rooted few name h.1)
 updated_valid state u object at (Err f) name rooted h = tt
 
 -- a strip leads from a valid state to a valid one
-pub stripped_valid : (state : State) (c : TableChange) → LeadsTo state.table c [] → (kind : Kind) → IsValidState kind state
-    → IsValidState kind (changed_state state None c)
-stripped_valid state c h kind valid = subst (IsValidState kind) (λ i. record { body = state.body; table = sym h.leads i }) (strip_keeps_valid kind state valid)
+pub stripped_valid : (state : State) (gone : PathSet) (c : TableChange) → LeadsTo state.table c [] → (kind : Kind) → IsValidState kind state
+    → IsValidState kind (changed_state state Same gone c)
+stripped_valid state gone c h kind valid = subst (IsValidState kind) (λ i. record { body = state.body; table = sym h.leads i }) (strip_keeps_valid kind state valid)
 
 -- ---- the managers' order
 
@@ -92,7 +93,7 @@ stripped_order state c h distinct = subst (KeepsOrder state.table) (sym h.leads)
 
 -- its target is the state after the change
 pub target_of : (before : State) (c : Change) (plan : Plan) (after : State) → IsChange before c after → IsPlan before plan after
-    → changed_state before c.body c.table ≡ state_view plan.target
+    → changed_state before c.body c.comparison.removed c.table ≡ state_view plan.target
 target_of before c plan after h is = sym (same_state before c after h) ∙ sym is.target_is
 
 -- where a change is made, the plan that completes it is planned

@@ -1,13 +1,19 @@
 -- What plans and changes say.
-use Rattle.std.specs.Prelude.{◌≡◌, List, Bool, true, not, ◌||◌, if◌then◌else◌, Option, Some, None, Result, Ok, Err}
+use Rattle.std.specs.Prelude.{◌≡◌, ◌≤◌, ◌+◌, List, Bool, true, not, ◌||◌, if◌then◌else◌, Option, Some, None, Result, Ok, Err}
 use Rattle.ssa_model.specs.definitions.Body.{Body}
+use Rattle.ssa_model.specs.definitions.Limits.{most_places}
 use Rattle.ssa_model.specs.definitions.Operations as model
-use Rattle.ssa_model.specs.definitions.Valid.{has_distinct_keys, KeepsOrder}
+use Rattle.ssa_model.specs.definitions.PathMap.{PathSet, size}
+use Rattle.ssa_model.specs.definitions.Valid.{has_distinct_keys, IsRooted, KeepsOrder}
+use Rattle.ssa_typed.specs.Alike.{AreAlike}
+use Rattle.ssa_typed.specs.Applied.{MayGo, applied}
 use Rattle.ssa_typed.specs.Differences.{IsComparison}
 use Rattle.ssa_merge.specs.Managers.{clashes_view}
 use Rattle.ssa_merge.specs.States.{state_view}
 use Rattle.ssa_merge.specs.TableChanges.{changed_table, LeadsTo}
 use Rattle.ssa_merge.specs.declared.change.Change.{Change}
+use Rattle.ssa_merge.specs.declared.change.NewBody.{NewBody}
+use Rattle.ssa_merge.specs.declared.change.NewBody.TheVariants.{Same, Whole, Over}
 use Rattle.ssa_merge.specs.declared.table_change.TableChange.{TableChange}
 use Rattle.ssa_merge.specs.declared.plan.Plan.{Plan}
 use Rattle.ssa_merge.specs.declared.plan.Refusal.{Refusal}
@@ -39,18 +45,31 @@ IsPlanned before (Ok plan) given = (after : model.State) × (given ≡ Ok after)
 IsPlanned before (Err OutOfMemory) given = Unit {0}
 IsPlanned before (Err refusal) given = (r : model.Refusal) × (given ≡ Err r) × IsRefusal refusal r
 
--- the body after a change
-abbrev pub body_after : Option Body → Body → Body
-body_after None b = b
-body_after (Some c) b = c
+-- the body after a change, which removes these places
+abbrev pub body_after : NewBody → PathSet → Body → Body
+body_after Same gone b = b
+body_after (Whole c) gone b = c
+body_after (Over c) gone b = applied b c gone
+
+-- where a configuration is put over the body, the two are alike, only what it leaves goes, and a rooted body stays
+abbrev pub CanStand : NewBody → PathSet → Body → Type 0
+CanStand (Over c) gone b = AreAlike b c × MayGo b c gone × IsRooted (applied b c gone)
+CanStand Same gone b = Unit {0}
+CanStand (Whole c) gone b = Unit {0}
+
+-- where a configuration is put over the body, the two together have no more places than a body may have
+abbrev pub HasRoom : NewBody → Body → Type 0
+HasRoom (Over c) b = size b + size c ≤ most_places
+HasRoom Same b = Unit {0}
+HasRoom (Whole c) b = Unit {0}
 
 -- the state after a change
-abbrev pub changed_state : model.State → Option Body → TableChange → model.State
-changed_state before body table = record { body = body_after body before.body; table = changed_table table before.table }
+abbrev pub changed_state : model.State → NewBody → PathSet → TableChange → model.State
+changed_state before body gone table = record { body = body_after body gone before.body; table = changed_table table before.table }
 
 -- the change leads from one state to another
 pub record IsChange (before : model.State) (change : Change) (after : model.State) : Type 0 where
-  pub body_is : body_after change.body before.body ≡ after.body
+  pub body_is : body_after change.body change.comparison.removed before.body ≡ after.body
   pub table_leads : LeadsTo before.table change.table after.table
   pub comparison_is : IsComparison before.body after.body change.comparison
 

@@ -1,5 +1,5 @@
 //! What a command changes of a state, told without what stays.
-ghost use Rattle.std.specs.Prelude.{◌≡◌, ◌≤◌, ◌-◌, ◌^◌, true, if◌then◌else◌, min, unwrap_or, IfOk, None};
+ghost use Rattle.std.specs.Prelude.{◌≡◌, ◌≤◌, true, if◌then◌else◌, unwrap_or, IfOk, None};
 ghost use Rattle.ssa_model.specs.definitions.Body.{Body as ModelBody, modified, points};
 ghost use Rattle.ssa_model.specs.definitions.Fitting.{IsBodyOf};
 ghost use Rattle.ssa_model.specs.definitions.History.{is_manager_name};
@@ -14,9 +14,9 @@ ghost use Rattle.ssa_typed.specs.Alike.{AreAlike};
 ghost use Rattle.ssa_typed.specs.Differences.{IsComparison, IsPartComparison};
 ghost use Rattle.ssa_merge.specs.Managers.{conflict_view, key_view, operation_view};
 ghost use Rattle.ssa_merge.specs.States.{state_view, applier, updater};
-ghost use Rattle.ssa_merge.specs.Plans.{body_after, changed_state, conflict_of, ChangesInOrder, IsChange, IsChanged, IsPlan};
+ghost use Rattle.ssa_merge.specs.Plans.{body_after, changed_state, conflict_of, CanStand, ChangesInOrder, HasRoom, IsChange, IsChanged, IsPlan};
 
-use crate::given_up::{PrunedBody, given_up, pruned};
+use crate::body_change::{BodyChange, body_change, body_if_other, has_too_many_places, laid_over};
 use crate::manager::{ManagerKey, Operation};
 use crate::managers::Managers;
 use crate::owned::clashes;
@@ -27,16 +27,26 @@ use crate::table_change::TableChange;
 use ssa_json::moment::Moment;
 use ssa_members::Name;
 use ssa_path::field_set::FieldSet;
-use ssa_typed::body::{Body, MOST_PLACES};
+use ssa_typed::body::Body;
 use ssa_typed::compare::Comparison;
 use ssa_typed::part::PartComparison;
 use std::alloc::{AllocError, Global};
 
+/// The body after a command.
+#[derive(Drop)]
+pub enum NewBody {
+    /// The live body.
+    Same,
+    /// This body.
+    Whole(Body),
+    /// This configuration over the live body, without the places that the command removes.
+    Over(Body),
+}
+
 /// What a command changes of a state, and how the body then differs from the one before.
 #[derive(Drop)]
 pub struct Change {
-    /// The body after the command, none where it stays.
-    pub body: Option<Body>,
+    pub body: NewBody,
     pub table: TableChange,
     pub comparison: Comparison,
 }
@@ -44,7 +54,8 @@ pub struct Change {
 impl Change {
     /// The whole state to which the change leads, with a body and sets of its own.
     pub fn completed(self, alloc: Global, state: &State) -> Result<Plan, AllocError>
-        requires { (after : model.State) × IsChange (state_view state.now) self after }
+        requires change { (after : model.State) × IsChange (state_view state.now) self after }
+        requires stands { CanStand self.body self.comparison.removed state.now.body }
         ensures { IfOk result (λ p. (after : model.State) → IsChange (state_view state.now) self after → IsPlan (state_view state.now) p after) }
     {
         let Change {
@@ -54,8 +65,9 @@ impl Change {
         } = self;
         let managers = table.completed(alloc, &state.managers)?;
         let body = match body {
-            Some(body) => body,
-            None => state.body.clone(alloc)?,
+            NewBody::Same => state.body.clone(alloc)?,
+            NewBody::Whole(body) => body,
+            NewBody::Over(config) => laid_over(alloc, &state.body, config, &comparison.removed)?,
         };
         Ok(Plan {
             target: State { body, managers },
@@ -93,75 +105,6 @@ fn conflict_of(
     Ok(Some(found))
 }
 
-// The body after, none where it is the live body.
-fn body_if_other(live: &Body, after: Body, comparison: &Comparison) -> Option<Body>
-    ensures { body_after result live.now ≡ after }
-{
-    if comparison.is_empty() && live.is_same(&after) {
-        None
-    } else {
-        Some(after)
-    }
-}
-
-// What an Apply makes of the body, none where it stays, and how it then differs from the one before.
-#[derive(Drop)]
-struct BodyChange {
-    body: Option<Body>,
-    comparison: Comparison,
-}
-
-// What an Apply of a configuration makes of the body, where it is told how the configuration differs from the live body. A
-// configuration that repeats what is there, and by which nothing goes, is not merged.
-fn body_change(
-    alloc: Global,
-    state: &State,
-    key: &ManagerKey,
-    config: Body,
-    told: PartComparison,
-    config_points: &FieldSet,
-    keeps: bool,
-) -> Result<BodyChange, AllocError>
-    requires alike { AreAlike state.now.body config }
-    requires owned { AllEntries (OwnsOwnable state.now.body) state.now.managers }
-    requires told { IsPartComparison state.now.body config told }
-    requires points { config_points.now ≡ points config }
-    requires kept { keeps ≡ true → owned_by state.now.managers (key_view key.now) ≡ config_points.now }
-    ensures body { IfOk result (λ m. body_after m.body state.now.body ≡ pruned (state_view state.now) (key_view key.now) config) }
-    ensures comparison { IfOk result (λ m. IsComparison state.now.body (pruned (state_view state.now) (key_view key.now) config) m.comparison) }
-{
-    let gone = given_up(alloc, state, key, &config, config_points, keeps)?;
-    state.body.points_tell_places();
-    config.points_tell_places();
-    if gone.is_empty() && told.repeats {
-        state.body.points_keep_all();
-        let comparison = Comparison::of_same(alloc);
-        return Ok(BodyChange {
-            body: None,
-            comparison,
-        });
-    }
-    let PrunedBody { body, removed } = pruned(alloc, state, key, config, config_points, &gone)?;
-    Ok(BodyChange {
-        body: Some(body),
-        comparison: Comparison {
-            added: told.added,
-            modified: told.modified,
-            removed,
-        },
-    })
-}
-
-// How many places the body after a change has.
-fn size_after(live: &Body, after: &Option<Body>) -> usize
-    ensures { result ≡ min (size (body_after after.now live.now)) (2 ^ 64 - 1) }
-{
-    match after {
-        Some(body) => body.size(),
-        None => live.size(),
-    }
-}
-
 // What the others lose by an Apply without a conflict: what changed where it is forced. Else none of them owns any of
 // that, and their sets need no look.
 fn taken<'a>(changed: &'a FieldSet, nothing: &'a FieldSet, forced: bool) -> &'a FieldSet
@@ -182,14 +125,17 @@ fn applied_with(
     at: Moment,
 ) -> Result<Change, Refusal>
     requires named { is_manager_name (key_view key.now).name ≡ true }
-    ensures { (config : ModelBody) → body_after made.body state.now.body ≡ pruned (state_view state.now) (key_view key.now) config
+    requires stands { CanStand made.body made.comparison.removed state.now.body }
+    requires room { HasRoom made.body state.now.body }
+    ensures change { (config : ModelBody) → body_after made.body made.comparison.removed state.now.body ≡ pruned (state_view state.now) (key_view key.now) config
         → IsComparison state.now.body (pruned (state_view state.now) (key_view key.now) config) made.comparison
         → conflict_of force (clashes (key_view key.now) (modified state.now.body (pruned (state_view state.now) (key_view key.now) config)) state.now.managers) ≡ None
         → unwrap_or owned (owned_by state.now.managers (key_view key.now)) ≡ points config
         → IsChanged (state_view state.now) result (apply (state_view state.now) (key_view key.now) config force at) }
+    ensures stands { IfOk result (λ c. CanStand c.body c.comparison.removed state.now.body) }
 {
     let BodyChange { body, comparison } = made;
-    if size_after(&state.body, &body) > MOST_PLACES {
+    if has_too_many_places(&state.body, &body) {
         return Err(Refusal::TooManyPaths);
     }
     let changed = &comparison.modified;
@@ -221,7 +167,8 @@ fn applied_freely(
     requires owned { AllEntries (OwnsOwnable state.now.body) state.now.managers }
     requires told { IsPartComparison state.now.body config told }
     requires quiet { conflict_of force (clashes (key_view key.now) (modified state.now.body (pruned (state_view state.now) (key_view key.now) config)) state.now.managers) ≡ None }
-    ensures { IsChanged (state_view state.now) result (apply (state_view state.now) (key_view key.now) config force at) }
+    ensures change { IsChanged (state_view state.now) result (apply (state_view state.now) (key_view key.now) config force at) }
+    ensures stands { IfOk result (λ c. CanStand c.body c.comparison.removed state.now.body) }
 {
     if let Some(entry) = state.managers.get(key) {
         if config.has_points(alloc, &entry.set)? {
@@ -247,7 +194,8 @@ fn applied(
     requires alike { AreAlike state.now.body config }
     requires named { is_manager_name (key_view key.now).name ≡ true }
     requires owned { AllEntries (OwnsOwnable state.now.body) state.now.managers }
-    ensures { IsChanged (state_view state.now) result (apply (state_view state.now) (key_view key.now) config force at) }
+    ensures change { IsChanged (state_view state.now) result (apply (state_view state.now) (key_view key.now) config force at) }
+    ensures stands { IfOk result (λ c. CanStand c.body c.comparison.removed state.now.body) }
 {
     config.points_tell_places();
     let told = state.body.compare_part(alloc, &config)?;
@@ -271,8 +219,9 @@ pub fn change_apply(
     requires named { is_manager_name who.now ≡ true }
     requires owned { AllEntries (OwnsOwnable state.now.body) state.now.managers }
     ensures change { IsChanged (state_view state.now) result (apply (state_view state.now) (applier who.now) config force at) }
-    ensures valid { IfOk result (λ c. (kind : Kind) → IsValidState kind (state_view state.now) → IsBodyOf kind config → IsValidState kind (changed_state (state_view state.now) c.body c.table)) }
+    ensures valid { IfOk result (λ c. (kind : Kind) → IsValidState kind (state_view state.now) → IsBodyOf kind config → IsValidState kind (changed_state (state_view state.now) c.body c.comparison.removed c.table)) }
     ensures order { IfOk result (ChangesInOrder (state_view state.now)) }
+    ensures stands { IfOk result (λ c. CanStand c.body c.comparison.removed state.now.body) }
 {
     let key = key_of(alloc, who, Operation::Apply)?;
     config.stands_rooted();
@@ -344,7 +293,8 @@ fn updated(
     at: Moment,
 ) -> Result<Change, Refusal>
     requires { is_manager_name (key_view key.now).name ≡ true }
-    ensures { IsChanged (state_view state.now) result (update (state_view state.now) (key_view key.now) object at) }
+    ensures change { IsChanged (state_view state.now) result (update (state_view state.now) (key_view key.now) object at) }
+    ensures stands { IfOk result (λ c. CanStand c.body c.comparison.removed state.now.body) }
 {
     let comparison = state.body.compare(alloc, &object)?;
     let owned = owned_after_update(alloc, state, key, &comparison)?;
@@ -372,8 +322,9 @@ pub fn change_update(
 ) -> Result<Change, Refusal>
     requires { is_manager_name who.now ≡ true }
     ensures change { IsChanged (state_view state.now) result (update (state_view state.now) (updater who.now) object at) }
-    ensures valid { IfOk result (λ c. (kind : Kind) → IsValidState kind (state_view state.now) → IsBodyOf kind object → size object ≤ most_places → IsValidState kind (changed_state (state_view state.now) c.body c.table)) }
+    ensures valid { IfOk result (λ c. (kind : Kind) → IsValidState kind (state_view state.now) → IsBodyOf kind object → size object ≤ most_places → IsValidState kind (changed_state (state_view state.now) c.body c.comparison.removed c.table)) }
     ensures order { IfOk result (ChangesInOrder (state_view state.now)) }
+    ensures stands { IfOk result (λ c. CanStand c.body c.comparison.removed state.now.body) }
 {
     let key = key_of(alloc, who, Operation::Update)?;
     object.stands_rooted();
@@ -383,12 +334,13 @@ pub fn change_update(
 /// What a Strip changes: the body stays, and all managers leave.
 pub fn change_strip(alloc: Global, state: &State) -> Result<Change, AllocError>
     ensures change { IfOk result (λ c. IsChange (state_view state.now) c (strip (state_view state.now))) }
-    ensures valid { IfOk result (λ c. (kind : Kind) → IsValidState kind (state_view state.now) → IsValidState kind (changed_state (state_view state.now) c.body c.table)) }
+    ensures valid { IfOk result (λ c. (kind : Kind) → IsValidState kind (state_view state.now) → IsValidState kind (changed_state (state_view state.now) c.body c.comparison.removed c.table)) }
     ensures order { IfOk result (ChangesInOrder (state_view state.now)) }
+    ensures stands { IfOk result (λ c. CanStand c.body c.comparison.removed state.now.body) }
 {
     let table = emptied(alloc, &state.managers)?;
     Ok(Change {
-        body: None,
+        body: NewBody::Same,
         table,
         comparison: Comparison::of_same(alloc),
     })

@@ -1,6 +1,6 @@
-//! What an applier gives up, and what becomes of the body.
+//! What an applier gives up, and what the live body loses by that.
 ghost use Rattle.std.specs.Prelude.{◌≡◌, not, ◌&&◌, true, IfOk};
-ghost use Rattle.ssa_model.specs.definitions.PathMap.{has_at_or_below, paths, set_of, union};
+ghost use Rattle.ssa_model.specs.definitions.PathMap.{has_at_or_below, paths, set_of};
 ghost use Rattle.ssa_model.specs.definitions.Path.{is_key_field, is_root};
 ghost use Rattle.ssa_model.specs.definitions.Body.{points, removed};
 ghost use Rattle.ssa_model.specs.definitions.Table.{owned_by, owned_by_others};
@@ -74,25 +74,6 @@ fn unneeded(absent: FieldSet, table: &[Entry], key: &ManagerKey) -> FieldSet
     free
 }
 
-// What stands above the paths that go, or at them: paths of the other managers, and points of the
-// configuration.
-fn held_over(
-    alloc: Global,
-    table: &[Entry],
-    key: &ManagerKey,
-    config_points: &FieldSet,
-    gone: &FieldSet,
-) -> Result<FieldSet, AllocError>
-    ensures { IfOk result (λ s. s ≡ union
-        (set_of (paths (owned_by_others (table_view table.now) (key_view key.now))) (has_at_or_below gone.now))
-        (set_of (paths config_points.now) (has_at_or_below gone.now))) }
-{
-    let owned = owned_over(alloc, table, key, gone)?;
-    let pointed = config_points.over(alloc, gone)?;
-    let held = owned.union(alloc, &pointed)?;
-    Ok(held)
-}
-
 /// The paths that a manager gives up by an Apply of a configuration and that nobody else needs. Where `keeps` tells that
 /// the manager owns the points of the configuration already, nothing is looked for.
 pub fn given_up(
@@ -111,47 +92,26 @@ pub fn given_up(
     Ok(unneeded(absent, state.managers.entries(), key))
 }
 
-/// The body after an Apply, and what the live body loses by it.
-#[derive(Drop)]
-pub struct PrunedBody {
-    pub body: Body,
-    /// The paths at which nothing stands any more.
-    pub removed: FieldSet,
-}
-
-/// The body after an Apply: the configuration over the live body, without the paths that are given up. The
-/// configuration's memory becomes the body's.
-pub fn pruned(
+/// What the live body loses by an Apply by which these paths are given up. The configuration is not put over it for that.
+pub fn lost(
     alloc: Global,
     state: &State,
     key: &ManagerKey,
-    config: Body,
-    config_points: &FieldSet,
+    config: &Body,
     gone: &FieldSet,
-) -> Result<PrunedBody, AllocError>
-    requires alike { AreAlike state.now.body config }
+) -> Result<FieldSet, AllocError>
+    requires alike { AreAlike state.now.body config.now }
     requires owned { AllEntries (OwnsOwnable state.now.body) state.now.managers }
-    requires points { config_points.now ≡ points config }
-    requires gone { gone.now ≡ dropped (state_view state.now) (key_view key.now) config }
-    ensures body { IfOk result (λ p. p.body ≡ pruned (state_view state.now) (key_view key.now) config) }
-    ensures removed { IfOk result (λ p. p.removed ≡ removed state.now.body p.body) }
+    requires gone { gone.now ≡ dropped (state_view state.now) (key_view key.now) config.now }
+    ensures { IfOk result (λ s. s ≡ removed state.now.body (pruned (state_view state.now) (key_view key.now) config.now)) }
 {
-    config.stands_rooted();
+    state.body.points_tell_places();
     config.points_tell_places();
-    let merged = state.body.over(alloc, config)?;
-    merged.points_tell_places();
     if gone.is_empty() {
-        merged.points_keep_all();
-        return Ok(PrunedBody {
-            body: merged,
-            removed: FieldSet::new(alloc),
-        });
+        return Ok(FieldSet::new(alloc));
     }
-    let held = held_over(alloc, state.managers.entries(), key, config_points, gone)?;
-    merged.stands_rooted();
-    merged.parts_are_of_places();
-    merged.cuts_are_along();
-    let body = merged.cut(alloc, gone, &held)?;
-    let removed = state.body.lost_along(alloc, &body, gone)?;
-    Ok(PrunedBody { body, removed })
+    state.body.parts_are_of_places();
+    config.parts_are_of_places();
+    let held = owned_over(alloc, state.managers.entries(), key, gone)?;
+    state.body.lost_with(alloc, config, gone, &held)
 }

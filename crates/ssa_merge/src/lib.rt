@@ -16,6 +16,7 @@
 //! ```
 #![tactic(auto)]
 
+mod body_change;
 pub mod change;
 mod entries;
 mod entries_back;
@@ -36,7 +37,7 @@ pub mod seat;
 pub mod state;
 pub mod table_change;
 
-pub use change::{Change, change_apply, change_strip, change_update};
+pub use change::{Change, NewBody, change_apply, change_strip, change_update};
 pub use entry_fault::EntryFault;
 pub use manager::{ManagerKey, Operation};
 pub use managers::{Entry, MOST_MANAGERS, Managers};

@@ -320,6 +320,14 @@ module _ (kind : Vecs → Node) (is : IsKind kind) (branch : (v : Vecs)
   kind-alike e c d is_c is_d =
       alike-child from to e c d tree_from tree is_c (ap (λ cs. child_at e cs) (ap below made ∙ is.children v) ∙ is_d) alike
 
+  -- the first content with the order of the second children is the second content
+  pub kind-order : with_order (own_content from) (elements v.items) ≡ own_content to
+  kind-order = sort.order (elements v.items) ∙ sym (is.ordered v v) ∙ ap own_content (sym made)
+
+  -- the children of the second place are these
+  pub kind-below : below to ≡ v.items
+  kind-below = ap below made ∙ is.children v
+
   -- the first content with the second children tells what the second place tells
   pub kind-told : (q : Path) → from_place (with_order (own_content from) (elements v.items), kids v.items) q ≡ marks to q
   kind-told q =
@@ -339,7 +347,8 @@ leading-told p M N O old new same h = subst (λ (f : Marks). AreLeading p M f ol
 pub leading-from : (p : Path) (M N O : Marks) (old new : List Step) → ((q : Path) → M q ≡ N q) → AreLeading p N O old new → AreLeading p M O old new
 leading-from p M N O old new same h = subst (λ (f : Marks). AreLeading p f O old new) (λ i q. sym (same q) i) h
 
-below-Leaf-is : (l : LeafType) → below (LeafOf l) ≡ []
+-- below a leaf is nothing
+pub below-Leaf-is : (l : LeafType) → below (LeafOf l) ≡ []
 below-Leaf-is l = search (rules, the_lemmas)
 
 -- a leaf tells its content and no children

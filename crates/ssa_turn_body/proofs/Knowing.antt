@@ -78,7 +78,8 @@ in-found cs (d ∷ ds) (Some j ∷ fs) e x c g s apart h t =
     or_true true = refl
     or_true false = refl
 
-at-index : (cs : List Child) (x : ℕ) (c : Child) → slice_get cs x ≡ Some c → IsChildAt (element_view c.0) cs x
+-- a child stands at its place
+pub at-index : (cs : List Child) (x : ℕ) (c : Child) → slice_get cs x ≡ Some c → IsChildAt (element_view c.0) cs x
 at-index [] x c g = absurd (none-some c g)
 at-index (y ∷ cs) zero c g = record {
   within = omega arith;

@@ -59,14 +59,16 @@ other-first x done d rest apart =
     ∙ any-middle (element_view x.0) done d rest (not_true _ (both_first (not (list_any (same_element (element_view x.0)) (elements (done ++ d ∷ rest)))) _
     apart))
 
-middle-found : (done : List Child) (d : Child) (rest : List Child) → are_apart (elements (done ++ d ∷ rest)) ≡ true
+-- a child between others is found under its element
+pub middle-found : (done : List Child) (d : Child) (rest : List Child) → are_apart (elements (done ++ d ∷ rest)) ≡ true
     → child_at (element_view d.0) (done ++ d ∷ rest) ≡ Some d.1
 middle-found [] d rest apart = ap (λ b. cond b (Some d.1) (child_at (element_view d.0) rest)) (same_element-itself (element_view d.0))
 middle-found (x ∷ done) d rest apart =
     ap (λ b. cond b (Some x.1) (child_at (element_view d.0) (done ++ d ∷ rest))) (other-first x done d rest apart)
     ∙ middle-found done d rest (both_second (not (list_any (same_element (element_view x.0)) (elements (done ++ d ∷ rest)))) _ apart)
 
-none-before : (done : List Child) (d : Child) (rest : List Child) → are_apart (elements (done ++ d ∷ rest)) ≡ true → child_at (element_view d.0) done ≡ None
+-- no child before it has its element
+pub none-before : (done : List Child) (d : Child) (rest : List Child) → are_apart (elements (done ++ d ∷ rest)) ≡ true → child_at (element_view d.0) done ≡ None
 none-before [] d rest apart = refl
 none-before (x ∷ done) d rest apart =
     ap (λ b. cond b (Some x.1) (child_at (element_view d.0) done)) (other-first x done d rest apart)
@@ -121,6 +123,132 @@ pub record AreAmong (p : Path) (done : List Child) (old new : List Step) : Type 
   pub here : changes_at p new ≡ changes_at p old
   -- below other children there are as many changes as before
   pub others : (e : Element) (q : Path) → child_at e done ≡ None → changes_at (p ++ e ∷ q) new ≡ changes_at (p ++ e ∷ q) old
+
+-- ---- one child more is led
+
+module _ (p : Path) (o : Content) (cs : List Child) (old : List Step) (done : List Child) (d : Child) (steps : List Step)
+    (new : child_at (element_view d.0) done ≡ None) (leading : AreLeading p (led o cs []) (led o cs done) old steps) (among : AreAmong p done old steps) where
+  led-here : (q : Path) → under (element_view d.0 ∷ []) q ≡ false → led o cs (done ++ d ∷ []) q ≡ led o cs done q
+  led-here [] u = refl
+  led-here (f ∷ q) u =
+      let other : same_element f (element_view d.0) ≡ false = same_either_way (element_view d.0) f ∙ first (same_element (element_view d.0) f) u in
+      ap (λ x. led_in (child_at f cs) x q) (push-other f done d other)
+    where
+      first : (b : Bool) → (b && true) ≡ false → b ≡ false
+      first true e = e
+      first false e = refl
+
+  -- what is said of the children so far, and of this one, is said of both together
+  joins-here : (q : Path) → Joins (contents (led o cs [])) (contents (led o cs done)) (contents (led o cs (done ++ d ∷ []))) q
+  joins-here [] =
+      joins-still-first (contents (led o cs [])) (contents (led o cs done)) (contents (led o cs (done ++ d ∷ []))) [] (still-root _ _ _) refl
+  joins-here (f ∷ q) =
+      elim (same_element (element_view d.0) f) as (λ b. same_element (element_view d.0) f ≡ b
+      → Joins (contents (led o cs [])) (contents (led o cs done)) (contents (led o cs (done ++ d ∷ []))) (f ∷ q)) [
+        | true ↦ λ t.
+            let is = same_element-true (element_view d.0) f t in
+            joins-first (contents (led o cs [])) (contents (led o cs done)) (contents (led o cs (done ++ d ∷ []))) (f ∷ q)
+            (not-yet f q (ap (λ e. child_at e done) (sym is) ∙ new))
+        | false ↦ λ t.
+            joins-second (contents (led o cs [])) (contents (led o cs done)) (contents (led o cs (done ++ d ∷ []))) (f ∷ q)
+            (other-around (contents (led o cs done)) (contents (led o cs (done ++ d ∷ []))) (element_view d.0) f q t
+            (λ r u. ap content_told (led-here r u)))
+      ] refl
+    where
+      not-yet : (f : Element) (q : Path) → child_at f done ≡ None → IsAround (contents (led o cs [])) (contents (led o cs done)) (f ∷ q)
+      not-yet f [] e = record { above = refl; from = λ r. ap (λ x. content_told (led_in (child_at f cs) x r)) (sym e) }
+      not-yet f (g ∷ q) e =
+          record {
+            above = ap (λ x. content_told (led_in (child_at f cs) x (parent (g ∷ q)))) (sym e);
+            from = λ r. ap
+                (λ x. content_told (led_in (child_at f cs) x (g ∷ (q ++ r)))) (sym e);
+          }
+
+  -- an element that is not among the children so far and this one
+  other-child : (f : Element) → child_at f (done ++ d ∷ []) ≡ None → (same_element (element_view d.0) f ≡ false) × (child_at f done ≡ None)
+  other-child f none =
+      elim (same_element f (element_view d.0)) as (λ b. same_element f (element_view d.0) ≡ b
+      → (same_element (element_view d.0) f ≡ false) × (child_at f done ≡ None)) [
+        | true ↦ λ t.
+            let is = same_element-true f (element_view d.0) t in
+            let there : child_at f (done ++ d ∷ []) ≡ Some d.1 = ap (λ x. child_at x (done ++ d ∷ [])) is ∙ push-same done d new in
+            absurd (none-some d.1 (sym none ∙ there))
+        | false ↦ λ t. (same_either_way f (element_view d.0) ∙ t, sym (push-other f done d t) ∙ none)
+      ] refl
+
+  -- the changes in this child are at other places than those so far
+  places-here : (steps2 : List Step) → AreOnceMore (p ++ element_view d.0 ∷ []) steps steps2 → (q : Path) → changes_at q steps2 ≤ changes_at q old + 1
+  places-here steps2 once q =
+      let e = element_view d.0 in
+      elim (under (p ++ e ∷ []) q) as (λ b. under (p ++ e ∷ []) q ≡ b → changes_at q steps2 ≤ changes_at q old + 1) [
+        | true ↦ λ u.
+            let rest = under-rest (p ++ e ∷ []) q u in
+            let is : q ≡ p ++ e ∷ rest.0 = rest.1 ∙ append_assoc p (e ∷ []) rest.0 in
+            let none : changes_at (p ++ e ∷ rest.0) steps ≡ changes_at (p ++ e ∷ rest.0) old = among.others e rest.0 new in
+            let same : changes_at q steps ≡ changes_at q old = (λ i. changes_at (is i) steps) ∙ none ∙ (λ i. changes_at (sym is i) old) in
+            let more = once.places q in
+            omega arith
+        | false ↦ λ u.
+            let same = once.others q u in
+            let more = leading.once.places q in
+            omega arith
+      ] refl
+
+  among-here : (steps2 : List Step) → AreOnceMore (p ++ element_view d.0 ∷ []) steps steps2 → AreAmong p (done ++ d ∷ []) old steps2
+  among-here steps2 once = record {
+    here = once.others p (under-above p (element_view d.0)) ∙ among.here;
+    others = λ f q none.
+        let other = other-child f none in
+        once.others (p ++ f ∷ q) (under-further p (element_view d.0 ∷ []) (f ∷ q) ∙ ap (λ b. b && true) other.0) ∙ among.others f q other.1;
+  }
+
+  -- the next child is led
+  pub more-led : (c : Node) (steps2 : List Step) → child_at (element_view d.0) cs ≡ Some c
+      → AreLeading (p ++ element_view d.0 ∷ []) (marks c) (marks d.1) steps steps2
+      → AreLeading p (led o cs []) (led o cs (done ++ d ∷ [])) old steps2 × AreAmong p (done ++ d ∷ []) old steps2
+  more-led c steps2 there one =
+      let step : AreLeading p (led o cs done) (led o cs (done ++ d ∷ [])) steps steps2 = record {
+        made = one.made;
+        added = one.added;
+        led = led-child p (element_view d.0) (led o cs done) (led o cs (done ++ d ∷ [])) (marks c) (marks d.1) one.made
+            (λ q. (λ t. led_in (there t) (new t) q))
+            (λ q. (λ t. led_in (there t) (push-same done d new t) q))
+            led-here
+            one.led;
+        saying = saying-child p (element_view d.0) (led o cs done) (led o cs (done ++ d ∷ [])) (marks c) (marks d.1) one.made
+            (λ q. (λ t. led_in (there t) (new t) q))
+            (λ q. (λ t. led_in (there t) (push-same done d new t) q))
+            led-here (root-some c) (root-some d.1)
+            one.saying;
+        once = once-child p (element_view d.0) steps steps2 one.once;
+        writable = one.writable;
+      } in (
+        leading-then p (led o cs []) (led o cs done) (led o cs (done ++ d ∷ [])) old steps steps2 joins-here leading step (places-here steps2 one.once),
+        among-here steps2 one.once,
+      )
+
+  same-led : child_at (element_view d.0) cs ≡ None → (q : Path) → led o cs done q ≡ led o cs (done ++ d ∷ []) q
+  same-led absent [] = refl
+  same-led absent (f ∷ q) =
+      elim (same_element f (element_view d.0)) as (λ b. same_element f (element_view d.0) ≡ b
+      → led_in (child_at f cs) (child_at f done) q ≡ led_in (child_at f cs) (child_at f (done ++ d ∷ [])) q) [
+        | true ↦ λ t.
+            let gone : child_at f cs ≡ None = ap (λ x. child_at x cs) (same_element-true f (element_view d.0) t) ∙ absent in
+            ap (λ x. led_in x (child_at f done) q) gone ∙ sym (ap (λ x. led_in x (child_at f (done ++ d ∷ [])) q) gone)
+        | false ↦ λ t. ap (λ x. led_in (child_at f cs) x q) (sym (push-other f done d t))
+      ] refl
+
+  -- the next child is held, since it comes
+  pub more-held : child_at (element_view d.0) cs ≡ None
+      → AreLeading p (led o cs []) (led o cs (done ++ d ∷ [])) old steps × AreAmong p (done ++ d ∷ []) old steps
+  more-held absent =
+      let same : (q : Path) → led o cs done q ≡ led o cs (done ++ d ∷ []) q = same-led absent in (
+        leading-then p (led o cs []) (led o cs done) (led o cs (done ++ d ∷ [])) old steps steps
+            (λ q. joins-second (contents (led o cs [])) (contents (led o cs done)) (contents (led o cs (done ++ d ∷ []))) q
+            (record { above = ap content_told (same (parent q)); from = λ r. ap content_told (same (q ++ r)) }))
+            leading (leading-same p (led o cs done) (led o cs (done ++ d ∷ [])) steps steps refl same) leading.once.places,
+        record { here = among.here; others = λ f q none. among.others f q (other-child f none).1 },
+      )
 
 -- so far: the children before the rest are led, or held where they come
 pub record IsWalking (p : Path) (o : Content) (cs ds : List Child) (fs : Found) (old : List Step) (i : ℕ) (rest held : List Child) (steps : List Step) : Type
@@ -196,86 +324,6 @@ module _ (p : Path) (o : Content) (cs ds : List Child) (fs : Found) (old : List 
   count_after : (i + 1) + length rest ≡ length ds
   count_after = let c = here.count in omega arith
 
-  led-here : (q : Path) → under (element_view d.0 ∷ []) q ≡ false → led o cs (here.done ++ d ∷ []) q ≡ led o cs here.done q
-  led-here [] u = refl
-  led-here (f ∷ q) u =
-      let other : same_element f (element_view d.0) ≡ false = same_either_way (element_view d.0) f ∙ first (same_element (element_view d.0) f) u in
-      ap (λ x. led_in (child_at f cs) x q) (push-other f here.done d other)
-    where
-      first : (b : Bool) → (b && true) ≡ false → b ≡ false
-      first true e = e
-      first false e = refl
-
-  -- what is said of the children so far, and of this one, is said of both together
-  joins-here : child_at (element_view d.0) here.done ≡ None → (q : Path)
-      → Joins (contents (led o cs [])) (contents (led o cs here.done)) (contents (led o cs (here.done ++ d ∷ []))) q
-  joins-here new [] =
-      joins-still-first (contents (led o cs [])) (contents (led o cs here.done)) (contents (led o cs (here.done ++ d ∷ []))) [] (still-root _ _ _) refl
-  joins-here new (f ∷ q) =
-      elim (same_element (element_view d.0) f) as (λ b. same_element (element_view d.0) f ≡ b
-      → Joins (contents (led o cs [])) (contents (led o cs here.done)) (contents (led o cs (here.done ++ d ∷ []))) (f ∷ q)) [
-        | true ↦ λ t.
-            let is = same_element-true (element_view d.0) f t in
-            joins-first (contents (led o cs [])) (contents (led o cs here.done)) (contents (led o cs (here.done ++ d ∷ []))) (f ∷ q)
-            (not-yet f q (ap (λ e. child_at e here.done) (sym is) ∙ new))
-        | false ↦ λ t.
-            joins-second (contents (led o cs [])) (contents (led o cs here.done)) (contents (led o cs (here.done ++ d ∷ []))) (f ∷ q)
-            (other-around (contents (led o cs here.done)) (contents (led o cs (here.done ++ d ∷ []))) (element_view d.0) f q t
-            (λ r u. ap content_told (led-here r u)))
-      ] refl
-    where
-      not-yet : (f : Element) (q : Path) → child_at f here.done ≡ None → IsAround (contents (led o cs [])) (contents (led o cs here.done)) (f ∷ q)
-      not-yet f [] e = record { above = refl; from = λ r. ap (λ x. content_told (led_in (child_at f cs) x r)) (sym e) }
-      not-yet f (g ∷ q) e =
-          record {
-            above = ap (λ x. content_told (led_in (child_at f cs) x (parent (g ∷ q)))) (sym e);
-            from = λ r. ap
-                (λ x. content_told (led_in (child_at f cs) x (g ∷ (q ++ r)))) (sym e);
-          }
-
-  -- an element that is not among the children so far and this one
-  other-child : (f : Element) → child_at f (here.done ++ d ∷ []) ≡ None → (same_element (element_view d.0) f ≡ false) × (child_at f here.done ≡ None)
-  other-child f none =
-      elim (same_element f (element_view d.0)) as (λ b. same_element f (element_view d.0) ≡ b
-      → (same_element (element_view d.0) f ≡ false) × (child_at f here.done ≡ None)) [
-        | true ↦ λ t.
-            let is = same_element-true f (element_view d.0) t in
-            let new : child_at f here.done ≡ None = ap (λ x. child_at x here.done) is ∙ none-before here.done d rest apart_now in
-            let there : child_at f (here.done ++ d ∷ []) ≡ Some d.1 =
-            ap (λ x. child_at x (here.done ++ d ∷ [])) is ∙ push-same here.done d (none-before here.done d rest apart_now) in
-            absurd (none-some d.1 (sym none ∙ there))
-        | false ↦ λ t. (same_either_way f (element_view d.0) ∙ t, sym (push-other f here.done d t) ∙ none)
-      ] refl
-
-  -- the changes in this child are at other places than those so far
-  places-here : (steps2 : List Step) → AreOnceMore (p ++ element_view d.0 ∷ []) steps steps2 → (q : Path) → changes_at q steps2 ≤ changes_at q old + 1
-  places-here steps2 once q =
-      let e = element_view d.0 in
-      elim (under (p ++ e ∷ []) q) as (λ b. under (p ++ e ∷ []) q ≡ b → changes_at q steps2 ≤ changes_at q old + 1) [
-        | true ↦ λ u.
-            let rest = under-rest (p ++ e ∷ []) q u in
-            let is : q ≡ p ++ e ∷ rest.0 = rest.1 ∙ append_assoc p (e ∷ []) rest.0 in
-            let none : changes_at (p ++ e ∷ rest.0) steps ≡ changes_at (p ++ e ∷ rest.0) old = here.among.others e rest.0 (new_here) in
-            let same : changes_at q steps ≡ changes_at q old = (λ i. changes_at (is i) steps) ∙ none ∙ (λ i. changes_at (sym is i) old) in
-            let more = once.places q in
-            omega arith
-        | false ↦ λ u.
-            let same = once.others q u in
-            let more = here.leading.once.places q in
-            omega arith
-      ] refl
-    where
-      new_here : child_at (element_view d.0) here.done ≡ None
-      new_here = none-before here.done d rest apart_now
-
-  among-here : (steps2 : List Step) → AreOnceMore (p ++ element_view d.0 ∷ []) steps steps2 → AreAmong p (here.done ++ d ∷ []) old steps2
-  among-here steps2 once = record {
-    here = once.others p (under-above p (element_view d.0)) ∙ here.among.here;
-    others = λ f q none.
-        let other = other-child f none in
-        once.others (p ++ f ∷ q) (under-further p (element_view d.0 ∷ []) (f ∷ q) ∙ ap (λ b. b && true) other.0) ∙ here.among.others f q other.1;
-  }
-
   -- with the next child led, the walk goes on
   pub walking-led : (k : ℕ) (steps2 : List Step) → are_apart (elements cs) ≡ true → get_or fs i None ≡ Some k → IsChildLed p cs d steps steps2
       → IsWalking p o cs ds fs old (i + 1) rest held steps2
@@ -283,23 +331,7 @@ module _ (p : Path) (o : Content) (cs ds : List Child) (fs : Found) (old : List 
       let at = child-here (element_view d.0) cs k (walking-place k e) in
       let there : child_at (element_view d.0) cs ≡ Some at.child.1 = found-at (element_view d.0) cs k at.child at.here at.same own_apart in
       let new = none-before here.done d rest apart_now in
-      let one = child at.child.1 there in
-      let step : AreLeading p (led o cs here.done) (led o cs (here.done ++ d ∷ [])) steps steps2 = record {
-        made = one.made;
-        added = one.added;
-        led = led-child p (element_view d.0) (led o cs here.done) (led o cs (here.done ++ d ∷ [])) (marks at.child.1) (marks d.1) one.made
-            (λ q. (λ t. led_in (there t) (new t) q))
-            (λ q. (λ t. led_in (there t) (push-same here.done d new t) q))
-            led-here
-            one.led;
-        saying = saying-child p (element_view d.0) (led o cs here.done) (led o cs (here.done ++ d ∷ [])) (marks at.child.1) (marks d.1) one.made
-            (λ q. (λ t. led_in (there t) (new t) q))
-            (λ q. (λ t. led_in (there t) (push-same here.done d new t) q))
-            led-here (root-some at.child.1) (root-some d.1)
-            one.saying;
-        once = once-child p (element_view d.0) steps steps2 one.once;
-        writable = one.writable;
-      } in
+      let more = more-led p o cs old here.done d steps new here.leading here.among at.child.1 steps2 there (child at.child.1 there) in
       record {
         done = here.done ++ d ∷ [];
         whole = whole_after;
@@ -307,16 +339,15 @@ module _ (p : Path) (o : Content) (cs ds : List Child) (fs : Found) (old : List 
         trees = both_second (is_tree d.1) _ here.trees;
         found = (found_now (Some k) e).1;
         held_is = here.held_is ∙ ap (λ gs. held ++ fresh gs (d ∷ rest)) (split (Some k) e);
-        leading = leading-then p (led o cs []) (led o cs here.done) (led o cs (here.done ++ d ∷ [])) old steps steps2 (joins-here new) here.leading step
-            (places-here steps2 one.once);
-        among = among-here steps2 one.once;
+        leading = more.0;
+        among = more.1;
       }
 
   -- with the next child held, since it comes, the walk goes on
   pub walking-held : (held2 : List Child) → get_or fs i None ≡ None → held2 ≡ held ++ d ∷ [] → IsWalking p o cs ds fs old (i + 1) rest held2 steps
   walking-held held2 e pushed =
-      let absent : child_at (element_view d.0) cs ≡ None = (found_now None e).0 in
-      let same : (q : Path) → led o cs here.done q ≡ led o cs (here.done ++ d ∷ []) q = same-led absent in
+      let new = none-before here.done d rest apart_now in
+      let more = more-held p o cs old here.done d steps new here.leading here.among (found_now None e).0 in
       record {
         done = here.done ++ d ∷ [];
         whole = whole_after;
@@ -326,23 +357,9 @@ module _ (p : Path) (o : Content) (cs ds : List Child) (fs : Found) (old : List 
         held_is =
             here.held_is ∙ ap (λ gs. held ++ fresh gs (d ∷ rest)) (split None e) ∙ sym (append_assoc held (d ∷ []) (fresh (drop (i + 1) fs) rest))
             ∙ ap (λ hs. hs ++ fresh (drop (i + 1) fs) rest) (sym pushed);
-        leading = leading-then p (led o cs []) (led o cs here.done) (led o cs (here.done ++ d ∷ [])) old steps steps
-            (λ q. joins-second (contents (led o cs [])) (contents (led o cs here.done)) (contents (led o cs (here.done ++ d ∷ []))) q
-            (record { above = ap content_told (same (parent q)); from = λ r. ap content_told (same (q ++ r)) }))
-            here.leading (leading-same p (led o cs here.done) (led o cs (here.done ++ d ∷ [])) steps steps refl same) here.leading.once.places;
-        among = record { here = here.among.here; others = λ f q none. here.among.others f q (other-child f none).1 };
+        leading = more.0;
+        among = more.1;
       }
-    where
-      same-led : child_at (element_view d.0) cs ≡ None → (q : Path) → led o cs here.done q ≡ led o cs (here.done ++ d ∷ []) q
-      same-led absent [] = refl
-      same-led absent (f ∷ q) =
-          elim (same_element f (element_view d.0)) as (λ b. same_element f (element_view d.0) ≡ b
-          → led_in (child_at f cs) (child_at f here.done) q ≡ led_in (child_at f cs) (child_at f (here.done ++ d ∷ [])) q) [
-            | true ↦ λ t.
-                let gone : child_at f cs ≡ None = ap (λ x. child_at x cs) (same_element-true f (element_view d.0) t) ∙ absent in
-                ap (λ x. led_in x (child_at f here.done) q) gone ∙ sym (ap (λ x. led_in x (child_at f (here.done ++ d ∷ [])) q) gone)
-            | false ↦ λ t. ap (λ x. led_in (child_at f cs) x q) (sym (push-other f here.done d t))
-          ] refl
 
 nothing-fresh : (gs : Found) → fresh {X = Child} gs [] ≡ []
 nothing-fresh [] = refl

@@ -1,3 +1,4 @@
+pub mod Applying
 pub mod At
 pub mod Between
 pub mod Bodies
@@ -17,7 +18,8 @@ pub mod Said
 pub mod Sizes
 pub mod Steps
 pub mod Told
+pub mod ToldValues
+pub mod Turnovers
 pub mod Turns
 pub mod Woven
 pub mod Writable
-pub mod ToldValues

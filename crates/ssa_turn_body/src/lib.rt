@@ -1,6 +1,7 @@
 //! Bodies changed in place by steps that become those that lead back, with no memory taken.
 //!
-//! [`steps_between`] tells what two bodies differ in, with the room for every later turn;
+//! [`steps_between`] tells what two bodies differ in, with the room for every later turn, and [`steps_over`]
+//! what a configuration changes that is put over a body, of which some places go;
 //! [`turn_recorded`] takes a body there and back.
 //!
 //! ```
@@ -24,7 +25,10 @@ mod copying;
 mod descent;
 mod exchanges;
 mod found;
+mod going;
 pub mod live_body;
+pub mod over_steps;
+mod over_walk;
 mod record_texts;
 mod record_values;
 mod reorder;
@@ -35,6 +39,7 @@ mod told;
 mod told_paths;
 mod told_texts;
 mod told_values;
+mod turnover;
 mod walk;
 mod weave;
 mod writing;
@@ -43,4 +48,5 @@ mod writing_parts;
 pub use between::steps_between;
 pub use between_at::steps_at;
 pub use live_body::{LiveBody, turn_recorded};
+pub use over_steps::steps_over;
 pub use steps::BodySteps;

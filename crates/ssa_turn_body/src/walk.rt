@@ -40,7 +40,7 @@ fn same_leaf(own: &Leaf, other: &Leaf) -> bool
 // Whether both are leaves of one sort with the same content: then no change leads from one to the
 // other.
 #[inline(always)]
-fn is_same_leaf(from: &Node, to: &Node) -> bool
+pub(crate) fn is_same_leaf(from: &Node, to: &Node) -> bool
     ensures { result ≡ true → TellAlike from.now to.now }
 {
     match (from, to) {
@@ -51,7 +51,7 @@ fn is_same_leaf(from: &Node, to: &Node) -> bool
 
 // Puts a change of the place to which this way leads behind the others. A record mostly has one, and is kept
 // long, so the first takes room for itself alone.
-fn push_step(
+pub(crate) fn push_step(
     alloc: Global,
     way: &[&Elem],
     change: PlaceChange,
@@ -65,7 +65,7 @@ fn push_step(
 }
 
 // Another leaf at the end of a way, where it is another: it is moved out.
-fn push_leaf(
+pub(crate) fn push_leaf(
     alloc: Global,
     way: &[&Elem],
     own: &Leaf,

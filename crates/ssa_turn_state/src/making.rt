@@ -4,7 +4,7 @@ ghost use Rattle.ssa_model.specs.definitions.Fitting.{IsBodyOf};
 ghost use Rattle.ssa_model.specs.definitions.Kind.{Kind};
 ghost use Rattle.ssa_model.specs.definitions.Record.{body_record, record_of};
 ghost use Rattle.ssa_model.specs.definitions.Valid.{IsValidState, KeepsOrder};
-ghost use Rattle.ssa_merge.specs.Plans.{body_after, changed_state};
+ghost use Rattle.ssa_merge.specs.Plans.{body_after, changed_state, CanStand};
 ghost use Rattle.ssa_merge.specs.States.{state_view};
 ghost use Rattle.ssa_merge.specs.TableChanges.{changed_table, LeadsTo};
 ghost use Rattle.ssa_turn_body.specs.Records.{body_told};
@@ -12,45 +12,58 @@ ghost use Rattle.ssa_turn_body.specs.Rooms.{HasBodyRoom};
 ghost use Rattle.ssa_turn_state.specs.States.{HasStateRoom, state_steps};
 
 use crate::live_state::StateDelta;
+use ssa_merge::change::NewBody;
 use ssa_merge::plan::Plan;
 use ssa_merge::state::State;
 use ssa_merge::table_change::TableChange;
+use ssa_path::field_set::FieldSet;
 use ssa_turn_body::between::steps_between;
+use ssa_turn_body::over_steps::steps_over;
 use ssa_turn_body::steps::BodySteps;
 use ssa_turn_table::between::table_between;
 use ssa_turn_table::table_delta::table_delta;
 use ssa_typed::body::Body;
 use std::alloc::{AllocError, Global};
 
-// The changes of a body that lead to the second one, where there is a second one.
-fn body_steps(alloc: Global, from: &Body, to: Option<Body>) -> Result<BodySteps, AllocError>
-    requires fit { (kind : Kind) × IsBodyOf kind from.now × IsBodyOf kind (body_after to from.now) }
-    ensures told { IfOk result (λ s. body_told s ≡ body_record from.now (body_after to from.now)) }
+// The changes of a body that lead to the one after a command, by which these places go.
+fn body_steps(
+    alloc: Global,
+    from: &Body,
+    to: NewBody,
+    gone: &FieldSet,
+) -> Result<BodySteps, AllocError>
+    requires fit { (kind : Kind) × IsBodyOf kind from.now × IsBodyOf kind (body_after to gone.now from.now) }
+    requires stands { CanStand to gone.now from.now }
+    ensures told { IfOk result (λ s. body_told s ≡ body_record from.now (body_after to gone.now from.now)) }
     ensures room { IfOk result (λ s. HasBodyRoom s from.now) }
 {
     match to {
-        Some(body) => steps_between(alloc, from, body),
-        None => Ok(BodySteps::none(alloc)),
+        NewBody::Same => Ok(BodySteps::none(alloc)),
+        NewBody::Whole(body) => steps_between(alloc, from, body),
+        NewBody::Over(config) => steps_over(alloc, from, config, gone),
     }
 }
 
 impl StateDelta {
-    /// The record of a change of a state, with room for every turn of it. Nothing that stays is copied.
+    /// The record of a change of a state by which these places of the body go, with room for every turn of it. Nothing that
+    /// stays is copied.
     ///
     /// All memory that its turns want is taken here; `Err` comes where it is refused.
     pub fn of_change(
         alloc: Global,
         state: &State,
-        body: Option<Body>,
+        body: NewBody,
+        gone: &FieldSet,
         table: TableChange,
     ) -> Result<StateDelta, AllocError>
-        requires valid { (kind : Kind) × IsValidState kind (state_view state.now) × IsValidState kind (changed_state (state_view state.now) body table) }
+        requires stands { CanStand body gone.now state.now.body }
+        requires valid { (kind : Kind) × IsValidState kind (state_view state.now) × IsValidState kind (changed_state (state_view state.now) body gone.now table) }
         requires leads { LeadsTo (state_view state.now).table table (changed_table table (state_view state.now).table) }
         requires order { KeepsOrder (state_view state.now).table (changed_table table (state_view state.now).table) }
-        ensures record { IfOk result (λ d. state_steps d ≡ record_of (state_view state.now) (changed_state (state_view state.now) body table)) }
+        ensures record { IfOk result (λ d. state_steps d ≡ record_of (state_view state.now) (changed_state (state_view state.now) body gone.now table)) }
         ensures room { IfOk result (λ d. HasStateRoom d (state_view state.now)) }
     {
-        let body = body_steps(alloc, &state.body, body)?;
+        let body = body_steps(alloc, &state.body, body, gone)?;
         let table = table_delta(alloc, state.managers.entries(), table)?;
         Ok(StateDelta { body, table })
     }
@@ -66,7 +79,8 @@ impl StateDelta {
         ensures room { IfOk result (λ d. HasStateRoom d (state_view from.now)) }
     {
         let State { body, managers } = to;
-        let body = body_steps(alloc, &from.body, Some(body))?;
+        let nothing = FieldSet::new(alloc);
+        let body = body_steps(alloc, &from.body, NewBody::Whole(body), &nothing)?;
         let table = table_between(alloc, from.managers.entries(), managers.entries())?;
         Ok(StateDelta { body, table })
     }

@@ -119,7 +119,8 @@ root-there n = ap is_some (content-root n)
 pub tree-root : (n : Node) → has (body_of n) [] ≡ true
 tree-root n = ap is_some (get-body n []) ∙ root-there n
 
-closed-in : (c : Option Node) (q : Path) → is_some (content_in c q) ≡ true → is_some (content_in c []) ≡ true
+-- where something stands below a place, something stands at it
+pub closed-in : (c : Option Node) (q : Path) → is_some (content_in c q) ≡ true → is_some (content_in c []) ≡ true
 closed-in None q h = h
 closed-in (Some n) q h = root-there n
 

@@ -89,7 +89,8 @@ dict-alike c h = ap is_listing (sym (dict-alone c h))
 
 -- ---- what stands below a node of each sort
 
-below-leaf : (x : Node-F Node) → is_leaf (Some (content_of x)) ≡ true → below_of x ≡ []
+-- below a leaf's content is nothing
+pub below-leaf : (x : Node-F Node) → is_leaf (Some (content_of x)) ≡ true → below_of x ≡ []
 below-leaf (Node-F.Leaf l) h = refl
 below-leaf (Node-F.Branch v) h = absurd (true≢false (sym h))
 below-leaf (Node-F.Dict v) h = absurd (true≢false (sym h))
@@ -163,7 +164,8 @@ module _ (test : Element → Bool) where
   all-append [] fs h k = k
   all-append (e ∷ es) fs h k = both _ _ (both_first (test e) _ h) (all-append es fs (both_second (test e) _ h) k)
 
-  all-joined : (es fs : List Element) → all_of test es ≡ true → all_of test fs ≡ true → all_of test (joined es fs) ≡ true
+  -- elements that pass a test do so where they are joined
+  pub all-joined : (es fs : List Element) → all_of test es ≡ true → all_of test fs ≡ true → all_of test (joined es fs) ≡ true
   all-joined es fs h k = all-append es (filter (λ f. not (is_among f es)) fs) h (all-filter (λ f. not (is_among f es)) fs k)
 
   all-child : (cs : List Child) (e : Element) (c : Node) → all_of test (elements cs) ≡ true → child_at e cs ≡ Some c → test e ≡ true

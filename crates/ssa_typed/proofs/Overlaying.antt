@@ -117,7 +117,7 @@ new-elements cs (d ∷ ds) =
     one false = refl
 
 -- where the live children lack the element, the new ones have the configuration's child of it
-new-child : (cs ds : List Child) (e : Element) → child_at e cs ≡ None → child_at e (filter (is_new cs) ds) ≡ child_at e ds
+pub new-child : (cs ds : List Child) (e : Element) → child_at e cs ≡ None → child_at e (filter (is_new cs) ds) ≡ child_at e ds
 new-child cs [] e h = refl
 new-child cs (d ∷ ds) e h =
     elim (same_element e (element_view d.0)) as (λ s. same_element e (element_view d.0) ≡ s

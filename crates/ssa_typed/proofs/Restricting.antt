@@ -1,5 +1,5 @@
 -- The part of a tree that stays, level by level.
-use Rattle.std.proofs.Common.{◌≡◌, suc, ◌+◌, ◌*◌, ◌<◌, ◌≤◌, length, List, [], ◌∷◌, ◌++◌, Bool, true, false, ◌&&◌, cond, Option, Some, None, refl, sym, ap, subst, ◌∙◌, append_assoc, append-nil, arith}
+use Rattle.std.proofs.Common.{◌≡◌, List, [], ◌∷◌, ◌++◌, Bool, true, false, ◌&&◌, cond, Option, Some, None, refl, sym, ap, ◌∙◌}
 use Rattle.std.specs.Prelude.{filter, option_map, if◌then◌else◌}
 use Rattle.std.specs.List.{list_any}
 use Rattle.std.specs.Ordering.{is_lt}
@@ -13,17 +13,16 @@ use Rattle.ssa_path.specs.declared.trie.Trie.{Trie}
 use Rattle.ssa_path.specs.declared.trie.Trie.TheViews.{out-Trie}
 use Rattle.ssa_path.specs.Trie.{are_filled_tries, is_filled, is_trie, paths, paths_below}
 use Rattle.ssa_path.specs.View.{element_view}
-use Rattle.ssa_path.proofs.Levels.{any-below, any-level, any-root, found, under-reading}
+use Rattle.ssa_path.proofs.Levels.{any-level, under-reading}
 use Rattle.ssa_path.proofs.Orders.{both_first, both_second}
 use Rattle.ssa_typed.specs.Points.{content_in}
 use Rattle.ssa_typed.specs.Restricted.{stays, part_at, AreRestricted, IsRestricted}
-use Rattle.ssa_typed.specs.Rows.{body_of, rows, rows_below, below, own_content, content_at, is_tree, are_trees, are_apart, are_fields, are_items}
+use Rattle.ssa_typed.specs.Rows.{body_of, rows, below, own_content, content_at, is_tree, are_trees, are_apart, are_fields, are_items}
 use Rattle.ssa_typed.specs.declared.node.Node.{Node, Branch, Dict, List as ListOf}
 use Rattle.ssa_typed.proofs.Building.{Child}
 use Rattle.ssa_typed.proofs.Levels.{Children, own-Branch, own-Dict, own-List, tree-Branch, tree-Dict, tree-List, level-below}
 use Rattle.ssa_typed.proofs.Lookups.{content-level, content-root}
 use Rattle.ssa_typed.proofs.Looks.{get-body}
-use Rattle.ssa_typed.proofs.Sizes.{length-first, length-level}
 use Rattle.ssa_typed.proofs.OverNodes.{below-Branch, below-Dict, below-List, all-filter, fields-all, items-all, is_field}
 use Rattle.ssa_typed.proofs.Fitting.{apart-distinct}
 use Rattle.ssa_model.proofs.Basics.{both-true as both}
@@ -67,35 +66,11 @@ module _ (ts : List (Elem × Trie)) (rise : rises (elements ts) ≡ true) (tries
     pub trie-there : is_trie t ≡ true
     trie-there = both_first (is_trie t) _ (child-passes e ts t tries there)
 
-    in-child : (q : Path) → list_any (under q) (paths t) ≡ stays (paths t) q
-    in-child [] = any-root (paths t) ∙ both_second (is_trie t) _ (child-passes e ts t tries there)
-    in-child (f ∷ q) = refl
-
-    stays-child : (q : Path) → stays (paths_below ts) (e ∷ q) ≡ stays (paths t) q
-    stays-child q = any-below under under-reading e ts q rise ∙ ap (λ o. found under o q) there ∙ in-child q
-
-  stays-nowhere : (e : Element) → child_at e ts ≡ None → (q : Path) → stays (paths_below ts) (e ∷ q) ≡ false
-  stays-nowhere e none q = any-below under under-reading e ts q rise ∙ ap (λ o. found under o q) none
-
--- ---- the walk over the children
+-- ---- what stays of children, one by one
 
 -- of no children none stay
 pub none-stay : (ps : List Path) → AreRestricted ps [] []
 none-stay ps = record { elements_are = refl; contents = λ e p. sym (part-none (stays ps) (e ∷ p)); trees = refl }
-
--- whatever stays of what is left, behind what was made so far it is what stays of all
-pub record IsRestricting (ps : List Path) (cs left made : List Child) : Type 0 where
-  -- what is left are trees
-  pub trees : are_trees left ≡ true
-  -- what is left has no more rows than all have
-  pub no_more : length (rows_below left) ≤ length (rows_below cs)
-  -- what stays of the rest, behind what is there, is what stays of all
-  pub rest : (xs : List Child) → AreRestricted ps left xs → AreRestricted ps cs (made ++ xs)
-
--- where no child is left, what is there is what stays of all
-pub restricting-all : (ps : List Path) (cs left made : List Child) → left ≡ [] → IsRestricting ps cs left made → AreRestricted ps cs made
-restricting-all ps cs left made none h = subst (AreRestricted ps cs) (append-nil made)
-    (h.rest [] (subst (λ l. AreRestricted ps l []) (sym none) (none-stay ps)))
 
 module _ (ps : List Path) (c : Child) (left : List Child) where
   -- the first child stays, as far as the paths say
@@ -136,53 +111,6 @@ module _ (ps : List Path) (c : Child) (left : List Child) where
         trees = h.trees;
       }
 
-module _ (ts : List (Elem × Trie)) (rise : rises (elements ts) ≡ true) (tries : are_filled_tries ts ≡ true) (cs : List Child) (c : Child)
-    (all left made : List Child) (is : all ≡ c ∷ left) (h : IsRestricting (paths_below ts) cs all made) where
-  now : IsRestricting (paths_below ts) cs (c ∷ left) made
-  now = subst (λ l. IsRestricting (paths_below ts) cs l made) is h
-
-  -- the next child is a tree
-  pub next-tree : is_tree c.1 ≡ true
-  next-tree = both_first (is_tree c.1) _ now.trees
-
-  fewer : length (rows_below left) ≤ length (rows_below cs)
-  fewer =
-      let first = length-first c left in
-      let bound = now.no_more in
-      omega arith
-
-  -- the walk at the next child is shorter than the walk over all
-  pub next-smaller : 2 * length (rows c.1) < 2 * length (rows_below cs) + 1
-  next-smaller =
-      let first = length-first c left in
-      let bound = now.no_more in
-      omega arith
-
-  -- the next child stays, as far as the set has paths under its element
-  pub restricting-kept : (t : Trie) (n : Node) (new : List Child) → child_at (element_view c.0) ts ≡ Some t → IsRestricted (paths t) c.1 n
-      → new ≡ made ++ (c.0, n) ∷ [] → IsRestricting (paths_below ts) cs left new
-  restricting-kept t n new there part pushed =
-      let ps = paths_below ts in
-      let f = element_view c.0 in
-      let stay = stays-child ts rise tries f t there in
-      record {
-        trees = both_second (is_tree c.1) _ now.trees;
-        no_more = fewer;
-        rest = λ xs g.
-            subst (AreRestricted ps cs) (sym (append_assoc made ((c.0, n) ∷ []) xs) ∙ ap (λ l. l ++ xs) (sym pushed))
-            (now.rest ((c.0, n) ∷ xs) (first-stays ps c left n xs (stay []) (λ p. part.content p
-            ∙ sym (part-shift (stays ps) (stays (paths t)) f p (content_at (rows c.1) p) stay)) part.tree g));
-      }
-
-  -- the next child goes, where the set has nothing under its element
-  pub restricting-dropped : child_at (element_view c.0) ts ≡ None → IsRestricting (paths_below ts) cs left made
-  restricting-dropped none =
-      record {
-        trees = both_second (is_tree c.1) _ now.trees;
-        no_more = fewer;
-        rest = λ xs g. now.rest xs (first-goes (paths_below ts) c left xs (stays-nowhere ts rise tries (element_view c.0) none) g);
-      }
-
 -- ---- fewer elements stand as well as all
 
 module _ (test : Element → Bool) where
@@ -194,7 +122,8 @@ module _ (test : Element → Bool) where
         | false ↦ filter-below e es (both_second (is_lt (element_cmp e f)) _ h)
       ]
 
-  filter-rises : (es : List Element) → rises es ≡ true → rises (filter test es) ≡ true
+  -- elements that rise do so where some are left out
+  pub filter-rises : (es : List Element) → rises es ≡ true → rises (filter test es) ≡ true
   filter-rises [] h = refl
   filter-rises (e ∷ es) h =
       elim (test e) as (λ b. rises (cond b (e ∷ filter test es) (filter test es)) ≡ true) [
@@ -202,13 +131,16 @@ module _ (test : Element → Bool) where
         | false ↦ filter-rises es (both_second (is_below e es) _ h)
       ]
 
-filter-apart : (test : Element → Bool) (es : List Element) → are_apart es ≡ true → are_apart (filter test es) ≡ true
+-- elements that are apart are so where some are left out
+pub filter-apart : (test : Element → Bool) (es : List Element) → are_apart es ≡ true → are_apart (filter test es) ≡ true
 filter-apart test es h = apart-distinct (filter test es) ∙ distinct-filter test es (sym (apart-distinct es) ∙ h)
 
-filter-fields : (test : Element → Bool) (es : List Element) → are_fields es ≡ true → are_fields (filter test es) ≡ true
+-- so it is of those of fields
+pub filter-fields : (test : Element → Bool) (es : List Element) → are_fields es ≡ true → are_fields (filter test es) ≡ true
 filter-fields test es h = fields-all (filter test es) ∙ all-filter is_field test es (sym (fields-all es) ∙ h)
 
-filter-items : (test : Element → Bool) (es : List Element) → are_items es ≡ true → are_items (filter test es) ≡ true
+-- so it is of those of items
+pub filter-items : (test : Element → Bool) (es : List Element) → are_items es ≡ true → are_items (filter test es) ≡ true
 filter-items test es h = items-all (filter test es) ∙ all-filter is_item_element test es (sym (items-all es) ∙ h)
 
 -- ---- the children of a node
@@ -217,10 +149,6 @@ module _ (n : Node) (cs : List Child) (is : below n ≡ cs) where
   -- the children of a tree are trees
   pub children-trees : is_tree n ≡ true → are_trees cs ≡ true
   children-trees tree = ap are_trees (sym is) ∙ (level-below n).trees tree
-
-  -- the walk over the children is shorter than the walk at their node
-  pub children-smaller : 2 * length (rows_below cs) + 1 < 2 * length (rows n)
-  children-smaller = let long = length-level n ∙ ap (λ l. suc (length (rows_below l))) is in omega arith
 
 -- ---- a node of the children that stay
 

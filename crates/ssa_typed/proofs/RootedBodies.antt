@@ -37,7 +37,7 @@ no-leaf-over c (Some dict_branch) h k = refl
 no-leaf-over c (Some (list_branch es)) h k = refl
 
 -- a Dict comes of two Dicts
-dicts-over : (c d : Content) → are_alike (Some c) (Some d) ≡ true → is_dict (over_content (Some c) (Some d)) ≡ true
+pub dicts-over : (c d : Content) → are_alike (Some c) (Some d) ≡ true → is_dict (over_content (Some c) (Some d)) ≡ true
     → (is_dict (Some c) ≡ true) × (is_dict (Some d) ≡ true)
 dicts-over c (leaf s) h k = absurd (true≢false (sym k))
 dicts-over c (atom v) h k = absurd (true≢false (sym k))

@@ -1,12 +1,12 @@
 -- The configuration's children, sorted out by the live children.
-use Rattle.std.proofs.Common.{◌≡◌, ℕ, suc, ◌+◌, ◌-◌, ◌<◌, ◌≤◌, List, [], ◌∷◌, ◌++◌, map, length, get_or, set, take, drop, Bool, true, false, not, ◌||◌, cond, Option, Some, None, option_map, refl, sym, ap, subst, ◌∙◌, append_assoc, append-nil, arith, true≢false, Bor}
-use Rattle.std.specs.Prelude.{filter}
+use Rattle.std.proofs.Common.{◌≡◌, ℕ, suc, ◌+◌, ◌-◌, ◌<◌, ◌≤◌, List, [], ◌∷◌, ◌++◌, map, length, get_or, set, take, drop, Bool, true, false, not, ◌||◌, cond, Option, Some, None, option_map, refl, sym, ap, subst, ◌∙◌, append_assoc, append-nil, arith, true≢false, slice_index_or, zero, Bor}
+use Rattle.std.specs.Prelude.{filter, IfNone, IfSome}
 use Rattle.std.specs.List.{list_any}
 use Rattle.std.proofs.lemmas.List.{drop-set-lt, drop_more, length-drop, length-map, length-take-le, map-append, take_all}
 use Rattle.std.proofs.lemmas.List.Elements.{filter-append}
 use Rattle.std.proofs.lemmas.List.Folds.{list_any-append}
 use Rattle.ssa_model.specs.definitions.Path.{Element, same_element}
-use Rattle.ssa_path.specs.Children.{child_at, elements}
+use Rattle.ssa_path.specs.Children.{child_at, elements, IsChildAt}
 use Rattle.ssa_path.specs.declared.element.Elem.{Elem}
 use Rattle.ssa_path.specs.View.{element_view}
 use Rattle.ssa_path.proofs.Lists.{elements-append, left-at, taken-at}
@@ -22,7 +22,7 @@ use Rattle.ssa_typed.proofs.Overlaying.{AreMade, IsMade, child-at-index, made-al
 use Rattle.ssa_model.proofs.Fitting.{same_element-true}
 use Rattle.ssa_model.proofs.ShownNames.{turned as same_either_way}
 use Rattle.ssa_schema.proofs.Repeats.{some-number}
-use Rattle.ssa_model.proofs.Basics.{not_true, first_false as neither_first, second_false as neither_second}
+use Rattle.ssa_model.proofs.Basics.{not_true, or_true, first_false as neither_first, second_false as neither_second}
 
 -- ---- places
 
@@ -160,6 +160,28 @@ place-within e (c ∷ cs) i h =
           omega arith
     ] h
 
+-- a child that stands at a place is among the children
+any-at : (e : Element) (cs : List Child) (i : ℕ) (d : Child) → i < length cs → same_element e (element_view (slice_index_or cs i d).0) ≡ true
+    → list_any (same_element e) (elements cs) ≡ true
+any-at e [] i d lt s = absurd (omega (arith, lt))
+any-at e (c ∷ cs) zero d lt s = ap (λ b. b || list_any (same_element e) (elements cs)) s
+any-at e (c ∷ cs) (suc i) d lt s = or_true (same_element e (element_view c.0)) _ (any-at e cs i d (omega (arith, lt)) s)
+
+-- the place of a child of an element is found, where the elements are apart
+pub place-at : (e : Element) (cs : List Child) (i : ℕ) (d : Child) → are_apart (elements cs) ≡ true → i < length cs
+    → same_element e (element_view (slice_index_or cs i d).0) ≡ true → child_at e (places cs) ≡ Some i
+place-at e [] i d apart lt s = absurd (omega (arith, lt))
+place-at e (c ∷ cs) zero d apart lt s = ap (λ b. cond b (Some 0) (child_at e (map next_place (places cs)))) s
+place-at e (c ∷ cs) (suc i) d apart lt s =
+    let f = element_view c.0 in
+    let further = child-next e (places cs) ∙ ap (option_map suc) (place-at e cs i d (both_second (not (list_any (same_element f) (elements cs))) _ apart) (omega (arith, lt)) s) in
+    elim (same_element e f) as (λ b. same_element e f ≡ b → cond b (Some 0) (child_at e (map next_place (places cs))) ≡ Some (suc i)) [
+      | true ↦ λ t.
+          let among = ap (λ g. list_any (same_element g) (elements cs)) (sym (same_element-true e f t)) ∙ any-at e cs i d (omega (arith, lt)) s in
+          absurd (true≢false (sym among ∙ not_true _ (both_first (not (list_any (same_element f) (elements cs))) _ apart)))
+      | false ↦ λ t. further
+    ] refl
+
 -- a live child is found where there is one
 abbrev is_absent : {A : Type 0} → Option A → Bool
 is_absent None = true
@@ -177,6 +199,20 @@ new-place e (c ∷ cs) =
       | true ↦ refl
       | false ↦ ap is_absent (child-next e (places cs)) ∙ absent-next (child_at e (places cs)) ∙ new-place e cs
     ]
+
+absent-none : {A : Type 0} (o : Option A) → is_absent o ≡ true → o ≡ None
+absent-none None h = refl
+absent-none (Some x) h = absurd (true≢false (sym h))
+
+found-place : (e : Element) (cs : List Child) (i : ℕ) → are_apart (elements cs) ≡ true → IsChildAt e cs i → child_at e (places cs) ≡ Some i
+found-place e [] i apart h = absurd (omega (arith, h.within))
+found-place e (c ∷ cs) i apart h = place-at e (c ∷ cs) i c apart h.within (h.same c)
+
+-- what is found among children as they stand
+pub scanned-place : (e : Element) (cs : List Child) (o : Option ℕ) → are_apart (elements cs) ≡ true → IfSome o (IsChildAt e cs)
+    → IfNone o (child_at e cs ≡ None) → child_at e (places cs) ≡ o
+scanned-place e cs None apart some none = absent-none (child_at e (places cs)) (new-place e cs ∙ ap is_absent none)
+scanned-place e cs (Some i) apart some none = found-place e cs i apart some
 
 is_new-absent : (cs : List Child) (d : Child) → is_new cs d ≡ is_absent (child_at (element_view d.0) cs)
 is_new-absent cs d = elim (child_at (element_view d.0) cs) as (λ o. elim o [ None ↦ true | Some c ↦ false ] ≡ is_absent o) [ None ↦ refl | Some c ↦ refl ]

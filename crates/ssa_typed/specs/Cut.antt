@@ -9,9 +9,9 @@ use Rattle.ssa_path.specs.Children.{child_at}
 use Rattle.ssa_path.specs.Trie.{is_filled, is_one_of, is_trie, paths}
 use Rattle.ssa_path.specs.declared.element.Elem.{Elem}
 use Rattle.ssa_path.specs.declared.trie.Trie.{Trie}
-use Rattle.ssa_typed.specs.Points.{content_in, is_in_dict, is_point_of, point_in}
-use Rattle.ssa_typed.specs.Restricted.{part_at, AreRestricted, IsRestricted}
-use Rattle.ssa_typed.specs.Rows.{below, content_at, is_tree, rows}
+use Rattle.ssa_typed.specs.Points.{content_in, is_point_of, point_in}
+use Rattle.ssa_typed.specs.Restricted.{part_at}
+use Rattle.ssa_typed.specs.Rows.{content_at, is_tree, rows}
 use Rattle.ssa_typed.specs.declared.node.Node.{Node}
 
 -- the points of a body that are not at or below a path of `gone`, and the paths of `held`
@@ -44,22 +44,10 @@ IsUncut root n gone held ps = (p : Path) → is_one_of ps p ≡ stays_by (is_poi
 
 -- ---- what stays
 
--- what stays of these children: what is at or above a path that stays by itself
-abbrev pub AreCut : Bool → List Path → List Path → List (Elem × Node) → List (Elem × Node) → Type 0
-AreCut in_dict gone held cs made = (ps : List Path) → AreUncut in_dict cs gone held ps → AreRestricted ps cs made
-
--- what stays of a tree: its root, and what is at or above a path that stays by itself
-abbrev pub IsCut : List Path → List Path → Node → Node → Type 0
-IsCut gone held n made = (ps : List Path) → AreUncut (is_in_dict n) (below n) gone held ps → IsRestricted ps n made
-
 -- what is at or above one of these paths, if anything is
 pub record IsLeft (ps : List Path) (n : Node) (made : Option Node) : Type 0 where
   pub content : (p : Path) → content_in made p ≡ part_at (λ q. list_any (under q) ps) p (content_at (rows n) p)
   pub trees : (m : Node) → made ≡ Some m → is_tree m ≡ true
-
--- what stays of a child, which is a point or not: what is at or above a path that stays by itself, if anything is
-abbrev pub IsChildCut : Bool → List Path → List Path → Node → Option Node → Type 0
-IsChildCut point gone held n made = (ps : List Path) → IsUncut point n gone held ps → IsLeft ps n made
 
 -- ---- a trie, if there is one
 

@@ -1,4 +1,5 @@
 pub mod Alike
+pub mod Applied
 pub mod BodyTrees
 pub mod Copies
 pub mod Cut
@@ -7,7 +8,8 @@ pub mod Flats
 pub mod InOrder
 pub mod Lacking
 pub mod Look
-pub mod Lost
+pub mod Lookup
+pub mod LostWith
 pub mod MergedOrder
 pub mod Nodes
 pub mod Ordered
@@ -19,4 +21,5 @@ pub mod Restricted
 pub mod Rows
 pub mod Same
 pub mod Values
+pub mod Without
 pub mod Keyed

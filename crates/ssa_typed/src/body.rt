@@ -1,30 +1,30 @@
 //! Bodies, seen as finite maps from whole paths to contents.
-ghost use Rattle.std.specs.Prelude.{◌≡◌, [], ◌∷◌, ◌-◌, ◌^◌, ◌||◌, true, not, min, option_map, IfOk};
+ghost use Rattle.std.specs.Prelude.{◌≡◌, [], ◌∷◌, ◌-◌, ◌^◌, true, false, not, min, option_map, IfOk};
 ghost use Rattle.ssa_model.specs.definitions.Body.{over, points, record_branch, removed, restricted};
 ghost use Rattle.ssa_model.specs.definitions.Fitting.{IsBodyOf};
 ghost use Rattle.ssa_model.specs.definitions.Kind.{Kind};
 ghost use Rattle.ssa_model.specs.definitions.Objects.{shown};
-ghost use Rattle.ssa_model.specs.definitions.Path.{is_root};
-ghost use Rattle.ssa_model.specs.definitions.PathMap.{from_entries, has, has_at_or_below, paths, set_of, size};
+ghost use Rattle.ssa_model.specs.definitions.Path.{under};
+ghost use Rattle.ssa_model.specs.definitions.Path as model;
+ghost use Rattle.ssa_model.specs.definitions.PathMap.{from_entries, has, paths, set_of, size};
 ghost use Rattle.ssa_json.specs.View.{view};
 ghost use Rattle.ssa_model.specs.definitions.Lawful.{is_lawful, is_ordered};
 ghost use Rattle.ssa_model.specs.definitions.Valid.{IsRooted};
 ghost use Rattle.ssa_typed.specs.Alike.{AreAlike};
-ghost use Rattle.ssa_typed.specs.Cut.{uncut};
 ghost use Rattle.ssa_typed.specs.Differences.{IsComparison, IsPartComparison};
 ghost use Rattle.ssa_typed.specs.Look.{look_of, look_at};
 ghost use Rattle.ssa_typed.specs.Flats.{IsFlattening};
-ghost use Rattle.ssa_typed.specs.Lost.{CutsAreAlong, LostAlong};
+ghost use Rattle.ssa_typed.specs.LostWith.{left_with, AreFree};
 ghost use Rattle.ssa_typed.specs.Reached.{PartsAreOfPlaces, PointsKeepAll, PointsTellPlaces};
 ghost use Rattle.ssa_typed.specs.Rows.{body_of, is_tree};
 
 use crate::compare::{Comparison, Scope, differing};
-use crate::cut::cut_root;
 use crate::lacking::lacking_paths;
-use crate::lost::lost_paths;
+use crate::lost_with::fallen_paths;
 use crate::node::{Look, Node};
 use crate::over::over_node;
 use crate::part::PartComparison;
+use crate::without::node_without;
 use ssa_json::value::Json;
 use ssa_path::field_set::FieldSet;
 use ssa_path::path::Path;
@@ -162,13 +162,6 @@ impl Body {
         let _root = self.root();
     }
 
-    /// What a cut of the body takes is at, above or below a path that goes.
-    pub fn cuts_are_along(&self)
-        ensures { CutsAreAlong self.now }
-    {
-        self.points_tell_places();
-    }
-
     /// The same body, with new memory but for key fields, which both hold.
     pub fn clone(&self, alloc: Global) -> Result<Body, AllocError>
         ensures { IfOk result (λ b. b ≡ self.now) }
@@ -203,35 +196,33 @@ impl Body {
         Ok(FieldSet::from_root(root))
     }
 
-    /// The paths of this body at which the body `after` has nothing, where each of them is at, above or
-    /// below a path of `gone`: what a cut of these paths takes.
-    ///
-    /// One walk along the paths of `gone`; the few items of a list that go are looked for among all. What is
-    /// below a path of `gone` at which both have something, and a list of which more than a few items go, is
-    /// compared whole.
-    pub fn lost_along(
+    /// The places of this body that go where a configuration is put over it and the paths of `gone` are given up: these,
+    /// what is below them, and the records that this leaves without points, unless the configuration has them or a path of
+    /// `held` is at or below them. Nothing is merged for it: one walk along the paths of `gone`.
+    pub fn lost_with(
         &self,
         alloc: Global,
-        after: &Body,
+        config: &Body,
         gone: &FieldSet,
+        held: &FieldSet,
     ) -> Result<FieldSet, AllocError>
-        requires { LostAlong gone.now self.now after.now }
-        ensures { IfOk result (λ s. s ≡ removed self.now after.now) }
+        requires alike { AreAlike self.now config.now }
+        requires free { AreFree config.now gone.now held.now }
+        ensures { IfOk result (λ s. s ≡ removed self.now (left_with self.now config.now gone.now held.now)) }
     {
-        let root = lost_paths(alloc, &self.root, &after.root, gone.root())?;
+        let root = fallen_paths(alloc, &self.root, &config.root, gone.root(), held.root())?;
         Ok(FieldSet::from_root(root))
     }
 
-    /// The body without the places of `gone` and what is below them. A record that this leaves
-    /// without points goes too, unless a path of `held` is at or below it.
-    ///
-    /// What stays is moved, with no copies; a child that has nothing of `gone` at or below it is
-    /// moved whole, without a look at what is below it.
-    pub fn cut(self, alloc: Global, gone: &FieldSet, held: &FieldSet) -> Result<Body, AllocError>
-        requires { IsRooted (restricted self (λ p. is_root p || has_at_or_below (uncut self gone.now held.now) p)) }
-        ensures { IfOk result (λ b. b ≡ restricted self (λ p. is_root p || has_at_or_below (uncut self gone.now held.now) p)) }
+    /// The body without these places. What stays is moved, with no copies; a child that has none of them at or below it is
+    /// moved whole.
+    pub fn without(self, alloc: Global, gone: &FieldSet) -> Result<Body, AllocError>
+        requires inner { has gone.now [] ≡ false }
+        requires whole { (p q : model.Path) → has gone.now p ≡ true → under p q ≡ true → has self q ≡ true → has gone.now q ≡ true }
+        requires rooted { IsRooted (restricted self (λ p. not (has gone.now p))) }
+        ensures { IfOk result (λ b. b ≡ restricted self (λ p. not (has gone.now p))) }
     {
-        let root = cut_root(alloc, self.root, gone.root(), held.root())?;
+        let root = node_without(alloc, self.root, &gone.root().below)?;
         Ok(Body { root })
     }
 

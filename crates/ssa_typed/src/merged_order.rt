@@ -1,22 +1,23 @@
 //! The children of a configuration's place, sorted out by those of the live place.
-ghost use Rattle.std.specs.Prelude.{◌≡◌, [], map, filter, true, IfOk, Some};
+ghost use Rattle.std.specs.Prelude.{◌≡◌, List, [], map, filter, true, IfOk, Some};
 ghost use Rattle.ssa_path.specs.Children.{child_at, elements, rises};
 ghost use Rattle.ssa_path.specs.View.{element_view};
 ghost use Rattle.ssa_typed.specs.InOrder.{IsInOrder};
-ghost use Rattle.ssa_typed.specs.MergedOrder.{beside, is_new, lent_place, places};
+ghost use Rattle.ssa_typed.specs.MergedOrder.{beside, is_new, lent_place, places, ArePlacesOf};
 ghost use Rattle.ssa_typed.specs.Rows.{are_apart};
 
 use crate::node::Node;
+use ssa_path::children::{FEW, scan};
 use ssa_path::element::Elem;
 use std::alloc::{AllocError, Global};
 
 /// The children of a configuration's place, none of them lost.
 #[derive(Drop)]
-pub(crate) struct SortedOut {
+pub struct SortedOut {
     /// For each live child the configuration's child of its element, if there is one.
-    pub(crate) beside: Vec<Option<(Elem, Node)>>,
+    pub beside: Vec<Option<(Elem, Node)>>,
     /// What the configuration alone has, in its order.
-    pub(crate) new: Vec<(Elem, Node)>,
+    pub new: Vec<(Elem, Node)>,
 }
 
 /// The elements of children in order, each with the child's place.
@@ -51,6 +52,40 @@ pub fn find_place(sorted: &[(&Elem, usize)], element: &Elem) -> Option<usize>
     }
 }
 
+/// Where the children of a live place stand, to be found by their elements.
+#[derive(Drop)]
+enum Places<'a> {
+    /// Few children, each of which is looked at.
+    AsTheyStand(&'a [(Elem, Node)]),
+    /// The elements of many in order, each with its place.
+    InOrder(Vec<(&'a Elem, usize)>),
+}
+
+impl<'a> Places<'a> {
+    // The places of live children. To put a few in order would cost more than to look at each.
+    fn of(alloc: Global, live: &'a [(Elem, Node)]) -> Result<Places<'a>, AllocError>
+        requires { are_apart (elements live.now) ≡ true }
+        ensures { IfOk result (ArePlacesOf live.now) }
+    {
+        if live.len() <= FEW {
+            return Ok(Places::AsTheyStand(live));
+        }
+        let sorted = places_in_order(alloc, live)?;
+        Ok(Places::InOrder(sorted))
+    }
+
+    // The place of the live child of this element.
+    fn find(&self, element: &Elem) -> Option<usize>
+        requires { (live : List (Elem × Node)) × ArePlacesOf live self.now }
+        ensures { (live : List (Elem × Node)) → ArePlacesOf live self.now → child_at (element_view element.now) (places live) ≡ result }
+    {
+        match self {
+            Places::AsTheyStand(live) => scan(live, element),
+            Places::InOrder(sorted) => find_place(sorted, element),
+        }
+    }
+}
+
 // Nothing beside each live child.
 fn none_beside(
     alloc: Global,
@@ -76,7 +111,7 @@ fn put(place: &mut Option<(Elem, Node)>, child: (Elem, Node))
 /// ones.
 ///
 /// Takes about n log n comparisons of elements, however they are chosen.
-pub(crate) fn sorted_out(
+pub fn sorted_out(
     alloc: Global,
     live: &[(Elem, Node)],
     config: Vec<(Elem, Node)>,
@@ -86,11 +121,11 @@ pub(crate) fn sorted_out(
     ensures beside { IfOk result (λ s. s.beside.items ≡ map (beside config.items) live.now) }
     ensures new { IfOk result (λ s. s.new.items ≡ filter (is_new live.now) config.items) }
 {
-    let sorted = places_in_order(alloc, live)?;
+    let places = &Places::of(alloc, live)?;
     let mut beside = none_beside(alloc, live)?;
     let mut new = Vec::new(alloc);
     for child in config {
-        match find_place(&sorted, &child.0) {
+        match places.find(&child.0) {
             Some(place) => put(&mut beside[place], child),
             None => new.push(child)?,
         }

@@ -92,8 +92,8 @@ fn over_items(
     over_found(alloc, live, config)
 }
 
-// How the next children compare: where the live ones have no more, the configuration's is first.
-fn order_beside(
+/// How the next children compare: where the live ones have no more, the configuration's is first.
+pub fn order_beside(
     live: &[(Elem, Node)],
     i: usize,
     config: &VecDeque<(Elem, Node)>,

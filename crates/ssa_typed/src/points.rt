@@ -1,7 +1,7 @@
 //! The points of a tree: its leaves, items of lists, entries of Dicts and empty branches.
 ghost use Rattle.std.specs.Prelude.{◌≡◌, [], true, Some, IfOk};
 ghost use Rattle.ssa_path.specs.View.{element_view};
-ghost use Rattle.ssa_typed.specs.Points.{collects, ends_here, IsAllPlaces, IsChildTrie, IsCollected, IsPointTrie};
+ghost use Rattle.ssa_typed.specs.Points.{collects, ends_here, point_in, IsAllPlaces, IsChildTrie, IsCollected, IsPointTrie};
 ghost use Rattle.ssa_typed.specs.Rows.{is_tree};
 
 use crate::node::Node;
@@ -17,17 +17,22 @@ pub(crate) enum Collected {
     All,
 }
 
+// Whether a child of this element, in a Dict or not, is a point.
+pub(crate) fn is_point(element: &Elem, node: &Node, in_dict: bool) -> bool
+    ensures { result ≡ point_in in_dict (element_view element.now) (Some node.now) [] }
+{
+    let ends = node.ends_here();
+    let item = element.is_item();
+    ends || (item || in_dict)
+}
+
 impl Collected {
     // Whether a child's own place is collected.
     pub(crate) fn has_place(self, child: &(Elem, Node), in_dict: bool) -> bool
         ensures { result ≡ collects self in_dict (element_view child.now.0) (Some child.now.1) [] }
     {
         match self {
-            Collected::Points => {
-                let ends = child.1.ends_here();
-                let item = child.0.is_item();
-                ends || (item || in_dict)
-            }
+            Collected::Points => is_point(&child.0, &child.1, in_dict),
             Collected::All => true,
         }
     }

@@ -11,8 +11,8 @@ use Rattle.ssa_merge.proofs.Applied.{apply-decided, decided-conflict, none-found
 use Rattle.ssa_merge.proofs.ToldApart.{modified-told}
 use Rattle.ssa_merge.proofs.change.applied.Goals as goal
 
-pub returns-in-Some : goal.returns-in-Some
-returns-in-Some c =
+pub returns-in-Some-clause-change : goal.returns-in-Some-clause-change
+returns-in-Some-clause-change c =
     let state = state_view c.args.state.now in
     let a = key_view c.args.key.now in
     let config = c.args.config in

@@ -7,12 +7,12 @@ use Rattle.ssa_merge.proofs.change.applied_freely.Goals as goal
 pub body_change-requires-clause-kept : goal.body_change-requires-clause-kept
 body_change-requires-clause-kept c = λ _. owned-entry c.args.state.now.managers (key_view c.args.key.now) ∙ ap set_in (sym c.in-Some.ensures)
 
-pub returns-then-branch : goal.returns-then-branch
-returns-then-branch c =
+pub returns-then-branch-clause-change : goal.returns-then-branch-clause-change
+returns-then-branch-clause-change c =
     let own : owned_by c.args.state.now.managers (key_view c.args.key.now) ≡ c.in-Some.entry.now.set =
     owned-entry c.args.state.now.managers (key_view c.args.key.now) ∙ ap set_in (sym c.in-Some.ensures) in
-    c.applied_with.ensures c.args.config c.in_ok-made.ensures.body c.in_ok-made.ensures.comparison c.requires.quiet (own ∙ c.in_ok-has_points.ensures c.if-branch.true)
+    c.applied_with.ensures.change c.args.config c.in_ok-made.ensures.body c.in_ok-made.ensures.comparison c.requires.quiet (own ∙ c.in_ok-has_points.ensures c.if-branch.true)
 
-pub returns : goal.returns
-returns c =
-    c.applied_with-2.ensures c.args.config c.in_ok-made-2.ensures.body c.in_ok-made-2.ensures.comparison c.requires.quiet c.in_ok-points.ensures
+pub returns-clause-change : goal.returns-clause-change
+returns-clause-change c =
+    c.applied_with-2.ensures.change c.args.config c.in_ok-made-2.ensures.body c.in_ok-made-2.ensures.comparison c.requires.quiet c.in_ok-points.ensures

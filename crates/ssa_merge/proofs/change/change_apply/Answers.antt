@@ -10,7 +10,7 @@ pub returns-clause-change : goal.returns-clause-change
 returns-clause-change c =
     let state = state_view c.args.state.now in
     let changed : ManagerKey → Type 0 = λ a. IsChanged state c.applied.result (apply state a c.args.config c.args.force c.args.at) in
-    subst changed c.in_ok-key.ensures c.applied.ensures
+    subst changed c.in_ok-key.ensures c.applied.ensures.change
 
 pub returns-clause-valid : goal.returns-clause-valid
 returns-clause-valid c =

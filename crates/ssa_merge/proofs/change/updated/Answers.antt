@@ -10,8 +10,8 @@ use Rattle.ssa_merge.specs.declared.change.Change.{Change}
 use Rattle.ssa_merge.proofs.Applied.{placed, unplaced}
 use Rattle.ssa_merge.proofs.change.updated.Goals as goal
 
-pub returns-in-Ok : goal.returns-in-Ok
-returns-in-Ok c =
+pub returns-in-Ok-clause-change : goal.returns-in-Ok-clause-change
+returns-in-Ok-clause-change c =
     let state = state_view c.args.state.now in
     let u = key_view c.args.key.now in
     let object = c.args.object in
@@ -28,10 +28,10 @@ returns-in-Ok c =
     λ i. seat state.table u (owned_is i) (lost_is i) (are.modified_are i) c.args.at in
     let change : Change = record { body = c.body_if_other.result; table = c.in-Ok.table; comparison = c.in_ok-comparison.comparison } in
     let is_seated : Table → Type 0 = IsSeated state.table (Ok c.in-Ok.table) in
-    placed state change object table c.body_if_other.ensures (subst is_seated seats c.in-Ok.ensures) are
+    placed state change object table (c.body_if_other.ensures.body c.in_ok-comparison.comparison.removed) (subst is_seated seats c.in-Ok.ensures) are
 
-pub returns-in-Err : goal.returns-in-Err
-returns-in-Err c =
+pub returns-in-Err-clause-change : goal.returns-in-Err-clause-change
+returns-in-Err-clause-change c =
     let state = state_view c.args.state.now in
     let u = key_view c.args.key.now in
     let object = c.args.object in

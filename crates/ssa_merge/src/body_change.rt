@@ -1,0 +1,153 @@
+//! What a command makes of the body: told by what comes and goes, so that nothing of it is made that stays.
+ghost use Rattle.std.specs.Prelude.{◌≡◌, ◌<◌, ◌≤◌, ◌+◌, ◌↔◌, true, IfOk, IsTrue};
+ghost use Rattle.ssa_model.specs.definitions.Body.{points, removed};
+ghost use Rattle.ssa_model.specs.definitions.Limits.{most_places};
+ghost use Rattle.ssa_model.specs.definitions.Operations.{pruned};
+ghost use Rattle.ssa_model.specs.definitions.PathMap.{size, PathSet};
+ghost use Rattle.ssa_model.specs.definitions.Table.{owned_by};
+ghost use Rattle.ssa_model.specs.definitions.Valid.{AllEntries, IsRooted, OwnsOwnable};
+ghost use Rattle.ssa_typed.specs.Alike.{AreAlike};
+ghost use Rattle.ssa_typed.specs.Applied.{MayGo, applied};
+ghost use Rattle.ssa_typed.specs.Differences.{IsComparison, IsPartComparison};
+ghost use Rattle.ssa_merge.specs.Managers.{key_view};
+ghost use Rattle.ssa_merge.specs.Plans.{body_after, CanStand, HasRoom};
+ghost use Rattle.ssa_merge.specs.States.{state_view};
+
+use crate::change::NewBody;
+use crate::given_up::{given_up, lost};
+use crate::manager::ManagerKey;
+use crate::state::State;
+use ssa_path::field_set::FieldSet;
+use ssa_typed::body::{Body, MOST_PLACES};
+use ssa_typed::compare::Comparison;
+use ssa_typed::part::PartComparison;
+use std::alloc::{AllocError, Global};
+
+/// The body after, told as the live body where it is no other one.
+pub fn body_if_other(live: &Body, after: Body, comparison: &Comparison) -> NewBody
+    ensures body { (gone : PathSet) → body_after result gone live.now ≡ after }
+    ensures stands { (gone : PathSet) → CanStand result gone live.now }
+{
+    if comparison.is_empty() && live.is_same(&after) {
+        NewBody::Same
+    } else {
+        NewBody::Whole(after)
+    }
+}
+
+/// The configuration over the live body, without these places. The configuration's memory becomes the body's.
+pub fn laid_over(
+    alloc: Global,
+    live: &Body,
+    config: Body,
+    gone: &FieldSet,
+) -> Result<Body, AllocError>
+    requires alike { AreAlike live.now config }
+    requires gone { MayGo live.now config gone.now }
+    requires rooted { IsRooted (applied live.now config gone.now) }
+    ensures { IfOk result (λ b. b ≡ applied live.now config gone.now) }
+{
+    config.points_tell_places();
+    let merged = live.over(alloc, config)?;
+    merged.without(alloc, gone)
+}
+
+// Whether a configuration and the live body have no more places together than a body may have.
+fn has_room(live: &Body, config: &Body) -> bool
+    ensures { IsTrue result ↔ (size live.now + size config.now ≤ most_places) }
+{
+    live.size().saturating_add(config.size()) <= MOST_PLACES
+}
+
+// The body after an Apply by which the live body loses these places. The configuration is put over the live body only
+// where that could have too many places, so that they are counted.
+fn applied_body(
+    alloc: Global,
+    state: &State,
+    key: &ManagerKey,
+    config: Body,
+    gone: &FieldSet,
+) -> Result<NewBody, AllocError>
+    requires alike { AreAlike state.now.body config }
+    requires owned { AllEntries (OwnsOwnable state.now.body) state.now.managers }
+    requires gone { gone.now ≡ removed state.now.body (pruned (state_view state.now) (key_view key.now) config) }
+    ensures body { IfOk result (λ b. body_after b gone.now state.now.body ≡ pruned (state_view state.now) (key_view key.now) config) }
+    ensures stands { IfOk result (λ b. CanStand b gone.now state.now.body) }
+    ensures room { IfOk result (λ b. HasRoom b state.now.body) }
+{
+    state.body.points_tell_places();
+    config.points_tell_places();
+    state.body.parts_are_of_places();
+    config.parts_are_of_places();
+    state.body.stands_rooted();
+    config.stands_rooted();
+    if has_room(&state.body, &config) {
+        return Ok(NewBody::Over(config));
+    }
+    let body = laid_over(alloc, &state.body, config, gone)?;
+    Ok(NewBody::Whole(body))
+}
+
+/// What an Apply makes of the body, and how it then differs from the one before.
+#[derive(Drop)]
+pub struct BodyChange {
+    pub body: NewBody,
+    pub comparison: Comparison,
+}
+
+/// What an Apply of a configuration makes of the body, where it is told how the configuration differs from the live body.
+/// Where `keeps` tells that the manager owns the points of the configuration already, it gives up nothing. A
+/// configuration that repeats what is there, and by which nothing goes, is let go.
+pub fn body_change(
+    alloc: Global,
+    state: &State,
+    key: &ManagerKey,
+    config: Body,
+    told: PartComparison,
+    config_points: &FieldSet,
+    keeps: bool,
+) -> Result<BodyChange, AllocError>
+    requires alike { AreAlike state.now.body config }
+    requires owned { AllEntries (OwnsOwnable state.now.body) state.now.managers }
+    requires told { IsPartComparison state.now.body config told }
+    requires points { config_points.now ≡ points config }
+    requires kept { keeps ≡ true → owned_by state.now.managers (key_view key.now) ≡ config_points.now }
+    ensures body { IfOk result (λ m. body_after m.body m.comparison.removed state.now.body ≡ pruned (state_view state.now) (key_view key.now) config) }
+    ensures comparison { IfOk result (λ m. IsComparison state.now.body (pruned (state_view state.now) (key_view key.now) config) m.comparison) }
+    ensures stands { IfOk result (λ m. CanStand m.body m.comparison.removed state.now.body) }
+    ensures room { IfOk result (λ m. HasRoom m.body state.now.body) }
+{
+    let gone = given_up(alloc, state, key, &config, config_points, keeps)?;
+    state.body.points_tell_places();
+    config.points_tell_places();
+    if gone.is_empty() && told.repeats {
+        state.body.points_keep_all();
+        let comparison = Comparison::of_same(alloc);
+        return Ok(BodyChange {
+            body: NewBody::Same,
+            comparison,
+        });
+    }
+    let removed = lost(alloc, state, key, &config, &gone)?;
+    let body = applied_body(alloc, state, key, config, &removed)?;
+    Ok(BodyChange {
+        body,
+        comparison: Comparison {
+            added: told.added,
+            modified: told.modified,
+            removed,
+        },
+    })
+}
+
+/// Whether the body after a change has more places than it may have.
+pub fn has_too_many_places(live: &Body, after: &NewBody) -> bool
+    requires { HasRoom after.now live.now }
+    ensures { (gone : PathSet) → IsTrue result ↔ (most_places < size (body_after after.now gone live.now)) }
+{
+    match after {
+        NewBody::Same => live.size() > MOST_PLACES,
+        NewBody::Whole(body) => body.size() > MOST_PLACES,
+        NewBody::Over(_) => false,
+    }
+}
