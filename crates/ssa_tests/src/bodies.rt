@@ -14,8 +14,8 @@ use ssa_typed::body::Body;
 use std::alloc::Global;
 use std::test::Fail;
 
-// The body of a value under a schema.
-fn body_under(alloc: Global, schema: &Schema, value: Json) -> Result<Body, Fail>
+/// The body of a value under a schema.
+pub fn body_under(alloc: Global, schema: &Schema, value: Json) -> Result<Body, Fail>
     ensures { IfOk result (λ b. IsBodyOf schema.now.kind b) }
 {
     Ok(Body::from_json(alloc, schema, value)?)

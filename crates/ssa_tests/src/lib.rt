@@ -15,6 +15,8 @@ mod line_tests;
 #[cfg(test)]
 mod loading_tests;
 #[cfg(test)]
+mod over_steps_tests;
+#[cfg(test)]
 mod record_size_tests;
 #[cfg(test)]
 mod saving_tests;

@@ -14,6 +14,8 @@ mod fields_tests;
 #[cfg(test)]
 mod front_tests;
 #[cfg(test)]
+mod given_up_tests;
+#[cfg(test)]
 mod journal_tests;
 #[cfg(test)]
 mod json_tests;

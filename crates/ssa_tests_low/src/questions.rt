@@ -1,7 +1,7 @@
 //! What the tables of cases ask, of one text or of two, and who answers.
 use crate::{
-    body_fault_tests, body_tests, element_tests, fields_tests, json_tests, kind_tests, merge_tests,
-    schema_tests, set_tests,
+    body_fault_tests, body_tests, element_tests, fields_tests, given_up_tests, json_tests,
+    kind_tests, merge_tests, schema_tests, set_tests,
 };
 use std::alloc::Global;
 use std::test::Fail;
@@ -58,10 +58,8 @@ pub enum QuestionOfTwo {
     Over(merge_tests::AskedOver),
     /// A question of a body beside another.
     Bodies(merge_tests::AskedBeside),
-    /// A question of what is cut from the sample of a body.
-    Cut(merge_tests::AskedOfCut),
-    /// Which paths a body loses without the first text's, but for what is at or above the second's.
-    Lost,
+    /// What stands at the second text's place of the live body of which the first text's paths are given up.
+    SortLeft,
 }
 
 /// The answer to a question of two texts.
@@ -77,7 +75,6 @@ pub fn answer_of_two(
         QuestionOfTwo::Fault => body_fault_tests::fault_under(alloc, first, second),
         QuestionOfTwo::Over(asked) => merge_tests::told_over(alloc, asked, first, second),
         QuestionOfTwo::Bodies(asked) => merge_tests::beside(alloc, asked, first, second),
-        QuestionOfTwo::Cut(asked) => merge_tests::told_of_cut(alloc, asked, first, second),
-        QuestionOfTwo::Lost => merge_tests::told_lost(alloc, first, second),
+        QuestionOfTwo::SortLeft => given_up_tests::sort_left(alloc, first, second),
     }
 }
