@@ -1,19 +1,20 @@
 -- The body after an Apply is its configuration over the live body, without the places that the live body loses.
-use Rattle.std.proofs.Common.{◌≡◌, ◌<◌, ◌≤◌, ◌+◌, List, [], ◌∷◌, ◌++◌, length, Bool, true, false, not, ◌&&◌, ◌||◌, refl, sym, ap, subst, ◌∙◌, arith}
+use Rattle.std.proofs.Common.{◌≡◌, ◌<◌, ◌≤◌, ◌+◌, List, [], ◌∷◌, ◌++◌, length, Bool, true, false, not, ◌&&◌, ◌||◌, cond, refl, sym, ap, subst, ◌∙◌, arith}
 use Rattle.std.proofs.lemmas.List.{length-append, length-map}
+use Rattle.std.proofs.lemmas.List.Folds.{list_any-append}
 use Rattle.std.specs.Cmp.{first_so, second_so}
 use Rattle.std.specs.Prelude.{Option, Some, None, filter_map, option_map}
 use Rattle.std.specs.List.{cons_option}
 use Rattle.ssa_model.specs.definitions.Limits.{most_places}
-use Rattle.ssa_model.specs.definitions.Path.{Path, is_root, under}
-use Rattle.ssa_model.specs.definitions.PathMap.{PathSet, empty, get, has, has_at_or_below, is_empty, map_of, paths, size}
+use Rattle.ssa_model.specs.definitions.Path.{Path, is_root, same_path, under}
+use Rattle.ssa_model.specs.definitions.PathMap.{PathSet, empty, get, has, has_at_or_below, is_empty, map_of, paths, set_of, size}
 use Rattle.ssa_model.specs.definitions.Body as model
-use Rattle.ssa_model.specs.definitions.Body.{over, over_content, points, removed, restricted}
+use Rattle.ssa_model.specs.definitions.Body.{added, is_point, over, over_content, points, removed, restricted}
 use Rattle.ssa_model.specs.definitions.Table.{ManagerKey}
 use Rattle.ssa_model.specs.definitions.Operations.{State, dropped, kept, pruned}
 use Rattle.ssa_model.specs.definitions.Valid.{AllEntries, IsRooted, OwnsOwnable}
-use Rattle.ssa_model.proofs.Basics.{and-false, not_true, or_true, yes_no}
-use Rattle.ssa_model.proofs.PathMaps.{has-paths, has-set_of}
+use Rattle.ssa_model.proofs.Basics.{and-false, and-true, not_true, or_true, yes_no}
+use Rattle.ssa_model.proofs.PathMaps.{get-map_of, has-paths, has-set_of, is_one_of, same_map}
 use Rattle.ssa_model.proofs.RecordSizes.{length-entries}
 use Rattle.ssa_model.proofs.Tables.{apart_by, either, has-over, has-restricted, true_or}
 use Rattle.ssa_typed.specs.Alike.{AreAlike}
@@ -157,23 +158,80 @@ size-of {X} ps f =
 size-paths : (b : model.Body) → length (paths b) ≡ size b
 size-paths b = length-map b.entries (λ e. e.0)
 
--- a configuration over a live body has no more places than the two have together
-pub few-applied : (live config : model.Body) (gone : PathSet) → size (applied live config gone) ≤ size live + size config
-few-applied live config gone =
-    let merged : model.Body = over live config in
-    let a : size (applied live config gone) ≤ length (paths merged) = size-of (paths merged) _ in
-    let b : size merged ≤ length (paths live ++ paths config) = size-of (paths live ++ paths config) (λ p. over_content (get live p) (get config p)) in
-    let c : length (paths live ++ paths config) ≡ length (paths live) + length (paths config) = length-append (paths live) (paths config) in
-    let d = size-paths live in
-    let e = size-paths config in
-    let f = size-paths merged in
+-- ---- a configuration over a live body has no more places than that has, and it adds points, and has places that are no points
+
+-- those of a list that pass a test
+abbrev passing : (Path → Bool) → List Path → List (Path × Unit {0})
+passing test ps = filter_map (λ p. option_map (λ x. (p, x)) (cond (test p) (Some tt) None)) ps
+
+abbrev put_passing : Path → Bool → List (Path × Unit {0}) → List (Path × Unit {0})
+put_passing p b xs = cons_option (option_map (λ x. (p, x)) (cond b (Some tt) None)) xs
+
+-- those of a list that pass a test and those that do not are all of it
+all-passing : (test : Path → Bool) (ps : List Path) → length (passing test ps) + length (passing (λ p. not (test p)) ps) ≡ length ps
+all-passing test [] = refl
+all-passing test (p ∷ ps) = one (test p) (all-passing test ps)
+  where
+    one : (b : Bool) → length (passing test ps) + length (passing (λ q. not (test q)) ps) ≡ length ps
+        → length (put_passing p b (passing test ps)) + length (put_passing p (not b) (passing (λ q. not (test q)) ps)) ≡ length (p ∷ ps)
+    one true h = omega arith
+    one false h = omega arith
+
+-- the places of a body that are no points
+abbrev inner : model.Body → PathSet
+inner b = set_of (paths b) (λ p. not (is_point b p))
+
+inner-few : (b : model.Body) → size (inner b) + size (points b) ≤ size b
+inner-few b =
+    let i : size (inner b) ≤ length (passing (λ p. not (is_point b p)) (paths b)) = length-entries (passing (λ p. not (is_point b p)) (paths b)) in
+    let o : size (points b) ≤ length (passing (is_point b) (paths b)) = length-entries (passing (is_point b) (paths b)) in
+    let all : length (passing (is_point b) (paths b)) + length (passing (λ p. not (is_point b p)) (paths b)) ≡ length (paths b) =
+    all-passing (is_point b) (paths b) in
+    let e = size-paths b in
     omega arith
 
--- where the two together have room, it has not too many places
+over-apart : (live config : model.Body)
+    → over live config ≡ map_of (paths live ++ (paths (added live config) ++ paths (inner config))) (λ p. over_content (get live p) (get config p))
+over-apart live config = same_map (over live config) _ (λ p.
+    get-map_of (paths live ++ paths config) (λ q. over_content (get live q) (get config q)) p
+    ∙ ap (λ b. cond b (over_content (get live p) (get config p)) None)
+    (list_any-append (same_path p) (paths live) (paths config)
+    ∙ apart (has live p) (has config p) (is_point config p) (is_one_of (paths live) p) (is_one_of (paths config) p) (has (points config) p)
+    (is_one_of (paths (added live config)) p) (is_one_of (paths (inner config)) p) (has-paths live p) (has-paths config p)
+    (has-set_of (paths config) (is_point config) p)
+    (sym (has-paths (added live config) p) ∙ has-set_of (paths (points config)) (λ q. not (has live q)) p
+    ∙ ap (λ b. b && not (has live p)) (sym (has-paths (points config) p)))
+    (sym (has-paths (inner config) p) ∙ has-set_of (paths config) (λ q. not (is_point config q)) p)
+    ∙ ap (λ b. is_one_of (paths live) p || b) (sym (list_any-append (same_path p) (paths (added live config)) (paths (inner config))))
+    ∙ sym (list_any-append (same_path p) (paths live) (paths (added live config) ++ paths (inner config))))
+    ∙ sym (get-map_of (paths live ++ (paths (added live config) ++ paths (inner config))) (λ q. over_content (get live q) (get config q)) p))
+  where
+    apart : (h k t l c o a n : Bool) → h ≡ l → k ≡ c → o ≡ (c && t) → a ≡ (o && not h) → n ≡ (c && not t) → (l || c) ≡ (l || (a || n))
+    apart h k t true c o a n hl kc oc an nt = refl
+    apart h k t false false o a n hl kc oc an nt = (λ i. sym (an ∙ (λ j. oc j && not (hl j))) i || sym nt i)
+    apart h k true false true o a n hl kc oc an nt = (λ i. sym (an ∙ (λ j. oc j && not (hl j))) i || n)
+    apart h k false false true o a n hl kc oc an nt = (λ i. sym (an ∙ (λ j. oc j && not (hl j))) i || sym nt i)
+
+pub few-over : (live config : model.Body) → size (over live config) + size (points config) ≤ size live + (size (added live config) + size config)
+few-over live config =
+    let more : List Path = paths (added live config) ++ paths (inner config) in
+    let made : size (map_of (paths live ++ more) (λ p. over_content (get live p) (get config p))) ≤ length (paths live ++ more) =
+    size-of (paths live ++ more) (λ p. over_content (get live p) (get config p)) in
+    let b : size (over live config) ≤ length (paths live ++ more) = subst (λ m. size m ≤ length (paths live ++ more)) (sym (over-apart live config)) made in
+    let c : length (paths live ++ more) ≡ length (paths live) + length more = length-append (paths live) more in
+    let d : length more ≡ length (paths (added live config)) + length (paths (inner config)) = length-append (paths (added live config)) (paths (inner config)) in
+    let e = size-paths live in
+    let f : length (paths (added live config)) ≡ size (added live config) = length-map (added live config).entries (λ x. x.0) in
+    let g : length (paths (inner config)) ≡ size (inner config) = length-map (inner config).entries (λ x. x.0) in
+    let few = inner-few config in
+    omega arith
+
+-- where the two have no more together than a body may have, it has not too many
 pub never-too-many : (after : NewBody) (config live : model.Body) (gone : PathSet) → after ≡ Over config → HasRoom after live
     → most_places < size (body_after after gone live) → ⊥
 never-too-many after config live gone is room more =
-    let fits : size live + size config ≤ most_places = subst (λ b. HasRoom b live) is room in
+    let fits : size (over live config) ≤ most_places = subst (λ b. HasRoom b live) is room in
     let over_limit : most_places < size (applied live config gone) = subst (λ b. most_places < size (body_after b gone live)) is more in
-    let few = few-applied live config gone in
+    let few : size (applied live config gone) ≤ length (paths (over live config)) = size-of (paths (over live config)) _ in
+    let all = size-paths (over live config) in
     omega arith

@@ -1,6 +1,6 @@
 -- What plans and changes say.
-use Rattle.std.specs.Prelude.{◌≡◌, ◌≤◌, ◌+◌, List, Bool, true, not, ◌||◌, if◌then◌else◌, Option, Some, None, Result, Ok, Err}
-use Rattle.ssa_model.specs.definitions.Body.{Body}
+use Rattle.std.specs.Prelude.{◌≡◌, ◌≤◌, List, Bool, true, not, ◌||◌, if◌then◌else◌, Option, Some, None, Result, Ok, Err}
+use Rattle.ssa_model.specs.definitions.Body.{Body, over}
 use Rattle.ssa_model.specs.definitions.Limits.{most_places}
 use Rattle.ssa_model.specs.definitions.Operations as model
 use Rattle.ssa_model.specs.definitions.PathMap.{PathSet, size}
@@ -57,9 +57,9 @@ CanStand (Over c) gone b = AreAlike b c × MayGo b c gone × IsRooted (applied b
 CanStand Same gone b = Unit {0}
 CanStand (Whole c) gone b = Unit {0}
 
--- where a configuration is put over the body, the two together have no more places than a body may have
+-- where a configuration is put over the body, the two have no more places together than a body may have
 abbrev pub HasRoom : NewBody → Body → Type 0
-HasRoom (Over c) b = size b + size c ≤ most_places
+HasRoom (Over c) b = size (over b c) ≤ most_places
 HasRoom Same b = Unit {0}
 HasRoom (Whole c) b = Unit {0}
 

@@ -1,6 +1,6 @@
 //! What a command makes of the body: told by what comes and goes, so that nothing of it is made that stays.
-ghost use Rattle.std.specs.Prelude.{◌≡◌, ◌<◌, ◌≤◌, ◌+◌, ◌↔◌, true, IfOk, IsTrue};
-ghost use Rattle.ssa_model.specs.definitions.Body.{points, removed};
+ghost use Rattle.std.specs.Prelude.{◌≡◌, ◌<◌, ◌≤◌, ◌+◌, ◌↔◌, true, IfOk, IfSome, IsTrue};
+ghost use Rattle.ssa_model.specs.definitions.Body.{added, over, points, removed};
 ghost use Rattle.ssa_model.specs.definitions.Limits.{most_places};
 ghost use Rattle.ssa_model.specs.definitions.Operations.{pruned};
 ghost use Rattle.ssa_model.specs.definitions.PathMap.{size, PathSet};
@@ -52,11 +52,37 @@ pub fn laid_over(
     merged.without(alloc, gone)
 }
 
-// Whether a configuration and the live body have no more places together than a body may have.
-fn has_room(live: &Body, config: &Body) -> bool
-    ensures { IsTrue result ↔ (size live.now + size config.now ≤ most_places) }
+// How many places a configuration has that are no points (records, lists and Dicts with something below them), none where it
+// has more places than a body may have.
+fn count_inner(config: &Body, config_points: &FieldSet) -> Option<usize>
+    ensures { IfSome result (λ inner. size config.now ≤ inner + size config_points.now) }
 {
-    live.size().saturating_add(config.size()) <= MOST_PLACES
+    let places = config.size();
+    if places > MOST_PLACES {
+        return None;
+    }
+    Some(places.saturating_sub(config_points.len()))
+}
+
+// Whether the live body's places, these points and so many more places are no more than a body may have.
+fn are_few(live: &Body, added_points: &FieldSet, inner: usize) -> bool
+    ensures { IsTrue result ↔ (size live.now + (size added_points.now + inner) ≤ most_places) }
+{
+    let more = added_points.len().saturating_add(inner);
+    live.size().saturating_add(more) <= MOST_PLACES
+}
+
+// Whether a configuration over the live body is told to have no more places than a body may have: those of the live body,
+// the points that it adds, and as many more as the configuration has places that are no points.
+fn has_room(live: &Body, config: &Body, added_points: &FieldSet, config_points: &FieldSet) -> bool
+    requires added { added_points.now ≡ added live.now config.now }
+    requires points { config_points.now ≡ points config.now }
+    ensures { result ≡ true → size (over live.now config.now) ≤ most_places }
+{
+    match count_inner(config, config_points) {
+        Some(inner) => are_few(live, added_points, inner),
+        None => false,
+    }
 }
 
 // The body after an Apply by which the live body loses these places. The configuration is put over the live body only
@@ -66,9 +92,13 @@ fn applied_body(
     state: &State,
     key: &ManagerKey,
     config: Body,
+    config_points: &FieldSet,
+    added_points: &FieldSet,
     gone: &FieldSet,
 ) -> Result<NewBody, AllocError>
     requires alike { AreAlike state.now.body config }
+    requires points { config_points.now ≡ points config }
+    requires added { added_points.now ≡ added state.now.body config }
     requires owned { AllEntries (OwnsOwnable state.now.body) state.now.managers }
     requires gone { gone.now ≡ removed state.now.body (pruned (state_view state.now) (key_view key.now) config) }
     ensures body { IfOk result (λ b. body_after b gone.now state.now.body ≡ pruned (state_view state.now) (key_view key.now) config) }
@@ -81,7 +111,7 @@ fn applied_body(
     config.parts_are_of_places();
     state.body.stands_rooted();
     config.stands_rooted();
-    if has_room(&state.body, &config) {
+    if has_room(&state.body, &config, added_points, config_points) {
         return Ok(NewBody::Over(config));
     }
     let body = laid_over(alloc, &state.body, config, gone)?;
@@ -129,7 +159,15 @@ pub fn body_change(
         });
     }
     let removed = lost(alloc, state, key, &config, &gone)?;
-    let body = applied_body(alloc, state, key, config, &removed)?;
+    let body = applied_body(
+        alloc,
+        state,
+        key,
+        config,
+        config_points,
+        &told.added,
+        &removed,
+    )?;
     Ok(BodyChange {
         body,
         comparison: Comparison {
