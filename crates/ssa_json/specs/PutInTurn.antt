@@ -1,7 +1,9 @@
 -- Members put in one after another.
-use Rattle.std.specs.Prelude.{List, [], ◌∷◌, String, string_bytes}
+use Rattle.std.specs.Prelude.{◌≡◌, List, [], ◌∷◌, String, string_bytes}
 use Rattle.std.specs.declared.alloc.Global.{Global}
-use Rattle.ssa_model.specs.definitions.Json.{Members}
+use Rattle.json.specs.Token.{Token, string}
+use Rattle.ssa_model.specs.definitions.Json as model
+use Rattle.ssa_model.specs.definitions.Json.{Text, Members}
 use Rattle.ssa_model.specs.definitions.Objects.{with_member}
 use Rattle.ssa_json.specs.View.{view}
 use Rattle.ssa_json.specs.declared.value.Json.{Json}
@@ -10,3 +12,11 @@ use Rattle.ssa_json.specs.declared.value.Json.{Json}
 abbrev pub put_in_turn : List (String Global × Json) → Members → Members
 put_in_turn [] ms = ms
 put_in_turn (p ∷ ps) ms = put_in_turn ps (with_member (string_bytes p.0) (view p.1) ms)
+
+-- the new pairs put in what the old ones do, and behind it this value under this name
+abbrev pub PutsToo : Text → model.Json → List (String Global × Json) → List (String Global × Json) → Type 0
+PutsToo name v old new = (ms : Members) → put_in_turn new ms ≡ with_member name v (put_in_turn old ms)
+
+-- so of the text that the token is
+abbrev pub PutsTextToo : Text → Token → List (String Global × Json) → List (String Global × Json) → Type 0
+PutsTextToo name token old new = (text : Text) × (token ≡ string text) × PutsToo name (model.scalar (model.text text)) old new

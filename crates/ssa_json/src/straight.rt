@@ -1,11 +1,12 @@
 //! Reads JSON text straight into values, where it has no part that is left out here.
-ghost use Rattle.std.specs.Prelude.{◌≡◌, ℕ, ◌<◌, ◌≤◌, Ok, Some, true, length, IfOk, IfSome, OnOk};
+ghost use Rattle.std.specs.Prelude.{◌≡◌, ℕ, ◌<◌, ◌≤◌, [], ◌∷◌, Ok, Some, true, false, length, IfOk, IfSome, OnErr, OnOk};
 ghost use Rattle.json.specs.Json.{value, items, members};
+ghost use Rattle.json.specs.Reads.{token_of};
 ghost use Rattle.serde_json.specs.Data.{no_members};
 ghost use Rattle.serde_json.specs.Find.{of_integer};
 ghost use Rattle.serde_json.specs.Read.{of_json, of_items, of_members, converted, number_of, read as read_text};
 ghost use Rattle.ssa_model.specs.definitions.Json as model;
-ghost use Rattle.ssa_json.specs.PutInTurn.{put_in_turn};
+ghost use Rattle.ssa_json.specs.PutInTurn.{put_in_turn, PutsTextToo};
 ghost use Rattle.ssa_json.specs.Reading.{json_reading};
 ghost use Rattle.ssa_json.specs.View.{view, items_view, members_view};
 ghost use Rattle.ssa_json.specs.Written.{data_of, items_data, members_data, is_narrow, is_narrow_whole, items_narrow, members_narrow};
@@ -18,6 +19,9 @@ use ssa_members::{Members, Name, SmallText, push_closely, push_loosely};
 use std::alloc::{AllocError, AllocFailed, Global};
 
 const MOST_DEPTH: usize = 127;
+
+// A command mostly has four to six members.
+const COMMAND_MEMBERS: usize = 8;
 
 // The text is not read straight: it is no JSON text, has a part that is left out here, or memory ran out.
 #[derive(Drop)]
@@ -95,6 +99,23 @@ fn read_value(alloc: Global, reader: &mut Reader<'_>, depth: usize) -> Result<Js
     ensures narrow { IfOk result (λ v. is_narrow (view v) ≡ true) }
 {
     let token = reader.next().ok_or(NotStraight)?;
+    value_from(alloc, reader, token, depth)
+}
+
+// The value that begins with a token that was read already.
+#[cycle(straight)]
+#[inline(always)]
+fn value_from(
+    alloc: Global,
+    reader: &mut Reader<'_>,
+    token: Token<'_>,
+    depth: usize,
+) -> Result<Json, NotStraight>
+    ensures ok { IfOk result (λ v. converted of_json (value depth (token_of token.entry ∷ reader.old))
+        ≡ Some (data_of (view v), reader.new)) }
+    ensures no_longer { OnOk result (length reader.new ≤ length reader.old) }
+    ensures narrow { IfOk result (λ v. is_narrow (view v) ≡ true) }
+{
     match token {
         Token::String(text) => Ok(Json::Scalar(Scalar::Text(SmallText::from_str(alloc, text)?))),
         Token::Number(text) => match whole_number(text) {
@@ -168,11 +189,53 @@ fn read_pairs(
     ensures narrow { IfOk result (λ v. (found : model.Members) → members_narrow found ≡ true
         → members_narrow (put_in_turn v.items found) ≡ true) }
 {
-    let mut pairs = Vec::new(alloc);
+    let mut pairs = room_for_pairs(alloc, depth)?;
     'members: while let Some(name) = reader.next_key()? {
+        let token = reader.next().ok_or(NotStraight)?;
+        if push_short(&mut pairs, name, &token)? {
+            continue;
+        }
         let key = Name::from_str(alloc, name)?;
-        let member = read_value(alloc, reader, depth)?;
+        let member = value_from(alloc, reader, token, depth)?;
         push_loosely(&mut pairs, (key, member))?;
     }
     Ok(pairs)
+}
+
+// No pairs. The object that is a whole text takes room at once, since it mostly is a command; others take it as they grow.
+#[inline(always)]
+fn room_for_pairs(alloc: Global, depth: usize) -> Result<Vec<(Name, Json)>, AllocError>
+    ensures { IfOk result (λ v. v.items ≡ []) }
+{
+    if depth == MOST_DEPTH - 1 {
+        Vec::with_capacity(alloc, COMMAND_MEMBERS)
+    } else {
+        Ok(Vec::new(alloc))
+    }
+}
+
+// Puts a member whose name and value are short texts behind the others, and tells whether it did. Most members are so, and
+// are made where they stand: where a rare way and a frequent one meet in a value, it is taken apart and put together again.
+#[inline(always)]
+fn push_short(
+    pairs: &mut Vec<(Name, Json)>,
+    name: &str,
+    token: &Token<'_>,
+) -> Result<bool, AllocError>
+    ensures pushed { IfOk result (λ pushed. pushed ≡ true
+        → PutsTextToo name.now (token_of token.now) pairs.old.items pairs.new.items) }
+    ensures kept { IfOk result (λ pushed. pushed ≡ false → pairs.new.items ≡ pairs.old.items) }
+    ensures err { OnErr result (pairs.new.items ≡ pairs.old.items) }
+{
+    let Token::String(text) = token else {
+        return Ok(false);
+    };
+    let Some(key) = Name::short(name) else {
+        return Ok(false);
+    };
+    let Some(text) = SmallText::short(text) else {
+        return Ok(false);
+    };
+    push_loosely(pairs, (key, Json::Scalar(Scalar::Text(text))))?;
+    Ok(true)
 }

@@ -1,5 +1,5 @@
 //! Names of members.
-ghost use Rattle.std.specs.Prelude.{◌≡◌, [], IfOk, Some, refl, string_bytes, string_cmp, string_eq};
+ghost use Rattle.std.specs.Prelude.{◌≡◌, ◌<◌, [], IfNone, IfOk, IfSome, Some, length, refl, string_bytes, string_cmp, string_eq};
 ghost use Rattle.std.specs.Cmp.{on_equiv, on_total, on_po, on_per, partial_equiv_from_equiv};
 ghost use Rattle.std.specs.Cmp.Lexicographic.{nat_list_eq_equiv, nat_list_cmp_total, texts_po, texts_ties};
 ghost use Rattle.ssa_members.specs.Texts.{text_bytes};
@@ -36,6 +36,18 @@ impl Name {
     {
         Name {
             text: SmallText::new(),
+        }
+    }
+
+    /// The name with these bytes, where they are so few that it takes no memory.
+    #[inline(always)]
+    pub fn short(text: &str) -> Option<Name>
+        ensures some { IfSome result (λ n. string_bytes n ≡ text.now) }
+        ensures none { IfNone result (22 < length text.now) }
+    {
+        match SmallText::short(text) {
+            Some(text) => Some(Name { text }),
+            None => None,
         }
     }
 

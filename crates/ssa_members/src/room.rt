@@ -57,6 +57,7 @@ where
 
 /// Puts an element behind the others, as [`push_closely`] does, where few are alone: the first one takes room for two,
 /// and the third for eight. On `Err` the others are as they were.
+#[inline(always)]
 pub fn push_loosely<T>(items: &mut Vec<T>, item: T) -> Result<(), AllocError>
 where
     T: Drop,

@@ -15,7 +15,7 @@ pub struct ShortText {
 }
 
 impl ShortText {
-    ghost use Rattle.std.specs.Prelude.{◌≡◌, ◌<◌, [], IfSome, bytes_eq};
+    ghost use Rattle.std.specs.Prelude.{◌≡◌, ◌<◌, [], IfNone, IfSome, bytes_eq, length};
     ghost use Rattle.std.specs.Cmp.Lexicographic.{slice_cmp};
     ghost use Rattle.std.specs.Ordering.{nat_cmp};
     ghost use Rattle.ssa_members.specs.ShortTexts.{short_bytes};
@@ -33,7 +33,8 @@ impl ShortText {
     /// The text with these bytes, where it is so short.
     #[inline(always)]
     pub fn from_str(text: &str) -> Option<ShortText>
-        ensures { IfSome result (λ s. short_bytes s ≡ text.now) }
+        ensures some { IfSome result (λ s. short_bytes s ≡ text.now) }
+        ensures none { IfNone result (22 < length text.now) }
     {
         let len = text.len();
         if len > 22 {

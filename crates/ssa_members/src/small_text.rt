@@ -25,7 +25,7 @@ pub struct SmallText {
 }
 
 impl SmallText {
-    ghost use Rattle.std.specs.Prelude.{◌≡◌, [], true, IfOk, bytes_eq, string_bytes};
+    ghost use Rattle.std.specs.Prelude.{◌≡◌, ◌<◌, [], true, IfNone, IfOk, IfSome, bytes_eq, length, string_bytes};
     ghost use Rattle.std.specs.Cmp.Lexicographic.{slice_cmp};
     ghost use Rattle.std.specs.Ordering.{nat_cmp};
     ghost use Rattle.ssa_members.specs.Texts.{is_short, text_bytes};
@@ -36,6 +36,21 @@ impl SmallText {
     {
         SmallText {
             place: Place::Within(ShortText::new()),
+        }
+    }
+
+    /// The text with these bytes, where they are so few that it takes no memory.
+    #[inline(always)]
+    pub fn short(text: &str) -> Option<SmallText>
+        ensures some { IfSome result (λ t. text_bytes t ≡ text.now) }
+        ensures short { IfSome result (λ t. is_short t ≡ true) }
+        ensures none { IfNone result (22 < length text.now) }
+    {
+        match ShortText::from_str(text) {
+            Some(short) => Some(SmallText {
+                place: Place::Within(short),
+            }),
+            None => None,
         }
     }
 

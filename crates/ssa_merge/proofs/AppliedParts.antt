@@ -13,9 +13,9 @@ use Rattle.ssa_model.specs.definitions.Body.{added, is_point, over, over_content
 use Rattle.ssa_model.specs.definitions.Table.{ManagerKey}
 use Rattle.ssa_model.specs.definitions.Operations.{State, dropped, kept, pruned}
 use Rattle.ssa_model.specs.definitions.Valid.{AllEntries, IsRooted, OwnsOwnable}
-use Rattle.ssa_model.proofs.Basics.{and-false, and-true, not_true, or_true, yes_no}
+use Rattle.ssa_model.proofs.Basics.{and-false, not_true, or_true, yes_no}
 use Rattle.ssa_model.proofs.PathMaps.{get-map_of, has-paths, has-set_of, is_one_of, same_map}
-use Rattle.ssa_model.proofs.RecordSizes.{length-entries}
+use Rattle.ssa_model.proofs.RecordSizes.{length-entries, length-found}
 use Rattle.ssa_model.proofs.Tables.{apart_by, either, has-over, has-restricted, true_or}
 use Rattle.ssa_typed.specs.Alike.{AreAlike}
 use Rattle.ssa_typed.specs.Applied.{MayGo, applied}
@@ -139,14 +139,6 @@ all-goes live config gone may told p q goes u there =
 
 -- ---- how many places
 
-length-found : {A B : Type 0} (f : A → Option B) (xs : List A) → length (filter_map f xs) ≤ length xs
-length-found f [] = omega arith
-length-found {A} {B} f (x ∷ xs) = one (f x) (length-found f xs)
-  where
-    one : (o : Option B) → length (filter_map f xs) ≤ length xs → length (cons_option o (filter_map f xs)) ≤ length (x ∷ xs)
-    one None h = omega arith
-    one (Some y) h = omega arith
-
 -- a map of these paths has no more places than there are paths
 size-of : {X : Type 0} (ps : List Path) (f : Path → Option X) → size (map_of ps f) ≤ length ps
 size-of {X} ps f =
@@ -211,6 +203,15 @@ over-apart live config = same_map (over live config) _ (λ p.
     apart h k t false false o a n hl kc oc an nt = (λ i. sym (an ∙ (λ j. oc j && not (hl j))) i || sym nt i)
     apart h k true false true o a n hl kc oc an nt = (λ i. sym (an ∙ (λ j. oc j && not (hl j))) i || n)
     apart h k false false true o a n hl kc oc an nt = (λ i. sym (an ∙ (λ j. oc j && not (hl j))) i || sym nt i)
+
+-- a configuration over a live body has no more places than both have
+pub few-together : (live config : model.Body) → size (over live config) ≤ size live + size config
+few-together live config =
+    let made : size (over live config) ≤ length (paths live ++ paths config) = size-of (paths live ++ paths config) (λ p. over_content (get live p) (get config p)) in
+    let all : length (paths live ++ paths config) ≡ length (paths live) + length (paths config) = length-append (paths live) (paths config) in
+    let l = size-paths live in
+    let c = size-paths config in
+    omega arith
 
 pub few-over : (live config : model.Body) → size (over live config) + size (points config) ≤ size live + (size (added live config) + size config)
 few-over live config =

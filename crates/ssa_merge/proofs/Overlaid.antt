@@ -11,7 +11,7 @@ use Rattle.ssa_model.specs.definitions.Body.{Content, leaf, atom, record_branch,
 use Rattle.ssa_model.proofs.Basics.{or_true, yes_no}
 use Rattle.ssa_model.proofs.Fitting.{among-filter}
 use Rattle.ssa_model.proofs.PathMaps.{get-over, get-restricted, has-insert, has-points, same_map, same_path-itself, same_path-true}
-use Rattle.ssa_model.proofs.Pruned.{under-push}
+use Rattle.ssa_model.proofs.Pruned.{not_root, order-restricted, under-push}
 use Rattle.ssa_model.proofs.Tables.{either, has-over, true_or, under-itself}
 use Rattle.ssa_model.proofs.Tests.{same_tests}
 use Rattle.ssa_typed.specs.Reached.{PartsAreOfPlaces, PointsTellPlaces}
@@ -33,26 +33,12 @@ not-above (f ∷ p) e u = not-above p e (second f (under (p ++ e ∷ []) p) u)
     second : (f : Element) (b : Bool) → (same_element f f && b) ≡ true → b ≡ true
     second f b h = elim (same_element f f) as (λ s. (s && b) ≡ true → b ≡ true) [ true ↦ λ k. k | false ↦ λ k. absurd (true≢false (sym k)) ] h
 
-not-the-root : (p : Path) (e : Element) → is_root (p ++ e ∷ []) ≡ false
-not-the-root [] e = refl
-not-the-root (f ∷ p) e = refl
-
--- those of the items that stay
-staying : (stays : Path → Bool) (p : Path) (o : Option Content)
-    → order_at (option_map (restricted_content stays p) o) ≡ filter (λ e. stays (p ++ e ∷ [])) (order_at o)
-staying stays p None = refl
-staying stays p (Some (leaf s)) = refl
-staying stays p (Some (atom v)) = refl
-staying stays p (Some record_branch) = refl
-staying stays p (Some dict_branch) = refl
-staying stays p (Some (list_branch es)) = refl
-
 -- an item is left where its list and it stay
 among-part : (b : model.Body) (stays : Path → Bool) (p : Path) (e : Element) → stays p ≡ true
     → is_among e (order_at (get (restricted b stays) p)) ≡ (is_among e (order_at (get b p)) && stays (p ++ e ∷ []))
 among-part b stays p e here =
     ap (λ o. is_among e (order_at o)) (get-restricted b stays p ∙ ap (λ t. if t then option_map (restricted_content stays p) (get b p) else None) here)
-    ∙ ap (is_among e) (staying stays p (get b p))
+    ∙ ap (is_among e) (order-restricted stays p (get b p))
     ∙ among-filter (λ d. stays (p ++ d ∷ [])) (order_at (get b p)) e
 
 module _ (b : model.Body) (law : PartsAreOfPlaces b) (p : Path) (e : Element) where
@@ -99,7 +85,7 @@ module _ (b : model.Body) (law : PartsAreOfPlaces b) (p : Path) (e : Element) wh
       elim (stays here (p ++ e ∷ [])) as (λ t. stays here (p ++ e ∷ []) ≡ t → t ≡ false) [
         | true ↦ λ h.
             either (is_root (p ++ e ∷ [])) (has_at_or_below here (p ++ e ∷ [])) h
-            (λ r. absurd (yes_no (is_root (p ++ e ∷ [])) r (not-the-root p e)))
+            (λ r. absurd (yes_no (is_root (p ++ e ∷ [])) r (not_root p e)))
             (λ k. let x = one-below here (p ++ e ∷ []) k in absurd (not-above p e (ap (under (p ++ e ∷ [])) (sym (only-here x.0 x.1)) ∙ x.2)))
         | false ↦ λ h. refl
       ] refl

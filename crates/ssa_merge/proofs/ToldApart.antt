@@ -10,11 +10,12 @@ use Rattle.ssa_model.specs.definitions.Body.{Content, leaf, atom, record_branch,
 use Rattle.ssa_model.specs.definitions.Table.{ManagerKey}
 use Rattle.ssa_model.specs.definitions.Operations.{State, kept, pruned}
 use Rattle.ssa_model.proofs.Basics.{and-false, or_true, yes_no}
+use Rattle.ssa_model.proofs.FittingTells.{parent_above}
 use Rattle.ssa_model.proofs.PathMaps.{get-over, get-restricted, has-paths, has-points, has-set_of, same_sets}
 use Rattle.ssa_model.proofs.Pruned.{from_one, some_one, under-trans}
 use Rattle.ssa_model.proofs.SameValues.{same_json-itself}
 use Rattle.ssa_model.proofs.Scalars.{same_scalar-itself}
-use Rattle.ssa_model.proofs.Tables.{either, element-itself, has-over, has-restricted, points-kept, true_or}
+use Rattle.ssa_model.proofs.Tables.{either, has-over, has-restricted, points-kept, true_or}
 use Rattle.ssa_typed.specs.Reached.{PointsTellPlaces}
 use Rattle.ssa_typed.proofs.Differing.{other-none}
 use Rattle.ssa_typed.proofs.LostPlaces.{below-one}
@@ -41,11 +42,6 @@ other-stayed stays p (Some dict_branch) = refl
 other-stayed stays p (Some (list_branch fs)) = refl
 
 -- ---- places
-
-parent-above : (p : Path) → under (parent p) p ≡ true
-parent-above [] = refl
-parent-above (e ∷ []) = refl
-parent-above (e ∷ f ∷ p) = λ i. element-itself e i && parent-above (f ∷ p) i
 
 -- only the root is above the root
 pub under-root : (p q : Path) → under p q ≡ true → is_root q ≡ true → is_root p ≡ true
@@ -161,7 +157,7 @@ module _ (state : State) (a : ManagerKey) (config : model.Body) (config_told : P
 
     point-after : (p : Path) → has live p ≡ false → has config p ≡ true → is_point after p ≡ is_point config p
     point-after p new there =
-        let above = place-above config config_told (parent p) p (parent-above p) there in
+        let above = place-above config config_told (parent p) p (parent_above p) there in
         λ i. not (is_root p) && (sort-after is_leaf (λ es fs. refl) p there i
         || (is_item p || (sort-after is_dict (λ es fs. refl) (parent p) above i || bare-after p new i)))
 

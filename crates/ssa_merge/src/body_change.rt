@@ -52,6 +52,13 @@ pub fn laid_over(
     merged.without(alloc, gone)
 }
 
+// Whether the places of both together are no more than a body may have.
+fn are_few_together(live: &Body, config: &Body) -> bool
+    ensures { IsTrue result ↔ (size live.now + size config.now ≤ most_places) }
+{
+    live.size().saturating_add(config.size()) <= MOST_PLACES
+}
+
 // How many places a configuration has that are no points (records, lists and Dicts with something below them), none where it
 // has more places than a body may have.
 fn count_inner(config: &Body, config_points: &FieldSet) -> Option<usize>
@@ -72,13 +79,17 @@ fn are_few(live: &Body, added_points: &FieldSet, inner: usize) -> bool
     live.size().saturating_add(more) <= MOST_PLACES
 }
 
-// Whether a configuration over the live body is told to have no more places than a body may have: those of the live body,
-// the points that it adds, and as many more as the configuration has places that are no points.
+// Whether a configuration over the live body is told to have no more places than a body may have: mostly those of both are so few.
+// Else they are counted as those of the live body, the points that it adds, and as many more as the configuration has places that
+// are no points.
 fn has_room(live: &Body, config: &Body, added_points: &FieldSet, config_points: &FieldSet) -> bool
     requires added { added_points.now ≡ added live.now config.now }
     requires points { config_points.now ≡ points config.now }
     ensures { result ≡ true → size (over live.now config.now) ≤ most_places }
 {
+    if are_few_together(live, config) {
+        return true;
+    }
     match count_inner(config, config_points) {
         Some(inner) => are_few(live, added_points, inner),
         None => false,

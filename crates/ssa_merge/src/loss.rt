@@ -1,17 +1,19 @@
 // What a command takes from the managers that own it.
 ghost use Rattle.std.specs.Prelude.{◌≡◌, IfOk};
+ghost use Rattle.ssa_model.specs.definitions.PathMap.{is_empty, minus};
 
 use ssa_path::field_set::FieldSet;
 use ssa_path::shared_set::SharedSet;
 use std::alloc::{AllocError, Global};
 use std::marker::Model;
 
-/// Paths that managers lose, of which those who own them all hold one set.
+/// Paths that managers lose, of which those who own them all hold one set, and where the last of them had one.
 ///
 /// In contracts it is the set of the paths.
 #[derive(Drop)]
 pub(crate) struct Loss<'a> {
     paths: &'a FieldSet,
+    near: usize,
     shared: Option<SharedSet>,
 }
 
@@ -36,6 +38,7 @@ impl<'a> Loss<'a> {
     {
         Loss {
             paths,
+            near: 0,
             shared: None,
         }
     }
@@ -45,6 +48,14 @@ impl<'a> Loss<'a> {
         ensures { result.now ≡ self.now }
     {
         self.paths
+    }
+
+    /// Whether a set has all of the paths. Each is looked for first where the last set had one.
+    pub(crate) fn is_within(&mut self, set: &FieldSet) -> bool
+        ensures answer { result ≡ is_empty (minus self.old set.now) }
+        ensures same { self.new ≡ self.old }
+    {
+        self.paths.is_within_near(set, &mut self.near)
     }
 
     /// All of the paths, for one more who loses them.

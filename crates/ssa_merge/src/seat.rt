@@ -78,7 +78,7 @@ fn losing(alloc: Global, entry: &Entry, lost: &mut Loss) -> Result<EntryChange, 
     if paths.is_empty() {
         return Ok(untouched(entry));
     }
-    if paths.is_within(&entry.set) {
+    if lost.is_within(&entry.set) {
         return losing_all(alloc, entry, lost);
     }
     if !paths.meets(&entry.set) {

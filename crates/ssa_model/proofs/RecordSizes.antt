@@ -41,7 +41,7 @@ pub length-entries : {X : Type 0} (es : List (Path × X)) → length (from_entri
 length-entries [] = omega arith
 length-entries (e ∷ es) = let h = length-entries es in let k = length-put e.0 e.1 (from_entries es).entries in omega arith
 
-length-found : {A B : Type 0} (f : A → Option B) (xs : List A) → length (filter_map f xs) ≤ length xs
+pub length-found : {A B : Type 0} (f : A → Option B) (xs : List A) → length (filter_map f xs) ≤ length xs
 length-found f [] = omega arith
 length-found {A} {B} f (x ∷ xs) = one (f x) (length-found f xs)
   where

@@ -15,6 +15,10 @@ use Rattle.ssa_path.proofs.Levels.{shape-made, shape-level}
 use Rattle.ssa_model.proofs.Basics.{or_swap, both-true as both}
 pub use Rattle.ssa_members.proofs.Lent.{next-lent as left-at}
 
+-- what is read at a place is the same each time
+pub same-at : {A : Type 0} (xs : List A) (i : ℕ) (a b : A) → i < length xs → a ≡ get_or xs i a → b ≡ get_or xs i b → a ≡ b
+same-at xs i a b lt is_a is_b = let both = sym (left-at xs i a lt is_a) ∙ left-at xs i b lt is_b in cc
+
 -- with another at a place, those behind it are as they were
 pub unvisited-set : {A : Type 0} (now old : List A) (i : ℕ) (x : A)
     → (length now ≡ length old) × ((k : ℕ) (d : A) → i ≤ k → get_or now k d ≡ get_or old k d)

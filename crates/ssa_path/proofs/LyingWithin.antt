@@ -107,6 +107,13 @@ within-all t o cs ds below other here within (e ∷ p) h =
     any-level same_path same_path-reading o e p ∙ ap (λ l. is_one_of (paths_below l) (e ∷ p)) (sym other)
     ∙ within e p (ap (λ l. is_one_of (paths_below l) (e ∷ p)) below ∙ sym (any-level same_path same_path-reading t e p) ∙ h)
 
+-- a place with nothing below it is within another, or not, as that is there
+pub within-leaf : (t o : Trie) → (out-Trie t).below.items ≡ [] → (out-Trie t).here ≡ true → (b : Bool) → (out-Trie o).here ≡ b
+    → MatchBool b (IsWithin (paths t) (paths o)) (Exceeds (paths t) (paths o))
+within-leaf t o bare here true other =
+    within-all t o [] (out-Trie o).below.items (sym bare) refl (λ h. other) (λ e p h. absurd (true≢false (sym h)))
+within-leaf t o bare here false other = ([], one-level-root t ∙ here, one-level-root o ∙ other)
+
 -- ---- as sets
 
 -- a set with a path is not empty

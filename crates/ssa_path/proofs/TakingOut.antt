@@ -2,6 +2,7 @@
 use Rattle.std.proofs.Common.{◌≡◌, ℕ, zero, suc, ◌+◌, ◌<◌, List, [], ◌∷◌, ◌++◌, length, get_or, set, drop, take, Bool, true, false, not, ◌&&◌, ◌||◌, Some, None, Less, Equal, Greater, refl, sym, ap, subst, ◌∙◌, append-nil, arith, true≢false}
 use Rattle.std.specs.Bool.{MatchBool}
 use Rattle.std.proofs.lemmas.List.{drop-set-lt, take_more_set, take-append-drop}
+use Rattle.ssa_model.proofs.Basics.{first_false}
 use Rattle.ssa_path.specs.declared.combine.Combination.TheVariants.{WithoutOver}
 use Rattle.ssa_path.specs.declared.element.Elem.{Elem}
 use Rattle.ssa_path.specs.declared.trie.Trie.{Trie}
@@ -21,12 +22,6 @@ some-at-place : {A : Type 0} (xs : List A) (i : ℕ) → i < length xs → (c : 
 some-at-place [] i lt = absurd (omega arith)
 some-at-place (x ∷ xs) zero lt = (x, refl)
 some-at-place (x ∷ xs) (suc i) lt = some-at-place xs i (omega arith)
-
--- what is read at a place is the same each time
-pub same-at : {A : Type 0} (xs : List A) (i : ℕ) (a b : A) → i < length xs → a ≡ get_or xs i a → b ≡ get_or xs i b → a ≡ b
-same-at [] i a b lt is_a is_b = absurd (omega arith)
-same-at (x ∷ xs) zero a b lt is_a is_b = is_a ∙ sym is_b
-same-at (x ∷ xs) (suc i) a b lt is_a is_b = same-at xs i a b (omega arith) is_a is_b
 
 -- a child that keeps some path is kept behind the others
 next-kept : (now : Children) (i : ℕ) (c : Elem × Trie) → i < length now → c ≡ get_or now i c → is_trie c.1 ≡ true → is_filled c.1 ≡ true
@@ -50,10 +45,6 @@ grown-behind true now i c u is lt same trie =
 grown-behind false now i c u is lt same trie =
     ap kept (take_more_set now i u lt) ∙ kept-goes (take i now) [] u (has-any-is u trie ∙ is) ∙ append-nil (kept (take i now))
 
-or-false-own : (a b : Bool) → (a || b) ≡ false → a ≡ false
-or-false-own false b h = refl
-or-false-own true b h = absurd (true≢false h)
-
 or-false-other : (a b : Bool) → (a || not b) ≡ false → b ≡ true
 or-false-other false true h = refl
 or-false-other false false h = absurd (true≢false h)
@@ -64,7 +55,7 @@ pub all-made : (now : Children) (i : ℕ) (u : Elem × Trie) (any_bare bare : Bo
 all-made now i u any_bare bare lt trie is all none =
     let filled = or-false-other any_bare (is_filled u.1) (ap (λ b. any_bare || b) (sym is) ∙ none) in
     let more = take_more_set now i u lt in
-    ap kept more ∙ kept-stays (take i now) [] u (has-any-is u trie ∙ filled) ∙ ap (λ l. l ++ u ∷ []) (all (or-false-own any_bare bare none)) ∙ sym more
+    ap kept more ∙ kept-stays (take i now) [] u (has-any-is u trie ∙ filled) ∙ ap (λ l. l ++ u ∷ []) (all (first_false any_bare bare none)) ∙ sym more
 
 pub all-taken : (now : Children) (i : ℕ) → drop i now ≡ [] → take i now ≡ now
 all-taken now i none = sym (append-nil (take i now)) ∙ ap (λ l. take i now ++ l) (sym none) ∙ take-append-drop i now

@@ -77,6 +77,43 @@ pub fn find_child<'a, T>(children: &'a [(Elem, T)], element: &Elem) -> Option<&'
     }
 }
 
+/// The place of the child of this element, looked for first at `near`, which then tells where it was found. What is found does
+/// not depend on it: of sets that are alike, looked into in turn, each mostly has a path where the one before it had it.
+#[inline(always)]
+pub fn find_near<T>(children: &[(Elem, T)], element: &Elem, near: &mut usize) -> Option<usize>
+    requires { rises (elements children.now) ≡ true }
+    ensures some { IfSome result (IsChildAt (element_view element.now) children.now) }
+    ensures none { IfNone result (child_at (element_view element.now) children.now ≡ None) }
+{
+    let place = *near;
+    if place < children.len() && element.is_same(&children[place].0) {
+        return Some(place);
+    }
+    match find(children, element) {
+        Some(found) => {
+            *near = found;
+            Some(found)
+        }
+        None => None,
+    }
+}
+
+/// The child of this element, looked for first at `near`, as [`find_near`] does.
+#[inline(always)]
+pub fn find_child_near<'a, T>(
+    children: &'a [(Elem, T)],
+    element: &Elem,
+    near: &mut usize,
+) -> Option<&'a T>
+    requires { rises (elements children.now) ≡ true }
+    ensures { option_copied result ≡ child_at (element_view element.now) children.now }
+{
+    match find_near(children, element, near) {
+        Some(i) => Some(&children[i].1),
+        None => None,
+    }
+}
+
 /// How the next children of two lists compare: where one list has no more, the other's is first.
 #[inline(always)]
 pub fn order_at<A, B>(

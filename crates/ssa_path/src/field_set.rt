@@ -15,7 +15,7 @@ use crate::path::Path;
 use crate::same::same_tries;
 use crate::taking_out::take_out_over;
 use crate::trie::Trie;
-use crate::within::{lies_within, share_path};
+use crate::within::{lies_within, lies_within_near, share_path};
 use std::alloc::{AllocError, Global};
 use std::marker::Model;
 use std::{fmt, mem};
@@ -133,6 +133,14 @@ impl FieldSet {
         ensures { result ≡ is_empty (minus self.now other.now) }
     {
         lies_within(&self.root, &other.root)
+    }
+
+    /// Whether each path of the set is one of the other's, as [`FieldSet::is_within`] tells. The last place of a path is looked
+    /// for first at `near`, which is then where the last one was found: what is told does not depend on it. Takes no memory.
+    pub fn is_within_near(&self, other: &FieldSet, near: &mut usize) -> bool
+        ensures { result ≡ is_empty (minus self.now other.now) }
+    {
+        lies_within_near(&self.root, &other.root, near)
     }
 
     /// Whether some path is in both sets. Takes no memory, and stops at the first.

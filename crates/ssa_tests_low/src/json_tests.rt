@@ -61,7 +61,7 @@ pub fn answer(alloc: Global, asked: &Asked, text: &str) -> Result<String, Fail> 
 }
 
 // Texts, and how their values are printed.
-const PRINTED: [(&str, &str); 8] = [
+const PRINTED: [(&str, &str); 9] = [
     (
         " { \"b\" : [1, -2, true],\r\n\t\"a\": \"x\\u0041\\/\\u001F\u{7f}\" }\r",
         "{\"a\":\"xA/\\u001f\u{7f}\",\"b\":[1,-2,true]}",
@@ -69,6 +69,10 @@ const PRINTED: [(&str, &str); 8] = [
     (r#"{"a":1,"a":2}"#, r#"{"a":2}"#),
     (r#"{"a":null,"a":1}"#, r#"{"a":1}"#),
     (r#"{"b":false,"":{},"B":[]}"#, r#"{"":{},"B":[],"b":false}"#),
+    (
+        r#"{"terminationGracePeriods":"b","b":"terminationGracePeriods","terminationGracePeriod":"terminationGracePeriod"}"#,
+        r#"{"b":"terminationGracePeriods","terminationGracePeriod":"terminationGracePeriod","terminationGracePeriods":"b"}"#,
+    ),
     ("9223372036854775807", "9223372036854775807"),
     ("-9223372036854775808", "-9223372036854775808"),
     ("[0,10,-1]", "[0,10,-1]"),

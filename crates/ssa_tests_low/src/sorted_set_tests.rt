@@ -223,6 +223,17 @@ fn do_parts_apart_agree(alloc: Global, sets: &Sets) -> Result<bool, Fail> {
     Ok(left.is_same(&over_none) && are_parts(alloc, sets, &over_some, &over_none, true)?)
 }
 
+// Whether the first set is told to lie within the other so, at whichever place a path is looked for first.
+fn lies_within_from_each(sets: &Sets, are_within: bool) -> bool {
+    for place in 0..4 {
+        let mut near = place;
+        if sets.set.is_within_near(&sets.other, &mut near) != are_within {
+            return false;
+        }
+    }
+    true
+}
+
 // Whether the sets answer of some path as the lists do.
 fn do_looks_agree(alloc: Global, state: &mut u64, sets: &Sets) -> Result<bool, Fail> {
     let code = some_code(state);
@@ -235,7 +246,8 @@ fn do_looks_agree(alloc: Global, state: &mut u64, sets: &Sets) -> Result<bool, F
         sets.set.has(&path) == is_there
             && sets.set.has_at_or_below(&path) == is_above
             && sets.set.is_same(&sets.other) == are_same
-            && sets.set.is_within(&sets.other) == are_within,
+            && sets.set.is_within(&sets.other) == are_within
+            && lies_within_from_each(sets, are_within),
     )
 }
 

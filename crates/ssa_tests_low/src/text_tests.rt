@@ -1,6 +1,6 @@
 // Tests of texts that stand in the value itself where they are short.
-use ssa_members::SmallText;
 use ssa_members::words::{eight_at, four_at};
+use ssa_members::{Name, SmallText};
 use std::alloc::{AllocError, Global};
 use std::test::Fail;
 
@@ -43,6 +43,25 @@ fn are_beginnings_kept(alloc: Global, text: &str) -> Result<bool, AllocError> {
         beginning.push(letter)?;
     }
     Ok(true)
+}
+
+// Whether a text of up to 22 bytes is told to take no memory, and kept so, as a text and as a name, and none that is longer.
+fn is_told_short(text: &str) -> bool {
+    match (SmallText::short(text), Name::short(text)) {
+        (Some(short), Some(name)) => {
+            text.len() <= 22 && short.as_str() == text && name.as_str() == text
+        }
+        (None, None) => text.len() > 22,
+        _ => false,
+    }
+}
+
+#[test]
+fn texts_that_take_no_memory_are_told(rt: HostRuntime) -> Result<(), Fail> {
+    for text in TEXTS {
+        assert!(rt; is_told_short(text), "at {text:?}");
+    }
+    Ok(())
 }
 
 #[test]

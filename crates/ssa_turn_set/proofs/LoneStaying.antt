@@ -33,32 +33,32 @@ use Rattle.ssa_turn_set.proofs.Rooms.{gains-some, lone-at, lone-out, loses-some}
 use Rattle.ssa_turn_set.proofs.Tails.{paths_of, tails-below}
 
 -- the room of the child
-abbrev inner : ℕ → Vec (Elem × Trie) Global → Spare → Spare × Room
-inner n v s = (Nothing, Lone n v s)
+abbrev inner : ℕ → ℕ → Vec (Elem × Trie) Global → Spare → Spare × Room
+inner n near v s = (Nothing, Lone n near v s)
 
 -- ---- put in
 
-module _ (g t : Trie) (n a : ℕ) (deep : suc n ≡ a) (v : Vec (Elem × Trie) Global) (s : Spare) (gained : is_trie g ≡ true) (trie : is_trie t ≡ true)
-    (room : gain_room g (paths t) (Lone a v s) ≡ true) where
-  enough : gains (children g) (paths_below (children t)) (inner n v s ∷ []) ≡ true
-  enough = ap (λ x. gains (children g) (paths_below (children t)) (rooms_of x)) (sym (lone-at a (suc n) v s (sym deep))) ∙ gain-below g t _ room
+module _ (g t : Trie) (n a near : ℕ) (deep : suc n ≡ a) (v : Vec (Elem × Trie) Global) (s : Spare) (gained : is_trie g ≡ true) (trie : is_trie t ≡ true)
+    (room : gain_room g (paths t) (Lone a near v s) ≡ true) where
+  enough : gains (children g) (paths_below (children t)) (inner n near v s ∷ []) ≡ true
+  enough = ap (λ x. gains (children g) (paths_below (children t)) (rooms_of x)) (sym (lone-at a (suc n) near v s (sym deep))) ∙ gain-below g t _ room
 
   -- there is one child
   pub gain-one : length (children g) ≡ 1
-  gain-one = gains-some (children g) (paths_below (children t)) (inner n v s ∷ []) enough
+  gain-one = gains-some (children g) (paths_below (children t)) (inner n near v s ∷ []) enough
 
   stays : 0 < freshes (children g) (paths_below (children t)) → ⊥
-  stays = none-comes g t _ trie room (ap has_place (lone-at a (suc n) v s (sym deep)))
+  stays = none-comes g t _ trie room (ap has_place (lone-at a (suc n) near v s (sym deep)))
 
   module _ (d : Elem × Trie) (is : d ≡ get_or (children g) 0 d) where
     abbrev wide : ℕ
     wide = length (children t) + freshes (children g) (paths_below (children t))
 
-    fits-it : gain_one d (tails (element_view d.0) (paths_below (children t))) (inner n v s) ≡ true
+    fits-it : gain_one d (tails (element_view d.0) (paths_below (children t))) (inner n near v s) ≡ true
     fits-it =
         let own = trie-parts t _ refl trie in
         let other = trie-parts g _ refl gained in
-        lone-fits (children t) (children g) (inner n v s) wide own.0 own.1 other.0 other.1 (omega arith) enough d is
+        lone-fits (children t) (children g) (inner n near v s) wide own.0 own.1 other.0 other.1 (omega arith) enough d is
 
     -- it stands among those of the place
     pub gain-present : child_at (element_view d.0) (children t) ≡ None → ⊥
@@ -72,44 +72,44 @@ module _ (g t : Trie) (n a : ℕ) (deep : suc n ≡ a) (v : Vec (Elem × Trie) G
       opened = let own = trie-parts t _ refl trie in opened-at (element_view d.0) (children t) place c at here own.0 own.1
 
       -- the room below it is enough for it
-      pub gain-inner : gain_room d.1 (paths c.1) (Lone n v s) ≡ true
+      pub gain-inner : gain_room d.1 (paths c.1) (Lone n near v s) ≡ true
       gain-inner =
-          sym (ap (λ l. gain_room d.1 l (Lone n v s)) (opened-tails (element_view d.0) (children t) _ c _ opened))
+          sym (ap (λ l. gain_room d.1 l (Lone n near v s)) (opened-tails (element_view d.0) (children t) _ c _ opened))
           ∙ both_second (serves (element_view d.0) (tails (element_view d.0) (paths_below (children t))) Nothing) _ fits-it
 
-      module _ (m : Trie) (w : Vec (Elem × Trie) Global) (left : Spare)
+      module _ (m : Trie) (after : ℕ) (w : Vec (Elem × Trie) Global) (left : Spare)
           (made : (p : Path) → is_one_of (paths m) p ≡ (is_one_of (paths d.1) p || is_one_of (paths c.1) p)) (whole : is_trie m ≡ true)
-          (back : lose_room d.1 (paths c.1) (Lone n w left) ≡ true) where
+          (back : lose_room d.1 (paths c.1) (Lone n after w left) ≡ true) where
         -- the children have the gained paths as well
         pub gain-gathered : AreGathered (children g) (children t) (set (children t) place (c.0, m))
         gain-gathered =
             let own = trie-parts t _ refl trie in
             let other = trie-parts g _ refl gained in
-            lone-gathered (children t) (children g) (inner n v s) wide own.0 own.1 other.0 other.1 (omega arith) enough d is
-            (children t) place wide c opened at.within m (inner n w left) made whole refl back (omega arith)
+            lone-gathered (children t) (children g) (inner n near v s) wide own.0 own.1 other.0 other.1 (omega arith) enough d is
+            (children t) place wide c opened at.within m (inner n after w left) made whole refl back (omega arith)
 
         -- and the room that is left is enough to take them out again
-        pub gain-back : lose_room g (paths t) (Lone a w left) ≡ true
+        pub gain-back : lose_room g (paths t) (Lone a after w left) ≡ true
         gain-back =
             let own = trie-parts t _ refl trie in
             let other = trie-parts g _ refl gained in
-            lose-held g t _ _ (lone-at a (suc n) w left (sym deep)) trie
-            (ap own_children (sym (lone-out n w left)) ∙ (start-form d.1 (paths c.1) (Lone n w left) back).0)
+            lose-held g t _ _ (lone-at a (suc n) after w left (sym deep)) trie
+            (ap own_children (sym (lone-out n after w left)) ∙ (start-form d.1 (paths c.1) (Lone n after w left) back).0)
             (λ lt. absurd (stays lt)) (λ lt. absurd (stays lt))
-            (lone-back (children t) (children g) (inner n v s) wide own.0 own.1 other.0 other.1 (omega arith) enough d is
-            (children t) place wide c opened at.within m (inner n w left) made whole refl back (omega arith))
+            (lone-back (children t) (children g) (inner n near v s) wide own.0 own.1 other.0 other.1 (omega arith) enough d is
+            (children t) place wide c opened at.within m (inner n after w left) made whole refl back (omega arith))
 
 -- ---- taken out
 
-module _ (l t : Trie) (n a : ℕ) (deep : suc n ≡ a) (v : Vec (Elem × Trie) Global) (s : Spare) (lost : is_trie l ≡ true) (trie : is_trie t ≡ true)
+module _ (l t : Trie) (n a near : ℕ) (deep : suc n ≡ a) (v : Vec (Elem × Trie) Global) (s : Spare) (lost : is_trie l ≡ true) (trie : is_trie t ≡ true)
     (within : (p : Path) → is_one_of (paths l) p ≡ true → is_one_of (paths t) p ≡ true) (ps : List Path)
-    (form : lose_room l ps (Lone a v s) ≡ true) where
-  each : loses (children l) ps (inner n v s ∷ []) ≡ true
-  each = ap (λ x. loses (children l) ps (rooms_of x)) (sym (lone-at a (suc n) v s (sym deep))) ∙ (start-form l ps _ form).1
+    (form : lose_room l ps (Lone a near v s) ≡ true) where
+  each : loses (children l) ps (inner n near v s ∷ []) ≡ true
+  each = ap (λ x. loses (children l) ps (rooms_of x)) (sym (lone-at a (suc n) near v s (sym deep))) ∙ (start-form l ps _ form).1
 
   -- there is one child
   pub lose-one : length (children l) ≡ 1
-  lose-one = loses-some (children l) ps (inner n v s ∷ []) each
+  lose-one = loses-some (children l) ps (inner n near v s ∷ []) each
 
   module _ (d : Elem × Trie) (is : d ≡ get_or (children l) 0 d) where
     -- it stands among those of the place
@@ -117,41 +117,41 @@ module _ (l t : Trie) (n a : ℕ) (deep : suc n ≡ a) (v : Vec (Elem × Trie) G
     lose-present =
         let own = trie-parts t _ refl trie in
         let other = trie-parts l _ refl lost in
-        lone-present (children t) (children l) (inner n v s ∷ []) ps lose-one own.0 own.1 other.0 other.1 (start-within l t within) each d is
+        lone-present (children t) (children l) (inner n near v s ∷ []) ps lose-one own.0 own.1 other.0 other.1 (start-within l t within) each d is
 
     module _ (place : ℕ) (c : Elem × Trie) (at : IsChildAt (element_view d.0) (children t) place) (here : c ≡ get_or (children t) place c) where
       -- what is asked where its paths are to be taken out
       pub lose-inner : (is_trie c.1 ≡ true) × (is_trie d.1 ≡ true) × ((p : Path) → is_one_of (paths d.1) p ≡ true → is_one_of (paths c.1) p ≡ true)
-          × ((qs : List Path) × (lose_room d.1 qs (Lone n v s) ≡ true))
+          × ((qs : List Path) × (lose_room d.1 qs (Lone n near v s) ≡ true))
       lose-inner =
           let own = trie-parts t _ refl trie in
           let other = trie-parts l _ refl lost in
-          let asked = lone-child (children t) (children l) (inner n v s ∷ []) ps lose-one own.0 own.1 other.0 other.1 (start-within l t within) each d is
-          place c at here (inner n v s) refl in
+          let asked = lone-child (children t) (children l) (inner n near v s ∷ []) ps lose-one own.0 own.1 other.0 other.1 (start-within l t within) each d is
+          place c at here (inner n near v s) refl in
           (asked.1, asked.2, asked.3, asked.4)
 
       module _ (m : Trie) (w : Vec (Elem × Trie) Global) (left : Spare)
           (made : (p : Path) → is_one_of (paths m) p ≡ (is_one_of (paths c.1) p && not (is_one_of (paths d.1) p))) (whole : is_trie m ≡ true)
-          (back : lose_room d.1 (paths m) (Lone n v s) ≡ true → gain_room d.1 (paths m) (Lone n w left) ≡ true) where
+          (back : lose_room d.1 (paths m) (Lone n near v s) ≡ true → gain_room d.1 (paths m) (Lone n near w left) ≡ true) where
         -- a child that has some path left stays among the others
         pub lose-stays : is_filled m ≡ true
-            → AreTaken (children l) (children t) (inner n v s ∷ []) (set (children t) place (c.0, m)) (inner n w left ∷ [])
+            → AreTaken (children l) (children t) (inner n near v s ∷ []) (set (children t) place (c.0, m)) (inner n near w left ∷ [])
         lose-stays some =
             let own = trie-parts t _ refl trie in
             let other = trie-parts l _ refl lost in
-            lone-stays (children t) (children l) (inner n v s ∷ []) ps lose-one own.0 own.1 other.0 other.1 (start-within l t within) each d is
-            place c at here (inner n v s) refl (inner n w left) (c.0, m) false made whole (sym (ap not some)) (λ k. refl)
+            lone-stays (children t) (children l) (inner n near v s ∷ []) ps lose-one own.0 own.1 other.0 other.1 (start-within l t within) each d is
+            place c at here (inner n near v s) refl (inner n near w left) (c.0, m) false made whole (sym (ap not some)) (λ k. refl)
             (λ k. both _ _ (ap (λ b. cond b true (fits (element_view d.0) Nothing)) some) (back k)) refl
 
         -- one that has none goes
         pub lose-goes : is_filled m ≡ false
-            → AreTaken (children l) (children t) (inner n v s ∷ [])
-            (take place (set (children t) place (c.0, m)) ++ drop (place + 1) (set (children t) place (c.0, m))) ((Kept d.0, Lone n w left) ∷ [])
+            → AreTaken (children l) (children t) (inner n near v s ∷ [])
+            (take place (set (children t) place (c.0, m)) ++ drop (place + 1) (set (children t) place (c.0, m))) ((Kept d.0, Lone n near w left) ∷ [])
         lose-goes none =
             let own = trie-parts t _ refl trie in
             let other = trie-parts l _ refl lost in
-            lone-goes (children t) (children l) (inner n v s ∷ []) ps lose-one own.0 own.1 other.0 other.1 (start-within l t within) each d is
-            place c at here (inner n v s) refl (Kept d.0, Lone n w left) (c.0, m) true made whole (sym (ap not none)) (λ k. refl)
+            lone-goes (children t) (children l) (inner n near v s ∷ []) ps lose-one own.0 own.1 other.0 other.1 (start-within l t within) each d is
+            place c at here (inner n near v s) refl (Kept d.0, Lone n near w left) (c.0, m) true made whole (sym (ap not none)) (λ k. refl)
             (λ k. both _ _ (ap (λ b. cond b false (fits (element_view d.0) (Kept d.0))) none ∙ same_element-itself (element_view d.0)) (back k)) none
 
 -- without one of them there are fewer
@@ -168,26 +168,26 @@ first-empty : (ds : List (Elem × Trie)) (ps : List Path) (s : Spare) (r : Room)
 first-empty [] ps s r h = absurd (true≢false (sym h))
 first-empty (d ∷ ds) ps s r h = gain-form d.1 _ r (both_second (serves (element_view d.0) (tails (element_view d.0) ps) s) _ (both_first _ _ h))
 
-module _ (l : Trie) (x : Trie-F Trie) (n a : ℕ) (deep : suc n ≡ a) (v w : Vec (Elem × Trie) Global) (s left : Spare) (trie : is_trie (roll-Trie x) ≡ true) where
+module _ (l : Trie) (x : Trie-F Trie) (n a near : ℕ) (deep : suc n ≡ a) (v w : Vec (Elem × Trie) Global) (s left : Spare) (trie : is_trie (roll-Trie x) ≡ true) where
   -- where the child stays, room for what goes below it is room for the way back
-  pub lose-back : (cs : List (Elem × Trie)) → AreTaken (children l) cs (inner n v s ∷ []) x.below.items (inner n w left ∷ [])
-      → lose_room l (paths (roll-Trie x)) (Lone a v s) ≡ true → gain_room l (paths (roll-Trie x)) (Lone a w left) ≡ true
+  pub lose-back : (cs : List (Elem × Trie)) → AreTaken (children l) cs (inner n near v s ∷ []) x.below.items (inner n near w left ∷ [])
+      → lose_room l (paths (roll-Trie x)) (Lone a near v s) ≡ true → gain_room l (paths (roll-Trie x)) (Lone a near w left) ≡ true
   lose-back cs taken k =
-      let old = lone-at a (suc n) v s (sym deep) in
-      let below : loses (children l) (paths_below x.below.items) (inner n v s ∷ []) ≡ true =
-      subst (λ z. loses (children l) (paths_below z.below.items) (inner n v s ∷ []) ≡ true) (out-roll-Trie x)
+      let old = lone-at a (suc n) near v s (sym deep) in
+      let below : loses (children l) (paths_below x.below.items) (inner n near v s ∷ []) ≡ true =
+      subst (λ z. loses (children l) (paths_below z.below.items) (inner n near v s ∷ []) ≡ true) (out-roll-Trie x)
       (ap (λ y. loses (children l) (paths_below (out-Trie (roll-Trie x)).below.items) (rooms_of y)) (sym old) ∙ lose-below l (roll-Trie x) _ k) in
-      lost-room l x (Lone a v s) (Lone a w left) _ (lone-at a (suc n) w left (sym deep)) trie
-      (ap own_children (sym (lone-out n w left)) ∙ first-empty (children l) _ Nothing (Lone n w left) (taken.room below))
+      lost-room l x (Lone a near v s) (Lone a near w left) _ (lone-at a (suc n) near w left (sym deep)) trie
+      (ap own_children (sym (lone-out n near w left)) ∙ first-empty (children l) _ Nothing (Lone n near w left) (taken.room below))
       (λ place. absurd (true≢false (sym place ∙ ap has_place old)))
       (λ h. taken.room (ap (λ y. loses (children l) (paths_below x.below.items) (rooms_of y)) (sym old) ∙ h)) k
 
   -- where it goes, the room was not enough
   pub lose-short : (cs new : List (Elem × Trie)) (rs ts : List (Spare × Room)) → x.below.items ≡ new → AreTaken (children l) cs rs new ts
-      → length new < length cs → lose_room l (paths (roll-Trie x)) (Lone a v s) ≡ true → ⊥
+      → length new < length cs → lose_room l (paths (roll-Trie x)) (Lone a near v s) ≡ true → ⊥
   lose-short cs new rs ts is taken less k =
       let counted = taken.len in
       let some : 0 < freshes (children l) (paths_below new) = omega arith in
-      none-goes l (roll-Trie x) _ trie k (ap has_place (lone-at a (suc n) v s (sym deep)))
+      none-goes l (roll-Trie x) _ trie k (ap has_place (lone-at a (suc n) near v s (sym deep)))
       (subst (λ z. 0 < freshes (children l) (paths_below z.below.items)) (sym (out-roll-Trie x))
       (subst (λ m. 0 < freshes (children l) (paths_below m)) (sym is) some))

@@ -24,13 +24,14 @@ pub nothing-out : out-Room room.Nothing ≡ Room-F.Nothing
 unfolding out-Room denote.Hole.Carrier.out
 nothing-out = refl
 
-pub lone-out : (n : ℕ) (v : Vec (Elem × Trie) Global) (s : Spare) → out-Room (room.Lone n v s) ≡ Room-F.Lone n v s
+pub lone-out : (n near : ℕ) (v : Vec (Elem × Trie) Global) (s : Spare) → out-Room (room.Lone n near v s) ≡ Room-F.Lone n near v s
 unfolding out-Room denote.Hole.Carrier.out
-lone-out n v s = refl
+lone-out n near v s = refl
 
 -- the room for one child, told of how many places down it is
-pub lone-at : (n m : ℕ) (v : Vec (Elem × Trie) Global) (s : Spare) → n ≡ m → out-Room (room.Lone n v s) ≡ Room-F.Lone m v s
-lone-at n m v s e = lone-out n v s ∙ (λ i. Room-F.Lone (e i) v s)
+pub lone-at : (n m near : ℕ) (v : Vec (Elem × Trie) Global) (s : Spare) → n ≡ m
+    → out-Room (room.Lone n near v s) ≡ Room-F.Lone m near v s
+lone-at n m near v s e = lone-out n near v s ∙ (λ i. Room-F.Lone (e i) near v s)
 
 pub each-out : (v : Vec (Elem × Trie) Global) (rs : Vec (Spare × Room) Global) → out-Room (room.Each v rs) ≡ Room-F.Each v rs
 unfolding roll-Room denote.Hole.Carrier.roll

@@ -99,14 +99,14 @@ module _ (r q : Room) (x : Room-F Room) (is : out-Room q ≡ x) (empty : own_chi
   }
 
 -- the room of one child, so many places down, serves where its element's does and as many children fit
-pub lone-serves : (r : Room) (n : ℕ) (v w : Vec (Elem × Trie) Global) (s c : Spare) → r ≡ room.Lone n v s → w.items ≡ []
-    → vec_capacity w ≡ vec_capacity v → SpareServes s c → RoomServes r (room.Lone n w c)
-lone-serves r zero v w s c is empty as_large serve =
-    let own = ap out-Room is ∙ lone-out 0 v s in
-    room-serves r (room.Lone 0 w c) _ (lone-out 0 w c) empty (as_large ∙ sym (ap width own)) (sym (ap has_place own))
+pub lone-serves : (r : Room) (n near : ℕ) (v w : Vec (Elem × Trie) Global) (s c : Spare) → r ≡ room.Lone n near v s → w.items ≡ []
+    → vec_capacity w ≡ vec_capacity v → SpareServes s c → RoomServes r (room.Lone n near w c)
+lone-serves r zero near v w s c is empty as_large serve =
+    let own = ap out-Room is ∙ lone-out 0 near v s in
+    room-serves r (room.Lone 0 near w c) _ (lone-out 0 near w c) empty (as_large ∙ sym (ap width own)) (sym (ap has_place own))
     (subst (λ x. AllZip ChildServes (rooms_of x) (lone_rooms c)) (sym own) ((serve, record { gain = λ t ps h. h; lose = λ t ps h. h }), tt))
-lone-serves r (suc n) v w s c is empty as_large serve =
-    let own = ap out-Room is ∙ lone-out (suc n) v s in
-    room-serves r (room.Lone (suc n) w c) _ (lone-out (suc n) w c) empty (as_large ∙ sym (ap width own)) (sym (ap has_place own))
-    (subst (λ x. AllZip ChildServes (rooms_of x) ((Nothing, room.Lone n w c) ∷ [])) (sym own)
-    ((record { nothing = λ h. h; fits = λ e h. h }, lone-serves (room.Lone n v s) n v w s c refl empty as_large serve), tt))
+lone-serves r (suc n) near v w s c is empty as_large serve =
+    let own = ap out-Room is ∙ lone-out (suc n) near v s in
+    room-serves r (room.Lone (suc n) near w c) _ (lone-out (suc n) near w c) empty (as_large ∙ sym (ap width own)) (sym (ap has_place own))
+    (subst (λ x. AllZip ChildServes (rooms_of x) ((Nothing, room.Lone n near w c) ∷ [])) (sym own)
+    ((record { nothing = λ h. h; fits = λ e h. h }, lone-serves (room.Lone n near v s) n near v w s c refl empty as_large serve), tt))

@@ -25,20 +25,20 @@ use Rattle.ssa_turn_set.specs.Spare.{fits, is_nothing}
 -- the vector for the place's own children, where there is one
 abbrev pub own_children : Room-F Room → List (Elem × Trie)
 own_children Room-F.Nothing = []
-own_children (Room-F.Lone n v s) = v.items
+own_children (Room-F.Lone n near v s) = v.items
 own_children (Room-F.Each v rs) = v.items
 
 -- how many children it can take
 abbrev pub width : Room-F Room → ℕ
 width Room-F.Nothing = 0
-width (Room-F.Lone n v s) = vec_capacity v
+width (Room-F.Lone n near v s) = vec_capacity v
 width (Room-F.Each v rs) = vec_capacity v
 
 -- whether children of the place may come or go: above the place of a child that comes or goes alone none does
 abbrev pub has_place : Room-F Room → Bool
 has_place Room-F.Nothing = true
-has_place (Room-F.Lone zero v s) = true
-has_place (Room-F.Lone (suc n) v s) = false
+has_place (Room-F.Lone zero near v s) = true
+has_place (Room-F.Lone (suc n) near v s) = false
 has_place (Room-F.Each v rs) = true
 
 -- the room of one child, below which nothing comes or goes
@@ -51,8 +51,8 @@ lone_rooms s = lone_room s ∷ []
 -- the rooms of the children
 abbrev pub rooms_of : Room-F Room → List (Spare × Room)
 rooms_of Room-F.Nothing = []
-rooms_of (Room-F.Lone zero v s) = lone_rooms s
-rooms_of (Room-F.Lone (suc n) v s) = (spare.Nothing, room.Lone n v s) ∷ []
+rooms_of (Room-F.Lone zero near v s) = lone_rooms s
+rooms_of (Room-F.Lone (suc n) near v s) = (spare.Nothing, room.Lone n near v s) ∷ []
 rooms_of (Room-F.Each v rs) = rs.items
 
 -- the room of a place where one child is concerned: that child's spare and its room, and this vector for the place's children

@@ -47,6 +47,7 @@ fn copy_room(alloc: Global, room: &Room) -> Result<Room, AllocError>
         Room::Nothing => Ok(Room::Nothing),
         Room::Lone {
             above,
+            near,
             children,
             spare,
         } => {
@@ -54,6 +55,7 @@ fn copy_room(alloc: Global, room: &Room) -> Result<Room, AllocError>
             let children = Vec::with_capacity(alloc, children.capacity())?;
             Ok(Room::Lone {
                 above: *above,
+                near: *near,
                 children,
                 spare,
             })

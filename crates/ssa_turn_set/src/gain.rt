@@ -1,5 +1,5 @@
 //! A set of paths put into another, in the room for it.
-ghost use Rattle.std.specs.Prelude.{◌≡◌, ◌≤◌, ◌+◌, ◌||◌, [], true, length, vec_capacity};
+ghost use Rattle.std.specs.Prelude.{◌≡◌, ℕ, ◌≤◌, ◌+◌, ◌||◌, [], true, length, vec_capacity};
 ghost use Rattle.ssa_model.specs.definitions.Path.{Path};
 ghost use Rattle.ssa_path.specs.Children.{elements, rises};
 ghost use Rattle.ssa_path.specs.Trie.{is_one_of, paths, paths_below, is_trie, are_filled_tries};
@@ -59,10 +59,10 @@ fn gain_lone(
 )
     requires set { is_trie set.old ≡ true }
     requires gained { is_trie gained.now ≡ true }
-    requires room { gain_room gained.now (paths set.old) (Lone above children.old spare.old) ≡ true }
+    requires room { (near : ℕ) × (gain_room gained.now (paths set.old) (Lone above near children.old spare.old) ≡ true) }
     ensures paths { (p : Path) → is_one_of (paths set.new) p ≡ (is_one_of (paths gained.now) p || is_one_of (paths set.old) p) }
     ensures trie { is_trie set.new ≡ true }
-    ensures room { lose_room gained.now (paths set.old) (Lone above children.new spare.new) ≡ true }
+    ensures room { (near : ℕ) → lose_room gained.now (paths set.old) (Lone above near children.new spare.new) ≡ true }
 {
     let Trie { here: own, below } = set;
     *own = gained.here || *own;
@@ -91,6 +91,7 @@ pub fn gain(gained: &Trie, set: &mut Trie, room: &mut Room)
         Room::Nothing => gain_leaf(gained, set),
         Room::Lone {
             above,
+            near: _,
             children,
             spare,
         } => gain_lone(*above, gained, set, children, spare),

@@ -11,7 +11,7 @@ ghost use Rattle.ssa_turn_set.specs.declared.room.Room.TheVariants.{Each, Lone};
 
 use crate::filling::exchange_where_short;
 use crate::room::Room;
-use crate::siblings::{place_from, place_of};
+use crate::siblings::{place_from, place_near, place_of};
 use crate::spare::{Spare, empty_element};
 use ssa_json::value::Scalar;
 use ssa_path::element::Elem;
@@ -66,7 +66,7 @@ fn lose_lone(lost: &(Elem, Trie), child: &mut (Elem, Trie), spare: &mut Spare) -
 }
 
 // Takes out the path of one child, below which nothing is lost; it goes from among the others where it has none left.
-fn take_lone_out(lost: &[(Elem, Trie)], below: &mut Vec<(Elem, Trie)>, spare: &mut Spare)
+fn take_lone_out(lost: &[(Elem, Trie)], below: &mut Vec<(Elem, Trie)>, near: u32, spare: &mut Spare)
     requires rise { rises (elements below.old.items) ≡ true }
     requires tries { are_filled_tries below.old.items ≡ true }
     requires lost_rise { rises (elements lost.now) ≡ true }
@@ -77,7 +77,7 @@ fn take_lone_out(lost: &[(Elem, Trie)], below: &mut Vec<(Elem, Trie)>, spare: &m
     ensures capacity { vec_capacity below.new ≡ vec_capacity below.old }
 {
     let child = &lost[0];
-    let place = place_of(below, &child.0);
+    let place = place_near(below, &child.0, near as usize);
     if lose_lone(child, &mut below[place], spare) {
         below.remove(place);
     }
@@ -87,6 +87,7 @@ fn take_lone_out(lost: &[(Elem, Trie)], below: &mut Vec<(Elem, Trie)>, spare: &m
 #[inline(never)]
 fn lose_lone_below(
     above: u8,
+    near: u32,
     lost: &Trie,
     set: &mut Trie,
     children: &mut Vec<(Elem, Trie)>,
@@ -95,22 +96,29 @@ fn lose_lone_below(
     requires set { is_trie set.old ≡ true }
     requires lost { is_trie lost.now ≡ true }
     requires within { (p : Path) → is_one_of (paths lost.now) p ≡ true → is_one_of (paths set.old) p ≡ true }
-    requires form { (ps : List Path) × (lose_room lost.now ps (Lone above children.old spare.old) ≡ true) }
+    requires form { (ps : List Path) × (lose_room lost.now ps (Lone above near children.old spare.old) ≡ true) }
     ensures paths { (p : Path) → is_one_of (paths set.new) p ≡ (is_one_of (paths set.old) p && not (is_one_of (paths lost.now) p)) }
     ensures trie { is_trie set.new ≡ true }
-    ensures room { lose_room lost.now (paths set.new) (Lone above children.old spare.old) ≡ true
-        → gain_room lost.now (paths set.new) (Lone above children.new spare.new) ≡ true }
+    ensures room { lose_room lost.now (paths set.new) (Lone above near children.old spare.old) ≡ true
+        → gain_room lost.now (paths set.new) (Lone above near children.new spare.new) ≡ true }
 {
     let Trie { here: own, below } = set;
     *own = *own && !lost.here;
     if above == 0 {
         let before = below.len();
-        take_lone_out(&lost.below, below, spare);
+        take_lone_out(&lost.below, below, near, spare);
         return exchange_where_short(below, children, before);
     }
     let child = &lost.below[0];
     let place = place_of(below, &child.0);
-    lose_lone_below(above - 1, &child.1, &mut below[place].1, children, spare);
+    lose_lone_below(
+        above - 1,
+        near,
+        &child.1,
+        &mut below[place].1,
+        children,
+        spare,
+    );
     if !below[place].1.has_paths() {
         below.remove(place);
     }
@@ -133,9 +141,10 @@ pub fn lose(lost: &Trie, set: &mut Trie, room: &mut Room)
         Room::Nothing => lose_leaf(lost, set),
         Room::Lone {
             above,
+            near,
             children,
             spare,
-        } => lose_lone_below(*above, lost, set, children, spare),
+        } => lose_lone_below(*above, *near, lost, set, children, spare),
         Room::Each {
             children,
             below: rooms,

@@ -1,9 +1,10 @@
 //! The record of a set that loses some of its paths, with its room.
-ghost use Rattle.std.specs.Prelude.{◌≡◌, ◌≤◌, ◌<◌, ◌∷◌, ◌&&◌, if◌then◌else◌, List, [], length, true, IfOk};
+ghost use Rattle.std.specs.Prelude.{◌≡◌, ◌≤◌, ◌<◌, ◌∷◌, ◌&&◌, if◌then◌else◌, List, [], length, true, None, IfNone, IfOk, IfSome};
+ghost use Rattle.std.specs.List.{All};
 ghost use Rattle.ssa_model.specs.definitions.FieldsV1.{tails};
 ghost use Rattle.ssa_model.specs.definitions.Path.{Path};
 ghost use Rattle.ssa_model.specs.definitions.PathMap.{minus};
-ghost use Rattle.ssa_path.specs.Children.{elements, rises};
+ghost use Rattle.ssa_path.specs.Children.{child_at, elements, rises, IsChildAt};
 ghost use Rattle.ssa_path.specs.Combine.{IsCombination};
 ghost use Rattle.ssa_path.specs.Trie.{are_filled_tries, is_filled, is_trie, paths, paths_below, IsWithin};
 ghost use Rattle.ssa_path.specs.View.{element_view};
@@ -18,7 +19,7 @@ use crate::making::{combine_exactly, lower_lone, make_children, put_above};
 use crate::room::Room;
 use crate::spare::Spare;
 use crate::turn::{SetDelta, SetRoom};
-use ssa_path::children::find_child;
+use ssa_path::children::{find, find_child, find_near};
 use ssa_path::combine::Combination;
 use ssa_path::element::Elem;
 use ssa_path::field_set::FieldSet;
@@ -93,6 +94,7 @@ fn put_loss_above(
     goes: bool,
     leaving: usize,
     len: usize,
+    near: usize,
     room: &mut Room,
 ) -> Result<(), AllocError>
     ensures rooms { IfOk result (λ _. rooms_of (out-Room room.new) ≡ (Nothing, room.old) ∷ []) }
@@ -104,7 +106,78 @@ fn put_loss_above(
         return Ok(());
     }
     let children = make_children(alloc, usize::from(goes), leaving, len)?;
-    put_above(alloc, children, Spare::Nothing, room)
+    put_above(alloc, children, Spare::Nothing, near, room)
+}
+
+// The same as `make_place_loss` tells, where one child is lost, whose place this is.
+#[cycle(loss)]
+#[inline(always)]
+fn make_loss_at(
+    alloc: Global,
+    lost: &Trie,
+    own: &Trie,
+    place: &Trie,
+    room: &mut Room,
+    near: &mut usize,
+) -> Result<(bool, bool), AllocError>
+    requires lost { is_trie lost.now ≡ true }
+    requires own { is_trie own.now ≡ true }
+    requires one { length (children lost.now) ≡ 1 }
+    requires place { All (λ d. paths place.now ≡ tails (element_view d.0) (paths_below (children own.now))) (children lost.now) }
+    requires trie { is_trie place.now ≡ true }
+    requires nothing { out-Room room.old ≡ Room-F.Nothing }
+    ensures room { IfOk result (λ l. lose_room lost.now (left (paths own.now) (paths lost.now)) room.new ≡ true) }
+    ensures all { IfOk result (λ l. l.0 ≡ true → IsWithin (paths lost.now) (paths own.now)) }
+    ensures goes { IfOk result (λ l. l.1 ≡ goes (paths own.now) (paths lost.now)) }
+{
+    let child = &lost.below[0];
+    let (child_has_all, goes) = make_place_loss(alloc, &child.1, place, room, near)?;
+    let leaving = count_whole(place, goes);
+    put_loss_above(alloc, goes, leaving, own.below.len(), *near, room)?;
+    let mut has_all = own.here || !lost.here;
+    has_all &= child_has_all;
+    Ok((has_all, goes_whole(own, lost, leaving)))
+}
+
+// The same, where the set has no child of the lost one's element. It is rare, and apart: so no bare place is made and dropped where
+// the child is there.
+#[cycle(loss)]
+#[inline(never)]
+fn make_absent_loss(
+    alloc: Global,
+    lost: &Trie,
+    own: &Trie,
+    room: &mut Room,
+    near: &mut usize,
+) -> Result<(bool, bool), AllocError>
+    requires lost { is_trie lost.now ≡ true }
+    requires own { is_trie own.now ≡ true }
+    requires one { length (children lost.now) ≡ 1 }
+    requires absent { All (λ d. child_at (element_view d.0) (children own.now) ≡ None) (children lost.now) }
+    requires nothing { out-Room room.old ≡ Room-F.Nothing }
+    ensures room { IfOk result (λ l. lose_room lost.now (left (paths own.now) (paths lost.now)) room.new ≡ true) }
+    ensures all { IfOk result (λ l. l.0 ≡ true → IsWithin (paths lost.now) (paths own.now)) }
+    ensures goes { IfOk result (λ l. l.1 ≡ goes (paths own.now) (paths lost.now)) }
+{
+    let bare = Trie {
+        here: false,
+        below: Vec::new(alloc),
+    };
+    make_loss_at(alloc, lost, own, &bare, room, near)
+}
+
+// The place of the lost child's element. One below which nothing is lost is looked for first at `near`.
+#[inline(always)]
+fn find_lost(own: &[(Elem, Trie)], lost: &(Elem, Trie), near: &mut usize) -> Option<usize>
+    requires { rises (elements own.now) ≡ true }
+    ensures some { IfSome result (IsChildAt (element_view lost.now.0) own.now) }
+    ensures none { IfNone result (child_at (element_view lost.now.0) own.now ≡ None) }
+{
+    if lost.1.below.is_empty() {
+        find_near(own, &lost.0, near)
+    } else {
+        find(own, &lost.0)
+    }
 }
 
 // The same as `make_place_loss` tells, where one child is lost.
@@ -115,6 +188,7 @@ fn make_one_loss(
     lost: &Trie,
     own: &Trie,
     room: &mut Room,
+    near: &mut usize,
 ) -> Result<(bool, bool), AllocError>
     requires lost { is_trie lost.now ≡ true }
     requires own { is_trie own.now ≡ true }
@@ -124,18 +198,10 @@ fn make_one_loss(
     ensures all { IfOk result (λ l. l.0 ≡ true → IsWithin (paths lost.now) (paths own.now)) }
     ensures goes { IfOk result (λ l. l.1 ≡ goes (paths own.now) (paths lost.now)) }
 {
-    let bare = Trie {
-        here: false,
-        below: Vec::new(alloc),
-    };
-    let child = &lost.below[0];
-    let place = place_or(&own.below, &child.0, &bare);
-    let (child_has_all, goes) = make_place_loss(alloc, &child.1, place, room)?;
-    let leaving = count_whole(place, goes);
-    put_loss_above(alloc, goes, leaving, own.below.len(), room)?;
-    let mut has_all = own.here || !lost.here;
-    has_all &= child_has_all;
-    Ok((has_all, goes_whole(own, lost, leaving)))
+    match find_lost(&own.below, &lost.below[0], near) {
+        Some(place) => make_loss_at(alloc, lost, own, &own.below[place].1, room, near),
+        None => make_absent_loss(alloc, lost, own, room, near),
+    }
 }
 
 // The same as `make_place_loss` tells, where any number of children is lost.
@@ -146,6 +212,7 @@ fn make_each_loss(
     lost: &Trie,
     own: &Trie,
     room: &mut Room,
+    near: &mut usize,
 ) -> Result<(bool, bool), AllocError>
     requires lost { is_trie lost.now ≡ true }
     requires own { is_trie own.now ≡ true }
@@ -164,7 +231,7 @@ fn make_each_loss(
     for child in &lost.below {
         let place = place_or(&own.below, &child.0, &bare);
         let mut child_room = Room::Nothing;
-        let (child_has_all, goes) = make_place_loss(alloc, &child.1, place, &mut child_room)?;
+        let (child_has_all, goes) = make_place_loss(alloc, &child.1, place, &mut child_room, near)?;
         has_all &= child_has_all;
         going += usize::from(goes);
         leaving += count_whole(place, goes);
@@ -186,6 +253,7 @@ fn make_place_loss(
     lost: &Trie,
     own: &Trie,
     room: &mut Room,
+    near: &mut usize,
 ) -> Result<(bool, bool), AllocError>
     requires lost { is_trie lost.now ≡ true }
     requires own { is_trie own.now ≡ true }
@@ -196,8 +264,8 @@ fn make_place_loss(
 {
     match lost.below.len() {
         0 => Ok(leaf_loss(lost, own)),
-        1 => make_one_loss(alloc, lost, own, room),
-        _ => make_each_loss(alloc, lost, own, room),
+        1 => make_one_loss(alloc, lost, own, room, near),
+        _ => make_each_loss(alloc, lost, own, room, near),
     }
 }
 
@@ -209,7 +277,7 @@ pub fn make_loss_room(alloc: Global, lost: &Trie, own: &Trie) -> Result<LossRoom
     ensures all { IfOk result (λ l. l.has_all ≡ true → IsWithin (paths lost.now) (paths own.now)) }
 {
     let mut room = Room::Nothing;
-    let (has_all, _goes) = make_place_loss(alloc, lost, own, &mut room)?;
+    let (has_all, _goes) = make_place_loss(alloc, lost, own, &mut room, &mut 0)?;
     Ok(LossRoom { room, has_all })
 }
 
@@ -253,6 +321,7 @@ fn taken(
     lost: Rc<Trie>,
     own: &Trie,
     room: &mut Room,
+    near: &mut usize,
 ) -> Result<KeptPaths, AllocError>
     requires lost { is_trie lost.value ≡ true }
     requires own { is_trie own.now ≡ true }
@@ -260,7 +329,7 @@ fn taken(
     ensures lost { IfOk result (λ t. IsCombination Combination.Meet lost.value own.now t) }
     ensures room { IfOk result (λ t. lose_room t (left (paths own.now) (paths t)) room.new ≡ true) }
 {
-    let (has_all, _goes) = make_place_loss(alloc, &lost, own, room)?;
+    let (has_all, _goes) = make_place_loss(alloc, &lost, own, room, near)?;
     if has_all {
         return Ok(KeptPaths::of_shared(lost));
     }
@@ -274,13 +343,21 @@ impl SetDelta {
     /// Of the set's other paths only so many are looked at as tell where nothing of it is left. A set
     /// that has all of these paths takes them into its record as they are. All memory that its turns
     /// want is taken here; `Err` comes where it is refused.
-    pub fn of_loss(alloc: Global, from: &FieldSet, lost: SharedSet) -> Result<SetDelta, AllocError>
+    ///
+    /// `near` is where a path was found in the set of another, which is looked at first: it may be any
+    /// number, and is then where it was found in this one.
+    pub fn of_loss(
+        alloc: Global,
+        from: &FieldSet,
+        lost: SharedSet,
+        near: &mut usize,
+    ) -> Result<SetDelta, AllocError>
         ensures { IfOk result (λ d. IsBetween from.now (minus from.now lost) d) }
     {
         let own = from.root();
         let (gain, gain_room) = nothing(alloc);
         let mut lose_room = Room::Nothing;
-        let lose = taken(alloc, lost.into_root(), own, &mut lose_room)?;
+        let lose = taken(alloc, lost.into_root(), own, &mut lose_room, near)?;
         Ok(SetDelta {
             gain,
             lose,

@@ -93,12 +93,13 @@ fn make_one_each(
     Ok(Room::Each { children, below })
 }
 
-// Makes of the room for the one child that is concerned that of its place.
+// Makes of the room for the one child that is concerned, which was found at `near`, that of its place.
 #[inline(always)]
 pub(crate) fn put_above(
     alloc: Global,
     children: Vec<(Elem, Trie)>,
     spare: Spare,
+    near: usize,
     room: &mut Room,
 ) -> Result<(), AllocError>
     ensures { IfOk result (λ _. IsRoomOfOne children spare room.old room.new) }
@@ -107,6 +108,7 @@ pub(crate) fn put_above(
         Room::Nothing => {
             *room = Room::Lone {
                 above: 0,
+                near: near.min(u32::MAX as usize) as u32,
                 children,
                 spare,
             };
@@ -231,7 +233,7 @@ fn put_gain_above(
         return Ok(());
     }
     let spare = make_spare_for(alloc, element, comes)?;
-    put_above(alloc, children, spare, room)
+    put_above(alloc, children, spare, 0, room)
 }
 
 // The same as `make_place_gain` tells, where one child is gained.

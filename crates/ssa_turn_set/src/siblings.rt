@@ -3,7 +3,7 @@ ghost use Rattle.std.specs.Prelude.{◌≡◌, ◌≤◌, true, None, length, ta
 ghost use Rattle.ssa_path.specs.Children.{child_at, elements, rises, IsChildAt};
 ghost use Rattle.ssa_path.specs.View.{element_view};
 
-use ssa_path::children::{FEW, find};
+use ssa_path::children::{FEW, find, find_near};
 use ssa_path::element::Elem;
 use ssa_path::trie::Trie;
 use std::cmp::Ordering;
@@ -22,6 +22,20 @@ fn reach(children: &[(Elem, Trie)], element: &Elem) -> usize
         width += width.min(children.len() - width);
     }
     width
+}
+
+// The place of the child of this element, which is there, looked for first at `near`.
+#[inline(always)]
+pub(crate) fn place_near(children: &[(Elem, Trie)], element: &Elem, near: usize) -> usize
+    requires rise { rises (elements children.now) ≡ true }
+    requires present { child_at (element_view element.now) children.now ≡ None → ⊥ }
+    ensures { IsChildAt (element_view element.now) children.now result }
+{
+    let mut near = near;
+    match find_near(children, element, &mut near) {
+        Some(found) => found,
+        None => unreachable!(),
+    }
 }
 
 // The place of the child of this element, which is there.

@@ -8,7 +8,6 @@ use Rattle.ssa_model.specs.definitions.Record.{gone_from, new_in, placed}
 use Rattle.ssa_model.proofs.Tables.{manager-itself, same_manager-true}
 use Rattle.ssa_model.proofs.Tests.{by_test, filter-kept, filter-dropped}
 use Rattle.ssa_merge.specs.Managers.{key_view, entry_view, table_view}
-use Rattle.ssa_path.proofs.Lists.{left-at}
 use Rattle.ssa_merge.specs.declared.manager.ManagerKey.{ManagerKey as Key}
 use Rattle.ssa_turn_table.specs.declared.delta.Here.{Here}
 use Rattle.ssa_merge.specs.declared.managers.Entry as merge
@@ -137,10 +136,6 @@ keys-push (g ∷ gs) h a b = (a.0, keys-push gs h a.1 b)
 pub first-key : (gone : List Key) (g : Key) (k : ManagerKey) → g ≡ get_or gone 0 g → is_first_key (keys_view gone) k ≡ true → key_view g ≡ k
 first-key [] g k is h = absurd (true≢false (sym h))
 first-key (x ∷ xs) g k is h = ap key_view is ∙ same_manager-true (key_view x) k h
-
--- two readings of one place
-pub same-at : {X : Type 0} (xs : List X) (i : ℕ) (x y : X) → i < length xs → x ≡ get_or xs i x → y ≡ get_or xs i y → x ≡ y
-same-at xs i x y lt a b = let both = sym (left-at xs i x lt a) ∙ left-at xs i y lt b in cc
 
 -- the state of the walk may be told by other words for the same lists and places
 pub taking_same : (u : Table) (all now after : List merge.Entry) (gone left : List Key) (out more : List Here) (i p q : ℕ) → after ≡ now → left ≡ gone

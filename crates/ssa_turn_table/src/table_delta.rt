@@ -73,7 +73,8 @@ fn is_kept(entry: &Entry, delta: &SetDelta, at: Moment) -> bool
     !delta.lose.as_trie().has_paths() && is_same_moment(entry.at, at)
 }
 
-// Puts the change of an entry whose manager loses these paths, and then has this moment, behind others, where there is one.
+// Puts the change of an entry whose manager loses these paths, and then has this moment, behind others, where there is one. A path
+// is looked for first at `near`, where the entry before had one.
 //
 // It is made where it stands, since it is large.
 fn push_losing(
@@ -81,11 +82,12 @@ fn push_losing(
     entry: &Entry,
     lost: SharedSet,
     at: Moment,
+    near: &mut usize,
     changed: &mut Vec<EntryChange>,
 ) -> Result<(), AllocError>
     ensures { OnOk result (IsPutBehind entry.now.set (change_of (entry_view entry.now) (Some (owning (entry_view entry.now) (minus entry.now.set lost) at))) changed.old.items changed.new.items) }
 {
-    let delta = SetDelta::of_loss(alloc, &entry.set, lost)?;
+    let delta = SetDelta::of_loss(alloc, &entry.set, lost, near)?;
     if is_kept(entry, &delta, at) {
         return Ok(());
     }
@@ -143,6 +145,7 @@ fn push_change_by(
     alloc: Global,
     entry: &Entry,
     change: &table_change::EntryChange,
+    near: &mut usize,
     changed: &mut Vec<EntryChange>,
 ) -> Result<(), AllocError>
     ensures { OnOk result (IsPutBehind entry.now.set (change_in (changed_entry change.now (entry_view entry.now)) (entry_view entry.now)) changed.old.items changed.new.items) }
@@ -152,7 +155,7 @@ fn push_change_by(
         table_change::EntryChange::Leaves => Ok(()),
         table_change::EntryChange::Renewed(at) => push_renewed(alloc, entry, *at, changed),
         table_change::EntryChange::Loses(lost, at) => {
-            push_losing(alloc, entry, lost.share()?, *at, changed)
+            push_losing(alloc, entry, lost.share()?, *at, near, changed)
         }
         table_change::EntryChange::Owns(set, at) => push_owning(alloc, entry, set, *at, changed),
     }
@@ -186,8 +189,9 @@ fn changes_by(
     ensures room { IfOk result (λ cs. AllHaveRoom (table_view entries.now) cs.items) }
 {
     let mut changed = Vec::with_capacity(alloc, count_changing(told))?;
+    let mut near = 0;
     for (place, entry) in entries.iter().enumerate() {
-        push_change_by(alloc, entry, &told[place], &mut changed)?;
+        push_change_by(alloc, entry, &told[place], &mut near, &mut changed)?;
     }
     Ok(changed)
 }

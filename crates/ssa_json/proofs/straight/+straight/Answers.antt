@@ -1,12 +1,12 @@
-use Rattle.std.proofs.Common.{◌≡◌, ◌-◌, ◌<◌, ◌∷◌, length, true, Some, None, string_bytes, refl, subst, sym, ap, to_z, of_z, w64, [], ◌∙◌, arith, rules}
-use Rattle.json.specs.Token.{Token}
+use Rattle.std.proofs.Common.{◌≡◌, ◌-◌, ◌<◌, ◌∷◌, ◌++◌, length, true, Some, None, string_bytes, refl, subst, sym, ap, to_z, of_z, w64, [], ◌∙◌, arith, rules}
 use Rattle.json.specs.Json.{parse_map, after_end_array, read_key, items, members, value}
 use Rattle.json.specs.Reads.{token_of}
 use Rattle.json.proofs.Grammar.{value_is, value-begin_array, value-begin_object, read_key-shorter}
-use Rattle.serde_json.specs.Data.{number, string, array, object, put}
+use Rattle.serde_json.specs.Data.{number, string, array, object}
 use Rattle.std.specs.Prelude.{option_map}
 use Rattle.serde_json.specs.Find.{of_integer}
-use Rattle.serde_json.specs.Read.{of_json, of_items, of_members, converted}
+use Rattle.serde_json.specs.Read.{of_json, of_items, converted}
+use Rattle.ssa_model.specs.definitions.Json as model
 use Rattle.ssa_model.specs.definitions.Json.{Members, no_members}
 use Rattle.ssa_members.specs.Texts.{text_bytes}
 use Rattle.ssa_json.specs.PutInTurn.{put_in_turn}
@@ -15,51 +15,48 @@ use Rattle.ssa_json.specs.Written.{data_of, members_data, items_narrow, members_
 use Rattle.ssa_json.specs.declared.value.Scalar.TheVariants.{Text, Int, Bool}
 use Rattle.ssa_json.proofs.Views.{view-Scalar, view-List, view-Object}
 use Rattle.ssa_json.proofs.Printing.{items_narrow-push}
-use Rattle.ssa_json.proofs.StraightData.{before, before-none, one_more, put-data, put-narrow}
-use Rattle.ssa_json.proofs.MembersMade.{made-of-pairs, put-append}
-use Rattle.ssa_json.proofs.TokensRead.{array-read, object-read, item_read, items_over, member_read, members_over}
+use Rattle.ssa_json.proofs.StraightData.{before, before-none, one_more}
+use Rattle.ssa_json.proofs.MembersMade.{made-of-pairs}
+use Rattle.ssa_json.proofs.PairsRead.{LeaveRest, StayNarrow, puts-pair, pair-read, pair-narrow}
+use Rattle.ssa_json.proofs.TokensRead.{array-read, object-read, item_read, items_over, members_over}
 use Rattle.ssa_json.proofs.straight.+straight.Goals as goal
 
-pub read_value-returns-in_ok-from_str-in-String-clause-ok : goal.read_value-returns-in_ok-from_str-in-String-clause-ok
-read_value-returns-in_ok-from_str-in-String-clause-ok t c =
-    let first : c.args.reader.now ≡ token_of c.in_ok-token.token ∷ c.next.new.self = grind arith in
-    let is : c.args.reader.now ≡ Token.string c.in-String.text.now ∷ c.next.new.self = grind (arith, first) in
+pub value_from-returns-in_ok-from_str-in-String-clause-ok : goal.value_from-returns-in_ok-from_str-in-String-clause-ok
+value_from-returns-in_ok-from_str-in-String-clause-ok t c =
+    let is = ap (λ k. token_of k ∷ c.args.reader.now) c.in-String.is in
     let copied : text_bytes c.in_ok-from_str-in-String.field-0 ≡ c.in-String.text.now = search rules in
     let seen = ap data_of (view-Scalar (Text c.in_ok-from_str-in-String.field-0)) ∙ ap string copied in
-    ap (converted of_json) (ap (value c.args.depth) is ∙ value_is c.args.depth _) ∙ ap (λ d. Some (d, c.next.new.self)) (sym seen)
+    ap (converted of_json) (ap (value c.args.depth) is ∙ value_is c.args.depth _) ∙ ap (λ d. Some (d, c.args.reader.now)) (sym seen)
 
-pub read_value-returns-in-Some-clause-ok : goal.read_value-returns-in-Some-clause-ok
-read_value-returns-in-Some-clause-ok t c =
-    let first : c.args.reader.now ≡ token_of c.in_ok-token.token ∷ c.next.new.self = grind arith in
-    let is : c.args.reader.now ≡ Token.number c.in-Number.text.now ∷ c.next.new.self = grind (arith, first) in
+pub value_from-returns-in-Some-clause-ok : goal.value_from-returns-in-Some-clause-ok
+value_from-returns-in-Some-clause-ok t c =
+    let rest = c.args.reader.now in
+    let is = ap (λ k. token_of k ∷ rest) c.in-Number.is in
     let same : c.in-Some.number ≡ to_z w64 (of_z w64 c.in-Some.number) = search rules in
     let seen = ap data_of (view-Scalar (Int (to_z w64 (of_z w64 c.in-Some.number)))) in
     ap (converted of_json) (ap (value c.args.depth) is ∙ value_is c.args.depth _)
-    ∙ ap (λ n. option_map (λ d. (d, c.next.new.self)) (option_map number n)) (c.in-Some.ensures.number ∙ ap (λ z. Some (of_integer z)) same)
-    ∙ ap (λ d. Some (d, c.next.new.self)) (sym seen)
+    ∙ ap (λ n. option_map (λ d. (d, rest)) (option_map number n)) (c.in-Some.ensures.number ∙ ap (λ z. Some (of_integer z)) same)
+    ∙ ap (λ d. Some (d, rest)) (sym seen)
 
-pub read_value-returns-in-Bool-clause-ok : goal.read_value-returns-in-Bool-clause-ok
-read_value-returns-in-Bool-clause-ok t c =
-    let first : c.args.reader.now ≡ token_of c.in_ok-token.token ∷ c.next.new.self = grind arith in
-    let is : c.args.reader.now ≡ Token.boolean c.in-Bool.b ∷ c.next.new.self = grind (arith, first) in
+pub value_from-returns-in-Bool-clause-ok : goal.value_from-returns-in-Bool-clause-ok
+value_from-returns-in-Bool-clause-ok t c =
+    let is = ap (λ k. token_of k ∷ c.args.reader.now) c.in-Bool.is in
     ap (converted of_json) (ap (value c.args.depth) is ∙ value_is c.args.depth _)
-    ∙ ap (λ d. Some (d, c.next.new.self)) (sym (ap data_of (view-Scalar (Bool c.in-Bool.b))))
+    ∙ ap (λ d. Some (d, c.args.reader.now)) (sym (ap data_of (view-Scalar (Bool c.in-Bool.b))))
 
-pub read_value-returns-in_ok-read_items-in-BeginArray-clause-ok : goal.read_value-returns-in_ok-read_items-in-BeginArray-clause-ok
-read_value-returns-in_ok-read_items-in-BeginArray-clause-ok t c =
-    let first : c.args.reader.now ≡ token_of c.in_ok-token.token ∷ c.next.new.self = grind arith in
-    let opened = ap (converted of_json) (ap (value c.args.depth) (first ∙ ap (λ k. token_of k ∷ c.next.new.self) c.in-BeginArray.is)
-    ∙ value-begin_array c.args.depth c.next.new.self (omega arith))
-    ∙ array-read (items (value (c.args.depth - 1)) (length c.next.new.self) c.next.new.self) in
+pub value_from-returns-in_ok-read_items-in-BeginArray-clause-ok : goal.value_from-returns-in_ok-read_items-in-BeginArray-clause-ok
+value_from-returns-in_ok-read_items-in-BeginArray-clause-ok t c =
+    let opened = ap (converted of_json) (ap (value c.args.depth) (ap (λ k. token_of k ∷ c.args.reader.now) c.in-BeginArray.is)
+    ∙ value-begin_array c.args.depth c.args.reader.now (omega arith))
+    ∙ array-read (items (value (c.args.depth - 1)) (length c.args.reader.now) c.args.reader.now) in
     let found = c.in_ok-read_items-in-BeginArray in
     opened ∙ ap (parse_map array) found.ensures.ok ∙ ap (λ d. Some (data_of d, c.read_items.new.reader)) (sym (view-List found.field-0))
 
-pub read_value-returns-in_ok-read_members-in-BeginObject-clause-ok : goal.read_value-returns-in_ok-read_members-in-BeginObject-clause-ok
-read_value-returns-in_ok-read_members-in-BeginObject-clause-ok t c =
-    let first : c.args.reader.now ≡ token_of c.in_ok-token.token ∷ c.next.new.self = grind arith in
-    let opened = ap (converted of_json) (ap (value c.args.depth) (first ∙ ap (λ k. token_of k ∷ c.next.new.self) c.in-BeginObject.is)
-    ∙ value-begin_object c.args.depth c.next.new.self (omega arith))
-    ∙ object-read (members (value (c.args.depth - 1)) (length c.next.new.self) c.next.new.self) in
+pub value_from-returns-in_ok-read_members-in-BeginObject-clause-ok : goal.value_from-returns-in_ok-read_members-in-BeginObject-clause-ok
+value_from-returns-in_ok-read_members-in-BeginObject-clause-ok t c =
+    let opened = ap (converted of_json) (ap (value c.args.depth) (ap (λ k. token_of k ∷ c.args.reader.now) c.in-BeginObject.is)
+    ∙ value-begin_object c.args.depth c.args.reader.now (omega arith))
+    ∙ object-read (members (value (c.args.depth - 1)) (length c.args.reader.now) c.args.reader.now) in
     let found = c.in_ok-read_members-in-BeginObject in
     opened ∙ ap (parse_map object) found.ensures.ok ∙ ap (λ d. Some (data_of d, c.read_members.new.reader)) (sym (view-Object found.field-0))
 
@@ -108,12 +105,34 @@ pub read_pairs-members-init : goal.read_pairs-members-init
 read_pairs-members-init t c =
     let p = value c.args.depth in
     let ts = c.args.reader.now in
-    let none : c.new-pairs.result.items ≡ [] = search rules in
+    let none : c.in_ok-pairs.pairs.items ≡ [] = search rules in
     record {
-      read = λ found most enough.
-          (most, enough, ap (λ ps. converted (λ ms. of_members ms (members_data (put_in_turn ps found))) (members p most ts)) (sym none));
+      read = subst (LeaveRest p ts ts) (sym none) (λ found most enough. (most, enough, refl));
       shorter = omega arith;
-      narrow = λ found h. subst (λ ps. members_narrow (put_in_turn ps found) ≡ true) (sym none) h;
+      narrow = subst StayNarrow (sym none) (λ found h. h);
+    }
+
+pub read_pairs-members-preserved-then-branch : goal.read_pairs-members-preserved-then-branch
+read_pairs-members-preserved-then-branch t c =
+    let p = value c.args.depth in
+    let l = c.members in
+    let k = c.in-Some.name.now in
+    let s = c.next_key.new.self in
+    let r = c.next.new.self in
+    let named : read_key l.reader ≡ Some (Some k, s) = grind arith in
+    let first : s ≡ token_of c.in_ok-token.token ∷ r = grind arith in
+    let put = c.in_ok-push_short.ensures.pushed c.if-branch.true in
+    let v = model.scalar (model.text put.0) in
+    let read : converted of_json (p s) ≡ Some (data_of v, r) =
+    ap (converted of_json) (ap p (first ∙ ap (λ k. k ∷ r) put.1) ∙ value_is c.args.depth _) in
+    let less = read_key-shorter l.reader (Some k) s named in
+    let size = ap (λ ts. length ts) first in
+    let old = l.pairs.items in
+    let new = c.push_short.new.pairs.items in
+    record {
+      read = pair-read k v old new put.2 p c.args.reader.now l.reader s r named read (omega arith) l.invariant.read;
+      shorter = omega (arith, l.invariant.shorter);
+      narrow = pair-narrow k v old new put.2 refl l.invariant.narrow;
     }
 
 pub read_pairs-members-preserved : goal.read_pairs-members-preserved
@@ -124,32 +143,23 @@ read_pairs-members-preserved t c =
     let key = c.in_ok-key.key in
     let s = c.next_key.new.self in
     let named : read_key l.reader ≡ Some (Some k, s) = grind arith in
+    let first : s ≡ token_of c.in_ok-token.token ∷ c.next.new.self = grind arith in
     let done = c.in_ok-member.ensures in
     let v = c.in_ok-member.member in
-    let r = c.read_value.new.reader in
+    let r = c.value_from.new.reader in
+    let read = ap (λ ts. converted of_json (p ts)) first ∙ done.ok in
     let less = read_key-shorter l.reader (Some k) s named in
-    let lesser = done.shorter in
+    let size = ap (λ ts. length ts) first in
     let copied : string_bytes key ≡ k = search rules in
-    let put_in = λ (found : Members).
-    ap (λ ps. put_in_turn ps found) c.in_ok-push_loosely.ensures.ok ∙ put-append l.pairs.items ((key, v) ∷ []) found in
-    let spelled = λ (found : Members).
-    ap members_data (put_in found) ∙ put-data (string_bytes key) (view v) (put_in_turn l.pairs.items found)
-    ∙ ap (λ name. put name (data_of (view v)) (members_data (put_in_turn l.pairs.items found))) copied in
+    let kept = c.in_ok-push_short.ensures.kept c.if-branch.false in
+    let pushed = c.in_ok-push_loosely.ensures.ok ∙ ap (λ ps. ps ++ (key, v) ∷ []) kept in
+    let old = l.pairs.items in
+    let new = c.push_loosely.new.items.items in
+    let put = puts-pair k key v old new copied pushed in
     record {
-      read = λ found most enough.
-          let before = l.invariant.read found most enough in
-          let old = members_data (put_in_turn l.pairs.items found) in
-          let n = before.0 in
-          let fits = before.1 in (
-            n - 1,
-            omega arith,
-            before.2 ∙ member_read p old n k l.reader s r (data_of (view v)) (omega arith) named done.ok
-                ∙ ap (λ ms. converted (λ more. of_members more ms) (members p (n - 1) r)) (sym (spelled found)),
-          );
+      read = pair-read k (view v) old new put p c.args.reader.now l.reader s r named read (omega arith) l.invariant.read;
       shorter = omega (arith, l.invariant.shorter);
-      narrow = λ found h.
-          subst (λ ms. members_narrow ms ≡ true) (sym (put_in found))
-          (put-narrow (string_bytes key) (view v) (put_in_turn l.pairs.items found) (l.invariant.narrow found h) done.narrow);
+      narrow = pair-narrow k (view v) old new put done.narrow l.invariant.narrow;
     }
 
 pub read_pairs-returns-clause-ok : goal.read_pairs-returns-clause-ok

@@ -1,18 +1,20 @@
 use Rattle.std.proofs.Common.{◌≡◌, ℕ, ◌+◌, ◌*◌, ◌≤◌, length, true}
-use Rattle.json.specs.Json.{items, members, value, parse_map}
-use Rattle.serde_json.specs.Read.{of_items, of_members, converted}
-use Rattle.ssa_model.specs.definitions.Json.{Members}
-use Rattle.ssa_json.specs.PutInTurn.{put_in_turn}
+use Rattle.json.specs.Json.{items, value, parse_map}
+use Rattle.serde_json.specs.Read.{of_items, converted}
 use Rattle.ssa_json.specs.View.{items_view}
-use Rattle.ssa_json.specs.Written.{members_data, items_narrow, members_narrow}
+use Rattle.ssa_json.specs.Written.{items_narrow}
+use Rattle.ssa_json.proofs.PairsRead.{LeaveRest, StayNarrow}
 use Rattle.ssa_json.proofs.StraightData.{before}
 use Rattle.ssa_json.proofs.straight.+straight.Given as goal
 
 abbrev pub decreases-read_value : goal.decreases-read_value
-decreases-read_value l = 3 * l.depth
+decreases-read_value l = 3 * l.depth + 1
+
+abbrev pub decreases-value_from : goal.decreases-value_from
+decreases-value_from l = 3 * l.depth
 
 abbrev pub decreases-read_items : goal.decreases-read_items
-decreases-read_items l = 3 * l.depth + 1
+decreases-read_items l = 3 * l.depth + 2
 
 abbrev pub decreases-read_members : goal.decreases-read_members
 decreases-read_members l = 3 * l.depth + 2
@@ -35,11 +37,9 @@ decreases-read_items-items l = length l.reader
 
 abbrev pub invariant-read_pairs-members : goal.invariant-read_pairs-members
 invariant-read_pairs-members l = record {
-  read : (found : Members) → (most : ℕ) → length l.initial.reader ≤ most → (left : ℕ) × (length l.reader ≤ left)
-      × (converted (λ ms. of_members ms (members_data found)) (members (value l.depth) most l.initial.reader)
-      ≡ converted (λ ms. of_members ms (members_data (put_in_turn l.pairs.items found))) (members (value l.depth) left l.reader));
+  read : LeaveRest (value l.depth) l.initial.reader l.reader l.pairs.items;
   shorter : length l.reader ≤ length l.initial.reader;
-  narrow : (found : Members) → members_narrow found ≡ true → members_narrow (put_in_turn l.pairs.items found) ≡ true;
+  narrow : StayNarrow l.pairs.items;
 }
 
 abbrev pub decreases-read_pairs-members : goal.decreases-read_pairs-members

@@ -11,7 +11,13 @@ use Rattle.ssa_merge.proofs.TableChanges.{less-none}
 use Rattle.ssa_merge.proofs.seat.losing.Goals as goal
 
 pub losing_all-requires : goal.losing_all-requires
-losing_all-requires c = ap (λ s. is_empty (minus s c.args.entry.now.set)) (sym c.paths-paths.ensures) ∙ sym c.is_within.ensures ∙ c.if-is_within.true
+losing_all-requires c =
+    ap (λ s. is_empty (minus s c.args.entry.now.set)) c.is_within.ensures.same ∙ sym c.is_within.ensures.answer ∙ c.if-is_within.true
+
+pub returns-then-is_within-clause-change : goal.returns-then-is_within-clause-change
+returns-then-is_within-clause-change c =
+    let e = entry_view c.args.entry.now in
+    subst (λ s. IfOk c.losing_all.result (λ k. changed_entry k e ≡ filter owns (less e s ∷ []))) c.is_within.ensures.same c.losing_all.ensures.change
 
 pub returns-then-is_empty-clause-change : goal.returns-then-is_empty-clause-change
 returns-then-is_empty-clause-change c =

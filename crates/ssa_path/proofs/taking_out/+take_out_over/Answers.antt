@@ -9,10 +9,10 @@ use Rattle.ssa_path.specs.declared.element.Elem.{Elem}
 use Rattle.ssa_path.specs.declared.trie.Trie.{the_lemmas, Trie}
 use Rattle.ssa_path.specs.declared.trie.Trie.TheViews.{out-Trie}
 use Rattle.ssa_path.proofs.Levels.{any-root, trie-parts}
-use Rattle.ssa_path.proofs.Lists.{child-trie}
+use Rattle.ssa_path.proofs.Lists.{child-trie, same-at}
 use Rattle.ssa_path.proofs.Searching.{child-absent, child-found}
 use Rattle.ssa_path.proofs.Combining.{combined-place, heads-none}
-use Rattle.ssa_path.proofs.TakingOut.{taking-all, taking-both, taking-other, taking-own, found-all, found-both, found-next, found-own, same-at, IsTakingFound}
+use Rattle.ssa_path.proofs.TakingOut.{taking-all, taking-both, taking-other, taking-own, found-all, found-both, found-next, found-own, IsTakingFound}
 use Rattle.ssa_path.proofs.taking_out.+take_out_over.Goals as goal
 use Rattle.ssa_path.proofs.taking_out.+take_out_over.Goals.{take_out_found-in-Ok, take_out_found-in_default, take_out_over-then-here, take_out_over-else-here}
 

@@ -20,7 +20,7 @@ copy_each-returns t c =
 
 pub copy_room-returns-in_ok-children-in-Lone : goal.copy_room-returns-in_ok-children-in-Lone
 copy_room-returns-in_ok-children-in-Lone t c =
-    lone-serves c.args.room.now _ _ c.in_ok-children-in-Lone.children _ c.in_ok-spare-in-Lone.spare c.in-Lone.is c.in_ok-children-in-Lone.ensures.items
+    lone-serves c.args.room.now _ _ _ c.in_ok-children-in-Lone.children _ c.in_ok-spare-in-Lone.spare c.in-Lone.is c.in_ok-children-in-Lone.ensures.items
     (c.in_ok-children-in-Lone.ensures.exact ∙ c.capacity.ensures) c.in_ok-spare-in-Lone.ensures
 
 pub copy_room-returns-in_ok-children-in-Each : goal.copy_room-returns-in_ok-children-in-Each

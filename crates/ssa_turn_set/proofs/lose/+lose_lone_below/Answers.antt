@@ -40,12 +40,12 @@ take_lone_out-requires-clause-within t c p k =
 pub take_lone_out-requires-clause-form : goal.take_lone_out-requires-clause-form
 take_lone_out-requires-clause-form t c =
     let form = start-form c.args.lost.now c.requires.form.0 _ c.requires.form.1 in
-    let is = lone-at c.args.above 0 c.args.children.now c.args.spare.now c.if-above-eq0.true in
+    let is = lone-at c.args.above 0 c.args.near c.args.children.now c.args.spare.now c.if-above-eq0.true in
     (c.requires.form.0, (λ j. loses (c.deref.ensures.value j) c.requires.form.0 (rooms_of (sym is j))) ∙ form.1)
 
 pub exchange_where_short-requires-clause-empty : goal.exchange_where_short-requires-clause-empty
 exchange_where_short-requires-clause-empty t c =
-    ap own_children (sym (lone-out _ _ _)) ∙ (start-form c.args.lost.now c.requires.form.0 _ c.requires.form.1).0
+    ap own_children (sym (lone-out _ _ _ _)) ∙ (start-form c.args.lost.now c.requires.form.0 _ c.requires.form.1).0
 
 pub returns-then-above-eq0-clause-paths : goal.returns-then-above-eq0-clause-paths
 returns-then-above-eq0-clause-paths t c =
@@ -64,7 +64,7 @@ returns-then-above-eq0-clause-trie t c =
 pub returns-then-above-eq0-clause-room : goal.returns-then-above-eq0-clause-room
 returns-then-above-eq0-clause-room t c =
     let ds = (out-Trie c.args.lost.now).below.items in
-    let is = lone-at c.args.above 0 c.args.children.now c.args.spare.now c.if-above-eq0.true in
+    let is = lone-at c.args.above 0 c.args.near c.args.children.now c.args.spare.now c.if-above-eq0.true in
     let rs = lone_rooms c.args.spare.now in
     let news = lone_rooms c.take_lone_out.new.spare in
     let taken : AreTaken ds (out-Trie c.args.set.now).below.items rs c.exchange_where_short.new.items.items news =
@@ -75,7 +75,8 @@ returns-then-above-eq0-clause-room t c =
     let same = ap length c.exchange_where_short.ensures.items in
     let wide = ap width is in
     let counted = taken.len in
-    lost-room c.args.lost.now _ (Lone c.args.above c.args.children.now c.args.spare.now) _ _ (lone-at _ 0 _ _ c.if-above-eq0.true)
+    lost-room c.args.lost.now _ (Lone c.args.above c.args.near c.args.children.now c.args.spare.now) _ _
+    (lone-at _ 0 _ _ _ c.if-above-eq0.true)
     (returns-then-above-eq0-clause-trie t c) c.exchange_where_short.ensures.empty
     (λ place fits. let left = c.exchange_where_short.ensures.room (omega arith) in (refl, omega arith))
     (λ k. taken.room (ap (λ x. loses ds (paths_below c.exchange_where_short.new.items.items) (rooms_of x)) (sym is) ∙ k))
@@ -88,7 +89,7 @@ next n some = omega arith
 -- the lost set has one child there
 one-child : (t : ℕ) (c : Else-above-eq0 t) → length (children c.args.lost.now) ≡ 1
 one-child t c =
-    lose-one _ _ _ _ (next _ c.if-above-eq0.false) _ _ c.requires.lost c.requires.set c.requires.within _ c.requires.form.1
+    lose-one _ _ _ _ _ (next _ c.if-above-eq0.false) _ _ c.requires.lost c.requires.set c.requires.within _ c.requires.form.1
 
 pub index-child-requires : goal.index-child-requires
 index-child-requires t c =
@@ -101,13 +102,13 @@ place_of-place-requires-clause-rise t c = (trie-parts c.args.set.now c.deref-2.r
 
 pub place_of-place-requires-clause-present : goal.place_of-place-requires-clause-present
 place_of-place-requires-clause-present t c none =
-    lose-present _ _ _ _ (next _ c.if-above-eq0.false) _ _ c.requires.lost c.requires.set c.requires.within _ c.requires.form.1
+    lose-present _ _ _ _ _ (next _ c.if-above-eq0.false) _ _ c.requires.lost c.requires.set c.requires.within _ c.requires.form.1
     c.index-child.result.now c.index-child.ensures
     (ap (child_at (element_view c.index-child.result.now.0)) (sym c.deref-2.ensures.value) ∙ none)
 
 pub lose_lone_below-requires : goal.lose_lone_below-requires
 lose_lone_below-requires t c =
-    let asked = lose-inner _ _ _ _ (next _ c.if-above-eq0.false) _ _ c.requires.lost c.requires.set c.requires.within _ c.requires.form.1
+    let asked = lose-inner _ _ _ _ _ (next _ c.if-above-eq0.false) _ _ c.requires.lost c.requires.set c.requires.within _ c.requires.form.1
     c.index-child.result.now c.index-child.ensures c.place_of-place.result c.index_mut.result.now
     (rw c.deref-2.ensures.value at c.place_of-place.ensures) c.index_mut.ensures.value in
     let one = one-child t (goal.at.lose_lone_below-requires t c).Else-above-eq0 in (
@@ -130,22 +131,22 @@ told t c =
 
 -- where it has, it stays among the others
 stays : (t : ℕ) (c : After-has_paths t) → c.has_paths.result ≡ true → AreTaken (children c.args.lost.now) (children c.args.set.now)
-    ((Nothing, Lone (c.args.above - 1) c.args.children.now c.args.spare.now) ∷ [])
+    ((Nothing, Lone (c.args.above - 1) c.args.near c.args.children.now c.args.spare.now) ∷ [])
     (set (children c.args.set.now) c.place_of-place.result (c.index_mut.result.now.0, c.lose_lone_below.new.set))
-    ((Nothing, Lone (c.args.above - 1) c.lose_lone_below.new.children c.lose_lone_below.new.spare) ∷ [])
+    ((Nothing, Lone (c.args.above - 1) c.args.near c.lose_lone_below.new.children c.lose_lone_below.new.spare) ∷ [])
 stays t c some =
-    lose-stays _ _ _ _ (next _ c.if-above-eq0.false) _ _ c.requires.lost c.requires.set c.requires.within _ c.requires.form.1
+    lose-stays _ _ _ _ _ (next _ c.if-above-eq0.false) _ _ c.requires.lost c.requires.set c.requires.within _ c.requires.form.1
     _ c.index-child.ensures _ _ (stands t c) c.index_mut.ensures.value
     _ _ _ c.lose_lone_below.ensures.paths c.lose_lone_below.ensures.trie c.lose_lone_below.ensures.room (told t c ∙ some)
 
 -- where it has none, it goes
 goes : (t : ℕ) (c : After-has_paths t) → c.has_paths.result ≡ false → AreTaken (children c.args.lost.now) (children c.args.set.now)
-    ((Nothing, Lone (c.args.above - 1) c.args.children.now c.args.spare.now) ∷ [])
+    ((Nothing, Lone (c.args.above - 1) c.args.near c.args.children.now c.args.spare.now) ∷ [])
     (take c.place_of-place.result (set (children c.args.set.now) c.place_of-place.result (c.index_mut.result.now.0, c.lose_lone_below.new.set))
     ++ drop (c.place_of-place.result + 1) (set (children c.args.set.now) c.place_of-place.result (c.index_mut.result.now.0, c.lose_lone_below.new.set)))
-    ((Kept c.index-child.result.now.0, Lone (c.args.above - 1) c.lose_lone_below.new.children c.lose_lone_below.new.spare) ∷ [])
+    ((Kept c.index-child.result.now.0, Lone (c.args.above - 1) c.args.near c.lose_lone_below.new.children c.lose_lone_below.new.spare) ∷ [])
 goes t c none =
-    lose-goes _ _ _ _ (next _ c.if-above-eq0.false) _ _ c.requires.lost c.requires.set c.requires.within _ c.requires.form.1
+    lose-goes _ _ _ _ _ (next _ c.if-above-eq0.false) _ _ c.requires.lost c.requires.set c.requires.within _ c.requires.form.1
     _ c.index-child.ensures _ _ (stands t c) c.index_mut.ensures.value
     _ _ _ c.lose_lone_below.ensures.paths c.lose_lone_below.ensures.trie c.lose_lone_below.ensures.room (told t c ∙ none)
 
@@ -161,7 +162,7 @@ returns-else-not-has_paths-clause-trie t c =
 
 pub returns-else-not-has_paths-clause-room : goal.returns-else-not-has_paths-clause-room
 returns-else-not-has_paths-clause-room t c k =
-    lose-back _ _ _ _ (next _ c.if-above-eq0.false) _ _ _ _ (returns-else-not-has_paths-clause-trie t c) _
+    lose-back _ _ _ _ _ (next _ c.if-above-eq0.false) _ _ _ _ (returns-else-not-has_paths-clause-trie t c) _
     (stays t (goal.at.returns-else-not-has_paths-clause-room t c).After-has_paths c.if-not-has_paths.false) k
 
 pub returns-then-not-has_paths-clause-paths : goal.returns-then-not-has_paths-clause-paths
@@ -179,6 +180,6 @@ returns-then-not-has_paths-clause-trie t c =
 pub returns-then-not-has_paths-clause-room : goal.returns-then-not-has_paths-clause-room
 returns-then-not-has_paths-clause-room t c k =
     let after = (goal.at.returns-then-not-has_paths-clause-room t c).After-has_paths in
-    absurd (lose-short _ _ _ _ (next _ c.if-above-eq0.false) _ c.lose_lone_below.new.children _ c.lose_lone_below.new.spare
+    absurd (lose-short _ _ _ _ _ (next _ c.if-above-eq0.false) _ c.lose_lone_below.new.children _ c.lose_lone_below.new.spare
     (returns-then-not-has_paths-clause-trie t c) _ _ _ _ c.remove.ensures.by_index.2 (goes t after c.if-not-has_paths.true)
     (fewer _ c.place_of-place.result _ (stands t after).within) k)

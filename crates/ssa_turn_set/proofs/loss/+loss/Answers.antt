@@ -1,26 +1,33 @@
-use Rattle.std.proofs.Common.{◌≡◌, ◌<◌, ◌∷◌, [], ◌&&◌, ℕ, List, Bool, true, false, true≢false, refl, ap, sym, ◌∙◌, subst, take, arith, rules}
+use Rattle.std.proofs.Common.{◌≡◌, ◌<◌, ◌∷◌, [], ◌&&◌, ℕ, List, Bool, true, false, Some, None, true≢false}
+use Rattle.std.proofs.Common.{refl, ap, sym, ◌∙◌, subst, take, arith, rules}
 use Rattle.std.proofs.lemmas.List.{take_all}
+use Rattle.std.proofs.lemmas.List.Elements.{All-cons, All-head, All-nil}
 use Rattle.std.specs.Int.{from_bool}
+use Rattle.std.specs.List.{All}
 use Rattle.std.specs.Prelude.{if◌then◌else◌, vec_capacity}
 use Rattle.ssa_path.specs.declared.element.Elem.{Elem}
 use Rattle.ssa_path.specs.declared.trie.Trie.{Trie, the_lemmas}
 use Rattle.ssa_path.specs.declared.trie.Trie.TheViews.{out-Trie}
+use Rattle.ssa_path.specs.Children.{child_at, IsChildAt}
 use Rattle.ssa_path.specs.Trie.{is_filled, is_trie, paths, paths_below}
 use Rattle.ssa_path.specs.View.{element_view}
 use Rattle.ssa_path.proofs.Levels.{trie-parts}
 use Rattle.ssa_path.proofs.Lists.{taken-at, child-trie, filled-at}
 use Rattle.ssa_path.proofs.LyingWithin.{AreWithin, within-all}
 use Rattle.ssa_path.proofs.Orders.{both_first, both_second}
+use Rattle.ssa_path.proofs.Searching.{child-found}
 use Rattle.ssa_model.specs.definitions.FieldsV1.{tails}
 use Rattle.ssa_turn_set.specs.Room.{children, fresh, goes, going, leaving, left, losses, lose_room}
+use Rattle.ssa_turn_set.proofs.Bare.{bare-paths, bare-trie}
 use Rattle.ssa_turn_set.proofs.Left.{going-one-more, loss-held, losses-more}
 use Rattle.ssa_turn_set.proofs.LossRecords.{has-more}
-use Rattle.ssa_turn_set.proofs.NewRooms.{alone}
+use Rattle.ssa_turn_set.proofs.NewRooms.{alone, found-child}
 use Rattle.ssa_turn_set.proofs.RoomsOfOne.{one-lost}
 use Rattle.ssa_turn_set.proofs.Staying.{leaving-one-more, left-fits}
 use Rattle.ssa_turn_set.proofs.Rooms.{each-out, nothing-out}
+use Rattle.ssa_turn_set.proofs.Tails.{paths_of, tails-below}
 use Rattle.ssa_turn_set.proofs.Telling.{fresh-most, goes-once, whole-gone}
-use Rattle.ssa_turn_set.proofs.loss.+loss.Goals.{make_one_loss-then-own, make_one_loss-else-own}
+use Rattle.ssa_turn_set.proofs.loss.+loss.Goals.{make_loss_at-then-own, make_loss_at-else-own}
 use Rattle.ssa_turn_set.proofs.loss.+loss.Goals as goal
 use Rattle.ssa_model.proofs.Basics.{not_true}
 
@@ -103,18 +110,22 @@ make_each_loss-goes_whole-requires-clause-gone t c =
 
 -- ---- one child
 
-pub make_one_loss-place_or-place-requires-clause-rise : goal.make_one_loss-place_or-place-requires-clause-rise
-make_one_loss-place_or-place-requires-clause-rise t c = (trie-parts c.args.own.now c.deref.result.now c.deref.ensures.value c.requires.own).0
+-- a place has the paths behind the element of this child
+abbrev IsPlaceOf : Trie → Trie → Elem × Trie → Type 0
+IsPlaceOf own place d = paths place ≡ tails (element_view d.0) (paths_below (children own))
+
+-- what is the place of each child that is lost is that of the one
+one-place : (lost own place : Trie) (d : Elem × Trie) → children lost ≡ d ∷ [] → All (IsPlaceOf own place) (children lost)
+    → IsPlaceOf own place d
+one-place lost own place d all at = All-head (IsPlaceOf own place) d [] (subst (All (IsPlaceOf own place)) all at)
 
 -- as many go whole as the one child tells
-one-leaves : (lost own place : Trie) (ds : List (Elem × Trie)) (d : Elem × Trie) (whole : Bool) (n : ℕ) → children lost ≡ d ∷ []
-    → is_trie own ≡ true → ds ≡ children own → paths place ≡ tails (element_view d.0) (paths_below ds)
+one-leaves : (lost own place : Trie) (d : Elem × Trie) (whole : Bool) (n : ℕ) → children lost ≡ d ∷ []
+    → is_trie own ≡ true → IsPlaceOf own place d
     → n ≡ (if is_filled place && whole then 1 else 0) → whole ≡ goes (paths place) (paths d.1) → n ≡ leaving (children lost) (children own)
-one-leaves lost own place ds d whole n all trie given at count told =
+one-leaves lost own place d whole n all trie at count told =
     let rest = trie-parts own (children own) refl trie in
-    let leaves = count
-    ∙ whole-gone (element_view d.0) (children own) place whole (paths d.1) rest.0 rest.1
-    (at ∙ ap (λ l. tails (element_view d.0) (paths_below l)) given) told in
+    let leaves = count ∙ whole-gone (element_view d.0) (children own) place whole (paths d.1) rest.0 rest.1 at told in
     let once : n ≡ leaving (d ∷ []) (children own) = omega arith in
     once ∙ ap (λ l. leaving l (children own)) (sym all)
 
@@ -122,27 +133,30 @@ told-once : (b : Bool) → 0 < from_bool b → b ≡ true
 told-once true some = refl
 told-once false some = absurd (omega arith)
 
-pub make_one_loss-goes_whole-requires-clause-gone : goal.make_one_loss-goes_whole-requires-clause-gone
-make_one_loss-goes_whole-requires-clause-gone t c =
+pub make_loss_at-goes_whole-requires-clause-gone : goal.make_loss_at-goes_whole-requires-clause-gone
+make_loss_at-goes_whole-requires-clause-gone t c =
     let d = c.index-child.result.now in
-    one-leaves c.args.lost.now c.args.own.now c.place_or-place.result.now _ d _ _ (alone _ d c.requires.one c.index-child.ensures) c.requires.own
-    c.deref.ensures.value c.place_or-place.ensures.paths c.count_whole-leaving.ensures.one c.in_ok-child_has_all.ensures.goes
+    let place = c.args.place.now in
+    let all = alone _ d c.requires.one c.index-child.ensures in
+    let behind = one-place c.args.lost.now c.args.own.now place d all c.requires.place in
+    one-leaves c.args.lost.now c.args.own.now place d _ _ all c.requires.own behind
+    c.count_whole-leaving.ensures.one c.in_ok-child_has_all.ensures.goes
 
-pub make_one_loss-returns-clause-room : goal.make_one_loss-returns-clause-room
-make_one_loss-returns-clause-room t c =
+pub make_loss_at-returns-clause-room : goal.make_loss_at-returns-clause-room
+make_loss_at-returns-clause-room t c =
     let d = c.index-child.result.now in
-    let place = c.place_or-place.result.now in
+    let place = c.args.place.now in
     let whole = c.in_ok-child_has_all.goes in
     let ps = paths_below (children c.args.own.now) in
     let all : children c.args.lost.now ≡ d ∷ [] = alone _ d c.requires.one c.index-child.ensures in
-    let behind = c.place_or-place.ensures.paths ∙ ap (λ l. tails (element_view d.0) (paths_below l)) c.deref.ensures.value in
+    let behind = one-place c.args.lost.now c.args.own.now place d all c.requires.place in
     let one : from_bool whole ≡ fresh (left (tails (element_view d.0) ps) (paths d.1)) =
     goes-once _ (paths place) (paths d.1) c.in_ok-child_has_all.ensures.goes ∙ ap (λ l. fresh (left l (paths d.1))) behind in
     let count : from_bool whole ≡ going (d ∷ []) ps = omega arith in
     let counted : from_bool whole ≡ going (children c.args.lost.now) ps = count ∙ ap (λ l. going l ps) (sym all) in
     let gone : c.count_whole-leaving.result ≡ leaving (children c.args.lost.now) (children c.args.own.now) =
-    one-leaves c.args.lost.now c.args.own.now place _ d _ _ all c.requires.own
-    c.deref.ensures.value c.place_or-place.ensures.paths c.count_whole-leaving.ensures.one c.in_ok-child_has_all.ensures.goes in
+    one-leaves c.args.lost.now c.args.own.now place d _ _ all c.requires.own behind
+    c.count_whole-leaving.ensures.one c.in_ok-child_has_all.ensures.goes in
     let own = (out-Trie c.args.own.now).below.ok.0 in
     let len = c.len.ensures in
     let made = c.in_ok-put_loss_above.ensures in
@@ -152,22 +166,80 @@ make_one_loss-returns-clause-room t c =
     (λ some. let fits = made.fits (told-once whole (subst (λ n. 0 < n) (sym counted) lt)) (omega arith) in omega arith))
     (ap (λ l. lose_room d.1 (left l (paths d.1)) c.make_place_loss.new.room) (sym behind) ∙ c.in_ok-child_has_all.ensures.room)
 
-pub make_one_loss-returns-clause-all : goal.make_one_loss-returns-clause-all
-make_one_loss-returns-clause-all t c has =
+pub make_loss_at-returns-clause-all : goal.make_loss_at-returns-clause-all
+make_loss_at-returns-clause-all t c has =
     let d = c.index-child.result.now in
     let cs = children c.args.lost.now in
     let ds = children c.args.own.now in
+    let place = c.args.place.now in
     let own = trie-parts c.args.own.now ds refl c.requires.own in
     let tries = (trie-parts c.args.lost.now cs refl c.requires.lost).1 in
-    let behind = c.place_or-place.ensures.paths ∙ ap (λ l. tails (element_view d.0) (paths_below l)) c.deref.ensures.value in
+    let all = alone cs d c.requires.one c.index-child.ensures in
+    let behind = one-place c.args.lost.now c.args.own.now place d all c.requires.place in
     let long = c.requires.one in
     let filled = both_second (is_trie d.1) _ (filled-at cs 0 d (omega arith) c.index-child.ensures tries) in
     let here : (out-Trie c.args.lost.now).here ≡ true → (out-Trie c.args.own.now).here ≡ true =
     elim c.if-own.branch [
-      | make_one_loss-then-own w ↦ λ k. w.if-own.true
-      | make_one_loss-else-own w ↦ λ k. absurd (true≢false (sym k ∙ not_true _ (sym w.has_all-is ∙ both_first _ _ has)))
+      | make_loss_at-then-own w ↦ λ k. w.if-own.true
+      | make_loss_at-else-own w ↦ λ k. absurd (true≢false (sym k ∙ not_true _ (sym w.has_all-is ∙ both_first _ _ has)))
     ] in
     within-all c.args.lost.now c.args.own.now cs ds refl refl here
     (subst (λ l. AreWithin l ds) (take_all 1 cs (omega arith))
-    (has-more cs ds 0 d (paths c.place_or-place.result.now) (omega arith) c.index-child.ensures own.0 filled behind
+    (has-more cs ds 0 d (paths place) (omega arith) c.index-child.ensures own.0 filled behind
     (c.in_ok-child_has_all.ensures.all (both_second c.if-own.has_all _ has)) (λ e p k. absurd (true≢false (sym k)))))
+
+-- ---- the place of the one child
+
+pub make_one_loss-find_lost-requires : goal.make_one_loss-find_lost-requires
+make_one_loss-find_lost-requires t c = (trie-parts c.args.own.now c.deref.result.now c.deref.ensures.value c.requires.own).0
+
+-- what is told of the one child that is lost is told of each
+each-alone : (P : Elem × Trie → Type 0) (ds : List (Elem × Trie)) (d : Elem × Trie) → ds ≡ d ∷ [] → P d → All P ds
+each-alone P ds d all held = subst (All P) (sym all) (All-cons P d [] held (All-nil P))
+
+pub make_one_loss-make_loss_at-requires : goal.make_one_loss-make_loss_at-requires
+make_one_loss-make_loss_at-requires t c =
+    let d = c.index.result.now in
+    let e = element_view d.0 in
+    let own = c.args.own.now in
+    let parts = trie-parts own (children own) refl c.requires.own in
+    let child = c.index-in-Some.result.now in
+    let found : IsChildAt e (children own) c.in-Some.place = rw c.deref.ensures.value at c.in-Some.ensures.some in
+    let at : child_at e (children own) ≡ Some child.1 =
+    child-found e (children own) c.in-Some.place child parts.0 found.within (found.same child)
+    ∙ ap (λ (x : Elem × Trie). Some x.1) (sym c.index-in-Some.ensures) in
+    let behind : IsPlaceOf own child.1 d = sym (tails-below e (children own) parts.0 ∙ ap paths_of at) in
+    let each = each-alone (IsPlaceOf own child.1) (children c.args.lost.now) d (alone _ d c.requires.one c.index.ensures) behind in
+    let trie = both_first (is_trie child.1) _ (found-child e (children own) child.1 parts.1 at) in
+    (search (rules, the_lemmas), (c.requires.lost, (c.requires.own, (c.requires.one, (each, (trie, c.requires.nothing))))))
+
+pub make_one_loss-make_absent_loss-requires : goal.make_one_loss-make_absent_loss-requires
+make_one_loss-make_absent_loss-requires t c =
+    let d = c.index.result.now in
+    let own = c.args.own.now in
+    let at : child_at (element_view d.0) (children own) ≡ None =
+    ap (child_at (element_view d.0)) (sym c.deref.ensures.value) ∙ c.in-None.ensures.none in
+    let each = each-alone (λ x. child_at (element_view x.0) (children own) ≡ None) (children c.args.lost.now) d
+    (alone _ d c.requires.one c.index.ensures) at in
+    (search (rules, the_lemmas), (c.requires.lost, (c.requires.own, (c.requires.one, (each, c.requires.nothing)))))
+
+pub make_absent_loss-make_loss_at-requires : goal.make_absent_loss-make_loss_at-requires
+make_absent_loss-make_loss_at-requires t c =
+    let ds = children c.args.own.now in
+    let rise = (trie-parts c.args.own.now ds refl c.requires.own).0 in (
+      search (rules, the_lemmas),
+      (
+        c.requires.lost,
+        (
+          c.requires.own,
+          (
+            c.requires.one,
+            (
+              λ k d lt. bare-paths _ (record { here = refl; below = c.new.ensures.items })
+                  ∙ sym (tails-below _ ds rise ∙ ap paths_of (c.requires.absent k d lt)),
+              (bare-trie _ (record { here = refl; below = c.new.ensures.items }), c.requires.nothing),
+            ),
+          ),
+        ),
+      ),
+    )

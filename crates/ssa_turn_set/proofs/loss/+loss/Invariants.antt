@@ -16,11 +16,18 @@ invariant-make_each_loss-loop-child l = record {
   all : l.has_all ≡ true → AreWithin (take l.child-index l.child-items) (out-Trie l.own).below.items;
 }
 
+-- three functions pass the same paths on, so each step from one of them to another counts as well
 abbrev pub decreases-make_place_loss : goal.decreases-make_place_loss
-decreases-make_place_loss l = 2 * goal.size-make_place_loss l + 1
+decreases-make_place_loss l = 4 * goal.size-make_place_loss l + 3
 
 abbrev pub decreases-make_one_loss : goal.decreases-make_one_loss
-decreases-make_one_loss l = 2 * goal.size-make_one_loss l
+decreases-make_one_loss l = 4 * goal.size-make_one_loss l + 2
+
+abbrev pub decreases-make_absent_loss : goal.decreases-make_absent_loss
+decreases-make_absent_loss l = 4 * goal.size-make_absent_loss l + 1
+
+abbrev pub decreases-make_loss_at : goal.decreases-make_loss_at
+decreases-make_loss_at l = 4 * goal.size-make_loss_at l
 
 abbrev pub decreases-make_each_loss : goal.decreases-make_each_loss
-decreases-make_each_loss l = 2 * goal.size-make_each_loss l
+decreases-make_each_loss l = 4 * goal.size-make_each_loss l

@@ -1,10 +1,10 @@
 use Rattle.std.proofs.Common.{◌≡◌, ◌+◌, ◌<◌, true, length, get_or, refl, ap, sym, ◌∙◌, subst, arith}
 use Rattle.std.specs.Prelude.{vec_len}
 use Rattle.ssa_merge.specs.Managers.{key_view, entry_view}
-use Rattle.ssa_path.proofs.Lists.{left-at, taken-at}
+use Rattle.ssa_path.proofs.Lists.{left-at, same-at, taken-at}
 use Rattle.ssa_turn_table.specs.Tables.{keys_view}
 use Rattle.ssa_turn_table.specs.Going.{AllKeysAgree, is_first_key}
-use Rattle.ssa_turn_table.proofs.Taking.{taking_passes, taking_takes, taking_same, keys-push, first-key, same-at}
+use Rattle.ssa_turn_table.proofs.Taking.{taking_passes, taking_takes, taking_same, keys-push, first-key}
 use Rattle.ssa_turn_table.proofs.going.take_gone.Goals as goal
 
 pub loop-i-preserved-then-is_first_gone : goal.loop-i-preserved-then-is_first_gone
