@@ -20,9 +20,10 @@ pub fn lies_within(own: &Trie, other: &Trie) -> bool
     lies_within_near(own, other, &mut 0)
 }
 
-// The other trie's child of a child's element. One with nothing below it is looked for first at `near`.
+/// The other trie's child of a child's element. Where nothing is below the child, it is looked for first at `near`, as
+/// [`find_child_near`] does.
 #[inline(always)]
-fn counterpart<'a>(
+pub fn counterpart<'a>(
     others: &'a [(Elem, Trie)],
     child: &(Elem, Trie),
     near: &mut usize,

@@ -1,10 +1,10 @@
 //! The record of a set that loses some of its paths, with its room.
-ghost use Rattle.std.specs.Prelude.{◌≡◌, ◌≤◌, ◌<◌, ◌∷◌, ◌&&◌, if◌then◌else◌, List, [], length, true, None, IfNone, IfOk, IfSome};
+ghost use Rattle.std.specs.Prelude.{◌≡◌, ◌≤◌, ◌<◌, ◌∷◌, ◌&&◌, if◌then◌else◌, List, [], length, true, None, IfOk};
 ghost use Rattle.std.specs.List.{All};
 ghost use Rattle.ssa_model.specs.definitions.FieldsV1.{tails};
 ghost use Rattle.ssa_model.specs.definitions.Path.{Path};
 ghost use Rattle.ssa_model.specs.definitions.PathMap.{minus};
-ghost use Rattle.ssa_path.specs.Children.{child_at, elements, rises, IsChildAt};
+ghost use Rattle.ssa_path.specs.Children.{child_at, elements, rises};
 ghost use Rattle.ssa_path.specs.Combine.{IsCombination};
 ghost use Rattle.ssa_path.specs.Trie.{are_filled_tries, is_filled, is_trie, paths, paths_below, IsWithin};
 ghost use Rattle.ssa_path.specs.View.{element_view};
@@ -19,12 +19,13 @@ use crate::making::{combine_exactly, lower_lone, make_children, put_above};
 use crate::room::Room;
 use crate::spare::Spare;
 use crate::turn::{SetDelta, SetRoom};
-use ssa_path::children::{find, find_child, find_near};
+use ssa_path::children::find_child;
 use ssa_path::combine::Combination;
 use ssa_path::element::Elem;
 use ssa_path::field_set::FieldSet;
 use ssa_path::shared_set::SharedSet;
 use ssa_path::trie::Trie;
+use ssa_path::within::counterpart;
 use std::alloc::{AllocError, Global};
 use std::rc::Rc;
 
@@ -166,20 +167,6 @@ fn make_absent_loss(
     make_loss_at(alloc, lost, own, &bare, room, near)
 }
 
-// The place of the lost child's element. One below which nothing is lost is looked for first at `near`.
-#[inline(always)]
-fn find_lost(own: &[(Elem, Trie)], lost: &(Elem, Trie), near: &mut usize) -> Option<usize>
-    requires { rises (elements own.now) ≡ true }
-    ensures some { IfSome result (IsChildAt (element_view lost.now.0) own.now) }
-    ensures none { IfNone result (child_at (element_view lost.now.0) own.now ≡ None) }
-{
-    if lost.1.below.is_empty() {
-        find_near(own, &lost.0, near)
-    } else {
-        find(own, &lost.0)
-    }
-}
-
 // The same as `make_place_loss` tells, where one child is lost.
 #[cycle(loss)]
 #[inline(never)]
@@ -198,8 +185,8 @@ fn make_one_loss(
     ensures all { IfOk result (λ l. l.0 ≡ true → IsWithin (paths lost.now) (paths own.now)) }
     ensures goes { IfOk result (λ l. l.1 ≡ goes (paths own.now) (paths lost.now)) }
 {
-    match find_lost(&own.below, &lost.below[0], near) {
-        Some(place) => make_loss_at(alloc, lost, own, &own.below[place].1, room, near),
+    match counterpart(&own.below, &lost.below[0], near) {
+        Some(place) => make_loss_at(alloc, lost, own, place, room, near),
         None => make_absent_loss(alloc, lost, own, room, near),
     }
 }

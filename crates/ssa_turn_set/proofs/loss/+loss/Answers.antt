@@ -4,18 +4,18 @@ use Rattle.std.proofs.lemmas.List.{take_all}
 use Rattle.std.proofs.lemmas.List.Elements.{All-cons, All-head, All-nil}
 use Rattle.std.specs.Int.{from_bool}
 use Rattle.std.specs.List.{All}
+use Rattle.std.specs.Option.{option_copied}
 use Rattle.std.specs.Prelude.{if◌then◌else◌, vec_capacity}
 use Rattle.ssa_path.specs.declared.element.Elem.{Elem}
 use Rattle.ssa_path.specs.declared.trie.Trie.{Trie, the_lemmas}
 use Rattle.ssa_path.specs.declared.trie.Trie.TheViews.{out-Trie}
-use Rattle.ssa_path.specs.Children.{child_at, IsChildAt}
+use Rattle.ssa_path.specs.Children.{child_at}
 use Rattle.ssa_path.specs.Trie.{is_filled, is_trie, paths, paths_below}
 use Rattle.ssa_path.specs.View.{element_view}
 use Rattle.ssa_path.proofs.Levels.{trie-parts}
 use Rattle.ssa_path.proofs.Lists.{taken-at, child-trie, filled-at}
 use Rattle.ssa_path.proofs.LyingWithin.{AreWithin, within-all}
 use Rattle.ssa_path.proofs.Orders.{both_first, both_second}
-use Rattle.ssa_path.proofs.Searching.{child-found}
 use Rattle.ssa_model.specs.definitions.FieldsV1.{tails}
 use Rattle.ssa_turn_set.specs.Room.{children, fresh, goes, going, leaving, left, losses, lose_room}
 use Rattle.ssa_turn_set.proofs.Bare.{bare-paths, bare-trie}
@@ -190,8 +190,8 @@ make_loss_at-returns-clause-all t c has =
 
 -- ---- the place of the one child
 
-pub make_one_loss-find_lost-requires : goal.make_one_loss-find_lost-requires
-make_one_loss-find_lost-requires t c = (trie-parts c.args.own.now c.deref.result.now c.deref.ensures.value c.requires.own).0
+pub make_one_loss-counterpart-requires : goal.make_one_loss-counterpart-requires
+make_one_loss-counterpart-requires t c = (trie-parts c.args.own.now c.deref.result.now c.deref.ensures.value c.requires.own).0
 
 -- what is told of the one child that is lost is told of each
 each-alone : (P : Elem × Trie → Type 0) (ds : List (Elem × Trie)) (d : Elem × Trie) → ds ≡ d ∷ [] → P d → All P ds
@@ -202,15 +202,13 @@ make_one_loss-make_loss_at-requires t c =
     let d = c.index.result.now in
     let e = element_view d.0 in
     let own = c.args.own.now in
+    let place = c.in-Some.place.now in
     let parts = trie-parts own (children own) refl c.requires.own in
-    let child = c.index-in-Some.result.now in
-    let found : IsChildAt e (children own) c.in-Some.place = rw c.deref.ensures.value at c.in-Some.ensures.some in
-    let at : child_at e (children own) ≡ Some child.1 =
-    child-found e (children own) c.in-Some.place child parts.0 found.within (found.same child)
-    ∙ ap (λ (x : Elem × Trie). Some x.1) (sym c.index-in-Some.ensures) in
-    let behind : IsPlaceOf own child.1 d = sym (tails-below e (children own) parts.0 ∙ ap paths_of at) in
-    let each = each-alone (IsPlaceOf own child.1) (children c.args.lost.now) d (alone _ d c.requires.one c.index.ensures) behind in
-    let trie = both_first (is_trie child.1) _ (found-child e (children own) child.1 parts.1 at) in
+    let at : child_at e (children own) ≡ Some place =
+    ap (child_at e) (sym c.deref.ensures.value) ∙ sym c.counterpart.ensures ∙ ap option_copied c.in-Some.is in
+    let behind : IsPlaceOf own place d = sym (tails-below e (children own) parts.0 ∙ ap paths_of at) in
+    let each = each-alone (IsPlaceOf own place) (children c.args.lost.now) d (alone _ d c.requires.one c.index.ensures) behind in
+    let trie = both_first (is_trie place) _ (found-child e (children own) place parts.1 at) in
     (search (rules, the_lemmas), (c.requires.lost, (c.requires.own, (c.requires.one, (each, (trie, c.requires.nothing))))))
 
 pub make_one_loss-make_absent_loss-requires : goal.make_one_loss-make_absent_loss-requires
@@ -218,7 +216,7 @@ make_one_loss-make_absent_loss-requires t c =
     let d = c.index.result.now in
     let own = c.args.own.now in
     let at : child_at (element_view d.0) (children own) ≡ None =
-    ap (child_at (element_view d.0)) (sym c.deref.ensures.value) ∙ c.in-None.ensures.none in
+    ap (child_at (element_view d.0)) (sym c.deref.ensures.value) ∙ sym c.counterpart.ensures ∙ ap option_copied c.in-None.is in
     let each = each-alone (λ x. child_at (element_view x.0) (children own) ≡ None) (children c.args.lost.now) d
     (alone _ d c.requires.one c.index.ensures) at in
     (search (rules, the_lemmas), (c.requires.lost, (c.requires.own, (c.requires.one, (each, c.requires.nothing)))))
