@@ -5,7 +5,7 @@ use Rattle.ssa_model.specs.definitions.Path.{Element, Path, same_path}
 use Rattle.ssa_model.specs.definitions.PathMap.{PathSet, empty, get, has, paths as set_paths, listed}
 use Rattle.ssa_model.specs.definitions.Body.{Body, Content, leaf, atom, record_branch, dict_branch, list_branch, is_other_leaf, points, added, modified, removed}
 use Rattle.ssa_model.proofs.PathMaps.{has-paths, has-set_of, same_sets}
-use Rattle.ssa_path.specs.Children.{elements, heads_order, is_below}
+use Rattle.ssa_path.specs.Children.{elements, heads_order, is_below, rises}
 use Rattle.ssa_path.specs.declared.element.Elem.{Elem}
 use Rattle.ssa_path.specs.declared.trie.Trie.{Trie}
 use Rattle.ssa_path.specs.declared.trie.Trie.TheOpen.{Trie-F}
@@ -27,7 +27,7 @@ use Rattle.ssa_typed.specs.declared.points.Collected.TheVariants.{Points}
 use Rattle.ssa_typed.proofs.Collecting.{point-level}
 use Rattle.ssa_typed.proofs.Lookups.{content-level, content-root}
 use Rattle.ssa_typed.proofs.Looks.{get-body}
-use Rattle.ssa_typed.proofs.Making.{TellsNothing, IsMaking, making-all, making-more, making-skip, front-own, front-other, front-both}
+use Rattle.ssa_typed.proofs.Making.{TellsNothing, IsMaking, making-all, making-none, making-more, making-skip, front-own, front-other, front-both}
 use Rattle.ssa_typed.proofs.References.{left-read}
 use Rattle.ssa_typed.proofs.Repeating.{RepeatChildren, repeat-past-both, repeat-past-lost}
 use Rattle.ssa_typed.proofs.Stands.{points-body}
@@ -275,6 +275,16 @@ past-all scope d cs0 ds0 n m cs ds v is own other none_own none_other h = record
   added_below = comparing-all Added d cs0 ds0 n m cs ds v.added.items is own other none_own none_other h.added_so_far;
   modified_below = comparing-all Modified d cs0 ds0 n m cs ds v.modified.items is own other none_own none_other h.modified_so_far;
   removed_below = comparing-all (Removed scope) d cs0 ds0 n m cs ds v.removed.items is own other none_own none_other h.removed_so_far;
+}
+
+-- before the walk nothing is told of any child
+pub past-none : (scope : Scope) (d : Bool) (cs ds : List (Elem × Node)) (v : PartsBelow) → v.added.items ≡ [] → v.modified.items ≡ [] → v.removed.items ≡ []
+    → rises (elements cs) ≡ true → rises (elements ds) ≡ true → AreComparing scope d cs ds cs ds v
+past-none scope d cs ds v added_none modified_none removed_none own_rise others_rise = record {
+  added_so_far = rw added_none (making-none (differs Added d) cs ds own_rise others_rise);
+  modified_so_far = rw modified_none (making-none (differs Modified d) cs ds own_rise others_rise);
+  removed_so_far = rw removed_none (making-none (differs (Removed scope) d) cs ds own_rise others_rise);
+  repeats_so_far = λ all rest. rest;
 }
 
 -- ---- THE BRIDGE: the comparison of the bodies that the trees stand for

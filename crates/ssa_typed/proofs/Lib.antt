@@ -7,6 +7,7 @@ pub mod Copying
 pub mod Counting
 pub mod Cutting
 pub mod Differing
+pub mod DifferingAlike
 pub mod DifferingLeaves
 pub mod EmptyMetadata
 pub mod FallenChildren

@@ -1,8 +1,8 @@
 //! What one body has otherwise than another that comes before it.
-ghost use Rattle.std.specs.Prelude.{◌≡◌, ◌&&◌, true, not, drop, Some, IfOk, OnOk};
+ghost use Rattle.std.specs.Prelude.{◌≡◌, ◌&&◌, true, not, drop, [], Some, IfOk, OnOk};
 ghost use Rattle.ssa_model.specs.definitions.Body.{Body, is_leaf, is_other_leaf};
 ghost use Rattle.ssa_model.specs.definitions.PathMap.{is_empty};
-ghost use Rattle.ssa_path.specs.Children.{heads_order};
+ghost use Rattle.ssa_path.specs.Children.{elements, heads_order, rises};
 ghost use Rattle.ssa_path.specs.Combine.{IsGrown};
 ghost use Rattle.ssa_path.specs.Trie.{is_trie};
 ghost use Rattle.ssa_path.specs.View.{element_view};
@@ -14,6 +14,7 @@ ghost use Rattle.ssa_typed.specs.Ordered.{lent_children};
 ghost use Rattle.ssa_typed.specs.Over.{HaveOver, IsOver};
 ghost use Rattle.ssa_typed.specs.Rows.{below, is_tree, leaf_content, own_content};
 
+use crate::in_order::stand_alike;
 use crate::node::{Leaf, Node};
 use crate::ordered::Ordered;
 use crate::points::{Collected, collect_child};
@@ -81,6 +82,24 @@ struct PartsBelow {
     modified: Vec<(Elem, Trie)>,
     removed: Vec<(Elem, Trie)>,
     repeats: bool,
+}
+
+impl PartsBelow {
+    // What is told of no children.
+    #[inline(always)]
+    fn of_none(alloc: Global) -> PartsBelow
+        ensures added { result.added.items ≡ [] }
+        ensures modified { result.modified.items ≡ [] }
+        ensures removed { result.removed.items ≡ [] }
+        ensures repeats { result.repeats ≡ true }
+    {
+        PartsBelow {
+            added: Vec::new(alloc),
+            modified: Vec::new(alloc),
+            removed: Vec::new(alloc),
+            repeats: true,
+        }
+    }
 }
 
 impl Leaf {
@@ -244,8 +263,8 @@ fn push_leaf(
     Ok(())
 }
 
-// Adds what differs in a child that both trees have. Most are the same, for which nothing is made ready;
-// leaves, as most are, are compared here, with no call.
+// Adds what differs in a child that both trees have. Leaves, as most are, are compared here, with no
+// call; for what is plainly the same nothing is made ready.
 #[cycle(differing)]
 #[inline(always)]
 fn push_differing(
@@ -270,7 +289,7 @@ fn push_differing(
     Ok(())
 }
 
-// Adds what differs in a child that both trees have and that mostly is another one.
+// Adds what differs in a child that both trees have, by a walk below it.
 #[cycle(differing)]
 #[inline(always)]
 fn push_parts(
@@ -293,9 +312,10 @@ fn push_parts(
     Ok(())
 }
 
-// What differs below two nodes.
+// What differs below two nodes, found by one walk over the children of both in the order of their
+// elements.
 #[cycle(differing)]
-fn differing_below(
+fn differing_beside(
     alloc: Global,
     scope: Scope,
     before: &Node,
@@ -310,12 +330,7 @@ fn differing_below(
     let others = &after.ordered(alloc)?;
     let in_dict = after.is_dict();
     let (mut i, mut j) = (0, 0);
-    let mut told = PartsBelow {
-        added: Vec::new(alloc),
-        modified: Vec::new(alloc),
-        removed: Vec::new(alloc),
-        repeats: true,
-    };
+    let mut told = PartsBelow::of_none(alloc);
     while let Some(order) = order_at(own, i, others, j) {
         match order {
             Ordering::Less => {
@@ -341,6 +356,66 @@ fn differing_below(
         }
     }
     Ok(told)
+}
+
+// Whether both nodes have children of the same elements, which stand in the order of these.
+#[inline(always)]
+fn stand_in_order_alike(before: &Node, after: &Node) -> bool
+    requires { is_tree before.now ≡ true }
+    ensures same { result ≡ true → elements (below before.now) ≡ elements (below after.now) }
+    ensures rise { result ≡ true → rises (elements (below before.now)) ≡ true }
+{
+    match before {
+        Node::Branch(own) => stand_alike(own, after.children()),
+        Node::Dict(own) => stand_alike(own, after.children()),
+        Node::Leaf(_) => false,
+        Node::List(_) => false,
+    }
+}
+
+// What differs below two nodes with children of the same elements, which stand in the order of these:
+// each child and the one beside it are compared, and no elements.
+#[cycle(differing)]
+fn differing_alike(
+    alloc: Global,
+    scope: Scope,
+    before: &Node,
+    after: &Node,
+) -> Result<PartsBelow, AllocError>
+    requires before { is_tree before.now ≡ true }
+    requires after { is_tree after.now ≡ true }
+    requires same { elements (below before.now) ≡ elements (below after.now) }
+    requires rise { rises (elements (below before.now)) ≡ true }
+    ensures told { IfOk result (λ v. AreDiffering scope before.now after.now v) }
+    ensures repeats { IfOk result (λ v. v.repeats ≡ true → HaveOver (below before.now) (below after.now) (below before.now)) }
+{
+    let (own, others) = (before.children(), after.children());
+    let mut told = PartsBelow::of_none(alloc);
+    for (i, child) in own.iter().enumerate() {
+        push_differing(alloc, scope, &mut told, child, &others[i].1)?;
+    }
+    Ok(told)
+}
+
+// What differs below two nodes. Records and Dicts mostly have children of the same elements, whose
+// orders are not compared.
+#[cycle(differing)]
+#[inline(always)]
+fn differing_below(
+    alloc: Global,
+    scope: Scope,
+    before: &Node,
+    after: &Node,
+) -> Result<PartsBelow, AllocError>
+    requires before { is_tree before.now ≡ true }
+    requires after { is_tree after.now ≡ true }
+    ensures told { IfOk result (λ v. AreDiffering scope before.now after.now v) }
+    ensures repeats { IfOk result (λ v. v.repeats ≡ true → HaveOver (below before.now) (below after.now) (below before.now)) }
+{
+    if stand_in_order_alike(before, after) {
+        return differing_alike(alloc, scope, before, after);
+    }
+    differing_beside(alloc, scope, before, after)
 }
 
 // What differs between two trees, found by one walk over both.

@@ -7,6 +7,9 @@ ghost use Rattle.ssa_typed.specs.Same.{AreSame};
 use crate::in_order::stand_alike;
 use crate::node::{Leaf, Node};
 
+// Of so many entries it is asked whether they are the same leaves before they are compared.
+const FEW_ENTRIES: usize = 4;
+
 impl Leaf {
     // Whether both leaves have the same contents.
     #[inline(always)]
@@ -70,8 +73,38 @@ impl Node {
         true
     }
 
-    // Whether both trees are one, asked of no records: their fields are compared one by one anyway.
-    // Leaves, the items of a list and the entries of a Dict are mostly unchanged.
+    // Whether both are leaves with the same contents.
+    #[inline(always)]
+    fn is_same_leaf(&self, other: &Node) -> bool
+        ensures { result ≡ true → AreSame self.now other.now }
+    {
+        match (self, other) {
+            (Node::Leaf(leaf), Node::Leaf(other)) => leaf.is_same(other),
+            _ => false,
+        }
+    }
+
+    // Whether the tree is the other and has nothing but leaves below it. Looks at the children alone.
+    fn has_same_leaves(&self, other: &Node) -> bool
+        requires own { is_tree self.now ≡ true }
+        requires other { is_tree other.now ≡ true }
+        ensures { result ≡ true → AreSame self.now other.now }
+    {
+        if !self.is_alike(other) {
+            return false;
+        }
+        let (own, others) = (self.children(), other.children());
+        for (i, child) in own.iter().enumerate() {
+            if !child.1.is_same_leaf(&others[i].1) {
+                return false;
+            }
+        }
+        true
+    }
+
+    // Whether both trees are one, asked of leaves, of lists, whose items would have to be sorted, and
+    // of Dicts with few entries that are leaves. All else is compared child by child anyway: a walk of
+    // what stands below it would be made again at each level.
     pub(crate) fn is_plainly_same(&self, after: &Node) -> bool
         requires before { is_tree self.now ≡ true }
         requires after { is_tree after.now ≡ true }
@@ -79,6 +112,7 @@ impl Node {
     {
         match after {
             Node::Branch(_) => false,
+            Node::Dict(entries) => entries.len() <= FEW_ENTRIES && self.has_same_leaves(after),
             _ => self.is_same(after),
         }
     }
