@@ -23,6 +23,10 @@ pub mod schema;
 
 pub use body_fault::BodyFault;
 pub use fault::SchemaFault;
+pub use fit::faults::value_fault;
+pub use fit::found::{Found, Misfit};
+pub use fit::names::field_name;
+pub use fit::shape_misfit::scalar_misfit;
 pub use fitting::fits;
 pub use kind::{Kind, ScalarKind, Shape};
 pub use schema::Schema;

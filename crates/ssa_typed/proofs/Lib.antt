@@ -45,6 +45,7 @@ pub mod Sizes
 pub mod SortedOut
 pub mod Sorting
 pub mod Stands
+pub mod Testing
 pub mod TreeRows
 pub mod Trees
 pub mod Unchanged

@@ -20,6 +20,7 @@ pub mod Reads
 pub mod Restricted
 pub mod Rows
 pub mod Same
+pub mod Tested
 pub mod Values
 pub mod Without
 pub mod Keyed

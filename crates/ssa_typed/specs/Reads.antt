@@ -6,6 +6,7 @@ use Rattle.ssa_model.specs.definitions.Kind.{Kind, faults}
 use Rattle.ssa_model.specs.definitions.PathMap.{from_entries, size}
 use Rattle.ssa_model.specs.definitions.Fitting.{IsBodyOf}
 use Rattle.ssa_model.specs.definitions.Operations.{is_none}
+use Rattle.ssa_model.specs.definitions.Valid.{IsRooted}
 use Rattle.ssa_typed.specs.Rows.{body_of, is_tree}
 use Rattle.ssa_typed.specs.declared.node.Node.{Node}
 use Rattle.ssa_model.specs.definitions.Body as model
@@ -21,6 +22,12 @@ ReadsBody (Ok b) k v = (faults k v [] ≡ []) × ((b ≡ flat k v) × (size b �
 ReadsBody (Err (Body f)) k v = Some (told_view f) ≡ option_map told (first_of (faults k v []))
 ReadsBody (Err TooManyPaths) k v = (faults k v [] ≡ []) × (most_places < size (flat k v))
 ReadsBody (Err OutOfMemory) k v = Unit {0}
+
+-- The body of a value that fits the root's kind.
+pub record IsBodyRead (k : Kind) (v : Json) (b : model.Body) : Type 0 where
+  pub exact : b ≡ flat k v
+  pub fits : IsBodyOf k b
+  pub rooted : IsRooted b
 
 -- The value fits the kind, and the tree has its places and is of a body of the kind; or it doesn't fit.
 pub record IsTreeRead (k : Kind) (v : Json) (n : Node) : Type 0 where

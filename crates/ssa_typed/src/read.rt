@@ -1,41 +1,40 @@
 //! Bodies of values.
 ghost use Rattle.std.specs.Prelude.{◌≡◌, true, IfOk};
-ghost use Rattle.ssa_model.specs.definitions.Body.{flat};
+ghost use Rattle.ssa_model.specs.definitions.Kind.{faults};
 ghost use Rattle.ssa_model.specs.definitions.Fitting.{IsBodyOf};
 ghost use Rattle.ssa_json.specs.View.{view};
 ghost use Rattle.ssa_schema.specs.Kinds.{kind_view};
 ghost use Rattle.ssa_model.specs.definitions.Lawful.{has_metadata, is_root_kind};
 ghost use Rattle.ssa_model.specs.definitions.Valid.{IsRooted};
-ghost use Rattle.ssa_model.specs.laws.Faultless.{Fits};
-ghost use Rattle.ssa_typed.specs.Reads.{ReadsBody};
+ghost use Rattle.ssa_typed.specs.Reads.{IsBodyRead, ReadsBody};
+ghost use Rattle.ssa_typed.specs.Tested.{IsTested};
 
 use crate::body::{Body, MOST_PLACES};
-use crate::build::field_children;
 use crate::fault::TypedFault;
 use crate::metadata::without_empty_metadata;
 use crate::node::Node;
-use crate::parts::into_members;
+use crate::tested::{Tested, tested_fields};
 use ssa_json::value::Json;
 use ssa_schema::kind::Kind;
 use ssa_schema::schema::Schema;
+use ssa_schema::{Found, Misfit};
 use std::alloc::{AllocError, Global};
 
-// The body of a value that fits a root's kind.
-fn body_of(alloc: Global, kind: &Kind, value: Json) -> Result<Body, AllocError>
+// The body of a value under a root's kind, or the value's first fault.
+fn tested_body(alloc: Global, kind: &Kind, value: Json) -> Result<Tested<Body>, AllocError>
     requires root { is_root_kind (kind_view kind.now) ≡ true }
     requires metadata { has_metadata (kind_view kind.now) ≡ true }
-    requires fits { Fits (kind_view kind.now) (view value) }
-    ensures exact { IfOk result (λ b. b ≡ flat (kind_view kind.now) (view value)) }
-    ensures fits { IfOk result (λ b. IsBodyOf (kind_view kind.now) b) }
-    ensures rooted { IfOk result (λ b. IsRooted b) }
+    ensures { IfOk result (λ t. IsTested (faults (kind_view kind.now) (view value)) (IsBodyRead (kind_view kind.now) (view value)) t) }
 {
-    match kind {
-        Kind::Record(fields) => {
-            let members = without_empty_metadata(into_members(value));
-            let children = field_children(alloc, fields, members)?;
-            Ok(Body::new(Node::Branch(children)))
-        }
-        _ => unreachable!(),
+    let Kind::Record(fields) = kind else {
+        unreachable!();
+    };
+    let Json::Object(members) = value else {
+        return Ok(Tested::Breaks(Found::here(alloc, Misfit::WrongType)));
+    };
+    match tested_fields(alloc, fields, without_empty_metadata(members))? {
+        Tested::Fits(children) => Ok(Tested::Fits(Body::new(Node::Branch(children)))),
+        Tested::Breaks(found) => Ok(Tested::Breaks(found)),
     }
 }
 
@@ -50,10 +49,10 @@ impl Body {
         ensures fits { IfOk result (λ b. IsBodyOf schema.now.kind b) }
         ensures rooted { IfOk result (λ b. IsRooted b) }
     {
-        if let Some(fault) = schema.first_fault(alloc, &value)? {
-            return Err(TypedFault::Body(fault));
-        }
-        let body = body_of(alloc, schema.kind(), value)?;
+        let body = match tested_body(alloc, schema.kind(), value)? {
+            Tested::Fits(body) => body,
+            Tested::Breaks(found) => return Err(TypedFault::Body(found.into_fault())),
+        };
         if body.size() > MOST_PLACES {
             return Err(TypedFault::TooManyPaths);
         }

@@ -1,0 +1,185 @@
+use Rattle.std.proofs.Common.{◌≡◌, [], ◌∷◌, ◌++◌, None, Some, option_map, string_bytes, nat_cmp, refl, sym, ap, ◌∙◌, subst, arith}
+use Rattle.std.proofs.lemmas.List.{nil_from_length}
+use Rattle.std.proofs.lemmas.Result.{IfOk-weaker}
+use Rattle.std.specs.BTreeMap.{is_at}
+use Rattle.std.specs.Cmp.Lexicographic.{slice_cmp}
+use Rattle.std.specs.Vec.Iter.{into_iter_items}
+use Rattle.ssa_model.specs.definitions.Json.{object}
+use Rattle.ssa_model.specs.definitions.Path.{field, Path}
+use Rattle.ssa_model.specs.definitions.Kind as model
+use Rattle.ssa_model.specs.definitions.Body.{places, field_places, entry_places}
+use Rattle.ssa_json.specs.View.{view, members_view}
+use Rattle.ssa_json.proofs.Views.{view-Object}
+use Rattle.ssa_schema.specs.Finds.{Finds}
+use Rattle.ssa_schema.specs.Kinds.{kind_view, fields_view}
+use Rattle.ssa_schema.specs.Refusals.{first_of}
+use Rattle.ssa_schema.specs.declared.fit.found.Misfit.TheVariants.{UnknownField}
+use Rattle.ssa_schema.proofs.Finding.{breaks_here, finds_from}
+use Rattle.ssa_schema.proofs.Kinding.{kind_view-Record}
+use Rattle.ssa_schema.proofs.kind.Kind.TheLaws.{the_size}
+use Rattle.ssa_typed.specs.Flats.{member_places, AreNamed, IsChild}
+use Rattle.ssa_typed.specs.Tested.{member_faults, IsTested}
+use Rattle.ssa_json.proofs.Converting.{Found as Entry}
+use Rattle.ssa_typed.proofs.Testing.{known-faults, unknown-faults, tested-from, testing-none, testing-step, testing-breaks, testing-end}
+use Rattle.ssa_typed.proofs.Trees.{dict-made, field-found, found-within-deepest, keyed-at, kind_view-Dict, known-places, record-made}
+use Rattle.ssa_typed.proofs.tested.+tested.Goals as goal
+
+pub tested_field-tested_child-requires : goal.tested_field-tested_child-requires
+tested_field-tested_child-requires t c =
+    let fs = fields_view c.args.fields.now.entries in
+    let n = string_bytes c.args.name in
+    let k = kind_view c.in-Some.kind.now in
+    let found : model.kind_of n fs ≡ Some k =
+    ap (λ m. model.kind_of m fs) (sym c.as_str.ensures.value)
+    ∙ sym (field-found c.get_near.result c.as_str.result.now c.args.fields.now.entries c.get_near.ensures.value)
+    ∙ ap (option_map (λ k. kind_view k.now)) c.in-Some.is in
+    let there = sym c.get_near.ensures.value ∙ ap (option_map (λ k. k.now)) c.in-Some.is in
+    let deep = found-within-deepest the_size (is_at (λ m. slice_cmp nat_cmp c.as_str.result.now (string_bytes m))) c.args.fields.now.entries c.in-Some.kind.now there in
+    (omega (arith, deep), keyed-at n fs k c.requires found)
+
+pub tested_field-returns-in-Some : goal.tested_field-returns-in-Some
+tested_field-returns-in-Some t c =
+    let fs = fields_view c.args.fields.now.entries in
+    let n = string_bytes c.args.name in
+    let v = view c.args.member in
+    let k = kind_view c.in-Some.kind.now in
+    let found : model.kind_of n fs ≡ Some k =
+    ap (λ m. model.kind_of m fs) (sym c.as_str.ensures.value)
+    ∙ sym (field-found c.get_near.result c.as_str.result.now c.args.fields.now.entries c.get_near.ensures.value)
+    ∙ ap (option_map (λ k. kind_view k.now)) c.in-Some.is in
+    IfOk-weaker c.tested_child.result _ _
+    (λ tested. tested-from (member_faults fs n v) (λ p. model.faults k v (p ++ field n ∷ [])) (IsChild (field n) (places k v))
+    (IsChild (field n) (member_places fs n v)) tested
+    (λ p. ap first_of (known-faults fs n v k p found))
+    (λ child is. record { element = is.element; placed = λ p. is.placed p ∙ sym (known-places n fs v k p found); tree = is.tree }))
+    c.tested_child.ensures
+
+pub tested_field-returns-in_ok-below_name-in-None : goal.tested_field-returns-in_ok-below_name-in-None
+tested_field-returns-in_ok-below_name-in-None t c =
+    let fs = fields_view c.args.fields.now.entries in
+    let n = string_bytes c.args.name in
+    let v = view c.args.member in
+    let below = c.in_ok-below_name-in-None.field-0 in
+    let unknown : model.kind_of n fs ≡ None =
+    ap (λ m. model.kind_of m fs) (sym c.as_str.ensures.value)
+    ∙ sym (field-found c.get_near.result c.as_str.result.now c.args.fields.now.entries c.get_near.ensures.value)
+    ∙ ap (option_map (λ k. kind_view k.now)) c.in-None.is in
+    let found = c.in_ok-below_name-in-None.ensures (λ p. model.fault_at model.unknown_field p ∷ [])
+    (breaks_here c.here-unknown.result UnknownField (λ p. model.fault_at model.unknown_field p ∷ []) c.here-unknown.ensures.misfit
+    c.here-unknown.ensures.path (λ p. refl)) in
+    finds_from (Some below) (member_faults fs n v) (λ p. model.fault_at model.unknown_field (p ++ field n ∷ []) ∷ [])
+    (λ p. ap first_of (unknown-faults fs n v p unknown))
+    (subst (λ m. Finds (Some below) (λ p. model.fault_at model.unknown_field (p ++ field m ∷ []) ∷ [])) c.as_str-in-None.ensures.value found)
+
+pub tested_tree-returns-in-Fits : goal.tested_tree-returns-in-Fits
+tested_tree-returns-in-Fits t c =
+    let w = c.in-Record-Object in
+    let fs = fields_view w.fields.entries in
+    let ms = members_view w.members.entries in
+    let kind : kind_view c.args.kind.now ≡ model.record_of fs = ap kind_view w.is-0 ∙ kind_view-Record w.fields in
+    let value : view c.args.value ≡ object ms = ap view w.is-1 ∙ view-Object w.members in
+    let made = subst (IsTested (model.field_faults fs ms) (λ cs. AreNamed (field_places fs ms) cs.items)) c.in-Fits.is
+    c.in_ok-children-in-Record-Object.ensures in (
+      finds_from None (model.faults (kind_view c.args.kind.now) (view c.args.value)) (model.field_faults fs ms)
+          (λ p i. first_of (model.faults (kind i) (value i) p)) made.0,
+      record-made c.in-Fits.children (kind_view c.args.kind.now) (view c.args.value) fs ms (sym kind) (sym value) made.1,
+    )
+
+pub tested_tree-returns-in-Fits-2 : goal.tested_tree-returns-in-Fits-2
+tested_tree-returns-in-Fits-2 t c =
+    let w = c.in-Dict-Object in
+    let k = kind_view c.deref.result.now in
+    let ms = members_view w.members.entries in
+    let kind : kind_view c.args.kind.now ≡ model.dict_of k =
+    ap kind_view w.is-0 ∙ kind_view-Dict w.inside ∙ ap (λ k. model.dict_of (kind_view k)) (sym c.deref.ensures) in
+    let value : view c.args.value ≡ object ms = ap view w.is-1 ∙ view-Object w.members in
+    let made = subst (IsTested (model.entry_faults k ms) (λ cs. AreNamed (entry_places k ms) cs.items)) c.in-Fits-2.is
+    c.in_ok-children-in-Dict-Object.ensures in (
+      finds_from None (model.faults (kind_view c.args.kind.now) (view c.args.value)) (model.entry_faults k ms)
+          (λ p i. first_of (model.faults (kind i) (value i) p)) made.0,
+      dict-made c.in-Fits-2.children (kind_view c.args.kind.now) (view c.args.value) k ms (sym kind) (sym value) made.1,
+    )
+
+pub tested_fields-loop-name-init : goal.tested_fields-loop-name-init
+tested_fields-loop-name-init t c =
+    let fs = fields_view c.args.fields.now.entries in
+    testing-none (λ es. model.field_faults fs (members_view es)) (λ es. field_places fs (members_view es)) c.args.members.entries
+    (into_iter_items c.into_iter-name-iterator.result) c.in_ok-children.children.items
+    (sym (c.into_iter-name-iterator.ensures.into_iter_gives.0 ∙ c.into_entries-name-items.ensures.all)) c.in_ok-children.ensures.items
+
+pub tested_fields-loop-name-preserved : goal.tested_fields-loop-name-preserved
+tested_fields-loop-name-preserved t c =
+    let l = c.loop-name in
+    let fs = fields_view c.args.fields.now.entries in
+    let e : Entry = (c.in-Some.name, c.in-Some.member) in
+    let n = string_bytes e.0 in
+    let own = member_faults fs n (view e.1) in
+    let rows_from = member_places fs n (view e.1) in
+    testing-step (λ es. model.field_faults fs (members_view es)) (λ es. field_places fs (members_view es)) c.args.members.entries
+    (into_iter_items l.name-iterator) (into_iter_items c.next.new.self) e l.children.items c.push.new.self.items c.in-Fits.child own rows_from
+    c.in-Some.ensures.steps.0 (λ p. refl) (λ p. refl)
+    (subst (IsTested own (IsChild (field n) rows_from)) c.in-Fits.is c.in_ok-child.ensures) c.in_ok-push-in-Fits.ensures.items l.invariant
+
+pub tested_fields-returns-in-Breaks : goal.tested_fields-returns-in-Breaks
+tested_fields-returns-in-Breaks t c =
+    let l = c.loop-name in
+    let fs = fields_view c.args.fields.now.entries in
+    let e : Entry = (c.in-Some.name, c.in-Some.member) in
+    let n = string_bytes e.0 in
+    let own = member_faults fs n (view e.1) in
+    let rows_from = member_places fs n (view e.1) in
+    testing-breaks (λ es. model.field_faults fs (members_view es)) (λ es. field_places fs (members_view es)) c.args.members.entries
+    (into_iter_items l.name-iterator) (into_iter_items c.next.new.self) e l.children.items c.in-Breaks.found own
+    c.in-Some.ensures.steps.0 (λ p. refl)
+    (subst (IsTested own (IsChild (field n) rows_from)) c.in-Breaks.is c.in_ok-child.ensures) l.invariant
+
+pub tested_fields-returns : goal.tested_fields-returns
+tested_fields-returns t c =
+    let l = c.loop-name in
+    let fs = fields_view c.args.fields.now.entries in
+    testing-end (λ es. model.field_faults fs (members_view es)) (λ es. field_places fs (members_view es)) c.args.members.entries
+    (into_iter_items l.name-iterator) l.children.items c.into_entries-name-items.ensures.ordered
+    (nil_from_length (into_iter_items l.name-iterator) (omega (arith, c.in-None.ensures.steps.0, l.name-iterator.rest.ok)))
+    (λ p. refl) (λ p. refl) l.invariant
+
+pub tested_entries-loop-name-init : goal.tested_entries-loop-name-init
+tested_entries-loop-name-init t c =
+    let k = kind_view c.args.inside.now in
+    testing-none (λ es. model.entry_faults k (members_view es)) (λ es. entry_places k (members_view es)) c.args.members.entries
+    (into_iter_items c.into_iter-name-iterator.result) c.in_ok-children.children.items
+    (sym (c.into_iter-name-iterator.ensures.into_iter_gives.0 ∙ c.into_entries-name-items.ensures.all)) c.in_ok-children.ensures.items
+
+pub tested_entries-loop-name-preserved : goal.tested_entries-loop-name-preserved
+tested_entries-loop-name-preserved t c =
+    let l = c.loop-name in
+    let k = kind_view c.args.inside.now in
+    let e : Entry = (c.in-Some.name, c.in-Some.member) in
+    let n = string_bytes e.0 in
+    let own = λ (p : Path). model.faults k (view e.1) (p ++ field n ∷ []) in
+    let rows_from = places k (view e.1) in
+    testing-step (λ es. model.entry_faults k (members_view es)) (λ es. entry_places k (members_view es)) c.args.members.entries
+    (into_iter_items l.name-iterator) (into_iter_items c.next.new.self) e l.children.items c.push.new.self.items c.in-Fits.child own rows_from
+    c.in-Some.ensures.steps.0 (λ p. refl) (λ p. refl)
+    (subst (IsTested own (IsChild (field n) rows_from)) c.in-Fits.is c.in_ok-child.ensures) c.in_ok-push-in-Fits.ensures.items l.invariant
+
+pub tested_entries-returns-in-Breaks : goal.tested_entries-returns-in-Breaks
+tested_entries-returns-in-Breaks t c =
+    let l = c.loop-name in
+    let k = kind_view c.args.inside.now in
+    let e : Entry = (c.in-Some.name, c.in-Some.member) in
+    let n = string_bytes e.0 in
+    let own = λ (p : Path). model.faults k (view e.1) (p ++ field n ∷ []) in
+    let rows_from = places k (view e.1) in
+    testing-breaks (λ es. model.entry_faults k (members_view es)) (λ es. entry_places k (members_view es)) c.args.members.entries
+    (into_iter_items l.name-iterator) (into_iter_items c.next.new.self) e l.children.items c.in-Breaks.found own
+    c.in-Some.ensures.steps.0 (λ p. refl)
+    (subst (IsTested own (IsChild (field n) rows_from)) c.in-Breaks.is c.in_ok-child.ensures) l.invariant
+
+pub tested_entries-returns : goal.tested_entries-returns
+tested_entries-returns t c =
+    let l = c.loop-name in
+    let k = kind_view c.args.inside.now in
+    testing-end (λ es. model.entry_faults k (members_view es)) (λ es. entry_places k (members_view es)) c.args.members.entries
+    (into_iter_items l.name-iterator) l.children.items c.into_entries-name-items.ensures.ordered
+    (nil_from_length (into_iter_items l.name-iterator) (omega (arith, c.in-None.ensures.steps.0, l.name-iterator.rest.ok)))
+    (λ p. refl) (λ p. refl) l.invariant

@@ -1,0 +1,163 @@
+//! Trees of values that are tested while they are made.
+ghost use Rattle.std.specs.Prelude.{◌≡◌, List, [], ◌∷◌, ◌++◌, true, Some, IfOk, string_bytes};
+ghost use Rattle.ssa_model.specs.definitions.Json as values;
+ghost use Rattle.ssa_model.specs.definitions.Path.{field, Path};
+ghost use Rattle.ssa_model.specs.definitions.Kind as kinds;
+ghost use Rattle.ssa_model.specs.definitions.Body.{field_places, entry_places, places};
+ghost use Rattle.ssa_model.specs.definitions.Lawful.{are_keyed, is_keyed};
+ghost use Rattle.ssa_json.specs.View.{view, members_view, scalar_view};
+ghost use Rattle.ssa_schema.specs.Finds.{Finds};
+ghost use Rattle.ssa_schema.specs.Kinds.{kind_view, fields_view, scalar_kind_view};
+ghost use Rattle.ssa_typed.specs.Flats.{member_places, AreNamed, IsChild, IsTreeOf};
+ghost use Rattle.ssa_typed.specs.Tested.{member_faults, IsTested};
+
+use crate::build::tree_of;
+use crate::node::{Leaf, Node};
+use ssa_json::value::{Json, Scalar};
+use ssa_members::{Members, Name};
+use ssa_path::element::Elem;
+use ssa_schema::kind::{Kind, ScalarKind};
+use ssa_schema::{Found, Misfit, field_name, scalar_misfit, value_fault};
+use std::alloc::{AllocError, Global};
+
+/// What was made of a value that fits, or the value's first fault.
+#[derive(Drop)]
+pub(crate) enum Tested<T> {
+    Fits(T),
+    Breaks(Found),
+}
+
+// A fault below the member of a name, seen from the object.
+fn below_name(alloc: Global, found: Found, name: &str) -> Result<Found, AllocError>
+    ensures { IfOk result (λ f. (inner : Path → List kinds.FaultAt) → Finds (Some found) inner → Finds (Some f) (λ p. inner (p ++ field name.now ∷ []))) }
+{
+    found.below(field_name(alloc, name)?)
+}
+
+// The leaf of a scalar, or what is wrong with it.
+#[inline(always)]
+fn tested_scalar(alloc: Global, wanted: &ScalarKind, scalar: Scalar) -> Tested<Node>
+    ensures { IsTested (kinds.faults (kinds.scalar_kind (scalar_kind_view wanted.now)) (values.scalar (scalar_view scalar))) (IsTreeOf (kinds.scalar_kind (scalar_kind_view wanted.now)) (values.scalar (scalar_view scalar))) result }
+{
+    match scalar_misfit(&scalar, wanted) {
+        Some(misfit) => Tested::Breaks(Found::here(alloc, misfit)),
+        None => Tested::Fits(Node::Leaf(Leaf::Scalar(scalar))),
+    }
+}
+
+// The tree of a value that is tested before it is made, or the value's first fault.
+fn tested_whole(alloc: Global, kind: &Kind, value: Json) -> Result<Tested<Node>, AllocError>
+    requires { is_keyed (kind_view kind.now) ≡ true }
+    ensures { IfOk result (λ t. IsTested (kinds.faults (kind_view kind.now) (view value)) (IsTreeOf (kind_view kind.now) (view value)) t) }
+{
+    if let Some(found) = value_fault(alloc, &value, kind)? {
+        return Ok(Tested::Breaks(found));
+    }
+    Ok(Tested::Fits(tree_of(alloc, kind, value)?))
+}
+
+// The tree of a value, or its first fault. An object's members are tested one by one, and each is made a child at once.
+#[cycle(tested)]
+#[inline(always)]
+fn tested_tree(alloc: Global, kind: &Kind, value: Json) -> Result<Tested<Node>, AllocError>
+    requires { is_keyed (kind_view kind.now) ≡ true }
+    ensures { IfOk result (λ t. IsTested (kinds.faults (kind_view kind.now) (view value)) (IsTreeOf (kind_view kind.now) (view value)) t) }
+{
+    match (kind, value) {
+        (Kind::Scalar(wanted), Json::Scalar(scalar)) => Ok(tested_scalar(alloc, wanted, scalar)),
+        (Kind::Record(fields), Json::Object(members)) => {
+            match tested_fields(alloc, fields, members)? {
+                Tested::Fits(children) => Ok(Tested::Fits(Node::Branch(children))),
+                Tested::Breaks(found) => Ok(Tested::Breaks(found)),
+            }
+        }
+        (Kind::Dict(inside), Json::Object(members)) => {
+            match tested_entries(alloc, inside, members)? {
+                Tested::Fits(children) => Ok(Tested::Fits(Node::Dict(children))),
+                Tested::Breaks(found) => Ok(Tested::Breaks(found)),
+            }
+        }
+        (_, value) => tested_whole(alloc, kind, value),
+    }
+}
+
+// The child that a value of a kind makes under a name, or the value's first fault.
+#[cycle(tested)]
+#[inline(always)]
+fn tested_child(
+    alloc: Global,
+    kind: &Kind,
+    name: Name,
+    member: Json,
+) -> Result<Tested<(Elem, Node)>, AllocError>
+    requires { is_keyed (kind_view kind.now) ≡ true }
+    ensures { IfOk result (λ t. IsTested (λ p. kinds.faults (kind_view kind.now) (view member) (p ++ field (string_bytes name) ∷ [])) (IsChild (field (string_bytes name)) (places (kind_view kind.now) (view member))) t) }
+{
+    match tested_tree(alloc, kind, member)? {
+        Tested::Fits(child) => Ok(Tested::Fits((Elem::Field(name.into_text()), child))),
+        Tested::Breaks(found) => Ok(Tested::Breaks(below_name(alloc, found, name.as_str())?)),
+    }
+}
+
+// A field of a record, or the first fault of the member.
+#[cycle(tested)]
+#[inline(always)]
+fn tested_field(
+    alloc: Global,
+    fields: &Members<Kind>,
+    near: &mut usize,
+    name: Name,
+    member: Json,
+) -> Result<Tested<(Elem, Node)>, AllocError>
+    requires { are_keyed (fields_view fields.now.entries) ≡ true }
+    ensures { IfOk result (λ t. IsTested (member_faults (fields_view fields.now.entries) (string_bytes name) (view member)) (IsChild (field (string_bytes name)) (member_places (fields_view fields.now.entries) (string_bytes name) (view member))) t) }
+{
+    match fields.get_near(near, name.as_str()) {
+        Some(kind) => tested_child(alloc, kind, name, member),
+        None => {
+            let unknown = Found::here(alloc, Misfit::UnknownField);
+            Ok(Tested::Breaks(below_name(alloc, unknown, name.as_str())?))
+        }
+    }
+}
+
+/// The fields of a record, in the order of their names, or the first fault of the members.
+#[cycle(tested)]
+pub(crate) fn tested_fields(
+    alloc: Global,
+    fields: &Members<Kind>,
+    members: Members<Json>,
+) -> Result<Tested<Vec<(Elem, Node)>>, AllocError>
+    requires { are_keyed (fields_view fields.now.entries) ≡ true }
+    ensures { IfOk result (λ t. IsTested (kinds.field_faults (fields_view fields.now.entries) (members_view members.entries)) (λ cs. AreNamed (field_places (fields_view fields.now.entries) (members_view members.entries)) cs.items) t) }
+{
+    let mut children = Vec::with_capacity(alloc, members.len())?;
+    let mut near = 0;
+    for (name, member) in members.into_entries() {
+        match tested_field(alloc, fields, &mut near, name, member)? {
+            Tested::Fits(child) => children.push(child)?,
+            Tested::Breaks(found) => return Ok(Tested::Breaks(found)),
+        }
+    }
+    Ok(Tested::Fits(children))
+}
+
+// The entries of a Dict, in the order of their names, or their first fault.
+#[cycle(tested)]
+fn tested_entries(
+    alloc: Global,
+    inside: &Kind,
+    members: Members<Json>,
+) -> Result<Tested<Vec<(Elem, Node)>>, AllocError>
+    requires { is_keyed (kind_view inside.now) ≡ true }
+    ensures { IfOk result (λ t. IsTested (kinds.entry_faults (kind_view inside.now) (members_view members.entries)) (λ cs. AreNamed (entry_places (kind_view inside.now) (members_view members.entries)) cs.items) t) }
+{
+    let mut children = Vec::with_capacity(alloc, members.len())?;
+    for (name, member) in members.into_entries() {
+        match tested_child(alloc, inside, name, member)? {
+            Tested::Fits(child) => children.push(child)?,
+            Tested::Breaks(found) => return Ok(Tested::Breaks(found)),
+        }
+    }
+    Ok(Tested::Fits(children))
+}
