@@ -33,10 +33,6 @@ tested-from whole here made more (Breaks f) same so h = finds_from (Some f) whol
 
 -- ---- members
 
--- the faults of members are those of the first, and then those of the others
-pub fields-split : (fs : Fields) (n : Text) (v : Json) (ms : Members) (p : Path) → field_faults fs (member n v ms) p ≡ member_faults fs n v p ++ field_faults fs ms p
-fields-split fs n v ms p = refl
-
 -- a member whose kind is known has the faults of its value, one field further
 pub known-faults : (fs : Fields) (n : Text) (v : Json) (k : Kind) (p : Path) → kind_of n fs ≡ Some k → member_faults fs n v p ≡ faults k v (p ++ field n ∷ [])
 known-faults fs n v k p known = ap (λ o. elim o [ None ↦ fault_at unknown_field (p ++ field n ∷ []) ∷ [] | Some j ↦ faults j v (p ++ field n ∷ []) ]) known
