@@ -77,7 +77,11 @@ fn tested_tree(alloc: Global, kind: &Kind, value: Json) -> Result<Tested<Node>, 
                 Tested::Breaks(found) => Ok(Tested::Breaks(found)),
             }
         }
-        (_, value) => tested_whole(alloc, kind, value),
+        // (taken out of the result of the call, so that what the frequent ways make need not stand where a call writes)
+        (_, value) => {
+            let whole = tested_whole(alloc, kind, value)?;
+            Ok(whole)
+        }
     }
 }
 
