@@ -256,14 +256,18 @@ row-there (n ∷ ns) fs ms p e =
     let rest = row-there ns fs ms p (nil_second (key_field_fault (kind_of n fs) (member_of n ms) p) _ e) in
     (here.own ∷ rest.0, ap₂ cons_row (ap scalar_in here.is_own) rest.1)
 
+-- where an object has its keys, the leading keys are its own and those of the items behind it
+pub lead-first : (names : List Text) (fs : Fields) (ms : Members) (rest : Items) (p : Path) → None ≡ first_of (key_faults names fs ms p)
+    → leading_keys names (item (object ms) rest) ≡ item_key names ms ∷ leading_keys names rest
+lead-first names fs ms rest p right =
+    ap (λ (o : Option Row). elim (option_map (λ (r : Row). item_key names ms) o) [ None ↦ [] | Some e ↦ e ∷ leading_keys names rest ])
+    (row-there names fs ms p (no-faults _ right)).1
+
 -- from the place of an object with its keys on, the leading keys are its own and those of the next places
 pub lead-key : (names : List Text) (fs : Fields) (xs : List json.Json) (i : ℕ) (x : json.Json) (m : Entries json.Json) → i < length xs
     → x ≡ get_or xs i x → x ≡ json.Object m → None ≡ first_of (key_faults names fs (members_view m.entries) [])
     → leading_keys names (items_view (drop i xs)) ≡ item_key names (members_view m.entries) ∷ leading_keys names (items_view (drop (i + 1) xs))
 lead-key names fs xs i x m within is here right =
-    let ms = members_view m.entries in
-    let left = leading_keys names (items_view (drop (i + 1) xs)) in
     ap (λ es. leading_keys names (items_view es)) (item_split xs i x within is)
     ∙ ap (λ v. leading_keys names (item v (items_view (drop (i + 1) xs)))) (ap view here ∙ view-Object m)
-    ∙ ap (λ (o : Option Row). elim (option_map (λ (r : Row). item_key names ms) o) [ None ↦ [] | Some e ↦ e ∷ left ])
-    (row-there names fs ms [] (no-faults _ right)).1
+    ∙ lead-first names fs (members_view m.entries) (items_view (drop (i + 1) xs)) [] right

@@ -46,6 +46,7 @@ pub mod SortedOut
 pub mod Sorting
 pub mod Stands
 pub mod Testing
+pub mod TestingItems
 pub mod TreeRows
 pub mod Trees
 pub mod Unchanged

@@ -1,9 +1,9 @@
 -- Values that are tested while their trees are made.
-use Rattle.std.specs.Prelude.{List, [], ◌∷◌, ◌++◌, None, Some}
-use Rattle.ssa_model.specs.definitions.Json.{Text, Json}
+use Rattle.std.specs.Prelude.{Bool, List, [], ◌∷◌, ◌++◌, None, Some}
+use Rattle.ssa_model.specs.definitions.Json.{Text, Json, object}
 use Rattle.ssa_model.specs.definitions.Path.{field, Path}
-use Rattle.ssa_model.specs.definitions.Kind.{Fields, FaultAt, faults, fault_at, kind_of, unknown_field}
-use Rattle.ssa_schema.specs.Finds.{Finds}
+use Rattle.ssa_model.specs.definitions.Kind.{Fields, FaultAt, faults, fault_at, key_faults, kind_of, or_else, unknown_field, wrong_type}
+use Rattle.ssa_schema.specs.Finds.{Finds, keyed_faults}
 use Rattle.ssa_typed.specs.declared.tested.Tested.{Tested}
 use Rattle.ssa_typed.specs.declared.tested.Tested.TheVariants.{Fits, Breaks}
 
@@ -15,3 +15,8 @@ IsTested here made (Breaks f) = Finds (Some f) here
 -- the faults of a member at the path of its object
 abbrev pub member_faults : Fields → Text → Json → Path → List FaultAt
 member_faults fs n v p = elim (kind_of n fs) [ None ↦ fault_at unknown_field (p ++ field n ∷ []) ∷ [] | Some k ↦ faults k v (p ++ field n ∷ []) ]
+
+-- the faults of an item of a map list: it is no object, its keys are wrong, an earlier item has them, or its fields have faults
+abbrev pub own_item_faults : Bool → List Text → Fields → Json → Path → List FaultAt
+own_item_faults is_new names fs (object ms) p = or_else (key_faults names fs ms p) (keyed_faults is_new names fs ms p)
+own_item_faults is_new names fs v p = fault_at wrong_type p ∷ []

@@ -1,23 +1,28 @@
 //! Trees of values that are tested while they are made.
 ghost use Rattle.std.specs.Prelude.{◌≡◌, List, [], ◌∷◌, ◌++◌, true, Some, IfOk, string_bytes};
 ghost use Rattle.ssa_model.specs.definitions.Json as values;
-ghost use Rattle.ssa_model.specs.definitions.Path.{field, Path};
+ghost use Rattle.ssa_model.specs.definitions.Path.{field, key, Path};
 ghost use Rattle.ssa_model.specs.definitions.Kind as kinds;
-ghost use Rattle.ssa_model.specs.definitions.Body.{field_places, entry_places, places};
-ghost use Rattle.ssa_model.specs.definitions.Lawful.{are_keyed, is_keyed};
-ghost use Rattle.ssa_json.specs.View.{view, members_view, scalar_view};
+ghost use Rattle.ssa_model.specs.definitions.Body.{field_places, entry_places, item_places, key_order, places};
+ghost use Rattle.ssa_model.specs.definitions.Lawful.{are_key_names, are_keyed, is_keyed};
+ghost use Rattle.ssa_json.specs.View.{view, items_view, members_view, scalar_view};
 ghost use Rattle.ssa_schema.specs.Finds.{Finds};
-ghost use Rattle.ssa_schema.specs.Kinds.{kind_view, fields_view, scalar_kind_view};
-ghost use Rattle.ssa_typed.specs.Flats.{member_places, AreNamed, IsChild, IsTreeOf};
-ghost use Rattle.ssa_typed.specs.Tested.{member_faults, IsTested};
+ghost use Rattle.ssa_schema.specs.Kinds.{kind_view, fields_view, names_view, scalar_kind_view};
+ghost use Rattle.ssa_typed.specs.Flats.{member_places, AreListed, AreNamed, IsChild, IsItem, IsTreeOf};
+ghost use Rattle.ssa_typed.specs.Tested.{member_faults, own_item_faults, IsTested};
 
 use crate::build::tree_of;
+use crate::item_keys::keys_of;
 use crate::node::{Leaf, Node};
 use ssa_json::value::{Json, Scalar};
 use ssa_members::{Members, Name};
 use ssa_path::element::Elem;
+use ssa_path::element_text::key_name;
+use ssa_path::keys::Keys;
 use ssa_schema::kind::{Kind, ScalarKind};
-use ssa_schema::{Found, Misfit, field_name, scalar_misfit, value_fault};
+use ssa_schema::{
+    Found, Misfit, field_name, is_other, keys_misfit, repeated_item, scalar_misfit, value_fault,
+};
 use std::alloc::{AllocError, Global};
 
 /// What was made of a value that fits, or the value's first fault.
@@ -32,6 +37,13 @@ fn below_name(alloc: Global, found: Found, name: &str) -> Result<Found, AllocErr
     ensures { IfOk result (λ f. (inner : Path → List kinds.FaultAt) → Finds (Some found) inner → Finds (Some f) (λ p. inner (p ++ field name.now ∷ []))) }
 {
     found.below(field_name(alloc, name)?)
+}
+
+// A fault below the item of a key, seen from the list.
+fn below_key(alloc: Global, found: Found, own: Keys) -> Result<Found, AllocError>
+    ensures { IfOk result (λ f. (inner : Path → List kinds.FaultAt) → Finds (Some found) inner → Finds (Some f) (λ p. inner (p ++ key own ∷ []))) }
+{
+    found.below(key_name(alloc, own.members())?)
 }
 
 // The leaf of a scalar, or what is wrong with it.
@@ -56,7 +68,7 @@ fn tested_whole(alloc: Global, kind: &Kind, value: Json) -> Result<Tested<Node>,
     Ok(Tested::Fits(tree_of(alloc, kind, value)?))
 }
 
-// The tree of a value, or its first fault. An object's members are tested one by one, and each is made a child at once.
+// The tree of a value, or its first fault. Members and items are tested one by one, and each is made a child at once.
 #[cycle(tested)]
 #[inline(always)]
 fn tested_tree(alloc: Global, kind: &Kind, value: Json) -> Result<Tested<Node>, AllocError>
@@ -74,6 +86,12 @@ fn tested_tree(alloc: Global, kind: &Kind, value: Json) -> Result<Tested<Node>, 
         (Kind::Dict(inside), Json::Object(members)) => {
             match tested_entries(alloc, inside, members)? {
                 Tested::Fits(children) => Ok(Tested::Fits(Node::Dict(children))),
+                Tested::Breaks(found) => Ok(Tested::Breaks(found)),
+            }
+        }
+        (Kind::ItemsOf { keys, fields }, Json::List(items)) => {
+            match tested_items(alloc, fields, keys, items)? {
+                Tested::Fits(children) => Ok(Tested::Fits(Node::List(children))),
                 Tested::Breaks(found) => Ok(Tested::Breaks(found)),
             }
         }
@@ -162,6 +180,62 @@ fn tested_entries(
             Tested::Fits(child) => children.push(child)?,
             Tested::Breaks(found) => return Ok(Tested::Breaks(found)),
         }
+    }
+    Ok(Tested::Fits(children))
+}
+
+// An item of a map list, or its first fault. An item that is not new has the keys of an earlier one.
+#[cycle(tested)]
+#[inline(always)]
+fn tested_item(
+    alloc: Global,
+    fields: &Members<Kind>,
+    keys: &[String],
+    item: Json,
+    is_new: bool,
+) -> Result<Tested<(Elem, Node)>, AllocError>
+    requires names { are_key_names (names_view keys.now) ≡ true }
+    requires keyed { are_keyed (fields_view fields.now.entries) ≡ true }
+    ensures { IfOk result (λ t. IsTested (own_item_faults is_new (names_view keys.now) (fields_view fields.now.entries) (view item)) (IsItem (names_view keys.now) (fields_view fields.now.entries) (view item)) t) }
+{
+    let Json::Object(members) = item else {
+        return Ok(Tested::Breaks(Found::here(alloc, Misfit::WrongType)));
+    };
+    if let Some(misfit) = keys_misfit(&members, keys, fields) {
+        return Ok(Tested::Breaks(Found::here(alloc, misfit)));
+    }
+    let key = keys_of(alloc, keys, fields, &members)?;
+    if !is_new {
+        let twice = Found::here(alloc, Misfit::DuplicateItem);
+        return Ok(Tested::Breaks(below_key(alloc, twice, key)?));
+    }
+    match tested_fields(alloc, fields, members)? {
+        Tested::Fits(below) => Ok(Tested::Fits((Elem::Key(key), Node::Branch(below)))),
+        Tested::Breaks(found) => Ok(Tested::Breaks(below_key(alloc, found, key)?)),
+    }
+}
+
+// The items of a map list, in their order, or their first fault.
+#[cycle(tested)]
+fn tested_items(
+    alloc: Global,
+    fields: &Members<Kind>,
+    keys: &[String],
+    items: Vec<Json>,
+) -> Result<Tested<Vec<(Elem, Node)>>, AllocError>
+    requires names { are_key_names (names_view keys.now) ≡ true }
+    requires keyed { are_keyed (fields_view fields.now.entries) ≡ true }
+    ensures { IfOk result (λ t. IsTested (kinds.item_faults (names_view keys.now) (fields_view fields.now.entries) [] (items_view items.items)) (λ cs. AreListed (key_order (names_view keys.now) (items_view items.items)) (item_places (names_view keys.now) (fields_view fields.now.entries) (items_view items.items)) cs.items) t) }
+{
+    let repeated = repeated_item(alloc, &items, keys)?;
+    let mut children = Vec::with_capacity(alloc, items.len())?;
+    let mut place: usize = 0;
+    for item in items {
+        match tested_item(alloc, fields, keys, item, is_other(repeated, place))? {
+            Tested::Fits(child) => children.push(child)?,
+            Tested::Breaks(found) => return Ok(Tested::Breaks(found)),
+        }
+        place += 1;
     }
     Ok(Tested::Fits(children))
 }

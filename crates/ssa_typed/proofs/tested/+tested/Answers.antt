@@ -1,27 +1,31 @@
-use Rattle.std.proofs.Common.{◌≡◌, [], ◌∷◌, ◌++◌, None, Some, option_map, string_bytes, nat_cmp, refl, sym, ap, ◌∙◌, subst, arith}
+use Rattle.std.proofs.Common.{◌≡◌, [], ◌∷◌, ◌++◌, None, Some, true, false, option_map, string_bytes, nat_cmp, refl, sym, ap, ◌∙◌, subst, arith}
 use Rattle.std.proofs.lemmas.List.{nil_from_length}
 use Rattle.std.proofs.lemmas.Result.{IfOk-weaker}
 use Rattle.std.specs.BTreeMap.{is_at}
 use Rattle.std.specs.Cmp.Lexicographic.{slice_cmp}
 use Rattle.std.specs.Vec.Iter.{into_iter_items}
-use Rattle.ssa_model.specs.definitions.Json.{object}
-use Rattle.ssa_model.specs.definitions.Path.{field, Path}
+use Rattle.ssa_model.specs.definitions.Json.{list, object}
+use Rattle.ssa_model.specs.definitions.Path.{field, key, same_element, Path}
 use Rattle.ssa_model.specs.definitions.Kind as model
-use Rattle.ssa_model.specs.definitions.Body.{places, field_places, entry_places}
-use Rattle.ssa_json.specs.View.{view, members_view}
+use Rattle.ssa_model.specs.definitions.Body.{places, field_places, entry_places, item_places, key_order}
+use Rattle.ssa_json.specs.View.{view, items_view, members_view}
 use Rattle.ssa_json.proofs.Views.{view-Object}
 use Rattle.ssa_schema.specs.Finds.{Finds}
-use Rattle.ssa_schema.specs.Kinds.{kind_view, fields_view}
+use Rattle.ssa_schema.specs.Kinds.{kind_view, fields_view, names_view}
 use Rattle.ssa_schema.specs.Refusals.{first_of}
-use Rattle.ssa_schema.specs.declared.fit.found.Misfit.TheVariants.{UnknownField}
+use Rattle.ssa_schema.specs.Repeats.{leading_keys, repeat_from}
+use Rattle.ssa_schema.specs.declared.fit.found.Misfit.TheVariants.{DuplicateItem, UnknownField}
 use Rattle.ssa_schema.proofs.Finding.{breaks_here, finds_from}
 use Rattle.ssa_schema.proofs.Kinding.{kind_view-Record}
 use Rattle.ssa_schema.proofs.kind.Kind.TheLaws.{the_size}
-use Rattle.ssa_typed.specs.Flats.{member_places, AreNamed, IsChild}
-use Rattle.ssa_typed.specs.Tested.{member_faults, IsTested}
+use Rattle.ssa_schema.proofs.Distinct.{view-List}
+use Rattle.ssa_typed.specs.Flats.{member_places, AreListed, AreNamed, IsChild, IsItem}
+use Rattle.ssa_typed.specs.Tested.{member_faults, own_item_faults, IsTested}
 use Rattle.ssa_json.proofs.Converting.{Found as Entry}
 use Rattle.ssa_typed.proofs.Testing.{known-faults, unknown-faults, tested-from, testing-none, testing-step, testing-breaks, testing-end}
-use Rattle.ssa_typed.proofs.Trees.{dict-made, field-found, found-within-deepest, keyed-at, kind_view-Dict, known-places, record-made}
+use Rattle.ssa_typed.proofs.TestingItems.{keys-wrong, keyed-from, items-none, items-step, items-breaks, items-end}
+use Rattle.ssa_typed.proofs.Fitting.{no-first}
+use Rattle.ssa_typed.proofs.Trees.{dict-made, field-found, found-within-deepest, items-made, keyed-at, kind_view-Dict, kind_view-ItemsOf, known-places, record-made, record-placed, record-tree}
 use Rattle.ssa_typed.proofs.tested.+tested.Goals as goal
 
 pub tested_field-tested_child-requires : goal.tested_field-tested_child-requires
@@ -183,3 +187,117 @@ tested_entries-returns t c =
     (into_iter_items l.name-iterator) l.children.items c.into_entries-name-items.ensures.ordered
     (nil_from_length (into_iter_items l.name-iterator) (omega (arith, c.in-None.ensures.steps.0, l.name-iterator.rest.ok)))
     (λ p. refl) (λ p. refl) l.invariant
+
+pub tested_tree-returns-in-Fits-3 : goal.tested_tree-returns-in-Fits-3
+tested_tree-returns-in-Fits-3 t c =
+    let w = c.in-ItemsOf-List in
+    let ns = names_view c.deref-in-ItemsOf-List.result.now in
+    let fs = fields_view w.fields.entries in
+    let vs = items_view w.items.items in
+    let kind : kind_view c.args.kind.now ≡ model.items_of ns fs =
+    ap kind_view w.is-0 ∙ kind_view-ItemsOf w.keys w.fields ∙ ap (λ xs. model.items_of (names_view xs) fs) (sym c.deref-in-ItemsOf-List.ensures.value) in
+    let value : view c.args.value ≡ list vs = ap view w.is-1 ∙ view-List w.items in
+    let made = subst (IsTested (model.item_faults ns fs [] vs) (λ cs. AreListed (key_order ns vs) (item_places ns fs vs) cs.items)) c.in-Fits-3.is
+    c.in_ok-children-in-ItemsOf-List.ensures in (
+      finds_from None (model.faults (kind_view c.args.kind.now) (view c.args.value)) (model.item_faults ns fs [] vs)
+          (λ p i. first_of (model.faults (kind i) (value i) p)) made.0,
+      items-made c.in-Fits-3.children (kind_view c.args.kind.now) (view c.args.value) ns fs vs (sym kind) (sym value)
+          ([], no-first (model.item_faults ns fs [] vs []) (made.0 [])) made.1,
+    )
+
+pub tested_tree-returns-in-Breaks-3 : goal.tested_tree-returns-in-Breaks-3
+tested_tree-returns-in-Breaks-3 t c =
+    let w = c.in-ItemsOf-List in
+    let ns = names_view c.deref-in-ItemsOf-List.result.now in
+    let fs = fields_view w.fields.entries in
+    let vs = items_view w.items.items in
+    let kind : kind_view c.args.kind.now ≡ model.items_of ns fs =
+    ap kind_view w.is-0 ∙ kind_view-ItemsOf w.keys w.fields ∙ ap (λ xs. model.items_of (names_view xs) fs) (sym c.deref-in-ItemsOf-List.ensures.value) in
+    let value : view c.args.value ≡ list vs = ap view w.is-1 ∙ view-List w.items in
+    finds_from (Some c.in-Breaks-3.found) (model.faults (kind_view c.args.kind.now) (view c.args.value)) (model.item_faults ns fs [] vs)
+    (λ p i. first_of (model.faults (kind i) (value i) p))
+    (subst (IsTested (model.item_faults ns fs [] vs) (λ cs. AreListed (key_order ns vs) (item_places ns fs vs) cs.items)) c.in-Breaks-3.is
+    c.in_ok-children-in-ItemsOf-List.ensures)
+
+pub tested_item-returns-in-Some : goal.tested_item-returns-in-Some
+tested_item-returns-in-Some t c =
+    keys-wrong c.args.is_new (names_view c.args.keys.now) (fields_view c.args.fields.now.entries) (view c.args.item)
+    (members_view c.in-Object.members.entries) c.in-Some.misfit c.here-in-Some.result (ap view c.in-Object.is ∙ view-Object c.in-Object.members)
+    c.in-Some.ensures c.here-in-Some.ensures.misfit c.here-in-Some.ensures.path
+
+pub tested_item-returns-then-not-is_new : goal.tested_item-returns-then-not-is_new
+tested_item-returns-then-not-is_new t c =
+    let below = c.in_ok-below_key.field-0 in
+    keyed-from c.args.is_new false (names_view c.args.keys.now) (fields_view c.args.fields.now.entries) (view c.args.item)
+    (members_view c.in-Object.members.entries) (Some below) (ap view c.in-Object.is ∙ view-Object c.in-Object.members)
+    c.in_default-keys_misfit.ensures c.if-not-is_new.true
+    (subst (λ k. Finds (Some below) (λ p. model.fault_at model.duplicate_item (p ++ key k ∷ []) ∷ [])) c.in_ok-key.ensures
+    (c.in_ok-below_key.ensures (λ p. model.fault_at model.duplicate_item p ∷ [])
+    (breaks_here c.here-twice.result DuplicateItem (λ p. model.fault_at model.duplicate_item p ∷ []) c.here-twice.ensures.misfit
+    c.here-twice.ensures.path (λ p. refl))))
+
+pub tested_item-returns-in-Fits : goal.tested_item-returns-in-Fits
+tested_item-returns-in-Fits t c =
+    let ns = names_view c.args.keys.now in
+    let fs = fields_view c.args.fields.now.entries in
+    let ms = members_view c.in-Object.members.entries in
+    let value : view c.args.item ≡ object ms = ap view c.in-Object.is ∙ view-Object c.in-Object.members in
+    let made = subst (IsTested (model.field_faults fs ms) (λ cs. AreNamed (field_places fs ms) cs.items)) c.in-Fits.is c.in_ok-below.ensures in (
+      keyed-from c.args.is_new true ns fs (view c.args.item) ms None value c.in_default-keys_misfit.ensures c.if-not-is_new.false
+          (λ p. made.0 (p ++ model.item_key ns ms ∷ [])),
+      record {
+        own = ms;
+        is_own = value;
+        child = record {
+          element = ap key c.in_ok-key.ensures;
+          placed = record-placed c.in-Fits.below (field_places fs ms) made.1;
+          tree = record-tree c.in-Fits.below (field_places fs ms) made.1;
+        };
+      },
+    )
+
+pub tested_item-returns-in_ok-below_key-in-Breaks : goal.tested_item-returns-in_ok-below_key-in-Breaks
+tested_item-returns-in_ok-below_key-in-Breaks t c =
+    let fs = fields_view c.args.fields.now.entries in
+    let ms = members_view c.in-Object.members.entries in
+    let below = c.in_ok-below_key-in-Breaks.field-0 in
+    keyed-from c.args.is_new true (names_view c.args.keys.now) fs (view c.args.item) ms (Some below)
+    (ap view c.in-Object.is ∙ view-Object c.in-Object.members) c.in_default-keys_misfit.ensures c.if-not-is_new.false
+    (subst (λ k. Finds (Some below) (λ p. model.field_faults fs ms (p ++ key k ∷ []))) c.in_ok-key.ensures
+    (c.in_ok-below_key-in-Breaks.ensures (model.field_faults fs ms)
+    (subst (IsTested (model.field_faults fs ms) (λ cs. AreNamed (field_places fs ms) cs.items)) c.in-Breaks.is c.in_ok-below.ensures)))
+
+pub tested_items-loop-item-init : goal.tested_items-loop-item-init
+tested_items-loop-item-init t c =
+    items-none (names_view c.args.keys.now) (fields_view c.args.fields.now.entries) c.args.items.items
+    (into_iter_items c.into_iter-item-iterator.result) c.in_ok-repeated.repeated c.in_ok-children.children.items
+    (sym c.into_iter-item-iterator.ensures.into_iter_gives.0) c.in_ok-children.ensures.items
+    (c.in_ok-repeated.ensures ∙ ap (λ xs. repeat_from same_element 0 [] (leading_keys (names_view c.args.keys.now) (items_view xs))) c.deref.ensures.value)
+
+pub tested_items-loop-item-preserved : goal.tested_items-loop-item-preserved
+tested_items-loop-item-preserved t c =
+    let l = c.loop-item in
+    let ns = names_view c.args.keys.now in
+    let fs = fields_view c.args.fields.now.entries in
+    let x = c.in-Some.item in
+    items-step ns fs c.args.items.items (into_iter_items l.item-iterator) (into_iter_items c.next.new.self) x l.place c.in_ok-repeated.repeated
+    c.is_other.result l.children.items c.push.new.self.items c.in-Fits.child c.in-Some.ensures.steps.0 c.is_other.ensures
+    (subst (IsTested (own_item_faults c.is_other.result ns fs (view x)) (IsItem ns fs (view x))) c.in-Fits.is c.in_ok-child.ensures)
+    c.in_ok-push-in-Fits.ensures.items l.invariant
+
+pub tested_items-returns-in-Breaks : goal.tested_items-returns-in-Breaks
+tested_items-returns-in-Breaks t c =
+    let l = c.loop-item in
+    let ns = names_view c.args.keys.now in
+    let fs = fields_view c.args.fields.now.entries in
+    let x = c.in-Some.item in
+    items-breaks ns fs c.args.items.items (into_iter_items l.item-iterator) (into_iter_items c.next.new.self) x l.place c.in_ok-repeated.repeated
+    c.is_other.result l.children.items c.in-Breaks.found c.in-Some.ensures.steps.0 c.is_other.ensures
+    (subst (IsTested (own_item_faults c.is_other.result ns fs (view x)) (IsItem ns fs (view x))) c.in-Breaks.is c.in_ok-child.ensures) l.invariant
+
+pub tested_items-returns : goal.tested_items-returns
+tested_items-returns t c =
+    let l = c.loop-item in
+    items-end (names_view c.args.keys.now) (fields_view c.args.fields.now.entries) c.args.items.items (into_iter_items l.item-iterator) l.place
+    c.in_ok-repeated.repeated l.children.items
+    (nil_from_length (into_iter_items l.item-iterator) (omega (arith, c.in-None.ensures.steps.0, l.item-iterator.rest.ok))) l.invariant
