@@ -72,7 +72,7 @@ keys_first : (xs ys rest : List FaultAt) (f : FaultAt) → Some f ≡ first_of x
 keys_first [] ys rest f e = absurd (some≢none f e)
 keys_first (x ∷ xs) ys rest f e = e
 
-keys_right : (xs ys : List FaultAt) → None ≡ first_of xs → or_else xs ys ≡ ys
+pub keys_right : (xs ys : List FaultAt) → None ≡ first_of xs → or_else xs ys ≡ ys
 keys_right [] ys e = refl
 keys_right (x ∷ xs) ys e = absurd (some≢none x (sym e))
 

@@ -1,11 +1,11 @@
 -- The walk over the children of two nodes that have the same elements, which stand in the order of these.
-use Rattle.std.proofs.Common.{◌≡◌, ℕ, ◌+◌, ◌<◌, ◌≤◌, List, [], ◌∷◌, length, get_or, drop, true, Ordering, Less, Equal, Greater, Some, refl, sym, ap, subst₂, ◌∙◌, arith, true≢false}
+use Rattle.std.proofs.Common.{◌≡◌, ℕ, ◌+◌, ◌<◌, ◌≤◌, List, [], ◌∷◌, length, get_or, drop, true, Equal, Some, refl, sym, ap, subst₂, ◌∙◌, arith}
 use Rattle.std.proofs.lemmas.List.{drop_all}
 use Rattle.std.proofs.lemmas.Option.{slice_get_read}
 use Rattle.std.specs.Prelude.{slice_get}
-use Rattle.std.specs.Ordering.{is_eq}
+use Rattle.std.specs.Cmp.{tied_itself}
 use Rattle.ssa_model.specs.definitions.Path.{Element, element_cmp}
-use Rattle.ssa_model.proofs.Tables.{element-itself as same_element-itself}
+use Rattle.ssa_path.proofs.Orders.{element_cmp_total}
 use Rattle.ssa_path.proofs.Lists.{left-at}
 use Rattle.ssa_path.specs.Children.{child_at, elements, heads_order, rises}
 use Rattle.ssa_path.specs.View.{element_view}
@@ -24,14 +24,9 @@ use Rattle.ssa_typed.proofs.Pairs.{element-beside, same-length}
 use Rattle.ssa_typed.proofs.References.{child-read, standing-order}
 use Rattle.ssa_typed.proofs.Repeating.{repeat-all}
 
-equal-told : (o : Ordering) → is_eq o ≡ true → o ≡ Equal
-equal-told Less h = absurd (true≢false (sym h))
-equal-told Equal h = refl
-equal-told Greater h = absurd (true≢false (sym h))
-
 -- an element compares as equal with itself
 tied : (e f : Element) → e ≡ f → element_cmp e f ≡ Equal
-tied e f h = equal-told (element_cmp e f) (ap (λ g. is_eq (element_cmp e g)) (sym h) ∙ same_element-itself e)
+tied e f h = ap (element_cmp e) (sym h) ∙ tied_itself element_cmp_total e
 
 -- where the heads have one element they tie
 heads-tied : (c b : Child) (cs ds : List Child) → element_view c.0 ≡ element_view b.0 → heads_order (c ∷ cs) (b ∷ ds) ≡ Some Equal

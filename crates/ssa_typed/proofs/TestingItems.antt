@@ -13,7 +13,7 @@ use Rattle.ssa_schema.specs.Repeats.{is_other, leading_keys, repeat_from}
 use Rattle.ssa_schema.specs.declared.fit.found.Found.{Found}
 use Rattle.ssa_schema.specs.declared.fit.found.Misfit.{Misfit}
 use Rattle.ssa_schema.proofs.Finding.{breaks_here, finds_from, finds_first, none_first}
-use Rattle.ssa_schema.proofs.ItemWalk.{kept-new, keyed_split}
+use Rattle.ssa_schema.proofs.ItemWalk.{kept-new, keyed_split, keys_right}
 use Rattle.ssa_schema.proofs.Leading.{lead-first, other-test, repeat-next}
 use Rattle.ssa_typed.specs.Flats.{rows_at, AreListed, IsItem}
 use Rattle.ssa_typed.specs.Rows.{rows_below}
@@ -28,10 +28,6 @@ keys-first : (xs ys : List FaultAt) (f : FaultAt) → Some f ≡ first_of xs →
 keys-first [] ys f e = absurd (true≢false (ap is_some e))
 keys-first (x ∷ xs) ys f e = e
 
-keys-right : (xs ys : List FaultAt) → None ≡ first_of xs → or_else xs ys ≡ ys
-keys-right [] ys e = refl
-keys-right (x ∷ xs) ys e = absurd (true≢false (sym (ap is_some e)))
-
 -- an object whose keys are wrong has their fault first
 pub keys-wrong : (is_new : Bool) (ns : List Text) (fs : Fields) (v : Json) (ms : Members) (m : Misfit) (here : Found) → v ≡ object ms
     → Breaks (Some m) (key_faults ns fs ms) → here.misfit ≡ m → here.path.items ≡ [] → Finds (Some here) (own_item_faults is_new ns fs v)
@@ -45,7 +41,7 @@ pub keyed-from : (is_new b : Bool) (ns : List Text) (fs : Fields) (v : Json) (ms
     → ((p : Path) → None ≡ first_of (key_faults ns fs ms p)) → is_new ≡ b → Finds o (keyed_faults b ns fs ms) → Finds o (own_item_faults is_new ns fs v)
 keyed-from is_new b ns fs v ms o is right new =
     finds_from o (own_item_faults is_new ns fs v) (keyed_faults b ns fs ms)
-    (λ p. ap first_of (ap (λ w. own_item_faults is_new ns fs w p) is ∙ keys-right (key_faults ns fs ms p) (keyed_faults is_new ns fs ms p) (right p)
+    (λ p. ap first_of (ap (λ w. own_item_faults is_new ns fs w p) is ∙ keys_right (key_faults ns fs ms p) (keyed_faults is_new ns fs ms p) (right p)
     ∙ ap (λ n. keyed_faults n ns fs ms p) new))
 
 -- ---- an item in front of others
