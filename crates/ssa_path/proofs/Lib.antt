@@ -34,4 +34,5 @@ pub mod TakingOut
 pub mod SortKeys
 pub mod LeadingTexts
 pub mod PathTexts
+pub mod NestedTexts
 pub mod WrittenPaths

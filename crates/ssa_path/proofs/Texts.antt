@@ -30,7 +30,7 @@ split-piece : (comma name value rest : Text) → comma ++ (name ++ 58 ∷ (value
 split-piece comma name value rest =
     ap (λ t. comma ++ t) (sym (append_assoc name (58 ∷ value) rest)) ∙ sym (append_assoc comma (name ++ 58 ∷ value) rest)
 
-text_from-more : (later : Bool) (ks : Fields) (i : ℕ) (k : SmallText × Scalar) → i < length ks → k ≡ get_or ks i k
+pub text_from-more : (later : Bool) (ks : Fields) (i : ℕ) (k : SmallText × Scalar) → i < length ks → k ≡ get_or ks i k
     → text_from later ks i ≡ member_piece later k ++ text_from true ks (i + 1)
 text_from-more later ks i k within is =
     ap (keys_text later) (member-at ks i k within is)

@@ -83,7 +83,11 @@ pub fn key_name(alloc: Global, members: &[(SmallText, Scalar)]) -> Result<String
 }
 
 // Appends a scalar's text.
-fn push_scalar(alloc: Global, text: &mut Vec<u8>, scalar: &Scalar) -> Result<(), AllocError>
+pub(crate) fn push_scalar(
+    alloc: Global,
+    text: &mut Vec<u8>,
+    scalar: &Scalar,
+) -> Result<(), AllocError>
     ensures text { OnOk result (text.new.items ≡ text.old.items ++ scalar_text (scalar_view scalar.now)) }
     ensures narrow { OnOk result (is_narrow_scalar (scalar_view scalar.now) ≡ true) }
 {

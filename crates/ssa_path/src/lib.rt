@@ -35,6 +35,7 @@ mod key_fields;
 pub mod keys;
 mod leading_text;
 pub mod listing;
+mod nested_text;
 pub mod order;
 pub mod parting;
 pub mod path;

@@ -1,10 +1,13 @@
 //! Elements and paths, appended to JSON text.
 ghost use Rattle.std.specs.Prelude.{◌≡◌, [], ◌∷◌, ◌++◌, true, OnOk};
 ghost use Rattle.ssa_model.specs.definitions.Entries.{text_json};
-ghost use Rattle.ssa_model.specs.definitions.Json.{compact, compact_items, list};
-ghost use Rattle.ssa_model.specs.definitions.Path.{element_text};
+ghost use Rattle.ssa_model.specs.definitions.Json.{compact, compact_items, list, quoted};
+ghost use Rattle.ssa_model.specs.definitions.Path.{element_text, key, key_members, value};
 ghost use Rattle.ssa_model.specs.definitions.Replies.{items_json, path_json, paths_json};
+ghost use Rattle.ssa_json.specs.View.{scalar_view};
 ghost use Rattle.ssa_json.specs.Writable.{IsOfProgram};
+ghost use Rattle.ssa_json.specs.Written.{is_narrow_scalar, members_narrow};
+ghost use Rattle.ssa_path.specs.Keys.{members_view};
 ghost use Rattle.ssa_path.specs.Listing.{behind, way_view};
 ghost use Rattle.ssa_path.specs.TopPaths.{last_view, lent_path, text_of};
 ghost use Rattle.ssa_path.specs.Trie.{here_path, is_trie, paths};
@@ -13,11 +16,14 @@ ghost use Rattle.ssa_path.specs.WrittenPaths.{AreWritten};
 
 use crate::element::Elem;
 use crate::field_set::FieldSet;
+use crate::nested_text::{push_nested_members, push_nested_scalar};
 use crate::path::Path;
 use crate::top_path::LentPath;
 use crate::trie::Trie;
 use ssa_json::quotes::has_no_escapes;
+use ssa_json::value::Scalar;
 use ssa_json::write::{push_comma, push_quoted};
+use ssa_members::SmallText;
 use std::alloc::{AllocError, Global};
 
 // Appends the text of a field whose name needs no escapes, in quotes.
@@ -32,18 +38,48 @@ fn push_plain_field(text: &mut Vec<u8>, name: &str) -> Result<(), AllocError>
     Ok(())
 }
 
+// Appends the text of an item with these key fields, in quotes.
+fn push_key(
+    alloc: Global,
+    text: &mut Vec<u8>,
+    members: &[(SmallText, Scalar)],
+) -> Result<(), AllocError>
+    ensures text { OnOk result (text.new.items ≡ text.old.items ++ quoted (element_text (key (members_view members.now)))) }
+    ensures narrow { OnOk result (members_narrow (key_members (members_view members.now)) ≡ true) }
+{
+    text.extend_from_slice(b"\"k:{")?;
+    push_nested_members(alloc, text, members)?;
+    text.push(b'"')?;
+    Ok(())
+}
+
+// Appends the text of an item with this value, in quotes.
+fn push_value(alloc: Global, text: &mut Vec<u8>, scalar: &Scalar) -> Result<(), AllocError>
+    ensures text { OnOk result (text.new.items ≡ text.old.items ++ quoted (element_text (value (scalar_view scalar.now)))) }
+    ensures narrow { OnOk result (is_narrow_scalar (scalar_view scalar.now) ≡ true) }
+{
+    text.extend_from_slice(b"\"v:")?;
+    push_nested_scalar(alloc, text, scalar)?;
+    text.push(b'"')?;
+    Ok(())
+}
+
 /// Appends the text of an element in quotes, as `"f:spec"`. Where memory runs out, part of it may stand there.
 pub fn push_element(alloc: Global, text: &mut Vec<u8>, element: &Elem) -> Result<(), AllocError>
     ensures text { OnOk result (text.new.items ≡ text.old.items ++ compact (text_json (element_text (element_view element.now)))) }
     ensures of_program { OnOk result (IsOfProgram (text_json (element_text (element_view element.now)))) }
 {
-    if let Elem::Field(name) = element {
-        if has_no_escapes(name.as_bytes()) {
-            return push_plain_field(text, name.as_str());
+    match element {
+        Elem::Field(name) if has_no_escapes(name.as_bytes()) => {
+            push_plain_field(text, name.as_str())
         }
+        Elem::Field(_) => {
+            let name = element.name(alloc)?;
+            push_quoted(text, name.as_str())
+        }
+        Elem::Key(keys) => push_key(alloc, text, keys.members()),
+        Elem::Value(scalar) => push_value(alloc, text, scalar),
     }
-    let name = element.name(alloc)?;
-    push_quoted(text, name.as_str())
 }
 
 /// Appends the path that a way leads along: the list of its elements' texts.

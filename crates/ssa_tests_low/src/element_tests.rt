@@ -7,6 +7,7 @@ use ssa_path::element::{Elem, own_texts_are_read};
 use ssa_path::element_fault::ElemFault;
 use ssa_path::keys::Keys;
 use ssa_path::path::Path;
+use ssa_path::path_text::push_path;
 use std::alloc::{AllocError, Global};
 use std::cmp::Ordering;
 use std::test::Fail;
@@ -17,6 +18,8 @@ pub enum Asked {
     Read,
     /// How an element is written that is made, by its name here.
     Made,
+    /// How the text's path is printed.
+    Printed,
     /// How the text's path stands to a copy of another.
     Ordered,
 }
@@ -26,6 +29,7 @@ pub fn answer(alloc: Global, asked: &Asked, text: &str) -> Result<String, Fail> 
     match asked {
         Asked::Read => read_again(alloc, text),
         Asked::Made => written_made(alloc, text),
+        Asked::Printed => path_printed(alloc, text),
         Asked::Ordered => order_told(alloc, text),
     }
 }
@@ -270,6 +274,41 @@ fn own_texts_alone_are_read(rt: HostRuntime) -> Result<(), Fail> {
     own_texts_are_read();
     are_told(rt.alloc(), &Question::Element(Asked::Read), &READ)?;
     are_told(rt.alloc(), &Question::Element(Asked::Made), &MADE)
+}
+
+// The text of the path of a text.
+fn path_printed(alloc: Global, text: &str) -> Result<String, Fail> {
+    let mut printed = Vec::new(alloc);
+    push_path(alloc, &mut printed, &path(alloc, text)?)?;
+    Ok(String::from_utf8(printed)?)
+}
+
+// Paths, and how they are printed: the list of their elements' texts, each with the escapes of its quotes and backslashes.
+const PRINTED: [(&str, &str); 10] = [
+    ("/", "[]"),
+    ("f:a\"/f:\\b", r#"["f:a\"","f:\\b"]"#),
+    (
+        r#"f:ports/k:{"port":80,"protocol":"TCP"}/f:name"#,
+        r#"["f:ports","k:{\"port\":80,\"protocol\":\"TCP\"}","f:name"]"#,
+    ),
+    (
+        r#"k:{"a":"","b":-1,"c":false,"d":true}"#,
+        r#"["k:{\"a\":\"\",\"b\":-1,\"c\":false,\"d\":true}"]"#,
+    ),
+    (
+        r#"k:{"\"\n":"\\\t","b":"c"}"#,
+        r#"["k:{\"\\\"\\n\":\"\\\\\\t\",\"b\":\"c\"}"]"#,
+    ),
+    (r#"v:"a.example""#, r#"["v:\"a.example\""]"#),
+    (r#"v:"a\"\\""#, r#"["v:\"a\\\"\\\\\""]"#),
+    ("v:\"\\u001f\u{e9}\"", "[\"v:\\\"\\\\u001f\u{e9}\\\"\"]"),
+    ("v:-9223372036854775808", r#"["v:-9223372036854775808"]"#),
+    ("v:true", r#"["v:true"]"#),
+];
+
+#[test]
+fn paths_are_printed(rt: HostRuntime) -> Result<(), Fail> {
+    are_told(rt.alloc(), &Question::Element(Asked::Printed), &PRINTED)
 }
 
 // How a path stands to another.
