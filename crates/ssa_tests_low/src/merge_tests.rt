@@ -95,8 +95,9 @@ const LEFT: [(&str, &str, &str); 12] = [
     (r#"{"v":[1,2]}"#, r#"{"v":[2,1]}"#, "other"),
 ];
 
-// A body and one that comes after it, and the paths added, modified and removed.
-const COMPARED: [(&str, &str, &str); 5] = [
+// A body and one that comes after it, and the paths added, modified and removed. The last five differ between items that are
+// the same: in one, in two whose order falls, in items on both sides of them, in an item less, and in the order alone.
+const COMPARED: [(&str, &str, &str); 10] = [
     (
         r#"{"a":1,"e":{"x":{}},"l":[{"n":2},{"n":1}],"s":[9,10]}"#,
         r#"{"a":3,"e":{},"l":[{"n":3},{"n":2}],"s":[9,10]}"#,
@@ -114,6 +115,27 @@ const COMPARED: [(&str, &str, &str); 5] = [
         "{}",
         " |  | f:e f:e/f:x f:e/f:x/f:x",
     ),
+    (
+        r#"{"l":[{"n":3},{"n":1,"t":1},{"n":2}],"s":[3,1,2]}"#,
+        r#"{"l":[{"n":3},{"n":1,"t":2},{"n":2}],"s":[3,1,2]}"#,
+        r#" | f:l/k:{"n":1}/f:t | "#,
+    ),
+    (
+        r#"{"l":[{"n":4,"t":1},{"n":3},{"n":2},{"n":1,"t":1},{"n":5}]}"#,
+        r#"{"l":[{"n":4,"t":2},{"n":3},{"n":2},{"n":1},{"n":5}]}"#,
+        r#" | f:l/k:{"n":4}/f:t | f:l/k:{"n":1}/f:t"#,
+    ),
+    (
+        r#"{"s":[5,1,2]}"#,
+        r#"{"s":[7,5,1,2,6]}"#,
+        "f:s/v:6 f:s/v:7 |  | ",
+    ),
+    (r#"{"s":[5,1,2]}"#, r#"{"s":[5,2]}"#, " |  | f:s/v:1"),
+    (
+        r#"{"l":[{"n":1,"t":1},{"n":2},{"n":3},{"n":4}]}"#,
+        r#"{"l":[{"n":1,"t":1},{"n":3},{"n":2},{"n":4}]}"#,
+        " |  | ",
+    ),
 ];
 
 // The paths that differ.
@@ -130,9 +152,9 @@ fn compared(alloc: Global, before: &Body, after: &Body) -> Result<String, Fail> 
 }
 
 // A body and a part that is put over it, the paths that it adds and modifies, and whether it leaves the body as it is: with
-// fewer fields and entries and its items in another order, with another leaf, with new items, with a new entry, and with
-// another atomic value.
-const PARTS: [(&str, &str, &str); 6] = [
+// fewer fields and entries and its items in another order, with another leaf, with new items, with a new entry, with another
+// atomic value, and with an item, between two that are the same, that has a field less or another leaf.
+const PARTS: [(&str, &str, &str); 8] = [
     (
         r#"{"a":1,"d":{"x":1,"z":1},"l":[{"n":2,"t":1},{"n":1}],"r":{"x":1},"s":[3,2,1]}"#,
         r#"{"d":{"z":1},"l":[{"n":1},{"n":2}],"r":{},"s":[1,3]}"#,
@@ -159,6 +181,16 @@ const PARTS: [(&str, &str, &str); 6] = [
         "f:d/f:z | f:a | false",
     ),
     (r#"{"v":[1,2]}"#, r#"{"v":[2,1]}"#, " | f:v | false"),
+    (
+        r#"{"l":[{"n":3},{"n":1,"t":1},{"n":2}]}"#,
+        r#"{"l":[{"n":3},{"n":1},{"n":2}]}"#,
+        " |  | true",
+    ),
+    (
+        r#"{"l":[{"n":3},{"n":1,"t":1},{"n":2}]}"#,
+        r#"{"l":[{"n":3},{"n":1,"t":2},{"n":2}]}"#,
+        r#" | f:l/k:{"n":1}/f:t | false"#,
+    ),
 ];
 
 // How a part that is put over a body differs from it.

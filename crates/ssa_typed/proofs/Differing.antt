@@ -14,11 +14,10 @@ use Rattle.ssa_path.specs.Trie.{is_one_of, paths}
 use Rattle.ssa_path.specs.View.{element_view}
 use Rattle.ssa_path.proofs.Levels.{any-made, is_trie-made, one-made-root, same_path-reading}
 use Rattle.ssa_path.proofs.Orders.{both_second}
-use Rattle.ssa_typed.specs.Differences.{Difference, Added, Modified, Removed, differs, differs_here, differs_below, differs_at, told_of_lost, told_of_new, AreDiffering, AreToldBoth, IsDiffering, IsDifference, IsToldAlone, IsToldBoth, IsToldLost}
-use Rattle.ssa_typed.specs.InOrder.{IsInOrder}
+use Rattle.ssa_typed.specs.Differences.{Difference, Added, Modified, Removed, differs, differs_here, differs_below, differs_at, told_of_lost, told_of_new, AreToldBoth, IsDiffering, IsDifference, IsToldAlone, IsToldBoth, IsToldLost}
 use Rattle.ssa_typed.specs.Over.{IsOver}
-use Rattle.ssa_typed.specs.Points.{point_in, collects_of, is_in_dict, is_point_of}
-use Rattle.ssa_typed.specs.Rows.{rows, below, content_at, body_of, is_tree}
+use Rattle.ssa_typed.specs.Points.{point_in, collects_of, is_point_of}
+use Rattle.ssa_typed.specs.Rows.{rows, content_at, body_of, is_tree}
 use Rattle.ssa_typed.specs.declared.compare.PartsBelow.{PartsBelow}
 use Rattle.ssa_typed.specs.declared.compare.Scope.{Scope}
 use Rattle.ssa_typed.specs.declared.compare.Scope.TheVariants.{Whole, Part}
@@ -27,7 +26,7 @@ use Rattle.ssa_typed.specs.declared.points.Collected.TheVariants.{Points}
 use Rattle.ssa_typed.proofs.Collecting.{point-level}
 use Rattle.ssa_typed.proofs.Lookups.{content-level, content-root}
 use Rattle.ssa_typed.proofs.Looks.{get-body}
-use Rattle.ssa_typed.proofs.Making.{TellsNothing, IsMaking, making-all, making-none, making-more, making-skip, front-own, front-other, front-both}
+use Rattle.ssa_typed.proofs.Making.{TellsNothing, IsMaking, making-none, making-more, making-skip, front-own, front-other, front-both}
 use Rattle.ssa_typed.proofs.References.{left-read}
 use Rattle.ssa_typed.proofs.Repeating.{RepeatChildren, repeat-past-both, repeat-past-lost}
 use Rattle.ssa_typed.proofs.Stands.{points-body}
@@ -193,13 +192,6 @@ module _ (what : Difference) (d : Bool) (cs0 ds0 : List (Elem × Node)) where
               (λ p. sym (differs-whole what d e c.1 b.1 before after p) ∙ nothing p) now)
         ]
 
-  -- where no child is left, the tries hold what differs below the two nodes
-  pub comparing-all : (n m : Node) (cs ds : List (Elem × Node)) (out : List (Elem × Trie)) → d ≡ is_in_dict m → IsInOrder (below n) cs0
-      → IsInOrder (below m) ds0 → cs ≡ [] → ds ≡ [] → IsComparing cs ds out → IsDiffering what n m out
-  comparing-all n m cs ds out is own other none_own none_other h =
-      let made = making-all (differs what d) cs0 ds0 cs ds out (tells-nothing what d) none_own none_other h in
-      record { paths_are = λ e p. made.paths_are e p ∙ (λ i. differs what (is i) e (own.same e i) (other.same e i) p); risen = made.risen; tries = made.tries }
-
 -- ---- all that is told, by one walk
 
 -- a child that only the tree before has is passed, with what is removed by a whole tree or by a part
@@ -267,15 +259,6 @@ module _ (scope : Scope) (d : Bool) (cs0 ds0 : List (Elem × Node)) (i j : ℕ) 
         let both = repeats all in
         h.repeats_so_far both.0 (repeat-past-both cs0 ds0 i j h.added_so_far.own_rise h.added_so_far.others_rise c b order is_c is_b both.1 rest);
   }
-
--- where no child is left, all that differs below the two nodes is told
-pub past-all : (scope : Scope) (d : Bool) (cs0 ds0 : List (Elem × Node)) (n m : Node) (cs ds : List (Elem × Node)) (v : PartsBelow) → d ≡ is_in_dict m
-    → IsInOrder (below n) cs0 → IsInOrder (below m) ds0 → cs ≡ [] → ds ≡ [] → AreComparing scope d cs0 ds0 cs ds v → AreDiffering scope n m v
-past-all scope d cs0 ds0 n m cs ds v is own other none_own none_other h = record {
-  added_below = comparing-all Added d cs0 ds0 n m cs ds v.added.items is own other none_own none_other h.added_so_far;
-  modified_below = comparing-all Modified d cs0 ds0 n m cs ds v.modified.items is own other none_own none_other h.modified_so_far;
-  removed_below = comparing-all (Removed scope) d cs0 ds0 n m cs ds v.removed.items is own other none_own none_other h.removed_so_far;
-}
 
 -- before the walk nothing is told of any child
 pub past-none : (scope : Scope) (d : Bool) (cs ds : List (Elem × Node)) (v : PartsBelow) → v.added.items ≡ [] → v.modified.items ≡ [] → v.removed.items ≡ []

@@ -14,11 +14,14 @@ use Rattle.ssa_typed.specs.InOrder.{IsInOrder}
 use Rattle.ssa_typed.specs.Over.{HaveOver, IsOver}
 use Rattle.ssa_typed.specs.Points.{is_in_dict}
 use Rattle.ssa_typed.specs.Rows.{below, is_tree}
+use Rattle.ssa_typed.specs.Same.{AreLeft}
 use Rattle.ssa_typed.specs.declared.compare.PartsBelow.{PartsBelow}
 use Rattle.ssa_typed.specs.declared.compare.Scope.{Scope}
 use Rattle.ssa_typed.specs.declared.node.Node.{Node}
 use Rattle.ssa_typed.proofs.Building.{Child}
-use Rattle.ssa_typed.proofs.Differing.{AreComparing, past-all, past-both, past-none}
+use Rattle.ssa_typed.proofs.Differing.{AreComparing, past-both, past-none}
+use Rattle.ssa_typed.proofs.DifferingLeft.{past-all}
+use Rattle.ssa_typed.proofs.Left.{left-ordered}
 use Rattle.ssa_typed.proofs.Lookups.{tree-child}
 use Rattle.ssa_typed.proofs.Pairs.{element-beside, same-length}
 use Rattle.ssa_typed.proofs.References.{child-read, standing-order}
@@ -48,6 +51,9 @@ module _ (scope : Scope) (n m : Node) (cs ds : List Child) (own : cs ≡ below n
 
   others_order : IsInOrder (below m) ds
   others_order = standing-order (below m) ds ds (sym other) refl others_rise
+
+  left : AreLeft (below n) (below m) cs ds
+  left = left-ordered (below n) (below m) cs ds own_order others_order
 
   -- all that is told of the children up to a place
   abbrev pub IsComparedTo : ℕ → PartsBelow → Type 0
@@ -101,8 +107,8 @@ module _ (scope : Scope) (n m : Node) (cs ds : List Child) (own : cs ≡ below n
 
     -- behind the last child all that differs is told
     pub alike-all : AreDiffering scope n m told
-    alike-all = past-all scope (is_in_dict m) cs ds n m _ _ told refl own_order others_order none_own none_other h
+    alike-all = past-all scope (is_in_dict m) cs ds n m _ _ told refl left none_own none_other h
 
     -- where the flag still stands, all that is below the first node stays
     pub alike-repeats : told.repeats ≡ true → HaveOver (below n) (below m) (below n)
-    alike-repeats repeats = repeat-all cs ds n m _ _ own_order others_order none_own none_other (h.repeats_so_far repeats)
+    alike-repeats repeats = repeat-all cs ds n m _ _ left none_own none_other (h.repeats_so_far repeats)

@@ -9,6 +9,7 @@ pub mod Cutting
 pub mod Differing
 pub mod DifferingAlike
 pub mod DifferingLeaves
+pub mod DifferingLeft
 pub mod EmptyMetadata
 pub mod FallenChildren
 pub mod Falling
@@ -20,6 +21,7 @@ pub mod KnownPoints
 pub mod LackingPaths
 pub mod Laws
 pub mod Leaving
+pub mod Left
 pub mod Levels
 pub mod Looks
 pub mod Lookups

@@ -1,19 +1,18 @@
 -- A tree that leaves another as it is where it is put over it.
-use Rattle.std.proofs.Common.{◌≡◌, ℕ, ◌+◌, List, [], ◌∷◌, ◌++◌, drop, true, false, not, ◌&&◌, ◌||◌, cond, Option, Some, None, Less, Equal, refl, sym, ap, subst, subst₂, ◌∙◌, append-nil, true≢false}
+use Rattle.std.proofs.Common.{◌≡◌, ℕ, ◌+◌, inl, inr, List, [], ◌∷◌, ◌++◌, drop, true, false, not, ◌||◌, cond, Option, Some, None, Less, Equal, refl, sym, ap, subst, subst₂, ◌∙◌, append-nil, true≢false}
 use Rattle.std.specs.Prelude.{slice_get}
-use Rattle.ssa_model.specs.definitions.Body.{Content, leaf, atom, record_branch, dict_branch, list_branch, is_leaf, joined, order_at, over_content}
+use Rattle.ssa_model.specs.definitions.Body.{Content, leaf, atom, record_branch, dict_branch, list_branch, joined, order_at, over_content}
 use Rattle.ssa_model.specs.definitions.Kind.{is_among}
 use Rattle.ssa_model.specs.definitions.Path.{Element, Path, same_element}
 use Rattle.ssa_model.proofs.Basics.{some≢none as some-none}
 use Rattle.ssa_path.specs.Children.{child_at, elements, heads_order, rises}
 use Rattle.ssa_path.specs.declared.element.Elem.{Elem}
 use Rattle.ssa_path.specs.View.{element_view}
-use Rattle.ssa_typed.specs.Alike.{are_alike}
-use Rattle.ssa_typed.specs.InOrder.{IsInOrder}
+use Rattle.ssa_typed.specs.Alike.{are_branches_alike}
 use Rattle.ssa_typed.specs.Over.{HaveOver, IsOver}
 use Rattle.ssa_typed.specs.Points.{content_in}
 use Rattle.ssa_typed.specs.Rows.{below, content_at, is_tree, own_content, rows}
-use Rattle.ssa_typed.specs.Same.{AreSame}
+use Rattle.ssa_typed.specs.Same.{AreLeft, AreSame, IsLeft}
 use Rattle.ssa_typed.specs.declared.node.Node.{Node}
 use Rattle.ssa_typed.specs.declared.node.Node.TheViews.{out-Node}
 use Rattle.ssa_typed.proofs.Lookups.{child_at-none, content-root}
@@ -69,10 +68,30 @@ module _ (cs0 ds0 : List (Elem × Node)) (i j : ℕ) (own_rise : rises (elements
       subst₂ RepeatChildren (sym own) (sym other)
       (repeat-front (element_view c.0) (Some c.1) (Some b.1) (c ∷ cs) (b ∷ ds) cs ds front here.content rest)
 
+over-itself : (o : Option Content) → o ≡ over_content o o
+over-itself None = refl
+over-itself (Some (leaf s)) = refl
+over-itself (Some (atom v)) = refl
+over-itself (Some record_branch) = refl
+over-itself (Some dict_branch) = refl
+over-itself (Some (list_branch es)) = ap (λ l. Some (list_branch l)) (sym (joined-alike es es refl))
+
+-- a tree that is the other leaves its contents as they are
+same-repeats : (n m : Node) → AreSame n m → RepeatsIn (Some n) (Some m)
+same-repeats n m same p = over-itself (content_at (rows n) p) ∙ ap (over_content (content_at (rows n) p)) (sym (same p))
+
+-- where what is left under an element leaves the first as it is, so does all that stands under it
+pub left-repeats : (x y own other : Option Node) → IsLeft x y own other → RepeatsIn own other → RepeatsIn x y
+left-repeats x y own other h rest = elim h [
+  | inl (is, other_is) ↦ subst₂ RepeatsIn is other_is rest
+  | inr (pair, none, none_other) ↦ subst₂ RepeatsIn (sym pair.own_is) (sym pair.other_is) (same-repeats pair.own pair.other pair.same)
+]
+
 -- where no child is left and the children so far stay, all that is below the first node stays
-pub repeat-all : (cs0 ds0 : List (Elem × Node)) (n m : Node) (cs ds : List (Elem × Node)) → IsInOrder (below n) cs0 → IsInOrder (below m) ds0 → cs ≡ []
-    → ds ≡ [] → (RepeatChildren cs ds → RepeatChildren cs0 ds0) → RepeatChildren (below n) (below m)
-repeat-all cs0 ds0 n m cs ds own other none_own none_other so_far e = subst₂ RepeatsIn (own.same e) (other.same e) (so_far none-left e)
+pub repeat-all : (cs0 ds0 : List (Elem × Node)) (n m : Node) (cs ds : List (Elem × Node)) → AreLeft (below n) (below m) cs0 ds0 → cs ≡ [] → ds ≡ []
+    → (RepeatChildren cs ds → RepeatChildren cs0 ds0) → RepeatChildren (below n) (below m)
+repeat-all cs0 ds0 n m cs ds left none_own none_other so_far e =
+    left-repeats (child_at e (below n)) (child_at e (below m)) (child_at e cs0) (child_at e ds0) (left.each e) (so_far none-left e)
   where
     none-left : RepeatChildren cs ds
     none-left f = subst₂ (λ ks ls. RepeatsIn (child_at f ks) (child_at f ls)) (sym none_own) (sym none_other) (λ p. refl)
@@ -104,7 +123,7 @@ child-known cs ds h e among =
 known-order : (es fs : List Element) → ((e : Element) → is_among e fs ≡ true → is_among e es ≡ true) → joined es fs ≡ es
 known-order es fs h = ap (λ l. es ++ l) (none-pass (λ f. not (is_among f es)) fs (λ e among. ap not (h e among))) ∙ append-nil es
 
-repeat-content : (c d : Content) → (not (is_leaf (Some d)) && are_alike (Some c) (Some d)) ≡ true
+repeat-content : (c d : Content) → are_branches_alike c d ≡ true
     → (is_listing c ≡ true → is_listing d ≡ true → joined (order_at (Some c)) (order_at (Some d)) ≡ order_at (Some c))
     → Some c ≡ over_content (Some c) (Some d)
 unfolding is_listing
@@ -120,7 +139,7 @@ repeat-content (list_branch es) (list_branch fs) h k = ap (λ l. Some (list_bran
 
 -- where both are branches of one sort and each child stays, so does the first tree
 pub repeat-level : (n m : Node) → is_tree n ≡ true → is_tree m ≡ true
-    → (not (is_leaf (Some (own_content m))) && are_alike (Some (own_content n)) (Some (own_content m))) ≡ true
+    → are_branches_alike (own_content n) (own_content m) ≡ true
     → RepeatChildren (below n) (below m) → IsOver n m n
 repeat-level n m before after sort h =
     let order : is_listing (own_content n) ≡ true → is_listing (own_content m) ≡ true
@@ -130,17 +149,9 @@ repeat-level n m before after sort h =
     (λ i. joined (own i) (other i)) ∙ known-order (elements (below n)) (elements (below m)) (child-known (below n) (below m) h) ∙ sym own in
     over-level n m n before after before (repeat-content (own_content n) (own_content m) sort order) h
 
-over-itself : (o : Option Content) → o ≡ over_content o o
-over-itself None = refl
-over-itself (Some (leaf s)) = refl
-over-itself (Some (atom v)) = refl
-over-itself (Some record_branch) = refl
-over-itself (Some dict_branch) = refl
-over-itself (Some (list_branch es)) = ap (λ l. Some (list_branch l)) (sym (joined-alike es es refl))
-
 -- a tree that is the other leaves it as it is
 pub repeat-same : (n m : Node) → is_tree n ≡ true → AreSame n m → IsOver n m n
 repeat-same n m before same = record {
-  content = λ p. over-itself (content_at (rows n) p) ∙ ap (over_content (content_at (rows n) p)) (sym (same p));
+  content = same-repeats n m same;
   tree = before;
 }

@@ -227,7 +227,7 @@ none-among e (c ∷ cs) h =
     ] h
 
 -- an element is none of those before it
-before-apart : (es : List Element) (e : Element) (fs : List Element) → are_apart (es ++ e ∷ fs) ≡ true → list_any (same_element e) es ≡ false
+pub before-apart : (es : List Element) (e : Element) (fs : List Element) → are_apart (es ++ e ∷ fs) ≡ true → list_any (same_element e) es ≡ false
 before-apart [] e fs h = refl
 before-apart (f ∷ es) e fs h =
     let others = sym (list_any-append (same_element f) es (e ∷ fs)) ∙ not_true _ (both_first (not (list_any (same_element f) (es ++ e ∷ fs))) _ h) in

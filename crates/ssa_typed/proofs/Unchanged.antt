@@ -26,7 +26,8 @@ use Rattle.ssa_model.proofs.Basics.{and-false as and_false}
 
 -- ---- the same contents
 
-untold-by : (o q x y : Option Content) → o ≡ x → q ≡ y → IsUntold x y → IsUntold o q
+-- contents are untold as those are that they are
+pub untold-by : (o q x y : Option Content) → o ≡ x → q ≡ y → IsUntold x y → IsUntold o q
 untold-by o q x y is other_is h = (ap is_some is ∙ h.0 ∙ sym (ap is_some other_is), (λ i. is_other_leaf (is i) (other_is i)) ∙ h.1)
 
 other-itself : (o : Option Content) → is_other_leaf o o ≡ false
@@ -58,7 +59,8 @@ no-new-point : (in_dict : Bool) (e : Element) (c : Option Node) (p : Path) (ther
 no-new-point in_dict e c p true is = and_false (point_in in_dict e c p)
 no-new-point in_dict e c p false is = ap (λ b. b && true) (no-point in_dict e c p is)
 
-untold : (what : Difference) (in_dict : Bool) (e : Element) (c d : Option Node) (p : Path) → IsUntold (content_in c p) (content_in d p)
+-- where the same is known of both contents at a path, nothing is told there
+pub untold : (what : Difference) (in_dict : Bool) (e : Element) (c d : Option Node) (p : Path) → IsUntold (content_in c p) (content_in d p)
     → differs what in_dict e c d p ≡ false
 untold Added in_dict e c d p h = no-new-point in_dict e d p (is_some (content_in c p)) (sym h.0)
 untold Modified in_dict e c d p h = h.1

@@ -1,5 +1,5 @@
 -- Bodies one of which may be put over the other.
-use Rattle.std.specs.Prelude.{◌≡◌, Bool, true, false, Option, None, Some}
+use Rattle.std.specs.Prelude.{◌≡◌, Bool, true, false, not, ◌&&◌, Option, None, Some}
 use Rattle.ssa_model.specs.definitions.Fitting.{IsBodyOf}
 use Rattle.ssa_model.specs.definitions.Kind.{Kind}
 use Rattle.ssa_model.specs.definitions.Path.{Path}
@@ -23,3 +23,7 @@ AreAlike live config = (p : Path) → are_alike (get live p) (get config p) ≡ 
 -- two bodies of one kind are so
 abbrev pub BodiesAreAlike : Type 0
 BodiesAreAlike = (kind : Kind) (b c : Body) → IsBodyOf kind b → IsBodyOf kind c → AreAlike b c
+
+-- both are records, both Dicts or both lists
+abbrev pub are_branches_alike : Content → Content → Bool
+are_branches_alike c d = not (is_leaf (Some d)) && are_alike (Some c) (Some d)

@@ -18,7 +18,7 @@ ghost use Rattle.ssa_typed.specs.LostWith.{left_with, AreFree};
 ghost use Rattle.ssa_typed.specs.Reached.{PartsAreOfPlaces, PointsKeepAll, PointsTellPlaces};
 ghost use Rattle.ssa_typed.specs.Rows.{body_of, is_tree};
 
-use crate::compare::{Comparison, Scope, differing};
+use crate::compare::{Comparison, Scope, differing_parts};
 use crate::lacking::lacking_paths;
 use crate::lost_with::fallen_paths;
 use crate::node::{Look, Node};
@@ -230,7 +230,7 @@ impl Body {
     pub fn compare(&self, alloc: Global, after: &Body) -> Result<Comparison, AllocError>
         ensures { IfOk result (λ c. IsComparison self.now after.now c) }
     {
-        let told = differing(alloc, Scope::Whole, &self.root, &after.root)?;
+        let told = differing_parts(alloc, Scope::Whole, &self.root, &after.root)?;
         Ok(Comparison {
             added: FieldSet::from_root(told.added),
             modified: FieldSet::from_root(told.modified),
@@ -243,7 +243,7 @@ impl Body {
     pub fn compare_part(&self, alloc: Global, part: &Body) -> Result<PartComparison, AllocError>
         ensures { IfOk result (λ c. IsPartComparison self.now part.now c) }
     {
-        let told = differing(alloc, Scope::Part, &self.root, &part.root)?;
+        let told = differing_parts(alloc, Scope::Part, &self.root, &part.root)?;
         Ok(PartComparison {
             added: FieldSet::from_root(told.added),
             modified: FieldSet::from_root(told.modified),

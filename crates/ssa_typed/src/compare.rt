@@ -1,23 +1,25 @@
 //! What one body has otherwise than another that comes before it.
-ghost use Rattle.std.specs.Prelude.{◌≡◌, ◌&&◌, true, not, drop, [], Some, IfOk, OnOk};
-ghost use Rattle.ssa_model.specs.definitions.Body.{Body, is_leaf, is_other_leaf};
+ghost use Rattle.std.specs.Prelude.{◌≡◌, ◌&&◌, true, drop, [], IfOk, OnOk};
+ghost use Rattle.ssa_model.specs.definitions.Body.{Body};
 ghost use Rattle.ssa_model.specs.definitions.PathMap.{is_empty};
 ghost use Rattle.ssa_path.specs.Children.{elements, heads_order, rises};
 ghost use Rattle.ssa_path.specs.Combine.{IsGrown};
 ghost use Rattle.ssa_path.specs.Trie.{is_trie};
 ghost use Rattle.ssa_path.specs.View.{element_view};
-ghost use Rattle.ssa_typed.specs.Alike.{are_alike};
+ghost use Rattle.ssa_typed.specs.Alike.{are_branches_alike};
 ghost use Rattle.ssa_typed.specs.declared.compare.Scope.{Scope};
 ghost use Rattle.ssa_typed.specs.declared.node.Node.{Leaf as LeafOf};
-ghost use Rattle.ssa_typed.specs.Differences.{AreDifferences, AreDiffering, AreToldBoth, IsComparison, IsToldAlone, IsToldLost, TellsNothing};
+ghost use Rattle.ssa_typed.specs.Differences.{AreDifferences, AreDiffering, AreToldBoth, IsComparison, IsToldAlone, IsToldLost};
 ghost use Rattle.ssa_typed.specs.Ordered.{lent_children};
 ghost use Rattle.ssa_typed.specs.Over.{HaveOver, IsOver};
-ghost use Rattle.ssa_typed.specs.Rows.{below, is_tree, leaf_content, own_content};
+ghost use Rattle.ssa_typed.specs.Rows.{below, is_tree, own_content};
+ghost use Rattle.ssa_typed.specs.Same.{AreLeft};
 
 use crate::in_order::stand_alike;
 use crate::node::{Leaf, Node};
-use crate::ordered::Ordered;
+use crate::ordered::{Ordered, items_in_order};
 use crate::points::{Collected, collect_child};
+use crate::same_ends::between_same;
 use ssa_path::combine::push_filled;
 use ssa_path::element::Elem;
 use ssa_path::field_set::FieldSet;
@@ -99,71 +101,6 @@ impl PartsBelow {
             removed: Vec::new(alloc),
             repeats: true,
         }
-    }
-}
-
-impl Leaf {
-    // Whether this leaf is of the other's sort and has other contents.
-    fn is_other(&self, other: &Leaf) -> bool
-        ensures { result ≡ is_other_leaf (Some (leaf_content self.now)) (Some (leaf_content other.now)) }
-    {
-        match (self, other) {
-            (Leaf::Scalar(own), Leaf::Scalar(other)) => !own.same(other),
-            (Leaf::Atomic(own), Leaf::Atomic(other)) => !own.same(other),
-            (Leaf::Scalar(_), Leaf::Atomic(_)) => false,
-            (Leaf::Atomic(_), Leaf::Scalar(_)) => false,
-        }
-    }
-}
-
-impl Node {
-    // Whether both nodes are leaves of one sort with other contents.
-    fn is_other_leaf(&self, after: &Node) -> bool
-        ensures { result ≡ is_other_leaf (Some (own_content self.now)) (Some (own_content after.now)) }
-    {
-        match (self, after) {
-            (Node::Leaf(own), Node::Leaf(other)) => own.is_other(other),
-            (Node::Leaf(_), Node::Branch(_)) => false,
-            (Node::Leaf(_), Node::Dict(_)) => false,
-            (Node::Leaf(_), Node::List(_)) => false,
-            (Node::Branch(_), _) => false,
-            (Node::Dict(_), _) => false,
-            (Node::List(_), _) => false,
-        }
-    }
-
-    // Whether both nodes are records, both Dicts or both lists.
-    fn is_branch_like(&self, after: &Node) -> bool
-        ensures { result ≡ true → (not (is_leaf (Some (own_content after.now))) && are_alike (Some (own_content self.now)) (Some (own_content after.now))) ≡ true }
-    {
-        match (self, after) {
-            (Node::Branch(_), Node::Branch(_)) => true,
-            (Node::Dict(_), Node::Dict(_)) => true,
-            (Node::List(_), Node::List(_)) => true,
-            _ => false,
-        }
-    }
-}
-
-// What is told of trees that are unchanged.
-fn no_parts(alloc: Global) -> Parts
-    ensures { TellsNothing result }
-{
-    let (added, modified, removed) = (Vec::new(alloc), Vec::new(alloc), Vec::new(alloc));
-    Parts {
-        added: Trie {
-            here: false,
-            below: added,
-        },
-        modified: Trie {
-            here: false,
-            below: modified,
-        },
-        removed: Trie {
-            here: false,
-            below: removed,
-        },
-        repeats: true,
     }
 }
 
@@ -282,17 +219,14 @@ fn push_differing(
     if let (Node::Leaf(own), Node::Leaf(other)) = (&child.1, after) {
         return push_leaf(alloc, told, &child.0, own, other);
     }
-    if child.1.is_plainly_same(after) {
-        return Ok(());
-    }
-    push_parts(alloc, scope, told, child, after)?;
+    push_branches(alloc, scope, told, child, after)?;
     Ok(())
 }
 
 // Adds what differs in a child that both trees have, by a walk below it.
 #[cycle(differing)]
-#[inline(always)]
-fn push_parts(
+#[inline(never)]
+fn push_branches(
     alloc: Global,
     scope: Scope,
     told: &mut PartsBelow,
@@ -304,30 +238,82 @@ fn push_parts(
     ensures told { OnOk result (AreToldBoth scope child.now after.now told.old told.new) }
     ensures repeats { OnOk result (told.new.repeats ≡ true → (told.old.repeats ≡ true) × IsOver child.now.1 after.now child.now.1) }
 {
+    if child.1.are_lists(after) {
+        return push_items(alloc, scope, told, child, after);
+    }
+    if child.1.has_same_few_leaves(after) {
+        return Ok(());
+    }
     let parts = differing_parts(alloc, scope, &child.1, after)?;
-    push_told(alloc, &mut told.added, &child.0, parts.added)?;
-    push_told(alloc, &mut told.modified, &child.0, parts.modified)?;
-    push_told(alloc, &mut told.removed, &child.0, parts.removed)?;
+    push_parts(alloc, told, &child.0, parts)
+}
+
+// Adds what differs in a list that both trees have. Items that are the same at both ends of the lists
+// are passed by, so that only those between them are put in order.
+#[cycle(differing)]
+fn push_items(
+    alloc: Global,
+    scope: Scope,
+    told: &mut PartsBelow,
+    child: &(Elem, Node),
+    after: &Node,
+) -> Result<(), AllocError>
+    requires before { is_tree child.now.1 ≡ true }
+    requires after { is_tree after.now ≡ true }
+    requires lists { are_branches_alike (own_content child.now.1) (own_content after.now) ≡ true }
+    ensures told { OnOk result (AreToldBoth scope child.now after.now told.old told.new) }
+    ensures repeats { OnOk result (told.new.repeats ≡ true → (told.old.repeats ≡ true) × IsOver child.now.1 after.now child.now.1) }
+{
+    let (own, others) = between_same(child.1.children(), after.children());
+    if own.is_empty() && others.is_empty() {
+        return Ok(());
+    }
+    let parts = differing_items(alloc, scope, &child.1, after, own, others)?;
+    push_parts(alloc, told, &child.0, parts)
+}
+
+// Adds what is told of a child that both trees have.
+#[inline(always)]
+fn push_parts(
+    alloc: Global,
+    told: &mut PartsBelow,
+    element: &Elem,
+    parts: Parts,
+) -> Result<(), AllocError>
+    requires added { is_trie parts.added ≡ true }
+    requires modified { is_trie parts.modified ≡ true }
+    requires removed { is_trie parts.removed ≡ true }
+    ensures added { OnOk result (IsGrown (element_view element.now) parts.added told.old.added.items told.new.added.items) }
+    ensures modified { OnOk result (IsGrown (element_view element.now) parts.modified told.old.modified.items told.new.modified.items) }
+    ensures removed { OnOk result (IsGrown (element_view element.now) parts.removed told.old.removed.items told.new.removed.items) }
+    ensures repeats { OnOk result (told.new.repeats ≡ (told.old.repeats && parts.repeats)) }
+{
+    push_told(alloc, &mut told.added, element, parts.added)?;
+    push_told(alloc, &mut told.modified, element, parts.modified)?;
+    push_told(alloc, &mut told.removed, element, parts.removed)?;
     told.repeats = told.repeats && parts.repeats;
     Ok(())
 }
 
-// What differs below two nodes, found by one walk over the children of both in the order of their
-// elements.
+// What differs below two nodes, found by one walk over the children of both that are left, in the
+// order of their elements.
 #[cycle(differing)]
 fn differing_beside(
     alloc: Global,
     scope: Scope,
     before: &Node,
     after: &Node,
+    own: &Ordered,
+    others: &Ordered,
 ) -> Result<PartsBelow, AllocError>
     requires before { is_tree before.now ≡ true }
     requires after { is_tree after.now ≡ true }
+    requires own { rises (elements (lent_children own.now)) ≡ true }
+    requires others { rises (elements (lent_children others.now)) ≡ true }
+    requires left { AreLeft (below before.now) (below after.now) (lent_children own.now) (lent_children others.now) }
     ensures told { IfOk result (λ v. AreDiffering scope before.now after.now v) }
     ensures repeats { IfOk result (λ v. v.repeats ≡ true → HaveOver (below before.now) (below after.now) (below before.now)) }
 {
-    let own = &before.ordered(alloc)?;
-    let others = &after.ordered(alloc)?;
     let in_dict = after.is_dict();
     let (mut i, mut j) = (0, 0);
     let mut told = PartsBelow::of_none(alloc);
@@ -415,12 +401,64 @@ fn differing_below(
     if stand_in_order_alike(before, after) {
         return differing_alike(alloc, scope, before, after);
     }
-    differing_beside(alloc, scope, before, after)
+    let own = &before.ordered(alloc)?;
+    let others = &after.ordered(alloc)?;
+    let told = differing_beside(alloc, scope, before, after, own, others)?;
+    Ok(told)
+}
+
+// What is told of two trees, by what is told of their children.
+#[inline(always)]
+fn parts_of(before: &Node, after: &Node, told: PartsBelow) -> Parts
+    requires before { is_tree before.now ≡ true }
+    requires after { is_tree after.now ≡ true }
+    ensures told { (scope : Scope) → AreDiffering scope before.now after.now told → AreDifferences scope before.now after.now result }
+    ensures repeats { (told.repeats ≡ true → HaveOver (below before.now) (below after.now) (below before.now)) → result.repeats ≡ true → IsOver before.now after.now before.now }
+{
+    let here = before.is_other_leaf(after);
+    let repeats = told.repeats && before.is_branch_like(after);
+    Parts {
+        added: Trie {
+            here: false,
+            below: told.added,
+        },
+        modified: Trie {
+            here,
+            below: told.modified,
+        },
+        removed: Trie {
+            here: false,
+            below: told.removed,
+        },
+        repeats,
+    }
+}
+
+// What differs between two trees, found by one walk over their children that are left.
+#[cycle(differing)]
+fn differing_items(
+    alloc: Global,
+    scope: Scope,
+    before: &Node,
+    after: &Node,
+    own: &[(Elem, Node)],
+    others: &[(Elem, Node)],
+) -> Result<Parts, AllocError>
+    requires before { is_tree before.now ≡ true }
+    requires after { is_tree after.now ≡ true }
+    requires left { AreLeft (below before.now) (below after.now) own.now others.now }
+    ensures told { IfOk result (λ v. AreDifferences scope before.now after.now v) }
+    ensures repeats { IfOk result (λ v. v.repeats ≡ true → IsOver before.now after.now before.now) }
+{
+    let own = &items_in_order(alloc, own)?;
+    let others = &items_in_order(alloc, others)?;
+    let told = differing_beside(alloc, scope, before, after, own, others)?;
+    Ok(parts_of(before, after, told))
 }
 
 // What differs between two trees, found by one walk over both.
 #[cycle(differing)]
-fn differing_parts(
+pub(crate) fn differing_parts(
     alloc: Global,
     scope: Scope,
     before: &Node,
@@ -431,41 +469,6 @@ fn differing_parts(
     ensures told { IfOk result (λ v. AreDifferences scope before.now after.now v) }
     ensures repeats { IfOk result (λ v. v.repeats ≡ true → IsOver before.now after.now before.now) }
 {
-    let below = differing_below(alloc, scope, before, after)?;
-    let here = before.is_other_leaf(after);
-    let repeats = below.repeats && before.is_branch_like(after);
-    Ok(Parts {
-        added: Trie {
-            here: false,
-            below: below.added,
-        },
-        modified: Trie {
-            here,
-            below: below.modified,
-        },
-        removed: Trie {
-            here: false,
-            below: below.removed,
-        },
-        repeats,
-    })
-}
-
-// What differs between two trees.
-pub(crate) fn differing(
-    alloc: Global,
-    scope: Scope,
-    before: &Node,
-    after: &Node,
-) -> Result<Parts, AllocError>
-    requires before { is_tree before.now ≡ true }
-    requires after { is_tree after.now ≡ true }
-    ensures told { IfOk result (λ v. AreDifferences scope before.now after.now v) }
-    ensures repeats { IfOk result (λ v. v.repeats ≡ true → IsOver before.now after.now before.now) }
-{
-    if before.is_plainly_same(after) {
-        return Ok(no_parts(alloc));
-    }
-    let parts = differing_parts(alloc, scope, before, after)?;
-    Ok(parts)
+    let told = differing_below(alloc, scope, before, after)?;
+    Ok(parts_of(before, after, told))
 }

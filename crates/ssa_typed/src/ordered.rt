@@ -5,7 +5,7 @@ ghost use Rattle.ssa_path.specs.Children.{child_at, elements, rises};
 ghost use Rattle.ssa_path.specs.View.{element_view};
 ghost use Rattle.ssa_typed.specs.InOrder.{IsInOrder};
 ghost use Rattle.ssa_typed.specs.Ordered.{lent_children};
-ghost use Rattle.ssa_typed.specs.Rows.{below, is_tree};
+ghost use Rattle.ssa_typed.specs.Rows.{are_apart, below, is_tree};
 
 use crate::in_order::{find_in_order, in_order};
 use crate::node::Node;
@@ -66,6 +66,22 @@ impl<'a> Ordered<'a> {
     }
 }
 
+/// Items of a list in the order of their elements. One alone stands so, and takes no memory.
+#[inline(always)]
+pub(crate) fn items_in_order(
+    alloc: Global,
+    items: &[(Elem, Node)],
+) -> Result<Ordered<'_>, AllocError>
+    requires { are_apart (elements items.now) ≡ true }
+    ensures { IfOk result (λ o. IsInOrder items.now (lent_children o)) }
+{
+    if items.len() < 2 {
+        return Ok(Ordered::AsTheyStand(items));
+    }
+    let sorted = in_order(alloc, items)?;
+    Ok(Ordered::Sorted(sorted))
+}
+
 impl Node {
     // The children in the order of their elements. Takes memory for the items of a list alone.
     #[inline(always)]
@@ -77,10 +93,7 @@ impl Node {
             Node::Leaf(_) => Ok(Ordered::AsTheyStand(&[])),
             Node::Branch(children) => Ok(Ordered::AsTheyStand(children)),
             Node::Dict(children) => Ok(Ordered::AsTheyStand(children)),
-            Node::List(children) => {
-                let sorted = in_order(alloc, children)?;
-                Ok(Ordered::Sorted(sorted))
-            }
+            Node::List(items) => items_in_order(alloc, items),
         }
     }
 }

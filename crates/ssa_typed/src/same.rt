@@ -6,9 +6,15 @@ ghost use Rattle.ssa_typed.specs.Same.{AreSame};
 
 use crate::in_order::stand_alike;
 use crate::node::{Leaf, Node};
+use ssa_path::element::Elem;
 
-// Of so many entries it is asked whether they are the same leaves before they are compared.
+// The most entries of a Dict of which it is asked whether they are the same leaves before they are compared.
 const FEW_ENTRIES: usize = 4;
+
+// Whether a Dict has few entries, with nothing below them: to ask whether they are the same costs little.
+fn are_few_leaves(entries: &[(Elem, Node)]) -> bool {
+    entries.len() <= FEW_ENTRIES && entries.iter().all(|entry| matches!(entry.1, Node::Leaf(_)))
+}
 
 impl Leaf {
     // Whether both leaves have the same contents.
@@ -73,47 +79,18 @@ impl Node {
         true
     }
 
-    // Whether both are leaves with the same contents.
-    #[inline(always)]
-    fn is_same_leaf(&self, other: &Node) -> bool
-        ensures { result ≡ true → AreSame self.now other.now }
-    {
-        match (self, other) {
-            (Node::Leaf(leaf), Node::Leaf(other)) => leaf.is_same(other),
-            _ => false,
-        }
-    }
-
-    // Whether the tree is the other and has nothing but leaves below it. Looks at the children alone.
-    fn has_same_leaves(&self, other: &Node) -> bool
-        requires own { is_tree self.now ≡ true }
-        requires other { is_tree other.now ≡ true }
-        ensures { result ≡ true → AreSame self.now other.now }
-    {
-        if !self.is_alike(other) {
-            return false;
-        }
-        let (own, others) = (self.children(), other.children());
-        for (i, child) in own.iter().enumerate() {
-            if !child.1.is_same_leaf(&others[i].1) {
-                return false;
-            }
-        }
-        true
-    }
-
-    // Whether both trees are one, asked of leaves, of lists, whose items would have to be sorted, and
-    // of Dicts with few entries that are leaves. All else is compared child by child anyway: a walk of
-    // what stands below it would be made again at each level.
-    pub(crate) fn is_plainly_same(&self, after: &Node) -> bool
+    // Whether both are one Dict of few entries, with nothing below them. Of other trees it is not asked
+    // before they are compared: a walk of what stands below them would be made again at each level.
+    pub(crate) fn has_same_few_leaves(&self, after: &Node) -> bool
         requires before { is_tree self.now ≡ true }
         requires after { is_tree after.now ≡ true }
         ensures { result ≡ true → AreSame self.now after.now }
     {
         match after {
+            Node::Dict(entries) => are_few_leaves(entries) && self.is_same(after),
+            Node::Leaf(_) => false,
             Node::Branch(_) => false,
-            Node::Dict(entries) => entries.len() <= FEW_ENTRIES && self.has_same_leaves(after),
-            _ => self.is_same(after),
+            Node::List(_) => false,
         }
     }
 }

@@ -6,10 +6,10 @@ use Rattle.ssa_typed.proofs.OverNodes.{below-Branch, below-Dict, below-List, dic
 use Rattle.ssa_typed.proofs.References.{standing-order}
 use Rattle.ssa_typed.proofs.node.Node.ordered.Goals as goal
 
-pub in_order-requires : goal.in_order-requires
-in_order-requires c =
+pub items_in_order-requires : goal.items_in_order-requires
+items_in_order-requires c =
     let n = c.args.self.now in
-    let own = c.deref-in-List.ensures.value ∙ sym (ap below c.in-List.is ∙ below-List c.in-List.children) in
+    let own = c.deref-in-List.ensures.value ∙ sym (ap below c.in-List.is ∙ below-List c.in-List.items) in
     ap (λ cs. are_apart (elements cs)) own ∙ (level-below n).apart c.requires
 
 pub returns-in-Branch : goal.returns-in-Branch

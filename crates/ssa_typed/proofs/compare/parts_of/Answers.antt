@@ -1,0 +1,25 @@
+use Rattle.std.proofs.Common.{refl, sym, true≢false, ◌∙◌}
+use Rattle.ssa_typed.specs.Differences.{Added, Modified, Removed}
+use Rattle.ssa_typed.proofs.Differing.{difference-made}
+use Rattle.ssa_typed.proofs.Repeating.{repeat-level}
+use Rattle.ssa_typed.proofs.compare.parts_of.Goals as goal
+use Rattle.ssa_typed.proofs.compare.parts_of.Goals.{then-told, else-told}
+
+pub returns-clause-told : goal.returns-clause-told
+returns-clause-told c scope told =
+    let n = c.args.before.now in
+    let m = c.args.after.now in
+    record {
+      added_trie = difference-made Added n m _ refl told.added_below;
+      modified_trie = difference-made Modified n m _ c.is_other_leaf-here.ensures told.modified_below;
+      removed_trie = difference-made (Removed scope) n m _ refl told.removed_below;
+    }
+
+pub returns-clause-repeats : goal.returns-clause-repeats
+returns-clause-repeats c children repeats =
+    elim c.if-told.branch [
+      | then-told w ↦
+          repeat-level c.args.before.now c.args.after.now c.requires.before c.requires.after (w.is_branch_like-repeats.ensures (sym w.repeats-is ∙ repeats))
+          (children w.if-told.true)
+      | else-told w ↦ absurd (true≢false (sym repeats ∙ w.repeats-is ∙ w.if-told.false))
+    ]
