@@ -51,11 +51,12 @@ pub(crate) fn new_moment(before: Moment, after: Moment) -> Option<Moment>
     Some(after)
 }
 
-// Whether the entry has these paths and this moment.
+// Whether the entry has these paths and this moment. The moment, which is mostly another, is looked at first: no set is
+// walked then.
 fn is_unchanged(entry: &Entry, set: &FieldSet, at: Moment) -> bool
     ensures { result ≡ is_unchanged (entry_view entry.now) (owning (entry_view entry.now) set.now at) }
 {
-    entry.set.is_same(set) && is_same_moment(entry.at, at)
+    is_same_moment(entry.at, at) && entry.set.is_same(set)
 }
 
 // The change of an entry whose manager owns these paths then, with this moment.
