@@ -223,7 +223,8 @@ fn push_differing(
     Ok(())
 }
 
-// Adds what differs in a child that both trees have, by a walk below it.
+// Adds what differs in a child that both trees have, by a walk below it. Apart from leaves, since what it holds on the
+// stack would be cleared for each of them.
 #[cycle(differing)]
 #[inline(never)]
 fn push_branches(
@@ -295,7 +296,7 @@ fn push_parts(
     Ok(())
 }
 
-// What differs below two nodes, found by one walk over the children of both that are left, in the
+// What differs below two nodes, found by one walk over those children of both that may differ, in the
 // order of their elements.
 #[cycle(differing)]
 fn differing_beside(
@@ -434,7 +435,7 @@ fn parts_of(before: &Node, after: &Node, told: PartsBelow) -> Parts
     }
 }
 
-// What differs between two trees, found by one walk over their children that are left.
+// What differs between two trees, of whose children these alone may differ.
 #[cycle(differing)]
 fn differing_items(
     alloc: Global,

@@ -16,7 +16,7 @@ use std::alloc::{AllocError, Global};
 /// Children in the order of their elements.
 #[derive(Drop)]
 pub(crate) enum Ordered<'a> {
-    /// They stand so, as the fields of a record and the entries of a Dict do.
+    /// They stand so, as the fields of a record and the entries of a Dict do, and an item alone.
     AsTheyStand(&'a [(Elem, Node)]),
     /// References to them are put so.
     Sorted(Vec<&'a (Elem, Node)>),
