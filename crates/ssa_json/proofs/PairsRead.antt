@@ -1,5 +1,5 @@
 -- Pairs of an object that are read from tokens, one after the other.
-use Rattle.std.proofs.Common.{◌≡◌, ℕ, ◌-◌, ◌<◌, ◌≤◌, List, [], ◌∷◌, ◌++◌, length, true, Some, String, Global, string_bytes, sym, ap, subst, ◌∙◌, arith}
+use Rattle.std.proofs.Common.{◌≡◌, ℕ, ◌-◌, ◌<◌, ◌≤◌, List, [], ◌∷◌, ◌++◌, length, true, Some, string_bytes, sym, ap, subst, ◌∙◌, arith}
 use Rattle.json.specs.Token.{Token}
 use Rattle.json.specs.Json as json
 use Rattle.json.specs.Json.{Parse, read_key, members}
@@ -8,10 +8,9 @@ use Rattle.serde_json.specs.Read.{of_json, of_members, converted}
 use Rattle.ssa_model.specs.definitions.Json as model
 use Rattle.ssa_model.specs.definitions.Json.{Text, Members}
 use Rattle.ssa_model.specs.definitions.Objects.{with_member}
-use Rattle.ssa_json.specs.PutInTurn.{put_in_turn, PutsToo}
+use Rattle.ssa_json.specs.PutInTurn.{put_in_turn}
 use Rattle.ssa_json.specs.View.{view}
 use Rattle.ssa_json.specs.Written.{data_of, members_data, is_narrow, members_narrow}
-use Rattle.ssa_json.specs.declared.value.Json.{Json}
 use Rattle.ssa_json.proofs.Converting.{Found}
 use Rattle.ssa_json.proofs.MembersMade.{put-append}
 use Rattle.ssa_json.proofs.StraightData.{put-data, put-narrow}
@@ -27,30 +26,28 @@ LeaveRest p first rest pairs = (found : Members) → (most : ℕ) → length fir
 abbrev pub StayNarrow : List Found → Type 0
 StayNarrow pairs = (found : Members) → members_narrow found ≡ true → members_narrow (put_in_turn pairs found) ≡ true
 
--- a pair that is pushed behind others is put in behind them
-pub puts-pair : (name : Text) (key : String Global) (v : Json) (old new : List Found) → string_bytes key ≡ name
-    → new ≡ old ++ (key, v) ∷ [] → PutsToo name (view v) old new
-puts-pair name key v old new named pushed = λ ms.
-    ap (λ ps. put_in_turn ps ms) pushed ∙ put-append old ((key, v) ∷ []) ms ∙ ap (λ n. with_member n (view v) (put_in_turn old ms)) named
+-- one pair more, with this value under this name, behind others
+module _ (k : Text) (v : model.Json) (pair : Found) (old : List Found) (named : string_bytes pair.0 ≡ k) (seen : view pair.1 ≡ v) where
+  puts : (ms : Members) → put_in_turn (old ++ pair ∷ []) ms ≡ with_member k v (put_in_turn old ms)
+  puts ms = put-append old (pair ∷ []) ms ∙ λ i. with_member (named i) (seen i) (put_in_turn old ms)
 
-module _ (k : Text) (v : model.Json) (old new : List Found) (puts : PutsToo k v old new) where
   -- where the next pair is read as that value under that name, the pairs with it leave the rest behind it
   pub pair-read : (p : Parse json.Json) (first ts s r : List Token) → read_key ts ≡ Some (Some k, s)
-      → converted of_json (p s) ≡ Some (data_of v, r) → length r < length s → LeaveRest p first ts old → LeaveRest p first r new
-  pair-read p first ts s r named read less leave = λ found most enough.
+      → converted of_json (p s) ≡ Some (data_of v, r) → length r < length s → LeaveRest p first ts old → LeaveRest p first r (old ++ pair ∷ [])
+  pair-read p first ts s r key read less leave = λ found most enough.
       let before = leave found most enough in
       let n = before.0 in
       let fits = before.1 in
-      let shorter = read_key-shorter ts (Some k) s named in
+      let shorter = read_key-shorter ts (Some k) s key in
       let ms = put_in_turn old found in
       let spelled = ap members_data (puts found) ∙ put-data k v ms in (
         n - 1,
         omega arith,
-        before.2 ∙ member_read p (members_data ms) n k ts s r (data_of v) (omega arith) named read
+        before.2 ∙ member_read p (members_data ms) n k ts s r (data_of v) (omega arith) key read
             ∙ ap (λ more. converted (λ ms. of_members ms more) (members p (n - 1) r)) (sym spelled),
       )
 
   -- with a value more whose numbers have 64 bits, all have
-  pub pair-narrow : is_narrow v ≡ true → StayNarrow old → StayNarrow new
+  pub pair-narrow : is_narrow v ≡ true → StayNarrow old → StayNarrow (old ++ pair ∷ [])
   pair-narrow narrow stay = λ found h.
       subst (λ ms. members_narrow ms ≡ true) (sym (puts found)) (put-narrow k v (put_in_turn old found) (stay found h) narrow)

@@ -1,5 +1,5 @@
 -- Members put in one after another.
-use Rattle.std.specs.Prelude.{◌≡◌, List, [], ◌∷◌, String, string_bytes}
+use Rattle.std.specs.Prelude.{◌≡◌, List, [], ◌∷◌, ◌++◌, String, string_bytes}
 use Rattle.std.specs.declared.alloc.Global.{Global}
 use Rattle.json.specs.Token.{Token, string}
 use Rattle.ssa_model.specs.definitions.Json as model
@@ -13,10 +13,7 @@ abbrev pub put_in_turn : List (String Global × Json) → Members → Members
 put_in_turn [] ms = ms
 put_in_turn (p ∷ ps) ms = put_in_turn ps (with_member (string_bytes p.0) (view p.1) ms)
 
--- the new pairs put in what the old ones do, and behind it this value under this name
-abbrev pub PutsToo : Text → model.Json → List (String Global × Json) → List (String Global × Json) → Type 0
-PutsToo name v old new = (ms : Members) → put_in_turn new ms ≡ with_member name v (put_in_turn old ms)
-
--- so of the text that the token is
-abbrev pub PutsTextToo : Text → Token → List (String Global × Json) → List (String Global × Json) → Type 0
-PutsTextToo name token old new = (text : Text) × (token ≡ string text) × PutsToo name (model.scalar (model.text text)) old new
+-- one pair more stands behind the old ones, of this name and with the text that the token is
+abbrev pub PushesText : Text → Token → List (String Global × Json) → List (String Global × Json) → Type 0
+PushesText name token old new = (pair : String Global × Json) × (new ≡ old ++ pair ∷ []) × (string_bytes pair.0 ≡ name)
+    × (text : Text) × (token ≡ string text) × (view pair.1 ≡ model.scalar (model.text text))

@@ -33,6 +33,7 @@ pub mod source;
 mod straight;
 pub mod text;
 pub mod value;
+mod waiting;
 pub mod write;
 
 pub use fault::JsonFault;

@@ -1,27 +1,25 @@
 //! Reads JSON text straight into values, where it has no part that is left out here.
-ghost use Rattle.std.specs.Prelude.{◌≡◌, ℕ, ◌<◌, ◌≤◌, [], ◌∷◌, Ok, Some, true, false, length, IfOk, IfSome, OnErr, OnOk};
+ghost use Rattle.std.specs.Prelude.{◌≡◌, ℕ, ◌<◌, ◌≤◌, ◌∷◌, Ok, Some, true, false, length, IfOk, IfSome, OnErr, OnOk};
 ghost use Rattle.json.specs.Json.{value, items, members};
 ghost use Rattle.json.specs.Reads.{token_of};
 ghost use Rattle.serde_json.specs.Data.{no_members};
 ghost use Rattle.serde_json.specs.Find.{of_integer};
 ghost use Rattle.serde_json.specs.Read.{of_json, of_items, of_members, converted, number_of, read as read_text};
 ghost use Rattle.ssa_model.specs.definitions.Json as model;
-ghost use Rattle.ssa_json.specs.PutInTurn.{put_in_turn, PutsTextToo};
+ghost use Rattle.ssa_json.specs.PutInTurn.{PushesText, put_in_turn};
 ghost use Rattle.ssa_json.specs.Reading.{json_reading};
 ghost use Rattle.ssa_json.specs.View.{view, items_view, members_view};
 ghost use Rattle.ssa_json.specs.Written.{data_of, items_data, members_data, is_narrow, is_narrow_whole, items_narrow, members_narrow};
 
 use crate::reading_room::ReadingRoom;
 use crate::value::{Json, Scalar};
+use crate::waiting::{MOST_WAITING, Waiting, move_behind};
 use itoa::Buffer;
 use json::{Invalid, Reader, Token};
-use ssa_members::{Members, Name, SmallText, push_closely, push_loosely};
+use ssa_members::{Members, Name, SmallText};
 use std::alloc::{AllocError, AllocFailed, Global};
 
 const MOST_DEPTH: usize = 127;
-
-// A command mostly has four to six members.
-const COMMAND_MEMBERS: usize = 8;
 
 // The text is not read straight: it is no JSON text, has a part that is left out here, or memory ran out.
 #[derive(Drop)]
@@ -74,7 +72,11 @@ pub fn read_straight(alloc: Global, room: &mut ReadingRoom, bytes: &[u8]) -> Opt
     };
     match read_whole(alloc, room, text) {
         Ok(value) => Some(value),
-        Err(_) => None,
+        Err(_) => {
+            // What was read of the text still waits.
+            room.waiting.clear();
+            None
+        }
     }
 }
 
@@ -84,7 +86,7 @@ fn read_whole(alloc: Global, room: &mut ReadingRoom, text: &str) -> Result<Json,
     ensures narrow { IfOk result (λ v. is_narrow (view v) ≡ true) }
 {
     let mut reader = Reader::new(text, &mut room.scratch)?;
-    let value = read_value(alloc, &mut reader, MOST_DEPTH)?;
+    let value = read_value(alloc, &mut reader, &mut room.waiting, MOST_DEPTH)?;
     if reader.next().is_some() {
         return Err(NotStraight);
     }
@@ -93,13 +95,20 @@ fn read_whole(alloc: Global, room: &mut ReadingRoom, text: &str) -> Result<Json,
 
 #[cycle(straight)]
 #[inline(always)]
-fn read_value(alloc: Global, reader: &mut Reader<'_>, depth: usize) -> Result<Json, NotStraight>
+fn read_value(
+    alloc: Global,
+    reader: &mut Reader<'_>,
+    waiting: &mut Waiting,
+    depth: usize,
+) -> Result<Json, NotStraight>
     ensures ok { IfOk result (λ v. converted of_json (value depth reader.old) ≡ Some (data_of (view v), reader.new)) }
     ensures shorter { OnOk result (length reader.new < length reader.old) }
     ensures narrow { IfOk result (λ v. is_narrow (view v) ≡ true) }
+    ensures pairs { OnOk result (waiting.new.pairs.items ≡ waiting.old.pairs.items) }
+    ensures items { OnOk result (waiting.new.items.items ≡ waiting.old.items.items) }
 {
     let token = reader.next().ok_or(NotStraight)?;
-    value_from(alloc, reader, token, depth)
+    value_from(alloc, reader, waiting, token, depth)
 }
 
 // The value that begins with a token that was read already.
@@ -108,6 +117,7 @@ fn read_value(alloc: Global, reader: &mut Reader<'_>, depth: usize) -> Result<Js
 fn value_from(
     alloc: Global,
     reader: &mut Reader<'_>,
+    waiting: &mut Waiting,
     token: Token<'_>,
     depth: usize,
 ) -> Result<Json, NotStraight>
@@ -115,6 +125,8 @@ fn value_from(
         ≡ Some (data_of (view v), reader.new)) }
     ensures no_longer { OnOk result (length reader.new ≤ length reader.old) }
     ensures narrow { IfOk result (λ v. is_narrow (view v) ≡ true) }
+    ensures pairs { OnOk result (waiting.new.pairs.items ≡ waiting.old.pairs.items) }
+    ensures items { OnOk result (waiting.new.items.items ≡ waiting.old.items.items) }
 {
     match token {
         Token::String(text) => Ok(Json::Scalar(Scalar::Text(SmallText::from_str(alloc, text)?))),
@@ -130,13 +142,13 @@ fn value_from(
             if depth == 0 {
                 return Err(NotStraight);
             }
-            Ok(Json::List(read_items(alloc, reader, depth - 1)?))
+            Ok(Json::List(read_items(alloc, reader, waiting, depth - 1)?))
         }
         Token::BeginObject => {
             if depth == 0 {
                 return Err(NotStraight);
             }
-            Ok(Json::Object(read_members(alloc, reader, depth - 1)?))
+            Ok(Json::Object(read_members(alloc, reader, waiting, depth - 1)?))
         }
     }
 }
@@ -145,18 +157,27 @@ fn value_from(
 fn read_items(
     alloc: Global,
     reader: &mut Reader<'_>,
+    waiting: &mut Waiting,
     depth: usize,
 ) -> Result<Vec<Json>, NotStraight>
     ensures ok { IfOk result (λ v. converted of_items (items (value depth) (length reader.old) reader.old)
         ≡ Some (items_data (items_view v.items), reader.new)) }
     ensures shorter { OnOk result (length reader.new < length reader.old) }
     ensures narrow { IfOk result (λ v. items_narrow (items_view v.items) ≡ true) }
+    ensures pairs { OnOk result (waiting.new.pairs.items ≡ waiting.old.pairs.items) }
+    ensures items { OnOk result (waiting.new.items.items ≡ waiting.old.items.items) }
 {
+    // Before it the items of outer lists wait.
+    let start = waiting.items.len();
     let mut found = Vec::new(alloc);
     'items: while !reader.take_end_array() {
-        let item = read_value(alloc, reader, depth)?;
-        push_closely(&mut found, item)?;
+        if waiting.items.len() - start == MOST_WAITING {
+            move_behind(&mut waiting.items, start, &mut found)?;
+        }
+        let item = read_value(alloc, reader, waiting, depth)?;
+        waiting.items.push(item)?;
     }
+    move_behind(&mut waiting.items, start, &mut found)?;
     Ok(found)
 }
 
@@ -164,14 +185,17 @@ fn read_items(
 fn read_members(
     alloc: Global,
     reader: &mut Reader<'_>,
+    waiting: &mut Waiting,
     depth: usize,
 ) -> Result<Members<Json>, NotStraight>
     ensures ok { IfOk result (λ m. converted (λ ms. of_members ms no_members) (members (value depth) (length reader.old) reader.old)
         ≡ Some (members_data (members_view m.entries), reader.new)) }
     ensures shorter { OnOk result (length reader.new < length reader.old) }
     ensures narrow { IfOk result (λ m. members_narrow (members_view m.entries) ≡ true) }
+    ensures pairs { OnOk result (waiting.new.pairs.items ≡ waiting.old.pairs.items) }
+    ensures items { OnOk result (waiting.new.items.items ≡ waiting.old.items.items) }
 {
-    let pairs = read_pairs(alloc, reader, depth)?;
+    let pairs = read_pairs(alloc, reader, waiting, depth)?;
     Ok(Members::of_pairs(alloc, pairs)?)
 }
 
@@ -180,6 +204,7 @@ fn read_members(
 fn read_pairs(
     alloc: Global,
     reader: &mut Reader<'_>,
+    waiting: &mut Waiting,
     depth: usize,
 ) -> Result<Vec<(Name, Json)>, NotStraight>
     ensures ok { IfOk result (λ v. (found : model.Members) → (most : ℕ) → length reader.old ≤ most
@@ -188,30 +213,26 @@ fn read_pairs(
     ensures shorter { OnOk result (length reader.new < length reader.old) }
     ensures narrow { IfOk result (λ v. (found : model.Members) → members_narrow found ≡ true
         → members_narrow (put_in_turn v.items found) ≡ true) }
+    ensures pairs { OnOk result (waiting.new.pairs.items ≡ waiting.old.pairs.items) }
+    ensures items { OnOk result (waiting.new.items.items ≡ waiting.old.items.items) }
 {
-    let mut pairs = room_for_pairs(alloc, depth)?;
+    // Before it the members of outer objects wait.
+    let start = waiting.pairs.len();
+    let mut found = Vec::new(alloc);
     'members: while let Some(name) = reader.next_key()? {
+        if waiting.pairs.len() - start == MOST_WAITING {
+            move_behind(&mut waiting.pairs, start, &mut found)?;
+        }
         let token = reader.next().ok_or(NotStraight)?;
-        if push_short(&mut pairs, name, &token)? {
+        if push_short(&mut waiting.pairs, name, &token)? {
             continue;
         }
         let key = Name::from_str(alloc, name)?;
-        let member = value_from(alloc, reader, token, depth)?;
-        push_loosely(&mut pairs, (key, member))?;
+        let member = value_from(alloc, reader, waiting, token, depth)?;
+        waiting.pairs.push((key, member))?;
     }
-    Ok(pairs)
-}
-
-// No pairs. The object that is a whole text takes room at once, since it mostly is a command; others take it as they grow.
-#[inline(always)]
-fn room_for_pairs(alloc: Global, depth: usize) -> Result<Vec<(Name, Json)>, AllocError>
-    ensures { IfOk result (λ v. v.items ≡ []) }
-{
-    if depth == MOST_DEPTH - 1 {
-        Vec::with_capacity(alloc, COMMAND_MEMBERS)
-    } else {
-        Ok(Vec::new(alloc))
-    }
+    move_behind(&mut waiting.pairs, start, &mut found)?;
+    Ok(found)
 }
 
 // Puts a member whose name and value are short texts behind the others, and tells whether it did. Most members are so, and
@@ -223,7 +244,7 @@ fn push_short(
     token: &Token<'_>,
 ) -> Result<bool, AllocError>
     ensures pushed { IfOk result (λ pushed. pushed ≡ true
-        → PutsTextToo name.now (token_of token.now) pairs.old.items pairs.new.items) }
+        → PushesText name.now (token_of token.now) pairs.old.items pairs.new.items) }
     ensures kept { IfOk result (λ pushed. pushed ≡ false → pairs.new.items ≡ pairs.old.items) }
     ensures err { OnErr result (pairs.new.items ≡ pairs.old.items) }
 {
@@ -236,6 +257,6 @@ fn push_short(
     let Some(text) = SmallText::short(text) else {
         return Ok(false);
     };
-    push_loosely(pairs, (key, Json::Scalar(Scalar::Text(text))))?;
+    pairs.push((key, Json::Scalar(Scalar::Text(text))))?;
     Ok(true)
 }

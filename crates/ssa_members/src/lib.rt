@@ -25,5 +25,5 @@ pub mod words;
 
 pub use members::Members;
 pub use name::Name;
-pub use room::{push_closely, push_loosely};
+pub use room::push_closely;
 pub use small_text::SmallText;

@@ -26,23 +26,6 @@ where
     Ok(())
 }
 
-// Puts an element behind the others. The first one takes room for so many. On `Err` the others are as they were.
-#[inline(always)]
-fn push_from<T>(items: &mut Vec<T>, item: T, first: usize) -> Result<(), AllocError>
-where
-    T: Drop,
-    ensures ok { OnOk result (items.new.items ≡ items.old.items ++ item ∷ []) }
-    ensures err { OnErr result (items.new.items ≡ items.old.items) }
-{
-    if items.capacity() == 0 {
-        *items = Vec::with_capacity(*items.allocator(), first)?;
-    } else if items.len() == items.capacity() && items.len() < MANY {
-        widen(items)?;
-    }
-    items.push(item)?;
-    Ok(())
-}
-
 /// Puts an element behind the others. The first one takes room for itself alone, where a vector's own `push`
 /// takes room for four: of many vectors with one element each, as JSON text can have, most of the memory
 /// would be such room. On `Err` the others are as they were.
@@ -52,17 +35,11 @@ where
     ensures ok { OnOk result (items.new.items ≡ items.old.items ++ item ∷ []) }
     ensures err { OnErr result (items.new.items ≡ items.old.items) }
 {
-    push_from(items, item, 1)
-}
-
-/// Puts an element behind the others, as [`push_closely`] does, where few are alone: the first one takes room for two,
-/// and the third for eight. On `Err` the others are as they were.
-#[inline(always)]
-pub fn push_loosely<T>(items: &mut Vec<T>, item: T) -> Result<(), AllocError>
-where
-    T: Drop,
-    ensures ok { OnOk result (items.new.items ≡ items.old.items ++ item ∷ []) }
-    ensures err { OnErr result (items.new.items ≡ items.old.items) }
-{
-    push_from(items, item, 2)
+    if items.capacity() == 0 {
+        *items = Vec::with_capacity(*items.allocator(), 1)?;
+    } else if items.len() == items.capacity() && items.len() < MANY {
+        widen(items)?;
+    }
+    items.push(item)?;
+    Ok(())
 }

@@ -43,6 +43,8 @@ pub enum Asked {
     Read,
     /// Whether as many lists as the text says, one in another, are read.
     Nested,
+    /// Whether lists and objects of as many as the text says are read.
+    Many,
     /// How an object is printed whose members were put, the text among them.
     Put,
     /// What moment it is.
@@ -55,6 +57,7 @@ pub fn answer(alloc: Global, asked: &Asked, text: &str) -> Result<String, Fail> 
         Asked::Value(of_value) => told_of_text(alloc, of_value, text),
         Asked::Read => Ok(String::from_str(alloc, read_name(alloc, text.as_bytes()))?),
         Asked::Nested => truth(alloc, is_read_so_deep(alloc, text.parse::<usize>()?)?),
+        Asked::Many => truth(alloc, are_many_read(alloc, text.parse::<usize>()?)?),
         Asked::Put => printed_put(alloc, text),
         Asked::Moment => moment_text(alloc, text),
     }
@@ -157,6 +160,50 @@ fn is_read_so_deep(alloc: Global, depth: usize) -> Result<bool, AllocError> {
 
 const NESTED: [(&str, &str); 2] = [("127", "true"), ("128", "false")];
 
+// A list of so many numbers, the first of them 0.
+fn numbers(alloc: Global, many: usize) -> Result<String, AllocError> {
+    let mut text = String::from_str(alloc, "[0")?;
+    for n in 1..many {
+        text.push_str(&format!(in alloc; ",{n}")?)?;
+    }
+    text.push_str("]")?;
+    Ok(text)
+}
+
+// An object of so many members, whose names are numbers from 100 on, with this value in each.
+fn members_with(alloc: Global, many: usize, value: &str) -> Result<String, AllocError> {
+    let mut text = format!(in alloc; "{{\"100\":{value}")?;
+    for n in 1..many {
+        let name = n.saturating_add(100);
+        text.push_str(&format!(in alloc; ",\"{name}\":{value}")?)?;
+    }
+    text.push_str("}")?;
+    Ok(text)
+}
+
+// Whether lists and objects of so many are read, one in another and behind others, and written as they were.
+fn are_many_read(alloc: Global, many: usize) -> Result<bool, AllocError> {
+    let numbers = numbers(alloc, many)?;
+    let object = members_with(alloc, many, &numbers)?;
+    let text = format!(in alloc;
+        "{{\"a\":1,\"b\":[true,{object},{numbers},{object}],\"c\":{object}}}"
+    )?;
+    match &Json::read(alloc, text.as_bytes(), 1_000_000) {
+        Ok(value) => is_written(alloc, value, &text),
+        Err(_) => Ok(false),
+    }
+}
+
+const MANY: [(&str, &str); 7] = [
+    ("1", "true"),
+    ("31", "true"),
+    ("32", "true"),
+    ("33", "true"),
+    ("64", "true"),
+    ("65", "true"),
+    ("97", "true"),
+];
+
 #[test]
 fn values_are_printed_as_they_were_read(rt: HostRuntime) -> Result<(), Fail> {
     compact_is_read();
@@ -167,7 +214,8 @@ fn values_are_printed_as_they_were_read(rt: HostRuntime) -> Result<(), Fail> {
         &PRINTED,
     )?;
     are_told(rt.alloc(), &Question::Json(Asked::Read), &REFUSED)?;
-    are_told(rt.alloc(), &Question::Json(Asked::Nested), &NESTED)
+    are_told(rt.alloc(), &Question::Json(Asked::Nested), &NESTED)?;
+    are_told(rt.alloc(), &Question::Json(Asked::Many), &MANY)
 }
 
 const SAMPLE: &str = r#"{"a":[1,"x",true,{"b":{}}],"c":""}"#;

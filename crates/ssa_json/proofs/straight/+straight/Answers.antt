@@ -5,21 +5,24 @@ use Rattle.json.proofs.Grammar.{value_is, value-begin_array, value-begin_object,
 use Rattle.serde_json.specs.Data.{number, string, array, object}
 use Rattle.std.specs.Prelude.{option_map}
 use Rattle.serde_json.specs.Find.{of_integer}
-use Rattle.serde_json.specs.Read.{of_json, of_items, converted}
+use Rattle.serde_json.specs.Read.{of_json, converted}
 use Rattle.ssa_model.specs.definitions.Json as model
 use Rattle.ssa_model.specs.definitions.Json.{Members, no_members}
 use Rattle.ssa_members.specs.Texts.{text_bytes}
 use Rattle.ssa_json.specs.PutInTurn.{put_in_turn}
 use Rattle.ssa_json.specs.View.{view, items_view}
-use Rattle.ssa_json.specs.Written.{data_of, members_data, items_narrow, members_narrow}
+use Rattle.ssa_json.specs.Written.{data_of, items_data, members_data, members_narrow}
 use Rattle.ssa_json.specs.declared.value.Scalar.TheVariants.{Text, Int, Bool}
 use Rattle.ssa_json.proofs.Views.{view-Scalar, view-List, view-Object}
 use Rattle.ssa_json.proofs.Printing.{items_narrow-push}
 use Rattle.ssa_json.proofs.StraightData.{before, before-none, one_more}
 use Rattle.ssa_json.proofs.MembersMade.{made-of-pairs}
-use Rattle.ssa_json.proofs.PairsRead.{LeaveRest, StayNarrow, puts-pair, pair-read, pair-narrow}
+use Rattle.ssa_json.proofs.PairsRead.{pair-read, pair-narrow}
 use Rattle.ssa_json.proofs.TokensRead.{array-read, object-read, item_read, items_over, members_over}
+use Rattle.ssa_json.proofs.MovedBehind.{Wait, none_wait, moved, unmoved, one_waits}
 use Rattle.ssa_json.proofs.straight.+straight.Goals as goal
+use Rattle.ssa_json.proofs.straight.+straight.Goals.{read_items-then-len-start-eq-MOST_WAITING+in_ok-move_behind, read_items-else-len-start-eq-MOST_WAITING}
+use Rattle.ssa_json.proofs.straight.+straight.Goals.{read_pairs-then-len-start-eq-MOST_WAITING+in_ok-move_behind, read_pairs-else-len-start-eq-MOST_WAITING}
 
 pub value_from-returns-in_ok-from_str-in-String-clause-ok : goal.value_from-returns-in_ok-from_str-in-String-clause-ok
 value_from-returns-in_ok-from_str-in-String-clause-ok t c =
@@ -60,36 +63,6 @@ value_from-returns-in_ok-read_members-in-BeginObject-clause-ok t c =
     let found = c.in_ok-read_members-in-BeginObject in
     opened ∙ ap (parse_map object) found.ensures.ok ∙ ap (λ d. Some (data_of d, c.read_members.new.reader)) (sym (view-Object found.field-0))
 
-pub read_items-items-preserved : goal.read_items-items-preserved
-read_items-items-preserved t c =
-    let p = value c.args.depth in
-    let l = c.items in
-    let n = l.invariant.most in
-    let going : (after_end_array l.reader ≡ None) × (c.take_end_array.new.self ≡ l.reader) = grind arith in
-    let done = c.in_ok-item.ensures in
-    let v = c.in_ok-item.item in
-    let r = c.read_value.new.reader in
-    let less : length r < length l.reader = rw (← going.1) done.shorter in
-    let turn = item_read p n l.reader r (data_of (view v)) (omega (arith, l.invariant.enough)) going.0 (rw (← going.1) done.ok) in
-    record {
-      most = n - 1;
-      enough = omega (arith, l.invariant.enough);
-      read = l.invariant.read ∙ ap (parse_map (before l.found.items)) turn ∙ one_more l.found.items v _
-          ∙ ap (λ vs. parse_map (before vs) (converted of_items (items p (n - 1) r))) (sym c.in_ok-push_closely.ensures.ok);
-      shorter = omega (arith, l.invariant.shorter);
-      narrow = subst (λ vs. items_narrow (items_view vs) ≡ true) (sym c.in_ok-push_closely.ensures.ok)
-          (items_narrow-push l.found.items v l.invariant.narrow done.narrow);
-    }
-
-pub read_items-returns-clause-ok : goal.read_items-returns-clause-ok
-read_items-returns-clause-ok t c =
-    let p = value c.args.depth in
-    let l = c.items in
-    let n = l.invariant.most in
-    let r = c.take_end_array.new.self in
-    l.invariant.read ∙ ap (parse_map (before l.found.items)) (items_over p n l.reader r l.invariant.enough (grind arith))
-    ∙ ap (λ ds. Some (ds, r)) (before-none l.found.items)
-
 pub read_members-returns-clause-ok : goal.read_members-returns-clause-ok
 read_members-returns-clause-ok t c =
     let pairs = c.in_ok-pairs.pairs.items in
@@ -101,16 +74,82 @@ read_members-returns-clause-narrow t c =
     subst (λ ms. members_narrow ms ≡ true) (sym (made-of-pairs c.in_ok-pairs.pairs.items c.in_ok-of_pairs.field-0 c.in_ok-of_pairs.ensures))
     (c.in_ok-pairs.ensures.narrow no_members refl)
 
-pub read_pairs-members-init : goal.read_pairs-members-init
-read_pairs-members-init t c =
+pub read_items-items-init : goal.read_items-items-init
+read_items-items-init t c = record {
+  most = length c.args.reader.now;
+  all = [];
+  enough = omega arith;
+  read = search rules;
+  shorter = omega arith;
+  narrow = refl;
+  wait = none_wait c.len-start.result c.args.waiting.now.items.items (search rules) c.new-found.result.items
+      c.new-found.ensures.items;
+  pairs = refl;
+}
+
+pub read_items-items-preserved : goal.read_items-items-preserved
+read_items-items-preserved t c =
     let p = value c.args.depth in
-    let ts = c.args.reader.now in
-    let none : c.in_ok-pairs.pairs.items ≡ [] = search rules in
+    let l = c.items in
+    let n = l.invariant.most in
+    let going : (after_end_array l.reader ≡ None) × (c.take_end_array.new.self ≡ l.reader) = grind arith in
+    let done = c.in_ok-item.ensures in
+    let v = c.in_ok-item.item in
+    let r = c.read_value.new.reader in
+    let less : length r < length l.reader = rw (← going.1) done.shorter in
+    let turn = item_read p n l.reader r (data_of (view v)) (omega (arith, l.invariant.enough)) going.0 (rw (← going.1) done.ok) in
+    let all = l.invariant.all in
+    let j = c.if-len-start-eq-MOST_WAITING in
+    let start = c.len-start.result in
+    let outer = c.args.waiting.now.items.items in
+    let found = j.found.items in
+    let waiting = j.waiting.items.items in
+    let moving = moved start outer l.found.items l.waiting.items.items all found waiting l.invariant.wait in
+    let staying = unmoved start outer l.found.items l.waiting.items.items all found waiting l.invariant.wait in
+    let room : Wait start outer found waiting all × (j.waiting.pairs.items ≡ l.waiting.pairs.items) = elim j.branch [
+      | read_items-then-len-start-eq-MOST_WAITING+in_ok-move_behind w ↦ (
+        moving (ap (λ f. f.items) w.found-is ∙ w.in_ok-move_behind.ensures.found)
+            (ap (λ q. q.items.items) w.waiting-is ∙ w.in_ok-move_behind.ensures.waiting),
+        ap (λ q. q.pairs.items) w.waiting-is,
+      )
+      | read_items-else-len-start-eq-MOST_WAITING w ↦ (
+        staying (ap (λ f. f.items) w.found-is) (ap (λ q. q.items.items) w.waiting-is),
+        ap (λ q. q.pairs.items) w.waiting-is,
+      )
+    ] in
+    let same : c.read_value.new.waiting.items.items ≡ waiting = done.items in
+    let pushed = subst (λ ws. c.push.new.self.items ≡ ws ++ v ∷ []) same c.in_ok-push.ensures.items in
     record {
-      read = subst (LeaveRest p ts ts) (sym none) (λ found most enough. (most, enough, refl));
-      shorter = omega arith;
-      narrow = subst StayNarrow (sym none) (λ found h. h);
+      most = n - 1;
+      all = all ++ v ∷ [];
+      enough = omega (arith, l.invariant.enough);
+      read = l.invariant.read ∙ ap (parse_map (before all)) turn ∙ one_more all v _;
+      shorter = omega (arith, l.invariant.shorter);
+      narrow = items_narrow-push all v l.invariant.narrow done.narrow;
+      wait = one_waits start outer found waiting all c.push.new.self.items v room.0 pushed;
+      pairs = done.pairs ∙ room.1 ∙ l.invariant.pairs;
     }
+
+pub read_items-returns-clause-ok : goal.read_items-returns-clause-ok
+read_items-returns-clause-ok t c =
+    let p = value c.args.depth in
+    let l = c.items in
+    let n = l.invariant.most in
+    let r = c.take_end_array.new.self in
+    let all : c.move_behind-2.new.found.items ≡ l.invariant.all = c.in_ok-move_behind-2.ensures.found ∙ l.invariant.wait.0 in
+    l.invariant.read ∙ ap (parse_map (before l.invariant.all)) (items_over p n l.reader r l.invariant.enough (grind arith))
+    ∙ ap (λ ds. Some (ds, r)) (before-none l.invariant.all) ∙ ap (λ vs. Some (items_data (items_view vs), r)) (sym all)
+
+pub read_pairs-members-init : goal.read_pairs-members-init
+read_pairs-members-init t c = record {
+  all = [];
+  read = λ found most enough. (most, enough, refl);
+  shorter = omega arith;
+  narrow = λ found h. h;
+  wait = none_wait c.len-start.result c.args.waiting.now.pairs.items (search rules) c.new-found.result.items
+      c.new-found.ensures.items;
+  items = refl;
+}
 
 pub read_pairs-members-preserved-then-branch : goal.read_pairs-members-preserved-then-branch
 read_pairs-members-preserved-then-branch t c =
@@ -122,17 +161,37 @@ read_pairs-members-preserved-then-branch t c =
     let named : read_key l.reader ≡ Some (Some k, s) = grind arith in
     let first : s ≡ token_of c.in_ok-token.token ∷ r = grind arith in
     let put = c.in_ok-push_short.ensures.pushed c.if-branch.true in
-    let v = model.scalar (model.text put.0) in
+    let v = model.scalar (model.text put.3) in
     let read : converted of_json (p s) ≡ Some (data_of v, r) =
-    ap (converted of_json) (ap p (first ∙ ap (λ k. k ∷ r) put.1) ∙ value_is c.args.depth _) in
+    ap (converted of_json) (ap p (first ∙ ap (λ k. k ∷ r) put.4) ∙ value_is c.args.depth _) in
     let less = read_key-shorter l.reader (Some k) s named in
     let size = ap (λ ts. length ts) first in
-    let old = l.pairs.items in
-    let new = c.push_short.new.pairs.items in
+    let all = l.invariant.all in
+    let j = c.if-len-start-eq-MOST_WAITING in
+    let start = c.len-start.result in
+    let outer = c.args.waiting.now.pairs.items in
+    let found = j.found.items in
+    let waiting = j.waiting.pairs.items in
+    let moving = moved start outer l.found.items l.waiting.pairs.items all found waiting l.invariant.wait in
+    let staying = unmoved start outer l.found.items l.waiting.pairs.items all found waiting l.invariant.wait in
+    let room : Wait start outer found waiting all × (j.waiting.items.items ≡ l.waiting.items.items) = elim j.branch [
+      | read_pairs-then-len-start-eq-MOST_WAITING+in_ok-move_behind w ↦ (
+        moving (ap (λ f. f.items) w.found-is ∙ w.in_ok-move_behind.ensures.found)
+            (ap (λ q. q.pairs.items) w.waiting-is ∙ w.in_ok-move_behind.ensures.waiting),
+        ap (λ q. q.items.items) w.waiting-is,
+      )
+      | read_pairs-else-len-start-eq-MOST_WAITING w ↦ (
+        staying (ap (λ f. f.items) w.found-is) (ap (λ q. q.pairs.items) w.waiting-is),
+        ap (λ q. q.items.items) w.waiting-is,
+      )
+    ] in
     record {
-      read = pair-read k v old new put.2 p c.args.reader.now l.reader s r named read (omega arith) l.invariant.read;
+      all = all ++ put.0 ∷ [];
+      read = pair-read k v put.0 all put.2 put.5 p c.args.reader.now l.reader s r named read (omega arith) l.invariant.read;
       shorter = omega (arith, l.invariant.shorter);
-      narrow = pair-narrow k v old new put.2 refl l.invariant.narrow;
+      narrow = pair-narrow k v put.0 all put.2 put.5 refl l.invariant.narrow;
+      wait = one_waits start outer found waiting all c.push_short.new.pairs.items put.0 room.0 put.1;
+      items = room.1 ∙ l.invariant.items;
     }
 
 pub read_pairs-members-preserved : goal.read_pairs-members-preserved
@@ -151,20 +210,42 @@ read_pairs-members-preserved t c =
     let less = read_key-shorter l.reader (Some k) s named in
     let size = ap (λ ts. length ts) first in
     let copied : string_bytes key ≡ k = search rules in
+    let all = l.invariant.all in
+    let j = c.if-len-start-eq-MOST_WAITING in
+    let start = c.len-start.result in
+    let outer = c.args.waiting.now.pairs.items in
+    let found = j.found.items in
+    let waiting = j.waiting.pairs.items in
+    let moving = moved start outer l.found.items l.waiting.pairs.items all found waiting l.invariant.wait in
+    let staying = unmoved start outer l.found.items l.waiting.pairs.items all found waiting l.invariant.wait in
+    let room : Wait start outer found waiting all × (j.waiting.items.items ≡ l.waiting.items.items) = elim j.branch [
+      | read_pairs-then-len-start-eq-MOST_WAITING+in_ok-move_behind w ↦ (
+        moving (ap (λ f. f.items) w.found-is ∙ w.in_ok-move_behind.ensures.found)
+            (ap (λ q. q.pairs.items) w.waiting-is ∙ w.in_ok-move_behind.ensures.waiting),
+        ap (λ q. q.items.items) w.waiting-is,
+      )
+      | read_pairs-else-len-start-eq-MOST_WAITING w ↦ (
+        staying (ap (λ f. f.items) w.found-is) (ap (λ q. q.pairs.items) w.waiting-is),
+        ap (λ q. q.items.items) w.waiting-is,
+      )
+    ] in
     let kept = c.in_ok-push_short.ensures.kept c.if-branch.false in
-    let pushed = c.in_ok-push_loosely.ensures.ok ∙ ap (λ ps. ps ++ (key, v) ∷ []) kept in
-    let old = l.pairs.items in
-    let new = c.push_loosely.new.items.items in
-    let put = puts-pair k key v old new copied pushed in
+    let same : c.value_from.new.waiting.pairs.items ≡ waiting = done.pairs ∙ kept in
+    let pushed = subst (λ ws. c.push.new.self.items ≡ ws ++ (key, v) ∷ []) same c.in_ok-push.ensures.items in
     record {
-      read = pair-read k (view v) old new put p c.args.reader.now l.reader s r named read (omega arith) l.invariant.read;
+      all = all ++ (key, v) ∷ [];
+      read = pair-read k (view v) (key, v) all copied refl p c.args.reader.now l.reader s r named read (omega arith) l.invariant.read;
       shorter = omega (arith, l.invariant.shorter);
-      narrow = pair-narrow k (view v) old new put done.narrow l.invariant.narrow;
+      narrow = pair-narrow k (view v) (key, v) all copied refl done.narrow l.invariant.narrow;
+      wait = one_waits start outer found waiting all c.push.new.self.items (key, v) room.0 pushed;
+      items = done.items ∙ room.1 ∙ l.invariant.items;
     }
 
 pub read_pairs-returns-clause-ok : goal.read_pairs-returns-clause-ok
 read_pairs-returns-clause-ok t c = λ found most enough.
     let l = c.members in
     let before = l.invariant.read found most enough in
-    let old = members_data (put_in_turn l.pairs.items found) in
+    let old = members_data (put_in_turn l.invariant.all found) in
+    let all : c.move_behind-2.new.found.items ≡ l.invariant.all = c.in_ok-move_behind-2.ensures.found ∙ l.invariant.wait.0 in
     before.2 ∙ members_over (value c.args.depth) old before.0 l.reader c.next_key.new.self before.1 (grind arith)
+    ∙ ap (λ ps. Some (members_data (put_in_turn ps found), c.next_key.new.self)) (sym all)
